@@ -1,0 +1,73 @@
+ghost use Rattle.std.specs.Prelude.{◌≡◌, [], List, ℕ, length, string_bytes, IfOk, IfErr};
+
+use crate::memory::Memory;
+use std::alloc::Global;
+use std::marker::Model;
+
+/// A name or a routing key, in UTF-8, which contracts see as its bytes.
+#[derive(Debug, Drop)]
+pub struct Text {
+    text: String,
+}
+
+impl Model for Text {
+    ghost Value = { List ℕ };
+
+    ghost view = { λ t. string_bytes t.text };
+}
+
+impl Text {
+    /// The empty text. It takes no memory.
+    pub fn new(alloc: Global) -> Self
+        ensures { result ≡ [] }
+    {
+        Text {
+            text: String::new(alloc),
+        }
+    }
+
+    /// The text of a string. It takes no memory.
+    pub fn from_string(text: String) -> Self
+        ensures { result ≡ string_bytes text }
+    {
+        Text { text }
+    }
+
+    /// A copy of a string's text.
+    pub fn from_str(alloc: Global, text: &str) -> Result<Self, Memory>
+        ensures ok { IfOk result (λ t. t ≡ text.now) }
+        ensures want { IfErr result (λ e. e ≡ Memory.Want) }
+    {
+        Ok(Text {
+            text: String::from_str(alloc, text)?,
+        })
+    }
+
+    pub fn as_str(&self) -> &str
+        ensures { result.now ≡ self.now }
+    {
+        self.text.as_str()
+    }
+
+    /// The text's bytes.
+    pub fn as_bytes(&self) -> &[u8]
+        ensures { result.now ≡ self.now }
+    {
+        self.text.as_bytes()
+    }
+
+    /// The length in bytes.
+    pub fn len(&self) -> usize
+        ensures { result ≡ length self.now }
+    {
+        self.text.len()
+    }
+
+    /// The same text.
+    pub fn copy(&self, alloc: Global) -> Result<Self, Memory>
+        ensures ok { IfOk result (λ t. t ≡ self.now) }
+        ensures want { IfErr result (λ e. e ≡ Memory.Want) }
+    {
+        Text::from_str(alloc, self.as_str())
+    }
+}
