@@ -1,8 +1,8 @@
 -- A number that was put is taken again, and what is taken has that number's bytes at its front.
-use Rattle.std.proofs.Common.{◌≡◌, ℕ, ◌+◌, ◌^◌, ◌<◌, ◌≤◌, Bool, true, false, cond, ltb, List, [], ◌∷◌, ◌++◌, length, get_or, take, drop, Option, Some, None, refl, sym, ap, subst, ◌∙◌, arith, inl, inr}
+use Rattle.std.proofs.Common.{◌≡◌, ℕ, ◌^◌, ◌<◌, ◌≤◌, Bool, true, false, cond, ltb, List, [], ◌∷◌, ◌++◌, length, take, drop, Some, None, refl, sym, ap, subst, ◌∙◌, arith, inl, inr}
 use Rattle.std.specs.Int.{Width, w8, w16, w32, w64, byte_len, from_be_bytes, to_be_bytes}
 use Rattle.std.proofs.lemmas.Bool.{cases_lt, ltb-false, le-ltb}
-use Rattle.std.proofs.lemmas.List.{take_at, drop_at, take-append-drop, length-append, length-take, get_or-take, get_or_past}
+use Rattle.std.proofs.lemmas.List.{take_at, take-append-drop, length-append, length-take, get_or-take, get_or_past}
 use Rattle.std.proofs.lemmas.Nat.{be_bytes_2, be_bytes_4, be_bytes_8, from_be_bytes-to_be_bytes_2, from_be_bytes-to_be_bytes_4, from_be_bytes-to_be_bytes_8}
 use Rattle.std.proofs.Math.Nat.{mod-eq_of_lt}
 use Rattle.qq_base.specs.Fields.{AreBytes, number_at, ReadsBack}
@@ -35,16 +35,18 @@ reads_back w limit wide = record { again = again; alone = alone }
         let long : byte_len w ≤ length (to_be_bytes w n ++ rest) = omega (arith, length-append (to_be_bytes w n) rest) in
         let front : take (byte_len w) (to_be_bytes w n ++ rest) ≡ to_be_bytes w n = take_at (to_be_bytes w n) rest (byte_len w) len in
         rw (le-ltb _ _ long) (ap (λ (m : ℕ). Some (m, byte_len w)) (ap (from_be_bytes w) front ∙ wide.again n lt))
+
     alone : (bytes : List ℕ) (n taken : ℕ) → AreBytes bytes → number_at w bytes ≡ Some (n, taken) → (bytes ≡ to_be_bytes w n ++ drop taken bytes) × (n < limit) × (taken ≡ byte_len w)
     alone bytes n taken fits e =
         let both = chosen (ltb (length bytes) (byte_len w)) (from_be_bytes w (take (byte_len w) bytes), byte_len w) (n, taken) e in
         let long : byte_len w ≤ length bytes = ltb-false _ _ both.0 in
         let value : from_be_bytes w (take (byte_len w) bytes) ≡ n = ap (λ (p : ℕ × ℕ). p.0) both.1 in
         let count : byte_len w ≡ taken = ap (λ (p : ℕ × ℕ). p.1) both.1 in
-        let front : to_be_bytes w n ≡ take (byte_len w) bytes = rw (← value) (wide.back (take (byte_len w) bytes) (omega (arith, length-take (byte_len w) bytes)) (AreBytes-take (byte_len w) bytes fits)) in
-        ( rw front (rw (← count) (sym (take-append-drop (byte_len w) bytes)))
-        , subst (λ (m : ℕ). m < limit) value (wide.below (take (byte_len w) bytes) (AreBytes-take (byte_len w) bytes fits))
-        , sym count )
+        let front : to_be_bytes w n ≡ take (byte_len w) bytes = rw (← value) (wide.back (take (byte_len w) bytes) (omega (arith, length-take (byte_len w) bytes)) (AreBytes-take (byte_len w) bytes fits)) in (
+          rw front (rw (← count) (sym (take-append-drop (byte_len w) bytes))),
+          subst (λ (m : ℕ). m < limit) value (wide.below (take (byte_len w) bytes) (AreBytes-take (byte_len w) bytes fits)),
+          sym count,
+        )
 
 one_byte : (bytes : List ℕ) → length bytes ≡ 1 → AreBytes bytes → to_be_bytes w8 (from_be_bytes w8 bytes) ≡ bytes
 one_byte [] len fits = absurd (omega arith)

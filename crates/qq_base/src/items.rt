@@ -26,6 +26,18 @@ impl<T> Model for Items<T> {
     ghost view = { λ l. l.items.items };
 }
 
+impl<T: PartialEq> PartialEq for Items<T> {
+    ghost use Rattle.std.specs.Cmp.Lexicographic.{pointwise, lists_per};
+
+    ghost eq = { λ a b. pointwise T.eq a b };
+
+    ghost laws = { lists_per T.laws };
+
+    fn eq(&self, other: &Self) -> bool {
+        self.items == other.items
+    }
+}
+
 impl<T> Items<T> {
     /// An empty list. It takes no memory.
     pub fn new(alloc: Global) -> Self
