@@ -1,7 +1,7 @@
 ghost use Rattle.std.specs.Prelude.{◌≡◌, ◌++◌, ◌∷◌, [], List, length, IfOk, IfErr, OnOk, OnErr, IsTrue, ◌↔◌};
 
 use crate::ids::QueueId;
-use crate::memory::Memory;
+use crate::memory::{Duplicate, Memory};
 use std::alloc::Global;
 use std::marker::Model;
 
@@ -101,6 +101,25 @@ impl<T: Copy> Items<T> {
     {
         Ok(Items {
             items: Vec::from_slice(alloc, self.items.as_slice())?,
+        })
+    }
+}
+
+fn copied<T: Duplicate>(alloc: Global, items: &[T]) -> Result<Vec<T>, Memory>
+    ensures ok { IfOk result (λ list. list.items ≡ items.now) }
+    ensures want { IfErr result (λ e. e ≡ Memory.Want) }
+{
+    let mut list = Vec::with_capacity(alloc, items.len())?;
+    for item in items {
+        list.push(item.copy(alloc)?)?;
+    }
+    Ok(list)
+}
+
+impl<T: Duplicate> Duplicate for Items<T> {
+    fn copy(&self, alloc: Global) -> Result<Self, Memory> {
+        Ok(Items {
+            items: copied(alloc, self.items.as_slice())?,
         })
     }
 }

@@ -1,6 +1,6 @@
-ghost use Rattle.std.specs.Prelude.{◌≡◌};
+ghost use Rattle.std.specs.Prelude.{◌≡◌, IfOk, IfErr};
 
-use std::alloc::{AllocError, AllocFailed};
+use std::alloc::{AllocError, AllocFailed, Global};
 use std::error::Error;
 use std::fmt;
 
@@ -42,4 +42,12 @@ impl<T: Drop> From<AllocFailed<T>> for Memory {
     fn from(_: AllocFailed<T>) -> Self {
         Memory::Want
     }
+}
+
+/// A value that takes memory to be copied.
+pub trait Duplicate: Drop + Sized {
+    /// An equal value. It gives up for want of memory alone.
+    fn copy(&self, alloc: Global) -> Result<Self, Memory>
+        ensures ok { IfOk result (λ twin. twin ≡ self.now) }
+        ensures want { IfErr result (λ e. e ≡ Memory.Want) };
 }

@@ -27,6 +27,9 @@ fn lists_are_made_and_copied(rt: HostRuntime) -> Result<(), Fail> {
     let again = ids.copy(alloc)?;
     assert_eq!(rt; again.as_slice(), [3, 9].as_slice());
     assert_eq!(rt; again.into_vec().len(), 2);
+    let mut names = Items::new(alloc);
+    names.push(Text::from_str(alloc, "orders")?)?;
+    assert!(rt; names.copy(alloc)? == names);
     let name = Text::from_str(alloc, "orders")?;
     assert_eq!(rt; name.copy(alloc)?.as_str(), "orders");
     Ok(())

@@ -1,6 +1,6 @@
 ghost use Rattle.std.specs.Prelude.{◌≡◌, [], List, ℕ, length, string_bytes, IfOk, IfErr};
 
-use crate::memory::Memory;
+use crate::memory::{Duplicate, Memory};
 use std::alloc::Global;
 use std::marker::Model;
 
@@ -76,12 +76,10 @@ impl Text {
     {
         self.text.len()
     }
+}
 
-    /// The same text.
-    pub fn copy(&self, alloc: Global) -> Result<Self, Memory>
-        ensures ok { IfOk result (λ t. t ≡ self.now) }
-        ensures want { IfErr result (λ e. e ≡ Memory.Want) }
-    {
+impl Duplicate for Text {
+    fn copy(&self, alloc: Global) -> Result<Self, Memory> {
         Text::from_str(alloc, self.as_str())
     }
 }

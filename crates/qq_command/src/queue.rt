@@ -1,0 +1,72 @@
+use qq_base::{Duplicate, Items, Memory, NodeId, QueueId, Text};
+use std::alloc::Global;
+
+/// What a queue at a length limit does (RabbitMQ, "Queue Length Limit", `x-overflow`).
+#[derive(Clone, Copy, Debug, PartialEq, Eq, Hash)]
+pub enum Overflow {
+    /// Messages at the front die.
+    DropHead,
+    /// A publish is refused.
+    RejectPublish,
+}
+
+/// How dead messages are sent on (RabbitMQ, "At-Least-Once Dead Lettering",
+/// `x-dead-letter-strategy`).
+#[derive(Clone, Copy, Debug, PartialEq, Eq, Hash)]
+pub enum Strategy {
+    /// The queue has no dead-letter exchange.
+    Absent,
+    /// A dead message leaves the queue at once.
+    AtMostOnce,
+    /// A dead message stays until its targets have confirmed it.
+    AtLeastOnce,
+}
+
+/// A quorum queue's arguments (RabbitMQ, "Quorum Queues" and "Queue Length Limit").
+#[derive(Debug, Drop, PartialEq)]
+pub struct QueueArgs {
+    pub queue: QueueId,
+    /// How many members the queue's group has.
+    pub group: u8,
+    /// `x-max-length`, in ready messages.
+    pub max_length: Option<u64>,
+    /// `x-max-length-bytes`, in bytes of ready bodies.
+    pub max_bytes: Option<u64>,
+    pub overflow: Overflow,
+    /// `x-delivery-limit`: how many counted returns keep a message. None for no limit.
+    pub delivery_limit: Option<u64>,
+    /// `x-single-active-consumer`.
+    pub single_active: bool,
+    pub strategy: Strategy,
+    /// `x-dead-letter-exchange`; the empty text is the default exchange.
+    pub dead_exchange: Text,
+    /// `x-dead-letter-routing-key`. None for the message's own.
+    pub dead_key: Option<Text>,
+    /// The greatest number of messages that aren't gone, 1 to 1,000,000.
+    pub live: u64,
+}
+
+/// The nodes of a queue's group.
+pub type Members = Items<NodeId>;
+
+impl Duplicate for QueueArgs {
+    fn copy(&self, alloc: Global) -> Result<Self, Memory> {
+        let dead_key = match &self.dead_key {
+            None => None,
+            Some(key) => Some(key.copy(alloc)?),
+        };
+        Ok(QueueArgs {
+            queue: self.queue,
+            group: self.group,
+            max_length: self.max_length,
+            max_bytes: self.max_bytes,
+            overflow: self.overflow,
+            delivery_limit: self.delivery_limit,
+            single_active: self.single_active,
+            strategy: self.strategy,
+            dead_exchange: self.dead_exchange.copy(alloc)?,
+            dead_key,
+            live: self.live,
+        })
+    }
+}
