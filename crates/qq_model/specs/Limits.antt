@@ -1,0 +1,51 @@
+-- What counts against a queue's limits (RabbitMQ, "Queue Length Limit").
+use Rattle.std.specs.Prelude.{ℕ, List, Option, Some, None, Bool, true, false, count_by, sum_by, nat_le, ◌&&◌, if◌then◌else◌}
+use Rattle.qq_command.specs.declared.queue.QueueArgs.{QueueArgs}
+use Rattle.qq_command.specs.declared.queue.Overflow.{Overflow}
+use Rattle.qq_command.specs.declared.queue.Overflow.TheVariants.{DropHead, RejectPublish}
+use Rattle.qq_command.specs.declared.answer.Full.{Full}
+use Rattle.qq_command.specs.declared.answer.Full.TheVariants.{Length, ByteLength, Live}
+use Rattle.qq_model.specs.declared.place.Place.{Place}
+use Rattle.qq_model.specs.declared.place.Place.TheVariants.{Ready, Out, Dead, Gone}
+use Rattle.qq_model.specs.declared.place.Row.{Row}
+
+abbrev pub is_ready : Place → Bool
+is_ready (Ready key) = true
+is_ready (Out consumer id) = false
+is_ready (Dead number reason) = false
+is_ready (Gone reason) = false
+
+abbrev pub is_live : Place → Bool
+is_live (Ready key) = true
+is_live (Out consumer id) = true
+is_live (Dead number reason) = true
+is_live (Gone reason) = false
+
+-- ready messages alone count, not those with consumers
+abbrev pub ready_count : List Row → ℕ
+ready_count rows = count_by (λ (row : Row). is_ready row.place) rows
+
+-- the bytes of the ready bodies
+abbrev pub ready_bytes : List Row → ℕ
+ready_bytes rows = sum_by (λ (row : Row). if is_ready row.place then row.message.size else 0) rows
+
+-- messages that aren't gone
+abbrev pub live_count : List Row → ℕ
+live_count rows = count_by (λ (row : Row). is_live row.place) rows
+
+-- a limit that is there was reached
+abbrev pub reaches : Option ℕ → ℕ → Bool
+reaches None n = false
+reaches (Some limit) n = nat_le limit n
+
+abbrev pub rejects : Overflow → Bool
+rejects DropHead = false
+rejects RejectPublish = true
+
+-- the first limit that a publish meets
+abbrev pub publish_limit : QueueArgs → List Row → Option Full
+publish_limit args rows =
+    if rejects args.overflow && reaches args.max_length (ready_count rows) then Some Length
+    else if rejects args.overflow && reaches args.max_bytes (ready_bytes rows) then Some ByteLength
+    else if nat_le args.live (live_count rows) then Some Live
+    else None

@@ -1,0 +1,55 @@
+use qq_base::{ConsumerId, Index};
+use qq_command::{Message, Reason};
+
+/// Where a ready message stands in the queue. Every `Front` comes before every `Back`, and of two of
+/// one kind the lesser number comes first.
+#[derive(Clone, Copy, Debug, PartialEq, Eq)]
+pub enum Key {
+    /// Returned under a delivery limit, with its place in the order of such returns.
+    Front(u64),
+    /// Published, or returned where there is no delivery limit, with its place in that order.
+    Back(u64),
+}
+
+/// Why a message left the queue.
+#[derive(Clone, Copy, Debug, PartialEq, Eq)]
+pub enum GoneReason {
+    /// A get took it.
+    Got,
+    /// Its consumer settled it.
+    Settled,
+    /// The queue was purged.
+    Purged,
+    /// Its consumer discarded it.
+    Rejected,
+    /// It was returned more often than the delivery limit allows.
+    DeliveryLimit,
+    /// It was at the head of a queue that had grown past its limit.
+    MaxLen,
+    /// Its dead-letter targets have confirmed it.
+    DeadLettered,
+}
+
+/// Where a message is.
+#[derive(Clone, Copy, Debug, PartialEq, Eq)]
+pub enum Place {
+    /// In the queue.
+    Ready(Key),
+    /// With a consumer, as the delivery of this id, not settled yet.
+    Out(ConsumerId, u64),
+    /// Dead, with its number among the dead, until its dead-letter targets have confirmed it.
+    Dead(u64, Reason),
+    /// Gone for good.
+    Gone(GoneReason),
+}
+
+/// A message that was enqueued at some time: the index of the entry that brought it, its arrival,
+/// counted from 1, how often it was returned and counted, the message, and where it is.
+#[derive(Debug, Drop, PartialEq)]
+pub struct Row {
+    pub index: Index,
+    pub arrival: u64,
+    pub count: u64,
+    pub message: Message,
+    pub place: Place,
+}
