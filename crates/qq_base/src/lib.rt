@@ -13,7 +13,7 @@ pub use fields::{
 };
 pub use ids::{ConsumerId, Index, NodeId, QueueId, SessionId, Term};
 pub use items::{Bytes, Ids, Items, QueueIds};
-pub use memory::{Duplicate, Memory};
+pub use memory::{Duplicate, Memory, NUMBER_END};
 pub use text::Text;
 
 #[cfg(test)]

@@ -4,6 +4,9 @@ use std::alloc::{AllocError, AllocFailed, Global};
 use std::error::Error;
 use std::fmt;
 
+/// The end of each number that rises: an index, a term, a counter.
+pub const NUMBER_END: u64 = 1 << 63;
+
 /// Why a call that takes memory, or raises a number, gave up.
 #[derive(Clone, Copy, Debug, PartialEq, Eq)]
 pub enum Memory {
