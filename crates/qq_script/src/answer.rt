@@ -1,0 +1,218 @@
+ghost use Rattle.std.specs.Prelude.{◌≡◌, ◌++◌, ◌∷◌, [], OnOk, OnErr, IfOk, IfErr, IsSome};
+ghost use Rattle.qq_script.specs.Text.{seq_of, tag_of, session_of, full_text, cause_text, answer_words, content_body, shown_body, is_first_client, line_prefix, answer_line};
+
+use crate::words::{push_mark, push_number, push_numbered, push_session, push_text};
+use qq_base::{Memory, SessionId, Text};
+use qq_command::{Answer, Cause, Command, Full, Message};
+use std::alloc::Global;
+
+pub fn seq(command: &Command) -> u64
+    ensures { result ≡ seq_of command.now }
+{
+    match command {
+        Command::Enqueue { stamp, .. }
+        | Command::Get { stamp }
+        | Command::Subscribe { stamp, .. }
+        | Command::Cancel { stamp, .. }
+        | Command::Credit { stamp, .. }
+        | Command::Settle { stamp, .. }
+        | Command::Return { stamp, .. }
+        | Command::Discard { stamp, .. }
+        | Command::Purge { stamp } => stamp.seq,
+        Command::Noop { .. }
+        | Command::Down { .. }
+        | Command::DeadAttach { .. }
+        | Command::DeadSettle { .. } => 0,
+    }
+}
+
+pub fn tag(command: &Command) -> u32
+    ensures { result ≡ tag_of command.now }
+{
+    match command {
+        Command::Subscribe { tag, .. }
+        | Command::Cancel { tag, .. }
+        | Command::Credit { tag, .. }
+        | Command::Settle { tag, .. }
+        | Command::Return { tag, .. }
+        | Command::Discard { tag, .. } => *tag,
+        Command::Noop { .. }
+        | Command::Enqueue { .. }
+        | Command::Get { .. }
+        | Command::Purge { .. }
+        | Command::Down { .. }
+        | Command::DeadAttach { .. }
+        | Command::DeadSettle { .. } => 0,
+    }
+}
+
+fn session(command: &Command) -> Option<SessionId>
+    ensures { result ≡ session_of command.now }
+{
+    match command {
+        Command::Enqueue { stamp, .. }
+        | Command::Get { stamp }
+        | Command::Subscribe { stamp, .. }
+        | Command::Cancel { stamp, .. }
+        | Command::Credit { stamp, .. }
+        | Command::Settle { stamp, .. }
+        | Command::Return { stamp, .. }
+        | Command::Discard { stamp, .. }
+        | Command::Purge { stamp } => Some(stamp.session),
+        Command::Down { session } => Some(*session),
+        Command::Noop { .. } | Command::DeadAttach { .. } | Command::DeadSettle { .. } => None,
+    }
+}
+
+fn full_word(full: Full) -> &'static str
+    ensures { result.now ≡ full_text full }
+{
+    match full {
+        Full::Length => "length",
+        Full::ByteLength => "bytes",
+        Full::Live => "live",
+    }
+}
+
+fn cause_word(cause: Cause) -> &'static str
+    ensures { result.now ≡ cause_text cause }
+{
+    match cause {
+        Cause::SingleActive => "single-active",
+        Cause::NumberSpent => "number-spent",
+        Cause::ConsumersFull => "consumers-full",
+        Cause::NoConsumer => "no-consumer",
+        Cause::WrongMode => "wrong-mode",
+    }
+}
+
+/// The words of an answer to the command of this number and tag, without a message's body.
+pub fn push_answer(out: &mut Vec<u8>, seq: u64, tag: u32, answer: &Answer) -> Result<(), Memory>
+    ensures ok { OnOk result (out.new.items ≡ out.old.items ++ answer_words seq tag answer.now) }
+    ensures want { IfErr result (λ e. e ≡ Memory.Want) }
+{
+    match answer {
+        Answer::Lead => push_text(out, "lead"),
+        Answer::Confirmed => push_numbered(out, "confirmed ", seq),
+        Answer::Rejected(full) => {
+            push_numbered(out, "rejected ", seq)?;
+            push_text(out, " ")?;
+            push_text(out, full_word(*full))
+        }
+        Answer::Got(delivery) => {
+            push_text(out, "message ")?;
+            push_mark(out, delivery.arrival, delivery.count)
+        }
+        Answer::Empty => push_text(out, "empty"),
+        Answer::Subscribed => push_numbered(out, "subscribed ", u64::from(tag)),
+        Answer::Refused(cause) => {
+            push_text(out, "refused ")?;
+            push_text(out, cause_word(*cause))
+        }
+        Answer::Done => push_text(out, "done"),
+        Answer::Credited { drained } => push_numbered(out, "credited ", *drained),
+        Answer::Purged { count } => push_numbered(out, "purged ", *count),
+        Answer::Down => push_text(out, "down"),
+        Answer::Attached => push_text(out, "attached"),
+        Answer::Stale => push_text(out, "stale"),
+        Answer::DeadSettled { count } => push_numbered(out, "dead-settled ", *count),
+        Answer::Gap { next } => push_numbered(out, "gap ", *next),
+        Answer::Forgotten => push_numbered(out, "forgotten ", seq),
+        Answer::Ended => push_text(out, "ended"),
+        Answer::WindowFull => push_text(out, "window full"),
+        Answer::SessionsFull => push_text(out, "sessions full"),
+    }
+}
+
+fn is_first(session: Option<SessionId>) -> bool
+    ensures { result ≡ is_first_client session }
+{
+    match session {
+        None => true,
+        Some(session) => session.class == 1 && session.number == 1,
+    }
+}
+
+fn push_prefix(
+    out: &mut Vec<u8>,
+    first: bool,
+    session: Option<SessionId>,
+    queue: &str,
+) -> Result<(), Memory>
+    ensures ok { OnOk result (out.new.items ≡ out.old.items ++ line_prefix first session queue.now) }
+    ensures want { IfErr result (λ e. e ≡ Memory.Want) }
+{
+    if first && is_first(session) {
+        return Ok(());
+    }
+    if let Some(session) = session {
+        push_session(out, session)?;
+    }
+    push_text(out, " ")?;
+    push_text(out, queue)?;
+    push_text(out, ": ")
+}
+
+// What the line of an answer has before a message's body.
+fn head(
+    alloc: Global,
+    first: bool,
+    command: &Command,
+    queue: &str,
+    answer: &Answer,
+) -> Result<Vec<u8>, Memory>
+    ensures ok { IfOk result (λ head. head.items ≡ line_prefix first (session_of command.now) queue.now ++ answer_words (seq_of command.now) (tag_of command.now) answer.now) }
+    ensures want { IfErr result (λ e. e ≡ Memory.Want) }
+{
+    let mut out = Vec::new(alloc);
+    push_prefix(&mut out, first, session(command), queue)?;
+    push_answer(&mut out, seq(command), tag(command), answer)?;
+    Ok(out)
+}
+
+// Adds both pieces and a line feed, or nothing.
+pub fn push_line(out: &mut Vec<u8>, head: &[u8], body: &[u8]) -> Result<(), Memory>
+    ensures ok { OnOk result (out.new.items ≡ out.old.items ++ (head.now ++ body.now ++ 10 ∷ [])) }
+    ensures err { OnErr result (out.new.items ≡ out.old.items) }
+    ensures want { IfErr result (λ e. e ≡ Memory.Want) }
+{
+    out.reserve(head.len() + body.len() + 1)?;
+    out.extend_from_slice(head).unwrap();
+    out.extend_from_slice(body).unwrap();
+    out.push_reserved(b'\n');
+    Ok(())
+}
+
+fn body_of(message: &Message) -> &[u8]
+    ensures { result.now ≡ content_body message.now.content }
+{
+    match &message.content {
+        None => &[],
+        Some(content) => content.body.as_slice(),
+    }
+}
+
+/// Adds the line of an answer, with its line feed. `first` says that the queue is the first one. Session
+/// 1 of the first queue isn't named. Where there is no memory `out` stays.
+pub fn answer_text(
+    alloc: Global,
+    first: bool,
+    command: &Command,
+    queue: &Text,
+    answer: &Answer,
+    out: &mut Vec<u8>,
+) -> Result<(), Memory>
+    requires { IsSome (session_of command.now) }
+    ensures ok { OnOk result (out.new.items ≡ out.old.items ++ answer_line first command.now queue.now answer.now) }
+    ensures err { OnErr result (out.new.items ≡ out.old.items) }
+    ensures want { IfErr result (λ e. e ≡ Memory.Want) }
+{
+    let mut head = head(alloc, first, command, queue.as_str(), answer)?;
+    match answer {
+        Answer::Got(delivery) => {
+            head.push(b' ')?;
+            push_line(out, &head, body_of(&delivery.message))
+        }
+        _ => push_line(out, &head, b""),
+    }
+}

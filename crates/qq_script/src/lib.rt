@@ -1,0 +1,14 @@
+//! The script: its lines as they are read, and the text of answers and audits as it is printed.
+#![tactic(auto)]
+
+mod answer;
+mod audit;
+mod line;
+mod words;
+
+pub use answer::answer_text;
+pub use audit::{audit_head_text, row_text};
+pub use line::{BODY_LIMIT, ScriptFault, ScriptLine, parse_line};
+
+#[cfg(test)]
+mod tests;
