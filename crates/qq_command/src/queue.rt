@@ -46,6 +46,31 @@ pub struct QueueArgs {
     pub live: u64,
 }
 
+impl QueueArgs {
+    ghost use Rattle.std.specs.Prelude.{◌≡◌};
+    ghost use Rattle.qq_command.specs.Queue.{default_args};
+
+    /// The arguments of a queue that is declared with none but its type (RabbitMQ, "Quorum Queues"): no
+    /// length limit, a delivery limit of 20, no dead-letter exchange. It takes no memory.
+    pub fn new(alloc: Global, queue: QueueId, group: u8) -> Self
+        ensures { result ≡ default_args queue group }
+    {
+        QueueArgs {
+            queue,
+            group,
+            max_length: None,
+            max_bytes: None,
+            overflow: Overflow::DropHead,
+            delivery_limit: Some(20),
+            single_active: false,
+            strategy: Strategy::Absent,
+            dead_exchange: Text::new(alloc),
+            dead_key: None,
+            live: 1_000_000,
+        }
+    }
+}
+
 /// The nodes of a queue's group.
 pub type Members = Items<NodeId>;
 
