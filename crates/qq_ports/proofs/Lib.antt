@@ -1,0 +1,4 @@
+mod Cuts
+mod Pieces
+mod Writes
+mod LineLemmas

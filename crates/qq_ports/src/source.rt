@@ -1,0 +1,36 @@
+ghost use Rattle.std.specs.Prelude.{◌≤◌, ◌<◌, ◌≡◌, ℕ, List, Option, IfOk, OnErr, length, take};
+ghost use Rattle.std.specs.Io.KnownBytes.{Consumes, Keeps, IsAtEnd};
+ghost use Rattle.qq_ports.specs.Faults.{HasCause};
+
+use std::error::Error;
+use std::fmt;
+
+/// The outside has failed: a counted fault.
+#[derive(Clone, Copy, Debug, PartialEq, Eq)]
+pub struct Failed;
+
+impl fmt::Display for Failed {
+    fn fmt<W: fmt::Write>(&self, f: &mut fmt::Formatter<W>) -> fmt::Result {
+        f.write_str("the outside has failed")
+    }
+}
+
+impl Error for Failed {}
+
+/// Where bytes come from.
+pub trait Source {
+    /// The bytes that it has left, where it tells them.
+    ghost left: { Self → Option (List ℕ) };
+
+    /// How often it has failed. The count never falls.
+    ghost faults: { Self → ℕ };
+
+    /// Reads bytes to the front of `buf`, and says how many. 0 for a buffer that isn't empty is the end
+    /// of the input. It fails only at a counted fault, and has then taken nothing.
+    fn read(&mut self, buf: &mut [u8]) -> Result<usize, Failed>
+        ensures within { IfOk result (λ n. n ≤ length buf.old) }
+        ensures taken { IfOk result (λ n. Consumes (left self.old) (left self.new) (take n buf.new)) }
+        ensures end { IfOk result (λ n. n ≡ 0 → 0 < length buf.old → IsAtEnd (left self.new)) }
+        ensures kept { OnErr result (Keeps (left self.old) (left self.new)) }
+        ensures cause { HasCause (faults self.old) (faults self.new) result };
+}
