@@ -62,6 +62,8 @@ impl Serial {
         requires unlimited { IsUnlimited self.old.args }
 
         ensures ok { IfOk result (λ made. step self.old index entry.now ≡ record { state = self.new; fresh = made.0; answer = made.1; effects = made.2.items }) }
+        ensures applied { OnOk result (self.new.applied ≡ index.0) }
+        ensures args { self.new.args ≡ self.old.args }
         ensures within { OnOk result (IsTrue (is_within_ends self.new)) }
         ensures err { OnErr result (self.new ≡ self.old) }
         ensures cause { IfErr result (λ e. SpentOnlyWhere e NUMBER_END (is_within_ends (step self.old index entry.now).state ≡ false)) }
@@ -81,6 +83,7 @@ impl Serial {
 
     fn enqueue(&mut self, alloc: Global, index: Index, message: &Message) -> Result<Answer, Memory>
         ensures ok { IfOk result (λ answer. enqueue self.old index message.now ≡ record { state = self.new; answer = answer }) }
+        ensures args { self.new.args ≡ self.old.args }
         ensures within { OnOk result (IsTrue (is_within_ends self.new)) }
         ensures err { OnErr result (self.new ≡ self.old) }
         ensures cause { IfErr result (λ e. SpentOnlyWhere e NUMBER_END (is_within_ends (enqueue self.old index message.now).state ≡ false)) }
@@ -105,6 +108,7 @@ impl Serial {
 
     fn get(&mut self, alloc: Global) -> Result<Answer, Memory>
         ensures ok { IfOk result (λ answer. get self.old ≡ record { state = self.new; answer = answer }) }
+        ensures args { self.new.args ≡ self.old.args }
         ensures within { OnOk result (IsTrue (is_within_ends self.new)) }
         ensures err { OnErr result (self.new ≡ self.old) }
         ensures want { IfErr result (λ e. e ≡ Memory.Want) }

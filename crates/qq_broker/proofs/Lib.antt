@@ -1,0 +1,4 @@
+mod Fronts
+mod Lines
+mod Endings
+mod Closings
