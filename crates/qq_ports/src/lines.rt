@@ -248,8 +248,21 @@ fn read_line<I: Source>(
     Ok(Some(raw))
 }
 
-/// The next line of the source. None comes exactly at the end of the input. A line above the limit is
-/// given up at its first byte too many. After a fault the reader isn't used again.
+/// The next line of the source.
+///
+/// - `line`: it is the first line ahead: what the reader had read, and then what the source has left.
+///   With its ending it is ahead no longer, and it has at most `LINE_LIMIT` bytes before its line feed.
+///   The carriage return before the line feed counts there, and isn't handed out. The last line may
+///   lack a line feed, and then keeps a carriage return at its end.
+/// - `number`: the first line has the number 1, and each further line the next.
+/// - `end`: None comes exactly at the end of the input.
+/// - `later`: the source's count of faults doesn't fall.
+/// - `cause`: `Failed` comes only at a counted fault of the source. `TooLong` comes only where the first
+///   line ahead is too long; it is given up at its first byte too many. Of `Memory`, the number's end
+///   comes only where so many lines were given.
+///
+/// Where the source tells nothing of its bytes, `line`, `end` and `TooLong` say nothing of them. After an
+/// error the reader isn't used again.
 pub fn next_line<I: Source>(
     alloc: Global,
     input: &mut I,
