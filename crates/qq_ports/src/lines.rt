@@ -184,7 +184,9 @@ fn front_length(bytes: &[u8]) -> usize
 fn take_to_feed(pending: &[u8], raw: &mut Vec<u8>) -> Result<Option<usize>, LineFault>
     ensures ok { IfOk result (λ found. MatchOption found
         (HasNoFeed pending.now × (raw.new.items ≡ raw.old.items ++ pending.now))
-        (λ place. (place < length pending.now) × HasNoFeed (take place pending.now) × (pending.now ≡ take place pending.now ++ 10 ∷ drop (place + 1) pending.now) × (raw.new.items ≡ raw.old.items ++ take place pending.now))) }
+        (λ place. (place < length pending.now) × HasNoFeed (take place pending.now)
+        × (pending.now ≡ take place pending.now ++ 10 ∷ drop (place + 1) pending.now)
+        × (raw.new.items ≡ raw.old.items ++ take place pending.now))) }
     ensures fits { OnOk result (length raw.new.items ≤ LINE_LIMIT) }
     ensures cause { IfErr result (λ e. HasNoFeed raw.old.items → (rest : List ℕ) → IsGivenUp e (raw.old.items ++ (pending.now ++ rest))) }
 {
