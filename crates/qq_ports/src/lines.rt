@@ -234,6 +234,7 @@ fn read_line<I: Source>(
 ) -> Result<Option<Vec<u8>>, LineFault>
     ensures line { IfOk result (λ found. IfSome found (λ bytes. TakesLine (ahead lines.old (I.left input.old)) (ahead lines.new (I.left input.new)) bytes.items)) }
     ensures end { IfOk result (λ found. IfNone found (IsAtEnd (ahead lines.old (I.left input.old)))) }
+    ensures stays { IfOk result (λ found. IfNone found (IsAtEnd (ahead lines.new (I.left input.new)))) }
     ensures given { OnOk result (lines.new.given ≡ lines.old.given) }
     ensures later { I.faults input.old ≤ I.faults input.new }
     ensures cause { IfErr result (λ e. HasLineCause e (ahead lines.old (I.left input.old)) lines.old.given (Rose (I.faults input.old) (I.faults input.new))) }
@@ -258,6 +259,7 @@ fn read_line<I: Source>(
 ///   lack a line feed, and then keeps a carriage return at its end.
 /// - `number`: the first line has the number 1, and each further line the next.
 /// - `end`: None comes exactly at the end of the input.
+/// - `stays`: after None the input is at its end still, and no number was used.
 /// - `later`: the source's count of faults doesn't fall.
 /// - `cause`: `Failed` comes only at a counted fault of the source. `TooLong` comes only where the first
 ///   line ahead is too long; it is given up at its first byte too many. Of `Memory`, the number's end
@@ -273,6 +275,7 @@ pub fn next_line<I: Source>(
     ensures line { IfOk result (λ found. IfSome found (λ line. TakesLine (ahead lines.old (I.left input.old)) (ahead lines.new (I.left input.new)) line.bytes)) }
     ensures number { IfOk result (λ found. IfSome found (λ line. (line.number ≡ lines.old.given + 1) × (lines.new.given ≡ lines.old.given + 1))) }
     ensures end { IfOk result (λ found. IfNone found (IsAtEnd (ahead lines.old (I.left input.old)))) }
+    ensures stays { IfOk result (λ found. IfNone found ((lines.new.given ≡ lines.old.given) × IsAtEnd (ahead lines.new (I.left input.new)))) }
     ensures later { I.faults input.old ≤ I.faults input.new }
     ensures cause { IfErr result (λ e. HasLineCause e (ahead lines.old (I.left input.old)) lines.old.given (Rose (I.faults input.old) (I.faults input.new))) }
 {

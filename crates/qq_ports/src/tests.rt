@@ -159,3 +159,23 @@ fn the_standard_streams_take_an_empty_piece(rt: HostRuntime) -> Result<(), Fail>
     assert_eq!(rt; StdSink::new(rt.stdout()).write(b"")?, 0);
     Ok(())
 }
+
+#[test]
+fn faults_have_texts(rt: HostRuntime) -> Result<(), Fail> {
+    let alloc = rt.alloc();
+    for (fault, wanted) in [
+        (LineFault::Failed, "the source has failed"),
+        (
+            LineFault::TooLong { length: 70_001 },
+            "a line of 70001 bytes or more",
+        ),
+        (LineFault::Memory(Memory::Want), "memory"),
+    ] {
+        assert_eq!(rt; format!(in alloc; "{fault}")?.as_str(), wanted);
+    }
+    assert_eq!(rt;
+        format!(in alloc; "{}", Failed)?.as_str(),
+        "the outside has failed"
+    );
+    Ok(())
+}
