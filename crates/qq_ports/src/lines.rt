@@ -94,10 +94,7 @@ impl Lines {
         let count = input.read(&mut self.chunk)?;
         self.at = 0;
         self.end = count;
-        if count == 0 {
-            return Ok(false);
-        }
-        Ok(true)
+        Ok(count > 0)
     }
 
     // Whether bytes are pending. It reads more where there are none.
