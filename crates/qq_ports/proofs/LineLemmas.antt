@@ -1,5 +1,6 @@
 -- Lemmas on the lines of bytes.
-use Rattle.std.proofs.Common.{◌≡◌, ℕ, ◌<◌, ◌≤◌, ◌==◌, ◌&&◌, Bool, true, false, List, [], ◌∷◌, ◌++◌, Option, Some, None, length, refl, sym, ap, subst, ◌∙◌, ◌⊎◌, inl, inr, arith}
+use Rattle.std.proofs.Common.{◌≡◌, ℕ, ◌<◌, ◌≤◌, ◌==◌, ◌&&◌, Bool, true, false, List, [], ◌∷◌, ◌++◌, Option, Some, None, length, refl, sym, ap, subst, ◌∙◌, inl, inr, arith}
+use Rattle.std.proofs.lemmas.Bool.{cases_Bool}
 use Rattle.std.proofs.lemmas.List.{length-append}
 use Rattle.qq_ports.specs.declared.fault.TheConstants.{LINE_LIMIT}
 use Rattle.qq_ports.specs.Lines.{without_return, onto_front, cut_at_feed, line_by_cut, first_line, begins_with_feed, onto_first, lines_of, HasNoFeed, IsLong, FirstLineLeads}
@@ -63,10 +64,6 @@ Leads : List ℕ → Option (List ℕ × List ℕ) → Type 0
 Leads bytes None = lines_of bytes ≡ last_lines bytes
 Leads bytes (Some parts) = lines_of bytes ≡ without_return parts.0 ∷ lines_of parts.1
 
-which : (t : Bool) → (t ≡ true) ⊎ (t ≡ false)
-which true = inl refl
-which false = inr refl
-
 cut-at : (b : ℕ) (bs : List ℕ) → (b == 10) ≡ true → cut_at_feed (b ∷ bs) ≡ Some ([], bs)
 cut-at b bs feed = rw feed refl
 
@@ -105,7 +102,7 @@ onto_front-cons b (Some parts) rest e = let h : b ∷ parts.0 ≡ [] = ap front_
 -- a cut that leaves nothing in front stands at a line feed
 cut_begins : (bs rest : List ℕ) → cut_at_feed bs ≡ Some ([], rest) → begins_with_feed bs ≡ true
 cut_begins [] rest e = absurd cc
-cut_begins (b ∷ bs) rest e = elim (which (b == 10)) [ inl feed ↦ feed | inr other ↦ absurd (onto_front-cons b (cut_at_feed bs) rest (sym (cut-past b bs other) ∙ e)) ]
+cut_begins (b ∷ bs) rest e = elim (cases_Bool (b == 10)) [ inl feed ↦ feed | inr other ↦ absurd (onto_front-cons b (cut_at_feed bs) rest (sym (cut-past b bs other) ∙ e)) ]
 
 without-cons : (b : ℕ) (raw : List ℕ) → (raw ≡ [] → (b == 13) ≡ false) → without_return (b ∷ raw) ≡ b ∷ without_return raw
 without-cons b [] h = rw (h refl) refl
@@ -131,9 +128,9 @@ lines_lead : (bytes : List ℕ) → Leads bytes (cut_at_feed bytes)
 unfolding Leads last_lines
 lines_lead [] = refl
 lines_lead (b ∷ bs) =
-    elim (which (b == 10)) [
+    elim (cases_Bool (b == 10)) [
       | inl feed ↦ subst (Leads (b ∷ bs)) (sym (cut-at b bs feed)) (lines-at b bs feed)
-      | inr other ↦ subst (Leads (b ∷ bs)) (sym (cut-past b bs other)) (elim (which ((b == 13) && begins_with_feed bs)) [
+      | inr other ↦ subst (Leads (b ∷ bs)) (sym (cut-past b bs other)) (elim (cases_Bool ((b == 13) && begins_with_feed bs)) [
         | inl return ↦ return_leads b bs other return
         | inr past ↦ other_leads b bs (cut_at_feed bs) other past refl (lines_lead bs)
       ])

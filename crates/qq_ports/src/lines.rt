@@ -94,10 +94,7 @@ impl Lines {
         let count = input.read(&mut self.chunk)?;
         self.at = 0;
         self.end = count;
-        if count == 0 {
-            return Ok(false);
-        }
-        Ok(true)
+        Ok(count > 0)
     }
 
     // Whether bytes are pending. It reads more where there are none.
@@ -184,7 +181,9 @@ fn front_length(bytes: &[u8]) -> usize
 fn take_to_feed(pending: &[u8], raw: &mut Vec<u8>) -> Result<Option<usize>, LineFault>
     ensures ok { IfOk result (λ found. MatchOption found
         (HasNoFeed pending.now × (raw.new.items ≡ raw.old.items ++ pending.now))
-        (λ place. (place < length pending.now) × HasNoFeed (take place pending.now) × (pending.now ≡ take place pending.now ++ 10 ∷ drop (place + 1) pending.now) × (raw.new.items ≡ raw.old.items ++ take place pending.now))) }
+        (λ place. (place < length pending.now) × HasNoFeed (take place pending.now)
+        × (pending.now ≡ take place pending.now ++ 10 ∷ drop (place + 1) pending.now)
+        × (raw.new.items ≡ raw.old.items ++ take place pending.now))) }
     ensures fits { OnOk result (length raw.new.items ≤ LINE_LIMIT) }
     ensures cause { IfErr result (λ e. HasNoFeed raw.old.items → (rest : List ℕ) → IsGivenUp e (raw.old.items ++ (pending.now ++ rest))) }
 {
@@ -232,6 +231,7 @@ fn read_line<I: Source>(
 ) -> Result<Option<Vec<u8>>, LineFault>
     ensures line { IfOk result (λ found. IfSome found (λ bytes. TakesLine (ahead lines.old (I.left input.old)) (ahead lines.new (I.left input.new)) bytes.items)) }
     ensures end { IfOk result (λ found. IfNone found (IsAtEnd (ahead lines.old (I.left input.old)))) }
+    ensures stays { IfOk result (λ found. IfNone found (IsAtEnd (ahead lines.new (I.left input.new)))) }
     ensures given { OnOk result (lines.new.given ≡ lines.old.given) }
     ensures later { I.faults input.old ≤ I.faults input.new }
     ensures cause { IfErr result (λ e. HasLineCause e (ahead lines.old (I.left input.old)) lines.old.given (Rose (I.faults input.old) (I.faults input.new))) }
@@ -248,8 +248,22 @@ fn read_line<I: Source>(
     Ok(Some(raw))
 }
 
-/// The next line of the source. None comes exactly at the end of the input. A line above the limit is
-/// given up at its first byte too many. After a fault the reader isn't used again.
+/// The next line of the source.
+///
+/// - `line`: it is the first line ahead: what the reader had read, and then what the source has left.
+///   With its ending it is ahead no longer, and it has at most `LINE_LIMIT` bytes before its line feed.
+///   The carriage return before the line feed counts there, and isn't handed out. The last line may
+///   lack a line feed, and then keeps a carriage return at its end.
+/// - `number`: the first line has the number 1, and each further line the next.
+/// - `end`: None comes exactly at the end of the input.
+/// - `stays`: after None the input is at its end still, and no number was used.
+/// - `later`: the source's count of faults doesn't fall.
+/// - `cause`: `Failed` comes only at a counted fault of the source. `TooLong` comes only where the first
+///   line ahead is too long; it is given up at its first byte too many. Of `Memory`, the number's end
+///   comes only where so many lines were given.
+///
+/// Where the source tells nothing of its bytes, `line`, `end` and `TooLong` say nothing of them. After an
+/// error the reader isn't used again.
 pub fn next_line<I: Source>(
     alloc: Global,
     input: &mut I,
@@ -258,6 +272,7 @@ pub fn next_line<I: Source>(
     ensures line { IfOk result (λ found. IfSome found (λ line. TakesLine (ahead lines.old (I.left input.old)) (ahead lines.new (I.left input.new)) line.bytes)) }
     ensures number { IfOk result (λ found. IfSome found (λ line. (line.number ≡ lines.old.given + 1) × (lines.new.given ≡ lines.old.given + 1))) }
     ensures end { IfOk result (λ found. IfNone found (IsAtEnd (ahead lines.old (I.left input.old)))) }
+    ensures stays { IfOk result (λ found. IfNone found ((lines.new.given ≡ lines.old.given) × IsAtEnd (ahead lines.new (I.left input.new)))) }
     ensures later { I.faults input.old ≤ I.faults input.new }
     ensures cause { IfErr result (λ e. HasLineCause e (ahead lines.old (I.left input.old)) lines.old.given (Rose (I.faults input.old) (I.faults input.new))) }
 {

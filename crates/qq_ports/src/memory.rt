@@ -1,5 +1,5 @@
 use crate::sink::Sink;
-use crate::source::{Failed, Source};
+use crate::source::{Failed, Source, count_fault};
 use qq_base::Memory;
 use std::alloc::Global;
 use std::io::Read;
@@ -56,8 +56,7 @@ impl Source for MemSource {
     fn read(&mut self, buf: &mut [u8]) -> Result<usize, Failed> {
         self.calls = self.calls.saturating_add(1);
         if self.fails.contains(&self.calls) || self.at > self.bytes.len() {
-            self.faults = self.faults.saturating_add(1);
-            return Err(Failed);
+            return Err(count_fault(&mut self.faults));
         }
         let mut rest = &self.bytes[self.at..];
         match rest.read(buf) {
@@ -65,10 +64,7 @@ impl Source for MemSource {
                 self.at = self.bytes.len() - rest.len();
                 Ok(count)
             }
-            Err(_) => {
-                self.faults = self.faults.saturating_add(1);
-                Err(Failed)
-            }
+            Err(_) => Err(count_fault(&mut self.faults)),
         }
     }
 }
@@ -117,8 +113,7 @@ impl Sink for MemSink {
             || bytes.len() > self.room - self.bytes.len()
             || self.bytes.extend_from_slice(bytes).is_err()
         {
-            self.faults = self.faults.saturating_add(1);
-            return Err(Failed);
+            return Err(count_fault(&mut self.faults));
         }
         Ok(bytes.len())
     }

@@ -6,14 +6,20 @@ use crate::source::Failed;
 
 /// Where bytes go.
 pub trait Sink {
-    /// The bytes that it was given, where it tells them.
+    /// The bytes that it was given. None where it doesn't tell them.
     ghost written: { Self → Option (List ℕ) };
 
-    /// How often it has failed. The count never falls.
+    /// How often it has failed. The count never falls, and stops at 2^64 - 1.
     ghost faults: { Self → ℕ };
 
-    /// Takes some of the bytes from their front, and says how many. Taking none of a piece that isn't
-    /// empty is counted as a fault. It fails only at a counted fault, and has then taken nothing.
+    /// Takes some of the bytes from their front, and says how many, as `write` of Rust's
+    /// `std::io::Write`.
+    ///
+    /// - `within`: it takes no more bytes than there are.
+    /// - `taken`: they stand behind all that was written before.
+    /// - `none`: taking none of a piece that isn't empty is counted as a fault.
+    /// - `kept`: where it fails, it has taken nothing.
+    /// - `cause`: it fails only at a counted fault.
     fn write(&mut self, bytes: &[u8]) -> Result<usize, Failed>
         ensures within { IfOk result (λ n. n ≤ length bytes.now) }
         ensures taken { IfOk result (λ n. Appends (written self.old) (written self.new) (take n bytes.now)) }
@@ -23,6 +29,7 @@ pub trait Sink {
 }
 
 /// Writes all the bytes, in as many calls as the sink wants. Where it fails, a front of them was written.
+/// It fails only at a counted fault.
 #[tactic(auto, using(crate::proofs::Writes::appends_more))]
 pub fn write_all<O: Sink>(out: &mut O, bytes: &[u8]) -> Result<(), Failed>
     ensures ok { OnOk result (Appends (O.written out.old) (O.written out.new) bytes.now) }

@@ -1,6 +1,6 @@
 ghost use Rattle.std.specs.Prelude.{◌≤◌, ◌<◌, ◌≡◌, ℕ, List, Option, IfOk, OnErr, length, take};
 ghost use Rattle.std.specs.Io.KnownBytes.{Consumes, Keeps, IsAtEnd};
-ghost use Rattle.qq_ports.specs.Faults.{HasCause};
+ghost use Rattle.qq_ports.specs.Faults.{HasCause, Rose};
 
 use std::error::Error;
 use std::fmt;
@@ -17,16 +17,30 @@ impl fmt::Display for Failed {
 
 impl Error for Failed {}
 
+// Counts a fault. The count stops at its end.
+pub(crate) fn count_fault(faults: &mut u64) -> Failed
+    ensures later { faults.old ≤ faults.new }
+    ensures rose { Rose faults.old faults.new }
+{
+    *faults = faults.saturating_add(1);
+    Failed
+}
+
 /// Where bytes come from.
 pub trait Source {
-    /// The bytes that it has left, where it tells them.
+    /// The bytes that it has left. None where it doesn't tell them.
     ghost left: { Self → Option (List ℕ) };
 
-    /// How often it has failed. The count never falls.
+    /// How often it has failed. The count never falls, and stops at 2^64 - 1.
     ghost faults: { Self → ℕ };
 
-    /// Reads bytes to the front of `buf`, and says how many. 0 for a buffer that isn't empty is the end
-    /// of the input. It fails only at a counted fault, and has then taken nothing.
+    /// Reads bytes to the front of `buf`, and says how many, as `read` of Rust's `std::io::Read`.
+    ///
+    /// - `within`: it gives no more bytes than `buf` has room for.
+    /// - `taken`: they are the first that were left, and are left no longer.
+    /// - `end`: 0 for a buffer that isn't empty comes only at the end of the input.
+    /// - `kept`: where it fails, it has taken nothing.
+    /// - `cause`: it fails only at a counted fault.
     fn read(&mut self, buf: &mut [u8]) -> Result<usize, Failed>
         ensures within { IfOk result (λ n. n ≤ length buf.old) }
         ensures taken { IfOk result (λ n. Consumes (left self.old) (left self.new) (take n buf.new)) }

@@ -1,7 +1,7 @@
 ghost use Rattle.std.specs.Prelude.{◌≡◌, None};
 
 use crate::sink::Sink;
-use crate::source::{Failed, Source};
+use crate::source::{Failed, Source, count_fault};
 use std::io::{Read, Stdin, Stdout, Write};
 
 /// The process's standard input. It tells nothing of its bytes.
@@ -34,10 +34,7 @@ impl Source for StdSource {
     fn read(&mut self, buf: &mut [u8]) -> Result<usize, Failed> {
         match self.input.read(buf) {
             Ok(count) => Ok(count),
-            Err(_) => {
-                self.faults = self.faults.saturating_add(1);
-                Err(Failed)
-            }
+            Err(_) => Err(count_fault(&mut self.faults)),
         }
     }
 }
@@ -59,14 +56,11 @@ impl Sink for StdSink {
         match self.output.write(bytes) {
             Ok(count) => {
                 if count == 0 && !bytes.is_empty() {
-                    self.faults = self.faults.saturating_add(1);
+                    count_fault(&mut self.faults);
                 }
                 Ok(count)
             }
-            Err(_) => {
-                self.faults = self.faults.saturating_add(1);
-                Err(Failed)
-            }
+            Err(_) => Err(count_fault(&mut self.faults)),
         }
     }
 }

@@ -12,21 +12,26 @@ returns-in_err-take_piece-clause-cause g c =
     let before = ahead c.args.lines.now (g.I.Source.left c.args.input.now) in
     let start = ahead c.pieces.lines (g.I.Source.left c.pieces.input) in
     let left = g.I.Source.left c.has_more.new.input in
-    rw (p.1, p.2) (given_up _ before start left c.pieces.raw.items c.has_more.new.self.pending _ _ c.pieces.invariant.read c.in_ok-has_more.ensures.kept (c.in_err-take_piece.ensures.cause c.pieces.invariant.clean))
+    rw (p.1, p.2) (given_up _ before start left c.pieces.raw.items c.has_more.new.self.pending _ _
+    c.pieces.invariant.read c.in_ok-has_more.ensures.kept (c.in_err-take_piece.ensures.cause c.pieces.invariant.clean))
 
 pub returns-then-branch-2-clause-line : goal.returns-then-branch-2-clause-line
 returns-then-branch-2-clause-line g c =
     let before = ahead c.args.lines.now (g.I.Source.left c.args.input.now) in
     let start = ahead c.pieces.lines (g.I.Source.left c.pieces.input) in
     let left = g.I.Source.left c.has_more.new.input in
-    rw c.strip_return.ensures (takes_fed before start left c.in_ok-take_piece.field-0 c.has_more.new.self.pending c.take_piece.new.self.pending c.pieces.raw.items c.take_piece.new.raw.items c.if-branch-2.true c.in_ok-take_piece.ensures.taken c.pieces.invariant.read c.in_ok-has_more.ensures.kept c.pieces.invariant.clean c.in_ok-take_piece.ensures.fits)
+    rw c.strip_return.ensures (takes_fed before start left c.in_ok-take_piece.field-0 c.has_more.new.self.pending c.take_piece.new.self.pending
+    c.pieces.raw.items c.take_piece.new.raw.items c.if-branch-2.true c.in_ok-take_piece.ensures.taken
+    c.pieces.invariant.read c.in_ok-has_more.ensures.kept c.pieces.invariant.clean c.in_ok-take_piece.ensures.fits)
 
 pub pieces-preserved : goal.pieces-preserved
 pieces-preserved g c =
     let before = ahead c.args.lines.now (g.I.Source.left c.args.input.now) in
     let start = ahead c.pieces.lines (g.I.Source.left c.pieces.input) in
     let left = g.I.Source.left c.has_more.new.input in
-    let more = takes_more before start left c.in_ok-take_piece.field-0 c.has_more.new.self.pending c.take_piece.new.self.pending c.pieces.raw.items c.take_piece.new.raw.items c.if-branch-2.false c.in_ok-take_piece.ensures.taken c.pieces.invariant.read c.in_ok-has_more.ensures.kept c.pieces.invariant.clean in
+    let more = takes_more before start left c.in_ok-take_piece.field-0 c.has_more.new.self.pending c.take_piece.new.self.pending
+    c.pieces.raw.items c.take_piece.new.raw.items c.if-branch-2.false c.in_ok-take_piece.ensures.taken
+    c.pieces.invariant.read c.in_ok-has_more.ensures.kept c.pieces.invariant.clean in
     record { clean = more.0; short = search rules; read = more.1; given = search rules; later = omega arith }
 
 pub returns-clause-line : goal.returns-clause-line
