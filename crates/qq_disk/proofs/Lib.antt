@@ -1,0 +1,4 @@
+mod Crashes
+pub mod Moments
+pub mod Names
+mod Stored

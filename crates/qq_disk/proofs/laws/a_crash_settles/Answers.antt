@@ -1,0 +1,8 @@
+use Rattle.qq_disk.proofs.Crashes.{image_again, image_alone}
+use Rattle.qq_disk.proofs.laws.a_crash_settles.Goals as goal
+
+pub returns-clause-same : goal.returns-clause-same
+returns-clause-same c = image_again
+
+pub returns-clause-alone : goal.returns-clause-alone
+returns-clause-alone c = image_alone
