@@ -1,4 +1,5 @@
 mod Crashes
 pub mod Moments
+mod Named
 pub mod Names
 mod Stored

@@ -1,8 +1,10 @@
 //! What follows for every disk, as laws: the functions do nothing, and their contracts are the laws.
-ghost use Rattle.std.specs.Prelude.{◌≡◌, ◌++◌, ℕ, List, Some};
+ghost use Rattle.std.specs.Prelude.{◌≡◌, ◌++◌, ℕ, List, Option, Some};
 ghost use Rattle.qq_disk.specs.declared.name.FileName.{FileName};
 ghost use Rattle.qq_disk.specs.Disk.{Disk, synced, shown, shows, IsListed};
 ghost use Rattle.qq_disk.specs.Crash.{Remains, IsImage, reopened};
+ghost use Rattle.qq_disk.specs.declared.image.Image.{Image};
+ghost use Rattle.qq_disk.specs.Image.{image_of};
 ghost use Rattle.qq_disk.specs.Calls.{Call, after, Spares};
 
 /// A disk as it reads is one of the images that a crash may leave.
@@ -20,4 +22,9 @@ pub fn synced_bytes_stay()
 pub fn a_crash_settles()
     ensures same { (i : Remains) → IsImage (reopened i) i }
     ensures alone { (i j : Remains) (file : FileName) → IsImage (reopened i) j → j file ≡ i file }
+{}
+
+/// What a named image leaves is one of the images that a crash may leave.
+pub fn a_named_image_is_one()
+    ensures { (image : Image) (newest : Option FileName) (d : Disk) → IsImage d (image_of image newest d) }
 {}

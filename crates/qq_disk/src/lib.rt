@@ -12,7 +12,7 @@ mod two_records;
 
 pub use fault::DiskFault;
 pub use image::{Image, Tail};
-pub use laws::{a_crash_settles, a_disk_shows_an_image, synced_bytes_stay};
+pub use laws::{a_crash_settles, a_disk_shows_an_image, a_named_image_is_one, synced_bytes_stay};
 pub use name::{FileKind, FileName};
 pub use node_disk::NodeDisk;
 pub use two_records::store_two;

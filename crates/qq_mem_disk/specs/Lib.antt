@@ -1,0 +1,3 @@
+pub mod Change
+pub mod Counter
+pub mod Files
