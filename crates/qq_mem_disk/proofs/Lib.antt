@@ -1,1 +1,3 @@
+mod Listed
+mod Newest
 mod Undo

@@ -1,3 +1,4 @@
 pub mod Change
 pub mod Counter
 pub mod Files
+pub mod Listing

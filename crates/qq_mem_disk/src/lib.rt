@@ -5,4 +5,5 @@ mod change;
 mod counter;
 mod file;
 mod files;
+mod listing;
 
