@@ -2,7 +2,7 @@
 use Rattle.std.proofs.Common.{◌≡◌, ◌≤◌, ℕ, Bool, true, false, cond, List, [], ◌∷◌, ◌++◌, length, Option, Some, None, refl, sym, ap, subst, ◌∙◌, inl, inr, arith, append_assoc, unwrap_or, option_map, is_some, IsTrue}
 use Rattle.std.proofs.lemmas.List.{append-nil}
 use Rattle.qq_disk.specs.declared.name.FileName.{FileName}
-use Rattle.qq_disk.specs.Disk.{Disk, FileState, visible, opened, fresh, grown, kept_whole, marked, whole, shown, synced, IsListed}
+use Rattle.qq_disk.specs.Disk.{Disk, FileState, visible, opened, fresh, grown, kept_whole, marked, whole, shows, shown, synced, IsListed}
 use Rattle.qq_disk.specs.Name.{same_name}
 use Rattle.qq_disk.specs.Crash.{Remains, MayLeave, IsImage, reopened}
 use Rattle.qq_disk.specs.Calls.{Call, Append, Sync, Remove, done, after, Spares}
@@ -20,6 +20,14 @@ may_show (Some f) = shown_whole f f.removed refl
 settled : (o : Option (List ℕ)) → MayLeave (option_map whole o) o
 settled None = tt
 settled (Some bytes) = record { tail = []; is = sym (append-nil bytes); fits = omega arith }
+
+shown_whole_again : (o : Option (List ℕ)) → visible (option_map whole o) ≡ o
+shown_whole_again None = refl
+shown_whole_again (Some bytes) = ap (λ (bs : List ℕ). Some bs) (append-nil bytes)
+
+-- an image that is opened again reads as it is
+pub image_shown : (i : Remains) (file : FileName) → shows (reopened i) file ≡ i file
+image_shown i file = shown_whole_again (i file)
 
 -- an image that is opened again is one of its own images
 pub image_again : (i : Remains) → IsImage (reopened i) i

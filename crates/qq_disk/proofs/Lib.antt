@@ -1,5 +1,5 @@
-mod Crashes
+pub mod Crashes
 pub mod Moments
-mod Named
+pub mod Named
 pub mod Names
 mod Stored

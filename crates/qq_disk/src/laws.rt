@@ -18,8 +18,10 @@ pub fn synced_bytes_stay()
     ensures { (d : Disk) (file : FileName) (calls : List Call) (i : Remains) → IsListed d file → Spares file calls → IsImage (after (synced d file) calls) i → (more : List ℕ) × (i file ≡ Some (shown d file ++ more)) }
 {}
 
-/// A crash settles what is on the disk: an image, opened again, is its own only image.
+/// A crash settles what is on the disk: an image that is opened again reads as it is, and is its own only
+/// image.
 pub fn a_crash_settles()
+    ensures shown { (i : Remains) (file : FileName) → shows (reopened i) file ≡ i file }
     ensures same { (i : Remains) → IsImage (reopened i) i }
     ensures alone { (i j : Remains) (file : FileName) → IsImage (reopened i) j → j file ≡ i file }
 {}

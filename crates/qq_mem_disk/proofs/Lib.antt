@@ -1,3 +1,5 @@
 mod Listed
+mod Moved
 mod Newest
+mod Steps
 mod Undo

@@ -24,7 +24,7 @@ before_of (Other f) now = Some f
 abbrev pub undone : Change → Disk → Disk
 undone change d = set d change.file (before_of change.before (d change.file))
 
--- the moments of a disk, the newest first, by its changes, the newest first
-abbrev pub moments_of : Disk → List Change → List Disk
-moments_of d [] = d ∷ []
-moments_of d (change ∷ changes) = d ∷ moments_of (undone change d) changes
+-- the moments before this one, the newest first, by the changes that led to it, the newest first
+abbrev pub moments_before : Disk → List Change → List Disk
+moments_before d [] = []
+moments_before d (change ∷ changes) = undone change d ∷ moments_before (undone change d) changes

@@ -1,7 +1,8 @@
+ghost use Rattle.qq_disk.specs.Fault.{HasCause};
 ghost use Rattle.std.specs.Prelude.{◌≡◌, if◌then◌else◌, Ok, Err};
-ghost use Rattle.qq_mem_disk.specs.Counter.{counted, will_fail, is_blown, burnt};
 
 use qq_disk::DiskFault;
+use std::alloc::Global;
 
 /// The calls and faults so far, and the calls that are to fail.
 #[derive(Drop)]
@@ -15,9 +16,24 @@ pub struct Counter {
 }
 
 impl Counter {
+    ghost use Rattle.qq_mem_disk.specs.Counter.{counted, will_fail, is_blown, burnt, IsFresh};
+
+    /// No calls so far, and none that is to fail.
+    pub fn new(alloc: Global) -> Counter
+        ensures { IsFresh result }
+    {
+        Counter {
+            calls: 0,
+            faults: 0,
+            fails: Vec::new(alloc),
+            fuse: None,
+        }
+    }
+
     /// Counts a call, which may be one that fails.
     pub fn begin(&mut self) -> Result<(), DiskFault>
         ensures counted { self.new ≡ counted self.old }
+        ensures cause { HasCause self.old.faults self.new.faults result }
         ensures fails { result ≡ (if will_fail self.old then Err DiskFault.Failed else Ok tt) }
     {
         self.calls = self.calls.saturating_add(1);

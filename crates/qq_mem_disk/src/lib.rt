@@ -3,7 +3,12 @@
 
 mod change;
 mod counter;
+mod crash;
 mod file;
 mod files;
 mod listing;
+mod mem_disk;
+mod reading;
+mod store;
 
+pub use mem_disk::MemDisk;
