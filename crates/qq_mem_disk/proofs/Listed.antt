@@ -1,5 +1,5 @@
 -- The names that are listed are those of the files that are there.
-use Rattle.std.proofs.Common.{◌≡◌, ◌↔◌, ◌++◌, Bool, true, false, not, cond, List, [], ◌∷◌, Option, Some, None, Contains, IsSome, IsTrue, is_some, filter, refl, sym, ap, ◌∙◌, rules, BTreeMap, Less}
+use Rattle.std.proofs.Common.{◌≡◌, ◌++◌, Bool, true, false, not, cond, List, [], ◌∷◌, Option, Some, None, is_some, filter, refl, sym, ap, ◌∙◌, rules, BTreeMap, Less}
 use Rattle.std.specs.Cmp.{IsTotalOrder, IsEquivalence, eq_by_cmp_equiv}
 use Rattle.std.specs.Cmp.Rules.{comparing}
 use Rattle.std.specs.Ordering.{eq_by_cmp}
@@ -11,7 +11,7 @@ use Rattle.std.proofs.lemmas.Map.Keys.{IsDistinct-from_sorted}
 use Rattle.std.proofs.lemmas.Map.Entries.{lookup-filter-values, option_filter}
 use Rattle.std.proofs.lemmas.Map.Views.{Contains-keys_from_lookup, IsSome-lookup_from_Contains}
 use Rattle.qq_disk.specs.declared.name.FileName.{FileName}
-use Rattle.qq_disk.specs.Disk.{FileState, visible, IsListed, IsListing}
+use Rattle.qq_disk.specs.Disk.{FileState, visible, IsListing}
 use Rattle.qq_disk.specs.Name.{name_cmp}
 use Rattle.qq_disk.proofs.Names.{same_name-true}
 use Rattle.qq_mem_disk.specs.Files.{disk_of}

@@ -1,8 +1,8 @@
 -- Files are moved one by one from a disk before a crash to the disk after it.
-use Rattle.std.proofs.Common.{◌≡◌, ℕ, Bool, true, false, cond, List, Option, Some, None, option_map, is_some, refl, sym, ap, subst, ◌∙◌}
+use Rattle.std.proofs.Common.{◌≡◌, ℕ, Bool, true, false, cond, List, Option, Some, None, option_map, is_some, refl, sym, ap, ◌∙◌}
 use Rattle.qq_disk.specs.declared.name.FileName.{FileName}
 use Rattle.qq_disk.specs.declared.image.Image.{Image}
-use Rattle.qq_disk.specs.Disk.{Disk, FileState, set, whole}
+use Rattle.qq_disk.specs.Disk.{Disk, FileState, whole}
 use Rattle.qq_disk.specs.Name.{same_name}
 use Rattle.qq_disk.specs.Crash.{reopened}
 use Rattle.qq_disk.specs.Image.{IsNewestLog, image_of, is_file, left_of}

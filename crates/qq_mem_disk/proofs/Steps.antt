@@ -1,10 +1,10 @@
 -- One call is one moment more.
-use Rattle.std.proofs.Common.{◌≡◌, ◌∷◌, [], ℕ, List, length, take, refl, sym, ap, ◌∙◌, inr, arith, take_all, Option, subst}
+use Rattle.std.proofs.Common.{◌≡◌, ◌∷◌, ℕ, List, length, sym, ap, ◌∙◌, inr, arith, take_all, Option, subst}
 use Rattle.qq_disk.specs.declared.name.FileName.{FileName}
 use Rattle.qq_disk.specs.declared.image.Image.{Image}
 use Rattle.qq_disk.specs.Disk.{Disk, appended, shows}
 use Rattle.qq_disk.specs.Moments.{Adds, IsAppending}
-use Rattle.qq_disk.specs.Crash.{IsImage, MayLeave, reopened}
+use Rattle.qq_disk.specs.Crash.{IsImage, MayLeave}
 use Rattle.qq_disk.specs.Image.{image_of}
 use Rattle.qq_disk.proofs.Moments.{adds-one}
 use Rattle.qq_disk.proofs.Crashes.{image_shown}
@@ -22,5 +22,5 @@ whole_part d file bytes = inr (length bytes, ap (λ (bs : List ℕ). appended d 
 pub crash-image : (image : Image) (old new : Disk) → IsCrash image old new → IsImage old (shows new)
 crash-image image old new crash = λ file.
     subst (λ (o : Option (List ℕ)). MayLeave (old file) o)
-      (sym (ap (λ (d : Disk). shows d file) crash.left ∙ image_shown (image_of image crash.newest old) file))
-      (named image crash.newest old file)
+    (sym (ap (λ (d : Disk). shows d file) crash.left ∙ image_shown (image_of image crash.newest old) file))
+    (named image crash.newest old file)

@@ -1,20 +1,20 @@
 -- A change is undone.
-use Rattle.std.proofs.Common.{◌≡◌, ◌++◌, ℕ, Bool, true, false, cond, List, [], length, take, drop, Option, Some, None, option_map, refl, sym, ap, subst, ◌∙◌, take_at, drop_at, take_all, append_assoc, append-nil}
+use Rattle.std.proofs.Common.{◌≡◌, ◌++◌, ℕ, Bool, true, false, cond, List, [], length, take, drop, Option, Some, None, option_map, refl, sym, ap, subst, ◌∙◌, take_at, drop_at, append_assoc, append-nil}
 use Rattle.qq_disk.specs.declared.name.FileName.{FileName}
 use Rattle.qq_disk.specs.Disk.{Disk, FileState, set, kept_whole, marked, whole}
 use Rattle.qq_disk.proofs.Names.{set-at, set-back, set-same}
 use Rattle.qq_mem_disk.specs.declared.change.Before.{Before}
 use Rattle.qq_mem_disk.specs.declared.change.Before.TheVariants.{Absent, Earlier}
-use Rattle.qq_mem_disk.specs.Change.{mark_of, earlier, before_of, undone}
+use Rattle.qq_mem_disk.specs.Change.{mark_of, earlier, before_of}
 use Rattle.qq_mem_disk.specs.Files.{IsUndone}
 
 -- what stood under the name is put back
 pub undone_set : (d e : Disk) (file : FileName) (before : Before) (o : Option FileState) → e ≡ set d file o → before_of before o ≡ d file → IsUndone file before d e
 undone_set d e file before o is back =
     subst (λ (e : Disk). IsUndone file before d e) (sym is)
-      (ap (λ (p : Option FileState). set (set d file o) file (before_of before p)) (set-at d file o)
-        ∙ ap (λ (p : Option FileState). set (set d file o) file p) back
-        ∙ set-back d file o)
+    (ap (λ (p : Option FileState). set (set d file o) file (before_of before p)) (set-at d file o)
+    ∙ ap (λ (p : Option FileState). set (set d file o) file p) back
+    ∙ set-back d file o)
 
 -- a file whose bytes are at the front of these
 pub earlier_front : (f : FileState) (more : List ℕ) → earlier (mark_of f) ((f.kept ++ f.pending) ++ more) ≡ f

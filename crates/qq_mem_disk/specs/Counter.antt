@@ -1,5 +1,5 @@
 -- Which calls fail.
-use Rattle.std.specs.Prelude.{◌+◌, ◌-◌, ◌^◌, ℕ, zero, suc, Bool, true, false, min, ◌||◌, List, [], Option, Some, None, Result, Ok, Err, nat_eq, ◌≡◌, if◌then◌else◌}
+use Rattle.std.specs.Prelude.{◌+◌, ◌-◌, ◌^◌, ℕ, zero, suc, Bool, true, false, min, ◌||◌, [], Option, Some, None, Result, Ok, Err, nat_eq, ◌≡◌, if◌then◌else◌}
 use Rattle.std.specs.List.{list_any}
 use Rattle.qq_disk.specs.declared.fault.DiskFault.{DiskFault}
 use Rattle.qq_disk.specs.declared.fault.DiskFault.TheVariants.{Failed, Memory as OfMemory}

@@ -1,5 +1,5 @@
 -- The files that are listed, and the newest log.
-use Rattle.std.specs.Prelude.{ℕ, Bool, true, false, not, List, [], ◌∷◌, ◌&&◌, ◌||◌, ◌==◌, Option, Some, None, filter, if◌then◌else◌}
+use Rattle.std.specs.Prelude.{Bool, not, List, [], ◌∷◌, ◌&&◌, ◌||◌, ◌==◌, Option, Some, filter, if◌then◌else◌}
 use Rattle.std.specs.Map.{keys_of}
 use Rattle.qq_disk.specs.declared.name.FileName.{FileName}
 use Rattle.qq_disk.specs.Disk.{FileState}

@@ -53,5 +53,9 @@ fn is_newest(newest: Option<FileName>, name: FileName) -> bool
 fn tail(image: &Image, newest: bool) -> &Tail
     ensures { result.now ≡ (if newest then image.now.newest_log else image.now.others) }
 {
-    if newest { &image.newest_log } else { &image.others }
+    if newest {
+        &image.newest_log
+    } else {
+        &image.others
+    }
 }

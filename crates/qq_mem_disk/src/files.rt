@@ -16,13 +16,7 @@ pub fn content(files: &Files, name: FileName) -> &[u8]
     ensures { result.now ≡ shown (disk_of files.now) name }
 {
     match files.get(&name) {
-        Some(file) => {
-            if file.is_removed() {
-                &[]
-            } else {
-                file.bytes()
-            }
-        }
+        Some(file) => { if file.is_removed() { &[] } else { file.bytes() } }
         None => &[],
     }
 }

@@ -12,3 +12,6 @@ mod reading;
 mod store;
 
 pub use mem_disk::MemDisk;
+
+#[cfg(test)]
+mod tests;

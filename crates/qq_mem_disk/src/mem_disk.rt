@@ -9,10 +9,9 @@ ghost use Rattle.qq_mem_disk.specs.Crashed.{IsCrash};
 
 use crate::counter::Counter;
 use crate::crash::crashed;
-use crate::files;
-use crate::listing;
 use crate::reading::read_into;
 use crate::store::Store;
+use crate::{files, listing};
 use qq_base::Memory;
 use qq_disk::{DiskFault, FileName, Image, NodeDisk};
 use std::alloc::Global;
