@@ -1,5 +1,5 @@
 -- A named image is one that a crash may leave.
-use Rattle.std.proofs.Common.{◌≡◌, ◌≤◌, ◌++◌, ◌||◌, ℕ, Bool, true, false, not, cond, List, length, take, Option, Some, None, refl, ap, inl, inr, arith, length-take}
+use Rattle.std.proofs.Common.{◌≡◌, ◌≤◌, ◌++◌, ◌||◌, ℕ, Bool, true, false, not, cond, List, length, Option, Some, None, refl, inr, arith, length-take}
 use Rattle.qq_disk.specs.declared.name.FileName.{FileName}
 use Rattle.qq_disk.specs.declared.image.Tail.{Tail}
 use Rattle.qq_disk.specs.declared.image.Tail.TheVariants.{Cut, Junk, Whole}
