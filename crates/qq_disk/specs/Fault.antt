@@ -1,5 +1,5 @@
 -- Why a call of a disk gave up.
-use Rattle.std.specs.Prelude.{◌≡◌, ◌⊎◌, ◌<◌, ◌≤◌, ◌-◌, ◌^◌, ℕ, Result, IfErr}
+use Rattle.std.specs.Prelude.{◌≡◌, ◌⊎◌, ◌<◌, ◌≤◌, ◌-◌, ◌^◌, ℕ, List, Result, IfErr, codes}
 use Rattle.qq_base.specs.declared.memory.Memory.TheVariants.{Want}
 use Rattle.qq_disk.specs.declared.fault.DiskFault.{DiskFault}
 use Rattle.qq_disk.specs.declared.fault.DiskFault.TheVariants.{Failed, Memory as OfMemory}
@@ -17,3 +17,8 @@ IsCaused before now (OfMemory m) = m ≡ Want
 pub record HasCause {T : Type 0} (before now : ℕ) (result : Result T DiskFault) : Type 0 where
   pub later : before ≤ now
   pub cause : IfErr result (IsCaused before now)
+
+-- what a fault is printed as
+abbrev pub fault_text : DiskFault → List ℕ
+fault_text Failed = codes "disk"
+fault_text (OfMemory m) = codes "memory"

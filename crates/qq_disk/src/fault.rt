@@ -13,10 +13,15 @@ pub enum DiskFault {
 }
 
 impl fmt::Display for DiskFault {
+    ghost use Rattle.std.specs.Prelude.{Some};
+    ghost use Rattle.qq_disk.specs.Fault.{fault_text};
+
+    ghost output = { λ fault. Some (fault_text fault) };
+
     fn fmt<W: fmt::Write>(&self, f: &mut fmt::Formatter<W>) -> fmt::Result {
         match self {
             DiskFault::Failed => f.write_str("disk"),
-            DiskFault::Memory(memory) => write!(f, "{memory}"),
+            DiskFault::Memory(_) => f.write_str("memory"),
         }
     }
 }
