@@ -15,11 +15,13 @@ pub fn a_disk_shows_an_image()
 /// What a sync kept stands at the front of the file in every image, whatever is called from then on,
 /// as long as the file isn't removed.
 pub fn synced_bytes_stay()
-    ensures { (d : Disk) (file : FileName) (calls : List Call) (i : Remains) → IsListed d file → Spares file calls → IsImage (after (synced d file) calls) i → (more : List ℕ) × (i file ≡ Some (shown d file ++ more)) }
+    ensures { (d : Disk) (file : FileName) (calls : List Call) (i : Remains) →
+        IsListed d file → Spares file calls → IsImage (after (synced d file) calls) i →
+        (more : List ℕ) × (i file ≡ Some (shown d file ++ more)) }
 {}
 
-/// A crash settles what is on the disk: an image that is opened again reads as it is, and is its own only
-/// image.
+/// A crash settles what is on the disk: an image that is opened again reads as it is, and is its own
+/// only image.
 pub fn a_crash_settles()
     ensures shown { (i : Remains) (file : FileName) → shows (reopened i) file ≡ i file }
     ensures same { (i : Remains) → IsImage (reopened i) i }
@@ -28,5 +30,6 @@ pub fn a_crash_settles()
 
 /// What a named image leaves is one of the images that a crash may leave.
 pub fn a_named_image_is_one()
-    ensures { (image : Image) (newest : Option FileName) (d : Disk) → IsImage d (image_of image newest d) }
+    ensures { (image : Image) (newest : Option FileName) (d : Disk) →
+        IsImage d (image_of image newest d) }
 {}

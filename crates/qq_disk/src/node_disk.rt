@@ -23,13 +23,15 @@ pub trait NodeDisk: Drop {
 
     /// The names of the files, in strictly rising order.
     fn names(&mut self, alloc: Global) -> Result<Vec<FileName>, DiskFault>
-        ensures ok { IsTrue tells → IfOk result (λ names. IsListing (now (past self.old)) names.items) }
+        ensures ok { IsTrue tells →
+            IfOk result (λ names. IsListing (now (past self.old)) names.items) }
         ensures same { IsTrue tells → past self.new ≡ past self.old }
         ensures cause { HasCause (faults self.old) (faults self.new) result };
 
     /// How many bytes a file has, pending ones too. An absent file has none.
     fn size(&mut self, alloc: Global, file: FileName) -> Result<u64, DiskFault>
-        ensures ok { IsTrue tells → IfOk result (λ size. size ≡ length (shown (now (past self.old)) file)) }
+        ensures ok { IsTrue tells →
+            IfOk result (λ size. size ≡ length (shown (now (past self.old)) file)) }
         ensures same { IsTrue tells → past self.new ≡ past self.old }
         ensures cause { HasCause (faults self.old) (faults self.new) result };
 
@@ -43,7 +45,9 @@ pub trait NodeDisk: Drop {
         buf: &mut [u8],
     ) -> Result<usize, DiskFault>
         ensures within { IfOk result (λ count. count ≤ length buf.old) }
-        ensures ok { IsTrue tells → IfOk result (λ count. IsRead (shown (now (past self.old)) file) place count buf.old buf.new) }
+        ensures ok { IsTrue tells →
+            IfOk result (λ count.
+            IsRead (shown (now (past self.old)) file) place count buf.old buf.new) }
         ensures err { IsTrue tells → OnErr result (buf.new ≡ buf.old) }
         ensures same { IsTrue tells → past self.new ≡ past self.old }
         ensures cause { HasCause (faults self.old) (faults self.new) result };
@@ -51,27 +55,34 @@ pub trait NodeDisk: Drop {
     /// Adds bytes to a file's pending ones. A file that is absent or removed begins anew, empty and
     /// never synced. Where the call fails a first part of the bytes may have been added.
     fn append(&mut self, alloc: Global, file: FileName, bytes: &[u8]) -> Result<(), DiskFault>
-        ensures ok { IsTrue tells → OnOk result (now (past self.new) ≡ appended (now (past self.old)) file bytes.now) }
-        ensures err { IsTrue tells → OnErr result (IsAppending (now (past self.old)) file bytes.now (now (past self.new))) }
-        ensures moments { IsTrue tells → Adds (IsAppending (now (past self.old)) file bytes.now) (past self.old) (past self.new) }
+        ensures ok { IsTrue tells →
+            OnOk result (now (past self.new) ≡ appended (now (past self.old)) file bytes.now) }
+        ensures err { IsTrue tells →
+            OnErr result (IsAppending (now (past self.old)) file bytes.now (now (past self.new))) }
+        ensures moments { IsTrue tells →
+            Adds (IsAppending (now (past self.old)) file bytes.now) (past self.old) (past self.new) }
         ensures want { IsTrue tells → IfErr result (StaysAtWant (past self.old) (past self.new)) }
         ensures cause { HasCause (faults self.old) (faults self.new) result };
 
     /// Keeps a file's pending bytes: from then on each crash leaves them. A file that is absent or
     /// removed stays as it is. Where the call fails nothing is changed.
     fn sync(&mut self, alloc: Global, file: FileName) -> Result<(), DiskFault>
-        ensures ok { IsTrue tells → OnOk result (now (past self.new) ≡ synced (now (past self.old)) file) }
+        ensures ok { IsTrue tells →
+            OnOk result (now (past self.new) ≡ synced (now (past self.old)) file) }
         ensures err { IsTrue tells → OnErr result (now (past self.new) ≡ now (past self.old)) }
-        ensures moments { IsTrue tells → Adds (IsSyncing (now (past self.old)) file) (past self.old) (past self.new) }
+        ensures moments { IsTrue tells →
+            Adds (IsSyncing (now (past self.old)) file) (past self.old) (past self.new) }
         ensures want { IsTrue tells → IfErr result (StaysAtWant (past self.old) (past self.new)) }
         ensures cause { HasCause (faults self.old) (faults self.new) result };
 
     /// Removes a file, which is then neither listed nor read; a crash may bring it back. A file that is
     /// absent or removed stays as it is. Where the call fails nothing is changed.
     fn remove(&mut self, alloc: Global, file: FileName) -> Result<(), DiskFault>
-        ensures ok { IsTrue tells → OnOk result (now (past self.new) ≡ removed (now (past self.old)) file) }
+        ensures ok { IsTrue tells →
+            OnOk result (now (past self.new) ≡ removed (now (past self.old)) file) }
         ensures err { IsTrue tells → OnErr result (now (past self.new) ≡ now (past self.old)) }
-        ensures moments { IsTrue tells → Adds (IsRemoving (now (past self.old)) file) (past self.old) (past self.new) }
+        ensures moments { IsTrue tells →
+            Adds (IsRemoving (now (past self.old)) file) (past self.old) (past self.new) }
         ensures want { IsTrue tells → IfErr result (StaysAtWant (past self.old) (past self.new)) }
         ensures cause { HasCause (faults self.old) (faults self.new) result };
 }

@@ -31,7 +31,8 @@ fn leave(
     image: &Image,
     newest: Option<FileName>,
 ) -> Result<(), AllocError>
-    ensures { OnOk result (disk_of after.new ≡ left_at (disk_of after.old) name (left_of image.now (is_file newest name) (Some file))) }
+    ensures { let left = left_of image.now (is_file newest name) (Some file) in
+        OnOk result (disk_of after.new ≡ left_at (disk_of after.old) name left) }
 {
     if !image.removed_back && file.is_removed() {
         return Ok(());

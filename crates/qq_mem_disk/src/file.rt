@@ -24,7 +24,12 @@ impl Model for File {
 
     ghost Value = { FileState };
 
-    ghost view = { λ f. record { kept = take f.kept f.bytes.items; pending = drop f.kept f.bytes.items; synced = f.synced; removed = f.removed } };
+    ghost view = { λ f. record {
+      kept = take f.kept f.bytes.items;
+      pending = drop f.kept f.bytes.items;
+      synced = f.synced;
+      removed = f.removed;
+    } };
 
     ghost invariant = { λ f. f.kept ≤ length f.bytes.items };
 }
@@ -123,7 +128,8 @@ impl File {
 /// Cuts or replaces what stands behind the kept bytes.
 fn tear(bytes: &mut Vec<u8>, kept: usize, tail: &Tail) -> Result<(), AllocError>
     requires { kept ≤ length bytes.old.items }
-    ensures { OnOk result (bytes.new.items ≡ take kept bytes.old.items ++ tail_of tail.now (drop kept bytes.old.items)) }
+    ensures { OnOk result
+        (bytes.new.items ≡ take kept bytes.old.items ++ tail_of tail.now (drop kept bytes.old.items)) }
 {
     match tail {
         Tail::Cut(count) => {

@@ -29,7 +29,8 @@ pub fn append(
     bytes: &[u8],
 ) -> Result<Before, AllocError>
     ensures ok { OnOk result (disk_of files.new ≡ appended (disk_of files.old) name bytes.now) }
-    ensures before { IfOk result (λ before. IsUndone name before (disk_of files.old) (disk_of files.new)) }
+    ensures before { IfOk result (λ before.
+        IsUndone name before (disk_of files.old) (disk_of files.new)) }
     ensures err { OnErr result (disk_of files.new ≡ disk_of files.old) }
 {
     if let Some(file) = files.get_mut(&name) {

@@ -67,8 +67,10 @@ impl MemDisk {
     /// The disk after a crash. What the image leaves is kept, and nothing is pending; calls are counted
     /// anew, and none is to fail.
     pub fn crash(self, alloc: Global, image: &Image) -> Result<MemDisk, Memory>
-        ensures ok { IfOk result (λ disk. IsCrash image.now (now (past_of self)) (now (past_of disk))) }
-        ensures image { IfOk result (λ disk. IsImage (now (past_of self)) (shows (now (past_of disk)))) }
+        ensures ok { IfOk result (λ disk.
+            IsCrash image.now (now (past_of self)) (now (past_of disk))) }
+        ensures image { IfOk result (λ disk.
+            IsImage (now (past_of self)) (shows (now (past_of disk)))) }
         ensures past { IfOk result (λ disk. past_of disk ≡ now (past_of disk) ∷ []) }
         ensures counter { IfOk result (λ disk. IsFresh (counter_of disk)) }
         ensures want { IfErr result (λ e. e ≡ Want) }
@@ -120,7 +122,8 @@ impl NodeDisk for MemDisk {
         buf: &mut [u8],
     ) -> Result<usize, DiskFault>
         ensures within { IfOk result (λ count. count ≤ length buf.old) }
-        ensures ok { IfOk result (λ count. IsRead (shown (now (past_of self.old)) file) place count buf.old buf.new) }
+        ensures ok { IfOk result (λ count.
+            IsRead (shown (now (past_of self.old)) file) place count buf.old buf.new) }
         ensures err { OnErr result (buf.new ≡ buf.old) }
         ensures same { past_of self.new ≡ past_of self.old }
         ensures cause { HasCause (counter_of self.old).faults (counter_of self.new).faults result }
@@ -131,13 +134,16 @@ impl NodeDisk for MemDisk {
     }
 
     fn append(&mut self, alloc: Global, file: FileName, bytes: &[u8]) -> Result<(), DiskFault>
-        ensures ok { OnOk result (now (past_of self.new) ≡ appended (now (past_of self.old)) file bytes.now) }
-        ensures err { OnErr result (IsAppending (now (past_of self.old)) file bytes.now (now (past_of self.new))) }
+        ensures ok { OnOk result
+            (now (past_of self.new) ≡ appended (now (past_of self.old)) file bytes.now) }
+        ensures err { OnErr result
+            (IsAppending (now (past_of self.old)) file bytes.now (now (past_of self.new))) }
         ensures moments { Adds (IsAppending (now (past_of self.old)) file bytes.now) (past_of self.old) (past_of self.new) }
         ensures want { IfErr result (StaysAtWant (past_of self.old) (past_of self.new)) }
         ensures cause { HasCause (counter_of self.old).faults (counter_of self.new).faults result }
         ensures counts { Counts (counter_of self.old) (counter_of self.new) result }
-        ensures one_more { OnOk result (past_of self.new ≡ appended (now (past_of self.old)) file bytes.now ∷ past_of self.old) }
+        ensures one_more { OnOk result
+            (past_of self.new ≡ appended (now (past_of self.old)) file bytes.now ∷ past_of self.old) }
         ensures unchanged { OnErr result (past_of self.new ≡ past_of self.old) }
     {
         self.counter.begin()?;
@@ -151,7 +157,8 @@ impl NodeDisk for MemDisk {
         ensures want { IfErr result (StaysAtWant (past_of self.old) (past_of self.new)) }
         ensures cause { HasCause (counter_of self.old).faults (counter_of self.new).faults result }
         ensures counts { Counts (counter_of self.old) (counter_of self.new) result }
-        ensures one_more { OnOk result (past_of self.new ≡ synced (now (past_of self.old)) file ∷ past_of self.old) }
+        ensures one_more { OnOk result
+            (past_of self.new ≡ synced (now (past_of self.old)) file ∷ past_of self.old) }
         ensures unchanged { OnErr result (past_of self.new ≡ past_of self.old) }
     {
         self.counter.begin()?;
@@ -165,7 +172,8 @@ impl NodeDisk for MemDisk {
         ensures want { IfErr result (StaysAtWant (past_of self.old) (past_of self.new)) }
         ensures cause { HasCause (counter_of self.old).faults (counter_of self.new).faults result }
         ensures counts { Counts (counter_of self.old) (counter_of self.new) result }
-        ensures one_more { OnOk result (past_of self.new ≡ removed (now (past_of self.old)) file ∷ past_of self.old) }
+        ensures one_more { OnOk result
+            (past_of self.new ≡ removed (now (past_of self.old)) file ∷ past_of self.old) }
         ensures unchanged { OnErr result (past_of self.new ≡ past_of self.old) }
     {
         self.counter.begin()?;

@@ -30,7 +30,8 @@ impl Store {
     }
 
     pub fn append(&mut self, alloc: Global, name: FileName, bytes: &[u8]) -> Result<(), AllocError>
-        ensures ok { OnOk result (past_of self.new ≡ appended (now (past_of self.old)) name bytes.now ∷ past_of self.old) }
+        ensures ok { OnOk result
+            (past_of self.new ≡ appended (now (past_of self.old)) name bytes.now ∷ past_of self.old) }
         ensures err { OnErr result (past_of self.new ≡ past_of self.old) }
     {
         self.changes.reserve(1)?;
@@ -40,7 +41,8 @@ impl Store {
     }
 
     pub fn sync(&mut self, name: FileName) -> Result<(), AllocError>
-        ensures ok { OnOk result (past_of self.new ≡ synced (now (past_of self.old)) name ∷ past_of self.old) }
+        ensures ok { OnOk result
+            (past_of self.new ≡ synced (now (past_of self.old)) name ∷ past_of self.old) }
         ensures err { OnErr result (past_of self.new ≡ past_of self.old) }
     {
         self.changes.reserve(1)?;
@@ -50,7 +52,8 @@ impl Store {
     }
 
     pub fn remove(&mut self, name: FileName) -> Result<(), AllocError>
-        ensures ok { OnOk result (past_of self.new ≡ removed (now (past_of self.old)) name ∷ past_of self.old) }
+        ensures ok { OnOk result
+            (past_of self.new ≡ removed (now (past_of self.old)) name ∷ past_of self.old) }
         ensures err { OnErr result (past_of self.new ≡ past_of self.old) }
     {
         self.changes.reserve(1)?;
