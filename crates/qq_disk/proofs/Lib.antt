@@ -1,0 +1,5 @@
+pub mod Crashes
+pub mod Moments
+pub mod Named
+pub mod Names
+mod Stored

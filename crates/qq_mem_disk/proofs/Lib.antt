@@ -1,0 +1,5 @@
+mod Listed
+mod Moved
+mod Newest
+mod Steps
+mod Undo

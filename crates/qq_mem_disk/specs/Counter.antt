@@ -1,0 +1,44 @@
+-- Which calls fail.
+use Rattle.std.specs.Prelude.{◌+◌, ◌-◌, ◌^◌, ℕ, zero, suc, Bool, true, false, min, ◌||◌, [], Option, Some, None, Result, Ok, Err, nat_eq, ◌≡◌, if◌then◌else◌}
+use Rattle.std.specs.List.{list_any}
+use Rattle.qq_disk.specs.declared.fault.DiskFault.{DiskFault}
+use Rattle.qq_disk.specs.declared.fault.DiskFault.TheVariants.{Failed, Memory as OfMemory}
+use Rattle.qq_mem_disk.specs.declared.counter.Counter.{Counter}
+
+-- one more, as far as 64 bits count
+abbrev pub raised : ℕ → ℕ
+raised n = min (n + 1) (2 ^ 64 - 1)
+
+abbrev pub is_blown : Option ℕ → Bool
+is_blown (Some zero) = true
+is_blown _ = false
+
+abbrev pub burnt : Option ℕ → Option ℕ
+burnt None = None
+burnt (Some zero) = Some zero
+burnt (Some (suc k)) = Some k
+
+-- the next call fails: the fuse is blown, or its number is listed
+abbrev pub will_fail : Counter → Bool
+will_fail c = is_blown c.fuse || list_any (λ n. nat_eq n (raised c.calls)) c.fails.items
+
+-- after the next call
+abbrev pub counted : Counter → Counter
+counted c = record c { calls = raised c.calls; faults = if will_fail c then raised c.faults else c.faults; fuse = burnt c.fuse }
+
+abbrev pub is_failed : {T : Type 0} → Result T DiskFault → Bool
+is_failed (Ok value) = false
+is_failed (Err Failed) = true
+is_failed (Err (OfMemory memory)) = false
+
+-- the call was counted, and failed exactly where it was to fail
+pub record Counts {T : Type 0} (old new : Counter) (result : Result T DiskFault) : Type 0 where
+  pub counted : new ≡ counted old
+  pub failed : is_failed result ≡ will_fail old
+
+-- no calls so far, and none is to fail
+pub record IsFresh (c : Counter) : Type 0 where
+  pub calls : c.calls ≡ 0
+  pub faults : c.faults ≡ 0
+  pub fails : c.fails.items ≡ []
+  pub fuse : c.fuse ≡ None

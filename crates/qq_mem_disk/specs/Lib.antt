@@ -1,0 +1,14 @@
+pub mod Change
+pub mod Counter
+pub mod Crashed
+pub mod Files
+pub mod Listing
+pub mod MemDisk
+pub mod Store
+pub use Rattle.qq_disk.specs.Calls
+pub use Rattle.qq_disk.specs.Crash
+pub use Rattle.qq_disk.specs.Disk
+pub use Rattle.qq_disk.specs.Fault
+pub use Rattle.qq_disk.specs.Image
+pub use Rattle.qq_disk.specs.Moments
+pub use Rattle.qq_disk.specs.Name

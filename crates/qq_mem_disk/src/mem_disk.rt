@@ -1,0 +1,182 @@
+ghost use Rattle.std.specs.Prelude.{◌≡◌, ◌≤◌, ◌∷◌, [], None, Some, length, IsTrue, IfOk, IfErr, OnOk, OnErr};
+ghost use Rattle.qq_base.specs.declared.memory.Memory.TheVariants.{Want};
+ghost use Rattle.qq_disk.specs.Disk.{now, appended, synced, removed, shown, shows, IsListing, IsRead};
+ghost use Rattle.qq_disk.specs.Crash.{IsImage};
+ghost use Rattle.qq_disk.specs.Fault.{HasCause};
+ghost use Rattle.qq_disk.specs.Moments.{Adds, IsAppending, IsSyncing, IsRemoving, StaysAtWant};
+ghost use Rattle.qq_mem_disk.specs.Counter.{Counts, IsFresh};
+ghost use Rattle.qq_mem_disk.specs.Crashed.{IsCrash};
+
+use crate::counter::Counter;
+use crate::crash::crashed;
+use crate::reading::read_into;
+use crate::store::Store;
+use crate::{files, listing};
+use qq_base::Memory;
+use qq_disk::{DiskFault, FileName, Image, NodeDisk};
+use std::alloc::Global;
+use std::collections::BTreeMap;
+
+/// A node's disk in memory, which tells its contents. It can be made to fail, to stop and to crash.
+///
+/// Up to a crash it keeps what each change led from: a few words for a call, and the bytes of a file
+/// that was removed and then begun anew.
+#[derive(Drop)]
+pub struct MemDisk {
+    store: Store,
+    counter: Counter,
+}
+
+impl MemDisk {
+    ghost use Rattle.qq_mem_disk.specs.MemDisk.{past_of, counter_of};
+
+    /// An empty disk. It takes no memory.
+    pub fn new(alloc: Global) -> MemDisk
+        ensures past { past_of result ≡ (λ _. None) ∷ [] }
+        ensures counter { IsFresh (counter_of result) }
+    {
+        MemDisk {
+            store: Store::new(alloc, BTreeMap::new(alloc)),
+            counter: Counter::new(alloc),
+        }
+    }
+
+    /// The calls with these numbers are to fail, counted from 1, and no others by their number.
+    pub fn fail_calls(&mut self, calls: Vec<u64>)
+        ensures counter { counter_of self.new ≡ record (counter_of self.old) { fails = calls } }
+        ensures past { past_of self.new ≡ past_of self.old }
+    {
+        self.counter.fails = calls;
+    }
+
+    /// So many calls more pass, and then all fail.
+    pub fn fuse(&mut self, k: u64)
+        ensures counter { counter_of self.new ≡ record (counter_of self.old) { fuse = Some k } }
+        ensures past { past_of self.new ≡ past_of self.old }
+    {
+        self.counter.fuse = Some(k);
+    }
+
+    /// How many calls were made, those that failed too. At the end of its range it stands still.
+    pub fn calls(&self) -> u64
+        ensures { result ≡ (counter_of self.now).calls }
+    {
+        self.counter.calls
+    }
+
+    /// The disk after a crash. What the image leaves is kept, and nothing is pending; calls are counted
+    /// anew, and none is to fail.
+    pub fn crash(self, alloc: Global, image: &Image) -> Result<MemDisk, Memory>
+        ensures ok { IfOk result (λ disk.
+            IsCrash image.now (now (past_of self)) (now (past_of disk))) }
+        ensures image { IfOk result (λ disk.
+            IsImage (now (past_of self)) (shows (now (past_of disk)))) }
+        ensures past { IfOk result (λ disk. past_of disk ≡ now (past_of disk) ∷ []) }
+        ensures counter { IfOk result (λ disk. IsFresh (counter_of disk)) }
+        ensures want { IfErr result (λ e. e ≡ Want) }
+    {
+        let store = self.store;
+        let files = crashed(store.files, alloc, image)?;
+        Ok(MemDisk {
+            store: Store::new(alloc, files),
+            counter: Counter::new(alloc),
+        })
+    }
+}
+
+impl NodeDisk for MemDisk {
+    ghost use Rattle.std.specs.Prelude.{true};
+    ghost use Rattle.qq_mem_disk.specs.MemDisk.{past_of, counter_of};
+
+    ghost tells = { true };
+
+    ghost past = { past_of };
+
+    ghost faults = { λ disk. (counter_of disk).faults };
+
+    fn names(&mut self, alloc: Global) -> Result<Vec<FileName>, DiskFault>
+        ensures ok { IfOk result (λ names. IsListing (now (past_of self.old)) names.items) }
+        ensures same { past_of self.new ≡ past_of self.old }
+        ensures cause { HasCause (counter_of self.old).faults (counter_of self.new).faults result }
+        ensures counts { Counts (counter_of self.old) (counter_of self.new) result }
+    {
+        self.counter.begin()?;
+        Ok(listing::names(&self.store.files, alloc)?)
+    }
+
+    fn size(&mut self, _alloc: Global, file: FileName) -> Result<u64, DiskFault>
+        ensures ok { IfOk result (λ size. size ≡ length (shown (now (past_of self.old)) file)) }
+        ensures same { past_of self.new ≡ past_of self.old }
+        ensures cause { HasCause (counter_of self.old).faults (counter_of self.new).faults result }
+        ensures counts { Counts (counter_of self.old) (counter_of self.new) result }
+    {
+        self.counter.begin()?;
+        Ok(files::content(&self.store.files, file).len() as u64)
+    }
+
+    fn read(
+        &mut self,
+        _alloc: Global,
+        file: FileName,
+        place: u64,
+        buf: &mut [u8],
+    ) -> Result<usize, DiskFault>
+        ensures within { IfOk result (λ count. count ≤ length buf.old) }
+        ensures ok { IfOk result (λ count.
+            IsRead (shown (now (past_of self.old)) file) place count buf.old buf.new) }
+        ensures err { OnErr result (buf.new ≡ buf.old) }
+        ensures same { past_of self.new ≡ past_of self.old }
+        ensures cause { HasCause (counter_of self.old).faults (counter_of self.new).faults result }
+        ensures counts { Counts (counter_of self.old) (counter_of self.new) result }
+    {
+        self.counter.begin()?;
+        Ok(read_into(files::content(&self.store.files, file), place, buf))
+    }
+
+    fn append(&mut self, alloc: Global, file: FileName, bytes: &[u8]) -> Result<(), DiskFault>
+        ensures ok { OnOk result
+            (now (past_of self.new) ≡ appended (now (past_of self.old)) file bytes.now) }
+        ensures err { OnErr result
+            (IsAppending (now (past_of self.old)) file bytes.now (now (past_of self.new))) }
+        ensures moments { Adds (IsAppending (now (past_of self.old)) file bytes.now) (past_of self.old) (past_of self.new) }
+        ensures want { IfErr result (StaysAtWant (past_of self.old) (past_of self.new)) }
+        ensures cause { HasCause (counter_of self.old).faults (counter_of self.new).faults result }
+        ensures counts { Counts (counter_of self.old) (counter_of self.new) result }
+        ensures one_more { OnOk result
+            (past_of self.new ≡ appended (now (past_of self.old)) file bytes.now ∷ past_of self.old) }
+        ensures unchanged { OnErr result (past_of self.new ≡ past_of self.old) }
+    {
+        self.counter.begin()?;
+        Ok(self.store.append(alloc, file, bytes)?)
+    }
+
+    fn sync(&mut self, _alloc: Global, file: FileName) -> Result<(), DiskFault>
+        ensures ok { OnOk result (now (past_of self.new) ≡ synced (now (past_of self.old)) file) }
+        ensures err { OnErr result (now (past_of self.new) ≡ now (past_of self.old)) }
+        ensures moments { Adds (IsSyncing (now (past_of self.old)) file) (past_of self.old) (past_of self.new) }
+        ensures want { IfErr result (StaysAtWant (past_of self.old) (past_of self.new)) }
+        ensures cause { HasCause (counter_of self.old).faults (counter_of self.new).faults result }
+        ensures counts { Counts (counter_of self.old) (counter_of self.new) result }
+        ensures one_more { OnOk result
+            (past_of self.new ≡ synced (now (past_of self.old)) file ∷ past_of self.old) }
+        ensures unchanged { OnErr result (past_of self.new ≡ past_of self.old) }
+    {
+        self.counter.begin()?;
+        Ok(self.store.sync(file)?)
+    }
+
+    fn remove(&mut self, _alloc: Global, file: FileName) -> Result<(), DiskFault>
+        ensures ok { OnOk result (now (past_of self.new) ≡ removed (now (past_of self.old)) file) }
+        ensures err { OnErr result (now (past_of self.new) ≡ now (past_of self.old)) }
+        ensures moments { Adds (IsRemoving (now (past_of self.old)) file) (past_of self.old) (past_of self.new) }
+        ensures want { IfErr result (StaysAtWant (past_of self.old) (past_of self.new)) }
+        ensures cause { HasCause (counter_of self.old).faults (counter_of self.new).faults result }
+        ensures counts { Counts (counter_of self.old) (counter_of self.new) result }
+        ensures one_more { OnOk result
+            (past_of self.new ≡ removed (now (past_of self.old)) file ∷ past_of self.old) }
+        ensures unchanged { OnErr result (past_of self.new ≡ past_of self.old) }
+    {
+        self.counter.begin()?;
+        Ok(self.store.remove(file)?)
+    }
+}
