@@ -7,11 +7,10 @@ use Rattle.qq_command.specs.declared.answer.Answer.{Answer}
 use Rattle.qq_command.specs.declared.answer.Answer.TheVariants as answer
 use Rattle.qq_model.specs.declared.TheConstants.{WINDOW, MOST_OPEN, MOST_SEEN}
 use Rattle.qq_model.specs.declared.session.OpenSession.{OpenSession}
-use Rattle.qq_model.specs.declared.session.KnownSessions.{KnownSessions}
 use Rattle.qq_model.specs.declared.session.Worker.{Worker}
 use Rattle.qq_model.specs.declared.session.Gate.{Gate}
 use Rattle.qq_model.specs.declared.session.Gate.TheVariants.{Fresh, Again, Gap, Forgotten, Ended, WindowFull, SessionsFull}
-use Rattle.qq_model.specs.State.{same_session}
+use Rattle.qq_model.specs.State.{Sessions, same_session}
 
 -- the classes of sessions
 abbrev pub is_client : SessionId → Bool
@@ -31,12 +30,12 @@ abbrev pub is_opened : SessionId → List OpenSession → Bool
 is_opened session opened = list_any (λ (one : OpenSession). same_session one.session session) opened
 
 -- whether the worker of a session gave way to a later one of the same source queue, or has ended itself
-abbrev pub is_passed : KnownSessions → SessionId → Worker → Bool
+abbrev pub is_passed : Sessions → SessionId → Worker → Bool
 is_passed s session worker =
     nat_eq worker.owner session.owner && (nat_lt session.number worker.number || (nat_eq session.number worker.number && not (is_opened session s.opened)))
 
 -- whether a session has ended
-abbrev pub is_ended : KnownSessions → SessionId → Bool
+abbrev pub is_ended : Sessions → SessionId → Bool
 is_ended s session =
     (is_client session && list_any (λ (number : ℕ). nat_eq number session.number) s.ended)
     || (is_worker session && list_any (is_passed s session) s.workers)
@@ -63,18 +62,18 @@ numbered stamp one =
     else Fresh
 
 -- the checks of a session that isn't known, in their order
-abbrev pub unknown : KnownSessions → Stamp → Gate
+abbrev pub unknown : Sessions → Stamp → Gate
 unknown s stamp =
     if not (nat_eq stamp.seq 1) then Gap 1
     else if nat_le MOST_OPEN (length s.opened) || nat_le MOST_SEEN s.seen then SessionsFull
     else Fresh
 
-abbrev pub checked_by : Option OpenSession → KnownSessions → Stamp → Gate
+abbrev pub checked_by : Option OpenSession → Sessions → Stamp → Gate
 checked_by None s stamp = unknown s stamp
 checked_by (Some one) s stamp = numbered stamp one
 
 -- what becomes of a stamped command; a dead letter that is sent at most once always passes
-unfoldable pub gate : KnownSessions → Stamp → Gate
+unfoldable pub gate : Sessions → Stamp → Gate
 gate s stamp =
     if is_dead_letter stamp.session then Fresh
     else if is_ended s stamp.session then Ended
@@ -99,7 +98,7 @@ abbrev pub with_session : SessionId → (OpenSession → OpenSession) → List O
 with_session session change opened = map (λ (one : OpenSession). if same_session one.session session then change one else one) opened
 
 -- the sessions after a command that isn't carried out
-unfoldable pub turned_away : KnownSessions → Stamp → KnownSessions
+unfoldable pub turned_away : Sessions → Stamp → Sessions
 turned_away s stamp = if is_ended s stamp.session then s else record s { opened = with_session stamp.session (marked_by stamp) s.opened }
 
 -- a number was used
@@ -114,19 +113,16 @@ opened_by stamp = record { session = stamp.session; next = 2; mark = 0; kept = [
 abbrev pub gives_way : SessionId → OpenSession → Bool
 gives_way session one = is_worker session && is_worker one.session && nat_eq one.session.owner session.owner && nat_lt one.session.number session.number
 
--- the greatest numbers of workers, by rising owner, with this one
+-- the greatest numbers of workers, by rising owner, with this one in the place of its owner's
 abbrev pub with_worker : Worker → List Worker → List Worker
-with_worker new [] = new ∷ []
-with_worker new (worker ∷ workers) =
-    if nat_eq worker.owner new.owner then new ∷ workers
-    else if nat_lt new.owner worker.owner then new ∷ worker ∷ workers
-    else worker ∷ with_worker new workers
+with_worker new workers =
+    filter (λ (worker : Worker). nat_lt worker.owner new.owner) workers ++ new ∷ filter (λ (worker : Worker). nat_lt new.owner worker.owner) workers
 
 abbrev pub workers_after : SessionId → List Worker → List Worker
 workers_after session workers = if is_worker session then with_worker (record { owner = session.owner; number = session.number }) workers else workers
 
 -- a session is opened; that of a worker ends those of earlier workers of the same source queue
-abbrev pub admitted_by : Option OpenSession → KnownSessions → Stamp → KnownSessions
+abbrev pub admitted_by : Option OpenSession → Sessions → Stamp → Sessions
 admitted_by None s stamp =
     record s {
       opened = filter (λ (one : OpenSession). not (gives_way stamp.session one)) s.opened ++ opened_by stamp ∷ [];
@@ -136,14 +132,14 @@ admitted_by None s stamp =
 admitted_by (Some one) s stamp = record s { opened = with_session stamp.session (used_by stamp) s.opened }
 
 -- the sessions once a command has passed the gate
-unfoldable pub admitted : KnownSessions → Stamp → KnownSessions
+unfoldable pub admitted : Sessions → Stamp → Sessions
 admitted s stamp = if is_dead_letter stamp.session then s else admitted_by (session_of stamp.session s.opened) s stamp
 
 -- an answer is kept, in the session of the stamp alone
 abbrev pub keeps : Answer → OpenSession → OpenSession
 keeps answer one = record one { kept = one.kept ++ answer ∷ [] }
 
-unfoldable pub with_answer : Stamp → Answer → KnownSessions → KnownSessions
+unfoldable pub with_answer : Stamp → Answer → Sessions → Sessions
 with_answer stamp answer s = record s { opened = with_session stamp.session (keeps answer) s.opened }
 
 -- the greatest tag of a session's consumers, 0 where it had none
@@ -151,31 +147,27 @@ abbrev pub tag_by : Option OpenSession → ℕ
 tag_by None = 0
 tag_by (Some one) = one.tag
 
-abbrev pub greatest_tag : SessionId → KnownSessions → ℕ
+abbrev pub greatest_tag : SessionId → Sessions → ℕ
 greatest_tag session s = tag_by (session_of session s.opened)
 
 abbrev pub tags : ℕ → OpenSession → OpenSession
 tags tag one = record one { tag = tag }
 
-unfoldable pub with_tag : SessionId → ℕ → KnownSessions → KnownSessions
+unfoldable pub with_tag : SessionId → ℕ → Sessions → Sessions
 with_tag session tag s = record s { opened = with_session session (tags tag) s.opened }
 
 -- the numbers of ended clients, rising, with this one
 abbrev pub with_ended : ℕ → List ℕ → List ℕ
-with_ended new [] = new ∷ []
-with_ended new (number ∷ numbers) =
-    if nat_lt number new then number ∷ with_ended new numbers
-    else if nat_eq number new then number ∷ numbers
-    else new ∷ number ∷ numbers
+with_ended new numbers = filter (λ (number : ℕ). nat_lt number new) numbers ++ new ∷ filter (λ (number : ℕ). nat_lt new number) numbers
 
 abbrev pub ended_after : SessionId → List ℕ → List ℕ
 ended_after session ended = if is_client session then with_ended session.number ended else ended
 
 -- whether the end of a session that isn't open is remembered
-abbrev pub ends_unknown : KnownSessions → SessionId → Bool
+abbrev pub ends_unknown : Sessions → SessionId → Bool
 ends_unknown s session = is_client session && not (is_ended s session) && nat_lt s.seen MOST_SEEN
 
-abbrev pub ends_by : Bool → KnownSessions → SessionId → KnownSessions
+abbrev pub ends_by : Bool → Sessions → SessionId → Sessions
 ends_by true s session =
     record s {
       opened = filter (λ (one : OpenSession). not (same_session one.session session)) s.opened;
@@ -185,5 +177,5 @@ ends_by false s session =
     if ends_unknown s session then record s { ended = with_ended session.number s.ended; seen = s.seen + 1 } else s
 
 -- a session ends
-unfoldable pub ends : KnownSessions → SessionId → KnownSessions
+unfoldable pub ends : Sessions → SessionId → Sessions
 ends s session = ends_by (is_opened session s.opened) s session

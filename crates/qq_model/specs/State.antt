@@ -9,7 +9,18 @@ use Rattle.qq_model.specs.declared.TheConstants.{NUMBER_END}
 use Rattle.qq_model.specs.declared.place.Row.{Row}
 use Rattle.qq_model.specs.declared.consumer.Consumer.{Consumer}
 use Rattle.qq_model.specs.declared.session.OpenSession.{OpenSession}
-use Rattle.qq_model.specs.declared.session.KnownSessions.{KnownSessions}
+use Rattle.qq_model.specs.declared.session.Worker.{Worker}
+
+-- What a queue knows of sessions.
+pub record Sessions : Type 0 where
+  -- those that are open, in the order of their opening
+  pub opened : List OpenSession
+  -- the numbers of the clients' sessions that have ended, rising
+  pub ended : List ℕ
+  -- the greatest number of the dead-letter workers of each source queue, by rising owner
+  pub workers : List Worker
+  -- how many sessions were ever seen
+  pub seen : ℕ
 
 -- One row for each message that was ever enqueued, in the order of arrival, never removed; the messages
 -- in the same order; the consumers in the order of joining; the sessions; and the counters from which
@@ -36,7 +47,7 @@ pub record State : Type 0 where
   pub rows : List Row
   pub messages : List Message
   pub consumers : List Consumer
-  pub sessions : KnownSessions
+  pub sessions : Sessions
 
 -- a queue to which no entry was applied
 abbrev pub empty_queue : QueueArgs → State

@@ -8,10 +8,9 @@ use Rattle.qq_command.specs.declared.command.Entry.{Entry}
 use Rattle.qq_command.specs.declared.answer.Answer.{Answer}
 use Rattle.qq_command.specs.declared.answer.Answer.TheVariants as answer
 use Rattle.qq_command.specs.declared.audit.Effect.{Effect}
-use Rattle.qq_model.specs.declared.session.KnownSessions.{KnownSessions}
 use Rattle.qq_model.specs.declared.session.Gate.{Gate}
 use Rattle.qq_model.specs.declared.session.Gate.TheVariants.{Fresh, Again, Gap, Forgotten, Ended, WindowFull, SessionsFull}
-use Rattle.qq_model.specs.State.{State}
+use Rattle.qq_model.specs.State.{State, Sessions}
 use Rattle.qq_model.specs.Changes.{Progress}
 use Rattle.qq_model.specs.Gate.{gate, gate_answer, admitted, turned_away, with_answer}
 use Rattle.qq_model.specs.Commands.{Acted, act}
@@ -54,7 +53,7 @@ unfoldable pub carried_out : Index → Command → State → Acted
 carried_out index command s = after_giving (after_limits (drain_after command (after_checkouts (act index command (record { state = s; effects = [] })))))
 
 -- an entry counts as applied
-abbrev pub applied : Index → KnownSessions → Bool → Acted → Step
+abbrev pub applied : Index → Sessions → Bool → Acted → Step
 applied index sessions fresh acted =
     record {
       state = record (acted.progress.state) { applied = index.0; sessions = sessions };

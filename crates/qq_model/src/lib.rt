@@ -29,4 +29,4 @@ pub const MOST_GIVEN: u64 = 32;
 
 pub use consumer::{Consumer, Outcome};
 pub use place::{GoneReason, Key, Place, Row};
-pub use session::{Gate, KnownSessions, OpenSession, Worker};
+pub use session::{Gate, OpenSession, Worker};

@@ -22,17 +22,6 @@ pub struct Worker {
     pub number: u64,
 }
 
-/// What a queue knows of sessions: those that are open, in the order of their opening; the numbers of
-/// the clients' sessions that have ended, rising; the dead-letter workers, by rising owner; and how
-/// many sessions were ever seen.
-#[derive(Debug, Drop, PartialEq)]
-pub struct KnownSessions {
-    pub opened: Items<OpenSession>,
-    pub ended: Items<u64>,
-    pub workers: Items<Worker>,
-    pub seen: u64,
-}
-
 /// What becomes of a session's command (Ongaro's dissertation, section 6.3).
 #[derive(Debug, Drop, PartialEq)]
 pub enum Gate {
