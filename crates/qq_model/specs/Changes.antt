@@ -42,12 +42,13 @@ abbrev pub consumer_of : ConsumerId → List Consumer → Option Consumer
 consumer_of id consumers = find (λ (consumer : Consumer). same_consumer consumer.id id) consumers
 
 -- the message of a row, which stands at the same place; one without its content where it isn't there
-abbrev pub message_of : State → Row → Message
-message_of s row = unwrap_or (option_and_then (slice_get s.messages) (position (λ (other : Row). nat_eq other.index.0 row.index.0) s.rows)) (record { size = row.size; content = None })
+abbrev pub message_of : List Row → List Message → Row → Message
+message_of rows messages row =
+    unwrap_or (option_and_then (slice_get messages) (position (λ (other : Row). nat_eq other.index.0 row.index.0) rows)) (record { size = row.size; content = None })
 
 -- what a consumer or a get sees of a message, as the delivery of an id
 abbrev pub shown : State → ℕ → Row → Delivery
-shown s id row = record { index = row.index; arrival = row.arrival; id = id; count = row.count; message = message_of s row }
+shown s id row = record { index = row.index; arrival = row.arrival; id = id; count = row.count; message = message_of s.rows s.messages row }
 
 -- A message dies. Without dead lettering, and at most once, it is gone; at most once it leaves as a dead
 -- letter; at least once it stays until its targets have confirmed it (RabbitMQ, "Dead Letter Exchanges").
@@ -56,7 +57,7 @@ dies_by Absent reason row p = record p { state = record (p.state) { rows = with_
 dies_by AtMostOnce reason row p =
     record {
       state = record (p.state) { rows = with_row (record row { place = Gone (Died reason) }) p.state.rows };
-      effects = p.effects ++ DeadOnce reason (message_of p.state row) ∷ [];
+      effects = p.effects ++ DeadOnce reason (message_of p.state.rows p.state.messages row) ∷ [];
     }
 dies_by AtLeastOnce reason row p =
     record p {

@@ -256,9 +256,13 @@ is_dead_number number (Out consumer id) = false
 is_dead_number number (Dead other reason) = nat_eq other number
 is_dead_number number (Gone reason) = false
 
--- the dead message of a number, if the present worker was given it
+-- the dead message of a number
+abbrev pub dead_of : ℕ → List Row → Option Row
+dead_of number rows = find (λ (row : Row). is_dead_number number row.place) rows
+
+-- the same, if the present worker was given it
 abbrev pub given_dead : ℕ → State → Option Row
-given_dead number s = if nat_le number s.given then find (λ (row : Row). is_dead_number number row.place) s.rows else None
+given_dead number s = if nat_le number s.given then dead_of number s.rows else None
 
 -- the progress so far, and how many dead letters were settled
 pub record Settling : Type 0 where

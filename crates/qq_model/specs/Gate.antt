@@ -50,7 +50,7 @@ again None = Forgotten
 again (Some answer) = Again answer
 
 abbrev pub kept_of : ℕ → OpenSession → Option Answer
-kept_of seq one = slice_get one.kept (seq - (one.mark + 1))
+kept_of seq one = slice_get one.kept (seq - one.mark - 1)
 
 -- the checks of an open session's number, in their order
 abbrev pub numbered : Stamp → OpenSession → Gate
@@ -122,18 +122,20 @@ abbrev pub workers_after : SessionId → List Worker → List Worker
 workers_after session workers = if is_worker session then with_worker (record { owner = session.owner; number = session.number }) workers else workers
 
 -- a session is opened; that of a worker ends those of earlier workers of the same source queue
-abbrev pub admitted_by : Option OpenSession → Sessions → Stamp → Sessions
-admitted_by None s stamp =
+abbrev pub opened_after : Sessions → Stamp → Sessions
+opened_after s stamp =
     record s {
       opened = filter (λ (one : OpenSession). not (gives_way stamp.session one)) s.opened ++ opened_by stamp ∷ [];
       workers = workers_after stamp.session s.workers;
       seen = s.seen + 1;
     }
-admitted_by (Some one) s stamp = record s { opened = with_session stamp.session (used_by stamp) s.opened }
 
 -- the sessions once a command has passed the gate
 unfoldable pub admitted : Sessions → Stamp → Sessions
-admitted s stamp = if is_dead_letter stamp.session then s else admitted_by (session_of stamp.session s.opened) s stamp
+admitted s stamp =
+    if is_dead_letter stamp.session then s
+    else if is_opened stamp.session s.opened then record s { opened = with_session stamp.session (used_by stamp) s.opened }
+    else opened_after s stamp
 
 -- an answer is kept, in the session of the stamp alone
 abbrev pub keeps : Answer → OpenSession → OpenSession
@@ -167,15 +169,13 @@ ended_after session ended = if is_client session then with_ended session.number 
 abbrev pub ends_unknown : Sessions → SessionId → Bool
 ends_unknown s session = is_client session && not (is_ended s session) && nat_lt s.seen MOST_SEEN
 
-abbrev pub ends_by : Bool → Sessions → SessionId → Sessions
-ends_by true s session =
-    record s {
-      opened = filter (λ (one : OpenSession). not (same_session one.session session)) s.opened;
-      ended = ended_after session s.ended;
-    }
-ends_by false s session =
-    if ends_unknown s session then record s { ended = with_ended session.number s.ended; seen = s.seen + 1 } else s
-
 -- a session ends
 unfoldable pub ends : Sessions → SessionId → Sessions
-ends s session = ends_by (is_opened session s.opened) s session
+ends s session =
+    if is_opened session s.opened then
+      record s {
+        opened = filter (λ (one : OpenSession). not (same_session one.session session)) s.opened;
+        ended = ended_after session s.ended;
+      }
+    else if ends_unknown s session then record s { ended = with_ended session.number s.ended; seen = s.seen + 1 }
+    else s

@@ -146,7 +146,7 @@ abbrev pub offers_at : Place → Row → Progress → Option Progress
 offers_at (Ready key) row p = None
 offers_at (Out consumer id) row p = None
 offers_at (Dead number reason) row p =
-    Some (record { state = record (p.state) { given = number }; effects = p.effects ++ Offer number reason (message_of p.state row) ∷ [] })
+    Some (record { state = record (p.state) { given = number }; effects = p.effects ++ Offer number reason (message_of p.state.rows p.state.messages row) ∷ [] })
 offers_at (Gone reason) row p = None
 
 abbrev pub offers : Option Row → Progress → Option Progress

@@ -2,10 +2,8 @@
 //! what the definitions of `qq_model` say. It is slow, and it is what all other machines are held to.
 #![tactic(auto)]
 
+mod consumers;
+mod ids;
+mod queue;
 mod rows;
-mod serial;
-
-pub use serial::Serial;
-
-#[cfg(test)]
-mod tests;
+mod sessions;
