@@ -99,8 +99,8 @@ abbrev pub without_finished : State → State
 without_finished s = record s { consumers = filter (stays s.rows) s.consumers }
 
 -- the free credit of the consumer of an id, 0 where there is none
-abbrev pub credit_of : ConsumerId → State → ℕ
-credit_of id s = option_map_or (free_credit s.rows) (consumer_of id s.consumers) 0
+abbrev pub credit_of : ConsumerId → List Row → List Consumer → ℕ
+credit_of id rows consumers = option_map_or (free_credit rows) (consumer_of id consumers) 0
 
 -- a consumer gets the next turn
 abbrev pub takes_turn : Option Consumer → State → State
@@ -109,4 +109,4 @@ takes_turn (Some consumer) s = record s { turns = s.turns + 1; consumers = with_
 
 -- a consumer whose free credit was 0 and is more now begins to wait for its turn
 abbrev pub begins_to_wait : ℕ → ConsumerId → State → State
-begins_to_wait before id s = if nat_eq before 0 && nat_lt 0 (credit_of id s) then takes_turn (consumer_of id s.consumers) s else s
+begins_to_wait before id s = if nat_eq before 0 && nat_lt 0 (credit_of id s.rows s.consumers) then takes_turn (consumer_of id s.consumers) s else s

@@ -129,7 +129,7 @@ credited consumer credit s = record s { consumers = with_consumer (record consum
 abbrev pub credit_by_mode : Mode → Consumer → ℕ → Progress → Acted
 credit_by_mode (Prefetch prefetch) consumer credit p = refused WrongMode p
 credit_by_mode Link consumer credit p =
-    answers (answer.Credited 0) (in_state (begins_to_wait (credit_of consumer.id p.state) consumer.id (credited consumer credit p.state)) p)
+    answers (answer.Credited 0) (in_state (begins_to_wait (credit_of consumer.id p.state.rows p.state.consumers) consumer.id (credited consumer credit p.state)) p)
 
 abbrev pub credit_by : Option Consumer → ℕ → Progress → Acted
 credit_by None credit p = refused NoConsumer p
@@ -171,7 +171,7 @@ settled_down consumer before p = in_state (begins_to_wait before consumer (witho
 abbrev pub finish_by : Option Consumer → Outcome → ConsumerId → List ℕ → Progress → Acted
 finish_by None outcome consumer ids p = refused NoConsumer p
 finish_by (Some found) outcome consumer ids p =
-    answers answer.Done (settled_down consumer (credit_of consumer p.state) (all_finished outcome consumer ids p))
+    answers answer.Done (settled_down consumer (credit_of consumer p.state.rows p.state.consumers) (all_finished outcome consumer ids p))
 
 unfoldable pub finish : Outcome → ConsumerId → List ℕ → Progress → Acted
 finish outcome consumer ids p = finish_by (consumer_of consumer p.state.consumers) outcome consumer ids p

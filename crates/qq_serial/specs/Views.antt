@@ -1,13 +1,12 @@
 -- A queue in memory as a state of the definition.
 use Rattle.std.specs.Prelude.{List}
-use Rattle.qq_command.specs.declared.queue.QueueArgs.{QueueArgs}
-use Rattle.qq_command.specs.declared.message.Message.{Message}
+use Rattle.qq_model.specs.declared.session.OpenSession.{OpenSession}
 use Rattle.qq_model.specs.State.{State, Sessions}
 use Rattle.qq_model.specs.Changes.{Progress}
-use Rattle.qq_model.specs.declared.session.OpenSession.{OpenSession}
 use Rattle.qq_model.specs.Gate.{marked_by, used_by, keeps, tags}
 use Rattle.qq_serial.specs.declared.sessions.SessionChange.{SessionChange}
 use Rattle.qq_serial.specs.declared.sessions.SessionChange.TheVariants.{Marked, Used, Kept, Tagged}
+use Rattle.qq_serial.specs.declared.queue.Store.{Store}
 use Rattle.qq_serial.specs.declared.queue.Queue.{Queue}
 use Rattle.qq_serial.specs.declared.queue.Draft.{Draft}
 use Rattle.qq_serial.specs.declared.queue.SessionLists.{SessionLists}
@@ -15,11 +14,11 @@ use Rattle.qq_serial.specs.declared.queue.SessionLists.{SessionLists}
 abbrev pub sessions_of : SessionLists → Sessions
 sessions_of s = record { opened = s.opened.items; ended = s.ended.items; workers = s.workers.items; seen = s.seen }
 
--- a queue of these arguments, with these messages
-abbrev pub state_of : QueueArgs → List Message → Queue → State
-state_of args messages q =
+-- a queue over what is never copied
+abbrev pub state_of : Store → Queue → State
+state_of store q =
     record {
-      args = args;
+      args = store.args;
       applied = q.applied;
       arrivals = q.arrivals;
       orders = q.orders;
@@ -29,14 +28,14 @@ state_of args messages q =
       given = q.given;
       attached = q.attached;
       rows = q.rows.items;
-      messages = messages;
+      messages = store.messages.items;
       consumers = q.consumers.items;
       sessions = sessions_of q.sessions;
     }
 
 -- a step under way
-abbrev pub progress_of : QueueArgs → List Message → Draft → Progress
-progress_of args messages draft = record { state = state_of args messages draft.queue; effects = draft.effects.items }
+abbrev pub progress_of : Store → Draft → Progress
+progress_of store draft = record { state = state_of store draft.queue; effects = draft.effects.items }
 
 -- what a change of an open session makes of it
 abbrev pub change_of : SessionChange → OpenSession → OpenSession

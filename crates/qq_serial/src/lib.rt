@@ -2,6 +2,7 @@
 //! what the definitions of `qq_model` say. It is slow, and it is what all other machines are held to.
 #![tactic(auto)]
 
+mod changes;
 mod consumers;
 mod ids;
 mod queue;

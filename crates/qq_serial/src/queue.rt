@@ -1,7 +1,7 @@
 ghost use Rattle.std.specs.Prelude.{◌≡◌, ◌+◌, IfOk, IfErr};
 
 use qq_base::Memory;
-use qq_command::Effect;
+use qq_command::{Effect, Message, QueueArgs};
 use qq_model::{Consumer, OpenSession, Row, Worker};
 
 /// The sessions that a queue knows.
@@ -13,7 +13,14 @@ pub struct SessionLists {
     pub seen: u64,
 }
 
-/// A queue's state but for its arguments and its messages.
+/// What a step never copies: the queue's arguments, and its messages in the order of their rows.
+#[derive(Debug, Drop)]
+pub struct Store {
+    pub args: QueueArgs,
+    pub messages: Vec<Message>,
+}
+
+/// The rest of a queue's state.
 #[derive(Debug, Drop)]
 pub struct Queue {
     pub applied: u64,
