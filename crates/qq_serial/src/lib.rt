@@ -3,6 +3,7 @@
 #![tactic(auto)]
 
 mod changes;
+mod commands;
 mod consumers;
 mod ids;
 mod queue;
