@@ -1,5 +1,5 @@
 //! What each command does and answers.
-ghost use Rattle.std.specs.Prelude.{◌≡◌, ◌+◌, IfOk, IfErr, OnOk, OnErr, filter, not};
+ghost use Rattle.std.specs.Prelude.{◌≡◌, ◌+◌, IfOk, IfErr, OnOk, OnErr, filter, not, false, Some, None, if◌then◌else◌};
 ghost use Rattle.qq_model.specs.declared.consumer.Consumer.{Consumer};
 ghost use Rattle.qq_model.specs.Commands.{Acted, answers, in_state, Settling, enqueue, get, subscribe, cancel, give_credit, credit_by_mode, finished, finished_if, all_finished, finish, purge, all_returned, return_first, is_of, given_back, down, dead_attach, keeps_dead, dead_settled, given_dead, all_dead_settled, dead_settle, act};
 ghost use Rattle.qq_model.specs.Changes.{while_next};
@@ -258,4 +258,164 @@ impl Draft {
         purge_rows(&mut self.queue.rows);
         Answer::Purged { count }
     }
+
+    fn return_one(
+        &mut self,
+        alloc: Global,
+        store: &Store,
+        consumer: ConsumerId,
+    ) -> Result<bool, Memory>
+        ensures ok { IfOk result (λ did. return_first consumer (progress_of store.now self.old) ≡ (if did then Some (progress_of store.now self.new) else None)) }
+        ensures still { IfOk result (λ did. did ≡ false → self.new ≡ self.old) }
+        ensures want { IfErr result (λ e. e ≡ Memory.Want) }
+    {
+        let Some(row) = find_first_delivery(consumer, &self.queue.rows) else {
+            return Ok(false);
+        };
+        self.give_back(alloc, store, row)?;
+        Ok(true)
+    }
+
+    #[tactic(auto, unfolding(qq_model::specs::Commands::all_returned))]
+    fn return_all(&mut self, alloc: Global, store: &Store, consumer: Consumer) -> Result<(), Memory>
+        ensures ok { OnOk result (all_returned consumer (progress_of store.now self.old) ≡ progress_of store.now self.new) }
+        ensures want { IfErr result (λ e. e ≡ Memory.Want) }
+    {
+        let out = count_out(consumer.id, &self.queue.rows);
+        'rounds: for _round in 0..out {
+            if !self.return_one(alloc, store, consumer.id)? {
+                return Ok(());
+            }
+        }
+        Ok(())
+    }
+
+    fn return_if_of(
+        &mut self,
+        alloc: Global,
+        store: &Store,
+        session: SessionId,
+        consumer: Consumer,
+    ) -> Result<(), Memory>
+        ensures ok { OnOk result ((if is_of session consumer then all_returned consumer (progress_of store.now self.old) else progress_of store.now self.old) ≡ progress_of store.now self.new) }
+        ensures want { IfErr result (λ e. e ≡ Memory.Want) }
+    {
+        if is_same_session(consumer.id.session, session) {
+            return self.return_all(alloc, store, consumer);
+        }
+        Ok(())
+    }
+
+    fn return_all_of(
+        &mut self,
+        alloc: Global,
+        store: &Store,
+        session: SessionId,
+        consumers: &[Consumer],
+    ) -> Result<(), Memory>
+        ensures ok { OnOk result (given_back session consumers.now (progress_of store.now self.old) ≡ progress_of store.now self.new) }
+        ensures want { IfErr result (λ e. e ≡ Memory.Want) }
+    {
+        for consumer in consumers {
+            self.return_if_of(alloc, store, session, *consumer)?;
+        }
+        Ok(())
+    }
+
+    /// Ends a session.
+    #[tactic(auto, unfolding(qq_model::specs::Commands::down))]
+    pub fn down(
+        &mut self,
+        alloc: Global,
+        store: &Store,
+        session: SessionId,
+    ) -> Result<Answer, Memory>
+        ensures ok { IfOk result (λ answer. down session (progress_of store.now self.old) ≡ answers answer (progress_of store.now self.new)) }
+        ensures want { IfErr result (λ e. e ≡ Memory.Want) }
+    {
+        let consumers = Vec::from_slice(alloc, &self.queue.consumers)?;
+        self.return_all_of(alloc, store, session, &consumers)?;
+        drop_consumers_of(session, &mut self.queue.consumers);
+        end_session(alloc, &mut self.queue.sessions, session)?;
+        Ok(Answer::Down)
+    }
+
+    /// Attaches the dead-letter worker of a term.
+    #[tactic(auto, unfolding(qq_model::specs::Commands::dead_attach))]
+    pub fn dead_attach(&mut self, store: &Store, term: Term) -> Answer
+        ensures { dead_attach term (progress_of store.now self.old) ≡ answers result (progress_of store.now self.new) }
+    {
+        if is_keeping_dead(store.args.strategy) && self.queue.attached < term.0 {
+            self.queue.attached = term.0;
+            self.queue.given = 0;
+            return Answer::Attached;
+        }
+        Answer::Stale
+    }
+
+    fn settle_dead_if(&mut self, store: &Store, row: Option<Row>, count: u64) -> Result<u64, Memory>
+        ensures ok { IfOk result (λ after. dead_settled row (record { progress = progress_of store.now self.old; count = count }) ≡ record { progress = progress_of store.now self.new; count = after }) }
+        ensures want { IfErr result (λ e. e ≡ Memory.Want) }
+    {
+        let Some(row) = row else {
+            return Ok(count);
+        };
+        let gone = Row {
+            place: Place::Gone(GoneReason::DeadLettered),
+            ..row
+        };
+        put_row(&mut self.queue.rows, gone);
+        raised(count)
+    }
+
+    fn find_given(&self, store: &Store, number: u64) -> Option<Row>
+        ensures { result ≡ given_dead number (state_of store.now self.now.queue) }
+    {
+        if number <= self.queue.given {
+            return find_dead(number, &self.queue.rows);
+        }
+        None
+    }
+
+    fn settle_all_dead(&mut self, store: &Store, done: &[DeadDone]) -> Result<u64, Memory>
+        ensures ok { IfOk result (λ count. all_dead_settled done.now (progress_of store.now self.old) ≡ record { progress = progress_of store.now self.new; count = count }) }
+        ensures want { IfErr result (λ e. e ≡ Memory.Want) }
+    {
+        let mut count = 0;
+        for one in done {
+            let row = self.find_given(store, one.number);
+            count = self.settle_dead_if(store, row, count)?;
+        }
+        Ok(count)
+    }
+
+    /// Settles dead letters.
+    #[tactic(auto, unfolding(qq_model::specs::Commands::dead_settle))]
+    pub fn dead_settle(
+        &mut self,
+        store: &Store,
+        term: Term,
+        done: &[DeadDone],
+    ) -> Result<Answer, Memory>
+        ensures ok { IfOk result (λ answer. dead_settle term done.now (progress_of store.now self.old) ≡ answers answer (progress_of store.now self.new)) }
+        ensures want { IfErr result (λ e. e ≡ Memory.Want) }
+    {
+        if is_keeping_dead(store.args.strategy) && term.0 == self.queue.attached {
+            let count = self.settle_all_dead(store, done)?;
+            return Ok(Answer::DeadSettled { count });
+        }
+        Ok(Answer::Stale)
+    }
+}
+
+fn drop_consumers_of(session: SessionId, consumers: &mut Vec<Consumer>)
+    ensures { consumers.new.items ≡ filter (λ (consumer : Consumer). not (is_of session consumer)) consumers.old.items }
+{
+    consumers.retain(|consumer| !is_same_session(consumer.id.session, session));
+}
+
+fn is_keeping_dead(strategy: Strategy) -> bool
+    ensures { result ≡ keeps_dead strategy }
+{
+    matches!(strategy, Strategy::AtLeastOnce)
 }
