@@ -8,4 +8,6 @@ mod consumers;
 mod ids;
 mod queue;
 mod rows;
+mod serving;
 mod sessions;
+mod table;
