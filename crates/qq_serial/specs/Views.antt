@@ -3,12 +3,14 @@ use Rattle.std.specs.Prelude.{List}
 use Rattle.qq_model.specs.declared.session.OpenSession.{OpenSession}
 use Rattle.qq_model.specs.State.{State, Sessions}
 use Rattle.qq_model.specs.Changes.{Progress}
+use Rattle.qq_model.specs.Step.{Step}
 use Rattle.qq_model.specs.Gate.{marked_by, used_by, keeps, tags}
 use Rattle.qq_serial.specs.declared.sessions.SessionChange.{SessionChange}
 use Rattle.qq_serial.specs.declared.sessions.SessionChange.TheVariants.{Marked, Used, Kept, Tagged}
 use Rattle.qq_serial.specs.declared.queue.Store.{Store}
 use Rattle.qq_serial.specs.declared.queue.Queue.{Queue}
 use Rattle.qq_serial.specs.declared.queue.Draft.{Draft}
+use Rattle.qq_serial.specs.declared.queue.Made.{Made}
 use Rattle.qq_serial.specs.declared.queue.SessionLists.{SessionLists}
 
 abbrev pub sessions_of : SessionLists → Sessions
@@ -36,6 +38,10 @@ state_of store q =
 -- a step under way
 abbrev pub progress_of : Store → Draft → Progress
 progress_of store draft = record { state = state_of store draft.queue; effects = draft.effects.items }
+
+-- a step that was made
+abbrev pub step_of : Store → Made → Step
+step_of store made = record { state = state_of store made.draft.queue; fresh = made.fresh; answer = made.answer; effects = made.draft.effects.items }
 
 -- what a change of an open session makes of it
 abbrev pub change_of : SessionChange → OpenSession → OpenSession

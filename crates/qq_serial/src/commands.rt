@@ -1,5 +1,5 @@
 //! What each command does and answers.
-ghost use Rattle.std.specs.Prelude.{◌≡◌, ◌+◌, IfOk, IfErr, OnOk, OnErr, filter, not, false, Some, None, if◌then◌else◌};
+ghost use Rattle.std.specs.Prelude.{◌≡◌, ◌+◌, take, vec_len, IfOk, IfErr, OnOk, OnErr, filter, not, false, Some, None, if◌then◌else◌};
 ghost use Rattle.qq_model.specs.declared.consumer.Consumer.{Consumer};
 ghost use Rattle.qq_model.specs.Commands.{Acted, answers, in_state, Settling, enqueue, get, subscribe, cancel, give_credit, credit_by_mode, finished, finished_if, all_finished, finish, purge, all_returned, return_first, is_of, given_back, down, dead_attach, keeps_dead, dead_settled, given_dead, all_dead_settled, dead_settle, act};
 ghost use Rattle.qq_model.specs.Changes.{while_next};
@@ -31,7 +31,7 @@ impl Draft {
     ) -> Result<Answer, Memory>
         ensures ok { IfOk result (λ answer. enqueue index message.now (progress_of store.old self.old) ≡ answers answer (progress_of store.new self.new)) }
         ensures same { store.new.args ≡ store.old.args }
-        ensures err { OnErr result (store.new.messages.items ≡ store.old.messages.items) }
+        ensures front { take (vec_len store.old.messages) store.new.messages.items ≡ store.old.messages.items }
         ensures want { IfErr result (λ e. e ≡ Memory.Want) }
     {
         if let Some(full) = limit_met(&store.args, &self.queue.rows) {

@@ -9,5 +9,9 @@ mod ids;
 mod queue;
 mod rows;
 mod serving;
+mod serial;
 mod sessions;
+mod step;
 mod table;
+
+pub use serial::Serial;

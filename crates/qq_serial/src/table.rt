@@ -1,5 +1,5 @@
 //! The table of the commands.
-ghost use Rattle.std.specs.Prelude.{◌≡◌, IfOk, IfErr, OnOk, OnErr};
+ghost use Rattle.std.specs.Prelude.{◌≡◌, take, vec_len, IfOk, IfErr, OnOk, OnErr};
 ghost use Rattle.qq_model.specs.Commands.{Acted, answers, act};
 ghost use Rattle.qq_serial.specs.Views.{progress_of};
 
@@ -21,7 +21,7 @@ impl Draft {
     ) -> Result<Answer, Memory>
         ensures ok { IfOk result (λ answer. act index command.now (progress_of store.old self.old) ≡ answers answer (progress_of store.new self.new)) }
         ensures same { store.new.args ≡ store.old.args }
-        ensures err { OnErr result (store.new.messages.items ≡ store.old.messages.items) }
+        ensures front { take (vec_len store.old.messages) store.new.messages.items ≡ store.old.messages.items }
         ensures want { IfErr result (λ e. e ≡ Memory.Want) }
     {
         match command {

@@ -1,0 +1,102 @@
+ghost use Rattle.std.specs.Prelude.{◌≡◌, ◌+◌, ◌^◌, IsTrue, OnOk, OnErr, IfOk, IfErr, false};
+
+use crate::queue::{Draft, Made, Queue, SessionLists, Store};
+use crate::step::make_step;
+use qq_base::{Index, Memory};
+use qq_command::{Answer, Effect, Entry, QueueArgs};
+use qq_model::NUMBER_END;
+use std::alloc::Global;
+use std::marker::Model;
+
+/// A queue that computes each step of the definition plainly, over all messages that it ever had.
+#[derive(Debug, Drop)]
+pub struct Serial {
+    store: Store,
+    queue: Queue,
+}
+
+impl Model for Serial {
+    ghost use Rattle.std.specs.Prelude.{IsTrue};
+    ghost use Rattle.qq_model.specs.State.{State, is_within_ends};
+    ghost use Rattle.qq_serial.specs.Views.{state_of};
+
+    ghost Value = { State };
+
+    ghost view = { λ s. state_of s.store s.queue };
+
+    ghost invariant = { λ s. IsTrue (is_within_ends (state_of s.store s.queue)) };
+}
+
+impl Serial {
+    ghost use Rattle.qq_base.specs.Causes.{SpentOnlyWhere};
+    ghost use Rattle.qq_model.specs.State.{empty_queue, is_within_ends};
+    ghost use Rattle.qq_model.specs.Step.{step};
+
+    /// The queue to which no entry was applied. It takes no memory.
+    pub fn new(alloc: Global, args: QueueArgs) -> Self
+        ensures { result ≡ empty_queue args }
+    {
+        Serial {
+            store: Store {
+                args,
+                messages: Vec::new(alloc),
+            },
+            queue: Queue {
+                applied: 0,
+                arrivals: 0,
+                orders: 0,
+                returns: 0,
+                deads: 0,
+                turns: 0,
+                given: 0,
+                attached: 0,
+                rows: Vec::new(alloc),
+                consumers: Vec::new(alloc),
+                sessions: SessionLists {
+                    opened: Vec::new(alloc),
+                    ended: Vec::new(alloc),
+                    workers: Vec::new(alloc),
+                    seen: 0,
+                },
+            },
+        }
+    }
+
+    /// Applies the next entry: whether its command counted as fresh, its answer, and its effects in order.
+    /// `Spent` is answered where a number would pass its end. After a refusal the queue is as before.
+    pub fn step(
+        &mut self,
+        alloc: Global,
+        index: Index,
+        entry: &Entry,
+    ) -> Result<(bool, Answer, Vec<Effect>), Memory>
+        requires next { index.0 ≡ self.old.applied + 1 }
+
+        ensures ok { IfOk result (λ made. step self.old index entry.now ≡ record { state = self.new; fresh = made.0; answer = made.1; effects = made.2.items }) }
+        ensures within { OnOk result (IsTrue (is_within_ends self.new)) }
+        ensures err { OnErr result (self.new ≡ self.old) }
+        ensures cause { IfErr result (λ e. SpentOnlyWhere e NUMBER_END (is_within_ends (step self.old index entry.now).state ≡ false)) }
+    {
+        let before = self.store.messages.len();
+        match make_step(alloc, &mut self.store, &self.queue, index, entry) {
+            Err(stop) => {
+                self.store.messages.truncate(before);
+                Err(stop)
+            }
+            Ok(made) => {
+                let Made {
+                    draft,
+                    fresh,
+                    answer,
+                } = made;
+                let Draft { queue, effects } = draft;
+                if !queue.is_within() {
+                    self.store.messages.truncate(before);
+                    return Err(Memory::Spent { number: NUMBER_END });
+                }
+                self.queue = queue;
+                Ok((fresh, answer, effects))
+            }
+        }
+    }
+}
