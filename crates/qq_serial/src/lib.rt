@@ -8,10 +8,13 @@ mod consumers;
 mod ids;
 mod queue;
 mod rows;
-mod serving;
 mod serial;
+mod serving;
 mod sessions;
 mod step;
 mod table;
 
 pub use serial::Serial;
+
+#[cfg(test)]
+mod tests;

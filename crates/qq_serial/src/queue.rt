@@ -140,9 +140,7 @@ fn are_rows_within(rows: &[Row]) -> bool
 fn are_consumers_within(consumers: &[Consumer]) -> bool
     ensures { result ≡ list_all consumer_within consumers.now }
 {
-    consumers
-        .iter()
-        .all(|consumer| consumer.next_id <= NUMBER_END && consumer.count <= NUMBER_END)
+    consumers.iter().all(|consumer| consumer.next_id <= NUMBER_END && consumer.count <= NUMBER_END)
 }
 
 fn are_sessions_within(opened: &[OpenSession]) -> bool

@@ -285,7 +285,10 @@ pub fn find_first_delivery(consumer: ConsumerId, rows: &[Row]) -> Option<Row>
 {
     let mut best = None;
     for row in rows {
-        if is_id_before(id_at(consumer, row.place), id_at(consumer, place_or_gone(best))) {
+        if is_id_before(
+            id_at(consumer, row.place),
+            id_at(consumer, place_or_gone(best)),
+        ) {
             best = Some(*row);
         }
     }

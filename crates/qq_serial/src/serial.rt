@@ -1,4 +1,4 @@
-ghost use Rattle.std.specs.Prelude.{◌≡◌, ◌+◌, ◌^◌, IsTrue, OnOk, OnErr, IfOk, IfErr, false};
+ghost use Rattle.std.specs.Prelude.{◌≡◌, ◌+◌, ◌^◌, ◌≤◌, IsTrue, OnOk, OnErr, IfOk, IfErr, false};
 
 use crate::queue::{Draft, Made, Queue, SessionLists, Store};
 use crate::step::make_step;
@@ -60,6 +60,14 @@ impl Serial {
                 },
             },
         }
+    }
+
+    /// The index of the last entry that was applied, 0 for none. It is at most 2^63.
+    pub fn applied(&self) -> u64
+        ensures value { result ≡ self.now.applied }
+        ensures bound { result ≤ 2 ^ 63 }
+    {
+        self.queue.applied
     }
 
     /// Applies the next entry: whether its command counted as fresh, its answer, and its effects in order.

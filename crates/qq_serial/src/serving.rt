@@ -155,7 +155,10 @@ impl Draft {
     {
         match command {
             Command::Credit {
-                stamp, tag, drain, ..
+                stamp,
+                tag,
+                drain,
+                ..
             } => {
                 let id = ConsumerId {
                     session: stamp.session,

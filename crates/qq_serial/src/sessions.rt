@@ -236,11 +236,7 @@ fn change_session(
 
 /// Takes over the low mark of a command that isn't carried out.
 #[tactic(auto, unfolding(qq_model::specs::Gate::turned_away))]
-pub fn turn_away(
-    alloc: Global,
-    sessions: &mut SessionLists,
-    stamp: &Stamp,
-) -> Result<(), Memory>
+pub fn turn_away(alloc: Global, sessions: &mut SessionLists, stamp: &Stamp) -> Result<(), Memory>
     ensures ok { OnOk result (sessions_of sessions.new ≡ turned_away (sessions_of sessions.old) stamp.now) }
     ensures want { IfErr result (λ e. e ≡ Memory.Want) }
 {
@@ -328,11 +324,7 @@ fn drop_session(session: SessionId, opened: &mut Vec<OpenSession>)
     opened.retain(|one| !is_same_session(one.session, session));
 }
 
-fn open_session(
-    alloc: Global,
-    sessions: &mut SessionLists,
-    stamp: &Stamp,
-) -> Result<(), Memory>
+fn open_session(alloc: Global, sessions: &mut SessionLists, stamp: &Stamp) -> Result<(), Memory>
     ensures ok { OnOk result (sessions_of sessions.new ≡ opened_after (sessions_of sessions.old) stamp.now) }
     ensures want { IfErr result (λ e. e ≡ Memory.Want) }
 {

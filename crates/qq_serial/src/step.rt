@@ -200,5 +200,11 @@ pub fn make_step(
         queue: queue.copy(alloc)?,
         effects: Vec::new(alloc),
     };
-    draft.enter(alloc, store, find_stamp(&entry.command), index, &entry.command)
+    draft.enter(
+        alloc,
+        store,
+        find_stamp(&entry.command),
+        index,
+        &entry.command,
+    )
 }

@@ -12,4 +12,4 @@ unfolding step
 returns-clause-ok c =
     let made_at : Option Stamp → State → Type 0 = λ stamp s. IfOk c.enter.result (λ (made : Made). step_by stamp c.args.index c.args.entry.now.command s ≡ step_of c.enter.new.store made) in
     subst (λ (stamp : Option Stamp). made_at stamp (state_of c.args.store.now c.args.queue.now)) c.find_stamp.ensures
-      (subst (λ (s : State). made_at c.find_stamp.result s) (c.in_ok-copy.ensures.ok c.args.store.now) c.enter.ensures.ok)
+    (subst (λ (s : State). made_at c.find_stamp.result s) (c.in_ok-copy.ensures.ok c.args.store.now) c.enter.ensures.ok)
