@@ -12,7 +12,9 @@ use Rattle.qq_script.specs.Line.{line_call, HasScriptCause}
 use Rattle.qq_broker.specs.declared.stop.Stop.TheVariants as stops
 use Rattle.qq_broker.specs.declared.broker.TheConstants.{LINES_LIMIT}
 use Rattle.qq_model.specs.State.{is_within_ends}
-use Rattle.qq_model.specs.Step.{Step, step}
+use Rattle.qq_model.specs.Commands.{act}
+use Rattle.qq_model.specs.Serving.{drain_after, checkouts, limits, dead_giving}
+use Rattle.qq_model.specs.Step.{Step, step, carried_out}
 use Rattle.qq_model.specs.Audit.{next_index, row_of}
 use Rattle.qq_broker.specs.Outcome.{Run, Served, Refuses, Spends, serve, served_call, call_at, applied, made_by, command_of, entry_of, opened, fresh_run, lead}
 use Rattle.qq_broker.specs.Stops.{HasAnswerStop, stop_of}
@@ -49,7 +51,7 @@ unfolding opened
 opened-by made e = ap (λ (s : Step). let run : Run = record { state = s.state; rows = row_of (next_index fresh_run.state) (entry_of lead) s ∷ []; lines = 0 } in run) e
 
 pub opened_within : is_within_ends (made_by fresh_run lead).state ≡ true
-unfolding step
+unfolding step carried_out act drain_after checkouts limits dead_giving
 opened_within = refl
 
 pub opened_wants : (memory : Memory) → SpentOnlyWhere memory NUMBER_END (is_within_ends (made_by fresh_run lead).state ≡ false) → memory ≡ Want

@@ -2,7 +2,6 @@ ghost use Rattle.std.specs.Prelude.{◌≡◌, ◌+◌, ◌<◌, ◌≤◌, ◌^
 ghost use Rattle.std.specs.Io.KnownBytes.{Appends};
 ghost use Rattle.qq_base.specs.Causes.{SpentOnlyWhere};
 ghost use Rattle.qq_base.specs.declared.memory.TheConstants.{NUMBER_END};
-ghost use Rattle.qq_model.specs.Step.{IsCarriedOut};
 ghost use Rattle.qq_ports.specs.Faults.{Rose};
 ghost use Rattle.qq_script.specs.Text.{session_of};
 ghost use Rattle.qq_broker.specs.Outcome.{Run, Served, Answers, Spends, serve, applied, made_by, command_of, client_stamp, entry_of, opened, fresh_run, first_queue, published};
@@ -96,8 +95,6 @@ fn lead_queue(alloc: Global, queue: &mut Serial) -> Result<AuditRow, Memory>
     requires { queue.old ≡ fresh_run.state }
     ensures ok { IfOk result (λ row. opened ≡ record { state = queue.new; rows = row ∷ []; lines = 0 }) }
     ensures want { IfErr result (λ e. e ≡ Memory.Want) }
-    ensures args { queue.new.args ≡ queue.old.args }
-    ensures applied { OnOk result (queue.new.applied ≡ 1) }
 {
     let index = Index(1);
     let entry = entry(Command::Noop { version: 1 });
@@ -171,14 +168,13 @@ impl Broker {
 
     // Applies a line's command, and adds the line of its answer to `text`.
     fn apply(&mut self, alloc: Global, command: Command, text: &mut Vec<u8>) -> Result<(), Memory>
-        requires carried_out { IsCarriedOut command }
         requires session { IsSome (session_of command) }
         requires within { self.old.lines < LINES_LIMIT }
         ensures ok { OnOk result ((line : List ℕ) × (text.new.items ≡ text.old.items ++ line) × (applied self.old command (made_by self.old command) ≡ Answers line self.new)) }
         ensures count { OnOk result (self.new.lines ≡ self.old.lines + 1) }
         ensures cause { IfErr result (λ e. SpentOnlyWhere e NUMBER_END (applied self.old command (made_by self.old command) ≡ Spends)) }
     {
-        let index = Index(self.lines + 2);
+        let index = Index(self.queue.applied() + 1);
         let entry = entry(command);
         let (fresh, answer, _) = self.queue.step(alloc, index, &entry)?;
         self.lines += 1;

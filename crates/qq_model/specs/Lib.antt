@@ -1,6 +1,9 @@
 pub mod State
 pub mod Choice
 pub mod Limits
+pub mod Changes
+pub mod Gate
 pub mod Commands
+pub mod Serving
 pub mod Step
 pub mod Audit

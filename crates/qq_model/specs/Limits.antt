@@ -1,5 +1,5 @@
 -- What counts against a queue's limits (RabbitMQ, "Queue Length Limit").
-use Rattle.std.specs.Prelude.{ℕ, List, Option, Some, None, Bool, true, false, count_by, sum_by, nat_le, ◌&&◌, if◌then◌else◌}
+use Rattle.std.specs.Prelude.{ℕ, List, Option, Some, None, Bool, true, false, count_by, sum_by, nat_lt, nat_le, ◌&&◌, ◌||◌, if◌then◌else◌}
 use Rattle.qq_command.specs.declared.queue.QueueArgs.{QueueArgs}
 use Rattle.qq_command.specs.declared.queue.Overflow.{Overflow}
 use Rattle.qq_command.specs.declared.queue.Overflow.TheVariants.{DropHead, RejectPublish}
@@ -15,6 +15,12 @@ is_ready (Out consumer id) = false
 is_ready (Dead number reason) = false
 is_ready (Gone reason) = false
 
+abbrev pub is_dead : Place → Bool
+is_dead (Ready key) = false
+is_dead (Out consumer id) = false
+is_dead (Dead number reason) = true
+is_dead (Gone reason) = false
+
 abbrev pub is_live : Place → Bool
 is_live (Ready key) = true
 is_live (Out consumer id) = true
@@ -27,7 +33,10 @@ ready_count rows = count_by (λ (row : Row). is_ready row.place) rows
 
 -- the bytes of the ready bodies
 abbrev pub ready_bytes : List Row → ℕ
-ready_bytes rows = sum_by (λ (row : Row). if is_ready row.place then row.message.size else 0) rows
+ready_bytes rows = sum_by (λ (row : Row). if is_ready row.place then row.size else 0) rows
+
+abbrev pub dead_count : List Row → ℕ
+dead_count rows = count_by (λ (row : Row). is_dead row.place) rows
 
 -- messages that aren't gone
 abbrev pub live_count : List Row → ℕ
@@ -38,14 +47,27 @@ abbrev pub reaches : Option ℕ → ℕ → Bool
 reaches None n = false
 reaches (Some limit) n = nat_le limit n
 
+-- a limit that is there was passed
+abbrev pub passes : Option ℕ → ℕ → Bool
+passes None n = false
+passes (Some limit) n = nat_lt limit n
+
 abbrev pub rejects : Overflow → Bool
 rejects DropHead = false
 rejects RejectPublish = true
 
--- the first limit that a publish meets
+abbrev pub drops : Overflow → Bool
+drops DropHead = true
+drops RejectPublish = false
+
+-- the first limit that a publish meets (`reject-publish`, and the queue's own limit under either overflow)
 abbrev pub publish_limit : QueueArgs → List Row → Option Full
 publish_limit args rows =
     if rejects args.overflow && reaches args.max_length (ready_count rows) then Some Length
     else if rejects args.overflow && reaches args.max_bytes (ready_bytes rows) then Some ByteLength
     else if nat_le args.live (live_count rows) then Some Live
     else None
+
+-- whether messages at the front have to die (`drop-head`)
+abbrev pub is_over : QueueArgs → List Row → Bool
+is_over args rows = drops args.overflow && (passes args.max_length (ready_count rows) || passes args.max_bytes (ready_bytes rows))

@@ -1,5 +1,5 @@
 use qq_base::{ConsumerId, Index};
-use qq_command::{Message, Reason};
+use qq_command::Reason;
 
 /// Where a ready message stands in the queue. Every `Front` comes before every `Back`, and of two of
 /// one kind the lesser number comes first.
@@ -20,12 +20,8 @@ pub enum GoneReason {
     Settled,
     /// The queue was purged.
     Purged,
-    /// Its consumer discarded it.
-    Rejected,
-    /// It was returned more often than the delivery limit allows.
-    DeliveryLimit,
-    /// It was at the head of a queue that had grown past its limit.
-    MaxLen,
+    /// It died, and the queue doesn't keep its dead.
+    Died(Reason),
     /// Its dead-letter targets have confirmed it.
     DeadLettered,
 }
@@ -43,13 +39,14 @@ pub enum Place {
     Gone(GoneReason),
 }
 
-/// A message that was enqueued at some time: the index of the entry that brought it, its arrival,
-/// counted from 1, how often it was returned and counted, the message, and where it is.
-#[derive(Debug, Drop, PartialEq)]
+/// A message that was enqueued at some time, without its content: the index of the entry that brought
+/// it, its arrival, counted from 1, how often it was returned and counted, the size of its body in
+/// bytes, and where it is.
+#[derive(Clone, Copy, Debug, PartialEq, Eq)]
 pub struct Row {
     pub index: Index,
     pub arrival: u64,
     pub count: u64,
-    pub message: Message,
+    pub size: u32,
     pub place: Place,
 }

@@ -2,8 +2,17 @@
 //! what the definitions of `qq_model` say. It is slow, and it is what all other machines are held to.
 #![tactic(auto)]
 
+mod changes;
+mod commands;
+mod consumers;
+mod ids;
+mod queue;
 mod rows;
 mod serial;
+mod serving;
+mod sessions;
+mod step;
+mod table;
 
 pub use serial::Serial;
 

@@ -1,0 +1,11 @@
+use Rattle.std.proofs.Common.{◌≡◌, drop, fold}
+use Rattle.qq_command.specs.declared.command.DeadDone.{DeadDone}
+use Rattle.qq_model.specs.Commands.{Settling, dead_settled, given_dead, all_dead_settled}
+use Rattle.qq_serial.specs.Views.{progress_of}
+use Rattle.qq_serial.proofs.queue.Draft.settle_all_dead.Given as goal
+
+-- the rest leads to where all lead
+abbrev pub invariant-loop-one : goal.invariant-loop-one
+invariant-loop-one l =
+    fold (λ (now : Settling) (one : DeadDone). dead_settled (given_dead one.number now.progress.state) now) (record { progress = progress_of l.store l.self; count = l.count }) (drop l.one-index l.done)
+    ≡ all_dead_settled l.done (progress_of l.store l.initial.self)
