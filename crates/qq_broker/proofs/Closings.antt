@@ -49,9 +49,9 @@ goes_but run lines a b so = record { front = so.text; is = ap (λ (e : Ending). 
 audit_ends_at : (bytes : List ℕ) (run : Run) (a b c : Option (List ℕ)) → Goes opened (lines_of bytes) run [] a b → Appends b c (audit_text first_queue 0 run.rows) → EndsAll 0 bytes a c
 unfolding outcome
 audit_ends_at bytes run a b c so grown = record {
-    status_is = ap (λ (e : Ending). e.status) so.ending;
-    written = subst (Appends a c) (sym (ap (λ (e : Ending). e.text) so.ending)) (Appends-trans a b c so.text (audit_text first_queue 0 run.rows) so.written grown);
-  }
+  status_is = ap (λ (e : Ending). e.status) so.ending;
+  written = subst (Appends a c) (sym (ap (λ (e : Ending). e.text) so.ending)) (Appends-trans a b c so.text (audit_text first_queue 0 run.rows) so.written grown);
+}
 
 pub audit_ends : (left : Option (List ℕ)) (first run : Run) (a b c : Option (List ℕ)) → first ≡ opened → IfSome left (λ bytes. Goes first (lines_of bytes) run [] a b)
     → Appends b c (audit_text first_queue 0 run.rows) → IfSome left (λ bytes. EndsAll 0 bytes a c)
@@ -98,9 +98,13 @@ answers_front (suc count) run (line ∷ lines) = front_by run lines count (serve
 -- a front was written, and then a part of the closing line
 short_of : (stop : Stop) (a b c : Option (List ℕ)) (text : List ℕ) (count : ℕ) → HasFront a b text → Appends b c (take count (closing_text stop)) → ClosesShort a c text
 short_of stop a b c text count so grown = record {
-    front = so.front; rest = so.rest; is = so.is; stop = stop; count = count;
-    written = Appends-trans a b c so.front (take count (closing_text stop)) so.written grown;
-  }
+  front = so.front;
+  rest = so.rest;
+  is = so.is;
+  stop = stop;
+  count = count;
+  written = Appends-trans a b c so.front (take count (closing_text stop)) so.written grown;
+}
 
 -- what was written of a script that stopped is a front of its text
 stopped_front : (stop : Stop) (lines : List (List ℕ)) (a b : Option (List ℕ)) → HasStopped stop opened lines a b → HasFront a b (outcome_from opened lines).text
@@ -117,9 +121,9 @@ stopped_front (stops.Memory (Spent number)) lines a b so = record { front = so.0
 ends_all : (status : ℕ) (bytes end : List ℕ) (a b c : Option (List ℕ)) → HasAllBut a b (outcome_from opened (lines_of bytes)).text end → (outcome_from opened (lines_of bytes)).status ≡ status → Appends b c end → EndsAll status bytes a c
 unfolding outcome
 ends_all status bytes end a b c so is grown = record {
-    status_is = is;
-    written = subst (Appends a c) (sym so.is) (Appends-trans a b c so.front end so.written grown);
-  }
+  status_is = is;
+  written = subst (Appends a c) (sym so.is) (Appends-trans a b c so.front end so.written grown);
+}
 
 short_at : (stop : Stop) (bytes : List ℕ) (a b c : Option (List ℕ)) (count : ℕ) → HasStopped stop opened (lines_of bytes) a b → Appends b c (take count (closing_text stop)) → ClosesShort a c (outcome bytes).text
 unfolding outcome
@@ -131,9 +135,9 @@ front_and bytes a b c more so grown = record { front = so.front; rest = so.rest;
 
 answers_and : (bytes : List ℕ) (a b c : Option (List ℕ)) (more : List ℕ) → HasAnswers a b opened (lines_of bytes) [] → Appends b c more → HasAnswers a c opened (lines_of bytes) more
 answers_and bytes a b c more so grown = record {
-    count = so.count;
-    written = Appends-trans a b c (answers_of so.count opened (lines_of bytes)) more (subst (Appends a b) (append-nil (answers_of so.count opened (lines_of bytes))) so.written) grown;
-  }
+  count = so.count;
+  written = Appends-trans a b c (answers_of so.count opened (lines_of bytes)) more (subst (Appends a b) (append-nil (answers_of so.count opened (lines_of bytes))) so.written) grown;
+}
 
 -- the closing line was written whole
 whole_ends : (stop : Stop) (left a b c : Option (List ℕ)) (source sink : Type 0) → IfSome left (λ bytes. HasStopped stop opened (lines_of bytes) a b) → HasFailed stop source sink → Appends b c (closing_text stop) → RunEnds (status_of stop) true left a c source sink
@@ -158,10 +162,10 @@ pub script_ends : (stop : Stop) (status : Status) (left a b c : Option (List ℕ
     → ClosesWhole stop status b c ⊎ ClosesPart stop status b c (Rose mid new) → RunEnds status true left a c source (Rose old new)
 script_ends stop status left a b c source old mid new before after so failed (inl whole) =
     subst (λ (s : Status). RunEnds s true left a c source (Rose old new)) (sym whole.status_is)
-      (whole_ends stop left a b c source (Rose old new) so (failed_more stop source (Rose old mid) (Rose old new) (λ h. Rose-later old mid new before after h) failed) whole.written)
+    (whole_ends stop left a b c source (Rose old new) so (failed_more stop source (Rose old mid) (Rose old new) (λ h. Rose-later old mid new before after h) failed) whole.written)
 script_ends stop status left a b c source old mid new before after so failed (inr part) =
     subst (λ (s : Status). RunEnds s true left a c source (Rose old new)) (sym part.status_is)
-      (Rose-earlier old mid new before part.failed, if_some left (λ bytes h. short_at stop bytes a b c part.count h part.written) so)
+    (Rose-earlier old mid new before part.failed, if_some left (λ bytes h. short_at stop bytes a b c part.count h part.written) so)
 
 -- words that are no command
 pub usage_ends : (status : Status) (left a b : Option (List ℕ)) (source sink : Type 0) → ClosesWhole stops.Usage status a b ⊎ ClosesPart stops.Usage status a b sink → RunEnds status false left a b source sink
@@ -169,4 +173,4 @@ usage_ends status left a b source sink (inl whole) =
     subst (λ (s : Status). RunEnds s false left a b source sink) (sym whole.status_is) (refl, whole.written)
 usage_ends status left a b source sink (inr part) =
     subst (λ (s : Status). RunEnds s false left a b source sink) (sym part.status_is)
-      (part.failed, if_some_all left (λ bytes. record { front = []; rest = []; is = refl; stop = stops.Usage; count = part.count; written = part.written }))
+    (part.failed, if_some_all left (λ bytes. record { front = []; rest = []; is = refl; stop = stops.Usage; count = part.count; written = part.written }))

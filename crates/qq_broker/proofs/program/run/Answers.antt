@@ -12,11 +12,12 @@ returns-then-not-is_script_word-clause-ends g c =
     let before = g.O.Sink.written c.args.output.now in
     let after = g.O.Sink.written c.close.new.output in
     let source = Rose (g.I.Source.faults c.args.input.now) (g.I.Source.faults c.args.input.now) in
-    let sink = Rose (g.O.Sink.faults c.args.output.now) (g.O.Sink.faults c.close.new.output) in
-    ( c.close.result
-    , c.code.ensures
-    , subst (λ (b : Bool). RunEnds c.close.result b left before after source sink) (sym c.if-not-is_script_word.true ∙ c.is_script_word.ensures)
-        (usage_ends c.close.result left before after source sink c.close.ensures.closes) )
+    let sink = Rose (g.O.Sink.faults c.args.output.now) (g.O.Sink.faults c.close.new.output) in (
+      c.close.result,
+      c.code.ensures,
+      subst (λ (b : Bool). RunEnds c.close.result b left before after source sink) (sym c.if-not-is_script_word.true ∙ c.is_script_word.ensures)
+          (usage_ends c.close.result left before after source sink c.close.ensures.closes),
+    )
 
 pub returns-in-Ok-clause-ends : goal.returns-in-Ok-clause-ends
 returns-in-Ok-clause-ends g c =
@@ -24,10 +25,11 @@ returns-in-Ok-clause-ends g c =
     let before = g.O.Sink.written c.args.output.now in
     let after = g.O.Sink.written c.serve.new.output in
     let source = Rose (g.I.Source.faults c.args.input.now) (g.I.Source.faults c.serve.new.input) in
-    let sink = Rose (g.O.Sink.faults c.args.output.now) (g.O.Sink.faults c.serve.new.output) in
-    ( Done
-    , c.code-in-Ok.ensures
-    , subst (λ (b : Bool). RunEnds Done b left before after source sink) (sym c.if-not-is_script_word.false ∙ c.is_script_word.ensures) (refl, c.in-Ok.ensures.ok) )
+    let sink = Rose (g.O.Sink.faults c.args.output.now) (g.O.Sink.faults c.serve.new.output) in (
+      Done,
+      c.code-in-Ok.ensures,
+      subst (λ (b : Bool). RunEnds Done b left before after source sink) (sym c.if-not-is_script_word.false ∙ c.is_script_word.ensures) (refl, c.in-Ok.ensures.ok),
+    )
 
 pub returns-in-Err-clause-ends : goal.returns-in-Err-clause-ends
 returns-in-Err-clause-ends g c =
@@ -35,10 +37,11 @@ returns-in-Err-clause-ends g c =
     let before = g.O.Sink.written c.args.output.now in
     let after = g.O.Sink.written c.close-in-Err.new.output in
     let source = Rose (g.I.Source.faults c.args.input.now) (g.I.Source.faults c.serve.new.input) in
-    let sink = Rose (g.O.Sink.faults c.args.output.now) (g.O.Sink.faults c.close-in-Err.new.output) in
-    ( c.close-in-Err.result
-    , c.code-in-Err.ensures
-    , subst (λ (b : Bool). RunEnds c.close-in-Err.result b left before after source sink) (sym c.if-not-is_script_word.false ∙ c.is_script_word.ensures)
-        (script_ends c.in-Err.stop c.close-in-Err.result left before (g.O.Sink.written c.serve.new.output) after source
+    let sink = Rose (g.O.Sink.faults c.args.output.now) (g.O.Sink.faults c.close-in-Err.new.output) in (
+      c.close-in-Err.result,
+      c.code-in-Err.ensures,
+      subst (λ (b : Bool). RunEnds c.close-in-Err.result b left before after source sink) (sym c.if-not-is_script_word.false ∙ c.is_script_word.ensures)
+          (script_ends c.in-Err.stop c.close-in-Err.result left before (g.O.Sink.written c.serve.new.output) after source
           (g.O.Sink.faults c.args.output.now) (g.O.Sink.faults c.serve.new.output) (g.O.Sink.faults c.close-in-Err.new.output)
-          c.serve.ensures.sink_later c.close-in-Err.ensures.later c.in-Err.ensures.cause c.in-Err.ensures.failed c.close-in-Err.ensures.closes) )
+          c.serve.ensures.sink_later c.close-in-Err.ensures.later c.in-Err.ensures.cause c.in-Err.ensures.failed c.close-in-Err.ensures.closes),
+    )

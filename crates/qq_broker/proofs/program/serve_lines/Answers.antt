@@ -29,9 +29,9 @@ returns-in-Err-clause-cause g c =
     let after = g.O.Sink.written c.lines.output in
     let rose = Rose (g.I.Source.faults c.lines.input) (g.I.Source.faults c.next_line.new.input) in
     subst (λ (s : Stop). IfSome left (λ bytes. HasStopped s c.args.broker.now (lines_of bytes) before after))
-      (sym (c.fault_stop.ensures ∙ ap (λ (n : ℕ). line_fault_stop c.in-Err.fault (n + 1)) c.lines-in-Err.ensures.lines))
-      (going_faults left now c.in-Err.fault c.args.broker.now c.lines.broker c.lines.lines.given before after rose
-        c.lines_law.ensures c.lines.invariant.given c.lines.invariant.within c.lines.invariant.going c.in-Err.ensures.cause)
+    (sym (c.fault_stop.ensures ∙ ap (λ (n : ℕ). line_fault_stop c.in-Err.fault (n + 1)) c.lines-in-Err.ensures.lines))
+    (going_faults left now c.in-Err.fault c.args.broker.now c.lines.broker c.lines.lines.given before after rose
+    c.lines_law.ensures c.lines.invariant.given c.lines.invariant.within c.lines.invariant.going c.in-Err.ensures.cause)
 
 pub returns-in-Err-serve_line-clause-cause : goal.returns-in-Err-serve_line-clause-cause
 returns-in-Err-serve_line-clause-cause g c =
@@ -42,7 +42,7 @@ returns-in-Err-serve_line-clause-cause g c =
     let rose = Rose (g.O.Sink.faults c.lines.output) (g.O.Sink.faults c.serve_line.new.output) in
     let takes : TakesLine now next c.as_slice.result.now = subst (TakesLine now next) (sym c.as_slice.ensures) (rw c.in-Ok-Some.field-0-is at c.in-Ok-Some.ensures.line) in
     going_stops left now next c.in-Err-serve_line.stop c.args.broker.now c.lines.broker c.as_slice.result.now before (g.O.Sink.written c.lines.output) (g.O.Sink.written c.serve_line.new.output) rose
-      c.lines_law.ensures c.lines.invariant.going takes c.in-Err-serve_line.ensures.cause
+    c.lines_law.ensures c.lines.invariant.going takes c.in-Err-serve_line.ensures.cause
 
 pub lines-preserved : goal.lines-preserved
 lines-preserved g c =
@@ -54,7 +54,7 @@ lines-preserved g c =
     let said = c.in-Ok.ensures.ok in
     record {
       going = going_line left now next c.args.broker.now c.lines.broker c.serve_line.new.self c.as_slice.result.now said.0 (g.O.Sink.written c.args.output.now) (g.O.Sink.written c.lines.output) (g.O.Sink.written c.serve_line.new.output)
-        c.lines_law.ensures c.lines.invariant.going takes said.1 said.2;
+          c.lines_law.ensures c.lines.invariant.going takes said.1 said.2;
       given = number.1 ∙ ap (λ (n : ℕ). n + 1) c.lines.invariant.given ∙ sym c.in-Ok.ensures.count;
       within = c.in-Ok.ensures.within;
       source_later = omega (arith, c.lines.invariant.source_later, c.in-Ok-Some.ensures.later);

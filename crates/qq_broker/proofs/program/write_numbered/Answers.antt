@@ -8,14 +8,14 @@ pub returns-in-Err-write_number-clause-front : goal.returns-in-Err-write_number-
 returns-in-Err-write_number-clause-front g c =
     let written = g.O.Sink.written in
     front-more (written c.args.output.now) (written c.write_number.new.output) (c.args.before.now ++ decimal c.args.number) c.args.after.now
-      (front-then (written c.args.output.now) (written c.write_str.new.output) (written c.write_number.new.output) c.args.before.now (decimal c.args.number)
-        c.in_default.ensures.ok c.in-Err-write_number.ensures.front)
+    (front-then (written c.args.output.now) (written c.write_str.new.output) (written c.write_number.new.output) c.args.before.now (decimal c.args.number)
+    c.in_default.ensures.ok c.in-Err-write_number.ensures.front)
 
 pub returns-clause-front : goal.returns-clause-front
 returns-clause-front g c =
     let written = g.O.Sink.written in
     on_err c.write_str-2.result
-      (λ h. front-then (written c.args.output.now) (written c.write_number.new.output) (written c.write_str-2.new.output) (c.args.before.now ++ decimal c.args.number) c.args.after.now
-        (Appends-trans (written c.args.output.now) (written c.write_str.new.output) (written c.write_number.new.output) c.args.before.now (decimal c.args.number)
-          c.in_default.ensures.ok c.in_default-write_number.ensures.ok) h)
-      c.write_str-2.ensures.front
+    (λ h. front-then (written c.args.output.now) (written c.write_number.new.output) (written c.write_str-2.new.output) (c.args.before.now ++ decimal c.args.number) c.args.after.now
+    (Appends-trans (written c.args.output.now) (written c.write_str.new.output) (written c.write_number.new.output) c.args.before.now (decimal c.args.number)
+    c.in_default.ensures.ok c.in_default-write_number.ensures.ok) h)
+    c.write_str-2.ensures.front
