@@ -4,13 +4,21 @@
 mod answer;
 mod audit;
 mod command;
+mod fields;
+mod limits;
 mod message;
 mod queue;
+mod reading;
 mod table;
 
 pub use answer::{Answer, Cause, Delivery, Full, Refusal};
 pub use audit::{AuditRow, Effect, Effects, Rows};
 pub use command::{Command, DeadDone, DeadDones, Entries, Entry, Mode, Stamp, Unstamped};
+pub use reading::decode;
+pub use limits::{
+    BODY_LIMIT, DEAD_DONE_LIMIT, DEATHS_LIMIT, IDS_LIMIT, KEY_LIMIT, LENGTH_LIMIT, TARGETS_LIMIT, TERM_LIMIT,
+    VERSION,
+};
 pub use message::{Content, Death, Deaths, Message, Origin, ReadyRow, Reason};
 pub use queue::{Members, Overflow, QueueArgs, Strategy};
 pub use table::{Standing, Table};
