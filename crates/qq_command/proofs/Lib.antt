@@ -1,1 +1,3 @@
 mod Loop
+mod Laws
+mod FieldLaws
