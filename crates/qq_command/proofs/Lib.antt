@@ -1,3 +1,6 @@
 mod Loop
 mod Laws
 mod FieldLaws
+mod CommandLaws
+mod Lengths
+mod EntryLaws

@@ -21,6 +21,8 @@ use Rattle.qq_command.specs.declared.command.DeadDone.{DeadDone}
 use Rattle.qq_command.specs.declared.command.Command.{Command}
 use Rattle.qq_command.specs.declared.command.Command.TheVariants.{Noop, Enqueue, Get, Subscribe, Cancel, Credit, Settle, Return, Discard, Purge, Down, DeadAttach, DeadSettle}
 use Rattle.qq_command.specs.declared.command.Entry.{Entry}
+use Rattle.qq_command.specs.Range.{IsWritable}
+use Rattle.qq_command.specs.Spelling.{spelling}
 
 infixl 10 ◌>>=◌
 abbrev pub ◌>>=◌ : {A B : Type 0} → Result A Refusal → (A → Result B Refusal) → Result B Refusal
@@ -290,3 +292,9 @@ entry_at bytes = if nat_lt (length bytes) 12 then Err Short else do
   if nat_lt LENGTH_LIMIT len.0 then Err TooLarge else if nat_lt (length len.1) len.0 then Err Short else do
     x ← inside_at (take len.0 len.1)
     Ok (record { term = record { 0 = term.0 }; time = x.0; command = x.1 }, 12 + len.0)
+
+-- what was read: an entry with its content in range, whose spelling is at the front and as long as said
+pub record IsAtFront (bytes : List ℕ) (x : Entry × ℕ) : Type 0 where
+  pub writable : IsWritable x.0
+  pub front : take x.1 bytes ≡ spelling x.0
+  pub len : x.1 ≡ length (spelling x.0)

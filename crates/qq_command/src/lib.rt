@@ -14,7 +14,7 @@ mod table;
 pub use answer::{Answer, Cause, Delivery, Full, Refusal};
 pub use audit::{AuditRow, Effect, Effects, Rows};
 pub use command::{Command, DeadDone, DeadDones, Entries, Entry, Mode, Stamp, Unstamped};
-pub use reading::decode;
+pub use reading::{decode, no_spelling_begins_another};
 pub use limits::{
     BODY_LIMIT, DEAD_DONE_LIMIT, DEATHS_LIMIT, IDS_LIMIT, KEY_LIMIT, LENGTH_LIMIT, TARGETS_LIMIT, TERM_LIMIT,
     VERSION,

@@ -1,6 +1,10 @@
 //! Reading an entry from the front of bytes.
-ghost use Rattle.std.specs.Prelude.{◌≡◌, List, ℕ, length};
-ghost use Rattle.qq_command.specs.Reading.{Gives, noop_at, enqueue_at, get_at, subscribe_at, cancel_at, credit_at, settle_at, return_at, discard_at, purge_at, down_at, dead_attach_at, dead_settle_at, fields_at, inside_at, entry_at};
+ghost use Rattle.std.specs.Prelude.{◌≡◌, ◌++◌, List, ℕ, length, IfOk, Ok, Err};
+ghost use Rattle.qq_base.specs.declared.memory.Memory.{Memory};
+ghost use Rattle.qq_command.specs.declared.command.Entry.{Entry};
+ghost use Rattle.qq_command.specs.Range.{IsWritable};
+ghost use Rattle.qq_command.specs.Spelling.{spelling};
+ghost use Rattle.qq_command.specs.Reading.{Gives, IsAtFront, noop_at, enqueue_at, get_at, subscribe_at, cancel_at, credit_at, settle_at, return_at, discard_at, purge_at, down_at, dead_attach_at, dead_settle_at, fields_at, inside_at, entry_at};
 
 use crate::answer::Refusal;
 use crate::command::{Command, Entry};
@@ -218,8 +222,28 @@ fn entry_at(alloc: Global, bytes: &[u8]) -> Result<(Entry, usize), Refusal>
     Ok((entry, HEAD_LEN + length))
 }
 
+/// The entry at the front of the bytes, and how many bytes it takes. What follows it isn't looked at.
+///
+/// It is refused field by field from the front, with the first that applies. `Short` is for bytes that
+/// end before the term and the length, or before as many bytes as the length says. `TooLarge` is for a
+/// length above `LENGTH_LIMIT`, a body above `BODY_LIMIT`, more ids than `IDS_LIMIT` and more deaths than
+/// `DEATHS_LIMIT`. `BadKind` is for a kind above 12. `BadField` is for a value out of its range, for a
+/// field that passes the length's end, and for bytes that are left before that end. The only cause of
+/// `Memory` is want of memory.
 pub fn decode(alloc: Global, bytes: &[u8]) -> Result<(Entry, usize), Refusal>
+    // What is read is in range and has its content, and its spelling is what stands at the front.
+    ensures found { IfOk result (λ x. IsAtFront bytes.now x) }
+    // An entry in range whose spelling stands at the front is read, whatever follows it.
+    ensures only { (e : Entry) (rest : List ℕ) → IsWritable e → bytes.now ≡ spelling e ++ rest → Gives (λ x. x) result (Ok (e, length (spelling e))) }
+    // Which refusal it is.
     ensures exact { Gives (λ x. x) result (entry_at bytes.now) }
+    ensures want { (m : Memory) → result ≡ Err (Refusal.Memory m) → m ≡ Memory.Want }
 {
     entry_at(alloc, bytes)
+}
+
+/// A law: no entry's spelling begins another's, so what was written is read again whatever follows it.
+pub fn no_spelling_begins_another()
+    ensures { (a b : Entry) (x y : List ℕ) → IsWritable a → IsWritable b → spelling a ++ x ≡ spelling b ++ y → (a ≡ b) × (x ≡ y) }
+{
 }
