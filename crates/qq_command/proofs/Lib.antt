@@ -4,3 +4,4 @@ mod FieldLaws
 mod CommandLaws
 mod Lengths
 mod EntryLaws
+mod Appends

@@ -1,5 +1,5 @@
 -- The one spelling of each entry. Numbers have their high byte first.
-use Rattle.std.specs.Prelude.{ℕ, Bool, true, false, List, [], ◌∷◌, ◌++◌, length, Option, Some, None}
+use Rattle.std.specs.Prelude.{◌≡◌, ℕ, Bool, true, false, List, [], ◌∷◌, ◌++◌, length, Option, Some, None}
 use Rattle.std.specs.List.{flat_map}
 use Rattle.std.specs.Int.{w8, w16, w32, w64, to_be_bytes}
 use Rattle.qq_base.specs.declared.ids.QueueId.{QueueId}
@@ -124,3 +124,8 @@ inside e = u64 e.time ++ u8 (kind e.command) ++ fields e.command
 
 unfoldable pub spelling : Entry → List ℕ
 spelling e = u64 e.term.0 ++ u32 (length (inside e)) ++ inside e
+
+-- new is old with more at its end
+pub record Begins (old new : List ℕ) : Type 0 where
+  pub more : List ℕ
+  pub is : new ≡ old ++ more

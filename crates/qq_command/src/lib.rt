@@ -7,6 +7,7 @@ mod command;
 mod fields;
 mod limits;
 mod message;
+mod put;
 mod queue;
 mod reading;
 mod table;
