@@ -11,6 +11,7 @@ mod put;
 mod queue;
 mod reading;
 mod table;
+mod writing;
 
 pub use answer::{Answer, Cause, Delivery, Full, Refusal};
 pub use audit::{AuditRow, Effect, Effects, Rows};
@@ -23,6 +24,7 @@ pub use limits::{
 pub use message::{Content, Death, Deaths, Message, Origin, ReadyRow, Reason};
 pub use queue::{Members, Overflow, QueueArgs, Strategy};
 pub use table::{Standing, Table};
+pub use writing::{encode, put_entry};
 
 #[cfg(test)]
 mod tests;
