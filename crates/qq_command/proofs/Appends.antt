@@ -12,6 +12,8 @@ begins_appended old a new e = record { more = a; is = e }
 pub begins_after : (old a mid new : List ℕ) → mid ≡ old ++ a → Begins mid new → Begins old new
 begins_after old a mid new e b = record { more = a ++ b.more; is = b.is ∙ ap (λ (t : List ℕ). t ++ b.more) e ∙ append_assoc old a b.more }
 
+pub ruleset begins = (begins_same, begins_appended, begins_after)
+
 pub length_between : (old more new : List ℕ) → new ≡ old ++ more → length new - length old ≡ length more
 length_between old more new e = omega (arith, ap length e, length-append old more)
 

@@ -46,13 +46,13 @@ verdict-reads : Reads verdict_at (λ x. consumer x.0 x.1 ++ ids x.2) (λ x. IsOf
 unfolding verdict_at
 verdict-reads = record {
   takes = λ bytes fits.
-    then_ok (consumer_at bytes) _ (consumer-reads.takes bytes fits) (λ x p.
-    then_ok (ids_at x.1) _ (ids-reads.takes x.1 p.0.rest_fits) (λ ns q.
-    here _ (Takes-then p.0 q.0, (p.1, q.1))));
+      then_ok (consumer_at bytes) _ (consumer-reads.takes bytes fits) (λ x p.
+      then_ok (ids_at x.1) _ (ids-reads.takes x.1 p.0.rest_fits) (λ ns q.
+      here _ (Takes-then p.0 q.0, (p.1, q.1))));
   again = λ x bytes rest e f.
-    let split : bytes ≡ consumer x.0 x.1 ++ (ids x.2 ++ rest) = e ∙ append_assoc (consumer x.0 x.1) (ids x.2) rest in
-    in_turn _ (consumer_at bytes) _ (consumer-reads.again (x.0, x.1) bytes _ split f.0)
-    (in_turn _ (ids_at _) _ (ids-reads.again x.2 _ rest refl f.1) refl);
+      let split : bytes ≡ consumer x.0 x.1 ++ (ids x.2 ++ rest) = e ∙ append_assoc (consumer x.0 x.1) (ids x.2) rest in
+      in_turn _ (consumer_at bytes) _ (consumer-reads.again (x.0, x.1) bytes _ split f.0)
+      (in_turn _ (ids_at _) _ (ids-reads.again x.2 _ rest refl f.1) refl);
 }
 
 noop_takes : (bytes : List ℕ) → AreBytes bytes → Holds (noop_at bytes) (Brings 0 bytes)
@@ -125,9 +125,9 @@ dead_settle_takes bytes fits =
 -- one step of the choice by kind
 of_kind : (n k : ℕ) (bytes : List ℕ) (read others : Field Command) → Holds read (Brings k bytes) → Holds others (Brings n bytes) → Holds (cond (eqb n k) read others) (Brings n bytes)
 of_kind n k bytes read others p q = elim (both_ways (eqb n k)) [
-    | inl is ↦ rw is (subst (λ (j : ℕ). Holds read (Brings j bytes)) (sym (eqb-true n k is)) p)
-    | inr is ↦ rw is q
-  ]
+  | inl is ↦ rw is (subst (λ (j : ℕ). Holds read (Brings j bytes)) (sym (eqb-true n k is)) p)
+  | inr is ↦ rw is q
+]
   where
     both_ways : (b : Bool) → (b ≡ true) ⊎ (b ≡ false)
     both_ways true = inl refl

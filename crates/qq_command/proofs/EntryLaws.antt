@@ -117,6 +117,10 @@ pub is_found : (bytes : List ℕ) (r : Result (Entry × ℕ) Refusal) → AreByt
 is_found bytes (Ok x) fits given = known (entry_at bytes) x (entry_takes bytes fits) given
 is_found bytes (Err e) fits given = tt
 
+pub is_within : (bytes : List ℕ) (r : Result (Entry × ℕ) Refusal) → IfOk r (λ x. IsAtFront bytes x) → IfOk r (λ x. x.1 ≤ length bytes)
+is_within bytes (Ok x) found = omega (arith, ap length found.front, found.len, length-take x.1 bytes)
+is_within bytes (Err e) found = tt
+
 pub same_entry : (a b : Entry) (x y : List ℕ) → IsWritable a → IsWritable b → spelling a ++ x ≡ spelling b ++ y → (a ≡ b) × (x ≡ y)
 same_entry a b x y f g e =
     let first : entry_at (spelling a ++ x) ≡ Ok (a, length (spelling a)) = entry_again a (spelling a ++ x) x refl f in

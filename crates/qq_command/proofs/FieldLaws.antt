@@ -35,15 +35,15 @@ session_parts : Reads (λ bytes. number_at w8 bytes >>= λ class. number_at w32 
 unfolding session
 session_parts = record {
   takes = λ bytes fits.
-    then_ok (number_at w8 bytes) _ (u8-reads.takes bytes fits) (λ class p.
-    then_ok (number_at w32 class.1) _ (u32-reads.takes class.1 p.0.rest_fits) (λ owner q.
-    then_ok (positive_at w64 owner.1) _ (positive64-reads.takes owner.1 q.0.rest_fits) (λ number r.
-    here _ (Takes-then (Takes-then p.0 q.0) r.0, (p.1, q.1, r.1)))));
+      then_ok (number_at w8 bytes) _ (u8-reads.takes bytes fits) (λ class p.
+      then_ok (number_at w32 class.1) _ (u32-reads.takes class.1 p.0.rest_fits) (λ owner q.
+      then_ok (positive_at w64 owner.1) _ (positive64-reads.takes owner.1 q.0.rest_fits) (λ number r.
+      here _ (Takes-then (Takes-then p.0 q.0) r.0, (p.1, q.1, r.1)))));
   again = λ s bytes rest e f.
-    let split : bytes ≡ u8 s.class ++ (u32 s.owner ++ (u64 s.number ++ rest)) = e in
-    in_turn _ (number_at w8 bytes) _ (u8-reads.again s.class bytes _ split f.0)
-    (in_turn _ (number_at w32 _) _ (u32-reads.again s.owner _ _ refl f.1)
-    (in_turn _ (positive_at w64 _) _ (positive64-reads.again s.number _ rest refl f.2) refl));
+      let split : bytes ≡ u8 s.class ++ (u32 s.owner ++ (u64 s.number ++ rest)) = e in
+      in_turn _ (number_at w8 bytes) _ (u8-reads.again s.class bytes _ split f.0)
+      (in_turn _ (number_at w32 _) _ (u32-reads.again s.owner _ _ refl f.1)
+      (in_turn _ (positive_at w64 _) _ (positive64-reads.again s.number _ rest refl f.2) refl));
 }
 
 is_session : (s : SessionId) → ((s.class < 2 ^ 8) × (s.owner < 2 ^ 32) × IsPositive 64 s.number) × (has_owner s ≡ true) → IsSession s
@@ -62,15 +62,15 @@ stamp_parts : Reads (λ bytes. session_at bytes >>= λ x. number_at w64 x.1 >>= 
 unfolding stamp
 stamp_parts = record {
   takes = λ bytes fits.
-    then_ok (session_at bytes) _ (session-reads.takes bytes fits) (λ x p.
-    then_ok (number_at w64 x.1) _ (u64-reads.takes x.1 p.0.rest_fits) (λ seq q.
-    then_ok (number_at w64 seq.1) _ (u64-reads.takes seq.1 q.0.rest_fits) (λ done r.
-    here _ (Takes-then (Takes-then p.0 q.0) r.0, (p.1, q.1, r.1)))));
+      then_ok (session_at bytes) _ (session-reads.takes bytes fits) (λ x p.
+      then_ok (number_at w64 x.1) _ (u64-reads.takes x.1 p.0.rest_fits) (λ seq q.
+      then_ok (number_at w64 seq.1) _ (u64-reads.takes seq.1 q.0.rest_fits) (λ done r.
+      here _ (Takes-then (Takes-then p.0 q.0) r.0, (p.1, q.1, r.1)))));
   again = λ s bytes rest e f.
-    let split : bytes ≡ session s.session ++ (u64 s.seq ++ (u64 s.done ++ rest)) = e ∙ simp append_assoc in
-    in_turn _ (session_at bytes) _ (session-reads.again s.session bytes _ split f.0)
-    (in_turn _ (number_at w64 _) _ (u64-reads.again s.seq _ _ refl f.1)
-    (in_turn _ (number_at w64 _) _ (u64-reads.again s.done _ rest refl f.2) refl));
+      let split : bytes ≡ session s.session ++ (u64 s.seq ++ (u64 s.done ++ rest)) = e ∙ simp append_assoc in
+      in_turn _ (session_at bytes) _ (session-reads.again s.session bytes _ split f.0)
+      (in_turn _ (number_at w64 _) _ (u64-reads.again s.seq _ _ refl f.1)
+      (in_turn _ (number_at w64 _) _ (u64-reads.again s.done _ rest refl f.2) refl));
 }
 
 is_stamp : (s : Stamp) → (IsSession s.session × (s.seq < 2 ^ 64) × (s.done < 2 ^ 64)) × (has_seq s ≡ true) → IsStamp s
@@ -114,7 +114,7 @@ pub flag-reads : Reads flag_at flag (λ b. Unit {0})
 unfolding flag_at
 flag-reads = record {
   takes = λ bytes fits. then_ok (checked (λ n. nat_lt n 2) (number_at w8 bytes)) _ ((checked-reads (λ n. nat_lt n 2) u8-reads).takes bytes fits) (λ n p.
-    here _ (subst (λ (t : List ℕ). Takes bytes t n.1) (flag_is n.0 (ltb-true _ _ p.1.1)) p.0, tt));
+      here _ (subst (λ (t : List ℕ). Takes bytes t n.1) (flag_is n.0 (ltb-true _ _ p.1.1)) p.0, tt));
   again = λ b bytes rest e f. flag_again b bytes rest e;
 }
 
@@ -149,29 +149,29 @@ pub body-reads : Reads body_at body (λ b. length b ≤ BODY_LIMIT)
 unfolding body_at body
 body-reads = record {
   takes = λ bytes fits.
-    then_ok (number_at w32 bytes) _ (u32-reads.takes bytes fits) (λ n p.
-    where_false (ltb BODY_LIMIT n.0) _ TooLarge (λ small.
-    Holds-map (bytes_at n.0 n.1) (bytes-takes n.0 n.1 p.0.rest_fits) (λ x q.
-    (Takes-then (subst (λ (k : ℕ). Takes bytes (u32 k) n.1) (sym q.1) p.0) q.0, rw q.1 (ltb-false _ _ small)))));
+      then_ok (number_at w32 bytes) _ (u32-reads.takes bytes fits) (λ n p.
+      where_false (ltb BODY_LIMIT n.0) _ TooLarge (λ small.
+      Holds-map (bytes_at n.0 n.1) (bytes-takes n.0 n.1 p.0.rest_fits) (λ x q.
+      (Takes-then (subst (λ (k : ℕ). Takes bytes (u32 k) n.1) (sym q.1) p.0) q.0, rw q.1 (ltb-false _ _ small)))));
   again = λ b bytes rest e f.
-    let split : bytes ≡ u32 (length b) ++ (b ++ rest) = e in
-    in_turn _ (number_at w32 bytes) _ (u32-reads.again (length b) bytes _ split (omega arith))
-    (rw (le-ltb BODY_LIMIT (length b) f) (bytes-again (length b) b _ rest refl refl));
+      let split : bytes ≡ u32 (length b) ++ (b ++ rest) = e in
+      in_turn _ (number_at w32 bytes) _ (u32-reads.again (length b) bytes _ split (omega arith))
+      (rw (le-ltb BODY_LIMIT (length b) f) (bytes-again (length b) b _ rest refl refl));
 }
 
 pub key-reads : Reads key_at key (λ k. (length k ≤ KEY_LIMIT) × IsUtf8 k)
 unfolding key_at key checked
 key-reads = record {
   takes = λ bytes fits.
-    then_ok (number_at w8 bytes) _ (u8-reads.takes bytes fits) (λ n p.
-    then_ok (bytes_at n.0 n.1) _ (bytes-takes n.0 n.1 p.0.rest_fits) (λ x q.
-    where_true (is_utf8 x.0) (Ok x) BadField (λ t.
-    here x (Takes-then (subst (λ (k : ℕ). Takes bytes (u8 k) n.1) (sym q.1) p.0) q.0, (let len = q.1 in omega (arith, p.1), IsUtf8-from_is_utf8 x.0 t)))));
+      then_ok (number_at w8 bytes) _ (u8-reads.takes bytes fits) (λ n p.
+      then_ok (bytes_at n.0 n.1) _ (bytes-takes n.0 n.1 p.0.rest_fits) (λ x q.
+      where_true (is_utf8 x.0) (Ok x) BadField (λ t.
+      here x (Takes-then (subst (λ (k : ℕ). Takes bytes (u8 k) n.1) (sym q.1) p.0) q.0, (let len = q.1 in omega (arith, p.1), IsUtf8-from_is_utf8 x.0 t)))));
   again = λ k bytes rest e f.
-    let split : bytes ≡ u8 (length k) ++ (k ++ rest) = e in
-    in_turn _ (number_at w8 bytes) _ (u8-reads.again (length k) bytes _ split (omega (arith, f.0)))
-    (in_turn _ (bytes_at (length k) _) _ (bytes-again (length k) k _ rest refl refl)
-    (rw (is_utf8-from_IsUtf8 k f.1) refl));
+      let split : bytes ≡ u8 (length k) ++ (k ++ rest) = e in
+      in_turn _ (number_at w8 bytes) _ (u8-reads.again (length k) bytes _ split (omega (arith, f.0)))
+      (in_turn _ (bytes_at (length k) _) _ (bytes-again (length k) k _ rest refl refl)
+      (rw (is_utf8-from_IsUtf8 k f.1) refl));
 }
 
 -- ---- deaths
@@ -203,29 +203,29 @@ death-reads : Reads death_at death IsDeath
 unfolding death_at death
 death-reads = record {
   takes = λ bytes fits.
-    then_ok (queue_at bytes) _ (queue-reads.takes bytes fits) (λ q p.
-    then_ok (number_at w8 q.1) _ (u8-reads.takes q.1 p.0.rest_fits) (λ n r.
-    then_ok (required (reason_of n.0)) _ (reason_known n.0) (λ reason is.
-    here _ (Takes-then p.0 (subst (λ (k : ℕ). Takes q.1 (u8 k) n.1) is r.0), p.1))));
+      then_ok (queue_at bytes) _ (queue-reads.takes bytes fits) (λ q p.
+      then_ok (number_at w8 q.1) _ (u8-reads.takes q.1 p.0.rest_fits) (λ n r.
+      then_ok (required (reason_of n.0)) _ (reason_known n.0) (λ reason is.
+      here _ (Takes-then p.0 (subst (λ (k : ℕ). Takes q.1 (u8 k) n.1) is r.0), p.1))));
   again = λ d bytes rest e f.
-    let split : bytes ≡ queue d.queue ++ (u8 (reason_number d.reason) ++ rest) = e in
-    in_turn _ (queue_at bytes) _ (queue-reads.again d.queue bytes _ split f)
-    (in_turn _ (number_at w8 _) _ (u8-reads.again (reason_number d.reason) _ rest refl (reason_fits d.reason))
-    (in_turn _ (required (reason_of (reason_number d.reason))) d.reason (reason_again d.reason) refl));
+      let split : bytes ≡ queue d.queue ++ (u8 (reason_number d.reason) ++ rest) = e in
+      in_turn _ (queue_at bytes) _ (queue-reads.again d.queue bytes _ split f)
+      (in_turn _ (number_at w8 _) _ (u8-reads.again (reason_number d.reason) _ rest refl (reason_fits d.reason))
+      (in_turn _ (required (reason_of (reason_number d.reason))) d.reason (reason_again d.reason) refl));
 }
 
 deaths-reads : Reads deaths_at deaths (λ ds. (length ds ≤ DEATHS_LIMIT) × All IsDeath ds)
 unfolding deaths_at deaths
 deaths-reads = record {
   takes = λ bytes fits.
-    then_ok (number_at w16 bytes) _ (u16-reads.takes bytes fits) (λ n p.
-    where_false (ltb DEATHS_LIMIT n.0) _ TooLarge (λ small.
-    Holds-map (many death_at n.0 n.1) (many-takes death-reads n.0 n.1 p.0.rest_fits) (λ x q.
-    (Takes-then (subst (λ (k : ℕ). Takes bytes (u16 k) n.1) (sym q.1) p.0) q.0, (rw q.1 (ltb-false _ _ small), All-from_recursion IsDeath x.0 q.2)))));
+      then_ok (number_at w16 bytes) _ (u16-reads.takes bytes fits) (λ n p.
+      where_false (ltb DEATHS_LIMIT n.0) _ TooLarge (λ small.
+      Holds-map (many death_at n.0 n.1) (many-takes death-reads n.0 n.1 p.0.rest_fits) (λ x q.
+      (Takes-then (subst (λ (k : ℕ). Takes bytes (u16 k) n.1) (sym q.1) p.0) q.0, (rw q.1 (ltb-false _ _ small), All-from_recursion IsDeath x.0 q.2)))));
   again = λ ds bytes rest e f.
-    let split : bytes ≡ u16 (length ds) ++ (flat_map death ds ++ rest) = e in
-    in_turn _ (number_at w16 bytes) _ (u16-reads.again (length ds) bytes _ split (omega (arith, f.0)))
-    (rw (le-ltb DEATHS_LIMIT (length ds) f.0) (many-again death-reads ds _ rest refl (recursion_from_All IsDeath ds f.1)));
+      let split : bytes ≡ u16 (length ds) ++ (flat_map death ds ++ rest) = e in
+      in_turn _ (number_at w16 bytes) _ (u16-reads.again (length ds) bytes _ split (omega (arith, f.0)))
+      (rw (le-ltb DEATHS_LIMIT (length ds) f.0) (many-again death-reads ds _ rest refl (recursion_from_All IsDeath ds f.1)));
 }
 
 -- ---- messages
@@ -248,10 +248,10 @@ pub message-reads : Reads message_at (λ m. content m.content) IsMessage
 unfolding message_at content
 message-reads = record {
   takes = λ bytes fits.
-    then_ok (body_at bytes) _ (body-reads.takes bytes fits) (λ b p.
-    then_ok (key_at b.1) _ (key-reads.takes b.1 p.0.rest_fits) (λ k q.
-    then_ok (deaths_at k.1) _ (deaths-reads.takes k.1 q.0.rest_fits) (λ ds r.
-    here _ (Takes-then (Takes-then p.0 q.0) r.0, (record { body = p.1; key = q.1.0; text = q.1.1; deaths = r.1.0; each = r.1.1 }, refl)))));
+      then_ok (body_at bytes) _ (body-reads.takes bytes fits) (λ b p.
+      then_ok (key_at b.1) _ (key-reads.takes b.1 p.0.rest_fits) (λ k q.
+      then_ok (deaths_at k.1) _ (deaths-reads.takes k.1 q.0.rest_fits) (λ ds r.
+      here _ (Takes-then (Takes-then p.0 q.0) r.0, (record { body = p.1; key = q.1.0; text = q.1.1; deaths = r.1.0; each = r.1.1 }, refl)))));
   again = λ m bytes rest e f. message_again m.size m.content bytes rest e f;
 }
 
@@ -290,19 +290,20 @@ pub ids-reads : Reads ids_at ids AreIds
 unfolding ids_at ids
 ids-reads = record {
   takes = λ bytes fits.
-    then_ok (number_at w32 bytes) _ (u32-reads.takes bytes fits) (λ n p.
-    where_false (ltb IDS_LIMIT n.0) _ TooLarge (λ small.
-    where_false (eqb n.0 0) _ BadField (λ some.
-    Holds-map (many (positive_at w64) n.0 n.1) (many-takes positive64-reads n.0 n.1 p.0.rest_fits) (λ x q.
-    (Takes-then (subst (λ (k : ℕ). Takes bytes (u32 k) n.1) (sym q.1) p.0) q.0, (rw q.1 (positive_from n.0 some), rw q.1 (ltb-false _ _ small), All-from_recursion (IsPositive 64) x.0 q.2))))));
+      then_ok (number_at w32 bytes) _ (u32-reads.takes bytes fits) (λ n p.
+      where_false (ltb IDS_LIMIT n.0) _ TooLarge (λ small.
+      where_false (eqb n.0 0) _ BadField (λ some.
+      Holds-map (many (positive_at w64) n.0 n.1) (many-takes positive64-reads n.0 n.1 p.0.rest_fits) (λ x q.
+      (Takes-then (subst (λ (k : ℕ). Takes bytes (u32 k) n.1) (sym q.1) p.0) q.0, (rw q.1 (positive_from n.0 some), rw q.1 (ltb-false _ _ small), All-from_recursion (IsPositive 64) x.0 q.2))))));
   again = λ ns bytes rest e f.
-    let split : bytes ≡ u32 (length ns) ++ (flat_map u64 ns ++ rest) = e in
-    in_turn _ (number_at w32 bytes) _ (u32-reads.again (length ns) bytes _ split (omega (arith, f.1)))
-    (rw (le-ltb IDS_LIMIT (length ns) f.1, not_none (length ns) f.0) (many-again positive64-reads ns _ rest refl (recursion_from_All (IsPositive 64) ns f.2)));
+      let split : bytes ≡ u32 (length ns) ++ (flat_map u64 ns ++ rest) = e in
+      in_turn _ (number_at w32 bytes) _ (u32-reads.again (length ns) bytes _ split (omega (arith, f.1)))
+      (rw (le-ltb IDS_LIMIT (length ns) f.1, not_none (length ns) f.0) (many-again positive64-reads ns _ rest refl (recursion_from_All (IsPositive 64) ns f.2)));
 }
   where
     positive_from : (n : ℕ) → eqb n 0 ≡ false → 0 < n
     positive_from n e = grind (arith, nat_tests)
+
     not_none : (n : ℕ) → 0 < n → eqb n 0 ≡ false
     not_none n lt = grind (arith, nat_tests)
 
@@ -315,15 +316,15 @@ dead_done-reads : Reads dead_done_at dead_done IsDeadDone
 unfolding dead_done_at dead_done
 dead_done-reads = record {
   takes = λ bytes fits.
-    then_ok (positive_at w64 bytes) _ (positive64-reads.takes bytes fits) (λ d p.
-    then_ok (checked (λ n. leb n TARGETS_LIMIT) (number_at w16 d.1)) _ (few_targets.takes d.1 p.0.rest_fits) (λ n q.
-    then_ok (many queue_at n.0 n.1) _ (many-takes queue-reads n.0 n.1 q.0.rest_fits) (λ x r.
-    here _ (Takes-then (Takes-then p.0 (subst (λ (k : ℕ). Takes d.1 (u16 k) n.1) (sym r.1) q.0)) r.0, record { number = p.1; targets = rw r.1 q.1; each = All-from_recursion IsQueue x.0 r.2 }))));
+      then_ok (positive_at w64 bytes) _ (positive64-reads.takes bytes fits) (λ d p.
+      then_ok (checked (λ n. leb n TARGETS_LIMIT) (number_at w16 d.1)) _ (few_targets.takes d.1 p.0.rest_fits) (λ n q.
+      then_ok (many queue_at n.0 n.1) _ (many-takes queue-reads n.0 n.1 q.0.rest_fits) (λ x r.
+      here _ (Takes-then (Takes-then p.0 (subst (λ (k : ℕ). Takes d.1 (u16 k) n.1) (sym r.1) q.0)) r.0, record { number = p.1; targets = rw r.1 q.1; each = All-from_recursion IsQueue x.0 r.2 }))));
   again = λ d bytes rest e f.
-    let split : bytes ≡ u64 d.number ++ (u16 (length d.targets) ++ (flat_map queue d.targets ++ rest)) = e in
-    in_turn _ (positive_at w64 bytes) _ (positive64-reads.again d.number bytes _ split f.number)
-    (in_turn _ (checked (λ n. leb n TARGETS_LIMIT) (number_at w16 _)) _ (few_targets.again (length d.targets) _ _ refl f.targets)
-    (in_turn _ (many queue_at (length d.targets) _) _ (many-again queue-reads d.targets _ rest refl (recursion_from_All IsQueue d.targets f.each)) refl));
+      let split : bytes ≡ u64 d.number ++ (u16 (length d.targets) ++ (flat_map queue d.targets ++ rest)) = e in
+      in_turn _ (positive_at w64 bytes) _ (positive64-reads.again d.number bytes _ split f.number)
+      (in_turn _ (checked (λ n. leb n TARGETS_LIMIT) (number_at w16 _)) _ (few_targets.again (length d.targets) _ _ refl f.targets)
+      (in_turn _ (many queue_at (length d.targets) _) _ (many-again queue-reads d.targets _ rest refl (recursion_from_All IsQueue d.targets f.each)) refl));
 }
 
 some_dones : Reads (λ bytes. checked (λ n. ltb 0 n && leb n DEAD_DONE_LIMIT) (number_at w16 bytes)) u16 (λ n. (0 < n) × (n ≤ DEAD_DONE_LIMIT))
@@ -333,13 +334,13 @@ pub dead_dones-reads : Reads dead_dones_at dead_dones AreDeadDones
 unfolding dead_dones_at dead_dones
 dead_dones-reads = record {
   takes = λ bytes fits.
-    then_ok (checked (λ n. ltb 0 n && leb n DEAD_DONE_LIMIT) (number_at w16 bytes)) _ (some_dones.takes bytes fits) (λ n p.
-    Holds-map (many dead_done_at n.0 n.1) (many-takes dead_done-reads n.0 n.1 p.0.rest_fits) (λ x q.
-    (Takes-then (subst (λ (k : ℕ). Takes bytes (u16 k) n.1) (sym q.1) p.0) q.0, (rw q.1 p.1.0, rw q.1 p.1.1, All-from_recursion IsDeadDone x.0 q.2))));
+      then_ok (checked (λ n. ltb 0 n && leb n DEAD_DONE_LIMIT) (number_at w16 bytes)) _ (some_dones.takes bytes fits) (λ n p.
+      Holds-map (many dead_done_at n.0 n.1) (many-takes dead_done-reads n.0 n.1 p.0.rest_fits) (λ x q.
+      (Takes-then (subst (λ (k : ℕ). Takes bytes (u16 k) n.1) (sym q.1) p.0) q.0, (rw q.1 p.1.0, rw q.1 p.1.1, All-from_recursion IsDeadDone x.0 q.2))));
   again = λ ds bytes rest e f.
-    let split : bytes ≡ u16 (length ds) ++ (flat_map dead_done ds ++ rest) = e in
-    in_turn _ (checked (λ n. ltb 0 n && leb n DEAD_DONE_LIMIT) (number_at w16 bytes)) _ (some_dones.again (length ds) bytes _ split (f.0, f.1))
-    (many-again dead_done-reads ds _ rest refl (recursion_from_All IsDeadDone ds f.2));
+      let split : bytes ≡ u16 (length ds) ++ (flat_map dead_done ds ++ rest) = e in
+      in_turn _ (checked (λ n. ltb 0 n && leb n DEAD_DONE_LIMIT) (number_at w16 bytes)) _ (some_dones.again (length ds) bytes _ split (f.0, f.1))
+      (many-again dead_done-reads ds _ rest refl (recursion_from_All IsDeadDone ds f.2));
 }
 
 -- ---- a stamp and a tag
@@ -348,11 +349,11 @@ pub consumer-reads : Reads consumer_at (λ x. consumer x.0 x.1) (λ x. IsOfConsu
 unfolding consumer_at consumer
 consumer-reads = record {
   takes = λ bytes fits.
-    then_ok (counted_at bytes) _ (counted-reads.takes bytes fits) (λ s p.
-    then_ok (positive_at w32 s.1) _ (positive32-reads.takes s.1 p.0.rest_fits) (λ tag q.
-    here _ (Takes-then p.0 q.0, (p.1, q.1))));
+      then_ok (counted_at bytes) _ (counted-reads.takes bytes fits) (λ s p.
+      then_ok (positive_at w32 s.1) _ (positive32-reads.takes s.1 p.0.rest_fits) (λ tag q.
+      here _ (Takes-then p.0 q.0, (p.1, q.1))));
   again = λ x bytes rest e f.
-    let split : bytes ≡ stamp x.0 ++ (u32 x.1 ++ rest) = e ∙ append_assoc (stamp x.0) (u32 x.1) rest in
-    in_turn _ (counted_at bytes) _ (counted-reads.again x.0 bytes _ split f.0)
-    (in_turn _ (positive_at w32 _) _ (positive32-reads.again x.1 _ rest refl f.1) refl);
+      let split : bytes ≡ stamp x.0 ++ (u32 x.1 ++ rest) = e ∙ append_assoc (stamp x.0) (u32 x.1) rest in
+      in_turn _ (counted_at bytes) _ (counted-reads.again x.0 bytes _ split f.0)
+      (in_turn _ (positive_at w32 _) _ (positive32-reads.again x.1 _ rest refl f.1) refl);
 }

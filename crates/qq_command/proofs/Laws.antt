@@ -99,13 +99,13 @@ number-reads : (w : Width) (limit : ℕ) → IsWide w limit → Reads (number_at
 unfolding number_at
 number-reads w limit wide = record {
   takes = λ bytes fits. where_false (ltb (length bytes) (byte_len w)) (Ok (from_be_bytes w (take (byte_len w) bytes), drop (byte_len w) bytes)) BadField (λ f.
-    let long : byte_len w ≤ length bytes = ltb-false _ _ f in
-    let front : to_be_bytes w (from_be_bytes w (take (byte_len w) bytes)) ≡ take (byte_len w) bytes = wide.back (take (byte_len w) bytes) (omega (arith, length-take (byte_len w) bytes)) (AreBytes-take (byte_len w) bytes fits) in
-    here (from_be_bytes w (take (byte_len w) bytes), drop (byte_len w) bytes) (record { parts = sym (take-append-drop (byte_len w) bytes) ∙ ap (λ (t : List ℕ). t ++ drop (byte_len w) bytes) (sym front); rest_fits = AreBytes-drop (byte_len w) bytes fits }, wide.below (take (byte_len w) bytes) (AreBytes-take (byte_len w) bytes fits)));
+      let long : byte_len w ≤ length bytes = ltb-false _ _ f in
+      let front : to_be_bytes w (from_be_bytes w (take (byte_len w) bytes)) ≡ take (byte_len w) bytes = wide.back (take (byte_len w) bytes) (omega (arith, length-take (byte_len w) bytes)) (AreBytes-take (byte_len w) bytes fits) in
+      here (from_be_bytes w (take (byte_len w) bytes), drop (byte_len w) bytes) (record { parts = sym (take-append-drop (byte_len w) bytes) ∙ ap (λ (t : List ℕ). t ++ drop (byte_len w) bytes) (sym front); rest_fits = AreBytes-drop (byte_len w) bytes fits }, wide.below (take (byte_len w) bytes) (AreBytes-take (byte_len w) bytes fits)));
   again = λ n bytes rest e lt.
-    let len : length (to_be_bytes w n) ≡ byte_len w = wide.len n in
-    let long : ltb (length (to_be_bytes w n ++ rest)) (byte_len w) ≡ false = le-ltb _ _ (omega (arith, length-append (to_be_bytes w n) rest)) in
-    rw e (rw (long, take_at (to_be_bytes w n) rest (byte_len w) len, drop_at (to_be_bytes w n) rest (byte_len w) len, wide.again n lt) refl);
+      let len : length (to_be_bytes w n) ≡ byte_len w = wide.len n in
+      let long : ltb (length (to_be_bytes w n ++ rest)) (byte_len w) ≡ false = le-ltb _ _ (omega (arith, length-append (to_be_bytes w n) rest)) in
+      rw e (rw (long, take_at (to_be_bytes w n) rest (byte_len w) len, drop_at (to_be_bytes w n) rest (byte_len w) len, wide.again n lt) refl);
 }
 
 one_byte : (bytes : List ℕ) → length bytes ≡ 1 → AreBytes bytes → to_be_bytes w8 (from_be_bytes w8 bytes) ≡ bytes

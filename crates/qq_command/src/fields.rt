@@ -16,7 +16,7 @@ use std::alloc::{AllocError, AllocFailed, Global};
 const ID_LEN: usize = 8;
 
 /// The bytes of a death.
-const DEATH_LEN: usize = 5;
+pub const DEATH_LEN: usize = 5;
 
 /// The bytes of a target.
 const TARGET_LEN: usize = 4;

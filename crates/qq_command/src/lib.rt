@@ -16,15 +16,17 @@ mod writing;
 pub use answer::{Answer, Cause, Delivery, Full, Refusal};
 pub use audit::{AuditRow, Effect, Effects, Rows};
 pub use command::{Command, DeadDone, DeadDones, Entries, Entry, Mode, Stamp, Unstamped};
-pub use reading::{decode, no_spelling_begins_another};
 pub use limits::{
-    BODY_LIMIT, DEAD_DONE_LIMIT, DEATHS_LIMIT, IDS_LIMIT, KEY_LIMIT, LENGTH_LIMIT, TARGETS_LIMIT, TERM_LIMIT,
-    VERSION,
+    BODY_LIMIT, DEAD_DONE_LIMIT, DEATHS_LIMIT, IDS_LIMIT, KEY_LIMIT, LENGTH_LIMIT, TARGETS_LIMIT,
+    TERM_LIMIT, VERSION,
 };
 pub use message::{Content, Death, Deaths, Message, Origin, ReadyRow, Reason};
 pub use queue::{Members, Overflow, QueueArgs, Strategy};
+pub use reading::{decode, no_spelling_begins_another};
 pub use table::{Standing, Table};
 pub use writing::{encode, put_entry};
 
+#[cfg(test)]
+mod format_tests;
 #[cfg(test)]
 mod tests;

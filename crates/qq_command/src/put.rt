@@ -5,9 +5,13 @@ ghost use Rattle.qq_command.specs.Range.{IsContent, AreIds, IsDeadDone, AreDeadD
 ghost use Rattle.qq_command.specs.Spelling.{Begins, u64, flag, session, stamp, origin, body, key, reason_number, death, deaths, content, mode, ids, queue, dead_done, dead_dones, consumer};
 
 use crate::command::{DeadDone, Mode, Stamp};
+use crate::fields::DEATH_LEN;
 use crate::limits::{BODY_LIMIT, DEATHS_LIMIT, KEY_LIMIT};
 use crate::message::{Content, Death, Origin, Reason};
 use qq_base::{Memory, QueueId, SessionId, put_u8, put_u16, put_u32, put_u64};
+
+/// The bytes of a content's three lengths.
+const CONTENT_LEN: usize = 7;
 
 pub fn put_flag(out: &mut Vec<u8>, value: bool) -> Result<(), Memory>
     ensures ok { OnOk result (out.new.items ≡ out.old.items ++ flag value) }
@@ -17,7 +21,7 @@ pub fn put_flag(out: &mut Vec<u8>, value: bool) -> Result<(), Memory>
     put_u8(out, if value { 1 } else { 0 })
 }
 
-#[tactic(auto, using(crate::proofs::Appends::begins_same, crate::proofs::Appends::begins_appended, crate::proofs::Appends::begins_after), unfolding(crate::specs::Spelling::session))]
+#[tactic(auto, using(crate::proofs::Appends::begins), unfolding(crate::specs::Spelling::session))]
 pub fn put_session(out: &mut Vec<u8>, value: &SessionId) -> Result<(), Memory>
     ensures ok { OnOk result (out.new.items ≡ out.old.items ++ session value.now) }
     ensures err { OnErr result (Begins out.old.items out.new.items) }
@@ -28,7 +32,7 @@ pub fn put_session(out: &mut Vec<u8>, value: &SessionId) -> Result<(), Memory>
     put_u64(out, value.number)
 }
 
-#[tactic(auto, using(crate::proofs::Appends::begins_same, crate::proofs::Appends::begins_appended, crate::proofs::Appends::begins_after), unfolding(crate::specs::Spelling::stamp))]
+#[tactic(auto, using(crate::proofs::Appends::begins), unfolding(crate::specs::Spelling::stamp))]
 pub fn put_stamp(out: &mut Vec<u8>, value: &Stamp) -> Result<(), Memory>
     ensures ok { OnOk result (out.new.items ≡ out.old.items ++ stamp value.now) }
     ensures err { OnErr result (Begins out.old.items out.new.items) }
@@ -39,7 +43,7 @@ pub fn put_stamp(out: &mut Vec<u8>, value: &Stamp) -> Result<(), Memory>
     put_u64(out, value.done)
 }
 
-#[tactic(auto, using(crate::proofs::Appends::begins_same, crate::proofs::Appends::begins_appended, crate::proofs::Appends::begins_after), unfolding(crate::specs::Spelling::origin))]
+#[tactic(auto, using(crate::proofs::Appends::begins), unfolding(crate::specs::Spelling::origin))]
 pub fn put_origin(out: &mut Vec<u8>, value: Option<Origin>) -> Result<(), Memory>
     ensures ok { OnOk result (out.new.items ≡ out.old.items ++ origin value) }
     ensures err { OnErr result (Begins out.old.items out.new.items) }
@@ -56,7 +60,7 @@ pub fn put_origin(out: &mut Vec<u8>, value: Option<Origin>) -> Result<(), Memory
 }
 
 /// A stamp, and the tag of a consumer of its session.
-#[tactic(auto, using(crate::proofs::Appends::begins_same, crate::proofs::Appends::begins_appended, crate::proofs::Appends::begins_after), unfolding(crate::specs::Spelling::consumer))]
+#[tactic(auto, using(crate::proofs::Appends::begins), unfolding(crate::specs::Spelling::consumer))]
 pub fn put_consumer(out: &mut Vec<u8>, value: &Stamp, tag: u32) -> Result<(), Memory>
     ensures ok { OnOk result (out.new.items ≡ out.old.items ++ consumer value.now tag) }
     ensures err { OnErr result (Begins out.old.items out.new.items) }
@@ -75,7 +79,7 @@ fn put_bytes(out: &mut Vec<u8>, bytes: &[u8]) -> Result<(), Memory>
     Ok(())
 }
 
-#[tactic(auto, using(crate::proofs::Appends::begins_same, crate::proofs::Appends::begins_appended, crate::proofs::Appends::begins_after), unfolding(crate::specs::Spelling::body))]
+#[tactic(auto, using(crate::proofs::Appends::begins), unfolding(crate::specs::Spelling::body))]
 fn put_body(out: &mut Vec<u8>, bytes: &[u8]) -> Result<(), Memory>
     requires { length bytes.now ≤ BODY_LIMIT }
     ensures ok { OnOk result (out.new.items ≡ out.old.items ++ body bytes.now) }
@@ -86,7 +90,7 @@ fn put_body(out: &mut Vec<u8>, bytes: &[u8]) -> Result<(), Memory>
     put_bytes(out, bytes)
 }
 
-#[tactic(auto, using(crate::proofs::Appends::begins_same, crate::proofs::Appends::begins_appended, crate::proofs::Appends::begins_after), unfolding(crate::specs::Spelling::key))]
+#[tactic(auto, using(crate::proofs::Appends::begins), unfolding(crate::specs::Spelling::key))]
 fn put_key(out: &mut Vec<u8>, bytes: &[u8]) -> Result<(), Memory>
     requires { length bytes.now ≤ KEY_LIMIT }
     ensures ok { OnOk result (out.new.items ≡ out.old.items ++ key bytes.now) }
@@ -108,7 +112,7 @@ fn reason_number(reason: Reason) -> u8
     }
 }
 
-#[tactic(auto, using(crate::proofs::Appends::begins_same, crate::proofs::Appends::begins_appended, crate::proofs::Appends::begins_after), unfolding(crate::specs::Spelling::death))]
+#[tactic(auto, using(crate::proofs::Appends::begins), unfolding(crate::specs::Spelling::death))]
 fn put_death(out: &mut Vec<u8>, value: &Death) -> Result<(), Memory>
     ensures ok { OnOk result (out.new.items ≡ out.old.items ++ death value.now) }
     ensures err { OnErr result (Begins out.old.items out.new.items) }
@@ -118,7 +122,7 @@ fn put_death(out: &mut Vec<u8>, value: &Death) -> Result<(), Memory>
     put_u8(out, reason_number(value.reason))
 }
 
-#[tactic(auto, using(crate::proofs::Appends::begins_same, crate::proofs::Appends::begins_appended, crate::proofs::Appends::begins_after))]
+#[tactic(auto, using(crate::proofs::Appends::begins))]
 fn put_each_death(out: &mut Vec<u8>, list: &[Death]) -> Result<(), Memory>
     ensures ok { OnOk result (out.new.items ≡ out.old.items ++ flat_map death list.now) }
     ensures err { OnErr result (Begins out.old.items out.new.items) }
@@ -130,7 +134,7 @@ fn put_each_death(out: &mut Vec<u8>, list: &[Death]) -> Result<(), Memory>
     Ok(())
 }
 
-#[tactic(auto, using(crate::proofs::Appends::begins_same, crate::proofs::Appends::begins_appended, crate::proofs::Appends::begins_after), unfolding(crate::specs::Spelling::deaths))]
+#[tactic(auto, using(crate::proofs::Appends::begins), unfolding(crate::specs::Spelling::deaths))]
 fn put_deaths(out: &mut Vec<u8>, list: &[Death]) -> Result<(), Memory>
     requires { length list.now ≤ DEATHS_LIMIT }
     ensures ok { OnOk result (out.new.items ≡ out.old.items ++ deaths list.now) }
@@ -142,7 +146,7 @@ fn put_deaths(out: &mut Vec<u8>, list: &[Death]) -> Result<(), Memory>
 }
 
 /// A content. One that was taken out has no bytes.
-#[tactic(auto, using(crate::proofs::Appends::begins_same, crate::proofs::Appends::begins_appended, crate::proofs::Appends::begins_after), unfolding(crate::specs::Spelling::content))]
+#[tactic(auto, using(crate::proofs::Appends::begins), unfolding(crate::specs::Spelling::content))]
 pub fn put_content(out: &mut Vec<u8>, value: &Option<Content>) -> Result<(), Memory>
     requires { IfSome value.now IsContent }
     ensures ok { OnOk result (out.new.items ≡ out.old.items ++ content value.now) }
@@ -152,6 +156,8 @@ pub fn put_content(out: &mut Vec<u8>, value: &Option<Content>) -> Result<(), Mem
     match value {
         None => Ok(()),
         Some(value) => {
+            let deaths_len = DEATH_LEN * value.deaths.len();
+            out.reserve(CONTENT_LEN + value.body.len() + value.key.len() + deaths_len)?;
             put_body(out, value.body.as_slice())?;
             put_key(out, value.key.as_bytes())?;
             put_deaths(out, value.deaths.as_slice())
@@ -159,7 +165,7 @@ pub fn put_content(out: &mut Vec<u8>, value: &Option<Content>) -> Result<(), Mem
     }
 }
 
-#[tactic(auto, using(crate::proofs::Appends::begins_same, crate::proofs::Appends::begins_appended, crate::proofs::Appends::begins_after), unfolding(crate::specs::Spelling::mode))]
+#[tactic(auto, using(crate::proofs::Appends::begins), unfolding(crate::specs::Spelling::mode))]
 pub fn put_mode(out: &mut Vec<u8>, value: Mode) -> Result<(), Memory>
     ensures ok { OnOk result (out.new.items ≡ out.old.items ++ mode value) }
     ensures err { OnErr result (Begins out.old.items out.new.items) }
@@ -177,7 +183,7 @@ pub fn put_mode(out: &mut Vec<u8>, value: Mode) -> Result<(), Memory>
     }
 }
 
-#[tactic(auto, using(crate::proofs::Appends::begins_same, crate::proofs::Appends::begins_appended, crate::proofs::Appends::begins_after))]
+#[tactic(auto, using(crate::proofs::Appends::begins))]
 fn put_each_id(out: &mut Vec<u8>, list: &[u64]) -> Result<(), Memory>
     ensures ok { OnOk result (out.new.items ≡ out.old.items ++ flat_map u64 list.now) }
     ensures err { OnErr result (Begins out.old.items out.new.items) }
@@ -189,7 +195,7 @@ fn put_each_id(out: &mut Vec<u8>, list: &[u64]) -> Result<(), Memory>
     Ok(())
 }
 
-#[tactic(auto, using(crate::proofs::Appends::begins_same, crate::proofs::Appends::begins_appended, crate::proofs::Appends::begins_after), unfolding(crate::specs::Spelling::ids))]
+#[tactic(auto, using(crate::proofs::Appends::begins), unfolding(crate::specs::Spelling::ids))]
 pub fn put_ids(out: &mut Vec<u8>, list: &[u64]) -> Result<(), Memory>
     requires { AreIds list.now }
     ensures ok { OnOk result (out.new.items ≡ out.old.items ++ ids list.now) }
@@ -200,7 +206,7 @@ pub fn put_ids(out: &mut Vec<u8>, list: &[u64]) -> Result<(), Memory>
     put_each_id(out, list)
 }
 
-#[tactic(auto, using(crate::proofs::Appends::begins_same, crate::proofs::Appends::begins_appended, crate::proofs::Appends::begins_after))]
+#[tactic(auto, using(crate::proofs::Appends::begins))]
 fn put_each_target(out: &mut Vec<u8>, list: &[QueueId]) -> Result<(), Memory>
     ensures ok { OnOk result (out.new.items ≡ out.old.items ++ flat_map queue list.now) }
     ensures err { OnErr result (Begins out.old.items out.new.items) }
@@ -212,7 +218,7 @@ fn put_each_target(out: &mut Vec<u8>, list: &[QueueId]) -> Result<(), Memory>
     Ok(())
 }
 
-#[tactic(auto, using(crate::proofs::Appends::begins_same, crate::proofs::Appends::begins_appended, crate::proofs::Appends::begins_after), unfolding(crate::specs::Spelling::dead_done))]
+#[tactic(auto, using(crate::proofs::Appends::begins), unfolding(crate::specs::Spelling::dead_done))]
 fn put_dead_done(out: &mut Vec<u8>, value: &DeadDone) -> Result<(), Memory>
     requires { IsDeadDone value.now }
     ensures ok { OnOk result (out.new.items ≡ out.old.items ++ dead_done value.now) }
@@ -225,7 +231,7 @@ fn put_dead_done(out: &mut Vec<u8>, value: &DeadDone) -> Result<(), Memory>
     put_each_target(out, targets)
 }
 
-#[tactic(auto, using(crate::proofs::Appends::begins_same, crate::proofs::Appends::begins_appended, crate::proofs::Appends::begins_after))]
+#[tactic(auto, using(crate::proofs::Appends::begins))]
 fn put_each_dead_done(out: &mut Vec<u8>, list: &[DeadDone]) -> Result<(), Memory>
     requires { All IsDeadDone list.now }
     ensures ok { OnOk result (out.new.items ≡ out.old.items ++ flat_map dead_done list.now) }
@@ -238,7 +244,7 @@ fn put_each_dead_done(out: &mut Vec<u8>, list: &[DeadDone]) -> Result<(), Memory
     Ok(())
 }
 
-#[tactic(auto, using(crate::proofs::Appends::begins_same, crate::proofs::Appends::begins_appended, crate::proofs::Appends::begins_after), unfolding(crate::specs::Spelling::dead_dones))]
+#[tactic(auto, using(crate::proofs::Appends::begins), unfolding(crate::specs::Spelling::dead_dones))]
 pub fn put_dead_dones(out: &mut Vec<u8>, list: &[DeadDone]) -> Result<(), Memory>
     requires { AreDeadDones list.now }
     ensures ok { OnOk result (out.new.items ≡ out.old.items ++ dead_dones list.now) }

@@ -1,5 +1,5 @@
 //! Reading an entry from the front of bytes.
-ghost use Rattle.std.specs.Prelude.{◌≡◌, ◌++◌, List, ℕ, length, IfOk, Ok, Err};
+ghost use Rattle.std.specs.Prelude.{◌≡◌, ◌++◌, ◌≤◌, List, ℕ, length, IfOk, Ok, Err};
 ghost use Rattle.qq_base.specs.declared.memory.Memory.{Memory};
 ghost use Rattle.qq_command.specs.declared.command.Entry.{Entry};
 ghost use Rattle.qq_command.specs.Range.{IsWritable};
@@ -235,6 +235,7 @@ pub fn decode(alloc: Global, bytes: &[u8]) -> Result<(Entry, usize), Refusal>
     ensures found { IfOk result (λ x. IsAtFront bytes.now x) }
     // An entry in range whose spelling stands at the front is read, whatever follows it.
     ensures only { (e : Entry) (rest : List ℕ) → IsWritable e → bytes.now ≡ spelling e ++ rest → Gives (λ x. x) result (Ok (e, length (spelling e))) }
+    ensures within { IfOk result (λ x. x.1 ≤ length bytes.now) }
     // Which refusal it is.
     ensures exact { Gives (λ x. x) result (entry_at bytes.now) }
     ensures want { (m : Memory) → result ≡ Err (Refusal.Memory m) → m ≡ Memory.Want }
@@ -245,5 +246,4 @@ pub fn decode(alloc: Global, bytes: &[u8]) -> Result<(Entry, usize), Refusal>
 /// A law: no entry's spelling begins another's, so what was written is read again whatever follows it.
 pub fn no_spelling_begins_another()
     ensures { (a b : Entry) (x y : List ℕ) → IsWritable a → IsWritable b → spelling a ++ x ≡ spelling b ++ y → (a ≡ b) × (x ≡ y) }
-{
-}
+{}

@@ -5,8 +5,8 @@ ghost use Rattle.qq_command.specs.Spelling.{Begins, kind, u32, flag, fields, ins
 
 use crate::command::{Command, Entry, Stamp};
 use crate::put::{
-    put_consumer, put_content, put_dead_dones, put_flag, put_ids, put_mode, put_origin, put_session,
-    put_stamp,
+    put_consumer, put_content, put_dead_dones, put_flag, put_ids, put_mode, put_origin,
+    put_session, put_stamp,
 };
 use qq_base::{Memory, put_u8, put_u32, put_u64};
 use std::alloc::Global;
@@ -31,7 +31,7 @@ fn kind(command: &Command) -> u8
     }
 }
 
-#[tactic(auto, using(crate::proofs::Appends::begins_same, crate::proofs::Appends::begins_appended, crate::proofs::Appends::begins_after), unfolding(crate::specs::Spelling::fields))]
+#[tactic(auto, using(crate::proofs::Appends::begins), unfolding(crate::specs::Spelling::fields))]
 fn put_fields(out: &mut Vec<u8>, command: &Command) -> Result<(), Memory>
     requires { IsCommand command.now }
     ensures ok { OnOk result (out.new.items ≡ out.old.items ++ fields command.now) }
@@ -83,7 +83,7 @@ fn put_fields(out: &mut Vec<u8>, command: &Command) -> Result<(), Memory>
 }
 
 /// What the length counts.
-#[tactic(auto, using(crate::proofs::Appends::begins_same, crate::proofs::Appends::begins_appended, crate::proofs::Appends::begins_after), unfolding(crate::specs::Spelling::inside))]
+#[tactic(auto, using(crate::proofs::Appends::begins), unfolding(crate::specs::Spelling::inside))]
 fn put_inside(out: &mut Vec<u8>, entry: &Entry) -> Result<(), Memory>
     requires { IsCommand entry.now.command }
     ensures ok { OnOk result (out.new.items ≡ out.old.items ++ inside entry.now) }
@@ -102,7 +102,7 @@ fn set_length(out: &mut Vec<u8>, place: usize, length: u32)
     out[place..place + 4].copy_from_slice(&length.to_be_bytes());
 }
 
-#[tactic(auto, using(crate::proofs::Appends::begins_same, crate::proofs::Appends::begins_appended, crate::proofs::Appends::begins_after), unfolding(crate::specs::Spelling::spelling))]
+#[tactic(auto, using(crate::proofs::Appends::begins), unfolding(crate::specs::Spelling::spelling))]
 fn put_all(out: &mut Vec<u8>, entry: &Entry) -> Result<(), Memory>
     requires { IsWritable entry.now }
     ensures ok { OnOk result (out.new.items ≡ out.old.items ++ spelling entry.now) }

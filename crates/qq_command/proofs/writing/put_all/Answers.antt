@@ -16,4 +16,4 @@ unfolding spelling
 returns-clause-ok c =
     let between : length c.put_inside.new.out.items - length c.put_u32.new.out.items ≡ length (inside c.args.entry.now) = length_between c.put_u32.new.out.items (inside c.args.entry.now) c.put_inside.new.out.items c.in_ok-put_inside.ensures.ok in
     set_between c.args.out.now.items (u64 c.args.entry.now.term.0) (inside c.args.entry.now) c.put_u64.new.out.items c.put_u32.new.out.items c.put_inside.new.out.items c.set_length.new.out.items c.len-place.result (c.len.result - c.len-front.result)
-      c.in_ok-put_u64.ensures.ok c.in_ok-put_u32.ensures.ok c.in_ok-put_inside.ensures.ok (omega (arith, c.len-place.ensures)) (omega (arith, c.len.ensures, c.len-front.ensures)) c.set_length.ensures
+    c.in_ok-put_u64.ensures.ok c.in_ok-put_u32.ensures.ok c.in_ok-put_inside.ensures.ok (omega (arith, c.len-place.ensures)) (omega (arith, c.len.ensures, c.len-front.ensures)) c.set_length.ensures
