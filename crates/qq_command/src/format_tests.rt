@@ -52,11 +52,15 @@ fn stand_for(rt: &impl Abort, alloc: Global, hex: &str, wanted: Entry) -> Result
     let bytes = bytes_of(alloc, hex)?;
     let mut longer = bytes_of(alloc, hex)?;
     longer.push(7)?;
-    let (entry, taken) = decode(alloc, &longer).ok().ok_or("the bytes are an entry")?;
-    assert_eq!(rt; taken, bytes.len());
-    assert!(rt; entry == wanted);
-    assert_eq!(rt; encode(alloc, &entry)?.as_slice(), bytes.as_slice());
-    Ok(())
+    match decode(alloc, &longer) {
+        Ok((entry, taken)) => {
+            assert_eq!(rt; taken, bytes.len());
+            assert!(rt; entry == wanted);
+            assert_eq!(rt; encode(alloc, &entry)?.as_slice(), bytes.as_slice());
+            Ok(())
+        }
+        Err(_) => Err("the bytes are no entry".into()),
+    }
 }
 
 fn entry(command: Command) -> Entry {
@@ -92,43 +96,63 @@ fn dead_letter(alloc: Global) -> Result<Message, Fail> {
     })
 }
 
-#[test]
-fn a_publish_has_62_bytes(rt: HostRuntime) -> Result<(), Fail> {
-    let alloc = rt.alloc();
-    let mut bytes = bytes_of(alloc, PUBLISH)?;
-    assert_eq!(rt; bytes.len(), 62);
-    let (entry, taken) = decode(alloc, &bytes).ok().ok_or("the bytes are an entry")?;
-    assert_eq!(rt; taken, 62);
-    let message = Message {
+/// The message of body `aa` and key `q1`.
+fn message(alloc: Global) -> Result<Message, Fail> {
+    Ok(Message {
         size: 2,
         content: Some(Content {
             body: Bytes::from_vec(b"aa".to_vec(alloc)?),
             key: Text::from_str(alloc, "q1")?,
             deaths: Deaths::new(alloc),
         }),
-    };
-    let stamp = Stamp {
-        seq: 1,
-        done: 0,
-        ..STAMP
-    };
+    })
+}
+
+#[test]
+fn a_publish_has_62_bytes(rt: HostRuntime) -> Result<(), Fail> {
+    let alloc = rt.alloc();
+    assert_eq!(rt; bytes_of(alloc, PUBLISH)?.len(), 62);
     let wanted = Entry {
         term: Term(1),
         time: 0,
         command: Command::Enqueue {
-            stamp,
+            stamp: Stamp {
+                seq: 1,
+                done: 0,
+                ..STAMP
+            },
             origin: None,
-            message,
+            message: message(alloc)?,
         },
     };
-    assert!(rt; entry == wanted);
-    assert_eq!(rt; encode(alloc, &entry)?.as_slice(), bytes.as_slice());
-    let mut twice = bytes_of(alloc, PUBLISH)?;
-    put_entry(&mut twice, &entry)?;
-    assert_eq!(rt; &twice[62..], bytes.as_slice());
-    assert!(rt; matches!(decode(alloc, &bytes[..61]), Err(Refusal::Short)));
+    stand_for(&rt, alloc, PUBLISH, wanted)
+}
+
+#[test]
+fn a_changed_publish_is_refused(rt: HostRuntime) -> Result<(), Fail> {
+    let alloc = rt.alloc();
+    let mut bytes = bytes_of(alloc, PUBLISH)?;
+    let last = bytes.pop();
+    assert_eq!(rt; bytes.len(), 61);
+    assert!(rt; decode(alloc, &bytes).err() == Some(Refusal::Short));
+    bytes.push(last.unwrap_or(0))?;
     bytes[20] = 0xff;
-    assert!(rt; matches!(decode(alloc, &bytes), Err(Refusal::BadKind)));
+    assert!(rt; decode(alloc, &bytes).err() == Some(Refusal::BadKind));
+    Ok(())
+}
+
+#[test]
+fn an_entry_is_put_behind_other_bytes(rt: HostRuntime) -> Result<(), Fail> {
+    let alloc = rt.alloc();
+    let bytes = bytes_of(alloc, PUBLISH)?;
+    let mut twice = bytes_of(alloc, PUBLISH)?;
+    match decode(alloc, &bytes) {
+        Ok((entry, _)) => put_entry(&mut twice, &entry)?,
+        Err(_) => return Err("the bytes are no entry".into()),
+    }
+    assert_eq!(rt; twice.len(), 124);
+    assert!(rt; twice.starts_with(bytes.as_slice()));
+    assert!(rt; twice.ends_with(bytes.as_slice()));
     Ok(())
 }
 
@@ -278,7 +302,8 @@ fn each_kind_of_a_worker_has_its_bytes(rt: HostRuntime) -> Result<(), Fail> {
 fn answered(alloc: Global, hex: &str) -> Result<Option<Refusal>, Fail> {
     let inside = bytes_of(alloc, hex)?;
     let mut bytes = bytes_of(alloc, "0000000000000001")?;
-    bytes.extend_from_slice(&u32::to_be_bytes(8 + inside.len() as u32))?;
+    let len = u32::try_from(inside.len() + 8).ok().ok_or("too long")?;
+    bytes.extend_from_slice(&len.to_be_bytes())?;
     bytes.extend_from_slice(&bytes_of(alloc, "0000000000000000")?)?;
     bytes.extend_from_slice(&inside)?;
     Ok(decode(alloc, &bytes).err())
@@ -342,36 +367,52 @@ fn lengths_above_their_limits_are_refused(rt: HostRuntime) -> Result<(), Fail> {
         assert!(rt; answered(alloc, hex)? == Some(Refusal::TooLarge), "{hex}");
     }
     let bytes = bytes_of(alloc, "0000000000000001 00040001")?;
-    assert!(rt; matches!(decode(alloc, &bytes), Err(Refusal::TooLarge)));
-    let bytes = bytes_of(alloc, "0000000000000001 00040000")?;
-    assert!(rt; matches!(decode(alloc, &bytes), Err(Refusal::Short)));
-    assert!(rt; matches!(decode(alloc, &bytes[..11]), Err(Refusal::Short)));
+    assert!(rt; decode(alloc, &bytes).err() == Some(Refusal::TooLarge));
+    Ok(())
+}
+
+#[test]
+fn fronts_and_other_kinds_are_refused(rt: HostRuntime) -> Result<(), Fail> {
+    let alloc = rt.alloc();
+    let fronts = [
+        "",
+        "0000000000000001 000400",
+        "0000000000000001 00040000 00",
+    ];
+    for hex in fronts {
+        let bytes = bytes_of(alloc, hex)?;
+        assert!(rt;
+            decode(alloc, &bytes).err() == Some(Refusal::Short),
+            "{hex}"
+        );
+    }
     assert!(rt; answered(alloc, "0d")? == Some(Refusal::BadKind));
     Ok(())
+}
+
+/// A publish whose body has this many zero bytes, behind these first bytes.
+fn long_publish(alloc: Global, head: &str, len: usize) -> Result<Vec<u8>, Fail> {
+    let mut bytes = bytes_of(alloc, head)?;
+    let rest: Vec<u8> = vec![in alloc; 0; len]?;
+    bytes.extend_from_slice(&rest)?;
+    Ok(bytes)
 }
 
 #[test]
 fn a_body_at_its_limit_is_read(rt: HostRuntime) -> Result<(), Fail> {
     let alloc = rt.alloc();
-    for (extra, head) in [(0, "0001002e"), (1, "0001002f")] {
-        let mut bytes = bytes_of(alloc, "0000000000000001")?;
-        bytes.extend_from_slice(&bytes_of(alloc, head)?)?;
-        let front = "0000000000000000 01 \
-            01 00000000 0000000000000001 0000000000000001 0000000000000000 00";
-        bytes.extend_from_slice(&bytes_of(alloc, front)?)?;
-        bytes.extend_from_slice(&u32::to_be_bytes(65_536 + extra))?;
-        bytes.resize(bytes.len() + 65_536 + extra as usize + 3, 0)?;
-        match decode(alloc, &bytes) {
-            Ok((entry, taken)) => {
-                assert_eq!(rt; extra, 0);
-                assert_eq!(rt; taken, bytes.len());
-                assert!(rt; encode(alloc, &entry)? == bytes);
-            }
-            Err(refusal) => {
-                assert_eq!(rt; extra, 1);
-                assert!(rt; refusal == Refusal::TooLarge);
-            }
-        }
+    // 65,536 bytes of body, then the empty key and no deaths.
+    let head = "0000000000000001 0001002e 0000000000000000 01 \
+        01 00000000 0000000000000001 0000000000000001 0000000000000000 00 00010000";
+    let bytes = long_publish(alloc, head, 65_539)?;
+    match decode(alloc, &bytes) {
+        Ok((entry, _)) => assert!(rt; encode(alloc, &entry)? == bytes),
+        Err(_) => return Err("the bytes are no entry".into()),
     }
+    // One byte more.
+    let head = "0000000000000001 0001002f 0000000000000000 01 \
+        01 00000000 0000000000000001 0000000000000001 0000000000000000 00 00010001";
+    let bytes = long_publish(alloc, head, 65_540)?;
+    assert!(rt; decode(alloc, &bytes).err() == Some(Refusal::TooLarge));
     Ok(())
 }
