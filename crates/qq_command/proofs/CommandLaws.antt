@@ -7,7 +7,7 @@ use Rattle.std.proofs.lemmas.Bool.Decides.{nat_tests}
 use Rattle.qq_base.specs.Fields.{AreBytes}
 use Rattle.qq_base.specs.declared.ids.QueueId.{QueueId}
 use Rattle.qq_base.specs.declared.ids.SessionId.{SessionId}
-use Rattle.qq_command.specs.declared.limits.TheConstants.{VERSION, TERM_LIMIT, LENGTH_LIMIT, BODY_LIMIT, KEY_LIMIT, DEATHS_LIMIT, IDS_LIMIT, DEAD_DONE_LIMIT, TARGETS_LIMIT}
+use Rattle.qq_command.specs.declared.limits.TheConstants.{MACHINE_VERSION, TERM_LIMIT, LENGTH_LIMIT, BODY_LIMIT, KEY_LIMIT, DEATHS_LIMIT, IDS_LIMIT, DEAD_DONE_LIMIT, TARGETS_LIMIT}
 use Rattle.qq_command.specs.declared.answer.Refusal.{Refusal}
 use Rattle.qq_command.specs.declared.answer.Refusal.TheVariants.{BadKind, BadField, TooLarge, Short}
 use Rattle.qq_command.specs.declared.message.Death.{Death}
@@ -33,8 +33,8 @@ Brings k bytes x = Takes bytes (fields x.0) x.1 × IsCommand x.0 × HasContent x
 
 -- ---- what is read
 
-version-reads : Reads (λ bytes. checked (λ n. n == VERSION) (number_at w8 bytes)) u8 (λ n. n ≡ VERSION)
-version-reads = Reads-fits (checked-reads (λ n. n == VERSION) u8-reads) (λ n p. eqb-true n VERSION p.1) (λ n p. (omega arith, grind (arith, nat_tests)))
+version-reads : Reads (λ bytes. checked (λ n. n == MACHINE_VERSION) (number_at w8 bytes)) u8 (λ n. n ≡ MACHINE_VERSION)
+version-reads = Reads-fits (checked-reads (λ n. n == MACHINE_VERSION) u8-reads) (λ n p. eqb-true n MACHINE_VERSION p.1) (λ n p. (omega arith, grind (arith, nat_tests)))
 
 term-reads : Reads (λ bytes. checked (λ n. nat_le n TERM_LIMIT) (number_at w64 bytes)) u64 (λ n. n ≤ TERM_LIMIT)
 term-reads = Reads-fits (checked-reads (λ n. nat_le n TERM_LIMIT) u64-reads) (λ n p. grind (arith, nat_tests)) (λ n p. (omega arith, grind (arith, nat_tests)))
@@ -57,7 +57,7 @@ verdict-reads = record {
 
 noop_takes : (bytes : List ℕ) → AreBytes bytes → Holds (noop_at bytes) (Brings 0 bytes)
 unfolding noop_at fields
-noop_takes bytes fits = then_ok (checked (λ n. n == VERSION) (number_at w8 bytes)) _ (version-reads.takes bytes fits) (λ x p. here _ (p.0, p.1, tt, refl))
+noop_takes bytes fits = then_ok (checked (λ n. n == MACHINE_VERSION) (number_at w8 bytes)) _ (version-reads.takes bytes fits) (λ x p. here _ (p.0, p.1, tt, refl))
 
 enqueue_takes : (bytes : List ℕ) → AreBytes bytes → Holds (enqueue_at bytes) (Brings 1 bytes)
 unfolding enqueue_at fields
@@ -155,7 +155,7 @@ fields_take n bytes fits =
 
 pub fields_again : (c : Command) (bytes rest : List ℕ) → bytes ≡ fields c ++ rest → IsCommand c → HasContent c → fields_at (kind c) bytes ≡ Ok (c, rest)
 unfolding fields_at fields noop_at enqueue_at get_at subscribe_at cancel_at credit_at settle_at return_at discard_at purge_at down_at dead_attach_at dead_settle_at
-fields_again (Noop version) bytes rest e f h = in_turn _ (checked (λ n. n == VERSION) (number_at w8 bytes)) _ (version-reads.again version bytes rest e f) refl
+fields_again (Noop version) bytes rest e f h = in_turn _ (checked (λ n. n == MACHINE_VERSION) (number_at w8 bytes)) _ (version-reads.again version bytes rest e f) refl
 fields_again (Enqueue s o m) bytes rest e f h =
     let split : bytes ≡ stamp s ++ (origin o ++ (content m.content ++ rest)) = e ∙ simp append_assoc in
     in_turn _ (stamp_at bytes) _ (stamp-reads.again s bytes _ split f.0)

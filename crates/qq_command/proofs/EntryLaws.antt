@@ -7,7 +7,7 @@ use Rattle.std.proofs.lemmas.List.{append-nil, nil_from_length, take-append-drop
 use Rattle.qq_base.specs.Fields.{AreBytes}
 use Rattle.qq_base.specs.declared.ids.QueueId.{QueueId}
 use Rattle.qq_base.specs.declared.ids.SessionId.{SessionId}
-use Rattle.qq_command.specs.declared.limits.TheConstants.{VERSION, TERM_LIMIT, LENGTH_LIMIT, BODY_LIMIT, KEY_LIMIT, DEATHS_LIMIT, IDS_LIMIT, DEAD_DONE_LIMIT, TARGETS_LIMIT}
+use Rattle.qq_command.specs.declared.limits.TheConstants.{MACHINE_VERSION, TERM_LIMIT, LENGTH_LIMIT, BODY_LIMIT, KEY_LIMIT, DEATHS_LIMIT, IDS_LIMIT, DEAD_DONE_LIMIT, TARGETS_LIMIT}
 use Rattle.qq_command.specs.declared.answer.Refusal.{Refusal}
 use Rattle.qq_command.specs.declared.answer.Refusal.TheVariants.{BadKind, BadField, TooLarge, Short}
 use Rattle.qq_command.specs.declared.message.Death.{Death}

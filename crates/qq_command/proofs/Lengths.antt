@@ -8,7 +8,7 @@ use Rattle.std.proofs.lemmas.List.Concat.{flat_map-cons}
 use Rattle.std.proofs.lemmas.List.Elements.{recursion_from_All}
 use Rattle.qq_base.specs.declared.ids.QueueId.{QueueId}
 use Rattle.qq_base.specs.declared.ids.SessionId.{SessionId}
-use Rattle.qq_command.specs.declared.limits.TheConstants.{VERSION, TERM_LIMIT, LENGTH_LIMIT, BODY_LIMIT, KEY_LIMIT, DEATHS_LIMIT, IDS_LIMIT, DEAD_DONE_LIMIT, TARGETS_LIMIT}
+use Rattle.qq_command.specs.declared.limits.TheConstants.{MACHINE_VERSION, TERM_LIMIT, LENGTH_LIMIT, BODY_LIMIT, KEY_LIMIT, DEATHS_LIMIT, IDS_LIMIT, DEAD_DONE_LIMIT, TARGETS_LIMIT}
 use Rattle.qq_command.specs.declared.answer.Refusal.{Refusal}
 use Rattle.qq_command.specs.declared.answer.Refusal.TheVariants.{BadKind, BadField, TooLarge, Short}
 use Rattle.qq_command.specs.declared.message.Death.{Death}
@@ -107,3 +107,7 @@ fields_len (DeadSettle term ds) f = omega (arith, dead_dones_len ds f.1)
 pub inside_len : (e : Entry) → IsInRange e → length (inside e) ≤ LENGTH_LIMIT
 unfolding inside
 inside_len e f = omega (arith, fields_len e.command f.command)
+
+pub spelling_len : (e : Entry) → IsInRange e → length (spelling e) ≤ 12 + LENGTH_LIMIT
+unfolding spelling
+spelling_len e f = omega (arith, inside_len e f)

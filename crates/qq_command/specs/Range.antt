@@ -3,7 +3,7 @@ use Rattle.std.specs.Prelude.{◌≡◌, ◌<◌, ◌≤◌, ◌^◌, ℕ, List,
 use Rattle.std.specs.Str.{IsUtf8}
 use Rattle.qq_base.specs.declared.ids.QueueId.{QueueId}
 use Rattle.qq_base.specs.declared.ids.SessionId.{SessionId}
-use Rattle.qq_command.specs.declared.limits.TheConstants.{VERSION, TERM_LIMIT, BODY_LIMIT, KEY_LIMIT, DEATHS_LIMIT, IDS_LIMIT, DEAD_DONE_LIMIT, TARGETS_LIMIT}
+use Rattle.qq_command.specs.declared.limits.TheConstants.{MACHINE_VERSION, TERM_LIMIT, BODY_LIMIT, KEY_LIMIT, DEATHS_LIMIT, IDS_LIMIT, DEAD_DONE_LIMIT, TARGETS_LIMIT}
 use Rattle.qq_command.specs.declared.message.Death.{Death}
 use Rattle.qq_command.specs.declared.message.Content.{Content}
 use Rattle.qq_command.specs.declared.message.Message.{Message}
@@ -76,7 +76,7 @@ abbrev pub IsOfConsumer : Stamp → ℕ → Type 0
 IsOfConsumer stamp tag = IsCounted stamp × IsPositive 32 tag
 
 abbrev pub IsCommand : Command → Type 0
-IsCommand (Noop version) = version ≡ VERSION
+IsCommand (Noop version) = version ≡ MACHINE_VERSION
 IsCommand (Enqueue stamp origin message) = IsStamp stamp × IfSome origin IsOrigin × IfSome message.content IsContent
 IsCommand (Get stamp) = IsCounted stamp
 IsCommand (Subscribe stamp tag mode) = IsOfConsumer stamp tag × IsMode mode

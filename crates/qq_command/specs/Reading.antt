@@ -5,7 +5,7 @@ use Rattle.std.specs.Int.{Width, w8, w16, w32, w64, byte_len, from_be_bytes}
 use Rattle.qq_base.specs.declared.ids.QueueId.{QueueId}
 use Rattle.qq_base.specs.declared.ids.SessionId.{SessionId}
 use Rattle.qq_base.specs.declared.memory.Memory.TheVariants.{Want}
-use Rattle.qq_command.specs.declared.limits.TheConstants.{VERSION, TERM_LIMIT, LENGTH_LIMIT, BODY_LIMIT, DEATHS_LIMIT, IDS_LIMIT, DEAD_DONE_LIMIT, TARGETS_LIMIT}
+use Rattle.qq_command.specs.declared.limits.TheConstants.{MACHINE_VERSION, TERM_LIMIT, LENGTH_LIMIT, BODY_LIMIT, DEATHS_LIMIT, IDS_LIMIT, DEAD_DONE_LIMIT, TARGETS_LIMIT}
 use Rattle.qq_command.specs.declared.answer.Refusal.{Refusal}
 use Rattle.qq_command.specs.declared.answer.Refusal.TheVariants.{Short, BadKind, BadField, TooLarge, Memory}
 use Rattle.qq_command.specs.declared.message.Reason.{Reason}
@@ -182,7 +182,7 @@ consumer_at bytes = do
 
 unfoldable pub noop_at : List ℕ → Field Command
 noop_at bytes = do
-  version ← checked (λ n. n == VERSION) (number_at w8 bytes)
+  version ← checked (λ n. n == MACHINE_VERSION) (number_at w8 bytes)
   Ok (Noop version.0, version.1)
 
 unfoldable pub enqueue_at : List ℕ → Field Command

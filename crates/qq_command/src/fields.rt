@@ -8,9 +8,9 @@ use crate::command::{DeadDone, DeadDones, Mode, Stamp};
 use crate::limits::{BODY_LIMIT, DEAD_DONE_LIMIT, DEATHS_LIMIT, IDS_LIMIT, TARGETS_LIMIT};
 use crate::message::{Content, Death, Deaths, Message, Origin, Reason};
 use qq_base::{
-    Bytes, Ids, Memory, QueueId, QueueIds, SessionId, Text, take_u8, take_u16, take_u32, take_u64,
+    Bytes, Ids, QueueId, QueueIds, SessionId, Text, take_u8, take_u16, take_u32, take_u64,
 };
-use std::alloc::{AllocError, AllocFailed, Global};
+use std::alloc::Global;
 
 /// The bytes of an id of a delivery.
 const ID_LEN: usize = 8;
@@ -23,38 +23,6 @@ const TARGET_LEN: usize = 4;
 
 /// The least bytes of a dead letter that is settled.
 const DEAD_DONE_LEN: usize = 10;
-
-impl From<Memory> for Refusal {
-    ghost use Rattle.qq_command.specs.declared.answer.Refusal.TheVariants.{Memory};
-
-    ghost from_gives = { λ m e. e ≡ Memory m };
-
-    fn from(cause: Memory) -> Self {
-        Refusal::Memory(cause)
-    }
-}
-
-impl From<AllocError> for Refusal {
-    ghost use Rattle.qq_base.specs.declared.memory.Memory.TheVariants.{Want};
-    ghost use Rattle.qq_command.specs.declared.answer.Refusal.TheVariants.{Memory};
-
-    ghost from_gives = { λ _ e. e ≡ Memory Want };
-
-    fn from(_: AllocError) -> Self {
-        Refusal::Memory(Memory::Want)
-    }
-}
-
-impl<T: Drop> From<AllocFailed<T>> for Refusal {
-    ghost use Rattle.qq_base.specs.declared.memory.Memory.TheVariants.{Want};
-    ghost use Rattle.qq_command.specs.declared.answer.Refusal.TheVariants.{Memory};
-
-    ghost from_gives = { λ _ e. e ≡ Memory Want };
-
-    fn from(_: AllocFailed<T>) -> Self {
-        Refusal::Memory(Memory::Want)
-    }
-}
 
 #[tactic(auto, unfolding(crate::specs::Reading::number_at))]
 pub fn u8_at(bytes: &[u8]) -> Result<(u8, &[u8]), Refusal>

@@ -1,7 +1,7 @@
 //! The limits of an entry's bytes.
 
 /// The version of the machine that a first entry names.
-pub const VERSION: u8 = 1;
+pub const MACHINE_VERSION: u8 = 1;
 
 /// The most bytes that stand behind an entry's length.
 pub const LENGTH_LIMIT: usize = 262_144;

@@ -1,8 +1,9 @@
 //! Reading an entry from the front of bytes.
-ghost use Rattle.std.specs.Prelude.{◌≡◌, ◌++◌, ◌≤◌, List, ℕ, length, IfOk, Ok, Err};
+ghost use Rattle.std.specs.Prelude.{◌≡◌, ◌++◌, ◌+◌, ◌≤◌, List, ℕ, length, IfOk, Ok, Err};
 ghost use Rattle.qq_base.specs.declared.memory.Memory.{Memory};
 ghost use Rattle.qq_command.specs.declared.command.Entry.{Entry};
-ghost use Rattle.qq_command.specs.Range.{IsWritable};
+ghost use Rattle.qq_base.specs.Fields.{AreBytes};
+ghost use Rattle.qq_command.specs.Range.{IsInRange, IsWritable};
 ghost use Rattle.qq_command.specs.Spelling.{spelling};
 ghost use Rattle.qq_command.specs.Reading.{Gives, IsAtFront, noop_at, enqueue_at, get_at, subscribe_at, cancel_at, credit_at, settle_at, return_at, discard_at, purge_at, down_at, dead_attach_at, dead_settle_at, fields_at, inside_at, entry_at};
 
@@ -12,7 +13,7 @@ use crate::fields::{
     consumer_at, counted_at, dead_dones_at, flag_at, message_at, mode_at, origin_at, session_at,
     stamp_at, u8_at, u32_at, u64_at, verdict_at,
 };
-use crate::limits::{LENGTH_LIMIT, TERM_LIMIT, VERSION};
+use crate::limits::{LENGTH_LIMIT, MACHINE_VERSION, TERM_LIMIT};
 use qq_base::Term;
 use std::alloc::Global;
 
@@ -24,7 +25,7 @@ fn noop_at(bytes: &[u8]) -> Result<(Command, &[u8]), Refusal>
     ensures { Gives (λ x. (x.0, x.1.now)) result (noop_at bytes.now) }
 {
     let (version, rest) = u8_at(bytes)?;
-    if version != VERSION {
+    if version != MACHINE_VERSION {
         return Err(Refusal::BadField);
     }
     Ok((Command::Noop { version }, rest))
@@ -242,6 +243,14 @@ pub fn decode(alloc: Global, bytes: &[u8]) -> Result<(Entry, usize), Refusal>
 {
     entry_at(alloc, bytes)
 }
+
+/// A law: an entry's spelling is read again whatever follows it, what is read has that spelling and no
+/// other, and no spelling is longer than its limit.
+pub fn entries_read_back()
+    ensures again { (e : Entry) (rest : List ℕ) → IsWritable e → entry_at (spelling e ++ rest) ≡ Ok (e, length (spelling e)) }
+    ensures alone { (bytes : List ℕ) (x : Entry × ℕ) → AreBytes bytes → entry_at bytes ≡ Ok x → IsAtFront bytes x }
+    ensures short { (e : Entry) → IsInRange e → length (spelling e) ≤ 12 + LENGTH_LIMIT }
+{}
 
 /// A law: no entry's spelling begins another's, so what was written is read again whatever follows it.
 pub fn no_spelling_begins_another()
