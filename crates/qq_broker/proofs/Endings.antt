@@ -15,7 +15,7 @@ use Rattle.qq_ports.specs.declared.fault.LineFault.TheVariants as line_faults
 use Rattle.qq_ports.specs.Faults.{AppendsFront}
 use Rattle.qq_ports.specs.Lines.{FirstLine, without_return, line_by_cut, cut_at_feed, first_line, lines_of, ahead, TakesLine, IsFirst, IsLong, BeginsTooLong, HasLineCause, FirstLineLeads}
 use Rattle.qq_script.specs.declared.line.ScriptLine.TheVariants as calls
-use Rattle.qq_script.specs.declared.line.TheConstants.{BODY_LIMIT}
+use Rattle.qq_command.specs.declared.limits.TheConstants.{BODY_LIMIT}
 use Rattle.qq_script.specs.Line.{line_call, is_body, begins_with_equals}
 use Rattle.qq_broker.specs.declared.broker.TheConstants.{LINES_LIMIT}
 use Rattle.qq_broker.specs.declared.stop.Stop.{Stop}

@@ -9,7 +9,7 @@ use Rattle.qq_ports.specs.declared.fault.LineFault.{LineFault}
 use Rattle.qq_ports.specs.declared.fault.LineFault.TheVariants as line_faults
 use Rattle.qq_ports.specs.Faults.{Rose, AppendsFront}
 use Rattle.qq_ports.specs.Lines.{lines_of}
-use Rattle.qq_script.specs.declared.line.TheConstants.{BODY_LIMIT}
+use Rattle.qq_command.specs.declared.limits.TheConstants.{BODY_LIMIT}
 use Rattle.qq_script.specs.declared.line.ScriptLine.{ScriptLine}
 use Rattle.qq_script.specs.declared.line.ScriptLine.TheVariants as calls
 use Rattle.qq_script.specs.declared.line.ScriptFault.{ScriptFault}

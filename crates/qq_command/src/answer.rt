@@ -1,6 +1,8 @@
+ghost use Rattle.std.specs.Prelude.{◌≡◌};
+
 use crate::message::Message;
 use qq_base::{Duplicate, Index, Memory};
-use std::alloc::Global;
+use std::alloc::{AllocError, AllocFailed, Global};
 use std::error::Error;
 use std::fmt;
 
@@ -112,6 +114,38 @@ impl fmt::Display for Refusal {
 }
 
 impl Error for Refusal {}
+
+impl From<Memory> for Refusal {
+    ghost use Rattle.qq_command.specs.declared.answer.Refusal.TheVariants.{Memory};
+
+    ghost from_gives = { λ m e. e ≡ Memory m };
+
+    fn from(cause: Memory) -> Self {
+        Refusal::Memory(cause)
+    }
+}
+
+impl From<AllocError> for Refusal {
+    ghost use Rattle.qq_base.specs.declared.memory.Memory.TheVariants.{Want};
+    ghost use Rattle.qq_command.specs.declared.answer.Refusal.TheVariants.{Memory};
+
+    ghost from_gives = { λ _ e. e ≡ Memory Want };
+
+    fn from(_: AllocError) -> Self {
+        Refusal::Memory(Memory::Want)
+    }
+}
+
+impl<T: Drop> From<AllocFailed<T>> for Refusal {
+    ghost use Rattle.qq_base.specs.declared.memory.Memory.TheVariants.{Want};
+    ghost use Rattle.qq_command.specs.declared.answer.Refusal.TheVariants.{Memory};
+
+    ghost from_gives = { λ _ e. e ≡ Memory Want };
+
+    fn from(_: AllocFailed<T>) -> Self {
+        Refusal::Memory(Memory::Want)
+    }
+}
 
 impl Duplicate for Delivery {
     fn copy(&self, alloc: Global) -> Result<Self, Memory> {

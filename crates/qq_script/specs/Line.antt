@@ -2,7 +2,7 @@
 use Rattle.std.specs.Prelude.{◌≡◌, ℕ, List, [], ◌∷◌, Bool, true, false, ◌==◌, ◌&&◌, nat_le, nat_eq, not, Option, Some, None, length, take, drop, codes, if◌then◌else◌}
 use Rattle.std.specs.Cmp.Lexicographic.{pointwise}
 use Rattle.qq_base.specs.declared.memory.Memory.TheVariants.{Want}
-use Rattle.qq_script.specs.declared.line.TheConstants.{BODY_LIMIT}
+use Rattle.qq_command.specs.declared.limits.TheConstants.{BODY_LIMIT}
 use Rattle.qq_script.specs.declared.line.ScriptLine.{ScriptLine}
 use Rattle.qq_script.specs.declared.line.ScriptLine.TheVariants.{Publish, Get}
 use Rattle.qq_script.specs.declared.line.ScriptFault.{ScriptFault}

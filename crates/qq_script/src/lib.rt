@@ -8,7 +8,7 @@ mod words;
 
 pub use answer::answer_text;
 pub use audit::{audit_head_text, row_text};
-pub use line::{BODY_LIMIT, ScriptFault, ScriptLine, parse_line};
+pub use line::{ScriptFault, ScriptLine, parse_line};
 
 #[cfg(test)]
 mod tests;

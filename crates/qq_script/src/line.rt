@@ -2,12 +2,10 @@ ghost use Rattle.std.specs.Prelude.{◌≡◌, Some, IfOk, IfErr};
 ghost use Rattle.qq_script.specs.Line.{line_call, is_body, HasScriptCause};
 
 use qq_base::{Bytes, Memory};
+use qq_command::BODY_LIMIT;
 use std::alloc::{AllocError, Global};
 use std::error::Error;
 use std::fmt;
-
-/// How many bytes a body may have.
-pub const BODY_LIMIT: usize = 65_536;
 
 /// A line of a script.
 #[derive(Debug, Drop, PartialEq)]

@@ -64,18 +64,13 @@ fn delivery(alloc: Global, count: u64, body: &[u8]) -> Result<Delivery, Fail> {
 fn says(
     rt: &impl Abort,
     alloc: Global,
-    command: Command,
+    stamp: Stamp,
     answer: Answer,
     wanted: &str,
 ) -> Result<(), Fail> {
     let queue = Text::from_str(alloc, "orders")?;
+    let command = Command::Cancel { stamp, tag: 8 };
     let mut out = Vec::new(alloc);
-    if matches!(
-        command,
-        Command::Noop { .. } | Command::DeadAttach { .. } | Command::DeadSettle { .. }
-    ) {
-        return Ok(());
-    }
     answer_text(alloc, true, &command, &queue, &answer, &mut out)?;
     assert_eq!(rt; out.as_slice(), wanted.as_bytes());
     Ok(())
@@ -96,7 +91,7 @@ fn subscribe(tag: u32) -> Command {
 #[test]
 fn answers_read_as_printed(rt: HostRuntime) -> Result<(), Fail> {
     let alloc = rt.alloc();
-    let first = |answer, wanted| says(&rt, alloc, get(FIRST), answer, wanted);
+    let first = |answer, wanted| says(&rt, alloc, FIRST, answer, wanted);
     first(Answer::Confirmed, "confirmed 7\n")?;
     first(Answer::Rejected(Full::Length), "rejected 7 length\n")?;
     first(Answer::Rejected(Full::ByteLength), "rejected 7 bytes\n")?;
@@ -134,7 +129,7 @@ fn answers_read_as_printed(rt: HostRuntime) -> Result<(), Fail> {
         Answer::Subscribed,
         "subscribed 8\n",
     )?;
-    says(&rt, alloc, get(OTHER), Answer::Empty, "4 orders: empty\n")?;
+    says(&rt, alloc, OTHER, Answer::Empty, "4 orders: empty\n")?;
     says(
         &rt,
         alloc,

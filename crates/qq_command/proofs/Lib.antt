@@ -1,0 +1,7 @@
+mod Loop
+mod Laws
+mod FieldLaws
+mod CommandLaws
+mod Lengths
+mod EntryLaws
+mod Appends

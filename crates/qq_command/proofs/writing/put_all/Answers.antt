@@ -1,0 +1,19 @@
+use Rattle.std.proofs.Common.{◌≡◌, ℕ, ◌+◌, ◌-◌, ◌++◌, ◌≤◌, length, List, vec_len, arith}
+use Rattle.qq_command.specs.declared.limits.TheConstants.{LENGTH_LIMIT}
+use Rattle.qq_command.specs.Spelling.{u32, u64, inside, spelling}
+use Rattle.qq_command.proofs.Lengths.{inside_len}
+use Rattle.qq_command.proofs.Appends.{length_between, set_between}
+use Rattle.qq_command.proofs.writing.put_all.Goals as goal
+
+pub overflow_cast-length : goal.overflow_cast-length
+overflow_cast-length c =
+    let small : length (inside c.args.entry.now) ≤ LENGTH_LIMIT = inside_len c.args.entry.now c.requires.range in
+    let between : length c.put_inside.new.out.items - length c.put_u32.new.out.items ≡ length (inside c.args.entry.now) = length_between c.put_u32.new.out.items (inside c.args.entry.now) c.put_inside.new.out.items c.in_ok-put_inside.ensures.ok in
+    omega (arith, c.len.ensures, c.len-front.ensures)
+
+pub returns-clause-ok : goal.returns-clause-ok
+unfolding spelling
+returns-clause-ok c =
+    let between : length c.put_inside.new.out.items - length c.put_u32.new.out.items ≡ length (inside c.args.entry.now) = length_between c.put_u32.new.out.items (inside c.args.entry.now) c.put_inside.new.out.items c.in_ok-put_inside.ensures.ok in
+    set_between c.args.out.now.items (u64 c.args.entry.now.term.0) (inside c.args.entry.now) c.put_u64.new.out.items c.put_u32.new.out.items c.put_inside.new.out.items c.set_length.new.out.items c.len-place.result (c.len.result - c.len-front.result)
+    c.in_ok-put_u64.ensures.ok c.in_ok-put_u32.ensures.ok c.in_ok-put_inside.ensures.ok (omega (arith, c.len-place.ensures)) (omega (arith, c.len.ensures, c.len-front.ensures)) c.set_length.ensures

@@ -1,0 +1,410 @@
+//! Reading the fields of a command from the front of bytes.
+ghost use Rattle.std.specs.Prelude.{◌≡◌, ◌≤◌, List, length, IfOk};
+ghost use Rattle.std.specs.Int.{w8, w16, w32, w64};
+ghost use Rattle.qq_command.specs.Reading.{Gives, Field, number_at, bytes_at, positive_at, flag_at, has_owner, session_at, has_seq, stamp_at, counted_at, queue_at, origin_at, body_at, key_at, reason_of, death_at, deaths_at, message_at, mode_at, ids_at, dead_done_at, dead_dones_at, consumer_at, verdict_at, many};
+
+use crate::answer::Refusal;
+use crate::command::{DeadDone, DeadDones, Mode, Stamp};
+use crate::limits::{BODY_LIMIT, DEAD_DONE_LIMIT, DEATHS_LIMIT, IDS_LIMIT, TARGETS_LIMIT};
+use crate::message::{Content, Death, Deaths, Message, Origin, Reason};
+use qq_base::{
+    Bytes, Ids, QueueId, QueueIds, SessionId, Text, take_u8, take_u16, take_u32, take_u64,
+};
+use std::alloc::Global;
+
+/// The bytes of an id of a delivery.
+const ID_LEN: usize = 8;
+
+/// The bytes of a death.
+pub const DEATH_LEN: usize = 5;
+
+/// The bytes of a target.
+const TARGET_LEN: usize = 4;
+
+/// The least bytes of a dead letter that is settled.
+const DEAD_DONE_LEN: usize = 10;
+
+#[tactic(auto, unfolding(crate::specs::Reading::number_at))]
+pub fn u8_at(bytes: &[u8]) -> Result<(u8, &[u8]), Refusal>
+    ensures { Gives (λ x. (x.0, x.1.now)) result (number_at w8 bytes.now) }
+{
+    match take_u8(bytes) {
+        None => Err(Refusal::BadField),
+        Some((number, taken)) => Ok((number, bytes.split_at(taken).1)),
+    }
+}
+
+#[tactic(auto, unfolding(crate::specs::Reading::number_at))]
+pub fn u16_at(bytes: &[u8]) -> Result<(u16, &[u8]), Refusal>
+    ensures { Gives (λ x. (x.0, x.1.now)) result (number_at w16 bytes.now) }
+{
+    match take_u16(bytes) {
+        None => Err(Refusal::BadField),
+        Some((number, taken)) => Ok((number, bytes.split_at(taken).1)),
+    }
+}
+
+#[tactic(auto, unfolding(crate::specs::Reading::number_at))]
+pub fn u32_at(bytes: &[u8]) -> Result<(u32, &[u8]), Refusal>
+    ensures { Gives (λ x. (x.0, x.1.now)) result (number_at w32 bytes.now) }
+{
+    match take_u32(bytes) {
+        None => Err(Refusal::BadField),
+        Some((number, taken)) => Ok((number, bytes.split_at(taken).1)),
+    }
+}
+
+#[tactic(auto, unfolding(crate::specs::Reading::number_at))]
+pub fn u64_at(bytes: &[u8]) -> Result<(u64, &[u8]), Refusal>
+    ensures { Gives (λ x. (x.0, x.1.now)) result (number_at w64 bytes.now) }
+{
+    match take_u64(bytes) {
+        None => Err(Refusal::BadField),
+        Some((number, taken)) => Ok((number, bytes.split_at(taken).1)),
+    }
+}
+
+#[tactic(auto, unfolding(crate::specs::Reading::bytes_at))]
+fn bytes_at(count: usize, bytes: &[u8]) -> Result<(&[u8], &[u8]), Refusal>
+    ensures exact { Gives (λ x. (x.0.now, x.1.now)) result (bytes_at count bytes.now) }
+    ensures len { IfOk result (λ x. length x.0.now ≡ count) }
+{
+    if bytes.len() < count {
+        return Err(Refusal::BadField);
+    }
+    Ok(bytes.split_at(count))
+}
+
+#[tactic(auto, unfolding(crate::specs::Reading::checked, crate::specs::Reading::positive_at))]
+fn positive_u32_at(bytes: &[u8]) -> Result<(u32, &[u8]), Refusal>
+    ensures { Gives (λ x. (x.0, x.1.now)) result (positive_at w32 bytes.now) }
+{
+    let (number, rest) = u32_at(bytes)?;
+    if number == 0 {
+        return Err(Refusal::BadField);
+    }
+    Ok((number, rest))
+}
+
+#[tactic(auto, unfolding(crate::specs::Reading::checked, crate::specs::Reading::positive_at))]
+fn positive_u64_at(bytes: &[u8]) -> Result<(u64, &[u8]), Refusal>
+    ensures { Gives (λ x. (x.0, x.1.now)) result (positive_at w64 bytes.now) }
+{
+    let (number, rest) = u64_at(bytes)?;
+    if number == 0 {
+        return Err(Refusal::BadField);
+    }
+    Ok((number, rest))
+}
+
+#[tactic(auto, unfolding(crate::specs::Reading::checked, crate::specs::Reading::flag_at))]
+pub fn flag_at(bytes: &[u8]) -> Result<(bool, &[u8]), Refusal>
+    ensures { Gives (λ x. (x.0, x.1.now)) result (flag_at bytes.now) }
+{
+    let (number, rest) = u8_at(bytes)?;
+    if number > 1 {
+        return Err(Refusal::BadField);
+    }
+    Ok((number == 1, rest))
+}
+
+fn has_owner(session: &SessionId) -> bool
+    ensures { result ≡ has_owner session.now }
+{
+    if session.class == 1 {
+        session.owner == 0
+    } else {
+        1 < session.class && session.class < 4 && 0 < session.owner
+    }
+}
+
+#[tactic(auto, unfolding(crate::specs::Reading::checked, crate::specs::Reading::session_at))]
+pub fn session_at(bytes: &[u8]) -> Result<(SessionId, &[u8]), Refusal>
+    ensures { Gives (λ x. (x.0, x.1.now)) result (session_at bytes.now) }
+{
+    let (class, rest) = u8_at(bytes)?;
+    let (owner, rest) = u32_at(rest)?;
+    let (number, rest) = positive_u64_at(rest)?;
+    let session = SessionId {
+        class,
+        owner,
+        number,
+    };
+    if !has_owner(&session) {
+        return Err(Refusal::BadField);
+    }
+    Ok((session, rest))
+}
+
+fn has_seq(stamp: &Stamp) -> bool
+    ensures { result ≡ has_seq stamp.now }
+{
+    if stamp.session.class < 3 {
+        0 < stamp.seq
+    } else {
+        stamp.seq == 0
+    }
+}
+
+#[tactic(auto, unfolding(crate::specs::Reading::checked, crate::specs::Reading::stamp_at))]
+pub fn stamp_at(bytes: &[u8]) -> Result<(Stamp, &[u8]), Refusal>
+    ensures { Gives (λ x. (x.0, x.1.now)) result (stamp_at bytes.now) }
+{
+    let (session, rest) = session_at(bytes)?;
+    let (seq, rest) = u64_at(rest)?;
+    let (done, rest) = u64_at(rest)?;
+    let stamp = Stamp { session, seq, done };
+    if !has_seq(&stamp) {
+        return Err(Refusal::BadField);
+    }
+    Ok((stamp, rest))
+}
+
+/// The stamp of a command that only classes 1 and 2 give.
+#[tactic(auto, unfolding(crate::specs::Reading::checked, crate::specs::Reading::counted_at))]
+pub fn counted_at(bytes: &[u8]) -> Result<(Stamp, &[u8]), Refusal>
+    ensures { Gives (λ x. (x.0, x.1.now)) result (counted_at bytes.now) }
+{
+    let (stamp, rest) = stamp_at(bytes)?;
+    if stamp.session.class >= 3 {
+        return Err(Refusal::BadField);
+    }
+    Ok((stamp, rest))
+}
+
+#[tactic(auto, unfolding(crate::specs::Reading::queue_at))]
+fn queue_at(bytes: &[u8]) -> Result<(QueueId, &[u8]), Refusal>
+    ensures { Gives (λ x. (x.0, x.1.now)) result (queue_at bytes.now) }
+{
+    let (number, rest) = positive_u32_at(bytes)?;
+    Ok((QueueId(number), rest))
+}
+
+#[tactic(auto, unfolding(crate::specs::Reading::origin_at))]
+pub fn origin_at(bytes: &[u8]) -> Result<(Option<Origin>, &[u8]), Refusal>
+    ensures { Gives (λ x. (x.0, x.1.now)) result (origin_at bytes.now) }
+{
+    let (is_there, rest) = flag_at(bytes)?;
+    if !is_there {
+        return Ok((None, rest));
+    }
+    let (source, rest) = queue_at(rest)?;
+    let (number, rest) = positive_u64_at(rest)?;
+    Ok((Some(Origin { source, number }), rest))
+}
+
+#[tactic(auto, unfolding(crate::specs::Reading::body_at))]
+fn body_at(alloc: Global, bytes: &[u8]) -> Result<(Bytes, &[u8]), Refusal>
+    ensures exact { Gives (λ x. (x.0, x.1.now)) result (body_at bytes.now) }
+    ensures within { IfOk result (λ x. length x.0 ≤ BODY_LIMIT) }
+{
+    let (count, rest) = u32_at(bytes)?;
+    let count = count as usize;
+    if count > BODY_LIMIT {
+        return Err(Refusal::TooLarge);
+    }
+    let (body, rest) = bytes_at(count, rest)?;
+    Ok((Bytes::from_vec(Vec::from_slice(alloc, body)?), rest))
+}
+
+#[tactic(auto, unfolding(crate::specs::Reading::checked, crate::specs::Reading::key_at))]
+fn key_at(alloc: Global, bytes: &[u8]) -> Result<(Text, &[u8]), Refusal>
+    ensures { Gives (λ x. (x.0, x.1.now)) result (key_at bytes.now) }
+{
+    let (count, rest) = u8_at(bytes)?;
+    let (key, rest) = bytes_at(count as usize, rest)?;
+    match str::from_utf8(key) {
+        Ok(key) => Ok((Text::from_str(alloc, key)?, rest)),
+        Err(_) => Err(Refusal::BadField),
+    }
+}
+
+fn reason_of(number: u8) -> Option<Reason>
+    ensures { result ≡ reason_of number }
+{
+    match number {
+        1 => Some(Reason::Rejected),
+        2 => Some(Reason::Expired),
+        3 => Some(Reason::MaxLen),
+        4 => Some(Reason::DeliveryLimit),
+        _ => None,
+    }
+}
+
+#[tactic(auto, unfolding(crate::specs::Reading::death_at))]
+fn death_at(bytes: &[u8]) -> Result<(Death, &[u8]), Refusal>
+    ensures { Gives (λ x. (x.0, x.1.now)) result (death_at bytes.now) }
+{
+    let (queue, rest) = queue_at(bytes)?;
+    let (number, rest) = u8_at(rest)?;
+    match reason_of(number) {
+        Some(reason) => Ok((Death { queue, reason }, rest)),
+        None => Err(Refusal::BadField),
+    }
+}
+
+fn deaths_of(alloc: Global, count: usize, bytes: &[u8]) -> Result<(Vec<Death>, &[u8]), Refusal>
+    ensures { Gives (λ x. (x.0.items, x.1.now)) result (many death_at count bytes.now) }
+{
+    let mut deaths = Vec::with_capacity(alloc, count.min(bytes.len() / DEATH_LEN))?;
+    let mut rest = bytes;
+    'deaths: for _ in 0..count {
+        let (death, after) = death_at(rest)?;
+        deaths.push(death)?;
+        rest = after;
+    }
+    Ok((deaths, rest))
+}
+
+#[tactic(auto, unfolding(crate::specs::Reading::deaths_at))]
+fn deaths_at(alloc: Global, bytes: &[u8]) -> Result<(Deaths, &[u8]), Refusal>
+    ensures { Gives (λ x. (x.0, x.1.now)) result (deaths_at bytes.now) }
+{
+    let (count, rest) = u16_at(bytes)?;
+    let count = count as usize;
+    if count > DEATHS_LIMIT {
+        return Err(Refusal::TooLarge);
+    }
+    let (deaths, rest) = deaths_of(alloc, count, rest)?;
+    Ok((Deaths::from_vec(deaths), rest))
+}
+
+#[tactic(auto, unfolding(crate::specs::Reading::message_at))]
+pub fn message_at(alloc: Global, bytes: &[u8]) -> Result<(Message, &[u8]), Refusal>
+    ensures { Gives (λ x. (x.0, x.1.now)) result (message_at bytes.now) }
+{
+    let (body, rest) = body_at(alloc, bytes)?;
+    let (key, rest) = key_at(alloc, rest)?;
+    let (deaths, rest) = deaths_at(alloc, rest)?;
+    let size = body.len() as u32;
+    let content = Content { body, key, deaths };
+    Ok((
+        Message {
+            size,
+            content: Some(content),
+        },
+        rest,
+    ))
+}
+
+#[tactic(auto, unfolding(crate::specs::Reading::mode_at))]
+pub fn mode_at(bytes: &[u8]) -> Result<(Mode, &[u8]), Refusal>
+    ensures { Gives (λ x. (x.0, x.1.now)) result (mode_at bytes.now) }
+{
+    let (is_link, rest) = flag_at(bytes)?;
+    let (count, rest) = u16_at(rest)?;
+    if !is_link {
+        return Ok((Mode::Prefetch(count), rest));
+    }
+    if count != 0 {
+        return Err(Refusal::BadField);
+    }
+    Ok((Mode::Link, rest))
+}
+
+fn ids_of(alloc: Global, count: usize, bytes: &[u8]) -> Result<(Vec<u64>, &[u8]), Refusal>
+    ensures { Gives (λ x. (x.0.items, x.1.now)) result (many (positive_at w64) count bytes.now) }
+{
+    let mut ids = Vec::with_capacity(alloc, count.min(bytes.len() / ID_LEN))?;
+    let mut rest = bytes;
+    'ids: for _ in 0..count {
+        let (id, after) = positive_u64_at(rest)?;
+        ids.push(id)?;
+        rest = after;
+    }
+    Ok((ids, rest))
+}
+
+#[tactic(auto, unfolding(crate::specs::Reading::ids_at))]
+fn ids_at(alloc: Global, bytes: &[u8]) -> Result<(Ids, &[u8]), Refusal>
+    ensures { Gives (λ x. (x.0, x.1.now)) result (ids_at bytes.now) }
+{
+    let (count, rest) = u32_at(bytes)?;
+    let count = count as usize;
+    if count > IDS_LIMIT {
+        return Err(Refusal::TooLarge);
+    }
+    if count == 0 {
+        return Err(Refusal::BadField);
+    }
+    let (ids, rest) = ids_of(alloc, count, rest)?;
+    Ok((Ids::from_vec(ids), rest))
+}
+
+fn targets_of(alloc: Global, count: usize, bytes: &[u8]) -> Result<(Vec<QueueId>, &[u8]), Refusal>
+    ensures { Gives (λ x. (x.0.items, x.1.now)) result (many queue_at count bytes.now) }
+{
+    let mut targets = Vec::with_capacity(alloc, count.min(bytes.len() / TARGET_LEN))?;
+    let mut rest = bytes;
+    'targets: for _ in 0..count {
+        let (target, after) = queue_at(rest)?;
+        targets.push(target)?;
+        rest = after;
+    }
+    Ok((targets, rest))
+}
+
+#[tactic(auto, unfolding(crate::specs::Reading::checked, crate::specs::Reading::dead_done_at))]
+fn dead_done_at(alloc: Global, bytes: &[u8]) -> Result<(DeadDone, &[u8]), Refusal>
+    ensures { Gives (λ x. (x.0, x.1.now)) result (dead_done_at bytes.now) }
+{
+    let (number, rest) = positive_u64_at(bytes)?;
+    let (count, rest) = u16_at(rest)?;
+    let count = count as usize;
+    if count > TARGETS_LIMIT {
+        return Err(Refusal::BadField);
+    }
+    let (targets, rest) = targets_of(alloc, count, rest)?;
+    let targets = QueueIds::from_vec(targets);
+    Ok((DeadDone { number, targets }, rest))
+}
+
+fn dead_dones_of(
+    alloc: Global,
+    count: usize,
+    bytes: &[u8],
+) -> Result<(Vec<DeadDone>, &[u8]), Refusal>
+    ensures { Gives (λ x. (x.0.items, x.1.now)) result (many dead_done_at count bytes.now) }
+{
+    let mut done = Vec::with_capacity(alloc, count.min(bytes.len() / DEAD_DONE_LEN))?;
+    let mut rest = bytes;
+    'dead_dones: for _ in 0..count {
+        let (one, after) = dead_done_at(alloc, rest)?;
+        done.push(one)?;
+        rest = after;
+    }
+    Ok((done, rest))
+}
+
+#[tactic(auto, unfolding(crate::specs::Reading::checked, crate::specs::Reading::dead_dones_at))]
+pub fn dead_dones_at(alloc: Global, bytes: &[u8]) -> Result<(DeadDones, &[u8]), Refusal>
+    ensures { Gives (λ x. (x.0, x.1.now)) result (dead_dones_at bytes.now) }
+{
+    let (count, rest) = u16_at(bytes)?;
+    let count = count as usize;
+    if count == 0 || count > DEAD_DONE_LIMIT {
+        return Err(Refusal::BadField);
+    }
+    let (done, rest) = dead_dones_of(alloc, count, rest)?;
+    Ok((DeadDones::from_vec(done), rest))
+}
+
+/// A stamp, and the tag of a consumer of its session.
+#[tactic(auto, unfolding(crate::specs::Reading::consumer_at))]
+pub fn consumer_at(bytes: &[u8]) -> Result<((Stamp, u32), &[u8]), Refusal>
+    ensures { Gives (λ x. (x.0, x.1.now)) result (consumer_at bytes.now) }
+{
+    let (stamp, rest) = counted_at(bytes)?;
+    let (tag, rest) = positive_u32_at(rest)?;
+    Ok(((stamp, tag), rest))
+}
+
+/// A stamp, a tag, and ids of deliveries.
+#[tactic(auto, unfolding(crate::specs::Reading::verdict_at))]
+pub fn verdict_at(alloc: Global, bytes: &[u8]) -> Result<((Stamp, u32, Ids), &[u8]), Refusal>
+    ensures { Gives (λ x. (x.0, x.1.now)) result (verdict_at bytes.now) }
+{
+    let ((stamp, tag), rest) = consumer_at(bytes)?;
+    let (ids, rest) = ids_at(alloc, rest)?;
+    Ok(((stamp, tag, ids), rest))
+}
