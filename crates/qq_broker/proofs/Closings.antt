@@ -3,7 +3,7 @@ use Rattle.std.proofs.Common.{◌≡◌, ℕ, zero, suc, ◌+◌, ◌-◌, ◌^�
 use Rattle.std.specs.Prelude.{IfSome, OnOk, codes}
 use Rattle.std.proofs.lemmas.Bool.{cases_lt}
 use Rattle.std.specs.Io.KnownBytes.{Appends}
-use Rattle.std.proofs.KnownBytes.{Appends-trans, Appends-nil}
+use Rattle.std.proofs.KnownBytes.{Appends-trans, Appends-nil, Keeps-refl}
 use Rattle.qq_base.specs.declared.memory.Memory.TheVariants.{Want, Spent}
 use Rattle.qq_base.specs.declared.memory.TheConstants.{NUMBER_END}
 use Rattle.qq_ports.specs.Faults.{Rose}
@@ -140,13 +140,13 @@ answers_and bytes a b c more so grown = record {
 }
 
 -- the closing line was written whole
-whole_ends : (stop : Stop) (left a b c : Option (List ℕ)) (source sink : Type 0) → IfSome left (λ bytes. HasStopped stop opened (lines_of bytes) a b) → HasFailed stop source sink → Appends b c (closing_text stop) → RunEnds (status_of stop) true left a c source sink
-whole_ends stops.Usage left a b c source sink so failed grown = absurd failed
-whole_ends (stops.Refused line) left a b c source sink so failed grown = (refl, if_some left (λ bytes h. ends_all 4 bytes (refusal_text line) a b c h.0 h.1 grown) so)
-whole_ends stops.ReadFault left a b c source sink so failed grown = (refl, failed, if_some left (λ bytes h. answers_and bytes a b c (codes "read fault\n") h grown) so)
-whole_ends stops.WriteFault left a b c source sink so failed grown = (failed, if_some left (λ bytes h. short_at stops.WriteFault bytes a b c 0 h grown) so)
-whole_ends (stops.Memory Want) left a b c source sink so failed grown = (refl, if_some left (λ bytes h. front_and bytes a b c (codes "memory\n") h grown) so)
-whole_ends (stops.Memory (Spent number)) left a b c source sink so failed grown = (refl, if_some left (λ bytes h. ends_all 20 bytes (spent_text number) a b c h.0 h.1 grown) so)
+whole_ends : (stop : Stop) (left rest a b c : Option (List ℕ)) (source sink : Type 0) → IfSome left (λ bytes. HasStopped stop opened (lines_of bytes) a b) → HasFailed stop source sink → Appends b c (closing_text stop) → RunEnds (status_of stop) true left rest a c source sink
+whole_ends stops.Usage left rest a b c source sink so failed grown = absurd failed
+whole_ends (stops.Refused line) left rest a b c source sink so failed grown = (refl, if_some left (λ bytes h. ends_all 4 bytes (refusal_text line) a b c h.0 h.1 grown) so)
+whole_ends stops.ReadFault left rest a b c source sink so failed grown = (refl, failed, if_some left (λ bytes h. answers_and bytes a b c (codes "read fault\n") h grown) so)
+whole_ends stops.WriteFault left rest a b c source sink so failed grown = (failed, if_some left (λ bytes h. short_at stops.WriteFault bytes a b c 0 h grown) so)
+whole_ends (stops.Memory Want) left rest a b c source sink so failed grown = (refl, if_some left (λ bytes h. front_and bytes a b c (codes "memory\n") h grown) so)
+whole_ends (stops.Memory (Spent number)) left rest a b c source sink so failed grown = (refl, if_some left (λ bytes h. ends_all 20 bytes (spent_text number) a b c h.0 h.1 grown) so)
 
 -- what `HasFailed` says of a part of a run holds of the whole
 failed_more : (stop : Stop) (source sink sink' : Type 0) → (sink → sink') → HasFailed stop source sink → HasFailed stop source sink'
@@ -157,20 +157,20 @@ failed_more stops.WriteFault source sink sink' f h = f h
 failed_more (stops.Memory memory) source sink sink' f h = h
 
 -- a script that stopped, and whose closing line was written, whole or in part
-pub script_ends : (stop : Stop) (status : Status) (left a b c : Option (List ℕ)) (source : Type 0) (old mid new : ℕ) → old ≤ mid → mid ≤ new
+pub script_ends : (stop : Stop) (status : Status) (left rest a b c : Option (List ℕ)) (source : Type 0) (old mid new : ℕ) → old ≤ mid → mid ≤ new
     → IfSome left (λ bytes. HasStopped stop opened (lines_of bytes) a b) → HasFailed stop source (Rose old mid)
-    → ClosesWhole stop status b c ⊎ ClosesPart stop status b c (Rose mid new) → RunEnds status true left a c source (Rose old new)
-script_ends stop status left a b c source old mid new before after so failed (inl whole) =
-    subst (λ (s : Status). RunEnds s true left a c source (Rose old new)) (sym whole.status_is)
-    (whole_ends stop left a b c source (Rose old new) so (failed_more stop source (Rose old mid) (Rose old new) (λ h. Rose-later old mid new before after h) failed) whole.written)
-script_ends stop status left a b c source old mid new before after so failed (inr part) =
-    subst (λ (s : Status). RunEnds s true left a c source (Rose old new)) (sym part.status_is)
+    → ClosesWhole stop status b c ⊎ ClosesPart stop status b c (Rose mid new) → RunEnds status true left rest a c source (Rose old new)
+script_ends stop status left rest a b c source old mid new before after so failed (inl whole) =
+    subst (λ (s : Status). RunEnds s true left rest a c source (Rose old new)) (sym whole.status_is)
+    (whole_ends stop left rest a b c source (Rose old new) so (failed_more stop source (Rose old mid) (Rose old new) (λ h. Rose-later old mid new before after h) failed) whole.written)
+script_ends stop status left rest a b c source old mid new before after so failed (inr part) =
+    subst (λ (s : Status). RunEnds s true left rest a c source (Rose old new)) (sym part.status_is)
     (Rose-earlier old mid new before part.failed, if_some left (λ bytes h. short_at stop bytes a b c part.count h part.written) so)
 
 -- words that are no command
-pub usage_ends : (status : Status) (left a b : Option (List ℕ)) (source sink : Type 0) → ClosesWhole stops.Usage status a b ⊎ ClosesPart stops.Usage status a b sink → RunEnds status false left a b source sink
+pub usage_ends : (status : Status) (left a b : Option (List ℕ)) (source sink : Type 0) → ClosesWhole stops.Usage status a b ⊎ ClosesPart stops.Usage status a b sink → RunEnds status false left left a b source sink
 usage_ends status left a b source sink (inl whole) =
-    subst (λ (s : Status). RunEnds s false left a b source sink) (sym whole.status_is) (refl, whole.written)
+    subst (λ (s : Status). RunEnds s false left left a b source sink) (sym whole.status_is) (refl, Keeps-refl left, whole.written)
 usage_ends status left a b source sink (inr part) =
-    subst (λ (s : Status). RunEnds s false left a b source sink) (sym part.status_is)
+    subst (λ (s : Status). RunEnds s false left left a b source sink) (sym part.status_is)
     (part.failed, if_some_all left (λ bytes. record { front = []; rest = []; is = refl; stop = stops.Usage; count = part.count; written = part.written }))

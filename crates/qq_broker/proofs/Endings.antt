@@ -210,3 +210,9 @@ pub going_ends : (start now : Option (List ℕ)) (first run : Run) (a b : Option
 going_ends None now first run a b so end = tt
 going_ends (Some bytes) None first run a b so end = absurd so
 going_ends (Some bytes) (Some rest) first run a b so end = subst (λ (l : List ℕ). Goes first (lines_of bytes) run (lines_of l) a b) end so
+
+-- nothing is ahead, so nothing is left
+pub ahead_ends : (pending : List ℕ) (left : Option (List ℕ)) → IsAtEnd (prepend_known pending left) → IsAtEnd left
+ahead_ends pending None end = tt
+ahead_ends [] (Some bytes) end = end
+ahead_ends (b ∷ bs) (Some bytes) end = absurd (let e : b ∷ (bs ++ bytes) ≡ [] = end in cc)

@@ -1,7 +1,7 @@
 -- What was written when a run ends, for each status.
 use Rattle.std.specs.Prelude.{◌≡◌, ◌≤◌, length, ℕ, ◌+◌, List, [], ◌∷◌, ◌++◌, Bool, true, false, nat_eq, Option, Some, None, IfSome, take, codes, if◌then◌else◌}
 use Rattle.std.specs.Cmp.Lexicographic.{pointwise}
-use Rattle.std.specs.Io.KnownBytes.{Appends, Keeps}
+use Rattle.std.specs.Io.KnownBytes.{Appends, Keeps, IsAtEnd}
 use Rattle.qq_base.specs.declared.memory.Memory.{Memory}
 use Rattle.qq_base.specs.declared.memory.Memory.TheVariants.{Want, Spent}
 use Rattle.qq_base.specs.declared.memory.TheConstants.{NUMBER_END}
@@ -180,12 +180,13 @@ pub record EndsAll (status : ℕ) (bytes : List ℕ) (old new : Option (List ℕ
   pub status_is : (outcome bytes).status ≡ status
   pub written : Appends old new (outcome bytes).text
 
--- what a run of a script with this status has done: `left` is what the source had, where it tells
-abbrev pub RunEnds : Status → Bool → Option (List ℕ) → Option (List ℕ) → Option (List ℕ) → Type 0 → Type 0 → Type 0
-RunEnds statuses.Done script left old new source_rose sink_rose = (script ≡ true) × IfSome left (λ bytes. EndsAll 0 bytes old new)
-RunEnds statuses.Usage script left old new source_rose sink_rose = (script ≡ false) × Appends old new usage_text
-RunEnds statuses.Script script left old new source_rose sink_rose = (script ≡ true) × IfSome left (λ bytes. EndsAll 4 bytes old new)
-RunEnds statuses.ReadFault script left old new source_rose sink_rose = (script ≡ true) × source_rose × IfSome left (λ bytes. HasAnswers old new opened (lines_of bytes) (codes "read fault\n"))
-RunEnds statuses.WriteFault script left old new source_rose sink_rose = sink_rose × IfSome left (λ bytes. ClosesShort old new (if script then (outcome bytes).text else []))
-RunEnds statuses.Memory script left old new source_rose sink_rose = (script ≡ true) × IfSome left (λ bytes. HasFrontAnd old new (outcome bytes).text (codes "memory\n"))
-RunEnds statuses.Spent script left old new source_rose sink_rose = (script ≡ true) × IfSome left (λ bytes. EndsAll 20 bytes old new)
+-- What a run with this status has done. `left` is what the source had, and `rest` what it has in the end,
+-- where it tells; `old` and `new` are what the sink had and has; `script` says whether the words are a script.
+abbrev pub RunEnds : Status → Bool → Option (List ℕ) → Option (List ℕ) → Option (List ℕ) → Option (List ℕ) → Type 0 → Type 0 → Type 0
+RunEnds statuses.Done script left rest old new source_rose sink_rose = (script ≡ true) × IsAtEnd rest × IfSome left (λ bytes. EndsAll 0 bytes old new)
+RunEnds statuses.Usage script left rest old new source_rose sink_rose = (script ≡ false) × Keeps left rest × Appends old new usage_text
+RunEnds statuses.Script script left rest old new source_rose sink_rose = (script ≡ true) × IfSome left (λ bytes. EndsAll 4 bytes old new)
+RunEnds statuses.ReadFault script left rest old new source_rose sink_rose = (script ≡ true) × source_rose × IfSome left (λ bytes. HasAnswers old new opened (lines_of bytes) (codes "read fault\n"))
+RunEnds statuses.WriteFault script left rest old new source_rose sink_rose = sink_rose × IfSome left (λ bytes. ClosesShort old new (if script then (outcome bytes).text else []))
+RunEnds statuses.Memory script left rest old new source_rose sink_rose = (script ≡ true) × IfSome left (λ bytes. HasFrontAnd old new (outcome bytes).text (codes "memory\n"))
+RunEnds statuses.Spent script left rest old new source_rose sink_rose = (script ≡ true) × IfSome left (λ bytes. EndsAll 20 bytes old new)

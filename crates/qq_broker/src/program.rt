@@ -1,6 +1,6 @@
 ghost use Rattle.std.specs.Prelude.{◌≡◌, ◌≤◌, ◌++◌, [], ◌⊎◌, map, string_bytes, IfErr, IfSome, OnOk, OnErr, codes};
 ghost use Rattle.std.specs.Fmt.{decimal};
-ghost use Rattle.std.specs.Io.KnownBytes.{Appends};
+ghost use Rattle.std.specs.Io.KnownBytes.{Appends, IsAtEnd};
 ghost use Rattle.qq_ports.specs.Faults.{Rose, AppendsFront, HasCause};
 ghost use Rattle.qq_ports.specs.Lines.{lines_of};
 ghost use Rattle.qq_script.specs.Audit.{audit_text, row_line};
@@ -122,6 +122,7 @@ fn serve_lines<I: Source, O: Sink>(
     output: &mut O,
 ) -> Result<(), Stop>
     requires { broker.old.lines ≡ 0 }
+    ensures ended { OnOk result (IsAtEnd (I.left input.new)) }
     ensures ok { OnOk result (IfSome (I.left input.old) (λ bytes. Goes broker.old (lines_of bytes) broker.new [] (O.written output.old) (O.written output.new))) }
     ensures cause { IfErr result (λ stop. IfSome (I.left input.old) (λ bytes. HasStopped stop broker.old (lines_of bytes) (O.written output.old) (O.written output.new))) }
     ensures failed { IfErr result (λ stop. HasFailed stop (Rose (I.faults input.old) (I.faults input.new)) (Rose (O.faults output.old) (O.faults output.new))) }
@@ -145,6 +146,7 @@ fn serve_lines<I: Source, O: Sink>(
 
 // Serves a script: the answers of its lines, and then the audit.
 fn serve<I: Source, O: Sink>(alloc: Global, input: &mut I, output: &mut O) -> Result<(), Stop>
+    ensures ended { OnOk result (IsAtEnd (I.left input.new)) }
     ensures ok { OnOk result (IfSome (I.left input.old) (λ bytes. EndsAll 0 bytes (O.written output.old) (O.written output.new))) }
     ensures cause { IfErr result (λ stop. IfSome (I.left input.old) (λ bytes. HasStopped stop opened (lines_of bytes) (O.written output.old) (O.written output.new))) }
     ensures failed { IfErr result (λ stop. HasFailed stop (Rose (I.faults input.old) (I.faults input.new)) (Rose (O.faults output.old) (O.faults output.new))) }
@@ -241,7 +243,7 @@ pub fn run<R: AllocGlobal, I: Source, O: Sink>(
     output: &mut O,
 ) -> u8
     ensures ends { (status : Status) × (result ≡ status_code status) × RunEnds status (is_script (map string_bytes words.now))
-        (I.left input.old) (O.written output.old) (O.written output.new)
+        (I.left input.old) (I.left input.new) (O.written output.old) (O.written output.new)
         (Rose (I.faults input.old) (I.faults input.new)) (Rose (O.faults output.old) (O.faults output.new)) }
     ensures source_later { I.faults input.old ≤ I.faults input.new }
     ensures sink_later { O.faults output.old ≤ O.faults output.new }

@@ -125,7 +125,7 @@ fn answers_read_as_printed(rt: HostRuntime) -> Result<(), Fail> {
     says(
         &rt,
         alloc,
-        subscribe(8),
+        FIRST,
         Answer::Subscribed,
         "subscribed 8\n",
     )?;
@@ -133,7 +133,7 @@ fn answers_read_as_printed(rt: HostRuntime) -> Result<(), Fail> {
     says(
         &rt,
         alloc,
-        get(WORKER),
+        WORKER,
         Answer::Confirmed,
         "d3.5 orders: confirmed 1\n",
     )
