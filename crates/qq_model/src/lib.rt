@@ -4,6 +4,7 @@
 
 mod consumer;
 mod place;
+mod rounds;
 mod session;
 
 /// The end of each number that rises: an index, a term, a counter.
@@ -29,4 +30,5 @@ pub const MOST_GIVEN: u64 = 32;
 
 pub use consumer::{Consumer, Outcome};
 pub use place::{GoneReason, Key, Place, Row};
+pub use rounds::loops_run_out;
 pub use session::{Gate, OpenSession, Worker};
