@@ -14,10 +14,10 @@ use Rattle.qq_model.specs.declared.place.GoneReason.TheVariants.{Died}
 use Rattle.qq_model.specs.declared.place.Key.TheVariants.{Front, Back}
 use Rattle.qq_model.specs.declared.place.Row.{Row}
 use Rattle.qq_model.specs.declared.consumer.Consumer.{Consumer}
-use Rattle.qq_model.specs.State.{State, same_consumer}
+use Rattle.qq_model.specs.State.{same_consumer}
 use Rattle.qq_model.specs.Choice.{comes_before, next_message, next_consumer, is_out_at, out_count}
 use Rattle.qq_model.specs.Limits.{is_ready, is_dead, ready_count, dead_count, is_over, passes}
-use Rattle.qq_model.specs.Changes.{Progress, while_next, with_row, message_of, dies_by, dies, goes_back, counted, returned}
+use Rattle.qq_model.specs.Changes.{Progress, with_row, message_of, dies_by, dies, goes_back, counted, returned}
 use Rattle.qq_model.specs.Commands.{delivery_id, id_before, place_of, first_delivery, return_by, return_first, all_returned}
 use Rattle.qq_model.specs.Serving.{delivers, delivers_if, check_out, checkouts, drop_by, drop_head, limits, number_before, is_sooner_dead, next_dead, given_count, offers_at, offers, give_dead, dead_giving}
 use Rattle.qq_model.proofs.Counting.{while_next-runs_out, chosen_first, replaced_less, fewer, less}
@@ -34,7 +34,7 @@ comes_before-ready (Gone reason) best e = e
 next_message-falls : (rows : List Row) (row new : Row) → next_message rows ≡ Some row → new.index.0 ≡ row.index.0 → is_ready new.place ≡ false → ready_count (with_row new rows) < ready_count rows
 next_message-falls rows row new e same out =
     replaced_less (λ (one : Row). is_ready one.place) new out rows
-      (chosen_first (λ (best : Option Row) (one : Row). comes_before one.place best) (λ (one : Row). is_ready one.place) (λ best one t. comes_before-ready one.place best t) (λ (one : Row). nat_eq one.index.0 new.index.0) rows row (eq-eqb row.index.0 new.index.0 (sym same)) e).1
+    (chosen_first (λ (best : Option Row) (one : Row). comes_before one.place best) (λ (one : Row). is_ready one.place) (λ best one t. comes_before-ready one.place best t) (λ (one : Row). nat_eq one.index.0 new.index.0) rows row (eq-eqb row.index.0 new.index.0 (sym same)) e).1
 
 -- the ready messages are fewer
 abbrev Fewer : Progress → Progress → Type 0
@@ -96,7 +96,7 @@ id_before-out consumer (Gone reason) other e = e
 first_delivery-falls : (consumer : ConsumerId) (rows : List Row) (row new : Row) → first_delivery consumer rows ≡ Some row → new.index.0 ≡ row.index.0 → is_out_at consumer new.place ≡ false → out_count consumer (with_row new rows) < out_count consumer rows
 first_delivery-falls consumer rows row new e same out =
     replaced_less (λ (one : Row). is_out_at consumer one.place) new out rows
-      (chosen_first (λ (best : Option Row) (one : Row). id_before (delivery_id consumer one.place) (delivery_id consumer (place_of best))) (λ (one : Row). is_out_at consumer one.place) (λ best one t. id_before-out consumer one.place (delivery_id consumer (place_of best)) t) (λ (one : Row). nat_eq one.index.0 new.index.0) rows row (eq-eqb row.index.0 new.index.0 (sym same)) e).1
+    (chosen_first (λ (best : Option Row) (one : Row). id_before (delivery_id consumer one.place) (delivery_id consumer (place_of best))) (λ (one : Row). is_out_at consumer one.place) (λ best one t. id_before-out consumer one.place (delivery_id consumer (place_of best)) t) (λ (one : Row). nat_eq one.index.0 new.index.0) rows row (eq-eqb row.index.0 new.index.0 (sym same)) e).1
 
 -- a consumer's deliveries are fewer
 abbrev FewerOut : ConsumerId → Progress → Progress → Type 0

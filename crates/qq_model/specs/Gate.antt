@@ -1,5 +1,5 @@
 -- Sessions number their commands, and each number is carried out once (Ongaro's dissertation, section 6.3).
-use Rattle.std.specs.Prelude.{ℕ, ◌+◌, ◌-◌, min, max, length, List, [], ◌∷◌, ◌++◌, Option, Some, None, Bool, true, false, not, ◌&&◌, ◌||◌, nat_eq, nat_lt, nat_le, find, filter, map, drop, slice_get, if◌then◌else◌}
+use Rattle.std.specs.Prelude.{ℕ, ◌+◌, ◌-◌, min, max, length, List, [], ◌∷◌, ◌++◌, Option, Some, None, Bool, not, ◌&&◌, ◌||◌, nat_eq, nat_lt, nat_le, find, filter, map, drop, slice_get, if◌then◌else◌}
 use Rattle.std.specs.List.{list_any}
 use Rattle.qq_base.specs.declared.ids.SessionId.{SessionId}
 use Rattle.qq_command.specs.declared.command.Stamp.{Stamp}
@@ -173,9 +173,9 @@ ends_unknown s session = is_client session && not (is_ended s session) && nat_lt
 unfoldable pub ends : Sessions → SessionId → Sessions
 ends s session =
     if is_opened session s.opened then
-      record s {
-        opened = filter (λ (one : OpenSession). not (same_session one.session session)) s.opened;
-        ended = ended_after session s.ended;
-      }
+    record s {
+      opened = filter (λ (one : OpenSession). not (same_session one.session session)) s.opened;
+      ended = ended_after session s.ended;
+    }
     else if ends_unknown s session then record s { ended = with_ended session.number s.ended; seen = s.seen + 1 }
     else s
