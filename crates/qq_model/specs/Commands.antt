@@ -1,11 +1,10 @@
 -- What each command does and answers.
-use Rattle.std.specs.Prelude.{ℕ, List, [], ◌∷◌, ◌+◌, ◌-◌, ◌++◌, length, Option, Some, None, map, fold, find, filter, not, Bool, true, false, ◌&&◌, ◌||◌, nat_eq, nat_lt, nat_le, if◌then◌else◌}
+use Rattle.std.specs.Prelude.{ℕ, List, [], ◌∷◌, ◌+◌, ◌-◌, ◌++◌, length, Option, Some, None, map, fold, find, filter, not, Bool, true, false, ◌&&◌, nat_eq, nat_lt, nat_le, if◌then◌else◌}
 use Rattle.qq_base.specs.declared.ids.Index.{Index}
 use Rattle.qq_base.specs.declared.ids.Term.{Term}
 use Rattle.qq_base.specs.declared.ids.SessionId.{SessionId}
 use Rattle.qq_base.specs.declared.ids.ConsumerId.{ConsumerId}
 use Rattle.qq_command.specs.declared.message.Message.{Message}
-use Rattle.qq_command.specs.declared.message.Reason.{Reason}
 use Rattle.qq_command.specs.declared.message.Reason.TheVariants as reason
 use Rattle.qq_command.specs.declared.command.Command.{Command}
 use Rattle.qq_command.specs.declared.command.Command.TheVariants.{Noop, Enqueue, Get, Subscribe, Cancel, Credit, Settle, Return, Discard, Purge, Down, DeadAttach, DeadSettle}
@@ -22,7 +21,6 @@ use Rattle.qq_command.specs.declared.queue.Strategy.{Strategy}
 use Rattle.qq_command.specs.declared.queue.Strategy.TheVariants.{Absent, AtMostOnce, AtLeastOnce}
 use Rattle.qq_model.specs.declared.TheConstants.{MOST_CONSUMERS}
 use Rattle.qq_model.specs.declared.place.Key.TheVariants.{Back}
-use Rattle.qq_model.specs.declared.place.GoneReason.{GoneReason}
 use Rattle.qq_model.specs.declared.place.GoneReason.TheVariants as gone
 use Rattle.qq_model.specs.declared.place.Place.{Place}
 use Rattle.qq_model.specs.declared.place.Place.TheVariants.{Ready, Out, Dead, Gone}

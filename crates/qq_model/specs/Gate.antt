@@ -1,5 +1,5 @@
 -- Sessions number their commands, and each number is carried out once (Ongaro's dissertation, section 6.3).
-use Rattle.std.specs.Prelude.{ℕ, ◌+◌, ◌-◌, min, max, length, List, [], ◌∷◌, ◌++◌, Option, Some, None, Bool, true, false, not, ◌&&◌, ◌||◌, nat_eq, nat_lt, nat_le, find, filter, map, drop, slice_get, if◌then◌else◌}
+use Rattle.std.specs.Prelude.{ℕ, ◌+◌, ◌-◌, min, max, length, List, [], ◌∷◌, ◌++◌, Option, Some, None, Bool, not, ◌&&◌, ◌||◌, nat_eq, nat_lt, nat_le, find, filter, map, drop, slice_get, if◌then◌else◌}
 use Rattle.std.specs.List.{list_any}
 use Rattle.qq_base.specs.declared.ids.SessionId.{SessionId}
 use Rattle.qq_command.specs.declared.command.Stamp.{Stamp}

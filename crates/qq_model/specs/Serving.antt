@@ -2,7 +2,6 @@
 use Rattle.std.specs.Prelude.{ℕ, ◌+◌, ◌-◌, List, [], ◌∷◌, ◌++◌, Option, Some, None, Bool, true, false, ◌&&◌, nat_lt, nat_le, fold, count_by, if◌then◌else◌}
 use Rattle.qq_base.specs.declared.ids.ConsumerId.{ConsumerId}
 use Rattle.qq_command.specs.declared.audit.Effect.TheVariants.{Deliver, Offer}
-use Rattle.qq_command.specs.declared.message.Reason.{Reason}
 use Rattle.qq_command.specs.declared.message.Reason.TheVariants as reason
 use Rattle.qq_command.specs.declared.command.Command.{Command}
 use Rattle.qq_command.specs.declared.command.Command.TheVariants.{Noop, Enqueue, Get, Subscribe, Cancel, Credit, Settle, Return, Discard, Purge, Down, DeadAttach, DeadSettle}
@@ -11,7 +10,6 @@ use Rattle.qq_command.specs.declared.command.Mode.TheVariants.{Prefetch, Link}
 use Rattle.qq_command.specs.declared.answer.Answer.{Answer}
 use Rattle.qq_command.specs.declared.answer.Answer.TheVariants.{Credited}
 use Rattle.qq_model.specs.declared.TheConstants.{MOST_GIVEN}
-use Rattle.qq_model.specs.declared.place.GoneReason.TheVariants as gone
 use Rattle.qq_model.specs.declared.place.Place.{Place}
 use Rattle.qq_model.specs.declared.place.Place.TheVariants.{Ready, Out, Dead, Gone}
 use Rattle.qq_model.specs.declared.place.Row.{Row}

@@ -1,5 +1,5 @@
 -- What an entry does to a queue.
-use Rattle.std.specs.Prelude.{◌≡◌, List, [], Option, Some, None, Bool, true, false}
+use Rattle.std.specs.Prelude.{List, [], Option, Some, None, Bool, true, false}
 use Rattle.qq_base.specs.declared.ids.Index.{Index}
 use Rattle.qq_command.specs.declared.command.Stamp.{Stamp}
 use Rattle.qq_command.specs.declared.command.Command.{Command}
@@ -11,8 +11,7 @@ use Rattle.qq_command.specs.declared.audit.Effect.{Effect}
 use Rattle.qq_model.specs.declared.session.Gate.{Gate}
 use Rattle.qq_model.specs.declared.session.Gate.TheVariants.{Fresh, Again, Gap, Forgotten, Ended, WindowFull, SessionsFull}
 use Rattle.qq_model.specs.State.{State, Sessions}
-use Rattle.qq_model.specs.Changes.{Progress}
-use Rattle.qq_model.specs.Gate.{gate, gate_answer, admitted, turned_away, with_answer}
+use Rattle.qq_model.specs.Gate.{gate, admitted, turned_away, with_answer}
 use Rattle.qq_model.specs.Commands.{Acted, act}
 use Rattle.qq_model.specs.Serving.{checkouts, drain_after, limits, dead_giving}
 

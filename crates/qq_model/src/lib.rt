@@ -4,6 +4,7 @@
 
 mod consumer;
 mod place;
+mod rounds;
 mod session;
 
 /// How many consumers a queue may have.
@@ -26,4 +27,5 @@ pub const MOST_GIVEN: u64 = 32;
 
 pub use consumer::{Consumer, Outcome};
 pub use place::{GoneReason, Key, Place, Row};
+pub use rounds::loops_run_out;
 pub use session::{Gate, OpenSession, Worker};

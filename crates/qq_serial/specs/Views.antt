@@ -1,5 +1,4 @@
 -- A queue in memory as a state of the definition.
-use Rattle.std.specs.Prelude.{List}
 use Rattle.qq_model.specs.declared.session.OpenSession.{OpenSession}
 use Rattle.qq_model.specs.State.{State, Sessions}
 use Rattle.qq_model.specs.Changes.{Progress}
