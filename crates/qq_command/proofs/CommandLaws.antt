@@ -1,30 +1,17 @@
 -- Each kind of command and its spelling.
-use Rattle.std.proofs.Common.{◌≡◌, ℕ, zero, suc, ◌+◌, ◌*◌, ◌-◌, ◌^◌, ◌<◌, ◌≤◌, Bool, true, false, cond, ltb, leb, eqb, List, [], ◌∷◌, ◌++◌, length, take, drop, Option, Some, None, Result, Ok, Err, refl, sym, ap, subst, ◌∙◌, append_assoc, arith, inl, inr, All, lit<}
-use Rattle.std.specs.Prelude.{◌⊎◌, IfOk, IfSome, nat_lt, nat_le, ◌&&◌, ◌==◌}
-use Rattle.std.specs.Int.{w8, w16, w32, w64}
-use Rattle.std.proofs.lemmas.Bool.{ltb-true, ltb-false, lt-ltb, le-ltb, eqb-true}
+use Rattle.std.proofs.Common.{◌≡◌, ℕ, ◌<◌, ◌≤◌, Bool, true, false, cond, eqb, List, ◌++◌, Ok, refl, sym, subst, ◌∙◌, append_assoc, arith, inl, inr}
+use Rattle.std.specs.Prelude.{◌⊎◌, nat_le, ◌==◌}
+use Rattle.std.specs.Int.{w8, w32, w64}
+use Rattle.std.proofs.lemmas.Bool.{ltb-true, lt-ltb, eqb-true}
 use Rattle.std.proofs.lemmas.Bool.Decides.{nat_tests}
 use Rattle.qq_base.specs.Fields.{AreBytes}
-use Rattle.qq_base.specs.declared.ids.QueueId.{QueueId}
-use Rattle.qq_base.specs.declared.ids.SessionId.{SessionId}
-use Rattle.qq_command.specs.declared.limits.TheConstants.{MACHINE_VERSION, TERM_LIMIT, LENGTH_LIMIT, BODY_LIMIT, KEY_LIMIT, DEATHS_LIMIT, IDS_LIMIT, DEAD_DONE_LIMIT, TARGETS_LIMIT}
-use Rattle.qq_command.specs.declared.answer.Refusal.{Refusal}
-use Rattle.qq_command.specs.declared.answer.Refusal.TheVariants.{BadKind, BadField, TooLarge, Short}
-use Rattle.qq_command.specs.declared.message.Death.{Death}
-use Rattle.qq_command.specs.declared.message.Content.{Content}
-use Rattle.qq_command.specs.declared.message.Message.{Message}
-use Rattle.qq_command.specs.declared.message.Origin.{Origin}
-use Rattle.qq_command.specs.declared.command.Stamp.{Stamp}
-use Rattle.qq_command.specs.declared.command.Mode.{Mode}
-use Rattle.qq_command.specs.declared.command.Mode.TheVariants.{Prefetch, Link}
-use Rattle.qq_command.specs.declared.command.DeadDone.{DeadDone}
+use Rattle.qq_command.specs.declared.limits.TheConstants.{MACHINE_VERSION, TERM_LIMIT}
 use Rattle.qq_command.specs.declared.command.Command.{Command}
 use Rattle.qq_command.specs.declared.command.Command.TheVariants.{Noop, Enqueue, Get, Subscribe, Cancel, Credit, Settle, Return, Discard, Purge, Down, DeadAttach, DeadSettle}
-use Rattle.qq_command.specs.declared.command.Entry.{Entry}
-use Rattle.qq_command.specs.Range.{IsPositive, IsSession, IsStamp, IsCounted, IsQueue, IsDeath, IsContent, IsOrigin, IsMode, AreIds, IsDeadDone, AreDeadDones, IsOfConsumer, IsWhole, IsCommand, HasContent, IsInRange, IsWritable}
-use Rattle.qq_command.specs.Spelling.{kind, u8, u16, u32, u64, flag, session, stamp, queue, origin, body, key, death, deaths, content, mode, ids, dead_done, dead_dones, consumer, fields, inside, spelling}
-use Rattle.qq_command.specs.Reading.{◌>>=◌, Field, number_at, checked, flag_at, session_at, is_counted, stamp_at, counted_at, origin_at, message_at, mode_at, ids_at, dead_dones_at, consumer_at, verdict_at, noop_at, enqueue_at, get_at, subscribe_at, cancel_at, credit_at, settle_at, return_at, discard_at, purge_at, down_at, dead_attach_at, dead_settle_at, fields_at}
-use Rattle.qq_command.proofs.Laws.{Takes, Takes-then, Holds, Reads, here, then_ok, where_true, in_turn, Reads-fits, checked-reads, u8-reads, u32-reads, u64-reads}
+use Rattle.qq_command.specs.Range.{IsSession, AreIds, IsOfConsumer, IsCommand, HasContent}
+use Rattle.qq_command.specs.Spelling.{kind, u8, u32, u64, flag, session, stamp, origin, content, mode, ids, dead_dones, consumer, fields}
+use Rattle.qq_command.specs.Reading.{Field, number_at, checked, flag_at, session_at, is_counted, stamp_at, counted_at, origin_at, message_at, mode_at, ids_at, dead_dones_at, consumer_at, verdict_at, noop_at, enqueue_at, get_at, subscribe_at, cancel_at, credit_at, settle_at, return_at, discard_at, purge_at, down_at, dead_attach_at, dead_settle_at, fields_at}
+use Rattle.qq_command.proofs.Laws.{Takes, Takes-then, Holds, Reads, here, then_ok, in_turn, Reads-fits, checked-reads, u8-reads, u32-reads, u64-reads}
 use Rattle.qq_command.proofs.FieldLaws.{session-reads, stamp-reads, counted-reads, flag-reads, origin-reads, message-reads, mode-reads, ids-reads, dead_dones-reads, consumer-reads}
 
 -- a command of this kind that was taken from the front

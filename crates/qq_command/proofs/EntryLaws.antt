@@ -1,31 +1,21 @@
 -- Entries and their spelling.
-use Rattle.std.proofs.Common.{◌≡◌, ℕ, zero, suc, ◌+◌, ◌*◌, ◌-◌, ◌^◌, ◌<◌, ◌≤◌, Bool, true, false, cond, ltb, leb, eqb, List, [], ◌∷◌, ◌++◌, length, take, drop, Option, Some, None, Result, Ok, Err, refl, sym, ap, subst, ◌∙◌, append_assoc, arith, inl, inr, All, lit<}
-use Rattle.std.specs.Prelude.{IfOk, nat_lt, ◌==◌}
+use Rattle.std.proofs.Common.{◌≡◌, ℕ, ◌+◌, ◌^◌, ◌<◌, ◌≤◌, false, ltb, eqb, List, [], ◌++◌, length, take, drop, Result, Ok, Err, refl, sym, ap, subst, ◌∙◌, arith, lit<}
+use Rattle.std.specs.Prelude.{IfOk}
 use Rattle.std.specs.Int.{w8, w32, w64}
-use Rattle.std.proofs.lemmas.Bool.{ltb-true, ltb-false, lt-ltb, le-ltb, eqb-true}
+use Rattle.std.proofs.lemmas.Bool.{ltb-false, le-ltb, eqb-true}
 use Rattle.std.proofs.lemmas.List.{append-nil, nil_from_length, take-append-drop, length-append, take_at, drop_at, length-take}
 use Rattle.qq_base.specs.Fields.{AreBytes}
-use Rattle.qq_base.specs.declared.ids.QueueId.{QueueId}
-use Rattle.qq_base.specs.declared.ids.SessionId.{SessionId}
-use Rattle.qq_command.specs.declared.limits.TheConstants.{MACHINE_VERSION, TERM_LIMIT, LENGTH_LIMIT, BODY_LIMIT, KEY_LIMIT, DEATHS_LIMIT, IDS_LIMIT, DEAD_DONE_LIMIT, TARGETS_LIMIT}
+use Rattle.qq_command.specs.declared.limits.TheConstants.{LENGTH_LIMIT}
 use Rattle.qq_command.specs.declared.answer.Refusal.{Refusal}
-use Rattle.qq_command.specs.declared.answer.Refusal.TheVariants.{BadKind, BadField, TooLarge, Short}
-use Rattle.qq_command.specs.declared.message.Death.{Death}
-use Rattle.qq_command.specs.declared.message.Content.{Content}
-use Rattle.qq_command.specs.declared.message.Message.{Message}
-use Rattle.qq_command.specs.declared.message.Origin.{Origin}
-use Rattle.qq_command.specs.declared.command.Stamp.{Stamp}
-use Rattle.qq_command.specs.declared.command.Mode.{Mode}
-use Rattle.qq_command.specs.declared.command.Mode.TheVariants.{Prefetch, Link}
-use Rattle.qq_command.specs.declared.command.DeadDone.{DeadDone}
+use Rattle.qq_command.specs.declared.answer.Refusal.TheVariants.{BadField, TooLarge, Short}
 use Rattle.qq_command.specs.declared.command.Command.{Command}
 use Rattle.qq_command.specs.declared.command.Command.TheVariants.{Noop, Enqueue, Get, Subscribe, Cancel, Credit, Settle, Return, Discard, Purge, Down, DeadAttach, DeadSettle}
 use Rattle.qq_command.specs.declared.command.Entry.{Entry}
-use Rattle.qq_command.specs.Range.{IsPositive, IsSession, IsStamp, IsCounted, IsQueue, IsDeath, IsContent, IsOrigin, IsMode, AreIds, IsDeadDone, AreDeadDones, IsOfConsumer, IsWhole, IsCommand, HasContent, IsInRange, IsWritable}
-use Rattle.qq_command.specs.Spelling.{kind, u8, u16, u32, u64, flag, session, stamp, queue, origin, body, key, death, deaths, content, mode, ids, dead_done, dead_dones, consumer, fields, inside, spelling}
-use Rattle.qq_command.specs.Reading.{◌>>=◌, Field, number_at, fields_at, inside_at, entry_at, IsAtFront, Gives}
-use Rattle.qq_command.proofs.Laws.{Takes, Takes-then, Holds, Reads, here, known, then_ok, where_true, where_false, in_turn, u8-reads, u32-reads, u64-reads, AreBytes-take}
-use Rattle.qq_command.proofs.CommandLaws.{Brings, fields_take, fields_again}
+use Rattle.qq_command.specs.Range.{IsCommand, HasContent, IsWritable}
+use Rattle.qq_command.specs.Spelling.{kind, u8, u32, u64, fields, inside, spelling}
+use Rattle.qq_command.specs.Reading.{number_at, fields_at, inside_at, entry_at, IsAtFront, Gives}
+use Rattle.qq_command.proofs.Laws.{Takes, Takes-then, Holds, here, known, then_ok, where_true, where_false, in_turn, u8-reads, u32-reads, u64-reads, AreBytes-take}
+use Rattle.qq_command.proofs.CommandLaws.{fields_take, fields_again}
 use Rattle.qq_command.proofs.Lengths.{inside_len}
 
 -- bytes that are a time and a command, and nothing else

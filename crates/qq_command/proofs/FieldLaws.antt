@@ -1,32 +1,27 @@
 -- Each field and its spelling.
-use Rattle.std.proofs.Common.{◌≡◌, ℕ, zero, suc, ◌+◌, ◌^◌, ◌<◌, ◌≤◌, Bool, true, false, cond, ltb, leb, eqb, List, [], ◌∷◌, ◌++◌, length, take, drop, Option, Some, None, Result, Ok, Err, refl, sym, ap, subst, ◌∙◌, append_assoc, arith, inl, inr, All, lit<}
-use Rattle.std.specs.Prelude.{IfOk, IfSome, nat_lt, ◌&&◌, ◌==◌}
-use Rattle.std.specs.List.{flat_map, AllByRecursion}
+use Rattle.std.proofs.Common.{◌≡◌, ℕ, zero, suc, ◌^◌, ◌<◌, ◌≤◌, Bool, true, false, cond, ltb, leb, eqb, List, ◌++◌, length, Option, Some, None, Ok, Err, refl, sym, ap, subst, ◌∙◌, append_assoc, arith, All, lit<}
+use Rattle.std.specs.Prelude.{IfSome, nat_lt, ◌&&◌, ◌==◌}
+use Rattle.std.specs.List.{flat_map}
 use Rattle.std.specs.Str.{IsUtf8, is_utf8}
-use Rattle.std.specs.Int.{Width, w8, w16, w32, w64, byte_len, from_be_bytes, to_be_bytes}
+use Rattle.std.specs.Int.{w8, w16, w32, w64}
 use Rattle.std.proofs.lemmas.Bool.{ltb-true, ltb-false, lt-ltb, le-ltb, eqb-true}
 use Rattle.std.proofs.lemmas.Bool.Decides.{nat_tests}
 use Rattle.std.proofs.lemmas.List.Elements.{All-from_recursion, recursion_from_All}
 use Rattle.std.proofs.lemmas.Str.{is_utf8-from_IsUtf8, IsUtf8-from_is_utf8}
-use Rattle.qq_base.specs.Fields.{AreBytes}
-use Rattle.qq_base.specs.declared.ids.QueueId.{QueueId}
 use Rattle.qq_base.specs.declared.ids.SessionId.{SessionId}
 use Rattle.qq_command.specs.declared.limits.TheConstants.{BODY_LIMIT, KEY_LIMIT, DEATHS_LIMIT, IDS_LIMIT, DEAD_DONE_LIMIT, TARGETS_LIMIT}
-use Rattle.qq_command.specs.declared.answer.Refusal.{Refusal}
 use Rattle.qq_command.specs.declared.answer.Refusal.TheVariants.{BadField, TooLarge}
 use Rattle.qq_command.specs.declared.message.Reason.{Reason}
 use Rattle.qq_command.specs.declared.message.Reason.TheVariants.{Rejected, Expired, MaxLen, DeliveryLimit}
-use Rattle.qq_command.specs.declared.message.Death.{Death}
 use Rattle.qq_command.specs.declared.message.Content.{Content}
 use Rattle.qq_command.specs.declared.message.Message.{Message}
 use Rattle.qq_command.specs.declared.message.Origin.{Origin}
 use Rattle.qq_command.specs.declared.command.Stamp.{Stamp}
 use Rattle.qq_command.specs.declared.command.Mode.{Mode}
 use Rattle.qq_command.specs.declared.command.Mode.TheVariants.{Prefetch, Link}
-use Rattle.qq_command.specs.declared.command.DeadDone.{DeadDone}
 use Rattle.qq_command.specs.Range.{IsPositive, IsSession, IsStamp, IsCounted, IsQueue, IsDeath, IsContent, IsOrigin, IsMode, AreIds, IsDeadDone, AreDeadDones, IsOfConsumer, IsWhole}
 use Rattle.qq_command.specs.Spelling.{u8, u16, u32, u64, flag, reason_number, session, stamp, queue, origin, body, key, death, deaths, content, mode, ids, dead_done, dead_dones, consumer}
-use Rattle.qq_command.specs.Reading.{◌>>=◌, Field, number_at, bytes_at, checked, positive_at, many, flag_at, has_owner, session_at, has_seq, is_counted, stamp_at, counted_at, queue_at, origin_at, body_at, key_at, reason_of, required, death_at, deaths_at, message_at, mode_at, ids_at, dead_done_at, dead_dones_at, consumer_at}
+use Rattle.qq_command.specs.Reading.{◌>>=◌, number_at, bytes_at, checked, positive_at, many, flag_at, has_owner, session_at, has_seq, is_counted, stamp_at, counted_at, queue_at, origin_at, body_at, key_at, reason_of, required, death_at, deaths_at, message_at, mode_at, ids_at, dead_done_at, dead_dones_at, consumer_at}
 use Rattle.qq_command.proofs.Laws.{Takes, Takes-then, Holds, Holds-map, Reads, here, then_ok, where_true, where_false, in_turn, Reads-fits, checked-reads, u8-reads, u16-reads, u32-reads, u64-reads, bytes-takes, bytes-again, many-takes, many-again, positive32-reads, positive64-reads}
 
 -- ---- sessions

@@ -1,19 +1,14 @@
 -- How long the spelling of an entry in range is at most.
-use Rattle.std.proofs.Common.{◌≡◌, ℕ, zero, suc, ◌+◌, ◌*◌, ◌-◌, ◌^◌, ◌<◌, ◌≤◌, Bool, true, false, cond, ltb, leb, eqb, List, [], ◌∷◌, ◌++◌, length, take, drop, Option, Some, None, Result, Ok, Err, refl, sym, ap, subst, ◌∙◌, append_assoc, arith, mul-suc, inl, inr, All, lit<}
+use Rattle.std.proofs.Common.{◌≡◌, ℕ, ◌+◌, ◌*◌, ◌≤◌, true, false, List, [], ◌∷◌, length, Option, Some, None, refl, arith, mul-suc, All}
 use Rattle.std.specs.Prelude.{IfSome}
 use Rattle.std.specs.List.{flat_map, AllByRecursion}
 use Rattle.std.proofs.Math.Nat.{mul-le-mul_left}
 use Rattle.std.proofs.lemmas.List.{length-append}
 use Rattle.std.proofs.lemmas.List.Concat.{flat_map-cons}
 use Rattle.std.proofs.lemmas.List.Elements.{recursion_from_All}
-use Rattle.qq_base.specs.declared.ids.QueueId.{QueueId}
-use Rattle.qq_base.specs.declared.ids.SessionId.{SessionId}
-use Rattle.qq_command.specs.declared.limits.TheConstants.{MACHINE_VERSION, TERM_LIMIT, LENGTH_LIMIT, BODY_LIMIT, KEY_LIMIT, DEATHS_LIMIT, IDS_LIMIT, DEAD_DONE_LIMIT, TARGETS_LIMIT}
-use Rattle.qq_command.specs.declared.answer.Refusal.{Refusal}
-use Rattle.qq_command.specs.declared.answer.Refusal.TheVariants.{BadKind, BadField, TooLarge, Short}
+use Rattle.qq_command.specs.declared.limits.TheConstants.{LENGTH_LIMIT, DEATHS_LIMIT, IDS_LIMIT, DEAD_DONE_LIMIT, TARGETS_LIMIT}
 use Rattle.qq_command.specs.declared.message.Death.{Death}
 use Rattle.qq_command.specs.declared.message.Content.{Content}
-use Rattle.qq_command.specs.declared.message.Message.{Message}
 use Rattle.qq_command.specs.declared.message.Origin.{Origin}
 use Rattle.qq_command.specs.declared.command.Stamp.{Stamp}
 use Rattle.qq_command.specs.declared.command.Mode.{Mode}
@@ -22,8 +17,8 @@ use Rattle.qq_command.specs.declared.command.DeadDone.{DeadDone}
 use Rattle.qq_command.specs.declared.command.Command.{Command}
 use Rattle.qq_command.specs.declared.command.Command.TheVariants.{Noop, Enqueue, Get, Subscribe, Cancel, Credit, Settle, Return, Discard, Purge, Down, DeadAttach, DeadSettle}
 use Rattle.qq_command.specs.declared.command.Entry.{Entry}
-use Rattle.qq_command.specs.Range.{IsPositive, IsSession, IsStamp, IsCounted, IsQueue, IsDeath, IsContent, IsOrigin, IsMode, AreIds, IsDeadDone, AreDeadDones, IsOfConsumer, IsWhole, IsCommand, HasContent, IsInRange, IsWritable}
-use Rattle.qq_command.specs.Spelling.{kind, u8, u16, u32, u64, flag, session, stamp, queue, origin, body, key, death, deaths, content, mode, ids, dead_done, dead_dones, consumer, fields, inside, spelling}
+use Rattle.qq_command.specs.Range.{IsPositive, IsQueue, IsDeath, IsContent, AreIds, IsDeadDone, AreDeadDones, IsCommand, IsInRange}
+use Rattle.qq_command.specs.Spelling.{u64, session, stamp, queue, origin, body, key, death, deaths, content, mode, ids, dead_done, dead_dones, consumer, fields, inside, spelling}
 
 -- the spellings of values, each of which has at most so many bytes
 each_within : {A : Type 0} (write : A → List ℕ) (F : A → Type 0) (most : ℕ) → ((x : A) → F x → length (write x) ≤ most) → (xs : List A) → AllByRecursion F xs → length (flat_map write xs) ≤ most * length xs

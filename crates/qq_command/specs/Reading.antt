@@ -1,5 +1,5 @@
 -- Reading an entry from the front of bytes, field by field, with the first refusal that applies.
-use Rattle.std.specs.Prelude.{◌≡◌, ◌+◌, ℕ, zero, suc, Bool, true, false, List, [], ◌∷◌, length, take, drop, Option, Some, None, Result, Ok, Err, nat_lt, nat_le, ◌==◌, ◌&&◌, if◌then◌else◌}
+use Rattle.std.specs.Prelude.{◌≡◌, ◌+◌, ℕ, zero, suc, Bool, List, [], ◌∷◌, length, take, drop, Option, Some, None, Result, Ok, Err, nat_lt, nat_le, ◌==◌, ◌&&◌, if◌then◌else◌}
 use Rattle.std.specs.Str.{is_utf8}
 use Rattle.std.specs.Int.{Width, w8, w16, w32, w64, byte_len, from_be_bytes}
 use Rattle.qq_base.specs.declared.ids.QueueId.{QueueId}
@@ -11,7 +11,6 @@ use Rattle.qq_command.specs.declared.answer.Refusal.TheVariants.{Short, BadKind,
 use Rattle.qq_command.specs.declared.message.Reason.{Reason}
 use Rattle.qq_command.specs.declared.message.Reason.TheVariants.{Rejected, Expired, MaxLen, DeliveryLimit}
 use Rattle.qq_command.specs.declared.message.Death.{Death}
-use Rattle.qq_command.specs.declared.message.Content.{Content}
 use Rattle.qq_command.specs.declared.message.Message.{Message}
 use Rattle.qq_command.specs.declared.message.Origin.{Origin}
 use Rattle.qq_command.specs.declared.command.Stamp.{Stamp}

@@ -8,7 +8,6 @@ use Rattle.qq_command.specs.declared.message.Reason.{Reason}
 use Rattle.qq_command.specs.declared.message.Reason.TheVariants.{Rejected, Expired, MaxLen, DeliveryLimit}
 use Rattle.qq_command.specs.declared.message.Death.{Death}
 use Rattle.qq_command.specs.declared.message.Content.{Content}
-use Rattle.qq_command.specs.declared.message.Message.{Message}
 use Rattle.qq_command.specs.declared.message.Origin.{Origin}
 use Rattle.qq_command.specs.declared.command.Stamp.{Stamp}
 use Rattle.qq_command.specs.declared.command.Mode.{Mode}

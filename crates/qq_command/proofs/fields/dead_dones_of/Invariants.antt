@@ -1,5 +1,4 @@
 use Rattle.std.proofs.Common.{◌≡◌, ◌-◌}
-use Rattle.std.specs.Int.{w64}
 use Rattle.qq_command.specs.Reading.{many, dead_done_at}
 use Rattle.qq_command.proofs.Loop.{with_front}
 use Rattle.qq_command.proofs.fields.dead_dones_of.Given as goal

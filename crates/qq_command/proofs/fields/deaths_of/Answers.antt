@@ -1,5 +1,3 @@
-use Rattle.std.proofs.Common.{◌≡◌, ◌++◌, ◌∷◌, []}
-use Rattle.std.specs.Int.{w64}
 use Rattle.std.proofs.lemmas.Result.{err_from_is_err_and}
 use Rattle.qq_command.specs.Reading.{many, death_at}
 use Rattle.qq_command.proofs.Loop.{goes_on, ends, is_done}

@@ -1,5 +1,4 @@
 use Rattle.std.proofs.Common.{◌≡◌, ◌-◌}
-use Rattle.std.specs.Int.{w64}
 use Rattle.qq_command.specs.Reading.{many, queue_at}
 use Rattle.qq_command.proofs.Loop.{with_front}
 use Rattle.qq_command.proofs.fields.targets_of.Given as goal

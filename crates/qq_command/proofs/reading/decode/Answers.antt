@@ -1,5 +1,5 @@
 use Rattle.std.proofs.Common.{subst, arith}
-use Rattle.qq_command.specs.Reading.{Gives, entry_at}
+use Rattle.qq_command.specs.Reading.{Gives}
 use Rattle.qq_command.proofs.EntryLaws.{is_found, is_within, entry_again}
 use Rattle.qq_command.proofs.reading.decode.Goals as goal
 

@@ -1,6 +1,5 @@
 use Rattle.std.proofs.Common.{refl}
 use Rattle.qq_command.specs.Reading.{entry_at}
-use Rattle.qq_command.specs.Spelling.{spelling}
 use Rattle.qq_command.proofs.Laws.{known}
 use Rattle.qq_command.proofs.Lengths.{spelling_len}
 use Rattle.qq_command.proofs.EntryLaws.{entry_takes, entry_again}

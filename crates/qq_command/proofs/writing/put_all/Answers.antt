@@ -1,6 +1,6 @@
-use Rattle.std.proofs.Common.{◌≡◌, ℕ, ◌+◌, ◌-◌, ◌++◌, ◌≤◌, length, List, vec_len, arith}
+use Rattle.std.proofs.Common.{◌≡◌, ◌-◌, ◌≤◌, length, arith}
 use Rattle.qq_command.specs.declared.limits.TheConstants.{LENGTH_LIMIT}
-use Rattle.qq_command.specs.Spelling.{u32, u64, inside, spelling}
+use Rattle.qq_command.specs.Spelling.{u64, inside, spelling}
 use Rattle.qq_command.proofs.Lengths.{inside_len}
 use Rattle.qq_command.proofs.Appends.{length_between, set_between}
 use Rattle.qq_command.proofs.writing.put_all.Goals as goal
