@@ -122,13 +122,7 @@ fn answers_read_as_printed(rt: HostRuntime) -> Result<(), Fail> {
     first(Answer::Ended, "ended\n")?;
     first(Answer::WindowFull, "window full\n")?;
     first(Answer::SessionsFull, "sessions full\n")?;
-    says(
-        &rt,
-        alloc,
-        FIRST,
-        Answer::Subscribed,
-        "subscribed 8\n",
-    )?;
+    says(&rt, alloc, FIRST, Answer::Subscribed, "subscribed 8\n")?;
     says(&rt, alloc, OTHER, Answer::Empty, "4 orders: empty\n")?;
     says(
         &rt,

@@ -5,7 +5,7 @@ use Rattle.qq_ports.specs.Faults.{Rose}
 use Rattle.qq_ports.specs.Lines.{ahead, lines_of, TakesLine}
 use Rattle.qq_broker.specs.declared.stop.Stop.{Stop}
 use Rattle.qq_broker.specs.Stops.{HasStopped, line_fault_stop}
-use Rattle.qq_broker.proofs.Endings.{Going, going_start, going_line, going_stops, going_faults}
+use Rattle.qq_broker.proofs.Endings.{Going, going_start, going_line, going_stops, going_faults, ahead_ends}
 use Rattle.qq_broker.proofs.program.serve_lines.Goals as goal
 
 pub lines-init : goal.lines-init
@@ -60,3 +60,8 @@ lines-preserved g c =
       source_later = omega (arith, c.lines.invariant.source_later, c.in-Ok-Some.ensures.later);
       sink_later = omega (arith, c.lines.invariant.sink_later, c.in-Ok.ensures.later);
     }
+
+pub returns-in-Ok-None-clause-ended : goal.returns-in-Ok-None-clause-ended
+returns-in-Ok-None-clause-ended g c =
+    let stays = rw c.in-Ok-None.field-0-is at c.in-Ok-None.ensures.stays in
+    ahead_ends c.next_line.new.lines.pending (g.I.Source.left c.next_line.new.input) stays.1
