@@ -94,7 +94,14 @@ fn scripts_are_answered(rt: HostRuntime) -> Result<(), Fail> {
 
 #[test]
 fn lines_are_refused(rt: HostRuntime) -> Result<(), Fail> {
-    plays(&rt, b"publish a\nfrob\nget\n", &[], &[], 4, b"confirmed 1\nline 2: unknown\n")?;
+    plays(
+        &rt,
+        b"publish a\nfrob\nget\n",
+        &[],
+        &[],
+        4,
+        b"confirmed 1\nline 2: unknown\n",
+    )?;
     plays(&rt, b"\n", &[], &[], 4, b"line 1: unknown\n")?;
     plays(&rt, b"publish =1\n", &[], &[], 4, b"line 1: unknown\n")?;
     plays(&rt, b"get\r\r\n", &[], &[], 4, b"line 1: unknown\n")?;
@@ -121,7 +128,9 @@ fn the_longest_body_is_taken(rt: HostRuntime) -> Result<(), Fail> {
         wanted.push(b'x')?;
     }
     input.extend_from_slice(b"\nget\n")?;
-    wanted.extend_from_slice(b"\naudit q1 0 3\n1 1 noop 1 lead\n2 1 enqueue 1 1 65536 confirmed 1\n3 1 get 1 2 message 1\n")?;
+    wanted.extend_from_slice(
+        b"\naudit q1 0 3\n1 1 noop 1 lead\n2 1 enqueue 1 1 65536 confirmed 1\n3 1 get 1 2 message 1\n",
+    )?;
     plays(&rt, &input, &[], &[], 0, &wanted)
 }
 
@@ -129,8 +138,22 @@ fn the_longest_body_is_taken(rt: HostRuntime) -> Result<(), Fail> {
 fn a_failing_source_ends_the_run(rt: HostRuntime) -> Result<(), Fail> {
     plays(&rt, b"publish a\n", &[1], &[], 5, b"read fault\n")?;
     // In mid-line, and behind a whole line.
-    plays(&rt, b"publish a\npubl", &[2], &[], 5, b"confirmed 1\nread fault\n")?;
-    plays(&rt, b"publish a\n", &[2], &[], 5, b"confirmed 1\nread fault\n")
+    plays(
+        &rt,
+        b"publish a\npubl",
+        &[2],
+        &[],
+        5,
+        b"confirmed 1\nread fault\n",
+    )?;
+    plays(
+        &rt,
+        b"publish a\n",
+        &[2],
+        &[],
+        5,
+        b"confirmed 1\nread fault\n",
+    )
 }
 
 #[test]
@@ -139,7 +162,14 @@ fn a_failing_sink_ends_the_run(rt: HostRuntime) -> Result<(), Fail> {
     plays(&rt, b"publish a\nget\n", &[], &[2], 6, b"confirmed 1\n")?;
     plays(&rt, b"frob\n", &[], &[1], 6, b"")?;
     // The sink fails in the closing line.
-    plays(&rt, b"publish a\nfrob\n", &[], &[3], 6, b"confirmed 1\nline ")?;
+    plays(
+        &rt,
+        b"publish a\nfrob\n",
+        &[],
+        &[3],
+        6,
+        b"confirmed 1\nline ",
+    )?;
     let alloc = rt.alloc();
     let words = script(alloc)?;
     let mut source = MemSource::new(b"get\n".to_vec(alloc)?, Vec::new(alloc));
@@ -165,7 +195,10 @@ fn other_words_are_no_command(rt: HostRuntime) -> Result<(), Fail> {
         let mut source = MemSource::new(b"get\n".to_vec(alloc)?, Vec::new(alloc));
         let mut sink = MemSink::new(alloc, 1_000, Vec::new(alloc))?;
         assert_eq!(rt; run(&rt, &words, &mut source, &mut sink), 2);
-        assert_eq!(rt; sink.bytes(), b"usage: qq script|run|drill N|dump\n".as_slice());
+        assert_eq!(rt;
+            sink.bytes(),
+            b"usage: qq script|run|drill N|dump\n".as_slice()
+        );
     }
     Ok(())
 }
