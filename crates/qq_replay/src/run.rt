@@ -1,0 +1,56 @@
+ghost use Rattle.std.specs.Prelude.{◌≡◌, map, flat_map, false, IfOk, IfErr};
+ghost use Rattle.qq_base.specs.Causes.{SpentOnlyWhere};
+ghost use Rattle.qq_model.specs.State.{empty_queue};
+ghost use Rattle.qq_model.specs.Audit.{audit_of, effects_of};
+ghost use Rattle.qq_replay.specs.Replay.{replay_of, stays_within};
+
+use qq_base::{Duplicate, Index, Items, Memory, NUMBER_END};
+use qq_command::{AuditRow, Effects, Entries, Entry, QueueArgs};
+use qq_serial::Serial;
+use std::alloc::Global;
+
+/// An entry that was applied: its row of the audit, and its effects in order.
+#[derive(Debug, Drop, PartialEq)]
+pub struct Applied {
+    pub row: AuditRow,
+    pub effects: Effects,
+}
+
+// Applies entries in order to a queue, and gives what each of them gives.
+fn apply_all(
+    alloc: Global,
+    serial: &mut Serial,
+    entries: &[Entry],
+) -> Result<Items<Applied>, Memory>
+    ensures each { IfOk result (λ applied. applied ≡ replay_of serial.old entries.now) }
+    ensures cause { IfErr result (λ e. SpentOnlyWhere e NUMBER_END (stays_within serial.old entries.now ≡ false)) }
+{
+    let mut applied = Items::new(alloc);
+    'entries: for entry in entries {
+        let index = Index(serial.applied() + 1);
+        let (fresh, answer, effects) = serial.step(alloc, index, entry)?;
+        let row = AuditRow {
+            index,
+            entry: entry.copy(alloc)?,
+            fresh,
+            answer,
+        };
+        let effects = Effects::from_vec(effects);
+        applied.push(Applied { row, effects })?;
+    }
+    Ok(applied)
+}
+
+/// Applies entries in order, from index 1 on, to a queue to which nothing was applied. It gives each
+/// entry's row and effects: together the serial audit and the effects of the run. `Spent` is answered
+/// only where a step of the run would take a number past its end.
+#[tactic(auto, using(crate::proofs::Runs::rows_are_audit, crate::proofs::Runs::effects_are_all))]
+pub fn replay(alloc: Global, args: QueueArgs, entries: &Entries) -> Result<Items<Applied>, Memory>
+    ensures each { IfOk result (λ applied. applied ≡ replay_of (empty_queue args) entries.now) }
+    ensures rows { IfOk result (λ applied. map (λ (one : Applied). one.row) applied ≡ audit_of (empty_queue args) entries.now) }
+    ensures effects { IfOk result (λ applied. flat_map (λ (one : Applied). one.effects) applied ≡ effects_of (empty_queue args) entries.now) }
+    ensures cause { IfErr result (λ e. SpentOnlyWhere e NUMBER_END (stays_within (empty_queue args) entries.now ≡ false)) }
+{
+    let mut serial = Serial::new(alloc, args);
+    apply_all(alloc, &mut serial, entries.as_slice())
+}
