@@ -10,6 +10,7 @@ use crate::rows::{
     copy_message, count_dead, count_given, count_ready, is_past_limit, next_dead_row, next_row,
     put_row,
 };
+use crate::table::consumer_at;
 use qq_base::{ConsumerId, Memory};
 use qq_command::{Answer, Command, Effect, Mode, Reason};
 use qq_model::{Consumer, MOST_GIVEN, Place, Row};
@@ -159,13 +160,7 @@ impl Draft {
                 tag,
                 drain,
                 ..
-            } => {
-                let id = ConsumerId {
-                    session: stamp.session,
-                    tag: *tag,
-                };
-                self.drain_of(store, id, *drain, answer)
-            }
+            } => { self.drain_of(store, consumer_at(stamp, *tag), *drain, answer) }
             Command::Noop { .. }
             | Command::Enqueue { .. }
             | Command::Get { .. }

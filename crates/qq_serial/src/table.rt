@@ -1,13 +1,23 @@
 //! The table of the commands.
 ghost use Rattle.std.specs.Prelude.{◌≡◌, take, vec_len, IfOk, IfErr, OnOk, OnErr};
-ghost use Rattle.qq_model.specs.Commands.{Acted, answers, act};
+ghost use Rattle.qq_model.specs.Commands.{Acted, answers, act, consumer_id};
 ghost use Rattle.qq_serial.specs.Views.{progress_of};
 
 use crate::queue::{Draft, Store};
 use qq_base::{ConsumerId, Index, Memory};
-use qq_command::{Answer, Command};
+use qq_command::{Answer, Command, Stamp};
 use qq_model::Outcome;
 use std::alloc::Global;
+
+/// The consumer of a session's tag.
+pub fn consumer_at(stamp: &Stamp, tag: u32) -> ConsumerId
+    ensures { result ≡ consumer_id stamp.now tag }
+{
+    ConsumerId {
+        session: stamp.session,
+        tag,
+    }
+}
 
 impl Draft {
     /// Carries out a command's row of the table.
@@ -29,19 +39,9 @@ impl Draft {
             Command::Enqueue { message, .. } => self.enqueue(alloc, store, index, message),
             Command::Get { .. } => self.get(alloc, store),
             Command::Subscribe { stamp, tag, mode } => {
-                let id = ConsumerId {
-                    session: stamp.session,
-                    tag: *tag,
-                };
-                self.subscribe(alloc, store, id, *mode)
+                self.subscribe(alloc, store, consumer_at(stamp, *tag), *mode)
             }
-            Command::Cancel { stamp, tag } => {
-                let id = ConsumerId {
-                    session: stamp.session,
-                    tag: *tag,
-                };
-                Ok(self.cancel(store, id))
-            }
+            Command::Cancel { stamp, tag } => Ok(self.cancel(store, consumer_at(stamp, *tag))),
             Command::Credit {
                 stamp,
                 tag,
@@ -49,31 +49,19 @@ impl Draft {
                 credit,
                 ..
             } => {
-                let id = ConsumerId {
-                    session: stamp.session,
-                    tag: *tag,
-                };
+                let id = consumer_at(stamp, *tag);
                 self.give_credit(store, id, u64::from(*count) + u64::from(*credit))
             }
             Command::Settle { stamp, tag, ids } => {
-                let id = ConsumerId {
-                    session: stamp.session,
-                    tag: *tag,
-                };
+                let id = consumer_at(stamp, *tag);
                 self.finish(alloc, store, Outcome::Settled, id, ids.as_slice())
             }
             Command::Return { stamp, tag, ids } => {
-                let id = ConsumerId {
-                    session: stamp.session,
-                    tag: *tag,
-                };
+                let id = consumer_at(stamp, *tag);
                 self.finish(alloc, store, Outcome::Returned, id, ids.as_slice())
             }
             Command::Discard { stamp, tag, ids } => {
-                let id = ConsumerId {
-                    session: stamp.session,
-                    tag: *tag,
-                };
+                let id = consumer_at(stamp, *tag);
                 self.finish(alloc, store, Outcome::Discarded, id, ids.as_slice())
             }
             Command::Purge { .. } => Ok(self.purge(store)),
