@@ -1,0 +1,4 @@
+pub mod Lists
+pub mod Closed
+pub mod Chosen
+pub mod Carried
