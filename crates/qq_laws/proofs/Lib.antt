@@ -2,3 +2,5 @@ pub mod Lists
 pub mod Closed
 pub mod Chosen
 pub mod Carried
+pub mod RowLemmas
+pub mod Since
