@@ -4,3 +4,4 @@ pub mod Chosen
 pub mod Carried
 pub mod RowLemmas
 pub mod Since
+pub mod Steps

@@ -24,6 +24,10 @@ pub Each-append : {A : Type 0} (P : A → Type 0) (xs ys : List A) → Each P xs
 Each-append P [] ys front rest = rest
 Each-append P (x ∷ xs) ys front rest = (front.0, Each-append P xs ys front.1 rest)
 
+pub Each-weaker : {A : Type 0} (P Q : A → Type 0) → ((x : A) → P x → Q x) → (xs : List A) → Each P xs → Each Q xs
+Each-weaker P Q weaker [] each = tt
+Each-weaker P Q weaker (x ∷ xs) each = (weaker x each.0, Each-weaker P Q weaker xs each.1)
+
 pub find-in : {A : Type 0} (test : A → Bool) (xs : List A) (x : A) → find test xs ≡ Some x → In x xs × (test x ≡ true)
 find-in test [] x found = absurd cc
 find-in {A = A} test (y ∷ ys) x found =

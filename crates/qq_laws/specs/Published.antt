@@ -25,13 +25,17 @@ abbrev pub is_confirmed : Answer → Bool
 is_confirmed Confirmed = true
 is_confirmed _ = false
 
+-- the message that a command brought into the queue: it was carried out, and confirmed
+abbrev pub brought : Bool → Answer → Command → Option Message
+brought fresh answer command = if fresh && is_confirmed answer then message_in command else None
+
 abbrev pub published_as : Index → Option Message → Option Published
 published_as index None = None
 published_as index (Some message) = Some (record { index = index; message = message })
 
--- what a row of the audit published: an enqueue that was carried out, and confirmed
+-- what a row of the audit published
 abbrev pub publication : AuditRow → Option Published
-publication row = if row.fresh && is_confirmed row.answer then published_as row.index (message_in row.entry.command) else None
+publication row = published_as row.index (brought row.fresh row.answer row.entry.command)
 
 -- the confirmed publishes of an audit, in order
 abbrev pub confirmed : List AuditRow → List Published
