@@ -1,13 +1,12 @@
 -- What each single change keeps, a whole command keeps.
-use Rattle.std.proofs.Common.{◌≡◌, ℕ, zero, suc, ◌+◌, ◌≤◌, ◌⊎◌, Bool, true, false, not, ◌&&◌, ◌||◌, List, [], ◌∷◌, ◌++◌, Option, Some, None, map, length, refl, sym, ap, ◌∙◌, subst, inl, inr, arith, if◌then◌else◌}
-use Rattle.std.specs.Prelude.{fold, nat_lt, nat_le, nat_eq}
-use Rattle.std.proofs.lemmas.Bool.{false≢true, cases_Bool, cond-true, cond-false, cond_both, and_from, and_parts}
+use Rattle.std.proofs.Common.{◌≡◌, ℕ, ◌+◌, ◌⊎◌, Bool, true, false, ◌&&◌, ◌||◌, List, [], ◌∷◌, ◌++◌, Option, Some, None, length, refl, sym, ap, ◌∙◌, subst, inl, inr, if◌then◌else◌}
+use Rattle.std.specs.Prelude.{nat_lt, nat_le}
+use Rattle.std.proofs.lemmas.Bool.{cases_Bool, cond-true, cond-false, cond_both, and_parts}
 use Rattle.qq_base.specs.declared.ids.Index.{Index}
 use Rattle.qq_base.specs.declared.ids.Term.{Term}
 use Rattle.qq_base.specs.declared.ids.SessionId.{SessionId}
 use Rattle.qq_base.specs.declared.ids.ConsumerId.{ConsumerId}
 use Rattle.qq_command.specs.declared.message.Message.{Message}
-use Rattle.qq_command.specs.declared.message.Reason.{Reason}
 use Rattle.qq_command.specs.declared.message.Reason.TheVariants as reason
 use Rattle.qq_command.specs.declared.command.Stamp.{Stamp}
 use Rattle.qq_command.specs.declared.command.Command.{Command}
@@ -16,7 +15,6 @@ use Rattle.qq_command.specs.declared.command.DeadDone.{DeadDone}
 use Rattle.qq_command.specs.declared.command.Mode.{Mode}
 use Rattle.qq_command.specs.declared.command.Mode.TheVariants.{Prefetch, Link}
 use Rattle.qq_command.specs.declared.audit.Effect.TheVariants.{Offer}
-use Rattle.qq_command.specs.declared.answer.Answer.{Answer}
 use Rattle.qq_command.specs.declared.answer.Answer.TheVariants as answer
 use Rattle.qq_command.specs.declared.answer.Cause.TheVariants.{SingleActive, NumberSpent, ConsumersFull, NoConsumer}
 use Rattle.qq_command.specs.declared.answer.Full.{Full}
@@ -29,16 +27,16 @@ use Rattle.qq_model.specs.declared.consumer.Consumer.{Consumer}
 use Rattle.qq_model.specs.declared.consumer.Outcome.{Outcome}
 use Rattle.qq_model.specs.declared.consumer.Outcome.TheVariants.{Settled, Returned, Discarded}
 use Rattle.qq_model.specs.State.{State}
-use Rattle.qq_model.specs.Choice.{next_message, next_consumer, is_out_at, out_count}
-use Rattle.qq_model.specs.Limits.{is_live, is_dead, is_ready, ready_count, dead_count, is_over, publish_limit, drops, passes}
-use Rattle.qq_model.specs.Changes.{Progress, while_next, consumer_of, shown, message_of, with_consumer, dies, returned, without_finished, credit_of, begins_to_wait}
+use Rattle.qq_model.specs.Choice.{next_message, next_consumer}
+use Rattle.qq_model.specs.Limits.{is_live, ready_count, dead_count, is_over, publish_limit, drops, passes}
+use Rattle.qq_model.specs.Changes.{Progress, consumer_of, message_of, with_consumer, dies, returned, without_finished, credit_of}
 use Rattle.qq_model.specs.Gate.{greatest_tag}
-use Rattle.qq_model.specs.Commands.{Acted, answers, in_state, refused, arrived, enqueue_by, enqueue, moved, get_by, get, joined, subscribe, cancel_by, cancel, credited, credit_by_mode, credit_by, give_credit, delivered, finished, finished_if, all_finished, settled_down, finish_by, finish, purge, return_by, return_first, first_delivery, all_returned, is_of, given_back, left, down, keeps_dead, dead_attach, dead_of, given_dead, Settling, dead_settled, all_dead_settled, dead_settle, consumer_id, act}
-use Rattle.qq_model.specs.Serving.{delivers, delivers_if, check_out, checkouts, drained, drain_by, was_credited, drain, drain_after, drop_by, drop_head, limits, next_dead, given_count, offers_at, offers, give_dead, dead_giving}
+use Rattle.qq_model.specs.Commands.{Acted, answers, in_state, refused, arrived, enqueue_by, enqueue, get_by, get, joined, subscribe, cancel_by, cancel, credited, credit_by_mode, credit_by, give_credit, delivered, finished, finished_if, all_finished, finish_by, finish, purge, return_by, return_first, first_delivery, all_returned, is_of, given_back, down, dead_attach, dead_of, given_dead, Settling, dead_settled, all_dead_settled, dead_settle, consumer_id, act}
+use Rattle.qq_model.specs.Serving.{delivers, delivers_if, check_out, checkouts, drain_by, was_credited, drain, drain_after, drop_by, drop_head, limits, next_dead, given_count, offers_at, offers, give_dead, dead_giving}
 use Rattle.qq_model.specs.Step.{after_checkouts, after_limits, after_giving, carried_out}
-use Rattle.qq_laws.specs.Reasons.{is_enqueue, is_get, is_settle, is_return, is_discard, is_purge, is_down, is_dead_settle, gives_back, explains_death, explains, Moves}
-use Rattle.qq_laws.proofs.Lists.{In, find-in, while_next-keeps, fold-keeps}
-use Rattle.qq_laws.proofs.Closed.{Closed, IsIn, IsIn-ready, IsIn-out, Recounts, Recounts-same, dies-keeps, returned-keeps, moved-keeps, begins_to_wait-keeps}
+use Rattle.qq_laws.specs.Reasons.{is_enqueue, is_get, is_settle, is_return, is_discard, is_purge, is_down, is_dead_settle, gives_back}
+use Rattle.qq_laws.proofs.Lists.{In, while_next-keeps, fold-keeps}
+use Rattle.qq_laws.proofs.Closed.{Closed, IsIn, IsIn-ready, IsIn-out, Recounts-same, dies-keeps, returned-keeps, moved-keeps, begins_to_wait-keeps}
 use Rattle.qq_laws.proofs.Chosen.{next_message-in, delivered-in, first_delivery-in, dead_of-in, next_dead-in}
 
 -- Get
@@ -58,8 +56,8 @@ pub subscribe-keeps : {command : Command} {I : Progress → Type 0} → Closed c
 unfolding subscribe
 subscribe-keeps {I = I} closed id mode p holds =
     cond_both (nat_le id.tag (greatest_tag id.session p.state.sessions)) (refused NumberSpent p) _ (λ (a : Acted). I a.progress) (λ _. holds) (λ _.
-        cond_both (nat_le MOST_CONSUMERS (length p.state.consumers)) (refused ConsumersFull p) (answers answer.Subscribed (in_state (joined id mode p.state) p)) (λ (a : Acted). I a.progress)
-        (λ _. holds) (λ _. closed.join p id mode holds))
+    cond_both (nat_le MOST_CONSUMERS (length p.state.consumers)) (refused ConsumersFull p) (answers answer.Subscribed (in_state (joined id mode p.state) p)) (λ (a : Acted). I a.progress)
+    (λ _. holds) (λ _. closed.join p id mode holds))
 
 -- Cancel
 pub cancel-keeps : {command : Command} {I : Progress → Type 0} → Closed command I → (id : ConsumerId) (p : Progress) → I p → I (cancel id p).progress
@@ -145,7 +143,7 @@ unfolding down
 down-keeps {I = I} closed back session p holds =
     closed.leave (given_back session p.state.consumers p) session
     (fold-keeps I (λ (now : Progress) (consumer : Consumer). if is_of session consumer then all_returned consumer now else now)
-        (λ now consumer holds. cond_both (is_of session consumer) (all_returned consumer now) now I (λ _. all_returned-keeps closed back consumer now holds) (λ _. holds)) p.state.consumers p holds)
+    (λ now consumer holds. cond_both (is_of session consumer) (all_returned consumer now) now I (λ _. all_returned-keeps closed back consumer now holds) (λ _. holds)) p.state.consumers p holds)
 
 -- DeadAttach, DeadSettle
 pub dead_attach-keeps : {command : Command} {I : Progress → Type 0} → Closed command I → (term : Term) (p : Progress) → I p → I (dead_attach term p).progress
@@ -161,10 +159,10 @@ dead_settle-keeps {I = I} closed settles term done p holds =
     one now number None found holds = holds
     one now number (Some row) found holds =
         let some : In row now.progress.state.rows × (is_live row.place ≡ true) = elim (cases_Bool (nat_le number now.progress.state.given)) [
-          inl passes ↦ dead_of-in number now.progress.state.rows row (sym (cond-true _ (dead_of number now.progress.state.rows) None passes) ∙ found)
-        | inr fails ↦
-            let none : None ≡ Some row = sym (cond-false _ (dead_of number now.progress.state.rows) None fails) ∙ found in
-            absurd cc
+          | inl passes ↦ dead_of-in number now.progress.state.rows row (sym (cond-true _ (dead_of number now.progress.state.rows) None passes) ∙ found)
+          | inr fails ↦
+              let none : None ≡ Some row = sym (cond-false _ (dead_of number now.progress.state.rows) None fails) ∙ found in
+              absurd cc
         ] in
         moved-keeps closed row gone.DeadLettered now.progress holds some.0 some.1 settles
 

@@ -1,15 +1,14 @@
 -- What is chosen of the rows stands among them, and is of its kind.
-use Rattle.std.proofs.Common.{◌≡◌, ℕ, ◌⊎◌, Bool, true, false, ◌&&◌, cond, List, [], ◌∷◌, Option, Some, None, refl, sym, ap, ◌∙◌, subst, inl, inr, arith}
-use Rattle.std.specs.Prelude.{fold, nat_lt, nat_eq}
-use Rattle.std.proofs.lemmas.Bool.{false≢true, cases_Bool, cond-true, cond-false}
+use Rattle.std.proofs.Common.{◌≡◌, ℕ, ◌⊎◌, Bool, true, false, ◌&&◌, cond, List, Option, Some, None, refl, inl, inr}
+use Rattle.std.specs.Prelude.{nat_eq}
+use Rattle.std.proofs.lemmas.Bool.{false≢true}
 use Rattle.qq_base.specs.declared.ids.ConsumerId.{ConsumerId}
-use Rattle.qq_command.specs.declared.message.Reason.{Reason}
 use Rattle.qq_model.specs.declared.place.Place.{Place}
 use Rattle.qq_model.specs.declared.place.Place.TheVariants.{Ready, Out, Dead, Gone}
 use Rattle.qq_model.specs.declared.place.Row.{Row}
 use Rattle.qq_model.specs.State.{same_consumer}
 use Rattle.qq_model.specs.Choice.{next_message, sooner, comes_before, is_out_at}
-use Rattle.qq_model.specs.Limits.{is_ready, is_dead, is_live}
+use Rattle.qq_model.specs.Limits.{is_ready, is_live}
 use Rattle.qq_model.specs.Commands.{is_delivery, delivered, delivery_id, id_before, earlier, place_of, first_delivery, is_dead_number, dead_of}
 use Rattle.qq_model.specs.Serving.{next_dead, sooner_dead, is_sooner_dead}
 use Rattle.qq_laws.proofs.Lists.{In, find-in, fold-in_all}

@@ -1,20 +1,16 @@
 -- What each single change of a queue keeps, and each command begins with, each command ends with.
-use Rattle.std.proofs.Common.{◌≡◌, ℕ, ◌+◌, ◌≤◌, ◌⊎◌, Bool, true, false, not, ◌&&◌, ◌||◌, List, [], ◌∷◌, ◌++◌, Option, Some, None, map, refl, sym, ap, ◌∙◌, subst, inl, inr, arith}
-use Rattle.std.proofs.lemmas.Bool.{false≢true, cases_Bool, cond-true, cond-false, cond_both, and_from, and_parts}
-use Rattle.qq_base.specs.declared.ids.Index.{Index}
+use Rattle.std.proofs.Common.{◌≡◌, ℕ, ◌+◌, ◌≤◌, ◌⊎◌, Bool, true, false, not, ◌&&◌, [], ◌∷◌, ◌++◌, Option, Some, None, map, refl, sym, ap, ◌∙◌, inl, inr, arith}
+use Rattle.std.proofs.lemmas.Bool.{false≢true, cond_both, and_from}
 use Rattle.qq_base.specs.declared.ids.Term.{Term}
 use Rattle.qq_base.specs.declared.ids.SessionId.{SessionId}
 use Rattle.qq_base.specs.declared.ids.ConsumerId.{ConsumerId}
-use Rattle.qq_command.specs.declared.message.Message.{Message}
 use Rattle.qq_command.specs.declared.message.Reason.{Reason}
 use Rattle.qq_command.specs.declared.message.Reason.TheVariants as reason
 use Rattle.qq_command.specs.declared.command.Command.{Command}
-use Rattle.qq_command.specs.declared.command.DeadDone.{DeadDone}
 use Rattle.qq_command.specs.declared.command.Mode.{Mode}
 use Rattle.qq_command.specs.declared.audit.Effect.TheVariants.{DeadOnce, Offer}
 use Rattle.qq_command.specs.declared.queue.Strategy.{Strategy}
 use Rattle.qq_command.specs.declared.queue.Strategy.TheVariants.{Absent, AtMostOnce, AtLeastOnce}
-use Rattle.qq_model.specs.declared.place.Key.{Key}
 use Rattle.qq_model.specs.declared.place.Key.TheVariants.{Front, Back}
 use Rattle.qq_model.specs.declared.place.GoneReason.{GoneReason}
 use Rattle.qq_model.specs.declared.place.GoneReason.TheVariants as gone
@@ -25,10 +21,9 @@ use Rattle.qq_model.specs.declared.consumer.Consumer.{Consumer}
 use Rattle.qq_model.specs.State.{State}
 use Rattle.qq_model.specs.Choice.{next_message, next_consumer, is_out_at}
 use Rattle.qq_model.specs.Limits.{is_live, is_dead, is_ready, passes}
-use Rattle.qq_model.specs.Changes.{Progress, with_row, with_consumer, consumer_of, message_of, dies, dies_by, goes_back, counted, returned, without_finished, takes_turn, begins_to_wait, credit_of}
+use Rattle.qq_model.specs.Changes.{Progress, with_row, with_consumer, consumer_of, message_of, dies, dies_by, goes_back, returned, without_finished, takes_turn, begins_to_wait}
 use Rattle.qq_model.specs.Commands.{in_state, moved, joined, credited, left, purged_row, keeps_dead}
 use Rattle.qq_model.specs.Serving.{delivers, drained}
-use Rattle.qq_model.specs.Gate.{greatest_tag}
 use Rattle.qq_laws.specs.Reasons.{is_purge, gives_back, explains_death, explains, Moves}
 use Rattle.qq_laws.proofs.Lists.{In}
 

@@ -5,3 +5,4 @@ pub mod Carried
 pub mod RowLemmas
 pub mod Since
 pub mod Steps
+pub mod Runs

@@ -1,6 +1,6 @@
 -- Choices from a list, and loops of so many rounds.
-use Rattle.std.proofs.Common.{◌≡◌, ℕ, zero, suc, ◌+◌, ◌-◌, ◌<◌, ◌⊎◌, Bool, true, false, cond, List, [], ◌∷◌, ◌++◌, Option, Some, None, refl, sym, ap, ◌∙◌, subst, inl, inr, arith}
-use Rattle.std.proofs.lemmas.Bool.{false≢true, cases_Bool, cond-true, cond-false}
+use Rattle.std.proofs.Common.{◌≡◌, ℕ, zero, suc, ◌⊎◌, Bool, true, List, [], ◌∷◌, ◌++◌, Option, Some, None, refl, sym, ap, ◌∙◌, subst, inl, inr}
+use Rattle.std.proofs.lemmas.Bool.{cases_Bool, cond-true, cond-false}
 use Rattle.std.specs.Prelude.{find, fold}
 use Rattle.std.specs.Option.{option_map_or}
 use Rattle.qq_model.specs.Changes.{while_next}
@@ -32,13 +32,13 @@ pub find-in : {A : Type 0} (test : A → Bool) (xs : List A) (x : A) → find te
 find-in test [] x found = absurd cc
 find-in {A = A} test (y ∷ ys) x found =
     elim (cases_Bool (test y)) [
-      inl passes ↦
-        let here : Some y ≡ Some x = sym (cond-true (test y) (Some y) (find test ys) passes) ∙ found in
-        let same : y ≡ x = cc in
-        (inl (sym same), ap test (sym same) ∙ passes)
-    | inr fails ↦
-        let rest = find-in test ys x (sym (cond-false (test y) (Some y) (find test ys) fails) ∙ found) in
-        (inr rest.0, rest.1)
+      | inl passes ↦
+          let here : Some y ≡ Some x = sym (cond-true (test y) (Some y) (find test ys) passes) ∙ found in
+          let same : y ≡ x = cc in
+          (inl (sym same), ap test (sym same) ∙ passes)
+      | inr fails ↦
+          let rest = find-in test ys x (sym (cond-false (test y) (Some y) (find test ys) fails) ∙ found) in
+          (inr rest.0, rest.1)
     ]
 
 -- a fold that keeps its best or takes the element gives an element, of which what each choice shows is true
@@ -47,15 +47,15 @@ pub fold-in : {A : Type 0} (better : Option A → A → Option A) (P : A → Typ
 fold-in better P choice [] start x found = inl found
 fold-in {A = A} better P choice (y ∷ ys) start x found =
     elim (fold-in better P choice ys (better start y) x found) [
-      inl now ↦
-        elim (choice start y) [
-          inl kept ↦ inl (sym kept ∙ now)
-        | inr took ↦
-            let e : Some y ≡ Some x = sym took.0 ∙ now in
-            let same : y ≡ x = cc in
-            inr (inl (sym same), subst P same took.1)
-        ]
-    | inr later ↦ inr (inr later.0, later.1)
+      | inl now ↦
+          elim (choice start y) [
+            | inl kept ↦ inl (sym kept ∙ now)
+            | inr took ↦
+                let e : Some y ≡ Some x = sym took.0 ∙ now in
+                let same : y ≡ x = cc in
+                inr (inl (sym same), subst P same took.1)
+          ]
+      | inr later ↦ inr (inr later.0, later.1)
     ]
 
 -- from nothing
@@ -63,8 +63,8 @@ pub fold-in_all : {A : Type 0} (better : Option A → A → Option A) (P : A →
     → (xs : List A) (x : A) → fold better None xs ≡ Some x → In x xs × P x
 fold-in_all better P choice xs x found =
     elim (fold-in better P choice xs None x found) [
-      inl none ↦ absurd cc
-    | inr some ↦ some
+      | inl none ↦ absurd cc
+      | inr some ↦ some
     ]
 
 -- what each round keeps, the loop keeps

@@ -1,20 +1,17 @@
 -- Rows that keep what they are.
-use Rattle.std.proofs.Common.{◌≡◌, ℕ, zero, suc, ◌+◌, ◌-◌, ◌<◌, ◌≤◌, ◌⊎◌, Bool, true, false, not, cond, List, [], ◌∷◌, ◌++◌, Option, Some, None, map, length, refl, sym, ap, ◌∙◌, subst, inl, inr, arith, if◌then◌else◌}
-use Rattle.std.specs.Prelude.{nat_eq, nat_lt, slice_get, position, unwrap_or}
+use Rattle.std.proofs.Common.{◌≡◌, ℕ, zero, suc, ◌+◌, ◌-◌, ◌<◌, ◌≤◌, ◌⊎◌, Bool, true, false, not, cond, List, [], ◌∷◌, Option, Some, None, map, length, refl, sym, ap, ◌∙◌, subst, inl, inr, arith, if◌then◌else◌}
+use Rattle.std.specs.Prelude.{nat_eq, nat_lt, slice_get, position}
 use Rattle.std.specs.Option.{option_and_then}
-use Rattle.std.specs.List.{AllZip, prefix_len, position_or_len}
+use Rattle.std.specs.List.{AllZip, position_or_len}
 use Rattle.std.proofs.lemmas.Bool.{false≢true, cases_Bool, cond-true, cond-false, eqb-true, eq-eqb, ne_eqb, ltb-true, lt-ltb, le-ltb, ltb-false}
-use Rattle.std.proofs.lemmas.List.Elements.{All-cons, All-nil}
-use Rattle.std.specs.Prelude.{All}
 use Rattle.qq_base.specs.declared.ids.Index.{Index}
 use Rattle.qq_command.specs.declared.queue.QueueArgs.{QueueArgs}
 use Rattle.qq_command.specs.declared.message.Message.{Message}
 use Rattle.qq_command.specs.declared.command.Command.{Command}
 use Rattle.qq_model.specs.declared.place.Row.{Row}
-use Rattle.qq_model.specs.Limits.{is_live, is_dead, is_ready}
-use Rattle.qq_model.specs.Changes.{with_row, message_of}
-use Rattle.qq_laws.specs.Reasons.{Follows, Moves, explains, gives_back}
-use Rattle.qq_laws.specs.Published.{Published, kept_publishes}
+use Rattle.qq_model.specs.Changes.{with_row}
+use Rattle.qq_laws.specs.Reasons.{Follows, Moves, gives_back}
+use Rattle.qq_laws.specs.Published.{kept_publishes}
 use Rattle.qq_laws.proofs.Lists.{In, Each, Each-in}
 
 -- numbers that rise
@@ -55,14 +52,14 @@ unique a b (row ∷ rows) rising (inr ina) (inr inb) same = unique a b rows risi
 pub Follows-more : (args : QueueArgs) (command : Command) (first old new : Row) → Follows args command first old → Moves args command old new → Follows args command first new
 Follows-more args command first old new (inl same) moves = inr (subst (λ (row : Row). Moves args command row new) same moves)
 Follows-more args command first old new (inr moved) moves = inr (record {
-    live = moved.live;
-    index = moves.index ∙ moved.index;
-    arrival = moves.arrival ∙ moved.arrival;
-    size = moves.size ∙ moved.size;
-    place = moves.place;
-    dead = λ h. absurd (false≢true (sym (moved.dead h) ∙ moves.live));
-    rises = omega (arith, moved.rises, moves.rises);
-    counted = counts moved.counted moves.counted;
+  live = moved.live;
+  index = moves.index ∙ moved.index;
+  arrival = moves.arrival ∙ moved.arrival;
+  size = moves.size ∙ moved.size;
+  place = moves.place;
+  dead = λ h. absurd (false≢true (sym (moved.dead h) ∙ moves.live));
+  rises = omega (arith, moved.rises, moves.rises);
+  counted = counts moved.counted moves.counted;
 })
   where
     counts : (old.count ≡ first.count) ⊎ (gives_back command ≡ true) → (new.count ≡ old.count) ⊎ (gives_back command ≡ true) → (new.count ≡ first.count) ⊎ (gives_back command ≡ true)

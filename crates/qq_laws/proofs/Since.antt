@@ -1,37 +1,27 @@
 -- What a command has done since a state: messages move, and what leaves was published.
-use Rattle.std.proofs.Common.{◌≡◌, ℕ, zero, suc, ◌+◌, ◌-◌, ◌<◌, ◌≤◌, ◌⊎◌, Bool, true, false, not, cond, List, [], ◌∷◌, ◌++◌, Option, Some, None, map, length, refl, sym, ap, ◌∙◌, subst, inl, inr, arith, if◌then◌else◌}
+use Rattle.std.proofs.Common.{◌≡◌, ℕ, ◌+◌, ◌-◌, ◌⊎◌, true, false, List, [], ◌∷◌, ◌++◌, Some, None, length, refl, sym, ap, ◌∙◌, subst, inl, inr, arith}
 use Rattle.std.specs.Prelude.{nat_eq, slice_get, unwrap_or}
 use Rattle.std.specs.List.{AllZip}
-use Rattle.std.proofs.lemmas.Bool.{false≢true, cases_Bool, cond-true, cond-false, cond_both}
+use Rattle.std.proofs.lemmas.Bool.{cases_Bool, cond-true, cond-false}
 use Rattle.qq_base.specs.declared.ids.Index.{Index}
-use Rattle.qq_base.specs.declared.ids.Term.{Term}
-use Rattle.qq_base.specs.declared.ids.SessionId.{SessionId}
-use Rattle.qq_base.specs.declared.ids.ConsumerId.{ConsumerId}
 use Rattle.qq_command.specs.declared.message.Message.{Message}
 use Rattle.qq_command.specs.declared.message.Reason.{Reason}
 use Rattle.qq_command.specs.declared.command.Command.{Command}
-use Rattle.qq_command.specs.declared.command.Mode.{Mode}
 use Rattle.qq_command.specs.declared.queue.QueueArgs.{QueueArgs}
-use Rattle.qq_command.specs.declared.answer.Delivery.{Delivery}
-use Rattle.qq_command.specs.declared.audit.Effect.{Effect}
 use Rattle.qq_command.specs.declared.audit.Effect.TheVariants.{Deliver, DeadOnce, Offer}
 use Rattle.qq_model.specs.declared.place.GoneReason.TheVariants as gone
-use Rattle.qq_model.specs.declared.place.Place.{Place}
-use Rattle.qq_model.specs.declared.place.Place.TheVariants.{Ready, Out, Dead, Gone}
+use Rattle.qq_model.specs.declared.place.Place.TheVariants.{Out, Gone}
 use Rattle.qq_model.specs.declared.place.Row.{Row}
-use Rattle.qq_model.specs.declared.consumer.Consumer.{Consumer}
 use Rattle.qq_model.specs.State.{State}
-use Rattle.qq_model.specs.Choice.{next_message, next_consumer}
-use Rattle.qq_model.specs.Limits.{is_live, is_dead, is_ready}
-use Rattle.qq_model.specs.Changes.{Progress, with_row, message_of, shown}
-use Rattle.qq_model.specs.Commands.{in_state, purged_row}
-use Rattle.qq_model.specs.Serving.{delivers}
-use Rattle.qq_laws.specs.Reasons.{Follows, Moves, explains, gives_back, is_purge}
+use Rattle.qq_model.specs.Limits.{is_ready}
+use Rattle.qq_model.specs.Changes.{Progress, message_of, shown}
+use Rattle.qq_model.specs.Commands.{purged_row}
+use Rattle.qq_laws.specs.Reasons.{Follows, Moves, is_purge}
 use Rattle.qq_laws.specs.Published.{Published, kept_publishes, Shows, WasPublished, EffectShows}
 use Rattle.qq_laws.proofs.Lists.{In, Each, Each-append}
-use Rattle.qq_laws.proofs.Closed.{Closed, Turns, is_out, IsIn, IsIn-ready, Recounts-same, Moves-in}
+use Rattle.qq_laws.proofs.Closed.{Closed, Turns, IsIn-ready, Recounts-same, Moves-in}
 use Rattle.qq_laws.proofs.Chosen.{next_message-in}
-use Rattle.qq_laws.proofs.RowLemmas.{Rises, Counts, indices, arrivals_of, Follows-more, zip-same, zip-map, zip-row, zip-index, zip-arrival, same_indices, zip-length, zip-kept, beside, Beside, found-beside}
+use Rattle.qq_laws.proofs.RowLemmas.{Rises, Counts, indices, arrivals_of, Follows-more, zip-same, zip-map, zip-row, zip-index, zip-arrival, same_indices, zip-length, zip-kept, beside, found-beside}
 
 -- rows in the order of arrival, with a message beside each
 pub record Orderly (s : State) : Type 0 where
@@ -163,6 +153,6 @@ Since-closed b command orderly = record {
     effects p q old new since here moves turns (inr more) =
         let message : Index → ℕ → Message = λ index size. unwrap_or (beside (λ other. nat_eq other.index.0 index.0) p.state.rows p.state.messages) (record { size = size; content = None }) in
         let same : message_of p.state.rows p.state.messages old ≡ message_of p.state.rows p.state.messages new =
-            ap (λ i. message i old.size) (sym moves.index) ∙ ap (message new.index) (sym moves.size) in
+        ap (λ i. message i old.size) (sym moves.index) ∙ ap (message new.index) (sym moves.size) in
         subst (Each (EffectShows (kept b))) (sym more.1)
         (Each-append (EffectShows (kept b)) p.effects (DeadOnce more.0 (message_of p.state.rows p.state.messages new) ∷ []) since.shown (subst (WasPublished (kept b)) same (row_published b command p old orderly since here), tt))

@@ -1,8 +1,7 @@
 -- What an entry does to the rows of a queue.
-use Rattle.std.proofs.Common.{◌≡◌, ℕ, zero, suc, ◌+◌, ◌-◌, ◌<◌, ◌≤◌, ◌⊎◌, Bool, true, false, not, ◌&&◌, cond, List, [], ◌∷◌, ◌++◌, Option, Some, None, map, length, refl, sym, ap, ◌∙◌, subst, inl, inr, arith, if◌then◌else◌, length-append}
-use Rattle.std.specs.Prelude.{slice_get}
+use Rattle.std.proofs.Common.{◌≡◌, ℕ, suc, ◌+◌, ◌<◌, ◌≤◌, true, false, ◌&&◌, List, [], ◌∷◌, ◌++◌, Option, Some, None, map, length, refl, sym, ap, ◌∙◌, subst, arith, length-append}
 use Rattle.std.specs.List.{AllZip}
-use Rattle.std.proofs.lemmas.Bool.{false≢true, cases_Bool, cond-true, cond-false, cond_both}
+use Rattle.std.proofs.lemmas.Bool.{false≢true, cond_both}
 use Rattle.std.proofs.lemmas.List.{map-append, append-nil}
 use Rattle.qq_base.specs.declared.ids.Index.{Index}
 use Rattle.qq_command.specs.declared.message.Message.{Message}
@@ -12,23 +11,22 @@ use Rattle.qq_command.specs.declared.command.Command.TheVariants.{Noop, Enqueue,
 use Rattle.qq_command.specs.declared.command.Entry.{Entry}
 use Rattle.qq_command.specs.declared.answer.Answer.{Answer}
 use Rattle.qq_command.specs.declared.answer.Full.{Full}
-use Rattle.qq_command.specs.declared.audit.Effect.{Effect}
 use Rattle.qq_model.specs.declared.place.Row.{Row}
 use Rattle.qq_model.specs.declared.session.Gate.{Gate}
 use Rattle.qq_model.specs.declared.session.Gate.TheVariants.{Fresh, Again, Gap, Forgotten, Ended, WindowFull, SessionsFull}
 use Rattle.qq_model.specs.State.{State, Sessions}
 use Rattle.qq_model.specs.Limits.{publish_limit}
 use Rattle.qq_model.specs.Changes.{Progress}
-use Rattle.qq_model.specs.Gate.{gate, admitted}
-use Rattle.qq_model.specs.Commands.{Acted, answers, in_state, arrived, enqueue_by, enqueue, act}
+use Rattle.qq_model.specs.Gate.{gate}
+use Rattle.qq_model.specs.Commands.{Acted, in_state, arrived, enqueue_by, enqueue, act}
 use Rattle.qq_model.specs.Serving.{drain_after}
-use Rattle.qq_model.specs.Step.{Step, stamp_of, after_checkouts, after_limits, after_giving, carried_out, applied, kept, ungated, rejected, gated, step_by, step}
+use Rattle.qq_model.specs.Step.{Step, stamp_of, after_checkouts, after_limits, after_giving, carried_out, gated, step_by, step}
 use Rattle.qq_model.specs.Audit.{next_index, next_step}
 use Rattle.qq_laws.specs.Reasons.{Follows, is_enqueue}
 use Rattle.qq_laws.specs.Published.{Published, kept_publishes, message_in, is_confirmed, brought, EffectShows}
 use Rattle.qq_laws.specs.Rows.{new_row, new_rows, new_messages, StepsRows}
-use Rattle.qq_laws.proofs.Lists.{In, Each, Each-append, Each-weaker}
-use Rattle.qq_laws.proofs.Carried.{KeepsArrivals, carried_out-keeps, rest-keeps}
+use Rattle.qq_laws.proofs.Lists.{Each, Each-append, Each-weaker}
+use Rattle.qq_laws.proofs.Carried.{carried_out-keeps, rest-keeps}
 use Rattle.qq_laws.proofs.RowLemmas.{Rises, Counts, indices, arrivals_of, zip-same, zip-index, same_indices}
 use Rattle.qq_laws.proofs.Since.{Orderly, Since, Since-start, Since-orderly, Since-kept, Since-closed}
 use Rattle.qq_laws.proofs.Since as since

@@ -1,5 +1,5 @@
 -- Which commands move a message where, in the words of RabbitMQ.
-use Rattle.std.specs.Prelude.{◌≡◌, ◌≤◌, ◌⊎◌, ℕ, Bool, true, false, not, ◌&&◌, ◌||◌}
+use Rattle.std.specs.Prelude.{◌≡◌, ◌≤◌, ◌⊎◌, Bool, true, false, not, ◌&&◌, ◌||◌}
 use Rattle.qq_command.specs.declared.queue.QueueArgs.{QueueArgs}
 use Rattle.qq_command.specs.declared.message.Reason.{Reason}
 use Rattle.qq_command.specs.declared.message.Reason.TheVariants.{Rejected, Expired, MaxLen, DeliveryLimit}

@@ -1,13 +1,11 @@
 -- The rows of a queue: one for each message that ever arrived.
-use Rattle.std.specs.Prelude.{◌≡◌, ◌≤◌, ◌<◌, ◌⊎◌, ◌+◌, ℕ, Bool, true, false, List, [], ◌∷◌, ◌++◌, Option, Some, None, All, AllPairs, EachIndex, length, count_by, slice_index_or}
+use Rattle.std.specs.Prelude.{◌≡◌, ◌≤◌, ◌<◌, ◌⊎◌, ◌+◌, ℕ, Bool, true, false, List, [], ◌∷◌, ◌++◌, Option, Some, None, All, AllPairs, length, count_by, slice_index_or, slice_get}
 use Rattle.std.specs.List.{AllZip}
-use Rattle.qq_base.specs.declared.ids.ConsumerId.{ConsumerId}
 use Rattle.qq_base.specs.declared.ids.Index.{Index}
-use Rattle.qq_command.specs.declared.queue.QueueArgs.{QueueArgs}
 use Rattle.qq_command.specs.declared.message.Message.{Message}
-use Rattle.qq_command.specs.declared.command.Command.{Command}
 use Rattle.qq_command.specs.declared.command.Entry.{Entry}
 use Rattle.qq_model.specs.declared.place.Key.TheVariants.{Back}
+use Rattle.qq_model.specs.declared.place.GoneReason.{GoneReason}
 use Rattle.qq_model.specs.declared.place.Place.{Place}
 use Rattle.qq_model.specs.declared.place.Place.TheVariants.{Ready, Out, Dead, Gone}
 use Rattle.qq_model.specs.declared.place.Row.{Row}
@@ -15,7 +13,7 @@ use Rattle.qq_model.specs.State.{State}
 use Rattle.qq_model.specs.Limits.{is_live, ready_count, dead_count}
 use Rattle.qq_model.specs.Step.{Step}
 use Rattle.qq_model.specs.Audit.{next_index, next_step}
-use Rattle.qq_laws.specs.Reasons.{Follows}
+use Rattle.qq_laws.specs.Reasons.{Follows, explains_end}
 use Rattle.qq_laws.specs.Published.{brought}
 
 -- the row of a message that arrives: at the back of the queue, with the index of its entry
@@ -36,6 +34,12 @@ pub record StepsRows (s : State) (entry : Entry) (made : Step) : Type 0 where
   pub args : made.state.args ≡ s.args
   pub rows : AllZip (Follows s.args entry.command) (s.rows ++ new_rows s (next_index s) (brought made.fresh made.answer entry.command)) made.state.rows
   pub messages : made.state.messages ≡ s.messages ++ new_messages (brought made.fresh made.answer entry.command)
+
+-- a message that is gone after an entry was so before it, or the command of the entry explains why it is gone
+abbrev pub GoneForAReason : State → Entry → Type 0
+GoneForAReason s entry =
+    (k : ℕ) (row : Row) (reason : GoneReason) → slice_get (next_step s entry).state.rows k ≡ Some row → row.place ≡ Gone reason
+    → (slice_get s.rows k ≡ Some row) ⊎ (explains_end s.args entry.command reason ≡ true)
 
 -- The messages stand in the order of their entries, and are counted from 1 as they arrive; beside each stands
 -- what it carries.

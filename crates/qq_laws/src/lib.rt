@@ -2,10 +2,9 @@
 //! function with no parameters and an empty body; the statements stand in `specs/`.
 #![tactic(auto)]
 
-ghost use Rattle.std.specs.Prelude.{◌≡◌, ℕ};
+mod messages;
 
-/// Sample.
-pub fn sample()
-    ensures { ◌≡◌ {A = ℕ} 1 1 }
-{
-}
+pub use messages::{
+    deliveries_show_publishes, entries_move_messages, messages_add_up,
+    messages_are_gone_for_a_reason, messages_are_in_order, messages_last, publishes_are_kept,
+};
