@@ -36,11 +36,11 @@ use Rattle.qq_model.specs.Serving.{delivers, delivers_if, check_out, checkouts, 
 use Rattle.qq_model.specs.Step.{after_checkouts, after_limits, after_giving, carried_out}
 use Rattle.qq_laws.specs.Reasons.{is_enqueue, is_get, is_settle, is_return, is_discard, is_purge, is_down, is_dead_settle, gives_back}
 use Rattle.qq_laws.proofs.Lists.{In, while_next-keeps, fold-keeps}
-use Rattle.qq_laws.proofs.Closed.{Closed, IsIn, IsIn-ready, IsIn-out, Recounts-same, dies-keeps, returned-keeps, moved-keeps, begins_to_wait-keeps}
+use Rattle.qq_laws.proofs.Closed.{Acts, Serves, IsOwn, IsIn, IsIn-ready, IsIn-out, Recounts-same, dies-keeps, returned-keeps, moved-keeps, begins_to_wait-keeps}
 use Rattle.qq_laws.proofs.Chosen.{next_message-in, delivered-in, first_delivery-in, dead_of-in, next_dead-in}
 
 -- Get
-pub get-keeps : {command : Command} {I : Progress → Type 0} → Closed command I → is_get command ≡ true → (p : Progress) → I p → I (get p).progress
+pub get-keeps : {command : Command} {I : Progress → Type 0} → Acts command I → is_get command ≡ true → (p : Progress) → I p → I (get p).progress
 unfolding get
 get-keeps {I = I} closed gets p holds =
     cond_both p.state.args.single_active (refused SingleActive p) (get_by (next_message p.state.rows) p) (λ (a : Acted). I a.progress) (λ _. holds) (λ _. takes (next_message p.state.rows) refl)
@@ -49,18 +49,18 @@ get-keeps {I = I} closed gets p holds =
     takes None found = holds
     takes (Some row) found =
         let some = next_message-in p.state.rows row found in
-        moved-keeps closed row gone.Got p holds some.0 (IsIn-ready row.place some.1).live gets
+        moved-keeps closed.rows row gone.Got p holds some.0 (IsIn-ready row.place some.1).live gets
 
 -- Subscribe
-pub subscribe-keeps : {command : Command} {I : Progress → Type 0} → Closed command I → (id : ConsumerId) (mode : Mode) (p : Progress) → I p → I (subscribe id mode p).progress
+pub subscribe-keeps : {command : Command} {I : Progress → Type 0} → Acts command I → (id : ConsumerId) (mode : Mode) (p : Progress) → IsOwn command id → I p → I (subscribe id mode p).progress
 unfolding subscribe
-subscribe-keeps {I = I} closed id mode p holds =
-    cond_both (nat_le id.tag (greatest_tag id.session p.state.sessions)) (refused NumberSpent p) _ (λ (a : Acted). I a.progress) (λ _. holds) (λ _.
+subscribe-keeps {I = I} closed id mode p own holds =
+    cond_both (nat_le id.tag (greatest_tag id.session p.state.sessions)) (refused NumberSpent p) _ (λ (a : Acted). I a.progress) (λ _. holds) (λ above.
     cond_both (nat_le MOST_CONSUMERS (length p.state.consumers)) (refused ConsumersFull p) (answers answer.Subscribed (in_state (joined id mode p.state) p)) (λ (a : Acted). I a.progress)
-    (λ _. holds) (λ _. closed.join p id mode holds))
+    (λ _. holds) (λ _. closed.join p id mode holds above own))
 
 -- Cancel
-pub cancel-keeps : {command : Command} {I : Progress → Type 0} → Closed command I → (id : ConsumerId) (p : Progress) → I p → I (cancel id p).progress
+pub cancel-keeps : {command : Command} {I : Progress → Type 0} → Acts command I → (id : ConsumerId) (p : Progress) → I p → I (cancel id p).progress
 unfolding cancel
 cancel-keeps {I = I} closed id p holds = cancels (consumer_of id p.state.consumers) refl
   where
@@ -71,7 +71,7 @@ cancel-keeps {I = I} closed id p holds = cancels (consumer_of id p.state.consume
         (λ _. closed.finish (in_state (record (p.state) { consumers = with_consumer (record consumer { cancelled = true }) p.state.consumers }) p) (closed.cancel p id consumer holds found))
 
 -- Credit
-pub credit-keeps : {command : Command} {I : Progress → Type 0} → Closed command I → (id : ConsumerId) (credit : ℕ) (p : Progress) → I p → I (give_credit id credit p).progress
+pub credit-keeps : {command : Command} {I : Progress → Type 0} → Acts command I → (id : ConsumerId) (credit : ℕ) (p : Progress) → I p → I (give_credit id credit p).progress
 unfolding give_credit
 credit-keeps {I = I} closed id credit p holds = gives (consumer_of id p.state.consumers) refl
   where
@@ -95,13 +95,13 @@ returns_back : (command : Command) → is_return command ≡ true → gives_back
 returns_back command is = ap (λ b. b || is_down command) is
 
 -- Settle, Return, Discard
-pub finished-keeps : {command : Command} {I : Progress → Type 0} → Closed command I → (outcome : Outcome) → fits command outcome ≡ true → (row : Row) (p : Progress)
+pub finished-keeps : {command : Command} {I : Progress → Type 0} → Acts command I → (outcome : Outcome) → fits command outcome ≡ true → (row : Row) (p : Progress)
     → I p → In row p.state.rows → IsIn row.place → I (finished outcome row p)
-finished-keeps closed Settled fit row p holds here at = moved-keeps closed row gone.Settled p holds here at.live fit
-finished-keeps {command = command} closed Returned fit row p holds here at = returned-keeps closed row p (returns_back command fit) holds here at
-finished-keeps {command = command} closed Discarded fit row p holds here at = dies-keeps closed reason.Rejected row row p holds here at (Recounts-same command row) fit
+finished-keeps closed Settled fit row p holds here at = moved-keeps closed.rows row gone.Settled p holds here at.live fit
+finished-keeps {command = command} closed Returned fit row p holds here at = returned-keeps closed.rows row p (returns_back command fit) holds here at
+finished-keeps {command = command} closed Discarded fit row p holds here at = dies-keeps closed.rows reason.Rejected row row p holds here at (Recounts-same command row) fit
 
-pub finish-keeps : {command : Command} {I : Progress → Type 0} → Closed command I → (outcome : Outcome) → fits command outcome ≡ true → (consumer : ConsumerId) (ids : List ℕ) (p : Progress)
+pub finish-keeps : {command : Command} {I : Progress → Type 0} → Acts command I → (outcome : Outcome) → fits command outcome ≡ true → (consumer : ConsumerId) (ids : List ℕ) (p : Progress)
     → I p → I (finish outcome consumer ids p).progress
 unfolding finish
 finish-keeps {command = command} {I = I} closed outcome fit consumer ids p holds = by (consumer_of consumer p.state.consumers)
@@ -122,12 +122,12 @@ finish-keeps {command = command} {I = I} closed outcome fit consumer ids p holds
         begins_to_wait-keeps closed (credit_of consumer p.state.rows p.state.consumers) consumer (in_state (without_finished rest.state) rest) (closed.finish rest all)
 
 -- Purge
-pub purge-keeps : {command : Command} {I : Progress → Type 0} → Closed command I → is_purge command ≡ true → (p : Progress) → I p → I (purge p).progress
+pub purge-keeps : {command : Command} {I : Progress → Type 0} → Acts command I → is_purge command ≡ true → (p : Progress) → I p → I (purge p).progress
 unfolding purge
 purge-keeps closed purges p holds = closed.purge p holds purges
 
 -- Down
-pub all_returned-keeps : {command : Command} {I : Progress → Type 0} → Closed command I → gives_back command ≡ true → (consumer : Consumer) (p : Progress) → I p → I (all_returned consumer p)
+pub all_returned-keeps : {command : Command} {I : Progress → Type 0} → Acts command I → gives_back command ≡ true → (consumer : Consumer) (p : Progress) → I p → I (all_returned consumer p)
 unfolding all_returned
 all_returned-keeps {I = I} closed back consumer p holds = while_next-keeps I (return_first consumer.id) (λ now next holds made. one now next (first_delivery consumer.id now.state.rows) refl holds made) _ p holds
   where
@@ -136,9 +136,9 @@ all_returned-keeps {I = I} closed back consumer p holds = while_next-keeps I (re
     one now next (Some row) found holds made =
         let some = first_delivery-in consumer.id now.state.rows row found in
         let same : returned row now ≡ next = cc in
-        subst I same (returned-keeps closed row now back holds some.0 (IsIn-out consumer.id row.place some.1))
+        subst I same (returned-keeps closed.rows row now back holds some.0 (IsIn-out consumer.id row.place some.1))
 
-pub down-keeps : {command : Command} {I : Progress → Type 0} → Closed command I → gives_back command ≡ true → (session : SessionId) (p : Progress) → I p → I (down session p).progress
+pub down-keeps : {command : Command} {I : Progress → Type 0} → Acts command I → gives_back command ≡ true → (session : SessionId) (p : Progress) → I p → I (down session p).progress
 unfolding down
 down-keeps {I = I} closed back session p holds =
     closed.leave (given_back session p.state.consumers p) session
@@ -146,11 +146,11 @@ down-keeps {I = I} closed back session p holds =
     (λ now consumer holds. cond_both (is_of session consumer) (all_returned consumer now) now I (λ _. all_returned-keeps closed back consumer now holds) (λ _. holds)) p.state.consumers p holds)
 
 -- DeadAttach, DeadSettle
-pub dead_attach-keeps : {command : Command} {I : Progress → Type 0} → Closed command I → (term : Term) (p : Progress) → I p → I (dead_attach term p).progress
+pub dead_attach-keeps : {command : Command} {I : Progress → Type 0} → Acts command I → (term : Term) (p : Progress) → I p → I (dead_attach term p).progress
 unfolding dead_attach
 dead_attach-keeps {I = I} closed term p holds = cond_both _ _ (answers answer.Stale p) (λ (a : Acted). I a.progress) (λ _. closed.attach p term holds) (λ _. holds)
 
-pub dead_settle-keeps : {command : Command} {I : Progress → Type 0} → Closed command I → is_dead_settle command ≡ true → (term : Term) (done : List DeadDone) (p : Progress) → I p → I (dead_settle term done p).progress
+pub dead_settle-keeps : {command : Command} {I : Progress → Type 0} → Acts command I → is_dead_settle command ≡ true → (term : Term) (done : List DeadDone) (p : Progress) → I p → I (dead_settle term done p).progress
 unfolding dead_settle
 dead_settle-keeps {I = I} closed settles term done p holds =
     cond_both _ _ (answers answer.Stale p) (λ (a : Acted). I a.progress) (λ _. all) (λ _. holds)
@@ -164,7 +164,7 @@ dead_settle-keeps {I = I} closed settles term done p holds =
               let none : None ≡ Some row = sym (cond-false _ (dead_of number now.progress.state.rows) None fails) ∙ found in
               absurd cc
         ] in
-        moved-keeps closed row gone.DeadLettered now.progress holds some.0 some.1 settles
+        moved-keeps closed.rows row gone.DeadLettered now.progress holds some.0 some.1 settles
 
     all : I (all_dead_settled done p).progress
     all = fold-keeps (λ (now : Settling). I now.progress) (λ (now : Settling) (one : DeadDone). dead_settled (given_dead one.number now.progress.state) now)
@@ -184,12 +184,12 @@ enqueue-keeps {I = I} index command arrives is stamp message p holds = by (publi
     by (Some full) found = holds
 
 -- the command's row of the table
-pub act-keeps : {I : Progress → Type 0} (index : Index) (command : Command) → Closed command I → KeepsArrivals index command I → (p : Progress) → I p → I (act index command p).progress
+pub act-keeps : {I : Progress → Type 0} (index : Index) (command : Command) → Acts command I → KeepsArrivals index command I → (p : Progress) → I p → I (act index command p).progress
 unfolding act
 act-keeps index (Noop version) closed arrives p holds = holds
 act-keeps index (Enqueue stamp origin message) closed arrives p holds = enqueue-keeps index (Enqueue stamp origin message) arrives refl stamp message p holds
 act-keeps index (Get stamp) closed arrives p holds = get-keeps closed refl p holds
-act-keeps index (Subscribe stamp tag mode) closed arrives p holds = subscribe-keeps closed (consumer_id stamp tag) mode p holds
+act-keeps index (Subscribe stamp tag mode) closed arrives p holds = subscribe-keeps closed (consumer_id stamp tag) mode p (stamp, refl, refl) holds
 act-keeps index (Cancel stamp tag) closed arrives p holds = cancel-keeps closed (consumer_id stamp tag) p holds
 act-keeps index (Credit stamp tag count credit wanted) closed arrives p holds = credit-keeps closed (consumer_id stamp tag) (count + credit) p holds
 act-keeps index (Settle stamp tag ids) closed arrives p holds = finish-keeps closed Settled refl (consumer_id stamp tag) ids p holds
@@ -201,7 +201,7 @@ act-keeps index (DeadAttach term) closed arrives p holds = dead_attach-keeps clo
 act-keeps index (DeadSettle term done) closed arrives p holds = dead_settle-keeps closed refl term done p holds
 
 -- Checkouts
-pub checkouts-keeps : {command : Command} {I : Progress → Type 0} → Closed command I → (p : Progress) → I p → I (checkouts p)
+pub checkouts-keeps : {command : Command} {I : Progress → Type 0} → Serves command I → (p : Progress) → I p → I (checkouts p)
 unfolding checkouts check_out
 checkouts-keeps {I = I} closed p holds = while_next-keeps I check_out (λ now next holds made. one now next _ _ refl refl holds made) (ready_count p.state.rows) p holds
   where
@@ -213,7 +213,7 @@ checkouts-keeps {I = I} closed p holds = while_next-keeps I check_out (λ now ne
         let same : delivers row consumer now ≡ next = cc in subst I same (closed.deliver now row consumer holds found served)
 
 -- Drain
-pub drain-keeps : {command : Command} {I : Progress → Type 0} → Closed command I → (id : ConsumerId) (wanted : Bool) (a : Acted) → I a.progress → I (drain id wanted a).progress
+pub drain-keeps : {command : Command} {I : Progress → Type 0} → Serves command I → (id : ConsumerId) (wanted : Bool) (a : Acted) → I a.progress → I (drain id wanted a).progress
 drain-keeps {I = I} closed id wanted a holds =
     cond_both (wanted && was_credited a.answer) (drain_by (consumer_of id a.progress.state.consumers) a.answer a.progress) a (λ (b : Acted). I b.progress) (λ _. drains (consumer_of id a.progress.state.consumers) refl) (λ _. holds)
   where
@@ -221,7 +221,7 @@ drain-keeps {I = I} closed id wanted a holds =
     drains None found = holds
     drains (Some consumer) found = closed.drain a.progress id consumer holds found
 
-pub drain_after-keeps : {I : Progress → Type 0} (command : Command) → Closed command I → (a : Acted) → I a.progress → I (drain_after command a).progress
+pub drain_after-keeps : {I : Progress → Type 0} (command : Command) → Serves command I → (a : Acted) → I a.progress → I (drain_after command a).progress
 unfolding drain_after
 drain_after-keeps (Noop version) closed a holds = holds
 drain_after-keeps (Enqueue stamp origin message) closed a holds = holds
@@ -238,7 +238,7 @@ drain_after-keeps (DeadAttach term) closed a holds = holds
 drain_after-keeps (DeadSettle term done) closed a holds = holds
 
 -- Limits
-pub limits-keeps : {command : Command} {I : Progress → Type 0} → Closed command I → (p : Progress) → I p → I (limits p)
+pub limits-keeps : {command : Command} {I : Progress → Type 0} → Serves command I → (p : Progress) → I p → I (limits p)
 unfolding limits drop_head
 limits-keeps {I = I} closed p holds = while_next-keeps I drop_head (λ now next holds made. over now next (cases_Bool (is_over now.state.args now.state.rows)) holds made) (ready_count p.state.rows) p holds
   where
@@ -247,7 +247,7 @@ limits-keeps {I = I} closed p holds = while_next-keeps I drop_head (λ now next 
     one now next (Some row) found drops holds made =
         let some = next_message-in now.state.rows row found in
         let same : dies reason.MaxLen row now ≡ next = cc in
-        subst I same (dies-keeps closed reason.MaxLen row row now holds some.0 (IsIn-ready row.place some.1) (Recounts-same _ row) drops)
+        subst I same (dies-keeps closed.rows reason.MaxLen row row now holds some.0 (IsIn-ready row.place some.1) (Recounts-same _ row) drops)
 
     over : (now next : Progress) → (is_over now.state.args now.state.rows ≡ true) ⊎ (is_over now.state.args now.state.rows ≡ false) → I now → drop_head now ≡ Some next → I next
     over now next (inl passed) holds made =
@@ -256,7 +256,7 @@ limits-keeps {I = I} closed p holds = while_next-keeps I drop_head (λ now next 
         let none : None ≡ Some next = sym (cond-false _ (drop_by (next_message now.state.rows) now) None within) ∙ made in absurd cc
 
 -- Dead giving
-pub dead_giving-keeps : {command : Command} {I : Progress → Type 0} → Closed command I → (p : Progress) → I p → I (dead_giving p)
+pub dead_giving-keeps : {command : Command} {I : Progress → Type 0} → Serves command I → (p : Progress) → I p → I (dead_giving p)
 unfolding dead_giving give_dead
 dead_giving-keeps {I = I} closed p holds = while_next-keeps I give_dead (λ now next holds made. may now next (cases_Bool (nat_lt 0 now.state.attached && nat_lt (given_count now.state.given now.state.rows) MOST_GIVEN)) holds made) (dead_count p.state.rows) p holds
   where
@@ -280,10 +280,10 @@ dead_giving-keeps {I = I} closed p holds = while_next-keeps I give_dead (λ now 
         let none : None ≡ Some next = sym (cond-false _ (offers (next_dead now.state.given now.state.rows) now) None full) ∙ made in absurd cc
 
 -- all that follows the command's row of the table
-pub rest-keeps : {I : Progress → Type 0} (command : Command) → Closed command I → (a : Acted) → I a.progress → I (after_giving (after_limits (drain_after command (after_checkouts a)))).progress
+pub rest-keeps : {I : Progress → Type 0} (command : Command) → Serves command I → (a : Acted) → I a.progress → I (after_giving (after_limits (drain_after command (after_checkouts a)))).progress
 rest-keeps command closed a holds =
     dead_giving-keeps closed _ (limits-keeps closed _ (drain_after-keeps command closed (after_checkouts a) (checkouts-keeps closed a.progress holds)))
 
-pub carried_out-keeps : {I : Progress → Type 0} (index : Index) (command : Command) (s : State) → Closed command I → KeepsArrivals index command I → I (record { state = s; effects = [] }) → I (carried_out index command s).progress
+pub carried_out-keeps : {I : Progress → Type 0} (index : Index) (command : Command) (s : State) → Acts command I → Serves command I → KeepsArrivals index command I → I (record { state = s; effects = [] }) → I (carried_out index command s).progress
 unfolding carried_out
-carried_out-keeps index command s closed arrives holds = rest-keeps command closed _ (act-keeps index command closed arrives _ holds)
+carried_out-keeps index command s acts serves arrives holds = rest-keeps command serves _ (act-keeps index command acts arrives _ holds)

@@ -6,3 +6,4 @@ pub mod RowLemmas
 pub mod Since
 pub mod Steps
 pub mod Runs
+pub mod Turned

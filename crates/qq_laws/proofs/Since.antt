@@ -19,7 +19,7 @@ use Rattle.qq_model.specs.Commands.{purged_row}
 use Rattle.qq_laws.specs.Reasons.{Follows, Moves, is_purge}
 use Rattle.qq_laws.specs.Published.{Published, kept_publishes, Shows, WasPublished, EffectShows}
 use Rattle.qq_laws.proofs.Lists.{In, Each, Each-append}
-use Rattle.qq_laws.proofs.Closed.{Closed, Turns, IsIn-ready, Recounts-same, Moves-in}
+use Rattle.qq_laws.proofs.Closed.{KeepsRows, Acts, Serves, Turns, IsIn-ready, Recounts-same, Moves-in}
 use Rattle.qq_laws.proofs.Chosen.{next_message-in}
 use Rattle.qq_laws.proofs.RowLemmas.{Rises, Counts, indices, arrivals_of, Follows-more, zip-same, zip-map, zip-row, zip-index, zip-arrival, same_indices, zip-length, zip-kept, beside, found-beside}
 
@@ -99,8 +99,8 @@ purged-moves args command first row purges follows = by (cases_Bool (is_ready ro
         subst (Follows args command first) (sym (cond-true _ gone row ready)) (Follows-more args command first row gone follows moves)
     by (inr other) = subst (Follows args command first) (sym (cond-false _ (record row { place = Gone gone.Purged }) row other)) follows
 
-pub Since-closed : (b : State) (command : Command) → Orderly b → Closed command (Since b command)
-Since-closed b command orderly = record {
+pub Since-rows : (b : State) (command : Command) → Orderly b → KeepsRows command (Since b command)
+Since-rows b command orderly = record {
   row = λ p q old new since here moves out turns.
       let now = Since-orderly b command p orderly since in
       record {
@@ -111,6 +111,21 @@ Since-closed b command orderly = record {
             (zip-row b.args command b.rows p.state.rows old new since.rows now.rising here (subst (λ (a : QueueArgs). Moves a command old new) since.args moves));
         shown = effects p q old new since here moves turns turns.effects;
       };
+}
+  where
+    effects : (p q : Progress) (old new : Row) → Since b command p → In old p.state.rows → Moves p.state.args command old new → Turns p q new
+        → (q.effects ≡ p.effects) ⊎ ((reason : Reason) × (q.effects ≡ p.effects ++ DeadOnce reason (message_of p.state.rows p.state.messages new) ∷ [])) → Each (EffectShows (kept b)) q.effects
+    effects p q old new since here moves turns (inl same) = subst (Each (EffectShows (kept b))) (sym same) since.shown
+    effects p q old new since here moves turns (inr more) =
+        let message : Index → ℕ → Message = λ index size. unwrap_or (beside (λ other. nat_eq other.index.0 index.0) p.state.rows p.state.messages) (record { size = size; content = None }) in
+        let same : message_of p.state.rows p.state.messages old ≡ message_of p.state.rows p.state.messages new =
+        ap (λ i. message i old.size) (sym moves.index) ∙ ap (message new.index) (sym moves.size) in
+        subst (Each (EffectShows (kept b))) (sym more.1)
+        (Each-append (EffectShows (kept b)) p.effects (DeadOnce more.0 (message_of p.state.rows p.state.messages new) ∷ []) since.shown (subst (WasPublished (kept b)) same (row_published b command p old orderly since here), tt))
+
+pub Since-acts : (b : State) (command : Command) → Orderly b → Acts command (Since b command)
+Since-acts b command orderly = record {
+  rows = Since-rows b command orderly;
   purge = λ p since purges. record {
     args = since.args;
     arrivals = since.arrivals;
@@ -118,6 +133,18 @@ Since-closed b command orderly = record {
     rows = zip-map (Follows b.args command) purged_row b.rows p.state.rows since.rows (λ x y iny follows. purged-moves b.args command x y purges follows);
     shown = since.shown;
   };
+  attach = λ p term since. record { args = since.args; arrivals = since.arrivals; messages = since.messages; rows = since.rows; shown = since.shown };
+  join = λ p id mode since above own. record { args = since.args; arrivals = since.arrivals; messages = since.messages; rows = since.rows; shown = since.shown };
+  cancel = λ p id consumer since found. record { args = since.args; arrivals = since.arrivals; messages = since.messages; rows = since.rows; shown = since.shown };
+  finish = λ p since. record { args = since.args; arrivals = since.arrivals; messages = since.messages; rows = since.rows; shown = since.shown };
+  credit = λ p id consumer credit since found. record { args = since.args; arrivals = since.arrivals; messages = since.messages; rows = since.rows; shown = since.shown };
+  turn = λ p id consumer since found. record { args = since.args; arrivals = since.arrivals; messages = since.messages; rows = since.rows; shown = since.shown };
+  leave = λ p session since. record { args = since.args; arrivals = since.arrivals; messages = since.messages; rows = since.rows; shown = since.shown };
+}
+
+pub Since-serves : (b : State) (command : Command) → Orderly b → Serves command (Since b command)
+Since-serves b command orderly = record {
+  rows = Since-rows b command orderly;
   deliver = λ p row consumer since found served.
       let some = next_message-in p.state.rows row found in
       let now = Since-orderly b command p orderly since in
@@ -137,22 +164,5 @@ Since-closed b command orderly = record {
     rows = since.rows;
     shown = Each-append (EffectShows (kept b)) p.effects (Offer number reason (message_of p.state.rows p.state.messages row) ∷ []) since.shown (row_published b command p row orderly since here, tt);
   };
-  attach = λ p term since. record { args = since.args; arrivals = since.arrivals; messages = since.messages; rows = since.rows; shown = since.shown };
-  join = λ p id mode since. record { args = since.args; arrivals = since.arrivals; messages = since.messages; rows = since.rows; shown = since.shown };
-  cancel = λ p id consumer since found. record { args = since.args; arrivals = since.arrivals; messages = since.messages; rows = since.rows; shown = since.shown };
-  finish = λ p since. record { args = since.args; arrivals = since.arrivals; messages = since.messages; rows = since.rows; shown = since.shown };
-  credit = λ p id consumer credit since found. record { args = since.args; arrivals = since.arrivals; messages = since.messages; rows = since.rows; shown = since.shown };
-  turn = λ p id consumer since found. record { args = since.args; arrivals = since.arrivals; messages = since.messages; rows = since.rows; shown = since.shown };
-  leave = λ p session since. record { args = since.args; arrivals = since.arrivals; messages = since.messages; rows = since.rows; shown = since.shown };
   drain = λ p id consumer since found. record { args = since.args; arrivals = since.arrivals; messages = since.messages; rows = since.rows; shown = since.shown };
 }
-  where
-    effects : (p q : Progress) (old new : Row) → Since b command p → In old p.state.rows → Moves p.state.args command old new → Turns p q new
-        → (q.effects ≡ p.effects) ⊎ ((reason : Reason) × (q.effects ≡ p.effects ++ DeadOnce reason (message_of p.state.rows p.state.messages new) ∷ [])) → Each (EffectShows (kept b)) q.effects
-    effects p q old new since here moves turns (inl same) = subst (Each (EffectShows (kept b))) (sym same) since.shown
-    effects p q old new since here moves turns (inr more) =
-        let message : Index → ℕ → Message = λ index size. unwrap_or (beside (λ other. nat_eq other.index.0 index.0) p.state.rows p.state.messages) (record { size = size; content = None }) in
-        let same : message_of p.state.rows p.state.messages old ≡ message_of p.state.rows p.state.messages new =
-        ap (λ i. message i old.size) (sym moves.index) ∙ ap (message new.index) (sym moves.size) in
-        subst (Each (EffectShows (kept b))) (sym more.1)
-        (Each-append (EffectShows (kept b)) p.effects (DeadOnce more.0 (message_of p.state.rows p.state.messages new) ∷ []) since.shown (subst (WasPublished (kept b)) same (row_published b command p old orderly since here), tt))

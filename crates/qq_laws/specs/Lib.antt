@@ -1,3 +1,4 @@
 pub mod Reasons
 pub mod Published
 pub mod Rows
+pub mod Once
