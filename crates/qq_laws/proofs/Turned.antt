@@ -1,7 +1,7 @@
 -- What the gate does.
-use Rattle.std.proofs.Common.{◌≡◌, ℕ, ◌<◌, ◌≤◌, ◌⊎◌, Bool, true, false, not, ◌&&◌, ◌||◌, cond, List, [], ◌∷◌, Option, Some, None, refl, sym, ap, ◌∙◌, subst, inl, inr, arith}
-use Rattle.std.specs.Prelude.{nat_le, nat_lt, nat_eq}
-use Rattle.std.proofs.lemmas.Bool.{false≢true, cases_Bool, cond-true, cond-false, cond_both, lt-leb, lt-ltb}
+use Rattle.std.proofs.Common.{◌≡◌, false, cond, Option, Some, None, refl, sym, ap, ◌∙◌, subst}
+use Rattle.std.specs.Prelude.{nat_le, nat_lt}
+use Rattle.std.proofs.lemmas.Bool.{false≢true, cond-true, cond-false, cond_both, lt-leb, lt-ltb}
 use Rattle.qq_command.specs.declared.command.Stamp.{Stamp}
 use Rattle.qq_command.specs.declared.command.Entry.{Entry}
 use Rattle.qq_command.specs.declared.answer.Answer.{Answer}
@@ -9,8 +9,8 @@ use Rattle.qq_model.specs.declared.session.Gate.{Gate}
 use Rattle.qq_model.specs.declared.session.Gate.TheVariants.{Fresh, Again, Gap, Forgotten, Ended, WindowFull, SessionsFull}
 use Rattle.qq_model.specs.declared.session.OpenSession.{OpenSession}
 use Rattle.qq_model.specs.State.{State, Sessions}
-use Rattle.qq_model.specs.Gate.{is_dead_letter, is_ended, session_of, mark_by, kept_of, again, numbered, checked_by, gate, gate_answer, turned_away}
-use Rattle.qq_model.specs.Step.{Step, stamp_of, gated, step_by, step}
+use Rattle.qq_model.specs.Gate.{is_dead_letter, is_ended, session_of, mark_by, kept_of, again, numbered, checked_by, gate, gate_answer}
+use Rattle.qq_model.specs.Step.{stamp_of, gated, step_by, step}
 use Rattle.qq_model.specs.Audit.{next_index, next_step}
 use Rattle.qq_laws.specs.Once.{is_fresh, is_let_in, IsTurnedAway, IsRepeat, IsOpenRepeat}
 
@@ -65,8 +65,8 @@ pub repeat-stale : (s : Sessions) (stamp : Stamp) (one : OpenSession) → IsRepe
 repeat-stale s stamp one repeat =
     ap is_fresh (repeat-numbered s stamp one repeat)
     ∙ cond_both (is_ended s stamp.session) Ended (numbered stamp one) (λ (g : Gate). is_fresh g ≡ false) (λ _. refl) (λ _.
-        cond_both (nat_le stamp.seq (mark_by stamp one)) Forgotten _ (λ (g : Gate). is_fresh g ≡ false) (λ _. refl) (λ _.
-            ap is_fresh (cond-true (nat_lt stamp.seq one.next) (again (kept_of stamp.seq one)) _ (lt-ltb stamp.seq one.next repeat.below)) ∙ again-stale (kept_of stamp.seq one)))
+    cond_both (nat_le stamp.seq (mark_by stamp one)) Forgotten _ (λ (g : Gate). is_fresh g ≡ false) (λ _. refl) (λ _.
+    ap is_fresh (cond-true (nat_lt stamp.seq one.next) (again (kept_of stamp.seq one)) _ (lt-ltb stamp.seq one.next repeat.below)) ∙ again-stale (kept_of stamp.seq one)))
 
 pub repeat-again : (s : Sessions) (stamp : Stamp) (one : OpenSession) → IsOpenRepeat s stamp one → gate s stamp ≡ again (kept_of stamp.seq one)
 repeat-again s stamp one open' =

@@ -1,14 +1,13 @@
 -- Which commands are carried out, and how often.
-use Rattle.std.specs.Prelude.{◌≡◌, ℕ, ◌+◌, ◌<◌, ◌⊎◌, [], Bool, true, false, Option, Some, None}
+use Rattle.std.specs.Prelude.{◌≡◌, ◌+◌, ◌<◌, ◌⊎◌, [], Bool, true, false, Option, Some, None}
 use Rattle.qq_base.specs.declared.ids.SessionId.{SessionId}
 use Rattle.qq_command.specs.declared.command.Stamp.{Stamp}
-use Rattle.qq_command.specs.declared.command.Entry.{Entry}
 use Rattle.qq_command.specs.declared.answer.Answer.{Answer}
 use Rattle.qq_model.specs.declared.session.Gate.{Gate}
-use Rattle.qq_model.specs.declared.session.Gate.TheVariants.{Fresh, Again}
+use Rattle.qq_model.specs.declared.session.Gate.TheVariants.{Fresh}
 use Rattle.qq_model.specs.declared.session.OpenSession.{OpenSession}
 use Rattle.qq_model.specs.State.{State, Sessions}
-use Rattle.qq_model.specs.Gate.{is_client, is_worker, is_dead_letter, is_ended, session_of, mark_by, kept_of, gate, gate_answer, turned_away}
+use Rattle.qq_model.specs.Gate.{is_client, is_worker, is_dead_letter, is_ended, session_of, mark_by, gate, gate_answer, turned_away}
 use Rattle.qq_model.specs.Step.{Step}
 
 abbrev pub is_fresh : Gate → Bool

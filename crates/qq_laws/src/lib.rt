@@ -3,8 +3,13 @@
 #![tactic(auto)]
 
 mod messages;
+mod sessions;
 
 pub use messages::{
     deliveries_show_publishes, entries_move_messages, messages_add_up,
     messages_are_gone_for_a_reason, messages_are_in_order, messages_last, publishes_are_kept,
+};
+pub use sessions::{
+    fresh_where_let_in, repeats_are_answered_as_before, repeats_are_turned_away,
+    turned_away_changes_nothing,
 };
