@@ -36,7 +36,7 @@ use Rattle.qq_model.specs.Serving.{delivers, delivers_if, check_out, checkouts, 
 use Rattle.qq_model.specs.Step.{after_checkouts, after_limits, after_giving, carried_out}
 use Rattle.qq_laws.specs.Reasons.{is_enqueue, is_get, is_settle, is_return, is_discard, is_purge, is_down, is_dead_settle, gives_back}
 use Rattle.qq_laws.proofs.Lists.{In, while_next-keeps, fold-keeps}
-use Rattle.qq_laws.proofs.Closed.{Acts, Serves, IsOwn, IsIn, IsIn-ready, IsIn-out, Recounts-same, dies-keeps, returned-keeps, moved-keeps, begins_to_wait-keeps}
+use Rattle.qq_laws.proofs.Closed.{Acts, KeepsDeliveries, Serves, IsOwn, IsIn, IsIn-ready, IsIn-out, Recounts-same, dies-keeps, returned-keeps, moved-keeps, begins_to_wait-keeps}
 use Rattle.qq_laws.proofs.Chosen.{next_message-in, delivered-in, first_delivery-in, dead_of-in, next_dead-in}
 
 -- Get
@@ -201,16 +201,16 @@ act-keeps index (DeadAttach term) closed arrives p holds = dead_attach-keeps clo
 act-keeps index (DeadSettle term done) closed arrives p holds = dead_settle-keeps closed refl term done p holds
 
 -- Checkouts
-pub checkouts-keeps : {command : Command} {I : Progress → Type 0} → Serves command I → (p : Progress) → I p → I (checkouts p)
+pub checkouts-keeps : (I : Progress → Type 0) → KeepsDeliveries I → (p : Progress) → I p → I (checkouts p)
 unfolding checkouts check_out
-checkouts-keeps {I = I} closed p holds = while_next-keeps I check_out (λ now next holds made. one now next _ _ refl refl holds made) (ready_count p.state.rows) p holds
+checkouts-keeps I keeps p holds = while_next-keeps I check_out (λ now next holds made. one now next _ _ refl refl holds made) (ready_count p.state.rows) p holds
   where
     one : (now next : Progress) (row : Option Row) (consumer : Option Consumer) → next_message now.state.rows ≡ row → next_consumer now.state.args.single_active now.state.rows now.state.consumers ≡ consumer
         → I now → delivers_if row consumer now ≡ Some next → I next
     one now next None consumer found served holds made = absurd cc
     one now next (Some row) None found served holds made = absurd cc
     one now next (Some row) (Some consumer) found served holds made =
-        let same : delivers row consumer now ≡ next = cc in subst I same (closed.deliver now row consumer holds found served)
+        let same : delivers row consumer now ≡ next = cc in subst I same (keeps now row consumer holds found served)
 
 -- Drain
 pub drain-keeps : {command : Command} {I : Progress → Type 0} → Serves command I → (id : ConsumerId) (wanted : Bool) (a : Acted) → I a.progress → I (drain id wanted a).progress
@@ -280,10 +280,14 @@ dead_giving-keeps {I = I} closed p holds = while_next-keeps I give_dead (λ now 
         let none : None ≡ Some next = sym (cond-false _ (offers (next_dead now.state.given now.state.rows) now) None full) ∙ made in absurd cc
 
 -- all that follows the command's row of the table
-pub rest-keeps : {I : Progress → Type 0} (command : Command) → Serves command I → (a : Acted) → I a.progress → I (after_giving (after_limits (drain_after command (after_checkouts a)))).progress
-rest-keeps command closed a holds =
-    dead_giving-keeps closed _ (limits-keeps closed _ (drain_after-keeps command closed (after_checkouts a) (checkouts-keeps closed a.progress holds)))
+pub rest-keeps : {I : Progress → Type 0} (command : Command) → KeepsDeliveries I → Serves command I → (a : Acted) → I a.progress → I (after_giving (after_limits (drain_after command (after_checkouts a)))).progress
+rest-keeps {I = I} command delivers closed a holds =
+    dead_giving-keeps closed _ (limits-keeps closed _ (drain_after-keeps command closed (after_checkouts a) (checkouts-keeps I delivers a.progress holds)))
 
-pub carried_out-keeps : {I : Progress → Type 0} (index : Index) (command : Command) (s : State) → Acts command I → Serves command I → KeepsArrivals index command I → I (record { state = s; effects = [] }) → I (carried_out index command s).progress
+-- the same, where what is delivered keeps another fact than what follows
+pub after_checkouts-keeps : {I : Progress → Type 0} (command : Command) → Serves command I → (a : Acted) → I (checkouts a.progress) → I (after_giving (after_limits (drain_after command (after_checkouts a)))).progress
+after_checkouts-keeps command closed a holds = dead_giving-keeps closed _ (limits-keeps closed _ (drain_after-keeps command closed (after_checkouts a) holds))
+
+pub carried_out-keeps : {I : Progress → Type 0} (index : Index) (command : Command) (s : State) → Acts command I → KeepsDeliveries I → Serves command I → KeepsArrivals index command I → I (record { state = s; effects = [] }) → I (carried_out index command s).progress
 unfolding carried_out
-carried_out-keeps index command s acts serves arrives holds = rest-keeps command serves _ (act-keeps index command acts arrives _ holds)
+carried_out-keeps index command s acts delivers serves arrives holds = rest-keeps command delivers serves _ (act-keeps index command acts arrives _ holds)

@@ -69,11 +69,14 @@ pub record Acts (command : Command) (I : Progress → Type 0) : Type 0 where
   pub turn : (p : Progress) (id : ConsumerId) (consumer : Consumer) → I p → consumer_of id p.state.consumers ≡ Some consumer → I (in_state (takes_turn (Some consumer) p.state) p)
   pub leave : (p : Progress) (session : SessionId) → I p → I (in_state (left session p.state) p)
 
--- each single change that follows on a command keeps I
+-- each delivery keeps I
+abbrev pub KeepsDeliveries : (Progress → Type 0) → Type 0
+KeepsDeliveries I =
+    (p : Progress) (row : Row) (consumer : Consumer) → I p → next_message p.state.rows ≡ Some row → next_consumer p.state.args.single_active p.state.rows p.state.consumers ≡ Some consumer → I (delivers row consumer p)
+
+-- each single change that follows on the deliveries keeps I
 pub record Serves (command : Command) (I : Progress → Type 0) : Type 0 where
   pub rows : KeepsRows command I
-  pub deliver : (p : Progress) (row : Row) (consumer : Consumer) → I p → next_message p.state.rows ≡ Some row
-      → next_consumer p.state.args.single_active p.state.rows p.state.consumers ≡ Some consumer → I (delivers row consumer p)
   pub offer : (p : Progress) (number : ℕ) (reason : Reason) (row : Row) → I p → In row p.state.rows → row.place ≡ Dead number reason
       → I (record { state = record (p.state) { given = number }; effects = p.effects ++ Offer number reason (message_of p.state.rows p.state.messages row) ∷ [] })
   pub drain : (p : Progress) (id : ConsumerId) (consumer : Consumer) → I p → consumer_of id p.state.consumers ≡ Some consumer → I (in_state (drained consumer p.state) p)

@@ -7,3 +7,4 @@ pub mod Since
 pub mod Steps
 pub mod Runs
 pub mod Turned
+pub mod ActiveLemmas

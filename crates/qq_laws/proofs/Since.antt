@@ -19,7 +19,7 @@ use Rattle.qq_model.specs.Commands.{purged_row}
 use Rattle.qq_laws.specs.Reasons.{Follows, Moves, is_purge}
 use Rattle.qq_laws.specs.Published.{Published, kept_publishes, Shows, WasPublished, EffectShows}
 use Rattle.qq_laws.proofs.Lists.{In, Each, Each-append}
-use Rattle.qq_laws.proofs.Closed.{KeepsRows, Acts, Serves, Turns, IsIn-ready, Recounts-same, Moves-in}
+use Rattle.qq_laws.proofs.Closed.{KeepsRows, Acts, KeepsDeliveries, Serves, Turns, IsIn-ready, Recounts-same, Moves-in}
 use Rattle.qq_laws.proofs.Chosen.{next_message-in}
 use Rattle.qq_laws.proofs.RowLemmas.{Rises, Counts, indices, arrivals_of, Follows-more, zip-same, zip-map, zip-row, zip-index, zip-arrival, same_indices, zip-length, zip-kept, beside, found-beside}
 
@@ -142,21 +142,23 @@ Since-acts b command orderly = record {
   leave = λ p session since. record { args = since.args; arrivals = since.arrivals; messages = since.messages; rows = since.rows; shown = since.shown };
 }
 
+pub Since-delivers : (b : State) (command : Command) → Orderly b → KeepsDeliveries (Since b command)
+Since-delivers b command orderly p row consumer since found served =
+    let some = next_message-in p.state.rows row found in
+    let now = Since-orderly b command p orderly since in
+    let moves : Moves p.state.args command row (record row { place = Out consumer.id consumer.next_id }) = Moves-in p row row (Out consumer.id consumer.next_id) (IsIn-ready row.place some.1) (Recounts-same command row) refl in
+    record {
+      args = since.args;
+      arrivals = since.arrivals;
+      messages = since.messages;
+      rows = zip-row b.args command b.rows p.state.rows row (record row { place = Out consumer.id consumer.next_id }) since.rows now.rising some.0
+          (subst (λ (a : QueueArgs). Moves a command row (record row { place = Out consumer.id consumer.next_id })) since.args moves);
+      shown = Each-append (EffectShows (kept b)) p.effects (Deliver consumer.id (shown p.state consumer.next_id row) ∷ []) since.shown (row_shows b command p row consumer.next_id orderly since some.0, tt);
+    }
+
 pub Since-serves : (b : State) (command : Command) → Orderly b → Serves command (Since b command)
 Since-serves b command orderly = record {
   rows = Since-rows b command orderly;
-  deliver = λ p row consumer since found served.
-      let some = next_message-in p.state.rows row found in
-      let now = Since-orderly b command p orderly since in
-      let moves : Moves p.state.args command row (record row { place = Out consumer.id consumer.next_id }) = Moves-in p row row (Out consumer.id consumer.next_id) (IsIn-ready row.place some.1) (Recounts-same command row) refl in
-      record {
-        args = since.args;
-        arrivals = since.arrivals;
-        messages = since.messages;
-        rows = zip-row b.args command b.rows p.state.rows row (record row { place = Out consumer.id consumer.next_id }) since.rows now.rising some.0
-            (subst (λ (a : QueueArgs). Moves a command row (record row { place = Out consumer.id consumer.next_id })) since.args moves);
-        shown = Each-append (EffectShows (kept b)) p.effects (Deliver consumer.id (shown p.state consumer.next_id row) ∷ []) since.shown (row_shows b command p row consumer.next_id orderly since some.0, tt);
-      };
   offer = λ p number reason row since here is. record {
     args = since.args;
     arrivals = since.arrivals;

@@ -28,7 +28,7 @@ use Rattle.qq_laws.specs.Rows.{new_row, new_rows, new_messages, StepsRows}
 use Rattle.qq_laws.proofs.Lists.{Each, Each-append, Each-weaker}
 use Rattle.qq_laws.proofs.Carried.{carried_out-keeps, rest-keeps}
 use Rattle.qq_laws.proofs.RowLemmas.{Rises, Counts, indices, arrivals_of, zip-same, zip-index, same_indices}
-use Rattle.qq_laws.proofs.Since.{Orderly, Since, Since-start, Since-orderly, Since-kept, Since-acts, Since-serves}
+use Rattle.qq_laws.proofs.Since.{Orderly, Since, Since-start, Since-orderly, Since-kept, Since-acts, Since-delivers, Since-serves}
 use Rattle.qq_laws.proofs.Since as since
 
 -- an orderly queue, none of whose messages is of a later entry
@@ -78,7 +78,7 @@ other s index command not_enqueue none orderly =
     let a = carried_out index command s in
     let nothing : brought true a.answer command ≡ None = cond_both (true && is_confirmed a.answer) (message_in command) None (λ (o : Option Message). o ≡ None) (λ _. none) (λ _. refl) in
     subst (λ (o : Option Message). Since (base s index o) command a.progress) (sym nothing)
-    (carried_out-keeps index command s (Since-acts s command orderly) (Since-serves s command orderly) (λ p stamp message holds is found. absurd (false≢true (sym not_enqueue ∙ is))) (Since-start s command (record { state = s; effects = [] }) refl refl refl refl refl))
+    (carried_out-keeps index command s (Since-acts s command orderly) (Since-delivers s command orderly) (Since-serves s command orderly) (λ p stamp message holds is found. absurd (false≢true (sym not_enqueue ∙ is))) (Since-start s command (record { state = s; effects = [] }) refl refl refl refl refl))
 
 -- a command that is carried out
 pub carried : (s : State) (index : Index) (command : Command) → Orderly s → Each (λ n. n < index.0) (indices s.rows)
@@ -94,10 +94,10 @@ carried s index (Enqueue stamp origin message) orderly below = by (publish_limit
         Since (base s index (brought true a.answer (Enqueue stamp origin message))) (Enqueue stamp origin message) a.progress
     by None =
         let b : State = arrived s index message in
-        rest-keeps (Enqueue stamp origin message) (Since-serves b (Enqueue stamp origin message) (arrived-orderly s index message orderly below)) (enqueue_by None index message start)
+        rest-keeps (Enqueue stamp origin message) (Since-delivers b (Enqueue stamp origin message) (arrived-orderly s index message orderly below)) (Since-serves b (Enqueue stamp origin message) (arrived-orderly s index message orderly below)) (enqueue_by None index message start)
         (Since-start b (Enqueue stamp origin message) (in_state b start) refl refl refl refl refl)
     by (Some full) =
-        rest-keeps (Enqueue stamp origin message) (Since-serves s (Enqueue stamp origin message) orderly) (enqueue_by (Some full) index message start)
+        rest-keeps (Enqueue stamp origin message) (Since-delivers s (Enqueue stamp origin message) orderly) (Since-serves s (Enqueue stamp origin message) orderly) (enqueue_by (Some full) index message start)
         (Since-start s (Enqueue stamp origin message) start refl refl refl refl refl)
 carried s index (Get stamp) orderly below = other s index (Get stamp) refl refl orderly
 carried s index (Subscribe stamp tag mode) orderly below = other s index (Subscribe stamp tag mode) refl refl orderly

@@ -2,3 +2,4 @@ pub mod Reasons
 pub mod Published
 pub mod Rows
 pub mod Once
+pub mod Active
