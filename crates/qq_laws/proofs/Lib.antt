@@ -8,3 +8,4 @@ pub mod Steps
 pub mod Runs
 pub mod Turned
 pub mod ActiveLemmas
+pub mod SessionLemmas
