@@ -9,3 +9,4 @@ pub mod Runs
 pub mod Turned
 pub mod ActiveLemmas
 pub mod SessionLemmas
+pub mod Later
