@@ -10,3 +10,4 @@ pub mod Turned
 pub mod ActiveLemmas
 pub mod SessionLemmas
 pub mod Later
+pub mod OnceLemmas
