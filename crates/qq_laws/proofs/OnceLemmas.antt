@@ -21,7 +21,7 @@ use Rattle.qq_model.specs.Commands.{Acted}
 use Rattle.qq_model.specs.Gate.{is_client, is_worker, is_dead_letter, session_of, is_opened, is_ended, again, kept_of, mark_by, marked_by, used_by, opened_by, opened_after, gives_way, numbered, unknown, checked_by, gate, admitted, turned_away, keeps, with_answer, tags, tag_by, greatest_tag, with_tag, with_session, ends}
 use Rattle.qq_model.specs.Step.{stamp_of, carried_out, gated, step_by, step}
 use Rattle.qq_model.specs.Audit.{next_index, next_step, state_after}
-use Rattle.qq_laws.specs.Once.{IsNumbered, is_fresh, is_let_in, IsRepeat}
+use Rattle.qq_laws.specs.Once.{IsNumbered, is_fresh, is_let_in, IsRepeat, IsRepeatOf, CarriedOutOnce}
 use Rattle.qq_laws.proofs.Lists.{In, Each, find-in}
 use Rattle.qq_laws.proofs.Closed.{KeepsRows, Acts, KeepsDeliveries, Serves}
 use Rattle.qq_laws.proofs.Carried.{carried_out-keeps}
@@ -236,3 +236,48 @@ used-stale s stamp tag plain (IsOver over) =
     ap is_fresh (cond-false (is_dead_letter stamp.session) Fresh (cond (is_ended s stamp.session) Ended (checked_by (session_of stamp.session s.opened) s stamp)) plain
     ∙ cond-true (is_ended s stamp.session) Ended (checked_by (session_of stamp.session s.opened) s stamp) (ended-from s stamp.session over))
 used-stale s stamp tag plain (GoesOn one found next above) = repeat-stale s stamp one (record { numbered = plain; opened = found; below = omega arith })
+
+-- over whole runs ------------------------------------------------------------------------------------------
+
+is_fresh-Fresh : (g : Gate) → is_fresh g ≡ true → g ≡ Fresh
+is_fresh-Fresh Fresh is = refl
+is_fresh-Fresh (Again before) is = absurd (false≢true is)
+is_fresh-Fresh (Gap next) is = absurd (false≢true is)
+is_fresh-Fresh Forgotten is = absurd (false≢true is)
+is_fresh-Fresh Ended is = absurd (false≢true is)
+is_fresh-Fresh WindowFull is = absurd (false≢true is)
+is_fresh-Fresh SessionsFull is = absurd (false≢true is)
+
+-- an entry that counts as fresh was let in
+pub fresh-gate : (s : State) (entry : Entry) (stamp : Stamp) → stamp_of entry.command ≡ Some stamp → (next_step s entry).fresh ≡ true → gate s.sessions stamp ≡ Fresh
+fresh-gate s entry stamp is fresh = is_fresh-Fresh (gate s.sessions stamp) (sym (fresh_if_let_in s entry ∙ ap (is_let_in s.sessions) is) ∙ fresh)
+
+pub fresh-used : (s : State) (entry : Entry) (stamp : Stamp) → IsNumbered stamp.session → Guarded s.sessions → stamp_of entry.command ≡ Some stamp → gate s.sessions stamp ≡ Fresh
+    → Used (next_step s entry).state.sessions stamp.session (stamp.seq + 1) 0
+unfolding step
+fresh-used s entry stamp numbered guarded is fresh =
+    let session : SessionId = stamp.session in
+    let x : Sessions = admitted s.sessions stamp in
+    let done = done-later session s x stamp (next_index s) entry.command numbered in
+    let used = done.used (stamp.seq + 1) 0 ((admitted-later session s.sessions stamp fresh).guarded guarded) (admitted-used s.sessions stamp (numbered-plain session numbered) fresh) in
+    let at : Gate → Type 0 = λ g. Used (gated g (next_index s) stamp entry.command s).state.sessions session (stamp.seq + 1) 0 in
+    let by : Option Stamp → Type 0 = λ o. Used (step_by o (next_index s) entry.command s).state.sessions session (stamp.seq + 1) 0 in
+    subst by (sym is) (subst at (sym fresh) used)
+
+pub guarded_at : (session : SessionId) (args : QueueArgs) (entries : List Entry) → IsNumbered session → Guarded (state_after (empty_queue args) entries).sessions
+guarded_at session args entries numbered = (after-later session (empty_queue args) entries numbered).guarded tt
+
+pub once : (args : QueueArgs) (before : List Entry) → CarriedOutOnce (state_after (empty_queue args) before)
+once args before first second stamp between kind is repeats fresh =
+    let s : State = state_after (empty_queue args) before in
+    let session : SessionId = stamp.session in
+    let t : State = (next_step s first).state in
+    let u : State = state_after t between in
+    let guarded = guarded_at session args before kind in
+    let used_then : Used t.sessions session (stamp.seq + 1) 0 = fresh-used s first stamp kind guarded is (fresh-gate s first stamp is fresh) in
+    let still : Used u.sessions session (stamp.seq + 1) 0 = (after-later session t between kind).used (stamp.seq + 1) 0 ((next-later session s first kind).guarded guarded) used_then in
+    let again' : Stamp = repeats.stamped in
+    let used : Used u.sessions again'.session (again'.seq + 1) 0 =
+        subst (λ (n : ℕ). Used u.sessions again'.session (n + 1) 0) (sym repeats.number) (subst (λ (i : SessionId). Used u.sessions i (stamp.seq + 1) 0) (sym repeats.session) still) in
+    let plain : is_dead_letter again'.session ≡ false = ap is_dead_letter repeats.session ∙ numbered-plain session kind in
+    fresh_if_let_in u second ∙ ap (is_let_in u.sessions) repeats.is ∙ used-stale u.sessions again' 0 plain used

@@ -1,14 +1,15 @@
 //! Laws of sessions: each numbered command is carried out once.
 
-ghost use Rattle.std.specs.Prelude.{◌≡◌, Option, Some, false};
+ghost use Rattle.std.specs.Prelude.{◌≡◌, List, Option, Some, false};
+ghost use Rattle.qq_command.specs.declared.queue.QueueArgs.{QueueArgs};
 ghost use Rattle.qq_command.specs.declared.command.Stamp.{Stamp};
 ghost use Rattle.qq_command.specs.declared.command.Entry.{Entry};
 ghost use Rattle.qq_model.specs.declared.session.OpenSession.{OpenSession};
-ghost use Rattle.qq_model.specs.State.{State, Sessions};
+ghost use Rattle.qq_model.specs.State.{State, Sessions, empty_queue};
 ghost use Rattle.qq_model.specs.Gate.{again, gate, kept_of};
 ghost use Rattle.qq_model.specs.Step.{stamp_of};
-ghost use Rattle.qq_model.specs.Audit.{next_step};
-ghost use Rattle.qq_laws.specs.Once.{is_fresh, is_let_in, IsOpenRepeat, IsRepeat, IsTurnedAway};
+ghost use Rattle.qq_model.specs.Audit.{next_step, state_after};
+ghost use Rattle.qq_laws.specs.Once.{CarriedOutOnce, is_fresh, is_let_in, IsOpenRepeat, IsRepeat, IsTurnedAway};
 
 /// An entry counts as fresh exactly where it has no stamp, or the gate lets its stamp in.
 pub fn fresh_where_let_in()
@@ -30,3 +31,10 @@ pub fn repeats_are_turned_away()
 pub fn repeats_are_answered_as_before()
     ensures { (s : Sessions) (stamp : Stamp) (one : OpenSession) → IsOpenRepeat s stamp one → gate s stamp ≡ again (kept_of stamp.seq one) }
 {}
+
+/// Each numbered command of a client, and of a worker that dead-letters at least once, is carried out
+/// once, however often it is sent (Ongaro's dissertation, section 6.3).
+pub fn commands_are_carried_out_once()
+    ensures { (args : QueueArgs) (before : List Entry) → CarriedOutOnce (state_after (empty_queue args) before) }
+{
+}
