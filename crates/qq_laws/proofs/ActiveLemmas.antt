@@ -54,7 +54,7 @@ Undelivered-acts start command = record {
   finish = λ p un. record { args = un.args; effects = un.effects };
   credit = λ p id consumer credit un found. record { args = un.args; effects = un.effects };
   turn = λ p id consumer un found. record { args = un.args; effects = un.effects };
-  leave = λ p session un. record { args = un.args; effects = un.effects };
+  leave = λ p session un is. record { args = un.args; effects = un.effects };
 }
 
 pub undelivered : (s : State) (index : Index) (command : Command) → Undelivered s.args (act index command (record { state = s; effects = [] })).progress

@@ -138,12 +138,12 @@ all_returned-keeps {I = I} closed back consumer p holds = while_next-keeps I (re
         let same : returned row now ≡ next = cc in
         subst I same (returned-keeps closed.rows row now back holds some.0 (IsIn-out consumer.id row.place some.1))
 
-pub down-keeps : {command : Command} {I : Progress → Type 0} → Acts command I → gives_back command ≡ true → (session : SessionId) (p : Progress) → I p → I (down session p).progress
+pub down-keeps : {command : Command} {I : Progress → Type 0} → Acts command I → is_down command ≡ true → gives_back command ≡ true → (session : SessionId) (p : Progress) → I p → I (down session p).progress
 unfolding down
-down-keeps {I = I} closed back session p holds =
+down-keeps {I = I} closed is back session p holds =
     closed.leave (given_back session p.state.consumers p) session
     (fold-keeps I (λ (now : Progress) (consumer : Consumer). if is_of session consumer then all_returned consumer now else now)
-    (λ now consumer holds. cond_both (is_of session consumer) (all_returned consumer now) now I (λ _. all_returned-keeps closed back consumer now holds) (λ _. holds)) p.state.consumers p holds)
+    (λ now consumer holds. cond_both (is_of session consumer) (all_returned consumer now) now I (λ _. all_returned-keeps closed back consumer now holds) (λ _. holds)) p.state.consumers p holds) is
 
 -- DeadAttach, DeadSettle
 pub dead_attach-keeps : {command : Command} {I : Progress → Type 0} → Acts command I → (term : Term) (p : Progress) → I p → I (dead_attach term p).progress
@@ -196,7 +196,7 @@ act-keeps index (Settle stamp tag ids) closed arrives p holds = finish-keeps clo
 act-keeps index (Return stamp tag ids) closed arrives p holds = finish-keeps closed Returned refl (consumer_id stamp tag) ids p holds
 act-keeps index (Discard stamp tag ids) closed arrives p holds = finish-keeps closed Discarded refl (consumer_id stamp tag) ids p holds
 act-keeps index (Purge stamp) closed arrives p holds = purge-keeps closed refl p holds
-act-keeps index (Down session) closed arrives p holds = down-keeps closed refl session p holds
+act-keeps index (Down session) closed arrives p holds = down-keeps closed refl refl session p holds
 act-keeps index (DeadAttach term) closed arrives p holds = dead_attach-keeps closed term p holds
 act-keeps index (DeadSettle term done) closed arrives p holds = dead_settle-keeps closed refl term done p holds
 

@@ -28,7 +28,7 @@ use Rattle.qq_model.specs.Commands.{in_state, moved, joined, credited, left, pur
 use Rattle.qq_model.specs.Serving.{delivers, drained}
 use Rattle.qq_model.specs.Gate.{greatest_tag}
 use Rattle.qq_model.specs.Step.{stamp_of}
-use Rattle.qq_laws.specs.Reasons.{is_purge, gives_back, explains_death, explains, Moves}
+use Rattle.qq_laws.specs.Reasons.{is_purge, is_down, gives_back, explains_death, explains, Moves}
 use Rattle.qq_laws.proofs.Lists.{In}
 
 -- whether a place is with a consumer
@@ -67,7 +67,7 @@ pub record Acts (command : Command) (I : Progress → Type 0) : Type 0 where
   pub finish : (p : Progress) → I p → I (in_state (without_finished p.state) p)
   pub credit : (p : Progress) (id : ConsumerId) (consumer : Consumer) (credit : ℕ) → I p → consumer_of id p.state.consumers ≡ Some consumer → I (in_state (credited consumer credit p.state) p)
   pub turn : (p : Progress) (id : ConsumerId) (consumer : Consumer) → I p → consumer_of id p.state.consumers ≡ Some consumer → I (in_state (takes_turn (Some consumer) p.state) p)
-  pub leave : (p : Progress) (session : SessionId) → I p → I (in_state (left session p.state) p)
+  pub leave : (p : Progress) (session : SessionId) → I p → is_down command ≡ true → I (in_state (left session p.state) p)
 
 -- each delivery keeps I
 abbrev pub KeepsDeliveries : (Progress → Type 0) → Type 0

@@ -40,6 +40,13 @@ Later-same session s = record { guarded = λ g. g; used = λ number tag g u. u }
 pub Later-trans : (session : SessionId) (s t u : Sessions) → Later session s t → Later session t u → Later session s u
 Later-trans session s t u first second = record { guarded = λ g. second.guarded (first.guarded g); used = λ number tag g used. second.used number tag (first.guarded g) (first.used number tag g used) }
 
+-- whether a session has ended hangs on whether it is open, and not on what is open else
+pub ended-same : (session : SessionId) (s : Sessions) (opened : List OpenSession) → is_opened session opened ≡ is_opened session s.opened → is_ended (record s { opened = opened }) session ≡ is_ended s session
+ended-same session s opened same =
+    let by : Bool → Bool = λ o. (is_client session && list_any (λ (n : ℕ). nat_eq n session.number) s.ended)
+        || (is_worker session && list_any (λ (w : Worker). nat_eq w.owner session.owner && (nat_lt session.number w.number || (nat_eq session.number w.number && not o))) s.workers) in
+    ap by same
+
 -- Open sessions are changed one by one ---------------------------------------------------------------------
 
 pub Later-changed : (session : SessionId) (s : Sessions) (f : OpenSession → OpenSession) → ((one : OpenSession) → (f one).session ≡ one.session)

@@ -54,7 +54,7 @@ Later-acts session s command numbered = record {
   finish = λ p later. later;
   credit = λ p id consumer credit later found. later;
   turn = λ p id consumer later found. later;
-  leave = λ p id later. Later-trans session s p.state.sessions (ends p.state.sessions id) later (Later-ends session p.state.sessions id numbered);
+  leave = λ p id later is. Later-trans session s p.state.sessions (ends p.state.sessions id) later (Later-ends session p.state.sessions id numbered);
 }
 
 pub carried-later : (session : SessionId) (index : Index) (command : Command) (s : State) → IsNumbered session → Later session s.sessions (carried_out index command s).progress.state.sessions

@@ -139,7 +139,7 @@ Since-acts b command orderly = record {
   finish = λ p since. record { args = since.args; arrivals = since.arrivals; messages = since.messages; rows = since.rows; shown = since.shown };
   credit = λ p id consumer credit since found. record { args = since.args; arrivals = since.arrivals; messages = since.messages; rows = since.rows; shown = since.shown };
   turn = λ p id consumer since found. record { args = since.args; arrivals = since.arrivals; messages = since.messages; rows = since.rows; shown = since.shown };
-  leave = λ p session since. record { args = since.args; arrivals = since.arrivals; messages = since.messages; rows = since.rows; shown = since.shown };
+  leave = λ p session since is. record { args = since.args; arrivals = since.arrivals; messages = since.messages; rows = since.rows; shown = since.shown };
 }
 
 pub Since-delivers : (b : State) (command : Command) → Orderly b → KeepsDeliveries (Since b command)
