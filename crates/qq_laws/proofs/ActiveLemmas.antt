@@ -113,7 +113,7 @@ served-id turn consumer = used-id consumer.mode (record consumer { next_id = con
 pub served-cancelled : (turn : ℕ) (consumer : Consumer) → (served turn consumer).cancelled ≡ consumer.cancelled
 served-cancelled turn consumer = used-cancelled consumer.mode (record consumer { next_id = consumer.next_id + 1; turn = turn })
 
-if_served-found : (rows : List Row) (o : Option Consumer) (consumer : Consumer) → if_served rows o ≡ Some consumer → o ≡ Some consumer
+pub if_served-found : (rows : List Row) (o : Option Consumer) (consumer : Consumer) → if_served rows o ≡ Some consumer → o ≡ Some consumer
 if_served-found rows None consumer found = absurd cc
 if_served-found rows (Some one) consumer found = by (may_be_served rows one) found
   where

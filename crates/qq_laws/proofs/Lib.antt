@@ -11,3 +11,4 @@ pub mod ActiveLemmas
 pub mod SessionLemmas
 pub mod Later
 pub mod OnceLemmas
+pub mod Ids

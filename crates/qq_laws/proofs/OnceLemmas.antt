@@ -32,7 +32,7 @@ use Rattle.qq_laws.proofs.Turned.{fresh_if_let_in, repeat-stale}
 
 -- while a command is carried out ---------------------------------------------------------------------------
 
-tag-later : (session : SessionId) (s : Sessions) (id : ConsumerId) → nat_le id.tag (greatest_tag id.session s) ≡ false → Later session s (with_tag id.session id.tag s)
+pub tag-later : (session : SessionId) (s : Sessions) (id : ConsumerId) → nat_le id.tag (greatest_tag id.session s) ≡ false → Later session s (with_tag id.session id.tag s)
 unfolding with_tag
 tag-later session s id above =
     Later-with_session session s id.session (tags id.tag) (λ one. refl)

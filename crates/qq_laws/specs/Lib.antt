@@ -3,3 +3,4 @@ pub mod Published
 pub mod Rows
 pub mod Once
 pub mod Active
+pub mod Ids
