@@ -1,8 +1,8 @@
 -- Under a single active consumer deliveries go to it alone.
-use Rattle.std.proofs.Common.{◌≡◌, ℕ, ◌+◌, ◌⊎◌, Bool, true, false, not, cond, List, [], ◌∷◌, ◌++◌, Option, Some, None, map, refl, sym, ap, ◌∙◌, subst, inl, inr, arith, if◌then◌else◌}
-use Rattle.std.specs.Prelude.{find, All}
+use Rattle.std.proofs.Common.{◌≡◌, ℕ, ◌+◌, ◌⊎◌, Bool, true, false, not, cond, List, [], ◌∷◌, ◌++◌, Option, Some, None, refl, sym, ap, ◌∙◌, subst, inl, inr}
+use Rattle.std.specs.Prelude.{find}
 use Rattle.std.specs.Option.{option_map}
-use Rattle.std.proofs.lemmas.Bool.{false≢true, cases_Bool, cond-true, cond-false, not-true, not_from_false}
+use Rattle.std.proofs.lemmas.Bool.{cases_Bool, cond-true, cond-false, not-true}
 use Rattle.qq_base.specs.declared.ids.Index.{Index}
 use Rattle.qq_base.specs.declared.ids.ConsumerId.{ConsumerId}
 use Rattle.qq_command.specs.declared.queue.QueueArgs.{QueueArgs}
@@ -15,16 +15,15 @@ use Rattle.qq_command.specs.declared.audit.Effect.TheVariants.{Deliver, DeadOnce
 use Rattle.qq_model.specs.declared.place.Row.{Row}
 use Rattle.qq_model.specs.declared.consumer.Consumer.{Consumer}
 use Rattle.qq_model.specs.State.{State, same_consumer}
-use Rattle.qq_model.specs.Choice.{next_consumer, active_consumer, if_served, may_be_served, longest_waiting}
+use Rattle.qq_model.specs.Choice.{active_consumer, if_served, may_be_served, longest_waiting}
 use Rattle.qq_model.specs.Changes.{Progress, with_consumer, message_of, shown}
 use Rattle.qq_model.specs.Commands.{Acted, act}
-use Rattle.qq_model.specs.Serving.{used, served, delivers, checkouts}
+use Rattle.qq_model.specs.Serving.{used, served}
 use Rattle.qq_model.specs.Step.{carried_out}
 use Rattle.qq_laws.specs.Active.{active_id, consumers_served, DeliversOnlyTo}
 use Rattle.qq_laws.proofs.Lists.{Each, Each-append, Each-weaker, find-in}
-use Rattle.qq_laws.proofs.Closed.{KeepsRows, Acts, KeepsDeliveries, Serves, Turns}
-use Rattle.qq_laws.proofs.Carried.{KeepsArrivals, act-keeps, checkouts-keeps, after_checkouts-keeps}
-use Rattle.qq_laws.proofs.Runs.{all_from_each}
+use Rattle.qq_laws.proofs.Closed.{Acts, KeepsDeliveries, Serves, Turns}
+use Rattle.qq_laws.proofs.Carried.{act-keeps, checkouts-keeps, after_checkouts-keeps}
 
 -- a change of rows keeps what holds of each effect, where it holds of dead letters
 pub row_effects : (P : Effect → Type 0) (p q : Progress) (new : Row) → ((reason : Reason) → P (DeadOnce reason (message_of p.state.rows p.state.messages new))) → Turns p q new → Each P p.effects → Each P q.effects
@@ -130,7 +129,7 @@ pub record ToActive (to : Option ConsumerId) (p : Progress) : Type 0 where
 ToActive-deliver : (active : Option ConsumerId) → KeepsDeliveries (ToActive active)
 ToActive-deliver active p row consumer to found next =
     let chosen : if_served p.state.rows (find (λ (one : Consumer). not one.cancelled) p.state.consumers) ≡ Some consumer =
-        sym (cond-true p.state.args.single_active (active_consumer p.state.rows p.state.consumers) (longest_waiting p.state.rows p.state.consumers) to.single) ∙ next in
+    sym (cond-true p.state.args.single_active (active_consumer p.state.rows p.state.consumers) (longest_waiting p.state.rows p.state.consumers) to.single) ∙ next in
     let first = if_served-found p.state.rows (find (λ (one : Consumer). not one.cancelled) p.state.consumers) consumer chosen in
     let turn : ℕ = p.state.turns + 1 in
     let going : consumer.cancelled ≡ false = not-true consumer.cancelled (find-in (λ (one : Consumer). not one.cancelled) p.state.consumers consumer first).1 in
@@ -154,5 +153,5 @@ active_alone s index command single =
     let active : Option ConsumerId = active_id a.progress.state.consumers in
     let un = undelivered s index command in
     let to = checkouts-keeps (ToActive active) (ToActive-deliver active) a.progress
-        (record { single = ap (λ (args : QueueArgs). args.single_active) un.args ∙ single; active = refl; effects = Each-weaker NoDelivery (DeliversOnlyTo active) (no_delivery_to active) a.progress.effects un.effects }) in
+    (record { single = ap (λ (args : QueueArgs). args.single_active) un.args ∙ single; active = refl; effects = Each-weaker NoDelivery (DeliversOnlyTo active) (no_delivery_to active) a.progress.effects un.effects }) in
     after_checkouts-keeps command (Delivered-serves active command) a to.effects

@@ -1,45 +1,40 @@
 -- The ids of a consumer's deliveries count by one.
-use Rattle.std.proofs.Common.{◌≡◌, ℕ, zero, suc, ◌+◌, ◌-◌, ◌<◌, ◌≤◌, ◌⊎◌, Bool, true, false, not, ◌&&◌, ◌||◌, cond, List, [], ◌∷◌, ◌++◌, Option, Some, None, map, length, refl, sym, ap, ◌∙◌, subst, inl, inr, arith, if◌then◌else◌, length-append}
-use Rattle.std.specs.Prelude.{nat_eq, nat_lt, nat_le, filter, find, filter_map, slice_get, fold}
-use Rattle.std.specs.List.{list_any, cons_option}
-use Rattle.std.proofs.lemmas.Bool.{false≢true, cases_Bool, cond-true, cond-false, cond_both, and_parts, and_from, and_left, eqb-true, eq-eqb, ltb-true, leb-false, not-true}
+use Rattle.std.proofs.Common.{◌≡◌, ℕ, ◌+◌, ◌<◌, ◌⊎◌, Bool, true, false, not, ◌&&◌, cond, List, [], ◌∷◌, ◌++◌, Option, Some, None, map, length, refl, sym, ap, ◌∙◌, subst, inl, inr, arith, if◌then◌else◌}
+use Rattle.std.specs.Prelude.{nat_eq, nat_le, filter, find, filter_map}
+use Rattle.std.specs.List.{cons_option}
+use Rattle.std.proofs.lemmas.Bool.{false≢true, cases_Bool, cond-true, cond-false, cond_both, and_parts, and_from, eqb-true, eq-eqb, leb-false}
 use Rattle.std.proofs.lemmas.List.{map-append, append-nil}
 use Rattle.std.proofs.lemmas.List.Elements.{filter_map-append, filter-append}
-use Rattle.qq_base.specs.declared.ids.Index.{Index}
 use Rattle.qq_base.specs.declared.ids.SessionId.{SessionId}
 use Rattle.qq_base.specs.declared.ids.ConsumerId.{ConsumerId}
-use Rattle.qq_command.specs.declared.queue.QueueArgs.{QueueArgs}
 use Rattle.qq_command.specs.declared.message.Reason.{Reason}
 use Rattle.qq_command.specs.declared.command.Stamp.{Stamp}
 use Rattle.qq_command.specs.declared.command.Command.{Command}
 use Rattle.qq_command.specs.declared.command.Command.TheVariants.{Down}
 use Rattle.qq_command.specs.declared.command.Mode.{Mode}
-use Rattle.qq_command.specs.declared.command.Mode.TheVariants.{Prefetch, Link}
-use Rattle.qq_command.specs.declared.command.Entry.{Entry}
-use Rattle.qq_command.specs.declared.answer.Answer.{Answer}
 use Rattle.qq_command.specs.declared.answer.Delivery.{Delivery}
 use Rattle.qq_command.specs.declared.audit.Effect.{Effect}
-use Rattle.qq_command.specs.declared.audit.Effect.TheVariants.{Deliver, DeadOnce, Offer}
+use Rattle.qq_command.specs.declared.audit.Effect.TheVariants.{DeadOnce}
 use Rattle.qq_model.specs.declared.place.Row.{Row}
 use Rattle.qq_model.specs.declared.consumer.Consumer.{Consumer}
 use Rattle.qq_model.specs.declared.session.OpenSession.{OpenSession}
-use Rattle.qq_model.specs.State.{State, Sessions, same_session, same_consumer, empty_queue}
-use Rattle.qq_model.specs.Choice.{next_consumer, active_consumer, longest_waiting, longer_waiting, may_be_served, turn_before}
-use Rattle.qq_model.specs.Changes.{Progress, with_consumer, consumer_of, message_of, shown, stays}
-use Rattle.qq_model.specs.Gate.{session_of, is_opened, is_ended, greatest_tag, tag_by, tags, with_tag, with_session}
+use Rattle.qq_model.specs.State.{Sessions, same_session, same_consumer}
+use Rattle.qq_model.specs.Choice.{next_consumer, longer_waiting, may_be_served, turn_before}
+use Rattle.qq_model.specs.Changes.{Progress, with_consumer, consumer_of, message_of, stays}
+use Rattle.qq_model.specs.Gate.{session_of, is_ended, greatest_tag, tag_by, tags, with_tag, with_session}
 use Rattle.qq_model.specs.Commands.{joining, is_of}
-use Rattle.qq_model.specs.Serving.{used, served}
+use Rattle.qq_model.specs.Serving.{used}
 use Rattle.qq_model.specs.Step.{stamp_of}
 use Rattle.qq_model.specs.Audit.{delivery_to}
 use Rattle.qq_laws.specs.Reasons.{is_down}
 use Rattle.qq_laws.specs.Once.{IsNumbered}
 use Rattle.qq_laws.proofs.Lists.{In, find-in, fold-in_all}
-use Rattle.qq_laws.proofs.Closed.{KeepsRows, Acts, KeepsDeliveries, Serves, Turns, IsOwn}
+use Rattle.qq_laws.proofs.Closed.{KeepsRows, Acts, IsOwn}
 use Rattle.qq_laws.proofs.Chosen.{choice-by}
 use Rattle.qq_laws.proofs.RowLemmas.{Counts}
-use Rattle.qq_laws.proofs.ActiveLemmas.{served-id, if_served-found}
-use Rattle.qq_laws.proofs.SessionLemmas.{In-filter, list_any-map, find-map, same_session-true, same_session-refl, HasEnded, ended-from}
-use Rattle.qq_laws.proofs.Later.{Used, Guarded, Later, Later-same, Later-ends, ended-same}
+use Rattle.qq_laws.proofs.ActiveLemmas.{if_served-found}
+use Rattle.qq_laws.proofs.SessionLemmas.{In-filter, list_any-map, find-map, same_session-true, same_session-refl, ended-from}
+use Rattle.qq_laws.proofs.Later.{Used, Guarded, Later, Later-ends, ended-same}
 use Rattle.qq_laws.proofs.Later.Used.{IsOver, GoesOn}
 use Rattle.qq_laws.proofs.OnceLemmas.{tag-later}
 
@@ -86,8 +81,8 @@ mine-with : (id : ConsumerId) (new : Consumer) (consumers : List Consumer) → m
 mine-with id new consumers =
     filter-map (λ (one : Consumer). same_consumer one.id id) (changed new) consumers
     (λ one. elim (cases_Bool (same_consumer one.id new.id)) [
-      inl same ↦ ap (λ (c : Consumer). same_consumer c.id id) (cond-true (same_consumer one.id new.id) new one same) ∙ ap (λ (i : ConsumerId). same_consumer i id) (sym (same_consumer-true one.id new.id same))
-    | inr other ↦ ap (λ (c : Consumer). same_consumer c.id id) (cond-false (same_consumer one.id new.id) new one other)
+      | inl same ↦ ap (λ (c : Consumer). same_consumer c.id id) (cond-true (same_consumer one.id new.id) new one same) ∙ ap (λ (i : ConsumerId). same_consumer i id) (sym (same_consumer-true one.id new.id same))
+      | inr other ↦ ap (λ (c : Consumer). same_consumer c.id id) (cond-false (same_consumer one.id new.id) new one other)
     ])
 
 -- what is known of the consumer of an id, to which so many deliveries went: it never was, it has left, or it is there
@@ -96,13 +91,13 @@ pub data Who (id : ConsumerId) (consumers : List Consumer) (count : ℕ) (s : Se
   Went : mine id consumers ≡ [] → Used s id.session 0 id.tag → Who id consumers count s
   Stays : (one : Consumer) → mine id consumers ≡ one ∷ [] → one.next_id ≡ count + 1 → Used s id.session 0 id.tag → Who id consumers count s
 
-who-later : (id : ConsumerId) (consumers : List Consumer) (count : ℕ) (s t : Sessions) → Later id.session s t → Guarded s → Who id consumers count s → Who id consumers count t
+pub who-later : (id : ConsumerId) (consumers : List Consumer) (count : ℕ) (s t : Sessions) → Later id.session s t → Guarded s → Who id consumers count s → Who id consumers count t
 who-later id consumers count s t later g (Never none zero') = Never none zero'
 who-later id consumers count s t later g (Went none used) = Went none (later.used 0 id.tag g used)
 who-later id consumers count s t later g (Stays one is next used) = Stays one is next (later.used 0 id.tag g used)
 
 -- a consumer of the id is the one
-who-one : (id : ConsumerId) (consumers : List Consumer) (count : ℕ) (s : Sessions) (consumer : Consumer) → In consumer consumers → same_consumer consumer.id id ≡ true → Who id consumers count s
+pub who-one : (id : ConsumerId) (consumers : List Consumer) (count : ℕ) (s : Sessions) (consumer : Consumer) → In consumer consumers → same_consumer consumer.id id ≡ true → Who id consumers count s
     → (mine id consumers ≡ consumer ∷ []) × (consumer.next_id ≡ count + 1) × Used s id.session 0 id.tag
 who-one id consumers count s consumer here is who = by (In-filter (λ (one : Consumer). same_consumer one.id id) consumer consumers here is) who
   where
@@ -114,28 +109,28 @@ who-one id consumers count s consumer here is who = by (In-filter (λ (one : Con
         (only ∙ ap (λ (c : Consumer). c ∷ []) (sym same), ap (λ (c : Consumer). c.next_id) same ∙ next, used)
 
 -- the consumers of another id are no others then
-mine-other : (id : ConsumerId) (new : Consumer) (consumers : List Consumer) → same_consumer new.id id ≡ false → mine id (with_consumer new consumers) ≡ mine id consumers
+pub mine-other : (id : ConsumerId) (new : Consumer) (consumers : List Consumer) → same_consumer new.id id ≡ false → mine id (with_consumer new consumers) ≡ mine id consumers
 mine-other id new [] other = refl
 mine-other id new (one ∷ consumers) other =
     let rest = mine-other id new consumers other in
     elim (cases_Bool (same_consumer one.id new.id)) [
-      inl same ↦
-        let out : same_consumer one.id id ≡ false = ap (λ (i : ConsumerId). same_consumer i id) (same_consumer-true one.id new.id same) ∙ other in
-        ap (λ (c : Consumer). filter (λ (d : Consumer). same_consumer d.id id) (c ∷ with_consumer new consumers)) (cond-true (same_consumer one.id new.id) new one same)
-        ∙ cond-false (same_consumer new.id id) (new ∷ mine id (with_consumer new consumers)) (mine id (with_consumer new consumers)) other ∙ rest
-        ∙ sym (cond-false (same_consumer one.id id) (one ∷ mine id consumers) (mine id consumers) out)
-    | inr differs ↦
-        ap (λ (c : Consumer). filter (λ (d : Consumer). same_consumer d.id id) (c ∷ with_consumer new consumers)) (cond-false (same_consumer one.id new.id) new one differs)
-        ∙ ap (λ (cs : List Consumer). cond (same_consumer one.id id) (one ∷ cs) cs) rest
+      | inl same ↦
+          let out : same_consumer one.id id ≡ false = ap (λ (i : ConsumerId). same_consumer i id) (same_consumer-true one.id new.id same) ∙ other in
+          ap (λ (c : Consumer). filter (λ (d : Consumer). same_consumer d.id id) (c ∷ with_consumer new consumers)) (cond-true (same_consumer one.id new.id) new one same)
+          ∙ cond-false (same_consumer new.id id) (new ∷ mine id (with_consumer new consumers)) (mine id (with_consumer new consumers)) other ∙ rest
+          ∙ sym (cond-false (same_consumer one.id id) (one ∷ mine id consumers) (mine id consumers) out)
+      | inr differs ↦
+          ap (λ (c : Consumer). filter (λ (d : Consumer). same_consumer d.id id) (c ∷ with_consumer new consumers)) (cond-false (same_consumer one.id new.id) new one differs)
+          ∙ ap (λ (cs : List Consumer). cond (same_consumer one.id id) (one ∷ cs) cs) rest
     ]
 
 -- the consumers of the id, once its consumer is another
-mine-new : (id : ConsumerId) (consumer new : Consumer) (consumers : List Consumer) → mine id consumers ≡ consumer ∷ [] → new.id ≡ consumer.id → mine id (with_consumer new consumers) ≡ new ∷ []
+pub mine-new : (id : ConsumerId) (consumer new : Consumer) (consumers : List Consumer) → mine id consumers ≡ consumer ∷ [] → new.id ≡ consumer.id → mine id (with_consumer new consumers) ≡ new ∷ []
 mine-new id consumer new consumers only same =
     mine-with id new consumers ∙ ap (map (changed new)) only
     ∙ ap (λ (c : Consumer). c ∷ []) (cond-true (same_consumer consumer.id new.id) new consumer (ap (λ (i : ConsumerId). same_consumer consumer.id i) same ∙ same_consumer-refl consumer.id))
 
-who-at : (id : ConsumerId) (old new : List Consumer) (count : ℕ) (s : Sessions) → mine id new ≡ mine id old → Who id old count s → Who id new count s
+pub who-at : (id : ConsumerId) (old new : List Consumer) (count : ℕ) (s : Sessions) → mine id new ≡ mine id old → Who id old count s → Who id new count s
 who-at id old new count s same (Never none zero') = Never (same ∙ none) zero'
 who-at id old new count s same (Went none used) = Went (same ∙ none) used
 who-at id old new count s same (Stays one is next used) = Stays one (same ∙ is) next used
@@ -144,11 +139,11 @@ who-at id old new count s same (Stays one is next used) = Stays one (same ∙ is
 pub who-changed : (id : ConsumerId) (consumers : List Consumer) (count : ℕ) (s : Sessions) (consumer new : Consumer) → In consumer consumers → new.id ≡ consumer.id → new.next_id ≡ consumer.next_id
     → Who id consumers count s → Who id (with_consumer new consumers) count s
 who-changed id consumers count s consumer new here same next who = elim (cases_Bool (same_consumer consumer.id id)) [
-      inl is ↦
-        let one = who-one id consumers count s consumer here is who in
-        Stays new (mine-new id consumer new consumers one.0 same) (next ∙ one.1) one.2
-    | inr other ↦ who-at id consumers (with_consumer new consumers) count s (mine-other id new consumers (ap (λ (i : ConsumerId). same_consumer i id) same ∙ other)) who
-    ]
+  | inl is ↦
+      let one = who-one id consumers count s consumer here is who in
+      Stays new (mine-new id consumer new consumers one.0 same) (next ∙ one.1) one.2
+  | inr other ↦ who-at id consumers (with_consumer new consumers) count s (mine-other id new consumers (ap (λ (i : ConsumerId). same_consumer i id) same ∙ other)) who
+]
 
 -- some consumers leave
 pub who-leave : (id : ConsumerId) (consumers : List Consumer) (count : ℕ) (s : Sessions) (keeps : Consumer → Bool) → Who id consumers count s → Who id (filter keeps consumers) count s
@@ -161,9 +156,9 @@ who-leave id consumers count s keeps who = by who
     by (Never none zero') = Never (swap ∙ ap (filter keeps) none) zero'
     by (Went none used) = Went (swap ∙ ap (filter keeps) none) used
     by (Stays one is next used) = elim (cases_Bool (keeps one)) [
-          inl stays ↦ Stays one (swap ∙ ap (filter keeps) is ∙ cond-true (keeps one) (one ∷ []) [] stays) next used
-        | inr goes ↦ Went (swap ∙ ap (filter keeps) is ∙ cond-false (keeps one) (one ∷ []) [] goes) used
-        ]
+      | inl stays ↦ Stays one (swap ∙ ap (filter keeps) is ∙ cond-true (keeps one) (one ∷ []) [] stays) next used
+      | inr goes ↦ Went (swap ∙ ap (filter keeps) is ∙ cond-false (keeps one) (one ∷ []) [] goes) used
+    ]
 
 -- the next consumer is one of the consumers
 pub next_consumer-in : (single : Bool) (rows : List Row) (consumers : List Consumer) (consumer : Consumer) → next_consumer single rows consumers ≡ Some consumer → In consumer consumers
@@ -226,24 +221,24 @@ pub record CountsOn (id : ConsumerId) (before : ℕ) (command : Command) (p : Pr
   pub who : Who id p.state.consumers (before + length (ids_of id p.effects)) p.state.sessions
   pub current : (stamp : Stamp) → stamp_of command ≡ Some stamp → stamp.session ≡ id.session → IsCurrent p.state.sessions id.session
 
-counts-same : (id : ConsumerId) (before : ℕ) (command : Command) (p q : Progress) → CountsOn id before command p → ids_of id q.effects ≡ ids_of id p.effects → q.state.consumers ≡ p.state.consumers → q.state.sessions ≡ p.state.sessions → CountsOn id before command q
+pub counts-same : (id : ConsumerId) (before : ℕ) (command : Command) (p q : Progress) → CountsOn id before command p → ids_of id q.effects ≡ ids_of id p.effects → q.state.consumers ≡ p.state.consumers → q.state.sessions ≡ p.state.sessions → CountsOn id before command q
 counts-same id before command p q on effects consumers sessions = record {
   guarded = subst Guarded (sym sessions) on.guarded;
   ids = subst (Counts before) (sym effects) on.ids;
   who = subst (λ (ns : List ℕ). Who id q.state.consumers (before + length ns) q.state.sessions) (sym effects)
       (subst (λ (cs : List Consumer). Who id cs (before + length (ids_of id p.effects)) q.state.sessions) (sym consumers)
-          (subst (λ (s : Sessions). Who id p.state.consumers (before + length (ids_of id p.effects)) s) (sym sessions) on.who));
+      (subst (λ (s : Sessions). Who id p.state.consumers (before + length (ids_of id p.effects)) s) (sym sessions) on.who));
   current = λ stamp is own. subst (λ (s : Sessions). IsCurrent s id.session) (sym sessions) (on.current stamp is own);
 }
 
-ids-append : (id : ConsumerId) (xs ys : List Effect) → ids_of id (xs ++ ys) ≡ ids_of id xs ++ ids_of id ys
+pub ids-append : (id : ConsumerId) (xs ys : List Effect) → ids_of id (xs ++ ys) ≡ ids_of id xs ++ ids_of id ys
 ids-append id xs ys = ap (map (λ (delivery : Delivery). delivery.id)) (filter_map-append (delivery_to id) xs ys) ∙ map-append (λ (delivery : Delivery). delivery.id) (filter_map (delivery_to id) xs) (filter_map (delivery_to id) ys)
 
-ids-none : (id : ConsumerId) (xs : List Effect) (effect : Effect) → delivery_to id effect ≡ None → ids_of id (xs ++ effect ∷ []) ≡ ids_of id xs
+pub ids-none : (id : ConsumerId) (xs : List Effect) (effect : Effect) → delivery_to id effect ≡ None → ids_of id (xs ++ effect ∷ []) ≡ ids_of id xs
 ids-none id xs effect none =
     ids-append id xs (effect ∷ []) ∙ ap (λ (o : Option Delivery). ids_of id xs ++ map (λ (delivery : Delivery). delivery.id) (cons_option o [])) none ∙ append-nil (ids_of id xs)
 
-counts-rows : (id : ConsumerId) (before : ℕ) (command : Command) → KeepsRows command (CountsOn id before command)
+pub counts-rows : (id : ConsumerId) (before : ℕ) (command : Command) → KeepsRows command (CountsOn id before command)
 counts-rows id before command = record { row = λ p q old new on here moves out turns. counts-same id before command p q on (effects p q new turns.effects) turns.consumers turns.sessions }
   where
     effects : (p q : Progress) (new : Row) → (q.effects ≡ p.effects) ⊎ ((reason : Reason) × (q.effects ≡ p.effects ++ DeadOnce reason (message_of p.state.rows p.state.messages new) ∷ [])) → ids_of id q.effects ≡ ids_of id p.effects
@@ -251,7 +246,7 @@ counts-rows id before command = record { row = λ p q old new on here moves out 
     effects p q new (inr more) = ap (ids_of id) more.1 ∙ ids-none id p.effects (DeadOnce more.0 (message_of p.state.rows p.state.messages new)) refl
 
 -- the consumers change, and the sessions stay
-counts-consumers : (id : ConsumerId) (before : ℕ) (command : Command) (p q : Progress) → CountsOn id before command p → q.effects ≡ p.effects → q.state.sessions ≡ p.state.sessions
+pub counts-consumers : (id : ConsumerId) (before : ℕ) (command : Command) (p q : Progress) → CountsOn id before command p → q.effects ≡ p.effects → q.state.sessions ≡ p.state.sessions
     → Who id q.state.consumers (before + length (ids_of id p.effects)) p.state.sessions → CountsOn id before command q
 counts-consumers id before command p q on effects sessions who = record {
   guarded = subst Guarded (sym sessions) on.guarded;
@@ -261,7 +256,7 @@ counts-consumers id before command p q on effects sessions who = record {
   current = λ stamp is own. subst (λ (s : Sessions). IsCurrent s id.session) (sym sessions) (on.current stamp is own);
 }
 
-consumer-found : (id : ConsumerId) (consumers : List Consumer) (consumer : Consumer) → consumer_of id consumers ≡ Some consumer → In consumer consumers
+pub consumer-found : (id : ConsumerId) (consumers : List Consumer) (consumer : Consumer) → consumer_of id consumers ≡ Some consumer → In consumer consumers
 consumer-found id consumers consumer found = (find-in (λ (one : Consumer). same_consumer one.id id) consumers consumer found).0
 
 down-unstamped : (command : Command) (stamp : Stamp) → is_down command ≡ true → stamp_of command ≡ Some stamp → ⊥
@@ -301,7 +296,7 @@ counts-join id before command p other mode on above own = by (cases_Bool (same_c
     by (inr differs) =
         who-later id (p.state.consumers ++ new ∷ []) count p.state.sessions (with_tag other.session other.tag p.state.sessions) (tag-later id.session p.state.sessions other above) on.guarded
         (who-at id p.state.consumers (p.state.consumers ++ new ∷ []) count p.state.sessions
-            (more ∙ ap (λ (cs : List Consumer). mine id p.state.consumers ++ cs) (cond-false (same_consumer other id) (new ∷ []) [] differs) ∙ append-nil (mine id p.state.consumers)) on.who)
+        (more ∙ ap (λ (cs : List Consumer). mine id p.state.consumers ++ cs) (cond-false (same_consumer other id) (new ∷ []) [] differs) ∙ append-nil (mine id p.state.consumers)) on.who)
 
 pub counts-acts : (id : ConsumerId) (before : ℕ) (command : Command) → IsNumbered id.session → Acts command (CountsOn id before command)
 counts-acts id before command numbered = record {

@@ -1,17 +1,17 @@
 -- What is known of a session lasts through each change of the sessions.
-use Rattle.std.proofs.Common.{◌≡◌, ℕ, zero, suc, ◌+◌, ◌-◌, ◌<◌, ◌≤◌, ◌⊎◌, Bool, true, false, not, ◌&&◌, ◌||◌, cond, List, [], ◌∷◌, ◌++◌, Option, Some, None, map, length, refl, sym, ap, ◌∙◌, subst, inl, inr, arith, if◌then◌else◌}
-use Rattle.std.specs.Prelude.{nat_eq, nat_lt, nat_le, filter, find}
+use Rattle.std.proofs.Common.{◌≡◌, ℕ, ◌+◌, ◌<◌, ◌≤◌, ◌⊎◌, Bool, true, false, not, ◌&&◌, ◌||◌, List, [], ◌∷◌, Some, map, refl, sym, ap, ◌∙◌, subst, inl, inr, arith, if◌then◌else◌}
+use Rattle.std.specs.Prelude.{nat_eq, nat_lt, filter}
 use Rattle.std.specs.List.{list_any}
-use Rattle.std.proofs.lemmas.Bool.{false≢true, cases_Bool, cond-true, cond-false, cond_both, and_parts, and_from, or_cases, or_left, or_right, and_left, and_right, or_from, eqb-true, eq-eqb, ne_eqb, ltb-true, lt-ltb, cases_order, cases_eq, cases_lt, not-true, not_from_false, not_from_true, eqb-false}
+use Rattle.std.proofs.lemmas.Bool.{false≢true, cases_Bool, cond-true, cond-false, cond_both, and_parts, or_from, eqb-true, ltb-true, lt-ltb, cases_order, cases_eq, cases_lt, not-true, not_from_false}
 use Rattle.qq_base.specs.declared.ids.SessionId.{SessionId}
 use Rattle.qq_command.specs.declared.command.Stamp.{Stamp}
 use Rattle.qq_model.specs.declared.session.OpenSession.{OpenSession}
 use Rattle.qq_model.specs.declared.session.Worker.{Worker}
 use Rattle.qq_model.specs.State.{Sessions, same_session}
-use Rattle.qq_model.specs.Gate.{is_client, is_worker, is_dead_letter, session_of, is_opened, is_passed, is_ended, opened_by, gives_way, with_worker, workers_after, opened_after, with_ended, ended_after, ends_unknown, ends, with_session}
+use Rattle.qq_model.specs.Gate.{is_client, is_worker, session_of, is_opened, is_ended, opened_by, gives_way, with_worker, workers_after, opened_after, with_ended, ended_after, ends_unknown, ends, with_session}
 use Rattle.qq_laws.specs.Once.{IsNumbered}
 use Rattle.qq_laws.proofs.Lists.{In, Each, Each-in, Each-append, Each-weaker, find-in}
-use Rattle.qq_laws.proofs.SessionLemmas.{In-filter, In-append_left, In-append_right, Each-filter, Each-map, list_any-append, list_any-filter, list_any-map, list_any-from_in, find-filter, find-append, find-map, found-any, same_session-true, same_session-refl, other_owner, other_class, HasEnded, ended-true, ended-from}
+use Rattle.qq_laws.proofs.SessionLemmas.{In-filter, In-append_left, In-append_right, Each-filter, Each-map, list_any-append, list_any-filter, list_any-map, find-filter, find-append, find-map, found-any, same_session-true, other_owner, other_class, HasEnded, ended-true, ended-from}
 
 -- a session has ended, or goes on from a number and with tags up to one
 pub data Used (s : Sessions) (session : SessionId) (number tag : ℕ) : Type 0 where
@@ -44,7 +44,7 @@ Later-trans session s t u first second = record { guarded = λ g. second.guarded
 pub ended-same : (session : SessionId) (s : Sessions) (opened : List OpenSession) → is_opened session opened ≡ is_opened session s.opened → is_ended (record s { opened = opened }) session ≡ is_ended s session
 ended-same session s opened same =
     let by : Bool → Bool = λ o. (is_client session && list_any (λ (n : ℕ). nat_eq n session.number) s.ended)
-        || (is_worker session && list_any (λ (w : Worker). nat_eq w.owner session.owner && (nat_lt session.number w.number || (nat_eq session.number w.number && not o))) s.workers) in
+    || (is_worker session && list_any (λ (w : Worker). nat_eq w.owner session.owner && (nat_lt session.number w.number || (nat_eq session.number w.number && not o))) s.workers) in
     ap by same
 
 -- Open sessions are changed one by one ---------------------------------------------------------------------
@@ -72,7 +72,7 @@ Later-changed session s f same rises = record {
         ended-from' : is_ended s session ≡ true → is_ended t session ≡ true
         ended-from' is =
             let by : Bool → Bool = λ o. (is_client session && list_any (λ (n : ℕ). nat_eq n session.number) s.ended)
-                || (is_worker session && list_any (λ (w : Worker). nat_eq w.owner session.owner && (nat_lt session.number w.number || (nat_eq session.number w.number && not o))) s.workers) in
+            || (is_worker session && list_any (λ (w : Worker). nat_eq w.owner session.owner && (nat_lt session.number w.number || (nat_eq session.number w.number && not o))) s.workers) in
             ap by opened ∙ is
     lasts number tag (GoesOn one found next above) =
         let more = rises one found in
@@ -100,15 +100,15 @@ not-opened session opened one none found = false≢true (sym none ∙ found-any 
 -- the worker of a session that is neither open nor ended is greater than all that are known of its source queue
 pub above_known : (s : Sessions) (session : SessionId) (w : Worker) → is_worker session ≡ true → is_opened session s.opened ≡ false → is_ended s session ≡ false → In w s.workers → w.owner ≡ session.owner → w.number < session.number
 above_known s session w is closed going here owner = elim (cases_lt w.number session.number) [
-      inl less ↦ less
-    | inr more ↦
-        let how : (session.number < w.number) ⊎ ((session.number ≡ w.number) × (is_opened session s.opened ≡ false)) = elim (cases_order session.number w.number) [
-          inl same ↦ inr (same, closed)
+  | inl less ↦ less
+  | inr more ↦
+      let how : (session.number < w.number) ⊎ ((session.number ≡ w.number) × (is_opened session s.opened ≡ false)) = elim (cases_order session.number w.number) [
+        | inl same ↦ inr (same, closed)
         | inr other ↦ elim (other) [ inl less ↦ inl less | inr greater ↦ absurd (omega arith) ]
-        ] in
-        let over : HasEnded s session = record { ended = inr (is, (w, here, owner, how)) } in
-        absurd (false≢true (sym going ∙ ended-from s session over))
-    ]
+      ] in
+      let over : HasEnded s session = record { ended = inr (is, (w, here, owner, how)) } in
+      absurd (false≢true (sym going ∙ ended-from s session over))
+]
 
 with_worker-new : (new : Worker) (workers : List Worker) → In new (with_worker new workers)
 with_worker-new new workers = In-append_right new (filter (λ (w : Worker). nat_lt w.owner new.owner) workers) (new ∷ filter (λ (w : Worker). nat_lt new.owner w.owner) workers) (inl refl)
@@ -118,10 +118,10 @@ with_worker-other new w workers here differ =
     let less : List Worker = filter (λ (one : Worker). nat_lt one.owner new.owner) workers in
     let more : List Worker = filter (λ (one : Worker). nat_lt new.owner one.owner) workers in
     elim (cases_order w.owner new.owner) [
-      inl same ↦ absurd (differ same)
-    | inr other ↦ elim (other) [
-        inl lt ↦ In-append_left w less (new ∷ more) (In-filter (λ (one : Worker). nat_lt one.owner new.owner) w workers here (lt-ltb w.owner new.owner lt))
-      | inr gt ↦ In-append_right w less (new ∷ more) (inr (In-filter (λ (one : Worker). nat_lt new.owner one.owner) w workers here (lt-ltb new.owner w.owner gt)))
+      | inl same ↦ absurd (differ same)
+      | inr other ↦ elim (other) [
+        | inl lt ↦ In-append_left w less (new ∷ more) (In-filter (λ (one : Worker). nat_lt one.owner new.owner) w workers here (lt-ltb w.owner new.owner lt))
+        | inr gt ↦ In-append_right w less (new ∷ more) (inr (In-filter (λ (one : Worker). nat_lt new.owner one.owner) w workers here (lt-ltb new.owner w.owner gt)))
       ]
     ]
 
@@ -142,18 +142,18 @@ opened-succeeds s session w closed going here = by (cases_Bool (is_worker sessio
 
     by : (is_worker session ≡ true) ⊎ (is_worker session ≡ false) → In w (workers_after session s.workers) ⊎ ((is_worker session ≡ true) × (w.owner ≡ session.owner) × (w.number < session.number))
     by (inl is) = elim (cases_eq w.owner session.owner) [
-          inl same ↦ inr (is, same, above_known s session w is closed going here same)
-        | inr differ ↦ inl (subst (In w) (sym (cond-true (is_worker session) (with_worker new s.workers) s.workers is)) (with_worker-other new w s.workers here differ))
-        ]
+      | inl same ↦ inr (is, same, above_known s session w is closed going here same)
+      | inr differ ↦ inl (subst (In w) (sym (cond-true (is_worker session) (with_worker new s.workers) s.workers is)) (with_worker-other new w s.workers here differ))
+    ]
     by (inr none) = inl (subst (In w) (sym (cond-false (is_worker session) (with_worker new s.workers) s.workers none)) here)
 
 known-later : (s : Sessions) (session id : SessionId) → is_opened session s.opened ≡ false → is_ended s session ≡ false → IsKnown s.workers id → IsKnown (workers_after session s.workers) id
 known-later s session id closed going known = elim (opened-succeeds s session known.worker closed going known.here) [
-      inl here ↦ record { worker = known.worker; here = here; owner = known.owner; number = known.number }
-    | inr less ↦
-        let mine = opened-known s session less.0 in
-        record { worker = mine.worker; here = mine.here; owner = mine.owner ∙ sym less.1 ∙ known.owner; number = omega (arith, mine.number, known.number, less.2) }
-    ]
+  | inl here ↦ record { worker = known.worker; here = here; owner = known.owner; number = known.number }
+  | inr less ↦
+      let mine = opened-known s session less.0 in
+      record { worker = mine.worker; here = mine.here; owner = mine.owner ∙ sym less.1 ∙ known.owner; number = omega (arith, mine.number, known.number, less.2) }
+]
 
 pub Later-opened : (session : SessionId) (s : Sessions) (stamp : Stamp) → is_opened stamp.session s.opened ≡ false → is_ended s stamp.session ≡ false → Later session s (opened_after s stamp)
 Later-opened session s stamp closed going = record { guarded = guarded; used = λ number tag g u. lasts number tag u }
@@ -189,41 +189,41 @@ Later-opened session s stamp closed going = record { guarded = guarded; used = �
 
     worker_over : (w : Worker) → is_worker session ≡ true → In w s.workers → w.owner ≡ session.owner → (session.number < w.number) ⊎ ((session.number ≡ w.number) × (is_opened session s.opened ≡ false)) → HasEnded t session
     worker_over w mine here owner how = elim (opened-succeeds s id w closed going here) [
-          inl there ↦ elim (how) [
-            inl less ↦ record { ended = inr (mine, (w, there, owner, inl less)) }
-          | inr same ↦ elim (cases_eq id.owner session.owner) [
-              inl own ↦ elim (cases_eq id.class session.class) [
-                inl class ↦
-                  let is : is_worker id ≡ true = ap (λ (n : ℕ). nat_eq n 2) class ∙ mine in
-                  let above : w.number < id.number = above_known s id w is closed going here (owner ∙ sym own) in
-                  passed is mine (sym own) (omega (arith, same.0))
-              | inr differ ↦ record { ended = inr (mine, (w, there, owner, inr (same.0, stays_closed same.1 (other_class id session differ)))) }
-              ]
-            | inr differ ↦ record { ended = inr (mine, (w, there, owner, inr (same.0, stays_closed same.1 (other_owner id session differ)))) }
-            ]
+      | inl there ↦ elim (how) [
+        | inl less ↦ record { ended = inr (mine, (w, there, owner, inl less)) }
+        | inr same ↦ elim (cases_eq id.owner session.owner) [
+          | inl own ↦ elim (cases_eq id.class session.class) [
+            | inl class ↦
+                let is : is_worker id ≡ true = ap (λ (n : ℕ). nat_eq n 2) class ∙ mine in
+                let above : w.number < id.number = above_known s id w is closed going here (owner ∙ sym own) in
+                passed is mine (sym own) (omega (arith, same.0))
+            | inr differ ↦ record { ended = inr (mine, (w, there, owner, inr (same.0, stays_closed same.1 (other_class id session differ)))) }
           ]
-        | inr less ↦
-            let below : session.number ≤ w.number = elim (how) [ inl lt ↦ omega arith | inr same ↦ omega (arith, same.0) ] in
-            passed less.0 mine (sym owner ∙ less.1) (omega (arith, less.2))
+          | inr differ ↦ record { ended = inr (mine, (w, there, owner, inr (same.0, stays_closed same.1 (other_owner id session differ)))) }
         ]
+      ]
+      | inr less ↦
+          let below : session.number ≤ w.number = elim (how) [ inl lt ↦ omega arith | inr same ↦ omega (arith, same.0) ] in
+          passed less.0 mine (sym owner ∙ less.1) (omega (arith, less.2))
+    ]
 
     lasts : (number tag : ℕ) → Used s session number tag → Used t session number tag
     lasts number tag (IsOver over) = elim (over.ended) [
-          inl client ↦ IsOver (record { ended = inl client })
-        | inr worker ↦ IsOver (worker_over worker.1.0 worker.0 worker.1.1 worker.1.2 worker.1.3)
-        ]
+      | inl client ↦ IsOver (record { ended = inl client })
+      | inr worker ↦ IsOver (worker_over worker.1.0 worker.0 worker.1.1 worker.1.2 worker.1.3)
+    ]
     lasts number tag (GoesOn one found next above) = elim (cases_Bool (gives_way id one)) [
-          inl gives ↦
-            let mine : one.session ≡ session = same_session-true one.session session (find-in (λ (o : OpenSession). same_session o.session session) s.opened one found).1 in
-            let a = and_parts (is_worker id && is_worker one.session && nat_eq one.session.owner id.owner) (nat_lt one.session.number id.number) gives in
-            let b = and_parts (is_worker id && is_worker one.session) (nat_eq one.session.owner id.owner) a.0 in
-            let c = and_parts (is_worker id) (is_worker one.session) b.0 in
-            let less : one.session.number < id.number = ltb-true one.session.number id.number a.1 in
-            IsOver (passed c.0 (ap is_worker (sym mine) ∙ c.1) (ap (λ (i : SessionId). i.owner) (sym mine) ∙ eqb-true one.session.owner id.owner b.1) (subst (λ (i : SessionId). i.number < id.number) mine less))
-        | inr keeps ↦
-            GoesOn one (find-append (λ (o : OpenSession). same_session o.session session) (filter stays s.opened) (opened_by stamp ∷ []) one
-            (find-filter (λ (o : OpenSession). same_session o.session session) stays s.opened one found (not_from_false (gives_way id one) keeps))) next above
-        ]
+      | inl gives ↦
+          let mine : one.session ≡ session = same_session-true one.session session (find-in (λ (o : OpenSession). same_session o.session session) s.opened one found).1 in
+          let a = and_parts (is_worker id && is_worker one.session && nat_eq one.session.owner id.owner) (nat_lt one.session.number id.number) gives in
+          let b = and_parts (is_worker id && is_worker one.session) (nat_eq one.session.owner id.owner) a.0 in
+          let c = and_parts (is_worker id) (is_worker one.session) b.0 in
+          let less : one.session.number < id.number = ltb-true one.session.number id.number a.1 in
+          IsOver (passed c.0 (ap is_worker (sym mine) ∙ c.1) (ap (λ (i : SessionId). i.owner) (sym mine) ∙ eqb-true one.session.owner id.owner b.1) (subst (λ (i : SessionId). i.number < id.number) mine less))
+      | inr keeps ↦
+          GoesOn one (find-append (λ (o : OpenSession). same_session o.session session) (filter stays s.opened) (opened_by stamp ∷ []) one
+          (find-filter (λ (o : OpenSession). same_session o.session session) stays s.opened one found (not_from_false (gives_way id one) keeps))) next above
+    ]
 
 -- A session ends -------------------------------------------------------------------------------------------
 
@@ -235,10 +235,10 @@ with_ended-old n m ns here =
     let less : List ℕ = filter (λ (k : ℕ). nat_lt k n) ns in
     let more : List ℕ = filter (λ (k : ℕ). nat_lt n k) ns in
     elim (cases_order m n) [
-      inl same ↦ In-append_right m less (n ∷ more) (inl same)
-    | inr other ↦ elim (other) [
-        inl lt ↦ In-append_left m less (n ∷ more) (In-filter (λ (k : ℕ). nat_lt k n) m ns here (lt-ltb m n lt))
-      | inr gt ↦ In-append_right m less (n ∷ more) (inr (In-filter (λ (k : ℕ). nat_lt n k) m ns here (lt-ltb n m gt)))
+      | inl same ↦ In-append_right m less (n ∷ more) (inl same)
+      | inr other ↦ elim (other) [
+        | inl lt ↦ In-append_left m less (n ∷ more) (In-filter (λ (k : ℕ). nat_lt k n) m ns here (lt-ltb m n lt))
+        | inr gt ↦ In-append_right m less (n ∷ more) (inr (In-filter (λ (k : ℕ). nat_lt n k) m ns here (lt-ltb n m gt)))
       ]
     ]
 
@@ -274,38 +274,39 @@ Later-ends session s id numbered =
 
     remembers : (number tag : ℕ) → Used s session number tag → Used unknown session number tag
     remembers number tag (IsOver over) = elim (over.ended) [
-          inl client ↦ IsOver (record { ended = inl (client.0, with_ended-old id.number session.number s.ended client.1) })
-        | inr worker ↦ IsOver (record { ended = inr worker })
-        ]
+      | inl client ↦ IsOver (record { ended = inl (client.0, with_ended-old id.number session.number s.ended client.1) })
+      | inr worker ↦ IsOver (record { ended = inr worker })
+    ]
     remembers number tag (GoesOn one found next above) = GoesOn one found next above
 
     -- the session itself has ended then
     itself : Guarded s → (one : OpenSession) → session_of session s.opened ≡ Some one → session ≡ id → HasEnded shut session
     itself g one found same = elim (numbered) [
-          inl client ↦
-            let here : In id.number (ended_after id s.ended) = subst (In id.number) (sym (cond-true (is_client id) (with_ended id.number s.ended) s.ended (ap is_client (sym same) ∙ client))) (with_ended-new id.number s.ended) in
-            record { ended = inl (client, subst (λ (i : SessionId). In i.number (ended_after id s.ended)) (sym same) here) }
-        | inr worker ↦
-            let stands = find-in (λ (o : OpenSession). same_session o.session session) s.opened one found in
-            let mine : one.session ≡ session = same_session-true one.session session stands.1 in
-            let known : IsKnown s.workers session = subst (IsKnown s.workers) mine (Each-in (λ (o : OpenSession). is_worker o.session ≡ true → IsKnown s.workers o.session) one s.opened g stands.0 (ap is_worker mine ∙ worker)) in
-            let how : (session.number < known.worker.number) ⊎ ((session.number ≡ known.worker.number) × (is_opened session (filter stays s.opened) ≡ false)) = elim (cases_order session.number known.worker.number) [
-              inl eq ↦ inr (eq, subst (λ (i : SessionId). is_opened i (filter stays s.opened) ≡ false) (sym same) (ended-gone id s.opened))
+      | inl client ↦
+          let here : In id.number (ended_after id s.ended) = subst (In id.number) (sym (cond-true (is_client id) (with_ended id.number s.ended) s.ended (ap is_client (sym same) ∙ client))) (with_ended-new id.number s.ended) in
+          record { ended = inl (client, subst (λ (i : SessionId). In i.number (ended_after id s.ended)) (sym same) here) }
+      | inr worker ↦
+          let stands = find-in (λ (o : OpenSession). same_session o.session session) s.opened one found in
+          let mine : one.session ≡ session = same_session-true one.session session stands.1 in
+          let known : IsKnown s.workers session = subst (IsKnown s.workers) mine (Each-in (λ (o : OpenSession). is_worker o.session ≡ true → IsKnown s.workers o.session) one s.opened g stands.0 (ap is_worker mine ∙ worker)) in
+          let how : (session.number < known.worker.number) ⊎ ((session.number ≡ known.worker.number) × (is_opened session (filter stays s.opened) ≡ false)) = elim (cases_order session.number known.worker.number) [
+            | inl eq ↦ inr (eq, subst (λ (i : SessionId). is_opened i (filter stays s.opened) ≡ false) (sym same) (ended-gone id s.opened))
             | inr other ↦ elim (other) [ inl lt ↦ inl lt | inr gt ↦ absurd (omega (arith, known.number)) ]
-            ] in
-            record { ended = inr (worker, (known.worker, known.here, known.owner, how)) }
-        ]
+          ] in
+          record { ended = inr (worker, (known.worker, known.here, known.owner, how)) }
+    ]
+
     lasts : (number tag : ℕ) → Guarded s → Used s session number tag → Used shut session number tag
     lasts number tag g (IsOver over) = elim (over.ended) [
-          inl client ↦ IsOver (record { ended = inl (client.0, ended_after-old id session.number s.ended client.1) })
-        | inr worker ↦ elim (worker.1.3) [
-            inl less ↦ IsOver (record { ended = inr (worker.0, (worker.1.0, worker.1.1, worker.1.2, inl less)) })
-          | inr same ↦ IsOver (record { ended = inr (worker.0, (worker.1.0, worker.1.1, worker.1.2, inr (same.0, list_any-filter (λ (o : OpenSession). same_session o.session session) stays s.opened same.1))) })
-          ]
-        ]
+      | inl client ↦ IsOver (record { ended = inl (client.0, ended_after-old id session.number s.ended client.1) })
+      | inr worker ↦ elim (worker.1.3) [
+        | inl less ↦ IsOver (record { ended = inr (worker.0, (worker.1.0, worker.1.1, worker.1.2, inl less)) })
+        | inr same ↦ IsOver (record { ended = inr (worker.0, (worker.1.0, worker.1.1, worker.1.2, inr (same.0, list_any-filter (λ (o : OpenSession). same_session o.session session) stays s.opened same.1))) })
+      ]
+    ]
     lasts number tag g (GoesOn one found next above) = elim (cases_Bool (same_session one.session id)) [
-          inl is ↦
-            let mine : one.session ≡ session = same_session-true one.session session (find-in (λ (o : OpenSession). same_session o.session session) s.opened one found).1 in
-            IsOver (itself g one found (sym mine ∙ same_session-true one.session id is))
-        | inr other ↦ GoesOn one (find-filter (λ (o : OpenSession). same_session o.session session) stays s.opened one found (not_from_false (same_session one.session id) other)) next above
-        ]
+      | inl is ↦
+          let mine : one.session ≡ session = same_session-true one.session session (find-in (λ (o : OpenSession). same_session o.session session) s.opened one found).1 in
+          IsOver (itself g one found (sym mine ∙ same_session-true one.session id is))
+      | inr other ↦ GoesOn one (find-filter (λ (o : OpenSession). same_session o.session session) stays s.opened one found (not_from_false (same_session one.session id) other)) next above
+    ]

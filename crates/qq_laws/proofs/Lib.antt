@@ -12,3 +12,4 @@ pub mod SessionLemmas
 pub mod Later
 pub mod OnceLemmas
 pub mod Ids
+pub mod IdRuns

@@ -1,8 +1,8 @@
 -- A number of a session that was carried out is never let in again.
-use Rattle.std.proofs.Common.{◌≡◌, ℕ, zero, suc, ◌+◌, ◌-◌, ◌<◌, ◌≤◌, ◌⊎◌, Bool, true, false, not, ◌&&◌, ◌||◌, cond, List, [], ◌∷◌, ◌++◌, Option, Some, None, map, length, refl, sym, ap, ◌∙◌, subst, inl, inr, arith, if◌then◌else◌}
+use Rattle.std.proofs.Common.{◌≡◌, ℕ, ◌+◌, ◌-◌, ◌<◌, ◌≤◌, ◌⊎◌, Bool, true, false, not, cond, List, [], ◌∷◌, ◌++◌, Option, Some, None, refl, sym, ap, ◌∙◌, subst, inl, inr, arith, if◌then◌else◌}
 use Rattle.std.specs.Prelude.{nat_eq, nat_lt, nat_le, filter, find}
 use Rattle.std.specs.List.{list_any}
-use Rattle.std.proofs.lemmas.Bool.{false≢true, cases_Bool, cond-true, cond-false, cond_both, eqb-true, ne_eqb, ltb-true, ltb-false, leb-false, or_from, or_parts, true≢false}
+use Rattle.std.proofs.lemmas.Bool.{false≢true, cases_Bool, cond-true, cond-false, cond_both, eqb-true, ne_eqb, ltb-false, leb-false, or_from, or_parts}
 use Rattle.qq_model.specs.declared.TheConstants.{WINDOW}
 use Rattle.qq_base.specs.declared.ids.Index.{Index}
 use Rattle.qq_base.specs.declared.ids.SessionId.{SessionId}
@@ -16,16 +16,15 @@ use Rattle.qq_model.specs.declared.session.OpenSession.{OpenSession}
 use Rattle.qq_model.specs.declared.session.Gate.{Gate}
 use Rattle.qq_model.specs.declared.session.Gate.TheVariants.{Fresh, Again, Gap, Forgotten, Ended, WindowFull, SessionsFull}
 use Rattle.qq_model.specs.State.{State, Sessions, same_session, empty_queue}
-use Rattle.qq_model.specs.Changes.{Progress}
 use Rattle.qq_model.specs.Commands.{Acted}
-use Rattle.qq_model.specs.Gate.{is_client, is_worker, is_dead_letter, session_of, is_opened, is_ended, again, kept_of, mark_by, marked_by, used_by, opened_by, opened_after, gives_way, numbered, unknown, checked_by, gate, admitted, turned_away, keeps, with_answer, tags, tag_by, greatest_tag, with_tag, with_session, ends}
+use Rattle.qq_model.specs.Gate.{is_dead_letter, session_of, is_opened, is_ended, again, kept_of, mark_by, marked_by, used_by, opened_by, opened_after, gives_way, numbered, unknown, checked_by, gate, admitted, turned_away, keeps, with_answer, tags, tag_by, greatest_tag, with_tag, with_session, ends}
 use Rattle.qq_model.specs.Step.{stamp_of, carried_out, gated, step_by, step}
 use Rattle.qq_model.specs.Audit.{next_index, next_step, state_after}
-use Rattle.qq_laws.specs.Once.{IsNumbered, is_fresh, is_let_in, IsRepeat, IsRepeatOf, CarriedOutOnce}
-use Rattle.qq_laws.proofs.Lists.{In, Each, find-in}
-use Rattle.qq_laws.proofs.Closed.{KeepsRows, Acts, KeepsDeliveries, Serves}
+use Rattle.qq_laws.specs.Once.{IsNumbered, is_fresh, is_let_in, CarriedOutOnce}
+use Rattle.qq_laws.proofs.Lists.{find-in}
+use Rattle.qq_laws.proofs.Closed.{KeepsRows, Acts}
 use Rattle.qq_laws.proofs.Carried.{carried_out-keeps}
-use Rattle.qq_laws.proofs.SessionLemmas.{list_any-filter, find-map, found-any, same_session-refl, HasEnded, ended-true, ended-from}
+use Rattle.qq_laws.proofs.SessionLemmas.{list_any-filter, find-map, found-any, same_session-refl, ended-from}
 use Rattle.qq_laws.proofs.Later.{Used, Guarded, Later, Later-same, Later-trans, Later-with_session, Later-opened, Later-ends}
 use Rattle.qq_laws.proofs.Later.Used.{IsOver, GoesOn}
 use Rattle.qq_laws.proofs.Turned.{fresh_if_let_in, repeat-stale}
@@ -37,9 +36,9 @@ unfolding with_tag
 tag-later session s id above =
     Later-with_session session s id.session (tags id.tag) (λ one. refl)
     (λ one found.
-        let less : greatest_tag id.session s < id.tag = leb-false id.tag (greatest_tag id.session s) above in
-        let is : greatest_tag id.session s ≡ one.tag = ap tag_by found in
-        (omega arith, omega arith))
+    let less : greatest_tag id.session s < id.tag = leb-false id.tag (greatest_tag id.session s) above in
+    let is : greatest_tag id.session s ≡ one.tag = ap tag_by found in
+    (omega arith, omega arith))
 
 Later-rows : (session : SessionId) (s : Sessions) (command : Command) → KeepsRows command (λ p. Later session s p.state.sessions)
 Later-rows session s command = record { row = λ p q old new later here moves out turns. subst (Later session s) (sym turns.sessions) later }
@@ -69,21 +68,21 @@ Ended≢Fresh : Ended ≡ Fresh → ⊥
 Ended≢Fresh same = cc
 
 -- what was let in, but a dead letter, is of a session that hasn't ended
-fresh-going : (s : Sessions) (stamp : Stamp) → is_dead_letter stamp.session ≡ false → gate s stamp ≡ Fresh → is_ended s stamp.session ≡ false
+pub fresh-going : (s : Sessions) (stamp : Stamp) → is_dead_letter stamp.session ≡ false → gate s stamp ≡ Fresh → is_ended s stamp.session ≡ false
 unfolding gate
 fresh-going s stamp plain fresh = elim (cases_Bool (is_ended s stamp.session)) [
-      inr going ↦ going
-    | inl over ↦ absurd (Ended≢Fresh (
-        sym (cond-false (is_dead_letter stamp.session) Fresh (cond (is_ended s stamp.session) Ended (checked_by (session_of stamp.session s.opened) s stamp)) plain
-            ∙ cond-true (is_ended s stamp.session) Ended (checked_by (session_of stamp.session s.opened) s stamp) over) ∙ fresh))
-    ]
+  | inr going ↦ going
+  | inl over ↦ absurd (Ended≢Fresh (
+      sym (cond-false (is_dead_letter stamp.session) Fresh (cond (is_ended s stamp.session) Ended (checked_by (session_of stamp.session s.opened) s stamp)) plain
+      ∙ cond-true (is_ended s stamp.session) Ended (checked_by (session_of stamp.session s.opened) s stamp) over) ∙ fresh))
+]
 
 -- and passed the checks of its number
-fresh-checked : (s : Sessions) (stamp : Stamp) → is_dead_letter stamp.session ≡ false → gate s stamp ≡ Fresh → checked_by (session_of stamp.session s.opened) s stamp ≡ Fresh
+pub fresh-checked : (s : Sessions) (stamp : Stamp) → is_dead_letter stamp.session ≡ false → gate s stamp ≡ Fresh → checked_by (session_of stamp.session s.opened) s stamp ≡ Fresh
 unfolding gate
 fresh-checked s stamp plain fresh =
     sym (cond-false (is_dead_letter stamp.session) Fresh (cond (is_ended s stamp.session) Ended (checked_by (session_of stamp.session s.opened) s stamp)) plain
-        ∙ cond-false (is_ended s stamp.session) Ended (checked_by (session_of stamp.session s.opened) s stamp) (fresh-going s stamp plain fresh)) ∙ fresh
+    ∙ cond-false (is_ended s stamp.session) Ended (checked_by (session_of stamp.session s.opened) s stamp) (fresh-going s stamp plain fresh)) ∙ fresh
 
 pub admitted-later : (session : SessionId) (s : Sessions) (stamp : Stamp) → gate s stamp ≡ Fresh → Later session s (admitted s stamp)
 unfolding admitted
@@ -99,11 +98,11 @@ admitted-later session s stamp fresh = by (cases_Bool (is_dead_letter stamp.sess
         (λ _. Later-with_session session s stamp.session (used_by stamp) (λ one. refl) (λ one found. (omega arith, omega arith)))
         (λ closed. Later-opened session s stamp closed (fresh-going s stamp plain fresh)))
 
-answer-later : (session : SessionId) (s : Sessions) (stamp : Stamp) (answer : Answer) → Later session s (with_answer stamp answer s)
+pub answer-later : (session : SessionId) (s : Sessions) (stamp : Stamp) (answer : Answer) → Later session s (with_answer stamp answer s)
 unfolding with_answer
 answer-later session s stamp answer = Later-with_session session s stamp.session (keeps answer) (λ one. refl) (λ one found. (omega arith, omega arith))
 
-turned_away-later : (session : SessionId) (s : Sessions) (stamp : Stamp) → Later session s (turned_away s stamp)
+pub turned_away-later : (session : SessionId) (s : Sessions) (stamp : Stamp) → Later session s (turned_away s stamp)
 unfolding turned_away
 turned_away-later session s stamp =
     cond_both (is_ended s stamp.session) s (record s { opened = with_session stamp.session (marked_by stamp) s.opened }) (Later session s) (λ _. Later-same session s)
@@ -147,7 +146,7 @@ after-later session s (entry ∷ entries) numbered =
 
 -- a number that is carried out ---------------------------------------------------------------------------
 
-numbered-plain : (session : SessionId) → IsNumbered session → is_dead_letter session ≡ false
+pub numbered-plain : (session : SessionId) → IsNumbered session → is_dead_letter session ≡ false
 numbered-plain session (inl client) = let one : session.class ≡ 1 = eqb-true session.class 1 client in ne_eqb session.class 3 (λ three. omega arith)
 numbered-plain session (inr worker) = let two : session.class ≡ 2 = eqb-true session.class 2 worker in ne_eqb session.class 3 (λ three. omega arith)
 
@@ -175,17 +174,17 @@ fresh-next stamp one fresh = below (cases_Bool (nat_le stamp.seq (mark_by stamp 
         absurd (again≢Fresh (kept_of stamp.seq one) (sym (cond-false (nat_le stamp.seq (mark_by stamp one)) Forgotten agains a ∙ cond-true (nat_lt stamp.seq one.next) (again (kept_of stamp.seq one)) gaps repeat) ∙ fresh))
     below (inr a) (inr b) (inl gap) =
         let e : Gap one.next ≡ Fresh = sym (cond-false (nat_le stamp.seq (mark_by stamp one)) Forgotten agains a ∙ cond-false (nat_lt stamp.seq one.next) (again (kept_of stamp.seq one)) gaps b
-            ∙ cond-true (nat_lt one.next stamp.seq) (Gap one.next) last gap) ∙ fresh in absurd cc
+        ∙ cond-true (nat_lt one.next stamp.seq) (Gap one.next) last gap) ∙ fresh in absurd cc
     below (inr a) (inr b) (inr c) =
         let le : one.next ≤ stamp.seq = ltb-false stamp.seq one.next b in
         let ge : stamp.seq ≤ one.next = ltb-false one.next stamp.seq c in omega arith
 
 fresh-first : (s : Sessions) (stamp : Stamp) → unknown s stamp ≡ Fresh → stamp.seq ≡ 1
 fresh-first s stamp fresh = elim (cases_Bool (nat_eq stamp.seq 1)) [
-      inl is ↦ eqb-true stamp.seq 1 is
-    | inr other ↦
-        let e : Gap 1 ≡ Fresh = sym (cond-true (not (nat_eq stamp.seq 1)) (Gap 1) _ (ap not other)) ∙ fresh in absurd cc
-    ]
+  | inl is ↦ eqb-true stamp.seq 1 is
+  | inr other ↦
+      let e : Gap 1 ≡ Fresh = sym (cond-true (not (nat_eq stamp.seq 1)) (Gap 1) _ (ap not other)) ∙ fresh in absurd cc
+]
 
 pub find-none : {A : Type 0} (test : A → Bool) (xs : List A) → find test xs ≡ None → list_any test xs ≡ false
 find-none test [] none = refl
@@ -278,6 +277,6 @@ once args before first second stamp between kind is repeats fresh =
     let still : Used u.sessions session (stamp.seq + 1) 0 = (after-later session t between kind).used (stamp.seq + 1) 0 ((next-later session s first kind).guarded guarded) used_then in
     let again' : Stamp = repeats.stamped in
     let used : Used u.sessions again'.session (again'.seq + 1) 0 =
-        subst (λ (n : ℕ). Used u.sessions again'.session (n + 1) 0) (sym repeats.number) (subst (λ (i : SessionId). Used u.sessions i (stamp.seq + 1) 0) (sym repeats.session) still) in
+    subst (λ (n : ℕ). Used u.sessions again'.session (n + 1) 0) (sym repeats.number) (subst (λ (i : SessionId). Used u.sessions i (stamp.seq + 1) 0) (sym repeats.session) still) in
     let plain : is_dead_letter again'.session ≡ false = ap is_dead_letter repeats.session ∙ numbered-plain session kind in
     fresh_if_let_in u second ∙ ap (is_let_in u.sessions) repeats.is ∙ used-stale u.sessions again' 0 plain used

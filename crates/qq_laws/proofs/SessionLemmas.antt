@@ -1,15 +1,13 @@
 -- What a queue knows of a session lasts: an ended one stays ended, an open one's numbers and tags only rise.
-use Rattle.std.proofs.Common.{◌≡◌, ℕ, zero, suc, ◌+◌, ◌-◌, ◌<◌, ◌≤◌, ◌⊎◌, Bool, true, false, not, ◌&&◌, ◌||◌, cond, List, [], ◌∷◌, ◌++◌, Option, Some, None, map, length, refl, sym, ap, ◌∙◌, subst, inl, inr, arith, if◌then◌else◌}
-use Rattle.std.specs.Prelude.{nat_eq, nat_lt, nat_le, filter, find}
+use Rattle.std.proofs.Common.{◌≡◌, ℕ, ◌<◌, ◌⊎◌, Bool, true, false, not, ◌&&◌, ◌||◌, List, [], ◌∷◌, ◌++◌, Some, map, refl, sym, ap, ◌∙◌, subst, inl, inr}
+use Rattle.std.specs.Prelude.{nat_eq, nat_lt, filter, find}
 use Rattle.std.specs.List.{list_any}
-use Rattle.std.proofs.lemmas.Bool.{false≢true, cases_Bool, cond-true, cond-false, cond_both, and_parts, and_from, or_cases, or_left, or_right, and_left, and_right, or_from, eqb-true, eq-eqb, ne_eqb, ltb-true, lt-ltb, cases_order, cases_eq, cases_lt, not-true, not_from_false, not_from_true, eqb-false, or_parts}
+use Rattle.std.proofs.lemmas.Bool.{false≢true, cases_Bool, cond-true, cond-false, cond_both, and_parts, and_from, or_cases, or_left, or_right, and_left, and_right, or_from, eqb-true, eq-eqb, ne_eqb, ltb-true, lt-ltb, not-true, not_from_false, or_parts}
 use Rattle.qq_base.specs.declared.ids.SessionId.{SessionId}
-use Rattle.qq_command.specs.declared.command.Stamp.{Stamp}
-use Rattle.qq_model.specs.declared.session.OpenSession.{OpenSession}
 use Rattle.qq_model.specs.declared.session.Worker.{Worker}
 use Rattle.qq_model.specs.State.{Sessions, same_session}
-use Rattle.qq_model.specs.Gate.{is_client, is_worker, is_dead_letter, session_of, is_opened, is_passed, is_ended, opened_by, gives_way, with_worker, workers_after, opened_after, with_ended, ended_after, ends_unknown, ends}
-use Rattle.qq_laws.proofs.Lists.{In, Each, Each-in, Each-append, Each-weaker, find-in}
+use Rattle.qq_model.specs.Gate.{is_client, is_worker, is_opened, is_passed, is_ended}
+use Rattle.qq_laws.proofs.Lists.{In, Each, find-in}
 
 -- Lists --------------------------------------------------------------------------------------------------
 
@@ -17,8 +15,8 @@ pub list_any-in : {A : Type 0} (test : A → Bool) (xs : List A) → list_any te
 list_any-in test [] any = absurd (false≢true any)
 list_any-in test (x ∷ xs) any =
     elim (or_cases (test x) (list_any test xs) any) [
-      inl here ↦ (x, inl refl, here)
-    | inr later ↦ let rest = list_any-in test xs later in (rest.0, inr rest.1, rest.2)
+      | inl here ↦ (x, inl refl, here)
+      | inr later ↦ let rest = list_any-in test xs later in (rest.0, inr rest.1, rest.2)
     ]
 
 pub list_any-from_in : {A : Type 0} (test : A → Bool) (x : A) (xs : List A) → In x xs → test x ≡ true → list_any test xs ≡ true
@@ -149,12 +147,12 @@ ended-true s session ended = by (or_cases (is_client session && list_any (λ n. 
         let some = list_any-in (is_passed s session) s.workers parts.1 in
         let passed = and_parts (nat_eq some.0.owner session.owner) _ some.2 in
         let how : (session.number < some.0.number) ⊎ ((session.number ≡ some.0.number) × (is_opened session s.opened ≡ false)) =
-            elim (or_cases (nat_lt session.number some.0.number) _ passed.1) [
-              inl less ↦ inl (ltb-true session.number some.0.number less)
-            | inr same ↦
-                let both = and_parts (nat_eq session.number some.0.number) (not (is_opened session s.opened)) same in
-                inr (eqb-true session.number some.0.number both.0, not-true (is_opened session s.opened) both.1)
-            ] in
+        elim (or_cases (nat_lt session.number some.0.number) _ passed.1) [
+          | inl less ↦ inl (ltb-true session.number some.0.number less)
+          | inr same ↦
+              let both = and_parts (nat_eq session.number some.0.number) (not (is_opened session s.opened)) same in
+              inr (eqb-true session.number some.0.number both.0, not-true (is_opened session s.opened) both.1)
+        ] in
         record { ended = inr (parts.0, (some.0, some.1, eqb-true some.0.owner session.owner passed.0, how)) }
 
 pub ended-from : (s : Sessions) (session : SessionId) → HasEnded s session → is_ended s session ≡ true
@@ -168,8 +166,8 @@ ended-from s session has = by has.ended
     by (inr worker) =
         let w : Worker = worker.1.0 in
         let how : (nat_lt session.number w.number || (nat_eq session.number w.number && not (is_opened session s.opened))) ≡ true = elim (worker.1.3) [
-          inl less ↦ or_left (nat_lt session.number w.number) _ (lt-ltb session.number w.number less)
-        | inr same ↦ or_right (nat_lt session.number w.number) _ (and_from (nat_eq session.number w.number) (not (is_opened session s.opened)) (eq-eqb session.number w.number same.0) (not_from_false (is_opened session s.opened) same.1))
+          | inl less ↦ or_left (nat_lt session.number w.number) _ (lt-ltb session.number w.number less)
+          | inr same ↦ or_right (nat_lt session.number w.number) _ (and_from (nat_eq session.number w.number) (not (is_opened session s.opened)) (eq-eqb session.number w.number same.0) (not_from_false (is_opened session s.opened) same.1))
         ] in
         or_right _ _ (and_from (is_worker session) (list_any (is_passed s session) s.workers) worker.0
         (list_any-from_in (is_passed s session) w s.workers worker.1.1 (and_from (nat_eq w.owner session.owner) _ (eq-eqb w.owner session.owner worker.1.2) how)))

@@ -45,7 +45,7 @@ rises-push : (ns : List ℕ) (n : ℕ) → Rises ns → Each (λ m. m < n) ns �
 rises-push [] n rising below = (tt, tt)
 rises-push (m ∷ ms) n rising below = (Each-append (λ k. m < k) ms (n ∷ []) rising.0 (below.0, tt), rises-push ms n rising.1 below.1)
 
-counts-push : (k : ℕ) (ns : List ℕ) → Counts k ns → Counts k (ns ++ (k + length ns + 1) ∷ [])
+pub counts-push : (k : ℕ) (ns : List ℕ) → Counts k ns → Counts k (ns ++ (k + length ns + 1) ∷ [])
 counts-push k [] counted = (omega arith, tt)
 counts-push k (m ∷ ms) counted =
     let last : (k + 1) + length ms + 1 ≡ k + length (m ∷ ms) + 1 = omega arith in

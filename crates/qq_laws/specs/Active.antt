@@ -1,5 +1,5 @@
 -- Who gets deliveries under a single active consumer (RabbitMQ, "Single Active Consumer").
-use Rattle.std.specs.Prelude.{◌≡◌, List, [], Option, Some, None, Bool, not, find, All}
+use Rattle.std.specs.Prelude.{◌≡◌, List, [], Option, Some, not, find}
 use Rattle.std.specs.Option.{option_map}
 use Rattle.qq_base.specs.declared.ids.Index.{Index}
 use Rattle.qq_base.specs.declared.ids.ConsumerId.{ConsumerId}

@@ -36,5 +36,4 @@ pub fn repeats_are_answered_as_before()
 /// once, however often it is sent (Ongaro's dissertation, section 6.3).
 pub fn commands_are_carried_out_once()
     ensures { (args : QueueArgs) (before : List Entry) → CarriedOutOnce (state_after (empty_queue args) before) }
-{
-}
+{}
