@@ -13,3 +13,4 @@ pub mod Later
 pub mod OnceLemmas
 pub mod Ids
 pub mod IdRuns
+pub mod Both

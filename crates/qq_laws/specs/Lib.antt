@@ -4,3 +4,4 @@ pub mod Rows
 pub mod Once
 pub mod Active
 pub mod Ids
+pub mod Credit
