@@ -56,7 +56,7 @@ ids-one id xs consumer delivery is =
     ids-append id xs (Deliver consumer delivery ∷ [])
     ∙ ap (λ (o : Option Delivery). ids_of id xs ++ map (λ (d : Delivery). d.id) (cons_option o [])) (cond-true (same_consumer consumer id) (Some delivery) None is)
 
-counts-delivers : (id : ConsumerId) (before : ℕ) (command : Command) → KeepsDeliveries (CountsOn id before command)
+pub counts-delivers : (id : ConsumerId) (before : ℕ) (command : Command) → KeepsDeliveries (CountsOn id before command)
 counts-delivers id before command p row consumer on found next = by (cases_Bool (same_consumer consumer.id id))
   where
     here : In consumer p.state.consumers
@@ -97,7 +97,7 @@ counts-delivers id before command p row consumer on found next = by (cases_Bool 
           current = on.current;
         }
 
-counts-serves : (id : ConsumerId) (before : ℕ) (command : Command) → Serves command (CountsOn id before command)
+pub counts-serves : (id : ConsumerId) (before : ℕ) (command : Command) → Serves command (CountsOn id before command)
 counts-serves id before command = record {
   rows = counts-rows id before command;
   offer = λ p number reason row on here is. counts-same id before command p _ on (ids-none id p.effects (Offer number reason (message_of p.state.rows p.state.messages row)) refl) refl refl;

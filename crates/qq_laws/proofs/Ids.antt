@@ -62,7 +62,7 @@ filter-map {A = A} test f (x ∷ xs) same =
     by true rest = ap (λ (ys : List A). f x ∷ ys) rest
     by false rest = rest
 
-filter-swap : {A : Type 0} (p q : A → Bool) (xs : List A) → filter p (filter q xs) ≡ filter q (filter p xs)
+pub filter-swap : {A : Type 0} (p q : A → Bool) (xs : List A) → filter p (filter q xs) ≡ filter q (filter p xs)
 filter-swap p q [] = refl
 filter-swap {A = A} p q (x ∷ xs) = by (p x) refl (q x) refl (filter-swap p q xs)
   where
@@ -193,7 +193,7 @@ unfolding with_tag
 tag-current session s id tag current = current-with_session session s id (tags tag) (λ one. refl) current
 
 -- once its tag is used, a consumer's id is spent
-tag-used : (s : Sessions) (id : ConsumerId) → IsCurrent s id.session → Used (with_tag id.session id.tag s) id.session 0 id.tag
+pub tag-used : (s : Sessions) (id : ConsumerId) → IsCurrent s id.session → Used (with_tag id.session id.tag s) id.session 0 id.tag
 unfolding with_tag
 tag-used s id current =
     let session : SessionId = id.session in
@@ -204,7 +204,7 @@ tag-used s id current =
     GoesOn (tags id.tag current.one) (find-map test f s.opened current.one kept current.opened ∙ ap (λ (o : OpenSession). Some o) is) (omega arith) (omega arith)
 
 -- a tag above all that its session used isn't spent
-tag-unused : (s : Sessions) (id : ConsumerId) → IsCurrent s id.session → nat_le id.tag (greatest_tag id.session s) ≡ false → Used s id.session 0 id.tag → ⊥
+pub tag-unused : (s : Sessions) (id : ConsumerId) → IsCurrent s id.session → nat_le id.tag (greatest_tag id.session s) ≡ false → Used s id.session 0 id.tag → ⊥
 tag-unused s id current above (IsOver over) = false≢true (sym current.going ∙ ended-from s id.session over)
 tag-unused s id current above (GoesOn one found next tag) =
     let less : greatest_tag id.session s < id.tag = leb-false id.tag (greatest_tag id.session s) above in

@@ -14,3 +14,4 @@ pub mod OnceLemmas
 pub mod Ids
 pub mod IdRuns
 pub mod Both
+pub mod Prefetch
