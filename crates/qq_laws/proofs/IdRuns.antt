@@ -156,7 +156,7 @@ opened-going s stamp one going found = elim (cases_Bool (is_ended (opened_after 
           ]
     ]
 
-admitted-current : (s : Sessions) (stamp : Stamp) → is_dead_letter stamp.session ≡ false → gate s stamp ≡ Fresh → IsCurrent (admitted s stamp) stamp.session
+pub admitted-current : (s : Sessions) (stamp : Stamp) → is_dead_letter stamp.session ≡ false → gate s stamp ≡ Fresh → IsCurrent (admitted s stamp) stamp.session
 unfolding admitted
 admitted-current s stamp plain fresh =
     let opens : Sessions = if is_opened stamp.session s.opened then record s { opened = with_session stamp.session (used_by stamp) s.opened } else opened_after s stamp in
@@ -185,11 +185,11 @@ admitted-current s stamp plain fresh =
 -- Over entries ---------------------------------------------------------------------------------------------
 
 -- what is known between entries, after so many deliveries
-record Known (id : ConsumerId) (count : ℕ) (s : State) : Type 0 where
+pub record Known (id : ConsumerId) (count : ℕ) (s : State) : Type 0 where
   pub guarded : Guarded s.sessions
   pub who : Who id s.consumers count s.sessions
 
-record Knows (id : ConsumerId) (before : ℕ) (made : Step) : Type 0 where
+pub record Knows (id : ConsumerId) (before : ℕ) (made : Step) : Type 0 where
   pub ids : Counts before (ids_of id made.effects)
   pub known : Known id (before + length (ids_of id made.effects)) made.state
 
@@ -223,7 +223,7 @@ stale-knows id before s y index answer known later =
       known = record { guarded = later.guarded known.guarded; who = subst (λ (n : ℕ). Who id s.consumers n y) none (who-later id s.consumers before s.sessions y later known.guarded known.who) };
     }
 
-next-knows : (id : ConsumerId) (before : ℕ) (s : State) (entry : Entry) → IsNumbered id.session → Known id before s → Knows id before (next_step s entry)
+pub next-knows : (id : ConsumerId) (before : ℕ) (s : State) (entry : Entry) → IsNumbered id.session → Known id before s → Knows id before (next_step s entry)
 unfolding step
 next-knows id before s entry numbered known = by (stamp_of entry.command) refl
   where

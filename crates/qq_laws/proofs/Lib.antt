@@ -15,3 +15,4 @@ pub mod Ids
 pub mod IdRuns
 pub mod Both
 pub mod Prefetch
+pub mod PrefetchRuns

@@ -8,9 +8,10 @@ ghost use Rattle.qq_command.specs.declared.command.Command.{Command};
 ghost use Rattle.qq_command.specs.declared.command.Entry.{Entry};
 ghost use Rattle.qq_model.specs.State.{State, empty_queue};
 ghost use Rattle.qq_model.specs.Step.{carried_out};
-ghost use Rattle.qq_model.specs.Audit.{audit_of, deliveries};
+ghost use Rattle.qq_model.specs.Audit.{audit_of, deliveries, state_after};
 ghost use Rattle.qq_laws.specs.Once.{IsNumbered};
 ghost use Rattle.qq_laws.specs.Ids.{CountByOne};
+ghost use Rattle.qq_laws.specs.Credit.{FillsPrefetch};
 ghost use Rattle.qq_laws.specs.Active.{active_id, consumers_served, DeliversOnlyTo};
 
 /// Under a single active consumer all that a command delivers goes to one: the longest joined consumer
@@ -25,3 +26,10 @@ pub fn the_active_consumer_is_served_alone()
 pub fn delivery_ids_count_by_one()
     ensures { (args : QueueArgs) (entries : List Entry) (consumer : ConsumerId) → IsNumbered consumer.session → CountByOne (deliveries (empty_queue args) (audit_of (empty_queue args) entries) consumer) }
 {}
+
+/// What a consumer with a prefetch may still get, and what it hasn't settled, are its prefetch
+/// together: it never has more (RabbitMQ, "Consumer Prefetch").
+pub fn prefetch_is_kept()
+    ensures { (args : QueueArgs) (entries : List Entry) → FillsPrefetch (state_after (empty_queue args) entries) }
+{
+}

@@ -6,7 +6,7 @@ mod consumers;
 mod messages;
 mod sessions;
 
-pub use consumers::{delivery_ids_count_by_one, the_active_consumer_is_served_alone};
+pub use consumers::{delivery_ids_count_by_one, prefetch_is_kept, the_active_consumer_is_served_alone};
 pub use messages::{
     deliveries_show_publishes, entries_move_messages, messages_add_up,
     messages_are_gone_for_a_reason, messages_are_in_order, messages_last, publishes_are_kept,
