@@ -1,0 +1,5 @@
+use Rattle.qq_laws.proofs.OnceLemmas.{once}
+use Rattle.qq_laws.proofs.sessions.commands_are_carried_out_once.Goals as goal
+
+pub returns : goal.returns
+returns c = once

@@ -1,0 +1,5 @@
+use Rattle.qq_laws.proofs.Turned.{repeat-again}
+use Rattle.qq_laws.proofs.sessions.repeats_are_answered_as_before.Goals as goal
+
+pub returns : goal.returns
+returns c = repeat-again

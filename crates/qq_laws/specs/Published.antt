@@ -1,0 +1,67 @@
+-- What was published, and what deliveries show of it.
+use Rattle.std.specs.Prelude.{◌≡◌, ℕ, ◌-◌, ◌<◌, List, [], ◌∷◌, Option, Some, None, Bool, true, false, ◌&&◌, slice_get, filter_map, if◌then◌else◌}
+use Rattle.qq_base.specs.declared.ids.Index.{Index}
+use Rattle.qq_command.specs.declared.message.Message.{Message}
+use Rattle.qq_command.specs.declared.command.Command.{Command}
+use Rattle.qq_command.specs.declared.command.Command.TheVariants.{Enqueue}
+use Rattle.qq_command.specs.declared.answer.Answer.{Answer}
+use Rattle.qq_command.specs.declared.answer.Answer.TheVariants.{Confirmed, Got}
+use Rattle.qq_command.specs.declared.answer.Delivery.{Delivery}
+use Rattle.qq_command.specs.declared.audit.AuditRow.{AuditRow}
+use Rattle.qq_command.specs.declared.audit.Effect.{Effect}
+use Rattle.qq_command.specs.declared.audit.Effect.TheVariants.{Deliver, DeadOnce, Offer}
+use Rattle.qq_model.specs.declared.place.Row.{Row}
+
+-- a publish that was confirmed: the index of its entry, and its message
+pub record Published : Type 0 where
+  pub index : Index
+  pub message : Message
+
+abbrev pub message_in : Command → Option Message
+message_in (Enqueue stamp origin message) = Some message
+message_in _ = None
+
+abbrev pub is_confirmed : Answer → Bool
+is_confirmed Confirmed = true
+is_confirmed _ = false
+
+-- the message that a command brought into the queue: it was carried out, and confirmed
+abbrev pub brought : Bool → Answer → Command → Option Message
+brought fresh answer command = if fresh && is_confirmed answer then message_in command else None
+
+abbrev pub published_as : Index → Option Message → Option Published
+published_as index None = None
+published_as index (Some message) = Some (record { index = index; message = message })
+
+-- what a row of the audit published
+abbrev pub publication : AuditRow → Option Published
+publication row = published_as row.index (brought row.fresh row.answer row.entry.command)
+
+-- the confirmed publishes of an audit, in order
+abbrev pub confirmed : List AuditRow → List Published
+confirmed rows = filter_map publication rows
+
+-- what the rows of a queue and the messages that stand beside them are
+abbrev pub kept_publishes : List Row → List Message → List Published
+kept_publishes [] messages = []
+kept_publishes (row ∷ rows) [] = []
+kept_publishes (row ∷ rows) (message ∷ messages) = record { index = row.index; message = message } ∷ kept_publishes rows messages
+
+-- a delivery of arrival n shows the nth confirmed publish: its index, and its message
+pub record Shows (all : List Published) (delivery : Delivery) : Type 0 where
+  pub counted : 0 < delivery.arrival
+  pub published : slice_get all (delivery.arrival - 1) ≡ Some (record { index = delivery.index; message = delivery.message })
+
+-- a dead letter is the message of a confirmed publish
+abbrev pub WasPublished : List Published → Message → Type 0
+WasPublished all message = (n : ℕ) × (index : Index) × (slice_get all n ≡ Some (record { index = index; message = message }))
+
+-- each effect that carries a message carries a published one
+abbrev pub EffectShows : List Published → Effect → Type 0
+EffectShows all (Deliver consumer delivery) = Shows all delivery
+EffectShows all (DeadOnce reason message) = WasPublished all message
+EffectShows all (Offer number reason message) = WasPublished all message
+
+abbrev pub AnswerShows : List Published → Answer → Type 0
+AnswerShows all (Got delivery) = Shows all delivery
+AnswerShows all _ = Unit {0}
