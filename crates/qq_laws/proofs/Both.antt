@@ -1,8 +1,7 @@
 -- Two facts that single changes keep, both at once.
-use Rattle.std.proofs.Common.{◌≡◌, ℕ, ◌+◌, ◌<◌, ◌≤◌, Bool, true, false, List, [], ◌∷◌, ◌++◌, Option, Some, None, refl, sym, ap, ◌∙◌, subst}
+use Rattle.std.proofs.Common.{◌≡◌, ◌<◌, false, [], Option, Some, None, refl, sym, ◌∙◌}
 use Rattle.std.proofs.lemmas.Bool.{false≢true}
 use Rattle.qq_base.specs.declared.ids.Index.{Index}
-use Rattle.qq_command.specs.declared.message.Message.{Message}
 use Rattle.qq_command.specs.declared.command.Command.{Command}
 use Rattle.qq_command.specs.declared.command.Command.TheVariants.{Noop, Enqueue, Get, Subscribe, Cancel, Credit, Settle, Return, Discard, Purge, Down, DeadAttach, DeadSettle}
 use Rattle.qq_command.specs.declared.answer.Full.{Full}
@@ -12,12 +11,12 @@ use Rattle.qq_model.specs.State.{State}
 use Rattle.qq_model.specs.Limits.{publish_limit}
 use Rattle.qq_model.specs.Choice.{next_message, next_consumer}
 use Rattle.qq_model.specs.Changes.{Progress}
-use Rattle.qq_model.specs.Commands.{Acted, in_state, arrived, enqueue_by, enqueue, act}
+use Rattle.qq_model.specs.Commands.{in_state, arrived, enqueue_by, enqueue, act}
 use Rattle.qq_model.specs.Serving.{delivers, drain_after}
 use Rattle.qq_model.specs.Step.{after_checkouts, after_limits, after_giving, carried_out}
 use Rattle.qq_laws.specs.Reasons.{is_enqueue}
 use Rattle.qq_laws.proofs.Lists.{Each}
-use Rattle.qq_laws.proofs.Closed.{KeepsRows, Acts, KeepsDeliveries, Serves}
+use Rattle.qq_laws.proofs.Closed.{Acts, KeepsDeliveries, Serves}
 use Rattle.qq_laws.proofs.Carried.{KeepsArrivals, carried_out-keeps, rest-keeps}
 use Rattle.qq_laws.proofs.RowLemmas.{Rises, indices}
 use Rattle.qq_laws.proofs.Since.{Orderly, Since, Since-start, Since-orderly, Since-acts, Since-delivers, Since-serves}
@@ -56,8 +55,8 @@ other-with : (s : State) (index : Index) (command : Command) (I : Progress → T
     → I (record { state = s; effects = [] }) → I (carried_out index command s).progress
 other-with s index command I none orderly acts delivers serves holds =
     (carried_out-keeps {I = λ p. Since s command p × I p} index command s (both-acts (Since s command) I (Since-acts s command orderly) acts) (both-delivers s command I orderly delivers)
-        (both-serves (Since s command) I (Since-serves s command orderly) serves) (λ p stamp message h is found. absurd (false≢true (sym none ∙ is)))
-        (Since-start s command (record { state = s; effects = [] }) refl refl refl refl refl, holds)).1
+    (both-serves (Since s command) I (Since-serves s command orderly) serves) (λ p stamp message h is found. absurd (false≢true (sym none ∙ is)))
+    (Since-start s command (record { state = s; effects = [] }) refl refl refl refl refl, holds)).1
 
 -- what single changes keep where rows are in order, a whole command keeps from an orderly queue
 pub carried-with : (s : State) (index : Index) (command : Command) (I : Progress → Type 0) → Orderly s → Each (λ n. n < index.0) (indices s.rows) → Acts command I → KeepsInOrder I → Serves command I → KeepsArrivals index command I
@@ -76,10 +75,10 @@ carried-with s index (Enqueue stamp origin message) I orderly below acts deliver
         let b : State = arrived s index message in
         let orderly' : Orderly b = arrived-orderly s index message orderly below in
         (rest-keeps {I = λ p. Since b command p × I p} command (both-delivers b command I orderly' delivers) (both-serves (Since b command) I (Since-serves b command orderly') serves) (enqueue_by None index message start)
-            (Since-start b command (in_state b start) refl refl refl refl refl, arrives start stamp message holds refl found)).1
+        (Since-start b command (in_state b start) refl refl refl refl refl, arrives start stamp message holds refl found)).1
     by (Some full) found =
         (rest-keeps {I = λ p. Since s command p × I p} command (both-delivers s command I orderly delivers) (both-serves (Since s command) I (Since-serves s command orderly) serves) (enqueue_by (Some full) index message start)
-            (Since-start s command start refl refl refl refl refl, holds)).1
+        (Since-start s command start refl refl refl refl refl, holds)).1
 carried-with s index (Noop version) I orderly below acts delivers serves arrives holds = other-with s index (Noop version) I refl orderly acts delivers serves holds
 carried-with s index (Get stamp) I orderly below acts delivers serves arrives holds = other-with s index (Get stamp) I refl orderly acts delivers serves holds
 carried-with s index (Subscribe stamp tag mode) I orderly below acts delivers serves arrives holds = other-with s index (Subscribe stamp tag mode) I refl orderly acts delivers serves holds

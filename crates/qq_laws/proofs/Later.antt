@@ -64,16 +64,9 @@ Later-changed session s f same rises = record {
     still one = ap (λ (id : SessionId). same_session id session) (same one)
 
     lasts : (number tag : ℕ) → Used s session number tag → Used t session number tag
-    lasts number tag (IsOver ended) = IsOver (ended-true t session (ended-from' (ended-from s session ended)))
-      where
-        opened : is_opened session (map f s.opened) ≡ is_opened session s.opened
-        opened = list_any-map (λ (one : OpenSession). same_session one.session session) f s.opened still
-
-        ended-from' : is_ended s session ≡ true → is_ended t session ≡ true
-        ended-from' is =
-            let by : Bool → Bool = λ o. (is_client session && list_any (λ (n : ℕ). nat_eq n session.number) s.ended)
-            || (is_worker session && list_any (λ (w : Worker). nat_eq w.owner session.owner && (nat_lt session.number w.number || (nat_eq session.number w.number && not o))) s.workers) in
-            ap by opened ∙ is
+    lasts number tag (IsOver ended) =
+        let opened : is_opened session (map f s.opened) ≡ is_opened session s.opened = list_any-map (λ (one : OpenSession). same_session one.session session) f s.opened still in
+        IsOver (ended-true t session (ended-same session s (map f s.opened) opened ∙ ended-from s session ended))
     lasts number tag (GoesOn one found next above) =
         let more = rises one found in
         GoesOn (f one) (find-map (λ (one : OpenSession). same_session one.session session) f s.opened one still found) (omega (arith, more.0)) (omega (arith, more.1))

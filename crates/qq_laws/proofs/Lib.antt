@@ -16,3 +16,5 @@ pub mod IdRuns
 pub mod Both
 pub mod Prefetch
 pub mod PrefetchRuns
+pub mod AnswersShow
+pub mod Choices

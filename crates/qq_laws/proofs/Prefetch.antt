@@ -1,48 +1,40 @@
 -- No consumer has more that it hasn't settled than its prefetch allows.
-use Rattle.std.proofs.Common.{◌≡◌, ℕ, zero, suc, ◌+◌, ◌-◌, ◌<◌, ◌≤◌, ◌⊎◌, Bool, true, false, not, ◌&&◌, ◌||◌, cond, List, [], ◌∷◌, ◌++◌, Option, Some, None, map, length, refl, sym, ap, ◌∙◌, subst, inl, inr, arith, if◌then◌else◌}
-use Rattle.std.specs.Prelude.{nat_eq, nat_lt, nat_le, filter, find, count_by, Contains}
-use Rattle.std.proofs.lemmas.Bool.{false≢true, cases_Bool, cond-true, cond-false, cond_both, and_parts, eqb-true, ne_eqb, ltb-true}
+use Rattle.std.proofs.Common.{◌≡◌, ℕ, ◌+◌, ◌-◌, ◌<◌, ◌≤◌, ◌⊎◌, Bool, true, false, not, ◌&&◌, cond, List, [], ◌∷◌, ◌++◌, Option, Some, None, map, refl, sym, ap, ◌∙◌, subst, inl, inr, arith, if◌then◌else◌}
+use Rattle.std.specs.Prelude.{nat_eq, nat_lt, nat_le, filter, find}
+use Rattle.std.proofs.lemmas.Bool.{false≢true, cases_Bool, cond-true, cond-false, and_parts, eqb-true, ne_eqb, ltb-true}
 use Rattle.std.proofs.lemmas.List.{append-nil}
 use Rattle.std.proofs.lemmas.List.Elements.{filter-append}
 use Rattle.std.proofs.lemmas.List.Sums.{sum_by-cons, sum_by_push}
-use Rattle.qq_base.specs.declared.ids.Index.{Index}
-use Rattle.qq_base.specs.declared.ids.SessionId.{SessionId}
 use Rattle.qq_base.specs.declared.ids.ConsumerId.{ConsumerId}
-use Rattle.qq_command.specs.declared.queue.QueueArgs.{QueueArgs}
-use Rattle.qq_command.specs.declared.command.Stamp.{Stamp}
 use Rattle.qq_command.specs.declared.command.Command.{Command}
 use Rattle.qq_command.specs.declared.command.Mode.{Mode}
 use Rattle.qq_command.specs.declared.command.Mode.TheVariants.{Prefetch, Link}
-use Rattle.qq_command.specs.declared.command.Entry.{Entry}
 use Rattle.qq_model.specs.declared.place.GoneReason.TheVariants as gone
 use Rattle.qq_model.specs.declared.place.Place.{Place}
 use Rattle.qq_model.specs.declared.place.Place.TheVariants.{Ready, Out, Dead, Gone}
 use Rattle.qq_model.specs.declared.place.Row.{Row}
 use Rattle.qq_model.specs.declared.consumer.Consumer.{Consumer}
-use Rattle.qq_model.specs.State.{State, Sessions, same_consumer}
-use Rattle.qq_model.specs.Choice.{next_message, next_consumer, active_consumer, if_served, longest_waiting, longer_waiting, may_be_served, turn_before, free_credit, credit_left, prefetch_of, out_count, is_out_at}
+use Rattle.qq_model.specs.State.{Sessions, same_consumer}
+use Rattle.qq_model.specs.Choice.{next_consumer, if_served, longer_waiting, may_be_served, turn_before, free_credit, credit_left, prefetch_of, out_count, is_out_at}
 use Rattle.qq_model.specs.Limits.{is_ready}
-use Rattle.qq_model.specs.Changes.{Progress, with_row, with_consumer, shown, stays}
+use Rattle.qq_model.specs.Changes.{Progress, with_row, with_consumer, stays}
 use Rattle.qq_model.specs.Gate.{with_tag, greatest_tag}
 use Rattle.qq_model.specs.Commands.{joining, is_of, purged_row}
-use Rattle.qq_model.specs.Serving.{used, served, delivers}
+use Rattle.qq_model.specs.Serving.{used, served}
 use Rattle.qq_laws.specs.Once.{IsNumbered}
-use Rattle.qq_laws.proofs.Lists.{In, Each, Each-in, Each-weaker, fold-in_all}
-use Rattle.qq_laws.proofs.Closed.{KeepsRows, Acts, KeepsDeliveries, Serves, Turns, IsOwn, is_out}
-use Rattle.qq_laws.proofs.Chosen.{choice-by, next_message-in}
+use Rattle.qq_laws.proofs.Lists.{In, Each, Each-weaker, fold-in_all}
+use Rattle.qq_laws.proofs.Closed.{KeepsRows, Acts, Serves, IsOwn, is_out}
+use Rattle.qq_laws.proofs.Chosen.{choice-by}
 use Rattle.qq_laws.proofs.RowLemmas.{Rises, indices}
 use Rattle.qq_laws.proofs.ActiveLemmas.{served-id}
 use Rattle.qq_laws.proofs.Later.{Used, Guarded, Later, Later-ends}
 use Rattle.qq_laws.proofs.OnceLemmas.{tag-later}
-use Rattle.qq_laws.proofs.Ids.{same_consumer-true, same_consumer-refl, mine, Who, who-one, mine-new, mine-other, next_consumer-in, IsCurrent, tag-used, tag-unused, ids_of, CountsOn, counts-acts, consumer-found, filter-swap}
+use Rattle.qq_laws.proofs.Ids.{same_consumer-true, mine, Who, who-one, mine-new, mine-other, next_consumer-in, IsCurrent, tag-used, tag-unused, CountsOn, counts-acts, consumer-found, filter-swap}
 use Rattle.qq_laws.proofs.Ids.Who.{Never, Went, Stays}
 use Rattle.qq_laws.proofs.IdRuns.{counts-delivers, counts-serves}
 use Rattle.qq_laws.proofs.Both.{KeepsInOrder}
 
 -- How many rows are with a consumer ------------------------------------------------------------------------
-
-one_if : Bool → ℕ
-one_if b = cond b 1 0
 
 out-cons : (id : ConsumerId) (row : Row) (rows : List Row) → out_count id (row ∷ rows) ≡ cond (is_out_at id row.place) 1 0 + out_count id rows
 out-cons id row rows = sum_by-cons (λ (one : Row). cond (is_out_at id one.place) 1 0) row rows
@@ -67,8 +59,8 @@ pub out-with : (id : ConsumerId) (new : Row) (rows : List Row) → is_out_at id 
 out-with id new rows out =
     out-map id (λ (row : Row). if nat_eq row.index.0 new.index.0 then new else row) rows
     (λ row is. elim (cases_Bool (nat_eq row.index.0 new.index.0)) [
-      inl same ↦ absurd (false≢true (sym out ∙ ap (λ (r : Row). is_out_at id r.place) (sym (cond-true (nat_eq row.index.0 new.index.0) new row same)) ∙ is))
-    | inr other ↦ ap (λ (r : Row). is_out_at id r.place) (sym (cond-false (nat_eq row.index.0 new.index.0) new row other)) ∙ is
+      | inl same ↦ absurd (false≢true (sym out ∙ ap (λ (r : Row). is_out_at id r.place) (sym (cond-true (nat_eq row.index.0 new.index.0) new row same)) ∙ is))
+      | inr other ↦ ap (λ (r : Row). is_out_at id r.place) (sym (cond-false (nat_eq row.index.0 new.index.0) new row other)) ∙ is
     ])
 
 with_row-none : (new : Row) (rows : List Row) → Each (λ n. new.index.0 < n) (indices rows) → with_row new rows ≡ rows
@@ -82,24 +74,24 @@ with_row-none new (row ∷ rows) above =
 pub out-one : (id : ConsumerId) (new : Row) (rows : List Row) → Rises (indices rows) → out_count id (with_row new rows) ≤ out_count id rows + 1
 out-one id new [] rising = omega arith
 out-one id new (row ∷ rows) rising = elim (cases_Bool (nat_eq row.index.0 new.index.0)) [
-      inl same ↦
-        let is : row.index.0 ≡ new.index.0 = eqb-true row.index.0 new.index.0 same in
-        let above : Each (λ n. new.index.0 < n) (indices rows) = Each-weaker (λ n. row.index.0 < n) (λ n. new.index.0 < n) (λ n lt. omega arith) (indices rows) rising.0 in
-        let all : with_row new (row ∷ rows) ≡ new ∷ rows =
-            ap (λ (r : Row). r ∷ with_row new rows) (cond-true (nat_eq row.index.0 new.index.0) new row same) ∙ ap (λ (rs : List Row). new ∷ rs) (with_row-none new rows above) in
-        omega (arith, ap (out_count id) all, out-cons id new rows, out-cons id row rows, at_most_one (is_out_at id new.place))
-    | inr other ↦
-        let rest = out-one id new rows rising.1 in
-        let all : with_row new (row ∷ rows) ≡ row ∷ with_row new rows = ap (λ (r : Row). r ∷ with_row new rows) (cond-false (nat_eq row.index.0 new.index.0) new row other) in
-        omega (arith, ap (out_count id) all, out-cons id row (with_row new rows), out-cons id row rows, rest)
-    ]
+  | inl same ↦
+      let is : row.index.0 ≡ new.index.0 = eqb-true row.index.0 new.index.0 same in
+      let above : Each (λ n. new.index.0 < n) (indices rows) = Each-weaker (λ n. row.index.0 < n) (λ n. new.index.0 < n) (λ n lt. omega arith) (indices rows) rising.0 in
+      let all : with_row new (row ∷ rows) ≡ new ∷ rows =
+      ap (λ (r : Row). r ∷ with_row new rows) (cond-true (nat_eq row.index.0 new.index.0) new row same) ∙ ap (λ (rs : List Row). new ∷ rs) (with_row-none new rows above) in
+      omega (arith, ap (out_count id) all, out-cons id new rows, out-cons id row rows, at_most_one (is_out_at id new.place))
+  | inr other ↦
+      let rest = out-one id new rows rising.1 in
+      let all : with_row new (row ∷ rows) ≡ row ∷ with_row new rows = ap (λ (r : Row). r ∷ with_row new rows) (cond-false (nat_eq row.index.0 new.index.0) new row other) in
+      omega (arith, ap (out_count id) all, out-cons id row (with_row new rows), out-cons id row rows, rest)
+]
 
 out-purged : (id : ConsumerId) (rows : List Row) → out_count id (map purged_row rows) ≤ out_count id rows
 out-purged id rows =
     out-map id purged_row rows
     (λ row is. elim (cases_Bool (is_ready row.place)) [
-      inl ready ↦ absurd (false≢true (ap (λ (r : Row). is_out_at id r.place) (sym (cond-true (is_ready row.place) (record row { place = Gone gone.Purged }) row ready)) ∙ is))
-    | inr other ↦ ap (λ (r : Row). is_out_at id r.place) (sym (cond-false (is_ready row.place) (record row { place = Gone gone.Purged }) row other)) ∙ is
+      | inl ready ↦ absurd (false≢true (ap (λ (r : Row). is_out_at id r.place) (sym (cond-true (is_ready row.place) (record row { place = Gone gone.Purged }) row ready)) ∙ is))
+      | inr other ↦ ap (λ (r : Row). is_out_at id r.place) (sym (cond-false (is_ready row.place) (record row { place = Gone gone.Purged }) row other)) ∙ is
     ])
 
 pub out-push : (id : ConsumerId) (rows : List Row) (row : Row) → is_out_at id row.place ≡ false → out_count id (rows ++ row ∷ []) ≡ out_count id rows
@@ -137,13 +129,13 @@ modes-same id consumers one is = (one, is, refl)
 modes-with : (id : ConsumerId) (consumers : List Consumer) (count : ℕ) (s : Sessions) (consumer new : Consumer) → In consumer consumers → new.id ≡ consumer.id → new.mode ≡ consumer.mode → Who id consumers count s
     → Modes id consumers (with_consumer new consumers)
 modes-with id consumers count s consumer new here same mode who one is = elim (cases_Bool (same_consumer consumer.id id)) [
-      inl own ↦
-        let only = (who-one id consumers count s consumer here own who).0 in
-        let both : new ∷ [] ≡ one ∷ [] = sym (mine-new id consumer new consumers only same) ∙ is in
-        let itself : new ≡ one = cc in
-        (consumer, only, sym mode ∙ ap (λ (c : Consumer). c.mode) itself)
-    | inr other ↦ (one, sym (mine-other id new consumers (ap (λ (i : ConsumerId). same_consumer i id) same ∙ other)) ∙ is, refl)
-    ]
+  | inl own ↦
+      let only = (who-one id consumers count s consumer here own who).0 in
+      let both : new ∷ [] ≡ one ∷ [] = sym (mine-new id consumer new consumers only same) ∙ is in
+      let itself : new ≡ one = cc in
+      (consumer, only, sym mode ∙ ap (λ (c : Consumer). c.mode) itself)
+  | inr other ↦ (one, sym (mine-other id new consumers (ap (λ (i : ConsumerId). same_consumer i id) same ∙ other)) ∙ is, refl)
+]
 
 modes-leave : (id : ConsumerId) (consumers : List Consumer) (count : ℕ) (s : Sessions) (keeps : Consumer → Bool) → Who id consumers count s → Modes id consumers (filter keeps consumers)
 modes-leave id consumers count s keeps who one is = by who
@@ -155,12 +147,12 @@ modes-leave id consumers count s keeps who one is = by who
     by (Never none zero') = let e : [] ≡ one ∷ [] = sym (swap ∙ ap (filter keeps) none) ∙ is in absurd cc
     by (Went none used) = let e : [] ≡ one ∷ [] = sym (swap ∙ ap (filter keeps) none) ∙ is in absurd cc
     by (Stays c only next used) = elim (cases_Bool (keeps c)) [
-          inl kept ↦
-            let e : c ∷ [] ≡ one ∷ [] = sym (swap ∙ ap (filter keeps) only ∙ cond-true (keeps c) (c ∷ []) [] kept) ∙ is in
-            let same : c ≡ one = cc in
-            (c, only, ap (λ (d : Consumer). d.mode) same)
-        | inr gone ↦ let e : [] ≡ one ∷ [] = sym (swap ∙ ap (filter keeps) only ∙ cond-false (keeps c) (c ∷ []) [] gone) ∙ is in absurd cc
-        ]
+      | inl kept ↦
+          let e : c ∷ [] ≡ one ∷ [] = sym (swap ∙ ap (filter keeps) only ∙ cond-true (keeps c) (c ∷ []) [] kept) ∙ is in
+          let same : c ≡ one = cc in
+          (c, only, ap (λ (d : Consumer). d.mode) same)
+      | inr gone ↦ let e : [] ≡ one ∷ [] = sym (swap ∙ ap (filter keeps) only ∙ cond-false (keeps c) (c ∷ []) [] gone) ∙ is in absurd cc
+    ]
 
 -- the ids count on, and there is room
 pub record Fits (id : ConsumerId) (before : ℕ) (command : Command) (p : Progress) : Type 0 where
@@ -168,13 +160,15 @@ pub record Fits (id : ConsumerId) (before : ℕ) (command : Command) (p : Progre
   pub roomy : Roomy id p.state.rows p.state.consumers p.state.sessions
 
 fits-rows : (id : ConsumerId) (before : ℕ) (command : Command) → Acts command (CountsOn id before command) → KeepsRows command (Fits id before command)
-fits-rows id before command acts = record { row = λ p q old new fits here moves out turns. record {
+fits-rows id before command acts = record {
+  row = λ p q old new fits here moves out turns. record {
     on = acts.rows.row p q old new fits.on here moves out turns;
     roomy = roomy-less id p.state.rows q.state.rows p.state.consumers q.state.consumers p.state.sessions q.state.sessions fits.roomy
         (subst (λ (rows : List Row). out_count id rows ≤ out_count id p.state.rows) (sym turns.rows) (out-with id new p.state.rows (not_out id new.place out)))
         (subst (Modes id p.state.consumers) (sym turns.consumers) (modes-same id p.state.consumers))
         (λ used. subst (λ (s : Sessions). Used s id.session 0 id.tag) (sym turns.sessions) used);
-} }
+  };
+}
 
 -- a consumer changes, but for its id, its mode and its next delivery
 fits-changed : (id : ConsumerId) (before : ℕ) (command : Command) (p : Progress) (other : ConsumerId) (consumer new : Consumer) → Fits id before command p → In consumer p.state.consumers → new.id ≡ consumer.id → new.mode ≡ consumer.mode
@@ -204,7 +198,7 @@ fits-join id before command p other mode fits above own = by (cases_Bool (same_c
         record { room = λ one prefetch only prefetch'. omega (arith, none); unspent = λ never. absurd (never used') }
     by (inr differs) =
         let apart : mine id (p.state.consumers ++ new ∷ []) ≡ mine id p.state.consumers =
-            more ∙ ap (λ (cs : List Consumer). mine id p.state.consumers ++ cs) (cond-false (same_consumer other id) (new ∷ []) [] differs) ∙ append-nil (mine id p.state.consumers) in
+        more ∙ ap (λ (cs : List Consumer). mine id p.state.consumers ++ cs) (cond-false (same_consumer other id) (new ∷ []) [] differs) ∙ append-nil (mine id p.state.consumers) in
         roomy-less id p.state.rows p.state.rows p.state.consumers (p.state.consumers ++ new ∷ []) p.state.sessions (with_tag other.session other.tag p.state.sessions) fits.roomy (omega arith)
         (λ one is. (one, sym apart ∙ is, refl)) (λ used. (tag-later id.session p.state.sessions other above).used 0 id.tag fits.on.guarded used)
 

@@ -1,27 +1,21 @@
 -- No consumer has more that it hasn't settled than its prefetch allows, over whole runs.
-use Rattle.std.proofs.Common.{◌≡◌, ℕ, zero, suc, ◌+◌, ◌-◌, ◌<◌, ◌≤◌, ◌⊎◌, Bool, true, false, not, cond, List, [], ◌∷◌, ◌++◌, Option, Some, None, map, length, refl, sym, ap, ◌∙◌, subst, inl, inr, arith}
-use Rattle.std.specs.Prelude.{Contains, slice_index_or}
-use Rattle.std.proofs.lemmas.Bool.{false≢true}
+use Rattle.std.proofs.Common.{◌≡◌, ℕ, zero, suc, ◌+◌, ◌-◌, ◌<◌, ◌≤◌, List, [], ◌∷◌, ◌++◌, Option, Some, None, length, refl, sym, ap, ◌∙◌, subst, inl, inr, arith}
+use Rattle.std.specs.Prelude.{slice_index_or}
 use Rattle.qq_base.specs.declared.ids.Index.{Index}
 use Rattle.qq_base.specs.declared.ids.ConsumerId.{ConsumerId}
 use Rattle.qq_command.specs.declared.queue.QueueArgs.{QueueArgs}
-use Rattle.qq_command.specs.declared.message.Message.{Message}
 use Rattle.qq_command.specs.declared.command.Stamp.{Stamp}
 use Rattle.qq_command.specs.declared.command.Command.{Command}
 use Rattle.qq_command.specs.declared.command.Mode.{Mode}
-use Rattle.qq_command.specs.declared.command.Mode.TheVariants.{Prefetch}
 use Rattle.qq_command.specs.declared.command.Entry.{Entry}
-use Rattle.qq_command.specs.declared.answer.Answer.{Answer}
-use Rattle.qq_model.specs.declared.place.Row.{Row}
-use Rattle.qq_model.specs.declared.consumer.Consumer.{Consumer}
 use Rattle.qq_model.specs.declared.session.Gate.{Gate}
 use Rattle.qq_model.specs.declared.session.Gate.TheVariants.{Fresh, Again, Gap, Forgotten, Ended, WindowFull, SessionsFull}
-use Rattle.qq_model.specs.State.{State, Sessions, same_consumer, empty_queue}
+use Rattle.qq_model.specs.State.{State, Sessions, empty_queue}
 use Rattle.qq_model.specs.Choice.{free_credit, credit_left, prefetch_of, out_count}
 use Rattle.qq_model.specs.Changes.{Progress}
-use Rattle.qq_model.specs.Gate.{is_dead_letter, gate, admitted, turned_away, with_answer}
-use Rattle.qq_model.specs.Commands.{Acted, in_state, arrived}
-use Rattle.qq_model.specs.Step.{Step, stamp_of, carried_out, gated, step_by, step}
+use Rattle.qq_model.specs.Gate.{is_dead_letter, gate, admitted, turned_away}
+use Rattle.qq_model.specs.Commands.{Acted}
+use Rattle.qq_model.specs.Step.{stamp_of, carried_out, gated, step_by, step}
 use Rattle.qq_model.specs.Audit.{next_index, next_step, state_after}
 use Rattle.qq_laws.specs.Once.{IsNumbered}
 use Rattle.qq_laws.specs.Rows.{new_row}
@@ -31,11 +25,11 @@ use Rattle.qq_laws.proofs.RowLemmas.{indices}
 use Rattle.qq_laws.proofs.Since.{Orderly}
 use Rattle.qq_laws.proofs.Steps.{Sound, next_stepped}
 use Rattle.qq_laws.proofs.Runs.{empty-sound}
-use Rattle.qq_laws.proofs.Later.{Used, Guarded, Later, Later-same}
+use Rattle.qq_laws.proofs.Later.{Later, Later-same}
 use Rattle.qq_laws.proofs.OnceLemmas.{numbered-plain, admitted-later, answer-later, turned_away-later}
-use Rattle.qq_laws.proofs.Ids.{same_consumer-refl, mine, Who, who-one, who-later, IsCurrent, ids_of, CountsOn}
+use Rattle.qq_laws.proofs.Ids.{same_consumer-refl, Who, who-one, who-later, IsCurrent, ids_of, CountsOn}
 use Rattle.qq_laws.proofs.Ids.Who.{Never}
-use Rattle.qq_laws.proofs.IdRuns.{Known, Knows, next-knows, admitted-current}
+use Rattle.qq_laws.proofs.IdRuns.{Known, next-knows, admitted-current}
 use Rattle.qq_laws.proofs.Both.{carried-with}
 use Rattle.qq_laws.proofs.Prefetch.{Roomy, Fits, fits-acts, fits-delivers, fits-serves, roomy-later, out-push}
 
@@ -58,16 +52,16 @@ fresh-roomy id before s x y command numbered sound known roomy first current las
     let below : Each (λ n. n < index.0) (indices s.rows) = Each-weaker (λ n. n ≤ s.applied) (λ n. n < index.0) (λ n le. omega arith) (indices s.rows) sound.below in
     let a : Acted = carried_out index command s' in
     let done : Fits id before command a.progress =
-        carried-with s' index command (Fits id before command) orderly below (fits-acts id before command numbered) (fits-delivers id before command) (fits-serves id before command numbered)
-        (λ p stamp message now is found.
-            let same : out_count id (p.state.rows ++ new_row p.state index message ∷ []) ≡ out_count id p.state.rows = out-push id p.state.rows (new_row p.state index message) refl in
-            record {
-              on = record { guarded = now.on.guarded; ids = now.on.ids; who = now.on.who; current = now.on.current };
-              roomy = record {
-                room = λ one prefetch only mode. omega (arith, same, now.roomy.room one prefetch only mode);
-                unspent = λ never. same ∙ now.roomy.unspent never;
-              };
-            }) fits in
+    carried-with s' index command (Fits id before command) orderly below (fits-acts id before command numbered) (fits-delivers id before command) (fits-serves id before command numbered)
+    (λ p stamp message now is found.
+    let same : out_count id (p.state.rows ++ new_row p.state index message ∷ []) ≡ out_count id p.state.rows = out-push id p.state.rows (new_row p.state index message) refl in
+    record {
+      on = record { guarded = now.on.guarded; ids = now.on.ids; who = now.on.who; current = now.on.current };
+      roomy = record {
+        room = λ one prefetch only mode. omega (arith, same, now.roomy.room one prefetch only mode);
+        unspent = λ never. same ∙ now.roomy.unspent never;
+      };
+    }) fits in
     roomy-later id a.progress.state.rows a.progress.state.consumers a.progress.state.sessions y last done.on.guarded done.roomy
 
 next-roomy : (id : ConsumerId) (before : ℕ) (s : State) (entry : Entry) → IsNumbered id.session → Sound s → Known id before s → Roomy id s.rows s.consumers s.sessions
@@ -92,9 +86,9 @@ next-roomy id before s entry numbered sound known roomy = by (stamp_of entry.com
         let x : Sessions = admitted s.sessions stamp in
         fresh-roomy id before s x _ command numbered sound known roomy (admitted-later id.session s.sessions stamp fresh)
         (λ other some own.
-            let same : other ≡ stamp = cc (sym some ∙ is) in
-            let mine' : stamp.session ≡ id.session = ap (λ (one : Stamp). one.session) (sym same) ∙ own in
-            subst (λ i. IsCurrent x i) mine' (admitted-current s.sessions stamp (ap is_dead_letter mine' ∙ numbered-plain id.session numbered) fresh))
+        let same : other ≡ stamp = cc (sym some ∙ is) in
+        let mine' : stamp.session ≡ id.session = ap (λ (one : Stamp). one.session) (sym same) ∙ own in
+        subst (λ i. IsCurrent x i) mine' (admitted-current s.sessions stamp (ap is_dead_letter mine' ∙ numbered-plain id.session numbered) fresh))
         (answer-later id.session _ stamp _)
     passes (Again answer) stamp is fresh = stale stamp
     passes (Gap next) stamp is fresh = stale stamp
@@ -132,7 +126,7 @@ pub fills_prefetch : (args : QueueArgs) (entries : List Entry) → FillsPrefetch
 fills_prefetch args entries consumer prefetch there numbered mode =
     let s : State = state_after (empty_queue args) entries in
     let held = after-held consumer.id (empty_queue args) entries numbered
-        (record { count = 0; sound = empty-sound args; known = record { guarded = tt; who = Never refl refl }; roomy = record { room = λ one prefetch only mode. absurd cc; unspent = λ never. refl } }) in
+    (record { count = 0; sound = empty-sound args; known = record { guarded = tt; who = Never refl refl }; roomy = record { room = λ one prefetch only mode. absurd cc; unspent = λ never. refl } }) in
     let here : In consumer s.consumers = in_from_contains s.consumers consumer there.0 there.1 there.2 in
     let only = (who-one consumer.id s.consumers held.count s.sessions consumer here (same_consumer-refl consumer.id) held.known.who).0 in
     let room : out_count consumer.id s.rows ≤ prefetch_of prefetch = held.roomy.room consumer prefetch only mode in

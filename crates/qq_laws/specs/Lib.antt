@@ -5,3 +5,4 @@ pub mod Once
 pub mod Active
 pub mod Ids
 pub mod Credit
+pub mod Turns

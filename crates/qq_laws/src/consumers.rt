@@ -1,17 +1,21 @@
 //! Laws of consumers.
 
-ghost use Rattle.std.specs.Prelude.{◌≡◌, List, All, true};
+ghost use Rattle.std.specs.Prelude.{◌≡◌, List, Some, All, true};
 ghost use Rattle.qq_base.specs.declared.ids.Index.{Index};
 ghost use Rattle.qq_base.specs.declared.ids.ConsumerId.{ConsumerId};
 ghost use Rattle.qq_command.specs.declared.queue.QueueArgs.{QueueArgs};
 ghost use Rattle.qq_command.specs.declared.command.Command.{Command};
 ghost use Rattle.qq_command.specs.declared.command.Entry.{Entry};
+ghost use Rattle.qq_model.specs.declared.consumer.Consumer.{Consumer};
+ghost use Rattle.qq_model.specs.declared.place.Row.{Row};
 ghost use Rattle.qq_model.specs.State.{State, empty_queue};
+ghost use Rattle.qq_model.specs.Choice.{longest_waiting};
 ghost use Rattle.qq_model.specs.Step.{carried_out};
 ghost use Rattle.qq_model.specs.Audit.{audit_of, deliveries, state_after};
 ghost use Rattle.qq_laws.specs.Once.{IsNumbered};
 ghost use Rattle.qq_laws.specs.Ids.{CountByOne};
 ghost use Rattle.qq_laws.specs.Credit.{FillsPrefetch};
+ghost use Rattle.qq_laws.specs.Turns.{HasWaitedLongest};
 ghost use Rattle.qq_laws.specs.Active.{active_id, consumers_served, DeliversOnlyTo};
 
 /// Under a single active consumer all that a command delivers goes to one: the longest joined consumer
@@ -31,5 +35,10 @@ pub fn delivery_ids_count_by_one()
 /// together: it never has more (RabbitMQ, "Consumer Prefetch").
 pub fn prefetch_is_kept()
     ensures { (args : QueueArgs) (entries : List Entry) → FillsPrefetch (state_after (empty_queue args) entries) }
-{
-}
+{}
+
+/// Consumers are served in turn: of those that may be served the one that has waited the longest is
+/// next (RabbitMQ, "Consumers").
+pub fn consumers_are_served_in_turn()
+    ensures { (rows : List Row) (consumers : List Consumer) (consumer : Consumer) → longest_waiting rows consumers ≡ Some consumer → HasWaitedLongest rows consumers consumer }
+{}

@@ -1,12 +1,15 @@
 //! Laws of the messages of a queue.
 
-ghost use Rattle.std.specs.Prelude.{◌≡◌, List, [], ◌∷◌, ◌++◌, All};
+ghost use Rattle.std.specs.Prelude.{◌≡◌, List, [], ◌∷◌, ◌++◌, Some, All, true};
 ghost use Rattle.qq_command.specs.declared.queue.QueueArgs.{QueueArgs};
 ghost use Rattle.qq_command.specs.declared.command.Entry.{Entry};
+ghost use Rattle.qq_model.specs.declared.place.Row.{Row};
 ghost use Rattle.qq_model.specs.State.{empty_queue};
+ghost use Rattle.qq_model.specs.Choice.{next_message};
 ghost use Rattle.qq_model.specs.Audit.{audit_of, next_step, state_after};
-ghost use Rattle.qq_laws.specs.Published.{confirmed, kept_publishes, EffectShows};
+ghost use Rattle.qq_laws.specs.Published.{confirmed, kept_publishes, AnswerShows, EffectShows};
 ghost use Rattle.qq_laws.specs.Rows.{AddsUp, GoneForAReason, InOrder, LastsIn, StepsRows};
+ghost use Rattle.qq_laws.specs.Turns.{IsFirstMessage};
 
 /// The ready messages, those with consumers, the dead and the gone add up to all that ever arrived
 /// (RabbitMQ, "Queue Metrics": ready, unacknowledged).
@@ -50,4 +53,16 @@ pub fn publishes_are_kept()
 /// each dead letter is the message of a confirmed publish.
 pub fn deliveries_show_publishes()
     ensures { (args : QueueArgs) (before : List Entry) (entry : Entry) → All (EffectShows (confirmed (audit_of (empty_queue args) (before ++ entry ∷ [])))) (next_step (state_after (empty_queue args) before) entry).effects }
+{}
+
+/// The message that a get is answered is that of the confirmed publish of its arrival, with its index.
+/// A repeat of the get is answered by the same answer.
+pub fn gets_show_publishes()
+    ensures { (args : QueueArgs) (before : List Entry) (entry : Entry) → let made = next_step (state_after (empty_queue args) before) entry in made.fresh ≡ true → AnswerShows (confirmed (audit_of (empty_queue args) before)) made.answer }
+{}
+
+/// The next message is a ready one before which no other comes: those that were returned under a
+/// delivery limit first, then in the order in which they were published or returned.
+pub fn the_first_message_is_next()
+    ensures { (rows : List Row) (row : Row) → next_message rows ≡ Some row → IsFirstMessage rows row }
 {}
