@@ -7,6 +7,8 @@ use Rattle.qq_base.specs.declared.ids.Index.{Index}
 use Rattle.qq_base.specs.declared.ids.ConsumerId.{ConsumerId}
 use Rattle.qq_command.specs.declared.queue.QueueArgs.{QueueArgs}
 use Rattle.qq_command.specs.declared.message.Reason.{Reason}
+use Rattle.qq_command.specs.declared.command.Stamp.{Stamp}
+use Rattle.qq_command.specs.declared.command.Entry.{Entry}
 use Rattle.qq_command.specs.declared.command.Command.{Command}
 use Rattle.qq_command.specs.declared.command.Mode.{Mode}
 use Rattle.qq_command.specs.declared.command.Mode.TheVariants.{Prefetch, Link}
@@ -19,8 +21,13 @@ use Rattle.qq_model.specs.Choice.{active_consumer, if_served, may_be_served, lon
 use Rattle.qq_model.specs.Changes.{Progress, with_consumer, message_of, shown}
 use Rattle.qq_model.specs.Commands.{Acted, act}
 use Rattle.qq_model.specs.Serving.{used, served}
-use Rattle.qq_model.specs.Step.{carried_out}
-use Rattle.qq_laws.specs.Active.{active_id, consumers_served, DeliversOnlyTo}
+use Rattle.qq_model.specs.declared.session.Gate.{Gate}
+use Rattle.qq_model.specs.declared.session.Gate.TheVariants.{Fresh, Again, Gap, Forgotten, Ended, WindowFull, SessionsFull}
+use Rattle.qq_model.specs.Gate.{gate, admitted}
+use Rattle.qq_model.specs.Step.{stamp_of, carried_out, gated, step_by, step}
+use Rattle.qq_model.specs.Audit.{next_index, next_step}
+use Rattle.qq_laws.proofs.Runs.{all_from_each}
+use Rattle.qq_laws.specs.Active.{active_id, consumers_served, DeliversOnlyTo, DeliversToOne}
 use Rattle.qq_laws.proofs.Lists.{Each, Each-append, Each-weaker, find-in}
 use Rattle.qq_laws.proofs.Closed.{Acts, KeepsDeliveries, Serves, Turns}
 use Rattle.qq_laws.proofs.Carried.{act-keeps, checkouts-keeps, after_checkouts-keeps}
@@ -155,3 +162,32 @@ active_alone s index command single =
     let to = checkouts-keeps (ToActive active) (ToActive-deliver active) a.progress
     (record { single = ap (λ (args : QueueArgs). args.single_active) un.args ∙ single; active = refl; effects = Each-weaker NoDelivery (DeliversOnlyTo active) (no_delivery_to active) a.progress.effects un.effects }) in
     after_checkouts-keeps command (Delivered-serves active command) a to.effects
+
+-- all that an entry delivers goes to one consumer
+pub one_alone : (s : State) (entry : Entry) → s.args.single_active ≡ true → DeliversToOne (next_step s entry).effects
+unfolding step
+one_alone s entry single = by (stamp_of entry.command)
+  where
+    index : Index
+    index = next_index s
+
+    one : (t : State) → t.args.single_active ≡ true → DeliversToOne (carried_out index entry.command t).progress.effects
+    one t single' =
+        let active : Option ConsumerId = active_id (consumers_served t index entry.command) in
+        (active, all_from_each (DeliversOnlyTo active) (carried_out index entry.command t).progress.effects (active_alone t index entry.command single'))
+
+    none : DeliversToOne []
+    none = (None, all_from_each (DeliversOnlyTo None) [] tt)
+
+    passes : (g : Gate) (stamp : Stamp) → DeliversToOne (gated g index stamp entry.command s).effects
+    passes Fresh stamp = one (record s { sessions = admitted s.sessions stamp }) single
+    passes (Again before) stamp = none
+    passes (Gap next) stamp = none
+    passes Forgotten stamp = none
+    passes Ended stamp = none
+    passes WindowFull stamp = none
+    passes SessionsFull stamp = none
+
+    by : (o : Option Stamp) → DeliversToOne (step_by o index entry.command s).effects
+    by None = one s single
+    by (Some stamp) = passes (gate s.sessions stamp) stamp

@@ -1,5 +1,5 @@
 -- Who gets deliveries under a single active consumer (RabbitMQ, "Single Active Consumer").
-use Rattle.std.specs.Prelude.{◌≡◌, List, [], Option, Some, not, find}
+use Rattle.std.specs.Prelude.{◌≡◌, List, [], Option, Some, not, find, All}
 use Rattle.std.specs.Option.{option_map}
 use Rattle.qq_base.specs.declared.ids.Index.{Index}
 use Rattle.qq_base.specs.declared.ids.ConsumerId.{ConsumerId}
@@ -22,3 +22,7 @@ consumers_served s index command = (act index command (record { state = s; effec
 abbrev pub DeliversOnlyTo : Option ConsumerId → Effect → Type 0
 DeliversOnlyTo active (Deliver consumer delivery) = active ≡ Some consumer
 DeliversOnlyTo active _ = Unit {0}
+
+-- all that effects deliver goes to one consumer
+abbrev pub DeliversToOne : List Effect → Type 0
+DeliversToOne effects = (active : Option ConsumerId) × All (DeliversOnlyTo active) effects

@@ -11,12 +11,12 @@ ghost use Rattle.qq_model.specs.declared.place.Row.{Row};
 ghost use Rattle.qq_model.specs.State.{State, empty_queue};
 ghost use Rattle.qq_model.specs.Choice.{longest_waiting};
 ghost use Rattle.qq_model.specs.Step.{carried_out};
-ghost use Rattle.qq_model.specs.Audit.{audit_of, deliveries, state_after};
+ghost use Rattle.qq_model.specs.Audit.{audit_of, deliveries, next_step, state_after};
 ghost use Rattle.qq_laws.specs.Once.{IsNumbered};
 ghost use Rattle.qq_laws.specs.Ids.{CountByOne};
 ghost use Rattle.qq_laws.specs.Credit.{FillsPrefetch};
 ghost use Rattle.qq_laws.specs.Turns.{HasWaitedLongest};
-ghost use Rattle.qq_laws.specs.Active.{active_id, consumers_served, DeliversOnlyTo};
+ghost use Rattle.qq_laws.specs.Active.{active_id, consumers_served, DeliversOnlyTo, DeliversToOne};
 
 /// Under a single active consumer all that a command delivers goes to one: the longest joined consumer
 /// that isn't cancelled, of the consumers as the command itself leaves them (RabbitMQ, "Single Active
@@ -41,4 +41,9 @@ pub fn prefetch_is_kept()
 /// next (RabbitMQ, "Consumers").
 pub fn consumers_are_served_in_turn()
     ensures { (rows : List Row) (consumers : List Consumer) (consumer : Consumer) → longest_waiting rows consumers ≡ Some consumer → HasWaitedLongest rows consumers consumer }
+{}
+
+/// Under a single active consumer all that an entry delivers goes to one consumer.
+pub fn one_consumer_is_served_at_a_time()
+    ensures { (s : State) (entry : Entry) → s.args.single_active ≡ true → DeliversToOne (next_step s entry).effects }
 {}

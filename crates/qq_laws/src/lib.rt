@@ -7,8 +7,8 @@ mod messages;
 mod sessions;
 
 pub use consumers::{
-    consumers_are_served_in_turn, delivery_ids_count_by_one, prefetch_is_kept,
-    the_active_consumer_is_served_alone,
+    consumers_are_served_in_turn, delivery_ids_count_by_one, one_consumer_is_served_at_a_time,
+    prefetch_is_kept, the_active_consumer_is_served_alone,
 };
 pub use messages::{
     deliveries_show_publishes, entries_move_messages, gets_show_publishes, messages_add_up,
