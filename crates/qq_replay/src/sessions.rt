@@ -2,7 +2,7 @@
 use crate::table::{Does, by, publish, reads, replays};
 use crate::{Applied, replay};
 use qq_base::{Items, QueueId, Term};
-use qq_command::{Command, Entries, Entry, QueueArgs};
+use qq_command::{Command, Entries, Entry, Overflow, QueueArgs};
 use std::test::Fail;
 
 // All its answers but the last were lost on their way.
@@ -34,6 +34,51 @@ fn a_publish_is_answered_again(rt: HostRuntime) -> Result<(), Fail> {
                 "4 1 enqueue 1 1 1 confirmed 1 again",
                 &[],
             ),
+        ],
+    )
+}
+
+// The answer was lost, and there is room when the session sends again.
+#[test]
+fn a_rejection_is_answered_again(rt: HostRuntime) -> Result<(), Fail> {
+    let alloc = rt.alloc();
+    let args = QueueArgs {
+        max_length: Some(1),
+        overflow: Overflow::RejectPublish,
+        ..QueueArgs::new(alloc, QueueId(1), 1)
+    };
+    replays(
+        &rt,
+        alloc,
+        "q1",
+        args,
+        &[
+            (1, Does::Lead, "1 1 noop 1 lead", &[]),
+            (
+                1,
+                Does::Publish(by(1, 1, 0), "a"),
+                "2 1 enqueue 1 1 1 confirmed 1",
+                &[],
+            ),
+            (
+                1,
+                Does::Publish(by(1, 2, 0), "b"),
+                "3 1 enqueue 1 2 1 rejected 2 length",
+                &[],
+            ),
+            (
+                1,
+                Does::Get(by(1, 3, 1)),
+                "4 1 get 1 3 message 1",
+                &["message 1 a"],
+            ),
+            (
+                1,
+                Does::Publish(by(1, 2, 1), "b"),
+                "5 1 enqueue 1 2 1 rejected 2 length again",
+                &[],
+            ),
+            (1, Does::Get(by(1, 4, 1)), "6 1 get 1 4 empty", &[]),
         ],
     )
 }
