@@ -7,7 +7,7 @@ use Rattle.std.proofs.lemmas.Nat.{be_bytes_2, be_bytes_4, be_bytes_8, from_be_by
 use Rattle.std.proofs.Math.Nat.{mod-eq_of_lt}
 use Rattle.qq_base.specs.Fields.{AreBytes, number_at, ReadsBack}
 
-AreBytes-take : (n : ℕ) (bytes : List ℕ) → AreBytes bytes → AreBytes (take n bytes)
+pub AreBytes-take : (n : ℕ) (bytes : List ℕ) → AreBytes bytes → AreBytes (take n bytes)
 AreBytes-take n bytes h i =
     elim (cases_lt i n) [
       | inl lt ↦ rw (get_or-take n bytes i 0 lt) (h i)
@@ -32,19 +32,26 @@ reads_back w limit wide = record { again = again; alone = alone }
     again : (n : ℕ) (rest : List ℕ) → n < limit → number_at w (to_be_bytes w n ++ rest) ≡ Some (n, byte_len w)
     again n rest lt =
         let len : length (to_be_bytes w n) ≡ byte_len w = wide.len n in
-        let long : byte_len w ≤ length (to_be_bytes w n ++ rest) = omega (arith, length-append (to_be_bytes w n) rest) in
-        let front : take (byte_len w) (to_be_bytes w n ++ rest) ≡ to_be_bytes w n = take_at (to_be_bytes w n) rest (byte_len w) len in
+        let long : byte_len w ≤ length (to_be_bytes w n ++ rest) = omega
+        (arith, length-append (to_be_bytes w n) rest) in
+        let front : take (byte_len w) (to_be_bytes w n ++ rest) ≡ to_be_bytes w n = take_at (to_be_bytes w n) rest
+        (byte_len w) len in
         rw (le-ltb _ _ long) (ap (λ (m : ℕ). Some (m, byte_len w)) (ap (from_be_bytes w) front ∙ wide.again n lt))
 
-    alone : (bytes : List ℕ) (n taken : ℕ) → AreBytes bytes → number_at w bytes ≡ Some (n, taken) → (bytes ≡ to_be_bytes w n ++ drop taken bytes) × (n < limit) × (taken ≡ byte_len w)
+    alone : (bytes : List ℕ) (n taken : ℕ) → AreBytes bytes → number_at w bytes ≡ Some (n, taken)
+        → (bytes ≡ to_be_bytes w n ++ drop taken bytes) × (n < limit) × (taken ≡ byte_len w)
     alone bytes n taken fits e =
-        let both = chosen (ltb (length bytes) (byte_len w)) (from_be_bytes w (take (byte_len w) bytes), byte_len w) (n, taken) e in
+        let both = chosen (ltb (length bytes) (byte_len w)) (from_be_bytes w (take (byte_len w) bytes), byte_len w)
+        (n, taken) e in
         let long : byte_len w ≤ length bytes = ltb-false _ _ both.0 in
         let value : from_be_bytes w (take (byte_len w) bytes) ≡ n = ap (λ (p : ℕ × ℕ). p.0) both.1 in
         let count : byte_len w ≡ taken = ap (λ (p : ℕ × ℕ). p.1) both.1 in
-        let front : to_be_bytes w n ≡ take (byte_len w) bytes = rw (← value) (wide.back (take (byte_len w) bytes) (omega (arith, length-take (byte_len w) bytes)) (AreBytes-take (byte_len w) bytes fits)) in (
+        let front : to_be_bytes w n ≡ take (byte_len w) bytes = rw (← value)
+        (wide.back (take (byte_len w) bytes) (omega (arith, length-take (byte_len w) bytes))
+        (AreBytes-take (byte_len w) bytes fits)) in (
           rw front (rw (← count) (sym (take-append-drop (byte_len w) bytes))),
-          subst (λ (m : ℕ). m < limit) value (wide.below (take (byte_len w) bytes) (AreBytes-take (byte_len w) bytes fits)),
+          subst (λ (m : ℕ). m < limit) value
+              (wide.below (take (byte_len w) bytes) (AreBytes-take (byte_len w) bytes fits)),
           sym count,
         )
 

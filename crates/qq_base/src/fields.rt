@@ -1,5 +1,5 @@
 //! Numbers as bytes, the high byte first.
-ghost use Rattle.std.specs.Prelude.{◌≡◌, ◌++◌, ◌<◌, ◌^◌, List, ℕ, OnOk, OnErr, IfErr};
+ghost use Rattle.std.specs.Prelude.{◌≡◌, ◌++◌, ◌<◌, ◌^◌, List, ℕ, OnOk, OnErr, IsOkUnless};
 ghost use Rattle.std.specs.Int.{w8, w16, w32, w64, to_be_bytes};
 ghost use Rattle.qq_base.specs.Fields.{number_at, ReadsBack};
 
@@ -49,41 +49,41 @@ pub fn take_u64(bytes: &[u8]) -> Option<(u64, usize)>
     Some((number, 8))
 }
 
-/// Adds a number's one byte at the end. Where there is no memory `out` stays.
+/// Adds a number's one byte at the end. Out of memory, `out` stays.
 pub fn put_u8(out: &mut Vec<u8>, v: u8) -> Result<(), Memory>
     ensures ok { OnOk result (out.new.items ≡ out.old.items ++ to_be_bytes w8 v) }
     ensures err { OnErr result (out.new.items ≡ out.old.items) }
-    ensures want { IfErr result (λ e. e ≡ Memory.Want) }
+    ensures want { IsOkUnless result Memory.Want }
 {
     out.push(v)?;
     Ok(())
 }
 
-/// Adds a number's two bytes at the end. Where there is no memory `out` stays.
+/// Adds a number's two bytes at the end. Out of memory, `out` stays.
 pub fn put_u16(out: &mut Vec<u8>, v: u16) -> Result<(), Memory>
     ensures ok { OnOk result (out.new.items ≡ out.old.items ++ to_be_bytes w16 v) }
     ensures err { OnErr result (out.new.items ≡ out.old.items) }
-    ensures want { IfErr result (λ e. e ≡ Memory.Want) }
+    ensures want { IsOkUnless result Memory.Want }
 {
     out.extend_from_slice(&v.to_be_bytes())?;
     Ok(())
 }
 
-/// Adds a number's four bytes at the end. Where there is no memory `out` stays.
+/// Adds a number's four bytes at the end. Out of memory, `out` stays.
 pub fn put_u32(out: &mut Vec<u8>, v: u32) -> Result<(), Memory>
     ensures ok { OnOk result (out.new.items ≡ out.old.items ++ to_be_bytes w32 v) }
     ensures err { OnErr result (out.new.items ≡ out.old.items) }
-    ensures want { IfErr result (λ e. e ≡ Memory.Want) }
+    ensures want { IsOkUnless result Memory.Want }
 {
     out.extend_from_slice(&v.to_be_bytes())?;
     Ok(())
 }
 
-/// Adds a number's eight bytes at the end. Where there is no memory `out` stays.
+/// Adds a number's eight bytes at the end. Out of memory, `out` stays.
 pub fn put_u64(out: &mut Vec<u8>, v: u64) -> Result<(), Memory>
     ensures ok { OnOk result (out.new.items ≡ out.old.items ++ to_be_bytes w64 v) }
     ensures err { OnErr result (out.new.items ≡ out.old.items) }
-    ensures want { IfErr result (λ e. e ≡ Memory.Want) }
+    ensures want { IsOkUnless result Memory.Want }
 {
     out.extend_from_slice(&v.to_be_bytes())?;
     Ok(())

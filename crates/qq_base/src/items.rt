@@ -1,4 +1,4 @@
-ghost use Rattle.std.specs.Prelude.{◌≡◌, ◌++◌, ◌∷◌, [], List, length, IfOk, IfErr, OnOk, OnErr, IsTrue, ◌↔◌};
+ghost use Rattle.std.specs.Prelude.{◌≡◌, ◌++◌, ◌∷◌, [], List, length, IfOk, IsOkUnless, OnOk, OnErr, IsTrue, ◌↔◌};
 
 use crate::ids::QueueId;
 use crate::memory::{Duplicate, Memory};
@@ -82,11 +82,11 @@ impl<T> Items<T> {
 }
 
 impl<T: Drop> Items<T> {
-    /// Adds an item at the end. Where there is no memory the list stays.
+    /// Adds an item at the end. Out of memory, the list stays.
     pub fn push(&mut self, item: T) -> Result<(), Memory>
         ensures ok { OnOk result (self.new ≡ self.old ++ item ∷ []) }
         ensures err { OnErr result (self.new ≡ self.old) }
-        ensures want { IfErr result (λ e. e ≡ Memory.Want) }
+        ensures want { IsOkUnless result Memory.Want }
     {
         self.items.push(item)?;
         Ok(())
@@ -97,7 +97,7 @@ impl<T: Copy> Items<T> {
     /// A list with the same items.
     pub fn copy(&self, alloc: Global) -> Result<Self, Memory>
         ensures ok { IfOk result (λ list. list ≡ self.now) }
-        ensures want { IfErr result (λ e. e ≡ Memory.Want) }
+        ensures want { IsOkUnless result Memory.Want }
     {
         Ok(Items {
             items: Vec::from_slice(alloc, self.items.as_slice())?,
@@ -107,7 +107,7 @@ impl<T: Copy> Items<T> {
 
 fn copied<T: Duplicate>(alloc: Global, items: &[T]) -> Result<Vec<T>, Memory>
     ensures ok { IfOk result (λ list. list.items ≡ items.now) }
-    ensures want { IfErr result (λ e. e ≡ Memory.Want) }
+    ensures want { IsOkUnless result Memory.Want }
 {
     let mut list = Vec::with_capacity(alloc, items.len())?;
     for item in items {

@@ -1,31 +1,24 @@
-ghost use Rattle.std.specs.Prelude.{◌≡◌, IfOk, IfErr};
+ghost use Rattle.std.specs.Prelude.{◌≡◌, IfOk, IsOkUnless};
 
 use std::alloc::{AllocError, AllocFailed, Global};
-use std::error::Error;
-use std::fmt;
+use thiserror::Error;
 
 /// The end of each number that rises: an index, a term, a counter.
 pub const NUMBER_END: u64 = 1 << 63;
 
 /// Why a call that takes memory, or raises a number, gave up.
-#[derive(Clone, Copy, Debug, PartialEq, Eq)]
+#[derive(Clone, Copy, Debug, PartialEq, Eq, Error)]
 pub enum Memory {
-    /// There was no memory. Any call that allocates may answer it.
+    /// Out of memory. Any call that allocates may answer it.
+    #[error("out of memory")]
     Want,
-    /// The call would have raised a number that stands at its end, which is given.
-    Spent { number: u64 },
+    /// The call would have raised a number that stands at its end.
+    #[error("a number is at its end, {number}")]
+    Spent {
+        /// Where the number stands.
+        number: u64,
+    },
 }
-
-impl fmt::Display for Memory {
-    fn fmt<W: fmt::Write>(&self, f: &mut fmt::Formatter<W>) -> fmt::Result {
-        match self {
-            Memory::Want => f.write_str("memory"),
-            Memory::Spent { number } => write!(f, "spent {number}"),
-        }
-    }
-}
-
-impl Error for Memory {}
 
 impl From<AllocError> for Memory {
     ghost use Rattle.qq_base.specs.declared.memory.Memory.TheVariants.{Want};
@@ -49,8 +42,8 @@ impl<T: Drop> From<AllocFailed<T>> for Memory {
 
 /// A value that takes memory to be copied.
 pub trait Duplicate: Drop + Sized {
-    /// An equal value. It gives up for want of memory alone.
+    /// An equal value. The only error is `Memory::Want`, out of memory.
     fn copy(&self, alloc: Global) -> Result<Self, Memory>
         ensures ok { IfOk result (λ twin. twin ≡ self.now) }
-        ensures want { IfErr result (λ e. e ≡ Memory.Want) };
+        ensures want { IsOkUnless result Memory.Want };
 }

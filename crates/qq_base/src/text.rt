@@ -1,4 +1,4 @@
-ghost use Rattle.std.specs.Prelude.{◌≡◌, [], List, ℕ, length, string_bytes, IfOk, IfErr};
+ghost use Rattle.std.specs.Prelude.{◌≡◌, [], List, ℕ, length, string_bytes, IfOk, IsOkUnless};
 
 use crate::memory::{Duplicate, Memory};
 use std::alloc::Global;
@@ -50,7 +50,7 @@ impl Text {
     /// A copy of a string's text.
     pub fn from_str(alloc: Global, text: &str) -> Result<Self, Memory>
         ensures ok { IfOk result (λ t. t ≡ text.now) }
-        ensures want { IfErr result (λ e. e ≡ Memory.Want) }
+        ensures want { IsOkUnless result Memory.Want }
     {
         Ok(Text {
             text: String::from_str(alloc, text)?,

@@ -1,4 +1,4 @@
-mod Fronts
+mod Prefixes
 mod Lines
-mod Endings
+mod Going
 mod Closings

@@ -1,3 +1,4 @@
+pub mod Endings
 pub mod Outcome
 pub mod Steady
 pub mod Stops

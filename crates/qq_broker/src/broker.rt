@@ -1,16 +1,15 @@
-ghost use Rattle.std.specs.Prelude.{◌≡◌, ◌+◌, ◌<◌, ◌≤◌, ◌^◌, ◌++◌, ◌∷◌, [], length, List, ℕ, IfOk, IfErr, OnOk, IsSome};
-ghost use Rattle.std.specs.Io.KnownBytes.{Appends};
+ghost use Rattle.std.specs.Prelude.{◌≡◌, ◌+◌, ◌<◌, ◌≤◌, ◌^◌, ◌++◌, ◌∷◌, [], length, List, ℕ, IfOk, IfErr, IsOkUnless, OnOk, IsSome};
 ghost use Rattle.qq_base.specs.Causes.{SpentOnlyWhere};
 ghost use Rattle.qq_base.specs.declared.memory.TheConstants.{NUMBER_END};
-ghost use Rattle.qq_ports.specs.Faults.{Rose};
-ghost use Rattle.qq_script.specs.Text.{session_of};
-ghost use Rattle.qq_broker.specs.Outcome.{Run, Served, Answers, Spends, serve, applied, made_by, command_of, client_stamp, entry_of, opened, fresh_run, first_queue, published};
-ghost use Rattle.qq_broker.specs.Stops.{HasLineStop, HasAnswerStop, stop_of, IsAllowed};
+ghost use Rattle.qq_entry.specs.Command.{session};
+ghost use Rattle.qq_broker.specs.Endings.{spent};
+ghost use Rattle.qq_broker.specs.Outcome.{Ends, answer_line, apply, command_of, client_stamp, entry_of, first_run, fresh_run, first_queue, message_of};
+ghost use Rattle.qq_broker.specs.Stops.{IsAllowed, HasAnswer, HasAnswerCause};
 
-use crate::stop::Stop;
+use crate::ending::Ending;
+use crate::stop::AnswerStop;
 use qq_base::{Bytes, Duplicate, Index, Memory, QueueId, SessionId, Term, Text};
-use qq_command::{AuditRow, Command, Content, Deaths, Entry, Message, QueueArgs, Rows, Stamp};
-use qq_ports::{Sink, write_all};
+use qq_entry::{AuditRow, Command, Content, Deaths, Entry, Message, QueueArgs, Rows, Stamp};
 use qq_script::{ScriptFault, ScriptLine, answer_text, parse_line};
 use qq_serial::Serial;
 use std::alloc::Global;
@@ -36,42 +35,36 @@ impl Model for Broker {
 
     ghost view = { λ b. record { state = b.queue; rows = b.rows; lines = b.lines } };
 
-    ghost invariant = { λ b. IsSteady (record { state = b.queue; rows = b.rows; lines = b.lines }) b.name };
+    ghost invariant = { λ b.
+        IsSteady (record { state = b.queue; rows = b.rows; lines = b.lines }) b.name };
 }
 
-fn stamp(seq: u64) -> Stamp
+fn client_stamp(seq: u64) -> Stamp
     requires { 0 < seq }
     ensures { result ≡ client_stamp seq }
 {
     Stamp {
-        session: SessionId {
-            class: 1,
-            owner: 0,
-            number: 1,
-        },
+        session: SessionId::client(1),
         seq,
         done: seq - 1,
     }
 }
 
 // A message to a queue by way of the default exchange.
-fn message(alloc: Global, queue: &Text, body: Bytes) -> Result<Message, Memory>
+fn message_of(alloc: Global, queue: &Text, body: Bytes) -> Result<Message, Memory>
     requires { length body < 2 ^ 32 }
-    ensures ok { IfOk result (λ message. queue.now ≡ first_queue → message ≡ published body) }
-    ensures want { IfErr result (λ e. e ≡ Memory.Want) }
+    ensures ok { IfOk result (λ message. queue.now ≡ first_queue → message ≡ message_of body) }
+    ensures want { IsOkUnless result Memory.Want }
 {
-    Ok(Message {
-        size: body.len() as u32,
-        content: Some(Content {
-            body,
-            key: queue.copy(alloc)?,
-            deaths: Deaths::new(alloc),
-        }),
-    })
+    Ok(Message::new(Content {
+        body,
+        key: queue.copy(alloc)?,
+        deaths: Deaths::new(alloc),
+    }))
 }
 
 // An entry of the first term, at time 0.
-fn entry(command: Command) -> Entry
+fn entry_of(command: Command) -> Entry
     ensures { result ≡ entry_of command }
 {
     Entry {
@@ -81,23 +74,15 @@ fn entry(command: Command) -> Entry
     }
 }
 
-fn line_stop(fault: ScriptFault, line: u64) -> Stop
-    ensures { result ≡ stop_of fault line }
-{
-    match fault {
-        ScriptFault::Unknown => Stop::Refused { line },
-        ScriptFault::Memory(cause) => Stop::Memory(cause),
-    }
-}
-
-// Applies a leader's first entry to a new queue.
+// Applies a leader's first entry to a new queue. A queue serves nobody before its leader has one.
 fn lead_queue(alloc: Global, queue: &mut Serial) -> Result<AuditRow, Memory>
     requires { queue.old ≡ fresh_run.state }
-    ensures ok { IfOk result (λ row. opened ≡ record { state = queue.new; rows = row ∷ []; lines = 0 }) }
-    ensures want { IfErr result (λ e. e ≡ Memory.Want) }
+    ensures ok { IfOk result (λ row.
+        first_run ≡ record { state = queue.new; rows = row ∷ []; lines = 0 }) }
+    ensures want { IsOkUnless result Memory.Want }
 {
     let index = Index(1);
-    let entry = entry(Command::Noop { version: 1 });
+    let entry = entry_of(Command::Noop { version: 1 });
     match queue.step(alloc, index, &entry) {
         Ok((fresh, answer, _)) => Ok(AuditRow {
             index,
@@ -112,8 +97,8 @@ fn lead_queue(alloc: Global, queue: &mut Serial) -> Result<AuditRow, Memory>
 impl Broker {
     /// A broker whose queue has a leader's first entry.
     pub fn new(alloc: Global) -> Result<Self, Memory>
-        ensures ok { IfOk result (λ broker. broker ≡ opened) }
-        ensures want { IfErr result (λ e. e ≡ Memory.Want) }
+        ensures ok { IfOk result (λ broker. broker ≡ first_run) }
+        ensures want { IsOkUnless result Memory.Want }
     {
         let mut queue = Serial::new(alloc, QueueArgs::new(alloc, QueueId(1), 3));
         let row = lead_queue(alloc, &mut queue)?;
@@ -150,17 +135,17 @@ impl Broker {
     }
 
     // The command of a line.
-    fn command(&self, alloc: Global, call: ScriptLine) -> Result<Command, Memory>
+    fn command_of(&self, alloc: Global, call: ScriptLine) -> Result<Command, Memory>
         requires { IsAllowed call }
         ensures ok { IfOk result (λ command. command ≡ command_of call (self.now.lines + 1)) }
-        ensures want { IfErr result (λ e. e ≡ Memory.Want) }
+        ensures want { IsOkUnless result Memory.Want }
     {
-        let stamp = stamp(self.lines + 1);
+        let stamp = client_stamp(self.lines + 1);
         Ok(match call {
             ScriptLine::Publish { body } => Command::Enqueue {
                 stamp,
                 origin: None,
-                message: message(alloc, &self.name, body)?,
+                message: message_of(alloc, &self.name, body)?,
             },
             ScriptLine::Get => Command::Get { stamp },
         })
@@ -168,14 +153,16 @@ impl Broker {
 
     // Applies a line's command, and adds the line of its answer to `text`.
     fn apply(&mut self, alloc: Global, command: Command, text: &mut Vec<u8>) -> Result<(), Memory>
-        requires session { IsSome (session_of command) }
+        requires session { IsSome (session command) }
         requires within { self.old.lines < LINES_LIMIT }
-        ensures ok { OnOk result ((line : List ℕ) × (text.new.items ≡ text.old.items ++ line) × (applied self.old command (made_by self.old command) ≡ Answers line self.new)) }
+        ensures ok { OnOk result (HasAnswer (apply self.old command)
+            self.new text.old.items text.new.items) }
         ensures count { OnOk result (self.new.lines ≡ self.old.lines + 1) }
-        ensures cause { IfErr result (λ e. SpentOnlyWhere e NUMBER_END (applied self.old command (made_by self.old command) ≡ Spends)) }
+        ensures cause { IfErr result (λ e.
+            SpentOnlyWhere e NUMBER_END (apply self.old command ≡ Ends (spent NUMBER_END))) }
     {
         let index = Index(self.queue.applied() + 1);
-        let entry = entry(command);
+        let entry = entry_of(command);
         let (fresh, answer, _) = self.queue.step(alloc, index, &entry)?;
         self.lines += 1;
         answer_text(alloc, true, &entry.command, &self.name, &answer, text)?;
@@ -188,50 +175,43 @@ impl Broker {
         Ok(())
     }
 
-    // Reads a line and applies its command.
-    fn answer(&mut self, alloc: Global, line: &[u8], text: &mut Vec<u8>) -> Result<(), Stop>
-        ensures ok { OnOk result ((said : List ℕ) × (text.new.items ≡ text.old.items ++ said) × (serve self.old line.now ≡ Answers said self.new)) }
-        ensures count { OnOk result (self.new.lines ≡ self.old.lines + 1) }
-        ensures within { OnOk result (self.new.lines ≤ LINES_LIMIT) }
-        ensures cause { IfErr result (λ stop. HasAnswerStop stop self.old.lines (serve self.old line.now)) }
-    {
-        let served = self.lines();
-        if served >= LINES_LIMIT {
-            return Err(Stop::Refused { line: served + 1 });
-        }
-        let call = match parse_line(alloc, line) {
-            Ok(call) => call,
-            Err(fault) => return Err(line_stop(fault, served + 1)),
-        };
-        let command = match self.command(alloc, call) {
-            Ok(command) => command,
-            Err(cause) => return Err(Stop::Memory(cause)),
-        };
-        match self.apply(alloc, command, text) {
-            Ok(()) => Ok(()),
-            Err(cause) => Err(Stop::Memory(cause)),
-        }
-    }
-
-    /// Serves one line: its answer is written. `text` is room for it.
-    pub fn serve_line<O: Sink>(
+    /// Reads a line, applies its command, and adds the line of the answer to `text`.
+    ///
+    /// - `ok`: the text grows by the line's answer, and the broker goes on from there.
+    /// - `count`, `within`: one more line was served, and no more than `LINES_LIMIT`.
+    /// - `cause`: `Ended` comes only where the script ends at this line, and so; `NoMemory` at any time.
+    ///
+    /// After an error the broker isn't used again.
+    pub fn answer_line(
         &mut self,
         alloc: Global,
         line: &[u8],
         text: &mut Vec<u8>,
-        output: &mut O,
-    ) -> Result<(), Stop>
-        ensures ok { OnOk result ((said : List ℕ) × (serve self.old line.now ≡ Answers said self.new) × Appends (O.written output.old) (O.written output.new) said) }
-        ensures cause { IfErr result (λ stop. HasLineStop stop self.old.lines (serve self.old line.now) (O.written output.old) (O.written output.new) (Rose (O.faults output.old) (O.faults output.new))) }
+    ) -> Result<(), AnswerStop>
+        ensures ok { OnOk result (HasAnswer (answer_line self.old line.now)
+            self.new text.old.items text.new.items) }
         ensures count { OnOk result (self.new.lines ≡ self.old.lines + 1) }
         ensures within { OnOk result (self.new.lines ≤ LINES_LIMIT) }
-        ensures later { O.faults output.old ≤ O.faults output.new }
+        ensures cause { IfErr result (λ stop. HasAnswerCause stop (answer_line self.old line.now)) }
     {
-        text.clear();
-        self.answer(alloc, line, text)?;
-        match write_all(output, text) {
+        let served = self.lines();
+        if served >= LINES_LIMIT {
+            return Err(AnswerStop::Ended(Ending::refusal(served + 1)));
+        }
+        let call = match parse_line(alloc, line) {
+            Ok(call) => call,
+            Err(ScriptFault::Unknown) => {
+                return Err(AnswerStop::Ended(Ending::refusal(served + 1)));
+            }
+            Err(ScriptFault::Memory(_)) => return Err(AnswerStop::NoMemory),
+        };
+        let Ok(command) = self.command_of(alloc, call) else {
+            return Err(AnswerStop::NoMemory);
+        };
+        match self.apply(alloc, command, text) {
             Ok(()) => Ok(()),
-            Err(_) => Err(Stop::WriteFault),
+            Err(Memory::Want) => Err(AnswerStop::NoMemory),
+            Err(Memory::Spent { number }) => Err(AnswerStop::Ended(Ending::spent(number))),
         }
     }
 }

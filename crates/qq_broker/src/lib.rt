@@ -1,12 +1,14 @@
 //! The broker: one queue in memory, and the top call that serves a script.
 #![tactic(auto)]
 
+mod audit;
 mod broker;
+mod ending;
 mod program;
+pub mod status;
 mod stop;
 
 pub use program::run;
-pub use stop::Status;
 
 #[cfg(test)]
 mod tests;

@@ -1,76 +1,62 @@
 ghost use Rattle.std.specs.Prelude.{◌≡◌};
-ghost use Rattle.qq_broker.specs.Stops.{status_code, status_of};
+ghost use Rattle.qq_broker.specs.Stops.{ending_of};
 
-use qq_base::Memory;
+use crate::ending::Ending;
 
-/// How a run ends. Its code is the program's exit status.
-#[derive(Clone, Copy, Debug, PartialEq, Eq)]
-pub enum Status {
-    /// The input was read to its end, and all was written.
-    Done,
-    /// The words are no command.
-    Usage,
-    /// A line was refused.
-    Script,
+/// Why a line has no answer.
+#[derive(Drop)]
+pub enum AnswerStop {
+    /// The script ends at this line.
+    Ended(Ending),
+    /// There was no memory.
+    NoMemory,
+}
+
+/// Why a text isn't written whole.
+#[derive(Clone, Copy)]
+pub enum PrintFault {
+    /// The sink failed.
+    Failed,
+    /// There was no memory.
+    NoMemory,
+}
+
+/// Why a run stops before the end of its input.
+#[derive(Drop)]
+pub enum Stop {
+    /// The script ends at one of its lines.
+    Ended(Ending),
     /// The source failed.
     ReadFault,
     /// The sink failed.
     WriteFault,
     /// There was no memory.
-    Memory,
-    /// A number stands at its end.
-    Spent,
-}
-
-impl Status {
-    /// The exit status.
-    pub fn code(self) -> u8
-        ensures { result ≡ status_code self }
-    {
-        match self {
-            Status::Done => 0,
-            Status::Usage => 2,
-            Status::Script => 4,
-            Status::ReadFault => 5,
-            Status::WriteFault => 6,
-            Status::Memory => 12,
-            Status::Spent => 20,
-        }
-    }
-}
-
-/// Why a run stops before the end of its script.
-#[derive(Clone, Copy, Debug, PartialEq, Eq)]
-pub enum Stop {
-    Usage,
-    Refused { line: u64 },
-    ReadFault,
-    WriteFault,
-    Memory(Memory),
+    NoMemory,
 }
 
 impl Stop {
-    /// The status with which a run ends that stopped so.
-    pub fn status(self) -> Status
-        ensures { result ≡ status_of self }
+    /// How a run ends that stops so.
+    pub fn ending(self) -> Ending
+        ensures { result ≡ ending_of self }
     {
         match self {
-            Stop::Usage => Status::Usage,
-            Stop::Refused { .. } => Status::Script,
-            Stop::ReadFault => Status::ReadFault,
-            Stop::WriteFault => Status::WriteFault,
-            Stop::Memory(Memory::Want) => Status::Memory,
-            Stop::Memory(Memory::Spent { .. }) => Status::Spent,
+            Stop::Ended(ending) => ending,
+            Stop::ReadFault => Ending::read_fault(),
+            Stop::WriteFault => Ending::write_fault(),
+            Stop::NoMemory => Ending::no_memory(),
         }
     }
 }
 
-impl From<Memory> for Stop {
-    ghost use Rattle.qq_broker.specs.declared.stop.Stop.TheVariants as stops;
+impl From<AnswerStop> for Stop {
+    ghost use Rattle.qq_broker.specs.Stops.{stop_of};
 
-    ghost from_gives = { λ memory stop. stop ≡ stops.Memory memory };
+    ghost from_gives = { λ answer stop. stop ≡ stop_of answer };
 
-    fn from(memory: Memory) -> Self {
-        Stop::Memory(memory)
+    fn from(answer: AnswerStop) -> Self {
+        match answer {
+            AnswerStop::Ended(ending) => Stop::Ended(ending),
+            AnswerStop::NoMemory => Stop::NoMemory,
+        }
     }
 }

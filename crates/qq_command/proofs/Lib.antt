@@ -2,6 +2,6 @@ mod Loop
 mod Laws
 mod FieldLaws
 mod CommandLaws
-mod Lengths
+mod ShortEncodings
 mod EntryLaws
 mod Appends

@@ -1,27 +1,33 @@
--- Reading an entry from the front of bytes, field by field, with the first refusal that applies.
+-- Reading an entry from a prefix of bytes, field by field, with the first refusal that applies.
 use Rattle.std.specs.Prelude.{◌≡◌, ◌+◌, ℕ, zero, suc, Bool, List, [], ◌∷◌, length, take, drop, Option, Some, None, Result, Ok, Err, nat_lt, nat_le, ◌==◌, ◌&&◌, if◌then◌else◌}
 use Rattle.std.specs.Str.{is_utf8}
-use Rattle.std.specs.Int.{Width, w8, w16, w32, w64, byte_len, from_be_bytes}
+use Rattle.std.specs.Int.{Width, w8, w16, w32, w64}
+use Rattle.qq_base.specs.Fields as fields
+use Rattle.qq_base.specs.declared.ids.TheConstants.{CLIENT, DEAD_LETTER}
 use Rattle.qq_base.specs.declared.ids.QueueId.{QueueId}
 use Rattle.qq_base.specs.declared.ids.SessionId.{SessionId}
 use Rattle.qq_base.specs.declared.memory.Memory.TheVariants.{Want}
-use Rattle.qq_command.specs.declared.limits.TheConstants.{MACHINE_VERSION, TERM_LIMIT, LENGTH_LIMIT, BODY_LIMIT, DEATHS_LIMIT, IDS_LIMIT, DEAD_DONE_LIMIT, TARGETS_LIMIT}
-use Rattle.qq_command.specs.declared.answer.Refusal.{Refusal}
-use Rattle.qq_command.specs.declared.answer.Refusal.TheVariants.{Short, BadKind, BadField, TooLarge, Memory}
-use Rattle.qq_command.specs.declared.message.Reason.{Reason}
-use Rattle.qq_command.specs.declared.message.Reason.TheVariants.{Rejected, Expired, MaxLen, DeliveryLimit}
-use Rattle.qq_command.specs.declared.message.Death.{Death}
-use Rattle.qq_command.specs.declared.message.Message.{Message}
-use Rattle.qq_command.specs.declared.message.Origin.{Origin}
-use Rattle.qq_command.specs.declared.command.Stamp.{Stamp}
-use Rattle.qq_command.specs.declared.command.Mode.{Mode}
-use Rattle.qq_command.specs.declared.command.Mode.TheVariants.{Prefetch, Link}
-use Rattle.qq_command.specs.declared.command.DeadDone.{DeadDone}
-use Rattle.qq_command.specs.declared.command.Command.{Command}
-use Rattle.qq_command.specs.declared.command.Command.TheVariants.{Noop, Enqueue, Get, Subscribe, Cancel, Credit, Settle, Return, Discard, Purge, Down, DeadAttach, DeadSettle}
-use Rattle.qq_command.specs.declared.command.Entry.{Entry}
-use Rattle.qq_command.specs.Range.{IsWritable}
-use Rattle.qq_command.specs.Spelling.{spelling}
+use Rattle.qq_entry.specs.declared.limits.TheConstants.{MACHINE_VERSION, TERM_LIMIT, LENGTH_LIMIT, BODY_LIMIT, DEATHS_LIMIT, IDS_LIMIT, DEAD_DONE_LIMIT, TARGETS_LIMIT}
+use Rattle.qq_command.specs.declared.kinds.TheConstants as kinds
+use Rattle.qq_command.specs.declared.lengths.TheConstants.{HEAD_LEN}
+use Rattle.qq_command.specs.declared.reasons.TheConstants as reasons
+use Rattle.qq_command.specs.declared.refusal.Refusal.{Refusal}
+use Rattle.qq_command.specs.declared.refusal.Refusal.TheVariants.{Short, BadKind, BadField, TooLarge, Memory}
+use Rattle.qq_entry.specs.declared.message.Reason.{Reason}
+use Rattle.qq_entry.specs.declared.message.Reason.TheVariants.{Rejected, Expired, MaxLen, DeliveryLimit}
+use Rattle.qq_entry.specs.declared.message.Death.{Death}
+use Rattle.qq_entry.specs.declared.message.Message.{Message}
+use Rattle.qq_entry.specs.declared.message.Origin.{Origin}
+use Rattle.qq_entry.specs.declared.command.Stamp.{Stamp}
+use Rattle.qq_entry.specs.declared.command.Mode.{Mode}
+use Rattle.qq_entry.specs.declared.command.Mode.TheVariants.{Prefetch, Link}
+use Rattle.qq_entry.specs.declared.command.DeadDone.{DeadDone}
+use Rattle.qq_entry.specs.declared.command.Command.{Command}
+use Rattle.qq_entry.specs.declared.command.Command.TheVariants.{Noop, Enqueue, Get, Subscribe, Cancel, Credit, Settle, Return, Discard, Purge, Down, DeadAttach, DeadSettle}
+use Rattle.qq_entry.specs.declared.command.Entry.{Entry}
+use Rattle.qq_entry.specs.Message.{new_message}
+use Rattle.qq_entry.specs.Range.{IsWritable}
+use Rattle.qq_command.specs.Encoding.{encoding}
 
 infixl 10 ◌>>=◌
 abbrev pub ◌>>=◌ : {A B : Type 0} → Result A Refusal → (A → Result B Refusal) → Result B Refusal
@@ -45,8 +51,12 @@ abbrev pub Field : Type 0 → Type 0
 Field A = Result (A × List ℕ) Refusal
 
 -- Inside an entry's length, a field that passes the end is out of range.
+abbrev pub field_of : List ℕ → Option (ℕ × ℕ) → Field ℕ
+field_of bytes None = Err BadField
+field_of bytes (Some x) = Ok (x.0, drop x.1 bytes)
+
 unfoldable pub number_at : Width → List ℕ → Field ℕ
-number_at w bytes = if nat_lt (length bytes) (byte_len w) then Err BadField else Ok (from_be_bytes w (take (byte_len w) bytes), drop (byte_len w) bytes)
+number_at w bytes = field_of bytes (fields.number_at w bytes)
 
 unfoldable pub bytes_at : ℕ → List ℕ → Field (List ℕ)
 bytes_at n bytes = if nat_lt (length bytes) n then Err BadField else Ok (take n bytes, drop n bytes)
@@ -75,7 +85,9 @@ flag_at bytes = do
   Ok (n.0 == 1, n.1)
 
 abbrev pub has_owner : SessionId → Bool
-has_owner s = if s.class == 1 then s.owner == 0 else (nat_lt 1 s.class && nat_lt s.class 4 && nat_lt 0 s.owner)
+has_owner s =
+    if s.class == CLIENT then s.owner == 0
+    else (nat_lt CLIENT s.class && nat_le s.class DEAD_LETTER && nat_lt 0 s.owner)
 
 unfoldable pub session_at : List ℕ → Field SessionId
 session_at bytes = checked has_owner (do
@@ -85,7 +97,7 @@ session_at bytes = checked has_owner (do
   Ok (record { class = class.0; owner = owner.0; number = number.0 }, number.1))
 
 abbrev pub is_counted : SessionId → Bool
-is_counted s = nat_lt s.class 3
+is_counted s = nat_lt s.class DEAD_LETTER
 
 abbrev pub has_seq : Stamp → Bool
 has_seq s = if is_counted s.session then nat_lt 0 s.seq else s.seq == 0
@@ -124,7 +136,12 @@ key_at bytes = do
   checked is_utf8 (bytes_at n.0 n.1)
 
 abbrev pub reason_of : ℕ → Option Reason
-reason_of n = if n == 1 then Some Rejected else if n == 2 then Some Expired else if n == 3 then Some MaxLen else if n == 4 then Some DeliveryLimit else None
+reason_of n =
+    if n == reasons.REJECTED then Some Rejected
+    else if n == reasons.EXPIRED then Some Expired
+    else if n == reasons.MAX_LEN then Some MaxLen
+    else if n == reasons.DELIVERY_LIMIT then Some DeliveryLimit
+    else None
 
 abbrev pub required : {A : Type 0} → Option A → Result A Refusal
 required None = Err BadField
@@ -147,7 +164,7 @@ message_at bytes = do
   body ← body_at bytes
   key ← key_at body.1
   deaths ← deaths_at key.1
-  Ok (record { size = length body.0; content = Some (record { body = body.0; key = key.0; deaths = deaths.0 }) }, deaths.1)
+  Ok (new_message (record { body = body.0; key = key.0; deaths = deaths.0 }), deaths.1)
 
 unfoldable pub mode_at : List ℕ → Field Mode
 mode_at bytes = do
@@ -260,40 +277,40 @@ dead_settle_at bytes = do
 
 unfoldable pub fields_at : ℕ → List ℕ → Field Command
 fields_at number bytes =
-    if number == 0 then noop_at bytes
-    else if number == 1 then enqueue_at bytes
-    else if number == 2 then get_at bytes
-    else if number == 3 then subscribe_at bytes
-    else if number == 4 then cancel_at bytes
-    else if number == 5 then credit_at bytes
-    else if number == 6 then settle_at bytes
-    else if number == 7 then return_at bytes
-    else if number == 8 then discard_at bytes
-    else if number == 9 then purge_at bytes
-    else if number == 10 then down_at bytes
-    else if number == 11 then dead_attach_at bytes
-    else if number == 12 then dead_settle_at bytes
+    if number == kinds.NOOP then noop_at bytes
+    else if number == kinds.ENQUEUE then enqueue_at bytes
+    else if number == kinds.GET then get_at bytes
+    else if number == kinds.SUBSCRIBE then subscribe_at bytes
+    else if number == kinds.CANCEL then cancel_at bytes
+    else if number == kinds.CREDIT then credit_at bytes
+    else if number == kinds.SETTLE then settle_at bytes
+    else if number == kinds.RETURN then return_at bytes
+    else if number == kinds.DISCARD then discard_at bytes
+    else if number == kinds.PURGE then purge_at bytes
+    else if number == kinds.DOWN then down_at bytes
+    else if number == kinds.DEAD_ATTACH then dead_attach_at bytes
+    else if number == kinds.DEAD_SETTLE then dead_settle_at bytes
     else Err BadKind
 
 -- the time and the command, which take all of the bytes
-unfoldable pub inside_at : List ℕ → Result (ℕ × Command) Refusal
-inside_at bytes = do
+unfoldable pub payload_at : List ℕ → Result (ℕ × Command) Refusal
+payload_at bytes = do
   time ← number_at w64 bytes
   number ← number_at w8 time.1
   command ← fields_at number.0 number.1
   if length command.1 == 0 then Ok (time.0, command.0) else Err BadField
 
--- The entry at the front, and how many bytes it takes. The term and the length have 12.
+-- the entry that is a prefix, and how many bytes it takes
 unfoldable pub entry_at : List ℕ → Result (Entry × ℕ) Refusal
-entry_at bytes = if nat_lt (length bytes) 12 then Err Short else do
+entry_at bytes = if nat_lt (length bytes) HEAD_LEN then Err Short else do
   term ← number_at w64 bytes
   len ← number_at w32 term.1
   if nat_lt LENGTH_LIMIT len.0 then Err TooLarge else if nat_lt (length len.1) len.0 then Err Short else do
-    x ← inside_at (take len.0 len.1)
-    Ok (record { term = record { 0 = term.0 }; time = x.0; command = x.1 }, 12 + len.0)
+    x ← payload_at (take len.0 len.1)
+    Ok (record { term = record { 0 = term.0 }; time = x.0; command = x.1 }, HEAD_LEN + len.0)
 
--- what was read: an entry with its content in range, whose spelling is at the front and as long as said
-pub record IsAtFront (bytes : List ℕ) (x : Entry × ℕ) : Type 0 where
+-- what was read: an entry with its content in range, whose encoding is a prefix of the bytes and as long as said
+pub record IsEntryPrefix (bytes : List ℕ) (x : Entry × ℕ) : Type 0 where
   pub writable : IsWritable x.0
-  pub front : take x.1 bytes ≡ spelling x.0
-  pub len : x.1 ≡ length (spelling x.0)
+  pub is : take x.1 bytes ≡ encoding x.0
+  pub len : x.1 ≡ length (encoding x.0)

@@ -1,28 +1,16 @@
-//! Reading the fields of a command from the front of bytes.
+//! Reading the fields of a command from a prefix of bytes.
 ghost use Rattle.std.specs.Prelude.{◌≡◌, ◌≤◌, List, length, IfOk};
 ghost use Rattle.std.specs.Int.{w8, w16, w32, w64};
-ghost use Rattle.qq_command.specs.Reading.{Gives, Field, number_at, bytes_at, positive_at, flag_at, has_owner, session_at, has_seq, stamp_at, counted_at, queue_at, origin_at, body_at, key_at, reason_of, death_at, deaths_at, message_at, mode_at, ids_at, dead_done_at, dead_dones_at, consumer_at, verdict_at, many};
+ghost use Rattle.qq_command.specs.Reading.{Gives, Field, number_at, bytes_at, positive_at, flag_at, has_owner, session_at, has_seq, stamp_at, counted_at, queue_at, origin_at, body_at, key_at, message_at, mode_at, consumer_at, verdict_at};
 
-use crate::answer::Refusal;
-use crate::command::{DeadDone, DeadDones, Mode, Stamp};
-use crate::limits::{BODY_LIMIT, DEAD_DONE_LIMIT, DEATHS_LIMIT, IDS_LIMIT, TARGETS_LIMIT};
-use crate::message::{Content, Death, Deaths, Message, Origin, Reason};
+use crate::lists::{deaths_at, ids_at};
+use crate::refusal::Refusal;
 use qq_base::{
-    Bytes, Ids, QueueId, QueueIds, SessionId, Text, take_u8, take_u16, take_u32, take_u64,
+    Bytes, CLIENT, DEAD_LETTER, Ids, QueueId, SessionId, Text, take_u8, take_u16, take_u32,
+    take_u64,
 };
+use qq_entry::{BODY_LIMIT, Content, Message, Mode, Origin, Stamp};
 use std::alloc::Global;
-
-/// The bytes of an id of a delivery.
-const ID_LEN: usize = 8;
-
-/// The bytes of a death.
-pub const DEATH_LEN: usize = 5;
-
-/// The bytes of a target.
-const TARGET_LEN: usize = 4;
-
-/// The least bytes of a dead letter that is settled.
-const DEAD_DONE_LEN: usize = 10;
 
 #[tactic(auto, unfolding(crate::specs::Reading::number_at))]
 pub fn u8_at(bytes: &[u8]) -> Result<(u8, &[u8]), Refusal>
@@ -87,7 +75,7 @@ fn positive_u32_at(bytes: &[u8]) -> Result<(u32, &[u8]), Refusal>
 }
 
 #[tactic(auto, unfolding(crate::specs::Reading::checked, crate::specs::Reading::positive_at))]
-fn positive_u64_at(bytes: &[u8]) -> Result<(u64, &[u8]), Refusal>
+pub fn positive_u64_at(bytes: &[u8]) -> Result<(u64, &[u8]), Refusal>
     ensures { Gives (λ x. (x.0, x.1.now)) result (positive_at w64 bytes.now) }
 {
     let (number, rest) = u64_at(bytes)?;
@@ -111,10 +99,10 @@ pub fn flag_at(bytes: &[u8]) -> Result<(bool, &[u8]), Refusal>
 fn has_owner(session: &SessionId) -> bool
     ensures { result ≡ has_owner session.now }
 {
-    if session.class == 1 {
+    if session.class == CLIENT {
         session.owner == 0
     } else {
-        1 < session.class && session.class < 4 && 0 < session.owner
+        CLIENT < session.class && session.class <= DEAD_LETTER && 0 < session.owner
     }
 }
 
@@ -139,7 +127,7 @@ pub fn session_at(bytes: &[u8]) -> Result<(SessionId, &[u8]), Refusal>
 fn has_seq(stamp: &Stamp) -> bool
     ensures { result ≡ has_seq stamp.now }
 {
-    if stamp.session.class < 3 {
+    if stamp.session.class < DEAD_LETTER {
         0 < stamp.seq
     } else {
         stamp.seq == 0
@@ -160,20 +148,20 @@ pub fn stamp_at(bytes: &[u8]) -> Result<(Stamp, &[u8]), Refusal>
     Ok((stamp, rest))
 }
 
-/// The stamp of a command that only classes 1 and 2 give.
+/// The stamp of a command that only clients and workers give.
 #[tactic(auto, unfolding(crate::specs::Reading::checked, crate::specs::Reading::counted_at))]
 pub fn counted_at(bytes: &[u8]) -> Result<(Stamp, &[u8]), Refusal>
     ensures { Gives (λ x. (x.0, x.1.now)) result (counted_at bytes.now) }
 {
     let (stamp, rest) = stamp_at(bytes)?;
-    if stamp.session.class >= 3 {
+    if stamp.session.class >= DEAD_LETTER {
         return Err(Refusal::BadField);
     }
     Ok((stamp, rest))
 }
 
 #[tactic(auto, unfolding(crate::specs::Reading::queue_at))]
-fn queue_at(bytes: &[u8]) -> Result<(QueueId, &[u8]), Refusal>
+pub fn queue_at(bytes: &[u8]) -> Result<(QueueId, &[u8]), Refusal>
     ensures { Gives (λ x. (x.0, x.1.now)) result (queue_at bytes.now) }
 {
     let (number, rest) = positive_u32_at(bytes)?;
@@ -219,56 +207,6 @@ fn key_at(alloc: Global, bytes: &[u8]) -> Result<(Text, &[u8]), Refusal>
     }
 }
 
-fn reason_of(number: u8) -> Option<Reason>
-    ensures { result ≡ reason_of number }
-{
-    match number {
-        1 => Some(Reason::Rejected),
-        2 => Some(Reason::Expired),
-        3 => Some(Reason::MaxLen),
-        4 => Some(Reason::DeliveryLimit),
-        _ => None,
-    }
-}
-
-#[tactic(auto, unfolding(crate::specs::Reading::death_at))]
-fn death_at(bytes: &[u8]) -> Result<(Death, &[u8]), Refusal>
-    ensures { Gives (λ x. (x.0, x.1.now)) result (death_at bytes.now) }
-{
-    let (queue, rest) = queue_at(bytes)?;
-    let (number, rest) = u8_at(rest)?;
-    match reason_of(number) {
-        Some(reason) => Ok((Death { queue, reason }, rest)),
-        None => Err(Refusal::BadField),
-    }
-}
-
-fn deaths_of(alloc: Global, count: usize, bytes: &[u8]) -> Result<(Vec<Death>, &[u8]), Refusal>
-    ensures { Gives (λ x. (x.0.items, x.1.now)) result (many death_at count bytes.now) }
-{
-    let mut deaths = Vec::with_capacity(alloc, count.min(bytes.len() / DEATH_LEN))?;
-    let mut rest = bytes;
-    'deaths: for _ in 0..count {
-        let (death, after) = death_at(rest)?;
-        deaths.push(death)?;
-        rest = after;
-    }
-    Ok((deaths, rest))
-}
-
-#[tactic(auto, unfolding(crate::specs::Reading::deaths_at))]
-fn deaths_at(alloc: Global, bytes: &[u8]) -> Result<(Deaths, &[u8]), Refusal>
-    ensures { Gives (λ x. (x.0, x.1.now)) result (deaths_at bytes.now) }
-{
-    let (count, rest) = u16_at(bytes)?;
-    let count = count as usize;
-    if count > DEATHS_LIMIT {
-        return Err(Refusal::TooLarge);
-    }
-    let (deaths, rest) = deaths_of(alloc, count, rest)?;
-    Ok((Deaths::from_vec(deaths), rest))
-}
-
 #[tactic(auto, unfolding(crate::specs::Reading::message_at))]
 pub fn message_at(alloc: Global, bytes: &[u8]) -> Result<(Message, &[u8]), Refusal>
     ensures { Gives (λ x. (x.0, x.1.now)) result (message_at bytes.now) }
@@ -276,15 +214,7 @@ pub fn message_at(alloc: Global, bytes: &[u8]) -> Result<(Message, &[u8]), Refus
     let (body, rest) = body_at(alloc, bytes)?;
     let (key, rest) = key_at(alloc, rest)?;
     let (deaths, rest) = deaths_at(alloc, rest)?;
-    let size = body.len() as u32;
-    let content = Content { body, key, deaths };
-    Ok((
-        Message {
-            size,
-            content: Some(content),
-        },
-        rest,
-    ))
+    Ok((Message::new(Content { body, key, deaths }), rest))
 }
 
 #[tactic(auto, unfolding(crate::specs::Reading::mode_at))]
@@ -300,93 +230,6 @@ pub fn mode_at(bytes: &[u8]) -> Result<(Mode, &[u8]), Refusal>
         return Err(Refusal::BadField);
     }
     Ok((Mode::Link, rest))
-}
-
-fn ids_of(alloc: Global, count: usize, bytes: &[u8]) -> Result<(Vec<u64>, &[u8]), Refusal>
-    ensures { Gives (λ x. (x.0.items, x.1.now)) result (many (positive_at w64) count bytes.now) }
-{
-    let mut ids = Vec::with_capacity(alloc, count.min(bytes.len() / ID_LEN))?;
-    let mut rest = bytes;
-    'ids: for _ in 0..count {
-        let (id, after) = positive_u64_at(rest)?;
-        ids.push(id)?;
-        rest = after;
-    }
-    Ok((ids, rest))
-}
-
-#[tactic(auto, unfolding(crate::specs::Reading::ids_at))]
-fn ids_at(alloc: Global, bytes: &[u8]) -> Result<(Ids, &[u8]), Refusal>
-    ensures { Gives (λ x. (x.0, x.1.now)) result (ids_at bytes.now) }
-{
-    let (count, rest) = u32_at(bytes)?;
-    let count = count as usize;
-    if count > IDS_LIMIT {
-        return Err(Refusal::TooLarge);
-    }
-    if count == 0 {
-        return Err(Refusal::BadField);
-    }
-    let (ids, rest) = ids_of(alloc, count, rest)?;
-    Ok((Ids::from_vec(ids), rest))
-}
-
-fn targets_of(alloc: Global, count: usize, bytes: &[u8]) -> Result<(Vec<QueueId>, &[u8]), Refusal>
-    ensures { Gives (λ x. (x.0.items, x.1.now)) result (many queue_at count bytes.now) }
-{
-    let mut targets = Vec::with_capacity(alloc, count.min(bytes.len() / TARGET_LEN))?;
-    let mut rest = bytes;
-    'targets: for _ in 0..count {
-        let (target, after) = queue_at(rest)?;
-        targets.push(target)?;
-        rest = after;
-    }
-    Ok((targets, rest))
-}
-
-#[tactic(auto, unfolding(crate::specs::Reading::checked, crate::specs::Reading::dead_done_at))]
-fn dead_done_at(alloc: Global, bytes: &[u8]) -> Result<(DeadDone, &[u8]), Refusal>
-    ensures { Gives (λ x. (x.0, x.1.now)) result (dead_done_at bytes.now) }
-{
-    let (number, rest) = positive_u64_at(bytes)?;
-    let (count, rest) = u16_at(rest)?;
-    let count = count as usize;
-    if count > TARGETS_LIMIT {
-        return Err(Refusal::BadField);
-    }
-    let (targets, rest) = targets_of(alloc, count, rest)?;
-    let targets = QueueIds::from_vec(targets);
-    Ok((DeadDone { number, targets }, rest))
-}
-
-fn dead_dones_of(
-    alloc: Global,
-    count: usize,
-    bytes: &[u8],
-) -> Result<(Vec<DeadDone>, &[u8]), Refusal>
-    ensures { Gives (λ x. (x.0.items, x.1.now)) result (many dead_done_at count bytes.now) }
-{
-    let mut done = Vec::with_capacity(alloc, count.min(bytes.len() / DEAD_DONE_LEN))?;
-    let mut rest = bytes;
-    'dead_dones: for _ in 0..count {
-        let (one, after) = dead_done_at(alloc, rest)?;
-        done.push(one)?;
-        rest = after;
-    }
-    Ok((done, rest))
-}
-
-#[tactic(auto, unfolding(crate::specs::Reading::checked, crate::specs::Reading::dead_dones_at))]
-pub fn dead_dones_at(alloc: Global, bytes: &[u8]) -> Result<(DeadDones, &[u8]), Refusal>
-    ensures { Gives (λ x. (x.0, x.1.now)) result (dead_dones_at bytes.now) }
-{
-    let (count, rest) = u16_at(bytes)?;
-    let count = count as usize;
-    if count == 0 || count > DEAD_DONE_LIMIT {
-        return Err(Refusal::BadField);
-    }
-    let (done, rest) = dead_dones_of(alloc, count, rest)?;
-    Ok((DeadDones::from_vec(done), rest))
 }
 
 /// A stamp, and the tag of a consumer of its session.

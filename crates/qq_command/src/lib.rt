@@ -1,32 +1,28 @@
-//! The commands, entries and answers of a queue: the types that all layers of the broker speak of.
+//! The commands of a queue and their bytes: one encoding for each entry, which is read again whatever
+//! follows it. The types stand in `qq_entry`, and are passed on.
 #![tactic(auto)]
 
-mod answer;
-mod audit;
-mod command;
 mod fields;
-mod limits;
-mod message;
+mod items;
+mod kinds;
+mod lengths;
+mod lists;
 mod put;
-mod queue;
 mod reading;
-mod table;
+mod reasons;
+mod refusal;
 mod writing;
 
-pub use answer::{Answer, Cause, Delivery, Full, Refusal};
-pub use audit::{AuditRow, Effect, Effects, Rows};
-pub use command::{Command, DeadDone, DeadDones, Entries, Entry, Mode, Stamp, Unstamped};
-pub use limits::{
-    BODY_LIMIT, DEAD_DONE_LIMIT, DEATHS_LIMIT, IDS_LIMIT, KEY_LIMIT, LENGTH_LIMIT, MACHINE_VERSION,
-    TARGETS_LIMIT, TERM_LIMIT,
+pub use qq_entry::{
+    Answer, AuditRow, BODY_LIMIT, Cause, Command, Content, DEAD_DONE_LIMIT, DEATHS_LIMIT,
+    DELIVERY_LIMIT, DeadDone, DeadDones, Death, Deaths, Delivery, Effect, Effects, Entries, Entry,
+    Full, IDS_LIMIT, KEY_LIMIT, LENGTH_LIMIT, LIVE_LIMIT, MACHINE_VERSION, Members, Message, Mode,
+    Origin, Overflow, QueueArgs, ReadyRow, Reason, Rows, Stamp, Standing, Strategy, TARGETS_LIMIT,
+    TERM_LIMIT, Table, Unstamped,
 };
-pub use message::{Content, Death, Deaths, Message, Origin, ReadyRow, Reason};
-pub use queue::{Members, Overflow, QueueArgs, Strategy};
-pub use reading::{decode, entries_read_back, no_spelling_begins_another};
-pub use table::{Standing, Table};
+pub use reading::{decode, entries_read_back, no_encoding_begins_another};
+pub use refusal::Refusal;
 pub use writing::{encode, put_entry};
 
-#[cfg(test)]
-mod format_tests;
 #[cfg(test)]
 mod tests;

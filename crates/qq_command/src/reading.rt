@@ -1,24 +1,21 @@
-//! Reading an entry from the front of bytes.
-ghost use Rattle.std.specs.Prelude.{◌≡◌, ◌++◌, ◌+◌, ◌≤◌, List, ℕ, length, IfOk, Ok, Err};
+//! Reading an entry from a prefix of bytes.
+ghost use Rattle.std.specs.Prelude.{◌≡◌, ◌≤◌, List, ℕ, length, IfOk, Ok, Err};
 ghost use Rattle.qq_base.specs.declared.memory.Memory.{Memory};
-ghost use Rattle.qq_command.specs.declared.command.Entry.{Entry};
-ghost use Rattle.qq_base.specs.Fields.{AreBytes};
-ghost use Rattle.qq_command.specs.Range.{IsInRange, IsWritable};
-ghost use Rattle.qq_command.specs.Spelling.{spelling};
-ghost use Rattle.qq_command.specs.Reading.{Gives, IsAtFront, noop_at, enqueue_at, get_at, subscribe_at, cancel_at, credit_at, settle_at, return_at, discard_at, purge_at, down_at, dead_attach_at, dead_settle_at, fields_at, inside_at, entry_at};
+ghost use Rattle.qq_entry.specs.declared.command.Entry.{Entry};
+ghost use Rattle.qq_command.specs.Laws.{ReadsEntryPrefix, IsReadAgain, HasOneEncoding, HasShortEncoding, IsAlone};
+ghost use Rattle.qq_command.specs.Reading.{Gives, IsEntryPrefix, noop_at, enqueue_at, get_at, subscribe_at, cancel_at, credit_at, settle_at, return_at, discard_at, purge_at, down_at, dead_attach_at, dead_settle_at, fields_at, payload_at, entry_at};
 
-use crate::answer::Refusal;
-use crate::command::{Command, Entry};
 use crate::fields::{
-    consumer_at, counted_at, dead_dones_at, flag_at, message_at, mode_at, origin_at, session_at,
-    stamp_at, u8_at, u32_at, u64_at, verdict_at,
+    consumer_at, counted_at, flag_at, message_at, mode_at, origin_at, session_at, stamp_at, u8_at,
+    u32_at, u64_at, verdict_at,
 };
-use crate::limits::{LENGTH_LIMIT, MACHINE_VERSION, TERM_LIMIT};
-use qq_base::Term;
+use crate::kinds;
+use crate::lengths::HEAD_LEN;
+use crate::lists::dead_dones_at;
+use crate::refusal::Refusal;
+use qq_base::{DEAD_LETTER, Term};
+use qq_entry::{Command, Entry, LENGTH_LIMIT, MACHINE_VERSION, TERM_LIMIT};
 use std::alloc::Global;
-
-/// The bytes of an entry's term and length.
-const HEAD_LEN: usize = 12;
 
 #[tactic(auto, unfolding(crate::specs::Reading::checked, crate::specs::Reading::noop_at))]
 fn noop_at(bytes: &[u8]) -> Result<(Command, &[u8]), Refusal>
@@ -130,7 +127,7 @@ fn down_at(bytes: &[u8]) -> Result<(Command, &[u8]), Refusal>
     ensures { Gives (λ x. (x.0, x.1.now)) result (down_at bytes.now) }
 {
     let (session, rest) = session_at(bytes)?;
-    if session.class >= 3 {
+    if session.class >= DEAD_LETTER {
         return Err(Refusal::BadField);
     }
     Ok((Command::Down { session }, rest))
@@ -167,27 +164,27 @@ fn fields_at(alloc: Global, kind: u8, bytes: &[u8]) -> Result<(Command, &[u8]), 
     ensures { Gives (λ x. (x.0, x.1.now)) result (fields_at kind bytes.now) }
 {
     match kind {
-        0 => noop_at(bytes),
-        1 => enqueue_at(alloc, bytes),
-        2 => get_at(bytes),
-        3 => subscribe_at(bytes),
-        4 => cancel_at(bytes),
-        5 => credit_at(bytes),
-        6 => settle_at(alloc, bytes),
-        7 => return_at(alloc, bytes),
-        8 => discard_at(alloc, bytes),
-        9 => purge_at(bytes),
-        10 => down_at(bytes),
-        11 => dead_attach_at(bytes),
-        12 => dead_settle_at(alloc, bytes),
+        kinds::NOOP => noop_at(bytes),
+        kinds::ENQUEUE => enqueue_at(alloc, bytes),
+        kinds::GET => get_at(bytes),
+        kinds::SUBSCRIBE => subscribe_at(bytes),
+        kinds::CANCEL => cancel_at(bytes),
+        kinds::CREDIT => credit_at(bytes),
+        kinds::SETTLE => settle_at(alloc, bytes),
+        kinds::RETURN => return_at(alloc, bytes),
+        kinds::DISCARD => discard_at(alloc, bytes),
+        kinds::PURGE => purge_at(bytes),
+        kinds::DOWN => down_at(bytes),
+        kinds::DEAD_ATTACH => dead_attach_at(bytes),
+        kinds::DEAD_SETTLE => dead_settle_at(alloc, bytes),
         _ => Err(Refusal::BadKind),
     }
 }
 
 /// The time and the command, which take all of the bytes.
-#[tactic(auto, unfolding(crate::specs::Reading::inside_at))]
-fn inside_at(alloc: Global, bytes: &[u8]) -> Result<(u64, Command), Refusal>
-    ensures { Gives (λ x. x) result (inside_at bytes.now) }
+#[tactic(auto, unfolding(crate::specs::Reading::payload_at))]
+fn payload_at(alloc: Global, bytes: &[u8]) -> Result<(u64, Command), Refusal>
+    ensures { Gives (λ x. x) result (payload_at bytes.now) }
 {
     let (time, rest) = u64_at(bytes)?;
     let (kind, rest) = u8_at(rest)?;
@@ -214,7 +211,7 @@ fn entry_at(alloc: Global, bytes: &[u8]) -> Result<(Entry, usize), Refusal>
     if rest.len() < length {
         return Err(Refusal::Short);
     }
-    let (time, command) = inside_at(alloc, rest.split_at(length).0)?;
+    let (time, command) = payload_at(alloc, rest.split_at(length).0)?;
     let entry = Entry {
         term: Term(term),
         time,
@@ -223,19 +220,19 @@ fn entry_at(alloc: Global, bytes: &[u8]) -> Result<(Entry, usize), Refusal>
     Ok((entry, HEAD_LEN + length))
 }
 
-/// The entry at the front of the bytes, and how many bytes it takes. What follows it isn't looked at.
+/// The entry that is a prefix of the bytes, and how many bytes it takes. What follows isn't looked at.
 ///
-/// It is refused field by field from the front, with the first that applies. `Short` is for bytes that
-/// end before the term and the length, or before as many bytes as the length says. `TooLarge` is for a
-/// length above `LENGTH_LIMIT`, a body above `BODY_LIMIT`, more ids than `IDS_LIMIT` and more deaths than
-/// `DEATHS_LIMIT`. `BadKind` is for a kind above 12. `BadField` is for a value out of its range, for a
-/// field that passes the length's end, and for bytes that are left before that end. The only cause of
-/// `Memory` is want of memory.
+/// The first fault is answered. First come the term and the length: `Short` where they aren't whole, then
+/// `TooLarge` for a length above `LENGTH_LIMIT`, then `Short` where fewer bytes follow than the length
+/// says. Then the time, the kind and the fields are read in their order: `BadKind` for a kind above 12;
+/// `TooLarge` for a body above `BODY_LIMIT`, more deaths than `DEATHS_LIMIT` and more ids than `IDS_LIMIT`;
+/// `BadField` for any other value out of its range, and for a field that passes the length's end. Last
+/// comes `BadField` for bytes that are left before that end. `Memory` is out of memory.
 pub fn decode(alloc: Global, bytes: &[u8]) -> Result<(Entry, usize), Refusal>
-    // What is read is in range and has its content, and its spelling is what stands at the front.
-    ensures found { IfOk result (λ x. IsAtFront bytes.now x) }
-    // An entry in range whose spelling stands at the front is read, whatever follows it.
-    ensures only { (e : Entry) (rest : List ℕ) → IsWritable e → bytes.now ≡ spelling e ++ rest → Gives (λ x. x) result (Ok (e, length (spelling e))) }
+    // What is read is in range and has its content, and its encoding is a prefix of the bytes.
+    ensures found { IfOk result (λ x. IsEntryPrefix bytes.now x) }
+    // An entry in range whose encoding is a prefix of the bytes is read, whatever follows it.
+    ensures only { ReadsEntryPrefix bytes.now result }
     ensures within { IfOk result (λ x. x.1 ≤ length bytes.now) }
     // Which refusal it is.
     ensures exact { Gives (λ x. x) result (entry_at bytes.now) }
@@ -244,15 +241,15 @@ pub fn decode(alloc: Global, bytes: &[u8]) -> Result<(Entry, usize), Refusal>
     entry_at(alloc, bytes)
 }
 
-/// A law: an entry's spelling is read again whatever follows it, what is read has that spelling and no
-/// other, and no spelling is longer than its limit.
+/// A law: an entry's encoding is read again whatever follows it, what is read has that encoding and no
+/// other, and no encoding is longer than its limit.
 pub fn entries_read_back()
-    ensures again { (e : Entry) (rest : List ℕ) → IsWritable e → entry_at (spelling e ++ rest) ≡ Ok (e, length (spelling e)) }
-    ensures alone { (bytes : List ℕ) (x : Entry × ℕ) → AreBytes bytes → entry_at bytes ≡ Ok x → IsAtFront bytes x }
-    ensures short { (e : Entry) → IsInRange e → length (spelling e) ≤ 12 + LENGTH_LIMIT }
+    ensures again { (e : Entry) (rest : List ℕ) → IsReadAgain e rest }
+    ensures alone { (bytes : List ℕ) (x : Entry × ℕ) → HasOneEncoding bytes x }
+    ensures short { (e : Entry) → HasShortEncoding e }
 {}
 
-/// A law: no entry's spelling begins another's, so what was written is read again whatever follows it.
-pub fn no_spelling_begins_another()
-    ensures { (a b : Entry) (x y : List ℕ) → IsWritable a → IsWritable b → spelling a ++ x ≡ spelling b ++ y → (a ≡ b) × (x ≡ y) }
+/// A law: no entry's encoding begins another's, so what was written is read again whatever follows it.
+pub fn no_encoding_begins_another()
+    ensures { (a b : Entry) (x y : List ℕ) → IsAlone a b x y }
 {}

@@ -2,4 +2,4 @@ pub mod Crashes
 pub mod Moments
 pub mod Named
 pub mod Names
-mod Stored
+pub mod Stored

@@ -38,25 +38,31 @@ same_name-true a b e =
     λ i. record { kind = kinds i; number = numbers i }
 
 pub same_name-refl : (a : FileName) → same_name a a ≡ true
-same_name-refl a = ap (λ (o : Ordering). is_eq (ordering_then o (nat_cmp a.number a.number))) (itself (rank a.kind)) ∙ ap is_eq (itself a.number)
+same_name-refl a =
+    ap (λ (o : Ordering). is_eq (ordering_then o (nat_cmp a.number a.number))) (itself (rank a.kind))
+    ∙ ap is_eq (itself a.number)
 
 -- what stands under the name
 pub set-at : (d : Disk) (file : FileName) (o : Option FileState) → set d file o file ≡ o
 set-at d file o = ap (λ (b : Bool). cond b o (d file)) (same_name-refl file)
 
 -- what stands under another
-pub set-other : (d : Disk) (file other : FileName) (o : Option FileState) → same_name file other ≡ false → set d file o other ≡ d other
+pub set-other : (d : Disk) (file other : FileName) (o : Option FileState) → same_name file other ≡ false
+    → set d file o other ≡ d other
 set-other d file other o apart = ap (λ (b : Bool). cond b o (d other)) apart
 
-back : (d : Disk) (file : FileName) (o : Option FileState) (other : FileName) (same : Bool) → same_name file other ≡ same → set (set d file o) file (d file) other ≡ d other
-back d file o other true e = ap (λ (b : Bool). cond b (d file) (cond b o (d other))) e ∙ ap d (same_name-true file other e)
+back : (d : Disk) (file : FileName) (o : Option FileState) (other : FileName) (same : Bool)
+    → same_name file other ≡ same → set (set d file o) file (d file) other ≡ d other
+back d file o other true e =
+    ap (λ (b : Bool). cond b (d file) (cond b o (d other))) e ∙ ap d (same_name-true file other e)
 back d file o other false e = ap (λ (b : Bool). cond b (d file) (cond b o (d other))) e
 
 -- what the disk had, put back
 pub set-back : (d : Disk) (file : FileName) (o : Option FileState) → set (set d file o) file (d file) ≡ d
 set-back d file o = λ i other. back d file o other (same_name file other) refl i
 
-same : (d : Disk) (file other : FileName) (at : Bool) → same_name file other ≡ at → set d file (d file) other ≡ d other
+same : (d : Disk) (file other : FileName) (at : Bool) → same_name file other ≡ at
+    → set d file (d file) other ≡ d other
 same d file other true e = ap (λ (b : Bool). cond b (d file) (d other)) e ∙ ap d (same_name-true file other e)
 same d file other false e = ap (λ (b : Bool). cond b (d file) (d other)) e
 

@@ -1,7 +1,7 @@
 -- Calls in a row, as they change a disk.
 use Rattle.std.specs.Prelude.{◌≡◌, ℕ, false, List, [], ◌∷◌}
 use Rattle.qq_disk.specs.declared.name.FileName.{FileName}
-use Rattle.qq_disk.specs.Disk.{Disk, appended, synced, removed}
+use Rattle.qq_disk.specs.Disk.{Disk, append, sync, remove}
 use Rattle.qq_disk.specs.Name.{same_name}
 
 -- a call that changes the disk; an append that failed counts with the bytes that it added
@@ -10,15 +10,15 @@ pub data Call : Type 0 where
   Sync : (file : FileName) → Call
   Remove : (file : FileName) → Call
 
-abbrev pub done : Disk → Call → Disk
-done d (Append file bytes) = appended d file bytes
-done d (Sync file) = synced d file
-done d (Remove file) = removed d file
+abbrev pub apply : Disk → Call → Disk
+apply d (Append file bytes) = append d file bytes
+apply d (Sync file) = sync d file
+apply d (Remove file) = remove d file
 
 -- the disk after calls, the first of them first
 abbrev pub after : Disk → List Call → Disk
 after d [] = d
-after d (call ∷ calls) = after (done d call) calls
+after d (call ∷ calls) = after (apply d call) calls
 
 -- none of the calls removes the file
 abbrev pub Spares : FileName → List Call → Type 0

@@ -34,5 +34,5 @@ abbrev pub LeavesOnly : (Remains → Type 0) → List Disk → List Disk → Typ
 LeavesOnly P old new = Adds (Leaves P) old new
 
 -- the disk after a crash: all that is left is kept
-abbrev pub reopened : Remains → Disk
-reopened i = λ file. option_map whole (i file)
+abbrev pub reopen : Remains → Disk
+reopen i = λ file. option_map whole (i file)

@@ -4,7 +4,8 @@ use Rattle.std.specs.List.Sorted.{IsStrictlySortedBy}
 use Rattle.qq_disk.specs.declared.name.FileName.{FileName}
 use Rattle.qq_disk.specs.Name.{name_cmp, same_name}
 
--- a file: the bytes that a sync has kept and those that none has kept yet, whether the file was ever synced, and whether it is removed
+-- a file: the bytes that a sync has kept and those that none has kept yet, whether the file was ever synced,
+-- and whether it is removed
 pub record FileState : Type 0 where
   pub kept : List ℕ
   pub pending : List ℕ
@@ -27,54 +28,54 @@ abbrev pub set : Disk → FileName → Option FileState → Disk
 set d file state = λ other. if same_name file other then state else d other
 
 -- an empty file that was never synced
-abbrev pub fresh : FileState
-fresh = record { kept = []; pending = []; synced = false; removed = false }
+abbrev pub new_file : FileState
+new_file = record { kept = []; pending = []; synced = false; removed = false }
 
 -- the file that an append adds to: one that is absent or removed begins anew
-abbrev pub opened : Option FileState → FileState
-opened None = fresh
-opened (Some f) = if f.removed then fresh else f
+abbrev pub append_target : Option FileState → FileState
+append_target None = new_file
+append_target (Some f) = if f.removed then new_file else f
 
-abbrev pub grown : FileState → List ℕ → FileState
-grown f bytes = record f { pending = f.pending ++ bytes }
+abbrev pub grow : FileState → List ℕ → FileState
+grow f bytes = record f { pending = f.pending ++ bytes }
 
-abbrev pub appended : Disk → FileName → List ℕ → Disk
-appended d file bytes = set d file (Some (grown (opened (d file)) bytes))
+abbrev pub append : Disk → FileName → List ℕ → Disk
+append d file bytes = set d file (Some (grow (append_target (d file)) bytes))
 
 -- a file all of whose bytes are kept
 abbrev pub whole : List ℕ → FileState
 whole bytes = record { kept = bytes; pending = []; synced = true; removed = false }
 
 -- what a sync makes of a file: one that is removed stays as it is
-abbrev pub kept_whole : FileState → FileState
-kept_whole f = if f.removed then f else whole (f.kept ++ f.pending)
+abbrev pub keep : FileState → FileState
+keep f = if f.removed then f else whole (f.kept ++ f.pending)
 
-abbrev pub synced : Disk → FileName → Disk
-synced d file = set d file (option_map kept_whole (d file))
+abbrev pub sync : Disk → FileName → Disk
+sync d file = set d file (option_map keep (d file))
 
 -- the file is marked, and keeps its bytes
-abbrev pub marked : FileState → FileState
-marked f = record f { removed = true }
+abbrev pub mark_removed : FileState → FileState
+mark_removed f = record f { removed = true }
 
-abbrev pub removed : Disk → FileName → Disk
-removed d file = set d file (option_map marked (d file))
+abbrev pub remove : Disk → FileName → Disk
+remove d file = set d file (option_map mark_removed (d file))
 
 -- ---- what the calls read
 
 -- a file's bytes as the calls show them, None where it is absent or removed
-abbrev pub visible : Option FileState → Option (List ℕ)
-visible None = None
-visible (Some f) = if f.removed then None else Some (f.kept ++ f.pending)
+abbrev pub file_content : Option FileState → Option (List ℕ)
+file_content None = None
+file_content (Some f) = if f.removed then None else Some (f.kept ++ f.pending)
 
 -- the disk as it reads
-abbrev pub shows : Disk → FileName → Option (List ℕ)
-shows d file = visible (d file)
+abbrev pub contents : Disk → FileName → Option (List ℕ)
+contents d file = file_content (d file)
 
-abbrev pub shown : Disk → FileName → List ℕ
-shown d file = unwrap_or (shows d file) []
+abbrev pub content : Disk → FileName → List ℕ
+content d file = unwrap_or (contents d file) []
 
 abbrev pub IsListed : Disk → FileName → Type 0
-IsListed d file = IsTrue (is_some (shows d file))
+IsListed d file = IsTrue (is_some (contents d file))
 
 -- the names of the files that are there, each before those that follow it
 pub record IsListing (d : Disk) (names : List FileName) : Type 0 where

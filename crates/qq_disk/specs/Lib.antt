@@ -1,6 +1,7 @@
 pub mod Calls
 pub mod Crash
 pub mod Disk
+pub mod Either
 pub mod Fault
 pub mod Image
 pub mod Moments

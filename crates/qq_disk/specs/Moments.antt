@@ -4,7 +4,7 @@ use Rattle.std.specs.List.{AllByRecursion}
 use Rattle.qq_disk.specs.declared.name.FileName.{FileName}
 use Rattle.qq_disk.specs.declared.fault.DiskFault.{DiskFault}
 use Rattle.qq_disk.specs.declared.fault.DiskFault.TheVariants.{Failed, Memory as OfMemory}
-use Rattle.qq_disk.specs.Disk.{Disk, appended, synced, removed}
+use Rattle.qq_disk.specs.Disk.{Disk, append, sync, remove}
 
 -- each moment since old has P
 pub record Adds (P : Disk → Type 0) (old new : List Disk) : Type 0 where
@@ -14,13 +14,13 @@ pub record Adds (P : Disk → Type 0) (old new : List Disk) : Type 0 where
 
 -- while bytes are appended, and where that fails: as before, or with a first part of them
 abbrev pub IsAppending : Disk → FileName → List ℕ → Disk → Type 0
-IsAppending d file bytes e = (e ≡ d) ⊎ ((count : ℕ) × (e ≡ appended d file (take count bytes)))
+IsAppending d file bytes e = (e ≡ d) ⊎ ((count : ℕ) × (e ≡ append d file (take count bytes)))
 
 abbrev pub IsSyncing : Disk → FileName → Disk → Type 0
-IsSyncing d file e = (e ≡ d) ⊎ (e ≡ synced d file)
+IsSyncing d file e = (e ≡ d) ⊎ (e ≡ sync d file)
 
 abbrev pub IsRemoving : Disk → FileName → Disk → Type 0
-IsRemoving d file e = (e ≡ d) ⊎ (e ≡ removed d file)
+IsRemoving d file e = (e ≡ d) ⊎ (e ≡ remove d file)
 
 -- for want of memory the disk does nothing
 abbrev pub StaysAtWant : List Disk → List Disk → DiskFault → Type 0

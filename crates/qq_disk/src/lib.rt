@@ -3,6 +3,7 @@
 //! `NodeDisk` is the contract that each disk meets. `docs/DISK.md` says it in prose.
 #![tactic(auto)]
 
+mod either_disk;
 mod fault;
 mod image;
 mod laws;
@@ -10,6 +11,7 @@ mod name;
 mod node_disk;
 mod two_records;
 
+pub use either_disk::EitherDisk;
 pub use fault::DiskFault;
 pub use image::{Image, Tail};
 pub use laws::{a_crash_settles, a_disk_shows_an_image, a_named_image_is_one, synced_bytes_stay};

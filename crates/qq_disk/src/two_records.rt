@@ -1,8 +1,9 @@
 //! A use of a disk: two records are stored, over any disk and by its contract alone.
 ghost use Rattle.std.specs.Prelude.{◌≡◌, ◌+◌, ◌++◌, Some, length, IsTrue, OnOk};
-ghost use Rattle.qq_disk.specs.Disk.{now, shown};
+ghost use Rattle.qq_disk.specs.Disk.{now, content};
 ghost use Rattle.qq_disk.specs.Crash.{Leaves, LeavesOnly};
-ghost use Rattle.qq_disk.specs.Fault.{HasCause};
+ghost use Rattle.qq_base.specs.Causes.{HasCause};
+ghost use Rattle.qq_disk.specs.Fault.{IsCaused};
 ghost use Rattle.qq_disk.specs.Records.{IsKeptWhole, Extends};
 
 use crate::{DiskFault, FileName, NodeDisk};
@@ -16,20 +17,21 @@ pub fn store_two<D: NodeDisk>(
     first: &[u8],
     second: &[u8],
 ) -> Result<(), DiskFault>
-    requires { IsTrue D.tells → IsKeptWhole (now (D.past disk.old)) file }
+    requires { IsTrue (D.tells disk.old) → IsKeptWhole (now (D.past disk.old)) file }
 
     // Once the call has returned Ok, each crash leaves a file that has both.
-    ensures stored { IsTrue D.tells →
-        let old = shown (now (D.past disk.old)) file in
-        OnOk result (Leaves (λ i. i file ≡ Some (old ++ first.now ++ second.now)) (now (D.past disk.new))) }
+    ensures stored { IsTrue (D.tells disk.old) →
+        let old = content (now (D.past disk.old)) file in
+        let all = old ++ first.now ++ second.now in
+        OnOk result (Leaves (λ i. i file ≡ Some all) (now (D.past disk.new))) }
 
     // At each moment a crash leaves the old bytes, and then others no longer than the new ones.
-    ensures any_moment { IsTrue D.tells →
-        let old = shown (now (D.past disk.old)) file in
+    ensures any_moment { IsTrue (D.tells disk.old) →
+        let old = content (now (D.past disk.old)) file in
         let most = length first.now + length second.now in
         LeavesOnly (λ i. Extends old most (i file)) (D.past disk.old) (D.past disk.new) }
 
-    ensures cause { HasCause (D.faults disk.old) (D.faults disk.new) result }
+    ensures cause { HasCause IsCaused (D.faults disk.old) (D.faults disk.new) result }
 {
     disk.append(alloc, file, first)?;
     disk.append(alloc, file, second)?;

@@ -1,4 +1,4 @@
-pub mod Reasons
+pub mod Always
 pub mod Published
 pub mod Rows
 pub mod Once
@@ -6,3 +6,7 @@ pub mod Active
 pub mod Ids
 pub mod Credit
 pub mod Turns
+pub mod Numbers
+pub mod Taken
+pub mod Kept
+pub mod Served

@@ -1,49 +1,66 @@
 //! Laws of consumers.
 
-ghost use Rattle.std.specs.Prelude.{◌≡◌, List, Some, All, true};
+ghost use Rattle.std.specs.Prelude.{List};
 ghost use Rattle.qq_base.specs.declared.ids.Index.{Index};
-ghost use Rattle.qq_base.specs.declared.ids.ConsumerId.{ConsumerId};
-ghost use Rattle.qq_command.specs.declared.queue.QueueArgs.{QueueArgs};
-ghost use Rattle.qq_command.specs.declared.command.Command.{Command};
-ghost use Rattle.qq_command.specs.declared.command.Entry.{Entry};
+ghost use Rattle.qq_entry.specs.declared.queue.QueueArgs.{QueueArgs};
+ghost use Rattle.qq_entry.specs.declared.command.Command.{Command};
+ghost use Rattle.qq_entry.specs.declared.command.Entry.{Entry};
 ghost use Rattle.qq_model.specs.declared.consumer.Consumer.{Consumer};
 ghost use Rattle.qq_model.specs.declared.place.Row.{Row};
-ghost use Rattle.qq_model.specs.State.{State, empty_queue};
-ghost use Rattle.qq_model.specs.Choice.{longest_waiting};
-ghost use Rattle.qq_model.specs.Step.{carried_out};
-ghost use Rattle.qq_model.specs.Audit.{audit_of, deliveries, next_step, state_after};
-ghost use Rattle.qq_laws.specs.Once.{IsNumbered};
-ghost use Rattle.qq_laws.specs.Ids.{CountByOne};
+ghost use Rattle.qq_model.specs.State.{State};
+ghost use Rattle.qq_model.specs.Changes.{Progress};
+ghost use Rattle.qq_laws.specs.Always.{Always};
+ghost use Rattle.qq_laws.specs.Ids.{CountsDeliveries};
+ghost use Rattle.qq_laws.specs.Kept.{NobodyWaits};
 ghost use Rattle.qq_laws.specs.Credit.{FillsPrefetch};
-ghost use Rattle.qq_laws.specs.Turns.{HasWaitedLongest};
-ghost use Rattle.qq_laws.specs.Active.{active_id, consumers_served, DeliversOnlyTo, DeliversToOne};
+ghost use Rattle.qq_laws.specs.Served.{LeavesOut, ServesWhoWaits};
+ghost use Rattle.qq_laws.specs.Turns.{ServesInTurn};
+ghost use Rattle.qq_laws.specs.Active.{ServesActiveAlone, ServesOne};
 
 /// Under a single active consumer all that a command delivers goes to one: the longest joined consumer
 /// that isn't cancelled, of the consumers as the command itself leaves them (RabbitMQ, "Single Active
 /// Consumer").
 pub fn the_active_consumer_is_served_alone()
-    ensures { (s : State) (index : Index) (command : Command) → s.args.single_active ≡ true → All (DeliversOnlyTo (active_id (consumers_served s index command))) (carried_out index command s).progress.effects }
+    ensures { (s : State) (index : Index) (command : Command) → ServesActiveAlone s index command }
 {}
 
 /// The deliveries to a consumer have the ids 1, 2, 3 and so on, over all entries (AMQP 0-9-1, delivery
 /// tags).
 pub fn delivery_ids_count_by_one()
-    ensures { (args : QueueArgs) (entries : List Entry) (consumer : ConsumerId) → IsNumbered consumer.session → CountByOne (deliveries (empty_queue args) (audit_of (empty_queue args) entries) consumer) }
+    ensures { (args : QueueArgs) (entries : List Entry) → CountsDeliveries args entries }
 {}
 
 /// What a consumer with a prefetch may still get, and what it hasn't settled, are its prefetch
 /// together: it never has more (RabbitMQ, "Consumer Prefetch").
 pub fn prefetch_is_kept()
-    ensures { (args : QueueArgs) (entries : List Entry) → FillsPrefetch (state_after (empty_queue args) entries) }
+    ensures { Always FillsPrefetch }
 {}
 
 /// Consumers are served in turn: of those that may be served the one that has waited the longest is
 /// next (RabbitMQ, "Consumers").
 pub fn consumers_are_served_in_turn()
-    ensures { (rows : List Row) (consumers : List Consumer) (consumer : Consumer) → longest_waiting rows consumers ≡ Some consumer → HasWaitedLongest rows consumers consumer }
+    ensures { (rows : List Row) (consumers : List Consumer) → ServesInTurn rows consumers }
 {}
 
 /// Under a single active consumer all that an entry delivers goes to one consumer.
 pub fn one_consumer_is_served_at_a_time()
-    ensures { (s : State) (entry : Entry) → s.args.single_active ≡ true → DeliversToOne (next_step s entry).effects }
+    ensures { (s : State) (entry : Entry) → ServesOne s entry }
+{}
+
+/// Without a single active consumer nobody waits in vain: after each entry no message is ready while a
+/// consumer may be served.
+pub fn nobody_waits_in_vain()
+    ensures { Always NobodyWaits }
+{}
+
+/// Each message that an entry delivers is with that consumer after the entry, under the id of the
+/// delivery, and was returned as often as the delivery says (AMQP 0-9-1, delivery tags).
+pub fn deliveries_are_out()
+    ensures { Always (λ s. (entry : Entry) → LeavesOut s entry) }
+{}
+
+/// A delivery goes only to a consumer that has joined, isn't cancelled and has free credit, under its
+/// next id (RabbitMQ, "Consumer Prefetch"; AMQP 1.0, link credit).
+pub fn deliveries_go_to_who_waits()
+    ensures { (p next : Progress) → ServesWhoWaits p next }
 {}

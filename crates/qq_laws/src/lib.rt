@@ -7,15 +7,18 @@ mod messages;
 mod sessions;
 
 pub use consumers::{
-    consumers_are_served_in_turn, delivery_ids_count_by_one, one_consumer_is_served_at_a_time,
+    consumers_are_served_in_turn, deliveries_are_out, deliveries_go_to_who_waits,
+    delivery_ids_count_by_one, nobody_waits_in_vain, one_consumer_is_served_at_a_time,
     prefetch_is_kept, the_active_consumer_is_served_alone,
 };
 pub use messages::{
-    deliveries_show_publishes, entries_move_messages, gets_show_publishes, messages_add_up,
-    messages_are_gone_for_a_reason, messages_are_in_order, messages_last, publishes_are_kept,
-    the_first_message_is_next,
+    deliveries_show_publishes, deliveries_stay_out, entries_move_messages, gets_show_publishes,
+    gets_take_the_first_message, limits_are_kept, messages_add_up, messages_are_gone_for_a_reason,
+    messages_are_in_order, messages_last, publishes_are_kept, publishes_are_rejected_at_limits,
+    purges_take_the_ready, the_first_message_is_next,
 };
 pub use sessions::{
-    commands_are_carried_out_once, fresh_where_let_in, repeats_are_answered_as_before,
-    repeats_are_turned_away, turned_away_changes_nothing,
+    commands_are_carried_out_once, commands_are_fresh_where_let_in, commands_count_by_one,
+    commands_turned_away_change_nothing, marks_only_rise, repeats_are_answered_as_before,
+    repeats_are_turned_away, repeats_have_the_first_answer,
 };

@@ -1,7 +1,7 @@
 //! The program `qq`: it hands its words, its standard input and its standard output to the broker.
 #![tactic(auto)]
 
-use qq_broker::{Status, run};
+use qq_broker::{run, status};
 use qq_ports::{StdSink, StdSource, write_all};
 use std::process::ExitCode;
 use std::rt::Env;
@@ -23,8 +23,8 @@ fn main(rt: HostRuntime) -> ExitCode {
         Ok(words) => run(&rt, &words, &mut input, &mut output),
         Err(error) if error.kind() == io::ErrorKind::OutOfMemory => {
             match write_all(&mut output, b"memory\n") {
-                Ok(()) => Status::Memory.code(),
-                Err(_) => Status::WriteFault.code(),
+                Ok(()) => status::NO_MEMORY,
+                Err(_) => status::WRITE_FAULT,
             }
         }
         // Words that aren't text are no command.

@@ -6,25 +6,26 @@ use Rattle.qq_disk.specs.declared.fault.DiskFault.TheVariants.{Failed, Memory as
 use Rattle.qq_mem_disk.specs.declared.counter.Counter.{Counter}
 
 -- one more, as far as 64 bits count
-abbrev pub raised : ℕ → ℕ
-raised n = min (n + 1) (2 ^ 64 - 1)
+abbrev pub raise : ℕ → ℕ
+raise n = min (n + 1) (2 ^ 64 - 1)
 
 abbrev pub is_blown : Option ℕ → Bool
 is_blown (Some zero) = true
 is_blown _ = false
 
-abbrev pub burnt : Option ℕ → Option ℕ
-burnt None = None
-burnt (Some zero) = Some zero
-burnt (Some (suc k)) = Some k
+abbrev pub burn : Option ℕ → Option ℕ
+burn None = None
+burn (Some zero) = Some zero
+burn (Some (suc k)) = Some k
 
 -- the next call fails: the fuse is blown, or its number is listed
 abbrev pub will_fail : Counter → Bool
-will_fail c = is_blown c.fuse || list_any (λ n. nat_eq n (raised c.calls)) c.fails.items
+will_fail c = is_blown c.fuse || list_any (λ n. nat_eq n (raise c.calls)) c.fails.items
 
 -- after the next call
-abbrev pub counted : Counter → Counter
-counted c = record c { calls = raised c.calls; faults = if will_fail c then raised c.faults else c.faults; fuse = burnt c.fuse }
+abbrev pub count_call : Counter → Counter
+count_call c =
+    record c { calls = raise c.calls; faults = if will_fail c then raise c.faults else c.faults; fuse = burn c.fuse }
 
 abbrev pub is_failed : {T : Type 0} → Result T DiskFault → Bool
 is_failed (Ok value) = false
@@ -33,7 +34,7 @@ is_failed (Err (OfMemory memory)) = false
 
 -- the call was counted, and failed exactly where it was to fail
 pub record Counts {T : Type 0} (old new : Counter) (result : Result T DiskFault) : Type 0 where
-  pub counted : new ≡ counted old
+  pub counted : new ≡ count_call old
   pub failed : is_failed result ≡ will_fail old
 
 -- no calls so far, and none is to fail

@@ -6,8 +6,8 @@ use Rattle.qq_disk.specs.Disk.{FileState}
 use Rattle.qq_disk.specs.Name.{rank}
 
 -- the names of those that are not removed
-abbrev pub listed : List (FileName × FileState) → List FileName
-listed entries = keys_of (filter (λ e. not e.1.removed) entries)
+abbrev pub listed_names : List (FileName × FileState) → List FileName
+listed_names entries = keys_of (filter (λ e. not e.1.removed) entries)
 
 abbrev pub is_left_log : Bool → FileName × FileState → Bool
 is_left_log back e = (rank e.0.kind == 0) && (back || not e.1.removed)

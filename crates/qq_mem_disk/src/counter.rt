@@ -1,4 +1,5 @@
-ghost use Rattle.qq_disk.specs.Fault.{HasCause};
+ghost use Rattle.qq_base.specs.Causes.{HasCause};
+ghost use Rattle.qq_disk.specs.Fault.{IsCaused};
 ghost use Rattle.std.specs.Prelude.{◌≡◌, if◌then◌else◌, Ok, Err};
 
 use qq_disk::DiskFault;
@@ -16,7 +17,7 @@ pub struct Counter {
 }
 
 impl Counter {
-    ghost use Rattle.qq_mem_disk.specs.Counter.{counted, will_fail, is_blown, burnt, IsFresh};
+    ghost use Rattle.qq_mem_disk.specs.Counter.{count_call, will_fail, is_blown, burn, IsFresh};
 
     /// No calls so far, and none that is to fail.
     pub fn new(alloc: Global) -> Counter
@@ -31,9 +32,9 @@ impl Counter {
     }
 
     /// Counts a call, which may be one that fails.
-    pub fn begin(&mut self) -> Result<(), DiskFault>
-        ensures counted { self.new ≡ counted self.old }
-        ensures cause { HasCause self.old.faults self.new.faults result }
+    pub fn count_call(&mut self) -> Result<(), DiskFault>
+        ensures count_call { self.new ≡ count_call self.old }
+        ensures cause { HasCause IsCaused self.old.faults self.new.faults result }
         ensures fails { result ≡ (if will_fail self.old then Err DiskFault.Failed else Ok tt) }
     {
         self.calls = self.calls.saturating_add(1);
@@ -48,7 +49,7 @@ impl Counter {
     /// Whether the fuse is blown; else it burns by one call.
     fn burn(&mut self) -> bool
         ensures result { result ≡ is_blown self.old.fuse }
-        ensures after { self.new ≡ record self.old { fuse = burnt self.old.fuse } }
+        ensures after { self.new ≡ record self.old { fuse = burn self.old.fuse } }
     {
         match self.fuse {
             Some(0) => true,

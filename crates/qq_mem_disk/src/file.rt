@@ -1,5 +1,5 @@
 ghost use Rattle.std.specs.Prelude.{◌≡◌, ◌≤◌, ◌++◌, Some, length, take, drop, IfOk, OnOk, OnErr};
-ghost use Rattle.qq_disk.specs.Disk.{fresh, opened, grown, kept_whole, marked, whole};
+ghost use Rattle.qq_disk.specs.Disk.{new_file, append_target, grow, keep, mark_removed, whole};
 ghost use Rattle.qq_disk.specs.Image.{tail_of};
 ghost use Rattle.qq_mem_disk.specs.Change.{mark_of, before_of};
 
@@ -37,7 +37,7 @@ impl Model for File {
 impl File {
     /// A file that was never synced.
     pub fn new(bytes: Vec<u8>) -> File
-        ensures { result ≡ grown fresh bytes.items }
+        ensures { result ≡ grow new_file bytes.items }
     {
         File {
             bytes,
@@ -72,16 +72,16 @@ impl File {
         }
     }
 
-    fn extend(&mut self, bytes: &[u8]) -> Result<(), AllocError>
-        ensures ok { OnOk result (self.new ≡ grown self.old bytes.now) }
+    fn grow(&mut self, bytes: &[u8]) -> Result<(), AllocError>
+        ensures ok { OnOk result (self.new ≡ grow self.old bytes.now) }
         ensures err { OnErr result (self.new ≡ self.old) }
     {
         self.bytes.extend_from_slice(bytes)
     }
 
     /// Adds bytes to the pending ones, of a removed file to an empty file in its place.
-    pub fn grow(&mut self, alloc: Global, bytes: &[u8]) -> Result<Before, AllocError>
-        ensures ok { OnOk result (self.new ≡ grown (opened (Some self.old)) bytes.now) }
+    pub fn append(&mut self, alloc: Global, bytes: &[u8]) -> Result<Before, AllocError>
+        ensures ok { OnOk result (self.new ≡ grow (append_target (Some self.old)) bytes.now) }
         ensures before { IfOk result (λ before. before_of before (Some self.new) ≡ Some self.old) }
         ensures err { OnErr result (self.new ≡ self.old) }
     {
@@ -90,13 +90,13 @@ impl File {
             return Ok(Before::Other(mem::replace(self, anew)));
         }
         let mark = self.mark();
-        self.extend(bytes)?;
+        self.grow(bytes)?;
         Ok(Before::Earlier(mark))
     }
 
     /// Keeps all its bytes, unless it is removed.
-    pub fn sync(&mut self)
-        ensures { self.new ≡ kept_whole self.old }
+    pub fn keep(&mut self)
+        ensures { self.new ≡ keep self.old }
     {
         if !self.removed {
             self.kept = self.bytes.len();
@@ -104,18 +104,18 @@ impl File {
         }
     }
 
-    pub fn remove(&mut self)
-        ensures { self.new ≡ marked self.old }
+    pub fn mark_removed(&mut self)
+        ensures { self.new ≡ mark_removed self.old }
     {
         self.removed = true;
     }
 
     /// The file after a crash: the kept bytes and a tail, all of them kept.
-    pub fn torn(self, tail: &Tail) -> Result<File, AllocError>
+    pub fn tear(self, tail: &Tail) -> Result<File, AllocError>
         ensures { IfOk result (λ file. file ≡ whole (self.kept ++ tail_of tail.now self.pending)) }
     {
         let mut bytes = self.bytes;
-        tear(&mut bytes, self.kept, tail)?;
+        tear_bytes(&mut bytes, self.kept, tail)?;
         Ok(File {
             kept: bytes.len(),
             bytes,
@@ -126,10 +126,11 @@ impl File {
 }
 
 /// Cuts or replaces what stands behind the kept bytes.
-fn tear(bytes: &mut Vec<u8>, kept: usize, tail: &Tail) -> Result<(), AllocError>
+fn tear_bytes(bytes: &mut Vec<u8>, kept: usize, tail: &Tail) -> Result<(), AllocError>
     requires { kept ≤ length bytes.old.items }
     ensures { OnOk result
-        (bytes.new.items ≡ take kept bytes.old.items ++ tail_of tail.now (drop kept bytes.old.items)) }
+        (bytes.new.items ≡ take kept bytes.old.items
+        ++ tail_of tail.now (drop kept bytes.old.items)) }
 {
     match tail {
         Tail::Cut(count) => {

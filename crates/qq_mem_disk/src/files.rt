@@ -1,5 +1,5 @@
 ghost use Rattle.std.specs.Prelude.{◌≡◌, ◌++◌, List, length, IfOk, OnOk, OnErr};
-ghost use Rattle.qq_disk.specs.Disk.{appended, synced, removed, shown};
+ghost use Rattle.qq_disk.specs.Disk.{append, sync, remove, content};
 ghost use Rattle.qq_mem_disk.specs.Files.{disk_of, IsUndone};
 
 use crate::change::Before;
@@ -13,7 +13,7 @@ pub type Files = BTreeMap<FileName, File>;
 
 /// A file's bytes, none where it is absent or removed.
 pub fn content(files: &Files, name: FileName) -> &[u8]
-    ensures { result.now ≡ shown (disk_of files.now) name }
+    ensures { result.now ≡ content (disk_of files.now) name }
 {
     match files.get(&name) {
         Some(file) => { if file.is_removed() { &[] } else { file.bytes() } }
@@ -28,13 +28,13 @@ pub fn append(
     name: FileName,
     bytes: &[u8],
 ) -> Result<Before, AllocError>
-    ensures ok { OnOk result (disk_of files.new ≡ appended (disk_of files.old) name bytes.now) }
+    ensures ok { OnOk result (disk_of files.new ≡ append (disk_of files.old) name bytes.now) }
     ensures before { IfOk result (λ before.
         IsUndone name before (disk_of files.old) (disk_of files.new)) }
     ensures err { OnErr result (disk_of files.new ≡ disk_of files.old) }
 {
     if let Some(file) = files.get_mut(&name) {
-        return file.grow(alloc, bytes);
+        return file.append(alloc, bytes);
     }
     let file = File::new(Vec::from_slice(alloc, bytes)?);
     files.insert(name, file)?;
@@ -43,13 +43,13 @@ pub fn append(
 
 /// Keeps a file's bytes, and answers what stood there before.
 pub fn sync(files: &mut Files, name: FileName) -> Before
-    ensures is { disk_of files.new ≡ synced (disk_of files.old) name }
+    ensures is { disk_of files.new ≡ sync (disk_of files.old) name }
     ensures before { IsUndone name result (disk_of files.old) (disk_of files.new) }
 {
     match files.get_mut(&name) {
         Some(file) => {
             let mark = file.mark();
-            file.sync();
+            file.keep();
             Before::Earlier(mark)
         }
         None => Before::Absent,
@@ -58,13 +58,13 @@ pub fn sync(files: &mut Files, name: FileName) -> Before
 
 /// Marks a file as removed, and answers what stood there before.
 pub fn remove(files: &mut Files, name: FileName) -> Before
-    ensures is { disk_of files.new ≡ removed (disk_of files.old) name }
+    ensures is { disk_of files.new ≡ remove (disk_of files.old) name }
     ensures before { IsUndone name result (disk_of files.old) (disk_of files.new) }
 {
     match files.get_mut(&name) {
         Some(file) => {
             let mark = file.mark();
-            file.remove();
+            file.mark_removed();
             Before::Earlier(mark)
         }
         None => Before::Absent,

@@ -1,14 +1,15 @@
-ghost use Rattle.std.specs.Prelude.{◌≡◌, ◌≤◌, ◌∷◌, [], None, Some, length, IsTrue, IfOk, IfErr, OnOk, OnErr};
+ghost use Rattle.std.specs.Prelude.{◌≡◌, ◌≤◌, ◌∷◌, [], None, Some, length, IsTrue, IfOk, IfErr, IsOkUnless, OnOk, OnErr};
 ghost use Rattle.qq_base.specs.declared.memory.Memory.TheVariants.{Want};
-ghost use Rattle.qq_disk.specs.Disk.{now, appended, synced, removed, shown, shows, IsListing, IsRead};
+ghost use Rattle.qq_disk.specs.Disk.{now, append, sync, remove, content, contents, IsListing, IsRead};
 ghost use Rattle.qq_disk.specs.Crash.{IsImage};
-ghost use Rattle.qq_disk.specs.Fault.{HasCause};
+ghost use Rattle.qq_base.specs.Causes.{HasCause};
+ghost use Rattle.qq_disk.specs.Fault.{IsCaused};
 ghost use Rattle.qq_disk.specs.Moments.{Adds, IsAppending, IsSyncing, IsRemoving, StaysAtWant};
 ghost use Rattle.qq_mem_disk.specs.Counter.{Counts, IsFresh};
 ghost use Rattle.qq_mem_disk.specs.Crashed.{IsCrash};
 
 use crate::counter::Counter;
-use crate::crash::crashed;
+use crate::crash::crash_files;
 use crate::reading::read_into;
 use crate::store::Store;
 use crate::{files, listing};
@@ -70,13 +71,13 @@ impl MemDisk {
         ensures ok { IfOk result (λ disk.
             IsCrash image.now (now (past_of self)) (now (past_of disk))) }
         ensures image { IfOk result (λ disk.
-            IsImage (now (past_of self)) (shows (now (past_of disk)))) }
+            IsImage (now (past_of self)) (contents (now (past_of disk)))) }
         ensures past { IfOk result (λ disk. past_of disk ≡ now (past_of disk) ∷ []) }
         ensures counter { IfOk result (λ disk. IsFresh (counter_of disk)) }
-        ensures want { IfErr result (λ e. e ≡ Want) }
+        ensures want { IsOkUnless result Want }
     {
         let store = self.store;
-        let files = crashed(store.files, alloc, image)?;
+        let files = crash_files(store.files, alloc, image)?;
         Ok(MemDisk {
             store: Store::new(alloc, files),
             counter: Counter::new(alloc),
@@ -88,7 +89,7 @@ impl NodeDisk for MemDisk {
     ghost use Rattle.std.specs.Prelude.{true};
     ghost use Rattle.qq_mem_disk.specs.MemDisk.{past_of, counter_of};
 
-    ghost tells = { true };
+    ghost tells = { λ _. true };
 
     ghost past = { past_of };
 
@@ -97,20 +98,22 @@ impl NodeDisk for MemDisk {
     fn names(&mut self, alloc: Global) -> Result<Vec<FileName>, DiskFault>
         ensures ok { IfOk result (λ names. IsListing (now (past_of self.old)) names.items) }
         ensures same { past_of self.new ≡ past_of self.old }
-        ensures cause { HasCause (counter_of self.old).faults (counter_of self.new).faults result }
+        ensures cause { HasCause IsCaused
+            (counter_of self.old).faults (counter_of self.new).faults result }
         ensures counts { Counts (counter_of self.old) (counter_of self.new) result }
     {
-        self.counter.begin()?;
+        self.counter.count_call()?;
         Ok(listing::names(&self.store.files, alloc)?)
     }
 
     fn size(&mut self, _alloc: Global, file: FileName) -> Result<u64, DiskFault>
-        ensures ok { IfOk result (λ size. size ≡ length (shown (now (past_of self.old)) file)) }
+        ensures ok { IfOk result (λ size. size ≡ length (content (now (past_of self.old)) file)) }
         ensures same { past_of self.new ≡ past_of self.old }
-        ensures cause { HasCause (counter_of self.old).faults (counter_of self.new).faults result }
+        ensures cause { HasCause IsCaused
+            (counter_of self.old).faults (counter_of self.new).faults result }
         ensures counts { Counts (counter_of self.old) (counter_of self.new) result }
     {
-        self.counter.begin()?;
+        self.counter.count_call()?;
         Ok(files::content(&self.store.files, file).len() as u64)
     }
 
@@ -123,60 +126,68 @@ impl NodeDisk for MemDisk {
     ) -> Result<usize, DiskFault>
         ensures within { IfOk result (λ count. count ≤ length buf.old) }
         ensures ok { IfOk result (λ count.
-            IsRead (shown (now (past_of self.old)) file) place count buf.old buf.new) }
+            IsRead (content (now (past_of self.old)) file) place count buf.old buf.new) }
         ensures err { OnErr result (buf.new ≡ buf.old) }
         ensures same { past_of self.new ≡ past_of self.old }
-        ensures cause { HasCause (counter_of self.old).faults (counter_of self.new).faults result }
+        ensures cause { HasCause IsCaused
+            (counter_of self.old).faults (counter_of self.new).faults result }
         ensures counts { Counts (counter_of self.old) (counter_of self.new) result }
     {
-        self.counter.begin()?;
+        self.counter.count_call()?;
         Ok(read_into(files::content(&self.store.files, file), place, buf))
     }
 
     fn append(&mut self, alloc: Global, file: FileName, bytes: &[u8]) -> Result<(), DiskFault>
         ensures ok { OnOk result
-            (now (past_of self.new) ≡ appended (now (past_of self.old)) file bytes.now) }
+            (now (past_of self.new) ≡ append (now (past_of self.old)) file bytes.now) }
         ensures err { OnErr result
             (IsAppending (now (past_of self.old)) file bytes.now (now (past_of self.new))) }
-        ensures moments { Adds (IsAppending (now (past_of self.old)) file bytes.now) (past_of self.old) (past_of self.new) }
+        ensures moments { Adds (IsAppending (now (past_of self.old)) file bytes.now)
+            (past_of self.old) (past_of self.new) }
         ensures want { IfErr result (StaysAtWant (past_of self.old) (past_of self.new)) }
-        ensures cause { HasCause (counter_of self.old).faults (counter_of self.new).faults result }
+        ensures cause { HasCause IsCaused
+            (counter_of self.old).faults (counter_of self.new).faults result }
         ensures counts { Counts (counter_of self.old) (counter_of self.new) result }
         ensures one_more { OnOk result
-            (past_of self.new ≡ appended (now (past_of self.old)) file bytes.now ∷ past_of self.old) }
+            (past_of self.new ≡ append (now (past_of self.old)) file bytes.now ∷ past_of self.old) }
         ensures unchanged { OnErr result (past_of self.new ≡ past_of self.old) }
     {
-        self.counter.begin()?;
+        self.counter.count_call()?;
         Ok(self.store.append(alloc, file, bytes)?)
     }
 
     fn sync(&mut self, _alloc: Global, file: FileName) -> Result<(), DiskFault>
-        ensures ok { OnOk result (now (past_of self.new) ≡ synced (now (past_of self.old)) file) }
+        ensures ok { OnOk result (now (past_of self.new) ≡ sync (now (past_of self.old)) file) }
         ensures err { OnErr result (now (past_of self.new) ≡ now (past_of self.old)) }
-        ensures moments { Adds (IsSyncing (now (past_of self.old)) file) (past_of self.old) (past_of self.new) }
+        ensures moments { Adds (IsSyncing (now (past_of self.old)) file)
+            (past_of self.old) (past_of self.new) }
         ensures want { IfErr result (StaysAtWant (past_of self.old) (past_of self.new)) }
-        ensures cause { HasCause (counter_of self.old).faults (counter_of self.new).faults result }
+        ensures cause { HasCause IsCaused
+            (counter_of self.old).faults (counter_of self.new).faults result }
         ensures counts { Counts (counter_of self.old) (counter_of self.new) result }
         ensures one_more { OnOk result
-            (past_of self.new ≡ synced (now (past_of self.old)) file ∷ past_of self.old) }
+            (past_of self.new ≡ sync (now (past_of self.old)) file ∷ past_of self.old) }
         ensures unchanged { OnErr result (past_of self.new ≡ past_of self.old) }
     {
-        self.counter.begin()?;
+        self.counter.count_call()?;
         Ok(self.store.sync(file)?)
     }
 
     fn remove(&mut self, _alloc: Global, file: FileName) -> Result<(), DiskFault>
-        ensures ok { OnOk result (now (past_of self.new) ≡ removed (now (past_of self.old)) file) }
-        ensures err { OnErr result (now (past_of self.new) ≡ now (past_of self.old)) }
-        ensures moments { Adds (IsRemoving (now (past_of self.old)) file) (past_of self.old) (past_of self.new) }
+        ensures ok { OnOk result (now (past_of self.new) ≡ remove (now (past_of self.old)) file) }
+        ensures err { OnErr result
+            (IsRemoving (now (past_of self.old)) file (now (past_of self.new))) }
+        ensures moments { Adds (IsRemoving (now (past_of self.old)) file)
+            (past_of self.old) (past_of self.new) }
         ensures want { IfErr result (StaysAtWant (past_of self.old) (past_of self.new)) }
-        ensures cause { HasCause (counter_of self.old).faults (counter_of self.new).faults result }
+        ensures cause { HasCause IsCaused
+            (counter_of self.old).faults (counter_of self.new).faults result }
         ensures counts { Counts (counter_of self.old) (counter_of self.new) result }
         ensures one_more { OnOk result
-            (past_of self.new ≡ removed (now (past_of self.old)) file ∷ past_of self.old) }
+            (past_of self.new ≡ remove (now (past_of self.old)) file ∷ past_of self.old) }
         ensures unchanged { OnErr result (past_of self.new ≡ past_of self.old) }
     {
-        self.counter.begin()?;
+        self.counter.count_call()?;
         Ok(self.store.remove(file)?)
     }
 }

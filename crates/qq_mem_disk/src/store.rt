@@ -1,5 +1,5 @@
 ghost use Rattle.std.specs.Prelude.{◌≡◌, ◌<◌, ◌++◌, ◌∷◌, [], vec_len, vec_capacity, OnOk, OnErr};
-ghost use Rattle.qq_disk.specs.Disk.{now, appended, synced, removed};
+ghost use Rattle.qq_disk.specs.Disk.{now, append, sync, remove};
 
 use crate::change::{Before, Change};
 use crate::files::{self, Files};
@@ -31,7 +31,7 @@ impl Store {
 
     pub fn append(&mut self, alloc: Global, name: FileName, bytes: &[u8]) -> Result<(), AllocError>
         ensures ok { OnOk result
-            (past_of self.new ≡ appended (now (past_of self.old)) name bytes.now ∷ past_of self.old) }
+            (past_of self.new ≡ append (now (past_of self.old)) name bytes.now ∷ past_of self.old) }
         ensures err { OnErr result (past_of self.new ≡ past_of self.old) }
     {
         self.changes.reserve(1)?;
@@ -42,7 +42,7 @@ impl Store {
 
     pub fn sync(&mut self, name: FileName) -> Result<(), AllocError>
         ensures ok { OnOk result
-            (past_of self.new ≡ synced (now (past_of self.old)) name ∷ past_of self.old) }
+            (past_of self.new ≡ sync (now (past_of self.old)) name ∷ past_of self.old) }
         ensures err { OnErr result (past_of self.new ≡ past_of self.old) }
     {
         self.changes.reserve(1)?;
@@ -53,7 +53,7 @@ impl Store {
 
     pub fn remove(&mut self, name: FileName) -> Result<(), AllocError>
         ensures ok { OnOk result
-            (past_of self.new ≡ removed (now (past_of self.old)) name ∷ past_of self.old) }
+            (past_of self.new ≡ remove (now (past_of self.old)) name ∷ past_of self.old) }
         ensures err { OnErr result (past_of self.new ≡ past_of self.old) }
     {
         self.changes.reserve(1)?;
@@ -65,7 +65,8 @@ impl Store {
 
 fn note(changes: &mut Vec<Change>, file: FileName, before: Before)
     requires { vec_len changes.old < vec_capacity changes.old }
-    ensures { changes.new.items ≡ changes.old.items ++ record { file = file; before = before } ∷ [] }
+    ensures { changes.new.items
+        ≡ changes.old.items ++ record { file = file; before = before } ∷ [] }
 {
     changes.push(Change { file, before }).unwrap();
 }

@@ -1,2 +1,32 @@
+pub mod Lists
+pub mod Loops
+pub mod Least
+pub mod Choices
 mod Counting
-mod RunsOut
+pub mod RunsOut
+pub mod SingleChanges
+pub mod Lookups
+pub mod CarryOut
+pub mod SessionLemmas
+pub mod Later
+pub mod Opening
+pub mod Ending
+pub mod OneConsumer
+pub mod Current
+pub mod OutCounts
+pub mod LaterSteps
+pub mod ActKeeps
+pub mod Indices
+pub mod Serve
+pub mod Ids
+pub mod IdSteps
+pub mod Drawn
+pub mod Numbers
+pub mod InOrder
+pub mod Holders
+pub mod KeptAnswers
+pub mod StepKeeps
+pub mod Soundness
+pub mod LaterBySteps
+pub mod Spared
+pub mod Window

@@ -2,12 +2,13 @@
 use Rattle.std.specs.Prelude.{◌≡◌, ◌+◌, List, [], ◌∷◌, ◌++◌, filter_map, Option, Some, None, if◌then◌else◌}
 use Rattle.qq_base.specs.declared.ids.Index.{Index}
 use Rattle.qq_base.specs.declared.ids.ConsumerId.{ConsumerId}
-use Rattle.qq_command.specs.declared.command.Entry.{Entry}
-use Rattle.qq_command.specs.declared.answer.Delivery.{Delivery}
-use Rattle.qq_command.specs.declared.audit.AuditRow.{AuditRow}
-use Rattle.qq_command.specs.declared.audit.Effect.{Effect}
-use Rattle.qq_command.specs.declared.audit.Effect.TheVariants.{Deliver, DeadOnce, Offer}
-use Rattle.qq_model.specs.State.{State, same_consumer}
+use Rattle.qq_entry.specs.declared.command.Entry.{Entry}
+use Rattle.qq_entry.specs.declared.answer.Delivery.{Delivery}
+use Rattle.qq_entry.specs.declared.audit.AuditRow.{AuditRow}
+use Rattle.qq_entry.specs.declared.audit.Effect.{Effect}
+use Rattle.qq_entry.specs.declared.audit.Effect.TheVariants.{Deliver}
+use Rattle.qq_model.specs.State.{State}
+use Rattle.qq_base.specs.Ids.{same_consumer}
 use Rattle.qq_model.specs.Step.{Step, step}
 
 -- the index of the next entry
@@ -25,7 +26,8 @@ row_of index entry made = record { index = index; entry = entry; fresh = made.fr
 -- one row for each entry, in order
 abbrev pub audit_of : State → List Entry → List AuditRow
 audit_of s [] = []
-audit_of s (entry ∷ entries) = row_of (next_index s) entry (next_step s entry) ∷ audit_of (next_step s entry).state entries
+audit_of s (entry ∷ entries) =
+    row_of (next_index s) entry (next_step s entry) ∷ audit_of (next_step s entry).state entries
 
 -- the state after entries
 abbrev pub state_after : State → List Entry → State
@@ -41,13 +43,13 @@ effects_of s (entry ∷ entries) = (next_step s entry).effects ++ effects_of (ne
 -- step at the state before it
 abbrev pub IsSerial : State → List AuditRow → Type 0
 IsSerial s [] = Unit {0}
-IsSerial s (row ∷ rows) = (row ≡ row_of (next_index s) row.entry (next_step s row.entry)) × IsSerial (next_step s row.entry).state rows
+IsSerial s (row ∷ rows) =
+    (row ≡ row_of (next_index s) row.entry (next_step s row.entry)) × IsSerial (next_step s row.entry).state rows
 
 -- the delivery of an effect, if it is one to a consumer
 abbrev pub delivery_to : ConsumerId → Effect → Option Delivery
 delivery_to consumer (Deliver other delivery) = if same_consumer other consumer then Some delivery else None
-delivery_to consumer (DeadOnce reason message) = None
-delivery_to consumer (Offer number reason message) = None
+delivery_to consumer _ = None
 
 -- the entries of an audit
 abbrev pub entries_of : List AuditRow → List Entry

@@ -7,3 +7,5 @@ pub mod Commands
 pub mod Serving
 pub mod Step
 pub mod Audit
+pub mod Reasons
+pub mod Sound

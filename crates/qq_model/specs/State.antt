@@ -1,10 +1,8 @@
 -- The state of a queue.
-use Rattle.std.specs.Prelude.{ℕ, List, [], Bool, nat_eq, nat_le, ◌&&◌}
+use Rattle.std.specs.Prelude.{ℕ, List, [], Bool, nat_le, ◌&&◌}
 use Rattle.std.specs.List.{list_all}
-use Rattle.qq_base.specs.declared.ids.SessionId.{SessionId}
-use Rattle.qq_base.specs.declared.ids.ConsumerId.{ConsumerId}
-use Rattle.qq_command.specs.declared.queue.QueueArgs.{QueueArgs}
-use Rattle.qq_command.specs.declared.message.Message.{Message}
+use Rattle.qq_entry.specs.declared.queue.QueueArgs.{QueueArgs}
+use Rattle.qq_entry.specs.declared.message.Message.{Message}
 use Rattle.qq_base.specs.declared.memory.TheConstants.{NUMBER_END}
 use Rattle.qq_model.specs.declared.place.Row.{Row}
 use Rattle.qq_model.specs.declared.consumer.Consumer.{Consumer}
@@ -68,24 +66,20 @@ empty_queue args =
       sessions = record { opened = []; ended = []; workers = []; seen = 0 };
     }
 
-abbrev pub same_session : SessionId → SessionId → Bool
-same_session a b = nat_eq a.class b.class && nat_eq a.owner b.owner && nat_eq a.number b.number
+abbrev pub is_row_within : Row → Bool
+is_row_within row = nat_le row.count NUMBER_END
 
-abbrev pub same_consumer : ConsumerId → ConsumerId → Bool
-same_consumer a b = same_session a.session b.session && nat_eq a.tag b.tag
+abbrev pub is_consumer_within : Consumer → Bool
+is_consumer_within consumer = nat_le consumer.next_id NUMBER_END && nat_le consumer.count NUMBER_END
 
-abbrev pub row_within : Row → Bool
-row_within row = nat_le row.count NUMBER_END
-
-abbrev pub consumer_within : Consumer → Bool
-consumer_within consumer = nat_le consumer.next_id NUMBER_END && nat_le consumer.count NUMBER_END
-
-abbrev pub session_within : OpenSession → Bool
-session_within session = nat_le session.next NUMBER_END
+abbrev pub is_session_within : OpenSession → Bool
+is_session_within session = nat_le session.next NUMBER_END
 
 -- no number has passed its end
 abbrev pub is_within_ends : State → Bool
 is_within_ends s =
-    nat_le s.applied NUMBER_END && nat_le s.arrivals NUMBER_END && nat_le s.orders NUMBER_END && nat_le s.returns NUMBER_END
+    nat_le s.applied NUMBER_END && nat_le s.arrivals NUMBER_END
+    && nat_le s.orders NUMBER_END && nat_le s.returns NUMBER_END
     && nat_le s.deads NUMBER_END && nat_le s.turns NUMBER_END
-    && list_all row_within s.rows && list_all consumer_within s.consumers && list_all session_within s.sessions.opened
+    && list_all is_row_within s.rows && list_all is_consumer_within s.consumers
+    && list_all is_session_within s.sessions.opened

@@ -1,19 +1,20 @@
 -- What an entry does to a queue.
 use Rattle.std.specs.Prelude.{List, [], Option, Some, None, Bool, true, false}
 use Rattle.qq_base.specs.declared.ids.Index.{Index}
-use Rattle.qq_command.specs.declared.command.Stamp.{Stamp}
-use Rattle.qq_command.specs.declared.command.Command.{Command}
-use Rattle.qq_command.specs.declared.command.Command.TheVariants.{Noop, Enqueue, Get, Subscribe, Cancel, Credit, Settle, Return, Discard, Purge, Down, DeadAttach, DeadSettle}
-use Rattle.qq_command.specs.declared.command.Entry.{Entry}
-use Rattle.qq_command.specs.declared.answer.Answer.{Answer}
-use Rattle.qq_command.specs.declared.answer.Answer.TheVariants as answer
-use Rattle.qq_command.specs.declared.audit.Effect.{Effect}
+use Rattle.qq_entry.specs.declared.command.Stamp.{Stamp}
+use Rattle.qq_entry.specs.declared.command.Command.{Command}
+use Rattle.qq_entry.specs.declared.command.Entry.{Entry}
+use Rattle.qq_entry.specs.declared.answer.Answer.{Answer}
+use Rattle.qq_entry.specs.declared.answer.Answer.TheVariants as answer
+use Rattle.qq_entry.specs.declared.audit.Effect.{Effect}
+use Rattle.qq_entry.specs.Command.{stamp}
 use Rattle.qq_model.specs.declared.session.Gate.{Gate}
 use Rattle.qq_model.specs.declared.session.Gate.TheVariants.{Fresh, Again, Gap, Forgotten, Ended, WindowFull, SessionsFull}
 use Rattle.qq_model.specs.State.{State, Sessions}
-use Rattle.qq_model.specs.Gate.{gate, admitted, turned_away, with_answer}
+use Rattle.qq_model.specs.Gate.{gate, admit, turn_away, keep_answer}
+use Rattle.qq_model.specs.Changes.{Progress}
 use Rattle.qq_model.specs.Commands.{Acted, act}
-use Rattle.qq_model.specs.Serving.{checkouts, drain_after, limits, dead_giving}
+use Rattle.qq_model.specs.Serving.{check_out_all, drain_after, keep_limits, give_all_dead}
 
 -- the next state, whether the command counted as fresh, its answer, and its effects in order
 pub record Step : Type 0 where
@@ -22,38 +23,22 @@ pub record Step : Type 0 where
   pub answer : Answer
   pub effects : List Effect
 
--- the stamp of a command that goes through the gate
-abbrev pub stamp_of : Command → Option Stamp
-stamp_of (Noop version) = None
-stamp_of (Enqueue stamp origin message) = Some stamp
-stamp_of (Get stamp) = Some stamp
-stamp_of (Subscribe stamp tag mode) = Some stamp
-stamp_of (Cancel stamp tag) = Some stamp
-stamp_of (Credit stamp tag count credit drain) = Some stamp
-stamp_of (Settle stamp tag ids) = Some stamp
-stamp_of (Return stamp tag ids) = Some stamp
-stamp_of (Discard stamp tag ids) = Some stamp
-stamp_of (Purge stamp) = Some stamp
-stamp_of (Down session) = None
-stamp_of (DeadAttach term) = None
-stamp_of (DeadSettle term done) = None
+-- a phase of a step that gives no answer
+abbrev pub map_progress : (Progress → Progress) → Acted → Acted
+map_progress phase acted = record acted { progress = phase acted.progress }
 
-abbrev pub after_checkouts : Acted → Acted
-after_checkouts acted = record acted { progress = checkouts acted.progress }
-
-abbrev pub after_limits : Acted → Acted
-after_limits acted = record acted { progress = limits acted.progress }
-
-abbrev pub after_giving : Acted → Acted
-after_giving acted = record acted { progress = dead_giving acted.progress }
-
--- a command is carried out: its row of the table, checkouts, what a drain leaves, the limits, dead giving
-unfoldable pub carried_out : Index → Command → State → Acted
-carried_out index command s = after_giving (after_limits (drain_after command (after_checkouts (act index command (record { state = s; effects = [] })))))
+-- a command is carried out: its row of the table, and then what follows on each command
+unfoldable pub carry_out : Index → Command → State → Acted
+carry_out index command s =
+    let carried = act index command (record { state = s; effects = [] }) in
+    let delivered = map_progress check_out_all carried in
+    let drained = drain_after command delivered in
+    let limited = map_progress keep_limits drained in
+    map_progress give_all_dead limited
 
 -- an entry counts as applied
-abbrev pub applied : Index → Sessions → Bool → Acted → Step
-applied index sessions fresh acted =
+abbrev pub apply : Index → Sessions → Bool → Acted → Step
+apply index sessions fresh acted =
     record {
       state = record (acted.progress.state) { applied = index.0; sessions = sessions };
       fresh = fresh;
@@ -62,30 +47,35 @@ applied index sessions fresh acted =
     }
 
 -- the answer of a command that passed the gate is kept
-abbrev pub kept : Index → Stamp → Acted → Step
-kept index stamp acted = applied index (with_answer stamp acted.answer acted.progress.state.sessions) true acted
+abbrev pub pass_gate : Index → Stamp → Acted → Step
+pass_gate index stamp acted = apply index (keep_answer stamp acted.answer acted.progress.state.sessions) true acted
 
 -- a command without a gate
-abbrev pub ungated : Index → Acted → Step
-ungated index acted = applied index acted.progress.state.sessions true acted
+abbrev pub pass_ungated : Index → Acted → Step
+pass_ungated index acted = apply index acted.progress.state.sessions true acted
 
 -- of a command that doesn't pass the gate only the low mark is taken over
-abbrev pub rejected : Index → Stamp → Answer → State → Step
-rejected index stamp answer s = applied index (turned_away s.sessions stamp) false (record { progress = record { state = s; effects = [] }; answer = answer })
+abbrev pub reject : Index → Stamp → Answer → State → Step
+reject index stamp answer s =
+    apply index (turn_away s.sessions stamp) false
+    (record { progress = record { state = s; effects = [] }; answer = answer })
 
-abbrev pub gated : Gate → Index → Stamp → Command → State → Step
-gated Fresh index stamp command s = kept index stamp (carried_out index command (record s { sessions = admitted s.sessions stamp }))
-gated (Again before) index stamp command s = rejected index stamp before s
-gated (Gap next) index stamp command s = rejected index stamp (answer.Gap next) s
-gated Forgotten index stamp command s = rejected index stamp answer.Forgotten s
-gated Ended index stamp command s = rejected index stamp answer.Ended s
-gated WindowFull index stamp command s = rejected index stamp answer.WindowFull s
-gated SessionsFull index stamp command s = rejected index stamp answer.SessionsFull s
+-- a command that has a stamp, as the gate says
+abbrev pub go_through : Gate → Index → Stamp → Command → State → Step
+go_through Fresh index stamp command s =
+    pass_gate index stamp (carry_out index command (record s { sessions = admit s.sessions stamp }))
+go_through (Again before) index stamp command s = reject index stamp before s
+go_through (Gap next) index stamp command s = reject index stamp (answer.Gap next) s
+go_through Forgotten index stamp command s = reject index stamp answer.Forgotten s
+go_through Ended index stamp command s = reject index stamp answer.Ended s
+go_through WindowFull index stamp command s = reject index stamp answer.WindowFull s
+go_through SessionsFull index stamp command s = reject index stamp answer.SessionsFull s
 
+-- a command goes through the gate of its stamp, or past it where it has none
 abbrev pub step_by : Option Stamp → Index → Command → State → Step
-step_by None index command s = ungated index (carried_out index command s)
-step_by (Some stamp) index command s = gated (gate s.sessions stamp) index stamp command s
+step_by None index command s = pass_ungated index (carry_out index command s)
+step_by (Some stamp) index command s = go_through (gate s.sessions stamp) index stamp command s
 
 -- one entry: the session gate, the command, and its kept answer
 unfoldable pub step : State → Index → Entry → Step
-step s index entry = step_by (stamp_of entry.command) index entry.command s
+step s index entry = step_by (stamp entry.command) index entry.command s

@@ -1,10 +1,12 @@
 use qq_base::ConsumerId;
-use qq_command::Mode;
+use qq_entry::Mode;
 
 /// A consumer (RabbitMQ, "Consumers").
 #[derive(Clone, Copy, Debug, PartialEq, Eq)]
 pub struct Consumer {
+    /// Its session, and its tag there.
     pub id: ConsumerId,
+    /// How it gets deliveries.
     pub mode: Mode,
     /// The free credit in link mode (AMQP 1.0 link credit). In prefetch mode it is 0, and the free
     /// credit follows from the deliveries that aren't settled.

@@ -6,6 +6,7 @@ mod consumer;
 mod place;
 mod rounds;
 mod session;
+mod sound;
 
 /// How many consumers a queue may have.
 pub const MOST_CONSUMERS: u64 = 1_024;
@@ -29,3 +30,4 @@ pub use consumer::{Consumer, Outcome};
 pub use place::{GoneReason, Key, Place, Row};
 pub use rounds::loops_run_out;
 pub use session::{Gate, OpenSession, Worker};
+pub use sound::queues_are_sound;

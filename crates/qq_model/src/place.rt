@@ -1,5 +1,5 @@
 use qq_base::{ConsumerId, Index};
-use qq_command::Reason;
+use qq_entry::Reason;
 
 /// Where a ready message stands in the queue. Every `Front` comes before every `Back`, and of two of
 /// one kind the lesser number comes first.
@@ -39,14 +39,17 @@ pub enum Place {
     Gone(GoneReason),
 }
 
-/// A message that was enqueued at some time, without its content: the index of the entry that brought
-/// it, its arrival, counted from 1, how often it was returned and counted, the size of its body in
-/// bytes, and where it is.
+/// A message that was enqueued at some time, without its content.
 #[derive(Clone, Copy, Debug, PartialEq, Eq)]
 pub struct Row {
+    /// Of the entry that brought it.
     pub index: Index,
+    /// Its number among all messages of the queue, from 1.
     pub arrival: u64,
+    /// How often it was returned, which counts against the delivery limit.
     pub count: u64,
+    /// The size of its body, in bytes.
     pub size: u32,
+    /// Where it is.
     pub place: Place,
 }

@@ -1,24 +1,30 @@
 ghost use Rattle.std.specs.Prelude.{◌≡◌};
 
 use qq_base::{Duplicate, Items, Memory, SessionId};
-use qq_command::Answer;
+use qq_entry::Answer;
 use std::alloc::Global;
 
-/// An open session (Ongaro's dissertation, section 6.3): the number that it is to use next, its low
-/// mark, the answers to the numbers above the mark in order, and the greatest tag of its consumers.
+/// An open session (Ongaro's dissertation, section 6.3).
 #[derive(Debug, Drop, PartialEq)]
 pub struct OpenSession {
+    /// Whose it is.
     pub session: SessionId,
+    /// The number that its next command is to have, from 2.
     pub next: u64,
+    /// The low mark: it is done with the numbers up to this one, from 0.
     pub mark: u64,
+    /// The answers to the numbers above the mark and below the next, in order.
     pub kept: Items<Answer>,
+    /// The greatest tag of its consumers, 0 where it had none.
     pub tag: u32,
 }
 
 /// The greatest number of the dead-letter workers of one source queue that was seen.
 #[derive(Clone, Copy, Debug, PartialEq, Eq)]
 pub struct Worker {
+    /// The source queue's.
     pub owner: u32,
+    /// The greatest one.
     pub number: u64,
 }
 
@@ -29,8 +35,11 @@ pub enum Gate {
     Fresh,
     /// It was carried out before, with this answer.
     Again(Answer),
-    /// The session's next number is this one.
-    Gap { next: u64 },
+    /// Its number is above the session's next.
+    Gap {
+        /// The session's next number.
+        next: u64,
+    },
     /// Its number is at or below the session's low mark.
     Forgotten,
     /// The session has ended.

@@ -1,16 +1,13 @@
 -- Counted faults, and what a sink has of a text when it fails.
-use Rattle.std.specs.Prelude.{◌≡◌, ◌<◌, ◌≤◌, ◌-◌, ◌^◌, ◌⊎◌, ℕ, List, Option, Result, OnErr, length, take}
+use Rattle.std.specs.Prelude.{◌≤◌, ℕ, List, Option, length, take}
 use Rattle.std.specs.Io.KnownBytes.{Appends}
+use Rattle.qq_base.specs.Causes.{Rose}
+use Rattle.qq_ports.specs.declared.source.Failed.{Failed}
 
--- a count has risen, or stands at its end
-abbrev pub Rose : ℕ → ℕ → Type 0
-Rose old new = (old < new) ⊎ (new ≡ 2 ^ 64 - 1)
+-- a source or a sink fails only where its count of faults rose
+abbrev pub IsCaused : ℕ → ℕ → Failed → Type 0
+IsCaused before now = λ _. Rose before now
 
--- the count of faults doesn't fall, and a failure shows in it
-pub record HasCause {T E : Type 0} (old new : ℕ) (result : Result T E) : Type 0 where
-  pub later : old ≤ new
-  pub failed : OnErr result (Rose old new)
-
--- known bytes grow by some first of these
-abbrev pub AppendsFront : Option (List ℕ) → Option (List ℕ) → List ℕ → Type 0
-AppendsFront old new bytes = (n : ℕ) × (n ≤ length bytes) × Appends old new (take n bytes)
+-- known bytes grow by a prefix of these
+abbrev pub AppendsPrefix : Option (List ℕ) → Option (List ℕ) → List ℕ → Type 0
+AppendsPrefix old new bytes = (n : ℕ) × (n ≤ length bytes) × Appends old new (take n bytes)

@@ -1,12 +1,10 @@
 -- The lines of bytes. A line ends at a line feed, and a carriage return before it is dropped. The last
 -- line may lack its line feed.
-use Rattle.std.specs.Prelude.{◌≡◌, ◌≤◌, ◌<◌, ◌+◌, ℕ, List, [], ◌∷◌, ◌++◌, Bool, true, false, ◌==◌, ◌&&◌, Option, Some, None, length, if◌then◌else◌}
-use Rattle.std.specs.Io.KnownBytes.{prepend_known}
-use Rattle.qq_base.specs.declared.memory.TheConstants.{NUMBER_END}
-use Rattle.qq_base.specs.declared.memory.Memory.TheVariants.{Want}
-use Rattle.qq_base.specs.Causes.{SpentOnlyWhere}
+use Rattle.std.specs.Prelude.{◌≡◌, ◌≤◌, ◌<◌, ◌+◌, ℕ, List, [], ◌∷◌, ◌++◌, Bool, true, false, ◌==◌, ◌&&◌, Option, Some, None, length, take, drop, if◌then◌else◌}
+use Rattle.std.specs.Io.KnownBytes.{Consumes, prepend_known}
 use Rattle.qq_ports.specs.declared.fault.TheConstants.{LINE_LIMIT}
 use Rattle.qq_ports.specs.declared.fault.LineFault.{LineFault}
+use Rattle.qq_base.specs.declared.memory.Memory.TheVariants.{Want}
 use Rattle.qq_ports.specs.declared.fault.LineFault.TheVariants.{Failed, TooLong, Memory}
 
 -- the first line: the bytes before its line feed, the line itself, and the bytes behind it
@@ -22,13 +20,13 @@ without_return (b ∷ []) = if b == 13 then [] else b ∷ []
 without_return (b ∷ c ∷ bs) = b ∷ without_return (c ∷ bs)
 
 -- the bytes before the first line feed and those behind it
-abbrev pub onto_front : ℕ → Option (List ℕ × List ℕ) → Option (List ℕ × List ℕ)
-onto_front b None = None
-onto_front b (Some parts) = Some (b ∷ parts.0, parts.1)
+abbrev pub onto_prefix : ℕ → Option (List ℕ × List ℕ) → Option (List ℕ × List ℕ)
+onto_prefix b None = None
+onto_prefix b (Some parts) = Some (b ∷ parts.0, parts.1)
 
 abbrev pub cut_at_feed : List ℕ → Option (List ℕ × List ℕ)
 cut_at_feed [] = None
-cut_at_feed (b ∷ bs) = if b == 10 then Some ([], bs) else onto_front b (cut_at_feed bs)
+cut_at_feed (b ∷ bs) = if b == 10 then Some ([], bs) else onto_prefix b (cut_at_feed bs)
 
 abbrev pub line_by_cut : List ℕ → Option (List ℕ × List ℕ) → FirstLine
 line_by_cut bytes None = record { raw = bytes; line = bytes; rest = [] }
@@ -50,16 +48,14 @@ onto_first b (line ∷ lines) = (b ∷ line) ∷ lines
 
 abbrev pub lines_of : List ℕ → List (List ℕ)
 lines_of [] = []
-lines_of (b ∷ bs) = if b == 10 then [] ∷ lines_of bs else if (b == 13) && begins_with_feed bs then lines_of bs else onto_first b (lines_of bs)
+lines_of (b ∷ bs) =
+    if b == 10 then [] ∷ lines_of bs
+    else if (b == 13) && begins_with_feed bs then lines_of bs
+    else onto_first b (lines_of bs)
 
--- what a reader of lines holds: bytes that it has read and not handed out, and how many lines it gave
-pub record Reading : Type 0 where
-  pub pending : List ℕ
-  pub given : ℕ
-
--- the bytes ahead of it, where the source tells what it has left
-abbrev pub ahead : Reading → Option (List ℕ) → Option (List ℕ)
-ahead reading left = prepend_known reading.pending left
+-- the bytes ahead of a reader: those that it has read and not handed out, and what the source has left
+abbrev pub ahead : List ℕ → Option (List ℕ) → Option (List ℕ)
+ahead pending left = prepend_known pending left
 
 -- known bytes begin with this line, which isn't too long, and lose it with its ending
 pub record IsFirst (bytes line rest : List ℕ) : Type 0 where
@@ -81,32 +77,37 @@ abbrev pub BeginsTooLong : Option (List ℕ) → Type 0
 BeginsTooLong None = Unit {0}
 BeginsTooLong (Some bytes) = IsLong (first_line bytes)
 
--- why there is no next line
-abbrev pub HasLineCause : LineFault → Option (List ℕ) → ℕ → Type 0 → Type 0
-HasLineCause Failed bytes given rose = rose
-HasLineCause (TooLong length) bytes given rose = (length ≡ LINE_LIMIT + 1) × BeginsTooLong bytes
-HasLineCause (Memory memory) bytes given rose = SpentOnlyWhere memory NUMBER_END (given ≡ NUMBER_END)
-
--- why a piece isn't added to what a line has, which would then have so many bytes
-abbrev pub IsTooMuch : LineFault → ℕ → Type 0
-IsTooMuch Failed total = ⊥
-IsTooMuch (TooLong length) total = (length ≡ LINE_LIMIT + 1) × (LINE_LIMIT < total)
-IsTooMuch (Memory memory) total = memory ≡ Want
-
--- why a line is given up whose bytes, and those ahead, are these
-abbrev pub IsGivenUp : LineFault → List ℕ → Type 0
-IsGivenUp Failed bytes = ⊥
-IsGivenUp (TooLong length) bytes = (length ≡ LINE_LIMIT + 1) × BeginsTooLong (Some bytes)
-IsGivenUp (Memory memory) bytes = memory ≡ Want
-
 -- no line feed stands in bytes
 abbrev pub HasNoFeed : List ℕ → Type 0
 HasNoFeed [] = Unit {0}
 HasNoFeed (b ∷ bs) = ((b == 10) ≡ false) × HasNoFeed bs
 
+-- known bytes begin with a piece of a line, and lose it
+abbrev pub LosesPiece : Option (List ℕ) → Option (List ℕ) → Type 0
+LosesPiece bytes rest = (piece : List ℕ) × HasNoFeed piece × Consumes bytes rest piece
+
+-- why there is no next line: these bytes were ahead, and the source has `rest` left
+abbrev pub HasLineCause : LineFault → Option (List ℕ) → Option (List ℕ) → Type 0 → Type 0
+HasLineCause Failed bytes rest rose = rose × LosesPiece bytes rest
+HasLineCause (TooLong length) bytes rest rose = (length ≡ LINE_LIMIT + 1) × BeginsTooLong bytes
+HasLineCause (Memory memory) bytes rest rose = memory ≡ Want
+
+-- why a line is given up without a fault of the source, where these bytes were ahead
+abbrev pub IsGivenUp : LineFault → List ℕ → Type 0
+IsGivenUp fault bytes = HasLineCause fault (Some bytes) None ⊥
+
+-- a piece of what was read is added to a line: up to the line feed, whose place is found, or all of it
+abbrev pub TakesToFeed : Option ℕ → List ℕ → List ℕ → List ℕ → Type 0
+TakesToFeed None pending line longer = HasNoFeed pending × (longer ≡ line ++ pending)
+TakesToFeed (Some place) pending line longer =
+    (place < length pending) × HasNoFeed (take place pending)
+    × (pending ≡ take place pending ++ 10 ∷ drop (place + 1) pending)
+    × (longer ≡ line ++ take place pending)
+
 -- a piece moves from what was read to a line: up to the line feed, which is passed over, or all of it
 abbrev pub TakesPiece : Bool → List ℕ → List ℕ → List ℕ → List ℕ → Type 0
-TakesPiece true old new line longer = (front : List ℕ) × HasNoFeed front × (old ≡ front ++ 10 ∷ new) × (longer ≡ line ++ front)
+TakesPiece true old new line longer =
+    (piece : List ℕ) × HasNoFeed piece × (old ≡ piece ++ 10 ∷ new) × (longer ≡ line ++ piece)
 TakesPiece false old new line longer = HasNoFeed old × (new ≡ []) × (longer ≡ line ++ old)
 
 -- the law of lines: the first line, and then those of what is behind it

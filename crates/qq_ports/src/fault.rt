@@ -1,6 +1,6 @@
 ghost use Rattle.std.specs.Prelude.{◌≡◌};
-ghost use Rattle.qq_ports.specs.declared.fault.LineFault.TheVariants as faults;
 ghost use Rattle.qq_base.specs.declared.memory.Memory.TheVariants.{Want};
+ghost use Rattle.qq_ports.specs.declared.fault.LineFault.TheVariants as faults;
 
 use crate::source::Failed;
 use qq_base::Memory;
@@ -16,9 +16,9 @@ pub const LINE_LIMIT: usize = 70_000;
 pub enum LineFault {
     /// The source failed.
     Failed,
-    /// The line has more bytes than a line may have. It was given up at this length.
+    /// The line has more bytes than `LINE_LIMIT`: it is given up at this many.
     TooLong { length: u64 },
-    /// There was no memory, or the lines' number stands at its end.
+    /// Out of memory.
     Memory(Memory),
 }
 
@@ -26,7 +26,7 @@ impl fmt::Display for LineFault {
     fn fmt<W: fmt::Write>(&self, f: &mut fmt::Formatter<W>) -> fmt::Result {
         match self {
             LineFault::Failed => f.write_str("the source has failed"),
-            LineFault::TooLong { length } => write!(f, "a line of {length} bytes or more"),
+            LineFault::TooLong { .. } => f.write_str("a line of more than 70000 bytes"),
             LineFault::Memory(cause) => write!(f, "{cause}"),
         }
     }
@@ -39,6 +39,14 @@ impl From<Failed> for LineFault {
 
     fn from(_: Failed) -> Self {
         LineFault::Failed
+    }
+}
+
+impl From<Memory> for LineFault {
+    ghost from_gives = { λ cause e. e ≡ faults.Memory cause };
+
+    fn from(cause: Memory) -> Self {
+        LineFault::Memory(cause)
     }
 }
 

@@ -3,15 +3,21 @@
 #![tactic(auto)]
 
 mod fault;
+mod folder_shelf;
 mod lines;
+mod mem_shelf;
 mod memory;
+mod shelf;
 mod sink;
 mod source;
 mod standard;
 
 pub use fault::{LINE_LIMIT, LineFault};
-pub use lines::{Line, Lines, lines_law, next_line};
+pub use folder_shelf::FolderShelf;
+pub use lines::{Lines, lines_law, next_line};
+pub use mem_shelf::MemShelf;
 pub use memory::{MemSink, MemSource};
+pub use shelf::{Shelf, ShelfFault};
 pub use sink::{Sink, write_all};
 pub use source::{Failed, Source};
 pub use standard::{StdSink, StdSource};

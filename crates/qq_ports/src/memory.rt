@@ -70,7 +70,7 @@ impl Source for MemSource {
 }
 
 impl MemSink {
-    ghost use Rattle.std.specs.Prelude.{◌≡◌, [], IfOk, IfErr, Some};
+    ghost use Rattle.std.specs.Prelude.{◌≡◌, [], IfOk, IsOkUnless, Some};
     ghost use Rattle.qq_ports.specs.Memory.{written_of};
 
     /// A sink with room for so many bytes, which it takes now.
@@ -80,7 +80,7 @@ impl MemSink {
         ensures faults { IfOk result (λ sink. sink.faults ≡ 0) }
         ensures calls { IfOk result (λ sink. sink.calls ≡ 0) }
         ensures fails { IfOk result (λ sink. sink.fails.items ≡ fails.items) }
-        ensures want { IfErr result (λ e. e ≡ Memory.Want) }
+        ensures want { IsOkUnless result Memory.Want }
     {
         Ok(MemSink {
             bytes: Vec::with_capacity(alloc, room)?,

@@ -1,6 +1,7 @@
 ghost use Rattle.std.specs.Prelude.{◌≤◌, ◌<◌, ◌≡◌, ℕ, List, Option, IfOk, OnErr, length, take};
 ghost use Rattle.std.specs.Io.KnownBytes.{Consumes, Keeps, IsAtEnd};
-ghost use Rattle.qq_ports.specs.Faults.{HasCause, Rose};
+ghost use Rattle.qq_base.specs.Causes.{HasCause, Rose};
+ghost use Rattle.qq_ports.specs.Faults.{IsCaused};
 
 use std::error::Error;
 use std::fmt;
@@ -34,17 +35,18 @@ pub trait Source {
     /// How often it has failed. The count never falls, and stops at 2^64 - 1.
     ghost faults: { Self → ℕ };
 
-    /// Reads bytes to the front of `buf`, and says how many, as `read` of Rust's `std::io::Read`.
+    /// Reads bytes into the first places of `buf`, and says how many, as `read` of Rust's `std::io::Read`.
     ///
     /// - `within`: it gives no more bytes than `buf` has room for.
-    /// - `taken`: they are the first that were left, and are left no longer.
+    /// - `ok`: they are the first that were left, and are left no longer.
     /// - `end`: 0 for a buffer that isn't empty comes only at the end of the input.
-    /// - `kept`: where it fails, it has taken nothing.
+    /// - `err`: where it fails, it has taken nothing.
     /// - `cause`: it fails only at a counted fault.
     fn read(&mut self, buf: &mut [u8]) -> Result<usize, Failed>
         ensures within { IfOk result (λ n. n ≤ length buf.old) }
-        ensures taken { IfOk result (λ n. Consumes (left self.old) (left self.new) (take n buf.new)) }
+        ensures ok { IfOk result (λ n.
+            Consumes (left self.old) (left self.new) (take n buf.new)) }
         ensures end { IfOk result (λ n. n ≡ 0 → 0 < length buf.old → IsAtEnd (left self.new)) }
-        ensures kept { OnErr result (Keeps (left self.old) (left self.new)) }
-        ensures cause { HasCause (faults self.old) (faults self.new) result };
+        ensures err { OnErr result (Keeps (left self.old) (left self.new)) }
+        ensures cause { HasCause IsCaused (faults self.old) (faults self.new) result };
 }

@@ -19,6 +19,7 @@ pub struct StdSink {
 }
 
 impl StdSource {
+    /// The input, which has not failed yet.
     pub fn new(input: Stdin) -> Self
         ensures { result.faults ≡ 0 }
     {
@@ -40,6 +41,7 @@ impl Source for StdSource {
 }
 
 impl StdSink {
+    /// The output, which has not failed yet.
     pub fn new(output: Stdout) -> Self
         ensures { result.faults ≡ 0 }
     {

@@ -1,29 +1,32 @@
-ghost use Rattle.std.specs.Prelude.{◌≡◌, map, flat_map, false, IfOk, IfErr};
+ghost use Rattle.std.specs.Prelude.{◌≡◌, false, IfOk, IfErr};
 ghost use Rattle.qq_base.specs.Causes.{SpentOnlyWhere};
 ghost use Rattle.qq_model.specs.State.{empty_queue};
 ghost use Rattle.qq_model.specs.Audit.{audit_of, effects_of};
-ghost use Rattle.qq_replay.specs.Replay.{replay_of, stays_within};
+ghost use Rattle.qq_replay.specs.Replay.{replay, rows, effects, stays_within};
 
 use qq_base::{Duplicate, Index, Items, Memory, NUMBER_END};
-use qq_command::{AuditRow, Effects, Entries, Entry, QueueArgs};
+use qq_entry::{AuditRow, Effects, Entries, Entry, QueueArgs};
 use qq_serial::Serial;
 use std::alloc::Global;
 
-/// An entry that was applied: its row of the audit, and its effects in order.
+/// What an entry gave that was applied.
 #[derive(Debug, Drop, PartialEq)]
 pub struct Applied {
+    /// Its row of the audit.
     pub row: AuditRow,
+    /// What applying it did beside its answer, in order.
     pub effects: Effects,
 }
 
 // Applies entries in order to a queue, and gives what each of them gives.
-fn apply_all(
+fn replay_on(
     alloc: Global,
     serial: &mut Serial,
     entries: &[Entry],
 ) -> Result<Items<Applied>, Memory>
-    ensures each { IfOk result (λ applied. applied ≡ replay_of serial.old entries.now) }
-    ensures cause { IfErr result (λ e. SpentOnlyWhere e NUMBER_END (stays_within serial.old entries.now ≡ false)) }
+    ensures each { IfOk result (λ run. run ≡ replay serial.old entries.now) }
+    ensures cause { IfErr result (λ e. SpentOnlyWhere e NUMBER_END
+        (stays_within serial.old entries.now ≡ false)) }
 {
     let mut applied = Items::new(alloc);
     'entries: for entry in entries {
@@ -46,11 +49,12 @@ fn apply_all(
 /// only where a step of the run would take a number past its end.
 #[tactic(auto, using(crate::proofs::Runs::rows_are_audit, crate::proofs::Runs::effects_are_all))]
 pub fn replay(alloc: Global, args: QueueArgs, entries: &Entries) -> Result<Items<Applied>, Memory>
-    ensures each { IfOk result (λ applied. applied ≡ replay_of (empty_queue args) entries.now) }
-    ensures rows { IfOk result (λ applied. map (λ (one : Applied). one.row) applied ≡ audit_of (empty_queue args) entries.now) }
-    ensures effects { IfOk result (λ applied. flat_map (λ (one : Applied). one.effects) applied ≡ effects_of (empty_queue args) entries.now) }
-    ensures cause { IfErr result (λ e. SpentOnlyWhere e NUMBER_END (stays_within (empty_queue args) entries.now ≡ false)) }
+    ensures each { IfOk result (λ run. run ≡ replay (empty_queue args) entries.now) }
+    ensures rows { IfOk result (λ run. rows run ≡ audit_of (empty_queue args) entries.now) }
+    ensures effects { IfOk result (λ run. effects run ≡ effects_of (empty_queue args) entries.now) }
+    ensures cause { IfErr result (λ e. SpentOnlyWhere e NUMBER_END
+        (stays_within (empty_queue args) entries.now ≡ false)) }
 {
     let mut serial = Serial::new(alloc, args);
-    apply_all(alloc, &mut serial, entries.as_slice())
+    replay_on(alloc, &mut serial, entries.as_slice())
 }

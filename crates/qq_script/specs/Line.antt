@@ -1,10 +1,10 @@
 -- The lines of a script.
 use Rattle.std.specs.Prelude.{◌≡◌, ℕ, List, [], ◌∷◌, Bool, true, false, ◌==◌, ◌&&◌, nat_le, nat_eq, not, Option, Some, None, length, take, drop, codes, if◌then◌else◌}
 use Rattle.std.specs.Cmp.Lexicographic.{pointwise}
-use Rattle.qq_base.specs.declared.memory.Memory.TheVariants.{Want}
-use Rattle.qq_command.specs.declared.limits.TheConstants.{BODY_LIMIT}
+use Rattle.qq_entry.specs.declared.limits.TheConstants.{BODY_LIMIT}
 use Rattle.qq_script.specs.declared.line.ScriptLine.{ScriptLine}
 use Rattle.qq_script.specs.declared.line.ScriptLine.TheVariants.{Publish, Get}
+use Rattle.qq_base.specs.declared.memory.Memory.TheVariants.{Want}
 use Rattle.qq_script.specs.declared.line.ScriptFault.{ScriptFault}
 use Rattle.qq_script.specs.declared.line.ScriptFault.TheVariants.{Unknown, Memory}
 
@@ -17,10 +17,11 @@ abbrev pub is_body : List ℕ → Bool
 is_body body = nat_le (length body) BODY_LIMIT && not (begins_with_equals body)
 
 -- what a line says: `get`, or `publish`, a blank and a body
-abbrev pub line_call : List ℕ → Option ScriptLine
-line_call line =
+abbrev pub parse_line : List ℕ → Option ScriptLine
+parse_line line =
     if pointwise nat_eq line (codes "get") then Some Get
-    else if pointwise nat_eq (take 8 line) (codes "publish ") && is_body (drop 8 line) then Some (Publish (drop 8 line))
+    else if pointwise nat_eq (take 8 line) (codes "publish ") && is_body (drop 8 line)
+    then Some (Publish (drop 8 line))
     else None
 
 -- why a line isn't read

@@ -1,75 +1,40 @@
 -- The text of answers.
-use Rattle.std.specs.Prelude.{ℕ, List, [], ◌∷◌, ◌++◌, Bool, true, false, ◌==◌, ◌&&◌, Option, Some, None, codes, if◌then◌else◌}
+use Rattle.std.specs.Prelude.{ℕ, List, [], ◌∷◌, ◌++◌, Bool, true, false, ◌==◌, ◌&&◌, Option, Some, None, unwrap_or, codes, if◌then◌else◌}
 use Rattle.std.specs.Fmt.{decimal}
+use Rattle.std.specs.Option.{option_map_or}
 use Rattle.qq_base.specs.declared.ids.SessionId.{SessionId}
-use Rattle.qq_command.specs.declared.message.Message.{Message}
-use Rattle.qq_command.specs.declared.message.Content.{Content}
-use Rattle.qq_command.specs.declared.command.Command.{Command}
-use Rattle.qq_command.specs.declared.command.Command.TheVariants.{Noop, Enqueue, Get, Subscribe, Cancel, Credit, Settle, Return, Discard, Purge, Down, DeadAttach, DeadSettle}
-use Rattle.qq_command.specs.declared.answer.Full.{Full}
-use Rattle.qq_command.specs.declared.answer.Full.TheVariants.{Length, ByteLength, Live}
-use Rattle.qq_command.specs.declared.answer.Cause.{Cause}
-use Rattle.qq_command.specs.declared.answer.Cause.TheVariants.{SingleActive, NumberSpent, ConsumersFull, NoConsumer, WrongMode}
-use Rattle.qq_command.specs.declared.answer.Answer.{Answer}
-use Rattle.qq_command.specs.declared.answer.Answer.TheVariants as answers
+use Rattle.qq_entry.specs.declared.message.Message.{Message}
+use Rattle.qq_entry.specs.declared.message.Content.{Content}
+use Rattle.qq_entry.specs.declared.command.Command.{Command}
+use Rattle.qq_entry.specs.declared.command.Stamp.{Stamp}
+use Rattle.qq_entry.specs.Command.{session, stamp, tag}
+use Rattle.qq_entry.specs.declared.answer.Full.{Full}
+use Rattle.qq_entry.specs.declared.answer.Full.TheVariants.{Length, ByteLength, Live}
+use Rattle.qq_entry.specs.declared.answer.Cause.{Cause}
+use Rattle.qq_entry.specs.declared.answer.Cause.TheVariants.{SingleActive, NumberSpent, ConsumersFull, NoConsumer, WrongMode}
+use Rattle.qq_entry.specs.declared.answer.Answer.{Answer}
+use Rattle.qq_entry.specs.declared.answer.Answer.TheVariants as answers
 
 -- the number of a stamped command, and 0 of one without a stamp
 abbrev pub seq_of : Command → ℕ
-seq_of (Noop version) = 0
-seq_of (Enqueue stamp origin message) = stamp.seq
-seq_of (Get stamp) = stamp.seq
-seq_of (Subscribe stamp tag mode) = stamp.seq
-seq_of (Cancel stamp tag) = stamp.seq
-seq_of (Credit stamp tag count credit drain) = stamp.seq
-seq_of (Settle stamp tag ids) = stamp.seq
-seq_of (Return stamp tag ids) = stamp.seq
-seq_of (Discard stamp tag ids) = stamp.seq
-seq_of (Purge stamp) = stamp.seq
-seq_of (Down session) = 0
-seq_of (DeadAttach term) = 0
-seq_of (DeadSettle term done) = 0
+seq_of command = option_map_or (λ (by : Stamp). by.seq) (stamp command) 0
 
 -- the tag that a command names, and 0 of one that names none
 abbrev pub tag_of : Command → ℕ
-tag_of (Noop version) = 0
-tag_of (Enqueue stamp origin message) = 0
-tag_of (Get stamp) = 0
-tag_of (Subscribe stamp tag mode) = tag
-tag_of (Cancel stamp tag) = tag
-tag_of (Credit stamp tag count credit drain) = tag
-tag_of (Settle stamp tag ids) = tag
-tag_of (Return stamp tag ids) = tag
-tag_of (Discard stamp tag ids) = tag
-tag_of (Purge stamp) = 0
-tag_of (Down session) = 0
-tag_of (DeadAttach term) = 0
-tag_of (DeadSettle term done) = 0
-
--- the session that gave a command
-abbrev pub session_of : Command → Option SessionId
-session_of (Noop version) = None
-session_of (Enqueue stamp origin message) = Some stamp.session
-session_of (Get stamp) = Some stamp.session
-session_of (Subscribe stamp tag mode) = Some stamp.session
-session_of (Cancel stamp tag) = Some stamp.session
-session_of (Credit stamp tag count credit drain) = Some stamp.session
-session_of (Settle stamp tag ids) = Some stamp.session
-session_of (Return stamp tag ids) = Some stamp.session
-session_of (Discard stamp tag ids) = Some stamp.session
-session_of (Purge stamp) = Some stamp.session
-session_of (Down session) = Some session
-session_of (DeadAttach term) = None
-session_of (DeadSettle term done) = None
+tag_of command = unwrap_or (tag command) 0
 
 -- a client by its number, a dead-letter worker with d, a dead letter sent at most once with o
 abbrev pub session_text : SessionId → List ℕ
 session_text session =
     if session.class == 1 then decimal session.number
-    else (if session.class == 2 then codes "d" else codes "o") ++ decimal session.owner ++ codes "." ++ decimal session.number
+    else (if session.class == 2 then codes "d" else codes "o") ++ decimal session.owner
+    ++ codes "." ++ decimal session.number
 
 -- an arrival, and how often the message was returned, where it was
 abbrev pub mark_text : ℕ → ℕ → List ℕ
-mark_text arrival count = if count == 0 then decimal arrival else decimal arrival ++ codes "/" ++ decimal count
+mark_text arrival count =
+    if count == 0 then decimal arrival
+    else decimal arrival ++ codes "/" ++ decimal count
 
 abbrev pub full_text : Full → List ℕ
 full_text Length = codes "length"
@@ -87,8 +52,10 @@ cause_text WrongMode = codes "wrong-mode"
 abbrev pub answer_words : ℕ → ℕ → Answer → List ℕ
 answer_words seq tag answers.Lead = codes "lead"
 answer_words seq tag answers.Confirmed = codes "confirmed " ++ decimal seq
-answer_words seq tag (answers.Rejected full) = codes "rejected " ++ decimal seq ++ codes " " ++ full_text full
-answer_words seq tag (answers.Got delivery) = codes "message " ++ mark_text delivery.arrival delivery.count
+answer_words seq tag (answers.Rejected full) =
+    codes "rejected " ++ decimal seq ++ codes " " ++ full_text full
+answer_words seq tag (answers.Got delivery) =
+    codes "message " ++ mark_text delivery.arrival delivery.count
 answer_words seq tag answers.Empty = codes "empty"
 answer_words seq tag answers.Subscribed = codes "subscribed " ++ decimal tag
 answer_words seq tag (answers.Refused cause) = codes "refused " ++ cause_text cause
@@ -125,8 +92,13 @@ client_text None = []
 client_text (Some session) = session_text session
 
 abbrev pub line_prefix : Bool → Option SessionId → List ℕ → List ℕ
-line_prefix first session queue = if first && is_first_client session then [] else client_text session ++ codes " " ++ queue ++ codes ": "
+line_prefix first session queue =
+    if first && is_first_client session then []
+    else client_text session ++ codes " " ++ queue ++ codes ": "
 
 -- the printed line of an answer
-abbrev pub answer_line : Bool → Command → List ℕ → Answer → List ℕ
-answer_line first command queue answer = line_prefix first (session_of command) queue ++ answer_words (seq_of command) (tag_of command) answer ++ shown_body answer ++ 10 ∷ []
+abbrev pub answer_text : Bool → Command → List ℕ → Answer → List ℕ
+answer_text first command queue answer =
+    line_prefix first (session command) queue
+    ++ answer_words (seq_of command) (tag_of command) answer
+    ++ shown_body answer ++ 10 ∷ []

@@ -1,70 +1,28 @@
-ghost use Rattle.std.specs.Prelude.{◌≡◌, ◌++◌, ◌∷◌, [], OnOk, OnErr, IfOk, IfErr, IsSome};
-ghost use Rattle.qq_script.specs.Text.{seq_of, tag_of, session_of, full_text, cause_text, answer_words, content_body, shown_body, is_first_client, line_prefix, answer_line};
+ghost use Rattle.std.specs.Prelude.{◌≡◌, ◌++◌, ◌∷◌, [], OnOk, IsOkUnless, OnErr, IfOk, IsSome};
+ghost use Rattle.qq_entry.specs.Command.{session};
+ghost use Rattle.qq_script.specs.Text.{seq_of, tag_of, full_text, cause_text, answer_words, content_body, shown_body, is_first_client, line_prefix, answer_text};
 
 use crate::words::{push_mark, push_number, push_numbered, push_session, push_text};
 use qq_base::{Memory, SessionId, Text};
-use qq_command::{Answer, Cause, Command, Full, Message};
+use qq_entry::{Answer, Cause, Command, Content, Full};
 use std::alloc::Global;
 
-pub fn seq(command: &Command) -> u64
+pub fn seq_of(command: &Command) -> u64
     ensures { result ≡ seq_of command.now }
 {
-    match command {
-        Command::Enqueue { stamp, .. }
-        | Command::Get { stamp }
-        | Command::Subscribe { stamp, .. }
-        | Command::Cancel { stamp, .. }
-        | Command::Credit { stamp, .. }
-        | Command::Settle { stamp, .. }
-        | Command::Return { stamp, .. }
-        | Command::Discard { stamp, .. }
-        | Command::Purge { stamp } => stamp.seq,
-        Command::Noop { .. }
-        | Command::Down { .. }
-        | Command::DeadAttach { .. }
-        | Command::DeadSettle { .. } => 0,
+    match command.stamp() {
+        None => 0,
+        Some(stamp) => stamp.seq,
     }
 }
 
-pub fn tag(command: &Command) -> u32
+pub fn tag_of(command: &Command) -> u32
     ensures { result ≡ tag_of command.now }
 {
-    match command {
-        Command::Subscribe { tag, .. }
-        | Command::Cancel { tag, .. }
-        | Command::Credit { tag, .. }
-        | Command::Settle { tag, .. }
-        | Command::Return { tag, .. }
-        | Command::Discard { tag, .. } => *tag,
-        Command::Noop { .. }
-        | Command::Enqueue { .. }
-        | Command::Get { .. }
-        | Command::Purge { .. }
-        | Command::Down { .. }
-        | Command::DeadAttach { .. }
-        | Command::DeadSettle { .. } => 0,
-    }
+    command.tag().unwrap_or(0)
 }
 
-fn session(command: &Command) -> Option<SessionId>
-    ensures { result ≡ session_of command.now }
-{
-    match command {
-        Command::Enqueue { stamp, .. }
-        | Command::Get { stamp }
-        | Command::Subscribe { stamp, .. }
-        | Command::Cancel { stamp, .. }
-        | Command::Credit { stamp, .. }
-        | Command::Settle { stamp, .. }
-        | Command::Return { stamp, .. }
-        | Command::Discard { stamp, .. }
-        | Command::Purge { stamp } => Some(stamp.session),
-        Command::Down { session } => Some(*session),
-        Command::Noop { .. } | Command::DeadAttach { .. } | Command::DeadSettle { .. } => None,
-    }
-}
-
-fn full_word(full: Full) -> &'static str
+fn full_text(full: Full) -> &'static str
     ensures { result.now ≡ full_text full }
 {
     match full {
@@ -74,7 +32,7 @@ fn full_word(full: Full) -> &'static str
     }
 }
 
-fn cause_word(cause: Cause) -> &'static str
+fn cause_text(cause: Cause) -> &'static str
     ensures { result.now ≡ cause_text cause }
 {
     match cause {
@@ -87,9 +45,14 @@ fn cause_word(cause: Cause) -> &'static str
 }
 
 /// The words of an answer to the command of this number and tag, without a message's body.
-pub fn push_answer(out: &mut Vec<u8>, seq: u64, tag: u32, answer: &Answer) -> Result<(), Memory>
+pub fn push_answer_words(
+    out: &mut Vec<u8>,
+    seq: u64,
+    tag: u32,
+    answer: &Answer,
+) -> Result<(), Memory>
     ensures ok { OnOk result (out.new.items ≡ out.old.items ++ answer_words seq tag answer.now) }
-    ensures want { IfErr result (λ e. e ≡ Memory.Want) }
+    ensures want { IsOkUnless result Memory.Want }
 {
     match answer {
         Answer::Lead => push_text(out, "lead"),
@@ -97,7 +60,7 @@ pub fn push_answer(out: &mut Vec<u8>, seq: u64, tag: u32, answer: &Answer) -> Re
         Answer::Rejected(full) => {
             push_numbered(out, "rejected ", seq)?;
             push_text(out, " ")?;
-            push_text(out, full_word(*full))
+            push_text(out, full_text(*full))
         }
         Answer::Got(delivery) => {
             push_text(out, "message ")?;
@@ -107,7 +70,7 @@ pub fn push_answer(out: &mut Vec<u8>, seq: u64, tag: u32, answer: &Answer) -> Re
         Answer::Subscribed => push_numbered(out, "subscribed ", u64::from(tag)),
         Answer::Refused(cause) => {
             push_text(out, "refused ")?;
-            push_text(out, cause_word(*cause))
+            push_text(out, cause_text(*cause))
         }
         Answer::Done => push_text(out, "done"),
         Answer::Credited { drained } => push_numbered(out, "credited ", *drained),
@@ -124,7 +87,7 @@ pub fn push_answer(out: &mut Vec<u8>, seq: u64, tag: u32, answer: &Answer) -> Re
     }
 }
 
-fn is_first(session: Option<SessionId>) -> bool
+fn is_first_client(session: Option<SessionId>) -> bool
     ensures { result ≡ is_first_client session }
 {
     match session {
@@ -133,16 +96,17 @@ fn is_first(session: Option<SessionId>) -> bool
     }
 }
 
-fn push_prefix(
+fn push_line_prefix(
     out: &mut Vec<u8>,
     first: bool,
     session: Option<SessionId>,
     queue: &str,
 ) -> Result<(), Memory>
-    ensures ok { OnOk result (out.new.items ≡ out.old.items ++ line_prefix first session queue.now) }
-    ensures want { IfErr result (λ e. e ≡ Memory.Want) }
+    ensures ok { OnOk result
+        (out.new.items ≡ out.old.items ++ line_prefix first session queue.now) }
+    ensures want { IsOkUnless result Memory.Want }
 {
-    if first && is_first(session) {
+    if first && is_first_client(session) {
         return Ok(());
     }
     if let Some(session) = session {
@@ -161,20 +125,22 @@ fn head(
     queue: &str,
     answer: &Answer,
 ) -> Result<Vec<u8>, Memory>
-    ensures ok { IfOk result (λ head. head.items ≡ line_prefix first (session_of command.now) queue.now ++ answer_words (seq_of command.now) (tag_of command.now) answer.now) }
-    ensures want { IfErr result (λ e. e ≡ Memory.Want) }
+    ensures ok { IfOk result (λ head. head.items ≡
+        line_prefix first (session command.now) queue.now
+        ++ answer_words (seq_of command.now) (tag_of command.now) answer.now) }
+    ensures want { IsOkUnless result Memory.Want }
 {
     let mut out = Vec::new(alloc);
-    push_prefix(&mut out, first, session(command), queue)?;
-    push_answer(&mut out, seq(command), tag(command), answer)?;
+    push_line_prefix(&mut out, first, command.session(), queue)?;
+    push_answer_words(&mut out, seq_of(command), tag_of(command), answer)?;
     Ok(out)
 }
 
-// Adds both pieces and a line feed, or nothing.
+// Adds both pieces and a line feed, or nothing: the room is taken first.
 pub fn push_line(out: &mut Vec<u8>, head: &[u8], body: &[u8]) -> Result<(), Memory>
     ensures ok { OnOk result (out.new.items ≡ out.old.items ++ (head.now ++ body.now ++ 10 ∷ [])) }
     ensures err { OnErr result (out.new.items ≡ out.old.items) }
-    ensures want { IfErr result (λ e. e ≡ Memory.Want) }
+    ensures want { IsOkUnless result Memory.Want }
 {
     out.reserve(head.len() + body.len() + 1)?;
     out.extend_from_slice(head).unwrap();
@@ -183,17 +149,20 @@ pub fn push_line(out: &mut Vec<u8>, head: &[u8], body: &[u8]) -> Result<(), Memo
     Ok(())
 }
 
-fn body_of(message: &Message) -> &[u8]
-    ensures { result.now ≡ content_body message.now.content }
+fn content_body(content: &Option<Content>) -> &[u8]
+    ensures { result.now ≡ content_body content.now }
 {
-    match &message.content {
+    match content {
         None => &[],
         Some(content) => content.body.as_slice(),
     }
 }
 
 /// Adds the line of an answer, with its line feed. `first` says that the queue is the first one. Session
-/// 1 of the first queue isn't named. Where there is no memory `out` stays.
+/// 1 of the first queue isn't named.
+///
+/// - `ok`: the line stands behind what `out` had.
+/// - `err`, `want`: it fails for want of memory alone, and then `out` stays.
 pub fn answer_text(
     alloc: Global,
     first: bool,
@@ -202,16 +171,17 @@ pub fn answer_text(
     answer: &Answer,
     out: &mut Vec<u8>,
 ) -> Result<(), Memory>
-    requires { IsSome (session_of command.now) }
-    ensures ok { OnOk result (out.new.items ≡ out.old.items ++ answer_line first command.now queue.now answer.now) }
+    requires { IsSome (session command.now) }
+    ensures ok { OnOk result (out.new.items ≡
+        out.old.items ++ answer_text first command.now queue.now answer.now) }
     ensures err { OnErr result (out.new.items ≡ out.old.items) }
-    ensures want { IfErr result (λ e. e ≡ Memory.Want) }
+    ensures want { IsOkUnless result Memory.Want }
 {
     let mut head = head(alloc, first, command, queue.as_str(), answer)?;
     match answer {
         Answer::Got(delivery) => {
             head.push(b' ')?;
-            push_line(out, &head, body_of(&delivery.message))
+            push_line(out, &head, content_body(&delivery.message.content))
         }
         _ => push_line(out, &head, b""),
     }

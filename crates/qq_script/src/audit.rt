@@ -1,18 +1,18 @@
-ghost use Rattle.std.specs.Prelude.{◌≡◌, ◌++◌, OnOk, OnErr, IfOk, IfErr, map, codes};
+ghost use Rattle.std.specs.Prelude.{◌≡◌, ◌++◌, OnOk, IsOkUnless, OnErr, IfOk, map, codes};
 ghost use Rattle.std.specs.Fmt.{decimal};
-ghost use Rattle.qq_command.specs.declared.command.DeadDone.{DeadDone};
+ghost use Rattle.qq_entry.specs.declared.command.DeadDone.{DeadDone};
 ghost use Rattle.qq_script.specs.Text.{seq_of, tag_of};
-ghost use Rattle.qq_script.specs.Audit.{numbers_text, stamp_text, command_text, is_gate_answer, again_text, row_line, audit_head, comma_before};
+ghost use Rattle.qq_script.specs.Audit.{numbers_text, stamp_text, ids_text, command_text, is_gate_answer, again_text, row_text, audit_head_text, comma_before};
 
-use crate::answer::{push_answer, push_line, seq, tag};
+use crate::answer::{push_answer_words, push_line, seq_of, tag_of};
 use crate::words::{push_number, push_numbered, push_session, push_text};
 use qq_base::{Index, Memory, Text};
-use qq_command::{Answer, AuditRow, Command, DeadDone, Stamp};
+use qq_entry::{Answer, AuditRow, Command, DeadDone, Stamp};
 use std::alloc::Global;
 
 fn push_numbers(out: &mut Vec<u8>, numbers: &[u64]) -> Result<(), Memory>
     ensures ok { OnOk result (out.new.items ≡ out.old.items ++ numbers_text numbers.now) }
-    ensures want { IfErr result (λ e. e ≡ Memory.Want) }
+    ensures want { IsOkUnless result Memory.Want }
 {
     let [first, rest @ ..] = numbers else {
         return Ok(());
@@ -24,9 +24,10 @@ fn push_numbers(out: &mut Vec<u8>, numbers: &[u64]) -> Result<(), Memory>
     Ok(())
 }
 
-fn push_dead(out: &mut Vec<u8>, done: &[DeadDone]) -> Result<(), Memory>
-    ensures ok { OnOk result (out.new.items ≡ out.old.items ++ numbers_text (map (λ (d : DeadDone). d.number) done.now)) }
-    ensures want { IfErr result (λ e. e ≡ Memory.Want) }
+fn push_dead_numbers(out: &mut Vec<u8>, done: &[DeadDone]) -> Result<(), Memory>
+    ensures ok { OnOk result (out.new.items ≡
+        out.old.items ++ numbers_text (map (λ (d : DeadDone). d.number) done.now)) }
+    ensures want { IsOkUnless result Memory.Want }
 {
     let [first, rest @ ..] = done else {
         return Ok(());
@@ -40,7 +41,7 @@ fn push_dead(out: &mut Vec<u8>, done: &[DeadDone]) -> Result<(), Memory>
 
 fn push_stamp(out: &mut Vec<u8>, stamp: Stamp) -> Result<(), Memory>
     ensures ok { OnOk result (out.new.items ≡ out.old.items ++ stamp_text stamp) }
-    ensures want { IfErr result (λ e. e ≡ Memory.Want) }
+    ensures want { IsOkUnless result Memory.Want }
 {
     push_text(out, " ")?;
     push_session(out, stamp.session)?;
@@ -49,8 +50,9 @@ fn push_stamp(out: &mut Vec<u8>, stamp: Stamp) -> Result<(), Memory>
 
 // A word, a stamp and a number.
 fn push_stamped(out: &mut Vec<u8>, word: &str, stamp: Stamp, number: u32) -> Result<(), Memory>
-    ensures ok { OnOk result (out.new.items ≡ out.old.items ++ (word.now ++ stamp_text stamp ++ codes " " ++ decimal number)) }
-    ensures want { IfErr result (λ e. e ≡ Memory.Want) }
+    ensures ok { OnOk result (out.new.items ≡
+        out.old.items ++ (word.now ++ stamp_text stamp ++ codes " " ++ decimal number)) }
+    ensures want { IsOkUnless result Memory.Want }
 {
     push_text(out, word)?;
     push_stamp(out, stamp)?;
@@ -65,8 +67,9 @@ fn push_ids(
     tag: u32,
     ids: &[u64],
 ) -> Result<(), Memory>
-    ensures ok { OnOk result (out.new.items ≡ out.old.items ++ (word.now ++ stamp_text stamp ++ codes " " ++ decimal tag ++ codes " " ++ numbers_text ids.now)) }
-    ensures want { IfErr result (λ e. e ≡ Memory.Want) }
+    ensures ok { OnOk result (out.new.items ≡
+        out.old.items ++ ids_text word.now stamp tag ids.now) }
+    ensures want { IsOkUnless result Memory.Want }
 {
     push_stamped(out, word, stamp, tag)?;
     push_text(out, " ")?;
@@ -74,17 +77,19 @@ fn push_ids(
 }
 
 fn push_dead_settle(out: &mut Vec<u8>, term: u64, done: &[DeadDone]) -> Result<(), Memory>
-    ensures ok { OnOk result (out.new.items ≡ out.old.items ++ (codes "dead-settle " ++ decimal term ++ codes " " ++ numbers_text (map (λ (d : DeadDone). d.number) done.now))) }
-    ensures want { IfErr result (λ e. e ≡ Memory.Want) }
+    ensures ok { OnOk result (out.new.items ≡
+        out.old.items ++ (codes "dead-settle " ++ decimal term ++ codes " "
+        ++ numbers_text (map (λ (d : DeadDone). d.number) done.now))) }
+    ensures want { IsOkUnless result Memory.Want }
 {
     push_numbered(out, "dead-settle ", term)?;
     push_text(out, " ")?;
-    push_dead(out, done)
+    push_dead_numbers(out, done)
 }
 
 fn push_command(out: &mut Vec<u8>, command: &Command) -> Result<(), Memory>
     ensures ok { OnOk result (out.new.items ≡ out.old.items ++ command_text command.now) }
-    ensures want { IfErr result (λ e. e ≡ Memory.Want) }
+    ensures want { IsOkUnless result Memory.Want }
 {
     match command {
         Command::Noop { version } => push_numbered(out, "noop ", u64::from(*version)),
@@ -120,7 +125,7 @@ fn push_command(out: &mut Vec<u8>, command: &Command) -> Result<(), Memory>
     }
 }
 
-fn is_of_gate(answer: &Answer) -> bool
+fn is_gate_answer(answer: &Answer) -> bool
     ensures { result ≡ is_gate_answer answer.now }
 {
     matches!(
@@ -135,9 +140,9 @@ fn is_of_gate(answer: &Answer) -> bool
 
 fn push_again(out: &mut Vec<u8>, fresh: bool, answer: &Answer) -> Result<(), Memory>
     ensures ok { OnOk result (out.new.items ≡ out.old.items ++ again_text fresh answer.now) }
-    ensures want { IfErr result (λ e. e ≡ Memory.Want) }
+    ensures want { IsOkUnless result Memory.Want }
 {
-    if fresh || is_of_gate(answer) {
+    if fresh || is_gate_answer(answer) {
         return Ok(());
     }
     push_text(out, " again")
@@ -145,8 +150,8 @@ fn push_again(out: &mut Vec<u8>, fresh: bool, answer: &Answer) -> Result<(), Mem
 
 // A row without its line feed.
 fn row_words(alloc: Global, row: &AuditRow) -> Result<Vec<u8>, Memory>
-    ensures ok { IfOk result (λ words. row_line row.now ≡ words.items ++ codes "\n") }
-    ensures want { IfErr result (λ e. e ≡ Memory.Want) }
+    ensures ok { IfOk result (λ words. row_text row.now ≡ words.items ++ codes "\n") }
+    ensures want { IsOkUnless result Memory.Want }
 {
     let mut out = Vec::new(alloc);
     let command = &row.entry.command;
@@ -155,16 +160,19 @@ fn row_words(alloc: Global, row: &AuditRow) -> Result<Vec<u8>, Memory>
     push_text(&mut out, " ")?;
     push_command(&mut out, command)?;
     push_text(&mut out, " ")?;
-    push_answer(&mut out, seq(command), tag(command), &row.answer)?;
+    push_answer_words(&mut out, seq_of(command), tag_of(command), &row.answer)?;
     push_again(&mut out, row.fresh, &row.answer)?;
     Ok(out)
 }
 
-/// Adds the line of an audit's row, with its line feed. Where there is no memory `out` stays.
+/// Adds the line of an audit's row, with its line feed.
+///
+/// - `ok`: the line stands behind what `out` had.
+/// - `err`, `want`: it fails for want of memory alone, and then `out` stays.
 pub fn row_text(alloc: Global, row: &AuditRow, out: &mut Vec<u8>) -> Result<(), Memory>
-    ensures ok { OnOk result (out.new.items ≡ out.old.items ++ row_line row.now) }
+    ensures ok { OnOk result (out.new.items ≡ out.old.items ++ row_text row.now) }
     ensures err { OnErr result (out.new.items ≡ out.old.items) }
-    ensures want { IfErr result (λ e. e ≡ Memory.Want) }
+    ensures want { IsOkUnless result Memory.Want }
 {
     let words = row_words(alloc, row)?;
     push_line(out, &words, b"")
@@ -172,8 +180,9 @@ pub fn row_text(alloc: Global, row: &AuditRow, out: &mut Vec<u8>) -> Result<(), 
 
 // The first line of an audit, without its line feed.
 fn head_words(alloc: Global, queue: &str, start: u64, count: u64) -> Result<Vec<u8>, Memory>
-    ensures ok { IfOk result (λ words. audit_head queue.now start count ≡ words.items ++ codes "\n") }
-    ensures want { IfErr result (λ e. e ≡ Memory.Want) }
+    ensures ok { IfOk result (λ words.
+        audit_head_text queue.now start count ≡ words.items ++ codes "\n") }
+    ensures want { IsOkUnless result Memory.Want }
 {
     let mut out = Vec::new(alloc);
     push_text(&mut out, "audit ")?;
@@ -184,7 +193,9 @@ fn head_words(alloc: Global, queue: &str, start: u64, count: u64) -> Result<Vec<
 }
 
 /// Adds the first line of an audit: the queue, the index at which it starts, and its number of rows.
-/// Where there is no memory `out` stays.
+///
+/// - `ok`: the line stands behind what `out` had.
+/// - `err`, `want`: it fails for want of memory alone, and then `out` stays.
 pub fn audit_head_text(
     alloc: Global,
     queue: &Text,
@@ -192,9 +203,10 @@ pub fn audit_head_text(
     count: u64,
     out: &mut Vec<u8>,
 ) -> Result<(), Memory>
-    ensures ok { OnOk result (out.new.items ≡ out.old.items ++ audit_head queue.now start.0 count) }
+    ensures ok { OnOk result (out.new.items ≡
+        out.old.items ++ audit_head_text queue.now start.0 count) }
     ensures err { OnErr result (out.new.items ≡ out.old.items) }
-    ensures want { IfErr result (λ e. e ≡ Memory.Want) }
+    ensures want { IsOkUnless result Memory.Want }
 {
     let words = head_words(alloc, queue.as_str(), start.0, count)?;
     push_line(out, &words, b"")

@@ -1,8 +1,8 @@
 ghost use Rattle.std.specs.Prelude.{◌≡◌, Some, IfOk, IfErr};
-ghost use Rattle.qq_script.specs.Line.{line_call, is_body, HasScriptCause};
+ghost use Rattle.qq_script.specs.Line.{parse_line, is_body, HasScriptCause};
 
 use qq_base::{Bytes, Memory};
-use qq_command::BODY_LIMIT;
+use qq_entry::BODY_LIMIT;
 use std::alloc::{AllocError, Global};
 use std::error::Error;
 use std::fmt;
@@ -21,7 +21,7 @@ pub enum ScriptLine {
 pub enum ScriptFault {
     /// It is no line of a script.
     Unknown,
-    /// There was no memory.
+    /// Out of memory.
     Memory(Memory),
 }
 
@@ -47,16 +47,18 @@ impl From<AllocError> for ScriptFault {
     }
 }
 
-fn is_allowed(body: &[u8]) -> bool
+fn is_body(body: &[u8]) -> bool
     ensures { result ≡ is_body body.now }
 {
     body.len() <= BODY_LIMIT && body.first() != Some(&b'=')
 }
 
 /// Reads one line, without its line feed.
+///
+/// `Unknown` comes exactly where the line is none of a script, `Memory(Memory::Want)` at any time.
 pub fn parse_line(alloc: Global, line: &[u8]) -> Result<ScriptLine, ScriptFault>
-    ensures ok { IfOk result (λ call. line_call line.now ≡ Some call) }
-    ensures cause { IfErr result (λ e. HasScriptCause e (line_call line.now)) }
+    ensures ok { IfOk result (λ call. parse_line line.now ≡ Some call) }
+    ensures cause { IfErr result (λ e. HasScriptCause e (parse_line line.now)) }
 {
     if line == b"get".as_slice() {
         return Ok(ScriptLine::Get);
@@ -65,7 +67,7 @@ pub fn parse_line(alloc: Global, line: &[u8]) -> Result<ScriptLine, ScriptFault>
         return Err(ScriptFault::Unknown);
     }
     let (word, body) = line.split_at(8);
-    if word != b"publish ".as_slice() || !is_allowed(body) {
+    if word != b"publish ".as_slice() || !is_body(body) {
         return Err(ScriptFault::Unknown);
     }
     Ok(ScriptLine::Publish {

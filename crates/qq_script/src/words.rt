@@ -1,5 +1,5 @@
 //! Pieces of text, each put at the end of a line.
-ghost use Rattle.std.specs.Prelude.{◌≡◌, ◌++◌, OnOk, IfErr};
+ghost use Rattle.std.specs.Prelude.{◌≡◌, ◌++◌, OnOk, IsOkUnless};
 ghost use Rattle.std.specs.Fmt.{decimal};
 ghost use Rattle.qq_script.specs.Text.{session_text, mark_text};
 
@@ -8,7 +8,7 @@ use qq_base::{Memory, SessionId};
 
 pub fn push_text(out: &mut Vec<u8>, text: &str) -> Result<(), Memory>
     ensures ok { OnOk result (out.new.items ≡ out.old.items ++ text.now) }
-    ensures want { IfErr result (λ e. e ≡ Memory.Want) }
+    ensures want { IsOkUnless result Memory.Want }
 {
     out.extend_from_slice(text.as_bytes())?;
     Ok(())
@@ -16,7 +16,7 @@ pub fn push_text(out: &mut Vec<u8>, text: &str) -> Result<(), Memory>
 
 pub fn push_number(out: &mut Vec<u8>, number: u64) -> Result<(), Memory>
     ensures ok { OnOk result (out.new.items ≡ out.old.items ++ decimal number) }
-    ensures want { IfErr result (λ e. e ≡ Memory.Want) }
+    ensures want { IsOkUnless result Memory.Want }
 {
     let mut buffer = Buffer::new();
     out.extend_from_slice(buffer.format(number).as_bytes())?;
@@ -26,7 +26,7 @@ pub fn push_number(out: &mut Vec<u8>, number: u64) -> Result<(), Memory>
 /// A text and a number behind it.
 pub fn push_numbered(out: &mut Vec<u8>, text: &str, number: u64) -> Result<(), Memory>
     ensures ok { OnOk result (out.new.items ≡ out.old.items ++ (text.now ++ decimal number)) }
-    ensures want { IfErr result (λ e. e ≡ Memory.Want) }
+    ensures want { IsOkUnless result Memory.Want }
 {
     push_text(out, text)?;
     push_number(out, number)
@@ -34,7 +34,7 @@ pub fn push_numbered(out: &mut Vec<u8>, text: &str, number: u64) -> Result<(), M
 
 pub fn push_session(out: &mut Vec<u8>, session: SessionId) -> Result<(), Memory>
     ensures ok { OnOk result (out.new.items ≡ out.old.items ++ session_text session) }
-    ensures want { IfErr result (λ e. e ≡ Memory.Want) }
+    ensures want { IsOkUnless result Memory.Want }
 {
     if session.class == 1 {
         return push_number(out, session.number);
@@ -46,7 +46,7 @@ pub fn push_session(out: &mut Vec<u8>, session: SessionId) -> Result<(), Memory>
 
 pub fn push_mark(out: &mut Vec<u8>, arrival: u64, count: u64) -> Result<(), Memory>
     ensures ok { OnOk result (out.new.items ≡ out.old.items ++ mark_text arrival count) }
-    ensures want { IfErr result (λ e. e ≡ Memory.Want) }
+    ensures want { IsOkUnless result Memory.Want }
 {
     push_number(out, arrival)?;
     if count != 0 {

@@ -1,23 +1,32 @@
 //! What each command does and answers.
-ghost use Rattle.std.specs.Prelude.{◌≡◌, ◌+◌, take, vec_len, IfOk, IfErr, OnOk, OnErr, filter, not, false, Some, None, if◌then◌else◌};
+ghost use Rattle.std.specs.Prelude.{◌≡◌, ◌+◌, take, vec_len, IfOk, IsOkUnless, OnOk, OnErr, filter, not, false, Some, None, if◌then◌else◌};
 ghost use Rattle.qq_model.specs.declared.consumer.Consumer.{Consumer};
-ghost use Rattle.qq_model.specs.Commands.{Acted, answers, in_state, Settling, enqueue, get, subscribe, cancel, give_credit, credit_by_mode, finished, finished_if, all_finished, finish, purge, all_returned, return_first, is_of, given_back, down, dead_attach, keeps_dead, dead_settled, given_dead, all_dead_settled, dead_settle, act};
+ghost use Rattle.qq_model.specs.Commands.{Acted, reply, set_state, Settling, enqueue, get, subscribe, cancel, give_credit, credit_by_mode, end_delivery, end_delivery_by, end_deliveries, finish, purge, return_all, return_first, is_of_session, return_session, leave, down, dead_attach, is_at_least_once, settle_dead_by, given_row, settle_dead, dead_settle, act};
 ghost use Rattle.qq_model.specs.Changes.{while_next};
-ghost use Rattle.qq_serial.specs.Views.{state_of, progress_of};
+ghost use Rattle.qq_serial.specs.Views.{state_of, progress_of, Acts, Becomes, Changes, GoesOn, OnlyAddsMessages, Replies, Settles, return_if};
 
-use crate::changes::credit_at;
-use crate::consumers::{drop_finished, find_consumer, put_consumer};
-use crate::ids::is_same_session;
-use crate::queue::{Draft, Store, raised};
+use crate::changes::credit_of;
+use crate::consumers::{consumer_of, drop_finished, put_consumer};
+use crate::queue::{Draft, Queue, Store, next_number};
 use crate::rows::{
-    count_out, count_ready, find_dead, find_delivery, find_first_delivery, limit_met, next_row,
-    purge_rows, put_row,
+    dead_row, delivered_row, first_delivery, next_message, out_count, publish_limit, purge_rows,
+    put_row, ready_count,
 };
-use crate::sessions::{end_session, greatest_tag_of, take_tag};
+use crate::sessions::{end_session, greatest_tag, take_tag};
 use qq_base::{ConsumerId, Duplicate, Index, Memory, SessionId, Term};
-use qq_command::{Answer, Cause, DeadDone, Message, Mode, Reason, Strategy};
+use qq_entry::{Answer, Cause, DeadDone, Message, Mode, Reason, Strategy};
 use qq_model::{Consumer, GoneReason, Key, MOST_CONSUMERS, Outcome, Place, Row};
 use std::alloc::Global;
+
+impl Queue {
+    fn leave(&mut self, alloc: Global, session: SessionId) -> Result<(), Memory>
+        ensures ok { OnOk result (Becomes (leave session) self.old self.new) }
+        ensures want { IsOkUnless result Memory.Want }
+    {
+        drop_consumers(session, &mut self.consumers);
+        end_session(alloc, &mut self.sessions, session)
+    }
+}
 
 impl Draft {
     /// Publishes a message.
@@ -29,16 +38,16 @@ impl Draft {
         index: Index,
         message: &Message,
     ) -> Result<Answer, Memory>
-        ensures ok { IfOk result (λ answer. enqueue index message.now (progress_of store.old self.old) ≡ answers answer (progress_of store.new self.new)) }
-        ensures same { store.new.args ≡ store.old.args }
-        ensures front { take (vec_len store.old.messages) store.new.messages.items ≡ store.old.messages.items }
-        ensures want { IfErr result (λ e. e ≡ Memory.Want) }
+        ensures ok { IfOk result (Acts (enqueue index message.now)
+            store.old self.old store.new self.new) }
+        ensures store { OnlyAddsMessages store.old store.new }
+        ensures want { IsOkUnless result Memory.Want }
     {
-        if let Some(full) = limit_met(&store.args, &self.queue.rows) {
+        if let Some(full) = publish_limit(&store.args, &self.queue.rows) {
             return Ok(Answer::Rejected(full));
         }
-        let arrival = raised(self.queue.arrivals)?;
-        let order = raised(self.queue.orders)?;
+        let arrival = next_number(self.queue.arrivals)?;
+        let order = next_number(self.queue.orders)?;
         self.queue.rows.push(Row {
             index,
             arrival,
@@ -55,16 +64,16 @@ impl Draft {
     /// Takes the next message, settled at once.
     #[tactic(auto, unfolding(qq_model::specs::Commands::get))]
     pub fn get(&mut self, alloc: Global, store: &Store) -> Result<Answer, Memory>
-        ensures ok { IfOk result (λ answer. get (progress_of store.now self.old) ≡ answers answer (progress_of store.now self.new)) }
-        ensures want { IfErr result (λ e. e ≡ Memory.Want) }
+        ensures ok { IfOk result (Replies get store.now self.old self.new) }
+        ensures want { IsOkUnless result Memory.Want }
     {
         if store.args.single_active {
             return Ok(Answer::Refused(Cause::SingleActive));
         }
-        let Some(row) = next_row(&self.queue.rows) else {
+        let Some(row) = next_message(&self.queue.rows) else {
             return Ok(Answer::Empty);
         };
-        let delivery = self.queue.show(alloc, store, 0, row)?;
+        let delivery = self.queue.delivery_of(alloc, store, 0, row)?;
         let gone = Row {
             place: Place::Gone(GoneReason::Got),
             ..row
@@ -82,16 +91,16 @@ impl Draft {
         id: ConsumerId,
         mode: Mode,
     ) -> Result<Answer, Memory>
-        ensures ok { IfOk result (λ answer. subscribe id mode (progress_of store.now self.old) ≡ answers answer (progress_of store.now self.new)) }
-        ensures want { IfErr result (λ e. e ≡ Memory.Want) }
+        ensures ok { IfOk result (Replies (subscribe id mode) store.now self.old self.new) }
+        ensures want { IsOkUnless result Memory.Want }
     {
-        if id.tag <= greatest_tag_of(id.session, &self.queue.sessions) {
+        if id.tag <= greatest_tag(id.session, &self.queue.sessions) {
             return Ok(Answer::Refused(Cause::NumberSpent));
         }
         if MOST_CONSUMERS <= self.queue.consumers.len() as u64 {
             return Ok(Answer::Refused(Cause::ConsumersFull));
         }
-        let turn = raised(self.queue.turns)?;
+        let turn = next_number(self.queue.turns)?;
         self.queue.turns = turn;
         self.queue.consumers.push(Consumer {
             id,
@@ -109,9 +118,9 @@ impl Draft {
     /// Cancels a consumer.
     #[tactic(auto, unfolding(qq_model::specs::Commands::cancel))]
     pub fn cancel(&mut self, store: &Store, id: ConsumerId) -> Answer
-        ensures { cancel id (progress_of store.now self.old) ≡ answers result (progress_of store.now self.new) }
+        ensures { Replies (cancel id) store.now self.old self.new result }
     {
-        let Some(consumer) = find_consumer(id, &self.queue.consumers) else {
+        let Some(consumer) = consumer_of(id, &self.queue.consumers) else {
             return Answer::Refused(Cause::NoConsumer);
         };
         if consumer.cancelled {
@@ -126,19 +135,20 @@ impl Draft {
         Answer::Done
     }
 
-    fn give_link_credit(
+    fn credit_by_mode(
         &mut self,
         store: &Store,
         consumer: Consumer,
         credit: u64,
     ) -> Result<Answer, Memory>
-        ensures ok { IfOk result (λ answer. credit_by_mode consumer.mode consumer credit (progress_of store.now self.old) ≡ answers answer (progress_of store.now self.new)) }
-        ensures want { IfErr result (λ e. e ≡ Memory.Want) }
+        ensures ok { IfOk result (Replies (credit_by_mode consumer.mode consumer credit)
+            store.now self.old self.new) }
+        ensures want { IsOkUnless result Memory.Want }
     {
         if let Mode::Prefetch(_) = consumer.mode {
             return Ok(Answer::Refused(Cause::WrongMode));
         }
-        let before = credit_at(consumer.id, &self.queue.rows, &self.queue.consumers);
+        let before = credit_of(consumer.id, &self.queue.rows, &self.queue.consumers);
         let credited = Consumer {
             credit: credit.saturating_sub(consumer.count),
             ..consumer
@@ -156,16 +166,16 @@ impl Draft {
         id: ConsumerId,
         credit: u64,
     ) -> Result<Answer, Memory>
-        ensures ok { IfOk result (λ answer. give_credit id credit (progress_of store.now self.old) ≡ answers answer (progress_of store.now self.new)) }
-        ensures want { IfErr result (λ e. e ≡ Memory.Want) }
+        ensures ok { IfOk result (Replies (give_credit id credit) store.now self.old self.new) }
+        ensures want { IsOkUnless result Memory.Want }
     {
-        let Some(consumer) = find_consumer(id, &self.queue.consumers) else {
+        let Some(consumer) = consumer_of(id, &self.queue.consumers) else {
             return Ok(Answer::Refused(Cause::NoConsumer));
         };
         if consumer.cancelled {
             return Ok(Answer::Refused(Cause::NoConsumer));
         }
-        self.give_link_credit(store, consumer, credit)
+        self.credit_by_mode(store, consumer, credit)
     }
 
     fn end_delivery(
@@ -175,8 +185,8 @@ impl Draft {
         outcome: Outcome,
         row: Row,
     ) -> Result<(), Memory>
-        ensures ok { OnOk result (finished outcome row (progress_of store.now self.old) ≡ progress_of store.now self.new) }
-        ensures want { IfErr result (λ e. e ≡ Memory.Want) }
+        ensures ok { OnOk result (Changes (end_delivery outcome row) store.now self.old self.new) }
+        ensures want { IsOkUnless result Memory.Want }
     {
         match outcome {
             Outcome::Settled => {
@@ -187,20 +197,21 @@ impl Draft {
                 put_row(&mut self.queue.rows, gone);
                 Ok(())
             }
-            Outcome::Returned => self.give_back(alloc, store, row),
+            Outcome::Returned => self.return_row(alloc, store, row),
             Outcome::Discarded => self.die(alloc, store, Reason::Rejected, row),
         }
     }
 
-    fn end_if_out(
+    fn end_delivery_by(
         &mut self,
         alloc: Global,
         store: &Store,
         outcome: Outcome,
         row: Option<Row>,
     ) -> Result<(), Memory>
-        ensures ok { OnOk result (finished_if outcome row (progress_of store.now self.old) ≡ progress_of store.now self.new) }
-        ensures want { IfErr result (λ e. e ≡ Memory.Want) }
+        ensures ok { OnOk result (Changes (end_delivery_by outcome row)
+            store.now self.old self.new) }
+        ensures want { IsOkUnless result Memory.Want }
     {
         match row {
             None => Ok(()),
@@ -208,7 +219,7 @@ impl Draft {
         }
     }
 
-    fn end_all(
+    fn end_deliveries(
         &mut self,
         alloc: Global,
         store: &Store,
@@ -216,12 +227,13 @@ impl Draft {
         consumer: ConsumerId,
         ids: &[u64],
     ) -> Result<(), Memory>
-        ensures ok { OnOk result (all_finished outcome consumer ids.now (progress_of store.now self.old) ≡ progress_of store.now self.new) }
-        ensures want { IfErr result (λ e. e ≡ Memory.Want) }
+        ensures ok { OnOk result (Changes (end_deliveries outcome consumer ids.now)
+            store.now self.old self.new) }
+        ensures want { IsOkUnless result Memory.Want }
     {
         for id in ids {
-            let row = find_delivery(consumer, *id, &self.queue.rows);
-            self.end_if_out(alloc, store, outcome, row)?;
+            let row = delivered_row(consumer, *id, &self.queue.rows);
+            self.end_delivery_by(alloc, store, outcome, row)?;
         }
         Ok(())
     }
@@ -236,14 +248,15 @@ impl Draft {
         consumer: ConsumerId,
         ids: &[u64],
     ) -> Result<Answer, Memory>
-        ensures ok { IfOk result (λ answer. finish outcome consumer ids.now (progress_of store.now self.old) ≡ answers answer (progress_of store.now self.new)) }
-        ensures want { IfErr result (λ e. e ≡ Memory.Want) }
+        ensures ok { IfOk result (Replies (finish outcome consumer ids.now)
+            store.now self.old self.new) }
+        ensures want { IsOkUnless result Memory.Want }
     {
-        let Some(_) = find_consumer(consumer, &self.queue.consumers) else {
+        let Some(_) = consumer_of(consumer, &self.queue.consumers) else {
             return Ok(Answer::Refused(Cause::NoConsumer));
         };
-        let before = credit_at(consumer, &self.queue.rows, &self.queue.consumers);
-        self.end_all(alloc, store, outcome, consumer, ids)?;
+        let before = credit_of(consumer, &self.queue.rows, &self.queue.consumers);
+        self.end_deliveries(alloc, store, outcome, consumer, ids)?;
         drop_finished(&self.queue.rows, &mut self.queue.consumers);
         self.queue.begin_to_wait(before, consumer)?;
         Ok(Answer::Done)
@@ -252,72 +265,74 @@ impl Draft {
     /// Removes all ready messages.
     #[tactic(auto, unfolding(qq_model::specs::Commands::purge))]
     pub fn purge(&mut self, store: &Store) -> Answer
-        ensures { purge (progress_of store.now self.old) ≡ answers result (progress_of store.now self.new) }
+        ensures { Replies purge store.now self.old self.new result }
     {
-        let count = count_ready(&self.queue.rows) as u64;
+        let count = ready_count(&self.queue.rows) as u64;
         purge_rows(&mut self.queue.rows);
         Answer::Purged { count }
     }
 
-    fn return_one(
+    fn return_first(
         &mut self,
         alloc: Global,
         store: &Store,
         consumer: ConsumerId,
     ) -> Result<bool, Memory>
-        ensures ok { IfOk result (λ did. return_first consumer (progress_of store.now self.old) ≡ (if did then Some (progress_of store.now self.new) else None)) }
+        ensures ok { IfOk result (GoesOn (return_first consumer) store.now self.old self.new) }
         ensures still { IfOk result (λ did. did ≡ false → self.new ≡ self.old) }
-        ensures want { IfErr result (λ e. e ≡ Memory.Want) }
+        ensures want { IsOkUnless result Memory.Want }
     {
-        let Some(row) = find_first_delivery(consumer, &self.queue.rows) else {
+        let Some(row) = first_delivery(consumer, &self.queue.rows) else {
             return Ok(false);
         };
-        self.give_back(alloc, store, row)?;
+        self.return_row(alloc, store, row)?;
         Ok(true)
     }
 
-    #[tactic(auto, unfolding(qq_model::specs::Commands::all_returned))]
+    #[tactic(auto, unfolding(qq_model::specs::Commands::return_all))]
     fn return_all(&mut self, alloc: Global, store: &Store, consumer: Consumer) -> Result<(), Memory>
-        ensures ok { OnOk result (all_returned consumer (progress_of store.now self.old) ≡ progress_of store.now self.new) }
-        ensures want { IfErr result (λ e. e ≡ Memory.Want) }
+        ensures ok { OnOk result (Changes (return_all consumer) store.now self.old self.new) }
+        ensures want { IsOkUnless result Memory.Want }
     {
-        let out = count_out(consumer.id, &self.queue.rows);
+        let out = out_count(consumer.id, &self.queue.rows);
         'rounds: for _round in 0..out {
-            if !self.return_one(alloc, store, consumer.id)? {
+            if !self.return_first(alloc, store, consumer.id)? {
                 return Ok(());
             }
         }
         Ok(())
     }
 
-    fn return_if_of(
+    fn return_if(
         &mut self,
         alloc: Global,
         store: &Store,
         session: SessionId,
         consumer: Consumer,
     ) -> Result<(), Memory>
-        ensures ok { OnOk result ((if is_of session consumer then all_returned consumer (progress_of store.now self.old) else progress_of store.now self.old) ≡ progress_of store.now self.new) }
-        ensures want { IfErr result (λ e. e ≡ Memory.Want) }
+        ensures ok { OnOk result (Changes (return_if session consumer)
+            store.now self.old self.new) }
+        ensures want { IsOkUnless result Memory.Want }
     {
-        if is_same_session(consumer.id.session, session) {
+        if is_of_session(session, consumer) {
             return self.return_all(alloc, store, consumer);
         }
         Ok(())
     }
 
-    fn return_all_of(
+    fn return_session(
         &mut self,
         alloc: Global,
         store: &Store,
         session: SessionId,
         consumers: &[Consumer],
     ) -> Result<(), Memory>
-        ensures ok { OnOk result (given_back session consumers.now (progress_of store.now self.old) ≡ progress_of store.now self.new) }
-        ensures want { IfErr result (λ e. e ≡ Memory.Want) }
+        ensures ok { OnOk result (Changes (return_session session consumers.now)
+            store.now self.old self.new) }
+        ensures want { IsOkUnless result Memory.Want }
     {
         for consumer in consumers {
-            self.return_if_of(alloc, store, session, *consumer)?;
+            self.return_if(alloc, store, session, *consumer)?;
         }
         Ok(())
     }
@@ -330,22 +345,21 @@ impl Draft {
         store: &Store,
         session: SessionId,
     ) -> Result<Answer, Memory>
-        ensures ok { IfOk result (λ answer. down session (progress_of store.now self.old) ≡ answers answer (progress_of store.now self.new)) }
-        ensures want { IfErr result (λ e. e ≡ Memory.Want) }
+        ensures ok { IfOk result (Replies (down session) store.now self.old self.new) }
+        ensures want { IsOkUnless result Memory.Want }
     {
         let consumers = Vec::from_slice(alloc, &self.queue.consumers)?;
-        self.return_all_of(alloc, store, session, &consumers)?;
-        drop_consumers_of(session, &mut self.queue.consumers);
-        end_session(alloc, &mut self.queue.sessions, session)?;
+        self.return_session(alloc, store, session, &consumers)?;
+        self.queue.leave(alloc, session)?;
         Ok(Answer::Down)
     }
 
     /// Attaches the dead-letter worker of a term.
     #[tactic(auto, unfolding(qq_model::specs::Commands::dead_attach))]
     pub fn dead_attach(&mut self, store: &Store, term: Term) -> Answer
-        ensures { dead_attach term (progress_of store.now self.old) ≡ answers result (progress_of store.now self.new) }
+        ensures { Replies (dead_attach term) store.now self.old self.new result }
     {
-        if is_keeping_dead(store.args.strategy) && self.queue.attached < term.0 {
+        if is_at_least_once(store.args.strategy) && self.queue.attached < term.0 {
             self.queue.attached = term.0;
             self.queue.given = 0;
             return Answer::Attached;
@@ -353,9 +367,9 @@ impl Draft {
         Answer::Stale
     }
 
-    fn settle_dead_if(&mut self, store: &Store, row: Option<Row>, count: u64) -> Result<u64, Memory>
-        ensures ok { IfOk result (λ after. dead_settled row (record { progress = progress_of store.now self.old; count = count }) ≡ record { progress = progress_of store.now self.new; count = after }) }
-        ensures want { IfErr result (λ e. e ≡ Memory.Want) }
+    fn settle_dead_by(&mut self, store: &Store, row: Option<Row>, count: u64) -> Result<u64, Memory>
+        ensures ok { IfOk result (Settles (settle_dead_by row) store.now self.old count self.new) }
+        ensures want { IsOkUnless result Memory.Want }
     {
         let Some(row) = row else {
             return Ok(count);
@@ -365,26 +379,27 @@ impl Draft {
             ..row
         };
         put_row(&mut self.queue.rows, gone);
-        raised(count)
+        next_number(count)
     }
 
-    fn find_given(&self, store: &Store, number: u64) -> Option<Row>
-        ensures { result ≡ given_dead number (state_of store.now self.now.queue) }
+    fn given_row(&self, store: &Store, number: u64) -> Option<Row>
+        ensures { result ≡ given_row number (state_of store.now self.now.queue) }
     {
         if number <= self.queue.given {
-            return find_dead(number, &self.queue.rows);
+            return dead_row(number, &self.queue.rows);
         }
         None
     }
 
-    fn settle_all_dead(&mut self, store: &Store, done: &[DeadDone]) -> Result<u64, Memory>
-        ensures ok { IfOk result (λ count. all_dead_settled done.now (progress_of store.now self.old) ≡ record { progress = progress_of store.now self.new; count = count }) }
-        ensures want { IfErr result (λ e. e ≡ Memory.Want) }
+    fn settle_dead(&mut self, store: &Store, done: &[DeadDone]) -> Result<u64, Memory>
+        ensures ok { IfOk result (λ count. settle_dead done.now (progress_of store.now self.old)
+            ≡ record { progress = progress_of store.now self.new; count = count }) }
+        ensures want { IsOkUnless result Memory.Want }
     {
         let mut count = 0;
         for one in done {
-            let row = self.find_given(store, one.number);
-            count = self.settle_dead_if(store, row, count)?;
+            let row = self.given_row(store, one.number);
+            count = self.settle_dead_by(store, row, count)?;
         }
         Ok(count)
     }
@@ -397,25 +412,32 @@ impl Draft {
         term: Term,
         done: &[DeadDone],
     ) -> Result<Answer, Memory>
-        ensures ok { IfOk result (λ answer. dead_settle term done.now (progress_of store.now self.old) ≡ answers answer (progress_of store.now self.new)) }
-        ensures want { IfErr result (λ e. e ≡ Memory.Want) }
+        ensures ok { IfOk result (Replies (dead_settle term done.now) store.now self.old self.new) }
+        ensures want { IsOkUnless result Memory.Want }
     {
-        if is_keeping_dead(store.args.strategy) && term.0 == self.queue.attached {
-            let count = self.settle_all_dead(store, done)?;
+        if is_at_least_once(store.args.strategy) && term.0 == self.queue.attached {
+            let count = self.settle_dead(store, done)?;
             return Ok(Answer::DeadSettled { count });
         }
         Ok(Answer::Stale)
     }
 }
 
-fn drop_consumers_of(session: SessionId, consumers: &mut Vec<Consumer>)
-    ensures { consumers.new.items ≡ filter (λ (consumer : Consumer). not (is_of session consumer)) consumers.old.items }
+fn is_of_session(session: SessionId, consumer: Consumer) -> bool
+    ensures { result ≡ is_of_session session consumer }
 {
-    consumers.retain(|consumer| !is_same_session(consumer.id.session, session));
+    consumer.id.session == session
 }
 
-fn is_keeping_dead(strategy: Strategy) -> bool
-    ensures { result ≡ keeps_dead strategy }
+fn drop_consumers(session: SessionId, consumers: &mut Vec<Consumer>)
+    ensures { consumers.new.items
+        ≡ filter (λ one. not (is_of_session session one)) consumers.old.items }
+{
+    consumers.retain(|consumer| !is_of_session(session, *consumer));
+}
+
+fn is_at_least_once(strategy: Strategy) -> bool
+    ensures { result ≡ is_at_least_once strategy }
 {
     matches!(strategy, Strategy::AtLeastOnce)
 }

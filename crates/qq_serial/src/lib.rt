@@ -1,11 +1,11 @@
 //! The plain queue machine: it keeps one row for each message that was ever enqueued, and computes
-//! what the definitions of `qq_model` say. It is slow, and it is what all other machines are held to.
+//! what the definitions of `qq_model` say. It is slow, and all other machines are held to it.
 #![tactic(auto)]
 
 mod changes;
+mod choice;
 mod commands;
 mod consumers;
-mod ids;
 mod queue;
 mod rows;
 mod serial;
@@ -14,6 +14,8 @@ mod sessions;
 mod step;
 mod table;
 
+pub use qq_base::{Index, Memory};
+pub use qq_entry::{Answer, Effect, Entry, QueueArgs};
 pub use serial::Serial;
 
 #[cfg(test)]

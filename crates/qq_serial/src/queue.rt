@@ -1,11 +1,11 @@
-ghost use Rattle.std.specs.Prelude.{◌≡◌, ◌+◌, IfOk, IfErr};
+ghost use Rattle.std.specs.Prelude.{◌≡◌, ◌+◌, IfOk, IsOkUnless};
 ghost use Rattle.std.specs.List.{list_all};
-ghost use Rattle.qq_model.specs.State.{row_within, consumer_within, session_within, is_within_ends};
+ghost use Rattle.qq_model.specs.State.{is_row_within, is_consumer_within, is_session_within, is_within_ends};
 ghost use Rattle.qq_serial.specs.Views.{sessions_of, state_of};
 ghost use Rattle.qq_serial.specs.declared.queue.Store.{Store};
 
 use qq_base::{Duplicate, Memory, NUMBER_END};
-use qq_command::{Answer, Effect, Message, QueueArgs};
+use qq_entry::{Answer, Effect, Message, QueueArgs};
 use qq_model::{Consumer, OpenSession, Row, Worker};
 use std::alloc::Global;
 
@@ -56,11 +56,11 @@ pub struct Made {
     pub answer: Answer,
 }
 
-/// The number that follows. A step begins with numbers of at most 2^63 and raises none more often than
-/// it finds things in memory, so the type's end is never met; if it were, memory would be wanting.
-pub fn raised(number: u64) -> Result<u64, Memory>
+/// The number that follows. A step begins with numbers of at most 2^63 and raises none more often
+/// than it finds things in memory, so the type's end is never met; if it were, memory would be out.
+pub fn next_number(number: u64) -> Result<u64, Memory>
     ensures ok { IfOk result (λ next. next ≡ number + 1) }
-    ensures want { IfErr result (λ e. e ≡ Memory.Want) }
+    ensures want { IsOkUnless result Memory.Want }
 {
     match number.checked_add(1) {
         Some(next) => Ok(next),
@@ -70,7 +70,7 @@ pub fn raised(number: u64) -> Result<u64, Memory>
 
 fn copy_opened(alloc: Global, opened: &[OpenSession]) -> Result<Vec<OpenSession>, Memory>
     ensures ok { IfOk result (λ list. list.items ≡ opened.now) }
-    ensures want { IfErr result (λ e. e ≡ Memory.Want) }
+    ensures want { IsOkUnless result Memory.Want }
 {
     let mut list = Vec::with_capacity(alloc, opened.len())?;
     for one in opened {
@@ -83,7 +83,7 @@ impl SessionLists {
     /// The same sessions.
     pub fn copy(&self, alloc: Global) -> Result<SessionLists, Memory>
         ensures ok { IfOk result (λ twin. sessions_of twin ≡ sessions_of self.now) }
-        ensures want { IfErr result (λ e. e ≡ Memory.Want) }
+        ensures want { IsOkUnless result Memory.Want }
     {
         Ok(SessionLists {
             opened: copy_opened(alloc, &self.opened)?,
@@ -97,8 +97,9 @@ impl SessionLists {
 impl Queue {
     /// The same queue.
     pub fn copy(&self, alloc: Global) -> Result<Queue, Memory>
-        ensures ok { IfOk result (λ twin. (store : Store) → state_of store twin ≡ state_of store self.now) }
-        ensures want { IfErr result (λ e. e ≡ Memory.Want) }
+        ensures ok { IfOk result (λ twin. (store : Store) → state_of store twin
+            ≡ state_of store self.now) }
+        ensures want { IsOkUnless result Memory.Want }
     {
         Ok(Queue {
             applied: self.applied,
@@ -116,7 +117,7 @@ impl Queue {
     }
 
     /// Whether no number has passed its end.
-    pub fn is_within(&self) -> bool
+    pub fn is_within_ends(&self) -> bool
         ensures { (store : Store) → result ≡ is_within_ends (state_of store self.now) }
     {
         self.applied <= NUMBER_END
@@ -132,19 +133,19 @@ impl Queue {
 }
 
 fn are_rows_within(rows: &[Row]) -> bool
-    ensures { result ≡ list_all row_within rows.now }
+    ensures { result ≡ list_all is_row_within rows.now }
 {
     rows.iter().all(|row| row.count <= NUMBER_END)
 }
 
 fn are_consumers_within(consumers: &[Consumer]) -> bool
-    ensures { result ≡ list_all consumer_within consumers.now }
+    ensures { result ≡ list_all is_consumer_within consumers.now }
 {
     consumers.iter().all(|consumer| consumer.next_id <= NUMBER_END && consumer.count <= NUMBER_END)
 }
 
 fn are_sessions_within(opened: &[OpenSession]) -> bool
-    ensures { result ≡ list_all session_within opened.now }
+    ensures { result ≡ list_all is_session_within opened.now }
 {
     opened.iter().all(|one| one.next <= NUMBER_END)
 }

@@ -1,9 +1,9 @@
 ghost use Rattle.std.specs.Prelude.{◌≡◌, ◌+◌, ◌^◌, ◌≤◌, IsTrue, OnOk, OnErr, IfOk, IfErr, false};
 
 use crate::queue::{Draft, Made, Queue, SessionLists, Store};
-use crate::step::make_step;
+use crate::step::step;
 use qq_base::{Index, Memory, NUMBER_END};
-use qq_command::{Answer, Effect, Entry, QueueArgs};
+use qq_entry::{Answer, Effect, Entry, QueueArgs};
 use std::alloc::Global;
 use std::marker::Model;
 
@@ -69,8 +69,8 @@ impl Serial {
         self.queue.applied
     }
 
-    /// Applies the next entry: whether its command counted as fresh, its answer, and its effects in order.
-    /// `Spent` is answered where a number would pass its end. After a refusal the queue is as before.
+    /// Applies the next entry: whether its command counted as fresh, its answer, and its effects in
+    /// order. `Spent` comes where a number would pass its end. After an error the queue stays.
     pub fn step(
         &mut self,
         alloc: Global,
@@ -79,13 +79,19 @@ impl Serial {
     ) -> Result<(bool, Answer, Vec<Effect>), Memory>
         requires next { index.0 ≡ self.old.applied + 1 }
 
-        ensures ok { IfOk result (λ made. step self.old index entry.now ≡ record { state = self.new; fresh = made.0; answer = made.1; effects = made.2.items }) }
+        ensures ok { IfOk result (λ made. step self.old index entry.now ≡ record {
+          state = self.new;
+          fresh = made.0;
+          answer = made.1;
+          effects = made.2.items;
+        }) }
         ensures within { OnOk result (IsTrue (is_within_ends self.new)) }
         ensures err { OnErr result (self.new ≡ self.old) }
-        ensures cause { IfErr result (λ e. SpentOnlyWhere e NUMBER_END (is_within_ends (step self.old index entry.now).state ≡ false)) }
+        ensures cause { IfErr result (λ e. SpentOnlyWhere e NUMBER_END
+            (is_within_ends (step self.old index entry.now).state ≡ false)) }
     {
         let before = self.store.messages.len();
-        match make_step(alloc, &mut self.store, &self.queue, index, entry) {
+        match step(alloc, &mut self.store, &self.queue, index, entry) {
             Err(stop) => {
                 self.store.messages.truncate(before);
                 Err(stop)
@@ -97,7 +103,7 @@ impl Serial {
                     answer,
                 } = made;
                 let Draft { queue, effects } = draft;
-                if !queue.is_within() {
+                if !queue.is_within_ends() {
                     self.store.messages.truncate(before);
                     return Err(Memory::Spent { number: NUMBER_END });
                 }

@@ -1,11 +1,11 @@
 //! The table of the commands.
-ghost use Rattle.std.specs.Prelude.{◌≡◌, take, vec_len, IfOk, IfErr, OnOk, OnErr};
-ghost use Rattle.qq_model.specs.Commands.{Acted, answers, act};
-ghost use Rattle.qq_serial.specs.Views.{progress_of};
+ghost use Rattle.std.specs.Prelude.{◌≡◌, take, vec_len, IfOk, IsOkUnless, OnOk, OnErr};
+ghost use Rattle.qq_model.specs.Commands.{Acted, reply, act};
+ghost use Rattle.qq_serial.specs.Views.{progress_of, Acts, OnlyAddsMessages};
 
 use crate::queue::{Draft, Store};
-use qq_base::{ConsumerId, Index, Memory};
-use qq_command::{Answer, Command};
+use qq_base::{Index, Memory};
+use qq_entry::{Answer, Command};
 use qq_model::Outcome;
 use std::alloc::Global;
 
@@ -19,27 +19,21 @@ impl Draft {
         index: Index,
         command: &Command,
     ) -> Result<Answer, Memory>
-        ensures ok { IfOk result (λ answer. act index command.now (progress_of store.old self.old) ≡ answers answer (progress_of store.new self.new)) }
-        ensures same { store.new.args ≡ store.old.args }
-        ensures front { take (vec_len store.old.messages) store.new.messages.items ≡ store.old.messages.items }
-        ensures want { IfErr result (λ e. e ≡ Memory.Want) }
+        ensures ok { IfOk result (Acts (act index command.now)
+            store.old self.old store.new self.new) }
+        ensures store { OnlyAddsMessages store.old store.new }
+        ensures want { IsOkUnless result Memory.Want }
     {
         match command {
             Command::Noop { .. } => Ok(Answer::Lead),
             Command::Enqueue { message, .. } => self.enqueue(alloc, store, index, message),
             Command::Get { .. } => self.get(alloc, store),
             Command::Subscribe { stamp, tag, mode } => {
-                let id = ConsumerId {
-                    session: stamp.session,
-                    tag: *tag,
-                };
+                let id = stamp.consumer_id(*tag);
                 self.subscribe(alloc, store, id, *mode)
             }
             Command::Cancel { stamp, tag } => {
-                let id = ConsumerId {
-                    session: stamp.session,
-                    tag: *tag,
-                };
+                let id = stamp.consumer_id(*tag);
                 Ok(self.cancel(store, id))
             }
             Command::Credit {
@@ -49,31 +43,19 @@ impl Draft {
                 credit,
                 ..
             } => {
-                let id = ConsumerId {
-                    session: stamp.session,
-                    tag: *tag,
-                };
+                let id = stamp.consumer_id(*tag);
                 self.give_credit(store, id, u64::from(*count) + u64::from(*credit))
             }
             Command::Settle { stamp, tag, ids } => {
-                let id = ConsumerId {
-                    session: stamp.session,
-                    tag: *tag,
-                };
+                let id = stamp.consumer_id(*tag);
                 self.finish(alloc, store, Outcome::Settled, id, ids.as_slice())
             }
             Command::Return { stamp, tag, ids } => {
-                let id = ConsumerId {
-                    session: stamp.session,
-                    tag: *tag,
-                };
+                let id = stamp.consumer_id(*tag);
                 self.finish(alloc, store, Outcome::Returned, id, ids.as_slice())
             }
             Command::Discard { stamp, tag, ids } => {
-                let id = ConsumerId {
-                    session: stamp.session,
-                    tag: *tag,
-                };
+                let id = stamp.consumer_id(*tag);
                 self.finish(alloc, store, Outcome::Discarded, id, ids.as_slice())
             }
             Command::Purge { .. } => Ok(self.purge(store)),

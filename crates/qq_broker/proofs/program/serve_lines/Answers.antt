@@ -1,67 +1,123 @@
-use Rattle.std.proofs.Common.{◌≡◌, ◌+◌, ◌≤◌, ℕ, List, sym, ap, subst, ◌∙◌, arith}
+use Rattle.std.proofs.Common.{◌≡◌, ℕ, ◌+◌, List, [], ◌++◌, sym, ap, subst, ◌∙◌, arith}
 use Rattle.std.specs.Prelude.{IfSome}
-use Rattle.std.specs.Io.KnownBytes.{prepend_known}
-use Rattle.qq_ports.specs.Faults.{Rose}
-use Rattle.qq_ports.specs.Lines.{ahead, lines_of, TakesLine}
+use Rattle.std.specs.Io.KnownBytes.{Appends, prepend_known}
+use Rattle.qq_base.specs.Causes.{Rose}
+use Rattle.qq_ports.specs.Faults.{AppendsPrefix}
+use Rattle.qq_ports.specs.Lines.{ahead, TakesLine}
 use Rattle.qq_broker.specs.declared.stop.Stop.{Stop}
-use Rattle.qq_broker.specs.Stops.{HasStopped, line_fault_stop}
-use Rattle.qq_broker.proofs.Endings.{Going, going_start, going_line, going_stops, going_faults, ahead_ends}
+use Rattle.qq_broker.specs.Endings.{Ending, refusal}
+use Rattle.qq_broker.specs.Outcome.{Run}
+use Rattle.qq_broker.specs.Stops.{HasStopped, EndsBy, MayEnd}
+use Rattle.qq_broker.proofs.Going.{Going, going_start, going_line, going_writes, going_too_long, refusal_may_end, going_reads, going_stops, answer_stops, ahead_ends}
+use Rattle.qq_broker.proofs.Closings.{Rose-earlier}
+use Rattle.qq_broker.proofs.Lines.{first_run-lines}
 use Rattle.qq_broker.proofs.program.serve_lines.Goals as goal
 
 pub lines-init : goal.lines-init
 lines-init g c =
     let left = g.I.Source.left c.args.input.now in
-    let broker = c.args.broker.now in
     let written = g.O.Sink.written c.args.output.now in
     record {
-      going = subst (λ (p : List ℕ). Going left (prepend_known p left) broker broker written written) (sym c.new-lines.ensures.pending) (going_start left broker written);
-      given = c.new-lines.ensures.given ∙ sym c.requires;
-      within = omega (arith, c.requires);
+      going =
+          subst (λ (p : List ℕ). Going left (prepend_known p left) c.args.broker.now written written)
+          (sym c.new-lines.ensures) (going_start left c.args.broker.now written c.requires);
+      within = omega (arith, ap (λ (r : Run). r.lines) c.requires ∙ first_run-lines);
       source_later = omega arith;
       sink_later = omega arith;
     }
 
-pub returns-in-Err-clause-cause : goal.returns-in-Err-clause-cause
-returns-in-Err-clause-cause g c =
+pub returns-in-Ok-None-clause-ended : goal.returns-in-Ok-None-clause-ended
+returns-in-Ok-None-clause-ended g c =
+    let stays = rw c.in-Ok-None.field-0-is at c.in-Ok-None.ensures.stays in
+    ahead_ends c.next_line.new.lines (g.I.Source.left c.next_line.new.input) stays
+
+pub returns-in-Err-Failed-clause-cause : goal.returns-in-Err-Failed-clause-cause
+returns-in-Err-Failed-clause-cause g c =
+    let left = g.I.Source.left c.args.input.now in
+    let now = ahead c.lines.lines (g.I.Source.left c.lines.input) in
+    let faults = g.I.Source.faults in
+    let cause = rw c.in-Err-Failed.field-0-is at c.in-Err-Failed.ensures.cause in (
+      Rose-earlier (faults c.args.input.now) (faults c.lines.input) (faults c.next_line.new.input)
+          c.lines.invariant.source_later cause.0,
+      going_reads left now (g.I.Source.left c.next_line.new.input) c.lines.broker
+          (g.O.Sink.written c.args.output.now) (g.O.Sink.written c.lines.output) c.lines.invariant.going cause.1,
+    )
+
+pub returns-in-Err-TooLong-clause-cause : goal.returns-in-Err-TooLong-clause-cause
+returns-in-Err-TooLong-clause-cause g c =
     let left = g.I.Source.left c.args.input.now in
     let now = ahead c.lines.lines (g.I.Source.left c.lines.input) in
     let before = g.O.Sink.written c.args.output.now in
     let after = g.O.Sink.written c.lines.output in
-    let rose = Rose (g.I.Source.faults c.lines.input) (g.I.Source.faults c.next_line.new.input) in
-    subst (λ (s : Stop). IfSome left (λ bytes. HasStopped s c.args.broker.now (lines_of bytes) before after))
-    (sym (c.fault_stop.ensures ∙ ap (λ (n : ℕ). line_fault_stop c.in-Err.fault (n + 1)) c.lines-in-Err.ensures.lines))
-    (going_faults left now c.in-Err.fault c.args.broker.now c.lines.broker c.lines.lines.given before after rose
-    c.lines_law.ensures c.lines.invariant.given c.lines.invariant.within c.lines.invariant.going c.in-Err.ensures.cause)
+    let long = rw c.in-Err-TooLong.field-0-is at c.in-Err-TooLong.ensures.cause in
+    let is : refusal (c.lines.broker.lines + 1) ≡ c.refusal.result = ap (λ (n : ℕ). refusal (n + 1))
+    (sym c.lines-in-Err-TooLong.ensures.lines) ∙ sym c.refusal.ensures in (
+      subst MayEnd is (refusal_may_end c.lines.broker),
+      subst (λ (e : Ending). IfSome left (λ bytes. EndsBy e bytes before after [])) is
+          (going_too_long left now c.lines.broker before after c.lines_law.ensures c.lines.invariant.going long.1),
+    )
 
-pub returns-in-Err-serve_line-clause-cause : goal.returns-in-Err-serve_line-clause-cause
-returns-in-Err-serve_line-clause-cause g c =
+pub returns-in-Err-Memory-clause-cause : goal.returns-in-Err-Memory-clause-cause
+returns-in-Err-Memory-clause-cause g c =
+    going_stops (g.I.Source.left c.args.input.now) (ahead c.lines.lines (g.I.Source.left c.lines.input))
+    c.lines.broker
+    (g.O.Sink.written c.args.output.now) (g.O.Sink.written c.lines.output) c.lines.invariant.going
+
+pub returns-in-Err-clause-cause : goal.returns-in-Err-clause-cause
+returns-in-Err-clause-cause g c =
+    let left = g.I.Source.left c.args.input.now in
+    let rest = g.I.Source.left c.next_line.new.input in
+    let now = ahead c.lines.lines (g.I.Source.left c.lines.input) in
+    let next = ahead c.next_line.new.lines rest in
+    let before = g.O.Sink.written c.args.output.now in
+    let after = g.O.Sink.written c.lines.output in
+    let source = Rose (g.I.Source.faults c.args.input.now) (g.I.Source.faults c.next_line.new.input) in
+    let sink = Rose (g.O.Sink.faults c.args.output.now) (g.O.Sink.faults c.lines.output) in
+    let takes : TakesLine now next c.as_slice.result.now = subst (TakesLine now next) (sym c.as_slice.ensures)
+    (rw c.in-Ok-Some.field-0-is at c.in-Ok-Some.ensures.line) in
+    subst (λ (s : Stop). HasStopped s left rest before after source sink []) (sym c.from.ensures)
+    (answer_stops c.in-Err.stop left now next rest c.lines.broker c.as_slice.result.now before after source sink
+    c.lines_law.ensures c.lines.invariant.going takes c.in-Err.ensures.cause)
+
+pub returns-in-Err-write_all-clause-cause : goal.returns-in-Err-write_all-clause-cause
+returns-in-Err-write_all-clause-cause g c =
     let left = g.I.Source.left c.args.input.now in
     let now = ahead c.lines.lines (g.I.Source.left c.lines.input) in
     let next = ahead c.next_line.new.lines (g.I.Source.left c.next_line.new.input) in
-    let before = g.O.Sink.written c.args.output.now in
-    let rose = Rose (g.O.Sink.faults c.lines.output) (g.O.Sink.faults c.serve_line.new.output) in
-    let takes : TakesLine now next c.as_slice.result.now = subst (TakesLine now next) (sym c.as_slice.ensures) (rw c.in-Ok-Some.field-0-is at c.in-Ok-Some.ensures.line) in
-    going_stops left now next c.in-Err-serve_line.stop c.args.broker.now c.lines.broker c.as_slice.result.now before (g.O.Sink.written c.lines.output) (g.O.Sink.written c.serve_line.new.output) rose
-    c.lines_law.ensures c.lines.invariant.going takes c.in-Err-serve_line.ensures.cause
+    let faults = g.O.Sink.faults in
+    let takes : TakesLine now next c.as_slice.result.now = subst (TakesLine now next) (sym c.as_slice.ensures)
+    (rw c.in-Ok-Some.field-0-is at c.in-Ok-Some.ensures.line) in
+    let said = c.in-Ok.ensures.ok in
+    let same : c.deref.result.now ≡ said.said = c.deref.ensures.value ∙ said.text
+    ∙ ap (λ (l : List ℕ). l ++ said.said) c.clear.ensures.items in (
+      Rose-earlier (faults c.args.output.now) (faults c.lines.output) (faults c.write_all.new.out)
+          c.lines.invariant.sink_later c.in-Err-write_all.ensures.cause.cause,
+      going_writes left now next c.lines.broker c.answer_line.new.self c.as_slice.result.now said.said
+          (g.O.Sink.written c.args.output.now) (g.O.Sink.written c.lines.output) (g.O.Sink.written c.write_all.new.out)
+          c.lines_law.ensures c.lines.invariant.going takes said.is
+          (subst (AppendsPrefix (g.O.Sink.written c.lines.output) (g.O.Sink.written c.write_all.new.out)) same
+          c.in-Err-write_all.ensures.err),
+    )
 
 pub lines-preserved : goal.lines-preserved
 lines-preserved g c =
     let left = g.I.Source.left c.args.input.now in
     let now = ahead c.lines.lines (g.I.Source.left c.lines.input) in
     let next = ahead c.next_line.new.lines (g.I.Source.left c.next_line.new.input) in
-    let takes : TakesLine now next c.as_slice.result.now = subst (TakesLine now next) (sym c.as_slice.ensures) (rw c.in-Ok-Some.field-0-is at c.in-Ok-Some.ensures.line) in
-    let number = rw c.in-Ok-Some.field-0-is at c.in-Ok-Some.ensures.number in
+    let takes : TakesLine now next c.as_slice.result.now = subst (TakesLine now next) (sym c.as_slice.ensures)
+    (rw c.in-Ok-Some.field-0-is at c.in-Ok-Some.ensures.line) in
     let said = c.in-Ok.ensures.ok in
+    let same : c.deref.result.now ≡ said.said = c.deref.ensures.value ∙ said.text
+    ∙ ap (λ (l : List ℕ). l ++ said.said) c.clear.ensures.items in
     record {
-      going = going_line left now next c.args.broker.now c.lines.broker c.serve_line.new.self c.as_slice.result.now said.0 (g.O.Sink.written c.args.output.now) (g.O.Sink.written c.lines.output) (g.O.Sink.written c.serve_line.new.output)
-          c.lines_law.ensures c.lines.invariant.going takes said.1 said.2;
-      given = number.1 ∙ ap (λ (n : ℕ). n + 1) c.lines.invariant.given ∙ sym c.in-Ok.ensures.count;
+      going =
+          going_line left now next c.lines.broker c.answer_line.new.self c.as_slice.result.now said.said
+          (g.O.Sink.written c.args.output.now) (g.O.Sink.written c.lines.output)
+          (g.O.Sink.written c.write_all.new.out)
+          c.lines_law.ensures c.lines.invariant.going takes said.is
+          (subst (Appends (g.O.Sink.written c.lines.output) (g.O.Sink.written c.write_all.new.out)) same
+          c.in_default.ensures.ok);
       within = c.in-Ok.ensures.within;
       source_later = omega (arith, c.lines.invariant.source_later, c.in-Ok-Some.ensures.later);
-      sink_later = omega (arith, c.lines.invariant.sink_later, c.in-Ok.ensures.later);
+      sink_later = omega (arith, c.lines.invariant.sink_later, c.in_default.ensures.cause.later);
     }
-
-pub returns-in-Ok-None-clause-ended : goal.returns-in-Ok-None-clause-ended
-returns-in-Ok-None-clause-ended g c =
-    let stays = rw c.in-Ok-None.field-0-is at c.in-Ok-None.ensures.stays in
-    ahead_ends c.next_line.new.lines.pending (g.I.Source.left c.next_line.new.input) stays.1

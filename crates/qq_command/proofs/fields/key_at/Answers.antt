@@ -7,7 +7,8 @@ use Rattle.qq_command.proofs.fields.key_at.Goals as goal
 
 pub returns-in_ok-from_str-in-Ok : goal.returns-in_ok-from_str-in-Ok
 unfolding key_at checked
-returns-in_ok-from_str-in-Ok c = let e = is_utf8-from_IsUtf8 _ c.in-Ok.ensures.cases.1 in grind (arith, common_steps, e)
+returns-in_ok-from_str-in-Ok c =
+    let e = is_utf8-from_IsUtf8 _ c.in-Ok.ensures.cases.1 in grind (arith, common_steps, e)
 
 not_true : (b : Bool) → (b ≡ true → ⊥) → b ≡ false
 not_true true refutes = absurd (refutes refl)
@@ -15,4 +16,6 @@ not_true false refutes = refl
 
 pub returns-in-Err : goal.returns-in-Err
 unfolding key_at checked
-returns-in-Err c = let e = not_true (is_utf8 _) (λ t. c.in-Err.ensures.cases.0 (IsUtf8-from_is_utf8 _ t)) in grind (arith, common_steps, e)
+returns-in-Err c =
+    let e = not_true (is_utf8 _) (λ t. c.in-Err.ensures.cases.0 (IsUtf8-from_is_utf8 _ t)) in grind
+    (arith, common_steps, e)

@@ -1,7 +1,7 @@
 use Rattle.std.proofs.Common.{refl}
 use Rattle.qq_command.specs.Reading.{entry_at}
 use Rattle.qq_command.proofs.Laws.{known}
-use Rattle.qq_command.proofs.Lengths.{spelling_len}
+use Rattle.qq_command.proofs.ShortEncodings.{encoding_len}
 use Rattle.qq_command.proofs.EntryLaws.{entry_takes, entry_again}
 use Rattle.qq_command.proofs.reading.entries_read_back.Goals as goal
 
@@ -12,4 +12,4 @@ pub returns-clause-alone : goal.returns-clause-alone
 returns-clause-alone c = λ bytes x fits is. known (entry_at bytes) x (entry_takes bytes fits) is
 
 pub returns-clause-short : goal.returns-clause-short
-returns-clause-short c = spelling_len
+returns-clause-short c = encoding_len

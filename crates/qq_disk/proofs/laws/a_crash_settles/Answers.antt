@@ -7,5 +7,5 @@ returns-clause-same c = image_again
 pub returns-clause-alone : goal.returns-clause-alone
 returns-clause-alone c = image_alone
 
-pub returns-clause-shown : goal.returns-clause-shown
-returns-clause-shown c = image_shown
+pub returns-clause-reads : goal.returns-clause-reads
+returns-clause-reads c = image_shown

@@ -1,5 +1,5 @@
-use Rattle.qq_laws.proofs.OnceLemmas.{once}
+use Rattle.qq_laws.proofs.OnceLemmas.{carried_out_once}
 use Rattle.qq_laws.proofs.sessions.commands_are_carried_out_once.Goals as goal
 
 pub returns : goal.returns
-returns c = once
+returns c = carried_out_once

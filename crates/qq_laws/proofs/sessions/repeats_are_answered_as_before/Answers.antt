@@ -1,4 +1,4 @@
-use Rattle.qq_laws.proofs.Turned.{repeat-again}
+use Rattle.qq_laws.proofs.TurnAway.{repeat-again}
 use Rattle.qq_laws.proofs.sessions.repeats_are_answered_as_before.Goals as goal
 
 pub returns : goal.returns

@@ -1,5 +1,5 @@
 use Rattle.std.proofs.Common.{◌≡◌, Some, rules, subst, sym}
-use Rattle.qq_disk.specs.Disk.{synced}
+use Rattle.qq_disk.specs.Disk.{sync}
 use Rattle.qq_mem_disk.specs.Files.{disk_of, IsUndone}
 use Rattle.qq_mem_disk.specs.declared.change.Mark.{Mark}
 use Rattle.qq_mem_disk.specs.declared.change.Before.TheVariants.{Earlier}
@@ -9,7 +9,8 @@ use Rattle.qq_mem_disk.proofs.files.sync.Goals as goal
 pub returns-in-Some-clause-before : goal.returns-in-Some-clause-before
 returns-in-Some-clause-before c =
     let old = disk_of c.args.files.now in
-    let new = disk_of (c.get_mut.follows.lender c.sync.new.self) in
+    let new = disk_of (c.get_mut.follows.lender c.keep.new.self) in
     let here : old c.args.name ≡ Some c.in-Some.file.now = search rules in
-    let is : new ≡ synced old c.args.name = search rules in
-    subst (λ (mark : Mark). IsUndone c.args.name (Earlier mark) old new) (sym c.mark-mark.ensures) (undone_sync old new c.args.name c.in-Some.file.now here is)
+    let is : new ≡ sync old c.args.name = search rules in
+    subst (λ (mark : Mark). IsUndone c.args.name (Earlier mark) old new) (sym c.mark-mark.ensures)
+    (undone_sync old new c.args.name c.in-Some.file.now here is)

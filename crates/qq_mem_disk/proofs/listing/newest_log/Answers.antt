@@ -12,4 +12,5 @@ pub returns : goal.returns
 returns c =
     let last : c.loop-name.newest ≡ last_log c.args.removed_back None c.args.files.now.entries = search rules in
     let ordered : IsOrdered name_cmp c.args.files.now = search rules in
-    subst (λ (newest : Option FileName). IsNewestLog (disk_of c.args.files.now) c.args.removed_back newest) (sym last) (newest_of c.args.removed_back c.args.files.now ordered)
+    subst (λ (newest : Option FileName). IsNewestLog (disk_of c.args.files.now) c.args.removed_back newest)
+    (sym last) (newest_of c.args.removed_back c.args.files.now ordered)

@@ -2,11 +2,11 @@ use Rattle.std.proofs.Common.{◌≤◌, ◌-◌, length, take}
 use Rattle.std.specs.Io.KnownBytes.{Appends}
 use Rattle.qq_ports.proofs.sink.write_all.Given as goal
 
--- a front of the bytes was written
+-- a prefix of the bytes was written
 abbrev pub invariant-loop-at : goal.invariant-loop-at
 invariant-loop-at g l = record {
   within : l.at ≤ length l.bytes;
-  front : Appends (g.O.Sink.written l.fn.out) (g.O.Sink.written l.out) (take l.at l.bytes);
+  prefix : Appends (g.O.Sink.written l.fn.out) (g.O.Sink.written l.out) (take l.at l.bytes);
   later : g.O.Sink.faults l.fn.out ≤ g.O.Sink.faults l.out;
 }
 

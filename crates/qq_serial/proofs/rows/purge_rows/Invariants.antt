@@ -1,10 +1,10 @@
 use Rattle.std.proofs.Common.{◌≡◌, take, drop, map}
-use Rattle.qq_model.specs.Commands.{purged_row}
+use Rattle.qq_model.specs.Commands.{purge_row}
 use Rattle.qq_serial.proofs.rows.purge_rows.Given as goal
 
 -- the rows so far are changed, and the others are as before
 abbrev pub invariant-loop-row : goal.invariant-loop-row
 invariant-loop-row l = record {
-  front : take l.row-index l.rows ≡ map purged_row (take l.row-index l.initial.rows);
+  front : take l.row-index l.rows ≡ map purge_row (take l.row-index l.initial.rows);
   rest : drop l.row-index l.rows ≡ drop l.row-index l.initial.rows;
 }

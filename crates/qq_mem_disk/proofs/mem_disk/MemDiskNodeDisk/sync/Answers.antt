@@ -1,5 +1,5 @@
 use Rattle.std.proofs.Common.{◌≡◌, ◌∷◌, inr, refl, rules}
-use Rattle.qq_disk.specs.Disk.{now, synced}
+use Rattle.qq_disk.specs.Disk.{now, sync}
 use Rattle.qq_disk.specs.Moments.{IsSyncing}
 use Rattle.qq_mem_disk.specs.Store.{past_of}
 use Rattle.qq_mem_disk.proofs.Steps.{one_more}
@@ -9,5 +9,5 @@ pub returns-clause-moments : goal.returns-clause-moments
 returns-clause-moments c =
     let old = past_of c.args.self.now.store in
     let new = past_of c.sync.new.self in
-    let is : new ≡ synced (now old) c.args.file ∷ old = search rules in
-    one_more (IsSyncing (now old) c.args.file) (synced (now old) c.args.file) old new is (inr refl)
+    let is : new ≡ sync (now old) c.args.file ∷ old = search rules in
+    one_more (IsSyncing (now old) c.args.file) (sync (now old) c.args.file) old new is (inr refl)

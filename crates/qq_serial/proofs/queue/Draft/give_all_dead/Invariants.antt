@@ -6,4 +6,6 @@ use Rattle.qq_serial.proofs.queue.Draft.give_all_dead.Given as goal
 
 -- the rounds that are left lead to where all lead
 abbrev pub invariant-rounds : goal.invariant-rounds
-invariant-rounds l = while_next (l.dead - l._round) give_dead (progress_of l.store l.self) ≡ while_next l.dead give_dead (progress_of l.store l.initial.self)
+invariant-rounds l =
+    while_next (l.dead - l._round) give_dead (progress_of l.store l.self) ≡ while_next l.dead give_dead
+    (progress_of l.store l.initial.self)

@@ -6,4 +6,6 @@ use Rattle.qq_serial.proofs.queue.Draft.keep_limits.Given as goal
 
 -- the rounds that are left lead to where all lead
 abbrev pub invariant-rounds : goal.invariant-rounds
-invariant-rounds l = while_next (l.ready - l._round) drop_head (progress_of l.store l.self) ≡ while_next l.ready drop_head (progress_of l.store l.initial.self)
+invariant-rounds l =
+    while_next (l.ready - l._round) drop_head (progress_of l.store l.self) ≡ while_next l.ready drop_head
+    (progress_of l.store l.initial.self)

@@ -6,4 +6,6 @@ use Rattle.qq_serial.proofs.queue.Draft.return_all.Given as goal
 
 -- the rounds that are left lead to where all lead
 abbrev pub invariant-rounds : goal.invariant-rounds
-invariant-rounds l = while_next (l.out - l._round) (return_first l.consumer.id) (progress_of l.store l.self) ≡ while_next l.out (return_first l.consumer.id) (progress_of l.store l.initial.self)
+invariant-rounds l =
+    while_next (l.out - l._round) (return_first l.consumer.id) (progress_of l.store l.self) ≡ while_next l.out
+    (return_first l.consumer.id) (progress_of l.store l.initial.self)

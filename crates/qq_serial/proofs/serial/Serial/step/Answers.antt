@@ -3,17 +3,18 @@ use Rattle.qq_model.specs.State.{State, is_within_ends}
 use Rattle.qq_model.specs.Step.{Step, step}
 use Rattle.qq_serial.proofs.serial.Serial.step.Goals as goal
 
-pub returns-then-not-is_within-clause-cause : goal.returns-then-not-is_within-clause-cause
-returns-then-not-is_within-clause-cause c = (
+pub returns-then-not-is_within_ends-clause-cause : goal.returns-then-not-is_within_ends-clause-cause
+returns-then-not-is_within_ends-clause-cause c = (
   refl,
   ap (λ (s : State). is_within_ends (step s c.args.index c.args.entry.now).state) (sym c.self.view_is)
       ∙ ap (λ (made : Step). is_within_ends made.state) c.in-Ok.ensures.ok
-      ∙ sym (c.is_within.ensures c.make_step.new.store)
-      ∙ c.if-not-is_within.true,
+      ∙ sym (c.is_within_ends.ensures c.step.new.store)
+      ∙ c.if-not-is_within_ends.true,
 )
 
 pub invariant_of-self-in-Ok : goal.invariant_of-self-in-Ok
-invariant_of-self-in-Ok c = sym (c.is_within.ensures c.make_step.new.store) ∙ c.if-not-is_within.false
+invariant_of-self-in-Ok c = sym (c.is_within_ends.ensures c.step.new.store) ∙ c.if-not-is_within_ends.false
 
-pub returns-else-not-is_within-clause-within : goal.returns-else-not-is_within-clause-within
-returns-else-not-is_within-clause-within c = sym (c.is_within.ensures c.make_step.new.store) ∙ c.if-not-is_within.false
+pub returns-else-not-is_within_ends-clause-within : goal.returns-else-not-is_within_ends-clause-within
+returns-else-not-is_within_ends-clause-within c =
+    sym (c.is_within_ends.ensures c.step.new.store) ∙ c.if-not-is_within_ends.false

@@ -1,0 +1,16 @@
+//! The exit statuses.
+
+/// The input was read to its end, and all was written.
+pub const DONE: u8 = 0;
+/// The words are no command.
+pub const USAGE: u8 = 2;
+/// A line was refused.
+pub const REFUSED: u8 = 4;
+/// The source failed.
+pub const READ_FAULT: u8 = 5;
+/// The sink failed.
+pub const WRITE_FAULT: u8 = 6;
+/// There was no memory.
+pub const NO_MEMORY: u8 = 12;
+/// A number stands at its end.
+pub const SPENT: u8 = 20;

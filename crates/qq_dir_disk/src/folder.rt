@@ -1,0 +1,112 @@
+ghost use Rattle.std.specs.Prelude.{◌≡◌, ◌++◌, ◌∷◌, IfOk, IsOkUnless};
+ghost use Rattle.qq_dir_disk.specs.Name.{file_text};
+ghost use Rattle.qq_dir_disk.specs.Folder.{folder_path};
+
+use crate::name::file_text;
+use qq_base::Memory;
+use qq_disk::FileName;
+use std::alloc::Global;
+use std::fs::{File, OpenFile};
+use std::io::ErrorKind;
+use std::rt::Files;
+use std::{fs, io};
+
+/// A folder of the operating system.
+#[derive(Debug, Drop)]
+pub struct Folder {
+    path: String,
+}
+
+// The folder that a path's last name stands in.
+fn parent(path: &str) -> &str {
+    match path.trim_end_matches('/').rsplit_once('/') {
+        Some(("", _)) => "/",
+        Some((above, _)) => above,
+        None => ".",
+    }
+}
+
+fn sync_path<R: Files>(rt: &R, path: &str) -> io::Result<()> {
+    File::open(rt, path)?.sync_all()
+}
+
+// Syncs the name of a folder that was found. Where the folder above may not be read, nobody could have made
+// and synced it from here, and there is nothing to catch up on.
+fn sync_found<R: Files>(rt: &R, path: &str) -> io::Result<()> {
+    match sync_path(rt, parent(path)) {
+        Err(e) if e.kind() == ErrorKind::PermissionDenied => Ok(()),
+        done => done,
+    }
+}
+
+// Makes a folder that is absent, and syncs its name into the folder above.
+fn make_level<R: Files>(rt: &R, path: &str) -> io::Result<()> {
+    fs::create_dir(rt, path)?;
+    sync_path(rt, parent(path))
+}
+
+impl Folder {
+    pub fn new(path: String) -> Self
+        ensures { result.path ≡ path }
+    {
+        Folder { path }
+    }
+
+    pub fn path(&self) -> &str
+        ensures { result.now ≡ folder_path self.now }
+    {
+        if self.path.is_empty() {
+            return ".";
+        }
+        self.path.as_str()
+    }
+
+    pub fn path_of(&self, alloc: Global, file: FileName) -> Result<String, Memory>
+        ensures path { IfOk result (λ path.
+            path.bytes.items ≡ folder_path self.now ++ 47 ∷ file_text file) }
+        ensures want { IsOkUnless result Memory.Want }
+    {
+        let mut path = String::from_str(alloc, self.path())?;
+        path.push('/')?;
+        path.push_str(file_text(alloc, file)?.as_str())?;
+        Ok(path)
+    }
+
+    pub fn sync<R: Files>(&self, rt: &R) -> io::Result<()> {
+        sync_path(rt, self.path())
+    }
+
+    /// Makes the folder and those above it, as far as they are absent, from the top down. A folder's own
+    /// name is synced before anything is made in it, also that of one that was found, since who made it
+    /// may have ended before that.
+    pub fn make<R: Files>(&self, rt: &R) -> io::Result<()> {
+        let path = self.path();
+        let mut found = None;
+        for end in 1..path.len() {
+            match path.split_at_checked(end) {
+                Some((level, rest)) if rest.starts_with('/') => found = step(rt, found, level)?,
+                _ => {}
+            }
+        }
+        match step(rt, found, path)? {
+            Some(folder) => sync_found(rt, folder),
+            None => Ok(()),
+        }
+    }
+}
+
+// Makes one level below the one that was found. Answers the level, where it was found with its name not synced.
+fn step<'a, R: Files>(
+    rt: &R,
+    found: Option<&'a str>,
+    level: &'a str,
+) -> io::Result<Option<&'a str>> {
+    if fs::exists(rt, level)? {
+        return Ok(Some(level));
+    }
+    if let Some(above) = found {
+        sync_found(rt, above)?;
+    }
+    make_level(rt, level)?;
+    Ok(None)
+}

@@ -1,0 +1,16 @@
+//! A node's disk in a folder of the operating system.
+//!
+//! `docs/DISK.md` says what each call does in system calls, in their order. Nothing is proved of what a
+//! folder holds: the contracts say that faults are counted, that a file whose sync or append failed is
+//! never synced again, and how files are named.
+#![tactic(auto)]
+
+mod dir_disk;
+mod faults;
+mod folder;
+mod handles;
+mod listing;
+mod name;
+
+pub use dir_disk::DirDisk;
+pub use name::{file_name, file_text};

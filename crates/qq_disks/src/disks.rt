@@ -1,0 +1,149 @@
+use crate::call::answer;
+use crate::random::Calls;
+use crate::watched::{Watch, Watched};
+use crate::words::Words;
+use anyhow::Result;
+use qq_dir_disk::DirDisk;
+use qq_mem_disk::MemDisk;
+use std::alloc::Global;
+use std::fs;
+
+/// The folder of all that a run writes, which is removed again.
+const SCRATCH: &str = "qq-disks-scratch";
+
+/// The folder of the disk.
+const FOLDER: &str = "qq-disks-scratch/root/node-1";
+
+/// A disk in memory, and one in a folder as long as both are to answer the same.
+#[derive(Drop)]
+pub struct Disks<'a> {
+    system: Watched<'a>,
+    memory: MemDisk,
+    folder: Option<DirDisk<Watched<'a>>>,
+}
+
+fn new_folder<'a>(system: Watched<'a>) -> Result<DirDisk<Watched<'a>>> {
+    let alloc = system.rt.alloc();
+    let path = String::from_str(alloc, FOLDER)?;
+    Ok(DirDisk::new(system, alloc, path))
+}
+
+fn path_of(rt: HostRuntime, name: &str) -> Result<String> {
+    Ok(format!(in rt.alloc(); "{FOLDER}/{name}")?)
+}
+
+/// Removes all that a run has written.
+pub fn clean(rt: HostRuntime) -> Result<()> {
+    if fs::exists(&rt, SCRATCH)? {
+        fs::remove_dir_all(&rt, SCRATCH)?;
+    }
+    Ok(())
+}
+
+impl<'a> Disks<'a> {
+    /// Two disks that are empty.
+    pub fn new(rt: HostRuntime, watch: &'a Watch) -> Result<Self> {
+        clean(rt)?;
+        let system = Watched { rt, watch };
+        Ok(Disks {
+            system,
+            memory: MemDisk::new(rt.alloc()),
+            folder: Some(new_folder(system)?),
+        })
+    }
+
+    /// Carries out a line, and prints what it answers. A line that isn't one of this program is a call.
+    pub fn line(&mut self, line: &str) -> Result<()> {
+        let mut words = Words::new(line);
+        match words.next() {
+            "trace" => self.system.watch.prints.set(true),
+            "break" => self.system.watch.passes.set(Some(words.number()?)),
+            "reopen" => self.folder = Some(new_folder(self.system)?),
+            "put" => self.put(&mut words)?,
+            "folder" => self.make_folder(words.next())?,
+            "random" => self.random(&mut words)?,
+            "crash" => self.crash(&mut words)?,
+            "fail" => self.fail(&mut words)?,
+            "fuse" => {
+                self.folder = None;
+                self.memory.fuse(words.number()?);
+            }
+            "calls" => println!(self.system.rt; "  {}", self.memory.calls())?,
+            _ => self.call(line)?,
+        }
+        Ok(())
+    }
+
+    // Makes a folder in a file's place, as somebody else.
+    fn make_folder(&self, name: &str) -> Result<()> {
+        let rt = self.system.rt;
+        fs::create_dir_all(&rt, path_of(rt, name)?)?;
+        Ok(())
+    }
+
+    // Makes a call of both, and prints the answer; of the disk in the folder where it is another.
+    fn call(&mut self, line: &str) -> Result<()> {
+        let rt = self.system.rt;
+        let text = answer(rt.alloc(), &mut self.memory, line)?;
+        if !text.is_empty() {
+            println!(rt; "  {text}")?;
+        }
+        if let Some(folder) = &mut self.folder {
+            let other = answer(rt.alloc(), folder, line)?;
+            if other != text {
+                println!(rt; "  in the folder: {other}")?;
+            }
+        }
+        Ok(())
+    }
+
+    // Writes a file into the folder, as somebody else.
+    fn put(&mut self, words: &mut Words) -> Result<()> {
+        let rt = self.system.rt;
+        fs::create_dir_all(&rt, FOLDER)?;
+        let path = path_of(rt, words.next())?;
+        fs::write(&rt, path, words.next())?;
+        Ok(())
+    }
+
+    // A disk in a folder names no image, and no calls that fail: it is put aside.
+    fn crash(&mut self, words: &mut Words) -> Result<()> {
+        let alloc = self.system.rt.alloc();
+        let memory = std::mem::replace(&mut self.memory, MemDisk::new(alloc));
+        self.memory = memory.crash(alloc, &words.image(alloc)?)?;
+        self.folder = None;
+        Ok(())
+    }
+
+    fn fail(&mut self, words: &mut Words) -> Result<()> {
+        let mut calls = Vec::new(self.system.rt.alloc());
+        for _ in 0..u64::MAX {
+            if words.is_at_end() {
+                break;
+            }
+            calls.push(words.number()?)?;
+        }
+        self.memory.fail_calls(calls);
+        self.folder = None;
+        Ok(())
+    }
+
+    // Makes random calls of both, up to the first that they answer otherwise.
+    fn random(&mut self, words: &mut Words) -> Result<()> {
+        let rt = self.system.rt;
+        let mut calls = Calls::new(words.number()?);
+        for count in 0..words.number()? {
+            let line = calls.next(rt.alloc())?;
+            let text = answer(rt.alloc(), &mut self.memory, line.as_str())?;
+            if let Some(folder) = &mut self.folder {
+                let other = answer(rt.alloc(), folder, line.as_str())?;
+                if other != text {
+                    println!(rt; "  after {count} calls: {line}: {text}; in the folder: {other}")?;
+                    return Ok(());
+                }
+            }
+        }
+        println!(rt; "  the same answers")?;
+        Ok(())
+    }
+}

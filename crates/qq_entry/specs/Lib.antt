@@ -1,0 +1,4 @@
+pub mod Command
+pub mod Message
+pub mod Queue
+pub mod Range

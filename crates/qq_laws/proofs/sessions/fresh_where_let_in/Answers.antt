@@ -1,5 +1,0 @@
-use Rattle.qq_laws.proofs.Turned.{fresh_if_let_in}
-use Rattle.qq_laws.proofs.sessions.fresh_where_let_in.Goals as goal
-
-pub returns : goal.returns
-returns c = fresh_if_let_in
