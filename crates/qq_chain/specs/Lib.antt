@@ -1,0 +1,9 @@
+pub mod Format
+pub mod Front
+pub mod Records
+pub mod Chain
+pub mod Image
+pub mod Promise
+pub mod Lanes
+pub mod Wal
+pub mod Laws

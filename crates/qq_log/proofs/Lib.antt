@@ -1,0 +1,2 @@
+mod CarryLaws
+mod StableLaws

@@ -1,0 +1,7 @@
+pub mod Above
+pub mod Lane
+pub mod Log
+pub mod Op
+pub mod Same
+pub mod Stable
+pub mod Writable

@@ -1,0 +1,7 @@
+mod Appends
+mod FieldLaws
+mod HeaderLaws
+mod Lengths
+mod Loop
+mod RecordLaws
+mod Steps

@@ -1,0 +1,4 @@
+pub mod Encoding
+pub mod Mark
+pub mod Reading
+pub mod Record

@@ -1,0 +1,255 @@
+//! Writing a record.
+ghost use Rattle.std.specs.Prelude.{◌≡◌, ◌++◌, ◌+◌, ◌≤◌, ◌<◌, ◌^◌, take, drop, length, vec_len, All, OnOk, OnErr, IsOkUnless};
+ghost use Rattle.std.specs.List.{flat_map};
+ghost use Rattle.qq_command.specs.Encoding.{IsPrefix, u32, u64, encoding};
+ghost use Rattle.qq_entry.specs.Range.{IsWritable as IsEntry};
+ghost use Rattle.qq_log.specs.Writable.{IsWritable as IsWritableOp, IsWritableCarry};
+ghost use Rattle.qq_wal_record.specs.Encoding.{vote, head, segment, segments, entries, change_payload, op_payload, carry_payload, payload, inside, body, record_encoding};
+ghost use Rattle.qq_wal_record.specs.Record.{IsWritable};
+
+use crate::mark::record_mark;
+use crate::record::{HEAD_LEN, LogRecord};
+use qq_base::{Index, Memory, NodeId, Term, put_u8, put_u32, put_u64};
+use qq_command::{Entry, put_entry};
+use qq_log::{Carry, Op, SnapshotHead, Span};
+
+fn put_vote(out: &mut Vec<u8>, node: Option<NodeId>) -> Result<(), Memory>
+    ensures ok { OnOk result (out.new.items ≡ out.old.items ++ vote node) }
+    ensures err { OnErr result (out.new.items ≡ out.old.items) }
+    ensures want { IsOkUnless result Memory.Want }
+{
+    match node {
+        None => put_u8(out, 0),
+        Some(node) => put_u8(out, node.0),
+    }
+}
+
+#[tactic(auto, using(crate::proofs::Appends::begins), unfolding(crate::specs::Encoding::head))]
+fn put_head(out: &mut Vec<u8>, snapshot: &SnapshotHead) -> Result<(), Memory>
+    ensures ok { OnOk result (out.new.items ≡ out.old.items ++ head snapshot.now) }
+    ensures err { OnErr result (IsPrefix out.old.items out.new.items) }
+    ensures want { IsOkUnless result Memory.Want }
+{
+    put_u64(out, snapshot.index.0)?;
+    put_u64(out, snapshot.term.0)?;
+    put_u64(out, snapshot.through.0)
+}
+
+#[tactic(auto, using(crate::proofs::Appends::begins), unfolding(crate::specs::Encoding::segment))]
+fn put_segment(out: &mut Vec<u8>, span: &Span) -> Result<(), Memory>
+    ensures ok { OnOk result (out.new.items ≡ out.old.items ++ segment span.now) }
+    ensures err { OnErr result (IsPrefix out.old.items out.new.items) }
+    ensures want { IsOkUnless result Memory.Want }
+{
+    put_u64(out, span.file)?;
+    put_u64(out, span.first.0)?;
+    put_u64(out, span.last.0)
+}
+
+#[tactic(auto, using(crate::proofs::Appends::begins))]
+fn put_each_segment(out: &mut Vec<u8>, spans: &[Span]) -> Result<(), Memory>
+    ensures ok { OnOk result (out.new.items ≡ out.old.items ++ flat_map segment spans.now) }
+    ensures err { OnErr result (IsPrefix out.old.items out.new.items) }
+    ensures want { IsOkUnless result Memory.Want }
+{
+    'spans: for span in spans {
+        put_segment(out, span)?;
+    }
+    Ok(())
+}
+
+#[tactic(auto, using(crate::proofs::Appends::begins), unfolding(crate::specs::Encoding::segments))]
+fn put_segments(out: &mut Vec<u8>, spans: &[Span]) -> Result<(), Memory>
+    requires { length spans.now < 2 ^ 32 }
+    ensures ok { OnOk result (out.new.items ≡ out.old.items ++ segments spans.now) }
+    ensures err { OnErr result (IsPrefix out.old.items out.new.items) }
+    ensures want { IsOkUnless result Memory.Want }
+{
+    put_u32(out, spans.len() as u32)?;
+    put_each_segment(out, spans)
+}
+
+#[tactic(auto, using(crate::proofs::Appends::begins))]
+fn put_each_entry(out: &mut Vec<u8>, list: &[Entry]) -> Result<(), Memory>
+    requires { All IsEntry list.now }
+    ensures ok { OnOk result (out.new.items ≡ out.old.items ++ flat_map encoding list.now) }
+    ensures err { OnErr result (IsPrefix out.old.items out.new.items) }
+    ensures want { IsOkUnless result Memory.Want }
+{
+    'list: for entry in list {
+        put_entry(out, entry)?;
+    }
+    Ok(())
+}
+
+#[tactic(auto, using(crate::proofs::Appends::begins), unfolding(crate::specs::Encoding::entries))]
+fn put_entries(out: &mut Vec<u8>, list: &[Entry]) -> Result<(), Memory>
+    requires each { All IsEntry list.now }
+    requires count { length list.now < 2 ^ 32 }
+    ensures ok { OnOk result (out.new.items ≡ out.old.items ++ entries list.now) }
+    ensures err { OnErr result (IsPrefix out.old.items out.new.items) }
+    ensures want { IsOkUnless result Memory.Want }
+{
+    put_u32(out, list.len() as u32)?;
+    put_each_entry(out, list)
+}
+
+#[tactic(auto, using(crate::proofs::Appends::begins), unfolding(crate::specs::Encoding::change_payload))]
+fn put_change(
+    out: &mut Vec<u8>,
+    term: Term,
+    by: Option<NodeId>,
+    keep: Index,
+    list: &[Entry],
+) -> Result<(), Memory>
+    requires each { All IsEntry list.now }
+    requires count { length list.now < 2 ^ 32 }
+    ensures ok { OnOk result
+        (out.new.items ≡ out.old.items ++ change_payload term by keep list.now) }
+    ensures err { OnErr result (IsPrefix out.old.items out.new.items) }
+    ensures want { IsOkUnless result Memory.Want }
+{
+    put_u64(out, term.0)?;
+    put_vote(out, by)?;
+    put_u64(out, keep.0)?;
+    put_entries(out, list)?;
+    Ok(())
+}
+
+#[tactic(auto, using(crate::proofs::Appends::begins))]
+fn put_snapshot(out: &mut Vec<u8>, snapshot: &SnapshotHead, file: u64) -> Result<(), Memory>
+    ensures ok { OnOk result (out.new.items ≡ out.old.items ++ (head snapshot.now ++ u64 file)) }
+    ensures err { OnErr result (IsPrefix out.old.items out.new.items) }
+    ensures want { IsOkUnless result Memory.Want }
+{
+    put_head(out, snapshot)?;
+    put_u64(out, file)
+}
+
+fn put_op(out: &mut Vec<u8>, op: &Op) -> Result<(), Memory>
+    requires { IsWritableOp op.now }
+    ensures ok { OnOk result (out.new.items ≡ out.old.items ++ op_payload op.now) }
+    ensures err { OnErr result (IsPrefix out.old.items out.new.items) }
+    ensures want { IsOkUnless result Memory.Want }
+{
+    match op {
+        Op::Change {
+            term,
+            vote,
+            keep,
+            entries,
+            ..
+        } => put_change(out, *term, *vote, *keep, entries.as_slice()),
+        Op::SnapshotMade { head, file, .. } => put_snapshot(out, head, *file),
+        Op::SegmentMade {
+            file,
+            first,
+            last,
+            ..
+        } => put_segment(
+            out,
+            &Span {
+                file: *file,
+                segment: true,
+                first: *first,
+                last: *last,
+            },
+        ),
+    }
+}
+
+#[tactic(auto, using(crate::proofs::Appends::begins), unfolding(crate::specs::Encoding::carry_payload))]
+fn put_carry(out: &mut Vec<u8>, carry: &Carry) -> Result<(), Memory>
+    requires { IsWritableCarry carry.now }
+    ensures ok { OnOk result (out.new.items ≡ out.old.items ++ carry_payload carry.now) }
+    ensures err { OnErr result (IsPrefix out.old.items out.new.items) }
+    ensures want { IsOkUnless result Memory.Want }
+{
+    put_u64(out, carry.term.0)?;
+    put_vote(out, carry.vote)?;
+    put_head(out, &carry.base)?;
+    put_u64(out, carry.snapshot)?;
+    put_segments(out, carry.segments.as_slice())?;
+    put_u64(out, carry.last.0)
+}
+
+fn put_payload(out: &mut Vec<u8>, r: &LogRecord) -> Result<(), Memory>
+    requires { IsWritable r.now }
+    ensures ok { OnOk result (out.new.items ≡ out.old.items ++ payload r.now) }
+    ensures err { OnErr result (IsPrefix out.old.items out.new.items) }
+    ensures want { IsOkUnless result Memory.Want }
+{
+    match r {
+        LogRecord::Op(op) => put_op(out, op),
+        LogRecord::Carry(carry) => put_carry(out, carry),
+    }
+}
+
+/// What follows a payload's length.
+#[tactic(auto, using(crate::proofs::Appends::begins), unfolding(crate::specs::Encoding::inside))]
+fn put_inside(out: &mut Vec<u8>, r: &LogRecord) -> Result<(), Memory>
+    requires { IsWritable r.now }
+    ensures ok { OnOk result (out.new.items ≡ out.old.items ++ inside r.now) }
+    ensures err { OnErr result (IsPrefix out.old.items out.new.items) }
+    ensures want { IsOkUnless result Memory.Want }
+{
+    put_u8(out, r.kind())?;
+    put_u32(out, r.queue().0)?;
+    put_u64(out, r.number())?;
+    put_payload(out, r)?;
+    Ok(())
+}
+
+fn set_length(out: &mut Vec<u8>, place: usize, length: u32)
+    requires { place + 4 ≤ vec_len out.old }
+    ensures { out.new.items
+        ≡ take place out.old.items ++ (u32 length ++ drop (place + 4) out.old.items) }
+{
+    out[place..place + 4].copy_from_slice(&length.to_be_bytes());
+}
+
+/// A record before its mark. Its payload's length is set when its payload stands there.
+#[tactic(auto, using(crate::proofs::Appends::begins), unfolding(crate::specs::Encoding::body))]
+fn put_body(out: &mut Vec<u8>, r: &LogRecord) -> Result<(), Memory>
+    requires { IsWritable r.now }
+    ensures ok { OnOk result (out.new.items ≡ out.old.items ++ body r.now) }
+    ensures err { OnErr result (IsPrefix out.old.items out.new.items) }
+    ensures want { IsOkUnless result Memory.Want }
+{
+    let place = out.len();
+    put_u32(out, 0)?;
+    put_inside(out, r)?;
+    let length = (out.len() - place - HEAD_LEN) as u32;
+    set_length(out, place, length);
+    Ok(())
+}
+
+#[tactic(auto, using(crate::proofs::Appends::begins), unfolding(crate::specs::Encoding::record_encoding))]
+fn put_record(out: &mut Vec<u8>, file: u64, r: &LogRecord) -> Result<(), Memory>
+    requires { IsWritable r.now }
+    ensures ok { OnOk result (out.new.items ≡ out.old.items ++ record_encoding file r.now) }
+    ensures err { OnErr result (IsPrefix out.old.items out.new.items) }
+    ensures want { IsOkUnless result Memory.Want }
+{
+    let place = out.len();
+    put_body(out, r)?;
+    let mark = record_mark(file, out.as_slice().split_at(place).1);
+    out.extend_from_slice(&mark)?;
+    Ok(())
+}
+
+/// Adds a record's encoding in the file of this number at the end of `out`. Out of memory, `out` is as
+/// before.
+pub fn write_record(file: u64, r: &LogRecord, out: &mut Vec<u8>) -> Result<(), Memory>
+    requires { IsWritable r.now }
+    ensures ok { OnOk result (out.new.items ≡ out.old.items ++ record_encoding file r.now) }
+    ensures err { OnErr result (out.new.items ≡ out.old.items) }
+    ensures want { IsOkUnless result Memory.Want }
+{
+    let len = out.len();
+    let result = put_record(out, file, r);
+    if result.is_err() {
+        out.truncate(len);
+    }
+    result
+}
