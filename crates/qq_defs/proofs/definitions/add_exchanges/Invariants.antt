@@ -1,0 +1,11 @@
+use Rattle.std.proofs.Common.{◌≡◌, drop}
+use Rattle.serde_json.specs.View.{items_view}
+use Rattle.qq_defs.specs.Draft.{state_of}
+use Rattle.qq_defs.specs.Definitions.{each, exchange_step}
+use Rattle.qq_defs.proofs.definitions.add_exchanges.Given as goal
+
+-- the rest gives now what all gave at first
+abbrev pub invariant-loop-index : goal.invariant-loop-index
+invariant-loop-index l =
+    each exchange_step l.index (items_view (drop l.index l.list)) (state_of l.draft) ≡ each exchange_step 0
+    (items_view l.list) (state_of l.initial.draft)

@@ -1,0 +1,7 @@
+pub mod Arguments
+pub mod Definitions
+pub mod Draft
+pub mod Elements
+pub mod Members
+pub mod Reading
+pub mod Setup

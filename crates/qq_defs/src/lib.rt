@@ -1,0 +1,20 @@
+//! What a broker is set up with: queues with their members, routes, and counts of what was made.
+//!
+//! A setup comes from RabbitMQ's exported definitions ("Definitions", `rabbitmqctl export_definitions`), or
+//! from the number of queues alone.
+#![tactic(auto)]
+
+mod arguments;
+mod definitions;
+mod draft;
+mod elements;
+mod fault;
+mod fields;
+mod members;
+mod setup;
+
+pub use arguments::queue_args;
+pub use definitions::{QUEUES_LIMIT, read, read_document};
+pub use fault::DefsFault;
+pub use members::{QueueRow, QueueRows};
+pub use setup::{Made, Setup};

@@ -1,0 +1,6 @@
+mod Bindings
+mod Puts
+mod Relation
+mod Sets
+mod Split
+mod Walks
