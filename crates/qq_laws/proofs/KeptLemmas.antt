@@ -306,7 +306,7 @@ die-buries cause row p = by p.state.args.strategy
     }
 
 -- what is out stays so, where another row is put
-out-kept : (id : ConsumerId) (new : Row) (rows : List Row)
+pub out-kept : (id : ConsumerId) (new : Row) (rows : List Row)
     → ((row : Row) → In row rows → row.index.0 ≡ new.index.0 → is_out_to id row.place ≡ false)
     → is_out_to id new.place ≡ false → out_count id (put_row new rows) ≡ out_count id rows
 out-kept id new [] apart out = refl

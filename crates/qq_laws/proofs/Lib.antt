@@ -17,3 +17,12 @@ pub mod TakenLemmas
 pub mod KeptLemmas
 pub mod FreshRuns
 pub mod ServedLemmas
+pub mod Endings
+pub mod Fares
+pub mod OutByDelivery
+pub mod EndingRuns
+pub mod EachConsumer
+pub mod CreditLemmas
+pub mod ActiveWaits
+pub mod LinkCreditLemmas
+pub mod GivenCredit

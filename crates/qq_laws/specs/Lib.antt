@@ -10,3 +10,6 @@ pub mod Numbers
 pub mod Taken
 pub mod Kept
 pub mod Served
+pub mod Ended
+pub mod Waiting
+pub mod LinkCredit

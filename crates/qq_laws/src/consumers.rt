@@ -16,6 +16,7 @@ ghost use Rattle.qq_laws.specs.Credit.{FillsPrefetch};
 ghost use Rattle.qq_laws.specs.Served.{LeavesOut, ServesWhoWaits};
 ghost use Rattle.qq_laws.specs.Turns.{ServesInTurn};
 ghost use Rattle.qq_laws.specs.Active.{ServesActiveAlone, ServesOne};
+ghost use Rattle.qq_laws.specs.Waiting.{ActiveDoesNotWait};
 
 /// Under a single active consumer all that a command delivers goes to one: the longest joined consumer
 /// that isn't cancelled, of the consumers as the command itself leaves them (RabbitMQ, "Single Active
@@ -51,6 +52,12 @@ pub fn one_consumer_is_served_at_a_time()
 /// consumer may be served.
 pub fn nobody_waits_in_vain()
     ensures { Always NobodyWaits }
+{}
+
+/// With a single active consumer it doesn't wait in vain: after each entry no message is ready while the
+/// active consumer may be served (RabbitMQ, "Single Active Consumer").
+pub fn the_active_consumer_never_waits_in_vain()
+    ensures { Always ActiveDoesNotWait }
 {}
 
 /// Each message that an entry delivers is with that consumer after the entry, under the id of the

@@ -3,13 +3,20 @@
 #![tactic(auto)]
 
 mod consumers;
+mod credit;
+mod deliveries;
 mod messages;
 mod sessions;
 
 pub use consumers::{
     consumers_are_served_in_turn, deliveries_are_out, deliveries_go_to_who_waits,
     delivery_ids_count_by_one, nobody_waits_in_vain, one_consumer_is_served_at_a_time,
-    prefetch_is_kept, the_active_consumer_is_served_alone,
+    prefetch_is_kept, the_active_consumer_is_served_alone, the_active_consumer_never_waits_in_vain,
+};
+pub use credit::{credit_is_given, link_credit_is_kept};
+pub use deliveries::{
+    sessions_end_with_their_deliveries, settles_take_effect, unknown_ids_are_passed_over,
+    what_is_out_was_delivered,
 };
 pub use messages::{
     deliveries_show_publishes, deliveries_stay_out, entries_move_messages, gets_show_publishes,
