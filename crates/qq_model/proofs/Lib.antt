@@ -30,3 +30,7 @@ pub mod Soundness
 pub mod LaterBySteps
 pub mod Spared
 pub mod Window
+pub mod SetsRise
+pub mod Few
+pub mod Bounds
+pub mod NextConsumer

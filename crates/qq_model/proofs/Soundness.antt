@@ -1,5 +1,5 @@
 -- Each queue is sound.
-use Rattle.std.proofs.Common.{◌≡◌, ℕ, ◌+◌, ◌-◌, ◌<◌, ◌≤◌, cond, List, [], ◌∷◌, None, length, count_by, refl, sym, ap, ◌∙◌, subst, inl, inr, arith, suc}
+use Rattle.std.proofs.Common.{◌≡◌, ℕ, ◌+◌, ◌-◌, ◌<◌, ◌≤◌, false, cond, List, [], ◌∷◌, None, length, count_by, refl, sym, ap, ◌∙◌, subst, inl, inr, arith, suc}
 use Rattle.std.specs.Prelude.{All, AllPairs, Contains, slice_index_or}
 use Rattle.std.specs.List.{AllByRecursion}
 use Rattle.std.proofs.lemmas.Bool.{false≢true, cases_Bool, cond-true, cond-false}
@@ -17,7 +17,7 @@ use Rattle.qq_model.specs.declared.place.Row.{Row}
 use Rattle.qq_model.specs.declared.consumer.Consumer.{Consumer}
 use Rattle.qq_model.specs.declared.session.OpenSession.{OpenSession}
 use Rattle.qq_model.specs.State.{State, Sessions, empty_queue}
-use Rattle.qq_model.specs.Gate.{IsNumbered}
+use Rattle.qq_model.specs.Gate.{IsNumbered, is_ended, greatest_tag, tag_by}
 use Rattle.qq_model.specs.Commands.{delivery_id}
 use Rattle.qq_model.specs.Step.{carry_out}
 use Rattle.qq_model.specs.Audit.{next_index, next_step, state_after}
@@ -35,11 +35,16 @@ use Rattle.qq_model.proofs.KeptAnswers.{AreApart, IsKept, Keeps, keeps_answers, 
 use Rattle.qq_model.proofs.Numbers.{Numbered, Numbered-acts, Numbered-arrives, Numbered-delivers, Numbered-serves}
 use Rattle.qq_model.proofs.OneConsumer.{Who, consumers_with, who-one, same_consumer-refl}
 use Rattle.qq_model.proofs.OneConsumer.Who.{Never, Went, Stays}
-use Rattle.qq_model.proofs.SessionLemmas.{same_session-refl}
+use Rattle.qq_model.proofs.SessionLemmas.{ended-from, same_session-refl}
 use Rattle.qq_model.proofs.StepKeeps.{IsKeptByStep, after-keeps}
 use Rattle.qq_model.proofs.Window.{carry_out-window}
 use Rattle.qq_model.specs.Serving.{given_count}
-use Rattle.qq_model.specs.declared.TheConstants.{MOST_GIVEN}
+use Rattle.qq_model.specs.declared.TheConstants.{MOST_CONSUMERS, MOST_GIVEN}
+use Rattle.qq_model.proofs.Bounds.{carried-bounds}
+use Rattle.qq_model.proofs.Few.{Busy}
+use Rattle.qq_model.proofs.Later.{Used}
+use Rattle.qq_model.proofs.Later.Used.{GoesOn, IsOver}
+use Rattle.qq_model.proofs.SetsRise.{after-rise, number, owner, pairs_of}
 
 -- The messages ------------------------------------------------------------------------------------------
 
@@ -49,6 +54,8 @@ pub record SoundRows (s : State) : Type 0 where
   pub held : Held s.rows s.consumers
   pub turns : InTurn s.turns s.consumers
   pub window : given_count s.given s.rows ≤ MOST_GIVEN
+  pub few : length s.consumers ≤ MOST_CONSUMERS
+  pub busy : Busy s.rows s.consumers
 
 rows-carried : (s : State) (index : Index) (command : Command) (x : Sessions) → s.applied < index.0 → SoundRows s
     → let t = (carry_out index command (record s { sessions = x })).progress.state in
@@ -97,9 +104,13 @@ rows-kept s = record {
     held = sound.held;
     turns = sound.turns;
     window = sound.window;
+    few = sound.few;
+    busy = sound.busy;
   };
   fresh = λ command x y sound.
       let done = rows-carried s (next_index s) command x (omega arith) sound in
+      let bounds = carried-bounds (next_index s) command (record s { sessions = x }) sound.ordered.rising done.0.rising
+      sound.few sound.busy in
       record {
         ordered = record {
           rising = done.0.rising;
@@ -115,6 +126,8 @@ rows-kept s = record {
         };
         held = done.2;
         turns = done.3;
+        few = bounds.few;
+        busy = bounds.busy;
         window =
             (carry_out-window (record s { sessions = x }) (next_index s) command s.applied (omega arith) (record {
               ordered = record {
@@ -146,6 +159,8 @@ rows_at args entries = after-keeps SoundRows rows-kept (empty_queue args) entrie
   held = λ row consumer id here is. absurd here;
   turns = record { own = λ a b ina inb same. absurd ina; drawn = λ one here. absurd here };
   window = omega arith;
+  few = omega arith;
+  busy = λ one here over. absurd here;
 })
 
 -- The consumers of one id --------------------------------------------------------------------------------
@@ -191,6 +206,13 @@ who-alone id consumers count s (Never none zero') = let e = ap (λ (cs : List Co
 who-alone id consumers count s (Went none used) = let e = ap (λ (cs : List Consumer). length cs) none in omega arith
 who-alone id consumers count s (Stays one only next used) =
     let e = ap (λ (cs : List Consumer). length cs) only in omega arith
+
+-- a tag that was used isn't above the greatest one, while the session goes on
+used-tag : (s : Sessions) (id : ConsumerId) → is_ended s id.session ≡ false → Used s id.session 0 id.tag
+    → id.tag ≤ greatest_tag id.session s
+used-tag s id going (IsOver over) = absurd (false≢true (sym going ∙ ended-from s id.session over))
+used-tag s id going (GoesOn one found number' tag) =
+    let is : greatest_tag id.session s ≡ one.tag = ap tag_by found in omega (arith, is, tag)
 
 -- The sessions -------------------------------------------------------------------------------------------
 
@@ -247,6 +269,7 @@ is_sound args entries =
     let s = state_after (empty_queue args) entries in
     let rows = rows_at args entries in
     let kept = kept_at args entries in
+    let rise = after-rise (empty_queue args) entries (record { ended = tt; workers = tt }) in
     record {
       messages = record {
         rising = pairs_of_rising s.rows rows.ordered.rising;
@@ -265,6 +288,13 @@ is_sound args entries =
       consumers = record {
         turns = λ a b ina inb. rows.turns.own a b (in_contains s.consumers a ina) (in_contains s.consumers b inb);
         drawn = λ one here. rows.turns.drawn one (in_contains s.consumers one here);
+        few = rows.few;
+        busy = λ one here. rows.busy one (in_contains s.consumers one here);
+        tags = λ one here numbered going.
+            let known = known_at args entries one.id numbered in
+            let its = who-one one.id s.consumers known.0 s.sessions one (in_contains s.consumers one here)
+            (same_consumer-refl one.id) known.1.who in
+            used-tag s.sessions one.id going its.2;
         alone = λ id numbered.
             let known = known_at args entries id numbered in
             let few = who-alone id s.consumers known.0 s.sessions known.1.who in
@@ -278,6 +308,8 @@ is_sound args entries =
             (subst (λ (n : ℕ). Drawn (delivery_id one.id) n s.rows) last known.1.drawn);
       };
       sessions = record {
+        ended = pairs_of number s.sessions.ended rise.ended;
+        owners = pairs_of owner s.sessions.workers rise.workers;
         alone = apart-pairs s.sessions.opened kept.apart;
         kept =
             All-from_recursion KeepsAnswers s.sessions.opened

@@ -1,16 +1,18 @@
 -- What holds of every queue: each number is drawn once, and nothing has one that wasn't drawn.
-use Rattle.std.specs.Prelude.{◌≡◌, ℕ, ◌-◌, ◌<◌, ◌≤◌, List, Option, Some, None, All, AllPairs, Contains, count_by, length}
+use Rattle.std.specs.Prelude.{◌≡◌, ℕ, ◌-◌, ◌<◌, ◌≤◌, true, false, List, Option, Some, None, All, AllPairs, Contains, count_by, length}
 use Rattle.qq_base.specs.declared.ids.ConsumerId.{ConsumerId}
 use Rattle.qq_base.specs.Ids.{same_consumer}
-use Rattle.qq_model.specs.declared.TheConstants.{WINDOW, MOST_GIVEN}
+use Rattle.qq_model.specs.declared.TheConstants.{WINDOW, MOST_CONSUMERS, MOST_GIVEN}
 use Rattle.qq_model.specs.declared.place.Key.TheVariants.{Front, Back}
 use Rattle.qq_model.specs.declared.place.Place.{Place}
 use Rattle.qq_model.specs.declared.place.Place.TheVariants.{Ready, Out, Dead}
 use Rattle.qq_model.specs.declared.place.Row.{Row}
 use Rattle.qq_model.specs.declared.consumer.Consumer.{Consumer}
 use Rattle.qq_model.specs.declared.session.OpenSession.{OpenSession}
+use Rattle.qq_model.specs.declared.session.Worker.{Worker}
 use Rattle.qq_model.specs.State.{State}
-use Rattle.qq_model.specs.Gate.{IsNumbered}
+use Rattle.qq_model.specs.Gate.{IsNumbered, is_ended, greatest_tag}
+use Rattle.qq_model.specs.Choice.{out_count}
 use Rattle.qq_model.specs.Commands.{delivery_id}
 use Rattle.qq_model.specs.Serving.{given_count}
 
@@ -53,18 +55,25 @@ pub record HasSoundMessages (s : State) : Type 0 where
   pub holders : (row : Row) (consumer : ConsumerId) (id : ℕ) → Contains s.rows row → row.place ≡ Out consumer id
       → (one : Consumer) × Contains s.consumers one × (one.id ≡ consumer)
 
--- Consumers have turns of their own. Those of clients, and of workers that dead-letter at least once, are each the only
--- one of their id, and the ids of what is out with one are those that it was given.
+-- Consumers have turns of their own and are no more than may be, and one that was cancelled has something out. Those
+-- of clients, and of workers that dead-letter at least once, are each the only one of their id, their tags are those
+-- that their session used, and the ids of what is out with one are those that it was given.
 pub record HasSoundConsumers (s : State) : Type 0 where
   pub turns : (a b : Consumer) → Contains s.consumers a → Contains s.consumers b → a.turn ≡ b.turn → a.id ≡ b.id
   pub drawn : (one : Consumer) → Contains s.consumers one → one.turn ≤ s.turns
+  pub few : length s.consumers ≤ MOST_CONSUMERS
+  pub busy : (one : Consumer) → Contains s.consumers one → one.cancelled ≡ true → 0 < out_count one.id s.rows
+  pub tags : (one : Consumer) → Contains s.consumers one → IsNumbered one.id.session
+      → is_ended s.sessions one.id.session ≡ false → one.id.tag ≤ greatest_tag one.id.session s.sessions
   pub alone : (id : ConsumerId) → IsNumbered id.session
       → count_by (λ (one : Consumer). same_consumer one.id id) s.consumers ≤ 1
   pub deliveries : (one : Consumer) → Contains s.consumers one → IsNumbered one.id.session
       → IsDrawnOnce (delivery_id one.id) (one.next_id - 1) s.rows
 
--- each open session is the only one of its id, and keeps its answers
+-- each open session is the only one of its id, and keeps its answers; ended numbers and the owners of workers rise
 pub record HasSoundSessions (s : State) : Type 0 where
+  pub ended : AllPairs (λ (a b : ℕ). a < b) s.sessions.ended
+  pub owners : AllPairs (λ (a b : Worker). a.owner < b.owner) s.sessions.workers
   pub alone : AllPairs (λ (a b : OpenSession). a.session ≡ b.session → ⊥) s.sessions.opened
   pub kept : All KeepsAnswers s.sessions.opened
 

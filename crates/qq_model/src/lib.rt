@@ -5,6 +5,7 @@
 mod consumer;
 mod place;
 mod rounds;
+mod serving;
 mod session;
 mod sound;
 
@@ -29,5 +30,6 @@ pub const MOST_GIVEN: u64 = 32;
 pub use consumer::{Consumer, Outcome};
 pub use place::{GoneReason, Key, Place, Row};
 pub use rounds::loops_run_out;
+pub use serving::the_next_consumer_has_credit;
 pub use session::{Gate, OpenSession, Worker};
 pub use sound::queues_are_sound;
