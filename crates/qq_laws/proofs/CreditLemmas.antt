@@ -1,6 +1,6 @@
 -- What a credit that isn't refused does to its consumer.
 use Rattle.std.proofs.Common.{◌≡◌, ℕ, ◌+◌, ◌-◌, Bool, true, false, ◌&&◌, Option, Some, None, refl, sym, ap, ◌∙◌, subst, inl, inr}
-use Rattle.std.proofs.lemmas.Bool.{false≢true, cases_Bool, cond-true, cond-false, cond_both, and_right}
+use Rattle.std.proofs.lemmas.Bool.{false≢true, cases_Bool, cond-true, cond-false, and_right}
 use Rattle.qq_base.specs.declared.ids.Index.{Index}
 use Rattle.qq_base.specs.declared.ids.ConsumerId.{ConsumerId}
 use Rattle.qq_base.specs.Ids.{same_consumer}
@@ -58,26 +58,6 @@ credit-gives id total p credited = by (consumer_of id p.state.consumers) refl cr
           (in_mode consumer.mode consumer refl found going
           (ap (λ (a : Acted). is_credited a.answer) (sym is) ∙ credited))
     ]
-
--- one that is refused changes nothing
-pub credit-refused : (id : ConsumerId) (total : ℕ) (p : Progress)
-    → is_credited (give_credit id total p).answer ≡ false → (give_credit id total p).progress ≡ p
-unfolding give_credit
-credit-refused id total p refused = by (consumer_of id p.state.consumers) refused
-  where
-    in_mode : (mode : Mode) (consumer : Consumer)
-        → is_credited (credit_by_mode mode consumer total p).answer ≡ false
-        → (credit_by_mode mode consumer total p).progress ≡ p
-    in_mode (Prefetch prefetch) consumer refused = refl
-    in_mode Link consumer refused = absurd (false≢true (sym refused))
-
-    by : (o : Option Consumer) → is_credited (credit_by o total p).answer ≡ false
-        → (credit_by o total p).progress ≡ p
-    by None refused = refl
-    by (Some consumer) refused =
-        cond_both consumer.cancelled (refuse NoConsumer p) (credit_by_mode consumer.mode consumer total p)
-        (λ (a : Acted). is_credited a.answer ≡ false → a.progress ≡ p) (λ _ _. refl)
-        (λ _ refused'. in_mode consumer.mode consumer refused') refused
 
 -- what holds of the consumer of the id once its credit is set, and lasts where it begins to wait
 pub credit-each : (P : Consumer → Type 0) (id : ConsumerId) (total : ℕ) (p : Progress) (a : Acted)

@@ -26,3 +26,5 @@ pub mod CreditLemmas
 pub mod ActiveWaits
 pub mod LinkCreditLemmas
 pub mod GivenCredit
+pub mod ActConsumers
+pub mod Joining

@@ -1,7 +1,7 @@
 -- A link consumer gets no more than its credit.
-use Rattle.std.proofs.Common.{◌≡◌, ℕ, ◌+◌, ◌-◌, ◌<◌, ◌≤◌, Bool, true, not, List, [], ◌∷◌, ◌++◌, Option, Some, None, length, refl, sym, ap, ◌∙◌, subst, inl, inr, arith, length-append}
+use Rattle.std.proofs.Common.{◌≡◌, ℕ, ◌+◌, ◌-◌, ◌<◌, ◌≤◌, true, not, List, [], ◌∷◌, ◌++◌, Option, Some, None, length, refl, sym, ap, ◌∙◌, subst, inl, inr, arith, length-append}
 use Rattle.std.specs.Prelude.{max, nat_lt}
-use Rattle.std.proofs.lemmas.Bool.{cases_Bool, cond-true, and_parts, ltb-true}
+use Rattle.std.proofs.lemmas.Bool.{cond-true, and_parts, ltb-true}
 use Rattle.std.proofs.lemmas.List.{length-map}
 use Rattle.qq_base.specs.declared.ids.Index.{Index}
 use Rattle.qq_base.specs.declared.ids.ConsumerId.{ConsumerId}
@@ -9,7 +9,6 @@ use Rattle.qq_base.specs.Ids.{same_consumer}
 use Rattle.qq_entry.specs.Command.{stamp, consumer_id}
 use Rattle.qq_entry.specs.declared.answer.Delivery.{Delivery}
 use Rattle.qq_entry.specs.declared.command.Command.{Command}
-use Rattle.qq_entry.specs.declared.command.Command.TheVariants.{Credit}
 use Rattle.qq_entry.specs.declared.command.Entry.{Entry}
 use Rattle.qq_entry.specs.declared.command.Mode.{Mode}
 use Rattle.qq_entry.specs.declared.command.Mode.TheVariants.{Prefetch, Link}
@@ -22,23 +21,24 @@ use Rattle.qq_model.specs.declared.session.Gate.TheVariants.{Fresh}
 use Rattle.qq_model.specs.State.{State, empty_queue}
 use Rattle.qq_model.specs.Gate.{gate, admit, IsNumbered}
 use Rattle.qq_model.specs.Choice.{may_be_served, free_credit, credit_left, out_count}
-use Rattle.qq_model.specs.Changes.{Progress, credit_of}
-use Rattle.qq_model.specs.Commands.{Acted, act, delivery_id, give_credit, set_credit}
-use Rattle.qq_model.specs.Serving.{serve, use_credit, is_credited}
+use Rattle.qq_model.specs.Changes.{Progress, is_needed}
+use Rattle.qq_model.specs.Commands.{act, delivery_id}
+use Rattle.qq_model.specs.Serving.{serve, use_credit}
 use Rattle.qq_model.specs.Step.{Step, carry_out, go_through, step_by, step}
 use Rattle.qq_model.specs.Audit.{next_index, next_step, state_after, audit_of, effects_of, entries_of, deliveries}
-use Rattle.qq_base.proofs.Lists.{In, find-in}
+use Rattle.qq_base.proofs.Lists.{In, In-append_cases, find-in}
 use Rattle.qq_model.proofs.CarryOut.{follow_on-keeps}
 use Rattle.qq_model.proofs.Drawn.{Drawn-none}
-use Rattle.qq_model.proofs.Ids.{ids-append, ids_of}
+use Rattle.qq_model.proofs.Holders.{In-filtered}
+use Rattle.qq_model.proofs.Ids.{consumer-found, ids-append, ids_of}
 use Rattle.qq_model.proofs.IdSteps.{Known, next-knows}
 use Rattle.qq_model.proofs.OneConsumer.{same_consumer-refl, same_consumer-true, who-one}
 use Rattle.qq_model.proofs.OneConsumer.Who.{Never}
 use Rattle.qq_model.proofs.Serve.{serve-id}
 use Rattle.qq_model.proofs.Soundness.{in_contains}
 use Rattle.qq_laws.specs.LinkCredit.{credit_limit, greatest_limit, KeepsLinkCredit}
-use Rattle.qq_laws.proofs.CreditLemmas.{Gives, act-credit, credit-gives, credit-refused}
-use Rattle.qq_laws.proofs.EachConsumer.{EachOf, KeptByActing, act-each, each-delivers, each-put, each-serves, each-waits}
+use Rattle.qq_laws.proofs.ActConsumers.{KeepsConsumers, act-consumers}
+use Rattle.qq_laws.proofs.EachConsumer.{EachOf, each-delivers, each-put, each-serves}
 
 -- a consumer's credit and its count are within a bound, and a link consumer's deliveries within its count
 pub record Within (bound : ℕ) (one : Consumer) : Type 0 where
@@ -104,13 +104,6 @@ bounded-drained bound one within = record {
   ids = λ link. omega (arith, within.ids link);
 }
 
-bounded-acts : (bound : ConsumerId → ℕ) → KeptByActing (Bounded bound)
-bounded-acts bound = record {
-  join = λ id mode turn. record { sum = omega arith; ids = λ link. omega arith };
-  cancel = λ one within. record { sum = within.sum; ids = within.ids };
-  turn = λ one turn within. record { sum = within.sum; ids = within.ids };
-}
-
 -- up to which delivery an id may have credit after a command
 abbrev more_limit : (ConsumerId → ℕ) → Command → ConsumerId → ℕ
 more_limit bound command id = max (bound id) (credit_limit id command)
@@ -122,59 +115,45 @@ bounded-more first second consumers le each one here =
     within-more (first one.id) (second one.id) one (le one.id) (each one here)
 
 -- a credit gives its consumer no more than its limit
-give-bounded : (bound : ConsumerId → ℕ) (given : Stamp) (tag count credit : ℕ) (wanted : Bool) (p : Progress)
-    → EachOf (Bounded bound) p.state.consumers
-    → EachOf (Bounded (more_limit bound (Credit given tag count credit wanted)))
-    (give_credit (consumer_id given tag) (count + credit) p).progress.state.consumers
-give-bounded bound given tag count credit wanted p each =
-    elim (cases_Bool (is_credited (give_credit id total p).answer)) [
-      | inl credited ↦ set (credit-gives id total p credited)
-      | inr refused ↦
-          subst (λ (q : Progress). EachOf (Bounded bound') q.state.consumers) (sym (credit-refused id total p refused))
-          wider
+bounded-acts : (bound : ConsumerId → ℕ) (command : Command)
+    → ((id : ConsumerId) → credit_limit id command ≤ bound id)
+    → KeepsConsumers command (EachOf (Bounded bound))
+bounded-acts bound command limits = record {
+  join = λ consumers id mode turn each is one here. elim (In-append_cases one consumers _ here) [
+    | inl old ↦ each one old
+    | inr new ↦ elim new [
+      | inl same ↦ subst (Bounded bound) (sym same) (record { sum = omega arith; ids = λ link. omega arith })
+      | inr no' ↦ absurd no'
     ]
-  where
-    id : ConsumerId
-    id = consumer_id given tag
-
-    total : ℕ
-    total = count + credit
-
-    bound' : ConsumerId → ℕ
-    bound' = more_limit bound (Credit given tag count credit wanted)
-
-    wider : EachOf (Bounded bound') p.state.consumers
-    wider = bounded-more bound bound' p.state.consumers (λ other. omega arith) each
-
-    set : Gives id total p (give_credit id total p)
-        → EachOf (Bounded bound') (give_credit id total p).progress.state.consumers
-    set gives =
-        let consumer : Consumer = gives.consumer in
-        let new : Consumer = record consumer { credit = total - consumer.count } in
-        let there = find-in (λ (one : Consumer). same_consumer one.id id) p.state.consumers consumer gives.found in
-        let mine' : consumer.id ≡ id = same_consumer-true consumer.id id there.1 in
-        let limit : credit_limit consumer.id (Credit given tag count credit wanted) ≡ total =
-        cond-true (same_consumer id consumer.id) total 0
-        (ap (λ (i : ConsumerId). same_consumer id i) mine' ∙ same_consumer-refl id) in
-        let before = (each consumer there.0).sum in
-        let ids = (each consumer there.0).ids in
-        let holds : Bounded bound' new = record { sum = omega (arith, limit, before); ids = ids } in
-        subst (λ (b : Acted). EachOf (Bounded bound') b.progress.state.consumers) (sym gives.is)
-        (each-waits (Bounded bound') (credit_of consumer.id p.state.rows p.state.consumers) consumer.id
-        (set_credit consumer total p.state) (bounded-acts bound').turn
-        (each-put (Bounded bound') p.state.consumers new wider holds))
+  ];
+  cancel = λ consumers id one each found is.
+      let before = each one (consumer-found id consumers one found) in
+      each-put (Bounded bound) consumers _ each (record { sum = before.sum; ids = before.ids });
+  credit = λ consumers id one total each found link is.
+      let there = find-in (λ (c : Consumer). same_consumer c.id id) consumers one found in
+      let mine' : one.id ≡ consumer_id is.0 is.1 = same_consumer-true one.id id there.1 ∙ is.6 in
+      let limit : credit_limit one.id command ≡ total =
+      ap (credit_limit one.id) is.5 ∙ cond-true (same_consumer (consumer_id is.0 is.1) one.id) (is.2 + is.3) 0
+      (ap (same_consumer (consumer_id is.0 is.1)) mine' ∙ same_consumer-refl (consumer_id is.0 is.1)) ∙ sym is.7 in
+      let below = limits one.id in
+      let before = (each one there.0).sum in
+      let ids = (each one there.0).ids in
+      each-put (Bounded bound) consumers _ each
+      (record { sum = omega (arith, limit, below, before); ids = ids });
+  turn = λ consumers one turn each here.
+      let before = each one here in
+      each-put (Bounded bound) consumers _ each (record { sum = before.sum; ids = before.ids });
+  needed = λ rows consumers each one here. each one (In-filtered (is_needed rows) one consumers here);
+  leave = λ consumers session each is one here. each one (In-filtered _ one consumers here);
+}
 
 act-bounded : (bound : ConsumerId → ℕ) (index : Index) (command : Command) (p : Progress)
     → EachOf (Bounded bound) p.state.consumers
     → EachOf (Bounded (more_limit bound command)) (act index command p).progress.state.consumers
-act-bounded bound index (Credit given tag count credit wanted) p each =
-    subst (λ (a : Acted). EachOf (Bounded (more_limit bound (Credit given tag count credit wanted)))
-    a.progress.state.consumers)
-    (sym (act-credit index given tag count credit wanted p))
-    (give-bounded bound given tag count credit wanted p each)
 act-bounded bound index command p each =
-    bounded-more bound (more_limit bound command) (act index command p).progress.state.consumers (λ id. omega arith)
-    (act-each (Bounded bound) (bounded-acts bound) index command p refl each)
+    act-consumers (EachOf (Bounded (more_limit bound command))) index command
+    (bounded-acts (more_limit bound command) command (λ id. omega arith)) p
+    (bounded-more bound (more_limit bound command) p.state.consumers (λ id. omega arith) each)
 
 carried-bounded : (bound : ConsumerId → ℕ) (index : Index) (command : Command) (s : State)
     → EachOf (Bounded bound) s.consumers

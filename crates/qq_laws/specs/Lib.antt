@@ -13,3 +13,4 @@ pub mod Served
 pub mod Ended
 pub mod Waiting
 pub mod LinkCredit
+pub mod Joining

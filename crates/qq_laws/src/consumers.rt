@@ -17,6 +17,7 @@ ghost use Rattle.qq_laws.specs.Served.{LeavesOut, ServesWhoWaits};
 ghost use Rattle.qq_laws.specs.Turns.{ServesInTurn};
 ghost use Rattle.qq_laws.specs.Active.{ServesActiveAlone, ServesOne};
 ghost use Rattle.qq_laws.specs.Waiting.{ActiveDoesNotWait};
+ghost use Rattle.qq_laws.specs.Joining.{CancelsConsumer, Joins, OnlyJoin, StaysThere};
 
 /// Under a single active consumer all that a command delivers goes to one: the longest joined consumer
 /// that isn't cancelled, of the consumers as the command itself leaves them (RabbitMQ, "Single Active
@@ -70,4 +71,26 @@ pub fn deliveries_are_out()
 /// next id (RabbitMQ, "Consumer Prefetch"; AMQP 1.0, link credit).
 pub fn deliveries_go_to_who_waits()
     ensures { (p next : Progress) → ServesWhoWaits p next }
+{}
+
+/// A subscribe that isn't refused has its consumer join, in its mode (AMQP 0-9-1, basic.consume).
+pub fn consumers_join()
+    ensures { Always (λ s. (entry : Entry) → Joins s entry) }
+{}
+
+/// A consumer stays, in its mode, until it is cancelled or its session ends.
+pub fn consumers_stay()
+    ensures { Always (λ s. (entry : Entry) → StaysThere s entry) }
+{}
+
+/// A cancel that isn't refused leaves no consumer of its id but cancelled ones (AMQP 0-9-1,
+/// basic.cancel).
+pub fn consumers_are_cancelled()
+    ensures { (s : State) (entry : Entry) → CancelsConsumer s entry }
+{}
+
+/// A consumer is there by its subscribe alone, in the mode that it chose, and one that was cancelled
+/// stays so.
+pub fn consumers_come_by_subscribes()
+    ensures { (s : State) (entry : Entry) → OnlyJoin s entry }
 {}
