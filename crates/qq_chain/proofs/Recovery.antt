@@ -69,7 +69,7 @@ module _ (F : Format) (laws : IsFormat F) where
           subst (λ (x : Option (List ℕ)). MayLeaveLog F n (Some f) x)
           (sym (whole-log-left F n (f.kept ++ f.pending) x left)) (all-left F laws n f)
 
-  sync-image : (files : Files) (n : ℕ) (L : Logs) → IsLogImage F (put files n (option_map keep (files n))) L
+  pub sync-image : (files : Files) (n : ℕ) (L : Logs) → IsLogImage F (put files n (option_map keep (files n))) L
       → IsLogImage F files L
   sync-image files n L image m = by (cases_eq n m)
     where
@@ -81,7 +81,7 @@ module _ (F : Format) (laws : IsFormat F) where
           subst (λ (f : Option FileState). MayLeaveLog F m f (L m))
           (put-other files n m (option_map keep (files n)) apart) (image m)
 
-  put-removed : (files : Files) (n m : ℕ)
+  pub put-removed : (files : Files) (n m : ℕ)
       → is_removed (put files n (option_map keep (files n)) m) ≡ is_removed (files m)
   put-removed files n m = by (cases_eq n m)
     where

@@ -1,5 +1,6 @@
 -- A log that is written to: what its newest file shows in each image, and what the log keeps.
-use Rattle.std.proofs.Common.{◌≡◌, ◌≤◌, ◌<◌, ℕ, false, List, ◌∷◌, ◌++◌, length, drop, Option, Some, None, refl, sym, ap, subst, ◌∙◌, arith, inl, inr, append_assoc, drop_at, option_map, is_some}
+use Rattle.std.proofs.Common.{◌≡◌, ◌≤◌, ◌<◌, ℕ, Bool, false, cond, List, ◌∷◌, ◌++◌, length, drop, Option, Some, None, refl, sym, ap, subst, ◌∙◌, arith, inl, inr, append_assoc, drop_at, option_map, is_some}
+use Rattle.std.proofs.lemmas.Bool.{ne_eqb}
 use Rattle.std.proofs.lemmas.List.{drop-take}
 use Rattle.std.specs.List.{AllByRecursion}
 use Rattle.qq_disk.specs.Disk.{FileState}
@@ -93,6 +94,8 @@ module _ (F : Format) (laws : IsFormat F) where
       let found = chain-onto F b L n good bytes h p hb here head counted in
       ap (λ (k : ℕ). read_chain F b L k) is
       ∙ ap (λ (o : Option (List ℕ)). made (good_length F n o) (chain F b L n (good_length F n o))) here
+      ∙ ap (λ (none : Bool). made (cond none 0 good) (chain F b L n (cond none 0 good)))
+      (ne_eqb n 0 (λ e. absurd (omega arith)))
       ∙ ap (λ (f : Option (Found F)). made good f)
       (found ∙ ap (λ (rs : List F.Record). add_file F n rs (chain F b L (F.previous h) (F.good h))) same)
     where

@@ -35,7 +35,7 @@ shown-keep (Some f) = by f.removed refl
         ap (λ (bs : List ℕ). Some bs) (append-nil (f.kept ++ f.pending))
         ∙ sym (ap (λ (t : Bool). cond t None (Some (f.kept ++ f.pending))) e)
 
-shown-sync-by : (d : Disk) (name other : FileName) (t : Bool) → same_name name other ≡ t
+pub shown-sync-by : (d : Disk) (name other : FileName) (t : Bool) → same_name name other ≡ t
     → file_content (cond t (option_map keep (d name)) (d other)) ≡ file_content (d other)
 shown-sync-by d name other true e =
     shown-keep (d name) ∙ ap (λ (name : FileName). file_content (d name)) (same_name-true name other e)

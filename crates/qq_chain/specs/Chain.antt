@@ -54,10 +54,11 @@ chain F zero logs n good = Some (record { files = []; world = F.start })
 chain F (suc bound) logs n good =
     if nat_eq n (suc bound) then read_file F (chain F bound logs) n good (logs n) else chain F bound logs n good
 
--- how many bytes of the newest file count: those up to the first place where no whole record stands
+-- how many bytes of the newest file count: those up to the first place where no whole record stands, and none where
+-- there is no newest file
 abbrev pub good_length : (F : Format) → ℕ → Option (List ℕ) → ℕ
 good_length F n None = 0
-good_length F n (Some bytes) = end_of F n (file_records F n bytes)
+good_length F n (Some bytes) = if nat_eq n 0 then 0 else end_of F n (file_records F n bytes)
 
 -- what recovery reads
 pub record Reading (F : Format) : Type 0 where
