@@ -14,25 +14,16 @@ use Rattle.qq_defs.specs.declared.definitions.TheConstants.{QUEUES_LIMIT}
 use Rattle.qq_defs.specs.Reading.{◌>>=◌, required}
 use Rattle.qq_defs.specs.Draft.{DraftState}
 use Rattle.qq_defs.specs.Setup.{SetupState}
-use Rattle.qq_defs.specs.Elements.{queue_at, exchange_at, binding_at}
+use Rattle.qq_defs.specs.Elements.{element_at}
 
 abbrev pub place : Section → ℕ → Place
 place section index = record { section = section; index = index }
 
--- one element after another, until the first fault
-abbrev pub each : (ℕ → Data → DraftState → Result DraftState DefsFault) → ℕ → Items → DraftState
-    → Result DraftState DefsFault
-each step n no_items s = Ok s
-each step n (item d ds) s = step n d s >>= each step (n + 1) ds
-
-abbrev pub queue_step : ℕ → ℕ → Data → DraftState → Result DraftState DefsFault
-queue_step nodes n = queue_at nodes (place Queues n)
-
-abbrev pub exchange_step : ℕ → Data → DraftState → Result DraftState DefsFault
-exchange_step n = exchange_at (place Exchanges n)
-
-abbrev pub binding_step : ℕ → Data → DraftState → Result DraftState DefsFault
-binding_step n = binding_at (place Bindings n)
+-- the elements of a list from a place on, until the first fault
+abbrev pub elements : ℕ → Section → ℕ → Items → DraftState → Result DraftState DefsFault
+elements nodes section n no_items s = Ok s
+elements nodes section n (item d ds) s =
+    element_at nodes (place section n) d s >>= elements nodes section (n + 1) ds
 
 -- a list that must be there
 unfoldable pub list_at : List ℕ → Data → Result Items DefsFault
@@ -45,6 +36,12 @@ list_or_none field d = by (get field d)
     by : Option Data → Result Items DefsFault
     by None = Ok no_items
     by (Some v) = required (Missing field) (as_array v)
+
+-- Queues must be there, even if there are none. The other lists may be absent.
+unfoldable pub list_of : Section → Data → Result Items DefsFault
+list_of Queues d = list_at (codes "queues") d
+list_of Exchanges d = list_or_none (codes "exchanges") d
+list_of Bindings d = list_or_none (codes "bindings") d
 
 abbrev pub is_empty : Items → Bool
 is_empty no_items = true
@@ -73,20 +70,10 @@ first_state =
           };
     }
 
-unfoldable pub with_queues : ℕ → Data → DraftState → Result DraftState DefsFault
-with_queues nodes d s = do
-  list ← list_at (codes "queues") d
-  each (queue_step nodes) 0 list s
-
-unfoldable pub with_exchanges : Data → DraftState → Result DraftState DefsFault
-with_exchanges d s = do
-  list ← list_or_none (codes "exchanges") d
-  each exchange_step 0 list s
-
-unfoldable pub with_bindings : Data → DraftState → Result DraftState DefsFault
-with_bindings d s = do
-  list ← list_or_none (codes "bindings") d
-  each binding_step 0 list s
+unfoldable pub with_section : ℕ → Section → Data → DraftState → Result DraftState DefsFault
+with_section nodes section d s = do
+  list ← list_of section d
+  elements nodes section 0 list s
 
 unfoldable pub within_limit : DraftState → Result DraftState DefsFault
 within_limit s = if nat_lt QUEUES_LIMIT s.made.queues then Err (Limit s.made.queues) else Ok s
@@ -95,9 +82,9 @@ within_limit s = if nat_lt QUEUES_LIMIT s.made.queues then Err (Limit s.made.que
 unfoldable pub object_defs : Bool → ℕ → Data → Result DraftState DefsFault
 object_defs ignore nodes d = do
   fine ← check_policies ignore d
-  a ← with_queues nodes d first_state
-  b ← with_exchanges d a
-  c ← with_bindings d b
+  a ← with_section nodes Queues d first_state
+  b ← with_section nodes Exchanges d a
+  c ← with_section nodes Bindings d b
   within_limit c
 
 abbrev pub is_there : Option Members → Bool

@@ -1,25 +1,15 @@
 -- What definitions make, element by element.
-use Rattle.std.specs.Prelude.{ℕ, ◌+◌, ◌-◌, ◌^◌, ◌++◌, ◌∷◌, [], Bool, true, false, not, ◌&&◌, List, length, nat_lt, nat_le, codes, min, Option, Some, None, Result, Ok, Err, option_and_then, is_some, if◌then◌else◌}
+use Rattle.std.specs.Prelude.{ℕ, ◌+◌, ◌-◌, ◌^◌, ◌++◌, ◌∷◌, [], List, min, Option, Some, None, if◌then◌else◌}
 use Rattle.std.specs.Str.{bytes_eq}
 use Rattle.std.specs.BTreeMap.{get_by_text}
-use Rattle.serde_json.specs.Data.{Data, Items, no_items, item}
-use Rattle.serde_json.specs.Find.{get, as_str, as_object}
 use Rattle.qq_base.specs.declared.ids.QueueId.{QueueId}
 use Rattle.qq_entry.specs.declared.queue.QueueArgs.{QueueArgs}
-use Rattle.qq_route.specs.declared.exchange.ExchangeKind.{ExchangeKind}
-use Rattle.qq_route.specs.declared.exchange.ExchangeKind.TheVariants.{Direct, Fanout, Topic}
-use Rattle.qq_route.specs.Routes.{Table, ExchangeState, add_queue, add_exchange, bind, is_bindable, may_add}
+use Rattle.qq_route.specs.Routes.{Table, add_queue}
 use Rattle.qq_route.specs.View.{table_of}
-use Rattle.qq_defs.specs.declared.fault.DefsFault.{DefsFault}
-use Rattle.qq_defs.specs.declared.fault.DefsFault.TheVariants.{BadArgument, Unsupported, UnknownTarget, Missing}
-use Rattle.qq_defs.specs.declared.fields.Section.TheVariants.{Queues, Exchanges, Bindings}
-use Rattle.qq_defs.specs.declared.fields.Place.{Place}
 use Rattle.qq_defs.specs.declared.members.QueueRow.{QueueRow}
 use Rattle.qq_defs.specs.declared.setup.Made.{Made}
 use Rattle.qq_defs.specs.declared.draft.Draft.{Draft}
-use Rattle.qq_defs.specs.Arguments.{queue_args}
 use Rattle.qq_defs.specs.Members.{members}
-use Rattle.qq_defs.specs.Reading.{◌>>=◌, required, path, text_at, flag_at, vhost_at, object_at}
 
 -- the queues of the virtual host so far, by their names; no number for one of another type
 abbrev pub Names : Type 0

@@ -1,5 +1,5 @@
 -- The elements of the lists of definitions (RabbitMQ, "Definition Export and Import"), with the first fault of each.
-use Rattle.std.specs.Prelude.{ℕ, Bool, true, false, ◌&&◌, List, [], ◌∷◌, length, nat_lt, nat_le, codes, Option, Some, None, Result, Ok, Err, option_map, option_and_then, is_some, if◌then◌else◌}
+use Rattle.std.specs.Prelude.{ℕ, Bool, true, false, ◌&&◌, List, length, nat_lt, nat_le, codes, Option, Some, None, Result, Ok, Err, option_map, option_and_then, is_some, if◌then◌else◌}
 use Rattle.std.specs.Str.{bytes_eq}
 use Rattle.serde_json.specs.Data.{Data}
 use Rattle.serde_json.specs.Find.{get, as_str}
@@ -11,6 +11,8 @@ use Rattle.qq_route.specs.Routes.{ExchangeState, add_exchange, bind, is_bindable
 use Rattle.qq_defs.specs.declared.fault.DefsFault.{DefsFault}
 use Rattle.qq_defs.specs.declared.fault.DefsFault.TheVariants.{BadArgument, Unsupported, UnknownTarget}
 use Rattle.qq_defs.specs.declared.fields.Place.{Place}
+use Rattle.qq_defs.specs.declared.fields.Section.{Section}
+use Rattle.qq_defs.specs.declared.fields.Section.TheVariants.{Queues, Exchanges, Bindings}
 use Rattle.qq_defs.specs.Arguments.{queue_args}
 use Rattle.qq_defs.specs.Reading.{◌>>=◌, required, text_at, flag_at, vhost_at, object_at}
 use Rattle.qq_defs.specs.Draft.{DraftState, more, skip, declare, count_other, next_queue}
@@ -53,12 +55,6 @@ own_queue nodes at d s = do
   arguments ← object_at at (codes "arguments") d
   named_queue nodes name durable auto arguments s
 
--- Elements of other virtual hosts are counted, and not looked at further.
-unfoldable pub queue_at : ℕ → Place → Data → DraftState → Result DraftState DefsFault
-queue_at nodes at d s = do
-  vhost ← vhost_at at d
-  if bytes_eq vhost (codes "/") then own_queue nodes at d s else Ok (count_other s)
-
 unfoldable pub kind_of : List ℕ → Option ExchangeKind
 kind_of text =
     if bytes_eq text (codes "direct") then Some Direct else if bytes_eq text (codes "fanout") then Some Fanout
@@ -86,11 +82,6 @@ own_exchange at d s = do
   kind ← required (Unsupported type) (kind_of type)
   named_exchange name kind s
 
-unfoldable pub exchange_at : Place → Data → DraftState → Result DraftState DefsFault
-exchange_at at d s = do
-  vhost ← vhost_at at d
-  if bytes_eq vhost (codes "/") then own_exchange at d s else Ok (count_other s)
-
 abbrev pub bind_queue : List ℕ → List ℕ → List ℕ → Option (Option QueueId) → DraftState → Result DraftState DefsFault
 bind_queue source destination key (Some None) s =
     Ok (record s { made = record s.made { skipped_bindings = more s.made.skipped_bindings } })
@@ -108,29 +99,30 @@ bind_queue source destination key None s =
 unfoldable pub named_binding : List ℕ → List ℕ → List ℕ → DraftState → Result DraftState DefsFault
 named_binding source destination key s = bind_queue source destination key (s.names destination) s
 
--- A binding may lead to a queue, and to nothing else.
-unfoldable pub linked_binding : List ℕ → List ℕ → List ℕ → List ℕ → DraftState → Result DraftState DefsFault
-linked_binding type source destination key s =
-    if bytes_eq type (codes "queue") then named_binding source destination key s else Err (Unsupported type)
-
+-- A binding between these two may lead to a queue, and to nothing else.
 unfoldable pub keyed_binding : Place → List ℕ → List ℕ → List ℕ → Data → DraftState → Result DraftState DefsFault
 keyed_binding at type source destination d s = do
   key ← text_at at (codes "routing_key") d
-  linked_binding type source destination key s
-
--- a binding between these two: its type, then its key
-unfoldable pub typed_binding : Place → List ℕ → List ℕ → Data → DraftState → Result DraftState DefsFault
-typed_binding at source destination d s = do
-  type ← text_at at (codes "destination_type") d
-  keyed_binding at type source destination d s
+  if bytes_eq type (codes "queue") then named_binding source destination key s else Err (Unsupported type)
 
 unfoldable pub own_binding : Place → Data → DraftState → Result DraftState DefsFault
 own_binding at d s = do
   source ← text_at at (codes "source") d
   destination ← text_at at (codes "destination") d
-  typed_binding at source destination d s
+  type ← text_at at (codes "destination_type") d
+  keyed_binding at type source destination d s
 
-unfoldable pub binding_at : Place → Data → DraftState → Result DraftState DefsFault
-binding_at at d s = do
+abbrev pub own_by : Section → ℕ → Place → Data → DraftState → Result DraftState DefsFault
+own_by Queues nodes = own_queue nodes
+own_by Exchanges nodes = own_exchange
+own_by Bindings nodes = own_binding
+
+-- an element of the default virtual host, by the list that it stands in
+unfoldable pub own_element : ℕ → Place → Data → DraftState → Result DraftState DefsFault
+own_element nodes at = own_by at.section nodes at
+
+-- Elements of other virtual hosts are counted, and not looked at further.
+unfoldable pub element_at : ℕ → Place → Data → DraftState → Result DraftState DefsFault
+element_at nodes at d s = do
   vhost ← vhost_at at d
-  if bytes_eq vhost (codes "/") then own_binding at d s else Ok (count_other s)
+  if bytes_eq vhost (codes "/") then own_element nodes at d s else Ok (count_other s)

@@ -1,5 +1,5 @@
 -- Reading the fields of definitions, with the first fault that applies.
-use Rattle.std.specs.Prelude.{◌≡◌, ℕ, ◌++◌, Bool, List, Option, Some, None, Result, Ok, Err, option_and_then, option_map, codes, if◌then◌else◌}
+use Rattle.std.specs.Prelude.{◌≡◌, ℕ, ◌++◌, Bool, List, Option, Some, None, Result, Ok, Err, option_and_then, option_map, codes}
 use Rattle.std.specs.Fmt.{decimal}
 use Rattle.qq_base.specs.declared.memory.Memory.TheVariants.{Want}
 use Rattle.serde_json.specs.Data.{Data}

@@ -1,8 +1,7 @@
 -- What a broker is set up with.
-use Rattle.std.specs.Prelude.{ℕ, suc, ◌+◌, ◌++◌, ◌∷◌, [], List, map, fold, length, codes, min, Option, None}
+use Rattle.std.specs.Prelude.{ℕ, ◌+◌, ◌++◌, List, map, fold, codes, min, Option, None}
 use Rattle.std.specs.List.{range_with_len}
 use Rattle.std.specs.Fmt.{decimal}
-use Rattle.qq_base.specs.declared.ids.QueueId.{QueueId}
 use Rattle.qq_entry.specs.Queue.{default_args}
 use Rattle.qq_route.specs.Routes.{Table, new_table, add_queue}
 use Rattle.qq_route.specs.View.{table_of}

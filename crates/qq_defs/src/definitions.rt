@@ -3,10 +3,10 @@ ghost use Rattle.serde_json.specs.View.{view, items_view};
 ghost use Rattle.qq_defs.specs.Draft.{state_of};
 ghost use Rattle.qq_defs.specs.Reading.{Gives};
 ghost use Rattle.qq_defs.specs.Setup.{state_of as setup_state};
-ghost use Rattle.qq_defs.specs.Definitions.{each, queue_step, exchange_step, binding_step, list_at, list_or_none, is_empty, as_setup, document, read_setup, check_policies, first_state, with_queues, with_exchanges, with_bindings, within_limit, object_defs, definitions};
+ghost use Rattle.qq_defs.specs.Definitions.{elements, list_at, list_or_none, list_of, is_empty, as_setup, document, read_setup, check_policies, first_state, with_section, within_limit, object_defs, definitions};
 
 use crate::draft::Draft;
-use crate::elements::{binding_at, exchange_at, queue_at};
+use crate::elements::element_at;
 use crate::fault::DefsFault;
 use crate::fields::{Place, Section};
 use crate::members::QueueRows;
@@ -20,51 +20,20 @@ use std::collections::BTreeMap;
 /// The most quorum queues of a broker.
 pub const QUEUES_LIMIT: u64 = 1_024;
 
-fn add_queues(draft: &mut Draft, alloc: Global, nodes: u8, list: &[Value]) -> Result<(), DefsFault>
+fn add_elements(
+    draft: &mut Draft,
+    alloc: Global,
+    nodes: u8,
+    section: Section,
+    list: &[Value],
+) -> Result<(), DefsFault>
     requires { 0 < nodes }
     ensures { Gives (λ _. state_of draft.new) result
-        (each (queue_step nodes) 0 (items_view list.now) (state_of draft.old)) }
+        (elements nodes section 0 (items_view list.now) (state_of draft.old)) }
 {
     for (index, element) in list.iter().enumerate() {
-        let at = Place {
-            section: Section::Queues,
-            index,
-        };
-        match queue_at(draft, alloc, nodes, at, element) {
-            Ok(()) => {}
-            Err(fault) => return Err(fault),
-        }
-    }
-    Ok(())
-}
-
-fn add_exchanges(draft: &mut Draft, alloc: Global, list: &[Value]) -> Result<(), DefsFault>
-    ensures { Gives (λ _. state_of draft.new) result
-        (each exchange_step 0 (items_view list.now) (state_of draft.old)) }
-{
-    for (index, element) in list.iter().enumerate() {
-        let at = Place {
-            section: Section::Exchanges,
-            index,
-        };
-        match exchange_at(draft, alloc, at, element) {
-            Ok(()) => {}
-            Err(fault) => return Err(fault),
-        }
-    }
-    Ok(())
-}
-
-fn add_bindings(draft: &mut Draft, alloc: Global, list: &[Value]) -> Result<(), DefsFault>
-    ensures { Gives (λ _. state_of draft.new) result
-        (each binding_step 0 (items_view list.now) (state_of draft.old)) }
-{
-    for (index, element) in list.iter().enumerate() {
-        let at = Place {
-            section: Section::Bindings,
-            index,
-        };
-        match binding_at(draft, alloc, at, element) {
+        let at = Place { section, index };
+        match element_at(draft, alloc, nodes, at, element) {
             Ok(()) => {}
             Err(fault) => return Err(fault),
         }
@@ -104,6 +73,21 @@ fn list_or_none<'a>(
     }
 }
 
+#[tactic(auto, unfolding(crate::specs::Definitions::list_of))]
+fn list_of<'a>(
+    alloc: Global,
+    section: Section,
+    document: &'a Value,
+) -> Result<&'a [Value], DefsFault>
+    ensures { Gives (λ list. items_view list.now) result (list_of section (view document.now)) }
+{
+    match section {
+        Section::Queues => list_at(alloc, "queues", document),
+        Section::Exchanges => list_or_none(alloc, "exchanges", document),
+        Section::Bindings => list_or_none(alloc, "bindings", document),
+    }
+}
+
 fn is_empty(list: &[Value]) -> bool
     ensures { result ≡ is_empty (items_view list.now) }
 {
@@ -135,37 +119,20 @@ fn within_limit(draft: &Draft) -> Result<(), DefsFault>
     Ok(())
 }
 
-#[tactic(auto, unfolding(crate::specs::Definitions::with_queues))]
-fn with_queues(
+#[tactic(auto, unfolding(crate::specs::Definitions::with_section))]
+fn with_section(
     draft: &mut Draft,
     alloc: Global,
     nodes: u8,
+    section: Section,
     document: &Value,
 ) -> Result<(), DefsFault>
     requires { 0 < nodes }
     ensures { Gives (λ _. state_of draft.new) result
-        (with_queues nodes (view document.now) (state_of draft.old)) }
+        (with_section nodes section (view document.now) (state_of draft.old)) }
 {
-    let list = list_at(alloc, "queues", document)?;
-    add_queues(draft, alloc, nodes, list)
-}
-
-#[tactic(auto, unfolding(crate::specs::Definitions::with_exchanges))]
-fn with_exchanges(draft: &mut Draft, alloc: Global, document: &Value) -> Result<(), DefsFault>
-    ensures { Gives (λ _. state_of draft.new) result
-        (with_exchanges (view document.now) (state_of draft.old)) }
-{
-    let list = list_or_none(alloc, "exchanges", document)?;
-    add_exchanges(draft, alloc, list)
-}
-
-#[tactic(auto, unfolding(crate::specs::Definitions::with_bindings))]
-fn with_bindings(draft: &mut Draft, alloc: Global, document: &Value) -> Result<(), DefsFault>
-    ensures { Gives (λ _. state_of draft.new) result
-        (with_bindings (view document.now) (state_of draft.old)) }
-{
-    let list = list_or_none(alloc, "bindings", document)?;
-    add_bindings(draft, alloc, list)
+    let list = list_of(alloc, section, document)?;
+    add_elements(draft, alloc, nodes, section, list)
 }
 
 fn first_draft(alloc: Global) -> Result<Draft, Memory>
@@ -195,9 +162,9 @@ fn object_defs(alloc: Global, ignore: bool, nodes: u8, document: &Value) -> Resu
 {
     check_policies(alloc, ignore, document)?;
     let mut draft = first_draft(alloc)?;
-    with_queues(&mut draft, alloc, nodes, document)?;
-    with_exchanges(&mut draft, alloc, document)?;
-    with_bindings(&mut draft, alloc, document)?;
+    with_section(&mut draft, alloc, nodes, Section::Queues, document)?;
+    with_section(&mut draft, alloc, nodes, Section::Exchanges, document)?;
+    with_section(&mut draft, alloc, nodes, Section::Bindings, document)?;
     within_limit(&draft)?;
     Ok(draft)
 }

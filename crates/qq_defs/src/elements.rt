@@ -4,12 +4,12 @@ ghost use Rattle.qq_route.specs.Routes.{is_bindable};
 ghost use Rattle.qq_route.specs.View.{table_of};
 ghost use Rattle.qq_defs.specs.Draft.{state_of};
 ghost use Rattle.qq_defs.specs.Reading.{Gives};
-ghost use Rattle.qq_defs.specs.Elements.{is_name, is_quorum, quorum_queue, named_queue, own_queue, queue_at, kind_of, named_exchange, own_exchange, exchange_at, named_binding, linked_binding, keyed_binding, typed_binding, own_binding, binding_at};
+ghost use Rattle.qq_defs.specs.Elements.{is_name, is_quorum, quorum_queue, named_queue, own_queue, kind_of, named_exchange, own_exchange, named_binding, keyed_binding, own_binding, own_element, element_at};
 
 use crate::arguments::queue_args;
 use crate::draft::Draft;
 use crate::fault::DefsFault;
-use crate::fields::{Place, flag_at, object_at, text_at, vhost_at};
+use crate::fields::{Place, Section, flag_at, object_at, text_at, vhost_at};
 use qq_base::Text;
 use qq_entry::KEY_LIMIT;
 use qq_route::{ExchangeKind, Routes};
@@ -116,27 +116,6 @@ fn own_queue(
     named_queue(draft, alloc, nodes, name, durable, auto, arguments)
 }
 
-/// Adds a queue of the default virtual host.
-#[tactic(auto, unfolding(crate::specs::Elements::queue_at))]
-pub fn queue_at(
-    draft: &mut Draft,
-    alloc: Global,
-    nodes: u8,
-    at: Place,
-    element: &Value,
-) -> Result<(), DefsFault>
-    requires { 0 < nodes }
-    ensures { Gives (λ _. state_of draft.new) result
-        (queue_at nodes at (view element.now) (state_of draft.old)) }
-{
-    let vhost = vhost_at(alloc, at, element)?;
-    if vhost == "/" {
-        return own_queue(draft, alloc, nodes, at, element);
-    }
-    draft.count_other();
-    Ok(())
-}
-
 #[tactic(auto, unfolding(crate::specs::Elements::kind_of))]
 fn kind_of(text: &str) -> Option<ExchangeKind>
     ensures { result ≡ kind_of text.now }
@@ -202,25 +181,6 @@ fn own_exchange(
     }
 }
 
-/// Adds an exchange of the default virtual host.
-#[tactic(auto, unfolding(crate::specs::Elements::exchange_at))]
-pub fn exchange_at(
-    draft: &mut Draft,
-    alloc: Global,
-    at: Place,
-    element: &Value,
-) -> Result<(), DefsFault>
-    ensures { Gives (λ _. state_of draft.new) result
-        (exchange_at at (view element.now) (state_of draft.old)) }
-{
-    let vhost = vhost_at(alloc, at, element)?;
-    if vhost == "/" {
-        return own_exchange(draft, alloc, at, element);
-    }
-    draft.count_other();
-    Ok(())
-}
-
 fn is_bindable(routes: &Routes, source: &Text) -> bool
     ensures { result ≡ is_bindable (table_of routes.now) source.now }
 {
@@ -259,26 +219,6 @@ fn named_binding(
     Ok(())
 }
 
-#[tactic(auto, unfolding(crate::specs::Elements::linked_binding))]
-fn linked_binding(
-    draft: &mut Draft,
-    alloc: Global,
-    kind: &str,
-    source: &str,
-    destination: &str,
-    key: &str,
-) -> Result<(), DefsFault>
-    ensures { Gives (λ _. state_of draft.new) result
-        (linked_binding kind.now source.now destination.now key.now (state_of draft.old)) }
-{
-    if kind == "queue" {
-        return named_binding(draft, alloc, source, destination, key);
-    }
-    Err(DefsFault::Unsupported {
-        name: Text::from_str(alloc, kind)?,
-    })
-}
-
 #[tactic(auto, unfolding(crate::specs::Elements::keyed_binding))]
 fn keyed_binding(
     draft: &mut Draft,
@@ -294,23 +234,12 @@ fn keyed_binding(
         (state_of draft.old)) }
 {
     let key = text_at(alloc, at, "routing_key", element)?;
-    linked_binding(draft, alloc, kind, source, destination, key)
-}
-
-#[tactic(auto, unfolding(crate::specs::Elements::typed_binding))]
-fn typed_binding(
-    draft: &mut Draft,
-    alloc: Global,
-    at: Place,
-    source: &str,
-    destination: &str,
-    element: &Value,
-) -> Result<(), DefsFault>
-    ensures { Gives (λ _. state_of draft.new) result
-        (typed_binding at source.now destination.now (view element.now) (state_of draft.old)) }
-{
-    let kind = text_at(alloc, at, "destination_type", element)?;
-    keyed_binding(draft, alloc, at, kind, source, destination, element)
+    if kind == "queue" {
+        return named_binding(draft, alloc, source, destination, key);
+    }
+    Err(DefsFault::Unsupported {
+        name: Text::from_str(alloc, kind)?,
+    })
 }
 
 #[tactic(auto, unfolding(crate::specs::Elements::own_binding))]
@@ -325,23 +254,45 @@ fn own_binding(
 {
     let source = text_at(alloc, at, "source", element)?;
     let destination = text_at(alloc, at, "destination", element)?;
-    typed_binding(draft, alloc, at, source, destination, element)
+    let kind = text_at(alloc, at, "destination_type", element)?;
+    keyed_binding(draft, alloc, at, kind, source, destination, element)
 }
 
-/// Adds a binding of the default virtual host.
-#[tactic(auto, unfolding(crate::specs::Elements::binding_at))]
-pub fn binding_at(
+#[tactic(auto, unfolding(crate::specs::Elements::own_element))]
+fn own_element(
     draft: &mut Draft,
     alloc: Global,
+    nodes: u8,
     at: Place,
     element: &Value,
 ) -> Result<(), DefsFault>
+    requires { 0 < nodes }
     ensures { Gives (λ _. state_of draft.new) result
-        (binding_at at (view element.now) (state_of draft.old)) }
+        (own_element nodes at (view element.now) (state_of draft.old)) }
+{
+    match at.section {
+        Section::Queues => own_queue(draft, alloc, nodes, at, element),
+        Section::Exchanges => own_exchange(draft, alloc, at, element),
+        Section::Bindings => own_binding(draft, alloc, at, element),
+    }
+}
+
+/// Adds an element of the default virtual host, and counts one of another.
+#[tactic(auto, unfolding(crate::specs::Elements::element_at))]
+pub fn element_at(
+    draft: &mut Draft,
+    alloc: Global,
+    nodes: u8,
+    at: Place,
+    element: &Value,
+) -> Result<(), DefsFault>
+    requires { 0 < nodes }
+    ensures { Gives (λ _. state_of draft.new) result
+        (element_at nodes at (view element.now) (state_of draft.old)) }
 {
     let vhost = vhost_at(alloc, at, element)?;
     if vhost == "/" {
-        return own_binding(draft, alloc, at, element);
+        return own_element(draft, alloc, nodes, at, element);
     }
     draft.count_other();
     Ok(())

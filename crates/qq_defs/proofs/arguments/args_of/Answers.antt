@@ -1,12 +1,10 @@
-use Rattle.std.proofs.Common.{◌≡◌, ℕ, List, Bool, min, false, Option, Some, [], codes, rules}
+use Rattle.std.proofs.Common.{◌≡◌, min, false, Some, [], codes, rules}
 use Rattle.std.specs.Option.{unwrap_or}
 use Rattle.serde_json.specs.Data.{Data}
 use Rattle.serde_json.specs.Find.{as_bool}
 use Rattle.serde_json.specs.View.{view}
 use Rattle.qq_entry.specs.declared.queue.TheConstants.{DELIVERY_LIMIT, LIVE_LIMIT}
-use Rattle.qq_entry.specs.declared.queue.Overflow.{Overflow}
 use Rattle.qq_entry.specs.declared.queue.Overflow.TheVariants.{DropHead}
-use Rattle.qq_entry.specs.declared.queue.Strategy.{Strategy}
 use Rattle.qq_entry.specs.declared.queue.Strategy.TheVariants.{AtMostOnce}
 use Rattle.qq_defs.specs.declared.arguments.TheConstants.{GROUP}
 use Rattle.qq_defs.specs.Arguments.{value, value_or, group_size, count, delivery_limit, short_text, overflow, strategy, strategy_with, args_of}
