@@ -28,3 +28,5 @@ pub mod LinkCreditLemmas
 pub mod GivenCredit
 pub mod ActConsumers
 pub mod Joining
+pub mod Subscribing
+pub mod Delivering

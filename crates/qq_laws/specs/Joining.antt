@@ -1,17 +1,19 @@
 -- Which consumers are there (AMQP 0-9-1, basic.consume and basic.cancel).
-use Rattle.std.specs.Prelude.{◌≡◌, ◌⊎◌, ℕ, Bool, true, false, Contains}
+use Rattle.std.specs.Prelude.{◌≡◌, ◌⊎◌, ℕ, Bool, true, false, not, ◌||◌, nat_le, length, Contains}
 use Rattle.qq_base.specs.declared.ids.ConsumerId.{ConsumerId}
 use Rattle.qq_base.specs.Ids.{same_session, same_consumer}
 use Rattle.qq_entry.specs.Command.{consumer_id}
+use Rattle.qq_entry.specs.declared.answer.Answer.{Answer}
 use Rattle.qq_entry.specs.declared.answer.Answer.TheVariants.{Subscribed, Done}
 use Rattle.qq_entry.specs.declared.command.Command.{Command}
 use Rattle.qq_entry.specs.declared.command.Command.TheVariants.{Subscribe, Cancel, Down}
 use Rattle.qq_entry.specs.declared.command.Entry.{Entry}
 use Rattle.qq_entry.specs.declared.command.Mode.{Mode}
 use Rattle.qq_entry.specs.declared.command.Stamp.{Stamp}
+use Rattle.qq_model.specs.declared.TheConstants.{MOST_CONSUMERS}
 use Rattle.qq_model.specs.declared.consumer.Consumer.{Consumer}
 use Rattle.qq_model.specs.State.{State}
-use Rattle.qq_model.specs.Gate.{IsNumbered}
+use Rattle.qq_model.specs.Gate.{IsNumbered, greatest_tag}
 use Rattle.qq_model.specs.Audit.{next_step}
 
 -- a consumer of an id and a mode that isn't cancelled
@@ -30,6 +32,19 @@ Joins s entry =
     let made = next_step s entry in
     (given : Stamp) (tag : ℕ) (mode : Mode) → IsNumbered given.session → entry.command ≡ Subscribe given tag mode → made.fresh ≡ true
     → made.answer ≡ Subscribed → HasConsumer made.state (consumer_id given tag) mode
+
+abbrev pub is_subscribed : Answer → Bool
+is_subscribed Subscribed = true
+is_subscribed _ = false
+
+-- a subscribe that is carried out is refused exactly where its tag isn't above all that its session used, or where the
+-- queue has as many consumers as it may
+abbrev pub RefusesAtLimits : State → Entry → Type 0
+RefusesAtLimits s entry =
+    let made = next_step s entry in
+    (given : Stamp) (tag : ℕ) (mode : Mode) → entry.command ≡ Subscribe given tag mode → made.fresh ≡ true
+    → is_subscribed made.answer
+    ≡ not (nat_le tag (greatest_tag given.session s.sessions) || nat_le MOST_CONSUMERS (length s.consumers))
 
 -- whether a command ends a consumer: it cancels it, or ends its session
 abbrev pub ends_consumer : Command → ConsumerId → Bool

@@ -14,3 +14,4 @@ pub mod Ended
 pub mod Waiting
 pub mod LinkCredit
 pub mod Joining
+pub mod Delivering

@@ -17,7 +17,8 @@ ghost use Rattle.qq_laws.specs.Served.{LeavesOut, ServesWhoWaits};
 ghost use Rattle.qq_laws.specs.Turns.{ServesInTurn};
 ghost use Rattle.qq_laws.specs.Active.{ServesActiveAlone, ServesOne};
 ghost use Rattle.qq_laws.specs.Waiting.{ActiveDoesNotWait};
-ghost use Rattle.qq_laws.specs.Joining.{CancelsConsumer, Joins, OnlyJoin, StaysThere};
+ghost use Rattle.qq_laws.specs.Delivering.{DeliversInTurn};
+ghost use Rattle.qq_laws.specs.Joining.{CancelsConsumer, Joins, OnlyJoin, RefusesAtLimits, StaysThere};
 
 /// Under a single active consumer all that a command delivers goes to one: the longest joined consumer
 /// that isn't cancelled, of the consumers as the command itself leaves them (RabbitMQ, "Single Active
@@ -93,4 +94,16 @@ pub fn consumers_are_cancelled()
 /// stays so.
 pub fn consumers_come_by_subscribes()
     ensures { (s : State) (entry : Entry) → OnlyJoin s entry }
+{}
+
+/// A subscribe that is carried out is refused exactly where its tag isn't above all that its session
+/// used, or where the queue has as many consumers as it may.
+pub fn subscribes_are_refused_at_limits()
+    ensures { (s : State) (entry : Entry) → RefusesAtLimits s entry }
+{}
+
+/// Each delivery takes the first message, to the consumer that has waited the longest of those that may
+/// be served, or to the single active one, which then waits behind all others (RabbitMQ, "Consumers").
+pub fn deliveries_are_made_in_turn()
+    ensures { (p next : Progress) → DeliversInTurn p next }
 {}

@@ -10,9 +10,10 @@ mod sessions;
 
 pub use consumers::{
     consumers_are_cancelled, consumers_are_served_in_turn, consumers_come_by_subscribes,
-    consumers_join, consumers_stay, deliveries_are_out, deliveries_go_to_who_waits,
-    delivery_ids_count_by_one, nobody_waits_in_vain, one_consumer_is_served_at_a_time,
-    prefetch_is_kept, the_active_consumer_is_served_alone, the_active_consumer_never_waits_in_vain,
+    consumers_join, consumers_stay, deliveries_are_made_in_turn, deliveries_are_out,
+    deliveries_go_to_who_waits, delivery_ids_count_by_one, nobody_waits_in_vain,
+    one_consumer_is_served_at_a_time, prefetch_is_kept, subscribes_are_refused_at_limits,
+    the_active_consumer_is_served_alone, the_active_consumer_never_waits_in_vain,
 };
 pub use credit::{credit_is_given, link_credit_is_kept};
 pub use deliveries::{
