@@ -134,7 +134,7 @@ none-over args rows none =
     neither true = refl
     neither false = refl
 
-limits-within : (p : Progress)
+pub limits-within : (p : Progress)
     → is_over_limit (keep_limits p).state.args (keep_limits p).state.rows ≡ false
 unfolding drop_head
 limits-within p =
@@ -447,7 +447,7 @@ Args-acts args command = record {
   leave = λ p session same is also none. same;
 }
 
-checked-args : (index : Index) (command : Command) (s : State)
+pub checked-args : (index : Index) (command : Command) (s : State)
     → (check_out_all (act index command (record { state = s; effects = [] })).progress).state.args ≡ s.args
 checked-args index command s =
     check_out_all-keeps (λ p. p.state.args ≡ s.args) (λ p row consumer same found next. same)
@@ -492,7 +492,7 @@ nobody_waits args entries single row consumer here ready there =
 
 -- Publishes ------------------------------------------------------------------------------------------------------
 
-enqueue-answer : (given : Stamp) (origin : Option Origin) (message : Message) (index : Index) (s : State)
+pub enqueue-answer : (given : Stamp) (origin : Option Origin) (message : Message) (index : Index) (s : State)
     → (carry_out index (Enqueue given origin message) s).answer
     ≡ (enqueue_by (publish_limit s.args s.rows) index message (record { state = s; effects = [] })).answer
 unfolding carry_out act enqueue drain_after

@@ -1,6 +1,11 @@
 pub mod Always
 pub mod Published
 pub mod Rows
+pub mod Explains
+pub mod Counts
+pub mod DeadLetters
+pub mod Rejected
+pub mod Behind
 pub mod Once
 pub mod Active
 pub mod Ids

@@ -4,8 +4,11 @@
 
 mod consumers;
 mod credit;
+mod dead_letters;
 mod deliveries;
+mod ends;
 mod messages;
+mod rounds;
 mod sessions;
 
 pub use consumers::{
@@ -16,9 +19,17 @@ pub use consumers::{
     the_active_consumer_is_served_alone, the_active_consumer_never_waits_in_vain,
 };
 pub use credit::{credit_is_given, link_credit_is_kept};
+pub use dead_letters::{
+    dead_letters_are_offered_in_order, dead_letters_are_sent_once, settlements_count_dead_letters,
+    the_dead_stay_until_settled, the_worker_is_given_the_dead, workers_take_over_by_term,
+};
 pub use deliveries::{
     sessions_end_with_their_deliveries, settles_take_effect, unknown_ids_are_passed_over,
     what_is_out_was_delivered,
+};
+pub use ends::{
+    deliveries_count_returns, messages_move_for_reasons, rejections_name_a_limit,
+    returns_are_counted, the_delivery_limit_is_exact,
 };
 pub use messages::{
     deliveries_show_publishes, deliveries_stay_out, entries_move_messages, gets_show_publishes,
@@ -26,6 +37,7 @@ pub use messages::{
     messages_are_in_order, messages_last, publishes_are_kept, publishes_are_rejected_at_limits,
     purges_take_the_ready, the_first_message_is_next,
 };
+pub use rounds::who_was_served_waits_behind_all;
 pub use sessions::{
     commands_are_carried_out_once, commands_are_fresh_where_let_in, commands_count_by_one,
     commands_turned_away_change_nothing, marks_only_rise, repeats_are_answered_as_before,
