@@ -17,7 +17,7 @@ use Rattle.qq_model.proofs.Serve.{serve-id}
 use Rattle.qq_model.proofs.Soundness.{Contains-in, in_contains}
 use Rattle.qq_laws.specs.Behind.{GoesBehind, ServesInRounds}
 
-put-cases : (x new : Consumer) (consumers : List Consumer) → In x (put_consumer new consumers)
+pub put-cases : (x new : Consumer) (consumers : List Consumer) → In x (put_consumer new consumers)
     → (x ≡ new) ⊎ (In x consumers × (same_consumer x.id new.id ≡ false))
 put-cases x new [] here = absurd here
 put-cases x new (first ∷ rest) (inl same) = elim (cases_Bool (same_consumer first.id new.id)) [

@@ -17,6 +17,8 @@ pub mod RejectedLemmas
 pub mod WorkerLemmas
 pub mod DeadKinds
 pub mod BehindLemmas
+pub mod JoinLemmas
+pub mod ClosingLemmas
 pub mod Runs
 pub mod TurnAway
 pub mod ActiveLemmas

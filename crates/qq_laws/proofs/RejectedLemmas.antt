@@ -1,6 +1,6 @@
 -- A rejection names a limit that is met.
-use Rattle.std.proofs.Common.{◌≡◌, ◌⊎◌, true, List, [], Option, Some, None, refl, sym, ap, ◌∙◌, inl, inr}
-use Rattle.std.proofs.lemmas.Bool.{cases_Bool, cond-true, cond-false}
+use Rattle.std.proofs.Common.{◌≡◌, ◌⊎◌, true, List, [], Option, Some, None, refl, sym, ap, ◌∙◌, inl, inr, not}
+use Rattle.std.proofs.lemmas.Bool.{cases_Bool, cond-true, cond-false, and_from}
 use Rattle.qq_entry.specs.declared.answer.Full.{Full}
 use Rattle.qq_entry.specs.declared.answer.Full.TheVariants.{Length, ByteLength, Live}
 use Rattle.qq_entry.specs.declared.command.Command.TheVariants.{Enqueue}
@@ -13,13 +13,13 @@ use Rattle.qq_model.specs.Changes.{Progress}
 use Rattle.qq_model.specs.Commands.{enqueue_by}
 use Rattle.qq_model.specs.Step.{Step}
 use Rattle.qq_model.specs.Audit.{next_index, next_step}
-use Rattle.qq_laws.specs.Rejected.{NamesLimit, is_met}
+use Rattle.qq_laws.specs.Rejected.{NamesLimit, is_first_met, is_met}
 use Rattle.qq_laws.proofs.KeptLemmas.{enqueue-answer}
 use Rattle.qq_laws.proofs.TakenLemmas.{let_in, made-carried}
 
 -- the limit that a publish meets first is met
 first-met : (args : QueueArgs) (rows : List Row) (o : Option Full) → publish_limit args rows ≡ o
-    → (o ≡ None) ⊎ ((full : Full) × (o ≡ Some full) × (is_met full args rows ≡ true))
+    → (o ≡ None) ⊎ ((full : Full) × (o ≡ Some full) × (is_first_met full args rows ≡ true))
 first-met args rows o is = elim (cases_Bool (is_met Length args rows)) [
   | inl length ↦
       inr (
@@ -33,7 +33,7 @@ first-met args rows o is = elim (cases_Bool (is_met Length args rows)) [
           ByteLength,
           sym is ∙ cond-false (is_met Length args rows) (Some Length) _ short
               ∙ cond-true (is_met ByteLength args rows) (Some ByteLength) _ bytes,
-          bytes,
+          and_from _ _ bytes (ap not short),
         )
     | inr few ↦ elim (cases_Bool (is_met Live args rows)) [
       | inl live ↦
@@ -42,7 +42,7 @@ first-met args rows o is = elim (cases_Bool (is_met Length args rows)) [
             sym is ∙ cond-false (is_met Length args rows) (Some Length) _ short
                 ∙ cond-false (is_met ByteLength args rows) (Some ByteLength) _ few
                 ∙ cond-true (is_met Live args rows) (Some Live) None live,
-            live,
+            and_from _ _ live (and_from _ _ (ap not few) (ap not short)),
           )
       | inr free ↦
           inl (sym is ∙ cond-false (is_met Length args rows) (Some Length) _ short

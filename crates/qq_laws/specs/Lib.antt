@@ -6,6 +6,8 @@ pub mod Counts
 pub mod DeadLetters
 pub mod Rejected
 pub mod Behind
+pub mod Joins
+pub mod Closing
 pub mod Once
 pub mod Active
 pub mod Ids

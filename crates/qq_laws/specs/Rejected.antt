@@ -1,5 +1,5 @@
 -- Why a publish is rejected (RabbitMQ, "Queue Length Limit").
-use Rattle.std.specs.Prelude.{◌≡◌, ◌⊎◌, List, Bool, true, ◌&&◌, nat_le, Option}
+use Rattle.std.specs.Prelude.{◌≡◌, ◌⊎◌, List, Bool, true, not, ◌&&◌, nat_le, Option}
 use Rattle.qq_entry.specs.declared.answer.Answer.TheVariants.{Confirmed, Rejected}
 use Rattle.qq_entry.specs.declared.answer.Full.{Full}
 use Rattle.qq_entry.specs.declared.answer.Full.TheVariants.{Length, ByteLength, Live}
@@ -20,10 +20,17 @@ is_met Length args rows = is_reject_publish args.overflow && has_reached args.ma
 is_met ByteLength args rows = is_reject_publish args.overflow && has_reached args.max_bytes (ready_bytes rows)
 is_met Live args rows = nat_le args.live (live_count rows)
 
--- a publish that is carried out is confirmed, or its rejection names a limit that it meets
+-- whether it is the first that a publish meets, of the length, the bytes, and the number of messages
+abbrev pub is_first_met : Full → QueueArgs → List Row → Bool
+is_first_met Length args rows = is_met Length args rows
+is_first_met ByteLength args rows = is_met ByteLength args rows && not (is_met Length args rows)
+is_first_met Live args rows =
+    is_met Live args rows && (not (is_met ByteLength args rows) && not (is_met Length args rows))
+
+-- a publish that is carried out is confirmed, or its rejection names the first limit that it meets
 abbrev pub NamesLimit : State → Entry → Type 0
 NamesLimit s entry =
     (given : Stamp) (origin : Option Origin) (message : Message) → entry.command ≡ Enqueue given origin message
     → (next_step s entry).fresh ≡ true
     → ((next_step s entry).answer ≡ Confirmed)
-    ⊎ ((full : Full) × ((next_step s entry).answer ≡ Rejected full) × (is_met full s.args s.rows ≡ true))
+    ⊎ ((full : Full) × ((next_step s entry).answer ≡ Rejected full) × (is_first_met full s.args s.rows ≡ true))

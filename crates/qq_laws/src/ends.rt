@@ -23,9 +23,9 @@ pub fn messages_move_for_reasons()
     ensures { Always (λ s. (entry : Entry) → MovesForReasons s entry) }
 {}
 
-/// A rejection names a limit that the publish meets: one of the two of a queue that rejects publishes, or
-/// the number of messages that any queue may hold (RabbitMQ, "Queue Length Limit").
-pub fn rejections_name_a_limit()
+/// A rejection names the first limit that the publish meets: the length or the bytes of a queue that rejects
+/// publishes, or the number of messages that any queue may hold (RabbitMQ, "Queue Length Limit").
+pub fn rejections_name_the_limit()
     ensures { (s : State) (entry : Entry) → NamesLimit s entry }
 {}
 

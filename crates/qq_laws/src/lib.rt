@@ -2,15 +2,18 @@
 //! function with no parameters and an empty body; the statements stand in `specs/`.
 #![tactic(auto)]
 
+mod closing;
 mod consumers;
 mod credit;
 mod dead_letters;
 mod deliveries;
 mod ends;
+mod joins;
 mod messages;
 mod rounds;
 mod sessions;
 
+pub use closing::sessions_end_for_good;
 pub use consumers::{
     consumers_are_cancelled, consumers_are_served_in_turn, consumers_come_by_subscribes,
     consumers_join, consumers_stay, deliveries_are_made_in_turn, deliveries_are_out,
@@ -28,9 +31,10 @@ pub use deliveries::{
     what_is_out_was_delivered,
 };
 pub use ends::{
-    deliveries_count_returns, messages_move_for_reasons, rejections_name_a_limit,
+    deliveries_count_returns, messages_move_for_reasons, rejections_name_the_limit,
     returns_are_counted, the_delivery_limit_is_exact,
 };
+pub use joins::{cancels_take_effect, subscribes_take_effect};
 pub use messages::{
     deliveries_show_publishes, deliveries_stay_out, entries_move_messages, gets_show_publishes,
     gets_take_the_first_message, limits_are_kept, messages_add_up, messages_are_gone_for_a_reason,

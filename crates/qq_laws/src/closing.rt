@@ -1,0 +1,16 @@
+//! A law of the end of sessions.
+
+ghost use Rattle.qq_entry.specs.declared.command.Entry.{Entry};
+ghost use Rattle.qq_entry.specs.declared.command.Stamp.{Stamp};
+ghost use Rattle.qq_model.specs.State.{State, Sessions};
+ghost use Rattle.qq_laws.specs.Always.{Always};
+ghost use Rattle.qq_laws.specs.Closing.{ClosesSession, StaysClosed, TellsEnded};
+
+/// A client's session that is open, or that the queue may still remember, has ended after its Down. It stays
+/// so, as does one of a worker that dead-letters at least once, and its commands are answered so (Ongaro's
+/// dissertation, section 6.3).
+pub fn sessions_end_for_good()
+    ensures closed { (s : State) (entry : Entry) → ClosesSession s entry }
+    ensures stays { Always StaysClosed }
+    ensures told { (s : Sessions) (stamp : Stamp) → TellsEnded s stamp }
+{}
