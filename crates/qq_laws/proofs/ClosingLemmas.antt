@@ -1,5 +1,5 @@
 -- A session that has ended stays so.
-use Rattle.std.proofs.Common.{◌≡◌, ℕ, ◌+◌, ◌<◌, ◌⊎◌, Bool, true, false, not, ◌&&◌, ◌||◌, List, [], ◌∷◌, ◌++◌, Option, None, refl, sym, ap, ◌∙◌, subst, inl, inr, arith}
+use Rattle.std.proofs.Common.{◌≡◌, ℕ, ◌+◌, ◌<◌, ◌⊎◌, true, false, not, ◌&&◌, List, [], None, refl, sym, ap, ◌∙◌, inl, inr}
 use Rattle.std.specs.Prelude.{nat_eq, nat_lt, filter}
 use Rattle.std.specs.List.{list_any}
 use Rattle.std.proofs.lemmas.Bool.{false≢true, cases_Bool, cond-true, cond-false, and_from, or_left, eq-eqb, lt-ltb}
@@ -17,8 +17,8 @@ use Rattle.qq_model.specs.declared.session.Gate.TheVariants.{Ended, Fresh}
 use Rattle.qq_model.specs.declared.session.OpenSession.{OpenSession}
 use Rattle.qq_model.specs.State.{State, Sessions, empty_queue}
 use Rattle.qq_model.specs.Changes.{Progress}
-use Rattle.qq_model.specs.Commands.{Acted, act, down, return_session}
-use Rattle.qq_model.specs.Gate.{end_session, gate, gate_by, is_client, is_dead_letter, is_end_remembered, is_ended, is_open, is_worker, has_given_way, put_ended, remember_end, session_of}
+use Rattle.qq_model.specs.Commands.{Acted, act, down}
+use Rattle.qq_model.specs.Gate.{end_session, gate, is_client, is_dead_letter, is_end_remembered, is_ended, is_open, put_ended, remember_end}
 use Rattle.qq_model.specs.Step.{carry_out, step_by, step}
 use Rattle.qq_model.specs.Audit.{next_index, next_step, state_after}
 use Rattle.qq_base.proofs.Lists.{In-append_right, list_any-from_in}

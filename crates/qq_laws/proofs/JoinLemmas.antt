@@ -1,13 +1,12 @@
 -- Who joins is there, and who is cancelled stays so.
-use Rattle.std.proofs.Common.{◌≡◌, ℕ, ◌+◌, ◌⊎◌, Bool, true, false, not, List, [], ◌∷◌, ◌++◌, Option, Some, None, length, refl, sym, ap, ◌∙◌, subst, inl, inr, if◌then◌else◌}
-use Rattle.std.specs.Prelude.{Contains, nat_le, filter}
+use Rattle.std.proofs.Common.{◌≡◌, ℕ, ◌+◌, Bool, true, false, List, [], ◌∷◌, ◌++◌, Option, Some, None, length, refl, sym, ap, ◌∙◌, subst, inl, inr, if◌then◌else◌}
+use Rattle.std.specs.Prelude.{nat_le}
 use Rattle.std.specs.Option.{option_map_or}
-use Rattle.std.proofs.lemmas.Bool.{false≢true, cases_Bool, cond-true, cond-false, cond_both}
+use Rattle.std.proofs.lemmas.Bool.{false≢true}
 use Rattle.qq_base.specs.declared.ids.Index.{Index}
 use Rattle.qq_base.specs.declared.ids.ConsumerId.{ConsumerId}
 use Rattle.qq_base.specs.Ids.{same_consumer}
 use Rattle.qq_entry.specs.Command.{consumer_id}
-use Rattle.qq_entry.specs.declared.answer.Answer.{Answer}
 use Rattle.qq_entry.specs.declared.answer.Answer.TheVariants as answer
 use Rattle.qq_entry.specs.declared.answer.Cause.TheVariants.{ConsumersFull, NoConsumer, NumberSpent}
 use Rattle.qq_entry.specs.declared.command.Command.{Command}
@@ -21,7 +20,7 @@ use Rattle.qq_model.specs.declared.consumer.Consumer.{Consumer}
 use Rattle.qq_model.specs.State.{State}
 use Rattle.qq_model.specs.Changes.{Progress, consumer_of, put_consumer, drop_finished, is_needed}
 use Rattle.qq_model.specs.Commands.{Acted, act, cancel, cancel_by, join, new_consumer, refuse, reply, set_state, subscribe}
-use Rattle.qq_model.specs.Gate.{admit, greatest_tag}
+use Rattle.qq_model.specs.Gate.{greatest_tag}
 use Rattle.qq_model.specs.Serving.{drain_after, serve, use_credit}
 use Rattle.qq_model.specs.Step.{Step, carry_out}
 use Rattle.qq_model.specs.Audit.{next_index, next_step}

@@ -1,7 +1,6 @@
 -- Who joins and who is cancelled (AMQP 0-9-1, basic.consume and basic.cancel).
-use Rattle.std.specs.Prelude.{◌≡◌, ℕ, true, false, Bool, Some, Contains, length, nat_le, if◌then◌else◌}
+use Rattle.std.specs.Prelude.{◌≡◌, ℕ, true, false, Contains, length, nat_le, if◌then◌else◌}
 use Rattle.std.specs.Option.{option_map_or}
-use Rattle.qq_base.specs.declared.ids.ConsumerId.{ConsumerId}
 use Rattle.qq_entry.specs.Command.{consumer_id}
 use Rattle.qq_entry.specs.declared.answer.Answer.TheVariants.{Done, Refused, Subscribed}
 use Rattle.qq_entry.specs.declared.answer.Cause.TheVariants.{ConsumersFull, NoConsumer, NumberSpent}
