@@ -5,6 +5,7 @@ use Rattle.std.proofs.lemmas.Bool.{false≢true, cases_Bool, cond-true, and_part
 use Rattle.std.proofs.lemmas.Option.{none-some}
 use Rattle.qq_base.specs.declared.ids.ConsumerId.{ConsumerId}
 use Rattle.qq_base.specs.Ids.{same_consumer}
+use Rattle.qq_entry.specs.declared.answer.Answer.{Answer}
 use Rattle.qq_entry.specs.declared.command.Command.{Command}
 use Rattle.qq_entry.specs.declared.command.Command.TheVariants.{Settle, Discard}
 use Rattle.qq_entry.specs.declared.command.Entry.{Entry}
@@ -185,8 +186,9 @@ before-at args before entry fresh k new found =
     record {
       old = first.0;
       mid = second.0;
-      at = ap (λ answer. slice_get (s.rows ++ new_rows s (next_index s)
-          (new_message true answer entry.command)) k) is.answer ∙ first.1;
+      at =
+          subst (λ (said : Answer). slice_get (s.rows ++ new_rows s (next_index s)
+          (new_message true said entry.command)) k ≡ Some first.0) (sym is.answer) first.1;
       there = get-in acted k second.0 second.1;
       acts = first.2;
       count =
