@@ -16,8 +16,7 @@ pub mod DeliveryLimits
 pub mod RejectedLemmas
 pub mod WorkerLemmas
 pub mod DeadKinds
-pub mod BehindLemmas
-pub mod JoinLemmas
+pub mod RefusalLemmas
 pub mod ClosingLemmas
 pub mod Runs
 pub mod TurnAway

@@ -28,7 +28,7 @@ use Rattle.qq_laws.specs.Joining.{RefusesAtLimits, is_subscribed}
 use Rattle.qq_laws.proofs.TakenLemmas.{let_in, made-carried}
 
 -- a command that is let in leaves its session the tags that it used
-admit-tag : (s : Sessions) (given : Stamp)
+pub admit-tag : (s : Sessions) (given : Stamp)
     → greatest_tag given.session (admit s given) ≡ greatest_tag given.session s
 unfolding admit
 admit-tag s given =

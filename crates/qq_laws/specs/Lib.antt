@@ -5,8 +5,7 @@ pub mod Explains
 pub mod Counts
 pub mod DeadLetters
 pub mod Rejected
-pub mod Behind
-pub mod Joins
+pub mod Refusals
 pub mod Closing
 pub mod Once
 pub mod Active

@@ -8,9 +8,8 @@ mod credit;
 mod dead_letters;
 mod deliveries;
 mod ends;
-mod joins;
 mod messages;
-mod rounds;
+mod refusals;
 mod sessions;
 
 pub use closing::sessions_end_for_good;
@@ -34,14 +33,13 @@ pub use ends::{
     deliveries_count_returns, messages_move_for_reasons, rejections_name_the_limit,
     returns_are_counted, the_delivery_limit_is_exact,
 };
-pub use joins::{cancels_take_effect, subscribes_take_effect};
 pub use messages::{
     deliveries_show_publishes, deliveries_stay_out, entries_move_messages, gets_show_publishes,
     gets_take_the_first_message, limits_are_kept, messages_add_up, messages_are_gone_for_a_reason,
     messages_are_in_order, messages_last, publishes_are_kept, publishes_are_rejected_at_limits,
     purges_take_the_ready, the_first_message_is_next,
 };
-pub use rounds::who_was_served_waits_behind_all;
+pub use refusals::refusals_are_exact;
 pub use sessions::{
     commands_are_carried_out_once, commands_are_fresh_where_let_in, commands_count_by_one,
     commands_turned_away_change_nothing, marks_only_rise, repeats_are_answered_as_before,
