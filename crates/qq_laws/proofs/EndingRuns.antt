@@ -47,6 +47,7 @@ use Rattle.qq_model.proofs.SingleChanges.{KeepsDeliveries, Serves}
 use Rattle.qq_model.proofs.Soundness.{Contains-in, in_contains, known_at, rows-kept, rows_at, SoundRows}
 use Rattle.qq_model.proofs.StepKeeps.{next-keeps}
 use Rattle.qq_laws.specs.Ended.{disposition, DiedOf, IsBack, EndsAs, Ends, IsNotOut, EndsDeliveries, PassesOver, EndsSessions}
+use Rattle.qq_laws.proofs.ActiveLemmas.{act-delivers_none}
 use Rattle.qq_laws.proofs.Endings.{Done, Goes, Left, NoneOut, OneOut, Turned, act-done, act-passes, return_session-goes}
 use Rattle.qq_laws.proofs.Fares.{Fares, Moved, fares_at_last}
 use Rattle.qq_laws.proofs.OutByDelivery.{counts-above, delivery-id, next-out_by}
@@ -55,18 +56,18 @@ use Rattle.qq_laws.proofs.TakenLemmas.{let_in, made-carried}
 -- What a message has become --------------------------------------------------------------------------------
 
 -- a message that is in the queue no more, nor with a consumer, is as the command left it
-same-if : (y row : Row) (p : Progress) → is_ready y.place ≡ false → (row ≡ y) ⊎ Moved y row p → row ≡ y
-same-if y row p dead (inl same) = same
-same-if y row p dead (inr moved) = absurd (false≢true (sym dead ∙ moved.before))
+same-if : (args : QueueArgs) (y row : Row) (p : Progress) → is_ready y.place ≡ false → (row ≡ y) ⊎ Moved args y row p → row ≡ y
+same-if args y row p dead (inl same) = same
+same-if args y row p dead (inr moved) = absurd (false≢true (sym dead ∙ moved.before))
 
 died-unready : (cause : Reason) (place : Place) → DiedOf cause place → is_ready place ≡ false
 died-unready cause place (inl is) = ap is_ready is
 died-unready cause place (inr some) = ap is_ready some.1
 
-back : (made : Step) (p : Progress) (y row : Row) → made.effects ≡ p.effects → is_ready y.place ≡ true
-    → (row ≡ y) ⊎ Moved y row p → IsBack made row
-back made p y row effects ready (inl same) = inl (ap (λ (r : Row). is_ready r.place) same ∙ ready)
-back made p y row effects ready (inr moved) = elim (moved.how) [
+back : (args : QueueArgs) (made : Step) (p : Progress) (y row : Row) → made.effects ≡ p.effects → is_ready y.place ≡ true
+    → (row ≡ y) ⊎ Moved args y row p → IsBack args made row
+back args made p y row effects ready (inl same) = inl (ap (λ (r : Row). is_ready r.place) same ∙ ready)
+back args made p y row effects ready (inr moved) = elim (moved.how) [
   | inl some ↦
       inr (inl (
         some.0,
@@ -80,9 +81,9 @@ back made p y row effects ready (inr moved) = elim (moved.how) [
 
 placed : (outcome : Outcome) (args : QueueArgs) (x y : Row) (made : Step) (p : Progress) (row : Row)
     → Turned outcome args x y → made.effects ≡ p.effects → row ≡ record y { place = row.place }
-    → (row ≡ y) ⊎ Moved y row p → EndsAs outcome args made x row
+    → (row ≡ y) ⊎ Moved args y row p → EndsAs outcome args made x row
 placed Settled args x y made p row turned effects same how =
-    let is : row ≡ y = same-if y row p (ap (λ (r : Row). is_ready r.place) turned) how in
+    let is : row ≡ y = same-if args y row p (ap (λ (r : Row). is_ready r.place) turned) how in
     let all : row ≡ record x { place = Gone gone.Settled } = is ∙ turned in
     record {
       index = ap (λ (r : Row). r.index) all;
@@ -104,7 +105,7 @@ placed Returned args x y made p row turned effects same how =
       place = elim (turned.2) [
         | inl over ↦
             let is : row ≡ y =
-            same-if y row p (ap is_ready at ∙ died-unready DeliveryLimit turned.0 over.1) how in
+            same-if args y row p (ap is_ready at ∙ died-unready DeliveryLimit turned.0 over.1) how in
             record {
               passed = λ _. subst (DiedOf DeliveryLimit) (sym (ap (λ (r : Row). r.place) is ∙ at)) over.1;
               back = λ within.
@@ -113,14 +114,14 @@ placed Returned args x y made p row turned effects same how =
         | inr ready ↦ record {
           passed = λ over.
               absurd (false≢true (sym ready.0 ∙ ap (has_passed args.delivery_limit) (sym count) ∙ over));
-          back = λ _. back made p y row effects (ap is_ready at ∙ ready.1) how;
+          back = λ _. back args made p y row effects (ap is_ready at ∙ ready.1) how;
         }
       ];
     }
 placed Discarded args x y made p row turned effects same how =
     let more : y ≡ record x { place = turned.0 } = turned.1 in
     let at : y.place ≡ turned.0 = ap (λ (r : Row). r.place) more in
-    let is : row ≡ y = same-if y row p (ap is_ready at ∙ died-unready Rejected turned.0 turned.2) how in
+    let is : row ≡ y = same-if args y row p (ap is_ready at ∙ died-unready Rejected turned.0 turned.2) how in
     let all : row ≡ record x { place = turned.0 } = is ∙ more in
     record {
       index = ap (λ (r : Row). r.index) all;
@@ -131,13 +132,13 @@ placed Discarded args x y made p row turned effects same how =
     }
 
 ends-from : (outcome : Outcome) (args : QueueArgs) (x : Row) (command : Command) (a : Acted) (made : Step)
-    → ((b : Acted) → drain_after command b ≡ b) → Rises (indices a.progress.state.rows)
-    → Left outcome args x a.progress.state.rows
+    → ((b : Acted) → drain_after command b ≡ b) → a.progress.state.args ≡ args
+    → Rises (indices a.progress.state.rows) → Left outcome args x a.progress.state.rows
     → made.state.rows ≡ (follow_on command a).progress.state.rows
     → made.effects ≡ (follow_on command a).progress.effects → Ends outcome args made x
-ends-from outcome args x command a made none rising left rows effects =
+ends-from outcome args x command a made none same rising left rows effects =
     let p : Progress = (follow_on command a).progress in
-    let fares : Fares left.new p = fares_at_last left.new command a none rising left.here in (
+    let fares : Fares args left.new p = fares_at_last args left.new command a none same rising left.here in (
       fares.row,
       Contains-in fares.row made.state.rows (subst (In fares.row) (sym rows) fares.here),
       placed outcome args x left.new made p fares.row left.turned effects fares.same fares.how,
@@ -236,7 +237,8 @@ ends_deliveries args before entry outcome given tag ids id x numbered is fresh w
 
     ends : Ends outcome s.args (next_step s entry) x
     ends =
-        ends-from outcome s.args x command a (next_step s entry) (disposition-drains outcome given tag ids) done.rising
+        ends-from outcome s.args x command a (next_step s entry) (disposition-drains outcome given tag ids)
+        (act-delivers_none (let_in s given) index command).args done.rising
         done.left (ap (λ (m : Step). m.state.rows) made) (ap (λ (m : Step). m.effects) made)
 
     none : IsNotOut (next_step s entry).state consumer id
@@ -395,7 +397,8 @@ ends_sessions args before entry session is = record {
             absurd (down-leaves index session start seat.0 seat.1 (ap (λ (i : ConsumerId). i.session) seat.2 ∙ own))
         | inr left' ↦ left'
       ] in
-      ends-from Returned s.args x (Down session) a (next_step s entry) (down-drains session) goes.rising gone
+      ends-from Returned s.args x (Down session) a (next_step s entry) (down-drains session)
+      (act-delivers_none s index (Down session)).args goes.rising gone
       (ap (λ (m : Step). m.state.rows) made) (ap (λ (m : Step). m.effects) made);
 }
   where

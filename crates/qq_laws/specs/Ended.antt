@@ -21,7 +21,7 @@ use Rattle.qq_model.specs.declared.place.Place.TheVariants.{Out, Dead, Gone}
 use Rattle.qq_model.specs.declared.place.Row.{Row}
 use Rattle.qq_model.specs.State.{State}
 use Rattle.qq_model.specs.Gate.{IsNumbered}
-use Rattle.qq_model.specs.Limits.{is_ready, has_passed}
+use Rattle.qq_model.specs.Limits.{is_ready, is_drop_head, has_passed}
 use Rattle.qq_model.specs.Step.{Step}
 use Rattle.qq_model.specs.Audit.{next_step}
 use Rattle.qq_laws.specs.Served.{IsOutAs}
@@ -42,14 +42,17 @@ IsDeliveredBy made row =
     (consumer : ConsumerId) × (delivery : Delivery) × Contains made.effects (Deliver consumer delivery)
     × IsOutAs consumer delivery row
 
--- a message that went back is ready, or the same step has delivered it anew, or dropped it at the head of the queue
-abbrev pub IsBack : Step → Row → Type 0
-IsBack made row = (is_ready row.place ≡ true) ⊎ (IsDeliveredBy made row ⊎ DiedOf MaxLen row.place)
+-- a message that went back is ready, or the same step has delivered it anew, or dropped it at the head of a queue that
+-- drops there
+abbrev pub IsBack : QueueArgs → Step → Row → Type 0
+IsBack args made row =
+    (is_ready row.place ≡ true)
+    ⊎ (IsDeliveredBy made row ⊎ ((is_drop_head args.overflow ≡ true) × DiedOf MaxLen row.place))
 
 -- a message that was returned died where that was more often than the delivery limit allows, and else went back
 pub record IsReturned (args : QueueArgs) (made : Step) (row : Row) : Type 0 where
   pub passed : has_passed args.delivery_limit row.count ≡ true → DiedOf DeliveryLimit row.place
-  pub back : has_passed args.delivery_limit row.count ≡ false → IsBack made row
+  pub back : has_passed args.delivery_limit row.count ≡ false → IsBack args made row
 
 -- where the message of a delivery with this outcome is
 abbrev pub IsPlaced : Outcome → QueueArgs → Step → Row → Type 0
