@@ -38,10 +38,29 @@ impl<R: Files> DirDisk<R> {
     pub fn new(rt: R, alloc: Global, folder: String) -> Self
         ensures faults { result.faults.count ≡ 0 }
         ensures stopped { result.faults.stopped ≡ false }
+        ensures folder { result.folder.path ≡ folder }
     {
         DirDisk {
             rt,
             folder: Folder::new(folder),
+            handles: Handles::new(alloc),
+            faults: Faults::new(),
+            is_made: false,
+            is_synced: false,
+        }
+    }
+
+    /// The disk in the same folder as a process sees it that starts anew: the files are closed, and all that
+    /// was known of the folder is forgotten, failed calls too. What was pending is whatever the system has
+    /// taken.
+    pub fn reopen(self, alloc: Global) -> Self
+        ensures faults { result.faults.count ≡ 0 }
+        ensures stopped { result.faults.stopped ≡ false }
+        ensures folder { result.folder ≡ self.folder }
+    {
+        DirDisk {
+            rt: self.rt,
+            folder: self.folder,
             handles: Handles::new(alloc),
             faults: Faults::new(),
             is_made: false,

@@ -2,14 +2,19 @@ use crate::call::answer;
 use crate::random::Calls;
 use crate::watched::{Watch, Watched};
 use crate::words::Words;
+use crate::yards::{FolderDisk, Given, Yards, fault_text};
 use anyhow::Result;
 use qq_dir_disk::DirDisk;
+use qq_disk::EitherDisk;
 use qq_mem_disk::MemDisk;
 use std::alloc::Global;
 use std::fs;
 
 /// The folder of all that a run writes, which is removed again.
-const SCRATCH: &str = "qq-disks-scratch";
+pub const SCRATCH: &str = "qq-disks-scratch";
+
+/// The folder above that of the disk.
+const ROOT: &str = "qq-disks-scratch/root";
 
 /// The folder of the disk.
 const FOLDER: &str = "qq-disks-scratch/root/node-1";
@@ -19,13 +24,14 @@ const FOLDER: &str = "qq-disks-scratch/root/node-1";
 pub struct Disks<'a> {
     system: Watched<'a>,
     memory: MemDisk,
-    folder: Option<DirDisk<Watched<'a>>>,
+    folder: Option<FolderDisk<'a>>,
+    yards: Yards<'a>,
 }
 
-fn new_folder<'a>(system: Watched<'a>) -> Result<DirDisk<Watched<'a>>> {
+fn new_folder<'a>(system: Watched<'a>) -> Result<FolderDisk<'a>> {
     let alloc = system.rt.alloc();
     let path = String::from_str(alloc, FOLDER)?;
-    Ok(DirDisk::new(system, alloc, path))
+    Ok(EitherDisk::Second(DirDisk::new(system, alloc, path)))
 }
 
 fn path_of(rt: HostRuntime, name: &str) -> Result<String> {
@@ -49,6 +55,7 @@ impl<'a> Disks<'a> {
             system,
             memory: MemDisk::new(rt.alloc()),
             folder: Some(new_folder(system)?),
+            yards: Yards::new(system),
         })
     }
 
@@ -61,8 +68,13 @@ impl<'a> Disks<'a> {
             "reopen" => self.folder = Some(new_folder(self.system)?),
             "put" => self.put(&mut words)?,
             "folder" => self.make_folder(words.next())?,
+            "block" => self.block()?,
             "random" => self.random(&mut words)?,
             "crash" => self.crash(&mut words)?,
+            "hold" => self.hold(&mut words)?,
+            "yard" => self.yards.make(words.numbers(self.system.rt.alloc())?),
+            "open" => self.open(&mut words)?,
+            "yard-crash" => self.yard_crash(&mut words)?,
             "fail" => self.fail(&mut words)?,
             "fuse" => {
                 self.folder = None;
@@ -81,6 +93,14 @@ impl<'a> Disks<'a> {
         Ok(())
     }
 
+    // Puts a file in the folder's place, as somebody else.
+    fn block(&self) -> Result<()> {
+        let rt = self.system.rt;
+        fs::create_dir_all(&rt, ROOT)?;
+        fs::write(&rt, FOLDER, "")?;
+        Ok(())
+    }
+
     // Makes a call of both, and prints the answer; of the disk in the folder where it is another.
     fn call(&mut self, line: &str) -> Result<()> {
         let rt = self.system.rt;
@@ -90,7 +110,9 @@ impl<'a> Disks<'a> {
         }
         if let Some(folder) = &mut self.folder {
             let other = answer(rt.alloc(), folder, line)?;
-            if other != text {
+            if other.is_empty() && !text.is_empty() {
+                println!(rt; "  in the folder: nothing")?;
+            } else if other != text {
                 println!(rt; "  in the folder: {other}")?;
             }
         }
@@ -109,23 +131,85 @@ impl<'a> Disks<'a> {
     // A disk in a folder names no image, and no calls that fail: it is put aside.
     fn crash(&mut self, words: &mut Words) -> Result<()> {
         let alloc = self.system.rt.alloc();
-        let memory = std::mem::replace(&mut self.memory, MemDisk::new(alloc));
-        self.memory = memory.crash(alloc, &words.image(alloc)?)?;
+        self.memory = self.take_memory().crash(alloc, &words.image(alloc)?)?;
         self.folder = None;
         Ok(())
     }
 
     fn fail(&mut self, words: &mut Words) -> Result<()> {
-        let mut calls = Vec::new(self.system.rt.alloc());
-        for _ in 0..u64::MAX {
-            if words.is_at_end() {
-                break;
-            }
-            calls.push(words.number()?)?;
-        }
+        let calls = words.numbers(self.system.rt.alloc())?;
         self.memory.fail_calls(calls);
         self.folder = None;
         Ok(())
+    }
+
+    // The disk in memory, in whose place comes an empty one.
+    fn take_memory(&mut self) -> MemDisk {
+        std::mem::replace(&mut self.memory, MemDisk::new(self.system.rt.alloc()))
+    }
+
+    // Puts the disk in memory aside for the next yard.
+    fn hold(&mut self, words: &mut Words) -> Result<()> {
+        let disk = self.take_memory();
+        self.folder = None;
+        self.yards.hold(words, disk)
+    }
+
+    // Has both yards give a disk.
+    fn open(&mut self, words: &mut Words) -> Result<()> {
+        let (memory, folder) = self.yards.open(words)?;
+        self.take(memory, Some(folder))
+    }
+
+    // Has the yards crash both disks.
+    fn yard_crash(&mut self, words: &mut Words) -> Result<()> {
+        let image = words.image(self.system.rt.alloc())?;
+        let disk = self.take_memory();
+        let memory = self.yards.crash_memory(disk, &image);
+        let folder = match self.folder.take() {
+            Some(disk) => Some(self.yards.crash_folder(disk, &image)),
+            None => None,
+        };
+        self.take(memory, folder)
+    }
+
+    // Takes the disks that the yards gave, and prints what they answered.
+    fn take(
+        &mut self,
+        memory: Given<MemDisk>,
+        folder: Option<Given<FolderDisk<'a>>>,
+    ) -> Result<()> {
+        let rt = self.system.rt;
+        let text = self.take_of_memory(memory);
+        println!(rt; "  {text}")?;
+        self.folder = None;
+        if let Some(folder) = folder {
+            let other = self.take_of_folders(folder);
+            if other != text {
+                println!(rt; "  in the folder: {other}")?;
+            }
+        }
+        Ok(())
+    }
+
+    fn take_of_memory(&mut self, given: Given<MemDisk>) -> &'static str {
+        match given {
+            Ok(disk) => {
+                self.memory = disk;
+                "done"
+            }
+            Err(fault) => fault_text(fault),
+        }
+    }
+
+    fn take_of_folders(&mut self, given: Given<FolderDisk<'a>>) -> &'static str {
+        match given {
+            Ok(disk) => {
+                self.folder = Some(disk);
+                "done"
+            }
+            Err(fault) => fault_text(fault),
+        }
     }
 
     // Makes random calls of both, up to the first that they answer otherwise.

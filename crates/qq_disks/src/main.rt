@@ -20,7 +20,15 @@
 //! - `trace`: from here on each call of the system is printed, a write in pieces of 8 bytes at most;
 //! - `break K`: K calls of the system more pass, and then one fails; `reopen`: the folder is opened anew;
 //! - `put NAME TEXT` and `folder NAME`: somebody else puts a file or a folder there;
+//! - `block`: somebody else puts a file in the folder's place;
 //! - `random SEED COUNT`: so many random calls of both disks.
+//!
+//! Of yards, one in memory and one of folders, which give both disks:
+//!
+//! - `hold ROOT N`: the disk in memory is put aside, for root ROOT and node N;
+//! - `yard CALLS..`: a yard in memory of the disks that were put aside, whose calls of these numbers fail;
+//! - `open N ROOT`, and `open N` without a root: the yards give the disks of node N;
+//! - `yard-crash NEWEST OTHERS BACK`: the yards crash both disks, as by `crash`.
 #![tactic(auto)]
 
 use disks::{Disks, clean};
@@ -32,6 +40,7 @@ mod disks;
 mod random;
 mod watched;
 mod words;
+mod yards;
 
 fn is_comment(line: &str) -> bool {
     line.is_empty() || line.starts_with('#')

@@ -1,5 +1,5 @@
 use anyhow::{Context, Result};
-use qq_base::Bytes;
+use qq_base::{Bytes, NodeId};
 use qq_disk::{FileKind, FileName, Image, Tail};
 use std::alloc::Global;
 
@@ -28,12 +28,21 @@ impl<'a> Words<'a> {
         }
     }
 
-    pub fn is_at_end(&self) -> bool {
-        self.rest.is_empty()
-    }
-
     pub fn number(&mut self) -> Result<u64> {
         number(self.next())
+    }
+
+    /// The numbers up to the line's end.
+    pub fn numbers(&mut self, alloc: Global) -> Result<Vec<u64>> {
+        let mut numbers = Vec::new(alloc);
+        for word in self.rest.split_whitespace() {
+            numbers.push(number(word)?)?;
+        }
+        Ok(numbers)
+    }
+
+    pub fn node(&mut self) -> Result<NodeId> {
+        Ok(NodeId(u8::try_from(self.number()?)?))
     }
 
     pub fn file(&mut self) -> Result<FileName> {

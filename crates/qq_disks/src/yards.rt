@@ -1,0 +1,86 @@
+use crate::disks::SCRATCH;
+use crate::watched::Watched;
+use crate::words::Words;
+use anyhow::Result;
+use qq_base::NodeId;
+use qq_dir_disk::DirDisk;
+use qq_disk::{EitherDisk, Image};
+use qq_mem_disk::MemDisk;
+use qq_yards::{FolderYard, MemYard, Yard, YardFault};
+
+/// A disk of a yard of folders.
+pub type FolderDisk<'a> = EitherDisk<MemDisk, DirDisk<Watched<'a>>>;
+
+/// What a yard has answered.
+pub type Given<D> = Result<D, YardFault>;
+
+/// A yard in memory, and one of folders.
+#[derive(Drop)]
+pub struct Yards<'a> {
+    system: Watched<'a>,
+    /// The disks of the next yard in memory.
+    held: Vec<(String, NodeId, MemDisk)>,
+    memory: MemYard,
+    folders: FolderYard<Watched<'a>>,
+}
+
+/// What is printed of a yard's fault.
+pub fn fault_text(fault: YardFault) -> &'static str {
+    match fault {
+        YardFault::Failed => "failed",
+        YardFault::Memory(_) => "memory",
+    }
+}
+
+impl<'a> Yards<'a> {
+    /// A yard that holds no disk, and one of folders.
+    pub fn new(system: Watched<'a>) -> Self {
+        let alloc = system.rt.alloc();
+        Yards {
+            system,
+            held: Vec::new(alloc),
+            memory: MemYard::new(Vec::new(alloc), Vec::new(alloc)),
+            folders: FolderYard::new(system),
+        }
+    }
+
+    /// Puts a disk aside for the next yard in memory, under a line's root and node.
+    pub fn hold(&mut self, words: &mut Words, disk: MemDisk) -> Result<()> {
+        let root = String::from_str(self.system.rt.alloc(), words.next())?;
+        self.held.push((root, words.node()?, disk))?;
+        Ok(())
+    }
+
+    /// A yard in memory of the disks that were put aside, whose calls of these numbers fail.
+    pub fn make(&mut self, fails: Vec<u64>) {
+        let none = Vec::new(self.system.rt.alloc());
+        self.memory = MemYard::new(std::mem::replace(&mut self.held, none), fails);
+    }
+
+    /// The disks of a line's node and root, which may be missing. The folders' roots lie in the folder of
+    /// this run.
+    pub fn open(&mut self, words: &mut Words) -> Result<(Given<MemDisk>, Given<FolderDisk<'a>>)> {
+        let alloc = self.system.rt.alloc();
+        let node = words.node()?;
+        let root = words.next();
+        if root.is_empty() {
+            return Ok((
+                self.memory.disk(alloc, None, node),
+                self.folders.disk(alloc, None, node),
+            ));
+        }
+        let path = format!(in alloc; "{SCRATCH}/{root}")?;
+        Ok((
+            self.memory.disk(alloc, Some(root), node),
+            self.folders.disk(alloc, Some(path.as_str()), node),
+        ))
+    }
+
+    pub fn crash_memory(&mut self, disk: MemDisk, image: &Image) -> Given<MemDisk> {
+        self.memory.crash(self.system.rt.alloc(), disk, image)
+    }
+
+    pub fn crash_folder(&mut self, disk: FolderDisk<'a>, image: &Image) -> Given<FolderDisk<'a>> {
+        self.folders.crash(self.system.rt.alloc(), disk, image)
+    }
+}

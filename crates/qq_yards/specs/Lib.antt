@@ -1,0 +1,3 @@
+pub mod FolderYard
+pub mod MemYard
+pub mod Yard
