@@ -1,0 +1,106 @@
+use Rattle.std.proofs.Common.{List, map, subst, sym, ap, ◌∙◌, refl, rules}
+use Rattle.std.specs.List.{AllByRecursion}
+use Rattle.std.proofs.lemmas.List.Elements.{recursion_from_All}
+use Rattle.qq_base.specs.declared.ids.QueueId.{QueueId}
+use Rattle.qq_disk.specs.Disk.{now}
+use Rattle.qq_log.specs.Stable.{carry_of}
+use Rattle.qq_wal_record.specs.declared.record.LogRecord.{LogRecord}
+use Rattle.qq_wal_record.specs.declared.record.LogRecord.TheVariants.{Carry as CarryRecord}
+use Rattle.qq_wal.specs.declared.marks.Mark.{Mark}
+use Rattle.qq_wal.specs.Batch.{AllFitBatch}
+use Rattle.qq_wal.specs.Marks.{AllFollow, HasCarry, IsCarry, carries_in, known, queues_in}
+use Rattle.qq_wal.specs.Notices.{new_mark}
+use Rattle.qq_wal.proofs.Agreeing.{begun-carries, begun-queues}
+use Rattle.qq_wal.proofs.Batches.{told_before}
+use Rattle.qq_wal.proofs.OnDisk.{begin-continues, begin-on-disk}
+use Rattle.qq_wal.proofs.Steps.{in_top, still-holds}
+use Rattle.qq_wal.proofs.wal.Wal.begin.Goals as goal
+
+pub first_bytes-requires : goal.first_bytes-requires
+first_bytes-requires g c =
+    subst (λ (l : List Mark). AllByRecursion HasCarry l) (sym (c.as_slice-2.ensures.value ∙ c.in-Ok.ensures.ok))
+    (begun-carries c.args.carries.now c.as_slice.result.now
+    (recursion_from_All IsCarry c.args.carries.now c.requires.carries))
+
+pub returns-in-Err-begin_file-clause-stays : goal.returns-in-Err-begin_file-clause-stays
+returns-in-Err-begin_file-clause-stays g c = λ told.
+    let may = c.requires.goes_on told in
+    c.begin_file.ensures.stays told c.args.queues.items may.before
+    (map CarryRecord (carries_in c.as_slice-2.result.now))
+    (begin-continues (λ id s. (c.carries_restate.ensures.exact (carry_of id s) s).1 refl) c.args.queues.items
+    c.args.header c.args.carries.now c.args.names.now (now (g.D.NodeDisk.past c.args.disk)) may c.requires.number
+    (recursion_from_All IsCarry c.args.carries.now c.requires.carries) c.as_slice-2.result.now
+    (c.as_slice-2.ensures.value ∙ c.in-Ok.ensures.ok
+    ∙ ap (λ (l : List QueueId). map (new_mark c.args.carries.now) l) c.as_slice.ensures.value)
+    (search rules) (in_top c.args.header.file (search rules)) c.in-Ok-first_bytes.ensures.fits)
+    (c.as_slice-3.ensures.value ∙ c.in-Ok-first_bytes.ensures.ok c.args.queues.items)
+
+pub returns-clause-stays : goal.returns-clause-stays
+returns-clause-stays g c = λ told.
+    let may = c.requires.goes_on told in
+    c.begin_file.ensures.stays told c.args.queues.items may.before
+    (map CarryRecord (carries_in c.as_slice-2.result.now))
+    (begin-continues (λ id s. (c.carries_restate.ensures.exact (carry_of id s) s).1 refl) c.args.queues.items
+    c.args.header c.args.carries.now c.args.names.now (now (g.D.NodeDisk.past c.args.disk)) may c.requires.number
+    (recursion_from_All IsCarry c.args.carries.now c.requires.carries) c.as_slice-2.result.now
+    (c.as_slice-2.ensures.value ∙ c.in-Ok.ensures.ok
+    ∙ ap (λ (l : List QueueId). map (new_mark c.args.carries.now) l) c.as_slice.ensures.value)
+    (search rules) (in_top c.args.header.file (search rules)) c.in-Ok-first_bytes.ensures.fits)
+    (c.as_slice-3.ensures.value ∙ c.in-Ok-first_bytes.ensures.ok c.args.queues.items)
+
+pub returns-clause-holds : goal.returns-clause-holds
+returns-clause-holds g c = λ told.
+    let may = c.requires.goes_on told in
+    still-holds c.args.queues.items (now (g.D.NodeDisk.past c.args.disk))
+    (now (g.D.NodeDisk.past c.begin_file.new.disk))
+    (c.in_default.ensures.shown told c.args.queues.items may.before
+    (map CarryRecord (carries_in c.as_slice-2.result.now))
+    (begin-continues (λ id s. (c.carries_restate.ensures.exact (carry_of id s) s).1 refl) c.args.queues.items
+    c.args.header c.args.carries.now c.args.names.now (now (g.D.NodeDisk.past c.args.disk)) may c.requires.number
+    (recursion_from_All IsCarry c.args.carries.now c.requires.carries) c.as_slice-2.result.now
+    (c.as_slice-2.ensures.value ∙ c.in-Ok.ensures.ok
+    ∙ ap (λ (l : List QueueId). map (new_mark c.args.carries.now) l) c.as_slice.ensures.value)
+    (search rules) (in_top c.args.header.file (search rules)) c.in-Ok-first_bytes.ensures.fits)
+    (c.as_slice-3.ensures.value ∙ c.in-Ok-first_bytes.ensures.ok c.args.queues.items))
+
+pub returns-clause-sound : goal.returns-clause-sound
+returns-clause-sound g c =
+    let queues = c.args.queues.items in
+    let made = c.in-Ok.ensures.ok
+    ∙ ap (λ (l : List QueueId). map (new_mark c.args.carries.now) l) c.as_slice.ensures.value in
+    let each = recursion_from_All IsCarry c.args.carries.now c.requires.carries in
+    let records = map CarryRecord (carries_in c.as_slice-2.result.now) in
+    record {
+      waiting = subst (λ (l : List LogRecord). AllFitBatch l) (sym c.new.ensures.items) (search rules);
+      follow = subst (λ (l : List LogRecord). AllFollow queues (known c.in-Ok.marks.items) l) (sym c.new.ensures.items)
+          tt;
+      queues_are = ap queues_in made ∙ begun-queues c.args.carries.now queues;
+      carries = subst (λ (l : List Mark). AllByRecursion HasCarry l) (sym made)
+          (begun-carries c.args.carries.now queues each);
+      number = search rules;
+      on_disk = λ told going.
+          let before = told_before c.begin_file.ensures.told told in
+          let may = c.requires.goes_on before in
+          let goes_on = begin-continues (λ id s. (c.carries_restate.ensures.exact (carry_of id s) s).1 refl) queues
+          c.args.header c.args.carries.now c.args.names.now (now (g.D.NodeDisk.past c.args.disk)) may
+          c.requires.number each c.as_slice-2.result.now (c.as_slice-2.ensures.value ∙ made) (search rules)
+          (in_top c.args.header.file (search rules)) c.in-Ok-first_bytes.ensures.fits in
+          let is = c.as_slice-3.ensures.value ∙ c.in-Ok-first_bytes.ensures.ok queues in
+          begin-on-disk (λ id s. (c.carries_restate.ensures.exact (carry_of id s) s).1 refl) queues
+          c.args.header c.args.carries.now c.args.names.now (now (g.D.NodeDisk.past c.args.disk)) may
+          c.requires.number each c.in-Ok.marks.items made c.len.result c.first_numbers.result
+          (now (g.D.NodeDisk.past c.begin_file.new.disk)) c.first_numbers.ensures
+          (c.in_default.ensures.log before queues may.before records goes_on is).0
+          (c.in_default.ensures.shown before queues may.before records goes_on is)
+          (search rules ∙ sym (c.in_default.ensures.length before queues may.before records goes_on is))
+          (c.in_default.ensures.others before queues may.before records goes_on is);
+      synced = λ told going clean.
+          let before = told_before c.begin_file.ensures.told told in
+          let may = c.requires.goes_on before in
+          let goes_on = begin-continues (λ id s. (c.carries_restate.ensures.exact (carry_of id s) s).1 refl) queues
+          c.args.header c.args.carries.now c.args.names.now (now (g.D.NodeDisk.past c.args.disk)) may
+          c.requires.number each c.as_slice-2.result.now (c.as_slice-2.ensures.value ∙ made) (search rules)
+          (in_top c.args.header.file (search rules)) c.in-Ok-first_bytes.ensures.fits in
+          (c.in_default.ensures.log before queues may.before records goes_on
+          (c.as_slice-3.ensures.value ∙ c.in-Ok-first_bytes.ensures.ok queues)).1;
+    }

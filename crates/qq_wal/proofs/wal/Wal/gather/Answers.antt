@@ -1,0 +1,30 @@
+use Rattle.std.proofs.Common.{ap, ◌∙◌, ◌++◌, ◌∷◌, [], List, rules}
+use Rattle.qq_wal_record.specs.declared.record.LogRecord.{LogRecord}
+use Rattle.qq_wal_record.specs.declared.record.LogRecord.TheVariants.{Op as OpRecord}
+use Rattle.qq_wal.specs.Marks.{known}
+use Rattle.qq_wal.proofs.Taking.{gathered-fit, gathered-follow, gathered-ahead}
+use Rattle.qq_wal.proofs.wal.Wal.gather.Goals as goal
+
+pub returns-clause-sound : goal.returns-clause-sound
+returns-clause-sound g c =
+    let was = c.args.self.now in
+    let is = c.push_back_reserved.ensures.items
+    ∙ ap (λ (l : List LogRecord). l ++ OpRecord c.args.op ∷ []) c.reserve.ensures.items in
+    record {
+      waiting = gathered-fit was.waiting.items c.push_back_reserved.new.self.items c.args.op is c.requires.fields
+          (search rules) c.requires.follows.ends c.requires.sound.waiting;
+      follow = gathered-follow was.queues.items (known was.marks.items) was.waiting.items
+          c.push_back_reserved.new.self.items c.args.op is c.requires.sound.follow c.requires.follows;
+      queues_are = c.requires.sound.queues_are;
+      carries = c.requires.sound.carries;
+      number = c.requires.sound.number;
+      on_disk = c.requires.sound.on_disk;
+      synced = c.requires.sound.synced;
+    }
+
+pub returns-clause-ahead : goal.returns-clause-ahead
+returns-clause-ahead g c =
+    gathered-ahead (known c.args.self.now.marks.items) c.args.self.now.waiting.items
+    c.push_back_reserved.new.self.items c.args.op
+    (c.push_back_reserved.ensures.items
+    ∙ ap (λ (l : List LogRecord). l ++ OpRecord c.args.op ∷ []) c.reserve.ensures.items)

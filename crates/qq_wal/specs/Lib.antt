@@ -1,0 +1,7 @@
+pub mod Batch
+pub mod Fault
+pub mod Marks
+pub mod Notices
+pub mod Numbers
+pub mod Running
+pub mod Wal

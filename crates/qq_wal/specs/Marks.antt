@@ -1,0 +1,114 @@
+-- What the log keeps of each queue: the carry with which a new file restates it.
+use Rattle.std.specs.Prelude.{◌≡◌, ◌+◌, ℕ, Bool, true, false, List, [], ◌∷◌, length, map, Option, Some, None, option_map, option_to_list, unwrap_or, IfSome, nat_eq, nat_le, ◌==◌, ◌&&◌, if◌then◌else◌}
+use Rattle.std.specs.List.{AllByRecursion, flat_map}
+use Rattle.qq_base.specs.declared.ids.QueueId.{QueueId}
+use Rattle.qq_log.specs.declared.lane.Carry.{Carry}
+use Rattle.qq_log.specs.declared.op.Op.{Op}
+use Rattle.qq_log.specs.declared.op.Op.TheVariants.{Change, SnapshotMade, SegmentMade}
+use Rattle.qq_log.specs.Op.{queue}
+use Rattle.qq_log.specs.Stable.{new_state, carry_of}
+use Rattle.qq_log.specs.Writable.{IsWritableCarry}
+use Rattle.qq_wal_record.specs.declared.record.LogRecord.{LogRecord}
+use Rattle.qq_wal_record.specs.declared.record.LogRecord.TheVariants.{Op as OpRecord, Carry as CarryRecord}
+use Rattle.qq_chain.specs.Image.{put}
+use Rattle.qq_chain.specs.Lanes.{Lanes, is_listed, is_op_within_ends, is_carry_within_ends, is_change, is_plain}
+use Rattle.qq_wal.specs.declared.marks.Mark.{Mark}
+
+-- ---- a queue's carry
+
+-- a carry that may be written, within all ends, and that names no snapshot and no segment
+pub record IsCarry (c : Carry) : Type 0 where
+  pub writable : IsWritableCarry c
+  pub ends : is_carry_within_ends c ≡ true
+  pub plain : is_plain c ≡ true
+
+-- that of a queue without ops
+abbrev pub new_carry : QueueId → Carry
+new_carry id = carry_of id new_state
+
+-- the carry behind an op more
+abbrev pub carry_behind : Carry → Op → Carry
+carry_behind c (Change id op term vote keep entries) =
+    record c { op = op; term = term; vote = vote; last = record { 0 = keep.0 + length entries } }
+carry_behind c (SnapshotMade id op head file) = c
+carry_behind c (SegmentMade id op file first last) = c
+
+-- whether an op goes on behind a carry: its number is the next, and its cut lies between the base and the end
+abbrev pub follows_carry : Carry → Op → Bool
+follows_carry c (Change id op term vote keep entries) =
+    (op == c.op + 1) && (nat_le c.base.index.0 keep.0 && nat_le keep.0 c.last.0)
+follows_carry c (SnapshotMade id op head file) = false
+follows_carry c (SegmentMade id op file first last) = false
+
+-- ---- the carries of all queues
+
+-- the carry of each queue by its number, None before its first op
+abbrev pub Carries : Type 0
+Carries = ℕ → Option Carry
+
+abbrev pub carry_or_new : Option Carry → QueueId → Carry
+carry_or_new carry id = unwrap_or carry (new_carry id)
+
+-- with an op more
+abbrev pub add_op : Carries → Op → Carries
+add_op carries op =
+    put carries (queue op).0 (Some (carry_behind (carry_or_new (carries (queue op).0) (queue op)) op))
+
+-- with records more
+abbrev pub add_records : Carries → List LogRecord → Carries
+add_records carries [] = carries
+add_records carries (OpRecord op ∷ rs) = add_records (add_op carries op) rs
+add_records carries (CarryRecord c ∷ rs) = add_records carries rs
+
+-- An op may be handed in next: it is a change of one of these queues, with no number past its end, and follows what
+-- the queue has.
+pub record MayFollow (queues : List QueueId) (carries : Carries) (op : Op) : Type 0 where
+  pub listed : is_listed queues (queue op) ≡ true
+  pub ends : is_op_within_ends op ≡ true
+  pub change : is_change op ≡ true
+  pub follows : follows_carry (carry_or_new (carries (queue op).0) (queue op)) op ≡ true
+
+-- each of the records may be handed in behind those before it
+abbrev pub AllFollow : List QueueId → Carries → List LogRecord → Type 0
+AllFollow queues carries [] = Unit {0}
+AllFollow queues carries (OpRecord op ∷ rs) =
+    MayFollow queues carries op × AllFollow queues (add_op carries op) rs
+AllFollow queues carries (CarryRecord c ∷ rs) = ⊥
+
+-- ---- as the lanes have them
+
+-- the carry of a queue's state, where it has one
+abbrev pub carry_in : Lanes → QueueId → Option Carry
+carry_in lanes id = option_map (carry_of id) (lanes id.0)
+
+-- the carry of each queue that has a state, in the order of the queues
+abbrev pub carries_of : List QueueId → Lanes → List Carry
+carries_of queues lanes = flat_map (λ (id : QueueId). option_to_list (carry_in lanes id)) queues
+
+-- ---- as the log keeps them
+
+-- the queues of the marks
+abbrev pub queues_in : List Mark → List QueueId
+queues_in marks = map (λ (m : Mark). m.queue) marks
+
+-- the carries that the marks have, in their order
+abbrev pub carries_in : List Mark → List Carry
+carries_in marks = flat_map (λ (m : Mark). option_to_list m.carry) marks
+
+-- what the marks have of each queue
+abbrev pub known : List Mark → Carries
+known [] = λ id. None
+known (m ∷ marks) = put (known marks) m.queue.0 m.carry
+
+-- a mark's carry may be written
+abbrev pub HasCarry : Mark → Type 0
+HasCarry m = IfSome m.carry IsCarry
+
+-- the marks have what the lanes come to
+abbrev pub Agree : Lanes → List Mark → Type 0
+Agree lanes marks = AllByRecursion (λ (m : Mark). m.carry ≡ carry_in lanes m.queue) marks
+
+-- the first carry of a queue, None where there is none
+abbrev pub carry_for : List Carry → QueueId → Option Carry
+carry_for [] id = None
+carry_for (c ∷ carries) id = if nat_eq c.queue.0 id.0 then Some c else carry_for carries id

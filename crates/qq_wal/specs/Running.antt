@@ -1,0 +1,86 @@
+-- What a log that is written to keeps of its promise, from call to call.
+use Rattle.std.specs.Prelude.{◌≡◌, ◌≢◌, ◌-◌, ◌^◌, ◌<◌, ℕ, List, [], ◌++◌, Option, Some}
+use Rattle.qq_base.specs.declared.ids.QueueId.{QueueId}
+use Rattle.qq_disk.specs.declared.name.FileName.{FileName}
+use Rattle.qq_disk.specs.Disk.{Disk, now, IsListing}
+use Rattle.qq_disk.specs.Moments.{Adds}
+use Rattle.qq_log.specs.declared.lane.Carry.{Carry}
+use Rattle.qq_log.specs.declared.op.Op.{Op}
+use Rattle.qq_wal_record.specs.declared.header.Header.{Header}
+use Rattle.qq_chain.specs.Lanes.{Lanes}
+use Rattle.qq_chain.specs.Records.{replay}
+use Rattle.qq_chain.specs.Chain.{Found, Reading, reading}
+use Rattle.qq_chain.specs.Image.{files_of, shown_logs}
+use Rattle.qq_chain.specs.Promise.{IsRunningLog, StaysPromised, pending_records, found_world}
+use Rattle.qq_chain.specs.Laws.{KeepsPromise, HoldsOps, AreWritable, IsSettledDisk, batch_bytes, op_records}
+use Rattle.qq_chain.specs.Wal.{wal, Ours}
+use Rattle.qq_wal.specs.Marks.{carries_of}
+
+-- no file has a greater number
+unfoldable pub top : ℕ
+top = 2 ^ 64 - 1
+
+-- what the disk shows of the log
+abbrev pub reading_of : (queues : List QueueId) → Disk → Reading (wal queues)
+reading_of queues d = reading (wal queues) top (shown_logs (files_of d))
+
+-- what that comes to, queue by queue
+abbrev pub lanes_shown : List QueueId → Disk → Option Lanes
+lanes_shown queues d = found_world (wal queues) ((reading_of queues d).found)
+
+-- the log of these queues is written to the file of this header
+abbrev pub IsWrittenTo : List QueueId → Header → Disk → Type 0
+IsWrittenTo queues h d = IsRunningLog (wal queues) top h.file (Ours h) d
+
+-- none of its records waits for a sync
+abbrev pub IsSynced : List QueueId → Header → Disk → Type 0
+IsSynced queues h d = pending_records (wal queues) h.file (files_of d) ≡ []
+
+-- what was promised before, is promised at each moment since
+abbrev pub Stays : List QueueId → List Disk → List Disk → Type 0
+Stays queues old new = StaysPromised (wal queues) top old new
+
+-- and with these ops among the given ones, where all that was given before is on the disk
+abbrev pub StaysGiving : List QueueId → List Op → List Disk → List Disk → Type 0
+StaysGiving queues batch old new = (noticed given : List Op) → KeepsPromise queues top noticed given (now old)
+    → HoldsOps queues top given (now old) → Adds (KeepsPromise queues top noticed (given ++ batch)) old new
+
+-- what was on the disk is, and these ops are too
+abbrev pub HoldsAlso : List QueueId → List Op → Disk → Disk → Type 0
+HoldsAlso queues batch d e = (given : List Op) → HoldsOps queues top given d → HoldsOps queues top (given ++ batch) e
+
+-- what was on the disk is
+abbrev pub StillHolds : List QueueId → Disk → Disk → Type 0
+StillHolds queues d e = (given : List Op) → HoldsOps queues top given d → HoldsOps queues top given e
+
+-- all that was given may be noticed
+abbrev pub MayNotice : List QueueId → Disk → Disk → Type 0
+MayNotice queues d e = (noticed given : List Op) → KeepsPromise queues top noticed given d → HoldsOps queues top given d
+    → KeepsPromise queues top given given e
+
+-- these bytes are a batch of ops for the log's file
+pub record IsBatchOf (queues : List QueueId) (h : Header) (batch : List Op) (bytes : List ℕ) : Type 0 where
+  pub fits : AreWritable h.file batch
+  pub is : bytes ≡ batch_bytes queues h.file batch
+
+-- these ops keep each lane sound behind what is on the disk
+abbrev pub MayAdd : List QueueId → List Op → Disk → Type 0
+MayAdd queues batch d =
+    (lanes : Lanes) × (replay (wal queues) (op_records batch) (lanes_shown queues d) ≡ Some lanes)
+
+-- of all log files but this one the disk holds the same
+abbrev pub SameOthers : ℕ → Disk → Disk → Type 0
+SameOthers n d e = (m : ℕ) → n ≢ m → files_of e m ≡ files_of d m
+
+-- A new file may go on from what the disk shows: each image reads as the disk does, the file's number is above the
+-- newest, its header names what is read as the newest file, and its carries are those of what that comes to.
+pub record MayBegin (queues : List QueueId) (h : Header) (carries : List Carry) (names : List FileName) (d : Disk)
+    : Type 0 where
+  pub listing : IsListing d names
+  pub before : Found (wal queues)
+  pub settled : IsSettledDisk queues top d
+  pub found : (reading_of queues d).found ≡ Some before
+  pub newer : (reading_of queues d).file < h.file
+  pub previous : h.previous ≡ (reading_of queues d).file
+  pub good : h.good ≡ (reading_of queues d).good
+  pub carries_are : carries ≡ carries_of queues before.world

@@ -1,0 +1,98 @@
+-- What a log keeps from call to call.
+use Rattle.std.specs.Prelude.{◌≡◌, ◌≤◌, ◌<◌, ◌+◌, ℕ, Bool, false, List, [], map, length, take, drop, Some, None, Result, Ok, Err, IsTrue}
+use Rattle.std.specs.List.{AllByRecursion, fold}
+use Rattle.std.specs.Global.{Vec}
+use Rattle.qq_base.specs.declared.ids.QueueId.{QueueId}
+use Rattle.qq_disk.specs.declared.name.FileKind.TheVariants.{Log}
+use Rattle.qq_disk.specs.declared.name.FileName.{FileName}
+use Rattle.qq_disk.specs.Disk.{Disk, now, content, file_content}
+use Rattle.qq_disk.specs.Image.{log_of}
+use Rattle.qq_log.specs.declared.lane.Carry.{Carry}
+use Rattle.qq_log.specs.declared.op.Op.{Op}
+use Rattle.qq_wal_record.specs.declared.header.Header.{Header}
+use Rattle.qq_wal_record.specs.declared.record.LogRecord.{LogRecord}
+use Rattle.qq_chain.specs.Image.{files_of}
+use Rattle.qq_chain.specs.Lanes.{Lanes}
+use Rattle.qq_chain.specs.Laws.{op_records}
+use Rattle.qq_wal.specs.Batch.{AllFitBatch, IsBatch}
+use Rattle.qq_wal.specs.Marks.{Carries, AllFollow, HasCarry, Agree, known, queues_in, add_records}
+use Rattle.qq_wal.specs.Notices.{note_record, new_mark}
+use Rattle.qq_wal.specs.Numbers.{first_numbers, raise}
+use Rattle.qq_wal.specs.Running.{IsWrittenTo, IsSynced, StaysGiving, lanes_shown}
+use Rattle.qq_wal.specs.declared.fault.WalFault.{WalFault}
+use Rattle.qq_wal.specs.declared.marks.Mark.{Mark}
+use Rattle.qq_wal.specs.declared.numbers.Numbers.{Numbers}
+use Rattle.qq_wal.specs.declared.wal.Wal.{Wal}
+
+-- The disk is as the log knows it: the log is written to the file of its header, of so many bytes; what is on the
+-- disk comes to lanes of which the marks have the carries; and no log file has a number above those known.
+pub record IsOnDisk (queues : List QueueId) (header : Header) (marks : List Mark) (size : ℕ) (numbers : Numbers)
+    (d : Disk) : Type 0 where
+  pub log : IsWrittenTo queues header d
+  pub lanes : Lanes
+  pub shown : lanes_shown queues d ≡ Some lanes
+  pub agree : Agree lanes marks
+  pub size_is : size ≡ length (content d (log_of header.file))
+  pub free : (n : ℕ) → numbers.log < n → file_content (files_of d n) ≡ None
+
+-- Each record that waits may be written, behind those before it. Where the disk tells its contents and no call has
+-- failed, the disk is as the log knows it, and where nothing was appended since the last sync, nothing waits for one.
+pub record IsSound {D : Type 0} (tells : D → Bool) (past : D → List Disk) (w : Wal D) : Type 0 where
+  pub waiting : AllFitBatch w.waiting.items
+  pub follow : AllFollow w.queues.items (known w.marks.items) w.waiting.items
+  pub queues_are : queues_in w.marks.items ≡ w.queues.items
+  pub carries : AllByRecursion HasCarry w.marks.items
+  pub number : w.header.file ≤ w.numbers.log
+  pub on_disk : IsTrue (tells w.disk) → w.stopped ≡ false
+      → IsOnDisk w.queues.items w.header w.marks.items w.size w.numbers (now (past w.disk))
+  pub synced : IsTrue (tells w.disk) → w.stopped ≡ false → w.dirty ≡ false
+      → IsSynced w.queues.items w.header (now (past w.disk))
+
+-- what each queue has once all that waits is appended
+abbrev pub carries_ahead : {D : Type 0} → Wal D → Carries
+carries_ahead w = add_records (known w.marks.items) w.waiting.items
+
+-- the log is of the same queues, in the same file
+pub record SameFile {D : Type 0} (old new : Wal D) : Type 0 where
+  pub queues : new.queues ≡ old.queues
+  pub header : new.header ≡ old.header
+  pub numbers : new.numbers ≡ old.numbers
+  pub log_bytes : new.log_bytes ≡ old.log_bytes
+
+-- the first of what waits is appended
+pub record Appends {D : Type 0} (count : ℕ) (old new : Wal D) : Type 0 where
+  pub batch : IsBatch old.header.file count old.waiting.items
+  pub waiting : new.waiting.items ≡ drop count old.waiting.items
+  pub marks : new.marks.items ≡ fold note_record old.marks.items (take count old.waiting.items)
+
+-- at each moment the promise is kept, with some of what waits, from the first on, among the given ops
+pub record StaysAppending (queues : List QueueId) (waiting : List LogRecord) (old new : List Disk) : Type 0 where
+  pub count : ℕ
+  pub stays : (batch : List Op) → op_records batch ≡ take count waiting → StaysGiving queues batch old new
+
+-- a log that was begun: nothing waits, and of each queue is known what its carry says
+pub record IsBegun {D : Type 0} (queues : Vec QueueId) (header : Header) (carries : List Carry) (names : List FileName)
+    (log_bytes : ℕ) (w : Wal D) : Type 0 where
+  pub queues_are : w.queues ≡ queues
+  pub header_is : w.header ≡ header
+  pub waiting : w.waiting.items ≡ []
+  pub marks : w.marks.items ≡ map (new_mark carries) queues.items
+  pub numbers : w.numbers ≡ first_numbers header names
+  pub limit : w.log_bytes ≡ log_bytes
+  pub clean : w.dirty ≡ false
+  pub going : w.stopped ≡ false
+
+-- the log goes on in a new file, which names the old one with its length
+pub record IsRolled {D : Type 0} (old new : Wal D) : Type 0 where
+  pub header : new.header ≡ record { file = old.numbers.log + 1; previous = old.header.file; good = old.size }
+  pub numbers : new.numbers ≡ raise Log old.numbers
+  pub log_bytes : new.log_bytes ≡ old.log_bytes
+  pub waiting : new.waiting ≡ old.waiting
+  pub marks : new.marks ≡ old.marks
+  pub dirty : new.dirty ≡ old.dirty
+  pub stopped : new.stopped ≡ false
+
+-- the disk, in the log or handed back
+abbrev pub disk_of : {D : Type 0} → Result (Wal D) (WalFault × D) → D
+disk_of (Ok w) = w.disk
+disk_of (Err e) = e.1

@@ -1,0 +1,62 @@
+//! Records as the bytes of one append.
+ghost use Rattle.std.specs.Prelude.{◌≡◌, ◌++◌, ◌+◌, ◌≤◌, [], All, length, take, IfOk, OnOk, IsOkUnless};
+ghost use Rattle.std.specs.List.{AllByRecursion};
+ghost use Rattle.qq_base.specs.Fields.{AreBytes};
+ghost use Rattle.qq_wal_record.specs.Encoding.{record_encoding};
+ghost use Rattle.qq_wal_record.specs.Record.{IsWritable};
+ghost use Rattle.qq_chain.specs.Wal.{RecordFits};
+ghost use Rattle.qq_wal.specs.Batch.{encodings, AllFitBatch, IsBatch};
+
+use qq_base::Memory;
+use qq_wal_record::{LogRecord, write_record};
+use std::collections::VecDeque;
+
+/// The most ops of a batch.
+pub const BATCH_OPS: usize = 8_192;
+
+/// The most bytes of a batch, heads and marks of its records counted.
+pub const BATCH_BYTES: usize = 4_194_304;
+
+fn are_bytes(bytes: &[u8])
+    ensures { AreBytes bytes.now }
+{}
+
+/// Adds a record. Its encoding is of bytes.
+pub(crate) fn put_record(file: u64, r: &LogRecord, out: &mut Vec<u8>) -> Result<(), Memory>
+    requires { IsWritable r.now }
+    ensures ok { OnOk result (out.new.items ≡ out.old.items ++ record_encoding file r.now) }
+    ensures fits { OnOk result (RecordFits file r.now) }
+    ensures want { IsOkUnless result Memory.Want }
+{
+    let place = out.len();
+    write_record(file, r, out)?;
+    are_bytes(out.as_slice().split_at(place).1);
+    Ok(())
+}
+
+/// Adds a batch of what waits, and answers of how many records it is.
+pub(crate) fn put_batch(
+    file: u64,
+    waiting: &VecDeque<LogRecord>,
+    out: &mut Vec<u8>,
+) -> Result<usize, Memory>
+    requires fit { AllFitBatch waiting.now.items }
+    requires empty { out.old.items ≡ [] }
+    ensures batch { IfOk result (λ count. IsBatch file count waiting.now.items) }
+    ensures ok { IfOk result (λ count. out.new.items ≡ encodings file (take count waiting.now.items)) }
+    ensures fits { IfOk result (λ count.
+        AllByRecursion (RecordFits file) (take count waiting.now.items)) }
+    ensures want { IsOkUnless result Memory.Want }
+{
+    let mut count = 0;
+    while count < waiting.len() && count < BATCH_OPS {
+        let place = out.len();
+        put_record(file, &waiting[count], out)?;
+        if out.len() > BATCH_BYTES {
+            out.truncate(place);
+            return Ok(count);
+        }
+        count += 1;
+    }
+    Ok(count)
+}

@@ -1,0 +1,145 @@
+//! The calls of a disk that write a log file, with what they keep of the promise.
+ghost use Rattle.std.specs.Prelude.{◌≡◌, ◌+◌, List, length, false, IsTrue, OnOk};
+ghost use Rattle.qq_base.specs.declared.ids.QueueId.{QueueId};
+ghost use Rattle.qq_base.specs.Causes.{HasCause};
+ghost use Rattle.qq_disk.specs.Disk.{now, content};
+ghost use Rattle.qq_disk.specs.Image.{log_of};
+ghost use Rattle.qq_disk.specs.Fault.{IsCaused};
+ghost use Rattle.qq_log.specs.declared.op.Op.{Op};
+ghost use Rattle.qq_wal_record.specs.declared.record.LogRecord.{LogRecord};
+ghost use Rattle.qq_wal_record.specs.Reading.{IsHeader};
+ghost use Rattle.qq_chain.specs.Chain.{Found};
+ghost use Rattle.qq_chain.specs.Image.{files_of, shown_logs};
+ghost use Rattle.qq_chain.specs.Promise.{Continues};
+ghost use Rattle.qq_chain.specs.Records.{replay};
+ghost use Rattle.qq_chain.specs.Laws.{first_bytes, op_records};
+ghost use Rattle.qq_chain.specs.Wal.{wal, Ours};
+ghost use Rattle.qq_wal.specs.Running.{top, IsWrittenTo, IsSynced, IsBatchOf, MayAdd, Stays, StaysGiving, SameOthers, MayNotice, lanes_shown};
+
+use qq_chain::the_log_has_a_format;
+use qq_disk::{DiskFault, FileKind, FileName, NodeDisk};
+use qq_wal_record::Header;
+use std::alloc::Global;
+
+/// Writes the first bytes of a new file, and syncs it.
+pub(crate) fn begin_file<D: NodeDisk>(
+    disk: &mut D,
+    alloc: Global,
+    header: Header,
+    bytes: &[u8],
+) -> Result<(), DiskFault>
+    ensures stays { IsTrue (D.tells disk.old) → (queues : List QueueId)
+        (before : Found (wal queues)) (carries : List LogRecord) →
+        Continues (wal queues) top before header.file (Ours header) carries
+        (files_of (now (D.past disk.old))) →
+        bytes.now ≡ first_bytes queues header.file (Ours header) carries →
+        Stays queues (D.past disk.old) (D.past disk.new) }
+    ensures log { IsTrue (D.tells disk.old) → (queues : List QueueId)
+        (before : Found (wal queues)) (carries : List LogRecord) →
+        Continues (wal queues) top before header.file (Ours header) carries
+        (files_of (now (D.past disk.old))) →
+        bytes.now ≡ first_bytes queues header.file (Ours header) carries →
+        OnOk result (IsWrittenTo queues header (now (D.past disk.new))
+        × IsSynced queues header (now (D.past disk.new))) }
+    ensures shown { IsTrue (D.tells disk.old) → (queues : List QueueId)
+        (before : Found (wal queues)) (carries : List LogRecord) →
+        Continues (wal queues) top before header.file (Ours header) carries
+        (files_of (now (D.past disk.old))) →
+        bytes.now ≡ first_bytes queues header.file (Ours header) carries →
+        OnOk result (lanes_shown queues (now (D.past disk.new))
+        ≡ lanes_shown queues (now (D.past disk.old))) }
+    ensures length { IsTrue (D.tells disk.old) → (queues : List QueueId)
+        (before : Found (wal queues)) (carries : List LogRecord) →
+        Continues (wal queues) top before header.file (Ours header) carries
+        (files_of (now (D.past disk.old))) →
+        bytes.now ≡ first_bytes queues header.file (Ours header) carries →
+        OnOk result (length (content (now (D.past disk.new)) (log_of header.file))
+        ≡ length bytes.now) }
+    ensures others { IsTrue (D.tells disk.old) → (queues : List QueueId)
+        (before : Found (wal queues)) (carries : List LogRecord) →
+        Continues (wal queues) top before header.file (Ours header) carries
+        (files_of (now (D.past disk.old))) →
+        bytes.now ≡ first_bytes queues header.file (Ours header) carries →
+        OnOk result (SameOthers header.file (now (D.past disk.old)) (now (D.past disk.new))) }
+    ensures range { IsHeader header }
+    ensures told { D.tells disk.new ≡ D.tells disk.old }
+    ensures cause { HasCause IsCaused (D.faults disk.old) (D.faults disk.new) result }
+{
+    the_log_has_a_format();
+    let file = FileName {
+        kind: FileKind::Log,
+        number: header.file,
+    };
+    disk.append(alloc, file, bytes)?;
+    disk.sync(alloc, file)
+}
+
+/// Adds a batch to the log's file.
+pub(crate) fn append_file<D: NodeDisk>(
+    disk: &mut D,
+    alloc: Global,
+    header: Header,
+    bytes: &[u8],
+) -> Result<(), DiskFault>
+    ensures stays { IsTrue (D.tells disk.old) → (queues : List QueueId) (batch : List Op) →
+        IsWrittenTo queues header (now (D.past disk.old)) → IsBatchOf queues header batch bytes.now →
+        MayAdd queues batch (now (D.past disk.old)) →
+        StaysGiving queues batch (D.past disk.old) (D.past disk.new) }
+    ensures log { IsTrue (D.tells disk.old) → (queues : List QueueId) (batch : List Op) →
+        IsWrittenTo queues header (now (D.past disk.old)) → IsBatchOf queues header batch bytes.now →
+        OnOk result (IsWrittenTo queues header (now (D.past disk.new))) }
+    ensures shown { IsTrue (D.tells disk.old) → (queues : List QueueId) (batch : List Op) →
+        IsWrittenTo queues header (now (D.past disk.old)) → IsBatchOf queues header batch bytes.now →
+        OnOk result (lanes_shown queues (now (D.past disk.new))
+        ≡ replay (wal queues) (op_records batch) (lanes_shown queues (now (D.past disk.old)))) }
+    ensures length { IsTrue (D.tells disk.old) → (queues : List QueueId) →
+        IsWrittenTo queues header (now (D.past disk.old)) →
+        OnOk result (length (content (now (D.past disk.new)) (log_of header.file))
+        ≡ length (content (now (D.past disk.old)) (log_of header.file)) + length bytes.now) }
+    ensures others { IsTrue (D.tells disk.old) →
+        OnOk result (SameOthers header.file (now (D.past disk.old)) (now (D.past disk.new))) }
+    ensures told { D.tells disk.new ≡ D.tells disk.old }
+    ensures cause { HasCause IsCaused (D.faults disk.old) (D.faults disk.new) result }
+{
+    the_log_has_a_format();
+    let file = FileName {
+        kind: FileKind::Log,
+        number: header.file,
+    };
+    disk.append(alloc, file, bytes)
+}
+
+/// Syncs the log's file where something was appended since its last sync, which is what `dirty` says.
+pub(crate) fn sync_file<D: NodeDisk>(
+    disk: &mut D,
+    alloc: Global,
+    header: Header,
+    dirty: bool,
+) -> Result<(), DiskFault>
+    ensures stays { IsTrue (D.tells disk.old) → (queues : List QueueId) →
+        Stays queues (D.past disk.old) (D.past disk.new) }
+    ensures log { IsTrue (D.tells disk.old) → (queues : List QueueId) →
+        IsWrittenTo queues header (now (D.past disk.old)) →
+        (dirty ≡ false → IsSynced queues header (now (D.past disk.old))) →
+        OnOk result (IsWrittenTo queues header (now (D.past disk.new))
+        × IsSynced queues header (now (D.past disk.new))) }
+    ensures shown { IsTrue (D.tells disk.old) →
+        OnOk result (shown_logs (files_of (now (D.past disk.new)))
+        ≡ shown_logs (files_of (now (D.past disk.old)))) }
+    ensures noticed { IsTrue (D.tells disk.old) → (queues : List QueueId) →
+        IsWrittenTo queues header (now (D.past disk.old)) →
+        (dirty ≡ false → IsSynced queues header (now (D.past disk.old))) →
+        OnOk result (MayNotice queues (now (D.past disk.old)) (now (D.past disk.new))) }
+    ensures told { D.tells disk.new ≡ D.tells disk.old }
+    ensures cause { HasCause IsCaused (D.faults disk.old) (D.faults disk.new) result }
+{
+    the_log_has_a_format();
+    if !dirty {
+        return Ok(());
+    }
+    let file = FileName {
+        kind: FileKind::Log,
+        number: header.file,
+    };
+    disk.sync(alloc, file)
+}

@@ -1,0 +1,24 @@
+//! The writer of a node's shared log: one file that only grows, to which the ops of all queues are
+//! written in batches, so that one sync keeps the commands of many queues (the Ra library's internals,
+//! write-ahead log).
+#![tactic(auto)]
+
+mod batch;
+mod begin;
+mod fault;
+mod file;
+mod laws;
+mod marks;
+mod measure;
+mod notices;
+mod numbers;
+mod roll;
+mod synced;
+mod wal;
+
+pub use batch::{BATCH_BYTES, BATCH_OPS};
+pub use fault::WalFault;
+pub use laws::notices_are_of_their_ops;
+pub use notices::Notice;
+pub use numbers::greatest_number;
+pub use wal::Wal;

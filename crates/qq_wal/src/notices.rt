@@ -1,0 +1,179 @@
+//! What is appended of each queue since the last sync, and what the queue is told of it then.
+ghost use Rattle.std.specs.Prelude.{◌≡◌, ◌++◌, ◌≤◌, ◌-◌, ◌^◌, Some, option_to_list, length, take, drop, map, IfOk, OnOk, IsOkUnless};
+ghost use Rattle.std.specs.List.{fold};
+ghost use Rattle.qq_wal.specs.Batch.{AllFitBatch};
+ghost use Rattle.qq_wal.specs.Notices.{note_record, op_term, last_index, first_index, lesser_index, note_mark, note_all, sync_mark, notices_in, note_op};
+
+use crate::marks::{Mark, add_op};
+use qq_base::{Index, Memory, QueueId, Term};
+use qq_log::Op;
+use qq_wal_record::LogRecord;
+use std::alloc::Global;
+use std::collections::VecDeque;
+
+/// What a queue is told once its ops are synced.
+#[derive(Clone, Copy, Debug, PartialEq, Eq)]
+pub struct Notice {
+    /// The queue.
+    pub queue: QueueId,
+    /// Its server's term.
+    pub term: Term,
+    /// The least index that was written, 0 where none was.
+    pub first: Index,
+    /// The log's last index.
+    pub last: Index,
+    /// The number of its last op.
+    pub op: u64,
+}
+
+fn lesser_index(a: u64, b: u64) -> u64
+    ensures { result ≡ lesser_index a b }
+{
+    if a == 0 {
+        return b;
+    }
+    if b == 0 {
+        return a;
+    }
+    a.min(b)
+}
+
+fn note_op(queue: QueueId, notice: Option<Notice>, op: &Op) -> Notice
+    requires { last_index op.now ≤ 2 ^ 64 - 1 }
+    ensures { Some result ≡ note_op queue notice op.now }
+{
+    let (term, first, last) = indices(op);
+    let before = match notice {
+        None => 0,
+        Some(notice) => notice.first.0,
+    };
+    Notice {
+        queue,
+        term: Term(term),
+        first: Index(lesser_index(before, first)),
+        last: Index(last),
+        op: op.number(),
+    }
+}
+
+/// Notes an op where the mark is its queue's.
+fn note_mark(alloc: Global, mark: &mut Mark, op: &Op)
+    requires { last_index op.now ≤ 2 ^ 64 - 1 }
+    ensures { mark.new ≡ note_mark op.now mark.old }
+{
+    if op.queue().0 != mark.queue.0 {
+        return;
+    }
+    let queue = mark.queue;
+    mark.notice = Some(note_op(queue, mark.notice, op));
+    let carry = mark.carry.take();
+    mark.carry = Some(add_op(alloc, carry, queue, op));
+}
+
+/// Notes an op in its queue's mark.
+pub(crate) fn note_all(alloc: Global, marks: &mut [Mark], op: &Op)
+    requires { last_index op.now ≤ 2 ^ 64 - 1 }
+    ensures { marks.new ≡ note_all marks.old op.now }
+{
+    'marks: for mark in marks.iter_mut() {
+        note_mark(alloc, mark, op);
+    }
+}
+
+/// The op's term, the first index that it writes, and the log's end behind it.
+fn indices(op: &Op) -> (u64, u64, u64)
+    requires { last_index op.now ≤ 2 ^ 64 - 1 }
+    ensures { result ≡ (op_term op.now, first_index op.now, last_index op.now) }
+{
+    match op {
+        Op::Change {
+            term,
+            keep,
+            entries,
+            ..
+        } => {
+            let count = entries.len() as u64;
+            let first = if count == 0 { 0 } else { keep.0 + 1 };
+            (term.0, first, keep.0 + count)
+        }
+        Op::SnapshotMade { .. } | Op::SegmentMade { .. } => (0, 0, 0),
+    }
+}
+
+fn push_notice(notices: &mut Vec<Notice>, mark: &Mark) -> Result<(), Memory>
+    ensures ok { OnOk result (
+        notices.new.items ≡ notices.old.items ++ option_to_list mark.now.notice) }
+    ensures want { IsOkUnless result Memory.Want }
+{
+    match mark.notice {
+        None => Ok(()),
+        Some(notice) => {
+            notices.push(notice)?;
+            Ok(())
+        }
+    }
+}
+
+/// The notices of the queues that have one.
+pub(crate) fn notices_in(alloc: Global, marks: &[Mark]) -> Result<Vec<Notice>, Memory>
+    ensures ok { IfOk result (λ notices. notices.items ≡ notices_in marks.now) }
+    ensures want { IsOkUnless result Memory.Want }
+{
+    let mut notices = Vec::new(alloc);
+    'marks: for mark in marks {
+        push_notice(&mut notices, mark)?;
+    }
+    Ok(notices)
+}
+
+fn sync_mark(mark: &mut Mark)
+    ensures { mark.new ≡ sync_mark mark.old }
+{
+    if let Some(notice) = mark.notice {
+        mark.synced = notice.op;
+        mark.notice = None;
+    }
+}
+
+fn sync_each(marks: &mut [Mark])
+    ensures { marks.new ≡ map sync_mark marks.old }
+{
+    'marks: for mark in marks.iter_mut() {
+        sync_mark(mark);
+    }
+}
+
+/// What waited for a sync is synced.
+pub(crate) fn sync_marks(marks: &mut Vec<Mark>)
+    ensures { marks.new.items ≡ map sync_mark marks.old.items }
+{
+    sync_each(marks);
+}
+
+fn note_batch(alloc: Global, waiting: &mut VecDeque<LogRecord>, marks: &mut [Mark], count: usize)
+    requires fit { AllFitBatch waiting.old.items }
+    requires count { count ≤ length waiting.old.items }
+    ensures waiting { waiting.new.items ≡ drop count waiting.old.items }
+    ensures marks { marks.new ≡ fold note_record marks.old (take count waiting.old.items) }
+{
+    for _ in 0..count {
+        if let Some(LogRecord::Op(op)) = waiting.pop_front() {
+            note_all(alloc, marks, &op);
+        }
+    }
+}
+
+/// Takes the first records, and notes their ops.
+pub(crate) fn take_batch(
+    alloc: Global,
+    waiting: &mut VecDeque<LogRecord>,
+    marks: &mut Vec<Mark>,
+    count: usize,
+)
+    requires fit { AllFitBatch waiting.old.items }
+    requires count { count ≤ length waiting.old.items }
+    ensures waiting { waiting.new.items ≡ drop count waiting.old.items }
+    ensures marks { marks.new.items ≡ fold note_record marks.old.items (take count waiting.old.items) }
+{
+    note_batch(alloc, waiting, marks, count);
+}

@@ -1,0 +1,103 @@
+//! New files of the log, and the numbers of files.
+ghost use Rattle.std.specs.Prelude.{◌≡◌, ◌≤◌, ◌+◌, Err, true, false, nat_le, IsTrue, IfOk, IfErr, OnOk, OnErr};
+ghost use Rattle.qq_base.specs.declared.memory.TheConstants.{NUMBER_END};
+ghost use Rattle.qq_base.specs.Causes.{HasCause};
+ghost use Rattle.qq_disk.specs.Disk.{now};
+ghost use Rattle.qq_wal.specs.Fault.{IsRollCaused};
+ghost use Rattle.qq_wal.specs.Numbers.{number_of, raise};
+ghost use Rattle.qq_wal.specs.Running.{Stays, StillHolds};
+ghost use Rattle.qq_wal.specs.Wal.{IsSound, IsRolled, carries_ahead};
+
+use crate::begin::first_bytes;
+use crate::fault::{WalFault, fault_of};
+use crate::file::begin_file;
+use crate::numbers::{next_number, raise};
+use crate::wal::Wal;
+use qq_base::Memory;
+use qq_chain::the_log_has_a_format;
+use qq_disk::{FileKind, NodeDisk};
+use qq_log::carries_restate;
+use qq_wal_record::Header;
+use std::alloc::Global;
+
+impl<D: NodeDisk> Wal<D> {
+    /// Whether the file has reached the length that makes it full.
+    pub fn full(&self) -> bool
+        ensures { result ≡ nat_le self.now.log_bytes self.now.size }
+    {
+        self.log_bytes <= self.size
+    }
+
+    /// Begins a new file with the carries of the queues that have one, in one append, and syncs it; it
+    /// answers the file's number. Nothing that was appended may wait for a sync: else a crash could leave
+    /// the old file cut and the new header whole, which names more of the old file. What was gathered
+    /// waits on. `Spent` comes exactly where the greatest number of a log file is at its end.
+    pub fn roll(&mut self, alloc: Global) -> Result<u64, WalFault>
+        requires sound { IsSound D.tells D.past self.old }
+        requires synced { self.old.dirty ≡ false }
+        ensures sound { IsSound D.tells D.past self.new }
+        ensures number { IfOk result (λ number. number ≡ self.old.numbers.log + 1) }
+        ensures ok { OnOk result (IsRolled self.old self.new) }
+        ensures stays { IsTrue (D.tells self.old.disk) →
+            Stays self.old.queues.items (D.past self.old.disk) (D.past self.new.disk) }
+        ensures holds { IsTrue (D.tells self.old.disk) → OnOk result (StillHolds
+            self.old.queues.items (now (D.past self.old.disk)) (now (D.past self.new.disk))) }
+        ensures queues { self.new.queues ≡ self.old.queues }
+        ensures ahead { carries_ahead self.new ≡ carries_ahead self.old }
+        ensures err { OnErr result (self.new.stopped ≡ false → self.new ≡ self.old) }
+        ensures stopped { self.old.stopped ≡ true →
+            (self.new ≡ self.old) × (result ≡ Err WalFault.Stopped) }
+        ensures spent { self.old.stopped ≡ false → NUMBER_END ≤ self.old.numbers.log →
+            result ≡ Err (WalFault.Memory (Memory.Spent self.old.numbers.log)) }
+        ensures told { D.tells self.new.disk ≡ D.tells self.old.disk }
+        ensures cause { HasCause (IsRollCaused self.old.stopped self.old.numbers.log)
+            (D.faults self.old.disk) (D.faults self.new.disk) result }
+    {
+        carries_restate();
+        the_log_has_a_format();
+        if self.stopped {
+            return Err(WalFault::Stopped);
+        }
+        let number = match next_number(self.numbers.log) {
+            Ok(number) => number,
+            Err(memory) => return Err(WalFault::Memory(memory)),
+        };
+        let header = Header {
+            file: number,
+            previous: self.header.file,
+            good: self.size,
+        };
+        let bytes = match first_bytes(alloc, header, self.marks.as_slice()) {
+            Ok(bytes) => bytes,
+            Err(memory) => return Err(WalFault::Memory(memory)),
+        };
+        self.stopped = true;
+        if let Err(fault) = begin_file(&mut self.disk, alloc, header, bytes.as_slice()) {
+            return Err(fault_of(fault));
+        }
+        self.header = header;
+        self.size = bytes.len() as u64;
+        self.numbers.log = number;
+        self.stopped = false;
+        Ok(number)
+    }
+
+    /// A number for a new file: above all of its kind that the disk listed when the log was begun, and
+    /// above all that the log has given or begun since. `Spent` comes exactly where the greatest of these
+    /// is at its end.
+    pub fn fresh(&mut self, kind: FileKind) -> Result<u64, Memory>
+        requires { IsSound D.tells D.past self.old }
+        ensures sound { IsSound D.tells D.past self.new }
+        ensures number { IfOk result (λ number. number ≡ number_of kind self.old.numbers + 1) }
+        ensures ok { OnOk result
+            (self.new ≡ record self.old { numbers = raise kind self.old.numbers }) }
+        ensures spent { NUMBER_END ≤ number_of kind self.old.numbers →
+            result ≡ Err (Memory.Spent (number_of kind self.old.numbers)) }
+        ensures err { OnErr result
+            ((NUMBER_END ≤ number_of kind self.old.numbers) × (self.new ≡ self.old)) }
+    {
+        let (numbers, number) = raise(self.numbers, kind)?;
+        self.numbers = numbers;
+        Ok(number)
+    }
+}

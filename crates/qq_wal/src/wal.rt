@@ -1,0 +1,252 @@
+//! The log that a node writes to.
+ghost use Rattle.std.specs.Prelude.{◌≡◌, ◌≤◌, ◌<◌, ◌+◌, ◌++◌, ◌∷◌, [], All, List, map, take, Ok, Err, true, false, IsTrue, IfOk, IfErr, OnOk, OnErr};
+ghost use Rattle.qq_base.specs.declared.memory.TheConstants.{NUMBER_END};
+ghost use Rattle.qq_base.specs.Causes.{HasCause};
+ghost use Rattle.qq_disk.specs.Disk.{now};
+ghost use Rattle.qq_disk.specs.declared.name.FileKind.TheVariants.{Log};
+ghost use Rattle.qq_log.specs.declared.op.Op.{Op};
+ghost use Rattle.qq_log.specs.Writable.{HasFields};
+ghost use Rattle.qq_wal_record.specs.declared.record.LogRecord.TheVariants.{Op as OpRecord};
+ghost use Rattle.qq_chain.specs.Laws.{op_records};
+ghost use Rattle.qq_wal.specs.Batch.{is_short};
+ghost use Rattle.qq_wal.specs.Fault.{IsCaused, IsGatherCaused, IsAppendCaused};
+ghost use Rattle.qq_wal.specs.Marks.{IsCarry, MayFollow, add_op};
+ghost use Rattle.qq_wal.specs.Notices.{notices_in, sync_mark};
+ghost use Rattle.qq_wal.specs.Numbers.{greatest_number};
+ghost use Rattle.qq_wal.specs.Running.{MayBegin, Stays, StaysGiving, HoldsAlso, StillHolds, MayNotice};
+ghost use Rattle.qq_wal.specs.Wal.{IsSound, IsBegun, carries_ahead, disk_of, SameFile, Appends, StaysAppending};
+
+use crate::batch::{BATCH_BYTES, put_batch};
+use crate::begin::first_bytes;
+use crate::fault::{WalFault, fault_of};
+use crate::file::{append_file, begin_file, sync_file};
+use crate::marks::{Mark, new_marks};
+use crate::measure::is_short;
+use crate::notices::{Notice, notices_in, sync_marks, take_batch};
+use crate::numbers::{Numbers, first_numbers};
+use qq_base::{Memory, QueueId};
+use qq_disk::{FileName, NodeDisk};
+use qq_log::{Carry, Op, carries_restate};
+use qq_wal_record::{Header, LogRecord};
+use std::alloc::Global;
+use std::collections::VecDeque;
+
+/// A node's shared log, which is written to. It owns the disk.
+#[derive(Drop)]
+pub struct Wal<D: NodeDisk> {
+    pub(crate) disk: D,
+    /// The queues, in the order of their notices.
+    pub(crate) queues: Vec<QueueId>,
+    /// That of the newest file, to which the log is written.
+    pub(crate) header: Header,
+    /// The bytes of that file.
+    pub(crate) size: u64,
+    /// How many bytes make it full.
+    pub(crate) log_bytes: u64,
+    /// The greatest numbers of files.
+    pub(crate) numbers: Numbers,
+    /// What was gathered and isn't appended yet.
+    pub(crate) waiting: VecDeque<LogRecord>,
+    /// What is kept of each queue, in the same order.
+    pub(crate) marks: Vec<Mark>,
+    /// Whether something was appended since the last sync.
+    pub(crate) dirty: bool,
+    /// Whether a call of the disk has failed.
+    pub(crate) stopped: bool,
+}
+
+impl<D: NodeDisk> Wal<D> {
+    /// Begins a new file behind what is read on the disk: its header and the carries of the queues that
+    /// have one, in one append, and syncs it. The names are those that the disk lists; the header's
+    /// number is above that of each log file among them. The disk is handed back on each refusal, which
+    /// is never `Stopped` or `TooLarge`.
+    pub fn begin(
+        disk: D,
+        alloc: Global,
+        queues: Vec<QueueId>,
+        header: Header,
+        carries: &[Carry],
+        names: &[FileName],
+        log_bytes: u64,
+    ) -> Result<Wal<D>, (WalFault, D)>
+        requires carries { All IsCarry carries.now }
+        requires number { greatest_number Log names.now < header.file }
+        requires goes_on { IsTrue (D.tells disk) →
+            MayBegin queues.items header carries.now names.now (now (D.past disk)) }
+        ensures sound { IfOk result (λ wal. IsSound D.tells D.past wal) }
+        ensures ok { IfOk result (λ wal.
+            IsBegun queues header carries.now names.now log_bytes wal) }
+        ensures stays { IsTrue (D.tells disk) →
+            Stays queues.items (D.past disk) (D.past (disk_of result)) }
+        ensures holds { IsTrue (D.tells disk) → OnOk result (
+            StillHolds queues.items (now (D.past disk)) (now (D.past (disk_of result)))) }
+        ensures told { D.tells (disk_of result) ≡ D.tells disk }
+        ensures later { D.faults disk ≤ D.faults (disk_of result) }
+        ensures cause { IfErr result (λ e.
+            IsCaused false (D.faults disk) (D.faults (disk_of result)) e.0) }
+    {
+        carries_restate();
+        let mut disk = disk;
+        let marks = match new_marks(alloc, queues.as_slice(), carries) {
+            Ok(marks) => marks,
+            Err(memory) => return Err((WalFault::Memory(memory), disk)),
+        };
+        let bytes = match first_bytes(alloc, header, marks.as_slice()) {
+            Ok(bytes) => bytes,
+            Err(memory) => return Err((WalFault::Memory(memory), disk)),
+        };
+        if let Err(fault) = begin_file(&mut disk, alloc, header, bytes.as_slice()) {
+            return Err((fault_of(fault), disk));
+        }
+        Ok(Wal {
+            disk,
+            queues,
+            header,
+            size: bytes.len() as u64,
+            log_bytes,
+            numbers: first_numbers(header, names),
+            waiting: VecDeque::new(alloc),
+            marks,
+            dirty: false,
+            stopped: false,
+        })
+    }
+
+    /// The disk.
+    pub fn disk(&self) -> &D
+        ensures { result.now ≡ self.now.disk }
+    {
+        &self.disk
+    }
+
+    /// The disk, once the log isn't written to any more.
+    pub fn into_disk(self) -> D
+        ensures { result ≡ self.disk }
+    {
+        let Wal { disk, .. } = self;
+        disk
+    }
+
+    /// Takes an op, which is written by a later `append_batch`. `TooLarge` comes exactly where its record
+    /// would have more bytes than a batch may have. The op is handed back on each refusal.
+    pub fn gather(&mut self, alloc: Global, op: Op) -> Result<(), (WalFault, Op)>
+        requires fields { HasFields op }
+        requires follows { MayFollow self.old.queues.items (carries_ahead self.old) op }
+        requires sound { IsSound D.tells D.past self.old }
+        ensures sound { IsSound D.tells D.past self.new }
+        ensures ok { OnOk result (
+            self.new.waiting.items ≡ self.old.waiting.items ++ OpRecord op ∷ []) }
+        ensures ahead { OnOk result
+            (carries_ahead self.new ≡ add_op (carries_ahead self.old) op) }
+        ensures short { OnOk result (is_short op ≡ true) }
+        ensures same { self.new ≡ record self.old { waiting = self.new.waiting } }
+        ensures err { OnErr result (self.new.waiting.items ≡ self.old.waiting.items) }
+        ensures back { IfErr result (λ e. e.1 ≡ op) }
+        ensures stopped { self.old.stopped ≡ true → result ≡ Err (WalFault.Stopped, op) }
+        ensures cause { IfErr result (λ e. IsGatherCaused self.old.stopped op e.0) }
+    {
+        if self.stopped {
+            return Err((WalFault::Stopped, op));
+        }
+        match is_short(alloc, &op) {
+            Ok(true) => {}
+            Ok(false) => return Err((WalFault::TooLarge, op)),
+            Err(memory) => return Err((WalFault::Memory(memory), op)),
+        }
+        if self.waiting.reserve(1).is_err() {
+            return Err((WalFault::Memory(Memory::Want), op));
+        }
+        self.waiting.push_back_reserved(LogRecord::Op(op));
+        Ok(())
+    }
+
+    /// Appends a batch of what was gathered, from the first op on, and answers of how many ops it is:
+    /// at most `BATCH_OPS` and `BATCH_BYTES`. Where nothing waits it makes no call of the disk. `Spent`
+    /// comes only where a batch more could make the file longer than a number of 64 bits tells.
+    pub fn append_batch(&mut self, alloc: Global) -> Result<u64, WalFault>
+        requires { IsSound D.tells D.past self.old }
+        ensures sound { IsSound D.tells D.past self.new }
+        ensures batch { IfOk result (λ count. Appends count self.old self.new) }
+        ensures ahead { carries_ahead self.new ≡ carries_ahead self.old }
+        ensures stays { IsTrue (D.tells self.old.disk) → self.old.stopped ≡ false →
+            StaysAppending self.old.queues.items self.old.waiting.items
+            (D.past self.old.disk) (D.past self.new.disk) }
+        ensures holds { IsTrue (D.tells self.old.disk) → IfOk result (λ count. (batch : List Op) →
+            op_records batch ≡ take count self.old.waiting.items →
+            StaysGiving self.old.queues.items batch (D.past self.old.disk) (D.past self.new.disk)
+            × HoldsAlso self.old.queues.items batch
+            (now (D.past self.old.disk)) (now (D.past self.new.disk))) }
+        ensures err { OnErr result (self.new.stopped ≡ false → self.new ≡ self.old) }
+        ensures stopped { self.old.stopped ≡ true →
+            (self.new ≡ self.old) × (result ≡ Err WalFault.Stopped) }
+        ensures file { SameFile self.old self.new }
+        ensures told { D.tells self.new.disk ≡ D.tells self.old.disk }
+        ensures cause { HasCause (IsAppendCaused self.old.stopped self.old.size)
+            (D.faults self.old.disk) (D.faults self.new.disk) result }
+    {
+        if self.stopped {
+            return Err(WalFault::Stopped);
+        }
+        let mut bytes = Vec::new(alloc);
+        let count = match put_batch(self.header.file, &self.waiting, &mut bytes) {
+            Ok(count) => count,
+            Err(memory) => return Err(WalFault::Memory(memory)),
+        };
+        if count == 0 {
+            return Ok(0);
+        }
+        if self.size > u64::MAX - BATCH_BYTES as u64 {
+            return Err(WalFault::Memory(Memory::Spent { number: self.size }));
+        }
+        self.stopped = true;
+        self.dirty = true;
+        if let Err(fault) = append_file(&mut self.disk, alloc, self.header, bytes.as_slice()) {
+            return Err(fault_of(fault));
+        }
+        take_batch(alloc, &mut self.waiting, &mut self.marks, count);
+        self.size += bytes.len() as u64;
+        self.stopped = false;
+        Ok(count as u64)
+    }
+
+    /// Syncs what was appended, and answers one notice for each queue that has an op in it, in the
+    /// order of the queues. Where nothing was appended it makes no call of the disk.
+    pub fn sync_batch(&mut self, alloc: Global) -> Result<Vec<Notice>, WalFault>
+        requires { IsSound D.tells D.past self.old }
+        ensures sound { IsSound D.tells D.past self.new }
+        ensures notices { IfOk result (λ notices. notices.items ≡ notices_in self.old.marks.items) }
+        ensures marks { OnOk result (self.new.marks.items ≡ map sync_mark self.old.marks.items) }
+        ensures synced { OnOk result (self.new.dirty ≡ false) }
+        ensures stays { IsTrue (D.tells self.old.disk) →
+            Stays self.old.queues.items (D.past self.old.disk) (D.past self.new.disk) }
+        ensures noticed { IsTrue (D.tells self.old.disk) → OnOk result (MayNotice
+            self.old.queues.items (now (D.past self.old.disk)) (now (D.past self.new.disk))) }
+        ensures holds { IsTrue (D.tells self.old.disk) → OnOk result (StillHolds
+            self.old.queues.items (now (D.past self.old.disk)) (now (D.past self.new.disk))) }
+        ensures waiting { self.new.waiting ≡ self.old.waiting }
+        ensures ahead { carries_ahead self.new ≡ carries_ahead self.old }
+        ensures err { OnErr result (self.new.stopped ≡ false → self.new ≡ self.old) }
+        ensures stopped { self.old.stopped ≡ true →
+            (self.new ≡ self.old) × (result ≡ Err WalFault.Stopped) }
+        ensures file { SameFile self.old self.new }
+        ensures told { D.tells self.new.disk ≡ D.tells self.old.disk }
+        ensures cause { HasCause (IsCaused self.old.stopped)
+            (D.faults self.old.disk) (D.faults self.new.disk) result }
+    {
+        if self.stopped {
+            return Err(WalFault::Stopped);
+        }
+        let notices = match notices_in(alloc, self.marks.as_slice()) {
+            Ok(notices) => notices,
+            Err(memory) => return Err(WalFault::Memory(memory)),
+        };
+        self.stopped = true;
+        if let Err(fault) = sync_file(&mut self.disk, alloc, self.header, self.dirty) {
+            return Err(fault_of(fault));
+        }
+        sync_marks(&mut self.marks);
+        self.dirty = false;
+        self.stopped = false;
+        Ok(notices)
+    }
+}
