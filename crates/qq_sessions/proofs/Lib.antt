@@ -1,0 +1,3 @@
+mod OpenRows
+mod Places
+mod Rising

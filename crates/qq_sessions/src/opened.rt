@@ -1,0 +1,302 @@
+ghost use Rattle.std.specs.Prelude.{◌≡◌, ◌+◌, ◌<◌, ◌≤◌, ◌^◌, ◌∷◌, ◌++◌, [], true, false, not, filter, map, length, fold, slice_get, is_some, IfSome, Some, None, IfOk, IsOkUnless, OnOk};
+ghost use Rattle.std.specs.List.{list_all};
+ghost use Rattle.std.specs.Option.{option_copied, option_map};
+ghost use Rattle.indexmap.specs.IndexMap.{spare, IsUnique};
+ghost use Rattle.qq_base.specs.Ids.{same_session};
+ghost use Rattle.qq_model.specs.State.{is_session_within};
+ghost use Rattle.qq_model.specs.Gate.{session_of, is_open, change_session, raise_mark, use_number, add_answer, set_tag, new_session, is_giving_way};
+ghost use Rattle.qq_sessions.specs.Row.{open_of};
+ghost use Rattle.qq_sessions.specs.Opened.{AreApart, IsReady};
+ghost use Rattle.qq_sessions.specs.Known.{next_by};
+ghost use Rattle.qq_sessions.specs.KeptLow.{low_of_session};
+
+use crate::kept_low::low_of;
+use crate::row::{
+    Kepts, SessionRow, add_answer, copy_row, new_session, raise_mark, reserve_slot, set_tag,
+    use_number,
+};
+use indexmap::IndexMap;
+use qq_base::{Memory, NUMBER_END, SessionId, WORKER};
+use qq_entry::{Answer, Stamp};
+use std::alloc::Global;
+use std::collections::VecDeque;
+use std::marker::Model;
+
+/// How many answers a new session has room for.
+const FIRST_ANSWERS: usize = 4;
+
+/// The open sessions, in the order of their opening.
+#[derive(Debug, Drop)]
+pub struct Opened {
+    rows: IndexMap<SessionId, SessionRow>,
+    // An empty list of answers for the next session.
+    at_hand: Option<Kepts>,
+    room: Option<SessionId>,
+}
+
+impl Model for Opened {
+    ghost use Rattle.std.specs.Prelude.{is_some, IfSome};
+    ghost use Rattle.indexmap.specs.IndexMap.{spare};
+    ghost use Rattle.qq_sessions.specs.Opened.{OpenedState, AreHeld, IsReady, sessions_of};
+
+    ghost Value = { OpenedState };
+
+    ghost view = { λ o. record { rows = sessions_of o.rows.entries; room = o.room } };
+
+    ghost invariant = { λ o. AreHeld o.rows.entries (spare o.rows) (is_some o.at_hand) o.room
+        × IfSome o.at_hand IsReady };
+}
+
+impl Opened {
+    /// No sessions. It takes no memory.
+    pub fn new(alloc: Global) -> Self
+        ensures { result.rows ≡ [] }
+    {
+        Opened {
+            rows: IndexMap::new(alloc),
+            at_hand: None,
+            room: None,
+        }
+    }
+
+    /// How many are open.
+    pub fn len(&self) -> usize
+        ensures len { result ≡ length self.now.rows }
+        ensures apart { AreApart self.now.rows }
+    {
+        self.rows.len()
+    }
+
+    /// The row at a place, in the order of opening. None exactly where there is none.
+    pub fn row_at(&self, place: usize) -> Option<&SessionRow>
+        ensures { option_map open_of (option_copied result) ≡ slice_get self.now.rows place }
+    {
+        match self.rows.get_index(place) {
+            None => None,
+            Some((_, row)) => Some(row),
+        }
+    }
+
+    fn row(&self, place: usize) -> &SessionRow
+        requires { place < length self.now.rows }
+
+        ensures { slice_get self.now.rows place ≡ Some (open_of result.now) }
+    {
+        match self.row_at(place) {
+            Some(row) => row,
+            None => unreachable!(),
+        }
+    }
+
+    /// The row of a session. None exactly where it isn't open.
+    pub fn session_of(&self, session: SessionId) -> Option<&SessionRow>
+        ensures { option_map open_of (option_copied result) ≡ session_of session self.now.rows }
+    {
+        self.rows.get(&session)
+    }
+
+    /// Whether a session is open.
+    pub fn is_open(&self, session: SessionId) -> bool
+        ensures { result ≡ is_open session self.now.rows }
+    {
+        self.rows.contains_key(&session)
+    }
+
+    /// Makes room for a session to be opened, or else for one more answer. After an error there may be
+    /// room for no session.
+    pub fn reserve(&mut self, alloc: Global, session: SessionId) -> Result<(), Memory>
+        ensures same { self.new.rows ≡ self.old.rows }
+        ensures ok { OnOk result (self.new.room ≡ Some session) }
+        ensures want { IsOkUnless result Memory.Want }
+    {
+        self.room = None;
+        self.rows.reserve(1)?;
+        hold_ready(alloc, &mut self.at_hand)?;
+        let Some(row) = self.rows.get_mut(&session) else {
+            self.room = Some(session);
+            return Ok(());
+        };
+        reserve_slot(row)?;
+        self.room = Some(session);
+        Ok(())
+    }
+
+    /// Takes over a stamp's low mark.
+    pub fn raise_mark(&mut self, stamp: &Stamp)
+        ensures rows { self.new.rows
+            ≡ change_session stamp.now.session (raise_mark stamp.now) self.old.rows }
+        ensures room { self.new.room ≡ self.old.room }
+    {
+        let Some(row) = self.rows.get_mut(&stamp.session) else {
+            return;
+        };
+        raise_mark(row, stamp);
+    }
+
+    /// Uses a number of a session.
+    pub fn use_number(&mut self, stamp: &Stamp)
+        requires { next_by (session_of stamp.now.session self.old.rows) + 1 < 2 ^ 64 }
+
+        ensures rows { self.new.rows
+            ≡ change_session stamp.now.session (use_number stamp.now) self.old.rows }
+        ensures room { self.new.room ≡ self.old.room }
+    {
+        let Some(row) = self.rows.get_mut(&stamp.session) else {
+            return;
+        };
+        use_number(row, stamp);
+    }
+
+    /// Sets the greatest tag of a session's consumers.
+    pub fn set_tag(&mut self, session: SessionId, tag: u32)
+        ensures rows { self.new.rows ≡ change_session session (set_tag tag) self.old.rows }
+        ensures room { self.new.room ≡ self.old.room }
+    {
+        let Some(row) = self.rows.get_mut(&session) else {
+            return;
+        };
+        set_tag(row, tag);
+    }
+
+    /// Keeps an answer, for which there has to be room.
+    pub fn add_answer(&mut self, session: SessionId, answer: Answer)
+        requires { self.old.room ≡ Some session }
+
+        ensures { self.new.rows ≡ change_session session (add_answer answer) self.old.rows }
+    {
+        self.room = None;
+        let Some(row) = self.rows.get_mut(&session) else {
+            return;
+        };
+        add_answer(row, answer);
+    }
+
+    /// Opens a session that isn't open. That of a worker ends those of earlier workers of its source queue.
+    pub fn open_session(&mut self, stamp: &Stamp)
+        requires room { self.old.room ≡ Some stamp.now.session }
+        requires closed { is_open stamp.now.session self.old.rows ≡ false }
+
+        ensures rows { self.new.rows
+            ≡ filter (λ one. not (is_giving_way stamp.now.session one)) self.old.rows
+            ++ new_session stamp.now ∷ [] }
+        ensures room { self.new.room ≡ self.old.room }
+    {
+        drop_earlier(&mut self.rows, stamp.session);
+        let kept = self.at_hand.take().unwrap();
+        let row = new_session(stamp, kept);
+        self.rows.insert(stamp.session, row).unwrap();
+    }
+
+    /// Removes a session.
+    pub fn remove(&mut self, session: SessionId)
+        ensures { self.new.rows
+            ≡ filter (λ one. not (same_session one.session session)) self.old.rows }
+    {
+        self.room = None;
+        self.rows.shift_remove(&session);
+    }
+
+    /// Adds a row whose session isn't open.
+    pub fn push(&mut self, row: SessionRow) -> Result<(), Memory>
+        requires { is_open row.session self.old.rows ≡ false }
+
+        ensures ok { OnOk result (self.new.rows ≡ self.old.rows ++ open_of row ∷ []) }
+        ensures want { IsOkUnless result Memory.Want }
+    {
+        self.room = None;
+        self.rows.insert(row.session, row)?;
+        Ok(())
+    }
+
+    /// The same sessions.
+    pub fn copy(&self, alloc: Global) -> Result<Opened, Memory>
+        ensures ok { IfOk result (λ twin. twin.rows ≡ self.now.rows) }
+        ensures want { IsOkUnless result Memory.Want }
+    {
+        let mut twin = Opened::new(alloc);
+        let len = self.len();
+        twin.rows.reserve(len)?;
+        'rows: for place in 0..len {
+            twin.push(copy_row(alloc, self.row(place))?)?;
+        }
+        Ok(twin)
+    }
+
+    /// The sessions of these rows, each of which has an id of its own.
+    pub fn from_rows(alloc: Global, rows: Vec<SessionRow>) -> Result<Opened, Memory>
+        requires { AreApart (map open_of rows.items) }
+
+        ensures ok { IfOk result (λ opened. opened.rows ≡ map open_of rows.items) }
+        ensures want { IsOkUnless result Memory.Want }
+    {
+        let mut opened = Opened::new(alloc);
+        let mut rows = VecDeque::from_vec(rows);
+        'rows: while let Some(row) = rows.pop_front() {
+            opened.push(row)?;
+        }
+        Ok(opened)
+    }
+
+    /// Whether no number of a session has passed its end.
+    pub fn are_within(&self) -> bool
+        ensures { result ≡ list_all is_session_within self.now.rows }
+    {
+        'rows: for place in 0..self.len() {
+            if NUMBER_END < self.row(place).next {
+                return false;
+            }
+        }
+        true
+    }
+
+    /// The least index of a message that a kept answer names.
+    pub fn kept_low(&self) -> Option<u64>
+        ensures { result ≡ fold low_of_session None self.now.rows }
+    {
+        let mut low = None;
+        'rows: for place in 0..self.len() {
+            low = low_of(low, &self.row(place).kept);
+        }
+        low
+    }
+}
+
+fn hold_ready(alloc: Global, at_hand: &mut Option<Kepts>) -> Result<(), Memory>
+    requires { IfSome at_hand.old IsReady }
+
+    ensures ready { IfSome at_hand.new IsReady }
+    ensures ok { OnOk result (is_some at_hand.new ≡ true) }
+    ensures want { IsOkUnless result Memory.Want }
+{
+    if at_hand.is_some() {
+        return Ok(());
+    }
+    let mut kept = VecDeque::new(alloc);
+    kept.reserve(FIRST_ANSWERS)?;
+    *at_hand = Some(kept);
+    Ok(())
+}
+
+fn is_giving_way(session: SessionId, row: &SessionRow) -> bool
+    ensures { result ≡ is_giving_way session (open_of row.now) }
+{
+    session.class == WORKER
+        && row.session.class == WORKER
+        && row.session.owner == session.owner
+        && row.session.number < session.number
+}
+
+fn drop_earlier(rows: &mut IndexMap<SessionId, SessionRow>, session: SessionId)
+    ensures entries { rows.new.entries
+        ≡ filter (λ e. not (is_giving_way session (open_of e.1))) rows.old.entries }
+    ensures room { spare rows.old ≤ spare rows.new }
+{
+    if session.class != WORKER {
+        return;
+    }
+    rows.retain(
+        |_: &SessionId, row: &mut SessionRow| -> bool
+            ensures { (result ≡ not (is_giving_way session (open_of row.old))) × (row.new ≡ row.old) }
+        { !is_giving_way(session, row) },
+    );
+}
