@@ -34,7 +34,7 @@ use Rattle.qq_laws.proofs.OnceLemmas.{guarded_at}
 
 -- It stays so ------------------------------------------------------------------------------------------
 
-never-lasts : Lasts (λ one. ⊥)
+pub never-lasts : Lasts (λ one. ⊥)
 never-lasts = record { tag = λ one tag q. q; raise = λ one stamp q. q; answer = λ one answer q. q }
 
 pub stays_closed : (args : QueueArgs) (before : List Entry) → StaysClosed (state_after (empty_queue args) before)

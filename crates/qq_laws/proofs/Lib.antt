@@ -18,6 +18,7 @@ pub mod WorkerLemmas
 pub mod DeadKinds
 pub mod RefusalLemmas
 pub mod ClosingLemmas
+pub mod GivingWay
 pub mod Runs
 pub mod TurnAway
 pub mod ActiveLemmas

@@ -1,13 +1,14 @@
 -- The end of sessions.
-use Rattle.std.specs.Prelude.{◌≡◌, ◌<◌, ◌⊎◌, List, true, false}
+use Rattle.std.specs.Prelude.{◌≡◌, ◌<◌, ◌⊎◌, List, Some, true, false}
 use Rattle.qq_base.specs.declared.ids.SessionId.{SessionId}
+use Rattle.qq_entry.specs.Command.{stamp}
 use Rattle.qq_entry.specs.declared.command.Command.TheVariants.{Down}
 use Rattle.qq_entry.specs.declared.command.Entry.{Entry}
 use Rattle.qq_entry.specs.declared.command.Stamp.{Stamp}
 use Rattle.qq_model.specs.declared.TheConstants.{MOST_SEEN}
 use Rattle.qq_model.specs.declared.session.Gate.TheVariants.{Ended}
 use Rattle.qq_model.specs.State.{State, Sessions}
-use Rattle.qq_model.specs.Gate.{IsNumbered, gate, is_client, is_dead_letter, is_ended, is_open}
+use Rattle.qq_model.specs.Gate.{IsNumbered, gate, is_client, is_dead_letter, is_ended, is_open, is_worker}
 use Rattle.qq_model.specs.Audit.{next_step, state_after}
 
 -- a client's session that is open, or that the queue may still remember, has ended after its Down
@@ -27,3 +28,10 @@ StaysClosed s =
 abbrev pub TellsEnded : Sessions → Stamp → Type 0
 TellsEnded s stamp =
     is_dead_letter stamp.session ≡ false → is_ended s stamp.session ≡ true → gate s stamp ≡ Ended
+
+-- a command of a dead-letter worker that is carried out ends the sessions of the earlier workers of its source queue
+abbrev pub GivesWay : State → Entry → Type 0
+GivesWay s entry =
+    (given : Stamp) (session : SessionId) → stamp entry.command ≡ Some given → (next_step s entry).fresh ≡ true
+    → is_worker given.session ≡ true → is_worker session ≡ true → session.owner ≡ given.session.owner
+    → session.number < given.session.number → is_ended (next_step s entry).state.sessions session ≡ true

@@ -12,7 +12,7 @@ mod messages;
 mod refusals;
 mod sessions;
 
-pub use closing::sessions_end_for_good;
+pub use closing::{earlier_workers_give_way, sessions_end_for_good};
 pub use consumers::{
     consumers_are_cancelled, consumers_are_served_in_turn, consumers_come_by_subscribes,
     consumers_join, consumers_stay, deliveries_are_made_in_turn, deliveries_are_out,
