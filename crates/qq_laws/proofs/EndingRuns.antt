@@ -46,7 +46,7 @@ use Rattle.qq_model.proofs.SessionLemmas.{same_session-refl}
 use Rattle.qq_model.proofs.SingleChanges.{KeepsDeliveries, Serves}
 use Rattle.qq_model.proofs.Soundness.{Contains-in, in_contains, known_at, rows-kept, rows_at, SoundRows}
 use Rattle.qq_model.proofs.StepKeeps.{next-keeps}
-use Rattle.qq_laws.specs.Ended.{disposition, DiedOf, IsBack, EndsAs, Ends, IsNotOut, EndsDeliveries, PassesOver, EndsSessions}
+use Rattle.qq_laws.specs.Ended.{disposition, DiedOf, GoesBehind, IsBack, EndsAs, Ends, IsNotOut, EndsDeliveries, PassesOver, EndsSessions}
 use Rattle.qq_laws.proofs.ActiveLemmas.{act-delivers_none}
 use Rattle.qq_laws.proofs.Endings.{Done, Goes, Left, NoneOut, OneOut, Turned, act-done, act-passes, return_session-goes}
 use Rattle.qq_laws.proofs.Fares.{Fares, Moved, fares_at_last}
@@ -64,10 +64,18 @@ died-unready : (cause : Reason) (place : Place) → DiedOf cause place → is_re
 died-unready cause place (inl is) = ap is_ready is
 died-unready cause place (inr some) = ap is_ready some.1
 
-back : (args : QueueArgs) (made : Step) (p : Progress) (y row : Row) → made.effects ≡ p.effects → is_ready y.place ≡ true
-    → (row ≡ y) ⊎ Moved args y row p → IsBack args made row
-back args made p y row effects ready (inl same) = inl (ap (λ (r : Row). is_ready r.place) same ∙ ready)
-back args made p y row effects ready (inr moved) = elim (moved.how) [
+-- what goes behind is ready
+behind-ready : (limit : Option ℕ) (returns orders : ℕ) (place : Place) → GoesBehind limit returns orders place
+    → is_ready place ≡ true
+behind-ready None returns orders place behind = ap is_ready behind.1
+behind-ready (Some limit) returns orders place behind = ap is_ready behind.1
+
+back : (s : State) (made : Step) (p : Progress) (y row : Row) → made.effects ≡ p.effects
+    → GoesBehind s.args.delivery_limit s.returns s.orders y.place → (row ≡ y) ⊎ Moved s.args y row p
+    → IsBack s made row
+back s made p y row effects behind (inl same) =
+    inl (subst (λ (r : Row). GoesBehind s.args.delivery_limit s.returns s.orders r.place) (sym same) behind)
+back s made p y row effects behind (inr moved) = elim (moved.how) [
   | inl some ↦
       inr (inl (
         some.0,
@@ -79,11 +87,11 @@ back args made p y row effects ready (inr moved) = elim (moved.how) [
   | inr death ↦ inr (inr death)
 ]
 
-placed : (outcome : Outcome) (args : QueueArgs) (x y : Row) (made : Step) (p : Progress) (row : Row)
-    → Turned outcome args x y → made.effects ≡ p.effects → row ≡ record y { place = row.place }
-    → (row ≡ y) ⊎ Moved args y row p → EndsAs outcome args made x row
-placed Settled args x y made p row turned effects same how =
-    let is : row ≡ y = same-if args y row p (ap (λ (r : Row). is_ready r.place) turned) how in
+placed : (outcome : Outcome) (s : State) (x y : Row) (made : Step) (p : Progress) (row : Row)
+    → Turned outcome s x y → made.effects ≡ p.effects → row ≡ record y { place = row.place }
+    → (row ≡ y) ⊎ Moved s.args y row p → EndsAs outcome s made x row
+placed Settled s x y made p row turned effects same how =
+    let is : row ≡ y = same-if s.args y row p (ap (λ (r : Row). is_ready r.place) turned) how in
     let all : row ≡ record x { place = Gone gone.Settled } = is ∙ turned in
     record {
       index = ap (λ (r : Row). r.index) all;
@@ -92,7 +100,7 @@ placed Settled args x y made p row turned effects same how =
       count = ap (λ (r : Row). r.count) all;
       place = ap (λ (r : Row). r.place) all;
     }
-placed Returned args x y made p row turned effects same how =
+placed Returned s x y made p row turned effects same how =
     let more : y ≡ record x { count = x.count + 1; place = turned.0 } = turned.1 in
     let count : row.count ≡ x.count + 1 =
     ap (λ (r : Row). r.count) same ∙ ap (λ (r : Row). r.count) more in
@@ -105,23 +113,25 @@ placed Returned args x y made p row turned effects same how =
       place = elim (turned.2) [
         | inl over ↦
             let is : row ≡ y =
-            same-if args y row p (ap is_ready at ∙ died-unready DeliveryLimit turned.0 over.1) how in
+            same-if s.args y row p (ap is_ready at ∙ died-unready DeliveryLimit turned.0 over.1) how in
             record {
               passed = λ _. subst (DiedOf DeliveryLimit) (sym (ap (λ (r : Row). r.place) is ∙ at)) over.1;
               back = λ within.
-                  absurd (false≢true (sym within ∙ ap (has_passed args.delivery_limit) count ∙ over.0));
+                  absurd (false≢true (sym within ∙ ap (has_passed s.args.delivery_limit) count ∙ over.0));
             }
-        | inr ready ↦ record {
+        | inr behind ↦ record {
           passed = λ over.
-              absurd (false≢true (sym ready.0 ∙ ap (has_passed args.delivery_limit) (sym count) ∙ over));
-          back = λ _. back args made p y row effects (ap is_ready at ∙ ready.1) how;
+              absurd (false≢true (sym behind.0 ∙ ap (has_passed s.args.delivery_limit) (sym count) ∙ over));
+          back = λ _.
+              back s made p y row effects
+              (subst (GoesBehind s.args.delivery_limit s.returns s.orders) (sym at) behind.1) how;
         }
       ];
     }
-placed Discarded args x y made p row turned effects same how =
+placed Discarded s x y made p row turned effects same how =
     let more : y ≡ record x { place = turned.0 } = turned.1 in
     let at : y.place ≡ turned.0 = ap (λ (r : Row). r.place) more in
-    let is : row ≡ y = same-if args y row p (ap is_ready at ∙ died-unready Rejected turned.0 turned.2) how in
+    let is : row ≡ y = same-if s.args y row p (ap is_ready at ∙ died-unready Rejected turned.0 turned.2) how in
     let all : row ≡ record x { place = turned.0 } = is ∙ more in
     record {
       index = ap (λ (r : Row). r.index) all;
@@ -131,17 +141,17 @@ placed Discarded args x y made p row turned effects same how =
       place = subst (DiedOf Rejected) (sym (ap (λ (r : Row). r.place) all)) turned.2;
     }
 
-ends-from : (outcome : Outcome) (args : QueueArgs) (x : Row) (command : Command) (a : Acted) (made : Step)
-    → ((b : Acted) → drain_after command b ≡ b) → a.progress.state.args ≡ args
-    → Rises (indices a.progress.state.rows) → Left outcome args x a.progress.state.rows
+ends-from : (outcome : Outcome) (s : State) (x : Row) (command : Command) (a : Acted) (made : Step)
+    → ((b : Acted) → drain_after command b ≡ b) → a.progress.state.args ≡ s.args
+    → Rises (indices a.progress.state.rows) → Left outcome s x a.progress.state.rows
     → made.state.rows ≡ (follow_on command a).progress.state.rows
-    → made.effects ≡ (follow_on command a).progress.effects → Ends outcome args made x
-ends-from outcome args x command a made none same rising left rows effects =
+    → made.effects ≡ (follow_on command a).progress.effects → Ends outcome s made x
+ends-from outcome s x command a made none same rising left rows effects =
     let p : Progress = (follow_on command a).progress in
-    let fares : Fares args left.new p = fares_at_last args left.new command a none same rising left.here in (
+    let fares : Fares s.args left.new p = fares_at_last s.args left.new command a none same rising left.here in (
       fares.row,
       Contains-in fares.row made.state.rows (subst (In fares.row) (sym rows) fares.here),
-      placed outcome args x left.new made p fares.row left.turned effects fares.same fares.how,
+      placed outcome s x left.new made p fares.row left.turned effects fares.same fares.how,
     )
 
 -- Settle, Return, Discard ----------------------------------------------------------------------------------
@@ -176,14 +186,14 @@ one-out consumer id last rows drawn a b ina inb isa isb =
     drawn.once a b id ina inb (out-id consumer id a isa) (out-id consumer id b isb)
 
 -- a message as its delivery's end makes it isn't as it was
-changed : (outcome : Outcome) (args : QueueArgs) (made : Step) (x new : Row) (consumer : ConsumerId) (id : ℕ)
-    → x.place ≡ Out consumer id → EndsAs outcome args made x new → new ≡ x → ⊥
-changed Settled args made x new consumer id is ends same =
+changed : (outcome : Outcome) (s : State) (made : Step) (x new : Row) (consumer : ConsumerId) (id : ℕ)
+    → x.place ≡ Out consumer id → EndsAs outcome s made x new → new ≡ x → ⊥
+changed Settled s made x new consumer id is ends same =
     let e : Gone gone.Settled ≡ Out consumer id = sym ends.place ∙ ap (λ (r : Row). r.place) same ∙ is in cc
-changed Returned args made x new consumer id is ends same =
+changed Returned s made x new consumer id is ends same =
     let more : new.count ≡ x.count + 1 = ends.count in
     let e : new.count ≡ x.count = ap (λ (r : Row). r.count) same in omega arith
-changed Discarded args made x new consumer id is ends same = by ends.place
+changed Discarded s made x new consumer id is ends same = by ends.place
   where
     by : DiedOf Rejected new.place → ⊥
     by (inl dead) =
@@ -225,9 +235,10 @@ ends_deliveries args before entry outcome given tag ids id x numbered is fresh w
     one : OneOut consumer id s.rows
     one = one-out consumer id known.0 s.rows known.1.drawn
 
-    done : Done outcome consumer id s.args x a.progress.state.rows
+    done : Done outcome consumer id s x a.progress.state.rows
     done =
-        act-done index outcome given tag ids id x start (in_contains ids id within) here at sound.ordered.rising one
+        act-done index outcome given tag ids id s x start
+        (record { args = refl; returns = omega arith; orders = omega arith }) (in_contains ids id within) here at sound.ordered.rising one
         (sound.held x consumer id here at)
 
     made : next_step s entry ≡ pass_gate index given (follow_on command a)
@@ -235,9 +246,9 @@ ends_deliveries args before entry outcome given tag ids id x numbered is fresh w
         made-carried s entry given command is (disposition-stamp outcome given tag ids) fresh
         ∙ ap (pass_gate index given) (carried-follows index command (let_in s given))
 
-    ends : Ends outcome s.args (next_step s entry) x
+    ends : Ends outcome s (next_step s entry) x
     ends =
-        ends-from outcome s.args x command a (next_step s entry) (disposition-drains outcome given tag ids)
+        ends-from outcome s x command a (next_step s entry) (disposition-drains outcome given tag ids)
         (act-delivers_none (let_in s given) index command).args done.rising
         done.left (ap (λ (m : Step). m.state.rows) made) (ap (λ (m : Step). m.effects) made)
 
@@ -254,7 +265,7 @@ ends_deliveries args before entry outcome given tag ids id x numbered is fresh w
               unique ends.0 row (next_step s entry).state.rows after.ordered.rising
               (in_contains (next_step s entry).state.rows ends.0 ends.1)
               (in_contains (next_step s entry).state.rows row inside) index' in
-              changed outcome s.args (next_step s entry) x ends.0 consumer id at ends.2 (same ∙ itself)
+              changed outcome s (next_step s entry) x ends.0 consumer id at ends.2 (same ∙ itself)
           | inr some ↦
               let now = next-knows consumer known.0 s entry numbered known.1 in
               let above : known.0 < some.0.id =
@@ -373,12 +384,20 @@ down-leaves index session p one here is =
     false≢true (sym (not-true (is_of_session session one) passes)
     ∙ ap (λ (i : SessionId). same_session i session) is ∙ same_session-refl session)
 
-down-goes : (index : Index) (session : SessionId) (args : QueueArgs) (x : Row) (p : Progress)
-    → Goes Returned args x p → Goes Returned args x (act index (Down session) p).progress
+down-goes : (index : Index) (session : SessionId) (s : State) (x : Row) (p : Progress)
+    → Goes Returned s x p → Goes Returned s x (act index (Down session) p).progress
 unfolding act down
-down-goes index session args x p goes =
-    let goes' = return_session-goes args x session p.state.consumers p goes in
-    record { rising = goes'.rising; same = goes'.same; how = goes'.how }
+down-goes index session s x p goes =
+    let goes' = return_session-goes s x session p.state.consumers p goes in
+    record {
+      rising = goes'.rising;
+      since = record {
+        args = goes'.since.args;
+        returns = goes'.since.returns;
+        orders = goes'.since.orders;
+      };
+      how = goes'.how;
+    }
 
 pub ends_sessions : (args : QueueArgs) (before : List Entry) (entry : Entry)
     → EndsSessions (state_after (empty_queue args) before) entry
@@ -389,15 +408,19 @@ ends_sessions args before entry session is = record {
       left seat.0 seat.1 (ap (λ (i : ConsumerId). i.session) seat.2 ∙ own);
   returned = λ x consumer id there at own.
       let here : In x s.rows = in_contains s.rows x there in
-      let goes : Goes Returned s.args x a.progress =
-      down-goes index session s.args x start (record { rising = sound.ordered.rising; same = refl; how = inl here }) in
-      let gone : Left Returned s.args x a.progress.state.rows = elim (goes.how) [
+      let goes : Goes Returned s x a.progress =
+      down-goes index session s x start (record {
+        rising = sound.ordered.rising;
+        since = record { args = refl; returns = omega arith; orders = omega arith };
+        how = inl here;
+      }) in
+      let gone : Left Returned s x a.progress.state.rows = elim (goes.how) [
         | inl still ↦
             let seat = held x consumer id still at in
             absurd (down-leaves index session start seat.0 seat.1 (ap (λ (i : ConsumerId). i.session) seat.2 ∙ own))
         | inr left' ↦ left'
       ] in
-      ends-from Returned s.args x (Down session) a (next_step s entry) (down-drains session)
+      ends-from Returned s x (Down session) a (next_step s entry) (down-drains session)
       (act-delivers_none s index (Down session)).args goes.rising gone
       (ap (λ (m : Step). m.state.rows) made) (ap (λ (m : Step). m.effects) made);
 }

@@ -1,5 +1,5 @@
 -- What the end of a delivery makes of its message, before anything follows on the command.
-use Rattle.std.proofs.Common.{◌≡◌, ℕ, ◌+◌, ◌⊎◌, true, false, List, [], ◌∷◌, ◌++◌, Option, Some, None, fold, refl, sym, ap, ◌∙◌, subst, inl, inr, if◌then◌else◌}
+use Rattle.std.proofs.Common.{◌≡◌, ℕ, ◌+◌, ◌≤◌, ◌⊎◌, true, false, List, [], ◌∷◌, ◌++◌, Option, Some, None, fold, refl, sym, ap, ◌∙◌, subst, inl, inr, arith, if◌then◌else◌}
 use Rattle.std.proofs.lemmas.Bool.{false≢true, cases_eq, cond_both, and_from, eq-eqb}
 use Rattle.std.proofs.lemmas.List.Sums.{fold-append}
 use Rattle.qq_base.specs.declared.ids.Index.{Index}
@@ -16,14 +16,13 @@ use Rattle.qq_entry.specs.declared.queue.Strategy.TheVariants.{Absent, AtMostOnc
 use Rattle.qq_model.specs.declared.consumer.Consumer.{Consumer}
 use Rattle.qq_model.specs.declared.consumer.Outcome.{Outcome}
 use Rattle.qq_model.specs.declared.consumer.Outcome.TheVariants.{Settled, Returned, Discarded}
-use Rattle.qq_model.specs.declared.place.Key.{Key}
 use Rattle.qq_model.specs.declared.place.Key.TheVariants.{Front, Back}
 use Rattle.qq_model.specs.declared.place.GoneReason.TheVariants as gone
 use Rattle.qq_model.specs.declared.place.Place.{Place}
 use Rattle.qq_model.specs.declared.place.Place.TheVariants.{Ready, Out, Dead, Gone}
 use Rattle.qq_model.specs.declared.place.Row.{Row}
 use Rattle.qq_model.specs.State.{State}
-use Rattle.qq_model.specs.Limits.{is_ready, is_with_consumer, has_passed}
+use Rattle.qq_model.specs.Limits.{is_with_consumer, has_passed}
 use Rattle.qq_model.specs.Changes.{Progress, put_row, consumer_of, die, die_by, go_back, return_row, drop_finished, take_turn, begin_to_wait, credit_of}
 use Rattle.qq_model.specs.Commands.{Acted, act, is_delivery, delivered_row, end_delivery, end_delivery_by, end_deliveries, leave_or_wait, finish_by, finish, first_delivery, return_by, return_first, return_all, is_of_session, return_session}
 use Rattle.qq_base.proofs.Lists.{In, fold-keeps, list_any-from_in}
@@ -37,7 +36,7 @@ use Rattle.qq_model.proofs.Lookups.{delivered_row-in, out-place}
 use Rattle.qq_model.proofs.Loops.{while_next-keeps}
 use Rattle.qq_model.proofs.OneConsumer.{same_consumer-refl}
 use Rattle.qq_model.proofs.Spared.{In-put_other}
-use Rattle.qq_laws.specs.Ended.{disposition, DiedOf}
+use Rattle.qq_laws.specs.Ended.{disposition, DiedOf, GoesBehind}
 
 -- One row is another ---------------------------------------------------------------------------------------
 
@@ -48,6 +47,8 @@ pub record Puts (row new : Row) (p q : Progress) : Type 0 where
   pub rows : q.state.rows ≡ put_row new p.state.rows
   pub consumers : q.state.consumers ≡ p.state.consumers
   pub args : q.state.args ≡ p.state.args
+  pub returns : p.state.returns ≤ q.state.returns
+  pub orders : p.state.orders ≤ q.state.orders
 
 -- a row that dies
 pub record Buried (cause : Reason) (row : Row) (p q : Progress) : Type 0 where
@@ -63,46 +64,124 @@ die-puts cause row p = by p.state.args.strategy
     by Absent = record {
       place = Gone (gone.Died cause);
       death = inl refl;
-      puts = record { index = refl; out = refl; rows = refl; consumers = refl; args = refl };
+      puts = record {
+        index = refl;
+        out = refl;
+        rows = refl;
+        consumers = refl;
+        args = refl;
+        returns = omega arith;
+        orders = omega arith;
+      };
     }
     by AtMostOnce = record {
       place = Gone (gone.Died cause);
       death = inl refl;
-      puts = record { index = refl; out = refl; rows = refl; consumers = refl; args = refl };
+      puts = record {
+        index = refl;
+        out = refl;
+        rows = refl;
+        consumers = refl;
+        args = refl;
+        returns = omega arith;
+        orders = omega arith;
+      };
     }
     by AtLeastOnce = record {
       place = Dead (p.state.deads + 1) cause;
       death = inr (p.state.deads + 1, refl);
-      puts = record { index = refl; out = refl; rows = refl; consumers = refl; args = refl };
+      puts = record {
+        index = refl;
+        out = refl;
+        rows = refl;
+        consumers = refl;
+        args = refl;
+        returns = omega arith;
+        orders = omega arith;
+      };
     }
 
-go_back-puts : (limit : Option ℕ) (row : Row) (p : Progress)
-    → (key : Key) × Puts row (record row { place = Ready key }) p (go_back limit row p)
-go_back-puts None row p = (
-  Back (p.state.orders + 1),
-  record { index = refl; out = refl; rows = refl; consumers = refl; args = refl },
-)
-go_back-puts (Some limit) row p = (
-  Front (p.state.returns + 1),
-  record { index = refl; out = refl; rows = refl; consumers = refl; args = refl },
-)
+-- a row that goes back
+record Backed (limit : Option ℕ) (row : Row) (p q : Progress) : Type 0 where
+  place : Place
+  ready : is_with_consumer place ≡ false
+  behind : GoesBehind limit p.state.returns p.state.orders place
+  puts : Puts row (record row { place = place }) p q
 
--- a returned message dies where that passed the limit, and else is ready
-abbrev pub Returns : QueueArgs → ℕ → Place → Type 0
-Returns args count place =
-    ((has_passed args.delivery_limit count ≡ true) × DiedOf DeliveryLimit place)
-    ⊎ ((has_passed args.delivery_limit count ≡ false) × (is_ready place ≡ true))
+go_back-puts : (limit : Option ℕ) (row : Row) (p : Progress) → Backed limit row p (go_back limit row p)
+go_back-puts None row p = record {
+  place = Ready (Back (p.state.orders + 1));
+  ready = refl;
+  behind = (p.state.orders + 1, refl, omega arith);
+  puts = record {
+    index = refl;
+    out = refl;
+    rows = refl;
+    consumers = refl;
+    args = refl;
+    returns = omega arith;
+    orders = omega arith;
+  };
+}
+go_back-puts (Some limit) row p = record {
+  place = Ready (Front (p.state.returns + 1));
+  ready = refl;
+  behind = (p.state.returns + 1, refl, omega arith);
+  puts = record {
+    index = refl;
+    out = refl;
+    rows = refl;
+    consumers = refl;
+    args = refl;
+    returns = omega arith;
+    orders = omega arith;
+  };
+}
 
--- what the end of its delivery makes of a row
-abbrev pub Turned : Outcome → QueueArgs → Row → Row → Type 0
-Turned Settled args row new = new ≡ record row { place = Gone gone.Settled }
-Turned Returned args row new =
-    (place : Place) × (new ≡ record row { count = row.count + 1; place = place }) × Returns args (row.count + 1) place
-Turned Discarded args row new = (place : Place) × (new ≡ record row { place = place }) × DiedOf Rejected place
+-- a message that is returned at a state dies where that passed the limit, and else goes behind
+abbrev pub Returns : State → ℕ → Place → Type 0
+Returns s count place =
+    ((has_passed s.args.delivery_limit count ≡ true) × DiedOf DeliveryLimit place)
+    ⊎ ((has_passed s.args.delivery_limit count ≡ false)
+    × GoesBehind s.args.delivery_limit s.returns s.orders place)
+
+-- what the end of its delivery makes of a row at a state
+abbrev pub Turned : Outcome → State → Row → Row → Type 0
+Turned Settled s row new = new ≡ record row { place = Gone gone.Settled }
+Turned Returned s row new =
+    (place : Place) × (new ≡ record row { count = row.count + 1; place = place }) × Returns s (row.count + 1) place
+Turned Discarded s row new = (place : Place) × (new ≡ record row { place = place }) × DiedOf Rejected place
+
+-- a state since another: its arguments are the same, and no counter of places fell
+pub record IsSince (s t : State) : Type 0 where
+  pub args : t.args ≡ s.args
+  pub returns : s.returns ≤ t.returns
+  pub orders : s.orders ≤ t.orders
+
+behind-since : (limit : Option ℕ) (s t : State) → IsSince s t → (place : Place)
+    → GoesBehind limit t.returns t.orders place → GoesBehind limit s.returns s.orders place
+behind-since None s t since place behind = (behind.0, behind.1, omega (arith, behind.2, since.orders))
+behind-since (Some limit) s t since place behind = (behind.0, behind.1, omega (arith, behind.2, since.returns))
+
+turned-since : (outcome : Outcome) (s t : State) (row new : Row) → IsSince s t → Turned outcome t row new
+    → Turned outcome s row new
+turned-since Settled s t row new since turned = turned
+turned-since Returned s t row new since (place, is, inl passed) =
+    let over : has_passed s.args.delivery_limit (row.count + 1) ≡ true =
+    ap (λ (a : QueueArgs). has_passed a.delivery_limit (row.count + 1)) (sym since.args) ∙ passed.0 in
+    (place, is, inl (over, passed.1))
+turned-since Returned s t row new since (place, is, inr within) =
+    let below : has_passed s.args.delivery_limit (row.count + 1) ≡ false =
+    ap (λ (a : QueueArgs). has_passed a.delivery_limit (row.count + 1)) (sym since.args) ∙ within.0 in
+    let behind : GoesBehind s.args.delivery_limit s.returns s.orders place =
+    subst (λ (a : QueueArgs). GoesBehind a.delivery_limit s.returns s.orders place) since.args
+    (behind-since t.args.delivery_limit s t since place within.1) in
+    (place, is, inr (below, behind))
+turned-since Discarded s t row new since turned = turned
 
 pub record Ending (outcome : Outcome) (row : Row) (p q : Progress) : Type 0 where
   pub new : Row
-  pub turned : Turned outcome p.state.args row new
+  pub turned : Turned outcome p.state row new
   pub puts : Puts row new p q
 
 end_delivery-puts : (outcome : Outcome) (row : Row) (p : Progress) → Ending outcome row p (end_delivery outcome row p)
@@ -110,7 +189,15 @@ unfolding return_row
 end_delivery-puts Settled row p = record {
   new = record row { place = Gone gone.Settled };
   turned = refl;
-  puts = record { index = refl; out = refl; rows = refl; consumers = refl; args = refl };
+  puts = record {
+    index = refl;
+    out = refl;
+    rows = refl;
+    consumers = refl;
+    args = refl;
+    returns = omega arith;
+    orders = omega arith;
+  };
 }
 end_delivery-puts Returned row p =
     let more : Row = record row { count = row.count + 1 } in
@@ -127,19 +214,23 @@ end_delivery-puts Returned row p =
         rows = died.puts.rows;
         consumers = died.puts.consumers;
         args = died.puts.args;
+        returns = died.puts.returns;
+        orders = died.puts.orders;
       };
     })
     (λ within.
     let went = go_back-puts limit more p in
     record {
-      new = record more { place = Ready went.0 };
-      turned = (Ready went.0, refl, inr (within, refl));
+      new = record more { place = went.place };
+      turned = (went.place, refl, inr (within, went.behind));
       puts = record {
         index = refl;
-        out = refl;
-        rows = went.1.rows;
-        consumers = went.1.consumers;
-        args = went.1.args;
+        out = went.ready;
+        rows = went.puts.rows;
+        consumers = went.puts.consumers;
+        args = went.puts.args;
+        returns = went.puts.returns;
+        orders = went.puts.orders;
       };
     })
 end_delivery-puts Discarded row p =
@@ -153,23 +244,27 @@ end_delivery-puts Discarded row p =
 -- One message ----------------------------------------------------------------------------------------------
 
 -- a message whose delivery has ended
-pub record Left (outcome : Outcome) (args : QueueArgs) (x : Row) (rows : List Row) : Type 0 where
+pub record Left (outcome : Outcome) (s : State) (x : Row) (rows : List Row) : Type 0 where
   pub new : Row
   pub here : In new rows
   pub out : is_with_consumer new.place ≡ false
-  pub turned : Turned outcome args x new
+  pub turned : Turned outcome s x new
 
 -- of rows in order a message is as it was, or its delivery has ended
-pub record Goes (outcome : Outcome) (args : QueueArgs) (x : Row) (p : Progress) : Type 0 where
+pub record Goes (outcome : Outcome) (s : State) (x : Row) (p : Progress) : Type 0 where
   pub rising : Rises (indices p.state.rows)
-  pub same : p.state.args ≡ args
-  pub how : In x p.state.rows ⊎ Left outcome args x p.state.rows
+  pub since : IsSince s p.state
+  pub how : In x p.state.rows ⊎ Left outcome s x p.state.rows
 
-goes-on : (outcome : Outcome) (args : QueueArgs) (x row : Row) (p q : Progress) → Goes outcome args x p
-    → In row p.state.rows → is_with_consumer row.place ≡ true → Ending outcome row p q → Goes outcome args x q
-goes-on outcome args x row p q goes there is ending = record {
+goes-on : (outcome : Outcome) (s : State) (x row : Row) (p q : Progress) → Goes outcome s x p
+    → In row p.state.rows → is_with_consumer row.place ≡ true → Ending outcome row p q → Goes outcome s x q
+goes-on outcome s x row p q goes there is ending = record {
   rising = subst Rises (sym (ap indices puts.rows ∙ indices-put new p.state.rows)) goes.rising;
-  same = puts.args ∙ goes.same;
+  since = record {
+    args = puts.args ∙ goes.since.args;
+    returns = omega (arith, goes.since.returns, puts.returns);
+    orders = omega (arith, goes.since.orders, puts.orders);
+  };
   how = elim (goes.how) [
     | inl here ↦ elim (cases_eq x.index.0 new.index.0) [
       | inl same ↦
@@ -180,8 +275,8 @@ goes-on outcome args x row p q goes there is ending = record {
             here = subst (In new) (sym puts.rows) (In-put_new new row p.state.rows there (ap (λ (i : Index). i.0)
                 puts.index));
             out = puts.out;
-            turned = subst (λ (r : Row). Turned outcome args r new) (sym itself)
-                (subst (λ (a : QueueArgs). Turned outcome a row new) goes.same ending.turned);
+            turned = subst (λ (r : Row). Turned outcome s r new) (sym itself)
+                (turned-since outcome s p.state row new goes.since ending.turned);
           })
       | inr differ ↦ inl (subst (In x) (sym puts.rows) (In-put_other x new p.state.rows here differ))
     ]
@@ -302,22 +397,22 @@ all-ended outcome consumer (first ∷ ids) id p (inr later) one =
     (λ row q here is ending. one-stays consumer id row ending.new p q ending.puts one))
 
 -- the row of the message afterwards
-pub record Done (outcome : Outcome) (consumer : ConsumerId) (id : ℕ) (args : QueueArgs) (x : Row) (rows : List Row)
+pub record Done (outcome : Outcome) (consumer : ConsumerId) (id : ℕ) (s : State) (x : Row) (rows : List Row)
     : Type 0 where
   pub rising : Rises (indices rows)
   pub none : NoneOut consumer id rows
-  pub left : Left outcome args x rows
+  pub left : Left outcome s x rows
 
-end_deliveries-done : (outcome : Outcome) (consumer : ConsumerId) (ids : List ℕ) (id : ℕ) (x : Row) (p : Progress)
-    → In id ids → In x p.state.rows → x.place ≡ Out consumer id → Rises (indices p.state.rows)
+end_deliveries-done : (outcome : Outcome) (consumer : ConsumerId) (ids : List ℕ) (id : ℕ) (s : State) (x : Row)
+    (p : Progress) → IsSince s p.state → In id ids → In x p.state.rows → x.place ≡ Out consumer id → Rises (indices p.state.rows)
     → OneOut consumer id p.state.rows
-    → Done outcome consumer id p.state.args x (end_deliveries outcome consumer ids p).state.rows
-end_deliveries-done outcome consumer ids id x p within here is rising one =
+    → Done outcome consumer id s x (end_deliveries outcome consumer ids p).state.rows
+end_deliveries-done outcome consumer ids id s x p since within here is rising one =
     let none = all-ended outcome consumer ids id p within one in
-    let goes = end_deliveries-keep (Goes outcome p.state.args x) outcome consumer ids
+    let goes = end_deliveries-keep (Goes outcome s x) outcome consumer ids
     (λ a b other row goes there at ending.
-    goes-on outcome p.state.args x row a b goes there (ap is_with_consumer at) ending) p
-    (record { rising = rising; same = refl; how = inl here }) in
+    goes-on outcome s x row a b goes there (ap is_with_consumer at) ending) p
+    (record { rising = rising; since = since; how = inl here }) in
     record {
       rising = goes.rising;
       none = none;
@@ -340,22 +435,22 @@ seat-found id consumers seat none =
     ∙ list_any-from_in (λ (one : Consumer). same_consumer one.id id) seat.0 consumers seat.1
     (ap (λ (i : ConsumerId). same_consumer i id) seat.2 ∙ same_consumer-refl id))
 
-finish-done : (outcome : Outcome) (consumer : ConsumerId) (ids : List ℕ) (id : ℕ) (x : Row) (p : Progress)
-    → In id ids → In x p.state.rows → x.place ≡ Out consumer id → Rises (indices p.state.rows)
+finish-done : (outcome : Outcome) (consumer : ConsumerId) (ids : List ℕ) (id : ℕ) (s : State) (x : Row) (p : Progress)
+    → IsSince s p.state → In id ids → In x p.state.rows → x.place ≡ Out consumer id → Rises (indices p.state.rows)
     → OneOut consumer id p.state.rows → Seat consumer p.state.consumers
-    → Done outcome consumer id p.state.args x (finish outcome consumer ids p).progress.state.rows
+    → Done outcome consumer id s x (finish outcome consumer ids p).progress.state.rows
 unfolding finish
-finish-done outcome consumer ids id x p within here is rising one seat =
+finish-done outcome consumer ids id s x p since within here is rising one seat =
     by (consumer_of consumer p.state.consumers) refl
   where
     by : (o : Option Consumer) → consumer_of consumer p.state.consumers ≡ o
-        → Done outcome consumer id p.state.args x (finish_by o outcome consumer ids p).progress.state.rows
+        → Done outcome consumer id s x (finish_by o outcome consumer ids p).progress.state.rows
     by None found = absurd (seat-found consumer p.state.consumers seat found)
     by (Some some) found =
         let rest : Progress = end_deliveries outcome consumer ids p in
-        subst (Done outcome consumer id p.state.args x)
+        subst (Done outcome consumer id s x)
         (sym (wait-rows (credit_of consumer p.state.rows p.state.consumers) consumer (drop_finished rest.state)))
-        (end_deliveries-done outcome consumer ids id x p within here is rising one)
+        (end_deliveries-done outcome consumer ids id s x p since within here is rising one)
 
 pub act-finishes : (index : Index) (outcome : Outcome) (given : Stamp) (tag : ℕ) (ids : List ℕ) (p : Progress)
     → act index (disposition outcome given tag ids) p ≡ finish outcome (consumer_id given tag) ids p
@@ -364,16 +459,17 @@ act-finishes index Settled given tag ids p = refl
 act-finishes index Returned given tag ids p = refl
 act-finishes index Discarded given tag ids p = refl
 
-pub act-done : (index : Index) (outcome : Outcome) (given : Stamp) (tag : ℕ) (ids : List ℕ) (id : ℕ) (x : Row)
-    (p : Progress) → In id ids → In x p.state.rows → x.place ≡ Out (consumer_id given tag) id
+pub act-done : (index : Index) (outcome : Outcome) (given : Stamp) (tag : ℕ) (ids : List ℕ) (id : ℕ) (s : State)
+    (x : Row) (p : Progress) → IsSince s p.state → In id ids → In x p.state.rows
+    → x.place ≡ Out (consumer_id given tag) id
     → Rises (indices p.state.rows) → OneOut (consumer_id given tag) id p.state.rows
     → Seat (consumer_id given tag) p.state.consumers
-    → Done outcome (consumer_id given tag) id p.state.args x
+    → Done outcome (consumer_id given tag) id s x
     (act index (disposition outcome given tag ids) p).progress.state.rows
-act-done index outcome given tag ids id x p within here is rising one seat =
-    subst (λ (a : Acted). Done outcome (consumer_id given tag) id p.state.args x a.progress.state.rows)
+act-done index outcome given tag ids id s x p since within here is rising one seat =
+    subst (λ (a : Acted). Done outcome (consumer_id given tag) id s x a.progress.state.rows)
     (sym (act-finishes index outcome given tag ids p))
-    (finish-done outcome (consumer_id given tag) ids id x p within here is rising one seat)
+    (finish-done outcome (consumer_id given tag) ids id s x p since within here is rising one seat)
 
 -- an id that isn't out is passed over
 end_deliveries-pass : (outcome : Outcome) (consumer : ConsumerId) (before after : List ℕ) (id : ℕ) (p : Progress)
@@ -417,29 +513,29 @@ act-passes index outcome given tag before after id p none =
 
 -- Down -----------------------------------------------------------------------------------------------------
 
-return_all-goes : (args : QueueArgs) (x : Row) (consumer : Consumer) (p : Progress) → Goes Returned args x p
-    → Goes Returned args x (return_all consumer p)
+return_all-goes : (s : State) (x : Row) (consumer : Consumer) (p : Progress) → Goes Returned s x p
+    → Goes Returned s x (return_all consumer p)
 unfolding return_all
-return_all-goes args x consumer p goes =
-    while_next-keeps (Goes Returned args x) (return_first consumer.id)
+return_all-goes s x consumer p goes =
+    while_next-keeps (Goes Returned s x) (return_first consumer.id)
     (λ now next goes made. one now next (first_delivery consumer.id now.state.rows) refl goes made) _ p goes
   where
     one : (now next : Progress) (o : Option Row) → first_delivery consumer.id now.state.rows ≡ o
-        → Goes Returned args x now → return_by o now ≡ Some next → Goes Returned args x next
+        → Goes Returned s x now → return_by o now ≡ Some next → Goes Returned s x next
     one now next None found goes made = absurd cc
     one now next (Some row) found goes made =
         let some = first_delivery-in consumer.id now.state.rows row found in
         let at = out-place consumer.id row.place some.1 in
         let same : end_delivery Returned row now ≡ next = cc in
-        subst (Goes Returned args x) same
-        (goes-on Returned args x row now (end_delivery Returned row now) goes some.0 (ap is_with_consumer at.1)
+        subst (Goes Returned s x) same
+        (goes-on Returned s x row now (end_delivery Returned row now) goes some.0 (ap is_with_consumer at.1)
         (end_delivery-puts Returned row now))
 
-pub return_session-goes : (args : QueueArgs) (x : Row) (session : SessionId) (consumers : List Consumer)
-    (p : Progress) → Goes Returned args x p → Goes Returned args x (return_session session consumers p)
-return_session-goes args x session consumers p goes =
-    fold-keeps (Goes Returned args x)
+pub return_session-goes : (s : State) (x : Row) (session : SessionId) (consumers : List Consumer)
+    (p : Progress) → Goes Returned s x p → Goes Returned s x (return_session session consumers p)
+return_session-goes s x session consumers p goes =
+    fold-keeps (Goes Returned s x)
     (λ (now : Progress) (consumer : Consumer). if is_of_session session consumer then return_all consumer now
     else now)
     (λ now consumer goes. cond_both (is_of_session session consumer) (return_all consumer now) now
-    (Goes Returned args x) (λ _. return_all-goes args x consumer now goes) (λ _. goes)) consumers p goes
+    (Goes Returned s x) (λ _. return_all-goes s x consumer now goes) (λ _. goes)) consumers p goes

@@ -7,8 +7,9 @@ ghost use Rattle.qq_laws.specs.Ended.{EndsDeliveries, EndsSessions, IsOutByDeliv
 
 /// A settle, return or discard of an id that is out with its consumer takes effect: nothing is out with
 /// the consumer under that id any more. Settled, the message is gone; discarded, it died; returned, it
-/// counts one return more, and died where that passed the delivery limit, else it is ready, delivered
-/// anew, or dropped at the head of the queue (RabbitMQ, "Consumer Acknowledgements").
+/// counts one return more, and died where that passed the delivery limit. Else it is ready, behind all
+/// that were returned before and under a delivery limit before all others, or was delivered anew, or
+/// dropped at the head of the queue (RabbitMQ, "Consumer Acknowledgements").
 pub fn settles_take_effect()
     ensures { Always (λ s. (entry : Entry) → EndsDeliveries s entry) }
 {}
