@@ -1,25 +1,16 @@
 -- A queue in memory as a state of the definition.
 use Rattle.std.specs.Prelude.{◌≡◌, ℕ, Option, Some, None, Bool, take, vec_len, if◌then◌else◌}
 use Rattle.qq_base.specs.declared.ids.SessionId.{SessionId}
-use Rattle.qq_base.specs.Ids.{same_session}
 use Rattle.qq_entry.specs.declared.answer.Answer.{Answer}
 use Rattle.qq_model.specs.declared.consumer.Consumer.{Consumer}
-use Rattle.qq_model.specs.declared.session.OpenSession.{OpenSession}
-use Rattle.qq_model.specs.State.{State, Sessions}
+use Rattle.qq_model.specs.State.{State}
 use Rattle.qq_model.specs.Changes.{Progress}
 use Rattle.qq_model.specs.Commands.{Acted, Settling, reply, is_of_session, return_all}
 use Rattle.qq_model.specs.Step.{Step}
-use Rattle.qq_model.specs.Gate.{raise_mark, use_number, add_answer, set_tag}
-use Rattle.qq_serial.specs.declared.sessions.SessionChange.{SessionChange}
-use Rattle.qq_serial.specs.declared.sessions.SessionChange.TheVariants.{RaiseMark, UseNumber, AddAnswer, SetTag}
 use Rattle.qq_serial.specs.declared.queue.Store.{Store}
 use Rattle.qq_serial.specs.declared.queue.Queue.{Queue}
 use Rattle.qq_serial.specs.declared.queue.Draft.{Draft}
 use Rattle.qq_serial.specs.declared.queue.Made.{Made}
-use Rattle.qq_serial.specs.declared.queue.SessionLists.{SessionLists}
-
-abbrev pub sessions_of : SessionLists → Sessions
-sessions_of s = record { opened = s.opened.items; ended = s.ended.items; workers = s.workers.items; seen = s.seen }
 
 -- a queue over what is never copied
 abbrev pub state_of : Store → Queue → State
@@ -37,7 +28,7 @@ state_of store q =
       rows = q.rows.items;
       messages = store.messages.items;
       consumers = q.consumers.items;
-      sessions = sessions_of q.sessions;
+      sessions = q.sessions.known;
     }
 
 -- a step under way
@@ -95,17 +86,6 @@ CarriesOut act store queue store_after new answer =
 -- a step is the one that this says, of a queue
 abbrev pub Makes : (State → Step) → Store → Queue → Store → Made → Type 0
 Makes step store queue store_after made = step (state_of store queue) ≡ step_of store_after made
-
--- what a change of an open session makes of it
-abbrev pub change_of : SessionChange → OpenSession → OpenSession
-change_of (RaiseMark stamp) one = raise_mark stamp one
-change_of (UseNumber stamp) one = use_number stamp one
-change_of (AddAnswer answer) one = add_answer answer.now one
-change_of (SetTag tag) one = set_tag tag one
-
--- what it makes of an open session if that is of this id
-abbrev pub change_if : SessionId → SessionChange → OpenSession → OpenSession
-change_if session change one = if same_session one.session session then change_of change one else one
 
 -- a consumer's deliveries go back if it is one of a session
 abbrev pub return_if : SessionId → Consumer → Progress → Progress

@@ -12,7 +12,6 @@ use crate::rows::{
     dead_row, delivered_row, first_delivery, next_message, out_count, publish_limit, purge_rows,
     put_row, ready_count,
 };
-use crate::sessions::{end_session, greatest_tag, take_tag};
 use qq_base::{ConsumerId, Duplicate, Index, Memory, SessionId, Term};
 use qq_entry::{Answer, Cause, DeadDone, Message, Mode, Reason, Strategy};
 use qq_model::{Consumer, GoneReason, Key, MOST_CONSUMERS, Outcome, Place, Row};
@@ -24,7 +23,9 @@ impl Queue {
         ensures want { IsOkUnless result Memory.Want }
     {
         drop_consumers(session, &mut self.consumers);
-        end_session(alloc, &mut self.sessions, session)
+        self.sessions.reserve(alloc, session)?;
+        self.sessions.end(session);
+        Ok(())
     }
 }
 
@@ -94,7 +95,7 @@ impl Draft {
         ensures ok { IfOk result (Replies (subscribe id mode) store.now self.old self.new) }
         ensures want { IsOkUnless result Memory.Want }
     {
-        if id.tag <= greatest_tag(id.session, &self.queue.sessions) {
+        if id.tag <= self.queue.sessions.greatest_tag(id.session) {
             return Ok(Answer::Refused(Cause::NumberSpent));
         }
         if MOST_CONSUMERS <= self.queue.consumers.len() as u64 {
@@ -111,7 +112,7 @@ impl Draft {
             turn,
             cancelled: false,
         })?;
-        take_tag(alloc, &mut self.queue.sessions, id.session, id.tag)?;
+        self.queue.sessions.take_tag(id.session, id.tag);
         Ok(Answer::Subscribed)
     }
 

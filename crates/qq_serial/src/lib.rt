@@ -10,7 +10,6 @@ mod queue;
 mod rows;
 mod serial;
 mod serving;
-mod sessions;
 mod step;
 mod table;
 

@@ -1,22 +1,14 @@
 ghost use Rattle.std.specs.Prelude.{◌≡◌, ◌+◌, IfOk, IsOkUnless};
 ghost use Rattle.std.specs.List.{list_all};
-ghost use Rattle.qq_model.specs.State.{is_row_within, is_consumer_within, is_session_within, is_within_ends};
-ghost use Rattle.qq_serial.specs.Views.{sessions_of, state_of};
+ghost use Rattle.qq_model.specs.State.{is_row_within, is_consumer_within, is_within_ends};
+ghost use Rattle.qq_serial.specs.Views.{state_of};
 ghost use Rattle.qq_serial.specs.declared.queue.Store.{Store};
 
-use qq_base::{Duplicate, Memory, NUMBER_END};
+use qq_base::{Memory, NUMBER_END};
 use qq_entry::{Answer, Effect, Message, QueueArgs};
-use qq_model::{Consumer, OpenSession, Row, Worker};
+use qq_model::{Consumer, Row};
+use qq_sessions::Sessions;
 use std::alloc::Global;
-
-/// The sessions that a queue knows.
-#[derive(Debug, Drop)]
-pub struct SessionLists {
-    pub opened: Vec<OpenSession>,
-    pub ended: Vec<u64>,
-    pub workers: Vec<Worker>,
-    pub seen: u64,
-}
 
 /// What a step never copies: the queue's arguments, and its messages in the order of their rows.
 #[derive(Debug, Drop)]
@@ -38,7 +30,7 @@ pub struct Queue {
     pub attached: u64,
     pub rows: Vec<Row>,
     pub consumers: Vec<Consumer>,
-    pub sessions: SessionLists,
+    pub sessions: Sessions,
 }
 
 /// A queue while an entry is applied, and the effects so far.
@@ -65,32 +57,6 @@ pub fn next_number(number: u64) -> Result<u64, Memory>
     match number.checked_add(1) {
         Some(next) => Ok(next),
         None => Err(Memory::Want),
-    }
-}
-
-fn copy_opened(alloc: Global, opened: &[OpenSession]) -> Result<Vec<OpenSession>, Memory>
-    ensures ok { IfOk result (λ list. list.items ≡ opened.now) }
-    ensures want { IsOkUnless result Memory.Want }
-{
-    let mut list = Vec::with_capacity(alloc, opened.len())?;
-    for one in opened {
-        list.push(one.copy(alloc)?)?;
-    }
-    Ok(list)
-}
-
-impl SessionLists {
-    /// The same sessions.
-    pub fn copy(&self, alloc: Global) -> Result<SessionLists, Memory>
-        ensures ok { IfOk result (λ twin. sessions_of twin ≡ sessions_of self.now) }
-        ensures want { IsOkUnless result Memory.Want }
-    {
-        Ok(SessionLists {
-            opened: copy_opened(alloc, &self.opened)?,
-            ended: Vec::from_slice(alloc, &self.ended)?,
-            workers: Vec::from_slice(alloc, &self.workers)?,
-            seen: self.seen,
-        })
     }
 }
 
@@ -128,7 +94,7 @@ impl Queue {
             && self.turns <= NUMBER_END
             && are_rows_within(&self.rows)
             && are_consumers_within(&self.consumers)
-            && are_sessions_within(&self.sessions.opened)
+            && self.sessions.are_within()
     }
 }
 
@@ -142,10 +108,4 @@ fn are_consumers_within(consumers: &[Consumer]) -> bool
     ensures { result ≡ list_all is_consumer_within consumers.now }
 {
     consumers.iter().all(|consumer| consumer.next_id <= NUMBER_END && consumer.count <= NUMBER_END)
-}
-
-fn are_sessions_within(opened: &[OpenSession]) -> bool
-    ensures { result ≡ list_all is_session_within opened.now }
-{
-    opened.iter().all(|one| one.next <= NUMBER_END)
 }

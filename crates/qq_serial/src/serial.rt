@@ -1,9 +1,10 @@
 ghost use Rattle.std.specs.Prelude.{◌≡◌, ◌+◌, ◌^◌, ◌≤◌, IsTrue, OnOk, OnErr, IfOk, IfErr, false};
 
-use crate::queue::{Draft, Made, Queue, SessionLists, Store};
+use crate::queue::{Draft, Made, Queue, Store};
 use crate::step::step;
 use qq_base::{Index, Memory, NUMBER_END};
 use qq_entry::{Answer, Effect, Entry, QueueArgs};
+use qq_sessions::Sessions;
 use std::alloc::Global;
 use std::marker::Model;
 
@@ -51,12 +52,7 @@ impl Serial {
                 attached: 0,
                 rows: Vec::new(alloc),
                 consumers: Vec::new(alloc),
-                sessions: SessionLists {
-                    opened: Vec::new(alloc),
-                    ended: Vec::new(alloc),
-                    workers: Vec::new(alloc),
-                    seen: 0,
-                },
+                sessions: Sessions::new(alloc),
             },
         }
     }

@@ -1,14 +1,12 @@
 //! One entry, on a copy of the queue.
 ghost use Rattle.std.specs.Prelude.{◌≡◌, [], take, vec_len, IfOk, IsOkUnless};
 ghost use Rattle.qq_model.specs.Commands.{Acted, reply};
-ghost use Rattle.qq_model.specs.Gate.{admit};
 ghost use Rattle.qq_model.specs.State.{State};
 ghost use Rattle.qq_model.specs.Step.{carry_out, pass_gate, pass_ungated, reject, go_through, step_by, step};
-ghost use Rattle.qq_serial.specs.Views.{sessions_of, state_of, progress_of, step_of, CarriesOut, Makes, OnlyAddsMessages};
+ghost use Rattle.qq_serial.specs.Views.{state_of, progress_of, step_of, CarriesOut, Makes, OnlyAddsMessages};
 
 use crate::queue::{Draft, Made, Queue, Store};
-use crate::sessions::{admit, gate, keep_answer, turn_away};
-use qq_base::{Index, Memory};
+use qq_base::{Duplicate, Index, Memory};
 use qq_entry::{Answer, Command, Entry, Stamp};
 use qq_model::Gate;
 use std::alloc::Global;
@@ -76,9 +74,11 @@ impl Draft {
         ensures store { OnlyAddsMessages store.old store.new }
         ensures want { IsOkUnless result Memory.Want }
     {
-        admit(alloc, &mut self.queue.sessions, &stamp)?;
+        self.queue.sessions.reserve(alloc, stamp.session)?;
+        self.queue.sessions.admit(&stamp);
         let answer = self.carry_out(alloc, store, index, command)?;
-        keep_answer(alloc, &mut self.queue.sessions, &stamp, &answer)?;
+        self.queue.sessions.reserve(alloc, stamp.session)?;
+        self.queue.sessions.keep(&stamp, answer.copy(alloc)?);
         self.queue.applied = index.0;
         Ok(Made {
             draft: self,
@@ -101,7 +101,7 @@ impl Draft {
             store.now self.queue store.now) }
         ensures want { IsOkUnless result Memory.Want }
     {
-        turn_away(alloc, &mut self.queue.sessions, &stamp)?;
+        self.queue.sessions.advance(&stamp);
         self.queue.applied = index.0;
         Ok(Made {
             draft: self,
@@ -155,7 +155,7 @@ impl Draft {
         match stamp {
             None => self.pass_ungated(alloc, store, index, command),
             Some(stamp) => {
-                let gate = gate(alloc, &self.queue.sessions, &stamp)?;
+                let gate = self.queue.sessions.check(alloc, &stamp)?;
                 self.go_through(alloc, store, gate, index, stamp, command)
             }
         }
