@@ -2,6 +2,7 @@ pub mod Agreeing
 pub mod Batches
 pub mod Follows
 pub mod InPlace
+pub mod Lengths
 pub mod OnDisk
 pub mod Steps
 pub mod Taking

@@ -1,5 +1,6 @@
 pub mod Batch
 pub mod Fault
+pub mod Lengths
 pub mod Marks
 pub mod Notices
 pub mod Numbers

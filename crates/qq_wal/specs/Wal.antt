@@ -1,5 +1,5 @@
 -- What a log keeps from call to call.
-use Rattle.std.specs.Prelude.{◌≡◌, ◌≤◌, ◌<◌, ◌+◌, ℕ, Bool, false, List, [], map, length, take, drop, Some, None, Result, Ok, Err, IsTrue}
+use Rattle.std.specs.Prelude.{◌++◌, ◌≡◌, ◌≤◌, ◌<◌, ◌+◌, ℕ, Bool, false, List, [], map, length, take, drop, Some, None, Result, Ok, Err, IsTrue}
 use Rattle.std.specs.List.{AllByRecursion, fold}
 use Rattle.std.specs.Global.{Vec}
 use Rattle.qq_base.specs.declared.ids.QueueId.{QueueId}
@@ -11,11 +11,13 @@ use Rattle.qq_log.specs.declared.lane.Carry.{Carry}
 use Rattle.qq_log.specs.declared.op.Op.{Op}
 use Rattle.qq_wal_record.specs.declared.header.Header.{Header}
 use Rattle.qq_wal_record.specs.declared.record.LogRecord.{LogRecord}
+use Rattle.qq_wal_record.specs.declared.record.LogRecord.TheVariants.{Carry as CarryRecord}
+use Rattle.qq_wal_record.specs.Encoding.{header_encoding}
 use Rattle.qq_chain.specs.Image.{files_of}
 use Rattle.qq_chain.specs.Lanes.{Lanes}
 use Rattle.qq_chain.specs.Laws.{op_records}
-use Rattle.qq_wal.specs.Batch.{AllFitBatch, IsBatch}
-use Rattle.qq_wal.specs.Marks.{Carries, AllFollow, HasCarry, Agree, known, queues_in, add_records}
+use Rattle.qq_wal.specs.Batch.{AllFitBatch, IsBatch, encodings}
+use Rattle.qq_wal.specs.Marks.{Carries, AllFollow, HasCarry, Agree, known, queues_in, carries_in, add_records}
 use Rattle.qq_wal.specs.Notices.{note_record, new_mark}
 use Rattle.qq_wal.specs.Numbers.{first_numbers, raise}
 use Rattle.qq_wal.specs.Running.{IsWrittenTo, IsSynced, StaysGiving, lanes_shown}
@@ -64,11 +66,17 @@ pub record Appends {D : Type 0} (count : ℕ) (old new : Wal D) : Type 0 where
   pub batch : IsBatch old.header.file count old.waiting.items
   pub waiting : new.waiting.items ≡ drop count old.waiting.items
   pub marks : new.marks.items ≡ fold note_record old.marks.items (take count old.waiting.items)
+  pub size : new.size ≡ old.size + length (encodings old.header.file (take count old.waiting.items))
+  pub going : new.stopped ≡ false
 
 -- at each moment the promise is kept, with some of what waits, from the first on, among the given ops
 pub record StaysAppending (queues : List QueueId) (waiting : List LogRecord) (old new : List Disk) : Type 0 where
   pub count : ℕ
   pub stays : (batch : List Op) → op_records batch ≡ take count waiting → StaysGiving queues batch old new
+
+-- the length of a new file: its header, and the carries of the queues that have one
+abbrev pub first_length : Header → List Mark → ℕ
+first_length h marks = length (header_encoding h ++ encodings h.file (map CarryRecord (carries_in marks)))
 
 -- a log that was begun: nothing waits, and of each queue is known what its carry says
 pub record IsBegun {D : Type 0} (queues : Vec QueueId) (header : Header) (carries : List Carry) (names : List FileName)
@@ -77,6 +85,7 @@ pub record IsBegun {D : Type 0} (queues : Vec QueueId) (header : Header) (carrie
   pub header_is : w.header ≡ header
   pub waiting : w.waiting.items ≡ []
   pub marks : w.marks.items ≡ map (new_mark carries) queues.items
+  pub size : w.size ≡ first_length header w.marks.items
   pub numbers : w.numbers ≡ first_numbers header names
   pub limit : w.log_bytes ≡ log_bytes
   pub clean : w.dirty ≡ false
@@ -85,6 +94,7 @@ pub record IsBegun {D : Type 0} (queues : Vec QueueId) (header : Header) (carrie
 -- the log goes on in a new file, which names the old one with its length
 pub record IsRolled {D : Type 0} (old new : Wal D) : Type 0 where
   pub header : new.header ≡ record { file = old.numbers.log + 1; previous = old.header.file; good = old.size }
+  pub size : new.size ≡ first_length new.header new.marks.items
   pub numbers : new.numbers ≡ raise Log old.numbers
   pub log_bytes : new.log_bytes ≡ old.log_bytes
   pub waiting : new.waiting ≡ old.waiting

@@ -1,5 +1,5 @@
 //! The first bytes of a file.
-ghost use Rattle.std.specs.Prelude.{◌≡◌, ◌++◌, List, map, option_to_list, IfOk, OnOk, IsOkUnless, IfSome};
+ghost use Rattle.std.specs.Prelude.{◌≡◌, ◌++◌, List, length, map, option_to_list, IfOk, OnOk, IsOkUnless, IfSome};
 ghost use Rattle.std.specs.List.{AllByRecursion};
 ghost use Rattle.qq_base.specs.declared.ids.QueueId.{QueueId};
 ghost use Rattle.qq_chain.specs.Laws.{first_bytes};
@@ -7,6 +7,7 @@ ghost use Rattle.qq_wal_record.specs.declared.record.LogRecord.TheVariants.{Carr
 ghost use Rattle.qq_chain.specs.Wal.{Ours, RecordFits};
 ghost use Rattle.qq_wal.specs.Batch.{encodings};
 ghost use Rattle.qq_wal.specs.Marks.{HasCarry, carries_in};
+ghost use Rattle.qq_wal.specs.Wal.{first_length};
 
 use crate::batch::put_record;
 use crate::marks::{Mark, copy_carry};
@@ -49,6 +50,7 @@ pub(crate) fn first_bytes(alloc: Global, header: Header, marks: &[Mark]) -> Resu
     requires { AllByRecursion HasCarry marks.now }
     ensures ok { (queues : List QueueId) → IfOk result (λ bytes. bytes.items ≡
         first_bytes queues header.file (Ours header) (map CarryRecord (carries_in marks.now))) }
+    ensures length { IfOk result (λ bytes. length bytes.items ≡ first_length header marks.now) }
     ensures fits { OnOk result (
         AllByRecursion (RecordFits header.file) (map CarryRecord (carries_in marks.now))) }
     ensures want { IsOkUnless result Memory.Want }

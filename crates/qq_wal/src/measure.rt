@@ -1,56 +1,134 @@
-//! How long records will be.
-ghost use Rattle.std.specs.Prelude.{◌≡◌, ◌<◌, ◌≤◌, All, length, IfOk, IfSome, IfNone, IsOkUnless};
+//! How many bytes records will have, told without writing them.
+ghost use Rattle.std.specs.Prelude.{◌≡◌, ◌+◌, ◌<◌, ◌≤◌, ◌^◌, All, length, IfSome, IfNone};
 ghost use Rattle.std.specs.List.{flat_map};
 ghost use Rattle.qq_command.specs.Encoding.{encoding};
-ghost use Rattle.qq_entry.specs.Range.{IsWritable};
+ghost use Rattle.qq_entry.specs.Range.{AreDeadDones, AreIds, IsCommand, IsContent, IsWritable};
 ghost use Rattle.qq_log.specs.Writable.{HasFields};
 ghost use Rattle.qq_wal.specs.Batch.{is_short};
+ghost use Rattle.qq_wal.specs.Lengths.{origin_length, content_length, ids_length, dead_dones_length, fields_length};
 ghost use Rattle.qq_wal.specs.declared.batch.TheConstants.{BATCH_BYTES};
 
 use crate::batch::BATCH_BYTES;
-use qq_base::Memory;
-use qq_command::encode;
-use qq_entry::Entry;
+use qq_command::{Command, Content, DeadDone, Entry, Origin};
 use qq_log::Op;
-use std::alloc::Global;
 
 /// The bytes of a change's record beside its entries.
 const CHANGE_LEN: usize = 46;
 
+/// The bytes of an entry beside its command's fields: term, length, time and kind.
+const ENTRY_LEN: usize = 21;
+
+/// A session.
+const SESSION_LEN: usize = 13;
+
+/// A stamp.
+const STAMP_LEN: usize = 29;
+
+/// A stamp and a tag.
+const CONSUMER_LEN: usize = 33;
+
+fn origin_len(from: &Option<Origin>) -> usize
+    ensures { result ≡ origin_length from.now }
+{
+    match from {
+        None => 1,
+        Some(_) => 13,
+    }
+}
+
+fn content_len(of: &Option<Content>) -> usize
+    requires { IfSome of.now IsContent }
+    ensures len { result ≡ content_length of.now }
+    ensures within { result < 2 ^ 32 }
+{
+    match of {
+        None => 0,
+        Some(c) => 7 + c.body.len() + c.key.len() + 5 * c.deaths.len(),
+    }
+}
+
+fn ids_len(list: &[u64]) -> usize
+    requires { AreIds list.now }
+    ensures len { result ≡ ids_length list.now }
+    ensures within { result < 2 ^ 32 }
+{
+    4 + 8 * list.len()
+}
+
+fn dead_dones_len(list: &[DeadDone]) -> usize
+    requires { AreDeadDones list.now }
+    ensures len { result ≡ dead_dones_length list.now }
+    ensures within { result < 2 ^ 32 }
+{
+    let mut len = 2;
+    'list: for done in list {
+        len += 10 + 4 * done.targets.len();
+    }
+    len
+}
+
+fn fields_len(command: &Command) -> usize
+    requires { IsCommand command.now }
+    ensures len { result ≡ fields_length command.now }
+    ensures within { result < 2 ^ 33 }
+{
+    match command {
+        Command::Noop { .. } => 1,
+        Command::Enqueue {
+            origin,
+            message,
+            ..
+        } => STAMP_LEN + origin_len(origin) + content_len(&message.content),
+        Command::Get { .. } | Command::Purge { .. } => STAMP_LEN,
+        Command::Subscribe { .. } => CONSUMER_LEN + 3,
+        Command::Cancel { .. } => CONSUMER_LEN,
+        Command::Credit { .. } => CONSUMER_LEN + 9,
+        Command::Settle { ids, .. } | Command::Return { ids, .. } | Command::Discard { ids, .. } =>
+            CONSUMER_LEN + ids_len(ids.as_slice()),
+        Command::Down { .. } => SESSION_LEN,
+        Command::DeadAttach { .. } => 8,
+        Command::DeadSettle { done, .. } => 8 + dead_dones_len(done.as_slice()),
+    }
+}
+
+fn entry_len(entry: &Entry) -> usize
+    requires { IsWritable entry.now }
+    ensures len { result ≡ length (encoding entry.now) }
+    ensures within { result < 2 ^ 34 }
+{
+    ENTRY_LEN + fields_len(&entry.command)
+}
+
 /// How many bytes entries have, None where that is more than a batch may have.
-pub(crate) fn entries_len(alloc: Global, entries: &[Entry]) -> Result<Option<usize>, Memory>
+fn entries_len(entries: &[Entry]) -> Option<usize>
     requires { All IsWritable entries.now }
-    ensures some { IfOk result (λ len.
-        IfSome len (λ len. len ≡ length (flat_map encoding entries.now))) }
-    ensures within { IfOk result (λ len. IfSome len (λ len. len ≤ BATCH_BYTES)) }
-    ensures none { IfOk result (λ len.
-        IfNone len (BATCH_BYTES < length (flat_map encoding entries.now))) }
-    ensures want { IsOkUnless result Memory.Want }
+    ensures some { IfSome result (λ len. len ≡ length (flat_map encoding entries.now)) }
+    ensures within { IfSome result (λ len. len ≤ BATCH_BYTES) }
+    ensures none { IfNone result (BATCH_BYTES < length (flat_map encoding entries.now)) }
 {
     let mut len = 0;
     for entry in entries {
         if len > BATCH_BYTES {
-            return Ok(None);
+            return None;
         }
-        len += encode(alloc, entry)?.len();
+        len += entry_len(entry);
     }
     if len > BATCH_BYTES {
-        return Ok(None);
+        return None;
     }
-    Ok(Some(len))
+    Some(len)
 }
 
 /// Whether an op's record has no more bytes than a batch may have, its head and mark counted.
-pub(crate) fn is_short(alloc: Global, op: &Op) -> Result<bool, Memory>
+pub(crate) fn is_short(op: &Op) -> bool
     requires fields { HasFields op.now }
-    ensures short { IfOk result (λ short. short ≡ is_short op.now) }
-    ensures want { IsOkUnless result Memory.Want }
+    ensures { result ≡ is_short op.now }
 {
     match op {
-        Op::Change { entries, .. } => match entries_len(alloc, entries.as_slice())? {
-            None => Ok(false),
-            Some(len) => Ok(CHANGE_LEN + len <= BATCH_BYTES),
+        Op::Change { entries, .. } => match entries_len(entries.as_slice()) {
+            None => false,
+            Some(len) => CHANGE_LEN + len <= BATCH_BYTES,
         },
-        Op::SnapshotMade { .. } | Op::SegmentMade { .. } => Ok(true),
+        Op::SnapshotMade { .. } | Op::SegmentMade { .. } => true,
     }
 }

@@ -47,6 +47,7 @@ impl<D: NodeDisk> Wal<D> {
         ensures err { OnErr result (self.new.stopped ≡ false → self.new ≡ self.old) }
         ensures stopped { self.old.stopped ≡ true →
             (self.new ≡ self.old) × (result ≡ Err WalFault.Stopped) }
+        ensures stops { result ≡ Err WalFault.Disk → self.new.stopped ≡ true }
         ensures spent { self.old.stopped ≡ false → NUMBER_END ≤ self.old.numbers.log →
             result ≡ Err (WalFault.Memory (Memory.Spent self.old.numbers.log)) }
         ensures told { D.tells self.new.disk ≡ D.tells self.old.disk }

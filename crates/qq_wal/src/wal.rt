@@ -129,7 +129,7 @@ impl<D: NodeDisk> Wal<D> {
 
     /// Takes an op, which is written by a later `append_batch`. `TooLarge` comes exactly where its record
     /// would have more bytes than a batch may have. The op is handed back on each refusal.
-    pub fn gather(&mut self, alloc: Global, op: Op) -> Result<(), (WalFault, Op)>
+    pub fn gather(&mut self, op: Op) -> Result<(), (WalFault, Op)>
         requires fields { HasFields op }
         requires follows { MayFollow self.old.queues.items (carries_ahead self.old) op }
         requires sound { IsSound D.tells D.past self.old }
@@ -148,10 +148,8 @@ impl<D: NodeDisk> Wal<D> {
         if self.stopped {
             return Err((WalFault::Stopped, op));
         }
-        match is_short(alloc, &op) {
-            Ok(true) => {}
-            Ok(false) => return Err((WalFault::TooLarge, op)),
-            Err(memory) => return Err((WalFault::Memory(memory), op)),
+        if !is_short(&op) {
+            return Err((WalFault::TooLarge, op));
         }
         if self.waiting.reserve(1).is_err() {
             return Err((WalFault::Memory(Memory::Want), op));
@@ -179,6 +177,7 @@ impl<D: NodeDisk> Wal<D> {
         ensures err { OnErr result (self.new.stopped ≡ false → self.new ≡ self.old) }
         ensures stopped { self.old.stopped ≡ true →
             (self.new ≡ self.old) × (result ≡ Err WalFault.Stopped) }
+        ensures stops { result ≡ Err WalFault.Disk → self.new.stopped ≡ true }
         ensures file { SameFile self.old self.new }
         ensures told { D.tells self.new.disk ≡ D.tells self.old.disk }
         ensures cause { HasCause (IsAppendCaused self.old.stopped self.old.size)
@@ -217,6 +216,7 @@ impl<D: NodeDisk> Wal<D> {
         ensures notices { IfOk result (λ notices. notices.items ≡ notices_in self.old.marks.items) }
         ensures marks { OnOk result (self.new.marks.items ≡ map sync_mark self.old.marks.items) }
         ensures synced { OnOk result (self.new.dirty ≡ false) }
+        ensures going { OnOk result (self.new.stopped ≡ false) }
         ensures stays { IsTrue (D.tells self.old.disk) →
             Stays self.old.queues.items (D.past self.old.disk) (D.past self.new.disk) }
         ensures noticed { IsTrue (D.tells self.old.disk) → OnOk result (MayNotice
@@ -228,6 +228,7 @@ impl<D: NodeDisk> Wal<D> {
         ensures err { OnErr result (self.new.stopped ≡ false → self.new ≡ self.old) }
         ensures stopped { self.old.stopped ≡ true →
             (self.new ≡ self.old) × (result ≡ Err WalFault.Stopped) }
+        ensures stops { result ≡ Err WalFault.Disk → self.new.stopped ≡ true }
         ensures file { SameFile self.old self.new }
         ensures told { D.tells self.new.disk ≡ D.tells self.old.disk }
         ensures cause { HasCause (IsCaused self.old.stopped)

@@ -1,4 +1,4 @@
-use Rattle.std.proofs.Common.{List, map, subst, sym, ap, ◌∙◌, refl, rules}
+use Rattle.std.proofs.Common.{List, map, subst, sym, ap, ◌∙◌, refl, rules, ◌≡◌, length}
 use Rattle.std.specs.List.{AllByRecursion}
 use Rattle.std.proofs.lemmas.List.Elements.{recursion_from_All}
 use Rattle.qq_base.specs.declared.ids.QueueId.{QueueId}
@@ -10,6 +10,7 @@ use Rattle.qq_wal.specs.declared.marks.Mark.{Mark}
 use Rattle.qq_wal.specs.Batch.{AllFitBatch}
 use Rattle.qq_wal.specs.Marks.{AllFollow, HasCarry, IsCarry, carries_in, known, queues_in}
 use Rattle.qq_wal.specs.Notices.{new_mark}
+use Rattle.qq_wal.specs.Wal.{first_length}
 use Rattle.qq_wal.proofs.Agreeing.{begun-carries, begun-queues}
 use Rattle.qq_wal.proofs.Batches.{told_before}
 use Rattle.qq_wal.proofs.OnDisk.{begin-continues, begin-on-disk}
@@ -103,4 +104,21 @@ returns-clause-sound g c =
           (in_top c.args.header.file (search rules)) c.in-Ok-first_bytes.ensures.fits in
           (c.in_default.ensures.log before queues may.before records goes_on
           (c.as_slice-3.ensures.value ∙ c.in-Ok-first_bytes.ensures.ok queues)).1;
+    }
+
+pub returns-clause-ok : goal.returns-clause-ok
+returns-clause-ok g c =
+    let long : c.len.result ≡ length c.in-Ok-first_bytes.bytes.items = search rules in
+    record {
+      queues_are = refl;
+      header_is = refl;
+      waiting = c.new.ensures.items;
+      marks = c.in-Ok.ensures.ok
+          ∙ ap (λ (l : List QueueId). map (new_mark c.args.carries.now) l) c.as_slice.ensures.value;
+      size = long ∙ c.in-Ok-first_bytes.ensures.length
+          ∙ ap (λ (l : List Mark). first_length c.args.header l) c.as_slice-2.ensures.value;
+      numbers = c.first_numbers.ensures;
+      limit = refl;
+      clean = refl;
+      going = refl;
     }

@@ -1,4 +1,4 @@
-use Rattle.std.proofs.Common.{◌∷◌, map, sym, ◌∙◌, refl, arith, rules}
+use Rattle.std.proofs.Common.{ap, List, ◌∷◌, map, sym, ◌∙◌, refl, arith, rules, ◌≡◌, length}
 use Rattle.qq_disk.specs.Disk.{now}
 use Rattle.qq_log.specs.Stable.{carry_of}
 use Rattle.qq_wal_record.specs.declared.header.Header.{Header}
@@ -7,6 +7,8 @@ use Rattle.qq_chain.specs.Image.{files_of}
 use Rattle.qq_chain.specs.Promise.{found_behind}
 use Rattle.qq_chain.specs.Wal.{wal, Ours}
 use Rattle.qq_wal.specs.Marks.{carries_in}
+use Rattle.qq_wal.specs.declared.marks.Mark.{Mark}
+use Rattle.qq_wal.specs.Wal.{first_length}
 use Rattle.qq_wal.specs.Running.{top}
 use Rattle.qq_wal.proofs.Batches.{told_before}
 use Rattle.qq_wal.proofs.OnDisk.{next-file, next-on-disk}
@@ -160,3 +162,24 @@ returns-clause-sound g c = record {
       c.begin_file.ensures.range (in_top c.in-Ok.number c.begin_file.ensures.range.0) c.in-Ok-first_bytes.ensures.fits)
       (c.as_slice-2.ensures.value ∙ c.in-Ok-first_bytes.ensures.ok was.queues.items)).1;
 }
+
+pub returns-clause-ok : goal.returns-clause-ok
+returns-clause-ok g c =
+    let was = c.args.self.now in
+    let header : Header = record { file = c.in-Ok.number; previous = was.header.file; good = was.size } in
+    let long : c.len.result ≡ length c.in-Ok-first_bytes.bytes.items = search rules in
+    record {
+      header = λ i. record { file = c.in-Ok.ensures.ok i; previous = was.header.file; good = was.size };
+      size = long ∙ c.in-Ok-first_bytes.ensures.length
+          ∙ ap (λ (l : List Mark). first_length header l) c.as_slice.ensures.value;
+      numbers = λ i. record {
+        log = c.in-Ok.ensures.ok i;
+        segment = was.numbers.segment;
+        snapshot = was.numbers.snapshot;
+      };
+      log_bytes = refl;
+      waiting = refl;
+      marks = refl;
+      dirty = refl;
+      stopped = refl;
+    }
