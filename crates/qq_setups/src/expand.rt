@@ -39,6 +39,9 @@ impl Names {
                 _ => text.push(c)?,
             }
         }
+        if !around.is_empty() {
+            anyhow::bail!("a bracket is open");
+        }
         Ok(text)
     }
 
