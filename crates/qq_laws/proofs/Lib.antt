@@ -17,8 +17,10 @@ pub mod RejectedLemmas
 pub mod WorkerLemmas
 pub mod DeadKinds
 pub mod RefusalLemmas
+pub mod DrainedLemmas
 pub mod ClosingLemmas
 pub mod GivingWay
+pub mod FewSessions
 pub mod Runs
 pub mod TurnAway
 pub mod ActiveLemmas

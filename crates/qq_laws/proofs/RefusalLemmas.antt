@@ -174,7 +174,7 @@ credited-unrefused : (said : Answer) → is_credited said ≡ true → refusal_i
 credited-unrefused (answer.Credited n) is = refl
 credited-unrefused _ is = absurd (false≢true is)
 
-drain-refusal : (command : Command) (a : Acted)
+pub drain-refusal : (command : Command) (a : Acted)
     → refusal_in (drain_after command a).answer ≡ refusal_in a.answer
 unfolding drain_after
 drain-refusal (Credit given tag count credit wanted) a =
