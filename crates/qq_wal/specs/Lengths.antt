@@ -1,5 +1,5 @@
 -- How many bytes the parts of an entry have.
-use Rattle.std.specs.Prelude.{◌+◌, ◌*◌, ℕ, List, length, map, fold, Option, Some, None}
+use Rattle.std.specs.Prelude.{◌+◌, ◌*◌, ℕ, List, length, fold, Option, Some, None}
 use Rattle.qq_entry.specs.declared.message.Content.{Content}
 use Rattle.qq_entry.specs.declared.message.Origin.{Origin}
 use Rattle.qq_entry.specs.declared.command.Command.{Command}
