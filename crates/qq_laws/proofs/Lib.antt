@@ -17,6 +17,7 @@ pub mod RejectedLemmas
 pub mod WorkerLemmas
 pub mod DeadKinds
 pub mod RefusalLemmas
+pub mod PlaceLemmas
 pub mod DrainedLemmas
 pub mod ClosingLemmas
 pub mod GivingWay

@@ -6,6 +6,7 @@ pub mod Counts
 pub mod DeadLetters
 pub mod Rejected
 pub mod Refusals
+pub mod Places
 pub mod Drained
 pub mod Closing
 pub mod Once

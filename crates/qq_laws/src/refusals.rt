@@ -1,8 +1,11 @@
-//! Laws of what is refused, and of what a credit answers.
+//! Laws of what is refused, of what a credit answers, and of who begins to wait.
 
+ghost use Rattle.qq_base.specs.declared.ids.Index.{Index};
+ghost use Rattle.qq_entry.specs.declared.command.Command.{Command};
 ghost use Rattle.qq_entry.specs.declared.command.Entry.{Entry};
 ghost use Rattle.qq_model.specs.State.{State};
 ghost use Rattle.qq_laws.specs.Drained.{AnswersDrained};
+ghost use Rattle.qq_laws.specs.Places.{BeginsToWait};
 ghost use Rattle.qq_laws.specs.Refusals.{RefusesExactly};
 
 /// A command that is carried out is refused exactly so: a get with a single active consumer; a subscribe whose
@@ -17,4 +20,10 @@ pub fn refusals_are_exact()
 /// it drains that, and else 0 (AMQP 1.0, section 2.6.7).
 pub fn drains_are_answered()
     ensures { (s : State) (entry : Entry) → AnswersDrained s entry }
+{}
+
+/// A credit, a settle, a return and a discard give their consumer the next turn exactly where they bring its
+/// free credit from 0 to more; else it keeps its place among those that wait.
+pub fn consumers_keep_their_places()
+    ensures { (s : State) (index : Index) (command : Command) → BeginsToWait s index command }
 {}
