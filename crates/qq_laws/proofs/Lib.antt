@@ -18,6 +18,7 @@ pub mod WorkerLemmas
 pub mod DeadKinds
 pub mod RefusalLemmas
 pub mod PlaceLemmas
+pub mod PlainAnswers
 pub mod DrainedLemmas
 pub mod ClosingLemmas
 pub mod GivingWay

@@ -1,12 +1,12 @@
 -- Which commands are refused, and why.
-use Rattle.std.specs.Prelude.{◌≡◌, ℕ, true, Option, Some, None, length, nat_le, if◌then◌else◌}
+use Rattle.std.specs.Prelude.{IfSome, ◌≡◌, ℕ, true, Option, Some, None, length, nat_le, if◌then◌else◌}
 use Rattle.qq_entry.specs.Command.{consumer_id}
 use Rattle.qq_entry.specs.declared.answer.Answer.{Answer}
-use Rattle.qq_entry.specs.declared.answer.Answer.TheVariants.{Refused}
+use Rattle.qq_entry.specs.declared.answer.Answer.TheVariants as answer
 use Rattle.qq_entry.specs.declared.answer.Cause.{Cause}
 use Rattle.qq_entry.specs.declared.answer.Cause.TheVariants.{ConsumersFull, NoConsumer, NumberSpent, SingleActive, WrongMode}
 use Rattle.qq_entry.specs.declared.command.Command.{Command}
-use Rattle.qq_entry.specs.declared.command.Command.TheVariants.{Cancel, Credit, Discard, Get, Return, Settle, Subscribe}
+use Rattle.qq_entry.specs.declared.command.Command.TheVariants.{Noop, Cancel, Credit, Discard, Down, Get, Return, Settle, Subscribe}
 use Rattle.qq_entry.specs.declared.command.Entry.{Entry}
 use Rattle.qq_entry.specs.declared.command.Mode.{Mode}
 use Rattle.qq_entry.specs.declared.command.Mode.TheVariants.{Prefetch, Link}
@@ -18,7 +18,7 @@ use Rattle.qq_model.specs.Gate.{greatest_tag}
 use Rattle.qq_model.specs.Audit.{next_step}
 
 abbrev pub refusal_in : Answer → Option Cause
-refusal_in (Refused cause) = Some cause
+refusal_in (answer.Refused cause) = Some cause
 refusal_in _ = None
 
 -- a tag that isn't above all that its session used, else a full table
@@ -63,3 +63,19 @@ abbrev pub RefusesExactly : State → Entry → Type 0
 RefusesExactly s entry =
     (next_step s entry).fresh ≡ true
     → refusal_in (next_step s entry).answer ≡ refused_with s.sessions s entry.command
+
+-- what a command that isn't refused is answered, where that is one answer alone
+abbrev pub plain_answer : Command → Option Answer
+plain_answer (Noop version) = Some answer.Lead
+plain_answer (Cancel given tag) = Some answer.Done
+plain_answer (Settle given tag ids) = Some answer.Done
+plain_answer (Return given tag ids) = Some answer.Done
+plain_answer (Discard given tag ids) = Some answer.Done
+plain_answer (Down session) = Some answer.Down
+plain_answer _ = None
+
+-- a command that is carried out, and not refused, is answered so
+abbrev pub AnswersPlainly : State → Entry → Type 0
+AnswersPlainly s entry =
+    (next_step s entry).fresh ≡ true → refusal_in (next_step s entry).answer ≡ None
+    → IfSome (plain_answer entry.command) (λ said. (next_step s entry).answer ≡ said)

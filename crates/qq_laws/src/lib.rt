@@ -39,7 +39,9 @@ pub use messages::{
     messages_are_in_order, messages_last, publishes_are_kept, publishes_are_rejected_at_limits,
     purges_take_the_ready, the_first_message_is_next,
 };
-pub use refusals::{consumers_keep_their_places, drains_are_answered, refusals_are_exact};
+pub use refusals::{
+    answers_are_plain, consumers_keep_their_places, drains_are_answered, refusals_are_exact,
+};
 pub use sessions::{
     commands_are_carried_out_once, commands_are_fresh_where_let_in, commands_count_by_one,
     commands_turned_away_change_nothing, marks_only_rise, repeats_are_answered_as_before,

@@ -6,7 +6,7 @@ ghost use Rattle.qq_entry.specs.declared.command.Entry.{Entry};
 ghost use Rattle.qq_model.specs.State.{State};
 ghost use Rattle.qq_laws.specs.Drained.{AnswersDrained};
 ghost use Rattle.qq_laws.specs.Places.{BeginsToWait};
-ghost use Rattle.qq_laws.specs.Refusals.{RefusesExactly};
+ghost use Rattle.qq_laws.specs.Refusals.{AnswersPlainly, RefusesExactly};
 
 /// A command that is carried out is refused exactly so: a get with a single active consumer; a subscribe whose
 /// tag isn't above all that its session used, else one to a full table; a cancel or a credit whose consumer
@@ -14,6 +14,12 @@ ghost use Rattle.qq_laws.specs.Refusals.{RefusesExactly};
 /// isn't there.
 pub fn refusals_are_exact()
     ensures { (s : State) (entry : Entry) → RefusesExactly s entry }
+{}
+
+/// A command that isn't refused is answered so: a noop `Lead`, a cancel, settle, return or discard `Done`, the
+/// end of a session `Down`.
+pub fn answers_are_plain()
+    ensures { (s : State) (entry : Entry) → AnswersPlainly s entry }
 {}
 
 /// A credit that isn't refused answers how much of its consumer's credit was left after the deliveries, where
