@@ -22,3 +22,6 @@ pub use laws::notices_are_of_their_ops;
 pub use notices::Notice;
 pub use numbers::greatest_number;
 pub use wal::Wal;
+
+#[cfg(test)]
+mod tests;

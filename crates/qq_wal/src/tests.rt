@@ -1,0 +1,183 @@
+ghost use Rattle.std.specs.Prelude.{◌≡◌, ◌<◌, [], false, IfOk};
+ghost use Rattle.qq_wal.specs.Notices.{last_index};
+ghost use Rattle.qq_wal.specs.Wal.{IsSound};
+
+use super::*;
+use crate::marks::new_marks;
+use crate::notices::{note_all, notices_in};
+use qq_base::{Index, Memory, NUMBER_END, NodeId, QueueId, Term};
+use qq_command::Entries;
+use qq_disk::{DiskFault, FileKind, FileName, NodeDisk};
+use qq_log::Op;
+use qq_mem_disk::MemDisk;
+use qq_wal_record::Header;
+use std::alloc::Global;
+use std::process::Abort;
+use std::test::Fail;
+
+/// File 1, which names no other.
+const FIRST: &str = "51514c4f470100000000000000010000000000000000000000000000000052e411e63587068b";
+
+/// File 2 behind 38 bytes of file 1.
+const SECOND: &str = "51514c4f47010000000000000002000000000000000100000000000000264aaf92ff3f163126";
+
+/// A disk that tells nothing of what it holds.
+#[derive(Drop)]
+struct Hiding {
+    disk: MemDisk,
+}
+
+impl NodeDisk for Hiding {
+    ghost use Rattle.std.specs.Prelude.{false, []};
+    ghost use Rattle.qq_mem_disk.specs.MemDisk.{counter_of};
+
+    ghost tells = { λ _. false };
+
+    ghost past = { λ _. [] };
+
+    ghost faults = { λ hiding. (counter_of hiding.disk).faults };
+
+    fn names(&mut self, alloc: Global) -> Result<Vec<FileName>, DiskFault> {
+        self.disk.names(alloc)
+    }
+
+    fn size(&mut self, alloc: Global, file: FileName) -> Result<u64, DiskFault> {
+        self.disk.size(alloc, file)
+    }
+
+    fn read(
+        &mut self,
+        alloc: Global,
+        file: FileName,
+        place: u64,
+        buf: &mut [u8],
+    ) -> Result<usize, DiskFault> {
+        self.disk.read(alloc, file, place, buf)
+    }
+
+    fn append(&mut self, alloc: Global, file: FileName, bytes: &[u8]) -> Result<(), DiskFault> {
+        self.disk.append(alloc, file, bytes)
+    }
+
+    fn sync(&mut self, alloc: Global, file: FileName) -> Result<(), DiskFault> {
+        self.disk.sync(alloc, file)
+    }
+
+    fn remove(&mut self, alloc: Global, file: FileName) -> Result<(), DiskFault> {
+        self.disk.remove(alloc, file)
+    }
+}
+
+/// A log of queues 1 and 2 without ops, on a disk that fails at calls of these numbers. It is full with
+/// 39 bytes.
+fn started(alloc: Global, file: u64, fails: Vec<u64>) -> Result<Wal<Hiding>, Fail>
+    requires { 0 < file }
+    ensures sound { IfOk result (λ w. IsSound (λ _. false) (λ _. []) w) }
+    ensures clean { IfOk result (λ w. w.dirty ≡ false) }
+{
+    let mut disk = MemDisk::new(alloc);
+    disk.fail_calls(fails);
+    let mut queues = Vec::new(alloc);
+    queues.push(QueueId(1))?;
+    queues.push(QueueId(2))?;
+    let header = Header {
+        file,
+        previous: 0,
+        good: 0,
+    };
+    match Wal::begin(Hiding { disk }, alloc, queues, header, &[], &[], 39) {
+        Ok(wal) => Ok(wal),
+        Err((fault, _)) => Err(fault.into()),
+    }
+}
+
+fn change(alloc: Global, queue: u32, op: u64) -> Op
+    ensures { last_index result ≡ 0 }
+{
+    Op::Change {
+        queue: QueueId(queue),
+        op,
+        term: Term(1),
+        vote: Some(NodeId(1)),
+        keep: Index(0),
+        entries: Entries::new(alloc),
+    }
+}
+
+fn told(queue: u32, op: u64) -> Notice {
+    Notice {
+        queue: QueueId(queue),
+        term: Term(1),
+        first: Index(0),
+        last: Index(0),
+        op,
+    }
+}
+
+#[test]
+fn a_queue_is_told_of_its_own_last_op(rt: HostRuntime) -> Result<(), Fail> {
+    let alloc = rt.alloc();
+    let mut marks = new_marks(alloc, &[QueueId(1), QueueId(2)], &[])?;
+    note_all(alloc, &mut marks, &change(alloc, 1, 1));
+    note_all(alloc, &mut marks, &change(alloc, 2, 1));
+    note_all(alloc, &mut marks, &change(alloc, 1, 2));
+    let notices = notices_in(alloc, &marks)?;
+    assert!(rt; notices.as_slice() == [told(1, 2), told(2, 1)].as_slice());
+    Ok(())
+}
+
+fn shows(
+    rt: &impl Abort,
+    alloc: Global,
+    disk: &mut Hiding,
+    number: u64,
+    text: &str,
+) -> Result<(), Fail> {
+    let file = FileName {
+        kind: FileKind::Log,
+        number,
+    };
+    let wanted = hex::decode(alloc, text.as_bytes())?;
+    let mut bytes = [0; 64];
+    let count = disk.read(alloc, file, 0, &mut bytes)?;
+    assert_eq!(rt; count, wanted.len());
+    assert!(rt; bytes.as_slice().starts_with(wanted.as_slice()));
+    Ok(())
+}
+
+#[test]
+fn a_new_file_names_the_old_one(rt: HostRuntime) -> Result<(), Fail> {
+    let alloc = rt.alloc();
+    let mut wal = started(alloc, 1, Vec::new(alloc))?;
+    assert!(rt; !wal.full());
+    assert!(rt; wal.roll(alloc) == Ok(2));
+    let mut disk = wal.into_disk();
+    shows(&rt, alloc, &mut disk, 1, FIRST)?;
+    shows(&rt, alloc, &mut disk, 2, SECOND)?;
+    Ok(())
+}
+
+#[test]
+fn the_log_stops_where_the_disk_fails(rt: HostRuntime) -> Result<(), Fail> {
+    let alloc = rt.alloc();
+    let mut fails = Vec::new(alloc);
+    fails.push(3)?;
+    let mut wal = started(alloc, 1, fails)?;
+    assert!(rt; wal.roll(alloc) == Err(WalFault::Disk));
+    assert!(rt; wal.append_batch(alloc) == Err(WalFault::Stopped));
+    assert!(rt; wal.sync_batch(alloc).is_err());
+    Ok(())
+}
+
+#[test]
+fn numbers_end(rt: HostRuntime) -> Result<(), Fail> {
+    let alloc = rt.alloc();
+    let mut wal = started(alloc, NUMBER_END - 1, Vec::new(alloc))?;
+    assert!(rt; wal.fresh(FileKind::Segment) == Ok(1));
+    assert!(rt; wal.fresh(FileKind::Segment) == Ok(2));
+    assert!(rt; wal.fresh(FileKind::Log) == Ok(NUMBER_END));
+    let spent = Memory::Spent { number: NUMBER_END };
+    assert!(rt; wal.fresh(FileKind::Log) == Err(spent));
+    assert!(rt; wal.roll(alloc) == Err(WalFault::Memory(spent)));
+    Ok(())
+}
