@@ -49,8 +49,15 @@ is_named queues number = list_any (λ (q : QueueId). nat_eq q.0 number) queues
 abbrev pub put : Exchanges → List ℕ → ExchangeState → Exchanges
 put exchanges name e other = if bytes_eq name other then Some e else exchanges other
 
+-- whether the queue is bound under the key
+abbrev pub has_binding : ExchangeState → Binding → Bool
+has_binding e b =
+    list_any (λ (other : Binding). nat_eq other.queue.0 b.queue.0 && bytes_eq b.key other.key) e.bindings
+
+-- Bindings are a set: one that is there is bound again without an error, and changes nothing (AMQP 0-9-1, reference
+-- of queue.bind, on duplicate bindings).
 abbrev pub with_binding : ExchangeState → Binding → ExchangeState
-with_binding e b = record e { bindings = e.bindings ++ b ∷ [] }
+with_binding e b = if has_binding e b then e else record e { bindings = e.bindings ++ b ∷ [] }
 
 abbrev pub put_binding : Exchanges → List ℕ → Binding → Option ExchangeState → Exchanges
 put_binding exchanges name b None = exchanges

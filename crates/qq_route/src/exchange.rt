@@ -1,7 +1,7 @@
 ghost use Rattle.std.specs.Prelude.{◌≡◌, ◌++◌, ◌∷◌, [], map, filter, ℕ, List, IfOk, OnOk, OnErr, IsOkUnless};
 ghost use Rattle.qq_route.specs.declared.exchange.ExchangeKind.TheVariants.{Topic};
 ghost use Rattle.qq_route.specs.Index.{index_of, with_queue};
-ghost use Rattle.qq_route.specs.Routes.{takes};
+ghost use Rattle.qq_route.specs.Routes.{is_named, takes};
 
 use crate::topic::topic_matches;
 use qq_base::{Duplicate, Memory, QueueId, Text};
@@ -28,7 +28,8 @@ pub struct Binding {
     pub key: Text,
 }
 
-/// An exchange and its bindings, which are indexed by their keys.
+/// An exchange and its bindings, which are a set, in the order in which they were made, and are indexed by
+/// their keys.
 #[derive(Drop)]
 pub struct Exchange {
     kind: ExchangeKind,
@@ -51,7 +52,7 @@ impl Model for Exchange {
 
 impl Exchange {
     ghost use Rattle.qq_base.specs.declared.ids.QueueId.{QueueId};
-    ghost use Rattle.qq_route.specs.Routes.{with_binding};
+    ghost use Rattle.qq_route.specs.Routes.{has_binding, with_binding};
 
     /// An exchange with no bindings. It takes no memory.
     pub fn new(alloc: Global, kind: ExchangeKind) -> Self
@@ -70,13 +71,24 @@ impl Exchange {
         self.kind
     }
 
-    /// Binds a queue under a key. Out of memory, the exchange stays.
+    /// Whether the queue is bound under the key.
+    fn has_binding(&self, queue: QueueId, key: &str) -> bool
+        ensures { result ≡ has_binding self.now (record { queue = queue; key = key.now }) }
+    {
+        is_bound_under(&self.by_key, key, queue)
+    }
+
+    /// Binds a queue under a key. Where it is bound under the key already, and out of memory, the exchange
+    /// stays.
     pub fn bind(&mut self, alloc: Global, queue: QueueId, key: &Text) -> Result<(), Memory>
         ensures ok { OnOk result
             (self.new ≡ with_binding self.old (record { queue = queue; key = key.now })) }
         ensures err { OnErr result (self.new ≡ self.old) }
         ensures want { IsOkUnless result Memory.Want }
     {
+        if self.has_binding(queue, key.as_str()) {
+            return Ok(());
+        }
         let binding = Binding {
             queue,
             key: key.copy(alloc)?,
@@ -114,6 +126,15 @@ fn add_under(index: &mut Index, alloc: Global, name: &str, queue: QueueId) -> Re
     match queues.push(queue) {
         Ok(()) => Ok(()),
         Err(refused) => Err(Memory::from(refused)),
+    }
+}
+
+fn is_bound_under(index: &Index, key: &str, queue: QueueId) -> bool
+    ensures { result ≡ is_named (index_of index.now key.now) queue.0 }
+{
+    match index.get(key) {
+        Some(queues) => queues.iter().any(|bound| bound.0 == queue.0),
+        None => false,
     }
 }
 

@@ -196,7 +196,8 @@ impl Routes {
     }
 
     /// Binds a queue to an exchange under a key. The answer is false exactly where there is no exchange of
-    /// this name; all stays then, and out of memory. Nothing else is bound to the default exchange than
+    /// this name; all stays then, and out of memory. To bind a queue again under the same key changes
+    /// nothing (AMQP 0-9-1, reference of `queue.bind`). Nothing else is bound to the default exchange than
     /// each queue under its name, so a binding to it changes nothing.
     pub fn bind(
         &mut self,
