@@ -1,0 +1,10 @@
+mod Records
+mod Counted
+mod ChainLaws
+mod Way
+mod Quiet
+mod NewestLaws
+mod States
+mod Tables
+mod LogLaws
+mod Handed

@@ -1,0 +1,13 @@
+use Rattle.std.proofs.Common.{◌≡◌, ◌+◌, List, length}
+use Rattle.qq_base.specs.declared.ids.QueueId.{QueueId}
+use Rattle.qq_recover.proofs.Records.{ReadsOn}
+use Rattle.qq_recover.proofs.file.records_at.Given as goal
+
+abbrev pub invariant-records : goal.invariant-records
+invariant-records l = record {
+  so : (queues : List QueueId) → ReadsOn queues l.number l.start l.bytes l.found.items l.place l.rest;
+  long : l.place + length l.rest ≡ l.start + length l.bytes;
+}
+
+abbrev pub decreases-records : goal.decreases-records
+decreases-records l = length l.rest

@@ -1,0 +1,12 @@
+pub mod Answer
+pub mod Fault
+pub mod Placed
+pub mod Files
+pub mod Replay
+pub mod Reading
+pub mod ReadOnly
+pub mod Newest
+pub mod State
+pub mod Table
+pub mod Log
+pub mod Lanes
