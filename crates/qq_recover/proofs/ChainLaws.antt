@@ -25,7 +25,8 @@ use Rattle.qq_chain.specs.Format.{IsFormat}
 use Rattle.qq_chain.proofs.Replays.{replay-none}
 use Rattle.qq_chain.proofs.Running.{world-added}
 use Rattle.qq_recover.specs.declared.fault.RecoverFault.TheVariants.{Damaged}
-use Rattle.qq_recover.specs.Reading.{top, files_read, lanes_read}
+use Rattle.qq_wal.specs.Running.{top}
+use Rattle.qq_recover.specs.Reading.{files_read, lanes_read}
 
 -- a file, and those behind it
 abbrev with_older : (ℕ → ℕ → Answer (List ChainFile)) → Header × ChainFile → Answer (List ChainFile)

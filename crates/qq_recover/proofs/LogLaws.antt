@@ -18,7 +18,8 @@ use Rattle.qq_recover.specs.Answer.{Answer, ◌>>=◌, Fails}
 use Rattle.qq_recover.specs.Replay.{replay_files}
 use Rattle.qq_recover.specs.Files.{header_of, file_of, ends_at, file_at, chain_file, chain_files}
 use Rattle.qq_recover.specs.Log.{good_of, IsNewest}
-use Rattle.qq_recover.specs.Reading.{top, newest_file, lanes_read}
+use Rattle.qq_wal.specs.Running.{top}
+use Rattle.qq_recover.specs.Reading.{newest_file, lanes_read}
 use Rattle.qq_recover.proofs.Counted.{fails-then}
 use Rattle.qq_recover.proofs.ChainLaws.{files-none, files-at}
 

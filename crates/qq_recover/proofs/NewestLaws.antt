@@ -17,7 +17,8 @@ use Rattle.qq_chain.specs.Format.{IsFormat}
 use Rattle.qq_chain.specs.Wal.{wal, read_whole_header}
 use Rattle.qq_chain.proofs.Walk.{newest-is, newest-has, newest-above}
 use Rattle.qq_recover.specs.Newest.{has_whole, has_log, is_among, newer, newest_of}
-use Rattle.qq_recover.specs.Reading.{top, shown, newest_file}
+use Rattle.qq_wal.specs.Running.{top}
+use Rattle.qq_recover.specs.Reading.{shown, newest_file}
 
 module _ (has : ℕ → Bool) where
   newer-rises : (newest : ℕ) (file : FileName) → newest ≤ newer has newest file
@@ -187,10 +188,6 @@ module _ (d : Disk) (names : List FileName) (listing : IsListing d names) (file 
           absurd (let both : false ≡ true = sym e ∙ in-among names file (In-from_index names file c.0 c.1 c.2) in cc)
 
 -- ---- the front of a file
-
-pub in_top : (n : ℕ) → n < 2 ^ 64 → n ≤ top
-unfolding top
-in_top n h = omega (arith, h)
 
 -- a header is read from the first bytes
 pub front-whole : (laws : IsFormat (wal [])) (bytes old new : List ℕ) (count : ℕ) → length old ≡ 38

@@ -15,7 +15,7 @@ use Rattle.qq_recover.specs.declared.fault.RecoverFault.TheVariants.{Disk, Memor
 use Rattle.qq_recover.specs.declared.file.ChainFile.{ChainFile}
 use Rattle.qq_recover.specs.Answer.{Answer, ◌>>=◌, Fails}
 use Rattle.qq_recover.specs.Files.{header_of, file_of, ends_at, file_at, good_end, chain_file, chain_files}
-use Rattle.qq_recover.specs.Reading.{top}
+use Rattle.qq_wal.specs.Running.{top}
 use Rattle.qq_recover.proofs.ChainLaws.{files-none, files-at, files-bound}
 
 -- files, and then those that are answered

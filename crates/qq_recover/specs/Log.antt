@@ -4,7 +4,7 @@ use Rattle.qq_base.specs.declared.ids.QueueId.{QueueId}
 use Rattle.qq_chain.specs.Chain.{Logs, reading}
 use Rattle.qq_chain.specs.Wal.{wal}
 use Rattle.qq_recover.specs.declared.file.ChainFile.{ChainFile}
-use Rattle.qq_recover.specs.Reading.{top}
+use Rattle.qq_wal.specs.Running.{top}
 
 -- where the first of the files is good, 0 where there is none
 abbrev pub good_of : List ChainFile → ℕ

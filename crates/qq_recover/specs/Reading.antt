@@ -1,19 +1,16 @@
 -- What recovery reads of a disk.
-use Rattle.std.specs.Prelude.{◌≡◌, ◌-◌, ◌^◌, ℕ, List, Option, Result}
+use Rattle.std.specs.Prelude.{ℕ, List}
 use Rattle.qq_base.specs.declared.ids.QueueId.{QueueId}
 use Rattle.qq_disk.specs.Disk.{Disk}
 use Rattle.qq_chain.specs.Chain.{Logs, newest, good_length}
 use Rattle.qq_chain.specs.Image.{files_of, shown_logs}
 use Rattle.qq_chain.specs.Lanes.{Lanes}
 use Rattle.qq_chain.specs.Wal.{wal, no_lanes}
+use Rattle.qq_wal.specs.Running.{top}
 use Rattle.qq_recover.specs.declared.file.ChainFile.{ChainFile}
 use Rattle.qq_recover.specs.Answer.{Answer, ◌>>=◌}
 use Rattle.qq_recover.specs.Files.{chain_files}
 use Rattle.qq_recover.specs.Replay.{replay_files}
-
--- no file has a greater number
-unfoldable pub top : ℕ
-top = 2 ^ 64 - 1
 
 -- the log files as the disk shows them
 abbrev pub shown : Disk → Logs

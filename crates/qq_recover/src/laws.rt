@@ -5,7 +5,8 @@ ghost use Rattle.qq_chain.specs.Chain.{Logs, reading};
 ghost use Rattle.qq_chain.specs.Promise.{found_world};
 ghost use Rattle.qq_chain.specs.Wal.{wal};
 ghost use Rattle.qq_recover.specs.Answer.{answered};
-ghost use Rattle.qq_recover.specs.Reading.{top, lanes_read};
+ghost use Rattle.qq_wal.specs.Running.{top};
+ghost use Rattle.qq_recover.specs.Reading.{lanes_read};
 
 use qq_chain::the_log_has_a_format;
 

@@ -8,6 +8,7 @@ mod laws;
 mod log;
 mod read;
 mod replay;
+mod settle;
 mod state;
 mod table;
 mod walk;

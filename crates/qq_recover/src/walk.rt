@@ -8,7 +8,8 @@ ghost use Rattle.qq_chain.specs.Wal.{wal};
 ghost use Rattle.qq_recover.specs.Answer.{Gives};
 ghost use Rattle.qq_recover.specs.Fault.{IsCaused};
 ghost use Rattle.qq_recover.specs.Files.{chain_files};
-ghost use Rattle.qq_recover.specs.Reading.{shown, top};
+ghost use Rattle.qq_wal.specs.Running.{top};
+ghost use Rattle.qq_recover.specs.Reading.{shown};
 ghost use Rattle.qq_recover.specs.ReadOnly.{OnlyReads};
 
 use crate::fault::RecoverFault;

@@ -6,7 +6,8 @@ use Rattle.qq_chain.specs.Wal.{wal}
 use Rattle.qq_recover.specs.Answer.{Answer, Fails, Gives}
 use Rattle.qq_recover.specs.Files.{chain_files}
 use Rattle.qq_recover.specs.Log.{IsNewest, good_of}
-use Rattle.qq_recover.specs.Reading.{shown, top}
+use Rattle.qq_wal.specs.Running.{top}
+use Rattle.qq_recover.specs.Reading.{shown}
 use Rattle.qq_recover.specs.Replay.{replay_files}
 use Rattle.qq_recover.specs.Table.{lanes_of}
 use Rattle.qq_recover.proofs.LogLaws.{lanes-refused, lanes-replayed, newest-read, newest-of}

@@ -3,8 +3,10 @@ use Rattle.std.proofs.lemmas.List.{drop_all}
 use Rattle.qq_disk.specs.declared.name.FileName.{FileName}
 use Rattle.qq_disk.specs.Disk.{now}
 use Rattle.qq_recover.specs.Newest.{has_log, newest_of}
-use Rattle.qq_recover.specs.Reading.{shown, top}
-use Rattle.qq_recover.proofs.NewestLaws.{newest-listed, in_top}
+use Rattle.qq_wal.specs.Running.{top}
+use Rattle.qq_recover.specs.Reading.{shown}
+use Rattle.qq_wal.proofs.Steps.{in_top}
+use Rattle.qq_recover.proofs.NewestLaws.{newest-listed}
 use Rattle.qq_recover.proofs.read.newest_file.Goals as goal
 
 pub returns-clause-ok : goal.returns-clause-ok

@@ -5,8 +5,9 @@ use Rattle.qq_chain.specs.Wal.{wal}
 use Rattle.qq_recover.specs.declared.file.ChainFile.{ChainFile}
 use Rattle.qq_recover.specs.Answer.{Fails}
 use Rattle.qq_recover.specs.Files.{file_at, good_end, chain_files}
-use Rattle.qq_recover.specs.Reading.{shown, top}
-use Rattle.qq_recover.proofs.NewestLaws.{in_top}
+use Rattle.qq_wal.specs.Running.{top}
+use Rattle.qq_recover.specs.Reading.{shown}
+use Rattle.qq_wal.proofs.Steps.{in_top}
 use Rattle.qq_recover.proofs.Quiet.{reads-none, reads-then, still}
 use Rattle.qq_recover.proofs.Way.{after, after-none, file-back, way-over, way-ends, way-refused, way-on}
 use Rattle.qq_recover.proofs.walk.chain_files.Goals as goal

@@ -4,7 +4,8 @@ use Rattle.qq_disk.specs.Disk.{now, IsListing}
 use Rattle.qq_chain.specs.Chain.{good_length}
 use Rattle.qq_chain.specs.Wal.{wal}
 use Rattle.qq_recover.specs.Files.{chain_files}
-use Rattle.qq_recover.specs.Reading.{shown, top}
+use Rattle.qq_wal.specs.Running.{top}
+use Rattle.qq_recover.specs.Reading.{shown}
 use Rattle.qq_recover.specs.ReadOnly.{OnlyReads}
 use Rattle.qq_recover.proofs.Way.{after, good_in}
 use Rattle.qq_recover.proofs.walk.chain_files.Given as goal

@@ -1,0 +1,20 @@
+use Rattle.std.proofs.Common.{◌≡◌, ◌≤◌, List, drop, IsTrue}
+use Rattle.qq_base.specs.declared.ids.QueueId.{QueueId}
+use Rattle.qq_disk.specs.Disk.{now}
+use Rattle.qq_chain.specs.Promise.{sync_all}
+use Rattle.qq_wal.specs.Running.{Stays}
+use Rattle.qq_recover.proofs.settle.settle_all.Given as goal
+
+abbrev pub invariant-loop-name : goal.invariant-loop-name
+invariant-loop-name g l =
+    let past = g.D.NodeDisk.past in
+    record {
+      rest :
+          IsTrue (g.D.NodeDisk.tells l.fn.disk)
+          → sync_all (now (past l.disk)) (drop l.name-index l.names) ≡ sync_all (now (past l.fn.disk)) l.names;
+      stays :
+          IsTrue (g.D.NodeDisk.tells l.fn.disk) → (queues : List QueueId)
+          → Stays queues (past l.fn.disk) (past l.disk);
+      told : g.D.NodeDisk.tells l.disk ≡ g.D.NodeDisk.tells l.fn.disk;
+      later : g.D.NodeDisk.faults l.fn.disk ≤ g.D.NodeDisk.faults l.disk;
+    }
