@@ -1,0 +1,67 @@
+use crate::text::{lanes_text, queues};
+use anyhow::{Context, Result};
+use qq_disk::{FileKind, FileName, NodeDisk};
+use qq_mem_disk::MemDisk;
+use std::alloc::Global;
+
+/// A disk whose log files are given as text.
+#[derive(Drop)]
+pub struct Images {
+    disk: MemDisk,
+}
+
+fn cut(line: &str) -> (&str, &str) {
+    line.split_once(' ').unwrap_or((line, ""))
+}
+
+fn bytes_of(alloc: Global, words: &str) -> Result<Vec<u8>> {
+    let mut digits = String::new(alloc);
+    for word in words.split_whitespace() {
+        digits.push_str(word)?;
+    }
+    Ok(hex::decode(alloc, digits.as_str())?)
+}
+
+fn log(number: &str) -> Result<FileName> {
+    let number = number.parse().context("a number is wanted")?;
+    Ok(FileName {
+        kind: FileKind::Log,
+        number,
+    })
+}
+
+impl Images {
+    /// An empty disk.
+    pub fn new(alloc: Global) -> Self {
+        Images {
+            disk: MemDisk::new(alloc),
+        }
+    }
+
+    /// Carries out a line, and answers what is printed below it.
+    pub fn line(&mut self, alloc: Global, line: &str) -> Result<String> {
+        let (word, rest) = cut(line);
+        match word {
+            "disk" => self.disk = MemDisk::new(alloc),
+            "log" => self.add(alloc, rest)?,
+            "lanes" => return self.lanes(alloc, rest),
+            _ => anyhow::bail!("no such line"),
+        }
+        Ok(String::new(alloc))
+    }
+
+    fn lanes(&mut self, alloc: Global, words: &str) -> Result<String> {
+        let queues = queues(alloc, words)?;
+        lanes_text(alloc, &mut self.disk, &queues)
+    }
+
+    // Adds bytes to a log file.
+    fn add(&mut self, alloc: Global, words: &str) -> Result<()> {
+        let (number, digits) = cut(words);
+        let file = log(number)?;
+        let bytes = bytes_of(alloc, digits)?;
+        self.disk.append(alloc, file, &bytes)?;
+        self.disk.sync(alloc, file)?;
+        Ok(())
+    }
+}

@@ -1,0 +1,64 @@
+//! Cases of log files as text: what recovery reads of them, queue by queue.
+//!
+//! The program reads cases from its input and prints them again with the true answers, so that a file of
+//! cases is its own wanted output. A line that begins with `#` or is empty is a comment, and one that begins
+//! with two blanks is an answer of an earlier run, which is passed over. The others are
+//!
+//! - `disk`: a new disk, empty;
+//! - `log N BYTES`: the bytes, in hexadecimal digits, are added to log file N;
+//! - `lanes QUEUE..`: what recovery reads of the disk where these queues are listed.
+//!
+//! A queue's lane is printed as the number of its last op, its term and vote, and the terms of its entries. A
+//! queue without ops has none.
+//!
+//! With the words `FOLDER QUEUE..` it prints the lanes that recovery reads of a disk in a folder, with a file
+//! for each log, as `00000000000000000001.log`. It changes nothing there.
+#![tactic(auto)]
+
+mod images;
+mod text;
+
+use anyhow::Result;
+use images::Images;
+use qq_dir_disk::DirDisk;
+use std::{env, io};
+use text::lanes_text;
+
+fn is_passed_over(line: &str) -> bool {
+    line.is_empty() || line.starts_with('#')
+}
+
+fn run_cases(rt: HostRuntime) -> Result<()> {
+    let alloc = rt.alloc();
+    let cases = io::read_to_string(alloc, rt.stdin())?;
+    let mut images = Images::new(alloc);
+    for line in cases.lines() {
+        if line.starts_with("  ") {
+            continue;
+        }
+        println!(rt; "{line}")?;
+        if is_passed_over(line) {
+            continue;
+        }
+        let answer = images.line(alloc, line)?;
+        for row in answer.lines() {
+            println!(rt; "  {row}")?;
+        }
+    }
+    Ok(())
+}
+
+fn main(rt: HostRuntime) -> Result<()> {
+    let alloc = rt.alloc();
+    let mut words = env::args(&rt)?.skip(1);
+    let Some(folder) = words.next() else {
+        return run_cases(rt);
+    };
+    let mut queues = Vec::new(alloc);
+    for word in words {
+        queues.push(text::queue(word.as_str())?)?;
+    }
+    let mut disk = DirDisk::new(rt, alloc, folder);
+    print!(rt; "{}", lanes_text(alloc, &mut disk, &queues)?)?;
+    Ok(())
+}
