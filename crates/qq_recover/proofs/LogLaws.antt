@@ -1,12 +1,12 @@
 -- The newest file and how far it is good.
-use Rattle.std.proofs.Common.{◌≡◌, ◌≤◌, ◌<◌, ℕ, zero, suc, Bool, true, false, cond, eqb, List, [], ◌∷◌, Option, Some, None, Ok, Err, refl, sym, ap, subst, ◌∙◌, arith, inl, inr, ◌⊎◌}
-use Rattle.std.proofs.lemmas.Bool.{eqb-true, cases_lt}
+use Rattle.std.proofs.Common.{◌≡◌, ◌≤◌, ◌<◌, ℕ, zero, suc, Bool, true, false, cond, eqb, List, [], ◌∷◌, Option, Some, None, Ok, Err, refl, sym, ap, subst, ◌∙◌, arith}
+use Rattle.std.proofs.lemmas.Bool.{eqb-true}
 use Rattle.std.specs.Prelude.{IfOk}
 use Rattle.qq_base.specs.declared.ids.QueueId.{QueueId}
 use Rattle.qq_disk.specs.Image.{log_of}
 use Rattle.qq_wal_record.specs.declared.header.Header.{Header}
 use Rattle.qq_wal_record.specs.Reading.{header_at}
-use Rattle.qq_chain.specs.Chain.{Logs, has_header, records_up_to, good_length, reading}
+use Rattle.qq_chain.specs.Chain.{Logs, has_header, records_up_to, good_length}
 use Rattle.qq_chain.specs.Wal.{wal}
 use Rattle.qq_chain.proofs.Walk.{newest-has, newest-within}
 use Rattle.qq_recover.specs.declared.fault.RecoverFault.TheVariants.{Damaged}

@@ -1,21 +1,20 @@
 -- The newest of the files that are listed is the newest of the chain.
-use Rattle.std.proofs.Common.{◌≡◌, ◌≤◌, ◌<◌, ◌^◌, append-nil, take, drop, ℕ, zero, suc, Bool, true, false, cond, eqb, ltb, ◌&&◌, List, [], ◌∷◌, length, Option, Some, None, refl, sym, ap, subst, ◌∙◌, arith, inl, inr, ◌⊎◌, is_some, IsTrue, slice_index_or, ◌||◌}
+use Rattle.std.proofs.Common.{◌≡◌, ◌≤◌, ◌<◌, append-nil, take, drop, ℕ, zero, suc, Bool, true, false, cond, eqb, ltb, ◌&&◌, List, [], ◌∷◌, length, Option, Some, None, refl, sym, ap, subst, ◌∙◌, arith, inl, inr, ◌⊎◌, is_some, IsTrue, slice_index_or, ◌||◌}
 use Rattle.std.proofs.lemmas.List.{take_at, take_all, length-take}
 use Rattle.std.proofs.lemmas.Bool.{cases_lt, ltb-true, ltb-false}
 use Rattle.std.specs.Prelude.{unwrap_or}
 use Rattle.qq_base.proofs.Lists.{In}
 use Rattle.qq_base.specs.declared.ids.QueueId.{QueueId}
 use Rattle.qq_disk.specs.declared.name.FileName.{FileName}
-use Rattle.qq_disk.specs.declared.name.FileKind.TheVariants.{Log}
 use Rattle.qq_disk.specs.Name.{rank, same_name}
 use Rattle.qq_disk.specs.Disk.{Disk, contents, content, IsListing, IsListed, IsRead}
 use Rattle.qq_disk.specs.Image.{log_of}
 use Rattle.qq_disk.proofs.Names.{same_name-true, same_name-refl}
 use Rattle.qq_wal_record.specs.Reading.{header_at}
-use Rattle.qq_chain.specs.Chain.{Logs, has_header, newest}
+use Rattle.qq_chain.specs.Chain.{has_header, newest}
 use Rattle.qq_chain.specs.Format.{IsFormat}
 use Rattle.qq_chain.specs.Wal.{wal, read_whole_header}
-use Rattle.qq_chain.proofs.Walk.{newest-is, newest-has, newest-above}
+use Rattle.qq_chain.proofs.Walk.{newest-is, newest-has}
 use Rattle.qq_recover.specs.Newest.{has_whole, has_log, is_among, newer, newest_of}
 use Rattle.qq_wal.specs.Running.{top}
 use Rattle.qq_recover.specs.Reading.{shown, newest_file}

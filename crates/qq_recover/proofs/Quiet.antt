@@ -1,5 +1,5 @@
 -- What is read of a disk.
-use Rattle.std.proofs.Common.{◌≡◌, Bool, List, refl, sym, subst, ◌∙◌, IsTrue}
+use Rattle.std.proofs.Common.{Bool, List, refl, sym, subst, ◌∙◌, IsTrue}
 use Rattle.qq_disk.specs.Disk.{Disk}
 use Rattle.qq_recover.specs.ReadOnly.{OnlyReads}
 

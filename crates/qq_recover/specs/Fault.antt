@@ -5,7 +5,7 @@ use Rattle.qq_base.specs.declared.memory.Memory.TheVariants.{Want}
 use Rattle.qq_disk.specs.declared.fault.DiskFault.{DiskFault}
 use Rattle.qq_disk.specs.declared.fault.DiskFault.TheVariants.{Failed, Memory as OfMemory}
 use Rattle.qq_recover.specs.declared.fault.RecoverFault.{RecoverFault}
-use Rattle.qq_recover.specs.declared.fault.RecoverFault.TheVariants.{Disk, Damaged, Version, Memory}
+use Rattle.qq_recover.specs.declared.fault.RecoverFault.TheVariants.{Disk, Memory}
 
 -- the disk's fault, as recovery tells it
 abbrev pub fault_of : DiskFault → RecoverFault

@@ -11,7 +11,6 @@ use Rattle.qq_wal_record.specs.Reading.{header_at}
 use Rattle.qq_chain.specs.Records.{end_of, file_records}
 use Rattle.qq_chain.specs.Chain.{Logs, records_up_to, good_length}
 use Rattle.qq_chain.specs.Wal.{wal}
-use Rattle.qq_recover.specs.declared.fault.RecoverFault.{RecoverFault}
 use Rattle.qq_recover.specs.declared.fault.RecoverFault.TheVariants.{Damaged, Version}
 use Rattle.qq_recover.specs.declared.file.ChainFile.{ChainFile}
 use Rattle.qq_recover.specs.Placed.{placed}

@@ -52,7 +52,8 @@ impl Table {
         requires { IsWritableOp op }
         ensures ok { (queues : List QueueId) → Lists queues self.old → IfOk result (λ fits.
             Fit fits (add_record queues (OpRecord op) (lanes_of self.old)) (lanes_of self.new)) }
-        ensures lists { (queues : List QueueId) → Lists queues self.old → Lists queues self.new }
+        ensures lists { (queues : List QueueId) →
+            Lists queues self.old → Lists queues self.new }
         ensures want { IsOkUnless result Memory.Want }
     {
         let Some(row) = self.rows.get_mut(&op.queue().0) else {
@@ -72,7 +73,8 @@ impl Table {
         ensures fits { (queues : List QueueId) → Lists queues self.old →
             Fit result (add_record queues (CarryRecord carry.now) (lanes_of self.old))
             (lanes_of self.new) }
-        ensures lists { (queues : List QueueId) → Lists queues self.old → Lists queues self.new }
+        ensures lists { (queues : List QueueId) →
+            Lists queues self.old → Lists queues self.new }
     {
         let Some(row) = self.rows.get_mut(&carry.queue.0) else {
             return false;
@@ -91,7 +93,8 @@ impl Table {
         requires { IsWritable entry }
         ensures ok { (queues : List QueueId) → Lists queues self.old → IfOk result (λ fits.
             Fit fits (add_record queues entry (lanes_of self.old)) (lanes_of self.new)) }
-        ensures lists { (queues : List QueueId) → Lists queues self.old → Lists queues self.new }
+        ensures lists { (queues : List QueueId) →
+            Lists queues self.old → Lists queues self.new }
         ensures want { IsOkUnless result Memory.Want }
     {
         match entry {

@@ -1,4 +1,4 @@
-use Rattle.std.proofs.Common.{◌≡◌, ◌∙◌, ◌<◌, ◌∷◌, ℕ, Bool, List, suc, drop, length, ap, sym, subst, arith, add-one, drop-cons, IsTrue}
+use Rattle.std.proofs.Common.{◌∙◌, ◌<◌, ℕ, Bool, List, suc, drop, length, ap, sym, subst, arith, add-one, drop-cons, IsTrue}
 use Rattle.qq_disk.specs.declared.name.FileName.{FileName}
 use Rattle.qq_disk.specs.Disk.{Disk, now}
 use Rattle.qq_chain.specs.Promise.{sync_all}
