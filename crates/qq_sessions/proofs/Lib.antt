@@ -1,3 +1,4 @@
 mod OpenRows
+mod Owners
 mod Places
 mod Rising

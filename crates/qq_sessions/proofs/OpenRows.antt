@@ -6,9 +6,8 @@ use Rattle.std.specs.Option.{option_map}
 use Rattle.std.specs.Map.{keys_of, lookup, set_value, remove_entry}
 use Rattle.indexmap.specs.IndexMap.{IndexMap, get, spare, WritesThrough}
 use Rattle.std.specs.Cmp.{nat_eq_equiv}
-use Rattle.std.proofs.lemmas.Bool.{false≢true, cases_Bool, cond-true, cond-false, cond_both, not_from_true, not_from_false, or_parts, or_from, or_left, and_left}
+use Rattle.std.proofs.lemmas.Bool.{false≢true, cases_Bool, cond-true, cond-false, cond_both, not_from_true, not_from_false, or_parts, or_from, or_left}
 use Rattle.qq_base.specs.declared.ids.SessionId.{SessionId}
-use Rattle.qq_base.specs.declared.ids.TheConstants.{WORKER}
 use Rattle.qq_base.specs.Ids.{same_session}
 use Rattle.qq_model.specs.declared.session.OpenSession.{OpenSession}
 use Rattle.qq_model.specs.Gate.{session_of, is_open, change_session, is_giving_way}
@@ -365,16 +364,16 @@ room-open held session es spare at_hand row room is found =
     subst (λ (h : Option SessionId). HasRoom h es spare at_hand) is room in
     subst (λ (o : Option SessionRow). HasRoomBy o spare at_hand) found own
 
--- only a worker's session makes others give way
-pub none-give_way : (session : SessionId) (es : List Entry) → (nat_eq session.class WORKER ≡ false)
+-- where nobody gives way, all stay
+pub none-goes : (session : SessionId) (es : List Entry)
+    → AllByRecursion (λ (one : OpenSession). is_giving_way session one ≡ false) (sessions_of es)
     → es ≡ filter (λ (e : Entry). not (is_giving_way session (open_of e.1))) es
-none-give_way session [] other = refl
-none-give_way session (e ∷ es) other =
+none-goes session [] none = refl
+none-goes session (e ∷ es) none =
     let keeps : Entry → Bool = λ x. not (is_giving_way session (open_of x.1)) in
-    ap (λ (fs : List Entry). e ∷ fs) (none-give_way session es other)
+    ap (λ (fs : List Entry). e ∷ fs) (none-goes session es none.1)
     ∙ sym (cond-true (keeps e) (e ∷ filter keeps es) (filter keeps es)
-    (not_from_false (is_giving_way session (open_of e.1))
-    (and_left _ _ (and_left _ _ (and_left _ _ other)))))
+    (not_from_false (is_giving_way session (open_of e.1)) none.0))
 
 -- ---- a row is written through the map
 

@@ -5,11 +5,13 @@ use Rattle.std.specs.Map.{keys_of, values_of, lookup}
 use Rattle.qq_base.specs.declared.ids.SessionId.{SessionId}
 use Rattle.qq_base.specs.Ids.{same_session}
 use Rattle.qq_model.specs.declared.session.OpenSession.{OpenSession}
-use Rattle.qq_model.specs.Gate.{is_open}
+use Rattle.qq_model.specs.Gate.{is_open, is_worker}
 use Rattle.std.specs.declared.collections.VecDeque.{VecDeque}
 use Rattle.std.specs.VecDeque.{deque_len, deque_capacity}
 use Rattle.qq_entry.specs.declared.answer.Answer.{Answer}
 use Rattle.qq_sessions.specs.declared.row.SessionRow.{SessionRow}
+use Rattle.qq_model.specs.declared.session.Worker.{Worker}
+use Rattle.qq_sessions.specs.Rising.{has_owner}
 use Rattle.qq_sessions.specs.Row.{open_of, slots}
 
 -- the open sessions, and the one that is sure to be opened, or else to keep one more answer
@@ -21,6 +23,13 @@ pub record OpenedState : Type 0 where
 abbrev pub AreApart : List OpenSession → Type 0
 AreApart [] = Unit {0}
 AreApart (one ∷ rest) = (is_open one.session rest ≡ false) × AreApart rest
+
+-- each worker's session has its source queue among the workers
+abbrev pub HasOwner : List Worker → OpenSession → Type 0
+HasOwner workers one = is_worker one.session ≡ true → has_owner one.session.owner workers ≡ true
+
+abbrev pub HaveOwners : List OpenSession → List Worker → Type 0
+HaveOwners ones workers = AllByRecursion (HasOwner workers) ones
 
 abbrev pub Entry : Type 0
 Entry = SessionId × SessionRow

@@ -1,7 +1,7 @@
 -- Lists that rise by a key, with a value in the place of its key's.
 use Rattle.std.specs.Prelude.{ℕ, ◌<◌, Bool, not, ◌&&◌, ◌||◌, nat_eq, nat_lt, List, [], ◌∷◌, ◌++◌, filter, length, slice_get, false}
 use Rattle.std.specs.Option.{option_map_or}
-use Rattle.std.specs.List.{AllByRecursion}
+use Rattle.std.specs.List.{AllByRecursion, list_any}
 use Rattle.qq_base.specs.declared.ids.SessionId.{SessionId}
 use Rattle.qq_model.specs.declared.session.Worker.{Worker}
 
@@ -42,3 +42,7 @@ abbrev pub is_superseded : SessionId → Bool → Worker → Bool
 is_superseded session still_open worker =
     nat_eq worker.owner session.owner
     && (nat_lt session.number worker.number || (nat_eq session.number worker.number && not still_open))
+
+-- whether a worker of a source queue was seen
+abbrev pub has_owner : ℕ → List Worker → Bool
+has_owner owner workers = list_any (λ (worker : Worker). nat_eq worker.owner owner) workers

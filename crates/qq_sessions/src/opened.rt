@@ -1,12 +1,12 @@
 ghost use Rattle.std.specs.Prelude.{◌≡◌, ◌+◌, ◌<◌, ◌≤◌, ◌^◌, ◌∷◌, ◌++◌, [], true, false, not, filter, map, length, fold, slice_get, is_some, IfSome, Some, None, IfOk, IsOkUnless, OnOk};
-ghost use Rattle.std.specs.List.{list_all};
+ghost use Rattle.std.specs.List.{list_all, AllByRecursion};
 ghost use Rattle.std.specs.Option.{option_copied, option_map};
 ghost use Rattle.indexmap.specs.IndexMap.{spare, IsUnique};
 ghost use Rattle.qq_base.specs.Ids.{same_session};
 ghost use Rattle.qq_model.specs.State.{is_session_within};
 ghost use Rattle.qq_model.specs.Gate.{session_of, is_open, change_session, raise_mark, use_number, add_answer, set_tag, new_session, is_giving_way};
 ghost use Rattle.qq_sessions.specs.Row.{open_of};
-ghost use Rattle.qq_sessions.specs.Opened.{AreApart, IsReady};
+ghost use Rattle.qq_sessions.specs.Opened.{AreApart, IsReady, sessions_of};
 ghost use Rattle.qq_sessions.specs.Known.{next_by};
 ghost use Rattle.qq_sessions.specs.KeptLow.{low_of_session};
 
@@ -171,17 +171,19 @@ impl Opened {
         add_answer(row, answer);
     }
 
-    /// Opens a session that isn't open. That of a worker ends those of earlier workers of its source queue.
-    pub fn open_session(&mut self, stamp: &Stamp)
+    /// Opens a session that isn't open. It ends those that give way to it, which `ends_earlier` may rule out.
+    pub fn open_session(&mut self, stamp: &Stamp, ends_earlier: bool)
         requires room { self.old.room ≡ Some stamp.now.session }
         requires closed { is_open stamp.now.session self.old.rows ≡ false }
+        requires alone { ends_earlier ≡ false
+            → AllByRecursion (λ one. is_giving_way stamp.now.session one ≡ false) self.old.rows }
 
         ensures rows { self.new.rows
             ≡ filter (λ one. not (is_giving_way stamp.now.session one)) self.old.rows
             ++ new_session stamp.now ∷ [] }
         ensures room { self.new.room ≡ self.old.room }
     {
-        drop_earlier(&mut self.rows, stamp.session);
+        drop_earlier(&mut self.rows, stamp.session, ends_earlier);
         let kept = self.at_hand.take().unwrap();
         let row = new_session(stamp, kept);
         self.rows.insert(stamp.session, row).unwrap();
@@ -286,12 +288,15 @@ fn is_giving_way(session: SessionId, row: &SessionRow) -> bool
         && row.session.number < session.number
 }
 
-fn drop_earlier(rows: &mut IndexMap<SessionId, SessionRow>, session: SessionId)
+fn drop_earlier(rows: &mut IndexMap<SessionId, SessionRow>, session: SessionId, ends_earlier: bool)
+    requires { ends_earlier ≡ false
+        → AllByRecursion (λ one. is_giving_way session one ≡ false) (sessions_of rows.old.entries) }
+
     ensures entries { rows.new.entries
         ≡ filter (λ e. not (is_giving_way session (open_of e.1))) rows.old.entries }
     ensures room { spare rows.old ≤ spare rows.new }
 {
-    if session.class != WORKER {
+    if !ends_earlier {
         return;
     }
     rows.retain(

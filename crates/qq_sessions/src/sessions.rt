@@ -1,12 +1,12 @@
-ghost use Rattle.std.specs.Prelude.{◌≡◌, ◌+◌, ◌<◌, ◌≤◌, ◌^◌, ℕ, [], map, length, slice_get, false, Some, None, IfOk, IsOkUnless, OnOk};
+ghost use Rattle.std.specs.Prelude.{◌≡◌, ◌+◌, ◌<◌, ◌≤◌, ◌^◌, ℕ, [], ◌&&◌, map, length, slice_get, false, Some, None, IfOk, IsOkUnless, OnOk};
 ghost use Rattle.std.specs.Bool.{OnTrue};
 ghost use Rattle.std.specs.List.{list_all};
 ghost use Rattle.std.specs.Option.{option_copied, option_map};
 ghost use Rattle.qq_model.specs.State.{Sessions, is_session_within};
-ghost use Rattle.qq_model.specs.Gate.{is_ended, gate_unknown, gate, turn_away, open_session, admit, keep_answer, greatest_tag, take_tag, end_session, session_of, is_open};
+ghost use Rattle.qq_model.specs.Gate.{is_ended, gate_unknown, gate, turn_away, open_session, admit, keep_answer, greatest_tag, take_tag, end_session, session_of, is_open, is_worker};
 ghost use Rattle.qq_sessions.specs.Row.{open_of};
-ghost use Rattle.qq_sessions.specs.Rising.{Rises, number_key, owner_key};
-ghost use Rattle.qq_sessions.specs.Opened.{AreApart};
+ghost use Rattle.qq_sessions.specs.Rising.{Rises, number_key, owner_key, has_owner};
+ghost use Rattle.qq_sessions.specs.Opened.{AreApart, HaveOwners};
 ghost use Rattle.qq_sessions.specs.Known.{no_sessions, HasRoomFor, CanCount, next_by};
 ghost use Rattle.qq_sessions.specs.KeptLow.{kept_low};
 
@@ -34,6 +34,7 @@ pub struct Sessions {
 
 impl Model for Sessions {
     ghost use Rattle.qq_sessions.specs.Known.{KnownSessions};
+    ghost use Rattle.qq_sessions.specs.Opened.{HaveOwners};
 
     ghost Value = { KnownSessions };
 
@@ -46,6 +47,8 @@ impl Model for Sessions {
       };
       room = record { session = s.opened.room; workers = s.workers.room; ends = s.ended.room };
     } };
+
+    ghost invariant = { λ s. HaveOwners s.opened.rows s.workers.workers };
 }
 
 impl Sessions {
@@ -62,7 +65,8 @@ impl Sessions {
     }
 
     /// Sessions with these rows, in the order of opening, ended clients by rising number, workers by
-    /// rising owner, and so many seen. A refusal gives them up.
+    /// rising owner, and so many seen. Each open worker's session has its owner among the workers. A
+    /// refusal gives the parts up.
     pub fn from_parts(
         alloc: Global,
         rows: Vec<SessionRow>,
@@ -73,6 +77,7 @@ impl Sessions {
         requires apart { AreApart (map open_of rows.items) }
         requires ended { Rises number_key ended.items }
         requires workers { Rises owner_key workers.items }
+        requires owners { HaveOwners (map open_of rows.items) workers.items }
 
         ensures ok { IfOk result (λ s. s.known ≡ record {
           opened = map open_of rows.items;
@@ -210,6 +215,13 @@ impl Sessions {
         self.opened.raise_mark(stamp);
     }
 
+    fn may_end_earlier(&self, session: SessionId) -> bool
+        ensures { result
+            ≡ (is_worker session && has_owner session.owner self.now.known.workers) }
+    {
+        session.class == WORKER && self.workers.has_owner(session.owner)
+    }
+
     fn open_session(&mut self, stamp: &Stamp)
         requires room { HasRoomFor stamp.now.session self.old.room }
         requires closed { is_open stamp.now.session self.old.known.opened ≡ false }
@@ -219,7 +231,8 @@ impl Sessions {
         ensures session { self.new.room.session ≡ self.old.room.session }
         ensures ends { self.new.room.ends ≡ self.old.room.ends }
     {
-        self.opened.open_session(stamp);
+        let ends_earlier = self.may_end_earlier(stamp.session);
+        self.opened.open_session(stamp, ends_earlier);
         self.seen += 1;
         if stamp.session.class == WORKER {
             self.workers.put(Worker {

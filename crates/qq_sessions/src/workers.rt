@@ -2,7 +2,7 @@ ghost use Rattle.std.specs.Prelude.{◌≡◌, ◌<◌, ◌≤◌, [], length, s
 ghost use Rattle.std.specs.List.{list_any};
 ghost use Rattle.std.specs.Vec.{vec_capacity};
 ghost use Rattle.qq_model.specs.Gate.{put_worker};
-ghost use Rattle.qq_sessions.specs.Rising.{Rises, place_of, is_at, owner_key, is_superseded};
+ghost use Rattle.qq_sessions.specs.Rising.{Rises, place_of, is_at, owner_key, has_owner, is_superseded};
 
 use qq_base::{Memory, SessionId};
 use qq_model::Worker;
@@ -104,6 +104,14 @@ impl Workers {
             None => false,
             Some(worker) => is_superseded(session, still_open, worker),
         }
+    }
+
+    /// Whether a worker of a source queue was seen, by binary search.
+    pub fn has_owner(&self, owner: u32) -> bool
+        ensures { result ≡ has_owner owner self.now.workers }
+    {
+        let workers = self.workers.as_slice();
+        is_at(owner, place_of(owner, workers), workers)
     }
 
     /// Makes room for one more worker.
