@@ -2,3 +2,4 @@ mod Cuts
 mod Pieces
 mod Writes
 mod LineLemmas
+mod Counted

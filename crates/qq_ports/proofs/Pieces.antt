@@ -6,7 +6,7 @@ use Rattle.std.proofs.KnownBytes.{Consumes-kept}
 use Rattle.qq_ports.specs.declared.fault.TheConstants.{LINE_LIMIT}
 use Rattle.qq_ports.specs.declared.fault.LineFault.{LineFault}
 use Rattle.qq_ports.specs.declared.fault.LineFault.TheVariants.{Failed, TooLong, Memory}
-use Rattle.qq_ports.specs.Lines.{without_return, first_line, HasNoFeed, IsLong, IsGivenUp, BeginsTooLong, LosesPiece, HasLineCause, TakesPiece, TakesLine}
+use Rattle.qq_ports.specs.Lines.{without_return, first_line, HasNoFeed, IsLong, IsGivenUp, BeginsTooLong, LosesSome, LosesPiece, HasLineCause, TakesPiece, TakesLine}
 use Rattle.qq_ports.proofs.LineLemmas.{HasNoFeed-append, first_line-feed, first_line-last, first_line-long}
 
 -- a line whose next piece doesn't fit has too many bytes, whatever follows
@@ -110,3 +110,22 @@ pub takes_last : (a b d : Option (List ℕ)) (line : List ℕ) → Consumes a b 
     → HasNoFeed line → length line ≤ LINE_LIMIT → 0 < length line → TakesLine a d line
 takes_last a b d line read same end clean fits some =
     last a d line (Consumes-kept a b d line read same) end clean fits some
+
+-- ---- what the source has left
+
+loses : (a left : Option (List ℕ)) (line old : List ℕ) → Consumes a (prepend_known old left) line
+    → LosesSome a left
+loses None left line old read = (line, tt)
+loses (Some x) None line old read = absurd read
+loses (Some x) (Some y) line old read = (line ++ old, read ∙ sym (append_assoc line old y))
+
+-- what went to a line and what is pending was read
+pub loses_pending : (a b left : Option (List ℕ)) (line old : List ℕ) → Consumes a b line
+    → Keeps b (prepend_known old left) → LosesSome a left
+loses_pending a b left line old read same =
+    loses a left line old (Consumes-kept a b (prepend_known old left) line read same)
+
+-- before the first read nothing is pending
+pub loses_none : (left : Option (List ℕ)) → LosesSome (prepend_known [] left) left
+loses_none None = ([], tt)
+loses_none (Some x) = ([], refl)

@@ -82,6 +82,10 @@ abbrev pub HasNoFeed : List ℕ → Type 0
 HasNoFeed [] = Unit {0}
 HasNoFeed (b ∷ bs) = ((b == 10) ≡ false) × HasNoFeed bs
 
+-- known bytes lose some at their front
+abbrev pub LosesSome : Option (List ℕ) → Option (List ℕ) → Type 0
+LosesSome bytes rest = (read : List ℕ) × Consumes bytes rest read
+
 -- known bytes begin with a piece of a line, and lose it
 abbrev pub LosesPiece : Option (List ℕ) → Option (List ℕ) → Type 0
 LosesPiece bytes rest = (piece : List ℕ) × HasNoFeed piece × Consumes bytes rest piece

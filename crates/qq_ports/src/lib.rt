@@ -4,6 +4,7 @@
 
 mod fault;
 mod folder_shelf;
+mod laws;
 mod lines;
 mod mem_shelf;
 mod memory;
@@ -14,6 +15,7 @@ mod standard;
 
 pub use fault::{LINE_LIMIT, LineFault};
 pub use folder_shelf::FolderShelf;
+pub use laws::{calls_in_memory_are_counted, faults_have_causes};
 pub use lines::{Lines, lines_law, next_line};
 pub use mem_shelf::MemShelf;
 pub use memory::{MemSink, MemSource};

@@ -3,7 +3,7 @@ ghost use Rattle.std.specs.Io.KnownBytes.{Consumes, Keeps, IsAtEnd};
 ghost use Rattle.qq_ports.specs.declared.fault.TheConstants.{LINE_LIMIT};
 ghost use Rattle.qq_base.specs.Causes.{HasCause, Rose};
 ghost use Rattle.qq_ports.specs.Faults.{IsCaused};
-ghost use Rattle.qq_ports.specs.Lines.{HasNoFeed, without_return, ahead, TakesToFeed, TakesPiece, TakesLine, IsGivenUp, HasLineCause, first_line, FirstLineLeads};
+ghost use Rattle.qq_ports.specs.Lines.{HasNoFeed, without_return, ahead, TakesToFeed, TakesPiece, TakesLine, LosesSome, IsGivenUp, HasLineCause, first_line, FirstLineLeads};
 
 use crate::fault::{LINE_LIMIT, LineFault};
 use crate::source::{Failed, Source};
@@ -213,6 +213,7 @@ fn chunk_line<I: Source>(
         IfNone found (IsAtEnd (ahead lines.old (I.left input.old)))) }
     ensures stays { IfOk result (λ found.
         IfNone found (IsAtEnd (ahead lines.new (I.left input.new)))) }
+    ensures read { LosesSome (ahead lines.old (I.left input.old)) (I.left input.new) }
     ensures later { I.faults input.old ≤ I.faults input.new }
     ensures cause { IfErr result (λ e. HasLineCause e (ahead lines.old (I.left input.old))
         (I.left input.new) (Rose (I.faults input.old) (I.faults input.new))) }
@@ -237,6 +238,7 @@ fn chunk_line<I: Source>(
 ///   lack a line feed, and then keeps a carriage return at its end.
 /// - `end`: None comes exactly at the end of the input.
 /// - `stays`: after None the input is at its end still.
+/// - `read`: what the source has left is an end of what was ahead, also after an error.
 /// - `later`: the source's count of faults doesn't fall.
 /// - `cause`: `Failed` comes only at a counted fault of the source, and then what was read of the bytes
 ///   ahead has no line feed. `TooLong` comes only where the first line ahead is too long; it is given up
@@ -255,6 +257,7 @@ pub fn next_line<I: Source>(
         IfNone found (IsAtEnd (ahead lines.old (I.left input.old)))) }
     ensures stays { IfOk result (λ found.
         IfNone found (IsAtEnd (ahead lines.new (I.left input.new)))) }
+    ensures read { LosesSome (ahead lines.old (I.left input.old)) (I.left input.new) }
     ensures later { I.faults input.old ≤ I.faults input.new }
     ensures cause { IfErr result (λ e. HasLineCause e (ahead lines.old (I.left input.old))
         (I.left input.new) (Rose (I.faults input.old) (I.faults input.new))) }

@@ -2,6 +2,7 @@ ghost use Rattle.std.specs.Prelude.{◌≤◌, ◌<◌, ◌≡◌, ℕ, List, Op
 ghost use Rattle.std.specs.Io.KnownBytes.{Consumes, Keeps, IsAtEnd};
 ghost use Rattle.qq_base.specs.Causes.{HasCause, Rose};
 ghost use Rattle.qq_ports.specs.Faults.{IsCaused};
+ghost use Rattle.qq_ports.specs.Shelf.{raise};
 
 use std::error::Error;
 use std::fmt;
@@ -22,6 +23,7 @@ impl Error for Failed {}
 pub(crate) fn count_fault(faults: &mut u64) -> Failed
     ensures later { faults.old ≤ faults.new }
     ensures rose { Rose faults.old faults.new }
+    ensures raised { faults.new ≡ raise faults.old }
 {
     *faults = faults.saturating_add(1);
     Failed

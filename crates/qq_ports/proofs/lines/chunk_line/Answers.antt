@@ -3,7 +3,7 @@ use Rattle.std.specs.Io.KnownBytes.{IsAtEnd}
 use Rattle.std.proofs.lemmas.Bool.Decides.{nat_tests}
 use Rattle.std.proofs.lemmas.Result.{err_from_is_err_and}
 use Rattle.qq_ports.specs.Lines.{ahead}
-use Rattle.qq_ports.proofs.Pieces.{given_up, takes_fed, takes_more, takes_last}
+use Rattle.qq_ports.proofs.Pieces.{given_up, takes_fed, takes_more, takes_last, loses_pending}
 use Rattle.qq_ports.proofs.lines.chunk_line.Goals as goal
 
 pub returns-in_err-take_piece-clause-cause : goal.returns-in_err-take_piece-clause-cause
@@ -51,3 +51,17 @@ returns-clause-line g c =
     let some : 0 < length c.pieces.raw.items = grind (arith, nat_tests, c.pieces.raw.ok.0) in
     rw c.from_vec-2.ensures (takes_last before start now c.pieces.raw.items c.pieces.invariant.read
     c.in_ok-has_more.ensures.ok end c.pieces.invariant.clean (omega (arith, c.pieces.raw.ok.0)) some)
+
+-- what was read stands in the line and in what is pending
+
+pub returns-in_err-take_piece-clause-read : goal.returns-in_err-take_piece-clause-read
+returns-in_err-take_piece-clause-read g c =
+    loses_pending (ahead c.args.lines.now (g.I.Source.left c.args.input.now))
+    (ahead c.pieces.lines (g.I.Source.left c.pieces.input)) (g.I.Source.left c.has_more.new.input)
+    c.pieces.raw.items c.has_more.new.self c.pieces.invariant.read c.in_ok-has_more.ensures.ok
+
+pub returns-then-branch-2-clause-read : goal.returns-then-branch-2-clause-read
+returns-then-branch-2-clause-read g c =
+    loses_pending (ahead c.args.lines.now (g.I.Source.left c.args.input.now))
+    (ahead c.pieces.lines (g.I.Source.left c.pieces.input)) (g.I.Source.left c.has_more.new.input)
+    c.pieces.raw.items c.has_more.new.self c.pieces.invariant.read c.in_ok-has_more.ensures.ok
