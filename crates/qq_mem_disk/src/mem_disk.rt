@@ -21,7 +21,7 @@ use std::collections::BTreeMap;
 /// A node's disk in memory, which tells its contents. It can be made to fail, to stop and to crash.
 ///
 /// Up to a crash it keeps what each change led from: a few words for a call, and the bytes of a file
-/// that was removed and then begun anew.
+/// that was removed and then begun anew. Who asks for no earlier moment lets go of that by `forget`.
 #[derive(Drop)]
 pub struct MemDisk {
     store: Store,
@@ -63,6 +63,18 @@ impl MemDisk {
         ensures { result ≡ (counter_of self.now).calls }
     {
         self.counter.calls
+    }
+
+    /// Drops the moments before this one, with the memory that they took: what the disk holds, its counts
+    /// and the calls that are to fail stay. It takes no memory.
+    ///
+    /// A long run that asks for no earlier moment calls it now and then, since a change of the disk is
+    /// remembered in some 160 bytes.
+    pub fn forget(&mut self, alloc: Global)
+        ensures past { past_of self.new ≡ now (past_of self.old) ∷ [] }
+        ensures counter { counter_of self.new ≡ counter_of self.old }
+    {
+        self.store.forget(alloc);
     }
 
     /// The disk after a crash. What the image leaves is kept, and nothing is pending; calls are counted

@@ -29,6 +29,13 @@ impl Store {
         }
     }
 
+    /// Drops what leads back to the moments before, with the memory that it took.
+    pub fn forget(&mut self, alloc: Global)
+        ensures { past_of self.new ≡ now (past_of self.old) ∷ [] }
+    {
+        self.changes = Vec::new(alloc);
+    }
+
     pub fn append(&mut self, alloc: Global, name: FileName, bytes: &[u8]) -> Result<(), AllocError>
         ensures ok { OnOk result
             (past_of self.new ≡ append (now (past_of self.old)) name bytes.now ∷ past_of self.old) }
