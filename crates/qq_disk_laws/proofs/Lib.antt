@@ -1,0 +1,6 @@
+mod Left
+mod Named
+mod Held
+mod Runs
+mod Buffers
+mod Worn
