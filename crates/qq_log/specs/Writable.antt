@@ -6,7 +6,7 @@ use Rattle.qq_base.specs.declared.ids.QueueId.{QueueId}
 use Rattle.qq_base.specs.declared.memory.TheConstants.{NUMBER_END}
 use Rattle.qq_entry.specs.Range.{IsWritable as IsEntry}
 use Rattle.qq_command.specs.Encoding.{encoding}
-use Rattle.qq_log.specs.declared.limits.TheConstants.{NODE_LIMIT, PAYLOAD_LIMIT}
+use Rattle.qq_log.specs.declared.limits.TheConstants.{NODE_LIMIT, PAYLOAD_LIMIT, RECORD_LIMIT}
 use Rattle.qq_log.specs.declared.head.SnapshotHead.{SnapshotHead}
 use Rattle.qq_log.specs.declared.head.Span.{Span}
 use Rattle.qq_log.specs.declared.lane.Carry.{Carry}
@@ -82,3 +82,26 @@ IsWithinEnds (Change queue op term vote keep entries) =
 IsWithinEnds (SnapshotMade queue op head file) = IsWithinEnd op × IsHeadWithinEnds head × IsWithinEnd file
 IsWithinEnds (SegmentMade queue op file first last) =
     IsWithinEnd op × IsWithinEnd file × IsWithinEnd first.0 × IsWithinEnd last.0
+
+-- ---- what the shared log takes
+
+-- as long as there are neither snapshots nor segments, an op that names one can't be handed in
+abbrev pub IsChange : Op → Type 0
+IsChange (Change queue op term vote keep entries) = Unit {0}
+IsChange (SnapshotMade queue op head file) = ⊥
+IsChange (SegmentMade queue op file first last) = ⊥
+
+-- an op that may be handed to the log: a change with its fields in range, none of whose numbers is past its end
+pub record MayGather (op : Op) : Type 0 where
+  pub fields : HasFields op
+  pub ends : IsWithinEnds op
+  pub change : IsChange op
+
+-- the bytes of an op's record: its head (length, kind, queue and number), its payload and its mark
+abbrev pub record_length : Op → ℕ
+record_length op = 25 + payload_length op
+
+-- an op that the log takes and writes: its record is no longer than a batch may be
+pub record MayWrite (op : Op) : Type 0 where
+  pub gather : MayGather op
+  pub short : record_length op ≤ RECORD_LIMIT

@@ -14,7 +14,7 @@ mod synced;
 pub use head::{Places, SnapshotHead, Span};
 pub use lane::{Carry, Lane};
 pub use laws::{carries_restate, ops_tell_their_log, tails_agree};
-pub use limits::{NODE_LIMIT, PAYLOAD_LIMIT};
+pub use limits::{NODE_LIMIT, PAYLOAD_LIMIT, RECORD_LIMIT};
 pub use log::Log;
 pub use op::Op;
 pub use synced::Synced;
