@@ -1,0 +1,4 @@
+pub mod Publishing
+pub mod Numbering
+pub mod Answered
+pub mod Arriving
