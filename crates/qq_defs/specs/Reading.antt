@@ -31,6 +31,12 @@ abbrev pub Gives : {X Y : Type 0} → (X → Y) → Result X DefsFault → Resul
 Gives view (Ok x) read = read ≡ Ok (view x)
 Gives view (Err e) read = Fails e read
 
+-- An answer as it is seen, none where there was no memory for it.
+abbrev pub with_memory : {X Y : Type 0} → (X → Y) → Result X DefsFault → Option (Result Y DefsFault)
+with_memory view (Ok x) = Some (Ok (view x))
+with_memory view (Err (Memory m)) = None
+with_memory view (Err fault) = Some (Err fault)
+
 abbrev pub required : {A : Type 0} → DefsFault → Option A → Result A DefsFault
 required fault None = Err fault
 required fault (Some x) = Ok x

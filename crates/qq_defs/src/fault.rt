@@ -4,8 +4,8 @@ use qq_base::{Memory, Text};
 use std::alloc::AllocError;
 use thiserror::Error;
 
-/// Why definitions aren't read. The first fault in the order of the text is told, and the length of the
-/// list of queues last.
+/// Why definitions aren't read. The first fault is told: of the text, of the policies, then of the queues,
+/// the exchanges and the bindings, each in the order of its list, and last that there are too many queues.
 #[derive(Debug, Drop, PartialEq, Error)]
 pub enum DefsFault {
     /// Not JSON, not UTF-8, or nested more than 127 deep.

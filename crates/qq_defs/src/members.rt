@@ -8,7 +8,9 @@ use std::alloc::Global;
 /// A quorum queue.
 #[derive(Debug, Drop, PartialEq)]
 pub struct QueueRow {
+    /// 1 to 255 bytes.
     pub name: Text,
+    /// Its arguments, with its number.
     pub args: QueueArgs,
     /// The nodes of the queue's group, the first member first.
     pub members: Members,

@@ -30,7 +30,9 @@ pub struct Made {
 pub struct Setup {
     /// How many nodes there are, from 1.
     pub nodes: u8,
+    /// In the order of their numbers, from 1.
     pub queues: QueueRows,
+    /// The exchanges and their bindings. Each queue is bound to the default exchange.
     pub routes: Routes,
     /// How long a node's log file may become, in bytes.
     pub log_bytes: u64,
