@@ -1,0 +1,12 @@
+use Rattle.std.proofs.Common.{◌+◌, refl}
+use Rattle.qq_model.specs.declared.place.Key.TheVariants.{Front}
+use Rattle.qq_ready.specs.declared.row.KeyedRow.{KeyedRow}
+use Rattle.qq_ready.proofs.Keyed.{kept-front}
+use Rattle.qq_ready.proofs.ready.Ready.push_returned.Goals as goal
+
+pub invariant_of-self : goal.invariant_of-self
+invariant_of-self c =
+    let q = c.self.inside in
+    let one : KeyedRow = record { key = Front (q.returns + 1); row = c.args.row } in
+    kept-front q.fronts.items q.backs.items c.push_back_reserved.new.self.items q.orders q.returns q.bytes c.size.result
+    one c.self.invariant refl c.size.ensures.size c.size.ensures.fits c.push_back_reserved.ensures.items

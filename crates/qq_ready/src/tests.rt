@@ -1,0 +1,44 @@
+use super::*;
+use qq_base::Index;
+use qq_entry::Message;
+use std::test::Fail;
+
+fn row(arrival: u64) -> ReadyRow {
+    ReadyRow {
+        index: Index(arrival),
+        arrival,
+        count: 0,
+        message: Message {
+            size: 10,
+            content: None,
+        },
+    }
+}
+
+fn pop(ready: &mut Ready) -> u64 {
+    match ready.pop_next() {
+        None => 0,
+        Some(row) => row.arrival,
+    }
+}
+
+#[test]
+fn what_was_returned_under_a_limit_comes_first(rt: HostRuntime) -> Result<(), Fail> {
+    let mut ready = Ready::new(rt.alloc());
+    ready.reserve(4)?;
+    ready.push_new(row(1));
+    ready.push_returned(row(2));
+    ready.push_back(row(3));
+    ready.push_returned(row(4));
+    assert_eq!(rt; ready.count(), 4);
+    assert_eq!(rt; ready.bytes(), 40);
+    let twin = ready.copy(rt.alloc())?;
+    assert_eq!(rt; pop(&mut ready), 2);
+    assert_eq!(rt; pop(&mut ready), 4);
+    assert_eq!(rt; pop(&mut ready), 1);
+    assert_eq!(rt; pop(&mut ready), 3);
+    assert_eq!(rt; pop(&mut ready), 0);
+    assert_eq!(rt; ready.bytes(), 0);
+    assert_eq!(rt; twin.count(), 4);
+    Ok(())
+}
