@@ -1,0 +1,17 @@
+mod Changes
+mod Dones
+mod Elections
+mod Example
+mod Fronts
+mod Grows
+mod Kept
+mod Leads
+mod Majorities
+mod Promises
+mod Puts
+mod Restarts
+mod Roles
+mod Runs
+mod Settles
+mod Votes
+mod Writes

@@ -1,0 +1,34 @@
+//! The laws of a group.
+ghost use Rattle.std.specs.Prelude.{◌≡◌, List, [], ◌∷◌, ℕ};
+ghost use Rattle.qq_entry.specs.declared.command.Entry.{Entry};
+ghost use Rattle.qq_raft_model.specs.Example.{three, election, replication};
+ghost use Rattle.qq_raft_model.specs.Facts.{IsFront};
+ghost use Rattle.qq_raft_model.specs.Moves.{Move, run, AreAllowed};
+ghost use Rattle.qq_raft_model.specs.Safe.{IsSafe, HasOneLeader};
+ghost use Rattle.qq_raft_model.specs.World.{new_world};
+
+/// A law: whatever a group does, in any order, with any losses, repeats and crashes, it is safe.
+pub fn servers_agree()
+    ensures { (members : List ℕ) (moves : List Move) → AreAllowed members new_world moves →
+        IsSafe members (run new_world moves) }
+{}
+
+/// A law: whatever a group does later, the audit only grows, and a term that had a leader has no other.
+pub fn what_is_committed_stays()
+    ensures audit { (members : List ℕ) (first second : List Move) →
+        AreAllowed members new_world first → AreAllowed members (run new_world first) second →
+        IsFront (run new_world first).audit (run (run new_world first) second).audit }
+    ensures leader { (members : List ℕ) (first second : List Move) →
+        AreAllowed members new_world first → AreAllowed members (run new_world first) second →
+        HasOneLeader (run new_world first) (run (run new_world first) second) }
+{}
+
+/// A law: what is allowed isn't nothing. Of three nodes two may elect a leader, which commits an entry of
+/// its term, while the third is away.
+pub fn a_group_may_commit()
+    ensures election { AreAllowed three new_world election }
+    ensures replication { (e : Entry) → e.term.0 ≡ 1 →
+        AreAllowed three (run new_world election) (replication e) }
+    ensures audit { (e : Entry) →
+        (run (run new_world election) (replication e)).audit ≡ e ∷ [] }
+{}
