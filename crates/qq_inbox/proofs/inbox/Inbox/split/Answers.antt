@@ -1,0 +1,5 @@
+use Rattle.qq_inbox.proofs.HandOvers.{splits}
+use Rattle.qq_inbox.proofs.inbox.Inbox.split.Goals as goal
+
+pub another-requires-clause-rule : goal.another-requires-clause-rule
+another-requires-clause-rule c = splits _ _
