@@ -1,0 +1,6 @@
+pub mod Perms
+pub mod Turn
+pub mod Reading
+pub mod Moving
+pub mod Ending
+pub mod Delivering

@@ -1,0 +1,5 @@
+pub mod Perm
+pub mod Parts
+pub mod Reads
+pub mod Changes
+pub mod Outs

@@ -1,0 +1,48 @@
+//! A queue in parts: what a machine that keeps separate lists of its live messages reads of them is what
+//! the definition reads of all rows. Definitions and laws; no code.
+#![tactic(auto)]
+
+ghost use Rattle.std.specs.Prelude.{◌≡◌, ℕ, Some, Contains, map};
+ghost use Rattle.qq_base.specs.declared.ids.ConsumerId.{ConsumerId};
+ghost use Rattle.qq_model.specs.declared.consumer.Consumer.{Consumer};
+ghost use Rattle.qq_model.specs.State.{State};
+ghost use Rattle.qq_gone.specs.Reduced.{Item};
+ghost use Rattle.qq_parts.specs.Parts.{Parts, Stands, StandsWith, IsWhole, consumer_at};
+ghost use Rattle.qq_parts.specs.Reads.{Reads};
+ghost use Rattle.qq_parts.specs.Changes.{Taken, take_first, IsTaken, MayLeave, MayArrive};
+ghost use Rattle.qq_parts.specs.Outs.{MayEnd, MayDeliver, MayJoin, MayPurge};
+
+/// A law: where parts stand for a state, the next message is the first of the ready ones, the definition's
+/// counts are the lengths of the lists, and each item has its row's message.
+pub fn parts_tell_the_queue()
+    ensures { (m : Parts) (s : State) → Stands m s → IsWhole m → Reads m s }
+{}
+
+/// A law: where parts stand for a state, a new message at their back stands for the one that arrives. The
+/// first ready message may be taken out of them; and where a state stands for parts and one message more,
+/// the parts stand for it once that message is gone, and with it where it died or goes back, by each
+/// dead-letter strategy and with and without a delivery limit.
+pub fn messages_come_and_go()
+    ensures arrives { (m : Parts) (s : State) → Stands m s → IsWhole m → MayArrive m s }
+    ensures taken { (m : Parts) (s : State) (taken : Taken) → Stands m s → IsWhole m →
+        take_first m ≡ Some taken → IsTaken taken m s }
+    ensures leaves { (x : Item) (m : Parts) (s : State) → StandsWith x m s → IsWhole m → MayLeave x m s }
+{}
+
+/// A law: the delivery of an id to a consumer is that of the consumer's own list, and once it is taken out
+/// of there it is one more than what is left, as the first ready message is: it may be settled, go back,
+/// or die.
+pub fn deliveries_end()
+    ensures { (consumer : ConsumerId) (id : ℕ) (m : Parts) (s : State) → Stands m s → IsWhole m →
+        MayEnd consumer id m s }
+{}
+
+/// A law: a message that was taken out may be delivered to any consumer that is there; it is then out with
+/// it alone, and the next of its ids is the next one. A consumer of an id that is free may join. All that
+/// is ready may be purged.
+pub fn consumers_are_served()
+    ensures delivers { (x : Item) (consumer : Consumer) (m : Parts) (s : State) → StandsWith x m s →
+        IsWhole m → Contains (map consumer_at m.served) consumer → MayDeliver x consumer m s }
+    ensures joins { (m : Parts) (s : State) → Stands m s → IsWhole m → MayJoin m s }
+    ensures purges { (m : Parts) (s : State) → Stands m s → IsWhole m → MayPurge m s }
+{}
