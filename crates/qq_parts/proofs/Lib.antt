@@ -4,3 +4,4 @@ pub mod Reading
 pub mod Moving
 pub mod Ending
 pub mod Delivering
+pub mod Waiting

@@ -3,3 +3,4 @@ pub mod Parts
 pub mod Reads
 pub mod Changes
 pub mod Outs
+pub mod Turns

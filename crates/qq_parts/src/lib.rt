@@ -2,14 +2,15 @@
 //! the definition reads of all rows. Definitions and laws; no code.
 #![tactic(auto)]
 
-ghost use Rattle.std.specs.Prelude.{◌≡◌, ℕ, Some, Contains, map};
+ghost use Rattle.std.specs.Prelude.{◌≡◌, ℕ, List, Some, Contains, map};
 ghost use Rattle.qq_base.specs.declared.ids.ConsumerId.{ConsumerId};
 ghost use Rattle.qq_model.specs.declared.consumer.Consumer.{Consumer};
 ghost use Rattle.qq_model.specs.State.{State};
 ghost use Rattle.qq_gone.specs.Reduced.{Item};
-ghost use Rattle.qq_parts.specs.Parts.{Parts, Stands, StandsWith, IsWhole, consumer_at};
+ghost use Rattle.qq_parts.specs.Parts.{Served, Parts, Stands, StandsWith, IsWhole, consumer_at};
 ghost use Rattle.qq_parts.specs.Reads.{Reads};
 ghost use Rattle.qq_parts.specs.Changes.{Taken, take_first, IsTaken, MayLeave, MayArrive};
+ghost use Rattle.qq_parts.specs.Turns.{AreWaiting, AreInTurn};
 ghost use Rattle.qq_parts.specs.Outs.{MayEnd, MayDeliver, MayJoin, MayPurge};
 
 /// A law: where parts stand for a state, the next message is the first of the ready ones, the definition's
@@ -45,4 +46,12 @@ pub fn consumers_are_served()
         IsWhole m → Contains (map consumer_at m.served) consumer → MayDeliver x consumer m s }
     ensures joins { (m : Parts) (s : State) → Stands m s → IsWhole m → MayJoin m s }
     ensures purges { (m : Parts) (s : State) → Stands m s → IsWhole m → MayPurge m s }
+{}
+
+/// A law: the consumers that may be served, by turn, are a queue. The next consumer, without a single
+/// active one, is the first of them, and once it was served it waits behind all others, if it may be served
+/// again.
+pub fn turns_are_a_queue()
+    ensures { (m : Parts) (s : State) (waiting : List Served) → Stands m s → IsWhole m →
+        AreWaiting m waiting → AreInTurn m s waiting }
 {}
