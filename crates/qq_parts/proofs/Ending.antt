@@ -33,11 +33,13 @@ use Rattle.qq_parts.proofs.Reading.{each-ready, each-out, each-dead}
 
 -- One list --------------------------------------------------------------------------------------------
 
-pub record IsCut (at : ℕ → Place) (last id : ℕ) (xs : List Item) (cut : Cut) : Type 0 where
+-- an item of a number, and the others, of which none has it
+pub record IsCut (P : Item → Type 0) (id : ℕ) (xs : List Item) (cut : Cut) : Type 0 where
   pub perm : Perm xs (cut.item ∷ cut.rest)
   pub number : item_number cut.item ≡ id
-  pub item : IsPlaced at last cut.item
-  pub rest : ArePlaced at last cut.rest
+  pub item : P cut.item
+  pub rising : NumbersRise cut.rest
+  pub rest : AllByRecursion P cut.rest
   pub others : AllByRecursion (λ (y : Item). nat_eq (item_number y) id ≡ false) cut.rest
 
 -- what is above a number isn't it
@@ -47,49 +49,50 @@ above-others id n xs is each =
     AllByRecursion-weaker (λ (y : Item). n < item_number y) (λ (y : Item). nat_eq (item_number y) id ≡ false)
     (λ y less. ne_eqb (item_number y) id (λ e. absurd (omega arith))) xs each
 
-cut-behind : (at : ℕ → Place) (last id : ℕ) (x : Item) (xs : List Item) (o : Option Cut) (cut : Cut)
-    → nat_eq (item_number x) id ≡ false → ArePlaced at last (x ∷ xs) → option_map (behind_item x) o ≡ Some cut
-    → ((inner : Cut) → o ≡ Some inner → IsCut at last id xs inner) → IsCut at last id (x ∷ xs) cut
-cut-behind at last id x xs None cut other placed found each = absurd cc
-cut-behind at last id x xs (Some inner) cut other placed found each =
+cut-behind : (P : Item → Type 0) (id : ℕ) (x : Item) (xs : List Item) (o : Option Cut) (cut : Cut)
+    → nat_eq (item_number x) id ≡ false → NumbersRise (x ∷ xs) → P x → option_map (behind_item x) o ≡ Some cut
+    → ((inner : Cut) → o ≡ Some inner → IsCut P id xs inner) → IsCut P id (x ∷ xs) cut
+cut-behind P id x xs None cut other rising own found each = absurd cc
+cut-behind P id x xs (Some inner) cut other rising own found each =
     let same : behind_item x inner ≡ cut = cc in
     let is = each inner refl in
     let above : AllByRecursion (λ (y : Item). item_number x < item_number y) (inner.item ∷ inner.rest) =
-    perm-each (λ (y : Item). item_number x < item_number y) is.perm placed.rising.0 in
-    subst (IsCut at last id (x ∷ xs)) same (record {
+    perm-each (λ (y : Item). item_number x < item_number y) is.perm rising.0 in
+    subst (IsCut P id (x ∷ xs)) same (record {
       perm =
           join (x ∷ xs) (x ∷ inner.item ∷ inner.rest) (inner.item ∷ x ∷ inner.rest)
           (skip x xs (inner.item ∷ inner.rest) is.perm) (swap x inner.item inner.rest);
       number = is.number;
       item = is.item;
-      rest = record { rising = (above.1, is.rest.rising); each = (placed.each.0, is.rest.each) };
+      rising = (above.1, is.rising);
+      rest = (own, is.rest);
       others = (other, is.others);
     })
 
-pub is_cut : (at : ℕ → Place) (last id : ℕ) (xs : List Item) (cut : Cut) → ArePlaced at last xs
-    → cut_id id xs ≡ Some cut → IsCut at last id xs cut
-is_cut at last id [] cut placed found = absurd cc
-is_cut at last id (x ∷ xs) cut placed found =
-    by (cases_Bool (nat_eq (item_number x) id))
-    (λ inner is. is_cut at last id xs inner (record { rising = placed.rising.1; each = placed.each.1 }) is)
+pub is_cut : (P : Item → Type 0) (id : ℕ) (xs : List Item) (cut : Cut) → NumbersRise xs → AllByRecursion P xs
+    → cut_id id xs ≡ Some cut → IsCut P id xs cut
+is_cut P id [] cut rising each found = absurd cc
+is_cut P id (x ∷ xs) cut rising each found =
+    by (cases_Bool (nat_eq (item_number x) id)) (λ inner is. is_cut P id xs inner rising.1 each.1 is)
   where
     by : (nat_eq (item_number x) id ≡ true) ⊎ (nat_eq (item_number x) id ≡ false)
-        → ((inner : Cut) → cut_id id xs ≡ Some inner → IsCut at last id xs inner) → IsCut at last id (x ∷ xs) cut
+        → ((inner : Cut) → cut_id id xs ≡ Some inner → IsCut P id xs inner) → IsCut P id (x ∷ xs) cut
     by (inl here) rest =
         let e : Some (record { item = x; rest = xs }) ≡ Some cut =
         sym (cond-true (nat_eq (item_number x) id) (Some (record { item = x; rest = xs }))
         (option_map (behind_item x) (cut_id id xs)) here) ∙ found in
         let same : record { item = x; rest = xs } ≡ cut = cc in
         let own : item_number x ≡ id = eqb-true (item_number x) id here in
-        subst (IsCut at last id (x ∷ xs)) same (record {
+        subst (IsCut P id (x ∷ xs)) same (record {
           perm = perm-refl (x ∷ xs);
           number = own;
-          item = placed.each.0;
-          rest = record { rising = placed.rising.1; each = placed.each.1 };
-          others = above-others id (item_number x) xs own placed.rising.0;
+          item = each.0;
+          rising = rising.1;
+          rest = each.1;
+          others = above-others id (item_number x) xs own rising.0;
         })
     by (inr other) rest =
-        cut-behind at last id x xs (cut_id id xs) cut other placed
+        cut-behind P id x xs (cut_id id xs) cut other rising each.0
         (sym (cond-false (nat_eq (item_number x) id) (Some (record { item = x; rest = xs }))
         (option_map (behind_item x) (cut_id id xs)) other) ∙ found) rest
 
@@ -169,7 +172,8 @@ pub record IsCutOut (consumer : ConsumerId) (id : ℕ) (ones : List Served) (cut
 cut-here : (consumer : ConsumerId) (id : ℕ) (one : Served) (ones : List Served) (o : Option Cut) (cut : CutOut)
     → same_consumer one.consumer.id consumer ≡ true → AllByRecursion HasOut (one ∷ ones) → AreApart (one ∷ ones)
     → option_map (out_of one ones) o ≡ Some cut
-    → ((inner : Cut) → o ≡ Some inner → IsCut (Out one.consumer.id) (one.consumer.next_id - 1) id one.out inner)
+    → ((inner : Cut) → o ≡ Some inner
+    → IsCut (IsPlaced (Out one.consumer.id) (one.consumer.next_id - 1)) id one.out inner)
     → IsCutOut consumer id (one ∷ ones) cut
 cut-here consumer id one ones None cut own has apart found each = absurd cc
 cut-here consumer id one ones (Some inner) cut own has apart found each =
@@ -184,9 +188,9 @@ cut-here consumer id one ones (Some inner) cut own has apart found each =
       place = place;
       others =
           AllByRecursion-append (IsOther consumer id) inner.rest (outs ones)
-          (other-number consumer id one inner.rest is.rest.each is.others)
+          (other-number consumer id one inner.rest is.rest is.others)
           (others-apart consumer id one ones own apart.0 has.1);
-      has = ((is.rest, has.0.1), has.1);
+      has = ((record { rising = is.rising; each = is.rest }, has.0.1), has.1);
       consumers = refl;
       apart = (apart.0, apart.1);
       two = λ other each. each;
@@ -233,7 +237,9 @@ is_cut_out consumer id (one ∷ ones) cut has apart found =
     by (inl own) rest =
         cut-here consumer id one ones (cut_id id one.out) cut own has apart
         (sym (cond-true (same_consumer one.consumer.id consumer) here later own) ∙ found)
-        (λ inner is. is_cut (Out one.consumer.id) (one.consumer.next_id - 1) id one.out inner has.0.0 is)
+        (λ inner is.
+        is_cut (IsPlaced (Out one.consumer.id) (one.consumer.next_id - 1)) id one.out inner has.0.0.rising
+        has.0.0.each is)
     by (inr other) rest =
         cut-later consumer id one ones (cut_out consumer id ones) cut other has apart
         (sym (cond-false (same_consumer one.consumer.id consumer) here later other) ∙ found) rest
@@ -283,7 +289,7 @@ others-all consumer id m xs whole others =
     (AllByRecursion-append (IsOther consumer id) xs m.dead others
     (each-dead (IsOther consumer id) m whole (λ x number reason is. ap (is_delivery consumer id) is)))
 
-find-only : (test : Row → Bool) (rows : List Row) (row : Row) → In row rows → test row ≡ true
+pub find-only : (test : Row → Bool) (rows : List Row) (row : Row) → In row rows → test row ≡ true
     → AllByRecursion (λ (other : Row). (other ≡ row) ⊎ (test other ≡ false)) rows → find test rows ≡ Some row
 find-only test rows row here passes only = by (find test rows) refl
   where
@@ -297,7 +303,7 @@ find-only test rows row here passes only = by (find test rows) refl
           | inr fails ↦ absurd (false≢true (sym fails ∙ found.1))
         ]
 
-find-nothing : (test : Row → Bool) (rows : List Row) → AllByRecursion (λ (other : Row). test other ≡ false) rows
+pub find-nothing : (test : Row → Bool) (rows : List Row) → AllByRecursion (λ (other : Row). test other ≡ false) rows
     → find test rows ≡ None
 find-nothing test [] none = refl
 find-nothing test (row ∷ rows) none =

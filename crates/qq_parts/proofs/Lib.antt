@@ -5,3 +5,4 @@ pub mod Moving
 pub mod Ending
 pub mod Delivering
 pub mod Waiting
+pub mod Burying

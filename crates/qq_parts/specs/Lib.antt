@@ -4,3 +4,4 @@ pub mod Reads
 pub mod Changes
 pub mod Outs
 pub mod Turns
+pub mod Letters

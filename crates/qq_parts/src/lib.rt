@@ -11,6 +11,7 @@ ghost use Rattle.qq_parts.specs.Parts.{Served, Parts, Stands, StandsWith, IsWhol
 ghost use Rattle.qq_parts.specs.Reads.{Reads};
 ghost use Rattle.qq_parts.specs.Changes.{Taken, take_first, IsTaken, MayLeave, MayArrive};
 ghost use Rattle.qq_parts.specs.Turns.{AreWaiting, AreInTurn};
+ghost use Rattle.qq_parts.specs.Letters.{TellsDead};
 ghost use Rattle.qq_parts.specs.Outs.{MayEnd, MayDeliver, MayJoin, MayPurge};
 
 /// A law: where parts stand for a state, the next message is the first of the ready ones, the definition's
@@ -54,4 +55,10 @@ pub fn consumers_are_served()
 pub fn turns_are_a_queue()
     ensures { (m : Parts) (s : State) (waiting : List Served) → Stands m s → IsWhole m →
         AreWaiting m waiting → AreInTurn m s waiting }
+{}
+
+/// A law: what is asked of dead letters is asked of their list: the next one for the worker is the first
+/// above what it was given, and the one of a number may be taken out.
+pub fn parts_tell_dead_letters()
+    ensures { (m : Parts) (s : State) → Stands m s → IsWhole m → TellsDead m s }
 {}
