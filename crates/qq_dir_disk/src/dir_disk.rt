@@ -83,10 +83,12 @@ impl<R: Files> DirDisk<R> {
         ensures later { self.old.faults.count ≤ self.new.faults.count }
         ensures stopped { self.old.faults.stopped ≡ true → self.new.faults.stopped ≡ true }
     {
-        if let Some(oldest) = self.handles.take_oldest() {
+        let oldest = self.handles.take_oldest();
+        let refused = self.handles.put(handle);
+        if let Some(oldest) = oldest {
             self.close(oldest);
         }
-        if let Err(handle) = self.handles.put(handle) {
+        if let Err(handle) = refused {
             self.close(handle);
         }
     }

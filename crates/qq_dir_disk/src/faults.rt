@@ -18,6 +18,7 @@ pub struct Faults {
 }
 
 impl Faults {
+    /// None so far.
     pub fn new() -> Self
         ensures count { result.count ≡ 0 }
         ensures stopped { result.stopped ≡ false }

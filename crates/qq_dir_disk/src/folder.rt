@@ -46,12 +46,14 @@ fn make_level<R: Files>(rt: &R, path: &str) -> io::Result<()> {
 }
 
 impl Folder {
+    /// The folder of this path, which needn't be there.
     pub fn new(path: String) -> Self
         ensures { result.path ≡ path }
     {
         Folder { path }
     }
 
+    /// Its path. No text is the folder that the process is in.
     pub fn path(&self) -> &str
         ensures { result.now ≡ folder_path self.now }
     {
@@ -61,6 +63,7 @@ impl Folder {
         self.path.as_str()
     }
 
+    /// The path of a file in it.
     pub fn path_of(&self, alloc: Global, file: FileName) -> Result<String, Memory>
         ensures path { IfOk result (λ path.
             path.bytes.items ≡ folder_path self.now ++ 47 ∷ file_text file) }
@@ -72,6 +75,7 @@ impl Folder {
         Ok(path)
     }
 
+    /// Syncs its entries, so that the names of its files survive.
     pub fn sync<R: Files>(&self, rt: &R) -> io::Result<()> {
         sync_path(rt, self.path())
     }
@@ -95,7 +99,8 @@ impl Folder {
     }
 }
 
-// Makes one level below the one that was found. Answers the level, where it was found with its name not synced.
+// Makes one level below the one that was found. Answers the level, where it was found with its name not
+// synced.
 fn step<'a, R: Files>(
     rt: &R,
     found: Option<&'a str>,

@@ -1,4 +1,4 @@
-ghost use Rattle.std.specs.Prelude.{◌≡◌, ◌<◌, IfSome, vec_len, slice_index_or};
+ghost use Rattle.std.specs.Prelude.{◌≡◌, ◌<◌, ◌≤◌, IfSome, vec_len, slice_index_or};
 
 use qq_disk::FileName;
 use std::alloc::Global;
@@ -6,40 +6,47 @@ use std::alloc::Global;
 /// How many handles stay open.
 const MOST: usize = 16;
 
-/// What a handle serves for. One for appends serves reads too.
+/// What a handle serves for.
 #[derive(Clone, Copy, Debug, PartialEq, Eq)]
 pub enum Access {
+    /// For reads alone.
     Read,
+    /// For appends, and reads.
     Append,
 }
 
 /// An open file.
 #[derive(Drop)]
 pub struct Handle<F> {
+    /// The file's name.
     pub name: FileName,
+    /// What it was opened for.
     pub access: Access,
+    /// The file, as the system has it.
     pub file: F,
 }
 
 /// The open files, the one that was used last at the end.
 #[derive(Drop)]
 pub struct Handles<F> {
-    open: Vec<Handle<F>>,
+    files: Vec<Handle<F>>,
+    ghost bounded: { vec_len files ≤ 16 },
 }
 
 impl<F: Drop> Handles<F> {
+    /// None is open.
     pub fn new(alloc: Global) -> Self {
         Handles {
-            open: Vec::new(alloc),
+            files: Vec::new(alloc),
         }
     }
 
     fn place(&self, name: FileName) -> Option<usize>
-        ensures within { IfSome result (λ place. place < vec_len self.now.open) }
+        ensures within { IfSome result (λ place. place < vec_len self.now.files) }
         ensures name { IfSome result (λ place. (handle : Handle F) →
-            (slice_index_or self.now.open.items place handle).name ≡ name) }
+            (slice_index_or self.now.files.items place handle).name ≡ name) }
     {
-        self.open.iter().position(|handle| handle.name == name)
+        self.files.iter().position(|handle| handle.name == name)
     }
 
     /// Takes a file's handle out, where it is open.
@@ -47,20 +54,25 @@ impl<F: Drop> Handles<F> {
         ensures name { IfSome result (λ handle. handle.name ≡ name) }
     {
         let place = self.place(name)?;
-        Some(self.open.remove(place))
+        Some(self.files.remove(place))
     }
 
-    /// Takes out the handle that was used longest ago, where there are as many as may stay.
-    pub fn take_oldest(&mut self) -> Option<Handle<F>> {
-        if self.open.len() < MOST {
+    /// Takes out the handle that was used longest ago, where there are as many as may stay. Then there is room
+    /// for another.
+    pub fn take_oldest(&mut self) -> Option<Handle<F>>
+        ensures { vec_len self.new.files < 16 }
+    {
+        if self.files.len() < MOST {
             return None;
         }
-        Some(self.open.remove(0))
+        Some(self.files.remove(0))
     }
 
     /// Puts a handle in, as the last one used. Without memory it is given back.
-    pub fn put(&mut self, handle: Handle<F>) -> Result<(), Handle<F>> {
-        match self.open.push(handle) {
+    pub fn put(&mut self, handle: Handle<F>) -> Result<(), Handle<F>>
+        requires { vec_len self.old.files < 16 }
+    {
+        match self.files.push(handle) {
             Ok(()) => Ok(()),
             Err(failed) => Err(failed.value),
         }

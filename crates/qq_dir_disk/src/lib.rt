@@ -1,8 +1,8 @@
 //! A node's disk in a folder of the operating system.
 //!
 //! `docs/DISK.md` says what each call does in system calls, in their order. Nothing is proved of what a
-//! folder holds: the contracts say that faults are counted, that a file whose sync or append failed is
-//! never synced again, and how files are named.
+//! folder holds: the contracts say that faults are counted, that no sync answers Ok after a sync or an append
+//! that failed, and how files are named.
 #![tactic(auto)]
 
 mod dir_disk;
