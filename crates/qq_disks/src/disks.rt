@@ -63,8 +63,8 @@ impl<'a> Disks<'a> {
     pub fn line(&mut self, line: &str) -> Result<()> {
         let mut words = Words::new(line);
         match words.next() {
-            "trace" => self.system.watch.prints.set(true),
-            "break" => self.system.watch.passes.set(Some(words.number()?)),
+            "trace" => self.system.watch.print(),
+            "break" => self.system.watch.fail_after(words.number()?),
             "reopen" => self.folder = Some(new_folder(self.system)?),
             "put" => self.put(&mut words)?,
             "folder" => self.make_folder(words.next())?,

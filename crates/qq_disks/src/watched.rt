@@ -1,50 +1,63 @@
 //! The system's files, with each call printed and one made to fail.
 
 use std::alloc::{Allocator, Global};
-use std::cell::Cell;
 use std::fs::{File, Metadata, OpenFile, OpenOptions};
 use std::io;
 use std::io::{ErrorKind, Read, Seek, SeekFrom, Write};
 use std::rt::Files;
+use std::sync::atomic::{AtomicBool, AtomicU64, Ordering};
 
-/// What is done at each call.
+// So many calls pass where none is to fail.
+const NONE_FAILS: u64 = u64::MAX;
+
+/// What is done at each call. The disks of a yard may go to other threads, so it may be shared by threads.
 #[derive(Drop)]
 pub struct Watch {
     /// Whether calls are printed.
-    pub prints: Cell<bool>,
-    /// How many calls pass before one fails, where one is to fail.
-    pub passes: Cell<Option<u64>>,
+    prints: AtomicBool,
+    /// How many calls pass before one fails.
+    passes: AtomicU64,
 }
 
 impl Watch {
     pub fn new() -> Self {
         Watch {
-            prints: Cell::new(false),
-            passes: Cell::new(None),
+            prints: AtomicBool::new(false),
+            passes: AtomicU64::new(NONE_FAILS),
         }
     }
 
     /// Nothing is printed, and nothing fails.
     pub fn reset(&self) {
-        self.prints.set(false);
-        self.passes.set(None);
+        self.prints.store(false, Ordering::SeqCst);
+        self.passes.store(NONE_FAILS, Ordering::SeqCst);
+    }
+
+    /// From here on calls are printed.
+    pub fn print(&self) {
+        self.prints.store(true, Ordering::SeqCst);
+    }
+
+    /// So many calls more pass, and then one fails.
+    pub fn fail_after(&self, passes: u64) {
+        self.passes.store(passes, Ordering::SeqCst);
     }
 
     // A call is about to be made: it is printed, and fails where it is to.
     fn call(&self, rt: HostRuntime, call: &str, subject: &str) -> io::Result<()> {
-        if self.prints.get() {
+        if self.prints.load(Ordering::SeqCst) {
             println!(rt; "  | {call} {subject}")?;
         }
-        match self.passes.get() {
-            Some(0) => {
-                self.passes.set(None);
+        match self.passes.load(Ordering::SeqCst) {
+            NONE_FAILS => Ok(()),
+            0 => {
+                self.fail_after(NONE_FAILS);
                 Err(io::Error::from(ErrorKind::Other))
             }
-            Some(count) => {
-                self.passes.set(Some(count - 1));
+            count => {
+                self.fail_after(count - 1);
                 Ok(())
             }
-            None => Ok(()),
         }
     }
 }

@@ -24,8 +24,7 @@ IsDiskOf folder_of _ node _ = ⊥
 -- the same folder, with no fault so far
 pub record IsReopened (old new : Folder) (faults : Faults) : Type 0 where
   pub folder : new ≡ old
-  pub count : faults.count ≡ 0
-  pub stopped : faults.stopped ≡ false
+  pub faults_so_far : faults ≡ record { count = 0; stopped = false }
 
 -- of a disk in memory the named image, of one in a folder the folder opened again
 abbrev pub IsCrashed : {D : Type 0} → (D → D → Type 0) → Image → EitherDisk MemDisk D → EitherDisk MemDisk D → Type 0

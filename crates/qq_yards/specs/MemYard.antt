@@ -71,3 +71,7 @@ pub record CountsCall {T : Type 0} (old new : MemYard) (result : Result T YardFa
   pub faults : new.faults ≡ (if will_fail old then raise old.faults else old.faults)
   pub fails : new.fails ≡ old.fails
   pub failed : has_failed result ≡ will_fail old
+
+-- how often a call has failed
+abbrev pub fault_count : {T : Type 0} → Result T YardFault → ℕ
+fault_count result = if has_failed result then 1 else 0

@@ -22,6 +22,7 @@ pub struct FolderYard<R> {
 }
 
 impl<R> FolderYard<R> {
+    /// A yard over this system's files. Nothing is asked of the system yet.
     pub fn new(rt: R) -> Self {
         FolderYard { rt }
     }
@@ -39,7 +40,10 @@ fn node_folder(alloc: Global, root: &str, node: NodeId) -> Result<String, Memory
     Ok(path)
 }
 
-impl<R: Files + AllocGlobal + Clone + Drop> Yard for FolderYard<R> {
+impl<R: Files + AllocGlobal + Clone + Drop + Send> Yard for FolderYard<R>
+where
+    R::File: Send,
+{
     type Disk = EitherDisk<MemDisk, DirDisk<R>>;
 
     ghost faults = { λ _. 0 };

@@ -6,10 +6,15 @@
 
 mod fault;
 mod folder_yard;
+mod laws;
 mod mem_yard;
 mod yard;
 
 pub use fault::YardFault;
 pub use folder_yard::FolderYard;
+pub use laws::{
+    a_crash_leaves_an_image, a_failure_is_counted, a_new_disk_crashes_into_a_new_one,
+    a_new_disk_is_empty_and_works, listed_calls_fail,
+};
 pub use mem_yard::MemYard;
 pub use yard::Yard;

@@ -9,8 +9,8 @@ use std::alloc::Global;
 
 /// Where the disks of nodes come from.
 pub trait Yard {
-    /// A node's disk.
-    type Disk: NodeDisk;
+    /// A node's disk, which a thread of its own may write.
+    type Disk: NodeDisk + Send;
 
     /// How often the yard has failed. The count never falls, and stops at 2^64 - 1.
     ghost faults: { Self → ℕ };
