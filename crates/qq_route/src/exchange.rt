@@ -23,6 +23,7 @@ pub enum ExchangeKind {
 /// A queue that is bound to an exchange.
 #[derive(Debug, Drop)]
 pub struct Binding {
+    /// Where messages go that the binding takes.
     pub queue: QueueId,
     /// The binding key.
     pub key: Text,
@@ -65,6 +66,7 @@ impl Exchange {
         }
     }
 
+    /// How it compares keys.
     pub fn kind(&self) -> ExchangeKind
         ensures { result ≡ self.now.kind }
     {

@@ -10,6 +10,7 @@ pub struct Words<'a> {
 }
 
 impl<'a> Words<'a> {
+    /// All words of a key.
     pub fn new(key: &'a str) -> Self
         ensures { left result ≡ words key.now }
     {
