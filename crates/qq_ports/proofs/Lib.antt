@@ -1,4 +1,5 @@
 mod Cuts
+mod Fetches
 mod Pieces
 mod Writes
 mod LineLemmas

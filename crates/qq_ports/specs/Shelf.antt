@@ -51,3 +51,7 @@ pub record CountsFetch {T : Type 0} (old new : MemShelf) (name : List ℕ) (resu
   pub fails : new.fails ≡ old.fails
   pub files : new.files ≡ old.files
   pub failed : has_failed result ≡ will_fail old name
+
+-- how often a call has failed
+abbrev pub fault_count : {T : Type 0} → Result T ShelfFault → ℕ
+fault_count result = if has_failed result then 1 else 0

@@ -17,7 +17,7 @@ pub use fault::{LINE_LIMIT, LineFault};
 pub use folder_shelf::FolderShelf;
 pub use laws::{calls_in_memory_are_counted, faults_have_causes};
 pub use lines::{Lines, lines_law, next_line};
-pub use mem_shelf::MemShelf;
+pub use mem_shelf::{MemShelf, listed_fetches_fail};
 pub use memory::{MemSink, MemSource};
 pub use shelf::{Shelf, ShelfFault};
 pub use sink::{Sink, write_all};

@@ -1,6 +1,9 @@
-ghost use Rattle.std.specs.Prelude.{◌≡◌, ℕ, List, IfOk, option_map};
+ghost use Rattle.std.specs.Prelude.{◌≡◌, ◌+◌, ◌||◌, ℕ, List, Result, IfOk, option_map, nat_eq, not, is_some};
+ghost use Rattle.std.specs.List.{list_any};
 ghost use Rattle.qq_base.specs.Causes.{HasCause};
-ghost use Rattle.qq_ports.specs.Shelf.{Gives, IsShelfCaused, CountsFetch, file_of, files_of};
+ghost use Rattle.qq_ports.specs.declared.shelf.ShelfFault.{ShelfFault};
+ghost use Rattle.qq_ports.specs.declared.mem_shelf.MemShelf.{MemShelf};
+ghost use Rattle.qq_ports.specs.Shelf.{Gives, IsShelfCaused, CountsFetch, file_of, mem_file, files_of, has_failed, fault_count};
 
 use crate::shelf::{Shelf, ShelfFault};
 use std::alloc::Global;
@@ -68,3 +71,17 @@ impl Shelf for MemShelf {
         }
     }
 }
+
+/// A shelf in memory fails the calls whose numbers are listed, from 1, and those for files that it hasn't,
+/// and counts its failures: so its second call fails exactly where 2 is listed or the file isn't there, and
+/// after it as many faults are counted as of the two calls failed. The law of its calls: it does nothing.
+pub fn listed_fetches_fail()
+    ensures failed { (old mid new : MemShelf) (a b : List ℕ)
+        (first second : Result (List ℕ) ShelfFault) → old.calls ≡ 0
+        → CountsFetch old mid a first → CountsFetch mid new b second → has_failed second
+        ≡ (list_any (λ n. nat_eq n 2) old.fails.items || not (is_some (mem_file old b))) }
+    ensures counted { (old mid new : MemShelf) (a b : List ℕ)
+        (first second : Result (List ℕ) ShelfFault) → old.faults ≡ 0
+        → CountsFetch old mid a first → CountsFetch mid new b second
+        → new.faults ≡ fault_count first + fault_count second }
+{}
