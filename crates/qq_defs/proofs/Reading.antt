@@ -1,5 +1,5 @@
 -- What an answer tells of what reading gives.
-use Rattle.std.specs.Prelude.{◌≡◌, Option, Some, None, Result, Ok, Err}
+use Rattle.std.specs.Prelude.{◌≡◌, Some, None, Result, Ok, Err}
 use Rattle.qq_base.specs.declared.memory.Memory.TheVariants.{Want}
 use Rattle.qq_defs.specs.declared.fault.DefsFault.{DefsFault}
 use Rattle.qq_defs.specs.declared.fault.DefsFault.TheVariants.{Json, NotObject, Missing, BadArgument, Unsupported, Policies, UnknownTarget, Limit, Memory}

@@ -1,9 +1,8 @@
 -- What a crash makes of a disk.
 use Rattle.std.proofs.Common.{◌≡◌, ◌∷◌, [], List, Option, None, ℕ, ap, sym, subst, ◌∙◌}
-use Rattle.qq_disk.specs.declared.name.FileName.{FileName}
 use Rattle.qq_disk.specs.declared.image.Image.{Image}
 use Rattle.qq_disk.specs.Disk.{Disk, now, contents}
-use Rattle.qq_disk.specs.Crash.{Remains, MayLeave, IsImage, reopen}
+use Rattle.qq_disk.specs.Crash.{MayLeave, IsImage, reopen}
 use Rattle.qq_disk.specs.Image.{image_of}
 use Rattle.qq_disk.proofs.Crashes.{image_shown}
 use Rattle.qq_disk.proofs.Named.{named}
