@@ -6,3 +6,4 @@ pub mod Ending
 pub mod Delivering
 pub mod Waiting
 pub mod Burying
+pub mod Serving

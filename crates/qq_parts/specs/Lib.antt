@@ -5,3 +5,4 @@ pub mod Changes
 pub mod Outs
 pub mod Turns
 pub mod Letters
+pub mod Rounds

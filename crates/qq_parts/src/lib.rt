@@ -12,6 +12,9 @@ ghost use Rattle.qq_parts.specs.Reads.{Reads};
 ghost use Rattle.qq_parts.specs.Changes.{Taken, take_first, IsTaken, MayLeave, MayArrive};
 ghost use Rattle.qq_parts.specs.Turns.{AreWaiting, AreInTurn};
 ghost use Rattle.qq_parts.specs.Letters.{TellsDead};
+ghost use Rattle.qq_parts.specs.Rounds.{Serving, IsServing, serve_all};
+ghost use Rattle.qq_model.specs.Changes.{Progress};
+ghost use Rattle.qq_model.specs.Serving.{check_out_all};
 ghost use Rattle.qq_parts.specs.Outs.{MayEnd, MayDeliver, MayJoin, MayPurge};
 
 /// A law: where parts stand for a state, the next message is the first of the ready ones, the definition's
@@ -61,4 +64,11 @@ pub fn turns_are_a_queue()
 /// above what it was given, and the one of a number may be taken out.
 pub fn parts_tell_dead_letters()
     ensures { (m : Parts) (s : State) → Stands m s → IsWhole m → TellsDead m s }
+{}
+
+/// A law: all checkouts of a queue without a single active consumer are made in its parts, round by round:
+/// the first ready message goes to the first consumer that waits, which then waits behind all others. The
+/// deliveries and their order are the definition's.
+pub fn all_checkouts_are_made()
+    ensures { (t : Serving) (p : Progress) → IsServing t p → IsServing (serve_all t) (check_out_all p) }
 {}
