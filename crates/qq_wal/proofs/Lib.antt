@@ -1,9 +1,12 @@
 pub mod Agreeing
 pub mod Batches
+pub mod Beside
 pub mod Follows
 pub mod InPlace
 pub mod Lengths
 pub mod OnDisk
+pub mod Rising
 pub mod Steps
+pub mod Swept
 pub mod Taking
 pub mod Told

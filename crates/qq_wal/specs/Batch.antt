@@ -1,7 +1,9 @@
 -- What one append writes of the records that wait.
 use Rattle.std.specs.Prelude.{◌≡◌, ◌⊎◌, ◌+◌, ◌≤◌, ◌<◌, ℕ, Bool, List, All, length, take, nat_le}
 use Rattle.std.specs.List.{flat_map}
+use Rattle.qq_log.specs.declared.limits.TheConstants.{RECORD_LIMIT}
 use Rattle.qq_log.specs.declared.op.Op.{Op}
+use Rattle.qq_log.specs.Writable.{record_length}
 use Rattle.qq_wal_record.specs.declared.record.LogRecord.{LogRecord}
 use Rattle.qq_wal_record.specs.Encoding.{record_encoding}
 use Rattle.qq_wal_record.specs.Record.{IsWritable, payload_length}
@@ -26,9 +28,9 @@ FitsBatch r = IsWritable r × (25 + payload_length r ≤ BATCH_BYTES) × HasEnd 
 abbrev pub AllFitBatch : List LogRecord → Type 0
 AllFitBatch waiting = All FitsBatch waiting
 
--- an op whose record has no more bytes than a batch may have, its head and mark counted
+-- an op whose record has no more bytes than a batch may have
 abbrev pub is_short : Op → Bool
-is_short op = nat_le (25 + payload_length (OpRecord op)) BATCH_BYTES
+is_short op = nat_le (record_length op) RECORD_LIMIT
 
 -- so many of what waits are a batch: as many as its limits allow
 pub record IsBatch (n count : ℕ) (waiting : List LogRecord) : Type 0 where

@@ -5,4 +5,5 @@ pub mod Marks
 pub mod Notices
 pub mod Numbers
 pub mod Running
+pub mod Sweep
 pub mod Wal

@@ -1,6 +1,7 @@
 -- What the log keeps of each queue: the carry with which a new file restates it.
-use Rattle.std.specs.Prelude.{◌≡◌, ◌+◌, ℕ, Bool, true, false, List, [], ◌∷◌, length, map, Option, Some, None, option_map, option_to_list, unwrap_or, IfSome, nat_eq, nat_le, ◌==◌, ◌&&◌, if◌then◌else◌}
+use Rattle.std.specs.Prelude.{◌≡◌, ◌+◌, ℕ, Bool, true, false, List, [], ◌∷◌, length, map, Option, Some, None, option_map, option_to_list, unwrap_or, IfSome, nat_eq, nat_le, nat_lt, ◌==◌, ◌&&◌, if◌then◌else◌}
 use Rattle.std.specs.List.{AllByRecursion, flat_map}
+use Rattle.std.specs.List.Sorted.{IsPartitionPoint}
 use Rattle.qq_base.specs.declared.ids.QueueId.{QueueId}
 use Rattle.qq_log.specs.declared.lane.Carry.{Carry}
 use Rattle.qq_log.specs.declared.op.Op.{Op}
@@ -60,6 +61,12 @@ add_records carries [] = carries
 add_records carries (OpRecord op ∷ rs) = add_records (add_op carries op) rs
 add_records carries (CarryRecord c ∷ rs) = add_records carries rs
 
+-- An op goes on where its queue stands: it is of one of these queues, its number is the next, and its cut lies between
+-- the base and the end.
+pub record GoesOn (queues : List QueueId) (carries : Carries) (op : Op) : Type 0 where
+  pub listed : is_listed queues (queue op) ≡ true
+  pub follows : follows_carry (carry_or_new (carries (queue op).0) (queue op)) op ≡ true
+
 -- An op may be handed in next: it is a change of one of these queues, with no number past its end, and follows what
 -- the queue has.
 pub record MayFollow (queues : List QueueId) (carries : Carries) (op : Op) : Type 0 where
@@ -87,9 +94,23 @@ carries_of queues lanes = flat_map (λ (id : QueueId). option_to_list (carry_in 
 
 -- ---- as the log keeps them
 
+abbrev pub is_below : QueueId → List QueueId → Bool
+is_below id [] = true
+is_below id (next ∷ queues) = nat_lt id.0 next.0
+
+-- each queue's number is below the next one's
+abbrev pub is_rising : List QueueId → Bool
+is_rising [] = true
+is_rising (id ∷ queues) = is_below id queues && is_rising queues
+
 -- the queues of the marks
 abbrev pub queues_in : List Mark → List QueueId
 queues_in marks = map (λ (m : Mark). m.queue) marks
+
+-- a place in the marks: those before it are of queues below this one, and those from it on aren't
+abbrev pub IsPlaceOf : QueueId → List Mark → ℕ → Type 0
+IsPlaceOf id marks place = IsPartitionPoint (λ (m : Mark). nat_lt m.queue.0 id.0 ≡ true)
+    (λ (m : Mark). nat_lt m.queue.0 id.0 ≡ false) marks place
 
 -- the carries that the marks have, in their order
 abbrev pub carries_in : List Mark → List Carry

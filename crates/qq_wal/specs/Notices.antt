@@ -1,5 +1,5 @@
 -- What each queue is told of once its ops are synced (the Ra library's internals, written events).
-use Rattle.std.specs.Prelude.{◌≡◌, ◌+◌, ℕ, List, [], ◌∷◌, length, map, min, Option, Some, None, option_map, option_to_list, unwrap_or, nat_eq, if◌then◌else◌}
+use Rattle.std.specs.Prelude.{◌≡◌, ◌+◌, ℕ, zero, suc, List, [], ◌∷◌, length, map, min, Option, Some, None, option_map, option_to_list, unwrap_or, nat_eq, if◌then◌else◌}
 use Rattle.std.specs.List.{fold, flat_map, last_or}
 use Rattle.qq_base.specs.declared.ids.QueueId.{QueueId}
 use Rattle.qq_log.specs.declared.lane.Carry.{Carry}
@@ -79,6 +79,13 @@ note_mark op mark =
       notice = note_op mark.queue mark.notice op;
     } else mark
 
+-- a list whose item at a place is changed, where there is one
+abbrev pub change_at : {A : Type 0} → (A → A) → ℕ → List A → List A
+change_at f place [] = []
+change_at f zero (x ∷ xs) = f x ∷ xs
+change_at f (suc place) (x ∷ xs) = x ∷ change_at f place xs
+
+-- each mark of the op's queue has what the op leaves
 abbrev pub note_all : List Mark → Op → List Mark
 note_all marks op = map (note_mark op) marks
 

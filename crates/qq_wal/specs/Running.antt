@@ -72,6 +72,10 @@ MayAdd queues batch d =
 abbrev pub SameOthers : ℕ → Disk → Disk → Type 0
 SameOthers n d e = (m : ℕ) → n ≢ m → files_of e m ≡ files_of d m
 
+-- of all log files the disk holds the same
+abbrev pub SameLogs : Disk → Disk → Type 0
+SameLogs d e = (m : ℕ) → files_of e m ≡ files_of d m
+
 -- A new file may go on from what the disk shows: each image reads as the disk does, the file's number is above the
 -- newest, its header names what is read as the newest file, and its carries are those of what that comes to.
 pub record MayBegin (queues : List QueueId) (h : Header) (carries : List Carry) (names : List FileName) (d : Disk)

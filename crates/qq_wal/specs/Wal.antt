@@ -17,7 +17,7 @@ use Rattle.qq_chain.specs.Image.{files_of}
 use Rattle.qq_chain.specs.Lanes.{Lanes}
 use Rattle.qq_chain.specs.Laws.{op_records}
 use Rattle.qq_wal.specs.Batch.{AllFitBatch, IsBatch, encodings}
-use Rattle.qq_wal.specs.Marks.{Carries, AllFollow, HasCarry, Agree, known, queues_in, carries_in, add_records}
+use Rattle.qq_wal.specs.Marks.{Carries, AllFollow, HasCarry, Agree, known, is_rising, queues_in, carries_in, add_records}
 use Rattle.qq_wal.specs.Notices.{note_record, new_mark}
 use Rattle.qq_wal.specs.Numbers.{first_numbers, raise}
 use Rattle.qq_wal.specs.Running.{IsWrittenTo, IsSynced, StaysGiving, lanes_shown}
@@ -43,6 +43,7 @@ pub record IsSound {D : Type 0} (tells : D → Bool) (past : D → List Disk) (w
   pub waiting : AllFitBatch w.waiting.items
   pub follow : AllFollow w.queues.items (known w.marks.items) w.waiting.items
   pub queues_are : queues_in w.marks.items ≡ w.queues.items
+  pub rising : w.rising ≡ is_rising w.queues.items
   pub carries : AllByRecursion HasCarry w.marks.items
   pub number : w.header.file ≤ w.numbers.log
   pub on_disk : IsTrue (tells w.disk) → w.stopped ≡ false

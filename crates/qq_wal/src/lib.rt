@@ -13,14 +13,16 @@ mod measure;
 mod notices;
 mod numbers;
 mod roll;
+mod sweep;
 mod synced;
 mod wal;
 
 pub use batch::{BATCH_BYTES, BATCH_OPS};
 pub use fault::WalFault;
-pub use laws::notices_are_of_their_ops;
+pub use laws::{notices_are_of_their_ops, other_files_keep_the_log_sound};
 pub use notices::Notice;
 pub use numbers::greatest_number;
+pub use sweep::changes_replace_no_file;
 pub use wal::Wal;
 
 #[cfg(test)]

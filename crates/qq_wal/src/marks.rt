@@ -1,6 +1,6 @@
 //! What is kept of each queue.
-ghost use Rattle.std.specs.Prelude.{◌≡◌, ◌≤◌, ◌-◌, ◌^◌, map, IfOk, IsOkUnless};
-ghost use Rattle.qq_wal.specs.Marks.{carry_behind, carry_or_new, carry_for, new_carry};
+ghost use Rattle.std.specs.Prelude.{◌≡◌, ◌≤◌, ◌-◌, ◌^◌, map, true, IfOk, IsOkUnless};
+ghost use Rattle.qq_wal.specs.Marks.{carry_behind, carry_or_new, carry_for, is_below, is_rising, IsPlaceOf, new_carry, queues_in};
 ghost use Rattle.qq_wal.specs.Notices.{last_index, new_mark, carried_op, synced_in};
 
 use crate::notices::Notice;
@@ -150,6 +150,37 @@ pub(crate) fn new_marks(
         marks.push(new_mark(alloc, carries, *queue)?)?;
     }
     Ok(marks)
+}
+
+fn is_below(queue: QueueId, after: &[QueueId]) -> bool
+    ensures { result ≡ is_below queue after.now }
+{
+    match after {
+        [] => true,
+        [next, ..] => queue.0 < next.0,
+    }
+}
+
+/// Whether each queue's number is below the next one's.
+pub(crate) fn is_rising(queues: &[QueueId]) -> bool
+    ensures { result ≡ is_rising queues.now }
+{
+    let mut rest = queues;
+    'rest: while let [queue, after @ ..] = rest {
+        if !is_below(*queue, after) {
+            return false;
+        }
+        rest = after;
+    }
+    true
+}
+
+/// Where the mark of a queue stands, or would stand.
+pub(crate) fn place_of(queue: QueueId, marks: &[Mark]) -> usize
+    requires { is_rising (queues_in marks.now) ≡ true }
+    ensures { IsPlaceOf queue marks.now result }
+{
+    marks.partition_point(|mark| mark.queue.0 < queue.0)
 }
 
 /// The number of the queue's last op that was synced, 0 where there is none.

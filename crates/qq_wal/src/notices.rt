@@ -2,9 +2,10 @@
 ghost use Rattle.std.specs.Prelude.{◌≡◌, ◌++◌, ◌≤◌, ◌-◌, ◌^◌, Some, option_to_list, length, take, drop, map, IfOk, OnOk, IsOkUnless};
 ghost use Rattle.std.specs.List.{fold};
 ghost use Rattle.qq_wal.specs.Batch.{AllFitBatch};
-ghost use Rattle.qq_wal.specs.Notices.{note_record, op_term, last_index, first_index, lesser_index, note_mark, note_all, sync_mark, notices_in, note_op};
+ghost use Rattle.qq_wal.specs.Marks.{is_rising, queues_in};
+ghost use Rattle.qq_wal.specs.Notices.{change_at, note_record, op_term, last_index, first_index, lesser_index, note_mark, note_all, sync_mark, notices_in, note_op};
 
-use crate::marks::{Mark, add_op};
+use crate::marks::{Mark, add_op, place_of};
 use qq_base::{Index, Memory, QueueId, Term};
 use qq_log::Op;
 use qq_wal_record::LogRecord;
@@ -80,6 +81,30 @@ pub(crate) fn note_all(alloc: Global, marks: &mut [Mark], op: &Op)
     }
 }
 
+/// Notes an op in the mark at a place, where there is one.
+fn note_at(alloc: Global, marks: &mut [Mark], place: usize, op: &Op)
+    requires { last_index op.now ≤ 2 ^ 64 - 1 }
+    ensures { marks.new ≡ change_at (note_mark op.now) place marks.old }
+{
+    if place < marks.len() {
+        note_mark(alloc, &mut marks[place], op);
+    }
+}
+
+/// Notes an op in its queue's mark, by binary search where the queues rise.
+pub(crate) fn note(alloc: Global, marks: &mut [Mark], rising: bool, op: &Op)
+    requires end { last_index op.now ≤ 2 ^ 64 - 1 }
+    requires rising { rising ≡ is_rising (queues_in marks.old) }
+    ensures { marks.new ≡ note_all marks.old op.now }
+{
+    if !rising {
+        note_all(alloc, marks, op);
+        return;
+    }
+    let place = place_of(op.queue(), marks);
+    note_at(alloc, marks, place, op);
+}
+
 /// The op's term, the first index that it writes, and the log's end behind it.
 fn indices(op: &Op) -> (u64, u64, u64)
     requires { last_index op.now ≤ 2 ^ 64 - 1 }
@@ -150,15 +175,22 @@ pub(crate) fn sync_marks(marks: &mut Vec<Mark>)
     sync_each(marks);
 }
 
-fn note_batch(alloc: Global, waiting: &mut VecDeque<LogRecord>, marks: &mut [Mark], count: usize)
+fn note_batch(
+    alloc: Global,
+    waiting: &mut VecDeque<LogRecord>,
+    marks: &mut [Mark],
+    rising: bool,
+    count: usize,
+)
     requires fit { AllFitBatch waiting.old.items }
+    requires rising { rising ≡ is_rising (queues_in marks.old) }
     requires count { count ≤ length waiting.old.items }
     ensures waiting { waiting.new.items ≡ drop count waiting.old.items }
     ensures marks { marks.new ≡ fold note_record marks.old (take count waiting.old.items) }
 {
     for _ in 0..count {
         if let Some(LogRecord::Op(op)) = waiting.pop_front() {
-            note_all(alloc, marks, &op);
+            note(alloc, marks, rising, &op);
         }
     }
 }
@@ -168,12 +200,14 @@ pub(crate) fn take_batch(
     alloc: Global,
     waiting: &mut VecDeque<LogRecord>,
     marks: &mut Vec<Mark>,
+    rising: bool,
     count: usize,
 )
     requires fit { AllFitBatch waiting.old.items }
+    requires rising { rising ≡ is_rising (queues_in marks.old.items) }
     requires count { count ≤ length waiting.old.items }
     ensures waiting { waiting.new.items ≡ drop count waiting.old.items }
     ensures marks { marks.new.items ≡ fold note_record marks.old.items (take count waiting.old.items) }
 {
-    note_batch(alloc, waiting, marks, count);
+    note_batch(alloc, waiting, marks, rising, count);
 }

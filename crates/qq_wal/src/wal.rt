@@ -1,16 +1,17 @@
 //! The log that a node writes to.
 ghost use Rattle.std.specs.Prelude.{◌≡◌, ◌≤◌, ◌<◌, ◌+◌, ◌++◌, ◌∷◌, [], All, List, map, take, Ok, Err, true, false, IsTrue, IfOk, IfErr, OnOk, OnErr};
+ghost use Rattle.std.specs.Borrow.{Lends, sem};
 ghost use Rattle.qq_base.specs.declared.memory.TheConstants.{NUMBER_END};
 ghost use Rattle.qq_base.specs.Causes.{HasCause};
 ghost use Rattle.qq_disk.specs.Disk.{now};
 ghost use Rattle.qq_disk.specs.declared.name.FileKind.TheVariants.{Log};
 ghost use Rattle.qq_log.specs.declared.op.Op.{Op};
-ghost use Rattle.qq_log.specs.Writable.{HasFields};
+ghost use Rattle.qq_log.specs.Writable.{MayGather};
 ghost use Rattle.qq_wal_record.specs.declared.record.LogRecord.TheVariants.{Op as OpRecord};
 ghost use Rattle.qq_chain.specs.Laws.{op_records};
 ghost use Rattle.qq_wal.specs.Batch.{is_short};
 ghost use Rattle.qq_wal.specs.Fault.{IsCaused, IsGatherCaused, IsAppendCaused};
-ghost use Rattle.qq_wal.specs.Marks.{IsCarry, MayFollow, add_op};
+ghost use Rattle.qq_wal.specs.Marks.{IsCarry, GoesOn, add_op};
 ghost use Rattle.qq_wal.specs.Notices.{notices_in, sync_mark};
 ghost use Rattle.qq_wal.specs.Numbers.{greatest_number};
 ghost use Rattle.qq_wal.specs.Running.{MayBegin, Stays, StaysGiving, HoldsAlso, StillHolds, MayNotice};
@@ -20,7 +21,7 @@ use crate::batch::{BATCH_BYTES, put_batch};
 use crate::begin::first_bytes;
 use crate::fault::{WalFault, fault_of};
 use crate::file::{append_file, begin_file, sync_file};
-use crate::marks::{Mark, new_marks};
+use crate::marks::{Mark, is_rising, new_marks};
 use crate::measure::is_short;
 use crate::notices::{Notice, notices_in, sync_marks, take_batch};
 use crate::numbers::{Numbers, first_numbers};
@@ -49,6 +50,8 @@ pub struct Wal<D: NodeDisk> {
     pub(crate) waiting: VecDeque<LogRecord>,
     /// What is kept of each queue, in the same order.
     pub(crate) marks: Vec<Mark>,
+    /// Whether the queues rise by their numbers, so that a queue's mark is found by binary search.
+    pub(crate) rising: bool,
     /// Whether something was appended since the last sync.
     pub(crate) dirty: bool,
     /// Whether a call of the disk has failed.
@@ -56,10 +59,13 @@ pub struct Wal<D: NodeDisk> {
 }
 
 impl<D: NodeDisk> Wal<D> {
+    ghost use Rattle.qq_wal.specs.contracts.wal.Wal.{the_row};
+
     /// Begins a new file behind what is read on the disk: its header and the carries of the queues that
     /// have one, in one append, and syncs it. The names are those that the disk lists; the header's
     /// number is above that of each log file among them. The disk is handed back on each refusal, which
-    /// is never `Stopped` or `TooLarge`.
+    /// is never `Stopped` or `TooLarge`. Where the queues rise by their numbers, an op's queue is found by
+    /// binary search later on, else by a walk over all of them.
     pub fn begin(
         disk: D,
         alloc: Global,
@@ -98,6 +104,7 @@ impl<D: NodeDisk> Wal<D> {
         if let Err(fault) = begin_file(&mut disk, alloc, header, bytes.as_slice()) {
             return Err((fault_of(fault), disk));
         }
+        let rising = is_rising(queues.as_slice());
         Ok(Wal {
             disk,
             queues,
@@ -107,16 +114,20 @@ impl<D: NodeDisk> Wal<D> {
             numbers: first_numbers(header, names),
             waiting: VecDeque::new(alloc),
             marks,
+            rising,
             dirty: false,
             stopped: false,
         })
     }
 
-    /// The disk.
-    pub fn disk(&self) -> &D
-        ensures { result.now ≡ self.now.disk }
+    /// The disk, on which files beside the log's may be written and removed. The log stays sound where the
+    /// log files are as before (`other_files_keep_the_log_sound`).
+    pub fn disk(&mut self) -> &mut D
+        ensures value { result.now ≡ self.old.disk }
+        ensures* writes_back { sem 𝓛 (Lends (the_row D.row) D.row self.entry result
+            (λ d. record self.old { disk = d })) }
     {
-        &self.disk
+        &mut self.disk
     }
 
     /// The disk, once the log isn't written to any more.
@@ -130,8 +141,8 @@ impl<D: NodeDisk> Wal<D> {
     /// Takes an op, which is written by a later `append_batch`. `TooLarge` comes exactly where its record
     /// would have more bytes than a batch may have. The op is handed back on each refusal.
     pub fn gather(&mut self, op: Op) -> Result<(), (WalFault, Op)>
-        requires fields { HasFields op }
-        requires follows { MayFollow self.old.queues.items (carries_ahead self.old) op }
+        requires takes { MayGather op }
+        requires goes_on { GoesOn self.old.queues.items (carries_ahead self.old) op }
         requires sound { IsSound D.tells D.past self.old }
         ensures sound { IsSound D.tells D.past self.new }
         ensures ok { OnOk result (
@@ -202,7 +213,13 @@ impl<D: NodeDisk> Wal<D> {
         if let Err(fault) = append_file(&mut self.disk, alloc, self.header, bytes.as_slice()) {
             return Err(fault_of(fault));
         }
-        take_batch(alloc, &mut self.waiting, &mut self.marks, count);
+        take_batch(
+            alloc,
+            &mut self.waiting,
+            &mut self.marks,
+            self.rising,
+            count,
+        );
         self.size += bytes.len() as u64;
         self.stopped = false;
         Ok(count as u64)

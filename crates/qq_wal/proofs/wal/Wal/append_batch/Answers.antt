@@ -6,7 +6,7 @@ use Rattle.qq_disk.specs.Image.{log_of}
 use Rattle.qq_wal_record.specs.declared.record.LogRecord.{LogRecord}
 use Rattle.qq_wal.specs.declared.marks.Mark.{Mark}
 use Rattle.qq_wal.specs.Batch.{FitsBatch, AllFitBatch}
-use Rattle.qq_wal.specs.Marks.{AllFollow, HasCarry, add_records, known, queues_in}
+use Rattle.qq_wal.specs.Marks.{AllFollow, HasCarry, add_records, is_rising, known, queues_in}
 use Rattle.qq_wal.specs.Notices.{note_record}
 use Rattle.qq_wal.specs.Wal.{IsOnDisk}
 use Rattle.qq_wal.proofs.Batches.{told_before, ops_of, is_batch}
@@ -15,6 +15,9 @@ use Rattle.qq_wal.proofs.OnDisk.{appended, may-add}
 use Rattle.qq_wal.proofs.Steps.{holds-also}
 use Rattle.qq_wal.proofs.Taking.{left-ahead, left-carries, left-follow, taken-fit}
 use Rattle.qq_wal.proofs.wal.Wal.append_batch.Goals as goal
+
+pub take_batch-requires-clause-rising : goal.take_batch-requires-clause-rising
+take_batch-requires-clause-rising g c = c.requires.rising ∙ ap is_rising (sym c.requires.queues_are)
 
 pub returns-in-Err-append_file-clause-stays : goal.returns-in-Err-append_file-clause-stays
 returns-in-Err-append_file-clause-stays g c = λ told going.
@@ -90,6 +93,7 @@ returns-clause-sound g c =
           (left-follow was.queues.items was.marks.items c.in-Ok.count was.waiting.items c.requires.waiting
           c.requires.follow c.requires.queues_are));
       queues_are = ap queues_in marks ∙ noted-queues taken was.marks.items ∙ c.requires.queues_are;
+      rising = c.requires.rising;
       carries = subst (λ (l : List Mark). AllByRecursion HasCarry l) (sym marks)
           (left-carries was.queues.items was.marks.items c.in-Ok.count was.waiting.items c.requires.waiting
           c.requires.follow c.requires.queues_are c.requires.carries);

@@ -8,7 +8,7 @@ use Rattle.qq_wal_record.specs.declared.record.LogRecord.{LogRecord}
 use Rattle.qq_wal_record.specs.declared.record.LogRecord.TheVariants.{Carry as CarryRecord}
 use Rattle.qq_wal.specs.declared.marks.Mark.{Mark}
 use Rattle.qq_wal.specs.Batch.{AllFitBatch}
-use Rattle.qq_wal.specs.Marks.{AllFollow, HasCarry, IsCarry, carries_in, known, queues_in}
+use Rattle.qq_wal.specs.Marks.{AllFollow, HasCarry, IsCarry, carries_in, is_rising, known, queues_in}
 use Rattle.qq_wal.specs.Notices.{new_mark}
 use Rattle.qq_wal.specs.Wal.{first_length}
 use Rattle.qq_wal.proofs.Agreeing.{begun-carries, begun-queues}
@@ -76,6 +76,7 @@ returns-clause-sound g c =
       follow = subst (λ (l : List LogRecord). AllFollow queues (known c.in-Ok.marks.items) l) (sym c.new.ensures.items)
           tt;
       queues_are = ap queues_in made ∙ begun-queues c.args.carries.now queues;
+      rising = c.is_rising-rising.ensures ∙ ap is_rising c.as_slice-4.ensures.value;
       carries = subst (λ (l : List Mark). AllByRecursion HasCarry l) (sym made)
           (begun-carries c.args.carries.now queues each);
       number = search rules;

@@ -11,11 +11,13 @@ returns-clause-sound g c =
     let is = c.push_back_reserved.ensures.items
     ∙ ap (λ (l : List LogRecord). l ++ OpRecord c.args.op ∷ []) c.reserve.ensures.items in
     record {
-      waiting = gathered-fit was.waiting.items c.push_back_reserved.new.self.items c.args.op is c.requires.fields
-          (search rules) c.requires.follows.ends c.requires.sound.waiting;
+      waiting = gathered-fit was.waiting.items c.push_back_reserved.new.self.items c.args.op is
+          c.requires.takes (search rules) c.requires.sound.waiting;
       follow = gathered-follow was.queues.items (known was.marks.items) was.waiting.items
-          c.push_back_reserved.new.self.items c.args.op is c.requires.sound.follow c.requires.follows;
+          c.push_back_reserved.new.self.items c.args.op is c.requires.sound.follow c.requires.takes
+          c.requires.goes_on;
       queues_are = c.requires.sound.queues_are;
+      rising = c.requires.sound.rising;
       carries = c.requires.sound.carries;
       number = c.requires.sound.number;
       on_disk = c.requires.sound.on_disk;

@@ -78,6 +78,7 @@ returns-clause-sound g c = record {
   waiting = c.requires.sound.waiting;
   follow = c.requires.sound.follow;
   queues_are = c.requires.sound.queues_are;
+  rising = c.requires.sound.rising;
   carries = c.requires.sound.carries;
   number = search rules;
   on_disk = λ told going.

@@ -40,6 +40,7 @@ returns-clause-sound g c =
       follow = subst (λ (k : Carries). AllFollow was.queues.items k was.waiting.items)
           (sym (ap known marks ∙ synced-known was.marks.items)) c.requires.follow;
       queues_are = ap queues_in marks ∙ synced-queues was.marks.items ∙ c.requires.queues_are;
+      rising = c.requires.rising;
       carries = subst (λ (l : List Mark). AllByRecursion HasCarry l) (sym marks)
           (synced-carries was.marks.items c.requires.carries);
       number = c.requires.number;

@@ -1,0 +1,24 @@
+use Rattle.std.proofs.Common.{sym, ap, ◌∙◌}
+use Rattle.qq_disk.specs.Disk.{now}
+use Rattle.qq_wal.proofs.Batches.{told_before}
+use Rattle.qq_wal.proofs.Beside.{beside-keeps, beside-on_disk, beside-synced}
+use Rattle.qq_wal.proofs.laws.other_files_keep_the_log_sound.Goals as goal
+
+pub returns-clause-sound : goal.returns-clause-sound
+returns-clause-sound g c = λ w d is tells same. record {
+  waiting = is.waiting;
+  follow = is.follow;
+  queues_are = is.queues_are;
+  rising = is.rising;
+  carries = is.carries;
+  number = is.number;
+  on_disk = λ told going.
+      beside-on_disk w.queues.items (now (g.D.NodeDisk.past w.disk)) (now (g.D.NodeDisk.past d)) same w.header w.marks.items
+      w.size w.numbers (is.on_disk (told_before tells told) going);
+  synced = λ told going clean.
+      beside-synced w.queues.items (now (g.D.NodeDisk.past w.disk)) (now (g.D.NodeDisk.past d)) same w.header
+      (is.synced (told_before tells told) going clean);
+}
+
+pub returns-clause-promise : goal.returns-clause-promise
+returns-clause-promise g c = λ queues noticed given d e same. beside-keeps queues d e same noticed given
