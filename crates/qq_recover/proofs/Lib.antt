@@ -8,3 +8,10 @@ mod States
 mod Tables
 mod LogLaws
 mod Handed
+mod Settled
+mod Starts
+mod Promised
+mod Begun
+mod Carries
+mod Prepared
+mod Outcomes

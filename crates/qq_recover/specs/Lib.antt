@@ -10,3 +10,6 @@ pub mod State
 pub mod Table
 pub mod Log
 pub mod Lanes
+pub mod Recovery
+pub mod Start
+pub mod Recovered

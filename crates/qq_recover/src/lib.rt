@@ -7,12 +7,19 @@ mod inspection;
 mod laws;
 mod log;
 mod read;
+mod recovered;
+mod recovery;
 mod replay;
 mod settle;
+mod start;
 mod state;
 mod table;
 mod walk;
 
 pub use fault::RecoverFault;
 pub use inspection::inspect;
-pub use laws::lanes_are_those_of_the_chain;
+pub use laws::{
+    a_promised_disk_is_read, lanes_are_those_of_the_chain, these_disks_may_be_recovered,
+};
+pub use recovered::Recovered;
+pub use recovery::recover;

@@ -1,0 +1,136 @@
+//! Recovery: what is read is kept, and a new file goes on behind it.
+ghost use Rattle.std.specs.Prelude.{◌≡◌, ◌≤◌, ℕ, List, Ok, false, IsTrue, IfOk, IfErr, OnOk};
+ghost use Rattle.qq_base.specs.declared.memory.TheConstants.{NUMBER_END};
+ghost use Rattle.qq_disk.specs.Disk.{now, IsListed};
+ghost use Rattle.qq_disk.specs.Image.{log_of};
+ghost use Rattle.qq_log.specs.declared.op.Op.{Op};
+ghost use Rattle.qq_chain.specs.Laws.{KeepsPromise};
+ghost use Rattle.qq_wal.specs.Fault.{IsCaused as IsWalCaused};
+ghost use Rattle.qq_wal.specs.Running.{MayBegin, StillHolds, Stays, top};
+ghost use Rattle.qq_wal.specs.Wal.{IsSound};
+ghost use Rattle.qq_recover.specs.Answer.{Fails};
+ghost use Rattle.qq_recover.specs.Reading.{shown, lanes_read};
+ghost use Rattle.qq_recover.specs.Recovered.{IsBeginFault, IsBegunAbove, IsBegunBehind, IsDiskCaused, IsNoRefusal, IsRecoverCaused, IsSpentOn, KnowsLanes, disk_of, lanes_left, wal_of};
+ghost use Rattle.qq_recover.specs.Recovery.{MayRecover, SettlesLanes};
+ghost use Rattle.qq_recover.specs.Start.{IsStart};
+ghost use Rattle.qq_recover.specs.Table.{lanes_of};
+
+use crate::fault::RecoverFault;
+use crate::recovered::Recovered;
+use crate::start::{Start, prepare};
+use qq_base::{Memory, QueueId};
+use qq_chain::{syncs_settle_what_is_read, the_log_has_a_format};
+use qq_disk::NodeDisk;
+use qq_wal::{Wal, WalFault};
+use std::alloc::Global;
+
+/// The log's fault as it is begun.
+fn fault_at_begin(fault: WalFault) -> RecoverFault
+    requires { IsBeginFault fault }
+    ensures { (before now : ℕ) → IsWalCaused false before now fault → IsDiskCaused before now result }
+{
+    match fault {
+        WalFault::Disk => RecoverFault::Disk,
+        WalFault::Memory(memory) => RecoverFault::Memory(memory),
+        WalFault::Stopped | WalFault::TooLarge => unreachable!(),
+    }
+}
+
+/// Begins a new file behind what was read.
+fn begin_behind<D: NodeDisk>(
+    disk: D,
+    alloc: Global,
+    queues: &[QueueId],
+    start: Start,
+    log_bytes: u64,
+) -> Result<Recovered<D>, (RecoverFault, D)>
+    requires start { IsStart queues.now start }
+    requires goes_on { IsTrue (D.tells disk) → MayBegin queues.now start.header start.carries.items
+        start.names.items (now (D.past disk)) }
+    ensures sound { IfOk result (λ r. IsSound D.tells D.past (wal_of r)) }
+    ensures begun { IfOk result (IsBegunAbove queues.now start.names.items log_bytes) }
+    ensures header { IfOk result (λ r. (wal_of r).header ≡ start.header) }
+    ensures lanes { IfOk result (λ r. lanes_left r ≡ lanes_of start.table) }
+    ensures stays { IsTrue (D.tells disk) →
+        Stays queues.now (D.past disk) (D.past (disk_of result)) }
+    ensures holds { IsTrue (D.tells disk) → OnOk result (
+        StillHolds queues.now (now (D.past disk)) (now (D.past (disk_of result)))) }
+    ensures told { D.tells (disk_of result) ≡ D.tells disk }
+    ensures later { D.faults disk ≤ D.faults (disk_of result) }
+    ensures cause { IfErr result (λ e. IsDiskCaused (D.faults disk) (D.faults e.1) e.0) }
+{
+    let Start {
+        header,
+        carries,
+        names,
+        table,
+    } = start;
+    let queues = match Vec::from_slice(alloc, queues) {
+        Ok(queues) => queues,
+        Err(_) => return Err((RecoverFault::Memory(Memory::Want), disk)),
+    };
+    match Wal::begin(
+        disk,
+        alloc,
+        queues,
+        header,
+        carries.as_slice(),
+        names.as_slice(),
+        log_bytes,
+    ) {
+        Ok(wal) => Ok(Recovered { wal, table }),
+        Err((fault, disk)) => Err((fault_at_begin(fault), disk)),
+    }
+}
+
+/// Recovers a node's log: it syncs all that the disk lists, reads the chain of files from the newest whole
+/// header back, and begins a new file behind it, which names how far the newest one is good and carries
+/// each queue that has ops. Nothing is removed. What follows the first place without a whole record is
+/// dropped in the newest file. The disk is handed back on each refusal.
+///
+/// `Damaged` and `Version` come exactly where the log files that the disk shows break the rules of the log,
+/// and tell the first place. `Disk` comes only where the disk's count of faults rose, `Spent` exactly where
+/// a listed log file's number is 2^63 or more, with the greatest, and `Want` where there was no memory. A
+/// disk that this log wrote, and whatever a crash left of one, is never refused.
+///
+/// What a crash leaves of removed files may have no say in the reading: so it is on a disk that was just
+/// opened, and on one that keeps a promise of the log.
+pub fn recover<D: NodeDisk>(
+    disk: D,
+    alloc: Global,
+    queues: &[QueueId],
+    log_bytes: u64,
+) -> Result<Recovered<D>, (RecoverFault, D)>
+    requires { IsTrue (D.tells disk) → MayRecover queues.now (now (D.past disk)) }
+    ensures sound { IfOk result (λ r. IsSound D.tells D.past (wal_of r)) }
+    ensures knows { IfOk result (KnowsLanes queues.now) }
+    ensures begun { IsTrue (D.tells disk) →
+        IfOk result (IsBegunBehind queues.now log_bytes (now (D.past disk))) }
+    ensures lanes { IsTrue (D.tells disk) → IfOk result (λ r.
+        lanes_read queues.now (shown (now (D.past disk))) ≡ Ok (lanes_left r)) }
+    ensures refused { IsTrue (D.tells disk) → IfErr result (λ e.
+        Fails e.0 (lanes_read queues.now (shown (now (D.past disk))))) }
+    ensures stays { IsTrue (D.tells disk) →
+        Stays queues.now (D.past disk) (D.past (disk_of result)) }
+    ensures settles { IsTrue (D.tells disk) → (noticed given : List Op) →
+        KeepsPromise queues.now top noticed given (now (D.past disk)) → IfOk result (λ r.
+        SettlesLanes queues.now noticed given (lanes_left r) (now (D.past (disk_of result)))) }
+    ensures never_refused { IsTrue (D.tells disk) → (noticed given : List Op) →
+        KeepsPromise queues.now top noticed given (now (D.past disk)) →
+        IfErr result (λ e. IsNoRefusal e.0) }
+    ensures spent { IsTrue (D.tells disk) →
+        IfErr result (λ e. IsSpentOn (now (D.past disk)) e.0) }
+    ensures end { IsTrue (D.tells disk) → (number : ℕ) → NUMBER_END ≤ number →
+        IsListed (now (D.past disk)) (log_of number) → OnOk result ⊥ }
+    ensures told { D.tells (disk_of result) ≡ D.tells disk }
+    ensures later { D.faults disk ≤ D.faults (disk_of result) }
+    ensures cause { IfErr result (λ e. IsRecoverCaused (D.faults disk) (D.faults e.1) e.0) }
+{
+    the_log_has_a_format();
+    syncs_settle_what_is_read();
+    let mut disk = disk;
+    match prepare(&mut disk, alloc, queues) {
+        Ok(start) => begin_behind(disk, alloc, queues, start, log_bytes),
+        Err(fault) => Err((fault, disk)),
+    }
+}
