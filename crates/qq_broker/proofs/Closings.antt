@@ -1,21 +1,21 @@
 -- How a run closes.
-use Rattle.std.proofs.Common.{ℕ, ◌≤◌, inl, inr, List, [], ◌++◌, take, Option, refl, sym, subst, append-nil, arith}
+use Rattle.std.proofs.Common.{ℕ, ◌≤◌, inl, inr, List, [], ◌++◌, take, Option, refl, sym, subst, append_assoc, append-nil, arith}
 use Rattle.std.specs.Prelude.{IfSome}
 use Rattle.std.proofs.lemmas.Bool.{cases_lt}
 use Rattle.std.proofs.lemmas.Option.{IfSome_then}
 use Rattle.std.specs.Io.KnownBytes.{Appends, IsAtEnd}
 use Rattle.std.proofs.KnownBytes.{Appends-trans}
 use Rattle.qq_base.specs.Causes.{Rose}
-use Rattle.qq_ports.specs.Lines.{lines_of}
 use Rattle.qq_script.specs.Audit.{audit_text}
 use Rattle.qq_broker.specs.declared.status.TheConstants.{DONE}
 use Rattle.qq_broker.specs.declared.stop.Stop.{Stop}
 use Rattle.qq_broker.specs.declared.stop.Stop.TheVariants as stops
 use Rattle.qq_broker.specs.Endings.{Ending}
+use Rattle.qq_broker.specs.Script.{script_of}
 use Rattle.qq_broker.specs.Outcome.{Run, outcome, first_run, answers_of, first_queue}
-use Rattle.qq_broker.specs.Stops.{HasPrefix, HasSomePrefix, HasAnswers, EndsBy, Goes, HasStopped, Closes, IsDone}
-use Rattle.qq_broker.proofs.Prefixes.{without_nil, one_more, whole, closed, some_next}
-use Rattle.qq_broker.proofs.Going.{done_ends}
+use Rattle.qq_broker.specs.Stops.{HasPrefix, HasSomePrefix, HasAnswers, EndsBy, BreaksOff, Goes, HasStopped, Closes, IsDone}
+use Rattle.qq_broker.proofs.Prefixes.{without_nil, one_more, whole}
+use Rattle.qq_broker.proofs.Going.{done_ends, done_breaks}
 
 Rose-later : (a b c : ℕ) → a ≤ b → b ≤ c → Rose a b → Rose a c
 Rose-later a b c ab bc (inl lt) = inl (omega arith)
@@ -27,14 +27,14 @@ Rose-earlier a b c ab (inr end) = inr end
 
 -- ---- the audit
 
-audit_rest : (bytes : List ℕ) (run : Run) (a b : Option (List ℕ)) → Goes (lines_of bytes) run [] a b
+audit_rest : (bytes : List ℕ) (run : Run) (a b : Option (List ℕ)) → Goes (script_of bytes) run [] a b
     → HasPrefix a b (outcome bytes).text (audit_text first_queue 0 run.rows ++ []) []
 audit_rest bytes run a b so =
     subst (λ l. HasPrefix a b (outcome bytes).text l []) (sym (append-nil (audit_text first_queue 0 run.rows)))
     (done_ends bytes run a b so).text
 
 pub audit_ends : (left rest : Option (List ℕ)) (run : Run) (a b c : Option (List ℕ)) → IsAtEnd rest
-    → IfSome left (λ bytes. Goes (lines_of bytes) run [] a b)
+    → IfSome left (λ bytes. Goes (script_of bytes) run [] a b)
     → Appends b c (audit_text first_queue 0 run.rows) → IsDone DONE left rest a c
 audit_ends left rest run a b c end so grown = record {
   status_is = refl;
@@ -46,50 +46,60 @@ audit_ends left rest run a b c end so grown = record {
       grown));
 }
 
-pub audit_stops : (left : Option (List ℕ)) (run : Run) (a b c : Option (List ℕ))
-    → IfSome left (λ bytes. Goes (lines_of bytes) run [] a b)
-    → HasSomePrefix b c (audit_text first_queue 0 run.rows) [] → IfSome left
-    (λ bytes. HasSomePrefix a c (outcome bytes).text [])
-audit_stops left run a b c so some =
-    IfSome_then left so (λ bytes h. some_next a b c (outcome bytes).text (audit_text first_queue 0 run.rows) []
-    (audit_rest bytes run a b h) some)
+pub audit_stops : (left rest : Option (List ℕ)) (run : Run) (a b c : Option (List ℕ)) → IsAtEnd rest
+    → IfSome left (λ bytes. Goes (script_of bytes) run [] a b)
+    → HasSomePrefix b c (audit_text first_queue 0 run.rows) []
+    → IfSome left (λ bytes. BreaksOff bytes rest a c [])
+audit_stops left rest run a b c end so some =
+    IfSome_then left so (λ bytes h. done_breaks bytes run rest a b c h end some)
 
 -- ---- the closing line
+
+ends_then : (ending : Ending) (bytes : List ℕ) (rest a b c : Option (List ℕ)) (more : List ℕ)
+    → EndsBy ending bytes rest a b [] → Appends b c more → EndsBy ending bytes rest a c more
+ends_then ending bytes rest a b c more so grown =
+    let answers = answers_of so.serves.count first_run (script_of bytes) in
+    record {
+      serves = so.serves;
+      next = so.next;
+      written = Appends-trans a b c answers more (without_nil a b answers so.written) grown;
+    }
 
 answers_then : (bytes : List ℕ) (rest a b c : Option (List ℕ)) (more : List ℕ) → HasAnswers bytes rest a b []
     → Appends b c more → HasAnswers bytes rest a c more
 answers_then bytes rest a b c more so grown =
-    let answers = answers_of so.count first_run (lines_of bytes) in
+    let answers = answers_of so.serves.count first_run (script_of bytes) in
     record {
-      count = so.count;
-      piece = so.piece;
-      run = so.run;
-      goes = so.goes;
+      serves = so.serves;
       is_piece = so.is_piece;
-      unread = so.unread;
       written = Appends-trans a b c answers more (without_nil a b answers so.written) grown;
     }
 
-some_then : (text : List ℕ) (a b c : Option (List ℕ)) (more : List ℕ) → HasSomePrefix a b text [] → Appends b c more
-    → HasSomePrefix a c text more
-some_then text a b c more (rest, so) grown = (rest, closed a b c text rest more so grown)
+breaks_then : (bytes : List ℕ) (rest a b c : Option (List ℕ)) (more : List ℕ) → BreaksOff bytes rest a b []
+    → Appends b c more → BreaksOff bytes rest a c more
+breaks_then bytes rest a b c more so grown =
+    let answers = answers_of so.serves.count first_run (script_of bytes) in
+    let written = subst (λ (l : List ℕ). Appends a b (answers ++ l)) (append-nil so.said) so.written in
+    record {
+      serves = so.serves;
+      said = so.said;
+      unsaid = so.unsaid;
+      next = so.next;
+      written = subst (Appends a c) (append_assoc answers so.said more)
+          (Appends-trans a b c (answers ++ so.said) more written grown);
+    }
 
 stopped_then : (stop : Stop) (left rest a b c : Option (List ℕ)) (source sink sink' : Type 0) (more : List ℕ)
     → (sink → sink') → HasStopped stop left rest a b source sink []
     → Appends b c more → HasStopped stop left rest a c source sink' more
-stopped_then (stops.Ended ending) left rest a b c source sink sink' more f so grown = (
-  so.0,
-  IfSome_then left so.1
-      (λ bytes h. let closing : EndsBy ending bytes a c
-      more = record { status = h.status; text = closed a b c (outcome bytes).text ending.text more h.text grown }
-      in closing),
-)
+stopped_then (stops.Ended ending) left rest a b c source sink sink' more f so grown =
+    (so.0, IfSome_then left so.1 (λ bytes h. ends_then ending bytes rest a b c more h grown))
 stopped_then stops.ReadFault left rest a b c source sink sink' more f so grown =
     (so.0, IfSome_then left so.1 (λ bytes h. answers_then bytes rest a b c more h grown))
 stopped_then stops.WriteFault left rest a b c source sink sink' more f so grown =
-    (f so.0, IfSome_then left so.1 (λ bytes h. some_then (outcome bytes).text a b c more h grown))
+    (f so.0, IfSome_then left so.1 (λ bytes h. breaks_then bytes rest a b c more h grown))
 stopped_then stops.NoMemory left rest a b c source sink sink' more f so grown =
-    IfSome_then left so (λ bytes h. some_then (outcome bytes).text a b c more h grown)
+    IfSome_then left so (λ bytes h. breaks_then bytes rest a b c more h grown)
 
 -- a script that stopped, and whose closing line was written, whole or in part
 pub stop_closes :

@@ -1,4 +1,8 @@
 mod Prefixes
+mod ScriptLines
 mod Lines
+mod Serving
 mod Going
 mod Closings
+mod Logs
+mod Statuses

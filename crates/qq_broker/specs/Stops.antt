@@ -2,10 +2,12 @@
 use Rattle.std.specs.Prelude.{◌≡◌, ◌≤◌, length, ℕ, ◌+◌, List, [], ◌∷◌, ◌++◌, Bool, true, false, nat_eq, Option, IfSome, take, drop, codes, ◌⊎◌}
 use Rattle.std.specs.Cmp.Lexicographic.{pointwise}
 use Rattle.std.specs.Io.KnownBytes.{Appends, Keeps, IsAtEnd}
-use Rattle.qq_ports.specs.Lines.{lines_of, HasNoFeed}
+use Rattle.qq_ports.specs.Lines.{HasNoFeed}
 use Rattle.qq_entry.specs.declared.limits.TheConstants.{BODY_LIMIT}
 use Rattle.qq_script.specs.declared.line.ScriptLine.{ScriptLine}
 use Rattle.qq_script.specs.declared.line.ScriptLine.TheVariants as calls
+use Rattle.qq_script.specs.declared.line.ScriptFault.{ScriptFault}
+use Rattle.qq_script.specs.declared.line.ScriptFault.TheVariants as script_faults
 use Rattle.qq_broker.specs.declared.status.TheConstants.{DONE, WRITE_FAULT}
 use Rattle.qq_broker.specs.declared.stop.AnswerStop.{AnswerStop}
 use Rattle.qq_broker.specs.declared.stop.AnswerStop.TheVariants as answer_stops
@@ -13,8 +15,10 @@ use Rattle.qq_broker.specs.declared.stop.PrintFault.{PrintFault}
 use Rattle.qq_broker.specs.declared.stop.PrintFault.TheVariants as print_faults
 use Rattle.qq_broker.specs.declared.stop.Stop.{Stop}
 use Rattle.qq_broker.specs.declared.stop.Stop.TheVariants as stops
-use Rattle.qq_broker.specs.Endings.{Ending, before_text, usage, read_fault, write_fault, no_memory}
-use Rattle.qq_broker.specs.Outcome.{Run, Served, Answers, Ends, answer_line, outcome_from, outcome, first_run, answers_of}
+use Rattle.qq_broker.specs.Endings.{Ending, before_text, usage, refusal, limit_body, read_fault, write_fault, no_memory}
+use Rattle.qq_broker.specs.Script.{Line, script_of}
+use Rattle.qq_broker.specs.Outcome.{Run, Served, Answers, Ends, answer_line, outcome_from, outcome, first_run, first_queue, answers_by, answers_of}
+use Rattle.qq_script.specs.Audit.{audit_text}
 
 -- the words are the one command that there is
 abbrev pub is_script : List (List ℕ) → Bool
@@ -25,7 +29,7 @@ is_script (word ∷ more ∷ words) = false
 -- a call that a line may say: a body is within its limit
 abbrev pub IsAllowed : ScriptLine → Type 0
 IsAllowed (calls.Publish body) = length body ≤ BODY_LIMIT
-IsAllowed calls.Get = Unit {0}
+IsAllowed _ = Unit {0}
 
 -- ---- one line, one text
 
@@ -39,6 +43,12 @@ pub record HasAnswer (served : Served) (next : Run) (old new : List ℕ) : Type 
 abbrev pub HasAnswerCause : AnswerStop → Served → Type 0
 HasAnswerCause (answer_stops.Ended ending) served = served ≡ Ends ending
 HasAnswerCause answer_stops.NoMemory served = Unit {0}
+
+-- a line that isn't read is refused by its number, or its body by its size
+abbrev pub stop_by : ScriptFault → ℕ → AnswerStop
+stop_by script_faults.Unknown line = answer_stops.Ended (refusal line)
+stop_by (script_faults.Body size) line = answer_stops.Ended (limit_body size)
+stop_by (script_faults.Memory memory) line = answer_stops.NoMemory
 
 -- why the run stops then
 abbrev pub stop_of : AnswerStop → Stop
@@ -62,7 +72,7 @@ HasSomePrefix old new text more = (rest : List ℕ) × HasPrefix old new text re
 -- ---- a script
 
 -- A run went through the first lines of a script: what it wrote, and how the rest goes on.
-pub record Goes (all : List (List ℕ)) (run : Run) (left : List (List ℕ))
+pub record Goes (all : List Line) (run : Run) (left : List Line)
     (old new : Option (List ℕ)) : Type 0 where
   pub text : List ℕ
   pub written : Appends old new text
@@ -72,28 +82,59 @@ pub record Goes (all : List (List ℕ)) (run : Run) (left : List (List ℕ))
   pub answers : (more : ℕ) →
       answers_of (count + more) first_run all ≡ text ++ answers_of more run left
 
--- Each line that was read whole has its answer, and `run` would go on from there. Behind these lines
--- come a piece of a line that was read, and then what is unread.
-pub record HasAnswers (bytes : List ℕ) (rest old new : Option (List ℕ)) (more : List ℕ)
-    : Type 0 where
+-- The first lines of a script have their answers, and from there `run` goes on. Behind these lines come what
+-- was read of further ones, and then what is unread.
+pub record Serves (bytes : List ℕ) (rest : Option (List ℕ)) : Type 0 where
   pub count : ℕ
-  pub piece : List ℕ
   pub run : Run
-  pub goes : outcome bytes ≡ before_text (answers_of count first_run (lines_of bytes))
-      (outcome_from run (drop count (lines_of bytes)))
-  pub is_piece : HasNoFeed piece
-  pub unread : IfSome rest (λ unread. drop count (lines_of bytes) ≡ lines_of (piece ++ unread))
-  pub written : Appends old new (answers_of count first_run (lines_of bytes) ++ more)
+  pub goes : outcome bytes ≡ before_text (answers_of count first_run (script_of bytes))
+      (outcome_from run (drop count (script_of bytes)))
+  pub read : List ℕ
+  pub unread : IfSome rest (λ unread. drop count (script_of bytes) ≡ script_of (read ++ unread))
+
+-- these answers, and then `more`
+abbrev pub answers_then : {bytes : List ℕ} {rest : Option (List ℕ)} → Serves bytes rest → List ℕ → List ℕ
+answers_then {bytes} serves more = answers_of serves.count first_run (script_of bytes) ++ more
+
+-- the lines that have no answer
+abbrev pub lines_left : {bytes : List ℕ} {rest : Option (List ℕ)} → Serves bytes rest → List Line
+lines_left {bytes} serves = drop serves.count (script_of bytes)
 
 -- a line of some run ends the script so
 abbrev pub MayEnd : Ending → Type 0
-MayEnd ending = (run : Run) × (line : List ℕ) × (answer_line run line ≡ Ends ending)
+MayEnd ending = (run : Run) × (line : Line) × (answer_line run line ≡ Ends ending)
 
--- a script's outcome is this ending behind its answers, and these were written, and then `more`
-pub record EndsBy (ending : Ending) (bytes : List ℕ) (old new : Option (List ℕ)) (more : List ℕ)
+-- the next line ends the script so
+abbrev pub NextEnds : Run → List Line → Ending → Type 0
+NextEnds run [] ending = ⊥
+NextEnds run (line ∷ lines) ending = answer_line run line ≡ Ends ending
+
+-- Each line before it has its answer, and the next line ends the script so.
+pub record EndsBy (ending : Ending) (bytes : List ℕ) (rest old new : Option (List ℕ)) (more : List ℕ)
     : Type 0 where
-  pub status : (outcome bytes).status ≡ ending.status
-  pub text : HasPrefix old new (outcome bytes).text ending.text more
+  pub serves : Serves bytes rest
+  pub next : NextEnds serves.run (lines_left serves) ending
+  pub written : Appends old new (answers_then serves more)
+
+-- Each line that was read whole has its answer; what was read behind these lines is a piece of one.
+pub record HasAnswers (bytes : List ℕ) (rest old new : Option (List ℕ)) (more : List ℕ)
+    : Type 0 where
+  pub serves : Serves bytes rest
+  pub is_piece : HasNoFeed serves.read
+  pub written : Appends old new (answers_then serves more)
+
+-- what is printed next: the next line's answer, or the audit behind the last line
+abbrev pub next_text : Run → List Line → List ℕ
+next_text run [] = audit_text first_queue 0 run.rows
+next_text run (line ∷ lines) = answers_by (answer_line run line) (λ next. [])
+
+-- Some lines have their answers, and of what is printed next a prefix was written.
+pub record BreaksOff (bytes : List ℕ) (rest old new : Option (List ℕ)) (more : List ℕ) : Type 0 where
+  pub serves : Serves bytes rest
+  pub said : List ℕ
+  pub unsaid : List ℕ
+  pub next : next_text serves.run (lines_left serves) ≡ said ++ unsaid
+  pub written : Appends old new (answers_then serves (said ++ more))
 
 -- Why a script stopped, and what was written by then, and then `more`. `left` is what the source had,
 -- and `rest` what it has in the end, where it tells; `old` and `new` are what the sink had and has;
@@ -101,13 +142,13 @@ pub record EndsBy (ending : Ending) (bytes : List ℕ) (old new : Option (List �
 abbrev pub HasStopped : Stop → (left rest old new : Option (List ℕ)) → (source sink : Type 0)
     → (more : List ℕ) → Type 0
 HasStopped (stops.Ended ending) left rest old new source sink more =
-    MayEnd ending × IfSome left (λ bytes. EndsBy ending bytes old new more)
+    MayEnd ending × IfSome left (λ bytes. EndsBy ending bytes rest old new more)
 HasStopped stops.ReadFault left rest old new source sink more =
     source × IfSome left (λ bytes. HasAnswers bytes rest old new more)
 HasStopped stops.WriteFault left rest old new source sink more =
-    sink × IfSome left (λ bytes. HasSomePrefix old new (outcome bytes).text more)
+    sink × IfSome left (λ bytes. BreaksOff bytes rest old new more)
 HasStopped stops.NoMemory left rest old new source sink more =
-    IfSome left (λ bytes. HasSomePrefix old new (outcome bytes).text more)
+    IfSome left (λ bytes. BreaksOff bytes rest old new more)
 
 -- ---- the run
 

@@ -3,9 +3,10 @@ ghost use Rattle.std.specs.Fmt.{decimal};
 ghost use Rattle.std.specs.Io.KnownBytes.{Appends};
 ghost use Rattle.qq_base.specs.Causes.{HasCause};
 ghost use Rattle.qq_ports.specs.Faults.{AppendsPrefix, IsCaused};
-ghost use Rattle.qq_broker.specs.Endings.{number_text, usage, refusal, read_fault, write_fault, no_memory, spent};
+ghost use Rattle.qq_broker.specs.Endings.{number_text, usage, refusal, read_fault, write_fault, limit_body, limit_lines, no_memory, spent};
 
-use crate::status::{NO_MEMORY, READ_FAULT, REFUSED, SPENT, USAGE, WRITE_FAULT};
+use crate::broker::LINES_LIMIT;
+use crate::status::{LIMIT, NO_MEMORY, READ_FAULT, REFUSED, SPENT, USAGE, WRITE_FAULT};
 use itoa::Buffer;
 use qq_ports::{Failed, Sink, write_all};
 use std::marker::Model;
@@ -81,6 +82,30 @@ impl Ending {
             before: "",
             number: None,
             after: "",
+        }
+    }
+
+    /// A body has so many bytes, more than it may have.
+    pub fn limit_body(size: u64) -> Self
+        ensures { result ≡ limit_body size }
+    {
+        Ending {
+            status: LIMIT,
+            before: "limit body ",
+            number: Some(size),
+            after: "\n",
+        }
+    }
+
+    /// The script has more lines than it may have.
+    pub fn limit_lines() -> Self
+        ensures { result ≡ limit_lines }
+    {
+        Ending {
+            status: LIMIT,
+            before: "limit lines ",
+            number: Some(LINES_LIMIT + 1),
+            after: "\n",
         }
     }
 

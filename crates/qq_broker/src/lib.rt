@@ -4,10 +4,14 @@
 mod audit;
 mod broker;
 mod ending;
+mod laws;
 mod program;
 pub mod status;
 mod stop;
 
+pub use laws::{
+    a_command_is_an_entry, a_script_has_ten_million_lines, a_status_tells_what_was_done,
+};
 pub use program::run;
 
 #[cfg(test)]

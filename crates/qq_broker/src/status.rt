@@ -10,6 +10,8 @@ pub const REFUSED: u8 = 4;
 pub const READ_FAULT: u8 = 5;
 /// The sink failed.
 pub const WRITE_FAULT: u8 = 6;
+/// A body, or the number of lines, passes its limit.
+pub const LIMIT: u8 = 11;
 /// There was no memory.
 pub const NO_MEMORY: u8 = 12;
 /// A number stands at its end.

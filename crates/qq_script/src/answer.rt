@@ -1,4 +1,4 @@
-ghost use Rattle.std.specs.Prelude.{◌≡◌, ◌++◌, ◌∷◌, [], OnOk, IsOkUnless, OnErr, IfOk, IsSome};
+ghost use Rattle.std.specs.Prelude.{◌≡◌, ◌++◌, ◌∷◌, [], OnOk, IsOkUnless, OnErr, IfOk};
 ghost use Rattle.qq_entry.specs.Command.{session};
 ghost use Rattle.qq_script.specs.Text.{seq_of, tag_of, full_text, cause_text, answer_words, content_body, shown_body, is_first_client, line_prefix, answer_text};
 
@@ -7,6 +7,7 @@ use qq_base::{Memory, SessionId, Text};
 use qq_entry::{Answer, Cause, Command, Content, Full};
 use std::alloc::Global;
 
+/// The number of a command with a stamp, and 0 of any other.
 pub fn seq_of(command: &Command) -> u64
     ensures { result ≡ seq_of command.now }
 {
@@ -171,7 +172,6 @@ pub fn answer_text(
     answer: &Answer,
     out: &mut Vec<u8>,
 ) -> Result<(), Memory>
-    requires { IsSome (session command.now) }
     ensures ok { OnOk result (out.new.items ≡
         out.old.items ++ answer_text first command.now queue.now answer.now) }
     ensures err { OnErr result (out.new.items ≡ out.old.items) }

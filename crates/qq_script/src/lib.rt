@@ -6,7 +6,7 @@ mod audit;
 mod line;
 mod words;
 
-pub use answer::answer_text;
+pub use answer::{answer_text, seq_of};
 pub use audit::{audit_head_text, row_text};
 pub use line::{ScriptFault, ScriptLine, parse_line};
 

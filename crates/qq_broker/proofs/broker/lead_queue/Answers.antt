@@ -6,7 +6,7 @@ use Rattle.qq_entry.specs.declared.command.Entry.{Entry}
 use Rattle.qq_model.specs.State.{State, is_within_ends}
 use Rattle.qq_model.specs.Step.{Step, step}
 use Rattle.qq_model.specs.Audit.{row_of}
-use Rattle.qq_broker.specs.Outcome.{Run, entry_of, lead}
+use Rattle.qq_broker.specs.Outcome.{Run, entry_of, fresh_run, lead}
 use Rattle.qq_broker.proofs.Lines.{first_run-by, first_run_wants}
 use Rattle.qq_broker.proofs.broker.lead_queue.Goals as goal
 
@@ -22,7 +22,7 @@ returns-in-Ok-clause-ok c =
     let same = ap (λ (s : State). step s index (entry_of lead)) (sym c.requires)
     ∙ ap (λ (e : Entry). step c.args.queue.now index e) (sym c.entry_of-entry.ensures) in
     first_run-by made (same ∙ c.in-Ok.ensures.ok)
-    ∙ ap (λ (e : Entry). let run : Run = record { state = made.state; rows = row_of index e made ∷ []; lines = 0 }
+    ∙ ap (λ (e : Entry). let run : Run = record fresh_run { state = made.state; rows = row_of index e made ∷ [] }
     in run) (sym c.entry_of-entry.ensures)
 
 pub returns-in-Err-clause-want : goal.returns-in-Err-clause-want

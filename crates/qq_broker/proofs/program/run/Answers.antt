@@ -6,6 +6,7 @@ use Rattle.qq_broker.specs.declared.status.TheConstants.{DONE}
 use Rattle.qq_broker.specs.Endings.{Ending}
 use Rattle.qq_broker.specs.Stops.{RunEnds, HasStopped, Closes}
 use Rattle.qq_broker.proofs.Closings.{stop_closes}
+use Rattle.qq_broker.proofs.Logs.{carries_out_once}
 use Rattle.qq_broker.proofs.program.run.Goals as goal
 
 pub returns-then-not-is_script-clause-ends : goal.returns-then-not-is_script-clause-ends
@@ -53,3 +54,12 @@ returns-in-Err-clause-ends g c =
           (λ (e : Ending). Closes c.close-in-Err.result e sink
           (λ more. HasStopped c.in-Err.stop left rest before after source sink more)) c.ending.ensures closes,
     ))
+
+pub returns-then-not-is_script-clause-answered : goal.returns-then-not-is_script-clause-answered
+returns-then-not-is_script-clause-answered g c = carries_out_once c.commands_are_answered_once.ensures
+
+pub returns-in-Ok-clause-answered : goal.returns-in-Ok-clause-answered
+returns-in-Ok-clause-answered g c = carries_out_once c.commands_are_answered_once.ensures
+
+pub returns-in-Err-clause-answered : goal.returns-in-Err-clause-answered
+returns-in-Err-clause-answered g c = carries_out_once c.commands_are_answered_once.ensures

@@ -1,14 +1,12 @@
 use Rattle.std.proofs.Common.{◌≡◌, ℕ, ◌+◌, List, [], ◌++◌, sym, ap, subst, ◌∙◌, arith}
-use Rattle.std.specs.Prelude.{IfSome}
 use Rattle.std.specs.Io.KnownBytes.{Appends, prepend_known}
 use Rattle.qq_base.specs.Causes.{Rose}
 use Rattle.qq_ports.specs.Faults.{AppendsPrefix}
 use Rattle.qq_ports.specs.Lines.{ahead, TakesLine}
 use Rattle.qq_broker.specs.declared.stop.Stop.{Stop}
-use Rattle.qq_broker.specs.Endings.{Ending, refusal}
 use Rattle.qq_broker.specs.Outcome.{Run}
-use Rattle.qq_broker.specs.Stops.{HasStopped, EndsBy, MayEnd}
-use Rattle.qq_broker.proofs.Going.{Going, going_start, going_line, going_writes, going_too_long, refusal_may_end, going_reads, going_stops, answer_stops, ahead_ends}
+use Rattle.qq_broker.specs.Stops.{HasStopped}
+use Rattle.qq_broker.proofs.Going.{Going, going_start, going_line, going_writes, going_too_long, going_reads, going_stops, answer_stops, ahead_ends}
 use Rattle.qq_broker.proofs.Closings.{Rose-earlier}
 use Rattle.qq_broker.proofs.Lines.{first_run-lines}
 use Rattle.qq_broker.proofs.program.serve_lines.Goals as goal
@@ -45,23 +43,18 @@ returns-in-Err-Failed-clause-cause g c =
 
 pub returns-in-Err-TooLong-clause-cause : goal.returns-in-Err-TooLong-clause-cause
 returns-in-Err-TooLong-clause-cause g c =
-    let left = g.I.Source.left c.args.input.now in
-    let now = ahead c.lines.lines (g.I.Source.left c.lines.input) in
-    let before = g.O.Sink.written c.args.output.now in
-    let after = g.O.Sink.written c.lines.output in
     let long = rw c.in-Err-TooLong.field-0-is at c.in-Err-TooLong.ensures.cause in
-    let is : refusal (c.lines.broker.lines + 1) ≡ c.refusal.result = ap (λ (n : ℕ). refusal (n + 1))
-    (sym c.lines-in-Err-TooLong.ensures.lines) ∙ sym c.refusal.ensures in (
-      subst MayEnd is (refusal_may_end c.lines.broker),
-      subst (λ (e : Ending). IfSome left (λ bytes. EndsBy e bytes before after [])) is
-          (going_too_long left now c.lines.broker before after c.lines_law.ensures c.lines.invariant.going long.1),
-    )
+    going_too_long (g.I.Source.left c.args.input.now) (ahead c.lines.lines (g.I.Source.left c.lines.input))
+    (g.I.Source.left c.next_line.new.input) c.refuse_line.result c.lines.broker (g.O.Sink.written c.args.output.now)
+    (g.O.Sink.written c.lines.output) c.lines_law.ensures c.lines.invariant.going long.1
+    c.in-Err-TooLong.ensures.read c.refuse_line.ensures
 
 pub returns-in-Err-Memory-clause-cause : goal.returns-in-Err-Memory-clause-cause
 returns-in-Err-Memory-clause-cause g c =
     going_stops (g.I.Source.left c.args.input.now) (ahead c.lines.lines (g.I.Source.left c.lines.input))
-    c.lines.broker
+    (g.I.Source.left c.next_line.new.input) c.lines.broker
     (g.O.Sink.written c.args.output.now) (g.O.Sink.written c.lines.output) c.lines.invariant.going
+    c.in-Err-Memory.ensures.read
 
 pub returns-in-Err-clause-cause : goal.returns-in-Err-clause-cause
 returns-in-Err-clause-cause g c =
@@ -77,7 +70,7 @@ returns-in-Err-clause-cause g c =
     (rw c.in-Ok-Some.field-0-is at c.in-Ok-Some.ensures.line) in
     subst (λ (s : Stop). HasStopped s left rest before after source sink []) (sym c.from.ensures)
     (answer_stops c.in-Err.stop left now next rest c.lines.broker c.as_slice.result.now before after source sink
-    c.lines_law.ensures c.lines.invariant.going takes c.in-Err.ensures.cause)
+    c.lines_law.ensures c.lines.invariant.going takes c.in-Ok-Some.ensures.read c.in-Err.ensures.cause)
 
 pub returns-in-Err-write_all-clause-cause : goal.returns-in-Err-write_all-clause-cause
 returns-in-Err-write_all-clause-cause g c =
@@ -92,9 +85,9 @@ returns-in-Err-write_all-clause-cause g c =
     ∙ ap (λ (l : List ℕ). l ++ said.said) c.clear.ensures.items in (
       Rose-earlier (faults c.args.output.now) (faults c.lines.output) (faults c.write_all.new.out)
           c.lines.invariant.sink_later c.in-Err-write_all.ensures.cause.cause,
-      going_writes left now next c.lines.broker c.answer_line.new.self c.as_slice.result.now said.said
+      going_writes left now next (g.I.Source.left c.next_line.new.input) c.lines.broker c.answer_line.new.self c.as_slice.result.now said.said
           (g.O.Sink.written c.args.output.now) (g.O.Sink.written c.lines.output) (g.O.Sink.written c.write_all.new.out)
-          c.lines_law.ensures c.lines.invariant.going takes said.is
+          c.lines_law.ensures c.lines.invariant.going takes c.in-Ok-Some.ensures.read said.is
           (subst (AppendsPrefix (g.O.Sink.written c.lines.output) (g.O.Sink.written c.write_all.new.out)) same
           c.in-Err-write_all.ensures.err),
     )

@@ -15,14 +15,16 @@ returns-in-Err-Failed-clause-cause g c =
     let cause = rw c.in-Err-Failed.field-0-is at c.in-Err-Failed.ensures.cause in (
       Rose-earlier (faults c.args.output.now) (faults c.serve_lines.new.output) (faults c.write_audit.new.output)
           c.in_default.ensures.sink_later cause,
-      audit_stops (g.I.Source.left c.args.input.now) c.serve_lines.new.broker
+      audit_stops (g.I.Source.left c.args.input.now) (g.I.Source.left c.serve_lines.new.input)
+          c.serve_lines.new.broker
           (written c.args.output.now) (written c.serve_lines.new.output) (written c.write_audit.new.output)
-          c.in_default.ensures.ok c.in-Err-Failed.ensures.err,
+          c.in_default.ensures.ended c.in_default.ensures.ok c.in-Err-Failed.ensures.err,
     )
 
 pub returns-clause-cause : goal.returns-clause-cause
 returns-clause-cause g c =
     let written = g.O.Sink.written in
-    audit_stops (g.I.Source.left c.args.input.now) c.serve_lines.new.broker
+    audit_stops (g.I.Source.left c.args.input.now) (g.I.Source.left c.serve_lines.new.input)
+    c.serve_lines.new.broker
     (written c.args.output.now) (written c.serve_lines.new.output) (written c.write_audit.new.output)
-    c.in_default.ensures.ok c.in-Err-NoMemory.ensures.err
+    c.in_default.ensures.ended c.in_default.ensures.ok c.in-Err-NoMemory.ensures.err
