@@ -1,4 +1,4 @@
-ghost use Rattle.std.specs.Prelude.{◌≡◌, false, IfOk, IfErr};
+ghost use Rattle.std.specs.Prelude.{◌≡◌, false, true, IfOk, IfErr, OnOk};
 ghost use Rattle.qq_base.specs.Causes.{SpentOnlyWhere};
 ghost use Rattle.qq_model.specs.State.{empty_queue};
 ghost use Rattle.qq_model.specs.Audit.{audit_of, effects_of};
@@ -25,6 +25,7 @@ fn replay_on(
     entries: &[Entry],
 ) -> Result<Items<Applied>, Memory>
     ensures each { IfOk result (λ run. run ≡ replay serial.old entries.now) }
+    ensures within { OnOk result (stays_within serial.old entries.now ≡ true) }
     ensures cause { IfErr result (λ e. SpentOnlyWhere e NUMBER_END
         (stays_within serial.old entries.now ≡ false)) }
 {
@@ -45,13 +46,16 @@ fn replay_on(
 }
 
 /// Applies entries in order, from index 1 on, to a queue to which nothing was applied. It gives each
-/// entry's row and effects: together the serial audit and the effects of the run. `Spent` is answered
-/// only where a step of the run would take a number past its end.
+/// entry's row and effects: together the serial audit and the effects of the run.
+///
+/// - `within`: it answers Ok only where no step of the run takes a number past its end.
+/// - `cause`: `Spent` is answered only where a step of the run would.
 #[tactic(auto, using(crate::proofs::Runs::rows_are_audit, crate::proofs::Runs::effects_are_all))]
 pub fn replay(alloc: Global, args: QueueArgs, entries: &Entries) -> Result<Items<Applied>, Memory>
     ensures each { IfOk result (λ run. run ≡ replay (empty_queue args) entries.now) }
     ensures rows { IfOk result (λ run. rows run ≡ audit_of (empty_queue args) entries.now) }
     ensures effects { IfOk result (λ run. effects run ≡ effects_of (empty_queue args) entries.now) }
+    ensures within { OnOk result (stays_within (empty_queue args) entries.now ≡ true) }
     ensures cause { IfErr result (λ e. SpentOnlyWhere e NUMBER_END
         (stays_within (empty_queue args) entries.now ≡ false)) }
 {
