@@ -1,0 +1,5 @@
+mod Appends
+mod FieldLaws
+mod Loop
+mod RpcLaws
+mod Steps

@@ -1,0 +1,5 @@
+pub mod Bag
+pub mod Encoding
+pub mod Queue
+pub mod Reading
+pub mod Rpc
