@@ -7,3 +7,5 @@ pub mod Delivering
 pub mod Waiting
 pub mod Burying
 pub mod Serving
+pub mod Leaving
+pub mod Active

@@ -6,3 +6,4 @@ pub mod Outs
 pub mod Turns
 pub mod Letters
 pub mod Rounds
+pub mod Consumers

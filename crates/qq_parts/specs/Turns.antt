@@ -1,6 +1,6 @@
 -- Consumers are served in turn: those that wait to be served are a queue.
-use Rattle.std.specs.Prelude.{◌≡◌, ◌⊎◌, ℕ, ◌+◌, ◌<◌, ◌≤◌, Bool, not, ◌&&◌, true, false, nat_lt, List, [], ◌∷◌, ◌++◌, Option, Some, None, Contains, length, map, if◌then◌else◌}
-use Rattle.std.specs.Option.{option_map}
+use Rattle.std.specs.Prelude.{◌≡◌, ◌⊎◌, ℕ, ◌+◌, ◌<◌, ◌≤◌, Bool, not, ◌&&◌, true, false, nat_lt, List, [], ◌∷◌, ◌++◌, Option, Some, None, Contains, find, length, map, if◌then◌else◌}
+use Rattle.std.specs.Option.{option_and_then, option_map}
 use Rattle.std.specs.List.{AllByRecursion}
 use Rattle.qq_model.specs.declared.consumer.Consumer.{Consumer}
 use Rattle.qq_model.specs.State.{State}
@@ -42,3 +42,14 @@ pub record AreInTurn (m : Parts) (s : State) (waiting : List Served) : Type 0 wh
   pub next : next_consumer false s.rows s.consumers ≡ option_map consumer_at (first_one waiting)
   pub later : (x : Item) (one : Served) (ones : List Served) → waiting ≡ one ∷ ones
       → AreWaiting (hand_over x one.consumer m) (behind (serve_one (m.rest.turns + 1) x one) ones)
+
+-- the consumer itself, if it may be served
+abbrev pub servable_one : Served → Option Served
+servable_one one = if may_serve one then Some one else None
+
+abbrev pub is_current : Served → Bool
+is_current one = not one.consumer.cancelled
+
+-- with a single active consumer: the longest joined one that isn't cancelled, if it may be served
+abbrev pub active_one : List Served → Option Served
+active_one ones = option_and_then servable_one (find is_current ones)

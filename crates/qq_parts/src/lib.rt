@@ -2,7 +2,9 @@
 //! the definition reads of all rows. Definitions and laws; no code.
 #![tactic(auto)]
 
-ghost use Rattle.std.specs.Prelude.{◌≡◌, ℕ, List, Some, Contains, map};
+ghost use Rattle.std.specs.Prelude.{◌≡◌, ℕ, true, List, Some, Contains, map};
+ghost use Rattle.std.specs.Option.{option_map};
+ghost use Rattle.qq_model.specs.Choice.{next_consumer};
 ghost use Rattle.qq_base.specs.declared.ids.ConsumerId.{ConsumerId};
 ghost use Rattle.qq_model.specs.declared.consumer.Consumer.{Consumer};
 ghost use Rattle.qq_model.specs.State.{State};
@@ -10,8 +12,9 @@ ghost use Rattle.qq_gone.specs.Reduced.{Item};
 ghost use Rattle.qq_parts.specs.Parts.{Served, Parts, Stands, StandsWith, IsWhole, consumer_at};
 ghost use Rattle.qq_parts.specs.Reads.{Reads};
 ghost use Rattle.qq_parts.specs.Changes.{Taken, take_first, IsTaken, MayLeave, MayArrive};
-ghost use Rattle.qq_parts.specs.Turns.{AreWaiting, AreInTurn};
+ghost use Rattle.qq_parts.specs.Turns.{AreWaiting, AreInTurn, active_one};
 ghost use Rattle.qq_parts.specs.Letters.{TellsDead};
+ghost use Rattle.qq_parts.specs.Consumers.{ConsumersChange};
 ghost use Rattle.qq_parts.specs.Rounds.{Serving, IsServing, serve_all};
 ghost use Rattle.qq_model.specs.Changes.{Progress};
 ghost use Rattle.qq_model.specs.Serving.{check_out_all};
@@ -71,4 +74,17 @@ pub fn parts_tell_dead_letters()
 /// deliveries and their order are the definition's.
 pub fn all_checkouts_are_made()
     ensures { (t : Serving) (p : Progress) → IsServing t p → IsServing (serve_all t) (check_out_all p) }
+{}
+
+/// A law: a consumer may be cancelled, get credit or a turn, or have its credit drained, and consumers that
+/// have nothing out may leave, in the parts as in the queue.
+pub fn consumers_change_and_leave()
+    ensures { (m : Parts) (s : State) → Stands m s → IsWhole m → ConsumersChange m s }
+{}
+
+/// A law: with a single active consumer the next one is the longest joined of those that aren't cancelled,
+/// if it may be served.
+pub fn the_active_consumer_is_the_first()
+    ensures { (m : Parts) (s : State) → Stands m s → IsWhole m →
+        next_consumer true s.rows s.consumers ≡ option_map consumer_at (active_one m.served) }
 {}
