@@ -1,13 +1,17 @@
-use crate::text::{lanes_text, queues};
+use crate::stops::{cuts_text, stops_text};
+use crate::text::{lanes_text, queues, recovered_text};
+use crate::untold::Untold;
+use crate::written::Written;
 use anyhow::{Context, Result};
 use qq_disk::{FileKind, FileName, NodeDisk};
-use qq_mem_disk::MemDisk;
 use std::alloc::Global;
+use std::mem;
 
 /// A disk whose log files are given as text.
 #[derive(Drop)]
 pub struct Images {
-    disk: MemDisk,
+    disk: Untold,
+    written: Written,
 }
 
 fn cut(line: &str) -> (&str, &str) {
@@ -34,7 +38,8 @@ impl Images {
     /// An empty disk.
     pub fn new(alloc: Global) -> Self {
         Images {
-            disk: MemDisk::new(alloc),
+            disk: Untold::new(alloc),
+            written: Written::new(alloc),
         }
     }
 
@@ -42,9 +47,13 @@ impl Images {
     pub fn line(&mut self, alloc: Global, line: &str) -> Result<String> {
         let (word, rest) = cut(line);
         match word {
-            "disk" => self.disk = MemDisk::new(alloc),
-            "log" => self.add(alloc, rest)?,
+            "disk" => *self = Images::new(alloc),
+            "log" => self.add(alloc, rest, true)?,
+            "waiting" => self.add(alloc, rest, false)?,
             "lanes" => return self.lanes(alloc, rest),
+            "recover" => return self.recover(alloc, rest),
+            "cuts" => return cuts_text(alloc, &self.written, &queues(alloc, rest)?),
+            "stops" => return stops_text(alloc, &self.written, &queues(alloc, rest)?),
             _ => anyhow::bail!("no such line"),
         }
         Ok(String::new(alloc))
@@ -55,13 +64,23 @@ impl Images {
         lanes_text(alloc, &mut self.disk, &queues)
     }
 
+    fn recover(&mut self, alloc: Global, words: &str) -> Result<String> {
+        let queues = queues(alloc, words)?;
+        let disk = mem::replace(&mut self.disk, Untold::new(alloc));
+        let (text, disk) = recovered_text(alloc, disk, &queues)?;
+        self.disk = disk;
+        Ok(text)
+    }
+
     // Adds bytes to a log file.
-    fn add(&mut self, alloc: Global, words: &str) -> Result<()> {
+    fn add(&mut self, alloc: Global, words: &str, synced: bool) -> Result<()> {
         let (number, digits) = cut(words);
         let file = log(number)?;
         let bytes = bytes_of(alloc, digits)?;
         self.disk.append(alloc, file, &bytes)?;
-        self.disk.sync(alloc, file)?;
-        Ok(())
+        if synced {
+            self.disk.sync(alloc, file)?;
+        }
+        self.written.add(file, bytes, synced)
     }
 }

@@ -5,8 +5,17 @@
 //! with two blanks is an answer of an earlier run, which is passed over. The others are
 //!
 //! - `disk`: a new disk, empty;
-//! - `log N BYTES`: the bytes, in hexadecimal digits, are added to log file N;
-//! - `lanes QUEUE..`: what recovery reads of the disk where these queues are listed.
+//! - `log N BYTES`: the bytes, in hexadecimal digits, are added to log file N and synced;
+//! - `waiting N BYTES`: the same, but these bytes wait for a sync;
+//! - `lanes QUEUE..`: what recovery reads of the disk where these queues are listed, and changes nothing;
+//! - `recover QUEUE..`: recovery of the disk: the lanes that it gives, and the file that it begins;
+//! - `cuts QUEUE..`: the lanes that recovery gives after a crash that leaves so many of the bytes that wait
+//!   for a sync, for each number of them, in runs that give the same, and where it leaves others there;
+//! - `stops QUEUE..`: recovery of the disk as it was written, where each call of the disk in turn fails
+//!   alone, and where the disk stops there: then comes a crash that leaves nothing of what waits for a sync,
+//!   so many bytes, all or others; and a second recovery, which behind a crash that leaves nothing, all or
+//!   others is stopped at each of its calls, before a third. Each that isn't stopped has to give the same
+//!   lanes.
 //!
 //! A queue's lane is printed as the number of its last op, its term and vote, and the terms of its entries. A
 //! queue without ops has none.
@@ -16,7 +25,10 @@
 #![tactic(auto)]
 
 mod images;
+mod stops;
 mod text;
+mod untold;
+mod written;
 
 use anyhow::Result;
 use images::Images;

@@ -1,8 +1,10 @@
+use crate::untold::Untold;
 use anyhow::{Context, Result};
-use qq_base::QueueId;
-use qq_disk::NodeDisk;
+use qq_base::{Memory, QueueId};
+use qq_disk::{FileKind, FileName, NodeDisk};
 use qq_log::Lane;
-use qq_recover::{RecoverFault, inspect};
+use qq_recover::{RecoverFault, Recovered, inspect, recover};
+use qq_wal_record::read_header;
 use std::alloc::Global;
 
 /// The queue of a word.
@@ -47,7 +49,10 @@ fn lane_text(alloc: Global, lane: &Lane) -> Result<String> {
 fn fault_text(alloc: Global, fault: RecoverFault) -> Result<String> {
     Ok(match fault {
         RecoverFault::Disk => String::from_str(alloc, "the disk failed\n")?,
-        RecoverFault::Memory(_) => String::from_str(alloc, "out of memory or numbers\n")?,
+        RecoverFault::Memory(Memory::Want) => String::from_str(alloc, "out of memory\n")?,
+        RecoverFault::Memory(Memory::Spent { number }) => {
+            format!(in alloc; "the number {number} is at its end\n")?
+        }
         RecoverFault::Damaged { file, place } => {
             format!(in alloc; "log {} is damaged at {place}\n", file.number)?
         }
@@ -57,18 +62,91 @@ fn fault_text(alloc: Global, fault: RecoverFault) -> Result<String> {
     })
 }
 
-/// A line for each lane that recovery reads, or for why it reads none.
-pub fn lanes_text<D: NodeDisk>(alloc: Global, disk: &mut D, queues: &[QueueId]) -> Result<String> {
-    let lanes = match inspect(disk, alloc, queues) {
-        Ok(lanes) => lanes,
-        Err(fault) => return fault_text(alloc, fault),
-    };
+/// A line for each lane, or that there is none.
+fn all_lanes_text(alloc: Global, lanes: &[Lane]) -> Result<String> {
     if lanes.is_empty() {
         return Ok(String::from_str(alloc, "no lanes\n")?);
     }
     let mut text = String::new(alloc);
-    for lane in &lanes {
+    for lane in lanes {
         text.push_str(lane_text(alloc, lane)?.as_str())?;
     }
     Ok(text)
+}
+
+/// A line for each lane that recovery reads, or for why it reads none.
+pub fn lanes_text<D: NodeDisk>(alloc: Global, disk: &mut D, queues: &[QueueId]) -> Result<String> {
+    match inspect(disk, alloc, queues) {
+        Ok(lanes) => all_lanes_text(alloc, &lanes),
+        Err(fault) => fault_text(alloc, fault),
+    }
+}
+
+/// The lanes that recovery hands out.
+fn taken(
+    alloc: Global,
+    recovered: &mut Recovered<Untold>,
+    queues: &[QueueId],
+) -> Result<Vec<Lane>> {
+    let mut lanes = Vec::new(alloc);
+    for queue in queues {
+        if let Some(lane) = recovered.lane(alloc, *queue) {
+            lanes.push(lane)?;
+        }
+    }
+    Ok(lanes)
+}
+
+/// The log file of greatest number.
+fn newest_log(alloc: Global, disk: &mut Untold) -> Result<FileName> {
+    let mut newest = FileName {
+        kind: FileKind::Log,
+        number: 0,
+    };
+    for name in &disk.names(alloc)? {
+        if name.kind == FileKind::Log && name.number > newest.number {
+            newest = *name;
+        }
+    }
+    Ok(newest)
+}
+
+/// The file that was begun: its length, and what its header names.
+fn begun_text(alloc: Global, disk: &mut Untold) -> Result<String> {
+    let file = newest_log(alloc, disk)?;
+    let size = disk.size(alloc, file)?;
+    let mut front = [0; 38];
+    disk.read(alloc, file, 0, &mut front)?;
+    let Ok(header) = read_header(&front) else {
+        anyhow::bail!("the new file has no header");
+    };
+    Ok(format!(in alloc;
+        "log {} of {size} bytes is begun, behind {} bytes of log {}\n",
+        header.file, header.good, header.previous
+    )?)
+}
+
+/// A line for each lane that recovery gives and one for the file that it begins, or one for why it gives
+/// none; and the disk.
+pub fn recovered_text(alloc: Global, disk: Untold, queues: &[QueueId]) -> Result<(String, Untold)> {
+    let mut recovered = match recover(disk, alloc, queues, 1000) {
+        Ok(recovered) => recovered,
+        Err((fault, disk)) => return Ok((fault_text(alloc, fault)?, disk)),
+    };
+    let lanes = taken(alloc, &mut recovered, queues)?;
+    let mut text = all_lanes_text(alloc, &lanes)?;
+    let mut disk = recovered.into_wal().into_disk();
+    text.push_str(begun_text(alloc, &mut disk)?.as_str())?;
+    Ok((text, disk))
+}
+
+/// A line for each lane that recovery gives, or one for why it gives none.
+pub fn recovered_lanes(alloc: Global, disk: Untold, queues: &[QueueId]) -> Result<String> {
+    match recover(disk, alloc, queues, 1000) {
+        Ok(recovered) => {
+            let mut recovered = recovered;
+            all_lanes_text(alloc, &taken(alloc, &mut recovered, queues)?)
+        }
+        Err((fault, _)) => fault_text(alloc, fault),
+    }
 }

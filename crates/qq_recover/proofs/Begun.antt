@@ -12,12 +12,11 @@ use Rattle.qq_wal_record.specs.declared.record.LogRecord.{LogRecord}
 use Rattle.qq_chain.specs.Lanes.{Lanes, is_listed}
 use Rattle.qq_wal.specs.declared.marks.Mark.{Mark}
 use Rattle.qq_wal.specs.declared.wal.Wal.{Wal}
-use Rattle.qq_wal.specs.Marks.{Agree, add_records, carries_of, carry_for, carry_in, known, queues_in}
+use Rattle.qq_wal.specs.Marks.{Agree, add_records, carries_of, carry_for, known}
 use Rattle.qq_wal.specs.Notices.{carried_op, new_mark, synced_in}
 use Rattle.qq_wal.specs.Numbers.{first_numbers, greatest_number}
 use Rattle.qq_wal.specs.Wal.{IsBegun, first_length}
 use Rattle.qq_wal.proofs.Agreeing.{agree-known, begun-agree, begun-queues}
-use Rattle.qq_wal.proofs.Follows.{same_queue}
 use Rattle.qq_recover.specs.declared.recovered.Recovered.{Recovered}
 use Rattle.qq_recover.specs.declared.table.Table.{Table}
 use Rattle.qq_recover.specs.Recovered.{IsBegunAbove, KnowsLanes, last_op, lanes_left, wal_of}

@@ -13,8 +13,8 @@ use Rattle.qq_recover.specs.declared.recovered.Recovered.{Recovered}
 use Rattle.qq_recover.specs.declared.start.Start.{Start}
 use Rattle.qq_recover.specs.Answer.{Answer, Fails}
 use Rattle.qq_recover.specs.Log.{IsNewest}
-use Rattle.qq_recover.specs.Reading.{lanes_read, shown}
-use Rattle.qq_recover.specs.Recovered.{IsBegunAbove, IsBegunBehind, IsDiskCaused, IsNoRefusal, IsRecoverCaused, IsSpentOn, KnowsLanes, lanes_left, wal_of}
+use Rattle.qq_recover.specs.Reading.{shown}
+use Rattle.qq_recover.specs.Recovered.{IsBegunAbove, IsBegunBehind, IsDiskCaused, IsNoRefusal, IsSpentOn, KnowsLanes, lanes_left, wal_of}
 use Rattle.qq_recover.specs.Recovery.{SettlesLanes}
 use Rattle.qq_recover.specs.Start.{IsReadOf}
 use Rattle.qq_recover.specs.Table.{lanes_of}

@@ -8,8 +8,8 @@ use Rattle.qq_log.specs.declared.op.Op.{Op}
 use Rattle.qq_chain.specs.Chain.{Logs, reading}
 use Rattle.qq_chain.specs.Format.{IsFormat}
 use Rattle.qq_chain.specs.Image.{files_of, is_removed, logs_of}
-use Rattle.qq_chain.specs.Lanes.{IsStateOf, Lanes, RecoversLane, RecoversLanes, of_queue}
-use Rattle.qq_chain.specs.Laws.{HoldsOps, IsHonestImage, KeepsPromise, SettlesOn, op_records}
+use Rattle.qq_chain.specs.Lanes.{IsStateOf, Lanes, RecoversLanes, of_queue}
+use Rattle.qq_chain.specs.Laws.{IsHonestImage, KeepsPromise, SettlesOn, op_records}
 use Rattle.qq_chain.specs.Promise.{found_world}
 use Rattle.qq_chain.specs.Wal.{wal}
 use Rattle.qq_chain.proofs.Fronts.{front-all, front-same}

@@ -1,5 +1,5 @@
 -- Once all listed files are synced, each image reads as the disk does.
-use Rattle.std.proofs.Common.{◌≡◌, ℕ, false, List, [], ◌∷◌, Option, Some, None, refl, sym, subst, ◌∙◌, inl, inr, ◌⊎◌, is_some, IsTrue, option_map}
+use Rattle.std.proofs.Common.{◌≡◌, ℕ, false, List, [], ◌∷◌, Option, refl, sym, subst, ◌∙◌, inl, inr, ◌⊎◌, is_some, IsTrue, option_map}
 use Rattle.qq_base.specs.declared.ids.QueueId.{QueueId}
 use Rattle.qq_disk.specs.declared.name.FileName.{FileName}
 use Rattle.qq_disk.specs.Name.{same_name}

@@ -1,11 +1,11 @@
 -- A new file may go on behind what was read.
-use Rattle.std.proofs.Common.{◌≡◌, ◌≤◌, ◌<◌, ◌+◌, ℕ, true, false, List, Option, Some, None, Ok, refl, sym, ap, subst, ◌∙◌, arith, inl, inr, ◌⊎◌, is_some, IsTrue}
+use Rattle.std.proofs.Common.{◌≡◌, ◌≤◌, ◌<◌, ℕ, true, List, Option, Some, None, refl, sym, ap, subst, ◌∙◌, arith, inl, inr, ◌⊎◌, is_some, IsTrue}
 use Rattle.std.proofs.lemmas.Bool.{cases_lt}
 use Rattle.qq_base.specs.declared.ids.QueueId.{QueueId}
 use Rattle.qq_base.specs.declared.memory.TheConstants.{NUMBER_END}
 use Rattle.qq_disk.specs.declared.name.FileKind.TheVariants.{Log as OfLog}
 use Rattle.qq_disk.specs.declared.name.FileName.{FileName}
-use Rattle.qq_disk.specs.Disk.{Disk, IsListed, IsListing, contents}
+use Rattle.qq_disk.specs.Disk.{Disk, IsListed, IsListing}
 use Rattle.qq_disk.specs.Image.{log_of}
 use Rattle.qq_chain.specs.Chain.{Logs, Found, Reading, has_header, newest, reading}
 use Rattle.qq_chain.specs.Format.{IsFormat}

@@ -1,5 +1,5 @@
 -- What recovery gives.
-use Rattle.std.specs.Prelude.{◌≡◌, ◌+◌, ◌≤◌, ℕ, true, List, Option, Some, None, Result, Ok, Err, IsTrue, Bool}
+use Rattle.std.specs.Prelude.{◌≡◌, ◌+◌, ◌≤◌, ℕ, true, List, Option, Some, None, Result, Ok, Err}
 use Rattle.qq_base.specs.Causes.{Rose}
 use Rattle.qq_base.specs.declared.ids.QueueId.{QueueId}
 use Rattle.qq_base.specs.declared.memory.Memory.{Memory}

@@ -27,7 +27,8 @@ use std::alloc::Global;
 /// The log's fault as it is begun.
 fn fault_at_begin(fault: WalFault) -> RecoverFault
     requires { IsBeginFault fault }
-    ensures { (before now : ℕ) → IsWalCaused false before now fault → IsDiskCaused before now result }
+    ensures { (before now : ℕ) → IsWalCaused false before now fault →
+        IsDiskCaused before now result }
 {
     match fault {
         WalFault::Disk => RecoverFault::Disk,

@@ -61,7 +61,8 @@ fn add_carry(
 
 /// The carries of the queues that have ops, in the order of the queues.
 fn carries_of(alloc: Global, queues: &[QueueId], table: &Table) -> Result<Vec<Carry>, Memory>
-    ensures ok { IfOk result (λ carries. carries.items ≡ carries_of queues.now (lanes_of table.now)) }
+    ensures ok { IfOk result (λ carries.
+        carries.items ≡ carries_of queues.now (lanes_of table.now)) }
     ensures each { IfOk result (λ carries. All IsCarry carries.items) }
     ensures want { IsOkUnless result Memory.Want }
 {

@@ -1,7 +1,5 @@
-use Rattle.std.proofs.Common.{◌≡◌, Bool, IsTrue, sym, subst}
+use Rattle.std.proofs.Common.{Bool, IsTrue, sym, subst}
 use Rattle.qq_disk.specs.Disk.{Disk, now}
-use Rattle.qq_disk.specs.declared.name.FileName.{FileName}
-use Rattle.qq_log.specs.declared.op.Op.{Op}
 use Rattle.qq_chain.specs.Laws.{SettlesOn}
 use Rattle.qq_wal.specs.Running.{StillHolds, top}
 use Rattle.qq_wal.proofs.Steps.{stays-then}

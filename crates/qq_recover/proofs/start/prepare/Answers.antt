@@ -1,16 +1,12 @@
-use Rattle.std.proofs.Common.{◌≡◌, ◌∙◌, Bool, IsTrue, List, Ok, ap, refl, sym, subst}
+use Rattle.std.proofs.Common.{◌≡◌, ◌∙◌, Bool, IsTrue, List, ap, refl, sym, subst}
 use Rattle.qq_disk.specs.declared.name.FileName.{FileName}
-use Rattle.qq_disk.specs.Disk.{Disk, IsListing, now}
+use Rattle.qq_disk.specs.Disk.{IsListing, now}
 use Rattle.qq_chain.specs.Chain.{Logs}
 use Rattle.qq_chain.specs.Promise.{sync_all}
-use Rattle.qq_chain.specs.Lanes.{Lanes}
-use Rattle.qq_wal.specs.Running.{Stays}
-use Rattle.qq_wal.proofs.Steps.{stays-then}
 use Rattle.qq_recover.specs.declared.start.Start.{Start}
-use Rattle.qq_recover.specs.Answer.{Answer, Fails}
-use Rattle.qq_recover.specs.Reading.{lanes_read, shown}
-use Rattle.qq_recover.specs.Start.{IsReadOf}
-use Rattle.qq_recover.proofs.Prepared.{all-synced, prepared-stays, read-of, still-listed, still-shown}
+use Rattle.qq_recover.specs.Answer.{Fails}
+use Rattle.qq_recover.specs.Reading.{lanes_read}
+use Rattle.qq_recover.proofs.Prepared.{prepared-stays, read-of, still-listed, still-shown}
 use Rattle.qq_recover.proofs.start.prepare.Goals as goal
 
 pub returns-in-Err-clause-stays : goal.returns-in-Err-clause-stays

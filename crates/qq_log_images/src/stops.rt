@@ -1,0 +1,158 @@
+//! What recovery gives where a crash cut what waits for a sync, and where the disk stops at each call.
+use crate::text::recovered_lanes;
+use crate::untold::Untold;
+use crate::written::Written;
+use anyhow::Result;
+use qq_base::{Bytes, QueueId};
+use qq_disk::Tail;
+use qq_recover::{RecoverFault, recover};
+use std::alloc::Global;
+
+/// No recovery of the cases makes so many calls.
+const MOST_CALLS: u64 = 1000;
+
+/// The files that recovery begins have fewer bytes.
+const LONGEST: u64 = 200;
+
+fn junk(alloc: Global) -> Result<Tail> {
+    Ok(Tail::Junk(Bytes::from_vec(vec![in alloc; 255; 1000]?)))
+}
+
+/// What a crash leaves of what waits for a sync: so many bytes, or all, or others.
+fn tail(alloc: Global, choice: u64) -> Result<Tail> {
+    if choice < LONGEST {
+        return Ok(Tail::Cut(choice));
+    }
+    if choice == LONGEST {
+        return Ok(Tail::Whole);
+    }
+    junk(alloc)
+}
+
+/// The disk of a recovery that is stopped after so many calls. None where it came to its end.
+fn stopped(alloc: Global, disk: Untold, queues: &[QueueId], calls: u64) -> Option<Untold> {
+    let mut disk = disk;
+    disk.fuse(calls);
+    match recover(disk, alloc, queues, 1000) {
+        Err((RecoverFault::Disk, disk)) => Some(disk),
+        _ => None,
+    }
+}
+
+/// The disk of a recovery one call of which fails, after so many. None where it came to its end.
+fn failed(
+    alloc: Global,
+    written: &Written,
+    queues: &[QueueId],
+    calls: u64,
+) -> Result<Option<Untold>> {
+    let mut disk = written.disk(alloc)?;
+    disk.fail_once(alloc, calls)?;
+    match recover(disk, alloc, queues, 1000) {
+        Err((RecoverFault::Disk, disk)) => Ok(Some(disk)),
+        _ => Ok(None),
+    }
+}
+
+/// What a crash leaves behind a recovery that is stopped after so many calls.
+fn crashed(
+    alloc: Global,
+    written: &Written,
+    queues: &[QueueId],
+    calls: u64,
+    choice: u64,
+) -> Result<Option<Untold>> {
+    match stopped(alloc, written.disk(alloc)?, queues, calls) {
+        Some(disk) => Ok(Some(disk.crash(alloc, tail(alloc, choice)?)?)),
+        None => Ok(None),
+    }
+}
+
+fn want_lanes(alloc: Global, disk: Untold, queues: &[QueueId], wanted: &str) -> Result<()> {
+    let lanes = recovered_lanes(alloc, disk, queues)?;
+    if lanes.as_str() != wanted {
+        anyhow::bail!("a recovery gives other lanes");
+    }
+    Ok(())
+}
+
+/// A second recovery is stopped at each of its calls, and a third one wants the same lanes.
+fn stop_again(
+    alloc: Global,
+    written: &Written,
+    queues: &[QueueId],
+    calls: u64,
+    choice: u64,
+    wanted: &str,
+) -> Result<()> {
+    for more in 0..MOST_CALLS {
+        let Some(disk) = crashed(alloc, written, queues, calls, choice)? else {
+            return Ok(());
+        };
+        let Some(disk) = stopped(alloc, disk, queues, more) else {
+            return Ok(());
+        };
+        want_lanes(alloc, disk.crash(alloc, Tail::Whole)?, queues, wanted)?;
+    }
+    anyhow::bail!("a recovery makes too many calls")
+}
+
+/// Whether a recovery is stopped after so many calls. Whatever a crash leaves then has to give these lanes,
+/// and so has the disk itself where one call failed.
+fn stops_after(
+    alloc: Global,
+    written: &Written,
+    queues: &[QueueId],
+    calls: u64,
+    wanted: &str,
+) -> Result<bool> {
+    let Some(disk) = failed(alloc, written, queues, calls)? else {
+        return Ok(false);
+    };
+    want_lanes(alloc, disk, queues, wanted)?;
+    for choice in 0..LONGEST + 2 {
+        let Some(disk) = crashed(alloc, written, queues, calls, choice)? else {
+            return Ok(false);
+        };
+        want_lanes(alloc, disk, queues, wanted)?;
+        if choice == 0 || choice >= LONGEST {
+            stop_again(alloc, written, queues, calls, choice, wanted)?;
+        }
+    }
+    Ok(true)
+}
+
+/// In how many calls the disk can stop a recovery, where the same lanes come whatever follows.
+pub fn stops_text(alloc: Global, written: &Written, queues: &[QueueId]) -> Result<String> {
+    if written.waiting() != 0 {
+        anyhow::bail!("all has to be synced");
+    }
+    let wanted = recovered_lanes(alloc, written.disk(alloc)?, queues)?;
+    for calls in 0..MOST_CALLS {
+        if !stops_after(alloc, written, queues, calls, wanted.as_str())? {
+            return Ok(format!(in alloc;
+                "{calls} calls, and the same lanes after a stop at each\n"
+            )?);
+        }
+    }
+    anyhow::bail!("recovery makes too many calls")
+}
+
+/// The lanes of each cut of what waits for a sync, in runs of cuts that give the same, and then those where
+/// other bytes stand there.
+pub fn cuts_text(alloc: Global, written: &Written, queues: &[QueueId]) -> Result<String> {
+    let mut text = String::new(alloc);
+    let mut before = String::new(alloc);
+    for count in 0..=written.waiting() as u64 {
+        let disk = written.disk(alloc)?.crash(alloc, Tail::Cut(count))?;
+        let lanes = recovered_lanes(alloc, disk, queues)?;
+        if lanes.as_str() != before.as_str() {
+            text.push_str(format!(in alloc; "from {count} bytes on:\n{lanes}")?.as_str())?;
+            before = lanes;
+        }
+    }
+    let disk = written.disk(alloc)?.crash(alloc, junk(alloc)?)?;
+    let lanes = recovered_lanes(alloc, disk, queues)?;
+    text.push_str(format!(in alloc; "other bytes:\n{lanes}")?.as_str())?;
+    Ok(text)
+}

@@ -1,0 +1,60 @@
+use crate::untold::Untold;
+use anyhow::Result;
+use qq_disk::{FileName, NodeDisk};
+use std::alloc::Global;
+
+/// Bytes that were added to a file.
+#[derive(Drop)]
+struct Piece {
+    file: FileName,
+    bytes: Vec<u8>,
+    synced: bool,
+}
+
+/// All that was written to a disk, so that the disk can be made again.
+#[derive(Drop)]
+pub struct Written {
+    pieces: Vec<Piece>,
+}
+
+impl Written {
+    /// Nothing.
+    pub fn new(alloc: Global) -> Self {
+        Written {
+            pieces: Vec::new(alloc),
+        }
+    }
+
+    /// Bytes more, which are synced or wait for a sync.
+    pub fn add(&mut self, file: FileName, bytes: Vec<u8>, synced: bool) -> Result<()> {
+        self.pieces.push(Piece {
+            file,
+            bytes,
+            synced,
+        })?;
+        Ok(())
+    }
+
+    /// How many bytes wait for a sync.
+    pub fn waiting(&self) -> usize {
+        let mut count = 0;
+        for piece in &self.pieces {
+            if !piece.synced {
+                count = piece.bytes.len().saturating_add(count);
+            }
+        }
+        count
+    }
+
+    /// A disk with all that was written.
+    pub fn disk(&self, alloc: Global) -> Result<Untold> {
+        let mut disk = Untold::new(alloc);
+        for piece in &self.pieces {
+            disk.append(alloc, piece.file, &piece.bytes)?;
+            if piece.synced {
+                disk.sync(alloc, piece.file)?;
+            }
+        }
+        Ok(disk)
+    }
+}
