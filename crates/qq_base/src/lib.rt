@@ -15,6 +15,3 @@ pub use ids::{CLIENT, ConsumerId, DEAD_LETTER, Index, NodeId, QueueId, SessionId
 pub use items::{Bytes, Ids, Items, QueueIds};
 pub use memory::{Duplicate, Memory, NUMBER_END};
 pub use text::Text;
-
-#[cfg(test)]
-mod tests;

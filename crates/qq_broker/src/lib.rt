@@ -13,6 +13,3 @@ pub use laws::{
     a_command_is_an_entry, a_script_has_ten_million_lines, a_status_tells_what_was_done,
 };
 pub use program::run;
-
-#[cfg(test)]
-mod tests;

@@ -23,6 +23,3 @@ pub use qq_entry::{
 pub use reading::{decode, entries_read_back, no_encoding_begins_another};
 pub use refusal::Refusal;
 pub use writing::{encode, put_entry};
-
-#[cfg(test)]
-mod tests;

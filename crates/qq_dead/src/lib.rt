@@ -9,6 +9,3 @@ pub use dead::Dead;
 pub use qq_base::{Memory, Term};
 pub use qq_entry::{ReadyRow, Reason};
 pub use row::DeadRow;
-
-#[cfg(test)]
-mod tests;

@@ -18,6 +18,3 @@ pub use moments::{
 };
 pub use readings::{a_listing_has_each_file_once, a_read_fills_the_front};
 pub use worn_disk::WornDisk;
-
-#[cfg(test)]
-mod tests;

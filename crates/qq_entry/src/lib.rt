@@ -43,6 +43,3 @@ pub use limits::{
 pub use message::{Content, Death, Deaths, Message, Origin, ReadyRow, Reason};
 pub use queue::{DELIVERY_LIMIT, LIVE_LIMIT, Members, Overflow, QueueArgs, Strategy};
 pub use table::{Standing, Table};
-
-#[cfg(test)]
-mod tests;

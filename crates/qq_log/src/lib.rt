@@ -18,6 +18,3 @@ pub use limits::{NODE_LIMIT, PAYLOAD_LIMIT, RECORD_LIMIT};
 pub use log::Log;
 pub use op::Op;
 pub use synced::Synced;
-
-#[cfg(test)]
-mod tests;

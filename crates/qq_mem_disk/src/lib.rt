@@ -12,6 +12,3 @@ mod reading;
 mod store;
 
 pub use mem_disk::MemDisk;
-
-#[cfg(test)]
-mod tests;

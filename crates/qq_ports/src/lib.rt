@@ -23,6 +23,3 @@ pub use shelf::{Shelf, ShelfFault};
 pub use sink::{Sink, write_all};
 pub use source::{Failed, Source};
 pub use standard::{StdSink, StdSource};
-
-#[cfg(test)]
-mod tests;

@@ -9,6 +9,3 @@ pub use qq_entry::ReadyRow;
 pub use qq_model::Key;
 pub use ready::Ready;
 pub use row::KeyedRow;
-
-#[cfg(test)]
-mod tests;

@@ -5,6 +5,3 @@
 mod run;
 
 pub use run::{Applied, replay};
-
-#[cfg(test)]
-mod tests;

@@ -10,6 +10,3 @@ mod words;
 pub use exchange::{Binding, ExchangeKind};
 pub use routes::{RouteFault, Routes};
 pub use topic::topic_matches;
-
-#[cfg(test)]
-mod tests;

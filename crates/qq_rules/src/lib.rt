@@ -70,6 +70,3 @@ pub fn dies(args: &QueueArgs, count: u64) -> bool
 {
     has_passed(args.delivery_limit, u128::from(count))
 }
-
-#[cfg(test)]
-mod tests;

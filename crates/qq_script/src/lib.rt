@@ -9,6 +9,3 @@ mod words;
 pub use answer::{answer_text, seq_of};
 pub use audit::{audit_head_text, row_text};
 pub use line::{ScriptFault, ScriptLine, parse_line};
-
-#[cfg(test)]
-mod tests;

@@ -16,6 +16,3 @@ mod table;
 pub use qq_base::{Index, Memory};
 pub use qq_entry::{Answer, Effect, Entry, QueueArgs};
 pub use serial::Serial;
-
-#[cfg(test)]
-mod tests;

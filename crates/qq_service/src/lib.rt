@@ -109,6 +109,3 @@ pub fn next<T: Table>(consumers: &T, single_active: bool) -> Option<ConsumerId>
 {
     id_of(next_standing(consumers, single_active))
 }
-
-#[cfg(test)]
-mod tests;

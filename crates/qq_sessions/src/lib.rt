@@ -15,6 +15,3 @@ pub use qq_entry::{Answer, Stamp};
 pub use qq_model::{Gate, Worker};
 pub use row::{Kepts, SessionRow};
 pub use sessions::Sessions;
-
-#[cfg(test)]
-mod tests;

@@ -17,6 +17,3 @@ pub use laws::{
 pub use reading::read_record;
 pub use record::{LogRecord, NoRecord};
 pub use writing::write_record;
-
-#[cfg(test)]
-mod tests;

@@ -1,6 +1,6 @@
-use super::*;
-use qq_base::{Bytes, QueueId, SessionId, Term, Text};
-use qq_entry::{Command, Content, Deaths, Message, Stamp};
+use qq_base::{Bytes, Index, QueueId, SessionId, Term, Text};
+use qq_entry::{Answer, Command, Content, Deaths, Entry, Message, QueueArgs, Stamp};
+use qq_serial::Serial;
 use std::alloc::Global;
 use std::test::Fail;
 

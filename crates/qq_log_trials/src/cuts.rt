@@ -1,6 +1,6 @@
-use super::*;
 use qq_base::{Index, QueueId, Term};
 use qq_entry::{Command, Entries, Entry};
+use qq_log::{Lane, Log, Op, SnapshotHead};
 use std::test::Fail;
 
 fn noop(term: u64) -> Entry {

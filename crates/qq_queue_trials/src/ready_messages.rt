@@ -1,6 +1,6 @@
-use super::*;
 use qq_base::Index;
-use qq_entry::Message;
+use qq_entry::{Message, ReadyRow};
+use qq_ready::Ready;
 use std::test::Fail;
 
 fn row(arrival: u64) -> ReadyRow {

@@ -1,6 +1,6 @@
-use crate::replay;
 use qq_base::{QueueId, SessionId, Term};
 use qq_entry::{Answer, Command, Entries, Entry, QueueArgs, Stamp};
+use qq_replay::replay;
 use std::test::Fail;
 
 #[test]

@@ -1,5 +1,8 @@
-use super::*;
 use qq_base::{Bytes, Duplicate, Ids, Index, QueueId, QueueIds, SessionId, Term, Text};
+use qq_entry::{
+    Answer, AuditRow, Command, Content, DeadDone, DeadDones, Death, Deaths, Delivery, Entry,
+    Message, QueueArgs, Reason, Rows, Stamp, Unstamped,
+};
 use std::alloc::Global;
 use std::test::Fail;
 

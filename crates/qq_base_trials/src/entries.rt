@@ -1,5 +1,5 @@
-use super::*;
 use qq_base::Term;
+use qq_command::{Command, Entry, decode, encode, put_entry};
 use std::test::Fail;
 
 /// Term 3, time 5: a first entry of version 1.

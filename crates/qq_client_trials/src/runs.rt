@@ -1,4 +1,4 @@
-use super::*;
+use qq_broker::run;
 use qq_ports::{MemSink, MemSource};
 use std::test::Fail;
 

@@ -1,7 +1,9 @@
-use super::*;
 use qq_base::{Index, NodeId, QueueId, Term};
 use qq_command::{Entries, decode};
 use qq_log::{Carry, Op, Places, SnapshotHead, Span};
+use qq_wal_record::{
+    Header, LogRecord, NoHeader, NoRecord, read_header, read_record, write_header, write_record,
+};
 use std::alloc::Global;
 use std::process::Abort;
 use std::test::Fail;

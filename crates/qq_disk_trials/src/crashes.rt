@@ -1,5 +1,5 @@
-use super::*;
 use qq_disk::{DiskFault, FileKind, FileName, Image, NodeDisk, Tail, store_two};
+use qq_mem_disk::MemDisk;
 use std::alloc::Global;
 use std::test::Fail;
 

@@ -1,6 +1,6 @@
-use super::*;
-use qq_base::Index;
-use qq_entry::Message;
+use qq_base::{Index, Term};
+use qq_dead::Dead;
+use qq_entry::{Message, ReadyRow, Reason};
 use std::test::Fail;
 
 fn row(arrival: u64) -> ReadyRow {

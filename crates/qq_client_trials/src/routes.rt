@@ -1,5 +1,5 @@
-use super::*;
 use qq_base::{QueueId, Text};
+use qq_route::{ExchangeKind, Routes};
 use std::test::Fail;
 
 #[test]

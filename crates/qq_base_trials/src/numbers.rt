@@ -1,4 +1,7 @@
-use super::*;
+use qq_base::{
+    Duplicate, Ids, Items, Text, put_u8, put_u16, put_u32, put_u64, take_u8, take_u16, take_u32,
+    take_u64,
+};
 use std::test::Fail;
 
 #[test]

@@ -1,7 +1,10 @@
 ghost use Rattle.qq_ports.specs.Memory.{written_of};
 
-use super::*;
 use qq_base::Memory;
+use qq_ports::{
+    Failed, LineFault, Lines, MemSink, MemSource, Sink, Source, StdSink, StdSource, next_line,
+    write_all,
+};
 use std::alloc::Global;
 use std::test::Fail;
 

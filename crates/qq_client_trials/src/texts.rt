@@ -1,8 +1,8 @@
-use super::*;
 use qq_base::{Bytes, Ids, Index, SessionId, Term, Text};
 use qq_entry::{
     Answer, AuditRow, Cause, Command, Content, Deaths, Delivery, Entry, Full, Message, Stamp,
 };
+use qq_script::{answer_text, row_text};
 use std::alloc::Global;
 use std::test::Fail;
 

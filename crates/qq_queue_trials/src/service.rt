@@ -1,5 +1,6 @@
-use super::*;
-use qq_base::SessionId;
+use qq_base::{ConsumerId, SessionId};
+use qq_entry::{Standing, Table};
+use qq_service::next;
 use std::test::Fail;
 
 // A table as a list of its standings.

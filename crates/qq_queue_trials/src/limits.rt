@@ -1,6 +1,6 @@
-use super::*;
 use qq_base::QueueId;
-use qq_entry::LIVE_LIMIT;
+use qq_entry::{Full, LIVE_LIMIT, Overflow, QueueArgs};
+use qq_rules::{dies, over, refuses};
 use std::alloc::Global;
 use std::test::Fail;
 

@@ -1,4 +1,6 @@
-use super::*;
+use qq_base::SessionId;
+use qq_entry::{Answer, Stamp};
+use qq_sessions::{Gate, SessionRow, Sessions};
 use std::collections::VecDeque;
 use std::test::Fail;
 
