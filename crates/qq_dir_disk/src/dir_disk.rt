@@ -4,6 +4,7 @@ ghost use Rattle.qq_disk.specs.Name.{name_cmp};
 ghost use Rattle.qq_base.specs.Causes.{HasCause};
 ghost use Rattle.qq_disk.specs.Fault.{IsCaused};
 ghost use Rattle.qq_dir_disk.specs.Faults.{StopsWhereFailed};
+ghost use Rattle.qq_dir_disk.specs.Handles.{without, KeepsOpen};
 
 use crate::faults::Faults;
 use crate::folder::Folder;
@@ -70,6 +71,7 @@ impl<R: Files> DirDisk<R> {
 
     // Closes a handle. One for appends is synced first, so that no fault of its pending bytes is missed.
     fn close(&mut self, handle: Handle<R::File>)
+        ensures handles { self.new.handles ≡ self.old.handles }
         ensures later { self.old.faults.count ≤ self.new.faults.count }
         ensures stopped { self.old.faults.stopped ≡ true → self.new.faults.stopped ≡ true }
     {
@@ -80,6 +82,7 @@ impl<R: Files> DirDisk<R> {
 
     // Keeps a handle open for the calls to come.
     fn keep_open(&mut self, handle: Handle<R::File>)
+        ensures handles { KeepsOpen handle self.old.handles.files.items self.new.handles.files.items }
         ensures later { self.old.faults.count ≤ self.new.faults.count }
         ensures stopped { self.old.faults.stopped ≡ true → self.new.faults.stopped ≡ true }
     {
@@ -95,6 +98,7 @@ impl<R: Files> DirDisk<R> {
 
     // Syncs the folder, where it was changed since it was last synced.
     fn sync_folder(&mut self) -> Result<(), DiskFault>
+        ensures handles { self.new.handles ≡ self.old.handles }
         ensures failed { OnErr result (self.new.faults.stopped ≡ true) }
         ensures stopped { self.old.faults.stopped ≡ true → self.new.faults.stopped ≡ true }
         ensures cause { HasCause IsCaused self.old.faults.count self.new.faults.count result }
@@ -114,6 +118,7 @@ impl<R: Files> DirDisk<R> {
 
     // Syncs a file that was found in the folder, and its name, before any of it is shown.
     fn settle(&mut self, file: &R::File) -> Result<(), DiskFault>
+        ensures handles { self.new.handles ≡ self.old.handles }
         ensures stopped { self.old.faults.stopped ≡ true → self.new.faults.stopped ≡ true }
         ensures cause { HasCause IsCaused self.old.faults.count self.new.faults.count result }
     {
@@ -123,7 +128,7 @@ impl<R: Files> DirDisk<R> {
         self.sync_folder()
     }
 
-    // A file's handle, None where the file is absent.
+    // A file's handle, None where the file is absent. Where it was open it is taken out.
     fn open(
         &mut self,
         alloc: Global,
@@ -131,6 +136,7 @@ impl<R: Files> DirDisk<R> {
         access: Access,
     ) -> Result<Option<Handle<R::File>>, DiskFault>
         ensures name { IfOk result (λ found. IfSome found (λ handle. handle.name ≡ name)) }
+        ensures handles { self.new.handles.files.items ≡ without name self.old.handles.files.items }
         ensures stopped { self.old.faults.stopped ≡ true → self.new.faults.stopped ≡ true }
         ensures cause { HasCause IsCaused self.old.faults.count self.new.faults.count result }
     {
@@ -152,6 +158,7 @@ impl<R: Files> DirDisk<R> {
 
     // Makes the folder, where it is absent, before the first file that this disk makes.
     fn make_folder(&mut self) -> Result<(), DiskFault>
+        ensures handles { self.new.handles ≡ self.old.handles }
         ensures stopped { self.old.faults.stopped ≡ true → self.new.faults.stopped ≡ true }
         ensures cause { HasCause IsCaused self.old.faults.count self.new.faults.count result }
     {
@@ -167,6 +174,7 @@ impl<R: Files> DirDisk<R> {
 
     // Makes a file that is absent, and the folder where it is absent too.
     fn create(&mut self, alloc: Global, name: FileName) -> Result<Handle<R::File>, DiskFault>
+        ensures handles { self.new.handles ≡ self.old.handles }
         ensures stopped { self.old.faults.stopped ≡ true → self.new.faults.stopped ≡ true }
         ensures cause { HasCause IsCaused self.old.faults.count self.new.faults.count result }
     {

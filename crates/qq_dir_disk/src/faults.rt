@@ -1,6 +1,8 @@
 ghost use Rattle.std.specs.Prelude.{◌≡◌, ◌≤◌, true, false};
+ghost use Rattle.std.specs.IoError.{error_kind};
 ghost use Rattle.qq_base.specs.Causes.{Rose};
 ghost use Rattle.qq_disk.specs.Fault.{IsCaused};
+ghost use Rattle.qq_dir_disk.specs.Faults.{one_more, counted, IsRefusal};
 
 use qq_base::Memory;
 use qq_disk::DiskFault;
@@ -29,9 +31,10 @@ impl Faults {
         }
     }
 
-    /// Counts a fault.
+    /// Counts a fault, once.
     pub fn count(&mut self) -> DiskFault
         ensures failed { result ≡ DiskFault.Failed }
+        ensures count { self.new.count ≡ one_more self.old.count }
         ensures later { self.old.count ≤ self.new.count }
         ensures rose { Rose self.old.count self.new.count }
         ensures stopped { self.new.stopped ≡ self.old.stopped }
@@ -43,6 +46,7 @@ impl Faults {
     /// Counts a failed append or sync.
     pub fn stop(&mut self) -> DiskFault
         ensures failed { result ≡ DiskFault.Failed }
+        ensures count { self.new.count ≡ one_more self.old.count }
         ensures later { self.old.count ≤ self.new.count }
         ensures rose { Rose self.old.count self.new.count }
         ensures stopped { self.new.stopped ≡ true }
@@ -53,6 +57,8 @@ impl Faults {
 
     /// What a failed read of the folder answers. It is counted, but for want of memory.
     pub fn refuse(&mut self, error: &io::Error) -> DiskFault
+        ensures refusal { IsRefusal (error_kind error.now) result }
+        ensures count { self.new.count ≡ counted result self.old.count }
         ensures later { self.old.count ≤ self.new.count }
         ensures cause { IsCaused self.old.count self.new.count result }
         ensures stopped { self.new.stopped ≡ self.old.stopped }
