@@ -62,7 +62,7 @@ fn time_ops<R: Threads + Wait + Sync + Clock + Print>(
     let mut ops = make_ops(alloc, count, bytes)?;
     let start = Instant::now(rt)?;
     'rounds: for _ in 0..rounds {
-        ops = hand_over(rt, alloc, CAPACITY, ops)?;
+        ops = hand_over(rt, alloc, CAPACITY, ops)?.taken;
     }
     let spent = start.elapsed(rt)?;
     let all = u64::from(count) * u64::from(rounds);
@@ -77,7 +77,7 @@ fn time_marks<R: Threads + Wait + Sync + Clock + Print>(
 ) -> Result<()> {
     let log = SyncedUpTo(count);
     let start = Instant::now(rt)?;
-    let saw = wait_for_op(rt, alloc, &log, QueueId(1), count)?;
+    let saw = wait_for_op(rt, alloc, &log, QueueId(1), count)?.sighting;
     let spent = start.elapsed(rt)?;
     println!(rt;
         "seen: {} a second, beside {} raises a second",

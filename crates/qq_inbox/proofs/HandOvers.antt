@@ -133,3 +133,11 @@ all_taken v u w offered taken joined left right begins same =
     let rest = told refl refl in
     let none : rest.0 ≡ [] = none_left rest.0 (omega (arith, ap length rest.1, length-append taken rest.0)) in
     sym (append-nil taken) ∙ (ap (λ (l : List Op). taken ++ l) (sym none) ∙ rest.1)
+
+-- and the joined pass knows all of it as offered and as taken
+pub all_joined : (v u w : PassView) (offered taken : List Op) → w ≡ joined_view v u → v ≡ pass_view true false offered []
+    → u ≡ pass_view false true [] taken → Begins w → length taken ≡ length offered
+    → w ≡ pass_view true true offered offered
+all_joined v u w offered taken joined left right begins same =
+    let all = all_taken v u w offered taken joined left right begins same in
+    joined ∙ ((λ i. joined_view (left i) (right i)) ∙ ap (pass_view true true offered) all)

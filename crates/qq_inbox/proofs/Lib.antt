@@ -1,5 +1,6 @@
 pub mod Counted
 pub mod HandOvers
+mod Knowledge
 pub mod Numbers
 pub mod Rights
 pub mod Seatings

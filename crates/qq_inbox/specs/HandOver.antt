@@ -1,5 +1,5 @@
 -- The inbox: what was offered is what was taken and then what it holds, in order.
-use Rattle.std.specs.Prelude.{◌≡◌, ◌+◌, ◌≤◌, ℕ, Bool, true, false, cond, ◌||◌, List, [], ◌∷◌, ◌++◌, length, Option, None, Some, IfSome, if◌then◌else◌, ◌==◌, fold}
+use Rattle.std.specs.Prelude.{◌≡◌, ◌≢◌, ◌+◌, ◌≤◌, ℕ, Bool, true, false, cond, ◌||◌, List, [], ◌∷◌, ◌++◌, length, Option, None, Some, IfSome, if◌then◌else◌, ◌==◌, fold}
 use mathlib.Core.List.{IsPrefix}
 use Rattle.qq_log.specs.declared.op.Op.{Op}
 use Rattle.qq_log.specs.Op.{queue, number}
@@ -28,6 +28,11 @@ MayCome ops op = Follows ops op × MayWrite op
 -- each op may come behind those before it
 abbrev pub InOrder : List Op → Type 0
 InOrder ops = (front : List Op) (op : Op) (back : List Op) → ops ≡ front ++ op ∷ back → MayCome front op
+
+-- none of these is an op of the queue
+abbrev pub NoneOf : ℕ → List Op → Type 0
+NoneOf id [] = Unit {0}
+NoneOf id (op ∷ ops) = ((queue op).0 ≢ id) × NoneOf id ops
 
 -- ---- what a pass knows
 

@@ -4,3 +4,4 @@ pub mod Marks
 pub mod Numbered
 pub mod Rights
 pub mod Seats
+pub mod Threads

@@ -1,9 +1,10 @@
 //! A list of ops from one thread to another.
-ghost use Rattle.std.specs.Prelude.{◌≡◌, ◌<◌, ◌≤◌, true, false, [], length, IfOk, IsOkUnless};
+ghost use Rattle.std.specs.Prelude.{◌≡◌, ◌+◌, ◌<◌, ◌≤◌, true, [], length, IfOk, IsOkUnless};
 ghost use Rattle.std.specs.VecDeque.{deque_len, deque_capacity};
 ghost use Rattle.qq_base.specs.declared.memory.Memory.TheVariants.{Want};
-ghost use Rattle.qq_inbox.specs.HandOver.{InOrder, MayCome, pass_view, with_offered};
-ghost use Rattle.qq_inbox.specs.Inbox.{view, IsPassOf};
+ghost use Rattle.qq_inbox.specs.HandOver.{InOrder, MayCome, pass_view, with_offered, with_taken};
+ghost use Rattle.qq_inbox.specs.Inbox.{view, IsPassOf, capacity_of};
+ghost use Rattle.qq_inbox.specs.Threads.{HasOffered, HasTaken, HasRoom};
 
 use crate::inbox::{Inbox, InboxPass};
 use qq_base::Memory;
@@ -14,19 +15,34 @@ use std::sync::Wait;
 use std::thread;
 use std::thread::Threads;
 
+/// Ops that went from one thread to another, and what they went through.
+#[derive(Drop)]
+pub struct Relay {
+    /// The ops as they were taken.
+    pub taken: VecDeque<Op>,
+    /// The inbox.
+    pub inbox: Inbox,
+    /// Its pass, which may offer and take again.
+    pub pass: InboxPass,
+}
+
 /// Hands ops from one thread to another, through an inbox for so many ops: one offers them all, in order, and
-/// the other takes as many. What was taken is what was offered: all, in order, each once. It takes its memory
-/// before the threads begin. Where no thread can be made and there are more ops than the inbox may hold, it
-/// doesn't return.
+/// the other takes as many. What was taken is what was offered: all, in order, each once. Both rights come
+/// back in one pass. It takes its memory before the threads begin. Where no thread can be made and there are
+/// more ops than the inbox may hold, it doesn't return.
 pub fn hand_over<R: Threads + Wait + Sync>(
     rt: &R,
     alloc: Global,
     capacity: usize,
     ops: VecDeque<Op>,
-) -> Result<VecDeque<Op>, Memory>
+) -> Result<Relay, Memory>
     requires capacity { 0 < capacity }
     requires order { InOrder ops.items }
-    ensures ok { IfOk result (λ taken. taken.items ≡ ops.items) }
+    ensures taken { IfOk result (λ relay. relay.taken.items ≡ ops.items) }
+    ensures pass { IfOk result (λ relay. IsPassOf relay.inbox relay.pass) }
+    ensures view { IfOk result (λ relay.
+        view relay.pass ≡ pass_view true true ops.items ops.items) }
+    ensures capacity { IfOk result (λ relay. capacity_of relay.inbox ≡ capacity) }
     ensures want { IsOkUnless result Want }
 {
     let count = ops.len();
@@ -34,19 +50,20 @@ pub fn hand_over<R: Threads + Wait + Sync>(
     let (inbox, mut writer) = Inbox::new(alloc, capacity)?;
     let reader = inbox.split(&mut writer)?;
     let shared = &inbox;
-    let (mut writer, (reader, taken)) = thread::join(
+    let (mut pass, (reader, taken)) = thread::join(
         rt,
         move || -> InboxPass
-            requires { IsPassOf shared.now writer × (view writer ≡ pass_view true false [] []) × InOrder ops.items }
-            ensures { IsPassOf shared.entry.now result × (view result ≡ pass_view true false ops.items []) }
+            requires { HasOffered shared.now writer [] × InOrder ops.items }
+            ensures { HasOffered shared.entry.now result ops.items }
         { offer_all(rt, shared, writer, ops) },
         move || -> (InboxPass, VecDeque<Op>)
-            requires { IsPassOf shared.now reader × (view reader ≡ pass_view false true [] []) × (room.items ≡ []) × (deque_len room ≡ 0) × (count ≤ deque_capacity room) }
-            ensures { IsPassOf shared.entry.now result.0 × (view result.0 ≡ pass_view false true [] result.1.items) × (length result.1.items ≡ count) }
+            requires { HasTaken shared.now reader [] × HasRoom room 0 count }
+            ensures { HasTaken shared.entry.now result.0 result.1.items
+                × (length result.1.items ≡ count) }
         { take_all(rt, shared, reader, room, count) },
     );
-    shared.join(&mut writer, reader);
-    Ok(taken)
+    shared.join(&mut pass, reader);
+    Ok(Relay { taken, inbox, pass })
 }
 
 // Offers each op, until it is put.
@@ -56,11 +73,9 @@ fn offer_all<W: Wait>(
     mut pass: InboxPass,
     mut ops: VecDeque<Op>,
 ) -> InboxPass
-    requires pass { IsPassOf inbox.now pass }
-    requires view { view pass ≡ pass_view true false [] [] }
+    requires pass { HasOffered inbox.now pass [] }
     requires order { InOrder ops.items }
-    ensures pass { IsPassOf inbox.now result }
-    ensures view { view result ≡ pass_view true false ops.items [] }
+    ensures pass { HasOffered inbox.now result ops.items }
 {
     'ops: while let Some(op) = ops.pop_front() {
         offer_until_put(rt, inbox, &mut pass, op);
@@ -68,7 +83,7 @@ fn offer_all<W: Wait>(
     pass
 }
 
-pub(crate) fn offer_until_put<W: Wait>(rt: &W, inbox: &Inbox, pass: &mut InboxPass, op: Op)
+fn offer_until_put<W: Wait>(rt: &W, inbox: &Inbox, pass: &mut InboxPass, op: Op)
     requires pass { IsPassOf inbox.now pass.old }
     requires right { (view pass.old).offers ≡ true }
     requires order { MayCome (view pass.old).offered op }
@@ -94,22 +109,41 @@ fn take_all<W: Wait>(
     mut taken: VecDeque<Op>,
     count: usize,
 ) -> (InboxPass, VecDeque<Op>)
-    requires pass { IsPassOf inbox.now pass }
-    requires view { view pass ≡ pass_view false true [] [] }
-    requires none { (taken.items ≡ []) × (deque_len taken ≡ 0) }
-    requires room { count ≤ deque_capacity taken }
-    ensures pass { IsPassOf inbox.now result.0 }
-    ensures view { view result.0 ≡ pass_view false true [] result.1.items }
+    requires pass { HasTaken inbox.now pass [] }
+    requires room { HasRoom taken 0 count }
+    ensures pass { HasTaken inbox.now result.0 result.1.items }
     ensures count { length result.1.items ≡ count }
 {
-    'ops: for _ in rt.forever() {
-        if taken.len() >= count {
-            break;
-        }
-        match inbox.take(rt, &mut pass) {
-            Some(op) => taken.push_back_reserved(op),
-            None => thread::yield_now(),
-        }
+    'ops: for done in 0..count {
+        take_next(rt, inbox, &mut pass, &mut taken);
     }
     (pass, taken)
+}
+
+// Takes the next op to the end of a list that has room for it.
+fn take_next<W: Wait>(rt: &W, inbox: &Inbox, pass: &mut InboxPass, taken: &mut VecDeque<Op>)
+    requires pass { HasTaken inbox.now pass.old taken.old.items }
+    requires room { deque_len taken.old < deque_capacity taken.old }
+    ensures pass { HasTaken inbox.now pass.new taken.new.items }
+    ensures items { length taken.new.items ≡ length taken.old.items + 1 }
+    ensures len { deque_len taken.new ≡ deque_len taken.old + 1 }
+    ensures capacity { deque_capacity taken.new ≡ deque_capacity taken.old }
+{
+    let op = take_until_found(rt, inbox, pass);
+    taken.push_back_reserved(op);
+}
+
+fn take_until_found<W: Wait>(rt: &W, inbox: &Inbox, pass: &mut InboxPass) -> Op
+    requires pass { IsPassOf inbox.now pass.old }
+    requires right { (view pass.old).takes ≡ true }
+    ensures pass { IsPassOf inbox.now pass.new }
+    ensures view { view pass.new ≡ with_taken (view pass.old) result }
+{
+    'tries: for _ in rt.forever() {
+        if let Some(op) = inbox.take(rt, pass) {
+            return op;
+        }
+        thread::yield_now();
+    }
+    unreachable!()
 }

@@ -1,4 +1,5 @@
-//! One thread offers 100,000 ops of three queues and looks at the marks, another takes them and marks them.
+//! One thread offers 100,000 ops of three queues and looks at the marks, another takes them and marks them, and
+//! a third looks at the marks while they rise.
 ghost use Rattle.std.specs.Prelude.{◌≡◌, ◌≢◌, ◌+◌, ◌<◌, ◌≤◌, true, false, [], ℕ, IfOk, OnOk, IfSome};
 ghost use Rattle.qq_base.specs.declared.memory.TheConstants.{NUMBER_END};
 ghost use Rattle.qq_inbox.specs.HandOver.{InOrder, MayCome, last_number, pass_view, with_offered};
@@ -9,13 +10,16 @@ ghost use Rattle.qq_inbox.specs.Numbered.{counted};
 use crate::change::entryless;
 use crate::kept::Kept;
 use qq_base::{Memory, QueueId};
-use qq_inbox::{Inbox, InboxPass, MarkSeat, Marks, hand_over, new_marks, wait_for_op};
+use qq_inbox::{
+    Inbox, InboxPass, MarkSeat, Marks, Relay, Watch, hand_over, new_marks, wait_for_op,
+};
 use qq_log::{Op, Synced};
 use std::alloc::Global;
 use std::collections::VecDeque;
 use std::sync::Wait;
 use std::test::Fail;
 use std::thread;
+use std::thread::Threads;
 
 // Adds the op that a queue counts next.
 fn push_next(ops: &mut VecDeque<Op>, alloc: Global, id: u32, before: u64) -> Result<(), Memory>
@@ -152,6 +156,65 @@ fn write<W: Wait>(
     (pass, seat, kept, wrong)
 }
 
+// Looks at the three queues' marks, which rise in turn, the last one first, until the first queue's is at its
+// end. Answers how often a mark was lower than one that rises after it, or had fallen.
+fn watch_marks<W: Wait>(rt: &W, marks: &Marks, mut seat: MarkSeat, end: u64) -> (MarkSeat, u64)
+    requires seat { IsSeatOf marks.now seat }
+    requires words { 3 < words marks.now }
+    ensures seat { IsSeatOf marks.now result.0 }
+{
+    let mut wrong = 0u64;
+    let mut before = 0u64;
+    'looks: for _ in rt.forever() {
+        let third = marks.seen(&mut seat, QueueId(3));
+        let second = marks.seen(&mut seat, QueueId(2));
+        let first = marks.seen(&mut seat, QueueId(1));
+        if third < before || second < third || first < second {
+            wrong = wrong.saturating_add(1);
+        }
+        if first >= end {
+            return (seat, wrong);
+        }
+        before = third.max(first.saturating_sub(1));
+    }
+    unreachable!()
+}
+
+// Takes so many ops and marks them in one thread, and watches the marks in another.
+fn write_and_watch<R: Threads + Wait + Sync>(
+    rt: &R,
+    inbox: &Inbox,
+    pass: InboxPass,
+    marks: &Marks,
+    raising: MarkSeat,
+    watching: MarkSeat,
+    count: usize,
+) -> ((InboxPass, MarkSeat, Kept, u64), (MarkSeat, u64))
+    requires pass { IsPassOf inbox.now pass }
+    requires right { (view pass).takes ≡ true }
+    requires seat { IsSeatOf marks.now raising }
+    requires raises { (reading raising).raises ≡ true }
+    requires other { IsSeatOf marks.now watching }
+    requires words { 3 < words marks.now }
+    ensures pass { IsPassOf inbox.now result.0.0 }
+    ensures seat { IsSeatOf marks.now result.0.1 }
+    ensures other { IsSeatOf marks.now result.1.0 }
+{
+    thread::join(
+        rt,
+        move || -> (InboxPass, MarkSeat, Kept, u64)
+            requires { IsPassOf inbox.now pass × ((view pass).takes ≡ true)
+                × IsSeatOf marks.now raising × ((reading raising).raises ≡ true)
+                × (3 < words marks.now) }
+            ensures { IsPassOf inbox.entry.now result.0 × IsSeatOf marks.entry.now result.1 }
+        { write(rt, inbox, pass, marks, raising, count) },
+        move || -> (MarkSeat, u64)
+            requires { IsSeatOf marks.now watching × (3 < words marks.now) }
+            ensures { IsSeatOf marks.entry.now result.0 }
+        { watch_marks(rt, marks, watching, 33_334) },
+    )
+}
+
 #[test]
 fn ops_of_three_queues_come_in_order_and_are_marked(rt: HostRuntime) -> Result<(), Fail> {
     let alloc = rt.alloc();
@@ -161,26 +224,34 @@ fn ops_of_three_queues_come_in_order_and_are_marked(rt: HostRuntime) -> Result<(
     let (made, mut offering) = Inbox::new(alloc, 512)?;
     let taking = made.split(&mut offering)?;
     let (table, mut raising) = new_marks(alloc, 3)?;
-    let looking = table.split(&mut raising)?;
+    let mut looking = table.split(&mut raising)?;
+    let watching = table.split(&mut looking)?;
     let (inbox, marks, host) = (&made, &table, &rt);
-    let ((mut pass, reader, early), (other, mut seat, kept, wrong)) = thread::join(
-        host,
-        move || -> (InboxPass, MarkSeat, u64)
-            requires { IsPassOf inbox.now offering × (view offering ≡ pass_view true false [] []) × IsSeatOf marks.now looking × (3 < words marks.now) × InOrder ops.items }
-            ensures { IsPassOf inbox.entry.now result.0 × IsSeatOf marks.entry.now result.1 }
-        { publish(host, inbox, offering, marks, looking, ops) },
-        move || -> (InboxPass, MarkSeat, Kept, u64)
-            requires { IsPassOf inbox.now taking × ((view taking).takes ≡ true) × IsSeatOf marks.now raising × ((reading raising).raises ≡ true) × (3 < words marks.now) }
-            ensures { IsPassOf inbox.entry.now result.0 × IsSeatOf marks.entry.now result.1 }
-        { write(host, inbox, taking, marks, raising, count) },
-    );
-    assert_eq!(rt; (early, wrong), (0, 0));
+    let ((mut pass, reader, early), ((other, mut seat, kept, wrong), (watcher, fallen))) =
+        thread::join(
+            host,
+            move || -> (InboxPass, MarkSeat, u64)
+                requires { IsPassOf inbox.now offering
+                    × (view offering ≡ pass_view true false [] [])
+                    × IsSeatOf marks.now looking × (3 < words marks.now) × InOrder ops.items }
+                ensures { IsPassOf inbox.entry.now result.0 × IsSeatOf marks.entry.now result.1 }
+            { publish(host, inbox, offering, marks, looking, ops) },
+            move || -> ((InboxPass, MarkSeat, Kept, u64), (MarkSeat, u64))
+                requires { IsPassOf inbox.now taking × ((view taking).takes ≡ true)
+                    × IsSeatOf marks.now raising × ((reading raising).raises ≡ true)
+                    × IsSeatOf marks.now watching × (3 < words marks.now) }
+                ensures { IsPassOf inbox.entry.now result.0.0 × IsSeatOf marks.entry.now result.0.1
+                    × IsSeatOf marks.entry.now result.1.0 }
+            { write_and_watch(host, inbox, taking, marks, raising, watching, count) },
+        );
+    assert_eq!(rt; (early, wrong, fallen), (0, 0, 0));
     assert_eq!(rt;
         (kept.first, kept.second, kept.third),
         (33_334, 33_333, 33_333)
     );
     inbox.join(&mut pass, other);
     marks.join(&mut seat, reader);
+    marks.join(&mut seat, watcher);
     assert_eq!(rt; marks.seen(&mut seat, QueueId(1)), 33_334);
     assert_eq!(rt; marks.seen(&mut seat, QueueId(3)), 33_333);
     Ok(())
@@ -189,8 +260,14 @@ fn ops_of_three_queues_come_in_order_and_are_marked(rt: HostRuntime) -> Result<(
 #[test]
 fn a_list_is_handed_over_whole(rt: HostRuntime) -> Result<(), Fail> {
     let alloc = rt.alloc();
-    let taken = hand_over(&rt, alloc, 2, three_queues(alloc, 100)?)?;
+    let relay = hand_over(&rt, alloc, 2, three_queues(alloc, 100)?)?;
+    let Relay {
+        taken,
+        inbox,
+        mut pass,
+    } = relay;
     assert!(rt; taken == three_queues(alloc, 100)?);
+    assert_eq!(rt; inbox.take(&rt, &mut pass), None);
     Ok(())
 }
 
@@ -202,7 +279,13 @@ fn an_op_is_waited_for(rt: HostRuntime) -> Result<(), Fail> {
         third: 0,
         stopped: false,
     };
-    let saw = wait_for_op(&rt, rt.alloc(), &log, QueueId(2), 20)?;
-    assert!(rt; saw.seen >= 20 && saw.seen <= 50 && saw.looks > 0);
+    let watch = wait_for_op(&rt, rt.alloc(), &log, QueueId(2), 20)?;
+    let Watch {
+        sighting,
+        marks,
+        mut seat,
+    } = watch;
+    assert!(rt; sighting.seen >= 20 && sighting.seen <= 50 && sighting.looks > 0);
+    assert_eq!(rt; marks.seen(&mut seat, QueueId(2)), 50);
     Ok(())
 }

@@ -1,15 +1,15 @@
-use Rattle.std.proofs.Common.{◌≡◌, true, false, List, [], ◌++◌}
+use Rattle.std.proofs.Common.{◌≡◌, List, ◌++◌}
 use Rattle.std.specs.VecDeque.{deque_len}
 use Rattle.qq_log.specs.declared.op.Op.{Op}
-use Rattle.qq_inbox.specs.HandOver.{InOrder, pass_view}
-use Rattle.qq_inbox.specs.Inbox.{view, IsPassOf}
+use Rattle.qq_inbox.specs.HandOver.{InOrder}
+use Rattle.qq_inbox.specs.Threads.{HasOffered}
 use Rattle.qq_inbox.proofs.relay.offer_all.Given as goal
 
 -- what was offered and what is left are all ops
 abbrev pub invariant-ops : goal.invariant-ops
 invariant-ops g l =
-    IsPassOf l.inbox l.pass × InOrder l.fn.ops.items
-    × ((sent : List Op) × (sent ++ l.ops.items ≡ l.fn.ops.items) × (view l.pass ≡ pass_view true false sent []))
+    InOrder l.fn.ops.items
+    × ((sent : List Op) × (sent ++ l.ops.items ≡ l.fn.ops.items) × HasOffered l.inbox l.pass sent)
 
 -- an op fewer is left
 abbrev pub decreases-ops : goal.decreases-ops
