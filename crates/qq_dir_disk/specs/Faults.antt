@@ -11,13 +11,13 @@ abbrev pub StopsWhereFailed : Bool → DiskFault → Type 0
 StopsWhereFailed stopped Failed = stopped ≡ true
 StopsWhereFailed stopped (OfMemory m) = Unit {0}
 
--- a fault more; at the end of 64 bits the count stands still
-abbrev pub one_more : ℕ → ℕ
-one_more count = min (count + 1) (2 ^ 64 - 1)
+-- one more, as far as 64 bits count
+abbrev pub raise : ℕ → ℕ
+raise n = min (n + 1) (2 ^ 64 - 1)
 
 -- what is counted of an answer: a fault, and not that there is no memory
 abbrev pub counted : DiskFault → ℕ → ℕ
-counted Failed count = one_more count
+counted Failed count = raise count
 counted (OfMemory m) count = count
 
 -- what a failed call of the system comes to: it may be that there is no memory

@@ -2,7 +2,7 @@ ghost use Rattle.std.specs.Prelude.{◌≡◌, ◌≤◌, true, false};
 ghost use Rattle.std.specs.IoError.{error_kind};
 ghost use Rattle.qq_base.specs.Causes.{Rose};
 ghost use Rattle.qq_disk.specs.Fault.{IsCaused};
-ghost use Rattle.qq_dir_disk.specs.Faults.{one_more, counted, IsRefusal};
+ghost use Rattle.qq_dir_disk.specs.Faults.{raise, counted, IsRefusal};
 
 use qq_base::Memory;
 use qq_disk::DiskFault;
@@ -34,7 +34,7 @@ impl Faults {
     /// Counts a fault, once.
     pub fn count(&mut self) -> DiskFault
         ensures failed { result ≡ DiskFault.Failed }
-        ensures count { self.new.count ≡ one_more self.old.count }
+        ensures count { self.new.count ≡ raise self.old.count }
         ensures later { self.old.count ≤ self.new.count }
         ensures rose { Rose self.old.count self.new.count }
         ensures stopped { self.new.stopped ≡ self.old.stopped }
@@ -46,7 +46,7 @@ impl Faults {
     /// Counts a failed append or sync.
     pub fn stop(&mut self) -> DiskFault
         ensures failed { result ≡ DiskFault.Failed }
-        ensures count { self.new.count ≡ one_more self.old.count }
+        ensures count { self.new.count ≡ raise self.old.count }
         ensures later { self.old.count ≤ self.new.count }
         ensures rose { Rose self.old.count self.new.count }
         ensures stopped { self.new.stopped ≡ true }

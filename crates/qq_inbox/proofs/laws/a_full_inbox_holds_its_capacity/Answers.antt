@@ -1,4 +1,4 @@
-use Rattle.std.proofs.Common.{ap, length, ◌∙◌, sym, length-append, arith}
+use Rattle.std.proofs.Common.{ap, length, length-append, arith}
 use Rattle.qq_inbox.proofs.laws.a_full_inbox_holds_its_capacity.Goals as goal
 
 pub returns-clause-waiting : goal.returns-clause-waiting
