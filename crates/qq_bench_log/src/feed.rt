@@ -9,7 +9,7 @@ use qq_base::{Index, Memory, NUMBER_END, NodeId, QueueId, Term};
 use qq_disk::{DiskFault, FileKind, FileName, NodeDisk};
 use qq_log::Op;
 use qq_mem_disk::MemDisk;
-use qq_wal::{Notice, Wal, WalFault};
+use qq_wal::{FileRanges, Notice, Wal, WalFault};
 use qq_wal_record::Header;
 use std::alloc::Global;
 use std::marker::Model;
@@ -70,7 +70,20 @@ fn begin(
         previous: 0,
         good: 0,
     };
-    match Wal::begin(Hiding { disk }, alloc, queues, header, &[], &[], log_bytes) {
+    let ranges = match FileRanges::new(alloc, &queues) {
+        Ok(ranges) => ranges,
+        Err(memory) => return Err(WalFault::Memory(memory)),
+    };
+    match Wal::begin(
+        Hiding { disk },
+        alloc,
+        queues,
+        header,
+        &[],
+        &[],
+        &ranges,
+        log_bytes,
+    ) {
         Ok(wal) => Ok(wal),
         Err((fault, _)) => Err(fault),
     }
@@ -167,6 +180,11 @@ impl Fed {
     pub fn roll(&mut self, alloc: Global) -> Result<u64, WalFault> {
         self.wal.sync_batch(alloc)?;
         self.wal.roll(alloc)
+    }
+
+    /// The first and the last of a queue's entries in a log file.
+    pub fn in_file(&self, queue: u32, number: u64) -> Option<(Index, Index)> {
+        self.wal.in_file(QueueId(queue), number)
     }
 
     /// The bytes of a log file.

@@ -73,6 +73,17 @@ fn print_size(rt: HostRuntime, fed: &mut Fed, number: u64) -> Result<()> {
     Ok(())
 }
 
+fn print_entries(rt: HostRuntime, fed: &Fed, queue: u32, number: u64) -> Result<()> {
+    match fed.in_file(queue, number) {
+        Some((first, last)) => println!(rt;
+            "  log {number}: entries {} to {} of queue {queue}",
+            first.0, last.0
+        )?,
+        None => println!(rt; "  log {number}: no entries of queue {queue}")?,
+    }
+    Ok(())
+}
+
 fn each_queue_is_told(rt: HostRuntime) -> Result<()> {
     println!(rt; "each queue is told of its own last op")?;
     let alloc = rt.alloc();
@@ -148,6 +159,18 @@ fn ops_that_wait(rt: HostRuntime) -> Result<()> {
     print_synced(rt, &mut fed)?;
     print_size(rt, &mut fed, 1)?;
     print_size(rt, &mut fed, 2)?;
+    print_entries(rt, &fed, 1, 1)?;
+    print_entries(rt, &fed, 1, 2)?;
+    print_entries(rt, &fed, 2, 1)?;
+    println!(rt; "an entry stays in its file")?;
+    print_rolled(rt, &mut fed)?;
+    print_entries(rt, &fed, 1, 1)?;
+    print_entries(rt, &fed, 1, 2)?;
+    print_entries(rt, &fed, 1, 3)?;
+    fed.feed_two(op_of(alloc, 1, 0)?)?;
+    print_entries(rt, &fed, 2, 3)?;
+    print_appended(rt, &mut fed)?;
+    print_entries(rt, &fed, 2, 3)?;
     Ok(())
 }
 

@@ -8,7 +8,8 @@
 //! - `log N BYTES`: the bytes, in hexadecimal digits, are added to log file N and synced;
 //! - `waiting N BYTES`: the same, but these bytes wait for a sync;
 //! - `lanes QUEUE..`: what recovery reads of the disk where these queues are listed, and changes nothing;
-//! - `recover QUEUE..`: recovery of the disk: the lanes that it gives, and the file that it begins;
+//! - `recover QUEUE..`: recovery of the disk: the lanes that it gives, which log files have entries of which
+//!   queue, and the file that it begins;
 //! - `cuts QUEUE..`: the lanes that recovery gives after a crash that leaves so many of the bytes that wait
 //!   for a sync, for each number of them, in runs that give the same, and where it leaves others there;
 //! - `stops QUEUE..`: recovery of the disk as it was written, where each call of the disk in turn fails

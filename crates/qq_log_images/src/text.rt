@@ -4,6 +4,7 @@ use qq_base::{Memory, QueueId};
 use qq_disk::{FileKind, FileName, NodeDisk};
 use qq_log::Lane;
 use qq_recover::{RecoverFault, Recovered, inspect, recover};
+use qq_wal::Wal;
 use qq_wal_record::read_header;
 use std::alloc::Global;
 
@@ -126,8 +127,29 @@ fn begun_text(alloc: Global, disk: &mut Untold) -> Result<String> {
     )?)
 }
 
-/// A line for each lane that recovery gives and one for the file that it begins, or one for why it gives
-/// none; and the disk.
+/// A line for each queue and log file that has entries of it.
+fn entries_text(alloc: Global, wal: &mut Wal<Untold>, queues: &[QueueId]) -> Result<String> {
+    let mut text = String::new(alloc);
+    let names = wal.disk().names(alloc)?;
+    for queue in queues {
+        for name in &names {
+            if name.kind != FileKind::Log {
+                continue;
+            }
+            if let Some((first, last)) = wal.in_file(*queue, name.number) {
+                text.push_str(format!(in alloc;
+                    "log {} has entries {} to {} of queue {}\n",
+                    name.number, first.0, last.0, queue.0
+                )?
+                .as_str())?;
+            }
+        }
+    }
+    Ok(text)
+}
+
+/// A line for each lane that recovery gives, one for each log file that has entries of a queue, and one for the
+/// file that it begins; or one for why it gives none; and the disk.
 pub fn recovered_text(alloc: Global, disk: Untold, queues: &[QueueId]) -> Result<(String, Untold)> {
     let mut recovered = match recover(disk, alloc, queues, 1000) {
         Ok(recovered) => recovered,
@@ -135,7 +157,9 @@ pub fn recovered_text(alloc: Global, disk: Untold, queues: &[QueueId]) -> Result
     };
     let lanes = taken(alloc, &mut recovered, queues)?;
     let mut text = all_lanes_text(alloc, &lanes)?;
-    let mut disk = recovered.into_wal().into_disk();
+    let mut wal = recovered.into_wal();
+    text.push_str(entries_text(alloc, &mut wal, queues)?.as_str())?;
+    let mut disk = wal.into_disk();
     text.push_str(begun_text(alloc, &mut disk)?.as_str())?;
     Ok((text, disk))
 }

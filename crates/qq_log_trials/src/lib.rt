@@ -1,7 +1,9 @@
-//! Tests of log records and of a server's log.
+//! Tests of log records, of a server's log, and of the log's writer.
 #![tactic(auto)]
 
 #[cfg(test)]
 mod cuts;
 #[cfg(test)]
 mod records;
+#[cfg(test)]
+mod writer;

@@ -15,6 +15,7 @@ use Rattle.qq_wal.specs.declared.wal.Wal.{Wal}
 use Rattle.qq_wal.specs.Marks.{Agree, add_records, carries_of, carry_for, known}
 use Rattle.qq_wal.specs.Notices.{carried_op, new_mark, synced_in}
 use Rattle.qq_wal.specs.Numbers.{first_numbers, greatest_number}
+use Rattle.qq_wal.specs.Ranges.{AllRanges, begin_files}
 use Rattle.qq_wal.specs.Wal.{IsBegun, first_length}
 use Rattle.qq_wal.proofs.Agreeing.{agree-known, begun-agree, begun-queues}
 use Rattle.qq_recover.specs.declared.recovered.Recovered.{Recovered}
@@ -42,11 +43,11 @@ synced-last lanes carries (q ∷ ids) id agree listed = by (eqb q.0 id.0) refl l
         ap carried_op agree.0 ∙ carried-last q (lanes q.0) ∙ ap (λ (n : ℕ). last_op (lanes n)) (eqb-true q.0 id.0 e)
     by false e listed later = later listed
 
-module _ {D : Type 0} (queues : List QueueId) (names : List FileName) (log_bytes : ℕ) where
+module _ {D : Type 0} (queues : List QueueId) (names : List FileName) (log_bytes : ℕ) (ranges : AllRanges) where
   pub begun-above : (vec : Vec QueueId) (header : Header) (carries : List Carry) (w : Wal D) (table : Table)
       → vec.items ≡ queues → carries ≡ carries_of queues (lanes_of table)
-      → header.file ≡ greatest_number OfLog names + 1 → IsBegun vec header carries names log_bytes w
-      → IsBegunAbove queues names log_bytes (record { wal = w; table = table })
+      → header.file ≡ greatest_number OfLog names + 1 → IsBegun vec header carries names ranges log_bytes w
+      → IsBegunAbove queues names ranges log_bytes (record { wal = w; table = table })
   begun-above vec header carries w table same are number b = record {
     queues_are = ap (λ (v : Vec QueueId). v.items) b.queues_are ∙ same;
     file = ap (λ (h : Header). h.file) b.header_is ∙ number;
@@ -56,6 +57,9 @@ module _ {D : Type 0} (queues : List QueueId) (names : List FileName) (log_bytes
       waiting = b.waiting;
       marks = b.marks ∙ ap (λ (l : List Carry). map (new_mark l) vec.items) are
           ∙ ap (λ (v : Vec QueueId). map (new_mark (carries_of queues (lanes_of table))) v.items) (sym b.queues_are);
+      ranges_are = b.ranges_are
+          ∙ ap (λ (h : Header). begin_files h.file vec.items ranges) (sym b.header_is)
+          ∙ ap (λ (v : Vec QueueId). begin_files w.header.file v.items ranges) (sym b.queues_are);
       size = b.size ∙ ap (λ (h : Header). first_length h w.marks.items) (sym b.header_is);
       numbers = b.numbers ∙ ap (λ (h : Header). first_numbers h names) (sym b.header_is);
       limit = b.limit;
@@ -64,7 +68,7 @@ module _ {D : Type 0} (queues : List QueueId) (names : List FileName) (log_bytes
     };
   }
 
-  pub begun-knows : (r : Recovered D) → IsBegunAbove queues names log_bytes r → KnowsLanes queues r
+  pub begun-knows : (r : Recovered D) → IsBegunAbove queues names ranges log_bytes r → KnowsLanes queues r
   begun-knows r above =
       let lanes : Lanes = lanes_left r in
       let carries : List Carry = carries_of queues lanes in

@@ -7,6 +7,7 @@ mod NewestLaws
 mod States
 mod Tables
 mod LogLaws
+mod Lying
 mod Handed
 mod Settled
 mod Starts

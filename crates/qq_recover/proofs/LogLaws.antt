@@ -18,7 +18,9 @@ use Rattle.qq_recover.specs.Answer.{Answer, ◌>>=◌, Fails}
 use Rattle.qq_recover.specs.Replay.{replay_files}
 use Rattle.qq_recover.specs.Files.{header_of, file_of, ends_at, file_at, chain_file, chain_files}
 use Rattle.qq_recover.specs.Log.{good_of, IsNewest}
+use Rattle.qq_wal.specs.Ranges.{AllRanges, ranges_in, ranges_of}
 use Rattle.qq_wal.specs.Running.{top}
+use Rattle.qq_recover.specs.Entries.{find_files, ranges_read}
 use Rattle.qq_recover.specs.Reading.{newest_file, lanes_read}
 use Rattle.qq_recover.proofs.Counted.{fails-then}
 use Rattle.qq_recover.proofs.ChainLaws.{files-none, files-at}
@@ -112,11 +114,22 @@ module _ (queues : List QueueId) where
       ap (λ (o : Answer (List ChainFile)). o >>= λ files. replay_files queues files no_lanes)
       (ap (newest_files logs) (sym is) ∙ read)
 
+  pub ranges-found : (logs : Logs) (n : ℕ) (files : List ChainFile) → n ≡ newest_file queues logs
+      → newest_files logs n ≡ Ok files → ranges_read queues logs ≡ Ok (find_files files (ranges_of queues))
+  ranges-found logs n files is read =
+      ap (λ (o : Answer (List ChainFile)). o >>= λ files. Ok (find_files files (ranges_of queues)))
+      (ap (newest_files logs) (sym is) ∙ read)
+
   pub newest-read : (logs : Logs) (n : ℕ) (files : List ChainFile) → n ≡ newest_file queues logs
       → newest_files logs n ≡ Ok files → IsNewest queues logs n (good_of files)
   newest-read logs n files is read =
       subst (λ (n : ℕ). IsNewest queues logs n (good_of files)) (sym is)
       (is-newest logs files (ap (newest_files logs) (sym is) ∙ read))
+
+pub ranges-kept : (read : Answer AllRanges) (all : AllRanges) (r : Answer Log) → read ≡ Ok all
+    → IfOk r (λ log. ranges_in log.ranges ≡ all) → IfOk r (λ log. read ≡ Ok (ranges_in log.ranges))
+ranges-kept read all (Ok log) is same = is ∙ ap (λ (all : AllRanges). Ok all) (sym same)
+ranges-kept read all (Err e) is same = tt
 
 pub newest-of : (queues : List QueueId) (logs : Logs) (file good : ℕ) (r : Answer Log) → IsNewest queues logs file good
     → IfOk r (λ log. log.file ≡ file) → IfOk r (λ log. log.good ≡ good)

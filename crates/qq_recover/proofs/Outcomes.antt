@@ -7,6 +7,7 @@ use Rattle.qq_disk.specs.Disk.{Disk, now}
 use Rattle.qq_log.specs.declared.op.Op.{Op}
 use Rattle.qq_wal_record.specs.declared.header.Header.{Header}
 use Rattle.qq_chain.specs.Lanes.{Lanes}
+use Rattle.qq_wal.specs.Ranges.{ranges_in}
 use Rattle.qq_recover.specs.declared.fault.RecoverFault.{RecoverFault}
 use Rattle.qq_recover.specs.declared.fault.RecoverFault.TheVariants.{Disk as DiskFailed, Damaged, Version, Memory}
 use Rattle.qq_recover.specs.declared.recovered.Recovered.{Recovered}
@@ -50,12 +51,12 @@ err-weaker P Q (Err e) h w = w e h
 
 module _ {D : Type 0} (queues : List QueueId) (s : Start) (log_bytes : ℕ)
     (r : Result (Recovered D) (RecoverFault × D)) where
-  pub knows-ok : IfOk r (IsBegunAbove queues s.names.items log_bytes) → IfOk r (KnowsLanes queues)
+  pub knows-ok : IfOk r (IsBegunAbove queues s.names.items (ranges_in s.ranges) log_bytes) → IfOk r (KnowsLanes queues)
   knows-ok = by r
     where
-      by : (r : Result (Recovered D) (RecoverFault × D)) → IfOk r (IsBegunAbove queues s.names.items log_bytes)
+      by : (r : Result (Recovered D) (RecoverFault × D)) → IfOk r (IsBegunAbove queues s.names.items (ranges_in s.ranges) log_bytes)
           → IfOk r (KnowsLanes queues)
-      by (Ok x) begun = begun-knows queues s.names.items log_bytes x begun
+      by (Ok x) begun = begun-knows queues s.names.items log_bytes (ranges_in s.ranges) x begun
       by (Err e) begun = tt
 
   pub lanes-ok : (logs : Answer Lanes) → logs ≡ Ok (lanes_of s.table)
@@ -68,15 +69,17 @@ module _ {D : Type 0} (queues : List QueueId) (s : Start) (log_bytes : ℕ)
       by (Err e) lanes = tt
 
   pub begun-ok : (old new : Disk) → IsReadOf queues old new s
-      → IfOk r (IsBegunAbove queues s.names.items log_bytes) → IfOk r (λ x. (wal_of x).header ≡ s.header)
+      → IfOk r (IsBegunAbove queues s.names.items (ranges_in s.ranges) log_bytes) → IfOk r (λ x. (wal_of x).header ≡ s.header)
       → IfOk r (IsBegunBehind queues log_bytes old)
   begun-ok old new read = by r
     where
-      by : (r : Result (Recovered D) (RecoverFault × D)) → IfOk r (IsBegunAbove queues s.names.items log_bytes)
+      by : (r : Result (Recovered D) (RecoverFault × D)) → IfOk r (IsBegunAbove queues s.names.items (ranges_in s.ranges) log_bytes)
           → IfOk r (λ x. (wal_of x).header ≡ s.header) → IfOk r (IsBegunBehind queues log_bytes old)
       by (Ok x) begun header = record {
         names = s.names.items;
         listing = read.listing;
+        ranges = ranges_in s.ranges;
+        found = read.ranges;
         above = begun;
         newest = subst (λ (h : Header). IsNewest queues (shown old) h.previous h.good) (sym header) read.newest;
       }

@@ -10,6 +10,9 @@ use Rattle.qq_wal.specs.Running.{Stays}
 use Rattle.qq_recover.specs.declared.log.Log.{Log}
 use Rattle.qq_recover.specs.declared.start.Start.{Start}
 use Rattle.qq_recover.specs.declared.table.Table.{Table}
+use Rattle.qq_wal.specs.declared.ranges.FileRanges.{FileRanges}
+use Rattle.qq_wal.specs.Ranges.{ranges_in}
+use Rattle.qq_recover.specs.Entries.{ranges_read}
 use Rattle.qq_recover.specs.Log.{IsNewest}
 use Rattle.qq_recover.specs.Reading.{lanes_read, shown}
 use Rattle.qq_recover.specs.Start.{IsReadOf}
@@ -39,13 +42,16 @@ module _ (queues : List QueueId) (old named settled : List Disk) (names : List F
   pub read-of : (new : List Disk) (log : Log) (s : Start) → new ≡ settled
       → lanes_read queues (shown (now settled)) ≡ Ok (lanes_of log.table)
       → IsNewest queues (shown (now settled)) log.file log.good
+      → ranges_read queues (shown (now settled)) ≡ Ok (ranges_in log.ranges) → s.ranges ≡ log.ranges
       → s.table ≡ log.table → s.names.items ≡ names → s.header.previous ≡ log.file → s.header.good ≡ log.good
       → IsReadOf queues (now old) (now new) s
-  read-of new log s still lanes newest table named_so previous good = record {
+  read-of new log s still lanes newest ranges same_ranges table named_so previous good = record {
     listing = subst (λ (l : List FileName). IsListing (now old) l) (sym named_so) listing;
     synced = ap now still ∙ all-synced ∙ ap (λ (l : List FileName). sync_all (now old) l) (sym named_so);
     lanes = ap (λ (logs : Logs). lanes_read queues logs) (sym still-shown) ∙ lanes
         ∙ ap (λ (t : Table). Ok (lanes_of t)) (sym table);
+    ranges = ap (λ (logs : Logs). ranges_read queues logs) (sym still-shown) ∙ ranges
+        ∙ ap (λ (all : FileRanges). Ok (ranges_in all)) (sym same_ranges);
     newest =
         let here = subst (λ (logs : Logs). IsNewest queues logs log.file log.good) still-shown newest in
         record { file_is = previous ∙ here.file_is; good_is = good ∙ here.good_is };

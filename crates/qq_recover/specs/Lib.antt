@@ -4,6 +4,7 @@ pub mod Placed
 pub mod Files
 pub mod Replay
 pub mod Reading
+pub mod Entries
 pub mod ReadOnly
 pub mod Newest
 pub mod State

@@ -9,7 +9,6 @@ use Rattle.qq_disk.specs.declared.name.FileKind.TheVariants.{Log as OfLog}
 use Rattle.qq_disk.specs.declared.name.FileName.{FileName}
 use Rattle.qq_disk.specs.Disk.{Disk, IsListing, now}
 use Rattle.qq_log.specs.declared.lane.Lane.{Lane}
-use Rattle.qq_log.specs.Lane.{IsLaneOf}
 use Rattle.qq_log.specs.Stable.{Stable}
 use Rattle.qq_chain.specs.Lanes.{Lanes, is_listed}
 use Rattle.qq_wal.specs.declared.fault.WalFault.{WalFault}
@@ -18,12 +17,15 @@ use Rattle.qq_wal.specs.declared.wal.Wal.{Wal}
 use Rattle.qq_wal.specs.Marks.{carries_of, carry_in}
 use Rattle.qq_wal.specs.Notices.{synced_in}
 use Rattle.qq_wal.specs.Numbers.{greatest_number}
+use Rattle.qq_wal.specs.Ranges.{AllRanges}
 use Rattle.qq_wal.specs.Wal.{IsBegun, carries_ahead}
 use Rattle.qq_recover.specs.declared.fault.RecoverFault.{RecoverFault}
 use Rattle.qq_recover.specs.declared.fault.RecoverFault.TheVariants.{Disk as DiskFailed, Damaged, Version, Memory as OfMemory}
 use Rattle.qq_recover.specs.declared.recovered.Recovered.{Recovered}
+use Rattle.qq_recover.specs.Entries.{ranges_read}
 use Rattle.qq_recover.specs.Log.{IsNewest}
 use Rattle.qq_recover.specs.Reading.{shown}
+use Rattle.qq_recover.specs.State.{IsPlainLaneOf}
 use Rattle.qq_recover.specs.Table.{lanes_of}
 
 -- the log that was begun
@@ -42,18 +44,18 @@ disk_of (Err e) = e.1
 -- a queue's lane tells its state, and one without a state has none
 abbrev pub IsLaneFor : QueueId → Option Stable → Option Lane → Type 0
 IsLaneFor id None None = Unit {0}
-IsLaneFor id (Some s) (Some lane) = (lane.queue ≡ id) × IsLaneOf s lane
+IsLaneFor id (Some s) (Some lane) = (lane.queue ≡ id) × IsPlainLaneOf s lane
 IsLaneFor _ _ _ = ⊥
 
 -- ---- the log that was begun
 
--- Of each queue it knows what its lane comes to. Its file is above all that are listed.
-pub record IsBegunAbove {D : Type 0} (queues : List QueueId) (names : List FileName) (log_bytes : ℕ) (r : Recovered D)
-    : Type 0 where
+-- Of each queue it knows what its lane comes to, and where its entries lie. Its file is above all that are listed.
+pub record IsBegunAbove {D : Type 0} (queues : List QueueId) (names : List FileName) (ranges : AllRanges)
+    (log_bytes : ℕ) (r : Recovered D) : Type 0 where
   pub queues_are : (wal_of r).queues.items ≡ queues
   pub file : (wal_of r).header.file ≡ greatest_number OfLog names + 1
   pub begun :
-      IsBegun (wal_of r).queues (wal_of r).header (carries_of queues (lanes_left r)) names log_bytes (wal_of r)
+      IsBegun (wal_of r).queues (wal_of r).header (carries_of queues (lanes_left r)) names ranges log_bytes (wal_of r)
 
 -- the number of a state's last op
 abbrev pub last_op : Option Stable → ℕ
@@ -66,12 +68,14 @@ pub record KnowsLanes {D : Type 0} (queues : List QueueId) (r : Recovered D) : T
   pub synced : (id : QueueId) → is_listed queues id ≡ true
       → synced_in (wal_of r).marks.items id ≡ last_op (lanes_left r id.0)
 
--- its header names the newest file that was read, and how far that is good
+-- its header names the newest file that was read, and how far that is good; entries lie in the files where they were read
 pub record IsBegunBehind {D : Type 0} (queues : List QueueId) (log_bytes : ℕ) (d : Disk) (r : Recovered D) : Type 0
   where
     pub names : List FileName
     pub listing : IsListing d names
-    pub above : IsBegunAbove queues names log_bytes r
+    pub ranges : AllRanges
+    pub found : ranges_read queues (shown d) ≡ Ok ranges
+    pub above : IsBegunAbove queues names ranges log_bytes r
     pub newest : IsNewest queues (shown d) (wal_of r).header.previous (wal_of r).header.good
 
 -- ---- refusals

@@ -7,7 +7,9 @@ use Rattle.qq_disk.specs.Disk.{Disk, IsListing}
 use Rattle.qq_chain.specs.Promise.{sync_all}
 use Rattle.qq_wal.specs.Marks.{IsCarry, carries_of}
 use Rattle.qq_wal.specs.Numbers.{greatest_number}
+use Rattle.qq_wal.specs.Ranges.{ranges_in}
 use Rattle.qq_recover.specs.declared.start.Start.{Start}
+use Rattle.qq_recover.specs.Entries.{ranges_read}
 use Rattle.qq_recover.specs.Log.{IsNewest}
 use Rattle.qq_recover.specs.Reading.{shown, lanes_read}
 use Rattle.qq_recover.specs.Table.{lanes_of}
@@ -24,4 +26,5 @@ pub record IsReadOf (queues : List QueueId) (old new : Disk) (s : Start) : Type 
   pub listing : IsListing old s.names.items
   pub synced : new ≡ sync_all old s.names.items
   pub lanes : lanes_read queues (shown old) ≡ Ok (lanes_of s.table)
+  pub ranges : ranges_read queues (shown old) ≡ Ok (ranges_in s.ranges)
   pub newest : IsNewest queues (shown old) s.header.previous s.header.good

@@ -6,6 +6,8 @@ use Rattle.qq_base.specs.declared.ids.Term.{Term}
 use Rattle.qq_entry.specs.declared.command.Entry.{Entry}
 use Rattle.qq_log.specs.declared.head.SnapshotHead.{SnapshotHead}
 use Rattle.qq_log.specs.declared.lane.Carry.{Carry}
+use Rattle.qq_log.specs.declared.lane.Lane.{Lane}
+use Rattle.qq_log.specs.Lane.{IsLaneOf}
 use Rattle.qq_log.specs.declared.op.Op.{Op}
 use Rattle.qq_log.specs.Stable.{Stable, new_state, apply_op, take_carry, carry_of}
 use Rattle.qq_log.specs.Writable.{IsVote}
@@ -29,6 +31,13 @@ pub record IsCarried (s : Stable) : Type 0 where
   pub vote : IsVote s.vote
   pub within : (id : QueueId) → is_carry_within_ends (carry_of id s) ≡ true
   pub plain : (id : QueueId) → is_plain (carry_of id s) ≡ true
+
+-- The lane tells the state. As there are neither snapshots nor segments it has no snapshot's bytes, and names no place:
+-- where entries lie in log files is kept by the log that goes on.
+pub record IsPlainLaneOf (s : Stable) (lane : Lane) : Type 0 where
+  pub state : IsLaneOf s lane
+  pub shadow : lane.shadow ≡ None
+  pub places : lane.places ≡ []
 
 -- a queue's state with an op more, None where it doesn't fit
 abbrev pub state_with_op : Option Stable → Op → Option Stable

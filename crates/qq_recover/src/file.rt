@@ -49,6 +49,12 @@ impl PlacedRecord {
         PlacedRecord { place, entry }
     }
 
+    pub(crate) fn entry(&self) -> &LogRecord
+        ensures { result.now ≡ self.now.entry }
+    {
+        &self.entry
+    }
+
     pub(crate) fn into_parts(self) -> (u64, LogRecord)
         ensures parts { result ≡ (self.place, self.entry) }
         ensures writable { IsWritable self.entry }

@@ -1,9 +1,11 @@
 //! What a disk's log files come to.
-ghost use Rattle.std.specs.Prelude.{◌≡◌, List, IsTrue, IfOk, IfErr};
+ghost use Rattle.std.specs.Prelude.{◌≡◌, List, Ok, IsTrue, IfOk, IfErr};
 ghost use Rattle.qq_base.specs.declared.ids.QueueId.{QueueId};
 ghost use Rattle.qq_base.specs.Causes.{HasCause};
 ghost use Rattle.qq_disk.specs.Disk.{now, IsListing};
 ghost use Rattle.qq_recover.specs.Answer.{Gives};
+ghost use Rattle.qq_wal.specs.Ranges.{ranges_in, ranges_of};
+ghost use Rattle.qq_recover.specs.Entries.{find_files, ranges_read};
 ghost use Rattle.qq_recover.specs.Fault.{IsCaused, IsOfBytes};
 ghost use Rattle.qq_recover.specs.Replay.{replay_files};
 ghost use Rattle.qq_recover.specs.Log.{good_of, IsNewest};
@@ -11,6 +13,7 @@ ghost use Rattle.qq_recover.specs.Reading.{shown, lanes_read};
 ghost use Rattle.qq_recover.specs.ReadOnly.{OnlyReads};
 ghost use Rattle.qq_recover.specs.Table.{lanes_of, Lists};
 
+use crate::entries::read_ranges;
 use crate::fault::RecoverFault;
 use crate::file::ChainFile;
 use crate::read::newest_file;
@@ -19,6 +22,7 @@ use crate::table::Table;
 use crate::walk::chain_files;
 use qq_base::QueueId;
 use qq_disk::{FileName, NodeDisk};
+use qq_wal::FileRanges;
 use std::alloc::Global;
 
 /// What the log files of a disk come to.
@@ -29,6 +33,8 @@ pub(crate) struct Log {
     /// How many of its bytes are good.
     pub(crate) good: u64,
     pub(crate) table: Table,
+    /// Where the entries lie.
+    pub(crate) ranges: FileRanges,
 }
 
 /// Where the newest file is good.
@@ -45,22 +51,31 @@ fn good_of(files: &[ChainFile]) -> u64
 fn put_together(
     alloc: Global,
     table: Table,
+    queues: &[QueueId],
     file: u64,
     files: Vec<ChainFile>,
 ) -> Result<Log, RecoverFault>
-    ensures gives { (queues : List QueueId) → Lists queues table →
+    ensures gives { (listed : List QueueId) → Lists listed table →
         Gives (λ log. lanes_of log.table) result
-        (replay_files queues files.items (lanes_of table)) }
-    ensures lists { (queues : List QueueId) → Lists queues table →
-        IfOk result (λ log. Lists queues log.table) }
+        (replay_files listed files.items (lanes_of table)) }
+    ensures lists { (listed : List QueueId) → Lists listed table →
+        IfOk result (λ log. Lists listed log.table) }
     ensures file { IfOk result (λ log. log.file ≡ file) }
     ensures good { IfOk result (λ log. log.good ≡ good_of files.items) }
+    ensures ranges { IfOk result (λ log.
+        ranges_in log.ranges ≡ find_files files.items (ranges_of queues.now)) }
     ensures cause { IfErr result IsOfBytes }
 {
     let mut table = table;
     let good = good_of(files.as_slice());
+    let ranges = read_ranges(alloc, queues, files.as_slice())?;
     match replay_files(alloc, &mut table, files) {
-        Ok(()) => Ok(Log { file, good, table }),
+        Ok(()) => Ok(Log {
+            file,
+            good,
+            table,
+            ranges,
+        }),
         Err(fault) => Err(fault),
     }
 }
@@ -78,13 +93,16 @@ pub(crate) fn read_log<D: NodeDisk>(
     ensures newest { IsTrue (D.tells disk.old) → IsListing (now (D.past disk.old)) names.now →
         IfOk result (λ log. IsNewest queues.now (shown (now (D.past disk.old))) log.file log.good) }
     ensures lists { IfOk result (λ log. Lists queues.now log.table) }
+    ensures ranges { IsTrue (D.tells disk.old) → IsListing (now (D.past disk.old)) names.now →
+        IfOk result (λ log.
+        ranges_read queues.now (shown (now (D.past disk.old))) ≡ Ok (ranges_in log.ranges)) }
     ensures reads { OnlyReads D.tells D.past disk.old disk.new }
     ensures cause { HasCause IsCaused (D.faults disk.old) (D.faults disk.new) result }
 {
     let table = Table::new(alloc, queues)?;
     let file = newest_file(disk, alloc, names)?;
     match chain_files(disk, alloc, names, file) {
-        Ok(files) => put_together(alloc, table, file, files),
+        Ok(files) => put_together(alloc, table, queues, file, files),
         Err(fault) => Err(fault),
     }
 }

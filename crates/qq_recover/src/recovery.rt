@@ -6,6 +6,7 @@ ghost use Rattle.qq_disk.specs.Image.{log_of};
 ghost use Rattle.qq_log.specs.declared.op.Op.{Op};
 ghost use Rattle.qq_chain.specs.Laws.{KeepsPromise};
 ghost use Rattle.qq_wal.specs.Fault.{IsCaused as IsWalCaused};
+ghost use Rattle.qq_wal.specs.Ranges.{ranges_in};
 ghost use Rattle.qq_wal.specs.Running.{MayBegin, StillHolds, Stays, top};
 ghost use Rattle.qq_wal.specs.Wal.{IsSound};
 ghost use Rattle.qq_recover.specs.Answer.{Fails};
@@ -49,7 +50,8 @@ fn begin_behind<D: NodeDisk>(
     requires goes_on { IsTrue (D.tells disk) → MayBegin queues.now start.header start.carries.items
         start.names.items (now (D.past disk)) }
     ensures sound { IfOk result (λ r. IsSound D.tells D.past (wal_of r)) }
-    ensures begun { IfOk result (IsBegunAbove queues.now start.names.items log_bytes) }
+    ensures begun { IfOk result (
+        IsBegunAbove queues.now start.names.items (ranges_in start.ranges) log_bytes) }
     ensures header { IfOk result (λ r. (wal_of r).header ≡ start.header) }
     ensures lanes { IfOk result (λ r. lanes_left r ≡ lanes_of start.table) }
     ensures stays { IsTrue (D.tells disk) →
@@ -65,6 +67,7 @@ fn begin_behind<D: NodeDisk>(
         carries,
         names,
         table,
+        ranges,
     } = start;
     let queues = match Vec::from_slice(alloc, queues) {
         Ok(queues) => queues,
@@ -77,6 +80,7 @@ fn begin_behind<D: NodeDisk>(
         header,
         carries.as_slice(),
         names.as_slice(),
+        &ranges,
         log_bytes,
     ) {
         Ok(wal) => Ok(Recovered { wal, table }),

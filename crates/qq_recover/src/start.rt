@@ -22,7 +22,7 @@ use crate::table::Table;
 use qq_base::{Memory, NUMBER_END, QueueId};
 use qq_disk::{FileKind, FileName, NodeDisk};
 use qq_log::Carry;
-use qq_wal::greatest_number;
+use qq_wal::{FileRanges, greatest_number};
 use qq_wal_record::Header;
 use std::alloc::Global;
 
@@ -35,6 +35,8 @@ pub(crate) struct Start {
     /// Of the files that the disk lists.
     pub(crate) names: Vec<FileName>,
     pub(crate) table: Table,
+    /// Where the entries lie.
+    pub(crate) ranges: FileRanges,
 }
 
 /// Adds a queue's carry, if it has ops.
@@ -97,6 +99,7 @@ fn start_behind(
 ) -> Result<Start, Memory>
     ensures start { IfOk result (IsStart queues.now) }
     ensures table { IfOk result (λ s. s.table ≡ log.table) }
+    ensures ranges { IfOk result (λ s. s.ranges ≡ log.ranges) }
     ensures names { IfOk result (λ s. s.names ≡ names) }
     ensures previous { IfOk result (λ s. s.header.previous ≡ log.file) }
     ensures good { IfOk result (λ s. s.header.good ≡ log.good) }
@@ -109,6 +112,7 @@ fn start_behind(
         file: previous,
         good,
         table,
+        ranges,
     } = log;
     let header = Header {
         file,
@@ -120,6 +124,7 @@ fn start_behind(
         carries,
         names,
         table,
+        ranges,
     })
 }
 

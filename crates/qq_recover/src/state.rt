@@ -1,7 +1,6 @@
 //! A queue's state, as its records come to.
 ghost use Rattle.std.specs.Prelude.{◌≡◌, ◌+◌, true, ◌&&◌, length, Option, Some, None, IfOk, IsOkUnless};
 ghost use Rattle.std.specs.List.{list_all};
-ghost use Rattle.qq_log.specs.Lane.{IsLaneOf};
 ghost use Rattle.qq_base.specs.declared.ids.NodeId.{NodeId};
 ghost use Rattle.qq_base.specs.declared.ids.QueueId.{QueueId};
 ghost use Rattle.qq_log.specs.Stable.{new_state, carry_of, restates};
@@ -9,7 +8,7 @@ ghost use Rattle.qq_log.specs.Writable.{IsWritable, IsWritableCarry, IsVote};
 ghost use Rattle.qq_log.specs.Same.{same_vote, same_carry};
 ghost use Rattle.qq_log.specs.declared.op.Op.TheVariants.{Change};
 ghost use Rattle.qq_chain.specs.Lanes.{is_within_end, is_carry_within_ends, is_op_within_ends, is_head_within_ends, is_plain};
-ghost use Rattle.qq_recover.specs.State.{state_with_op, state_with_carry};
+ghost use Rattle.qq_recover.specs.State.{state_with_op, state_with_carry, IsPlainLaneOf};
 
 use qq_base::{Index, Memory, NUMBER_END, NodeId, QueueId, Term};
 use qq_entry::{Entries, Entry};
@@ -45,7 +44,7 @@ fn is_within_end(n: u64) -> bool
     n <= NUMBER_END
 }
 
-fn is_last_within_end(keep: u64, count: usize) -> bool
+pub(crate) fn is_last_within_end(keep: u64, count: usize) -> bool
     ensures { result ≡ is_within_end (keep + count) }
 {
     keep <= NUMBER_END && count as u64 <= NUMBER_END - keep
@@ -232,7 +231,7 @@ impl State {
     /// The lane that tells the state.
     pub(crate) fn into_lane(self, alloc: Global, queue: QueueId) -> Lane
         ensures queue { result.queue ≡ queue }
-        ensures lane { IsLaneOf self result }
+        ensures lane { IsPlainLaneOf self result }
     {
         let State {
             op,

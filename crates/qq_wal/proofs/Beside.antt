@@ -1,20 +1,19 @@
 -- What is said of a log speaks of its log files alone.
-use Rattle.std.proofs.Common.{◌≡◌, ◌<◌, ℕ, Bool, List, [], length, Option, Some, None, sym, subst, ap, ◌∙◌, unwrap_or}
+use Rattle.std.proofs.Common.{◌≡◌, ℕ, List, [], length, sym, subst, ap, ◌∙◌, unwrap_or}
 use Rattle.std.specs.List.{AllByRecursion}
 use Rattle.qq_base.specs.declared.ids.QueueId.{QueueId}
-use Rattle.qq_disk.specs.Disk.{Disk, FileState, file_content}
+use Rattle.qq_disk.specs.Disk.{Disk, file_content}
 use Rattle.qq_log.specs.declared.op.Op.{Op}
 use Rattle.qq_wal_record.specs.declared.header.Header.{Header}
-use Rattle.qq_wal_record.specs.declared.record.LogRecord.{LogRecord}
 use Rattle.qq_chain.specs.Image.{Files, files_of, shown_logs}
 use Rattle.qq_chain.specs.Chain.{reading}
 use Rattle.qq_chain.specs.Records.{encode_all}
-use Rattle.qq_chain.specs.Promise.{IsLog, IsRunning, Keeps, found_behind, found_world, kept_records, pending_records}
+use Rattle.qq_chain.specs.Promise.{IsLog, Keeps, found_behind, found_world, kept_records, pending_records}
 use Rattle.qq_chain.specs.Laws.{KeepsPromise, op_records}
 use Rattle.qq_chain.specs.Wal.{wal, Ours}
 use Rattle.qq_wal.specs.declared.marks.Mark.{Mark}
 use Rattle.qq_wal.specs.declared.numbers.Numbers.{Numbers}
-use Rattle.qq_wal.specs.Running.{top, IsSynced, IsWrittenTo, SameLogs, lanes_shown}
+use Rattle.qq_wal.specs.Running.{top, IsSynced, IsWrittenTo, SameLogs}
 use Rattle.qq_wal.specs.Wal.{IsOnDisk}
 
 same-files : (d e : Disk) → SameLogs d e → files_of e ≡ files_of d

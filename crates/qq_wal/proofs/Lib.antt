@@ -1,8 +1,11 @@
 pub mod Agreeing
 pub mod Batches
+pub mod Beginning
 pub mod Beside
 pub mod Follows
 pub mod InPlace
+pub mod Kept
+pub mod Lying
 pub mod Lengths
 pub mod OnDisk
 pub mod Rising

@@ -1,5 +1,5 @@
 -- Changes name no file beside the log.
-use Rattle.std.proofs.Common.{◌≡◌, arith, ℕ, map, Bool, true, false, cond, List, [], ◌∷◌, ◌++◌, Option, Some, None, refl, subst, sym, ap, ◌∙◌}
+use Rattle.std.proofs.Common.{◌≡◌, arith, ℕ, map, Bool, true, false, cond, List, [], ◌∷◌, ◌++◌, Option, Some, None, refl, subst, ap, ◌∙◌}
 use Rattle.std.specs.Prelude.{All}
 use Rattle.std.specs.List.{AllByRecursion, Contains, fold}
 use Rattle.std.proofs.lemmas.List.Elements.{recursion_from_All}
@@ -7,8 +7,7 @@ use Rattle.qq_disk.specs.declared.name.FileName.{FileName}
 use Rattle.qq_log.specs.declared.head.Span.{Span}
 use Rattle.qq_log.specs.declared.op.Op.{Op}
 use Rattle.qq_log.specs.declared.op.Op.TheVariants.{Change, SnapshotMade, SegmentMade}
-use Rattle.qq_log.specs.Op.{number}
-use Rattle.qq_log.specs.Stable.{Stable, new_state, act, apply_op, change, follows, may_keep, segments_between, then_apply, stable}
+use Rattle.qq_log.specs.Stable.{Stable, new_state, apply_op, change, follows, may_keep, segments_between, then_apply, stable}
 use Rattle.qq_log.specs.Writable.{IsChange}
 use Rattle.qq_wal.specs.Sweep.{files_named, segment_file, snapshot_file, IsReplaced}
 

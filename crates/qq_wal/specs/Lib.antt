@@ -1,9 +1,11 @@
 pub mod Batch
+pub mod Entries
 pub mod Fault
 pub mod Lengths
 pub mod Marks
 pub mod Notices
 pub mod Numbers
+pub mod Ranges
 pub mod Running
 pub mod Sweep
 pub mod Wal

@@ -20,6 +20,7 @@ use Rattle.qq_wal.specs.Batch.{AllFitBatch, IsBatch, encodings}
 use Rattle.qq_wal.specs.Marks.{Carries, AllFollow, HasCarry, Agree, known, is_rising, queues_in, carries_in, add_records}
 use Rattle.qq_wal.specs.Notices.{note_record, new_mark}
 use Rattle.qq_wal.specs.Numbers.{first_numbers, raise}
+use Rattle.qq_wal.specs.Ranges.{AllRanges, begin_files, ranges_in, write_record}
 use Rattle.qq_wal.specs.Running.{IsWrittenTo, IsSynced, StaysGiving, lanes_shown}
 use Rattle.qq_wal.specs.declared.fault.WalFault.{WalFault}
 use Rattle.qq_wal.specs.declared.marks.Mark.{Mark}
@@ -67,6 +68,7 @@ pub record Appends {D : Type 0} (count : ℕ) (old new : Wal D) : Type 0 where
   pub batch : IsBatch old.header.file count old.waiting.items
   pub waiting : new.waiting.items ≡ drop count old.waiting.items
   pub marks : new.marks.items ≡ fold note_record old.marks.items (take count old.waiting.items)
+  pub ranges : ranges_in new.ranges ≡ fold write_record (ranges_in old.ranges) (take count old.waiting.items)
   pub size : new.size ≡ old.size + length (encodings old.header.file (take count old.waiting.items))
   pub going : new.stopped ≡ false
 
@@ -79,13 +81,14 @@ pub record StaysAppending (queues : List QueueId) (waiting : List LogRecord) (ol
 abbrev pub first_length : Header → List Mark → ℕ
 first_length h marks = length (header_encoding h ++ encodings h.file (map CarryRecord (carries_in marks)))
 
--- a log that was begun: nothing waits, and of each queue is known what its carry says
+-- a log that was begun: nothing waits, of each queue is known what its carry says, and its entries lie where they lay
 pub record IsBegun {D : Type 0} (queues : Vec QueueId) (header : Header) (carries : List Carry) (names : List FileName)
-    (log_bytes : ℕ) (w : Wal D) : Type 0 where
+    (ranges : AllRanges) (log_bytes : ℕ) (w : Wal D) : Type 0 where
   pub queues_are : w.queues ≡ queues
   pub header_is : w.header ≡ header
   pub waiting : w.waiting.items ≡ []
   pub marks : w.marks.items ≡ map (new_mark carries) queues.items
+  pub ranges_are : ranges_in w.ranges ≡ begin_files header.file queues.items ranges
   pub size : w.size ≡ first_length header w.marks.items
   pub numbers : w.numbers ≡ first_numbers header names
   pub limit : w.log_bytes ≡ log_bytes
@@ -100,6 +103,7 @@ pub record IsRolled {D : Type 0} (old new : Wal D) : Type 0 where
   pub log_bytes : new.log_bytes ≡ old.log_bytes
   pub waiting : new.waiting ≡ old.waiting
   pub marks : new.marks ≡ old.marks
+  pub ranges : ranges_in new.ranges ≡ begin_files new.header.file old.queues.items (ranges_in old.ranges)
   pub dirty : new.dirty ≡ old.dirty
   pub stopped : new.stopped ≡ false
 

@@ -5,6 +5,7 @@
 
 mod batch;
 mod begin;
+mod entries;
 mod fault;
 mod file;
 mod laws;
@@ -12,6 +13,7 @@ mod marks;
 mod measure;
 mod notices;
 mod numbers;
+mod ranges;
 mod roll;
 mod sweep;
 mod synced;
@@ -19,11 +21,12 @@ mod wal;
 
 pub use batch::{BATCH_BYTES, BATCH_OPS};
 pub use fault::WalFault;
-pub use laws::{notices_are_of_their_ops, other_files_keep_the_log_sound};
+pub use laws::{
+    entries_lie_where_they_were_written, notices_are_of_their_ops, other_files_keep_the_log_sound,
+    what_is_appended_and_synced_is_kept,
+};
 pub use notices::Notice;
 pub use numbers::greatest_number;
+pub use ranges::FileRanges;
 pub use sweep::changes_replace_no_file;
 pub use wal::Wal;
-
-#[cfg(test)]
-mod tests;

@@ -72,6 +72,10 @@ impl<D: NodeDisk> Wal<D> {
             Ok(bytes) => bytes,
             Err(memory) => return Err(WalFault::Memory(memory)),
         };
+        let ranges = match self.ranges.begin_files(alloc, &self.queues, number) {
+            Ok(ranges) => ranges,
+            Err(memory) => return Err(WalFault::Memory(memory)),
+        };
         self.stopped = true;
         if let Err(fault) = begin_file(&mut self.disk, alloc, header, bytes.as_slice()) {
             return Err(fault_of(fault));
@@ -79,6 +83,7 @@ impl<D: NodeDisk> Wal<D> {
         self.header = header;
         self.size = bytes.len() as u64;
         self.numbers.log = number;
+        self.ranges = ranges;
         self.stopped = false;
         Ok(number)
     }

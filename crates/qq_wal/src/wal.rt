@@ -14,6 +14,7 @@ ghost use Rattle.qq_wal.specs.Fault.{IsCaused, IsGatherCaused, IsAppendCaused};
 ghost use Rattle.qq_wal.specs.Marks.{IsCarry, GoesOn, add_op};
 ghost use Rattle.qq_wal.specs.Notices.{notices_in, sync_mark};
 ghost use Rattle.qq_wal.specs.Numbers.{greatest_number};
+ghost use Rattle.qq_wal.specs.Ranges.{ranges_in};
 ghost use Rattle.qq_wal.specs.Running.{MayBegin, Stays, StaysGiving, HoldsAlso, StillHolds, MayNotice};
 ghost use Rattle.qq_wal.specs.Wal.{IsSound, IsBegun, carries_ahead, disk_of, SameFile, Appends, StaysAppending};
 
@@ -25,6 +26,7 @@ use crate::marks::{Mark, is_rising, new_marks};
 use crate::measure::is_short;
 use crate::notices::{Notice, notices_in, sync_marks, take_batch};
 use crate::numbers::{Numbers, first_numbers};
+use crate::ranges::FileRanges;
 use qq_base::{Memory, QueueId};
 use qq_disk::{FileName, NodeDisk};
 use qq_log::{Carry, Op, carries_restate};
@@ -50,6 +52,8 @@ pub struct Wal<D: NodeDisk> {
     pub(crate) waiting: VecDeque<LogRecord>,
     /// What is kept of each queue, in the same order.
     pub(crate) marks: Vec<Mark>,
+    /// Where the queues' entries lie.
+    pub(crate) ranges: FileRanges,
     /// Whether the queues rise by their numbers, so that a queue's mark is found by binary search.
     pub(crate) rising: bool,
     /// Whether something was appended since the last sync.
@@ -63,9 +67,9 @@ impl<D: NodeDisk> Wal<D> {
 
     /// Begins a new file behind what is read on the disk: its header and the carries of the queues that
     /// have one, in one append, and syncs it. The names are those that the disk lists; the header's
-    /// number is above that of each log file among them. The disk is handed back on each refusal, which
-    /// is never `Stopped` or `TooLarge`. Where the queues rise by their numbers, an op's queue is found by
-    /// binary search later on, else by a walk over all of them.
+    /// number is above that of each log file among them. The ranges say where the entries lie that are there.
+    /// The disk is handed back on each refusal, which is never `Stopped` or `TooLarge`. Where the queues rise
+    /// by their numbers, an op's queue is found by binary search later on, else by a walk over all of them.
     pub fn begin(
         disk: D,
         alloc: Global,
@@ -73,6 +77,7 @@ impl<D: NodeDisk> Wal<D> {
         header: Header,
         carries: &[Carry],
         names: &[FileName],
+        ranges: &FileRanges,
         log_bytes: u64,
     ) -> Result<Wal<D>, (WalFault, D)>
         requires carries { All IsCarry carries.now }
@@ -81,7 +86,7 @@ impl<D: NodeDisk> Wal<D> {
             MayBegin queues.items header carries.now names.now (now (D.past disk)) }
         ensures sound { IfOk result (λ wal. IsSound D.tells D.past wal) }
         ensures ok { IfOk result (λ wal.
-            IsBegun queues header carries.now names.now log_bytes wal) }
+            IsBegun queues header carries.now names.now (ranges_in ranges.now) log_bytes wal) }
         ensures stays { IsTrue (D.tells disk) →
             Stays queues.items (D.past disk) (D.past (disk_of result)) }
         ensures holds { IsTrue (D.tells disk) → OnOk result (
@@ -101,6 +106,10 @@ impl<D: NodeDisk> Wal<D> {
             Ok(bytes) => bytes,
             Err(memory) => return Err((WalFault::Memory(memory), disk)),
         };
+        let ranges = match ranges.begin_files(alloc, &queues, header.file) {
+            Ok(ranges) => ranges,
+            Err(memory) => return Err((WalFault::Memory(memory), disk)),
+        };
         if let Err(fault) = begin_file(&mut disk, alloc, header, bytes.as_slice()) {
             return Err((fault_of(fault), disk));
         }
@@ -114,6 +123,7 @@ impl<D: NodeDisk> Wal<D> {
             numbers: first_numbers(header, names),
             waiting: VecDeque::new(alloc),
             marks,
+            ranges,
             rising,
             dirty: false,
             stopped: false,
@@ -213,6 +223,7 @@ impl<D: NodeDisk> Wal<D> {
         if let Err(fault) = append_file(&mut self.disk, alloc, self.header, bytes.as_slice()) {
             return Err(fault_of(fault));
         }
+        self.ranges.write_batch(&self.waiting, count);
         take_batch(
             alloc,
             &mut self.waiting,
@@ -232,6 +243,7 @@ impl<D: NodeDisk> Wal<D> {
         ensures sound { IsSound D.tells D.past self.new }
         ensures notices { IfOk result (λ notices. notices.items ≡ notices_in self.old.marks.items) }
         ensures marks { OnOk result (self.new.marks.items ≡ map sync_mark self.old.marks.items) }
+        ensures ranges { self.new.ranges ≡ self.old.ranges }
         ensures synced { OnOk result (self.new.dirty ≡ false) }
         ensures going { OnOk result (self.new.stopped ≡ false) }
         ensures stays { IsTrue (D.tells self.old.disk) →

@@ -6,11 +6,13 @@ use Rattle.qq_chain.specs.Wal.{wal}
 use Rattle.qq_recover.specs.Answer.{Answer, Fails, Gives}
 use Rattle.qq_recover.specs.Files.{chain_files}
 use Rattle.qq_recover.specs.Log.{IsNewest, good_of}
+use Rattle.qq_wal.specs.Ranges.{ranges_of}
 use Rattle.qq_wal.specs.Running.{top}
+use Rattle.qq_recover.specs.Entries.{find_files, ranges_read}
 use Rattle.qq_recover.specs.Reading.{shown}
 use Rattle.qq_recover.specs.Replay.{replay_files}
 use Rattle.qq_recover.specs.Table.{lanes_of}
-use Rattle.qq_recover.proofs.LogLaws.{lanes-refused, lanes-replayed, newest-read, newest-of}
+use Rattle.qq_recover.proofs.LogLaws.{lanes-refused, lanes-replayed, newest-read, newest-of, ranges-found, ranges-kept}
 use Rattle.qq_recover.proofs.Quiet.{still}
 use Rattle.qq_recover.proofs.log.read_log.Goals as goal
 
@@ -58,3 +60,18 @@ returns-in-Ok-clause-newest g c = λ told listing.
     (subst (λ (p : List Disk). IsListing (now p) c.args.names.now) (sym same) listing) queues)) in
     newest-of queues logs c.in_ok-file.file (good_of c.in-Ok.files.items) c.put_together.result files
     c.put_together.ensures.file c.put_together.ensures.good
+
+pub returns-in-Ok-clause-ranges : goal.returns-in-Ok-clause-ranges
+returns-in-Ok-clause-ranges g c = λ told listing.
+    let tells = g.D.NodeDisk.tells in
+    let past = g.D.NodeDisk.past in
+    let queues = c.args.queues.now in
+    let logs = shown (now (past c.args.disk.now)) in
+    let same = c.newest_file.ensures.reads.same told in
+    ranges-kept (ranges_read queues logs) (find_files c.in-Ok.files.items (ranges_of queues)) c.put_together.result
+    (ranges-found queues logs c.in_ok-file.file c.in-Ok.files.items (c.in_ok-file.ensures.ok told listing queues)
+    (subst (λ (p : List Disk). chain_files queues top (shown (now p)) c.in_ok-file.file
+    (good_length (wal queues) c.in_ok-file.file (shown (now p) c.in_ok-file.file)) ≡ Ok c.in-Ok.files.items) same
+    (c.in-Ok.ensures.gives (still tells past c.args.disk.now c.newest_file.new.disk c.newest_file.ensures.reads told)
+    (subst (λ (p : List Disk). IsListing (now p) c.args.names.now) (sym same) listing) queues)))
+    c.put_together.ensures.ranges

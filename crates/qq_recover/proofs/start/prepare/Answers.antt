@@ -63,7 +63,8 @@ returns-in_ok-start_behind-in-Ok-clause-read g c = λ told.
     read-of c.args.queues.now (past c.args.disk.now) (past c.names.new.self) (past c.settle_all.new.disk)
     names (c.names.ensures.same told) (c.in_ok-names.ensures.ok told) synced (past c.read_log.new.disk) c.in-Ok.log
     s (c.read_log.ensures.reads.same settled) (c.in-Ok.ensures.lanes settled listed)
-    (c.in-Ok.ensures.newest settled listed) c.in_ok-start_behind-in-Ok.ensures.table
+    (c.in-Ok.ensures.newest settled listed) (c.in-Ok.ensures.ranges settled listed)
+    c.in_ok-start_behind-in-Ok.ensures.ranges c.in_ok-start_behind-in-Ok.ensures.table
     (ap (λ v. v.items) c.in_ok-start_behind-in-Ok.ensures.names) c.in_ok-start_behind-in-Ok.ensures.previous
     c.in_ok-start_behind-in-Ok.ensures.good
 

@@ -1,4 +1,3 @@
-use Rattle.std.proofs.Common.{sym, ap, ◌∙◌}
 use Rattle.qq_disk.specs.Disk.{now}
 use Rattle.qq_wal.proofs.Batches.{told_before}
 use Rattle.qq_wal.proofs.Beside.{beside-keeps, beside-on_disk, beside-synced}

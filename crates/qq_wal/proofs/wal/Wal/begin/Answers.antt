@@ -10,6 +10,7 @@ use Rattle.qq_wal.specs.declared.marks.Mark.{Mark}
 use Rattle.qq_wal.specs.Batch.{AllFitBatch}
 use Rattle.qq_wal.specs.Marks.{AllFollow, HasCarry, IsCarry, carries_in, is_rising, known, queues_in}
 use Rattle.qq_wal.specs.Notices.{new_mark}
+use Rattle.qq_wal.specs.Ranges.{begin_files, ranges_in}
 use Rattle.qq_wal.specs.Wal.{first_length}
 use Rattle.qq_wal.proofs.Agreeing.{begun-carries, begun-queues}
 use Rattle.qq_wal.proofs.Batches.{told_before}
@@ -116,6 +117,8 @@ returns-clause-ok g c =
       waiting = c.new.ensures.items;
       marks = c.in-Ok.ensures.ok
           ∙ ap (λ (l : List QueueId). map (new_mark c.args.carries.now) l) c.as_slice.ensures.value;
+      ranges_are = c.in-Ok-begin_files.ensures.ok
+          ∙ ap (λ (l : List QueueId). begin_files c.args.header.file l (ranges_in c.args.ranges.now)) c.deref.ensures.value;
       size = long ∙ c.in-Ok-first_bytes.ensures.length
           ∙ ap (λ (l : List Mark). first_length c.args.header l) c.as_slice-2.ensures.value;
       numbers = c.first_numbers.ensures;

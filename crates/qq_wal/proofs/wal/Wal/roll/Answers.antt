@@ -1,4 +1,5 @@
 use Rattle.std.proofs.Common.{ap, List, ◌∷◌, map, sym, ◌∙◌, refl, arith, rules, ◌≡◌, length}
+use Rattle.qq_base.specs.declared.ids.QueueId.{QueueId}
 use Rattle.qq_disk.specs.Disk.{now}
 use Rattle.qq_log.specs.Stable.{carry_of}
 use Rattle.qq_wal_record.specs.declared.header.Header.{Header}
@@ -8,6 +9,7 @@ use Rattle.qq_chain.specs.Promise.{found_behind}
 use Rattle.qq_chain.specs.Wal.{wal, Ours}
 use Rattle.qq_wal.specs.Marks.{carries_in}
 use Rattle.qq_wal.specs.declared.marks.Mark.{Mark}
+use Rattle.qq_wal.specs.Ranges.{begin_files, ranges_in}
 use Rattle.qq_wal.specs.Wal.{first_length}
 use Rattle.qq_wal.specs.Running.{top}
 use Rattle.qq_wal.proofs.Batches.{told_before}
@@ -181,6 +183,8 @@ returns-clause-ok g c =
       log_bytes = refl;
       waiting = refl;
       marks = refl;
+      ranges = c.in-Ok-begin_files.ensures.ok
+          ∙ ap (λ (l : List QueueId). begin_files c.in-Ok.number l (ranges_in was.ranges)) c.deref.ensures.value;
       dirty = refl;
       stopped = refl;
     }

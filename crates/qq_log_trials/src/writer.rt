@@ -1,15 +1,10 @@
 ghost use Rattle.std.specs.Prelude.{◌≡◌, ◌<◌, [], false, IfOk};
-ghost use Rattle.qq_wal.specs.Notices.{last_index};
 ghost use Rattle.qq_wal.specs.Wal.{IsSound};
 
-use super::*;
-use crate::marks::new_marks;
-use crate::notices::{note_all, notices_in};
-use qq_base::{Index, Memory, NUMBER_END, NodeId, QueueId, Term};
-use qq_command::Entries;
+use qq_base::{Memory, NUMBER_END, QueueId};
 use qq_disk::{DiskFault, FileKind, FileName, NodeDisk};
-use qq_log::Op;
 use qq_mem_disk::MemDisk;
+use qq_wal::{FileRanges, Wal, WalFault};
 use qq_wal_record::Header;
 use std::alloc::Global;
 use std::process::Abort;
@@ -85,45 +80,20 @@ fn started(alloc: Global, file: u64, fails: Vec<u64>) -> Result<Wal<Hiding>, Fai
         previous: 0,
         good: 0,
     };
-    match Wal::begin(Hiding { disk }, alloc, queues, header, &[], &[], 39) {
+    let ranges = FileRanges::new(alloc, queues.as_slice())?;
+    match Wal::begin(
+        Hiding { disk },
+        alloc,
+        queues,
+        header,
+        &[],
+        &[],
+        &ranges,
+        39,
+    ) {
         Ok(wal) => Ok(wal),
         Err((fault, _)) => Err(fault.into()),
     }
-}
-
-fn change(alloc: Global, queue: u32, op: u64) -> Op
-    ensures { last_index result ≡ 0 }
-{
-    Op::Change {
-        queue: QueueId(queue),
-        op,
-        term: Term(1),
-        vote: Some(NodeId(1)),
-        keep: Index(0),
-        entries: Entries::new(alloc),
-    }
-}
-
-fn told(queue: u32, op: u64) -> Notice {
-    Notice {
-        queue: QueueId(queue),
-        term: Term(1),
-        first: Index(0),
-        last: Index(0),
-        op,
-    }
-}
-
-#[test]
-fn a_queue_is_told_of_its_own_last_op(rt: HostRuntime) -> Result<(), Fail> {
-    let alloc = rt.alloc();
-    let mut marks = new_marks(alloc, &[QueueId(1), QueueId(2)], &[])?;
-    note_all(alloc, &mut marks, &change(alloc, 1, 1));
-    note_all(alloc, &mut marks, &change(alloc, 2, 1));
-    note_all(alloc, &mut marks, &change(alloc, 1, 2));
-    let notices = notices_in(alloc, &marks)?;
-    assert!(rt; notices.as_slice() == [told(1, 2), told(2, 1)].as_slice());
-    Ok(())
 }
 
 fn shows(

@@ -1,0 +1,10 @@
+use Rattle.std.proofs.Common.{◌≡◌, length}
+use Rattle.qq_wal.specs.Ranges.{find_file, spans_to}
+use Rattle.qq_wal.proofs.ranges.find_cut.Given as goal
+
+-- the others decide
+abbrev pub invariant-rest : goal.invariant-rest
+invariant-rest l = find_file l.file (spans_to l.cut l.rest) ≡ find_file l.file (spans_to l.cut l.spans)
+
+abbrev pub decreases-rest : goal.decreases-rest
+decreases-rest l = length l.rest
