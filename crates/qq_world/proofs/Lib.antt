@@ -1,0 +1,12 @@
+mod Fronts
+mod Ops
+mod Moves
+mod Worlds
+mod Lawful
+mod Puts
+mod Confirming
+mod Printed
+mod Once
+mod Deeds
+mod Handed
+mod SessionLaws

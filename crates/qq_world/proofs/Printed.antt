@@ -1,0 +1,110 @@
+-- What is printed as an answer is a row of the audit.
+use Rattle.std.proofs.Common.{◌≡◌, ℕ, zero, suc, Bool, true, false, cond, not, ◌&&◌, List, [], ◌∷◌, ◌++◌, Option, Some, None, length, map, drop, refl, sym, ap, ◌∙◌, subst}
+use Rattle.std.specs.Prelude.{filter, nat_eq, Contains}
+use Rattle.std.specs.List.{AllByRecursion}
+use Rattle.std.proofs.lemmas.Bool.{false≢true, cond_both}
+use Rattle.std.proofs.lemmas.List.Elements.{Contains-append_left, Contains-append_right}
+use Rattle.qq_base.proofs.Lists.{AllByRecursion-append, AllByRecursion-filter, AllByRecursion-map, AllByRecursion-weaker}
+use Rattle.qq_entry.specs.declared.audit.AuditRow.{AuditRow}
+use Rattle.qq_entry.specs.declared.command.Command.{Command}
+use Rattle.qq_entry.specs.declared.queue.QueueArgs.{QueueArgs}
+use Rattle.qq_session.proofs.AuditRows.{Contains-middle}
+use Rattle.qq_session.specs.Publishing.{Numbers, next_command, open_commands}
+use Rattle.qq_world.specs.Front.{IsFront}
+use Rattle.qq_world.specs.Laws.{IsAnswer, IsAudited, HasAuditedAnswers, world_after}
+use Rattle.qq_world.specs.Server.{Server, is_ready, notice}
+use Rattle.qq_world.specs.World.{World, Clients, Event, Mutes, Ticks, Submits, Resends, Writes, Syncs, Notices, Stops, Finds, Shown, Answered, NoLeader, WindowFull, new_world, is_up, may_hand, sender, hear, is_printed_by, is_printed, printed, own_rows, tell, happens, said_of, said, after, all_said}
+use Rattle.qq_world.proofs.Worlds.{SoundWorld, follows, follows-all, sound-world}
+
+each-contained : {A : Type 0} (xs : List A) → AllByRecursion (Contains xs) xs
+each-contained [] = tt
+each-contained (x ∷ xs) = (
+  Contains-middle [] xs x,
+  AllByRecursion-weaker (Contains xs) (Contains (x ∷ xs)) (λ y is. Contains-append_right (x ∷ []) xs y is) xs
+      (each-contained xs),
+)
+
+all-drop : {A : Type 0} (P : A → Type 0) (k : ℕ) (xs : List A) → AllByRecursion P xs → AllByRecursion P (drop k xs)
+all-drop P zero xs each = each
+all-drop P (suc k) [] each = tt
+all-drop P (suc k) (x ∷ xs) each = all-drop P k xs each.1
+
+pub front-contains : {A : Type 0} (a b : List A) (x : A) → IsFront a b → Contains a x → Contains b x
+front-contains a b x front is =
+    subst (λ (l : List _). Contains l x) (sym front.is) (Contains-append_left a front.rest x is)
+
+-- what is printed answers a client
+sent : (audit : List AuditRow) (clients : Clients) (row : AuditRow) (o : Option ℕ) → sender row ≡ o
+    → Contains audit row → is_printed_by o clients row ≡ true → IsAnswer audit row
+sent audit clients row None is is_in printed' = absurd (false≢true printed')
+sent audit clients row (Some session) is is_in printed' =
+    record { is_in = is_in; session = session; sender_is = is }
+
+printed-are : (audit rows : List AuditRow) (clients : Clients) → AllByRecursion (Contains audit) rows
+    → AllByRecursion (IsAnswer audit) (printed rows clients)
+printed-are audit [] clients each = tt
+printed-are audit (row ∷ rows) clients each =
+    AllByRecursion-append (IsAnswer audit) (cond (is_printed clients row) (row ∷ []) [])
+    (printed rows (hear row clients))
+    (cond_both (is_printed clients row) (row ∷ []) [] (AllByRecursion (IsAnswer audit))
+    (λ is. (sent audit clients row (sender row) refl each.0 is, tt)) (λ _. tt))
+    (printed-are audit rows (hear row clients) each.1)
+
+own-contained : (before now : Server) → AllByRecursion (Contains now.audit) (own_rows before now)
+own-contained before now =
+    AllByRecursion-filter (Contains now.audit) (λ (row : AuditRow). nat_eq row.entry.term.0 now.term.0)
+    (drop (length before.audit) now.audit)
+    (all-drop (Contains now.audit) (length before.audit) now.audit (each-contained now.audit))
+
+offered-audited : (audit : List AuditRow) (ready : Bool) (session : ℕ) (commands : List Command)
+    → AllByRecursion (IsAudited audit) (said_of ready session commands)
+offered-audited audit true session commands = tt
+offered-audited audit false session [] = tt
+offered-audited audit false session (command ∷ commands) = (tt, offered-audited audit false session commands)
+
+said-audited : (w : World) (event : Event) → AllByRecursion (IsAudited (happens w event).server.audit) (said w event)
+said-audited w (Mutes session muted) = tt
+said-audited w Ticks = tt
+said-audited w (Submits session body) =
+    let numbers : Numbers = (w.clients session).numbers in
+    let audit : List AuditRow = (happens w (Submits session body)).server.audit in
+    cond_both (may_hand numbers) (said_of (is_ready w.server) session (next_command body numbers ∷ []))
+    (WindowFull session ∷ []) (AllByRecursion (IsAudited audit))
+    (λ _. offered-audited audit (is_ready w.server) session (next_command body numbers ∷ [])) (λ _. (tt, tt))
+said-audited w (Resends session) =
+    offered-audited (happens w (Resends session)).server.audit (is_ready w.server) session
+    (open_commands (w.clients session).numbers)
+said-audited w Writes = tt
+said-audited w Syncs = tt
+said-audited w Notices = by (is_up w)
+  where
+    by : (b : Bool) → AllByRecursion (IsAudited (cond b (tell w) w).server.audit)
+        (cond b (map Answered (printed (own_rows w.server (notice w.synced w.server)) w.clients)) [])
+    by true =
+        let now : Server = notice w.synced w.server in
+        AllByRecursion-map (IsAnswer now.audit) (IsAudited now.audit) Answered
+        (printed (own_rows w.server now) w.clients) (λ row is. is)
+        (printed-are now.audit (own_rows w.server now) w.clients (own-contained w.server now))
+    by false = tt
+said-audited w Stops = tt
+said-audited w (Finds op) = tt
+
+later-audited : (a b : List AuditRow) → IsFront a b → (shown : Shown) → IsAudited a shown → IsAudited b shown
+later-audited a b front (Answered row) is =
+    record { is_in = front-contains a b row front is.is_in; session = is.session; sender_is = is.sender_is }
+later-audited a b front (NoLeader session) is = tt
+later-audited a b front (WindowFull session) is = tt
+
+all-audited : (w : World) (events : List Event) → SoundWorld w → HasAuditedAnswers w events
+all-audited w [] sound = tt
+all-audited w (event ∷ events) sound =
+    let next : World = happens w event in
+    let final : List AuditRow = (after next events).server.audit in
+    let sound' = (follows w event sound).sound in
+    AllByRecursion-append (IsAudited final) (said w event) (all_said next events)
+    (AllByRecursion-weaker (IsAudited next.server.audit) (IsAudited final)
+    (later-audited next.server.audit final (follows-all next events sound').rows) (said w event) (said-audited w event))
+    (all-audited next events sound')
+
+pub answers-audited : (args : QueueArgs) (events : List Event) → HasAuditedAnswers (new_world args) events
+answers-audited args events = all-audited (new_world args) events (sound-world args)

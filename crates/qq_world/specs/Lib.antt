@@ -1,0 +1,5 @@
+pub mod Front
+pub mod Server
+pub mod World
+pub mod Promise
+pub mod Laws
