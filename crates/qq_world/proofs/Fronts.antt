@@ -7,6 +7,7 @@ use Rattle.qq_entry.specs.declared.command.Entry.{Entry}
 use Rattle.qq_entry.specs.declared.audit.AuditRow.{AuditRow}
 use Rattle.qq_model.specs.State.{State}
 use Rattle.qq_model.specs.Audit.{next_index, next_step, row_of, audit_of, state_after, entries_of, IsSerial}
+use Rattle.qq_session.proofs.AuditRows.{rows-append}
 use Rattle.qq_world.specs.Front.{IsFront}
 
 pub front-all : {A : Type 0} (a : List A) → IsFront a a
@@ -50,17 +51,6 @@ front-takes (suc k) (suc n) (x ∷ a) le =
     record { rest = rest.rest; is = ap (λ l. x ∷ l) rest.is }
 
 -- ---- audits
-
-pub state-append : (s : State) (xs ys : List Entry) → state_after s (xs ++ ys) ≡ state_after (state_after s xs) ys
-state-append s [] ys = refl
-state-append s (x ∷ xs) ys = state-append (next_step s x).state xs ys
-
-pub rows-append : (s : State) (xs ys : List Entry)
-    → audit_of s (xs ++ ys) ≡ audit_of s xs ++ audit_of (state_after s xs) ys
-rows-append s [] ys = refl
-rows-append s (x ∷ xs) ys =
-    ap (λ (rows : List AuditRow). row_of (next_index s) x (next_step s x) ∷ rows)
-    (rows-append (next_step s x).state xs ys)
 
 -- the entries of an audit are those that were applied
 pub entries-of_audit : (s : State) (es : List Entry) → entries_of (audit_of s es) ≡ es

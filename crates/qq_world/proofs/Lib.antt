@@ -10,3 +10,5 @@ mod Once
 mod Deeds
 mod Handed
 mod SessionLaws
+mod EachQueue
+mod Settling

@@ -95,7 +95,7 @@ later-audited a b front (Answered row) is =
 later-audited a b front (NoLeader session) is = tt
 later-audited a b front (WindowFull session) is = tt
 
-all-audited : (w : World) (events : List Event) → SoundWorld w → HasAuditedAnswers w events
+pub all-audited : (w : World) (events : List Event) → SoundWorld w → HasAuditedAnswers w events
 all-audited w [] sound = tt
 all-audited w (event ∷ events) sound =
     let next : World = happens w event in

@@ -1,0 +1,45 @@
+-- What holds of a node with several queues, whatever happens, and what its rules leave open.
+use Rattle.std.specs.Prelude.{◌≡◌, ℕ, List, [], ◌∷◌, Bool, true, false}
+use Rattle.std.specs.List.{AllByRecursion, flat_map, list_any}
+use Rattle.qq_world.specs.Laws.{world_after, IsAudited, IsConfirmedOnce}
+use Rattle.qq_world.specs.Node.{Setup, Node, NodeEvent, Sets, Alike, At, Fails, Crashes, FindsEach, Shows, SaysDown, SaysBusy, Printed, Of, Stopped, IsDown, Busy, State, new_node, node_after, parts_of, all_prints}
+
+-- each queue of a node is a queue to which its own part of the events happened
+abbrev pub HasItsQueues : Setup → List NodeEvent → Type 0
+HasItsQueues setup events =
+    (place : ℕ)
+    → (node_after (new_node setup) events).queue place ≡ world_after (setup.args place) (parts_of place events)
+
+-- what is printed as an answer at a queue is one of its audit, and what is confirmed there was published once
+abbrev pub IsTrueOf : Node → Printed → Type 0
+IsTrueOf n (Of place shown) =
+    let audit = (n.queue place).server.audit in IsAudited audit shown × IsConfirmedOnce audit shown
+IsTrueOf n _ = Unit {0}
+
+abbrev pub PrintsWhatIsTrue : Setup → List NodeEvent → Type 0
+PrintsWhatIsTrue setup events =
+    AllByRecursion (IsTrueOf (node_after (new_node setup) events)) (all_prints (new_node setup) events)
+
+-- ---- what rules leave open
+
+abbrev pub is_failure : NodeEvent → Bool
+is_failure Fails = true
+is_failure _ = false
+
+-- a call of the disk has failed
+abbrev pub has_failure : List NodeEvent → Bool
+has_failure events = list_any is_failure events
+
+abbrev pub finding : NodeEvent → List (ℕ → ℕ)
+finding (FindsEach ops) = ops ∷ []
+finding _ = []
+
+-- what restarts have found
+abbrev pub findings : List NodeEvent → List (ℕ → ℕ)
+findings events = flat_map finding events
+
+-- two lists of events that a rule allows, in neither of which the disk fails, and with the same findings, are one
+abbrev pub LeavesNoChoice : (Node → List NodeEvent → Type 0) → Node → Type 0
+LeavesNoChoice Allows n =
+    (events others : List NodeEvent) → Allows n events → Allows n others → has_failure events ≡ false
+    → has_failure others ≡ false → findings events ≡ findings others → events ≡ others
