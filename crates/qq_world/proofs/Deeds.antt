@@ -1,19 +1,16 @@
 -- A session's numbers are what it has made of them.
-use Rattle.std.proofs.Common.{◌≡◌, ◌≢◌, ◌⊎◌, ℕ, Bool, true, false, cond, not, List, [], ◌∷◌, ◌++◌, Option, Some, None, map, length, refl, sym, ap, ◌∙◌, subst, inl, inr}
-use Rattle.std.specs.Prelude.{filter, nat_eq, nat_lt}
+use Rattle.std.proofs.Common.{◌≡◌, ◌≢◌, ◌⊎◌, ℕ, Bool, true, false, cond, List, [], ◌∷◌, ◌++◌, Option, Some, None, map, length, refl, sym, ap, ◌∙◌, subst, inl, inr}
+use Rattle.std.specs.Prelude.{filter, nat_eq}
 use Rattle.std.proofs.lemmas.Bool.{false≢true, cond_both, cond-true, cond-false, eq-eqb, ne_eqb, cases_eq}
 use Rattle.qq_entry.specs.declared.audit.AuditRow.{AuditRow}
 use Rattle.qq_entry.specs.declared.command.Command.{Command}
 use Rattle.qq_entry.specs.declared.command.Unstamped.{Unstamped}
 use Rattle.qq_entry.specs.declared.queue.QueueArgs.{QueueArgs}
-use Rattle.qq_model.specs.declared.TheConstants.{WINDOW}
-use Rattle.qq_base.specs.Ids.{client}
 use Rattle.qq_script.specs.Text.{seq_of}
-use Rattle.qq_session.specs.Arriving.{Deed, Hands, Takes, after_deed}
-use Rattle.qq_session.specs.Publishing.{Numbers, new_numbers, next_command, hand, answer, open_commands}
-use Rattle.qq_world.specs.Front.{put}
-use Rattle.qq_world.specs.Laws.{take_of, is_sent_by, takes_of, deeds_at, deeds, after_deeds, CountsDeeds, world_after}
-use Rattle.qq_world.specs.Server.{Server, is_ready, notice, submit, may_restart}
+use Rattle.qq_session.specs.Arriving.{Deed, Hands, after_deed}
+use Rattle.qq_session.specs.Publishing.{Numbers, next_command, hand, answer, open_commands}
+use Rattle.qq_world.specs.Laws.{take_of, is_sent_by, takes_of, deeds_at, deeds, after_deeds, CountsDeeds}
+use Rattle.qq_world.specs.Server.{is_ready, notice, submit, may_restart}
 use Rattle.qq_world.specs.World.{World, Client, Clients, Event, Mutes, Ticks, Submits, Resends, Writes, Syncs, Notices, Stops, Finds, new_world, is_up, may_hand, sender, take_answer, hear_by, hear, hear_all, offer, offer_all, set_numbers, send, own_rows, tell, find, happens, after}
 use Rattle.qq_world.proofs.Puts.{put-each}
 

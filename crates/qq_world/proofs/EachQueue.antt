@@ -1,7 +1,6 @@
 -- Each queue of a node is a queue by itself.
-use Rattle.std.proofs.Common.{◌≡◌, ℕ, Bool, true, false, cond, List, [], ◌∷◌, ◌++◌, map, refl, sym, ap, ◌∙◌, subst}
-use Rattle.std.specs.Prelude.{nat_eq}
-use Rattle.std.specs.List.{AllByRecursion, flat_map}
+use Rattle.std.proofs.Common.{◌≡◌, ℕ, Bool, cond, List, [], ◌∷◌, ◌++◌, refl, sym, ap, ◌∙◌, subst}
+use Rattle.std.specs.List.{AllByRecursion}
 use Rattle.std.proofs.lemmas.Bool.{eq-eqb}
 use Rattle.qq_base.proofs.Lists.{AllByRecursion-append, AllByRecursion-map, AllByRecursion-weaker}
 use Rattle.qq_base.specs.declared.ids.SessionId.{SessionId}
@@ -13,10 +12,10 @@ use Rattle.qq_laws.specs.Numbers.{CountsCommands}
 use Rattle.qq_model.specs.Audit.{entries_of}
 use Rattle.qq_model.specs.Gate.{IsNumbered}
 use Rattle.qq_session.specs.Answered.{IsAnswered}
-use Rattle.qq_world.specs.Laws.{IsAudited, IsConfirmedOnce, world_after}
+use Rattle.qq_world.specs.Laws.{IsAudited, IsConfirmedOnce}
 use Rattle.qq_world.specs.Node.{Setup, Node, NodeEvent, Sets, Alike, At, Fails, Crashes, FindsEach, Shows, SaysDown, SaysBusy, Printed, Of, Stopped, IsDown, Busy, State, new_node, node_happens, node_after, part_of, parts_of, prints, all_prints}
 use Rattle.qq_world.specs.NodeLaws.{HasItsQueues, IsTrueOf, PrintsWhatIsTrue}
-use Rattle.qq_world.specs.World.{World, Event, Shown, said, after, all_said, happens}
+use Rattle.qq_world.specs.World.{World, Event, said, after, all_said, happens}
 use Rattle.qq_world.proofs.Handed.{all-front}
 use Rattle.qq_world.proofs.Lawful.{good-reached}
 use Rattle.qq_world.proofs.Once.{confirmed-once}

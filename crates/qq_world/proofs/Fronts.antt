@@ -1,12 +1,11 @@
 -- Fronts of lists, and audits of fronts.
-use Rattle.std.proofs.Common.{◌≡◌, ◌≤◌, ◌+◌, ℕ, zero, suc, List, [], ◌∷◌, ◌++◌, length, map, take, drop, refl, sym, ap, ◌∙◌, subst, append_assoc, append-nil, length-append, take-append-drop, arith}
-use Rattle.std.specs.List.{AllByRecursion, flat_map}
-use Rattle.std.proofs.lemmas.List.{map-append, take-append-le}
+use Rattle.std.proofs.Common.{◌≡◌, ◌≤◌, ℕ, zero, suc, List, [], ◌∷◌, ◌++◌, map, take, drop, refl, sym, ap, ◌∙◌, append_assoc, append-nil, take-append-drop, arith}
+use Rattle.std.specs.List.{flat_map}
+use Rattle.std.proofs.lemmas.List.{map-append}
 use Rattle.std.proofs.lemmas.Grind.{flat_map-append}
 use Rattle.qq_entry.specs.declared.command.Entry.{Entry}
-use Rattle.qq_entry.specs.declared.audit.AuditRow.{AuditRow}
 use Rattle.qq_model.specs.State.{State}
-use Rattle.qq_model.specs.Audit.{next_index, next_step, row_of, audit_of, state_after, entries_of, IsSerial}
+use Rattle.qq_model.specs.Audit.{next_step, audit_of, state_after, entries_of, IsSerial}
 use Rattle.qq_session.proofs.AuditRows.{rows-append}
 use Rattle.qq_world.specs.Front.{IsFront}
 

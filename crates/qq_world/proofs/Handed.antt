@@ -1,18 +1,16 @@
 -- Each command of a client that a server hands out was given a number by that client.
-use Rattle.std.proofs.Common.{◌≡◌, ◌+◌, ℕ, zero, suc, Bool, true, false, cond, not, ◌&&◌, List, [], ◌∷◌, ◌++◌, Option, Some, None, map, take, drop, length, refl, sym, ap, ◌∙◌, subst, inl, inr, append_assoc, append-nil, take-append-drop}
-use Rattle.std.specs.Prelude.{filter, filter_map, nat_eq, nat_lt, nat_le, Contains}
-use Rattle.std.specs.List.{AllByRecursion, flat_map}
+use Rattle.std.proofs.Common.{◌≡◌, ◌+◌, ℕ, Bool, true, false, cond, not, List, [], ◌∷◌, ◌++◌, Some, None, take, drop, length, refl, sym, ap, ◌∙◌, subst, inl, append_assoc, append-nil, take-append-drop}
+use Rattle.std.specs.Prelude.{filter_map, nat_eq, nat_lt, nat_le, Contains}
+use Rattle.std.specs.List.{AllByRecursion}
 use Rattle.std.specs.Map.{values_of}
-use Rattle.std.proofs.lemmas.Bool.{false≢true, cond_both, cond-true, eq-eqb}
-use Rattle.std.proofs.lemmas.List.Elements.{Contains-append_left, Contains-append_right, All-from_recursion}
+use Rattle.std.proofs.lemmas.Bool.{cond_both, eq-eqb}
+use Rattle.std.proofs.lemmas.List.Elements.{Contains-append_left, All-from_recursion}
 use Rattle.std.proofs.lemmas.Grind.{flat_map-append}
 use Rattle.qq_base.proofs.Lists.{AllByRecursion-append, AllByRecursion-filter, AllByRecursion-weaker}
 use Rattle.qq_base.specs.declared.ids.QueueId.{QueueId}
 use Rattle.qq_base.specs.declared.ids.SessionId.{SessionId}
 use Rattle.qq_base.specs.declared.ids.Term.{Term}
 use Rattle.qq_base.specs.Ids.{client}
-use Rattle.qq_entry.specs.declared.answer.Answer.{Answer}
-use Rattle.qq_entry.specs.declared.audit.AuditRow.{AuditRow}
 use Rattle.qq_entry.specs.declared.command.Command.{Command}
 use Rattle.qq_entry.specs.declared.command.Command.TheVariants.{Noop}
 use Rattle.qq_entry.specs.declared.command.Entry.{Entry}
@@ -20,18 +18,15 @@ use Rattle.qq_entry.specs.declared.command.Stamp.{Stamp}
 use Rattle.qq_entry.specs.declared.command.Unstamped.{Unstamped}
 use Rattle.qq_entry.specs.declared.queue.QueueArgs.{QueueArgs}
 use Rattle.qq_entry.specs.Command.{stamp}
-use Rattle.qq_laws.specs.Always.{queue_audit}
 use Rattle.qq_log.specs.declared.op.Op.{Op}
 use Rattle.qq_model.specs.Audit.{entries_of}
-use Rattle.qq_model.specs.Gate.{IsNumbered}
 use Rattle.qq_model.specs.declared.TheConstants.{WINDOW}
 use Rattle.qq_session.specs.Arriving.{Deed, Hands, Takes, after_deed, handed_by, handed, WasHanded, fresh_command, ArriveInOrder}
-use Rattle.qq_session.specs.Publishing.{OpenCommand, Numbers, new_numbers, next_stamp, next_command, hand, closes, answer, without, open_commands}
+use Rattle.qq_session.specs.Publishing.{OpenCommand, Numbers, new_numbers, next_stamp, next_command, hand, closes, without, open_commands}
 use Rattle.qq_session.proofs.AuditRows.{Contains-middle}
 use Rattle.qq_session.proofs.NumberingLemmas.{stamped-stamp}
-use Rattle.qq_world.specs.Front.{IsFront}
 use Rattle.qq_world.specs.Laws.{deeds_at, deeds, after_deeds, commands_of, CarriesOutInOrder, world_after}
-use Rattle.qq_world.specs.Server.{Server, Role, Down, Follower, Candidate, Leader, entries_in, log_of, next_op, hand_out, stand, tick_by, tick, entry_of, lead, apply, go_on, notice, submit, stop, restart, is_ready, may_restart}
+use Rattle.qq_world.specs.Server.{Server, Role, Down, Follower, Candidate, Leader, entries_in, log_of, next_op, stand, tick_by, tick, entry_of, lead, go_on, notice, submit, is_ready, may_restart}
 use Rattle.qq_world.specs.World.{World, Event, Mutes, Ticks, Submits, Resends, Writes, Syncs, Notices, Stops, Finds, new_world, is_up, may_hand, offer, offer_all, set_numbers, send, tell, find, happens, after}
 use Rattle.qq_world.proofs.Deeds.{deeds-append, event-numbers}
 use Rattle.qq_world.proofs.Lawful.{good-reached}

@@ -1,27 +1,23 @@
 -- The laws of the audit and of the log.
-use Rattle.std.proofs.Common.{◌≡◌, ◌≤◌, ◌+◌, ℕ, List, [], ◌∷◌, ◌++◌, Bool, true, false, cond, not, ◌&&◌, Option, Some, None, length, map, take, drop, refl, sym, ap, ◌∙◌, subst, arith}
-use Rattle.std.specs.Prelude.{filter, nat_le, nat_eq, Contains}
-use Rattle.std.specs.List.{AllByRecursion}
-use Rattle.std.proofs.lemmas.Bool.{cond_both, and_parts, and_from, le-leb, leb-true}
-use Rattle.std.proofs.lemmas.List.{length-take-le}
-use Rattle.std.proofs.lemmas.List.Elements.{Contains-append_left}
-use Rattle.qq_base.proofs.Lists.{AllByRecursion-append, AllByRecursion-map, AllByRecursion-weaker}
+use Rattle.std.proofs.Common.{◌≡◌, ◌≤◌, ℕ, List, ◌&&◌, Option, Some, length, take, sym, ap, ◌∙◌, subst, arith}
+use Rattle.std.specs.Prelude.{nat_le}
+use Rattle.std.proofs.lemmas.Bool.{and_parts, and_from, le-leb, leb-true}
+use Rattle.std.proofs.lemmas.List.{length-append, length-take-le, take-append-le}
 use Rattle.qq_entry.specs.declared.audit.AuditRow.{AuditRow}
 use Rattle.qq_entry.specs.declared.queue.QueueArgs.{QueueArgs}
 use Rattle.qq_laws.specs.Always.{queue_audit}
 use Rattle.qq_log.specs.declared.op.Op.{Op}
 use Rattle.qq_log.specs.Stable.{Stable, stable}
-use Rattle.qq_model.specs.Audit.{IsSerial, audit_of, entries_of}
+use Rattle.qq_model.specs.Audit.{IsSerial, entries_of}
 use Rattle.qq_model.specs.State.{empty_queue}
 use Rattle.qq_world.specs.Front.{IsFront}
 use Rattle.qq_world.specs.Laws.{world_after, HasSerialAudit, KeepsAudit, CountsRise, HandsSoundOps, HasAppliedWhereReady, HoldsWhatIsPromised, TakesUpWhatIsPromised}
-use Rattle.qq_world.specs.Promise.{ComesTo, HoldsAudit, Promises, Supports, state_of}
-use Rattle.qq_world.specs.Server.{Server, entries_in, is_down, is_leader_in, is_ready, log_of, may_restart, notice}
-use Rattle.qq_world.specs.World.{World, Event, new_world, after}
-use Rattle.qq_world.proofs.Fronts.{front-all, front-front, front-map, front-flat_map, front-takes, front-take, audit-serial}
-use Rattle.qq_world.proofs.Moves.{Good, Sound}
-use Rattle.qq_world.proofs.Ops.{sound-whole}
-use Rattle.qq_world.proofs.Worlds.{SoundWorld, Follows, follows-all, reached}
+use Rattle.qq_world.specs.Promise.{ComesTo, HoldsAudit, IsPromised, Promises, Supports, state_of}
+use Rattle.qq_world.specs.Server.{Server, entries_in, is_down, is_leader_in, log_of}
+use Rattle.qq_world.specs.World.{Event}
+use Rattle.qq_world.proofs.Fronts.{front-front, front-map, front-flat_map, front-takes, audit-serial}
+use Rattle.qq_world.proofs.Moves.{Good}
+use Rattle.qq_world.proofs.Worlds.{follows-all, reached}
 
 -- the server of a reached world, with the arguments that it began with
 pub good-reached : (args : QueueArgs) (events : List Event)
@@ -60,7 +56,20 @@ applied-where_ready args events ready =
     to.sound.server.applied parts.0 (leb-true s.since s.noticed parts.1)
     ∙ ap (λ (a : QueueArgs). queue_audit a (log_of (take s.noticed s.ops))) to.args_is
 
--- what some of the ops come to has what is noticed of them
+-- so many of a first part of a list are so many of the whole
+take-front : {A : Type 0} (k : ℕ) (a b : List A) → IsFront a b → k ≤ length a → take k a ≡ take k b
+take-front k a b front le = sym (take-append-le k a front.rest le) ∙ ap (take k) (sym front.is)
+
+-- what is promised of an image is what so many of the server's ops come to
+comes-to : (s : Server) (lane : Option Stable) → IsPromised s lane → ComesTo s.noticed s.ops lane
+comes-to s lane it = record {
+  count = it.comes.count;
+  least = omega (arith, it.noticed, it.comes.least);
+  most = omega (arith, it.comes.most, ap length it.front.is, length-append it.given it.front.rest);
+  is = it.comes.is ∙ ap stable (take-front it.comes.count it.given s.ops it.front it.comes.most);
+}
+
+-- and has what is noticed of them
 holds-good : (args : QueueArgs) (ops : List Op) (noticed : ℕ) (audit : List AuditRow) → Good args ops noticed audit
     → (lane : Option Stable) → ComesTo noticed ops lane → HoldsAudit audit lane
 holds-good args ops noticed audit good lane comes = record {
@@ -73,28 +82,28 @@ holds-good args ops noticed audit good lane comes = record {
 }
 
 pub holds-promised : (args : QueueArgs) (events : List Event) → HoldsWhatIsPromised (world_after args events)
-holds-promised args events lane comes =
+holds-promised args events lane it =
     let s : Server = (world_after args events).server in
-    holds-good args s.ops s.noticed s.audit (good-reached args events) lane comes
+    holds-good args s.ops s.noticed s.audit (good-reached args events) lane (comes-to s lane it)
 
 -- so for whatever recovery may give
 pub promise-supports : (args : QueueArgs) (events : List Event) (Gives : Option Stable → Type 0)
-    → Promises Gives (world_after args events).server.noticed (world_after args events).server.ops
-    → Supports Gives (world_after args events).server.audit
+    → Promises Gives (world_after args events).server → Supports Gives (world_after args events).server.audit
 promise-supports args events Gives promised lane gives = holds-promised args events lane (promised lane gives)
 
 pub takes-up : (args : QueueArgs) (events : List Event) → TakesUpWhatIsPromised (world_after args events)
-takes-up args events state down comes =
+takes-up args events lane down it =
     let s : Server = (world_after args events).server in
     let good = good-reached args events in
-    let same : Some state ≡ Some (state_of (take comes.count s.ops)) = comes.is ∙ good.states comes.count in
-    let is : state ≡ state_of (take comes.count s.ops) = cc in
-    let op_is : state.op ≡ comes.count =
+    let comes : ComesTo s.noticed s.ops (Some lane) = comes-to s (Some lane) it in
+    let same : Some lane ≡ Some (state_of (take comes.count s.ops)) = comes.is ∙ good.states comes.count in
+    let is : lane ≡ state_of (take comes.count s.ops) = cc in
+    let op_is : lane.op ≡ comes.count =
     ap (λ (t : Stable). t.op) is ∙ length-take-le comes.count s.ops comes.most in
-    let least : s.noticed ≤ state.op = omega (arith, op_is, comes.least) in
-    let most : state.op ≤ length s.ops = omega (arith, op_is, comes.most) in (
-      and_from (is_down s && nat_le s.noticed state.op) (nat_le state.op (length s.ops))
-          (and_from (is_down s) (nat_le s.noticed state.op) down (le-leb s.noticed state.op least))
-          (le-leb state.op (length s.ops) most),
+    let least : s.noticed ≤ lane.op = omega (arith, op_is, comes.least) in
+    let most : lane.op ≤ length s.ops = omega (arith, op_is, comes.most) in (
+      and_from (is_down s && nat_le s.noticed lane.op) (nat_le lane.op (length s.ops))
+          (and_from (is_down s) (nat_le s.noticed lane.op) down (le-leb s.noticed lane.op least))
+          (le-leb lane.op (length s.ops) most),
       ap (λ (k : ℕ). stable (take k s.ops)) op_is ∙ sym comes.is,
     )

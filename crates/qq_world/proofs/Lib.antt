@@ -12,3 +12,7 @@ mod Handed
 mod SessionLaws
 mod EachQueue
 mod Settling
+mod Leading
+mod Serving
+mod Worked
+mod Stopping

@@ -1,5 +1,5 @@
 -- What each move of a server keeps.
-use Rattle.std.proofs.Common.{◌≡◌, ◌≤◌, ◌<◌, ◌+◌, ℕ, List, [], ◌∷◌, ◌++◌, Bool, true, false, cond, ◌&&◌, Option, Some, None, length, take, refl, sym, ap, ◌∙◌, subst, length-append, arith}
+use Rattle.std.proofs.Common.{◌≡◌, ◌≤◌, ◌+◌, ℕ, List, [], ◌∷◌, ◌++◌, Bool, true, false, Option, Some, length, take, refl, sym, ap, ◌∙◌, subst, length-append, arith}
 use Rattle.std.specs.Prelude.{nat_le}
 use Rattle.std.proofs.lemmas.Bool.{false≢true, le-leb}
 use Rattle.std.proofs.lemmas.List.{take-append-le, length-take-le}
@@ -16,7 +16,7 @@ use Rattle.qq_log.specs.declared.op.Op.{Op}
 use Rattle.qq_model.specs.Audit.{audit_of, entries_of}
 use Rattle.qq_model.specs.State.{empty_queue}
 use Rattle.qq_world.specs.Front.{IsFront}
-use Rattle.qq_world.specs.Server.{Server, new_server, Role, Down, Follower, Candidate, Leader, entries_in, log_of, term_after, term_of, is_leader_in, node, next_op, hand_out, stand, tick_by, tick, entry_of, lead, apply, go_on, notice, submit, stop, restart}
+use Rattle.qq_world.specs.Server.{Server, new_server, Role, Down, Follower, Candidate, Leader, entries_in, log_of, term_after, term_of, is_leader_in, node, stand, tick_by, tick, entry_of, lead, go_on, notice, submit, stop, restart}
 use Rattle.qq_world.proofs.Fronts.{front-all, front-front, front-takes, front-flat_map, entries-of_audit, audit-front}
 use Rattle.qq_world.proofs.Ops.{adding, AreSound, sound-none, sound-more, sound-front, take-all}
 

@@ -1,13 +1,11 @@
 -- What is printed as confirmed was carried out once.
-use Rattle.std.proofs.Common.{◌≡◌, ◌+◌, ◌<◌, ◌⊎◌, ℕ, zero, suc, Bool, true, false, cond, List, [], ◌∷◌, ◌++◌, Option, Some, None, length, refl, sym, ap, ◌∙◌, subst, inl, inr, append_assoc, length-append, arith}
+use Rattle.std.proofs.Common.{◌≡◌, ◌+◌, ◌⊎◌, ℕ, zero, suc, Bool, true, false, cond, List, [], ◌∷◌, ◌++◌, Option, Some, None, length, refl, sym, ap, ◌∙◌, subst, inl, inr, append_assoc, length-append, arith}
 use Rattle.std.specs.Prelude.{filter_map, slice_get, Contains}
-use Rattle.std.specs.List.{AllByRecursion, cons_option}
+use Rattle.std.specs.List.{cons_option}
 use Rattle.std.proofs.lemmas.Bool.{false≢true, cond-true, cond_both}
 use Rattle.std.proofs.lemmas.Option.{slice_get_read}
-use Rattle.qq_base.proofs.Lists.{AllByRecursion-weaker}
 use Rattle.qq_base.specs.declared.ids.SessionId.{SessionId}
 use Rattle.qq_base.specs.Ids.{client, same_session}
-use Rattle.qq_entry.specs.declared.answer.Answer.{Answer}
 use Rattle.qq_entry.specs.declared.answer.Answer.TheVariants.{Confirmed}
 use Rattle.qq_entry.specs.declared.audit.AuditRow.{AuditRow}
 use Rattle.qq_entry.specs.declared.command.Command.{Command}
@@ -19,7 +17,7 @@ use Rattle.qq_entry.specs.Command.{stamp}
 use Rattle.qq_laws.specs.Always.{queue_audit}
 use Rattle.qq_laws.specs.Numbers.{CountsCommands, fresh_number, number_of}
 use Rattle.qq_laws.specs.Published.{is_confirmed}
-use Rattle.qq_model.specs.Audit.{next_index, next_step, state_after, row_of}
+use Rattle.qq_model.specs.Audit.{state_after}
 use Rattle.qq_model.specs.Gate.{IsNumbered}
 use Rattle.qq_model.specs.State.{State, empty_queue}
 use Rattle.qq_model.proofs.SessionLemmas.{same_session-true, same_session-refl}

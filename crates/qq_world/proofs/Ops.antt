@@ -1,7 +1,6 @@
 -- What a server's ops come to.
-use Rattle.std.proofs.Common.{◌≡◌, ◌≤◌, ◌<◌, ◌+◌, ◌-◌, ◌⊎◌, ℕ, zero, suc, List, [], ◌∷◌, ◌++◌, Bool, true, false, cond, ◌&&◌, Option, Some, None, length, map, take, drop, refl, sym, ap, ◌∙◌, subst, inl, inr, append-nil, length-append, arith, eqb}
-use Rattle.std.specs.Prelude.{fold, nat_le}
-use Rattle.std.specs.List.{flat_map}
+use Rattle.std.proofs.Common.{◌≡◌, ◌≤◌, ◌<◌, ◌+◌, ◌-◌, ◌⊎◌, ℕ, zero, suc, List, [], ◌∷◌, ◌++◌, Bool, true, cond, ◌&&◌, Option, Some, None, length, map, take, refl, sym, ap, ◌∙◌, subst, inl, inr, append-nil, length-append, arith, eqb}
+use Rattle.std.specs.Prelude.{nat_le}
 use Rattle.std.proofs.lemmas.Bool.{cond-true, eq-eqb, le-leb, cases_lt}
 use Rattle.std.proofs.lemmas.List.{map-append, length-map, take-append-le}
 use Rattle.std.proofs.lemmas.List.Sums.{fold-append}
@@ -11,8 +10,8 @@ use Rattle.qq_base.specs.declared.ids.QueueId.{QueueId}
 use Rattle.qq_base.specs.declared.ids.Term.{Term}
 use Rattle.qq_entry.specs.declared.command.Entry.{Entry}
 use Rattle.qq_log.specs.declared.op.Op.{Op}
-use Rattle.qq_log.specs.declared.op.Op.TheVariants.{Change, SnapshotMade, SegmentMade}
-use Rattle.qq_log.specs.Stable.{Stable, no_snapshot, new_state, stable, apply_op, then_apply, act, follows, may_keep, change, last_index}
+use Rattle.qq_log.specs.declared.op.Op.TheVariants.{Change}
+use Rattle.qq_log.specs.Stable.{Stable, no_snapshot, new_state, stable, apply_op, then_apply, change}
 use Rattle.qq_world.specs.Server.{entries_in, log_of, term_after, term_of}
 use Rattle.qq_world.specs.Promise.{vote_after, vote_of, state_of}
 

@@ -1,6 +1,6 @@
 -- What is printed as an answer is a row of the audit.
-use Rattle.std.proofs.Common.{◌≡◌, ℕ, zero, suc, Bool, true, false, cond, not, ◌&&◌, List, [], ◌∷◌, ◌++◌, Option, Some, None, length, map, drop, refl, sym, ap, ◌∙◌, subst}
-use Rattle.std.specs.Prelude.{filter, nat_eq, Contains}
+use Rattle.std.proofs.Common.{◌≡◌, ℕ, zero, suc, Bool, true, false, cond, List, [], ◌∷◌, Option, Some, None, length, map, drop, refl, sym, subst}
+use Rattle.std.specs.Prelude.{nat_eq, Contains}
 use Rattle.std.specs.List.{AllByRecursion}
 use Rattle.std.proofs.lemmas.Bool.{false≢true, cond_both}
 use Rattle.std.proofs.lemmas.List.Elements.{Contains-append_left, Contains-append_right}
@@ -11,7 +11,7 @@ use Rattle.qq_entry.specs.declared.queue.QueueArgs.{QueueArgs}
 use Rattle.qq_session.proofs.AuditRows.{Contains-middle}
 use Rattle.qq_session.specs.Publishing.{Numbers, next_command, open_commands}
 use Rattle.qq_world.specs.Front.{IsFront}
-use Rattle.qq_world.specs.Laws.{IsAnswer, IsAudited, HasAuditedAnswers, world_after}
+use Rattle.qq_world.specs.Laws.{IsAnswer, IsAudited, HasAuditedAnswers}
 use Rattle.qq_world.specs.Server.{Server, is_ready, notice}
 use Rattle.qq_world.specs.World.{World, Clients, Event, Mutes, Ticks, Submits, Resends, Writes, Syncs, Notices, Stops, Finds, Shown, Answered, NoLeader, WindowFull, new_world, is_up, may_hand, sender, hear, is_printed_by, is_printed, printed, own_rows, tell, happens, said_of, said, after, all_said}
 use Rattle.qq_world.proofs.Worlds.{SoundWorld, follows, follows-all, sound-world}

@@ -1,6 +1,5 @@
 -- The laws of sessions, of the audit of a reached world.
-use Rattle.std.proofs.Common.{◌≡◌, ℕ, List, sym, subst, inl, refl}
-use Rattle.std.specs.List.{AllByRecursion}
+use Rattle.std.proofs.Common.{ℕ, List, sym, subst, inl, refl}
 use Rattle.qq_base.proofs.Lists.{AllByRecursion-weaker}
 use Rattle.qq_base.specs.declared.ids.SessionId.{SessionId}
 use Rattle.qq_base.specs.Ids.{client}
@@ -13,7 +12,7 @@ use Rattle.qq_model.specs.Audit.{entries_of}
 use Rattle.qq_model.specs.Gate.{IsNumbered}
 use Rattle.qq_session.specs.Answered.{IsAnswered}
 use Rattle.qq_world.specs.Laws.{IsAudited, IsConfirmedOnce, ConfirmsOnce, world_after}
-use Rattle.qq_world.specs.World.{Event, Shown, new_world, all_said}
+use Rattle.qq_world.specs.World.{Event, new_world, all_said}
 use Rattle.qq_world.proofs.Lawful.{good-reached}
 use Rattle.qq_world.proofs.Once.{confirmed-once}
 use Rattle.qq_world.proofs.Printed.{answers-audited}

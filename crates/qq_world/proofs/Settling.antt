@@ -1,14 +1,12 @@
 -- Where the disk doesn't fail, the rules leave no choice but what a restart found.
-use Rattle.std.proofs.Common.{◌≡◌, ◌⊎◌, ℕ, zero, suc, Bool, true, false, ◌||◌, ◌&&◌, not, List, [], ◌∷◌, ◌++◌, refl, sym, ap, ◌∙◌, subst, inl, inr, append_assoc, append-nil}
-use Rattle.std.specs.Prelude.{nat_eq}
-use Rattle.std.specs.List.{flat_map, list_any}
+use Rattle.std.proofs.Common.{◌≡◌, ◌⊎◌, ℕ, zero, suc, Bool, true, false, ◌&&◌, List, [], ◌∷◌, ◌++◌, sym, ap, ◌∙◌, subst, inl, inr, append_assoc}
 use Rattle.std.proofs.lemmas.Bool.{false≢true, or_parts}
 use Rattle.std.proofs.lemmas.Grind.{flat_map-append}
 use Rattle.std.proofs.lemmas.List.Folds.{list_any-append}
 use Rattle.qq_world.specs.Node.{Setup, Node, NodeEvent, Sets, Alike, At, Fails, Crashes, FindsEach, Shows, SaysDown, SaysBusy, new_node, node_after}
 use Rattle.qq_world.specs.NodeLaws.{is_failure, has_failure, finding, findings, LeavesNoChoice}
-use Rattle.qq_world.specs.Rules.{IsNothing, Is, Then, if_so, ForEach, OrFails, is_node_up, waits_written, waits_synced, waits_noticed, some_queue, IsWrite, MayRoll, IsSynced, IsSync, IsNotice, IsRound, is_settled, is_idle, Pumps, most_rounds, IsPump, IsPumped, Line, Nothing, Send, Resend, Mute, Auto, Pump, Write, Sync, Notice, Tick, Crash, Restart, Show, WhereUp, FindsLanes, IsRestart, IsLine, IsOpening, IsScript, IsRun}
-use Rattle.qq_world.specs.World.{World, Mutes, Ticks, Submits, Resends, Writes, Syncs, Notices}
+use Rattle.qq_world.specs.Rules.{IsNothing, Is, Then, if_so, ForEach, OrFails, is_node_up, waits_written, waits_synced, waits_noticed, some_queue, IsWrite, MayRoll, IsSynced, IsSync, IsNotice, IsRound, is_idle, Pumps, most_rounds, IsPump, IsPumped, Line, Nothing, Send, Resend, Mute, Auto, Pump, Write, Sync, Notice, Tick, Crash, Restart, Show, WhereUp, FindsLanes, IsRestart, IsLine, IsOpening, IsScript, IsRun}
+use Rattle.qq_world.specs.World.{Mutes, Ticks, Submits, Resends, Writes, Syncs, Notices}
 
 -- whatever is found behind them
 abbrev Settles : (Node → List NodeEvent → Type 0) → Node → Type 0

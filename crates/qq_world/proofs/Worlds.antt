@@ -1,17 +1,15 @@
 -- What each event keeps.
-use Rattle.std.proofs.Common.{◌≡◌, ◌≤◌, ◌+◌, ℕ, List, [], ◌∷◌, ◌++◌, Bool, true, false, cond, not, ◌&&◌, Option, Some, None, length, take, refl, sym, ap, ◌∙◌, subst, length-append, arith}
-use Rattle.std.specs.Prelude.{nat_le, nat_eq, nat_lt}
+use Rattle.std.proofs.Common.{◌≡◌, ◌≤◌, ℕ, List, [], ◌∷◌, ◌++◌, ◌&&◌, length, refl, ◌∙◌, arith}
+use Rattle.std.specs.Prelude.{nat_le}
 use Rattle.std.proofs.lemmas.Bool.{cond_both, and_parts, leb-true}
 use Rattle.std.proofs.lemmas.List.{length-take-le}
-use Rattle.qq_entry.specs.declared.audit.AuditRow.{AuditRow}
 use Rattle.qq_entry.specs.declared.command.Command.{Command}
 use Rattle.qq_entry.specs.declared.queue.QueueArgs.{QueueArgs}
-use Rattle.qq_log.specs.declared.op.Op.{Op}
 use Rattle.qq_session.specs.Publishing.{Numbers, next_command, hand, open_commands}
 use Rattle.qq_world.specs.Front.{IsFront, put}
 use Rattle.qq_world.specs.Laws.{CountsRise, world_after}
-use Rattle.qq_world.specs.Server.{Server, is_down, is_ready, tick, notice, submit, stop, restart, may_restart}
-use Rattle.qq_world.specs.World.{World, Clients, Event, Mutes, Ticks, Submits, Resends, Writes, Syncs, Notices, Stops, Finds, new_world, is_up, may_hand, offer, offer_all, set_numbers, send, tell, find, happens, after}
+use Rattle.qq_world.specs.Server.{Server, is_down, is_ready, tick, notice, submit, stop, may_restart}
+use Rattle.qq_world.specs.World.{World, Clients, Event, Mutes, Ticks, Submits, Resends, Writes, Syncs, Notices, Stops, Finds, new_world, is_up, may_hand, offer, offer_all, set_numbers, tell, find, happens, after}
 use Rattle.qq_world.proofs.Fronts.{front-all, front-front}
 use Rattle.qq_world.proofs.Moves.{Sound, Moves, moves-stop, moves-tick, moves-submit, moves-notice, sound-restart, sound-new}
 

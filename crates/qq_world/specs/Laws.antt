@@ -1,5 +1,5 @@
 -- What holds of a queue's world, whatever happens.
-use Rattle.std.specs.Prelude.{◌≡◌, ◌≢◌, ◌≤◌, ℕ, List, [], ◌∷◌, ◌++◌, Bool, true, false, not, ◌&&◌, Option, Some, None, length, map, filter, filter_map, take, nat_eq, Contains, if◌then◌else◌}
+use Rattle.std.specs.Prelude.{◌≡◌, ◌≤◌, ◌<◌, ℕ, List, [], ◌∷◌, ◌++◌, Bool, true, false, Option, Some, None, length, map, filter, filter_map, take, nat_eq, Contains, if◌then◌else◌}
 use Rattle.std.specs.List.{AllByRecursion}
 use Rattle.qq_base.specs.Ids.{client}
 use Rattle.qq_base.specs.declared.ids.SessionId.{SessionId}
@@ -8,22 +8,23 @@ use Rattle.qq_entry.specs.declared.audit.AuditRow.{AuditRow}
 use Rattle.qq_entry.specs.declared.command.Command.{Command}
 use Rattle.qq_entry.specs.declared.command.Command.TheVariants.{Enqueue}
 use Rattle.qq_entry.specs.declared.command.Stamp.{Stamp}
+use Rattle.qq_entry.specs.declared.command.Unstamped.{Unstamped}
 use Rattle.qq_entry.specs.declared.message.Message.{Message}
 use Rattle.qq_entry.specs.declared.message.Origin.{Origin}
 use Rattle.qq_entry.specs.declared.queue.QueueArgs.{QueueArgs}
 use Rattle.qq_entry.specs.Command.{stamp}
 use Rattle.qq_laws.specs.Always.{queue_audit}
 use Rattle.qq_log.specs.Stable.{Stable, stable}
+use Rattle.qq_model.specs.declared.TheConstants.{WINDOW}
 use Rattle.qq_model.specs.Audit.{IsSerial}
 use Rattle.qq_model.specs.State.{empty_queue}
 use Rattle.qq_script.specs.Text.{seq_of}
-use Rattle.qq_session.specs.Answered.{IsAnswered}
 use Rattle.qq_session.specs.Arriving.{Deed, Hands, Takes, after_deed, handed, fresh_command}
-use Rattle.qq_session.specs.Publishing.{Numbers, new_numbers}
+use Rattle.qq_session.specs.Publishing.{Numbers, new_numbers, next_command, hand, open_commands}
 use Rattle.qq_world.specs.Front.{IsFront, ExactlyOne}
-use Rattle.qq_world.specs.Promise.{ComesTo, HoldsAudit, state_of}
-use Rattle.qq_world.specs.Server.{Server, is_down, is_ready, log_of, may_restart, notice}
-use Rattle.qq_world.specs.World.{World, Client, Clients, Event, Mutes, Ticks, Submits, Resends, Writes, Syncs, Notices, Stops, Finds, Shown, Answered, NoLeader, WindowFull, new_world, is_up, sender, own_rows, happens, after, all_said}
+use Rattle.qq_world.specs.Promise.{HoldsAudit, IsPromised, MayTakeUp, state_of}
+use Rattle.qq_world.specs.Server.{Server, is_down, is_ready, log_of, notice, submit}
+use Rattle.qq_world.specs.World.{World, Clients, Event, Submits, Resends, Notices, Shown, Answered, NoLeader, WindowFull, new_world, is_up, sender, own_rows, happens, said, after, all_said}
 
 -- a world that may be reached
 abbrev pub world_after : QueueArgs → List Event → World
@@ -138,13 +139,46 @@ abbrev pub HasAppliedWhereReady : QueueArgs → Server → Type 0
 HasAppliedWhereReady args s =
     is_ready s ≡ true → s.audit ≡ queue_audit args (log_of (take s.noticed s.ops))
 
--- What the log promises of what was noticed holds the audit.
+-- what the log promises of a queue has its audit
 abbrev pub HoldsWhatIsPromised : World → Type 0
 HoldsWhatIsPromised w =
-    (lane : Option Stable) → ComesTo w.server.noticed w.server.ops lane → HoldsAudit w.server.audit lane
+    (lane : Option Stable) → IsPromised w.server lane → HoldsAudit w.server.audit lane
 
--- a restart may take up whatever the log has promised, and knows by its number what it is
+-- and a restart may take it up
 abbrev pub TakesUpWhatIsPromised : World → Type 0
 TakesUpWhatIsPromised w =
-    (state : Stable) → is_down w.server ≡ true → ComesTo w.server.noticed w.server.ops (Some state)
-    → (may_restart state.op w.server ≡ true) × (stable (take state.op w.server.ops) ≡ Some state)
+    (lane : Stable) → is_down w.server ≡ true → IsPromised w.server (Some lane) → MayTakeUp w.server lane
+
+-- ---- who takes commands
+
+-- a command that gets a number goes to a leader that is ready, as the last of its ops; without one it is told so
+pub record ReachesLeader (session : ℕ) (body : Unstamped) (w : World) : Type 0 where
+  pub opened : ((happens w (Submits session body)).clients session).numbers
+      ≡ hand body (w.clients session).numbers
+  pub ready : is_ready w.server ≡ true
+      → (happens w (Submits session body)).server
+      ≡ submit (next_command body (w.clients session).numbers) w.server
+  pub silent : is_ready w.server ≡ true → said w (Submits session body) ≡ []
+  pub lost : is_ready w.server ≡ false → (happens w (Submits session body)).server ≡ w.server
+  pub told : is_ready w.server ≡ false → said w (Submits session body) ≡ NoLeader session ∷ []
+
+-- a session whose window is full gets no number
+pub record FindsFullWindow (session : ℕ) (body : Unstamped) (w : World) : Type 0 where
+  pub same : happens w (Submits session body) ≡ w
+  pub told : said w (Submits session body) ≡ WindowFull session ∷ []
+
+abbrev pub SendsToLeader : ℕ → Unstamped → World → Type 0
+SendsToLeader session body w =
+    ((length (w.clients session).numbers.opened < WINDOW) → ReachesLeader session body w)
+    × ((WINDOW ≤ length (w.clients session).numbers.opened) → FindsFullWindow session body w)
+
+-- where no leader is ready each command that is sent again is told so, and nothing else happens
+pub record FindsNoLeader (session : ℕ) (w : World) : Type 0 where
+  pub same : happens w (Resends session) ≡ w
+  pub told : said w (Resends session)
+      ≡ map (λ (c : Command). NoLeader session) (open_commands (w.clients session).numbers)
+
+abbrev pub ResendsToLeader : ℕ → World → Type 0
+ResendsToLeader session w =
+    (is_ready w.server ≡ false → FindsNoLeader session w)
+    × (is_ready w.server ≡ true → said w (Resends session) ≡ [])

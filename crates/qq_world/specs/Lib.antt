@@ -6,3 +6,5 @@ pub mod Laws
 pub mod Node
 pub mod Rules
 pub mod NodeLaws
+pub mod Endings
+pub mod Example

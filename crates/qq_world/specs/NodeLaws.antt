@@ -2,7 +2,8 @@
 use Rattle.std.specs.Prelude.{◌≡◌, ℕ, List, [], ◌∷◌, Bool, true, false}
 use Rattle.std.specs.List.{AllByRecursion, flat_map, list_any}
 use Rattle.qq_world.specs.Laws.{world_after, IsAudited, IsConfirmedOnce}
-use Rattle.qq_world.specs.Node.{Setup, Node, NodeEvent, Sets, Alike, At, Fails, Crashes, FindsEach, Shows, SaysDown, SaysBusy, Printed, Of, Stopped, IsDown, Busy, State, new_node, node_after, parts_of, all_prints}
+use Rattle.qq_world.specs.Node.{Setup, Node, NodeEvent, Fails, FindsEach, SaysDown, Printed, Of, new_node, node_after, parts_of, all_prints}
+use Rattle.qq_world.specs.Rules.{Line, Pump, Write, Sync, Notice, Tick, is_node_up, is_idle, IsLine, IsRun}
 
 -- each queue of a node is a queue to which its own part of the events happened
 abbrev pub HasItsQueues : Setup → List NodeEvent → Type 0
@@ -43,3 +44,26 @@ abbrev pub LeavesNoChoice : (Node → List NodeEvent → Type 0) → Node → Ty
 LeavesNoChoice Allows n =
     (events others : List NodeEvent) → Allows n events → Allows n others → has_failure events ≡ false
     → has_failure others ≡ false → findings events ≡ findings others → events ≡ others
+
+-- a script may be served to its end with no failure of the disk
+pub record MayBeServed (setup : Setup) (lines : List Line) : Type 0 where
+  pub events : List NodeEvent
+  pub is : IsRun setup lines (new_node setup) events
+  pub fine : has_failure events ≡ false
+
+-- a line does this alone, where the node is stopped
+abbrev pub DoesWhereStopped : Setup → Line → NodeEvent → Node → Type 0
+DoesWhereStopped setup line event n =
+    is_node_up setup n ≡ false → (events : List NodeEvent) → IsLine setup line n events → events ≡ event ∷ []
+
+-- lines for a node that is stopped say so, and do nothing
+pub record SaysItIsDown (setup : Setup) (n : Node) : Type 0 where
+  pub write : DoesWhereStopped setup Write SaysDown n
+  pub sync : DoesWhereStopped setup Sync SaysDown n
+  pub notice : (place : ℕ) → DoesWhereStopped setup (Notice place) SaysDown n
+  pub tick : (place : ℕ) → DoesWhereStopped setup (Tick place) SaysDown n
+
+-- a pump with nothing to do makes no round
+abbrev pub MakesNoRound : Setup → Node → Type 0
+MakesNoRound setup n =
+    is_idle setup n ≡ true → (events : List NodeEvent) → IsLine setup Pump n events → events ≡ []

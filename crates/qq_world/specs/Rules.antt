@@ -6,7 +6,7 @@ use Rattle.qq_disk.specs.declared.image.Image.{Image}
 use Rattle.qq_entry.specs.declared.command.Unstamped.{Unstamped}
 use Rattle.qq_world.specs.Server.{may_restart}
 use Rattle.qq_world.specs.World.{World, Mutes, Ticks, Submits, Resends, Writes, Syncs, Notices, is_up}
-use Rattle.qq_world.specs.Node.{Setup, Node, NodeEvent, Sets, Alike, At, Fails, Crashes, FindsEach, Shows, SaysDown, SaysBusy, node_happens, node_after}
+use Rattle.qq_world.specs.Node.{Setup, Node, NodeEvent, Sets, Alike, At, Fails, Crashes, FindsEach, Shows, SaysDown, SaysBusy, node_after}
 
 -- ---- how rules are put together
 

@@ -1,6 +1,6 @@
 -- A queue's server in a group of one (Ongaro's dissertation, chapter 3, for one server). It hands its changes to the
 -- log and learns later that they are durable (the Ra library's internals, write-ahead log).
-use Rattle.std.specs.Prelude.{ℕ, ◌+◌, List, [], ◌∷◌, ◌++◌, Bool, true, false, ◌&&◌, Option, Some, length, take, fold, nat_le, if◌then◌else◌}
+use Rattle.std.specs.Prelude.{ℕ, ◌+◌, List, [], ◌∷◌, ◌++◌, Bool, true, false, ◌&&◌, Some, length, take, fold, nat_le}
 use Rattle.std.specs.List.{flat_map}
 use Rattle.qq_base.specs.declared.ids.NodeId.{NodeId}
 use Rattle.qq_base.specs.declared.ids.Term.{Term}
@@ -10,7 +10,7 @@ use Rattle.qq_entry.specs.declared.command.Entry.{Entry}
 use Rattle.qq_entry.specs.declared.audit.AuditRow.{AuditRow}
 use Rattle.qq_entry.specs.declared.queue.QueueArgs.{QueueArgs}
 use Rattle.qq_log.specs.declared.op.Op.{Op}
-use Rattle.qq_log.specs.declared.op.Op.TheVariants.{Change, SnapshotMade, SegmentMade}
+use Rattle.qq_log.specs.declared.op.Op.TheVariants.{Change}
 use Rattle.qq_model.specs.State.{empty_queue}
 use Rattle.qq_model.specs.Audit.{audit_of}
 

@@ -1,8 +1,7 @@
 -- One queue on one node, with the sessions of its clients and the part of the node's log that is its own: what may
 -- happen, and what is shown of it.
-use Rattle.std.specs.Prelude.{ℕ, List, [], ◌∷◌, ◌++◌, Bool, true, false, not, ◌&&◌, Option, Some, None, length, drop, filter, map, nat_eq, nat_le, nat_lt, if◌then◌else◌}
+use Rattle.std.specs.Prelude.{ℕ, List, [], ◌∷◌, ◌++◌, Bool, true, false, not, ◌&&◌, Option, Some, None, length, drop, filter, map, nat_eq, nat_lt, if◌then◌else◌}
 use Rattle.qq_base.specs.Ids.{client, same_session}
-use Rattle.qq_base.specs.declared.memory.TheConstants.{NUMBER_END}
 use Rattle.qq_entry.specs.declared.command.Stamp.{Stamp}
 use Rattle.qq_entry.specs.declared.command.Command.{Command}
 use Rattle.qq_entry.specs.declared.command.Unstamped.{Unstamped}

@@ -1,8 +1,9 @@
 //! The laws of a queue on one node, whatever happens to it.
-ghost use Rattle.std.specs.Prelude.{◌≡◌, List};
+ghost use Rattle.std.specs.Prelude.{◌≡◌, List, ℕ};
 ghost use Rattle.qq_entry.specs.declared.queue.QueueArgs.{QueueArgs};
-ghost use Rattle.qq_world.specs.World.{Event};
-ghost use Rattle.qq_world.specs.Laws.{world_after, HasSerialAudit, KeepsAudit, CountsRise, HandsSoundOps, HasAppliedWhereReady, HoldsWhatIsPromised, TakesUpWhatIsPromised};
+ghost use Rattle.qq_entry.specs.declared.command.Unstamped.{Unstamped};
+ghost use Rattle.qq_world.specs.World.{Event, World};
+ghost use Rattle.qq_world.specs.Laws.{world_after, HasSerialAudit, KeepsAudit, CountsRise, HandsSoundOps, HasAppliedWhereReady, HoldsWhatIsPromised, TakesUpWhatIsPromised, SendsToLeader, ResendsToLeader};
 
 /// A law: the audit is what the queue's definition gives of its entries, one after the other, and
 /// whatever happens later, crashes too, its rows stay.
@@ -14,8 +15,8 @@ pub fn an_audit_is_serial()
 {}
 
 /// A law: nothing is noticed that isn't synced, nothing synced that isn't written, and nothing
-/// written that the server hasn't handed out. The ops that it hands out are sound, from the first to
-/// any later one, and its term is that of the last.
+/// written that the server hasn't handed out. The ops that it hands out are sound, from the first
+/// to any later one, and its term is that of the last.
 pub fn ops_are_noticed_in_order()
     ensures counts { (args : QueueArgs) (events : List Event) →
         CountsRise (world_after args events) }
@@ -23,18 +24,27 @@ pub fn ops_are_noticed_in_order()
         HandsSoundOps (world_after args events).server }
 {}
 
-/// A law: a leader that takes commands has applied every entry that it knows to be durable, so those of
-/// earlier terms too.
+/// A law: a leader that takes commands has applied every entry that it knows to be durable, so
+/// those of earlier terms too.
 pub fn a_ready_leader_has_applied()
     ensures { (args : QueueArgs) (events : List Event) →
         HasAppliedWhereReady args (world_after args events).server }
 {}
 
-/// A law: where the log gives of a queue what its first ops come to, with all that was noticed among
-/// them, it gives a log that begins with the entries of the audit; and a restart may take it up.
+/// A law: where the log gives of a queue what its first ops come to, with all that was noticed
+/// among them, it gives a log that begins with the entries of the audit; and a restart may take it
+/// up. So it is at each moment of an event, with the audit as it stood before.
 pub fn what_is_promised_has_the_audit()
     ensures holds { (args : QueueArgs) (events : List Event) →
         HoldsWhatIsPromised (world_after args events) }
     ensures taken_up { (args : QueueArgs) (events : List Event) →
         TakesUpWhatIsPromised (world_after args events) }
+{}
+
+/// A law: a command that gets a number goes to a leader that is ready, as the last of its ops.
+/// Where none is ready, and only there, the session is told so; the command stays open, and nothing
+/// else happens. A session whose window is full is told that, and gets no number.
+pub fn commands_go_to_a_ready_leader()
+    ensures new { (session : ℕ) (body : Unstamped) (w : World) → SendsToLeader session body w }
+    ensures again { (session : ℕ) (w : World) → ResendsToLeader session w }
 {}

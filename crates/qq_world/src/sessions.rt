@@ -9,9 +9,9 @@ ghost use Rattle.qq_world.specs.Laws.{world_after, HasAuditedAnswers, ConfirmsOn
 use qq_laws::commands_count_by_one;
 use qq_session::{commands_are_answered_once, commands_arrive_in_order};
 
-/// A law: each answer that is printed is that of a row of the audit, to a command of a client. What is
-/// printed as `confirmed` has exactly one publish of its session and number in the audit, after any
-/// crashes and restarts.
+/// A law: each answer that is printed is that of a row of the audit, to a command of a client. What
+/// is printed as `confirmed` has exactly one publish of its session and number in the audit, after
+/// any crashes and restarts.
 pub fn what_is_printed_is_audited()
     ensures answers { (args : QueueArgs) (events : List Event) →
         HasAuditedAnswers (new_world args) events }
@@ -22,10 +22,10 @@ pub fn what_is_printed_is_audited()
     commands_are_answered_once();
 }
 
-/// A law: over crashes and restarts the commands of a session that are carried out have the numbers 1, 2,
-/// 3 and so on, and each other command of it has an answer of the gate or the first answer of its number.
-/// They are the first ones that the session has given numbers, in their order; and its numbers are those
-/// of a session that gives numbers and takes answers, whatever is lost between.
+/// A law: over crashes and restarts the commands of a session that are carried out have the numbers
+/// 1, 2, 3 and so on, and each other command of it has an answer of the gate or the first answer of
+/// its number. They are the first ones that the session has given numbers, in their order; and its
+/// numbers are those of a session that gives numbers and takes answers, whatever is lost between.
 pub fn sessions_go_on()
     ensures answered { (args : QueueArgs) (session : ℕ) (events : List Event) →
         IsAnswered (client session) (world_after args events).server.audit }

@@ -1,0 +1,34 @@
+//! Worked runs: what they print, letter by letter.
+ghost use Rattle.std.specs.Prelude.{◌≡◌, ◌++◌, codes};
+ghost use Rattle.qq_world.specs.Example.{one_queue, lines_by_hand, lines_with_a_fault, by_hand, behind_a_crash, while_muted, with_a_fault, two_queues, sent_again, output};
+ghost use Rattle.qq_world.specs.Node.{new_node};
+ghost use Rattle.qq_world.specs.Rules.{IsRun};
+
+/// A law: worked runs of one queue, and of two.
+///
+/// - `fault`: the disk fails at the sync of a message. The node stops, and a later command finds no
+///   leader.
+/// - `restart`: a message was appended and not synced, and a crash leaves it. It is applied behind
+///   the restart, by the next leader, which answers none of an earlier term.
+/// - `muted`: a session publishes, and sends that twice again. Once it hears an answer, that is
+///   printed once.
+/// - `lost`: a message to each of two queues is appended, and lost by a crash. Sent again, it is
+///   confirmed.
+/// - `hand_run`, `fault_run`: these events are what the lines of their scripts ask for.
+pub fn worked_runs_print()
+    ensures fault { output one_queue with_a_fault
+        ≡ codes "node 1 stopped\nno leader q1\naudit q1 0 1\n1 1 noop 1 lead\n" }
+    ensures restart { output one_queue behind_a_crash
+        ≡ codes "message 1 a\naudit q1 0 4\n1 1 noop 1 lead\n2 1 enqueue 1 1 1 confirmed 1\n"
+        ++ codes "3 2 noop 1 lead\n4 2 get 1 2 message 1\n" }
+    ensures muted { output one_queue while_muted
+        ≡ codes "confirmed 1\nq1 1 leader term 1 last 4 commit 4\ndown 1\nq1 1 down\n"
+        ++ codes "no leader q1\naudit q1 0 4\n1 1 noop 1 lead\n2 1 enqueue 1 1 1 confirmed 1\n"
+        ++ codes "3 1 enqueue 1 1 1 confirmed 1 again\n4 1 enqueue 1 1 1 confirmed 1 again\n" }
+    ensures lost { output two_queues sent_again
+        ≡ codes "confirmed 1\n1 q2: confirmed 1\naudit q1 0 3\n1 1 noop 1 lead\n2 2 noop 1 lead\n"
+        ++ codes "3 2 enqueue 1 1 2 confirmed 1\naudit q2 0 3\n1 1 noop 1 lead\n2 2 noop 1 lead\n"
+        ++ codes "3 2 enqueue 1 1 2 confirmed 1\n" }
+    ensures hand_run { IsRun one_queue lines_by_hand (new_node one_queue) by_hand }
+    ensures fault_run { IsRun one_queue lines_with_a_fault (new_node one_queue) with_a_fault }
+{}
