@@ -78,13 +78,13 @@ send-numbers own session body w = by (may_hand (w.clients own).numbers) refl
 -- ---- answers are heard
 
 -- what a row makes of each session
-record Heard (row : AuditRow) (own : Option ℕ) (session : ℕ) (old new : Client) : Type 0 where
+pub record Heard (row : AuditRow) (own : Option ℕ) (session : ℕ) (old new : Client) : Type 0 where
   pub muted_is : new.muted ≡ old.muted
   pub lost : old.muted ≡ true → new.numbers ≡ old.numbers
   pub taken : old.muted ≡ false → new.numbers
       ≡ cond (is_sent_by session own) (answer (seq_of row.entry.command) row.answer old.numbers) old.numbers
 
-heard : (row : AuditRow) (clients : Clients) (session : ℕ)
+pub heard : (row : AuditRow) (clients : Clients) (session : ℕ)
     → Heard row (sender row) session (clients session) (hear row clients session)
 heard row clients session = by (sender row)
   where
@@ -146,7 +146,7 @@ all-taken (row ∷ rows) clients session heard' =
     by true = refl
     by false = refl
 
-heard-numbers : (rows : List AuditRow) (clients : Clients) (session : ℕ)
+pub heard-numbers : (rows : List AuditRow) (clients : Clients) (session : ℕ)
     → (hear_all rows clients session).numbers
     ≡ after_deeds (takes_of session clients rows) (clients session).numbers
 heard-numbers rows clients session = by (clients session).muted refl

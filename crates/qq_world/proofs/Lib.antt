@@ -16,3 +16,4 @@ mod Leading
 mod Serving
 mod Worked
 mod Stopping
+mod PrintedOnce

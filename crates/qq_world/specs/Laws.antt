@@ -1,5 +1,5 @@
 -- What holds of a queue's world, whatever happens.
-use Rattle.std.specs.Prelude.{◌≡◌, ◌≤◌, ◌<◌, ℕ, List, [], ◌∷◌, ◌++◌, Bool, true, false, Option, Some, None, length, map, filter, filter_map, take, nat_eq, Contains, if◌then◌else◌}
+use Rattle.std.specs.Prelude.{◌≡◌, ◌&&◌, ◌≢◌, ◌≤◌, ◌<◌, ℕ, List, [], ◌∷◌, ◌++◌, Bool, true, false, Option, Some, None, length, map, filter, filter_map, take, nat_eq, Contains, if◌then◌else◌}
 use Rattle.std.specs.List.{AllByRecursion}
 use Rattle.qq_base.specs.Ids.{client}
 use Rattle.qq_base.specs.declared.ids.SessionId.{SessionId}
@@ -20,11 +20,11 @@ use Rattle.qq_model.specs.Audit.{IsSerial}
 use Rattle.qq_model.specs.State.{empty_queue}
 use Rattle.qq_script.specs.Text.{seq_of}
 use Rattle.qq_session.specs.Arriving.{Deed, Hands, Takes, after_deed, handed, fresh_command}
-use Rattle.qq_session.specs.Publishing.{Numbers, new_numbers, next_command, hand, open_commands}
+use Rattle.qq_session.specs.Publishing.{Numbers, new_numbers, next_command, hand, closes, open_commands}
 use Rattle.qq_world.specs.Front.{IsFront, ExactlyOne}
 use Rattle.qq_world.specs.Promise.{HoldsAudit, IsPromised, MayTakeUp, state_of}
-use Rattle.qq_world.specs.Server.{Server, is_down, is_ready, log_of, notice, submit}
-use Rattle.qq_world.specs.World.{World, Clients, Event, Submits, Resends, Notices, Shown, Answered, NoLeader, WindowFull, new_world, is_up, sender, own_rows, happens, said, after, all_said}
+use Rattle.qq_world.specs.Server.{Server, is_down, is_ready, log_of, submit}
+use Rattle.qq_world.specs.World.{World, Clients, Event, Submits, Resends, Notices, Shown, Answered, NoLeader, WindowFull, new_world, is_up, sender, own_rows, after_notice, happens, said, after, all_said}
 
 -- a world that may be reached
 abbrev pub world_after : QueueArgs → List Event → World
@@ -93,7 +93,7 @@ takes_of session clients rows =
 abbrev pub deeds_at : ℕ → World → Event → List Deed
 deeds_at session w (Submits own body) = if nat_eq own session then Hands body ∷ [] else []
 deeds_at session w Notices =
-    if is_up w then takes_of session w.clients (own_rows w.server (notice w.synced w.server)) else []
+    if is_up w then takes_of session w.clients (own_rows w.server (after_notice w)) else []
 deeds_at session w _ = []
 
 abbrev pub deeds : ℕ → World → List Event → List Deed
@@ -182,3 +182,17 @@ abbrev pub ResendsToLeader : ℕ → World → Type 0
 ResendsToLeader session w =
     (is_ready w.server ≡ false → FindsNoLeader session w)
     × (is_ready w.server ≡ true → said w (Resends session) ≡ [])
+
+-- the number of a session that a printed answer closes
+abbrev pub closed_number : ℕ → Shown → Option ℕ
+closed_number session (Answered row) =
+    if is_sent_by session (sender row) && closes row.answer then Some (seq_of row.entry.command) else None
+closed_number session _ = None
+
+abbrev pub Distinct : List ℕ → Type 0
+Distinct [] = Unit {0}
+Distinct (n ∷ ns) = AllByRecursion (λ (m : ℕ). m ≢ n) ns × Distinct ns
+
+-- the answer that closes a number is printed once
+abbrev pub ClosesOnce : ℕ → World → List Event → Type 0
+ClosesOnce session w events = Distinct (filter_map (closed_number session) (all_said w events))

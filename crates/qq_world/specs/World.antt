@@ -133,11 +133,17 @@ abbrev pub own_rows : Server → Server → List AuditRow
 own_rows before after =
     filter (λ (row : AuditRow). nat_eq row.entry.term.0 after.term.0) (drop (length before.audit) after.audit)
 
+-- the server once it is told what is synced
+abbrev pub after_notice : World → Server
+after_notice w = notice w.synced w.server
+
 -- a server is told what is synced, and its clients hear what it answers
 abbrev pub tell : World → World
 tell w =
-    let after = notice w.synced w.server in
-    record w { server = after; clients = hear_all (own_rows w.server after) w.clients }
+    record w {
+      server = after_notice w;
+      clients = hear_all (own_rows w.server (after_notice w)) w.clients;
+    }
 
 -- the log goes on behind what was found
 abbrev pub find : ℕ → World → World
@@ -177,7 +183,7 @@ said w (Submits session body) =
     else WindowFull session ∷ []
 said w (Resends session) = said_of (is_ready w.server) session (open_commands (w.clients session).numbers)
 said w Notices =
-    if is_up w then map Answered (printed (own_rows w.server (notice w.synced w.server)) w.clients) else []
+    if is_up w then map Answered (printed (own_rows w.server (after_notice w)) w.clients) else []
 said w _ = []
 
 -- ---- lists of events

@@ -17,5 +17,5 @@ pub use nodes::{
     a_node_prints_what_is_true, a_stopped_node_says_so, each_queue_is_its_own, lines_settle,
     pumps_end, scripts_may_be_served,
 };
-pub use sessions::{sessions_go_on, what_is_printed_is_audited};
+pub use sessions::{answers_are_printed_once, sessions_go_on, what_is_printed_is_audited};
 pub use texts::{a_lost_command_is_told, a_node_tells_its_state, recovery_may_end_a_run};

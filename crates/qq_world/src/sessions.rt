@@ -4,7 +4,7 @@ ghost use Rattle.qq_base.specs.Ids.{client};
 ghost use Rattle.qq_entry.specs.declared.queue.QueueArgs.{QueueArgs};
 ghost use Rattle.qq_session.specs.Answered.{IsAnswered};
 ghost use Rattle.qq_world.specs.World.{Event, new_world};
-ghost use Rattle.qq_world.specs.Laws.{world_after, HasAuditedAnswers, ConfirmsOnce, CountsDeeds, CarriesOutInOrder};
+ghost use Rattle.qq_world.specs.Laws.{world_after, HasAuditedAnswers, ClosesOnce, ConfirmsOnce, CountsDeeds, CarriesOutInOrder};
 
 use qq_laws::commands_count_by_one;
 use qq_session::{commands_are_answered_once, commands_arrive_in_order};
@@ -37,3 +37,10 @@ pub fn sessions_go_on()
     commands_are_answered_once();
     commands_arrive_in_order();
 }
+
+/// A law: of each number of a session the answer that closes it is printed once, however often the
+/// command is sent, and whatever is lost.
+pub fn answers_are_printed_once()
+    ensures { (args : QueueArgs) (session : ℕ) (events : List Event) →
+        ClosesOnce session (new_world args) events }
+{}
