@@ -1,0 +1,5 @@
+pub mod Work
+pub mod Ends
+pub mod Follows
+pub mod Commands
+pub mod Step
