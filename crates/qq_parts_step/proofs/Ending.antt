@@ -1,5 +1,5 @@
 -- Deliveries end in the parts as in the queue.
-use Rattle.std.proofs.Common.{◌≡◌, ℕ, List, [], ◌∷◌, ◌++◌, Option, Some, None, fold, refl, sym, ap, ◌∙◌, subst}
+use Rattle.std.proofs.Common.{◌≡◌, ℕ, List, [], ◌∷◌, Option, Some, None, refl, sym, ap, subst}
 use Rattle.std.specs.Option.{option_map}
 use Rattle.qq_base.specs.declared.ids.ConsumerId.{ConsumerId}
 use Rattle.qq_entry.specs.declared.message.Reason.{Reason}
@@ -18,9 +18,9 @@ use Rattle.qq_parts.specs.Changes.{Taken, give_back, back_letter, bury, dead_let
 use Rattle.qq_parts.specs.Outs.{take_out, taken_row}
 use Rattle.qq_parts.proofs.Moving.{goes, dies, returns}
 use Rattle.qq_parts.proofs.Ending.{may_end}
-use Rattle.qq_parts_step.specs.Work.{Work, with_parts, StandsFor}
-use Rattle.qq_parts_step.specs.Ends.{parts_die, parts_return, parts_end, parts_end_by, parts_end_deliveries, DeliveriesEnd}
-use Rattle.qq_parts_step.proofs.Works.{at-work, holding, following}
+use Rattle.qq_parts_step.specs.Work.{Work, StandsFor}
+use Rattle.qq_parts_step.specs.Ends.{parts_die, parts_return, parts_end, parts_end_by, parts_end_deliveries}
+use Rattle.qq_parts_step.proofs.Works.{following}
 
 -- A message that was taken out ------------------------------------------------------------------------
 
@@ -80,6 +80,3 @@ ends-all outcome consumer [] t p it = it
 ends-all outcome consumer (id ∷ ids) t p it =
     ends-all outcome consumer ids (parts_end_by outcome (take_out consumer id t.parts) t)
     (end_delivery_by outcome (delivered_row consumer id p.state.rows) p) (ends-one outcome consumer id t p it)
-
-pub deliveries_end : (t : Work) (p : Progress) → StandsFor t p → DeliveriesEnd t p
-deliveries_end t p it outcome consumer ids = ends-all outcome consumer ids t p it

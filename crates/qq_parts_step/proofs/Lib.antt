@@ -1,2 +1,12 @@
 pub mod Works
 pub mod Ending
+pub mod Choosing
+pub mod Following
+pub mod Changing
+pub mod Acting
+pub mod Returning
+pub mod Commanding
+pub mod Joining
+pub mod Stepping
+pub mod Quiet
+pub mod Between

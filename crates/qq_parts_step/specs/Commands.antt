@@ -1,5 +1,6 @@
 -- What each command does to the parts of a queue, and answers.
-use Rattle.std.specs.Prelude.{ℕ, ◌+◌, ◌-◌, List, [], length, fold, filter, find, Option, Some, None, Bool, not, true, ◌&&◌, nat_eq, nat_lt, nat_le, if◌then◌else◌}
+use Rattle.std.specs.Prelude.{◌≡◌, ℕ, ◌+◌, ◌-◌, ◌<◌, List, length, fold, filter, find, Option, Some, None, Bool, true, false, ◌&&◌, nat_eq, nat_lt, nat_le, if◌then◌else◌}
+use Rattle.std.specs.List.{AllByRecursion}
 use Rattle.std.specs.Option.{option_map_or}
 use Rattle.qq_base.specs.declared.ids.Index.{Index}
 use Rattle.qq_base.specs.declared.ids.Term.{Term}
@@ -22,6 +23,8 @@ use Rattle.qq_model.specs.declared.TheConstants.{MOST_CONSUMERS}
 use Rattle.qq_model.specs.declared.consumer.Consumer.{Consumer}
 use Rattle.qq_model.specs.declared.consumer.Outcome.{Outcome}
 use Rattle.qq_model.specs.declared.consumer.Outcome.TheVariants.{Settled, Returned, Discarded}
+use Rattle.qq_model.specs.declared.place.Row.{Row}
+use Rattle.qq_model.specs.State.{State}
 use Rattle.qq_model.specs.Commands.{is_of_session, is_at_least_once}
 use Rattle.qq_model.specs.Gate.{greatest_tag, end_session}
 use Rattle.qq_model.specs.Serving.{is_credited}
@@ -30,7 +33,7 @@ use Rattle.qq_gone.specs.Reduced.{Item}
 use Rattle.qq_parts.specs.Parts.{Served, Parts, outs, items_of}
 use Rattle.qq_parts.specs.Reads.{ready_items, size_of}
 use Rattle.qq_parts.specs.Changes.{Taken, take_first, arrive}
-use Rattle.qq_parts.specs.Outs.{joined, purged}
+use Rattle.qq_parts.specs.Outs.{joined, purged, IsFree}
 use Rattle.qq_parts.specs.Turns.{credit_of_one}
 use Rattle.qq_parts.specs.Letters.{take_dead}
 use Rattle.qq_parts.specs.Consumers.{changed, keep_ones, needed_one, stays_one}
@@ -236,6 +239,16 @@ parts_act index (Purge stamp) t = parts_purge t
 parts_act index (Down session) t = parts_down session t
 parts_act index (DeadAttach term) t = parts_dead_attach term t
 parts_act index (DeadSettle term done) t = parts_dead_settle term done t
+
+-- an entry behind all that have arrived
+abbrev pub IsBehind : Index → State → Type 0
+IsBehind index s = AllByRecursion (λ (row : Row). row.index.0 < index.0) s.rows
+
+-- a consumer joins with an id that nobody has, where its tag is above all that its session used
+abbrev pub HasFreeId : Command → Parts → Type 0
+HasFreeId (Subscribe stamp tag mode) m =
+    nat_le tag (greatest_tag stamp.session m.rest.sessions) ≡ false → IsFree (consumer_id stamp tag) m
+HasFreeId _ m = Unit {0}
 
 -- Drain -----------------------------------------------------------------------------------------------
 

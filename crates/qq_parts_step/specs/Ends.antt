@@ -1,19 +1,14 @@
 -- Messages die, go back and end in the parts of a queue.
-use Rattle.std.specs.Prelude.{◌≡◌, ℕ, List, [], ◌∷◌, ◌++◌, Option, Some, None, fold, filter}
-use Rattle.qq_base.specs.declared.ids.SessionId.{SessionId}
+use Rattle.std.specs.Prelude.{ℕ, List, ◌++◌, Option, Some, None, fold}
 use Rattle.qq_base.specs.declared.ids.ConsumerId.{ConsumerId}
 use Rattle.qq_entry.specs.declared.message.Reason.{Reason}
 use Rattle.qq_entry.specs.declared.message.Reason.TheVariants as reason
 use Rattle.qq_model.specs.declared.consumer.Outcome.{Outcome}
 use Rattle.qq_model.specs.declared.consumer.Outcome.TheVariants.{Settled, Returned, Discarded}
-use Rattle.qq_model.specs.Changes.{Progress}
-use Rattle.qq_model.specs.Commands.{end_deliveries, is_of_session}
 use Rattle.qq_gone.specs.Reduced.{Item}
-use Rattle.qq_parts.specs.Parts.{Served, Parts, outs}
 use Rattle.qq_parts.specs.Changes.{Taken, bury, dead_letter, give_back, back_letter}
 use Rattle.qq_parts.specs.Outs.{take_out}
-use Rattle.qq_parts.specs.Consumers.{keep_ones, stays_one}
-use Rattle.qq_parts_step.specs.Work.{Work, with_parts, StandsFor}
+use Rattle.qq_parts_step.specs.Work.{Work, with_parts}
 
 -- a message that was taken out dies
 abbrev pub parts_die : Reason → Item → Work → Work
@@ -41,9 +36,3 @@ parts_end_by outcome (Some taken) t = parts_end outcome taken.item (with_parts t
 abbrev pub parts_end_deliveries : Outcome → ConsumerId → List ℕ → Work → Work
 parts_end_deliveries outcome consumer ids t =
     fold (λ (now : Work) (id : ℕ). parts_end_by outcome (take_out consumer id now.parts) now) t ids
-
--- the ids of a Settle, a Return or a Discard end in the parts as in the queue
-abbrev pub DeliveriesEnd : Work → Progress → Type 0
-DeliveriesEnd t p =
-    (outcome : Outcome) (consumer : ConsumerId) (ids : List ℕ)
-    → StandsFor (parts_end_deliveries outcome consumer ids t) (end_deliveries outcome consumer ids p)

@@ -1,13 +1,12 @@
 -- What follows on each command in the parts of a queue: deliveries, the limits, and dead letters for the worker.
-use Rattle.std.specs.Prelude.{◌≡◌, ℕ, List, [], ◌∷◌, ◌++◌, length, Option, Some, None, Bool, ◌&&◌, nat_lt, if◌then◌else◌}
+use Rattle.std.specs.Prelude.{◌≡◌, ◌⊎◌, ℕ, List, [], ◌∷◌, ◌++◌, length, Option, Some, None, Bool, ◌&&◌, nat_lt, if◌then◌else◌}
 use Rattle.qq_entry.specs.declared.audit.Effect.TheVariants.{Deliver, Offer}
 use Rattle.qq_entry.specs.declared.message.Reason.TheVariants as reason
 use Rattle.qq_model.specs.declared.TheConstants.{MOST_GIVEN}
 use Rattle.qq_model.specs.declared.place.Place.{Place}
 use Rattle.qq_model.specs.declared.place.Place.TheVariants.{Dead}
 use Rattle.qq_model.specs.Choice.{least_by}
-use Rattle.qq_model.specs.Changes.{Progress, while_next}
-use Rattle.qq_model.specs.Serving.{check_out_all, keep_limits, give_all_dead}
+use Rattle.qq_model.specs.Changes.{while_next}
 use Rattle.qq_rules.specs.Decisions.{over}
 use Rattle.qq_gone.specs.Reduced.{Item}
 use Rattle.qq_parts.specs.Parts.{Served, Parts}
@@ -16,7 +15,7 @@ use Rattle.qq_parts.specs.Changes.{Taken, take_first}
 use Rattle.qq_parts.specs.Outs.{hand_over, delivery_to}
 use Rattle.qq_parts.specs.Turns.{may_serve, active_one}
 use Rattle.qq_parts.specs.Letters.{first_above, given_of}
-use Rattle.qq_parts_step.specs.Work.{Work, with_parts, StandsFor}
+use Rattle.qq_parts_step.specs.Work.{Work, with_parts}
 use Rattle.qq_parts_step.specs.Ends.{parts_die}
 
 -- Checkouts -------------------------------------------------------------------------------------------
@@ -105,8 +104,6 @@ parts_give_dead t =
 unfoldable pub parts_give_all_dead : Work → Work
 parts_give_all_dead t = while_next (length t.parts.dead) parts_give_dead t
 
--- The loops give in the parts what they give in the queue.
-pub record LoopsFollow (t : Work) (p : Progress) : Type 0 where
-  pub delivered : StandsFor (parts_check_out_all t) (check_out_all p)
-  pub limited : StandsFor (parts_keep_limits t) (keep_limits p)
-  pub given : StandsFor (parts_give_all_dead t) (give_all_dead p)
+-- nothing is ready, or nobody may be served
+abbrev pub IsServed : Parts → Type 0
+IsServed m = (take_first m ≡ None) ⊎ (next_one m.rest.args.single_active m.served ≡ None)

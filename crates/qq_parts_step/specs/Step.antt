@@ -1,5 +1,5 @@
 -- What an entry does to the parts of a queue.
-use Rattle.std.specs.Prelude.{◌≡◌, ◌⊎◌, ◌+◌, List, [], ◌∷◌, ◌++◌, Option, Some, None, Bool, true, false, All}
+use Rattle.std.specs.Prelude.{◌≡◌, ◌+◌, List, [], ◌∷◌, ◌++◌, Option, Some, None, Bool, true, false}
 use Rattle.qq_base.specs.declared.ids.Index.{Index}
 use Rattle.qq_entry.specs.declared.queue.QueueArgs.{QueueArgs}
 use Rattle.qq_entry.specs.declared.command.Stamp.{Stamp}
@@ -10,18 +10,15 @@ use Rattle.qq_entry.specs.declared.answer.Answer.TheVariants as answer
 use Rattle.qq_entry.specs.declared.audit.AuditRow.{AuditRow}
 use Rattle.qq_entry.specs.declared.audit.Effect.{Effect}
 use Rattle.qq_entry.specs.Command.{stamp}
-use Rattle.qq_entry.specs.Range.{IsInRange}
 use Rattle.qq_model.specs.declared.session.Gate.{Gate}
 use Rattle.qq_model.specs.declared.session.Gate.TheVariants.{Fresh, Again, Gap, Forgotten, Ended, WindowFull, SessionsFull}
-use Rattle.qq_model.specs.State.{State, Sessions, empty_queue}
+use Rattle.qq_model.specs.State.{Sessions, empty_queue}
 use Rattle.qq_model.specs.Gate.{gate, admit, turn_away, keep_answer}
 use Rattle.qq_model.specs.Step.{Step}
-use Rattle.qq_model.specs.Sound.{IsSound}
-use Rattle.qq_model.specs.Audit.{next_step, audit_of, state_after, effects_of}
-use Rattle.qq_parts.specs.Parts.{Parts, Stands, IsWhole}
-use Rattle.qq_parts.specs.Changes.{take_first, Holds}
+use Rattle.qq_parts.specs.Parts.{Parts}
+use Rattle.qq_parts.specs.Changes.{Holds}
 use Rattle.qq_parts_step.specs.Work.{Work, Answered}
-use Rattle.qq_parts_step.specs.Follows.{next_one, parts_check_out_all, parts_keep_limits, parts_give_all_dead}
+use Rattle.qq_parts_step.specs.Follows.{parts_check_out_all, parts_keep_limits, parts_give_all_dead}
 use Rattle.qq_parts_step.specs.Commands.{parts_act, parts_drain_after}
 
 -- the next parts, whether the command counted as fresh, its answer, and its effects in order
@@ -134,13 +131,3 @@ abbrev pub parts_effects : Parts → List Entry → List Effect
 parts_effects m [] = []
 parts_effects m (entry ∷ entries) =
     (parts_next_step m entry).effects ++ parts_effects (parts_next_step m entry).parts entries
-
--- from the new queue on, all entries are answered and have effects as in the queue, and the parts stand for it
-pub record RunsAs (args : QueueArgs) (entries : List Entry) : Type 0 where
-  pub holds : Holds (parts_after (new_parts args) entries) (state_after (empty_queue args) entries)
-  pub audit : audit_of (empty_queue args) entries ≡ parts_audit (new_parts args) entries
-  pub effects : effects_of (empty_queue args) entries ≡ parts_effects (new_parts args) entries
-
--- nothing is ready, or nobody may be served
-abbrev pub IsServed : Parts → Type 0
-IsServed m = (take_first m ≡ None) ⊎ (next_one m.rest.args.single_active m.served ≡ None)

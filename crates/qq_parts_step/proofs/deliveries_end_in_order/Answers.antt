@@ -1,5 +1,5 @@
-use Rattle.qq_parts_step.proofs.Ending.{deliveries_end}
+use Rattle.qq_parts_step.proofs.Ending.{ends-all}
 use Rattle.qq_parts_step.proofs.deliveries_end_in_order.Goals as goal
 
 pub returns : goal.returns
-returns c = deliveries_end
+returns c = λ t p outcome consumer ids it. ends-all outcome consumer ids t p it
