@@ -59,7 +59,8 @@ credit-is id m s stands whole =
 -- parts and a state, each with a change under a test
 pub holds-if : (a b : Bool) (m n : Parts) (s u : State) → b ≡ a → Holds m s → Holds n u
     → Holds (if a then m else n) (if b then s else u)
-holds-if a b m n s u is first second = subst (λ (c : Bool). Holds (if a then m else n) (if c then s else u)) (sym is) (by a)
+holds-if a b m n s u is first second =
+    subst (λ (c : Bool). Holds (if a then m else n) (if c then s else u)) (sym is) (by a)
   where
     by : (c : Bool) → Holds (if c then m else n) (if c then s else u)
     by true = first
@@ -99,7 +100,8 @@ takes-turn id m s (Some one) it found =
     changes-one (drawn m) (record s { turns = s.turns + 1 }) one (record c { turn = m.rest.turns + 1 }) (draws m s it)
     (one-in id m.served one found) refl refl in
     subst (λ n. Holds (changed (record c { turn = m.rest.turns + 1 }) (drawn m))
-    (record s { turns = s.turns + 1; consumers = put_consumer (record c { turn = n + 1 }) s.consumers })) (sym turns) made
+    (record s { turns = s.turns + 1; consumers = put_consumer (record c { turn = n + 1 }) s.consumers }))
+    (sym turns) made
 
 pub begins : (before : ℕ) (id : ConsumerId) (m : Parts) (s : State) → Holds m s
     → Holds (parts_begin_to_wait before id m) (begin_to_wait before id s)

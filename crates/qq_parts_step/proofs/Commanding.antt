@@ -59,7 +59,8 @@ drains id wanted a b it =
     answers-if (wanted && is_credited a.answer) (wanted && is_credited b.answer) by a
     (drain_by (consumer_of id b.progress.state.consumers) b.answer b.progress) b
     (ap (λ (said : Answer). wanted && is_credited said) it.answer)
-    (λ _. subst (λ (said : Answer). AnswersFor by (drain_by (consumer_of id b.progress.state.consumers) said b.progress))
+    (λ _.
+    subst (λ (said : Answer). AnswersFor by (drain_by (consumer_of id b.progress.state.consumers) said b.progress))
     (sym it.answer)
     (subst (λ (o : Option Consumer). AnswersFor by (drain_by o a.answer b.progress))
     (sym (one-of id a.work.parts b.progress.state it.work.stands))

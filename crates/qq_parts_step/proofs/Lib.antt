@@ -10,3 +10,4 @@ pub mod Joining
 pub mod Stepping
 pub mod Quiet
 pub mod Between
+pub mod AtOnce

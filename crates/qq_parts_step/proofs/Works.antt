@@ -1,5 +1,5 @@
 -- A step under way in the parts, and what it stands for.
-use Rattle.std.proofs.Common.{◌≡◌, ℕ, zero, suc, Bool, true, false, List, ◌++◌, Option, Some, None, refl, sym, ap, subst, if◌then◌else◌}
+use Rattle.std.proofs.Common.{◌≡◌, ℕ, zero, suc, Bool, true, false, List, ◌++◌, Option, Some, None, sym, ap, subst, if◌then◌else◌}
 use Rattle.std.specs.Option.{option_map_or}
 use Rattle.qq_entry.specs.declared.audit.Effect.{Effect}
 use Rattle.qq_model.specs.State.{State}

@@ -3,3 +3,4 @@ pub mod Ends
 pub mod Follows
 pub mod Commands
 pub mod Step
+pub mod AtOnce

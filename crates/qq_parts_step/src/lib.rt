@@ -7,6 +7,7 @@ ghost use Rattle.std.specs.Prelude.{◌≡◌, ℕ, List, Some, None};
 ghost use Rattle.std.specs.List.{AllByRecursion};
 ghost use Rattle.qq_base.specs.declared.ids.Index.{Index};
 ghost use Rattle.qq_base.specs.declared.ids.ConsumerId.{ConsumerId};
+ghost use Rattle.qq_base.specs.declared.ids.SessionId.{SessionId};
 ghost use Rattle.qq_entry.specs.declared.queue.QueueArgs.{QueueArgs};
 ghost use Rattle.qq_entry.specs.declared.command.Command.{Command};
 ghost use Rattle.qq_entry.specs.declared.command.Entry.{Entry};
@@ -18,12 +19,13 @@ ghost use Rattle.qq_model.specs.Commands.{Acted, act, end_deliveries};
 ghost use Rattle.qq_model.specs.Serving.{check_out_all, drain_after, keep_limits, give_all_dead};
 ghost use Rattle.qq_model.specs.Sound.{IsSound};
 ghost use Rattle.qq_model.specs.Audit.{next_step, audit_of, state_after, effects_of};
-ghost use Rattle.qq_parts.specs.Parts.{Parts, Stands, IsWhole};
+ghost use Rattle.qq_parts.specs.Parts.{Served, Parts, Stands, IsWhole};
 ghost use Rattle.qq_parts.specs.Changes.{Taken, take_first, Holds};
 ghost use Rattle.qq_parts_step.specs.Work.{Work, Answered, StandsFor, AnswersFor};
 ghost use Rattle.qq_parts_step.specs.Ends.{parts_end_deliveries};
 ghost use Rattle.qq_parts_step.specs.Follows.{next_one, parts_check_out_all, parts_keep_limits, parts_give_all_dead, IsServed};
-ghost use Rattle.qq_parts_step.specs.Commands.{IsBehind, HasFreeId, parts_act, parts_drain_after};
+ghost use Rattle.qq_parts_step.specs.Commands.{IsBehind, HasFreeId, one_of, parts_finish, parts_return_session, parts_act, parts_drain_after};
+ghost use Rattle.qq_parts_step.specs.AtOnce.{finish_at_once, first_of_session, return_first_of};
 ghost use Rattle.qq_parts_step.specs.Step.{parts_next_step, StepsFor, new_parts, parts_after, parts_audit, parts_effects};
 
 /// A law: the ids of a Settle, a Return or a Discard end in the parts as in the queue, in the given order:
@@ -85,4 +87,22 @@ pub fn the_parts_run_as_the_queue()
         take_first (parts_after (new_parts args) entries) ≡ Some taken →
         next_one (parts_after (new_parts args) entries).rest.args.single_active
         (parts_after (new_parts args) entries).served ≡ None }
+{}
+
+/// A law: a machine may cut all ids of a Settle, a Return or a Discard out of their consumer at once, let that
+/// consumer leave or begin to wait, and then end what it has cut, one after the other.
+pub fn ids_may_be_cut_at_once()
+    ensures { (outcome : Outcome) (id : ConsumerId) (ids : List ℕ) (one : Served) (t : Work) →
+        IsWhole t.parts → one_of id t.parts.served ≡ Some one →
+        parts_finish outcome id ids t ≡ finish_at_once outcome id ids one t }
+{}
+
+/// A law: at the end of a session a machine may take out its consumers one by one, the longest joined first,
+/// and give back what was out with each, until there is none.
+pub fn consumers_may_go_one_by_one()
+    ensures first { (session : SessionId) (one : Served) (t : Work) →
+        first_of_session session t.parts.served ≡ Some one →
+        parts_return_session session t ≡ parts_return_session session (return_first_of session one t) }
+    ensures over { (session : SessionId) (t : Work) →
+        first_of_session session t.parts.served ≡ None → parts_return_session session t ≡ t }
 {}
