@@ -1,0 +1,16 @@
+-- A fault of a line is told as what it is.
+use Rattle.std.proofs.Common.{◌≡◌, Result, Ok, Err}
+use Rattle.qq_lines.specs.declared.fault.ScriptFault.{ScriptFault}
+use Rattle.qq_lines.specs.declared.fault.ScriptFault.TheVariants.{Unknown, Words, Number, NoSuch, TooLong, Session, Body, Memory}
+use Rattle.qq_lines.specs.Lines.{HasScriptCause, IsOfLine}
+
+pub line_cause : {A : Type 0} (fault : ScriptFault) (reading : Result A ScriptFault) → reading ≡ Err fault
+    → IsOfLine fault → HasScriptCause fault reading
+line_cause (Memory memory) reading is of_line = absurd of_line
+line_cause Unknown reading is of_line = is
+line_cause Words reading is of_line = is
+line_cause Number reading is of_line = is
+line_cause NoSuch reading is of_line = is
+line_cause TooLong reading is of_line = is
+line_cause Session reading is of_line = is
+line_cause (Body size) reading is of_line = is

@@ -1,0 +1,4 @@
+mod Causes
+mod Counts
+mod Reading
+mod Writings

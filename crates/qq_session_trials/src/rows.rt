@@ -1,0 +1,118 @@
+use qq_base::{Index, SessionId};
+use qq_entry::{Answer, Delivery, Message, Stamp};
+use qq_model::{Gate, Worker};
+use qq_sessions::{Kepts, SessionRow, Sessions};
+use std::alloc::Global;
+use std::collections::VecDeque;
+use std::test::Fail;
+
+fn first_stamp(number: u64) -> Stamp {
+    Stamp {
+        session: SessionId {
+            class: 1,
+            owner: 0,
+            number,
+        },
+        seq: 1,
+        done: 0,
+    }
+}
+
+fn row(number: u64, next: u64, kept: Kepts, tag: u32) -> SessionRow {
+    SessionRow {
+        session: SessionId {
+            class: 1,
+            owner: 0,
+            number,
+        },
+        next,
+        mark: 0,
+        kept,
+        tag,
+    }
+}
+
+fn got(index: u64) -> Answer {
+    Answer::Got(Delivery {
+        index: Index(index),
+        arrival: index,
+        id: 0,
+        count: 0,
+        message: Message {
+            size: 0,
+            content: None,
+        },
+    })
+}
+
+// Carries out the first command of a session.
+fn publish(alloc: Global, sessions: &mut Sessions, number: u64) -> Result<(), Fail> {
+    let first = first_stamp(number);
+    sessions.reserve(alloc, first.session)?;
+    sessions.admit(&first);
+    sessions.keep(&first, Answer::Confirmed);
+    Ok(())
+}
+
+#[test]
+fn what_sessions_are_made_of_is_read_by_place(rt: HostRuntime) -> Result<(), Fail> {
+    let alloc = rt.alloc();
+    let mut kept = VecDeque::new(alloc);
+    kept.push_back(got(9))?;
+    kept.push_back(Answer::Confirmed)?;
+    kept.push_back(got(4))?;
+    let first = row(5, 4, kept, 2);
+    let second = row(3, 1, VecDeque::new(alloc), 0);
+    let rows = Vec::from_array(alloc, [first, second])?;
+    let ended = Vec::from_array(alloc, [2, 7])?;
+    let worker = Worker {
+        owner: 6,
+        number: 11,
+    };
+    let workers = Vec::from_array(alloc, [worker])?;
+    let sessions = Sessions::from_parts(alloc, rows, ended, workers, 8)?;
+    let first = sessions.row_at(0).map(|row| (row.session.number, row.tag));
+    assert_eq!(rt; first, Some((5, 2)));
+    let second = sessions.row_at(1).map(|row| (row.session.number, row.tag));
+    assert_eq!(rt; second, Some((3, 0)));
+    assert!(rt; sessions.row_at(2).is_none());
+    assert_eq!(rt;
+        (sessions.ended_at(1), sessions.ended_at(2)),
+        (Some(7), None)
+    );
+    assert_eq!(rt;
+        (sessions.worker_at(0), sessions.worker_at(1)),
+        (Some(worker), None)
+    );
+    assert_eq!(rt; sessions.seen(), 8);
+    assert_eq!(rt; sessions.kept_low(), Some(Index(4)));
+    Ok(())
+}
+
+#[test]
+fn sessions_without_a_kept_message_have_no_least_one(rt: HostRuntime) -> Result<(), Fail> {
+    let mut sessions = Sessions::new(rt.alloc());
+    assert_eq!(rt; sessions.kept_low(), None);
+    publish(rt.alloc(), &mut sessions, 1)?;
+    assert_eq!(rt; sessions.kept_low(), None);
+    assert_eq!(rt; sessions.seen(), 1);
+    Ok(())
+}
+
+#[test]
+fn of_4096_open_sessions_one_has_to_end_first(rt: HostRuntime) -> Result<(), Fail> {
+    let alloc = rt.alloc();
+    let mut sessions = Sessions::new(alloc);
+    for number in 1u64..4_097 {
+        publish(alloc, &mut sessions, number)?;
+    }
+    let full = sessions.check(alloc, &first_stamp(4_097))?;
+    assert!(rt; matches!(full, Gate::SessionsFull));
+    let open = first_stamp(100).session;
+    sessions.reserve(alloc, open)?;
+    sessions.end(open);
+    let fresh = sessions.check(alloc, &first_stamp(4_097))?;
+    assert!(rt; matches!(fresh, Gate::Fresh));
+    assert_eq!(rt; sessions.ended_at(0), Some(100));
+    Ok(())
+}
