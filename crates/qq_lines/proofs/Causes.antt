@@ -1,5 +1,5 @@
 -- A fault of a line is told as what it is.
-use Rattle.std.proofs.Common.{◌≡◌, Result, Ok, Err}
+use Rattle.std.proofs.Common.{◌≡◌, Result, Err}
 use Rattle.qq_lines.specs.declared.fault.ScriptFault.{ScriptFault}
 use Rattle.qq_lines.specs.declared.fault.ScriptFault.TheVariants.{Unknown, Words, Number, NoSuch, TooLong, Session, Body, Memory}
 use Rattle.qq_lines.specs.Lines.{HasScriptCause, IsOfLine}

@@ -1,5 +1,5 @@
 -- The body of a message in a line.
-use Rattle.std.specs.Prelude.{ℕ, ◌==◌, ◌&&◌, nat_le, nat_lt, List, [], ◌∷◌, Bool, true, false, length, replicate, Result, Ok, Err, if◌then◌else◌}
+use Rattle.std.specs.Prelude.{ℕ, ◌==◌, ◌&&◌, nat_le, nat_lt, List, [], ◌∷◌, Bool, false, length, replicate, Result, Ok, Err, if◌then◌else◌}
 use Rattle.std.specs.List.{list_all}
 use Rattle.qq_entry.specs.declared.limits.TheConstants.{BODY_LIMIT}
 use Rattle.qq_lines.specs.declared.fault.ScriptFault.{ScriptFault}

@@ -1,5 +1,5 @@
 -- What a line names of a setup.
-use Rattle.std.specs.Prelude.{ℕ, ◌-◌, ◌==◌, List, [], ◌∷◌, Bool, Option, Some, None, slice_get, length, Result, Ok, Err, if◌then◌else◌}
+use Rattle.std.specs.Prelude.{ℕ, ◌-◌, ◌==◌, List, [], ◌∷◌, Bool, Option, Some, None, slice_get, length, Result, Err, if◌then◌else◌}
 use Rattle.std.specs.List.{list_any, find}
 use Rattle.std.specs.Str.{bytes_eq}
 use Rattle.std.specs.Option.{option_map, option_and_then}
@@ -8,7 +8,7 @@ use Rattle.qq_defs.specs.declared.members.QueueRow.{QueueRow}
 use Rattle.qq_defs.specs.declared.setup.Setup.{Setup}
 use Rattle.qq_lines.specs.declared.fault.ScriptFault.{ScriptFault}
 use Rattle.qq_lines.specs.declared.fault.ScriptFault.TheVariants.{Number, NoSuch}
-use Rattle.qq_lines.specs.Words.{◌>>=◌, or_fault}
+use Rattle.qq_lines.specs.Words.{or_fault}
 use Rattle.qq_lines.specs.Numbers.{is_number, number_in}
 
 -- what stands behind `#`

@@ -1,5 +1,5 @@
-use Rattle.std.proofs.Common.{◌≤◌, arith}
-use Rattle.qq_lines.proofs.Counts.{most, most-small}
+use Rattle.std.proofs.Common.{arith}
+use Rattle.qq_lines.proofs.Counts.{most-small}
 use Rattle.qq_lines.proofs.bodies.value_of.Goals as goal
 
 pub overflow_mul-number : goal.overflow_mul-number

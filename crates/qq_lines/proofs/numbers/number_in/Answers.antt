@@ -1,5 +1,5 @@
-use Rattle.std.proofs.Common.{◌≡◌, true, Some, rules}
-use Rattle.qq_lines.specs.Numbers.{is_number, number_of}
+use Rattle.std.proofs.Common.{◌≡◌, true, rules}
+use Rattle.qq_lines.specs.Numbers.{is_number}
 use Rattle.qq_lines.proofs.Writings.{number_is, too_large, is_below, is_above, is_among}
 use Rattle.qq_lines.proofs.numbers.number_in.Goals as goal
 
