@@ -67,8 +67,10 @@ impl Line {
 
     fn resend(&mut self, alloc: Global) -> Result<(), Memory> {
         let mut commands = VecDeque::from_vec(self.client.resend(alloc)?);
-        'commands: while let Some(command) = commands.pop_front() {
-            self.wire.push_back(command)?;
+        for _ in 0..commands.len() {
+            if let Some(command) = commands.pop_front() {
+                self.wire.push_back(command)?;
+            }
         }
         Ok(())
     }
@@ -116,8 +118,10 @@ impl Line {
     // All that is open comes, and each answer is heard.
     fn settle(&mut self, alloc: Global) -> Result<(), Memory> {
         let mut commands = VecDeque::from_vec(self.client.resend(alloc)?);
-        'commands: while let Some(command) = commands.pop_front() {
-            self.apply(alloc, command, true)?;
+        for _ in 0..commands.len() {
+            if let Some(command) = commands.pop_front() {
+                self.apply(alloc, command, true)?;
+            }
         }
         Ok(())
     }

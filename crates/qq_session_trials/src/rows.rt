@@ -1,10 +1,22 @@
 use qq_base::{Index, SessionId};
 use qq_entry::{Answer, Delivery, Message, Stamp};
 use qq_model::{Gate, Worker};
-use qq_sessions::{Kepts, SessionRow, Sessions};
+use qq_sessions::{SessionRow, Sessions};
 use std::alloc::Global;
 use std::collections::VecDeque;
 use std::test::Fail;
+
+const FIVE: SessionId = SessionId {
+    class: 1,
+    owner: 0,
+    number: 5,
+};
+
+const THREE: SessionId = SessionId {
+    class: 1,
+    owner: 0,
+    number: 3,
+};
 
 fn first_stamp(number: u64) -> Stamp {
     Stamp {
@@ -18,17 +30,11 @@ fn first_stamp(number: u64) -> Stamp {
     }
 }
 
-fn row(number: u64, next: u64, kept: Kepts, tag: u32) -> SessionRow {
-    SessionRow {
-        session: SessionId {
-            class: 1,
-            owner: 0,
-            number,
-        },
-        next,
-        mark: 0,
-        kept,
-        tag,
+// The number and the greatest tag of the session at a place.
+fn session_at(sessions: &Sessions, place: usize) -> Option<(u64, u32)> {
+    match sessions.row_at(place) {
+        Some(row) => Some((row.session.number, row.tag)),
+        None => None,
     }
 }
 
@@ -61,8 +67,20 @@ fn what_sessions_are_made_of_is_read_by_place(rt: HostRuntime) -> Result<(), Fai
     kept.push_back(got(9))?;
     kept.push_back(Answer::Confirmed)?;
     kept.push_back(got(4))?;
-    let first = row(5, 4, kept, 2);
-    let second = row(3, 1, VecDeque::new(alloc), 0);
+    let first = SessionRow {
+        session: FIVE,
+        next: 4,
+        mark: 0,
+        kept,
+        tag: 2,
+    };
+    let second = SessionRow {
+        session: THREE,
+        next: 1,
+        mark: 0,
+        kept: VecDeque::new(alloc),
+        tag: 0,
+    };
     let rows = Vec::from_array(alloc, [first, second])?;
     let ended = Vec::from_array(alloc, [2, 7])?;
     let worker = Worker {
@@ -71,11 +89,9 @@ fn what_sessions_are_made_of_is_read_by_place(rt: HostRuntime) -> Result<(), Fai
     };
     let workers = Vec::from_array(alloc, [worker])?;
     let sessions = Sessions::from_parts(alloc, rows, ended, workers, 8)?;
-    let first = sessions.row_at(0).map(|row| (row.session.number, row.tag));
-    assert_eq!(rt; first, Some((5, 2)));
-    let second = sessions.row_at(1).map(|row| (row.session.number, row.tag));
-    assert_eq!(rt; second, Some((3, 0)));
-    assert!(rt; sessions.row_at(2).is_none());
+    assert_eq!(rt; session_at(&sessions, 0), Some((5, 2)));
+    assert_eq!(rt; session_at(&sessions, 1), Some((3, 0)));
+    assert_eq!(rt; session_at(&sessions, 2), None);
     assert_eq!(rt;
         (sessions.ended_at(1), sessions.ended_at(2)),
         (Some(7), None)
