@@ -23,6 +23,3 @@ pub use reading::decode;
 pub use rpc::{AppendMsg, AppendedMsg, InstallMsg, InstalledMsg, Rpc, VoteMsg, VotedMsg};
 pub use state::{Jobs, MemberState, Role, SnapshotJob};
 pub use writing::encode;
-
-#[cfg(test)]
-mod tests;

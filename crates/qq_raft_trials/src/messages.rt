@@ -1,8 +1,8 @@
-use super::*;
 use qq_base::{Bytes, Index, Memory, NodeId, QueueId, Term};
 use qq_command::Refusal;
 use qq_entry::{Answer, Command, Effects, Entries, Entry};
 use qq_log::{Lane, Log};
+use qq_raft_msg::*;
 use std::alloc::Global;
 use std::process::Abort;
 use std::test::Fail;
@@ -16,6 +16,13 @@ const VOTED: &str = "020201 0000000000000003 01";
 /// From 1 to 3 in term 3: behind entry 1 of term 1, commit 1, one first entry of term 3 and time 5.
 const APPEND: &str = "030103 0000000000000003 0000000000000001 0000000000000001 0000000000000001 \
     00000001 0000000000000003 0000000a 0000000000000005 00 01";
+
+/// The same for 64 entries, which follow.
+const APPEND_64: &str = "030103 0000000000000003 0000000000000001 0000000000000001 \
+    0000000000000001 00000040";
+
+/// An entry of term 3 and time 5.
+const NOOP: &str = "0000000000000003 0000000a 0000000000000005 00 01";
 
 /// From 3 to 1 in term 3: not there, go on from 5.
 const APPENDED: &str = "040301 0000000000000003 00 0000000000000005";
@@ -123,16 +130,42 @@ fn entries_and_snapshots_have_their_bytes(rt: HostRuntime) -> Result<(), Fail> {
     stand_for(&rt, alloc, INSTALL, &install)
 }
 
-/// The bytes are refused so.
-fn are_refused(rt: &impl Abort, alloc: Global, text: &str, wanted: Refusal) -> Result<(), Fail> {
-    let bytes = bytes_of(alloc, text)?;
-    match decode(alloc, &bytes) {
+fn refuses(rt: &impl Abort, alloc: Global, bytes: &[u8], wanted: Refusal) -> Result<(), Fail> {
+    match decode(alloc, bytes) {
         Ok(_) => Err("the bytes are a message".into()),
         Err(refusal) => {
             assert_eq!(rt; refusal, wanted);
             Ok(())
         }
     }
+}
+
+/// The bytes are refused so.
+fn are_refused(rt: &impl Abort, alloc: Global, text: &str, wanted: Refusal) -> Result<(), Fail> {
+    let bytes = bytes_of(alloc, text)?;
+    refuses(rt, alloc, bytes.as_slice(), wanted)
+}
+
+/// A message that says 64 entries and has so many.
+fn append_with(alloc: Global, count: usize) -> Result<Vec<u8>, Fail> {
+    let mut bytes = bytes_of(alloc, APPEND_64)?;
+    let entry = bytes_of(alloc, NOOP)?;
+    for _ in 0..count {
+        bytes.extend_from_slice(entry.as_slice())?;
+    }
+    Ok(bytes)
+}
+
+#[test]
+fn as_many_entries_are_read_as_are_said(rt: HostRuntime) -> Result<(), Fail> {
+    let alloc = rt.alloc();
+    let bytes = append_with(alloc, 64)?;
+    let (rpc, taken) = decode(alloc, bytes.as_slice())?;
+    assert_eq!(rt; taken, 1447);
+    assert!(rt; matches!(&rpc, Rpc::Append(_)));
+    assert_eq!(rt; encode(alloc, &rpc)?.as_slice(), bytes.as_slice());
+    refuses(&rt, alloc, &append_with(alloc, 63)?, Refusal::Short)?;
+    refuses(&rt, alloc, bytes.split_at(1446).0, Refusal::Short)
 }
 
 #[test]
@@ -150,6 +183,21 @@ fn each_refusal_has_its_place(rt: HostRuntime) -> Result<(), Fail> {
     are_refused(&rt, alloc, "0100", Refusal::BadField)?;
     are_refused(&rt, alloc, "010108", Refusal::BadField)?;
     are_refused(&rt, alloc, "020201 0000000000000003 02", Refusal::BadField)
+}
+
+/// From 1 to 3 in term 3: an entry of term 3 follows.
+const APPEND_OF_ONE: &str = "030103 0000000000000003 0000000000000001 0000000000000001 \
+    0000000000000001 00000001 0000000000000003";
+
+#[test]
+fn an_entry_is_refused_as_its_own_decoder_does(rt: HostRuntime) -> Result<(), Fail> {
+    let alloc = rt.alloc();
+    let mut longer = bytes_of(alloc, APPEND_OF_ONE)?;
+    longer.extend_from_slice(&[0, 4, 0, 1])?;
+    refuses(&rt, alloc, &longer, Refusal::TooLarge)?;
+    let mut unknown = bytes_of(alloc, APPEND_OF_ONE)?;
+    unknown.extend_from_slice(&[0, 0, 0, 9, 0, 0, 0, 0, 0, 0, 0, 5, 255])?;
+    refuses(&rt, alloc, &unknown, Refusal::BadKind)
 }
 
 #[test]
