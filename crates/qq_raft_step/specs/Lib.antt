@@ -1,3 +1,4 @@
+pub mod Example
 pub mod Leading
 pub mod Server
 pub mod State

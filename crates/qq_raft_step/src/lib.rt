@@ -1,8 +1,14 @@
 //! A Raft server's step, as a definition: what each input makes of a server, what it hands to its log's disk
+//! and what it sends. It has no code but laws.
 #![tactic(auto)]
 
+mod examples;
 mod limits;
 mod peer;
 
+pub use examples::{
+    a_vote_is_durable_single_and_for_a_current_log, an_append_cuts_only_what_differs,
+    an_entry_of_an_older_term_is_not_committed_by_counting,
+};
 pub use limits::{BATCH_BYTES, BATCH_ENTRIES};
 pub use peer::{Peer, Waiting};
