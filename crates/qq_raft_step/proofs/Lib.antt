@@ -1,0 +1,5 @@
+mod Fronts
+mod Later
+mod Moving
+mod Refining
+mod Votes

@@ -106,7 +106,7 @@ is_match m log =
 abbrev pub agreed : List Entry → List Entry → ℕ
 agreed [] own = 0
 agreed (e ∷ es) [] = 0
-agreed (e ∷ es) (f ∷ fs) = if e.term.0 == f.term.0 then 1 + agreed es fs else 0
+agreed (e ∷ es) (f ∷ fs) = if e.term.0 == f.term.0 then suc (agreed es fs) else 0
 
 abbrev pub has_agreed : AppendMsg → List Entry → ℕ
 has_agreed m log = agreed m.entries (drop m.prev_index.0 log)

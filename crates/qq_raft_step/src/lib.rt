@@ -1,8 +1,9 @@
 //! A Raft server's step, as a definition: what each input makes of a server, what it hands to its log's disk
-//! and what it sends. It has no code but laws.
+//! and what it sends; and laws that tie it to the protocol. It has no code but laws.
 #![tactic(auto)]
 
 mod examples;
+mod laws;
 mod limits;
 mod peer;
 
@@ -10,5 +11,6 @@ pub use examples::{
     a_vote_is_durable_single_and_for_a_current_log, an_append_cuts_only_what_differs,
     an_entry_of_an_older_term_is_not_committed_by_counting,
 };
+pub use laws::{a_request_for_a_vote_is_answered_by_moves, a_step_of_one_leaves_the_others};
 pub use limits::{BATCH_BYTES, BATCH_ENTRIES};
 pub use peer::{Peer, Waiting};

@@ -1,0 +1,145 @@
+-- What ties a server to the protocol: when it stands for a member of the protocol's world, and when what it does is a
+-- list of the protocol's moves.
+use Rattle.std.specs.Prelude.{◌≡◌, ◌⊎◌, ◌≤◌, ℕ, Bool, true, List, length, ◌++◌, Option, option_map}
+use Rattle.qq_base.specs.declared.ids.NodeId.{NodeId}
+use Rattle.qq_entry.specs.declared.command.Entry.{Entry}
+use Rattle.qq_raft_model.specs.Facts.{IsFront, In, Elects}
+use Rattle.qq_raft_model.specs.Moves.{Move, AreAllowed, run, last_term}
+use Rattle.qq_raft_model.specs.World.{Role as ModelRole, Lane, Ask, Grant, Ack, Sent, World, new_world}
+use Rattle.qq_raft_msg.specs.Rpc.{envelope}
+use Rattle.qq_raft_msg.specs.declared.rpc.AppendMsg.{AppendMsg}
+use Rattle.qq_raft_msg.specs.declared.rpc.AppendedMsg.{AppendedMsg}
+use Rattle.qq_raft_msg.specs.declared.rpc.Rpc.{Rpc}
+use Rattle.qq_raft_msg.specs.declared.rpc.Rpc.TheVariants.{Vote, Voted, Append, Appended, Install, Installed}
+use Rattle.qq_raft_msg.specs.declared.rpc.VoteMsg.{VoteMsg}
+use Rattle.qq_raft_msg.specs.declared.rpc.VotedMsg.{VotedMsg}
+use Rattle.qq_raft_msg.specs.declared.state.Role.{Role}
+use Rattle.qq_raft_msg.specs.declared.state.Role.TheVariants.{Leader, Candidate, Follower}
+use Rattle.qq_raft_step.specs.State.{Server}
+use Rattle.qq_raft_step.specs.declared.peer.Peer.{Peer}
+use Rattle.qq_raft_step.specs.declared.peer.Waiting.{Waiting}
+
+-- ---- a server as a member
+
+abbrev pub number : NodeId → ℕ
+number node = node.0
+
+abbrev pub lane_of : Server → Lane
+lane_of s = record { op = s.op; term = s.term.0; vote = option_map number s.vote; log = s.log }
+
+abbrev pub role_of : Role → ModelRole
+role_of Leader = ModelRole.Leader
+role_of Candidate = ModelRole.Candidate
+role_of Follower = ModelRole.Follower
+
+-- ---- messages: what was said in the world, and speaks of this change
+
+-- something in a list is so
+pub record There {A : Type 0} (xs : List A) (P : A → Type 0) : Type 0 where
+  pub item : A
+  pub here : In item xs
+  pub is : P item
+
+pub record Asks (op : ℕ) (m : VoteMsg) (x : Ask) : Type 0 where
+  pub from : x.from ≡ m.from.0
+  pub term : x.term ≡ m.term.0
+  pub op_is : x.op ≡ op
+  pub last_index : length x.log ≡ m.last_index.0
+  pub last : last_term x.log ≡ m.last_term.0
+
+pub record Grants (op : ℕ) (m : VotedMsg) (x : Grant) : Type 0 where
+  pub from : x.from ≡ m.from.0
+  pub to : x.to ≡ m.to.0
+  pub term : x.term ≡ m.term.0
+  pub op_is : x.op ≡ op
+
+-- the entries end what was sent, and the ones before them end as the message says
+pub record Sends (m : AppendMsg) (x : Sent) : Type 0 where
+  pub from : x.from ≡ m.from.0
+  pub term : x.term ≡ m.term.0
+  pub before : List Entry
+  pub front : x.front ≡ before ++ m.entries
+  pub prev_index : length before ≡ m.prev_index.0
+  pub prev_term : last_term before ≡ m.prev_term.0
+  pub commit : length x.done ≡ m.commit.0
+  pub agree : IsFront x.done x.front ⊎ IsFront x.front x.done
+
+pub record Acks (op : ℕ) (m : AppendedMsg) (x : Ack) : Type 0 where
+  pub from : x.from ≡ m.from.0
+  pub term : x.term ≡ m.term.0
+  pub upto : m.index.0 ≤ x.upto
+  pub op_is : x.op ≡ op
+
+abbrev pub Says : List Ask → List Grant → List Ack → List Sent → ℕ → Rpc → Type 0
+Says asks grants acks sents op (Vote m) = There asks (Asks op m)
+Says asks grants acks sents op (Voted m) = m.granted ≡ true → There grants (Grants op m)
+Says asks grants acks sents op (Append m) = There sents (Sends m)
+Says asks grants acks sents op (Appended m) = m.ok ≡ true → There acks (Acks op m)
+Says asks grants acks sents op (Install m) = Unit {0}
+Says asks grants acks sents op (Installed m) = Unit {0}
+
+-- a message of this node speaks of a change
+pub record IsSaid (w : World) (node op : ℕ) (r : Rpc) : Type 0 where
+  pub from : (envelope r).from.0 ≡ node
+  pub says : Says w.asks w.grants w.acks w.sents op r
+
+-- a message that is on its way: the change that it speaks of is durable at its sender
+pub record IsOnItsWay (w : World) (r : Rpc) : Type 0 where
+  pub node : ℕ
+  pub op : ℕ
+  pub said : IsSaid w node op r
+  pub durable : op ≤ (w.member node).noticed
+
+-- ---- when a server stands for a member
+
+-- the entries up to here are durable at the peer, as far as the server knows
+pub record HasMatched (w : World) (term : ℕ) (peer : Peer) : Type 0 where
+  pub ack : Ack
+  pub said : In ack w.acks
+  pub from : ack.from ≡ peer.node.0
+  pub term_is : ack.term ≡ term
+  pub upto : peer.matched ≤ ack.upto
+  pub durable : ack.op ≤ (w.member ack.from).noticed
+
+pub record Stands (w : World) (k : ℕ) (s : Server) : Type 0 where
+  pub node : s.node.0 ≡ k
+  pub lane : (w.member k).mine ≡ lane_of s
+  pub noticed : (w.member k).noticed ≡ s.noticed
+  pub role : w.role k ≡ role_of s.role
+  pub commit : length (w.done k) ≡ s.commit
+  pub votes : s.role ≡ Candidate → (p : Peer) → In p s.peers → p.granted ≡ true → Elects w s.term.0 k p.node.0
+  pub matches : s.role ≡ Leader → (p : Peer) → In p s.peers → (p.matched ≡ 0) ⊎ HasMatched w s.term.0 p
+  pub waiting : (x : Waiting) → In x s.waiting → IsSaid w k x.op x.rpc
+  pub out : (r : Rpc) → In r s.out → IsOnItsWay w r
+
+-- ---- what a member's moves leave of the rest
+
+-- no message is gone, and what was durable is
+pub record Later (w v : World) : Type 0 where
+  pub asks : (x : Ask) → In x w.asks → In x v.asks
+  pub grants : (x : Grant) → In x w.grants → In x v.grants
+  pub acks : (x : Ack) → In x w.acks → In x v.acks
+  pub sents : (x : Sent) → In x w.sents → In x v.sents
+  pub noticed : (q : ℕ) → (w.member q).noticed ≤ (v.member q).noticed
+
+-- all others are as they were
+pub record OnlyMoves (k : ℕ) (w v : World) : Type 0 where
+  pub later : Later w v
+  pub member : (q : ℕ) → (q ≡ k → ⊥) → v.member q ≡ w.member q
+  pub role : (q : ℕ) → (q ≡ k → ⊥) → v.role q ≡ w.role q
+  pub done : (q : ℕ) → (q ≡ k → ⊥) → v.done q ≡ w.done q
+
+-- ---- when what a server does is the protocol's
+
+-- moves that are allowed lead to a world in which it stands for the member, and nothing else has changed
+pub record Refines (members : List ℕ) (w : World) (k : ℕ) (s : Server) : Type 0 where
+  pub moves : List Move
+  pub allowed : AreAllowed members w moves
+  pub stands : Stands (run w moves) k s
+  pub only : OnlyMoves k w (run w moves)
+
+-- a world that allowed moves lead to
+pub record IsReached (members : List ℕ) (w : World) : Type 0 where
+  pub moves : List Move
+  pub allowed : AreAllowed members new_world moves
+  pub is : w ≡ run new_world moves
