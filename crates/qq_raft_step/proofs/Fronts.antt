@@ -67,6 +67,13 @@ either-same {a = a} {b = b} e same =
       | inr p ↦ sym (front-whole p (omega (arith, same)))
     ]
 
+pub front-shorter : {A : Type 0} {a b c : List A} → IsFront a c → IsFront b c → length a ≤ length b → IsFront a b
+front-shorter {a = a} {b = b} p q le =
+    elim (front-compare p q) [
+      | inl front ↦ front
+      | inr front ↦ subst (λ x. IsFront x b) (front-whole front le) (front-refl b)
+    ]
+
 pub In-append : {A : Type 0} (x : A) (xs ys : List A) → In x (xs ++ ys) → In x xs ⊎ In x ys
 In-append x [] ys here = inr here
 In-append x (y ∷ xs) ys (inl same) = inl (inl same)

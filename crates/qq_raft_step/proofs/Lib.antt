@@ -1,5 +1,9 @@
+mod Appends
+mod Fits
 mod Fronts
 mod Later
+mod Learning
+mod Matches
 mod Moving
 mod Refining
 mod Votes

@@ -3,6 +3,7 @@ use Rattle.std.proofs.Common.{◌≡◌, ◌⊎◌, ℕ, ◌≤◌, ◌<◌, Boo
 use Rattle.std.proofs.lemmas.Bool.{cond_both, cond-true, cond-false, cases_Bool, or_cases, and_parts, ltb-true, ltb-false, leb-true, eqb-true, false≢true}
 use Rattle.std.specs.Prelude.{option_map}
 use Rattle.qq_base.specs.declared.ids.NodeId.{NodeId}
+use Rattle.qq_base.specs.declared.ids.Term.{Term}
 use Rattle.qq_entry.specs.declared.command.Entry.{Entry}
 use Rattle.qq_log.specs.Same.{same_vote}
 use Rattle.qq_raft_model.specs.Moves.{MayVote, IsCurrent, last_term}
@@ -44,11 +45,11 @@ current_is own log m long same e =
     ]
 
 -- in the own term the vote is the own one
-vote_there : (m : VoteMsg) (s : Server) → s.term.0 ≡ m.term.0 → vote_in m.term s ≡ s.vote
-vote_there m s same =
-    elim (cases_Bool (ltb s.term.0 m.term.0)) [
-      | inl later ↦ let lt = ltb-true s.term.0 m.term.0 later in absurd (omega (arith, lt, same))
-      | inr own ↦ cond-false (ltb s.term.0 m.term.0) None s.vote own
+pub vote_there : (term : Term) (s : Server) → s.term.0 ≡ term.0 → vote_in term s ≡ s.vote
+vote_there term s same =
+    elim (cases_Bool (ltb s.term.0 term.0)) [
+      | inl later ↦ let lt = ltb-true s.term.0 term.0 later in absurd (omega (arith, lt, same))
+      | inr own ↦ cond-false (ltb s.term.0 term.0) None s.vote own
     ]
 
 -- ---- the vote is given
@@ -98,7 +99,7 @@ refines-give {members} {w} {k} {s} m st le free =
     (λ _. refines-refl st)
     (λ _.
     refines-change (leader_in m.term s) m.term (Some m.from) st le
-    (λ same. vote_free s.vote m.from (ap (λ v. is_free v m.from) (sym (vote_there m s same)) ∙ free)))
+    (λ same. vote_free s.vote m.from (ap (λ v. is_free v m.from) (sym (vote_there m.term s same)) ∙ free)))
 
 may_give : {w : World} {k : ℕ} {s t : Server} (m : VoteMsg) (x : IsOnItsWay w (Vote m)) → Stands w k t
     → HasGiven m s t → MayVote w (w.member k).mine x.said.says.item

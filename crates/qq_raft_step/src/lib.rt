@@ -11,6 +11,9 @@ pub use examples::{
     a_vote_is_durable_single_and_for_a_current_log, an_append_cuts_only_what_differs,
     an_entry_of_an_older_term_is_not_committed_by_counting,
 };
-pub use laws::{a_request_for_a_vote_is_answered_by_moves, a_step_of_one_leaves_the_others};
+pub use laws::{
+    a_request_for_a_vote_is_answered_by_moves, a_step_of_one_leaves_the_others,
+    sent_entries_are_taken_by_moves,
+};
 pub use limits::{BATCH_BYTES, BATCH_ENTRIES};
 pub use peer::{Peer, Waiting};
