@@ -1,0 +1,37 @@
+use Rattle.std.proofs.Common.{◌≡◌, ◌+◌, ◌-◌, [], ◌∷◌, ◌++◌, drop, sym, ap, ◌∙◌, arith}
+use Rattle.std.proofs.lemmas.Option.{slice_get_within}
+use Rattle.qq_entry.specs.declared.command.Entry.{Entry}
+use Rattle.qq_raft_step.specs.declared.limits.TheConstants.{BATCH_BYTES}
+use Rattle.qq_raft_step.specs.Leading.{fit}
+use Rattle.qq_raft.proofs.Entries.{batch-first, batch-none, entry-known}
+use Rattle.qq_raft.proofs.batch.batch_from.Goals as goal
+
+pub returns-in_default-clause-ok : goal.returns-in_default-clause-ok
+returns-in_default-clause-ok g c =
+    let log = g.L.LogView.log c.args.log.now in
+    let place = c.saturating_sub-place.result in
+    let past = sym (entry-known log place c.requires.whole) ∙ c.in_default.ensures.none in
+    c.from_vec.ensures ∙ c.new-entries.ensures.items
+    ∙ sym (batch-none log.entries c.args.next place c.saturating_sub-place.ensures past)
+
+pub returns-clause-ok : goal.returns-clause-ok
+returns-clause-ok g c =
+    let log = g.L.LogView.log c.args.log.now in
+    let place = c.saturating_sub-place.result in
+    let first = c.in-Some.first.now in
+    let room = c.saturating_sub-room.result in
+    let there = sym (entry-known log place c.requires.whole) ∙ c.in-Some.ensures.some in
+    let left = c.saturating_sub-room.ensures ∙ ap (λ n. BATCH_BYTES - n) c.weight.ensures in
+    c.from_vec-2.ensures ∙ c.in_ok-add_fitting.ensures.ok
+    ∙ ap (λ es. es ++ fit 63 room (drop (place + 1) log.entries))
+    (c.in_ok-push.ensures.items ∙ ap (λ es. es ++ c.in_ok-copy.field-0 ∷ []) c.new-entries.ensures.items
+    ∙ ap (λ (e : Entry). e ∷ []) c.in_ok-copy.ensures.ok)
+    ∙ batch-first log.entries c.args.next place room first c.saturating_sub-place.ensures there left
+
+pub add_fitting-requires-clause-within : goal.add_fitting-requires-clause-within
+add_fitting-requires-clause-within g c =
+    let log = g.L.LogView.log c.args.log.now in
+    let place = c.saturating_sub-place.result in
+    let there = sym (entry-known log place c.requires.whole) ∙ c.in-Some.ensures.some in
+    let lt = slice_get_within log.entries place c.in-Some.first.now there in
+    omega (arith, lt, c.requires.last)

@@ -1,0 +1,17 @@
+use Rattle.std.proofs.Common.{◌≤◌, arith}
+use Rattle.std.proofs.lemmas.List.Elements.{All-set}
+use Rattle.qq_base.specs.declared.memory.TheConstants.{NUMBER_END}
+use Rattle.qq_raft_step.specs.declared.peer.Peer.{Peer}
+use Rattle.qq_raft.specs.Peers.{change_peer}
+use Rattle.qq_raft.proofs.InPlace.{mapped_front, mapped_rest}
+use Rattle.qq_raft.proofs.peers.change_each.Goals as goal
+
+pub peers-preserved : goal.peers-preserved
+peers-preserved c = record {
+  front = mapped_front (change_peer c.args.change) c.args.peers.now c.peers.peers c.peers.peer-index _
+      c.change_peer.new.peer (omega arith) (omega arith) c.peers.invariant.front c.peers.invariant.rest
+      c.change_peer.ensures.value;
+  rest = mapped_rest c.args.peers.now c.peers.peers c.peers.peer-index c.change_peer.new.peer
+      c.peers.invariant.rest;
+  each = All-set (λ (p : Peer). p.matched ≤ NUMBER_END) c.peers.peers c.peers.peer-index c.change_peer.new.peer c.change_peer.ensures.matched c.peers.invariant.each;
+}

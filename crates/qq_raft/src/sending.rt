@@ -1,0 +1,170 @@
+//! What a leader sends to the others.
+ghost use Rattle.std.specs.Prelude.{◌≡◌, ◌≤◌, ◌<◌, ◌^◌, ◌++◌, All, length, map, filter, IfOk, IfErr, OnOk, IsOkUnless, if◌then◌else◌};
+ghost use Rattle.qq_base.specs.declared.memory.TheConstants.{NUMBER_END};
+ghost use Rattle.qq_log.specs.Stable.{no_snapshot};
+ghost use Rattle.qq_raft_msg.specs.declared.rpc.Rpc.TheVariants.{Append};
+ghost use Rattle.qq_raft_step.specs.declared.peer.Peer.{Peer};
+ghost use Rattle.qq_raft_step.specs.State.{last, change};
+ghost use Rattle.qq_raft_step.specs.Leading.{pass, send, add_entry};
+ghost use Rattle.qq_raft.specs.Peers.{picks, append_from, sent_to, passed};
+ghost use Rattle.qq_raft.specs.Raft.{server_of, IsSound, IsCaused};
+
+use crate::batch::{batch_from, term_at};
+use crate::peers::Target;
+use crate::raft::Raft;
+use qq_base::{Duplicate, Index, Memory, NodeId, Term};
+use qq_entry::{Entries, Entry};
+use qq_raft_msg::{AppendMsg, LogView, Rpc};
+use qq_raft_step::Peer;
+use std::alloc::Global;
+use std::collections::VecDeque;
+
+/// Who sends, and what the others are told.
+#[derive(Clone, Copy)]
+struct Sender {
+    node: NodeId,
+    term: Term,
+    commit: u64,
+}
+
+/// The message for one member.
+fn append_from<L: LogView>(
+    alloc: Global,
+    sender: Sender,
+    log: &L,
+    peer: &Peer,
+) -> Result<AppendMsg, Memory>
+    requires whole { (L.log log.now).base ≡ no_snapshot }
+    requires last { length (L.log log.now).entries ≤ NUMBER_END }
+    ensures ok { IfOk result (λ m. Append m
+        ≡ append_from sender.node sender.term sender.commit (L.log log.now).entries peer.now) }
+    ensures want { IsOkUnless result Memory.Want }
+{
+    let before = peer.next.saturating_sub(1);
+    Ok(AppendMsg {
+        from: sender.node,
+        to: peer.node,
+        term: sender.term,
+        prev_index: Index(before),
+        prev_term: term_at(log, before),
+        commit: Index(sender.commit),
+        entries: batch_from(alloc, log, peer.next)?,
+    })
+}
+
+/// Sends to one member, if it is picked: its next entry is behind what was sent.
+fn send_to<L: LogView>(
+    alloc: Global,
+    sender: Sender,
+    log: &L,
+    target: Target,
+    peer: &mut Peer,
+    out: &mut VecDeque<Rpc>,
+) -> Result<(), Memory>
+    requires whole { (L.log log.now).base ≡ no_snapshot }
+    requires last { length (L.log log.now).entries ≤ NUMBER_END }
+    requires matched { peer.old.matched ≤ NUMBER_END }
+    ensures ok { OnOk result (out.new.items ≡ out.old.items
+        ++ sent_to target sender.node sender.term sender.commit (L.log log.now).entries peer.old) }
+    ensures peer { OnOk result (peer.new ≡ passed target (L.log log.now).entries peer.old) }
+    ensures matched { peer.new.matched ≤ NUMBER_END }
+    ensures want { IsOkUnless result Memory.Want }
+{
+    if !target.picks(log.last().0, peer) {
+        return Ok(());
+    }
+    let message = append_from(alloc, sender, log, peer)?;
+    let count = message.entries.len() as u64;
+    out.push_back(Rpc::Append(message))?;
+    peer.next += count;
+    Ok(())
+}
+
+/// Sends to each member that is picked.
+fn send_to_each<L: LogView>(
+    alloc: Global,
+    sender: Sender,
+    log: &L,
+    target: Target,
+    peers: &mut [Peer],
+    out: &mut VecDeque<Rpc>,
+) -> Result<(), Memory>
+    requires whole { (L.log log.now).base ≡ no_snapshot }
+    requires last { length (L.log log.now).entries ≤ NUMBER_END }
+    requires matched { All (λ (p : Peer). p.matched ≤ NUMBER_END) peers.old }
+    ensures ok { OnOk result (out.new.items ≡ out.old.items
+        ++ map (append_from sender.node sender.term sender.commit (L.log log.now).entries)
+        (filter (picks target (length (L.log log.now).entries)) peers.old)) }
+    ensures peers { OnOk result (peers.new ≡ map (passed target (L.log log.now).entries) peers.old) }
+    ensures matched { All (λ (p : Peer). p.matched ≤ NUMBER_END) peers.new }
+    ensures want { IsOkUnless result Memory.Want }
+{
+    'peers: for peer in peers.iter_mut() {
+        send_to(alloc, sender, log, target, peer, out)?;
+    }
+    Ok(())
+}
+
+fn send_to_all<L: LogView>(
+    alloc: Global,
+    sender: Sender,
+    log: &L,
+    target: Target,
+    peers: &mut Vec<Peer>,
+    out: &mut VecDeque<Rpc>,
+) -> Result<(), Memory>
+    requires whole { (L.log log.now).base ≡ no_snapshot }
+    requires last { length (L.log log.now).entries ≤ NUMBER_END }
+    requires matched { All (λ (p : Peer). p.matched ≤ NUMBER_END) peers.old.items }
+    ensures ok { OnOk result (out.new.items ≡ out.old.items
+        ++ map (append_from sender.node sender.term sender.commit (L.log log.now).entries)
+        (filter (picks target (length (L.log log.now).entries)) peers.old.items)) }
+    ensures peers { OnOk result
+        (peers.new.items ≡ map (passed target (L.log log.now).entries) peers.old.items) }
+    ensures matched { All (λ (p : Peer). p.matched ≤ NUMBER_END) peers.new.items }
+    ensures want { IsOkUnless result Memory.Want }
+{
+    send_to_each(alloc, sender, log, target, peers, out)
+}
+
+impl<L: LogView> Raft<L> {
+    /// Sends each member that is picked what it lacks.
+    #[tactic(auto, unfolding(qq_raft_step::specs::Leading::send))]
+    pub(crate) fn send(&mut self, alloc: Global, target: Target) -> Result<(), Memory>
+        requires sound { IsSound L.log self.old }
+        ensures sound { OnOk result (IsSound L.log self.new) }
+        ensures ok { OnOk result (server_of L.log self.new
+            ≡ send (picks target (last (server_of L.log self.old))) (server_of L.log self.old)) }
+        ensures want { IsOkUnless result Memory.Want }
+    {
+        let sender = Sender {
+            node: self.node,
+            term: self.term,
+            commit: self.commit,
+        };
+        send_to_all(
+            alloc,
+            sender,
+            &self.log,
+            target,
+            &mut self.peers,
+            &mut self.out,
+        )
+    }
+
+    /// A leader adds an entry and sends it.
+    #[tactic(auto, unfolding(qq_raft_step::specs::Leading::add_entry))]
+    pub(crate) fn add_entry(&mut self, alloc: Global, entry: Entry) -> Result<(), Memory>
+        requires sound { IsSound L.log self.old }
+        ensures sound { OnOk result (IsSound L.log self.new) }
+        ensures ok { OnOk result (server_of L.log self.new
+            ≡ add_entry entry (server_of L.log self.old)) }
+        ensures cause { IfErr result (IsCaused (server_of L.log self.old)) }
+    {
+        let mut entries = Entries::new(alloc);
+        entries.push(entry)?;
+        let (term, vote, last) = (self.term, self.vote, self.last());
+        self.change(alloc, term, vote, last, entries)?;
+        self.send(alloc, Target::Everyone)
+    }
+}
