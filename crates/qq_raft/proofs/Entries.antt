@@ -1,5 +1,5 @@
 -- Entries by their places.
-use Rattle.std.proofs.Common.{◌≡◌, ◌≢◌, ◌⊎◌, inl, inr, ℕ, zero, suc, ◌+◌, ◌-◌, ◌^◌, ◌<◌, ◌≤◌, Bool, true, false, List, [], ◌∷◌, ◌++◌, length, take, drop, Option, Some, None, refl, sym, ap, subst, ◌∙◌, arith}
+use Rattle.std.proofs.Common.{◌≡◌, ◌≢◌, ◌⊎◌, inl, inr, ℕ, zero, suc, ◌+◌, ◌-◌, ◌^◌, ◌<◌, ◌≤◌, Bool, true, false, List, [], ◌∷◌, length, take, drop, Option, Some, None, refl, sym, ap, ◌∙◌, arith}
 use Rattle.std.specs.Prelude.{slice_get, min, nat_le, option_map, ◌==◌, if◌then◌else◌}
 use Rattle.std.proofs.lemmas.Bool.{le-leb, lt-leb, eq-eqb, ne_eqb, cases_lt}
 use Rattle.std.proofs.Math.Seq.{take-nil}
@@ -123,7 +123,7 @@ agreed-nil (e ∷ es) = refl
 -- one more has the own one's term
 pub agreed-more : (es log : List Entry) (k before : ℕ) (e f : Entry)
     → slice_get es k ≡ Some e → slice_get log (before + k) ≡ Some f → e.term.0 ≡ f.term.0
-    → agreed (drop k es) (drop (before + k) log) ≡ 1 + agreed (drop (k + 1) es) (drop (before + (k + 1)) log)
+    → agreed (drop k es) (drop (before + k) log) ≡ suc (agreed (drop (k + 1) es) (drop (before + (k + 1)) log))
 agreed-more es log k before e f there own same =
     let n : before + (k + 1) ≡ before + k + 1 = omega arith in
     rw (drop-some es k e there, drop-some log (before + k) f own, n, eq-eqb _ _ same) refl
@@ -145,7 +145,7 @@ agreed-within [] log = omega arith
 agreed-within (e ∷ es) [] = omega arith
 agreed-within (e ∷ es) (f ∷ fs) = by (e.term.0 == f.term.0) (agreed-within es fs)
   where
-    by : (b : Bool) → agreed es fs ≤ length es → (if b then 1 + agreed es fs else 0) ≤ length (e ∷ es)
+    by : (b : Bool) → agreed es fs ≤ length es → (if b then suc (agreed es fs) else 0) ≤ length (e ∷ es)
     by true le = omega (arith, le)
     by false le = omega arith
 
@@ -154,7 +154,7 @@ agreed-there [] log = omega arith
 agreed-there (e ∷ es) [] = omega arith
 agreed-there (e ∷ es) (f ∷ fs) = by (e.term.0 == f.term.0) (agreed-there es fs)
   where
-    by : (b : Bool) → agreed es fs ≤ length fs → (if b then 1 + agreed es fs else 0) ≤ length (f ∷ fs)
+    by : (b : Bool) → agreed es fs ≤ length fs → (if b then suc (agreed es fs) else 0) ≤ length (f ∷ fs)
     by true le = omega (arith, le)
     by false le = omega arith
 

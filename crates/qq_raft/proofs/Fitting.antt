@@ -2,7 +2,6 @@
 use Rattle.std.proofs.Common.{◌≡◌, ◌≤◌, ℕ, true}
 use Rattle.std.proofs.lemmas.Bool.{and_parts, leb-true}
 use Rattle.qq_base.specs.declared.memory.TheConstants.{NUMBER_END}
-use Rattle.qq_raft_msg.specs.Rpc.{envelope}
 use Rattle.qq_raft_msg.specs.declared.rpc.Rpc.{Rpc}
 use Rattle.qq_raft_msg.specs.declared.rpc.Rpc.TheVariants.{Vote, Voted, Append, Appended, Install, Installed}
 use Rattle.qq_raft_step.specs.State.{Server}

@@ -1,6 +1,5 @@
 //! What the layer above calls.
-ghost use Rattle.std.specs.Prelude.{◌≡◌, ◌+◌, ◌≤◌, ◌<◌, ◌^◌, Ok, true, false, not, drop, filter, map, length, nat_eq, slice_get, IfOk, IfErr, OnOk, OnErr, IsOkUnless};
-ghost use Rattle.qq_base.specs.declared.memory.TheConstants.{NUMBER_END};
+ghost use Rattle.std.specs.Prelude.{◌≡◌, ◌<◌, ◌^◌, Ok, true, false, not, drop, filter, map, length, nat_eq, slice_get, IfOk, IfErr, OnOk, OnErr, IsOkUnless};
 ghost use Rattle.qq_log.specs.Stable.{no_snapshot};
 ghost use Rattle.qq_raft_step.specs.State.{last};
 ghost use Rattle.qq_raft_step.specs.Server.{new_peer, restart, tick, receive, is_ready, submit, notice};

@@ -1,5 +1,5 @@
 //! How a leader learns that entries are committed.
-ghost use Rattle.std.specs.Prelude.{◌≡◌, ◌+◌, ◌-◌, ◌≤◌};
+ghost use Rattle.std.specs.Prelude.{◌≡◌, ◌+◌, ◌-◌};
 ghost use Rattle.qq_raft_step.specs.State.{last};
 ghost use Rattle.qq_raft_step.specs.Leading.{durable, may_commit, commit_within, advance};
 ghost use Rattle.qq_raft.specs.Raft.{server_of, IsSound};

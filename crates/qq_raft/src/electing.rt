@@ -1,5 +1,5 @@
 //! How a server stands for election, and leads.
-ghost use Rattle.std.specs.Prelude.{◌≡◌, ◌+◌, ◌≤◌, ◌<◌, map, IfErr, OnOk, IsOkUnless};
+ghost use Rattle.std.specs.Prelude.{◌≡◌, ◌+◌, map, IfErr, OnOk, IsOkUnless};
 ghost use Rattle.qq_base.specs.declared.memory.TheConstants.{NUMBER_END};
 ghost use Rattle.qq_raft_msg.specs.declared.rpc.Rpc.TheVariants.{Vote};
 ghost use Rattle.qq_raft_step.specs.State.{last, say_all};

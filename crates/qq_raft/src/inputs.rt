@@ -1,7 +1,6 @@
 //! What makes a server act beside messages: time, clients, and its log's disk.
-ghost use Rattle.std.specs.Prelude.{◌≡◌, ◌+◌, ◌++◌, false, nat_le, slice_get, IfErr, OnOk, IsOkUnless};
+ghost use Rattle.std.specs.Prelude.{◌≡◌, ◌++◌, false, nat_le, slice_get, IfErr, OnOk, IsOkUnless};
 ghost use Rattle.std.specs.Option.{option_map_or};
-ghost use Rattle.qq_raft_step.specs.State.{last};
 ghost use Rattle.qq_raft_step.specs.Server.{tick, is_ready, submit, free, still_waiting, notice};
 ghost use Rattle.qq_raft.specs.Raft.{server_of, IsSound, IsCaused};
 

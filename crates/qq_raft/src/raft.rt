@@ -1,8 +1,8 @@
 //! What a server holds beside its machine, and how it changes.
-ghost use Rattle.std.specs.Prelude.{◌≡◌, ◌+◌, ◌≤◌, ◌<◌, ◌++◌, take, length, IfErr, OnOk, OnErr, IsOkUnless};
+ghost use Rattle.std.specs.Prelude.{◌≡◌, ◌+◌, ◌≤◌, ◌<◌, ◌++◌, take, length, IfErr, OnOk, IsOkUnless};
 ghost use Rattle.qq_base.specs.declared.memory.TheConstants.{NUMBER_END};
 ghost use Rattle.qq_log.specs.Stable.{no_snapshot};
-ghost use Rattle.qq_raft_step.specs.State.{last, is_later, change, enter, follow, say};
+ghost use Rattle.qq_raft_step.specs.State.{last, change, enter, say};
 ghost use Rattle.qq_raft.specs.Raft.{server_of, IsSound, IsCaused};
 ghost use Rattle.qq_base.specs.Causes.{SpentOnlyWhere};
 

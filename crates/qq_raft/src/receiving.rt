@@ -5,7 +5,7 @@ ghost use Rattle.qq_log.specs.Stable.{no_snapshot};
 ghost use Rattle.qq_base.specs.declared.memory.TheConstants.{NUMBER_END};
 ghost use Rattle.qq_raft_msg.specs.declared.rpc.Rpc.TheVariants.{Voted, Appended, Installed};
 ghost use Rattle.qq_raft_step.specs.State.{last, vote_in, leader_in};
-ghost use Rattle.qq_raft_step.specs.Server.{voted, appended, installed, refuse, is_current, is_free, may_grant, give_vote, receive_vote, receive_voted, is_match, agreed, has_agreed, write, end, learn, take_entries, refuse_entries, receive_append, take_ack, step_back, receive_appended, accept, receive};
+ghost use Rattle.qq_raft_step.specs.Server.{voted, appended, installed, refuse, is_current, is_free, may_grant, give_vote, receive_vote, receive_voted, is_match, agreed, has_agreed, write, end, take_entries, refuse_entries, receive_append, take_ack, step_back, receive_appended, accept, receive};
 ghost use Rattle.qq_raft.specs.Raft.{server_of, IsSound, IsCaused};
 ghost use Rattle.qq_raft.specs.Fits.{IsWithin, AppendFits};
 

@@ -1,18 +1,18 @@
 //! What a leader sends to the others.
-ghost use Rattle.std.specs.Prelude.{◌≡◌, ◌≤◌, ◌<◌, ◌^◌, ◌++◌, All, length, map, filter, IfOk, IfErr, OnOk, IsOkUnless, if◌then◌else◌};
+ghost use Rattle.std.specs.Prelude.{◌≡◌, ◌≤◌, ◌++◌, All, length, map, filter, IfOk, IfErr, OnOk, IsOkUnless};
 ghost use Rattle.qq_base.specs.declared.memory.TheConstants.{NUMBER_END};
 ghost use Rattle.qq_log.specs.Stable.{no_snapshot};
 ghost use Rattle.qq_raft_msg.specs.declared.rpc.Rpc.TheVariants.{Append};
 ghost use Rattle.qq_raft_step.specs.declared.peer.Peer.{Peer};
 ghost use Rattle.qq_raft_step.specs.State.{last, change};
-ghost use Rattle.qq_raft_step.specs.Leading.{pass, send, add_entry};
+ghost use Rattle.qq_raft_step.specs.Leading.{send, add_entry};
 ghost use Rattle.qq_raft.specs.Peers.{picks, append_from, sent_to, passed};
 ghost use Rattle.qq_raft.specs.Raft.{server_of, IsSound, IsCaused};
 
 use crate::batch::{batch_from, term_at};
 use crate::peers::Target;
 use crate::raft::Raft;
-use qq_base::{Duplicate, Index, Memory, NodeId, Term};
+use qq_base::{Index, Memory, NodeId, Term};
 use qq_entry::{Entries, Entry};
 use qq_raft_msg::{AppendMsg, LogView, Rpc};
 use qq_raft_step::Peer;

@@ -1,5 +1,7 @@
-//! Tests of the messages between Raft servers, of their bytes and of the bag.
+//! Tests of Raft servers, of the messages between them with their bytes, and of the bag.
 #![tactic(auto)]
 
+#[cfg(test)]
+mod elections;
 #[cfg(test)]
 mod messages;

@@ -1,4 +1,4 @@
-use Rattle.std.proofs.Common.{◌≡◌, ◌+◌, drop, get_or, sym, ap, ◌∙◌, add-zero, arith}
+use Rattle.std.proofs.Common.{◌≡◌, suc, ◌+◌, drop, get_or, sym, ap, ◌∙◌, add-zero, arith}
 use Rattle.std.proofs.lemmas.Option.{slice_get-get_or}
 use Rattle.qq_raft_step.specs.Server.{agreed}
 use Rattle.qq_raft.proofs.Entries.{agreed-more, agreed-differs, agreed-ended, entry-known}
@@ -35,5 +35,5 @@ entries-preserved g c =
     (get_or c.args.entries.now place c.index-entries-place.result) c.in-Some.own.now there own
     c.if-entries-place.false in
     let rest = agreed (drop (place + 1) c.args.entries.now) (drop (c.args.before + (place + 1)) log.entries) in
-    let n : place + 1 + rest ≡ place + (1 + rest) = omega arith in
+    let n : place + 1 + rest ≡ place + suc rest = omega arith in
     n ∙ ap (λ n. place + n) (sym more) ∙ c.entries.invariant

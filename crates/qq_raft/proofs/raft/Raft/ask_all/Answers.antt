@@ -1,4 +1,4 @@
-use Rattle.std.proofs.Common.{sym, ◌∙◌, take, map, arith}
+use Rattle.std.proofs.Common.{sym, take, map, arith}
 use Rattle.qq_raft_msg.specs.declared.rpc.Rpc.TheVariants.{Vote}
 use Rattle.qq_raft_step.specs.Leading.{ask}
 use Rattle.qq_raft.specs.Raft.{server_of}

@@ -18,6 +18,6 @@ returns-clause-ok g c =
     ∙ ap (λ (es : List Entry). change (next_term s.term) (Some s.node) (last s) es s) c.new.ensures in
     c.in_ok-ask_all.ensures.ok
     ∙ ap ask_all (
-      ap (λ (ps : List Peer). record changed { role = Candidate; leader = None; peers = ps })
-      c.change_peers.ensures.value
-      ∙ ap (λ (t : Server). record t { role = Candidate; leader = None; peers = map clear_vote t.peers }) written)
+    ap (λ (ps : List Peer). record changed { role = Candidate; leader = None; peers = ps })
+    c.change_peers.ensures.value
+    ∙ ap (λ (t : Server). record t { role = Candidate; leader = None; peers = map clear_vote t.peers }) written)
