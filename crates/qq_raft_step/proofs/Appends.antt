@@ -1,6 +1,6 @@
 -- What a leader sent, taken up: it is written, acknowledged, and what is committed of it is learnt.
-use Rattle.std.proofs.Common.{◌≡◌, ◌⊎◌, ℕ, ◌+◌, ◌≤◌, Bool, true, false, ltb, min, ◌-◌, List, [], ◌∷◌, ◌++◌, length, take, drop, Option, Some, None, refl, sym, ap, subst, ◌∙◌, arith, inl, inr}
-use Rattle.std.proofs.lemmas.Bool.{cond_both, ltb-true, ltb-false, false≢true}
+use Rattle.std.proofs.Common.{◌≡◌, ℕ, ◌+◌, ◌≤◌, true, false, ltb, min, ◌-◌, List, [], ◌∷◌, ◌++◌, length, take, drop, Some, None, refl, sym, ap, subst, ◌∙◌, arith, inl, inr}
+use Rattle.std.proofs.lemmas.Bool.{cond_both, ltb-false, false≢true}
 use Rattle.std.proofs.lemmas.List.{length-append, length-take-le}
 use Rattle.std.proofs.Math.Nat.{min-le_left, min-le_right}
 use Rattle.std.specs.Prelude.{option_map}
@@ -14,10 +14,10 @@ use Rattle.qq_raft_model.specs.World.{Lane, Sent, World}
 use Rattle.qq_raft_msg.specs.declared.rpc.AppendMsg.{AppendMsg}
 use Rattle.qq_raft_msg.specs.declared.rpc.Rpc.TheVariants.{Append}
 use Rattle.qq_raft_step.specs.State.{Server, last, change, follow, enter, vote_in}
-use Rattle.qq_raft_step.specs.Server.{appended, is_match, has_agreed, write, write_missing, end, learn, say_appended, take_entries, refuse_entries, receive_append, refuse, accept, receive}
-use Rattle.qq_raft_step.specs.Refines.{number, There, Sends, IsSaid, IsOnItsWay, Stands, OnlyMoves, Refines, IsReached}
+use Rattle.qq_raft_step.specs.Server.{appended, is_match, has_agreed, write, end, learn, say_appended, take_entries, refuse_entries, receive_append, refuse, accept, receive}
+use Rattle.qq_raft_step.specs.Refines.{number, Sends, IsSaid, IsOnItsWay, Stands, Refines, IsReached}
 use Rattle.qq_raft_step.proofs.Fits.{own_is, all_there, becomes, differs}
-use Rattle.qq_raft_step.proofs.Fronts.{front-refl, front-trans, front-length, front-shorter}
+use Rattle.qq_raft_step.proofs.Fronts.{front-refl, front-trans, front-shorter}
 use Rattle.qq_raft_step.proofs.Later.{only-trans}
 use Rattle.qq_raft_step.proofs.Learning.{reply-only, reply-stands, learn-only, learn-stands}
 use Rattle.qq_raft_step.proofs.Matches.{Promise, Match, sent-matches, take-front}

@@ -1,7 +1,7 @@
 -- What a server writes of what was sent: nothing, where it has all of it; else its log becomes what was sent.
-use Rattle.std.proofs.Common.{◌≡◌, ◌⊎◌, ℕ, suc, ◌+◌, ◌≤◌, Bool, true, false, cond, ◌&&◌, eqb, leb, ltb, List, [], ◌∷◌, ◌++◌, length, take, drop, refl, sym, ap, subst, ◌∙◌, append_assoc, arith, inl, inr}
+use Rattle.std.proofs.Common.{◌≡◌, suc, ◌+◌, true, cond, ◌&&◌, eqb, leb, List, [], ◌∷◌, ◌++◌, length, take, drop, refl, sym, ap, ◌∙◌, append_assoc, arith, inl, inr}
 use Rattle.std.proofs.lemmas.Bool.{or_cases, and_parts, eqb-true, leb-true, eq-eqb}
-use Rattle.std.proofs.lemmas.List.{append-nil, append_cancel_left, length-append, nil_from_length, length-take-le, take-append-drop, drop_all}
+use Rattle.std.proofs.lemmas.List.{append-nil, append_cancel_left, nil_from_length, length-take-le, take-append-drop, drop_all}
 use Rattle.std.proofs.Math.Seq.{take-append-add}
 use Rattle.qq_entry.specs.declared.command.Entry.{Entry}
 use Rattle.qq_raft_model.specs.Facts.{IsFront}

@@ -1,9 +1,8 @@
 -- Lists that begin others, and functions that are changed at one number.
-use Rattle.std.proofs.Common.{◌≡◌, ◌⊎◌, ℕ, ◌+◌, ◌≤◌, ◌<◌, Bool, true, false, cond, eqb, List, [], ◌∷◌, ◌++◌, length, refl, sym, ap, subst, ◌∙◌, append_assoc, arith, inl, inr}
+use Rattle.std.proofs.Common.{◌≡◌, ◌⊎◌, ℕ, ◌≤◌, List, [], ◌∷◌, ◌++◌, length, refl, sym, ap, subst, ◌∙◌, append_assoc, arith, inl, inr}
 use Rattle.std.proofs.lemmas.Bool.{eq-eqb, ne_eqb}
 use Rattle.std.proofs.lemmas.List.{append-nil, length-append, nil_from_length}
-use Rattle.qq_entry.specs.declared.command.Entry.{Entry}
-use Rattle.qq_raft_model.specs.Facts.{IsFront, add, In}
+use Rattle.qq_raft_model.specs.Facts.{IsFront, In}
 use Rattle.qq_raft_model.specs.World.{put}
 
 pub put-same : {A : Type 0} (k : ℕ) (x : A) (f : ℕ → A) → put k x f k ≡ x

@@ -1,5 +1,5 @@
 -- What stays true of messages and of servers while others move.
-use Rattle.std.proofs.Common.{◌≡◌, ◌⊎◌, ℕ, ◌≤◌, List, [], ◌∷◌, ◌++◌, length, refl, sym, ap, subst, ◌∙◌, arith, inl, inr}
+use Rattle.std.proofs.Common.{◌≡◌, ℕ, ◌≤◌, List, length, refl, ap, ◌∙◌, arith, inl, inr}
 use Rattle.qq_raft_model.specs.Facts.{In, Elects}
 use Rattle.qq_raft_model.specs.World.{World}
 use Rattle.qq_raft_msg.specs.declared.rpc.Rpc.{Rpc}
@@ -42,7 +42,7 @@ only-trans f g = record {
   done = λ q other. g.done q other ∙ f.done q other;
 }
 
-there-later : {A : Type 0} {xs ys : List A} {P : A → Type 0} → ((x : A) → In x xs → In x ys) → There xs P
+pub there-later : {A : Type 0} {xs ys : List A} {P : A → Type 0} → ((x : A) → In x xs → In x ys) → There xs P
     → There ys P
 there-later stays t = record { item = t.item; here = stays t.item t.here; is = t.is }
 
@@ -99,6 +99,7 @@ stands-later g member role done st = record {
   noticed = ap (λ m. m.noticed) member ∙ st.noticed;
   role = role ∙ st.role;
   commit = ap length done ∙ st.commit;
+  own_vote = λ is. there-later g.grants (st.own_vote is);
   votes = λ is p here granted. elects-later g (st.votes is p here granted);
   matches = λ is p here. elim (st.matches is p here) [ inl zero ↦ inl zero | inr x ↦ inr (matched-later g x) ];
   waiting = λ x here. said-later g (st.waiting x here);

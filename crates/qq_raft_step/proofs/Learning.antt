@@ -1,14 +1,14 @@
 -- A server acknowledges what was sent, and learns that entries are committed.
-use Rattle.std.proofs.Common.{◌≡◌, ◌⊎◌, ℕ, ◌≤◌, Bool, true, false, cond, ltb, List, length, refl, sym, ap, ◌∙◌, arith, inl, inr}
+use Rattle.std.proofs.Common.{◌≡◌, ℕ, Bool, true, false, cond, ltb, List, length, refl, ap, ◌∙◌, arith, inl, inr}
 use Rattle.qq_entry.specs.declared.command.Entry.{Entry}
 use Rattle.qq_raft_model.specs.Moves.{after, longer}
 use Rattle.qq_raft_model.specs.Moves.Move.{Reply, Learn}
-use Rattle.qq_raft_model.specs.World.{Sent, World, put}
+use Rattle.qq_raft_model.specs.World.{Sent, World}
 use Rattle.qq_raft_step.specs.State.{Server}
 use Rattle.qq_raft_step.specs.Server.{learn}
 use Rattle.qq_raft_step.specs.Refines.{Stands, OnlyMoves}
 use Rattle.qq_raft_step.proofs.Fronts.{put-same, put-other}
-use Rattle.qq_raft_step.proofs.Later.{said-later, way-later, elects-later, matched-later, stands-later}
+use Rattle.qq_raft_step.proofs.Later.{there-later, said-later, way-later, elects-later, matched-later, stands-later}
 
 pub reply-only : (w : World) (k : ℕ) (x : Sent) → OnlyMoves k w (after w (Reply k x))
 reply-only w k x = record {
@@ -64,6 +64,7 @@ learn-stands {w = w} {k = k} {s = s} x z index st long =
       commit =
           ap length (put-same k (longer (w.done k) z) w.done)
           ∙ longer-length (w.done k) z s.commit index st.commit long;
+      own_vote = λ is. there-later g.grants (st.own_vote is);
       votes = λ is p here granted. elects-later g (st.votes is p here granted);
       matches = λ is p here. elim (st.matches is p here) [ inl zero ↦ inl zero | inr y ↦ inr (matched-later g y) ];
       waiting = λ y here. said-later g (st.waiting y here);

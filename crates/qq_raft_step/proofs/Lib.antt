@@ -1,9 +1,16 @@
+mod Adding
 mod Appends
+mod Electing
 mod Fits
 mod Fronts
 mod Later
+mod Leads
 mod Learning
 mod Matches
 mod Moving
+mod Noticing
 mod Refining
+mod Restarting
+mod Sending
+mod Standing
 mod Votes

@@ -1,16 +1,16 @@
 -- What was sent matches every log: a member that never moved could take it up, and then log matching speaks of both.
-use Rattle.std.proofs.Common.{◌≡◌, ◌⊎◌, ℕ, zero, suc, ◌+◌, ◌≤◌, ◌<◌, Bool, true, false, cond, eqb, List, [], ◌∷◌, ◌++◌, length, take, drop, Option, None, refl, sym, ap, subst, ◌∙◌, append_assoc, arith, inl, inr}
+use Rattle.std.proofs.Common.{◌≡◌, ◌⊎◌, ℕ, suc, ◌+◌, ◌≤◌, eqb, List, [], ◌∷◌, ◌++◌, length, take, drop, None, refl, sym, ap, subst, ◌∙◌, append_assoc, arith, inl, inr}
 use Rattle.std.proofs.lemmas.Bool.{cond_both, eqb-true}
-use Rattle.std.proofs.lemmas.List.{append-nil, length-append, nil_from_length, length-take-le, take-append-drop}
+use Rattle.std.proofs.lemmas.List.{length-append, nil_from_length, take-append-drop}
 use Rattle.qq_entry.specs.declared.command.Entry.{Entry}
 use Rattle.qq_raft_model.specs.Facts.{IsFront, add, In}
 use Rattle.qq_raft_model.specs.Moves.{Move, MayWrite, AreAllowed, after, run, push, next_lane, last_term}
 use Rattle.qq_raft_model.specs.Moves.Move.{Write, Stand, Vote, Lead, Append, Send, Reply, Learn, Commit, Notice, Restart, Follow}
 use Rattle.qq_raft_model.specs.Safe.{IsSafe, IsLaneOf}
-use Rattle.qq_raft_model.specs.World.{Lane, Member, Sent, World, lanes, put, no_lane, new_member, new_world}
+use Rattle.qq_raft_model.specs.World.{Member, Sent, World, lanes, new_member, new_world}
 use Rattle.qq_raft_step.specs.Refines.{IsReached}
 use Rattle.qq_raft_step.specs.Server.{agreed}
-use Rattle.qq_raft_step.proofs.Fronts.{put-same, put-other, front-refl, front-trans, front-length, either-same}
+use Rattle.qq_raft_step.proofs.Fronts.{put-same, put-other, front-trans, front-length, either-same}
 use Rattle.qq_raft_step.proofs.Refining.{run-append, allowed-append}
 
 -- what the protocol promises, as its law says it

@@ -1,5 +1,5 @@
 -- What single moves leave of the rest, and what a server that says something stands for.
-use Rattle.std.proofs.Common.{◌≡◌, ◌⊎◌, ℕ, ◌+◌, ◌≤◌, Bool, true, false, cond, leb, List, [], ◌∷◌, ◌++◌, length, map, take, Option, Some, None, refl, sym, ap, subst, ◌∙◌, arith, inl, inr}
+use Rattle.std.proofs.Common.{◌≡◌, ℕ, ◌+◌, ◌≤◌, Bool, true, false, cond, leb, List, [], ◌∷◌, ◌++◌, map, take, Option, refl, sym, ap, subst, ◌∙◌, arith, inl, inr}
 use Rattle.std.proofs.lemmas.Bool.{cond_both, leb-true, eqb-true}
 use Rattle.std.specs.Prelude.{option_map, nat_eq}
 use Rattle.qq_base.specs.declared.ids.NodeId.{NodeId}
@@ -10,70 +10,87 @@ use Rattle.qq_raft_model.specs.Moves.{after, push, next_lane}
 use Rattle.qq_raft_model.specs.Moves.Move.{Write, Vote, Follow}
 use Rattle.qq_raft_model.specs.World.{Role as ModelRole, Lane, Member, Ask, World, put}
 use Rattle.qq_raft_msg.specs.declared.rpc.Rpc.{Rpc}
-use Rattle.qq_raft_msg.specs.declared.state.Role.{Role}
 use Rattle.qq_raft_msg.specs.declared.state.Role.TheVariants.{Leader, Candidate, Follower}
 use Rattle.qq_raft_step.specs.declared.peer.Waiting.{Waiting}
 use Rattle.qq_raft_step.specs.State.{Server, change, follow, say, say_all, wait}
-use Rattle.qq_raft_step.specs.Refines.{number, lane_of, IsSaid, IsOnItsWay, Stands, Later, OnlyMoves}
+use Rattle.qq_raft_step.specs.Refines.{number, IsSaid, IsOnItsWay, Stands, OnlyMoves}
 use Rattle.qq_raft_step.proofs.Fronts.{put-same, put-other, In-append}
 use Rattle.qq_raft_step.proofs.Later.{said-later, way-later, stands-later}
 
 -- ---- what is said
 
-said_out : {w : World} {k : ℕ} {s : Server} (r : Rpc) → Stands w k s → IsSaid w k s.op r → s.op ≤ s.noticed
-    → Stands w k (record s { out = s.out ++ r ∷ [] })
-said_out {w = w} {k = k} {s = s} r st said le =
-    let same : (w.member k).noticed ≡ s.noticed = st.noticed in
+said_out : {w : World} {k : ℕ} {s : Server} (rs : List Rpc) → Stands w k s
+    → ((r : Rpc) → In r rs → IsOnItsWay w r) → Stands w k (record s { out = s.out ++ rs })
+said_out {s = s} rs st way =
     record {
       node = st.node;
       lane = st.lane;
       noticed = st.noticed;
       role = st.role;
       commit = st.commit;
+      own_vote = st.own_vote;
       votes = st.votes;
       matches = st.matches;
       waiting = st.waiting;
-      out = λ x here. elim (In-append x s.out (r ∷ []) here) [
-        | inl old ↦ st.out x old
-        | inr new ↦ elim new [
-          | inl is ↦ subst (IsOnItsWay w) (sym is) (record {
-            node = k;
-            op = s.op;
-            said = said;
-            durable = omega (arith, same, le);
-          })
-          | inr nothing ↦ absurd nothing
-        ]
-      ];
+      out = λ x here. elim (In-append x s.out rs here) [ inl old ↦ st.out x old | inr new ↦ way x new ];
     }
 
-said_later : {w : World} {k : ℕ} {s : Server} (r : Rpc) → Stands w k s → IsSaid w k s.op r
-    → Stands w k (record s { waiting = s.waiting ++ map (wait s.op) (r ∷ []) })
-said_later {w = w} {k = k} {s = s} r st said = record {
+-- what stands in a list that was mapped
+pub record Mapped {A B : Type 0} (f : A → B) (xs : List A) (y : B) : Type 0 where
+  pub item : A
+  pub here : In item xs
+  pub is : y ≡ f item
+
+pub In-map : {A B : Type 0} (f : A → B) (y : B) (xs : List A) → In y (map f xs) → Mapped f xs y
+In-map f y [] here = absurd here
+In-map f y (x ∷ xs) (inl same) = record { item = x; here = inl refl; is = same }
+In-map f y (x ∷ xs) (inr later) =
+    let m = In-map f y xs later in
+    record { item = m.item; here = inr m.here; is = m.is }
+
+said_later : {w : World} {k : ℕ} {s : Server} (rs : List Rpc) → Stands w k s
+    → ((r : Rpc) → In r rs → IsSaid w k s.op r)
+    → Stands w k (record s { waiting = s.waiting ++ map (wait s.op) rs })
+said_later {w = w} {k = k} {s = s} rs st said = record {
   node = st.node;
   lane = st.lane;
   noticed = st.noticed;
   role = st.role;
   commit = st.commit;
+  own_vote = st.own_vote;
   votes = st.votes;
   matches = st.matches;
-  waiting = λ x here. elim (In-append x s.waiting (wait s.op r ∷ []) here) [
+  waiting = λ x here. elim (In-append x s.waiting (map (wait s.op) rs) here) [
     | inl old ↦ st.waiting x old
-    | inr new ↦ elim new [
-      | inl is ↦ subst (λ (y : Waiting). IsSaid w k y.op y.rpc) (sym is) said
-      | inr nothing ↦ absurd nothing
-    ]
+    | inr new ↦
+        let m = In-map (wait s.op) x rs new in
+        subst (λ (y : Waiting). IsSaid w k y.op y.rpc) (sym m.is) (said m.item m.here)
   ];
   out = st.out;
 }
 
+on_way : {w : World} {k : ℕ} {s : Server} → Stands w k s → s.op ≤ s.noticed → (r : Rpc) → IsSaid w k s.op r
+    → IsOnItsWay w r
+on_way {w = w} {k = k} {s = s} st le r said =
+    let same : (w.member k).noticed ≡ s.noticed = st.noticed in
+    record { node = k; op = s.op; said = said; durable = omega (arith, same, le) }
+
+pub say_all-stands : {w : World} {k : ℕ} {s : Server} (rs : List Rpc) → Stands w k s
+    → ((r : Rpc) → In r rs → IsSaid w k s.op r) → Stands w k (say_all rs s)
+unfolding say_all
+say_all-stands {w = w} {k = k} {s = s} rs st said =
+    cond_both (leb s.op s.noticed) (record s { out = s.out ++ rs })
+    (record s { waiting = s.waiting ++ map (wait s.op) rs }) (Stands w k)
+    (λ e. said_out rs st (λ r here. on_way st (leb-true s.op s.noticed e) r (said r here)))
+    (λ _. said_later rs st said)
+
 pub say-stands : {w : World} {k : ℕ} {s : Server} (r : Rpc) → Stands w k s → IsSaid w k s.op r
     → Stands w k (say r s)
-unfolding say_all
 say-stands {w = w} {k = k} {s = s} r st said =
-    cond_both (leb s.op s.noticed) (record s { out = s.out ++ r ∷ [] })
-    (record s { waiting = s.waiting ++ map (wait s.op) (r ∷ []) }) (Stands w k)
-    (λ e. said_out r st said (leb-true s.op s.noticed e)) (λ _. said_later r st said)
+    say_all-stands (r ∷ []) st (λ x here. elim here [
+      | inl is ↦ subst (IsSaid w k s.op) (sym is) said
+      | inr nothing ↦ absurd nothing
+    ])
 
 -- ---- a change
 
@@ -89,7 +106,7 @@ put_noticed k x f same q true e = same ∙ ap (λ i. (f i).noticed) (sym (eqb-tr
 put_noticed k x f same q false e = refl
 
 -- a change makes nothing durable
-push-noticed : (w : World) (k : ℕ) (lane : Lane) (q : ℕ)
+pub push-noticed : (w : World) (k : ℕ) (lane : Lane) (q : ℕ)
     → (put k (push (w.member k) lane) w.member q).noticed ≡ (w.member q).noticed
 unfolding put
 push-noticed w k lane q = put_noticed k (push (w.member k) lane) w.member refl q (nat_eq q k) refl
@@ -131,6 +148,7 @@ write-stands {w = w} {k = k} {s = s} leader term vote keep entries st =
       noticed = ap (λ x. x.noticed) (put-same k (push m lane) w.member) ∙ st.noticed;
       role = put-same k ModelRole.Follower w.role;
       commit = st.commit;
+      own_vote = λ is. absurd (follower_asks is);
       votes = λ is. absurd (follower_asks is);
       matches = λ is. absurd (follower_leads is);
       waiting = λ x here. said-later g (st.waiting x here);
@@ -178,6 +196,7 @@ follow-stands {w = w} {k = k} leader st = record {
   noticed = st.noticed;
   role = put-same k ModelRole.Follower w.role;
   commit = st.commit;
+  own_vote = λ is. absurd (follower_asks is);
   votes = λ is. absurd (follower_asks is);
   matches = λ is. absurd (follower_leads is);
   waiting = λ x here. said-later (follow-only w k).later (st.waiting x here);

@@ -1,6 +1,6 @@
 -- What a server does in parts, each of which is a list of moves.
-use Rattle.std.proofs.Common.{◌≡◌, ◌⊎◌, ℕ, ◌≤◌, ◌<◌, Bool, true, false, ltb, List, [], ◌∷◌, ◌++◌, length, take, Option, Some, None, refl, sym, ap, subst, ◌∙◌, arith, inl, inr}
-use Rattle.std.proofs.lemmas.Bool.{cond_both, ltb-true, false≢true}
+use Rattle.std.proofs.Common.{◌≡◌, ◌⊎◌, ℕ, ◌≤◌, ltb, List, [], ◌∷◌, ◌++◌, length, take, Option, None, refl, sym, subst, ◌∙◌, arith, inl}
+use Rattle.std.proofs.lemmas.Bool.{cond_both, ltb-true}
 use Rattle.std.proofs.lemmas.List.{append-nil, take_all}
 use Rattle.std.specs.Prelude.{option_map}
 use Rattle.qq_base.specs.declared.ids.NodeId.{NodeId}
@@ -11,7 +11,7 @@ use Rattle.qq_raft_model.specs.Moves.Move.{Write, Follow}
 use Rattle.qq_raft_model.specs.World.{Lane, World}
 use Rattle.qq_raft_msg.specs.declared.rpc.Rpc.{Rpc}
 use Rattle.qq_raft_step.specs.State.{Server, last, change, follow, enter, say}
-use Rattle.qq_raft_step.specs.Refines.{number, lane_of, IsSaid, Stands, OnlyMoves, Refines}
+use Rattle.qq_raft_step.specs.Refines.{number, IsSaid, Stands, OnlyMoves, Refines}
 use Rattle.qq_raft_step.proofs.Later.{only-refl, only-trans}
 use Rattle.qq_raft_step.proofs.Moving.{say-stands, write-only, write-stands, follow-only, follow-stands}
 

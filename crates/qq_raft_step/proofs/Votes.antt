@@ -1,5 +1,5 @@
 -- A request for a vote, answered: the vote is written, and then given.
-use Rattle.std.proofs.Common.{◌≡◌, ◌⊎◌, ℕ, ◌≤◌, ◌<◌, Bool, true, false, cond, ◌&&◌, eqb, ltb, leb, List, [], ◌∷◌, length, Option, Some, None, refl, sym, ap, subst, ◌∙◌, arith, inl, inr}
+use Rattle.std.proofs.Common.{◌≡◌, ◌⊎◌, ℕ, ◌≤◌, true, false, ◌&&◌, eqb, ltb, leb, List, [], ◌∷◌, length, Option, Some, None, refl, sym, ap, subst, ◌∙◌, arith, inl, inr}
 use Rattle.std.proofs.lemmas.Bool.{cond_both, cond-true, cond-false, cases_Bool, or_cases, and_parts, ltb-true, ltb-false, leb-true, eqb-true, false≢true}
 use Rattle.std.specs.Prelude.{option_map}
 use Rattle.qq_base.specs.declared.ids.NodeId.{NodeId}
@@ -13,7 +13,7 @@ use Rattle.qq_raft_msg.specs.declared.rpc.Rpc.TheVariants.{Vote}
 use Rattle.qq_raft_msg.specs.declared.rpc.VoteMsg.{VoteMsg}
 use Rattle.qq_raft_step.specs.State.{Server, last, change, follow, enter, vote_in, leader_in}
 use Rattle.qq_raft_step.specs.Server.{voted, is_current, is_free, may_grant, give_vote, say_voted, receive_vote, refuse, accept, receive}
-use Rattle.qq_raft_step.specs.Refines.{number, IsSaid, There, Asks, IsOnItsWay, Stands, OnlyMoves, Refines}
+use Rattle.qq_raft_step.specs.Refines.{number, IsSaid, IsOnItsWay, Stands, Refines}
 use Rattle.qq_raft_step.proofs.Later.{way-later}
 use Rattle.qq_raft_step.proofs.Moving.{say-stands, vote-only, vote-stands}
 use Rattle.qq_raft_step.proofs.Refining.{kept_log, refines-refl, refines-then, refines-say, refines-change, refines-enter}

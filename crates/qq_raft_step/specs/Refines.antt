@@ -1,9 +1,11 @@
 -- What ties a server to the protocol: when it stands for a member of the protocol's world, and when what it does is a
 -- list of the protocol's moves.
-use Rattle.std.specs.Prelude.{◌≡◌, ◌⊎◌, ◌≤◌, ℕ, Bool, true, List, length, ◌++◌, Option, option_map}
+use Rattle.std.specs.Prelude.{◌≡◌, ◌⊎◌, ◌≤◌, ◌+◌, ℕ, Bool, true, List, length, ◌++◌, option_map}
+use Rattle.std.specs.List.{count_by}
 use Rattle.qq_base.specs.declared.ids.NodeId.{NodeId}
 use Rattle.qq_entry.specs.declared.command.Entry.{Entry}
-use Rattle.qq_raft_model.specs.Facts.{IsFront, In, Elects}
+use Rattle.qq_log.specs.declared.lane.Lane.{Lane as DiskLane}
+use Rattle.qq_raft_model.specs.Facts.{IsFront, In, Elects, tally}
 use Rattle.qq_raft_model.specs.Moves.{Move, AreAllowed, run, last_term}
 use Rattle.qq_raft_model.specs.World.{Role as ModelRole, Lane, Ask, Grant, Ack, Sent, World, new_world}
 use Rattle.qq_raft_msg.specs.Rpc.{envelope}
@@ -15,7 +17,8 @@ use Rattle.qq_raft_msg.specs.declared.rpc.VoteMsg.{VoteMsg}
 use Rattle.qq_raft_msg.specs.declared.rpc.VotedMsg.{VotedMsg}
 use Rattle.qq_raft_msg.specs.declared.state.Role.{Role}
 use Rattle.qq_raft_msg.specs.declared.state.Role.TheVariants.{Leader, Candidate, Follower}
-use Rattle.qq_raft_step.specs.State.{Server}
+use Rattle.qq_raft_step.specs.Leading.{one_if}
+use Rattle.qq_raft_step.specs.State.{Server, last}
 use Rattle.qq_raft_step.specs.declared.peer.Peer.{Peer}
 use Rattle.qq_raft_step.specs.declared.peer.Waiting.{Waiting}
 
@@ -92,6 +95,13 @@ pub record IsOnItsWay (w : World) (r : Rpc) : Type 0 where
 
 -- ---- when a server stands for a member
 
+-- a candidate's vote for itself, which its last change wrote
+pub record IsOwnVote (k term op : ℕ) (x : Grant) : Type 0 where
+  pub from : x.from ≡ k
+  pub to : x.to ≡ k
+  pub term_is : x.term ≡ term
+  pub op_is : x.op ≡ op
+
 -- the entries up to here are durable at the peer, as far as the server knows
 pub record HasMatched (w : World) (term : ℕ) (peer : Peer) : Type 0 where
   pub ack : Ack
@@ -107,10 +117,20 @@ pub record Stands (w : World) (k : ℕ) (s : Server) : Type 0 where
   pub noticed : (w.member k).noticed ≡ s.noticed
   pub role : w.role k ≡ role_of s.role
   pub commit : length (w.done k) ≡ s.commit
+  pub own_vote : s.role ≡ Candidate → There w.grants (IsOwnVote k s.term.0 s.op)
   pub votes : s.role ≡ Candidate → (p : Peer) → In p s.peers → p.granted ≡ true → Elects w s.term.0 k p.node.0
   pub matches : s.role ≡ Leader → (p : Peer) → In p s.peers → (p.matched ≡ 0) ⊎ HasMatched w s.term.0 p
   pub waiting : (x : Waiting) → In x s.waiting → IsSaid w k x.op x.rpc
   pub out : (r : Rpc) → In r s.out → IsOnItsWay w r
+
+-- the members of a group are the server and its peers
+pub record IsGroup (members : List ℕ) (k : ℕ) (peers : List Peer) : Type 0 where
+  pub count : length members ≡ length peers + 1
+  pub each : (test : ℕ → Bool) → tally test members ≡ one_if (test k) + count_by (λ p. test p.node.0) peers
+
+-- what a server may send to its peers, and has of them, is within its log
+abbrev pub IsWithinLog : Server → Type 0
+IsWithinLog s = (p : Peer) → In p s.peers → (p.next ≤ last s + 1) × (p.matched ≤ last s)
 
 -- ---- what a member's moves leave of the rest
 
@@ -125,6 +145,28 @@ pub record Later (w v : World) : Type 0 where
 -- all others are as they were
 pub record OnlyMoves (k : ℕ) (w v : World) : Type 0 where
   pub later : Later w v
+  pub member : (q : ℕ) → (q ≡ k → ⊥) → v.member q ≡ w.member q
+  pub role : (q : ℕ) → (q ≡ k → ⊥) → v.role q ≡ w.role q
+  pub done : (q : ℕ) → (q ≡ k → ⊥) → v.done q ≡ w.done q
+
+-- ---- restarts
+
+-- what a disk holds, as the protocol's lane
+abbrev pub disk_lane : DiskLane → Lane
+disk_lane lane =
+    record { op = lane.op; term = lane.term.0; vote = option_map number lane.vote; log = lane.entries }
+
+-- what member k said may leave, or somebody else said it
+abbrev pub IsLeft : ℕ → World → ℕ → ℕ → Type 0
+IsLeft k w from op = from ≡ k → op ≤ (w.member k).noticed
+
+-- Others are as they were, and so are their messages and those of the member that may leave.
+pub record OnlyRestarts (k : ℕ) (w v : World) : Type 0 where
+  pub asks : (x : Ask) → In x w.asks → IsLeft k w x.from x.op → In x v.asks
+  pub grants : (x : Grant) → In x w.grants → IsLeft k w x.from x.op → In x v.grants
+  pub acks : (x : Ack) → In x w.acks → IsLeft k w x.from x.op → In x v.acks
+  pub sents : (x : Sent) → In x w.sents → In x v.sents
+  pub noticed : (q : ℕ) → (w.member q).noticed ≤ (v.member q).noticed
   pub member : (q : ℕ) → (q ≡ k → ⊥) → v.member q ≡ w.member q
   pub role : (q : ℕ) → (q ≡ k → ⊥) → v.role q ≡ w.role q
   pub done : (q : ℕ) → (q ≡ k → ⊥) → v.done q ≡ w.done q

@@ -1,9 +1,6 @@
 -- A server's step (Ongaro's dissertation, figure 3.1): what each input makes of it.
-use Rattle.std.specs.Prelude.{◌≡◌, ◌+◌, ◌-◌, ◌*◌, ℕ, zero, suc, Bool, true, false, List, [], ◌∷◌, ◌++◌, length, take, drop, map, filter, min, Option, Some, None, nat_eq, nat_le, nat_lt, ◌==◌, ◌&&◌, ◌||◌, not, if◌then◌else◌}
-use Rattle.qq_base.specs.declared.ids.Index.{Index}
+use Rattle.std.specs.Prelude.{◌+◌, ◌-◌, ℕ, suc, Bool, true, false, List, [], ◌∷◌, ◌++◌, length, drop, map, filter, min, Option, Some, None, nat_eq, nat_le, nat_lt, ◌==◌, ◌&&◌, ◌||◌, not, if◌then◌else◌}
 use Rattle.qq_base.specs.declared.ids.NodeId.{NodeId}
-use Rattle.qq_base.specs.declared.ids.QueueId.{QueueId}
-use Rattle.qq_base.specs.declared.ids.Term.{Term}
 use Rattle.qq_entry.specs.declared.command.Command.{Command}
 use Rattle.qq_entry.specs.declared.command.Entry.{Entry}
 use Rattle.qq_log.specs.declared.lane.Lane.{Lane}
@@ -19,7 +16,7 @@ use Rattle.qq_raft_msg.specs.declared.rpc.VotedMsg.{VotedMsg}
 use Rattle.qq_raft_msg.specs.declared.state.Role.TheVariants.{Follower}
 use Rattle.qq_raft_step.specs.declared.peer.Peer.{Peer}
 use Rattle.qq_raft_step.specs.declared.peer.Waiting.{Waiting}
-use Rattle.qq_raft_step.specs.State.{Server, last, term_at, is_leader, is_candidate, follow, change, is_later, vote_in, leader_in, enter, say}
+use Rattle.qq_raft_step.specs.State.{Server, last, term_at, is_leader, is_candidate, follow, change, vote_in, leader_in, enter, say}
 use Rattle.qq_raft_step.specs.Leading.{send, everyone, add_entry, stand, lead_if_elected, advance}
 
 pub data Input : Type 0 where

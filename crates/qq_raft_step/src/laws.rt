@@ -1,13 +1,20 @@
 //! Laws: what a server does is the protocol's.
-ghost use Rattle.std.specs.Prelude.{◌≡◌, List, ℕ};
+ghost use Rattle.std.specs.Prelude.{◌≡◌, ◌≤◌, List, ℕ, true, false};
+ghost use Rattle.qq_base.specs.declared.ids.NodeId.{NodeId};
+ghost use Rattle.qq_entry.specs.declared.command.Command.{Command};
+ghost use Rattle.qq_log.specs.declared.lane.Lane.{Lane};
+ghost use Rattle.qq_raft_model.specs.Moves.Move.{Restart};
+ghost use Rattle.qq_raft_model.specs.Moves.{after};
 ghost use Rattle.qq_raft_model.specs.World.{World};
 ghost use Rattle.qq_raft_msg.specs.declared.rpc.AppendMsg.{AppendMsg};
 ghost use Rattle.qq_raft_msg.specs.declared.rpc.Rpc.{Rpc};
-ghost use Rattle.qq_raft_msg.specs.declared.rpc.Rpc.TheVariants.{Vote, Append};
+ghost use Rattle.qq_raft_msg.specs.declared.rpc.Rpc.TheVariants.{Vote, Voted, Append};
 ghost use Rattle.qq_raft_msg.specs.declared.rpc.VoteMsg.{VoteMsg};
-ghost use Rattle.qq_raft_step.specs.Refines.{IsOnItsWay, IsReached, Stands, OnlyMoves, Refines};
-ghost use Rattle.qq_raft_step.specs.Server.{receive};
-ghost use Rattle.qq_raft_step.specs.State.{Server};
+ghost use Rattle.qq_raft_msg.specs.declared.rpc.VotedMsg.{VotedMsg};
+ghost use Rattle.qq_raft_msg.specs.declared.state.Role.TheVariants.{Follower};
+ghost use Rattle.qq_raft_step.specs.Refines.{IsOnItsWay, IsReached, IsGroup, IsWithinLog, Stands, OnlyMoves, Refines, disk_lane};
+ghost use Rattle.qq_raft_step.specs.Server.{receive, tick, submit, notice, restart};
+ghost use Rattle.qq_raft_step.specs.State.{Server, is_leader};
 
 use qq_raft_model::servers_agree;
 
@@ -16,6 +23,16 @@ pub fn a_request_for_a_vote_is_answered_by_moves()
     ensures { (members : List ℕ) (w : World) (k : ℕ) (s : Server) (m : VoteMsg) → Stands w k s →
         IsOnItsWay w (Vote m) → Refines members w k (receive (Vote m) s) }
 {}
+
+/// A law: what a server of a group does with a vote is moves of the protocol, which allows them, in each world
+/// that the protocol can come to. It may be that it leads then, and sends its first entry.
+pub fn a_vote_is_counted_by_moves()
+    ensures { (members : List ℕ) (w : World) (k : ℕ) (s : Server) (m : VotedMsg) →
+        IsReached members w → IsGroup members k s.peers → Stands w k s → m.to.0 ≡ k →
+        IsOnItsWay w (Voted m) → Refines members w k (receive (Voted m) s) }
+{
+    servers_agree();
+}
 
 /// A law: what a server does with entries that a leader sent, or doesn't do, is moves of the protocol, which
 /// allows them, in each world that the protocol can come to.
@@ -26,6 +43,44 @@ pub fn sent_entries_are_taken_by_moves()
 {
     servers_agree();
 }
+
+/// A law: a server that doesn't lead and is ticked stands for election by a move of the protocol.
+pub fn standing_is_a_move()
+    ensures { (members : List ℕ) (w : World) (k : ℕ) (s : Server) → Stands w k s →
+        is_leader s.role ≡ false → Refines members w k (tick s) }
+{}
+
+/// A law: a leader that is ticked sends, and a server that gets a command adds it where it is ready, by moves
+/// of the protocol, as long as what it keeps of its peers is within its log.
+pub fn a_leader_sends_and_adds_by_moves()
+    ensures tick { (members : List ℕ) (w : World) (k : ℕ) (s : Server) → IsReached members w →
+        Stands w k s → is_leader s.role ≡ true → IsWithinLog s → Refines members w k (tick s) }
+    ensures submit { (members : List ℕ) (w : World) (k : ℕ) (s : Server) (time : ℕ)
+        (command : Command) → IsReached members w → Stands w k s → IsWithinLog s →
+        Refines members w k (submit time command s) }
+{
+    servers_agree();
+}
+
+/// A law: a follower that is told up to which change its disk is durable notices it by a move of the
+/// protocol.
+pub fn a_follower_notices_by_a_move()
+    ensures { (members : List ℕ) (w : World) (k : ℕ) (s : Server) (op : ℕ) → Stands w k s →
+        s.role ≡ Follower → op ≤ s.op → s.noticed ≤ s.op → Refines members w k (notice op s) }
+{}
+
+/// A law: a server that restarts with a lane that isn't older than what was noticed stands for its member
+/// after the protocol's move. The others stand as before, and what is on its way stays so.
+pub fn a_restart_is_a_move()
+    ensures stand { (w : World) (k : ℕ) (node : NodeId) (nodes : List NodeId) (lane : Lane) →
+        node.0 ≡ k → Stands (after w (Restart k (disk_lane lane))) k (restart node nodes lane) }
+    ensures others { (w : World) (k q : ℕ) (lane : Lane) (s : Server) →
+        (w.member k).noticed ≤ lane.op → (q ≡ k → ⊥) → Stands w q s →
+        Stands (after w (Restart k (disk_lane lane))) q s }
+    ensures way { (w : World) (k : ℕ) (lane : Lane) (r : Rpc) →
+        (w.member k).noticed ≤ lane.op → IsOnItsWay w r →
+        IsOnItsWay (after w (Restart k (disk_lane lane))) r }
+{}
 
 /// A law: while one member moves, the servers of the others stand for their members as before, and the
 /// messages on their way stay so.
