@@ -19,13 +19,13 @@ use Rattle.qq_raft_step.proofs.Moving.{In-map}
 use Rattle.qq_raft_step.proofs.Refining.{refines-refl}
 use Rattle.qq_raft_step.proofs.Sending.{leader_asks, send-refines}
 
-is_leader_of : (r : Role) → is_leader r ≡ true → r ≡ Leader
+pub is_leader_of : (r : Role) → is_leader r ≡ true → r ≡ Leader
 is_leader_of Leader e = refl
 is_leader_of Candidate e = absurd (false≢true e)
 is_leader_of Follower e = absurd (false≢true e)
 
 -- what a server knows to be committed begins its log
-done-front : {members : List ℕ} {w : World} {k : ℕ} {s : Server} → Promise → IsReached members w → Stands w k s
+pub done-front : {members : List ℕ} {w : World} {k : ℕ} {s : Server} → Promise → IsReached members w → Stands w k s
     → IsFront (w.done k) s.log
 done-front {members} {w} {k} {s} promise reached st =
     let safe : IsSafe members w =

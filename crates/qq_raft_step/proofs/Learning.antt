@@ -46,7 +46,7 @@ cond_length true x y = refl
 cond_length false x y = refl
 
 -- the longer of two lists is as long as the greater of their lengths
-longer-length : (x y : List Entry) (i j : ℕ) → length x ≡ i → length y ≡ j → length (longer x y) ≡ cond (ltb i j) j i
+pub longer-length : (x y : List Entry) (i j : ℕ) → length x ≡ i → length y ≡ j → length (longer x y) ≡ cond (ltb i j) j i
 longer-length x y i j first second =
     cond_length (ltb (length x) (length y)) x y
     ∙ ap (λ n. cond (ltb n (length y)) (length y) n) first

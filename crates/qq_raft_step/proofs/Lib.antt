@@ -1,5 +1,6 @@
 mod Adding
 mod Appends
+mod Counting
 mod Electing
 mod Fits
 mod Fronts

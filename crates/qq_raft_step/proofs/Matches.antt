@@ -147,12 +147,12 @@ agreed-same own log p (y ∷ ys) (x ∷ xs) match in_own in_log =
 
 -- ---- the entry before the new ones
 
-record Last (log : List Entry) : Type 0 where
-  before : List Entry
-  entry : Entry
-  is : log ≡ add before entry
+pub record Last (log : List Entry) : Type 0 where
+  pub before : List Entry
+  pub entry : Entry
+  pub is : log ≡ add before entry
 
-last_of : (log : List Entry) → (log ≡ []) ⊎ Last log
+pub last_of : (log : List Entry) → (log ≡ []) ⊎ Last log
 last_of [] = inl refl
 last_of (x ∷ log) =
     elim (last_of log) [
@@ -160,7 +160,7 @@ last_of (x ∷ log) =
       | inr l ↦ inr (record { before = x ∷ l.before; entry = l.entry; is = ap (λ t. x ∷ t) l.is })
     ]
 
-last_term-add : (a : List Entry) (e : Entry) → last_term (add a e) ≡ e.term.0
+pub last_term-add : (a : List Entry) (e : Entry) → last_term (add a e) ≡ e.term.0
 last_term-add [] e = refl
 last_term-add (x ∷ []) e = refl
 last_term-add (x ∷ y ∷ a) e = last_term-add (y ∷ a) e

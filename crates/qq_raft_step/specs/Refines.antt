@@ -1,11 +1,11 @@
 -- What ties a server to the protocol: when it stands for a member of the protocol's world, and when what it does is a
 -- list of the protocol's moves.
-use Rattle.std.specs.Prelude.{◌≡◌, ◌⊎◌, ◌≤◌, ◌+◌, ℕ, Bool, true, List, length, ◌++◌, option_map}
+use Rattle.std.specs.Prelude.{◌≡◌, ◌⊎◌, ◌≤◌, ◌<◌, ◌+◌, ℕ, Bool, true, List, length, ◌++◌, option_map}
 use Rattle.std.specs.List.{count_by}
 use Rattle.qq_base.specs.declared.ids.NodeId.{NodeId}
 use Rattle.qq_entry.specs.declared.command.Entry.{Entry}
 use Rattle.qq_log.specs.declared.lane.Lane.{Lane as DiskLane}
-use Rattle.qq_raft_model.specs.Facts.{IsFront, In, Elects, tally}
+use Rattle.qq_raft_model.specs.Facts.{IsFront, add, In, Elects, tally}
 use Rattle.qq_raft_model.specs.Moves.{Move, AreAllowed, run, last_term}
 use Rattle.qq_raft_model.specs.World.{Role as ModelRole, Lane, Ask, Grant, Ack, Sent, World, new_world}
 use Rattle.qq_raft_msg.specs.Rpc.{envelope}
@@ -127,6 +127,21 @@ pub record Stands (w : World) (k : ℕ) (s : Server) : Type 0 where
 pub record IsGroup (members : List ℕ) (k : ℕ) (peers : List Peer) : Type 0 where
   pub count : length members ≡ length peers + 1
   pub each : (test : ℕ → Bool) → tally test members ≡ one_if (test k) + count_by (λ p. test p.node.0) peers
+
+-- an entry of a leader behind these is acknowledged by itself: the change that added it is as many before the last
+-- one as the entry is before the last entry
+pub record HasOwnAck (w : World) (k term last op : ℕ) (a : List Entry) : Type 0 where
+  pub ack : Ack
+  pub said : In ack w.acks
+  pub from : ack.from ≡ k
+  pub term_is : ack.term ≡ term
+  pub upto : length a < ack.upto
+  pub op_is : ack.op + last ≤ op + (length a + 1)
+
+abbrev pub AcksItself : World → ℕ → Server → Type 0
+AcksItself w k s =
+    (a : List Entry) (e : Entry) → IsFront (add a e) s.log → e.term.0 ≡ s.term.0
+    → HasOwnAck w k s.term.0 (last s) s.op a
 
 -- what a server may send to its peers, and has of them, is within its log
 abbrev pub IsWithinLog : Server → Type 0

@@ -1,9 +1,10 @@
 //! Worked steps, as laws.
-ghost use Rattle.std.specs.Prelude.{◌≡◌, [], ◌∷◌, map, length, Some, None, true, false};
+ghost use Rattle.std.specs.Prelude.{◌≡◌, [], ◌∷◌, map, length, replicate, Some, None, true, false};
+ghost use Rattle.qq_entry.specs.declared.command.Entry.{Entry};
 ghost use Rattle.qq_log.specs.declared.op.Op.TheVariants.{Change};
 ghost use Rattle.qq_raft_msg.specs.declared.state.Role.TheVariants.{Leader, Candidate, Follower};
 ghost use Rattle.qq_raft_step.specs.Example.{node, of_term, server, acknowledgement, append, vote};
-ghost use Rattle.qq_raft_step.specs.Leading.{is_elected};
+ghost use Rattle.qq_raft_step.specs.Leading.{batch, weight};
 ghost use Rattle.qq_raft_step.specs.Server.{receive, notice, tick, voted, is_ready};
 ghost use Rattle.qq_raft_step.specs.State.{wait};
 
@@ -42,4 +43,13 @@ pub fn a_vote_is_durable_single_and_for_a_current_log()
         ≡ voted (node 3) false (server Follower 3 None []) ∷ [] }
     ensures shorter { (receive (vote 2 3 1 3) (server Follower 3 None (1 ∷ 3 ∷ []))).out
         ≡ voted (node 2) false (server Follower 3 None []) ∷ [] }
+{}
+
+/// A law: a message holds one entry at least, 64 at most, and more than one where the messages that they
+/// publish have a mebibyte at most.
+pub fn a_message_holds_64_entries_or_a_mebibyte()
+    ensures first { (e : Entry) → batch (e ∷ []) ≡ e ∷ [] }
+    ensures count { length (batch (replicate 65 (of_term 1))) ≡ 64 }
+    ensures full { (e : Entry) → weight e ≡ 524288 → batch (e ∷ e ∷ []) ≡ e ∷ e ∷ [] }
+    ensures over { (e : Entry) → weight e ≡ 524289 → batch (e ∷ e ∷ []) ≡ e ∷ [] }
 {}

@@ -7,14 +7,15 @@ ghost use Rattle.qq_raft_model.specs.Moves.Move.{Restart};
 ghost use Rattle.qq_raft_model.specs.Moves.{after};
 ghost use Rattle.qq_raft_model.specs.World.{World};
 ghost use Rattle.qq_raft_msg.specs.declared.rpc.AppendMsg.{AppendMsg};
+ghost use Rattle.qq_raft_msg.specs.declared.rpc.AppendedMsg.{AppendedMsg};
 ghost use Rattle.qq_raft_msg.specs.declared.rpc.Rpc.{Rpc};
-ghost use Rattle.qq_raft_msg.specs.declared.rpc.Rpc.TheVariants.{Vote, Voted, Append};
+ghost use Rattle.qq_raft_msg.specs.declared.rpc.Rpc.TheVariants.{Vote, Voted, Append, Appended};
 ghost use Rattle.qq_raft_msg.specs.declared.rpc.VoteMsg.{VoteMsg};
 ghost use Rattle.qq_raft_msg.specs.declared.rpc.VotedMsg.{VotedMsg};
-ghost use Rattle.qq_raft_msg.specs.declared.state.Role.TheVariants.{Follower};
-ghost use Rattle.qq_raft_step.specs.Refines.{IsOnItsWay, IsReached, IsGroup, IsWithinLog, Stands, OnlyMoves, Refines, disk_lane};
+ghost use Rattle.qq_raft_msg.specs.declared.state.Role.TheVariants.{Follower, Leader};
+ghost use Rattle.qq_raft_step.specs.Refines.{IsOnItsWay, IsReached, IsGroup, IsWithinLog, AcksItself, Stands, OnlyMoves, Refines, disk_lane};
 ghost use Rattle.qq_raft_step.specs.Server.{receive, tick, submit, notice, restart};
-ghost use Rattle.qq_raft_step.specs.State.{Server, is_leader};
+ghost use Rattle.qq_raft_step.specs.State.{Server, is_leader, last};
 
 use qq_raft_model::servers_agree;
 
@@ -58,6 +59,19 @@ pub fn a_leader_sends_and_adds_by_moves()
     ensures submit { (members : List ℕ) (w : World) (k : ℕ) (s : Server) (time : ℕ)
         (command : Command) → IsReached members w → Stands w k s → IsWithinLog s →
         Refines members w k (submit time command s) }
+{
+    servers_agree();
+}
+
+/// A law: a server of a group takes an acknowledgement by moves of the protocol. A leader sends what is left
+/// and commits what a majority has by them, as long as what it keeps of its peers, and what is acknowledged,
+/// is within its log, and its own entries are acknowledged by itself.
+pub fn an_acknowledgement_is_counted_by_moves()
+    ensures { (members : List ℕ) (w : World) (k : ℕ) (s : Server) (m : AppendedMsg) →
+        IsReached members w → IsGroup members k s.peers → Stands w k s →
+        (s.role ≡ Leader → IsWithinLog s) → (s.role ≡ Leader → AcksItself w k s) →
+        (s.role ≡ Leader → m.index.0 ≤ last s) → IsOnItsWay w (Appended m) →
+        Refines members w k (receive (Appended m) s) }
 {
     servers_agree();
 }

@@ -8,14 +8,14 @@ mod limits;
 mod peer;
 
 pub use examples::{
-    a_vote_is_durable_single_and_for_a_current_log, an_append_cuts_only_what_differs,
-    an_entry_of_an_older_term_is_not_committed_by_counting,
+    a_message_holds_64_entries_or_a_mebibyte, a_vote_is_durable_single_and_for_a_current_log,
+    an_append_cuts_only_what_differs, an_entry_of_an_older_term_is_not_committed_by_counting,
 };
 pub use laws::{
     a_follower_notices_by_a_move, a_leader_sends_and_adds_by_moves,
     a_request_for_a_vote_is_answered_by_moves, a_restart_is_a_move,
-    a_step_of_one_leaves_the_others, a_vote_is_counted_by_moves, sent_entries_are_taken_by_moves,
-    standing_is_a_move,
+    a_step_of_one_leaves_the_others, a_vote_is_counted_by_moves,
+    an_acknowledgement_is_counted_by_moves, sent_entries_are_taken_by_moves, standing_is_a_move,
 };
 pub use limits::{BATCH_BYTES, BATCH_ENTRIES};
 pub use peer::{Peer, Waiting};
