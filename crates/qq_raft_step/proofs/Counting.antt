@@ -1,5 +1,5 @@
 -- A leader takes an acknowledgement: it sends what is left, and commits what a majority has.
-use Rattle.std.proofs.Common.{◌≡◌, ◌⊎◌, ℕ, zero, suc, ◌+◌, ◌-◌, ◌≤◌, ◌<◌, Bool, true, false, cond, ◌&&◌, eqb, ltb, leb, min, List, [], ◌∷◌, length, map, filter, count_by, take, Option, None, refl, sym, ap, subst, ◌∙◌, arith, inl, inr}
+use Rattle.std.proofs.Common.{◌≡◌, ◌⊎◌, ℕ, zero, suc, ◌+◌, ◌-◌, ◌≤◌, ◌<◌, Bool, true, cond, eqb, ltb, leb, min, List, [], ◌∷◌, length, map, filter, count_by, take, None, refl, sym, ap, subst, ◌∙◌, arith, inl, inr}
 use Rattle.std.proofs.lemmas.Bool.{cond_both, cond-true, cond-false, and_parts, cases_Bool, ltb-true, ltb-false, leb-true, eqb-true, lt-ltb}
 use Rattle.std.proofs.lemmas.List.{length-append, length-map, length-take-le}
 use Rattle.std.proofs.lemmas.List.Sums.{length-filter}
@@ -7,13 +7,13 @@ use Rattle.std.proofs.Math.Nat.{min-le_left}
 use Rattle.qq_base.proofs.Lists.{filter-map}
 use Rattle.qq_base.specs.declared.ids.NodeId.{NodeId}
 use Rattle.qq_entry.specs.declared.command.Entry.{Entry}
-use Rattle.qq_raft_model.specs.Facts.{IsFront, add, In, Most, Stored, Committed}
+use Rattle.qq_raft_model.specs.Facts.{IsFront, add, In, Committed}
 use Rattle.qq_raft_model.specs.Moves.{after, longer, last_term}
 use Rattle.qq_raft_model.specs.Moves.Move.{Commit}
-use Rattle.qq_raft_model.specs.World.{Role as ModelRole, Lane, World, put}
+use Rattle.qq_raft_model.specs.World.{Role as ModelRole, Lane, World}
 use Rattle.qq_raft_msg.specs.declared.rpc.AppendedMsg.{AppendedMsg}
 use Rattle.qq_raft_msg.specs.declared.rpc.Rpc.TheVariants.{Appended}
-use Rattle.qq_raft_msg.specs.declared.state.Role.TheVariants.{Leader, Candidate}
+use Rattle.qq_raft_msg.specs.declared.state.Role.TheVariants.{Leader}
 use Rattle.qq_raft_step.specs.declared.peer.Peer.{Peer}
 use Rattle.qq_raft_step.specs.State.{Server, last, term_at, is_leader, change, follow, enter}
 use Rattle.qq_raft_step.specs.Leading.{one_if, pass, send, is_majority, durable, may_commit, commit_within, advance}
@@ -24,7 +24,7 @@ use Rattle.qq_raft_step.proofs.Electing.{majority}
 use Rattle.qq_raft_step.proofs.Fronts.{put-same, put-other, front-length}
 use Rattle.qq_raft_step.proofs.Later.{there-later, said-later, way-later, elects-later, matched-later}
 use Rattle.qq_raft_step.proofs.Learning.{longer-length}
-use Rattle.qq_raft_step.proofs.Matches.{Promise, Last, last_of, last_term-add, take-front}
+use Rattle.qq_raft_step.proofs.Matches.{Promise, last_of, last_term-add, take-front}
 use Rattle.qq_raft_step.proofs.Moving.{In-map}
 use Rattle.qq_raft_step.proofs.Refining.{refines-refl, refines-then, refines-change}
 use Rattle.qq_raft_step.proofs.Sending.{leader_asks, send-refines}

@@ -1,10 +1,12 @@
 mod Adding
+mod Agreeing
 mod Appends
 mod Counting
 mod Electing
 mod Fits
 mod Fronts
 mod Later
+mod Leading
 mod Leads
 mod Learning
 mod Matches

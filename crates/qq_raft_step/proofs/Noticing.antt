@@ -15,11 +15,11 @@ use Rattle.qq_raft_step.specs.Refines.{IsOnItsWay, Stands, OnlyMoves, Refines}
 use Rattle.qq_raft_step.proofs.Fronts.{put-same, put-other, In-append}
 use Rattle.qq_raft_step.proofs.Later.{there-later, said-later, way-later, elects-later, matched-later}
 
-greater_le : (a b : ℕ) → a ≤ greater a b
+pub greater_le : (a b : ℕ) → a ≤ greater a b
 greater_le a b =
     cond_both (ltb a b) b a (λ n. a ≤ n) (λ e. let lt = ltb-true a b e in omega (arith, lt)) (λ _. omega arith)
 
-greater_most : (a b c : ℕ) → a ≤ c → b ≤ c → greater a b ≤ c
+pub greater_most : (a b c : ℕ) → a ≤ c → b ≤ c → greater a b ≤ c
 greater_most a b c p q = cond_both (ltb a b) b a (λ n. n ≤ c) (λ _. q) (λ _. p)
 
 -- ---- the move
@@ -41,7 +41,7 @@ after_notice w k op =
     let m = w.member k in
     record { mine = m.mine; older = filter (λ l. leb op l.op) m.older; noticed = op }
 
-notice-only : (w : World) (k op : ℕ) → (w.member k).noticed ≤ op → OnlyMoves k w (after w (Notice k op))
+pub notice-only : (w : World) (k op : ℕ) → (w.member k).noticed ≤ op → OnlyMoves k w (after w (Notice k op))
 unfolding after_notice
 notice-only w k op le =
     record {
@@ -82,7 +82,7 @@ still-in op (y ∷ ys) x here =
     cond_both (leb y.op op) (still_waiting op ys) (y ∷ ys) (λ zs. In x zs → In x (y ∷ ys))
     (λ _ there. inr (still-in op ys x there)) (λ _ there. there) here
 
-take-stands : {w : World} {k : ℕ} {s : Server} (op : ℕ) → Stands w k s → s.noticed ≤ op
+pub take-stands : {w : World} {k : ℕ} {s : Server} (op : ℕ) → Stands w k s → s.noticed ≤ op
     → Stands (after w (Notice k op)) k (take_notice op s)
 unfolding after_notice
 take-stands {w = w} {k = k} {s = s} op st rises =

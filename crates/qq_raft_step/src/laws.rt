@@ -1,10 +1,10 @@
 //! Laws: what a server does is the protocol's.
-ghost use Rattle.std.specs.Prelude.{◌≡◌, ◌≤◌, List, ℕ, true, false};
+ghost use Rattle.std.specs.Prelude.{◌≡◌, ◌≤◌, List, ℕ, take, true, false};
 ghost use Rattle.qq_base.specs.declared.ids.NodeId.{NodeId};
 ghost use Rattle.qq_entry.specs.declared.command.Command.{Command};
 ghost use Rattle.qq_log.specs.declared.lane.Lane.{Lane};
 ghost use Rattle.qq_raft_model.specs.Moves.Move.{Restart};
-ghost use Rattle.qq_raft_model.specs.Moves.{after};
+ghost use Rattle.qq_raft_model.specs.Moves.{after, run};
 ghost use Rattle.qq_raft_model.specs.World.{World};
 ghost use Rattle.qq_raft_msg.specs.declared.rpc.AppendMsg.{AppendMsg};
 ghost use Rattle.qq_raft_msg.specs.declared.rpc.AppendedMsg.{AppendedMsg};
@@ -83,6 +83,16 @@ pub fn a_follower_notices_by_a_move()
         s.role ≡ Follower → op ≤ s.op → s.noticed ≤ s.op → Refines members w k (notice op s) }
 {}
 
+/// A law: a leader of a group that is told up to which change its disk is durable notices it, and commits what
+/// a majority has by then, by moves of the protocol, as long as its own entries are acknowledged by itself.
+pub fn a_leader_notices_by_moves()
+    ensures { (members : List ℕ) (w : World) (k : ℕ) (s : Server) (op : ℕ) → IsReached members w →
+        IsGroup members k s.peers → Stands w k s → s.role ≡ Leader → AcksItself w k s →
+        op ≤ s.op → s.noticed ≤ s.op → Refines members w k (notice op s) }
+{
+    servers_agree();
+}
+
 /// A law: a server that restarts with a lane that isn't older than what was noticed stands for its member
 /// after the protocol's move. The others stand as before, and what is on its way stays so.
 pub fn a_restart_is_a_move()
@@ -104,3 +114,19 @@ pub fn a_step_of_one_leaves_the_others()
     ensures way { (k : ℕ) (w v : World) (r : Rpc) → OnlyMoves k w v → IsOnItsWay w r →
         IsOnItsWay v r }
 {}
+
+/// A law: of servers that stand for members of a world that the protocol can come to, at most one leads a
+/// term, and what two of them know to be committed is the same as far as both know it. What a server does is
+/// moves to such a world again.
+pub fn servers_that_stand_agree()
+    ensures leader { (members : List ℕ) (w : World) (p q : ℕ) (s t : Server) →
+        IsReached members w → Stands w p s → Stands w q t → s.role ≡ Leader → t.role ≡ Leader →
+        s.term.0 ≡ t.term.0 → p ≡ q }
+    ensures committed { (members : List ℕ) (w : World) (p q : ℕ) (s t : Server) →
+        IsReached members w → Stands w p s → Stands w q t → s.commit ≤ t.commit →
+        take s.commit s.log ≡ take s.commit t.log }
+    ensures later { (members : List ℕ) (w : World) (k : ℕ) (s : Server) → IsReached members w →
+        (r : Refines members w k s) → IsReached members (run w r.moves) }
+{
+    servers_agree();
+}

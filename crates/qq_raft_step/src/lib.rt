@@ -12,10 +12,11 @@ pub use examples::{
     an_append_cuts_only_what_differs, an_entry_of_an_older_term_is_not_committed_by_counting,
 };
 pub use laws::{
-    a_follower_notices_by_a_move, a_leader_sends_and_adds_by_moves,
+    a_follower_notices_by_a_move, a_leader_notices_by_moves, a_leader_sends_and_adds_by_moves,
     a_request_for_a_vote_is_answered_by_moves, a_restart_is_a_move,
     a_step_of_one_leaves_the_others, a_vote_is_counted_by_moves,
-    an_acknowledgement_is_counted_by_moves, sent_entries_are_taken_by_moves, standing_is_a_move,
+    an_acknowledgement_is_counted_by_moves, sent_entries_are_taken_by_moves,
+    servers_that_stand_agree, standing_is_a_move,
 };
 pub use limits::{BATCH_BYTES, BATCH_ENTRIES};
 pub use peer::{Peer, Waiting};

@@ -1,4 +1,4 @@
-use Rattle.std.proofs.Common.{◌≡◌, ◌-◌, ℕ, leb, List, [], ◌∷◌, refl, ap}
+use Rattle.std.proofs.Common.{◌-◌, ℕ, leb, List, [], ◌∷◌, refl, ap}
 use Rattle.std.proofs.lemmas.Bool.{cond-true, cond-false}
 use Rattle.qq_entry.specs.declared.command.Entry.{Entry}
 use Rattle.qq_raft_step.specs.declared.limits.TheConstants.{BATCH_BYTES}
