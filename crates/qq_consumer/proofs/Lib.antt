@@ -1,0 +1,10 @@
+mod Calls
+mod Changing
+mod Cutting
+mod JoinedRows
+mod Keeping
+mod NextOne
+mod Ones
+mod Places
+mod Queueing
+mod Taking

@@ -1,0 +1,6 @@
+pub mod Joined
+pub mod Next
+pub mod Numbers
+pub mod OfParts
+pub mod Roster
+pub mod Turns

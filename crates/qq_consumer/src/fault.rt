@@ -1,0 +1,15 @@
+use thiserror::Error;
+
+/// Why a consumer doesn't join.
+#[derive(Clone, Copy, Debug, PartialEq, Eq, Error)]
+pub enum SubscribeFault {
+    /// The tag isn't above all that its session used.
+    #[error("the tag was used")]
+    NumberSpent,
+    /// The queue has as many consumers as it may have.
+    #[error("the queue has as many consumers as it may have")]
+    ConsumersFull,
+    /// Out of memory.
+    #[error("out of memory")]
+    Memory,
+}
