@@ -33,6 +33,14 @@ fn number(words: &str, place: usize) -> Result<u8> {
     anyhow::bail!("a number is wanted")
 }
 
+// The first word, and what stands behind the blank after it.
+fn parts_of(text: &str) -> (&str, &str) {
+    match text.split_once(' ') {
+        Some(parts) => parts,
+        None => (text, ""),
+    }
+}
+
 impl Cases {
     pub fn new(alloc: Global) -> Result<Self> {
         Ok(Cases {
@@ -44,10 +52,11 @@ impl Cases {
     /// What a line of cases gives, in lines.
     pub fn answer(&mut self, alloc: Global, line: &str) -> Result<String> {
         let text = expand(alloc, line)?;
-        let (word, rest) = match text.as_str().split_once(' ') {
-            Some(parts) => parts,
-            None => (text.as_str(), ""),
-        };
+        let (word, rest) = parts_of(text.as_str());
+        self.carry_out(alloc, word, rest)
+    }
+
+    fn carry_out(&mut self, alloc: Global, word: &str, rest: &str) -> Result<String> {
         match word {
             "setup" => self.set_up(alloc, rest)?,
             "read" => match read(alloc, rest.as_bytes(), false, 3, LOG_BYTES) {

@@ -6,8 +6,6 @@ mod losses;
 #[cfg(test)]
 mod numbers;
 #[cfg(test)]
-mod repeats;
-#[cfg(test)]
 mod rows;
 #[cfg(test)]
 mod wire;
