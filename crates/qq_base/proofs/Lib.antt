@@ -1,2 +1,5 @@
+pub mod Fronts
+pub mod InPlace
 pub mod Lists
 pub mod Numbers
+pub mod Puts

@@ -1,5 +1,5 @@
 -- Why a call gave up: a number at its end, or a fault that is counted.
-use Rattle.std.specs.Prelude.{◌≡◌, ◌<◌, ◌≤◌, ◌-◌, ◌^◌, ◌⊎◌, ℕ, Result, IfErr}
+use Rattle.std.specs.Prelude.{◌≡◌, ◌<◌, ◌≤◌, ◌+◌, ◌-◌, ◌^◌, ◌⊎◌, ℕ, Result, IfErr, min}
 use Rattle.qq_base.specs.declared.memory.Memory.{Memory}
 use Rattle.qq_base.specs.declared.memory.Memory.TheVariants.{Want, Spent}
 
@@ -7,6 +7,10 @@ use Rattle.qq_base.specs.declared.memory.Memory.TheVariants.{Want, Spent}
 abbrev pub SpentOnlyWhere : Memory → ℕ → Type 0 → Type 0
 SpentOnlyWhere Want end P = Unit {0}
 SpentOnlyWhere (Spent number) end P = (number ≡ end) × P
+
+-- one more, as far as 64 bits count
+abbrev pub raise : ℕ → ℕ
+raise n = min (n + 1) (2 ^ 64 - 1)
 
 -- a count of 64 bits rose, or stands at its end
 abbrev pub Rose : ℕ → ℕ → Type 0

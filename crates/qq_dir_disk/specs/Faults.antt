@@ -1,7 +1,8 @@
 -- The faults of a disk in a folder.
-use Rattle.std.specs.Prelude.{◌≡◌, ◌≢◌, ◌+◌, ◌-◌, ◌^◌, ℕ, Bool, true, min}
+use Rattle.std.specs.Prelude.{◌≡◌, ◌≢◌, ℕ, Bool, true}
 use Rattle.std.specs.declared.io.ErrorKind.{ErrorKind}
 use Rattle.std.specs.declared.io.ErrorKind.TheVariants.{OutOfMemory}
+use Rattle.qq_base.specs.Causes.{raise}
 use Rattle.qq_base.specs.declared.memory.Memory.TheVariants.{Want}
 use Rattle.qq_disk.specs.declared.fault.DiskFault.{DiskFault}
 use Rattle.qq_disk.specs.declared.fault.DiskFault.TheVariants.{Failed, Memory as OfMemory}
@@ -10,10 +11,6 @@ use Rattle.qq_disk.specs.declared.fault.DiskFault.TheVariants.{Failed, Memory as
 abbrev pub StopsWhereFailed : Bool → DiskFault → Type 0
 StopsWhereFailed stopped Failed = stopped ≡ true
 StopsWhereFailed stopped (OfMemory m) = Unit {0}
-
--- one more, as far as 64 bits count
-abbrev pub raise : ℕ → ℕ
-raise n = min (n + 1) (2 ^ 64 - 1)
 
 -- what is counted of an answer: a fault, and not that there is no memory
 abbrev pub counted : DiskFault → ℕ → ℕ

@@ -1,8 +1,8 @@
 ghost use Rattle.std.specs.Prelude.{◌≡◌, ◌≤◌, true, false};
 ghost use Rattle.std.specs.IoError.{error_kind};
-ghost use Rattle.qq_base.specs.Causes.{Rose};
+ghost use Rattle.qq_base.specs.Causes.{Rose, raise};
 ghost use Rattle.qq_disk.specs.Fault.{IsCaused};
-ghost use Rattle.qq_dir_disk.specs.Faults.{raise, counted, IsRefusal};
+ghost use Rattle.qq_dir_disk.specs.Faults.{counted, IsRefusal};
 
 use qq_base::Memory;
 use qq_disk::DiskFault;

@@ -4,7 +4,7 @@ use Rattle.std.specs.List.{list_any}
 use Rattle.qq_disk.specs.declared.fault.DiskFault.{DiskFault}
 use Rattle.qq_disk.specs.declared.fault.DiskFault.TheVariants.{Failed, Memory as OfMemory}
 use Rattle.qq_disk.specs.Disk.{Disk}
-use Rattle.qq_mem_disk.specs.Counter.{raise}
+use Rattle.qq_base.specs.Causes.{raise}
 use Rattle.qq_mem_disk.specs.Counter as inner
 use Rattle.qq_mem_disk.specs.MemDisk as disks
 use Rattle.qq_disk_laws.specs.declared.worn_disk.WornDisk.{WornDisk}

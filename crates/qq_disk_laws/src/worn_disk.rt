@@ -1,9 +1,9 @@
 ghost use Rattle.std.specs.Prelude.{◌≡◌, ◌≤◌, ◌∷◌, ℕ, true, false, length, IsTrue, IfOk, IfErr, OnOk, OnErr};
-ghost use Rattle.qq_base.specs.Causes.{HasCause};
+ghost use Rattle.qq_base.specs.Causes.{HasCause, raise};
 ghost use Rattle.qq_disk.specs.Disk.{now, append, sync, remove, content, IsListing, IsRead};
 ghost use Rattle.qq_disk.specs.Fault.{IsCaused};
 ghost use Rattle.qq_disk.specs.Moments.{Adds, IsAppending, IsSyncing, IsRemoving, StaysAtWant};
-ghost use Rattle.qq_mem_disk.specs.Counter.{raise, Counts};
+ghost use Rattle.qq_mem_disk.specs.Counter.{Counts};
 ghost use Rattle.qq_mem_disk.specs.MemDisk as disks;
 ghost use Rattle.qq_disk_laws.specs.WornDisk.{past_of, is_worn, is_broken, first_half, HasFailed};
 

@@ -1,3 +1,4 @@
+pub mod Answer
 pub mod Command
 pub mod Message
 pub mod Queue

@@ -98,6 +98,25 @@ pub enum Answer {
     SessionsFull,
 }
 
+impl Answer {
+    ghost use Rattle.std.specs.Prelude.{◌≡◌};
+    ghost use Rattle.qq_entry.specs.Answer.{comes_from_gate};
+
+    /// Whether the session gate itself answers so.
+    pub fn comes_from_gate(&self) -> bool
+        ensures { result ≡ comes_from_gate self.now }
+    {
+        matches!(
+            self,
+            Answer::Gap { .. }
+                | Answer::Forgotten
+                | Answer::Ended
+                | Answer::WindowFull
+                | Answer::SessionsFull
+        )
+    }
+}
+
 impl Duplicate for Delivery {
     fn copy(&self, alloc: Global) -> Result<Self, Memory> {
         Ok(copy_struct!(self, alloc, Delivery { index, arrival, id, count; message }))

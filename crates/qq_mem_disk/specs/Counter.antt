@@ -1,13 +1,10 @@
 -- Which calls fail.
-use Rattle.std.specs.Prelude.{◌+◌, ◌-◌, ◌^◌, ℕ, zero, suc, Bool, true, false, min, ◌||◌, [], Option, Some, None, Result, Ok, Err, nat_eq, ◌≡◌, if◌then◌else◌}
+use Rattle.std.specs.Prelude.{ℕ, zero, suc, Bool, true, false, ◌||◌, [], Option, Some, None, Result, Ok, Err, nat_eq, ◌≡◌, if◌then◌else◌}
 use Rattle.std.specs.List.{list_any}
+use Rattle.qq_base.specs.Causes.{raise}
 use Rattle.qq_disk.specs.declared.fault.DiskFault.{DiskFault}
 use Rattle.qq_disk.specs.declared.fault.DiskFault.TheVariants.{Failed, Memory as OfMemory}
 use Rattle.qq_mem_disk.specs.declared.counter.Counter.{Counter}
-
--- one more, as far as 64 bits count
-abbrev pub raise : ℕ → ℕ
-raise n = min (n + 1) (2 ^ 64 - 1)
 
 abbrev pub is_blown : Option ℕ → Bool
 is_blown (Some zero) = true

@@ -4,7 +4,8 @@ use Rattle.qq_ports.specs.declared.source.Failed.{Failed}
 use Rattle.qq_ports.specs.declared.mem_shelf.MemShelf.{MemShelf}
 use Rattle.qq_ports.specs.declared.shelf.ShelfFault.{ShelfFault}
 use Rattle.qq_ports.specs.Memory.{Counts, is_failed}
-use Rattle.qq_ports.specs.Shelf.{raise, will_fail, has_failed, CountsFetch}
+use Rattle.qq_base.specs.Causes.{raise}
+use Rattle.qq_ports.specs.Shelf.{will_fail, has_failed, CountsFetch}
 
 pub fails : (calls calls' faults faults' : ℕ) (result : Result ℕ Failed)
     → Counts true calls calls' faults faults' result

@@ -4,7 +4,8 @@ use Rattle.std.specs.Prelude.{Result, nat_eq}
 use Rattle.std.specs.List.{list_any}
 use Rattle.qq_ports.specs.declared.shelf.ShelfFault.{ShelfFault}
 use Rattle.qq_ports.specs.declared.mem_shelf.MemShelf.{MemShelf}
-use Rattle.qq_ports.specs.Shelf.{CountsFetch, has_failed, fault_count, mem_file, raise}
+use Rattle.qq_base.specs.Causes.{raise}
+use Rattle.qq_ports.specs.Shelf.{CountsFetch, has_failed, fault_count, mem_file}
 
 pub second_fails : (old mid new : MemShelf) (a b : List ℕ) (first second : Result (List ℕ) ShelfFault)
     → old.calls ≡ 0 → CountsFetch old mid a first → CountsFetch mid new b second

@@ -4,7 +4,7 @@ use Rattle.std.specs.List.{list_any}
 use Rattle.qq_ports.specs.declared.source.Failed.{Failed}
 use Rattle.qq_ports.specs.declared.memory.MemSource.{MemSource}
 use Rattle.qq_ports.specs.declared.memory.MemSink.{MemSink}
-use Rattle.qq_ports.specs.Shelf.{raise}
+use Rattle.qq_base.specs.Causes.{raise}
 
 abbrev pub left_of : MemSource → Option (List ℕ)
 left_of source = Some (drop source.at source.bytes.items)

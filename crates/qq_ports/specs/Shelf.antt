@@ -1,8 +1,8 @@
 -- Files that are read whole.
-use Rattle.std.specs.Prelude.{◌≡◌, ◌+◌, ◌-◌, ◌^◌, ◌||◌, ℕ, Bool, true, false, min, List, [], ◌∷◌, Option, Some, None, Result, Ok, Err, nat_eq, is_some, not, if◌then◌else◌}
+use Rattle.std.specs.Prelude.{◌≡◌, ◌||◌, ℕ, Bool, true, false, List, [], ◌∷◌, Option, Some, None, Result, Ok, Err, nat_eq, is_some, not, if◌then◌else◌}
 use Rattle.std.specs.List.{list_any}
 use Rattle.std.specs.Cmp.Lexicographic.{pointwise}
-use Rattle.qq_base.specs.Causes.{Rose}
+use Rattle.qq_base.specs.Causes.{raise, Rose}
 use Rattle.qq_base.specs.declared.memory.Memory.TheVariants.{Want}
 use Rattle.qq_ports.specs.declared.shelf.ShelfFault.{ShelfFault}
 use Rattle.qq_ports.specs.declared.shelf.ShelfFault.TheVariants.{Failed, Memory as OfMemory}
@@ -29,10 +29,6 @@ mem_file shelf = file_of (λ name. name.bytes.items) (λ bytes. bytes.items) she
 
 abbrev pub files_of : MemShelf → Option (List ℕ → Option (List ℕ))
 files_of shelf = Some (mem_file shelf)
-
--- one more, as far as 64 bits count
-abbrev pub raise : ℕ → ℕ
-raise n = min (n + 1) (2 ^ 64 - 1)
 
 -- the next call fails: its number is listed, or there is no such file
 abbrev pub will_fail : MemShelf → List ℕ → Bool

@@ -2,14 +2,14 @@
 ghost use Rattle.std.specs.Prelude.{◌≡◌, ℕ, List, Result, true, false};
 ghost use Rattle.qq_base.specs.declared.memory.Memory.{Memory};
 ghost use Rattle.qq_base.specs.declared.memory.Memory.TheVariants.{Want};
-ghost use Rattle.qq_base.specs.Causes.{Rose};
+ghost use Rattle.qq_base.specs.Causes.{Rose, raise};
 ghost use Rattle.qq_ports.specs.declared.source.Failed.{Failed};
 ghost use Rattle.qq_ports.specs.declared.mem_shelf.MemShelf.{MemShelf};
 ghost use Rattle.qq_ports.specs.declared.shelf.ShelfFault.{ShelfFault};
 ghost use Rattle.qq_ports.specs.declared.shelf.ShelfFault.TheVariants.{Failed as ShelfFailed, Memory as OfMemory};
 ghost use Rattle.qq_ports.specs.Faults.{IsCaused};
 ghost use Rattle.qq_ports.specs.Memory.{Counts, is_failed};
-ghost use Rattle.qq_ports.specs.Shelf.{raise, mem_file, will_fail, has_failed, IsShelfCaused, CountsFetch};
+ghost use Rattle.qq_ports.specs.Shelf.{mem_file, will_fail, has_failed, IsShelfCaused, CountsFetch};
 
 /// What the counts of a port in memory come to.
 ///

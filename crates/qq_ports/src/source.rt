@@ -1,8 +1,7 @@
 ghost use Rattle.std.specs.Prelude.{◌≤◌, ◌<◌, ◌≡◌, ℕ, List, Option, IfOk, OnErr, length, take};
 ghost use Rattle.std.specs.Io.KnownBytes.{Consumes, Keeps, IsAtEnd};
-ghost use Rattle.qq_base.specs.Causes.{HasCause, Rose};
+ghost use Rattle.qq_base.specs.Causes.{HasCause, Rose, raise};
 ghost use Rattle.qq_ports.specs.Faults.{IsCaused};
-ghost use Rattle.qq_ports.specs.Shelf.{raise};
 
 use std::error::Error;
 use std::fmt;

@@ -1,7 +1,6 @@
 mod Commits
 mod Entries
 mod Fitting
-mod InPlace
 mod Members
 mod Pushes
 mod Said

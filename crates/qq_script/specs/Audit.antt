@@ -6,8 +6,8 @@ use Rattle.qq_entry.specs.declared.command.DeadDone.{DeadDone}
 use Rattle.qq_entry.specs.declared.command.Command.{Command}
 use Rattle.qq_entry.specs.declared.command.Command.TheVariants.{Noop, Enqueue, Get, Subscribe, Cancel, Credit, Settle, Return, Discard, Purge, Down, DeadAttach, DeadSettle}
 use Rattle.qq_entry.specs.declared.answer.Answer.{Answer}
-use Rattle.qq_entry.specs.declared.answer.Answer.TheVariants as answers
 use Rattle.qq_entry.specs.declared.audit.AuditRow.{AuditRow}
+use Rattle.qq_entry.specs.Answer.{comes_from_gate}
 use Rattle.qq_script.specs.Text.{seq_of, tag_of, session_text, answer_words}
 
 -- numbers with commas between them
@@ -47,19 +47,10 @@ command_text (DeadSettle term done) =
     codes "dead-settle " ++ decimal term.0 ++ codes " "
     ++ numbers_text (map (λ (d : DeadDone). d.number) done)
 
--- the answers of the session gate, which are no kept answers
-abbrev pub is_gate_answer : Answer → Bool
-is_gate_answer (answers.Gap next) = true
-is_gate_answer answers.Forgotten = true
-is_gate_answer answers.Ended = true
-is_gate_answer answers.WindowFull = true
-is_gate_answer answers.SessionsFull = true
-is_gate_answer _ = false
-
 -- a kept answer was given again
 abbrev pub again_text : Bool → Answer → List ℕ
 again_text true answer = []
-again_text false answer = if is_gate_answer answer then [] else codes " again"
+again_text false answer = if comes_from_gate answer then [] else codes " again"
 
 abbrev pub row_text : AuditRow → List ℕ
 row_text row =

@@ -2,7 +2,7 @@ ghost use Rattle.std.specs.Prelude.{◌≡◌, ◌++◌, OnOk, IsOkUnless, OnErr
 ghost use Rattle.std.specs.Fmt.{decimal};
 ghost use Rattle.qq_entry.specs.declared.command.DeadDone.{DeadDone};
 ghost use Rattle.qq_script.specs.Text.{seq_of, tag_of};
-ghost use Rattle.qq_script.specs.Audit.{numbers_text, stamp_text, ids_text, command_text, is_gate_answer, again_text, row_text, audit_head_text, comma_before};
+ghost use Rattle.qq_script.specs.Audit.{numbers_text, stamp_text, ids_text, command_text, again_text, row_text, audit_head_text, comma_before};
 
 use crate::answer::{push_answer_words, push_line, seq_of, tag_of};
 use crate::words::{push_number, push_numbered, push_session, push_text};
@@ -125,24 +125,11 @@ fn push_command(out: &mut Vec<u8>, command: &Command) -> Result<(), Memory>
     }
 }
 
-fn is_gate_answer(answer: &Answer) -> bool
-    ensures { result ≡ is_gate_answer answer.now }
-{
-    matches!(
-        answer,
-        Answer::Gap { .. }
-            | Answer::Forgotten
-            | Answer::Ended
-            | Answer::WindowFull
-            | Answer::SessionsFull
-    )
-}
-
 fn push_again(out: &mut Vec<u8>, fresh: bool, answer: &Answer) -> Result<(), Memory>
     ensures ok { OnOk result (out.new.items ≡ out.old.items ++ again_text fresh answer.now) }
     ensures want { IsOkUnless result Memory.Want }
 {
-    if fresh || is_gate_answer(answer) {
+    if fresh || answer.comes_from_gate() {
         return Ok(());
     }
     push_text(out, " again")

@@ -30,7 +30,8 @@ use Rattle.qq_model.proofs.SessionLemmas.{same_session-true, same_session-refl}
 use Rattle.qq_laws.specs.Always.{Always, queue_after, queue_audit}
 use Rattle.qq_laws.specs.Numbers.{AnswersAsFirst, CountsCommands, fresh_number, number_of}
 use Rattle.qq_laws.specs.Once.{is_fresh, is_let_in, IsFreshWhereLetIn, TurnsAway, IsOpenRepeat}
-use Rattle.qq_session.specs.Answered.{comes_from_gate, WasAnswered, IsAnswered}
+use Rattle.qq_entry.specs.Answer.{comes_from_gate}
+use Rattle.qq_session.specs.Answered.{WasAnswered, IsAnswered}
 use Rattle.qq_session.proofs.AuditRows.{RowAt, row_at, PickedAt, picked_at, filter_map-append, get-last, get-within, Contains-middle, state-append, rows-append}
 use Rattle.qq_session.proofs.GateRepeats.{again-repeats, probe, probe-fresh}
 

@@ -4,19 +4,10 @@ use Rattle.std.specs.Prelude.{◌≡◌, ◌⊎◌, ℕ, ◌+◌, List, ◌∷�
 use Rattle.qq_base.specs.declared.ids.SessionId.{SessionId}
 use Rattle.qq_entry.specs.declared.command.Stamp.{Stamp}
 use Rattle.qq_entry.specs.declared.answer.Answer.{Answer}
-use Rattle.qq_entry.specs.declared.answer.Answer.TheVariants.{Gap, Forgotten, Ended, WindowFull, SessionsFull}
 use Rattle.qq_entry.specs.declared.audit.AuditRow.{AuditRow}
+use Rattle.qq_entry.specs.Answer.{comes_from_gate}
 use Rattle.qq_entry.specs.Command.{stamp}
 use Rattle.qq_laws.specs.Numbers.{fresh_number}
-
--- the answers of the session gate itself
-abbrev pub comes_from_gate : Answer → Bool
-comes_from_gate (Gap next) = true
-comes_from_gate Forgotten = true
-comes_from_gate Ended = true
-comes_from_gate WindowFull = true
-comes_from_gate SessionsFull = true
-comes_from_gate _ = false
 
 -- the command of this number was carried out in one of the rows, with this answer
 pub record WasAnswered (session : SessionId) (rows : List AuditRow) (seq : ℕ) (answer : Answer) : Type 0 where

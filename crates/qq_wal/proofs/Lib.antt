@@ -3,7 +3,6 @@ pub mod Batches
 pub mod Beginning
 pub mod Beside
 pub mod Follows
-pub mod InPlace
 pub mod Kept
 pub mod Lying
 pub mod Lengths

@@ -21,7 +21,8 @@ use Rattle.qq_model.specs.Audit.{state_after}
 use Rattle.qq_model.specs.Gate.{IsNumbered}
 use Rattle.qq_model.specs.State.{State, empty_queue}
 use Rattle.qq_model.proofs.SessionLemmas.{same_session-true, same_session-refl}
-use Rattle.qq_session.specs.Answered.{IsAnswered, WasAnswered, comes_from_gate}
+use Rattle.qq_entry.specs.Answer.{comes_from_gate}
+use Rattle.qq_session.specs.Answered.{IsAnswered, WasAnswered}
 use Rattle.qq_session.proofs.AnsweredLemmas.{FreshRow, fresh_row}
 use Rattle.qq_session.proofs.AuditRows.{RowAt, row_at, filter_map-append}
 use Rattle.qq_world.specs.Front.{ExactlyOne}

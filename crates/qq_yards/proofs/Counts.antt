@@ -9,7 +9,8 @@ use Rattle.qq_yards.specs.declared.fault.YardFault.{YardFault}
 use Rattle.qq_yards.specs.declared.fault.YardFault.TheVariants.{Failed, Memory as OfMemory}
 use Rattle.qq_yards.specs.declared.mem_yard.MemYard.{MemYard}
 use Rattle.qq_yards.specs.Yard.{IsYardCaused}
-use Rattle.qq_yards.specs.MemYard.{CountsCall, has_failed, fault_count, raise}
+use Rattle.qq_base.specs.Causes.{raise}
+use Rattle.qq_yards.specs.MemYard.{CountsCall, has_failed, fault_count}
 
 pub counted : (count : ℕ) (fault : YardFault) → count < 2 ^ 64 - 1 → IsYardCaused count count fault
     → fault ≡ OfMemory Want

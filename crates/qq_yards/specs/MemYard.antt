@@ -1,9 +1,10 @@
 -- A yard in memory: which disks it holds, and which calls it fails.
-use Rattle.std.specs.Prelude.{◌≡◌, ◌+◌, ◌-◌, ◌^◌, ◌&&◌, ◌==◌, ℕ, suc, Bool, true, false, min, List, [], ◌∷◌, Option, Some, None, Result, Ok, Err, nat_eq, if◌then◌else◌}
+use Rattle.std.specs.Prelude.{◌≡◌, ◌&&◌, ◌==◌, ℕ, suc, Bool, true, false, List, [], ◌∷◌, Option, Some, None, Result, Ok, Err, nat_eq, if◌then◌else◌}
 use Rattle.std.specs.List.{list_any}
 use Rattle.std.specs.Str.{bytes_eq}
 use Rattle.std.specs.declared.alloc.Global.{Global}
 use Rattle.std.specs.declared.string.String.{String}
+use Rattle.qq_base.specs.Causes.{raise}
 use Rattle.qq_base.specs.declared.ids.NodeId.{NodeId}
 use Rattle.qq_mem_disk.specs.declared.mem_disk.MemDisk.{MemDisk}
 use Rattle.qq_yards.specs.Yard.{IsFreshDisk}
@@ -51,10 +52,6 @@ Gives None disk = IsFreshDisk disk
 Gives (Some held) disk = disk ≡ held
 
 -- ---- which calls fail
-
--- one more, as far as 64 bits count
-abbrev pub raise : ℕ → ℕ
-raise n = min (n + 1) (2 ^ 64 - 1)
 
 -- the number of the next call is listed
 abbrev pub will_fail : MemYard → Bool

@@ -3,7 +3,7 @@ use Rattle.std.proofs.lemmas.List.Elements.{All-set}
 use Rattle.qq_base.specs.declared.memory.TheConstants.{NUMBER_END}
 use Rattle.qq_raft_step.specs.declared.peer.Peer.{Peer}
 use Rattle.qq_raft.specs.Peers.{picks, append_from, passed}
-use Rattle.qq_raft.proofs.InPlace.{mapped_front, mapped_rest}
+use Rattle.qq_base.proofs.InPlace.{mapped_front, mapped_rest}
 use Rattle.qq_raft.proofs.Pushes.{sent-front}
 use Rattle.qq_raft.proofs.sending.send_to_each.Goals as goal
 

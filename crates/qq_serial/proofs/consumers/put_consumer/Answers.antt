@@ -1,7 +1,7 @@
 use Rattle.std.proofs.Common.{if◌then◌else◌, arith}
 use Rattle.qq_model.specs.declared.consumer.Consumer.{Consumer}
 use Rattle.qq_base.specs.Ids.{same_consumer}
-use Rattle.qq_serial.proofs.InPlace.{mapped_front, mapped_rest}
+use Rattle.qq_base.proofs.InPlace.{mapped_front, mapped_rest}
 use Rattle.qq_serial.proofs.consumers.put_consumer.Goals as goal
 
 pub loop-consumer-preserved : goal.loop-consumer-preserved

@@ -1,6 +1,6 @@
 use Rattle.std.proofs.Common.{arith}
 use Rattle.qq_model.specs.Commands.{purge_row}
-use Rattle.qq_serial.proofs.InPlace.{mapped_front, mapped_rest}
+use Rattle.qq_base.proofs.InPlace.{mapped_front, mapped_rest}
 use Rattle.qq_serial.proofs.rows.purge_rows.Goals as goal
 
 pub loop-row-preserved : goal.loop-row-preserved

@@ -1,6 +1,6 @@
 use Rattle.std.proofs.Common.{nat_eq, if◌then◌else◌, arith}
 use Rattle.qq_model.specs.declared.place.Row.{Row}
-use Rattle.qq_serial.proofs.InPlace.{mapped_front, mapped_rest}
+use Rattle.qq_base.proofs.InPlace.{mapped_front, mapped_rest}
 use Rattle.qq_serial.proofs.rows.put_row.Goals as goal
 
 pub loop-row-preserved : goal.loop-row-preserved

@@ -1,6 +1,6 @@
 use Rattle.std.proofs.Common.{arith}
 use Rattle.qq_wal.specs.Notices.{note_mark}
-use Rattle.qq_wal.proofs.InPlace.{mapped_front, mapped_rest}
+use Rattle.qq_base.proofs.InPlace.{mapped_front, mapped_rest}
 use Rattle.qq_wal.proofs.notices.note_all.Goals as goal
 
 pub marks-preserved : goal.marks-preserved

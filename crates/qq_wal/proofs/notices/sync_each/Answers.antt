@@ -1,6 +1,6 @@
 use Rattle.std.proofs.Common.{arith}
 use Rattle.qq_wal.specs.Notices.{sync_mark}
-use Rattle.qq_wal.proofs.InPlace.{mapped_front, mapped_rest}
+use Rattle.qq_base.proofs.InPlace.{mapped_front, mapped_rest}
 use Rattle.qq_wal.proofs.notices.sync_each.Goals as goal
 
 pub marks-preserved : goal.marks-preserved
