@@ -5,3 +5,4 @@ mod CommandLaws
 mod ShortEncodings
 mod EntryLaws
 mod Appends
+mod FieldLengths

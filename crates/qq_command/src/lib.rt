@@ -7,12 +7,14 @@ mod items;
 mod kinds;
 mod lengths;
 mod lists;
+mod measure;
 mod put;
 mod reading;
 mod reasons;
 mod refusal;
 mod writing;
 
+pub use measure::encoded_len;
 pub use qq_entry::{
     Answer, AuditRow, BODY_LIMIT, Cause, Command, Content, DEAD_DONE_LIMIT, DEATHS_LIMIT,
     DELIVERY_LIMIT, DeadDone, DeadDones, Death, Deaths, Delivery, Effect, Effects, Entries, Entry,

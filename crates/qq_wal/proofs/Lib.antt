@@ -5,7 +5,6 @@ pub mod Beside
 pub mod Follows
 pub mod Kept
 pub mod Lying
-pub mod Lengths
 pub mod OnDisk
 pub mod Rising
 pub mod Steps

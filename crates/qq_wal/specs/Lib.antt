@@ -1,7 +1,6 @@
 pub mod Batch
 pub mod Entries
 pub mod Fault
-pub mod Lengths
 pub mod Marks
 pub mod Notices
 pub mod Numbers

@@ -1,6 +1,6 @@
 use Rattle.std.proofs.Common.{ℕ, ◌+◌, sym, ap, ◌∙◌}
-use Rattle.qq_wal.proofs.Lengths.{entry_len}
-use Rattle.qq_wal.proofs.measure.entry_len.Goals as goal
+use Rattle.qq_command.proofs.FieldLengths.{entry_len}
+use Rattle.qq_command.proofs.measure.encoded_len.Goals as goal
 
 pub returns-clause-len : goal.returns-clause-len
 returns-clause-len c = ap (λ (k : ℕ). 21 + k) c.fields_len.ensures.len ∙ sym (entry_len c.args.entry.now)

@@ -1,6 +1,6 @@
 use Rattle.std.proofs.Common.{◌≡◌, ◌+◌, ◌≤◌, ◌*◌, take}
-use Rattle.qq_wal.specs.Lengths.{dead_dones_length}
-use Rattle.qq_wal.proofs.measure.dead_dones_len.Given as goal
+use Rattle.qq_command.specs.Lengths.{dead_dones_length}
+use Rattle.qq_command.proofs.measure.dead_dones_len.Given as goal
 
 -- the first dead letters are counted
 abbrev pub invariant-list : goal.invariant-list
