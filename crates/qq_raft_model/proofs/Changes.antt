@@ -1,14 +1,15 @@
 -- What a member's next change keeps.
 use Rattle.std.proofs.Common.{◌≡◌, ◌⊎◌, ℕ, ◌+◌, ◌≤◌, ◌<◌, List, ◌∷◌, Some, None, refl, sym, ap, subst, ◌∙◌, arith, inl, inr}
 use Rattle.std.proofs.lemmas.Bool.{cases_lt}
+use Rattle.qq_base.specs.Fronts.{IsFront, put}
+use Rattle.qq_base.proofs.Puts.{put-each}
 use Rattle.qq_entry.specs.declared.command.Entry.{Entry}
-use Rattle.qq_raft_model.specs.World.{Lane, Member, Ask, Grant, Ack, World, lanes, put}
-use Rattle.qq_raft_model.specs.Facts.{IsFront, In, Point, Holds}
+use Rattle.qq_raft_model.specs.World.{Lane, Member, Ask, Grant, Ack, World, lanes}
+use Rattle.qq_raft_model.specs.Facts.{In, Point, Holds}
 use Rattle.qq_raft_model.specs.Moves.{push}
 use Rattle.qq_raft_model.specs.Safe.{IsLaneOf, HasVoted}
 use Rattle.qq_raft_model.proofs.Grows.{Below, Grows}
 use Rattle.qq_raft_model.proofs.Kept.{Kept, AskKept, GrantKept, IsAsked, Has, AckKept}
-use Rattle.qq_raft_model.proofs.Puts.{put-each}
 use Rattle.qq_raft_model.proofs.Roles.{none_some}
 
 -- a lane that follows another: terms rise, and a vote stays

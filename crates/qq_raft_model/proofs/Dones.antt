@@ -1,16 +1,17 @@
 -- Moves that change no lane and no message but what is sent: a server follows, sends, and learns what is committed.
 use Rattle.std.proofs.Common.{◌≡◌, ◌⊎◌, ℕ, ◌+◌, ◌≤◌, ◌<◌, Bool, true, false, cond, ltb, List, length, refl, sym, ap, subst, ◌∙◌, arith, inl, inr}
 use Rattle.std.proofs.lemmas.Bool.{ltb-true, ltb-false}
+use Rattle.qq_base.specs.Fronts.{IsFront}
+use Rattle.qq_base.proofs.Fronts.{front-refl, front-trans, front-length, front-shorter}
+use Rattle.qq_base.proofs.Puts.{put-each}
 use Rattle.qq_entry.specs.declared.command.Entry.{Entry}
 use Rattle.qq_raft_model.specs.World.{Role, Sent, World}
 use Rattle.qq_raft_model.specs.World.Role.{Follower, Candidate, Leader}
-use Rattle.qq_raft_model.specs.Facts.{IsFront, add, In, Settled}
+use Rattle.qq_raft_model.specs.Facts.{add, In, Settled}
 use Rattle.qq_raft_model.specs.Moves.{longer, learn, after, Allowed}
 use Rattle.qq_raft_model.specs.Moves.Move.{Send, Learn, Commit, Follow}
-use Rattle.qq_raft_model.proofs.Fronts.{front-refl, front-trans, front-length, front-shorter}
 use Rattle.qq_raft_model.proofs.Grows.{Grows, holds-grows, settled-grows, won-grows}
 use Rattle.qq_raft_model.proofs.Kept.{Kept, LeaderKept, CandidateKept, SentKept, DoneKept, ack_grows, sent_grows, done_grows}
-use Rattle.qq_raft_model.proofs.Puts.{put-each}
 use Rattle.qq_raft_model.proofs.Settles.{settled_compare, settled_front, settled_later}
 use Rattle.qq_raft_model.proofs.Roles.{follower_leads, follower_asks}
 

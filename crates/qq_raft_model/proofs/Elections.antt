@@ -1,22 +1,24 @@
 -- A server stands for election, and leads.
 use Rattle.std.proofs.Common.{◌≡◌, ◌⊎◌, ℕ, ◌+◌, ◌≤◌, ◌<◌, List, [], ◌∷◌, length, Option, Some, None, refl, sym, ap, subst, ◌∙◌, arith, inl, inr}
 use Rattle.std.proofs.lemmas.Bool.{cases_eq, cases_lt}
+use Rattle.qq_base.specs.Fronts.{IsFront, put}
+use Rattle.qq_base.proofs.Fronts.{front-refl, front-nil}
+use Rattle.qq_base.proofs.Puts.{put-each, put-same, put-other}
 use Rattle.qq_entry.specs.declared.command.Entry.{Entry}
-use Rattle.qq_raft_model.specs.World.{Lane, Ask, Grant, Ack, World, lanes, put}
+use Rattle.qq_raft_model.specs.World.{Lane, Ask, Grant, Ack, World, lanes}
 use Rattle.qq_raft_model.specs.World.Role.{Candidate, Leader}
-use Rattle.qq_raft_model.specs.Facts.{IsFront, add, In, Within, Most, Good, Point, Acked, Refuses, Holds, Elects}
+use Rattle.qq_raft_model.specs.Facts.{add, In, Within, Most, Good, Point, Acked, Refuses, Holds, Elects}
 use Rattle.qq_raft_model.specs.Moves.{push, next_lane, after, Allowed}
 use Rattle.qq_raft_model.specs.Moves.Move.{Stand, Lead}
 use Rattle.qq_raft_model.specs.Safe.{IsLaneOf, HasVoted}
 use Rattle.qq_raft_model.proofs.Changes.{Follows, pushed, push-each, push-noticed, push-older, push-led, push-ask, push-grant, push-asked, push-ack, pushed-grows}
-use Rattle.qq_raft_model.proofs.Fronts.{front-refl, front-nil, Within-later}
 use Rattle.qq_raft_model.proofs.Grows.{Grows, good-grows, holds-grows, settled-grows, won-grows}
 use Rattle.qq_raft_model.proofs.Kept.{Kept, AskKept, GrantKept, LeaderKept, CandidateKept, DoneKept, acked_holds, elects_lanes, voted_term, ack_grows, sent_grows, done_grows}
 use Rattle.qq_raft_model.proofs.Majorities.{shared, choose}
-use Rattle.qq_raft_model.proofs.Puts.{put-each, put-same, put-other}
 use Rattle.qq_raft_model.proofs.Settles.{settled_later}
 use Rattle.qq_raft_model.proofs.Votes.{no_vote}
 use Rattle.qq_raft_model.proofs.Roles.{candidate_leads, leader_asks, none_some, some_same}
+use Rattle.qq_raft_model.proofs.Logs.{Within-later}
 
 -- ---- a server stands
 
@@ -176,7 +178,7 @@ kept-stand {members} {w} i k =
 -- ---- a candidate leads
 
 -- nobody leads the term of a candidate that has a majority
-is_free : {members : List ℕ} {w : World} (i t : ℕ) (o : Option ℕ) → w.lead t ≡ o → Kept members w
+pub is_free : {members : List ℕ} {w : World} (i t : ℕ) (o : Option ℕ) → w.lead t ≡ o → Kept members w
     → Most members (Elects w t i) → (w.lead t ≡ Some i → ⊥) → w.lead t ≡ None
 is_free i t None e k most other = e
 is_free {members} {w} i t (Some c) e k most other =

@@ -2,11 +2,12 @@
 use Rattle.std.proofs.Common.{◌≡◌, ℕ, [], ◌∷◌, refl, sym, ap, subst, ◌∙◌, arith, inl, inr}
 use Rattle.std.specs.Prelude.{nat_le}
 use Rattle.std.proofs.lemmas.Bool.{false≢true}
+use Rattle.qq_base.specs.Fronts.{IsFront, put}
+use Rattle.qq_base.proofs.Fronts.{front-length}
 use Rattle.qq_entry.specs.declared.command.Entry.{Entry}
-use Rattle.qq_raft_model.specs.World.{new_world, put}
-use Rattle.qq_raft_model.specs.Facts.{IsFront, Most}
+use Rattle.qq_raft_model.specs.World.{new_world}
+use Rattle.qq_raft_model.specs.Facts.{Most}
 use Rattle.qq_raft_model.specs.Moves.{run, AreAllowed}
-use Rattle.qq_raft_model.proofs.Fronts.{front-length}
 use Rattle.qq_raft_model.specs.Example.{three, first_sent, election, replication}
 
 two_of_three : (P : ℕ → Type 0) → P 1 → P 2 → Most three P

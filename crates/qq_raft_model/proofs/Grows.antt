@@ -1,10 +1,11 @@
 -- What stays true while a world grows: lanes only get later terms, acknowledgements are of the newest term, what may
 -- leave stays, and the leaders' logs are only extended.
 use Rattle.std.proofs.Common.{◌≡◌, ◌⊎◌, ℕ, ◌≤◌, ◌<◌, List, refl, sym, subst, arith, inl, inr}
+use Rattle.qq_base.specs.Fronts.{IsFront}
+use Rattle.qq_base.proofs.Fronts.{front-trans}
 use Rattle.qq_entry.specs.declared.command.Entry.{Entry}
 use Rattle.qq_raft_model.specs.World.{Lane, Ack, Grant, World, lanes}
-use Rattle.qq_raft_model.specs.Facts.{IsFront, In, Most, Point, Good, Stored, Committed, Refuses, Dead, Holds, Cause, Settled, Elects}
-use Rattle.qq_raft_model.proofs.Fronts.{front-trans}
+use Rattle.qq_raft_model.specs.Facts.{In, Most, Point, Good, Stored, Committed, Refuses, Dead, Holds, Cause, Settled, Elects}
 use Rattle.qq_raft_model.proofs.Majorities.{Most-map}
 
 -- one of these lanes has no later term

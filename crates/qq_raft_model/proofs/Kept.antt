@@ -1,13 +1,15 @@
 -- The invariant of a group.
 use Rattle.std.proofs.Common.{◌≡◌, ◌⊎◌, ℕ, ◌+◌, ◌≤◌, ◌<◌, List, [], length, Option, Some, None, refl, sym, ap, subst, ◌∙◌, arith, inl, inr}
 use Rattle.std.proofs.lemmas.List.{length-append}
+use Rattle.qq_base.specs.Fronts.{IsFront}
+use Rattle.qq_base.proofs.Fronts.{front-trans, front-length}
 use Rattle.qq_entry.specs.declared.command.Entry.{Entry}
 use Rattle.qq_raft_model.specs.World.{Lane, Member, Ask, Grant, Ack, Sent, World, lanes}
 use Rattle.qq_raft_model.specs.World.Role.{Candidate, Leader}
-use Rattle.qq_raft_model.specs.Facts.{IsFront, add, In, Within, Most, Point, Good, Acked, Holds, Settled, Elects}
+use Rattle.qq_raft_model.specs.Facts.{add, In, Within, Most, Point, Good, Acked, Holds, Settled, Elects}
 use Rattle.qq_raft_model.specs.Safe.{IsLaneOf, HasVoted}
-use Rattle.qq_raft_model.proofs.Fronts.{front-trans, front-length, length-add}
 use Rattle.qq_raft_model.proofs.Grows.{Grows, holds-grows, settled-grows}
+use Rattle.qq_raft_model.proofs.Logs.{length-add}
 
 -- the lanes from an ask's change on have its term or a later one
 pub record AskKept (x : Ask) (m : Member) : Type 0 where

@@ -1,20 +1,22 @@
 -- A leader adds an entry.
 use Rattle.std.proofs.Common.{◌≡◌, ◌⊎◌, ℕ, ◌≤◌, ◌<◌, List, [], ◌∷◌, length, Some, None, refl, sym, ap, subst, ◌∙◌, arith, inl, inr}
+use Rattle.qq_base.specs.Fronts.{IsFront, put}
+use Rattle.qq_base.proofs.Fronts.{front-refl, front-trans}
+use Rattle.qq_base.proofs.Puts.{put-each, put-same, put-other}
 use Rattle.qq_entry.specs.declared.command.Entry.{Entry}
-use Rattle.qq_raft_model.specs.World.{Ack, World, put}
+use Rattle.qq_raft_model.specs.World.{Ack, World}
 use Rattle.qq_raft_model.specs.World.Role.{Candidate, Leader}
-use Rattle.qq_raft_model.specs.Facts.{IsFront, add, Within, Good, Point, Acked, Dead, Holds}
+use Rattle.qq_raft_model.specs.Facts.{add, Within, Good, Point, Acked, Dead, Holds}
 use Rattle.qq_raft_model.specs.Moves.{push, next_lane, after, Allowed}
 use Rattle.qq_raft_model.specs.Moves.Move.{Append}
 use Rattle.qq_raft_model.proofs.Changes.{Follows, pushed, push-each, push-noticed, push-older, push-led, push-ask, push-grant, push-asked, push-ack, pushed-grows}
-use Rattle.qq_raft_model.proofs.Fronts.{front-refl, front-trans, front-add, front-of_add, add-same, Within-add}
 use Rattle.qq_raft_model.proofs.Grows.{Grows, good-grows, dead-grows, holds-grows, settled-grows, won-grows}
 use Rattle.qq_raft_model.proofs.Kept.{Kept, LeaderKept, CandidateKept, DoneKept, AckKept, Has, elects_lanes, voted_term, ack_grows, sent_grows, done_grows}
 use Rattle.qq_raft_model.proofs.Elections.{stood_only}
 use Rattle.qq_raft_model.proofs.Majorities.{Most-map}
-use Rattle.qq_raft_model.proofs.Puts.{put-each, put-same, put-other}
 use Rattle.qq_raft_model.proofs.Votes.{no_vote}
 use Rattle.qq_raft_model.proofs.Roles.{leader_asks, none_some, some_same}
+use Rattle.qq_raft_model.proofs.Logs.{front-add, front-of_add, add-same, Within-add}
 
 -- nobody has acknowledged what follows the leader's log, so it is never committed once a later term has a leader
 new_refused : {members : List ℕ} {w : World} (i : ℕ) (e : Entry) → Kept members w

@@ -2,16 +2,17 @@ mod Changes
 mod Dones
 mod Elections
 mod Example
-mod Fronts
 mod Grows
-mod Kept
+pub mod Kept
+pub mod Leaders
 mod Leads
-mod Majorities
+pub mod Lists
+pub mod Logs
+pub mod Majorities
 mod Promises
-mod Puts
 mod Restarts
 mod Roles
-mod Runs
+pub mod Runs
 mod Settles
 mod Votes
 mod Writes

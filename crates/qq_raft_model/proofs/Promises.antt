@@ -1,15 +1,18 @@
 -- What the invariant promises.
 use Rattle.std.proofs.Common.{◌≡◌, ◌⊎◌, ℕ, ◌≤◌, ◌<◌, List, sym, ap, subst, ◌∙◌, arith, inl, inr}
+use Rattle.qq_base.specs.Fronts.{IsFront}
+use Rattle.qq_base.proofs.Fronts.{front-trans, front-compare}
 use Rattle.qq_entry.specs.declared.command.Entry.{Entry}
 use Rattle.qq_raft_model.specs.World.{Lane, World}
 use Rattle.qq_raft_model.specs.World.Role.{Leader}
-use Rattle.qq_raft_model.specs.Facts.{IsFront, add, In, Within, Point, Cause, Stored}
+use Rattle.qq_raft_model.specs.Facts.{add, In, Within, Point, Cause, Stored}
 use Rattle.qq_raft_model.specs.Safe.{IsLaneOf, Keeps, IsCarried, IsElected, IsSafe}
-use Rattle.qq_raft_model.proofs.Fronts.{front-trans, front-compare, front-before, In-front, In-add, In-place, Within-front}
 use Rattle.qq_raft_model.proofs.Kept.{Kept, leader_of, elects_lanes, not_empty}
 use Rattle.qq_raft_model.proofs.Majorities.{Most-map}
 use Rattle.qq_raft_model.proofs.Settles.{sure}
 use Rattle.qq_raft_model.proofs.Roles.{some_same}
+use Rattle.qq_raft_model.proofs.Logs.{front-before, In-add, In-place, Within-front}
+use Rattle.qq_raft_model.proofs.Lists.{In-front}
 
 one_leader : {members : List ℕ} {w : World} (p q : ℕ) → Kept members w → w.role p ≡ Leader → w.role q ≡ Leader
     → (w.member p).mine.term ≡ (w.member q).mine.term → p ≡ q
@@ -35,7 +38,7 @@ carried_each {w = w} k c q s l here =
     ((kept.each l here (omega (arith, durable, noticed))).entries c.before c.entry c.point (sym x.term) x.reaches)
 
 carried_keeps : {members : List ℕ} {w : World} {t : ℕ} {x : List Entry} (k : Kept members w)
-    (c : Cause members w t x) (q : ℕ) → Stored w c.before c.entry q → Keeps w x c.entry.term.0 q
+    (c : Cause members w t x) (q : ℕ) → Stored w c.before c.entry q → Keeps (IsLaneOf w) x c.entry.term.0 q
 carried_keeps k c q s = record {
   log = λ l here. front-trans c.front (carried_each k c q s l here);
   reaches = λ l here. (c.before, c.entry, omega arith, c.front, carried_each k c q s l here);
@@ -63,7 +66,7 @@ carried_own k c a e front =
     k.hist_within c.entry.term.0 e (In-front e c.point (In-front e c.front (In-front e front (In-add a e))))
 
 carried_by : {members : List ℕ} {w : World} {t : ℕ} {x : List Entry} → Kept members w → Cause members w t x
-    → IsCarried members w x
+    → IsCarried members (IsLaneOf w) x
 carried_by k c = record {
   term = c.entry.term.0;
   own = carried_own k c;
@@ -83,14 +86,14 @@ cause_front p c = record {
 }
 
 carried : {members : List ℕ} {w : World} (x : List Entry) → Kept members w → IsFront x w.audit → (a : List Entry)
-    (e : Entry) → x ≡ add a e → IsCarried members w x
+    (e : Entry) → x ≡ add a e → IsCarried members (IsLaneOf w) x
 carried {members} {w} x k front a e is = elim k.audit [
   | inl nothing ↦ absurd (not_empty a w.audit e (subst (λ y. IsFront y w.audit) is front) nothing)
   | inr c ↦ carried_by k (cause_front front c)
 ]
 
 elected_by : {members : List ℕ} {w : World} (a : List Entry) (e : Entry) → Kept members w → Point w a e
-    → IsElected members w e.term.0
+    → IsElected members (IsLaneOf w) e.term.0
 elected_by {w = w} a e k p =
     let led = leader_of a e k p in
     record {
@@ -100,7 +103,7 @@ elected_by {w = w} a e k p =
     }
 
 elected : {members : List ℕ} {w : World} (q : ℕ) (l : Lane) → Kept members w → IsLaneOf w q l → (e : Entry)
-    → In e l.log → IsElected members w e.term.0
+    → In e l.log → IsElected members (IsLaneOf w) e.term.0
 elected q l k here e inside =
     let place = In-place e l.log inside in
     elected_by place.before e k (k.good q l here place.before e place.front)
@@ -115,10 +118,12 @@ terms_rise q l k here a e front = (
 pub kept-safe : {members : List ℕ} {w : World} → Kept members w → IsSafe members w
 kept-safe {members} {w} k = record {
   one_leader = λ p q is other same. one_leader p q k is other same;
-  logs_match = λ p q l m here there a b e f first second same.
-      logs_match p q l m k here there a b e f first second same;
-  carried = λ x front a e is. carried x k front a e is;
-  elected = λ q l here e inside. elected q l k here e inside;
-  terms_rise = λ q l here a e front. terms_rise q l k here a e front;
+  supported = record {
+    logs_match = λ p q l m here there a b e f first second same.
+        logs_match p q l m k here there a b e f first second same;
+    carried = λ x front a e is. carried x k front a e is;
+    elected = λ q l here e inside. elected q l k here e inside;
+    terms_rise = λ q l here a e front. terms_rise q l k here a e front;
+  };
   done = λ q. (k.dones q, (k.done q).front);
 }

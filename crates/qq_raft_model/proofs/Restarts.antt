@@ -1,49 +1,20 @@
 -- A server notices what is durable, and a server that crashed restarts with a lane that its disk may hold.
-use Rattle.std.proofs.Common.{◌≡◌, ℕ, ◌≤◌, ◌<◌, Bool, true, false, cond, List, [], ◌∷◌, Some, refl, sym, ap, subst, ◌∙◌, arith, inl, inr}
+use Rattle.std.proofs.Common.{◌≡◌, ℕ, ◌≤◌, ◌<◌, Bool, true, false, cond, List, [], ◌∷◌, Some, refl, sym, subst, ◌∙◌, arith, inl, inr}
 use Rattle.std.specs.Prelude.{filter, nat_le}
-use Rattle.std.proofs.lemmas.Bool.{false≢true, cases_eq, eq-eqb, ne_eqb, leb-true, le-leb}
-use Rattle.qq_raft_model.specs.World.{Lane, Member, Ask, Grant, Ack, World, lanes, put}
+use Rattle.std.proofs.lemmas.Bool.{cases_eq, eq-eqb, ne_eqb, leb-true, le-leb}
+use Rattle.qq_base.specs.Fronts.{IsFront, put}
+use Rattle.qq_base.proofs.Fronts.{front-refl, front-nil}
+use Rattle.qq_base.proofs.Puts.{put-each, put-same, put-other}
+use Rattle.qq_raft_model.specs.World.{Lane, Member, Ask, Grant, Ack, World, lanes}
 use Rattle.qq_raft_model.specs.World.Role.{Follower, Candidate, Leader}
-use Rattle.qq_raft_model.specs.Facts.{IsFront, In, Within, Good}
+use Rattle.qq_raft_model.specs.Facts.{In, Within, Good}
 use Rattle.qq_raft_model.specs.Moves.{stays, after, Allowed}
 use Rattle.qq_raft_model.specs.Moves.Move.{Notice, Restart}
 use Rattle.qq_raft_model.specs.Safe.{HasVoted}
-use Rattle.qq_raft_model.proofs.Fronts.{front-refl, front-nil}
 use Rattle.qq_raft_model.proofs.Grows.{Below, Grows, holds-grows, settled-grows, won-grows}
 use Rattle.qq_raft_model.proofs.Kept.{Kept, AskKept, GrantKept, IsAsked, LeaderKept, CandidateKept, DoneKept, AckKept, Has, ack_grows, sent_grows, done_grows}
-use Rattle.qq_raft_model.proofs.Puts.{put-each, put-same, put-other}
+use Rattle.qq_raft_model.proofs.Lists.{In-filter, filter-In}
 use Rattle.qq_raft_model.proofs.Roles.{follower_leads, follower_asks}
-
--- ---- what a filter leaves
-
-In-filter_by : {A : Type 0} (passes : A → Bool) (x y : A) (ys : List A) (b : Bool) → passes y ≡ b
-    → (In x (filter passes ys) → In x ys × (passes x ≡ true))
-    → In x (cond b (y ∷ filter passes ys) (filter passes ys)) → In x (y ∷ ys) × (passes x ≡ true)
-In-filter_by passes x y ys true e rest here = elim here [
-  | inl same ↦ (inl same, ap passes same ∙ e)
-  | inr later ↦ let r = rest later in (inr r.0, r.1)
-]
-In-filter_by passes x y ys false e rest here = let r = rest here in (inr r.0, r.1)
-
-In-filter : {A : Type 0} (passes : A → Bool) (x : A) (xs : List A) → In x (filter passes xs)
-    → In x xs × (passes x ≡ true)
-In-filter passes x [] here = absurd here
-In-filter passes x (y ∷ ys) here = In-filter_by passes x y ys (passes y) refl (In-filter passes x ys) here
-
-filter-In_by : {A : Type 0} (passes : A → Bool) (x y : A) (ys : List A) (b : Bool) → passes y ≡ b
-    → passes x ≡ true → (In x ys → In x (filter passes ys)) → In x (y ∷ ys)
-    → In x (cond b (y ∷ filter passes ys) (filter passes ys))
-filter-In_by passes x y ys true e pass rest here = elim here [ inl same ↦ inl same | inr later ↦ inr (rest later) ]
-filter-In_by passes x y ys false e pass rest here = elim here [
-  | inl same ↦ absurd (false≢true (sym e ∙ ap passes (sym same) ∙ pass))
-  | inr later ↦ rest later
-]
-
-filter-In : {A : Type 0} (passes : A → Bool) (x : A) (xs : List A) → passes x ≡ true → In x xs
-    → In x (filter passes xs)
-filter-In passes x [] pass here = absurd here
-filter-In passes x (y ∷ ys) pass here =
-    filter-In_by passes x y ys (passes y) refl pass (filter-In passes x ys pass) here
 
 -- ---- a server notices
 

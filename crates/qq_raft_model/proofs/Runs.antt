@@ -1,14 +1,17 @@
 -- The invariant holds at the start and after each move, so it holds after all.
 use Rattle.std.proofs.Common.{◌≡◌, ℕ, ◌≤◌, List, [], ◌∷◌, Some, None, refl, sym, ap, subst, ◌∙◌, arith, inl, inr}
+use Rattle.qq_base.specs.Fronts.{IsFront}
+use Rattle.qq_base.proofs.Fronts.{front-nil, front-refl, front-trans}
+use Rattle.qq_entry.specs.declared.command.Entry.{Entry}
 use Rattle.qq_raft_model.specs.World.{Lane, World, no_lane, new_world}
-use Rattle.qq_raft_model.specs.Facts.{IsFront, add, In, Within, Good}
+use Rattle.qq_raft_model.specs.Facts.{add, In, Within, Good}
 use Rattle.qq_raft_model.specs.Moves.{Move, after, Allowed, run, AreAllowed}
 use Rattle.qq_raft_model.specs.Moves.Move.{Write, Stand, Vote, Lead, Append, Send, Reply, Learn, Commit, Notice, Restart, Follow}
-use Rattle.qq_raft_model.specs.Safe.{IsSafe, HasOneLeader}
+use Rattle.qq_raft_model.specs.Safe.{IsSafe, HasOneLeader, OnlyAppends, AcksWithin, IsFirst}
 use Rattle.qq_raft_model.proofs.Dones.{kept-follow, kept-send, kept-learn, kept-commit, audit-learned, learn-settled, commit-settled}
 use Rattle.qq_raft_model.proofs.Elections.{kept-stand, kept-lead, lead-stays}
-use Rattle.qq_raft_model.proofs.Fronts.{front-nil, front-refl, front-trans}
 use Rattle.qq_raft_model.proofs.Kept.{Kept, not_empty}
+use Rattle.qq_raft_model.proofs.Leaders.{leader-acks, candidate-first, lead-extends, append-extends}
 use Rattle.qq_raft_model.proofs.Leads.{kept-append}
 use Rattle.qq_raft_model.proofs.Promises.{kept-safe}
 use Rattle.qq_raft_model.proofs.Restarts.{kept-notice, kept-restart}
@@ -71,9 +74,13 @@ kept-run : {members : List ℕ} (moves : List Move) (w : World) → Kept members
 kept-run [] w k may = k
 kept-run (m ∷ moves) w k may = kept-run moves (after w m) (kept-after m k may.0) may.1
 
+pub kept-moves : (members : List ℕ) (moves : List Move) → AreAllowed members new_world moves
+    → Kept members (run new_world moves)
+kept-moves members moves may = kept-run moves new_world (kept-new members) may
+
 pub safe-run : (members : List ℕ) (moves : List Move) → AreAllowed members new_world moves
     → IsSafe members (run new_world moves)
-safe-run members moves may = kept-safe (kept-run moves new_world (kept-new members) may)
+safe-run members moves may = kept-safe (kept-moves members moves may)
 
 -- ---- what stays
 
@@ -97,7 +104,7 @@ lead-after : {members : List ℕ} {w : World} (m : Move) → Kept members w → 
 lead-after (Lead i) k may t c lead = lead-stays i k may t c lead
 lead-after _ k may t c lead = lead
 
-audit-run : {members : List ℕ} (moves : List Move) (w : World) → Kept members w → AreAllowed members w moves
+pub audit-run : {members : List ℕ} (moves : List Move) (w : World) → Kept members w → AreAllowed members w moves
     → IsFront w.audit (run w moves).audit
 audit-run [] w k may = front-refl w.audit
 audit-run (m ∷ moves) w k may =
@@ -109,20 +116,73 @@ lead-run [] w k may t c lead = lead
 lead-run (m ∷ moves) w k may t c lead =
     lead-run moves (after w m) (kept-after m k may.0) may.1 t c (lead-after m k may.0 t c lead)
 
+hist-after : {members : List ℕ} {w : World} (m : Move) → Kept members w → Allowed members w m → (t : ℕ)
+    → IsFront (w.hist t) ((after w m).hist t)
+hist-after (Lead i) k may t = lead-extends i k may t
+hist-after (Append i e) k may t = append-extends i e k may t
+hist-after {w = w} (Write i term vote log) k may t = front-refl (w.hist t)
+hist-after {w = w} (Stand i) k may t = front-refl (w.hist t)
+hist-after {w = w} (Vote i ask) k may t = front-refl (w.hist t)
+hist-after {w = w} (Send i front done) k may t = front-refl (w.hist t)
+hist-after {w = w} (Reply i sent) k may t = front-refl (w.hist t)
+hist-after {w = w} (Learn i sent done) k may t = front-refl (w.hist t)
+hist-after {w = w} (Commit i before entry) k may t = front-refl (w.hist t)
+hist-after {w = w} (Notice i op) k may t = front-refl (w.hist t)
+hist-after {w = w} (Restart i lane) k may t = front-refl (w.hist t)
+hist-after {w = w} (Follow i) k may t = front-refl (w.hist t)
+
+hist-run : {members : List ℕ} (moves : List Move) (w : World) → Kept members w → AreAllowed members w moves
+    → (t : ℕ) → IsFront (w.hist t) ((run w moves).hist t)
+hist-run [] w k may t = front-refl (w.hist t)
+hist-run (m ∷ moves) w k may t =
+    front-trans (hist-after m k may.0 t) (hist-run moves (after w m) (kept-after m k may.0) may.1 t)
+
 pub audit-stays : (members : List ℕ) (first second : List Move) → AreAllowed members new_world first
     → AreAllowed members (run new_world first) second
     → IsFront (run new_world first).audit (run (run new_world first) second).audit
 audit-stays members first second may later =
-    audit-run second (run new_world first) (kept-run first new_world (kept-new members) may) later
+    audit-run second (run new_world first) (kept-moves members first may) later
+
+-- whoever leads a term leads it later
+pub leader-run : {members : List ℕ} (moves : List Move) (w : World) → Kept members w → AreAllowed members w moves
+    → HasOneLeader w (run w moves)
+leader-run moves w k may p q is other same =
+    let v = run w moves in
+    let l = kept-run moves w k may in
+    let before : v.lead (w.member p).mine.term ≡ Some p =
+    lead-run moves w k may (w.member p).mine.term p (k.leader p is).leads in
+    some_same p q (sym before ∙ ap v.lead same ∙ (l.leader q other).leads)
 
 pub leader-stays : (members : List ℕ) (first second : List Move) → AreAllowed members new_world first
     → AreAllowed members (run new_world first) second
     → HasOneLeader (run new_world first) (run (run new_world first) second)
-leader-stays members first second may later p q is other same =
-    let w = run new_world first in
-    let v = run w second in
-    let k = kept-run first new_world (kept-new members) may in
-    let l = kept-run second w k later in
-    let before : v.lead (w.member p).mine.term ≡ Some p = lead-run second w k later (w.member p).mine.term p
-    (k.leader p is).leads in
-    some_same p q (sym before ∙ ap v.lead same ∙ (l.leader q other).leads)
+leader-stays members first second may later =
+    leader-run second (run new_world first) (kept-moves members first may) later
+
+-- the log of a term's leader is only extended
+pub log-run : {members : List ℕ} (moves : List Move) (w : World) → Kept members w → AreAllowed members w moves
+    → OnlyAppends w (run w moves)
+log-run moves w k may p q is other same =
+    let v = run w moves in
+    let l = kept-run moves w k may in
+    let own : w.hist (w.member p).mine.term ≡ (w.member p).mine.log = (k.leader p is).log in
+    let there : v.hist (v.member q).mine.term ≡ (v.member q).mine.log = (l.leader q other).log in
+    subst (λ (x : List Entry). IsFront x (v.member q).mine.log) own
+    (subst (λ (y : List Entry). IsFront (w.hist (w.member p).mine.term) y) (ap v.hist same ∙ there)
+    (hist-run moves w k may (w.member p).mine.term))
+
+pub log-stays : (members : List ℕ) (first second : List Move) → AreAllowed members new_world first
+    → AreAllowed members (run new_world first) second
+    → OnlyAppends (run new_world first) (run (run new_world first) second)
+log-stays members first second may later =
+    log-run second (run new_world first) (kept-moves members first may) later
+
+-- ---- what a leader knows
+
+pub acks-within : (members : List ℕ) (moves : List Move) → AreAllowed members new_world moves
+    → AcksWithin (run new_world moves)
+acks-within members moves may q x is said same = leader-acks q x (kept-moves members moves may) is said same
+
+pub is-first : (members : List ℕ) (moves : List Move) → AreAllowed members new_world moves
+    → IsFirst members (run new_world moves)
+is-first members moves may q is most a e p same = candidate-first q (kept-moves members moves may) is most a e p same

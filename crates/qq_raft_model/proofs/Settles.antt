@@ -2,10 +2,11 @@
 use Rattle.std.proofs.Common.{◌≡◌, ◌⊎◌, ℕ, ◌≤◌, List, length, Some, sym, ap, subst, arith, inl, inr}
 use Rattle.std.proofs.lemmas.Bool.{cases_lt, cases_eq}
 use Rattle.std.proofs.lemmas.List.{nil_from_length}
+use Rattle.qq_base.specs.Fronts.{IsFront}
+use Rattle.qq_base.proofs.Fronts.{front-nil, front-trans, front-length, front-compare}
 use Rattle.qq_entry.specs.declared.command.Entry.{Entry}
 use Rattle.qq_raft_model.specs.World.{World}
-use Rattle.qq_raft_model.specs.Facts.{IsFront, add, Point, Committed, Dead, Holds, Cause, Settled}
-use Rattle.qq_raft_model.proofs.Fronts.{front-nil, front-trans, front-length, front-compare}
+use Rattle.qq_raft_model.specs.Facts.{add, Point, Committed, Dead, Holds, Cause, Settled}
 use Rattle.qq_raft_model.proofs.Majorities.{shared}
 use Rattle.qq_raft_model.proofs.Kept.{Kept, leader_of}
 

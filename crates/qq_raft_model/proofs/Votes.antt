@@ -1,15 +1,18 @@
 -- A vote, and the acknowledgement of what a leader sent.
 use Rattle.std.proofs.Common.{◌≡◌, ◌⊎◌, ℕ, ◌≤◌, ◌<◌, List, [], ◌∷◌, length, refl, sym, ap, subst, ◌∙◌, arith, inl, inr}
+use Rattle.qq_base.specs.Fronts.{IsFront}
+use Rattle.qq_base.proofs.Fronts.{front-refl, front-trans, front-length, front-compare, front-shorter}
 use Rattle.qq_entry.specs.declared.command.Entry.{Entry}
 use Rattle.qq_raft_model.specs.World.{Lane, Ask, Grant, Ack, Sent, World, lanes}
-use Rattle.qq_raft_model.specs.Facts.{IsFront, add, In, Good, Point, Acked, Holds}
+use Rattle.qq_raft_model.specs.Facts.{add, In, Good, Point, Acked, Holds}
 use Rattle.qq_raft_model.specs.Moves.{last_term, IsCurrent, MayVote, HasSent, after, Allowed}
 use Rattle.qq_raft_model.specs.Moves.Move.{Vote, Reply}
 use Rattle.qq_raft_model.specs.Safe.{HasVoted}
-use Rattle.qq_raft_model.proofs.Fronts.{front-refl, front-trans, front-length, front-compare, front-shorter, length-add, In-add, In-front, Last, last_of, last_term-add}
 use Rattle.qq_raft_model.proofs.Grows.{Grows, holds-grows, settled-grows, won-grows}
 use Rattle.qq_raft_model.proofs.Kept.{Kept, GrantKept, AckKept, Has, IsAsked, not_empty, leader_of, newest_vote, acked_holds, ack_grows, sent_grows, done_grows}
 use Rattle.qq_raft_model.proofs.Roles.{some_same}
+use Rattle.qq_raft_model.proofs.Logs.{length-add, In-add, Last, last_of, last_term-add}
+use Rattle.qq_raft_model.proofs.Lists.{In-front}
 
 -- ---- a log that is as up to date holds what the other holds
 

@@ -1,18 +1,20 @@
 -- A server takes up a term, a vote or a leader's log.
 use Rattle.std.proofs.Common.{◌≡◌, ℕ, ◌≤◌, List, Option, refl, sym, subst, ◌∙◌, arith, inl, inr}
+use Rattle.qq_base.specs.Fronts.{IsFront, put}
+use Rattle.qq_base.proofs.Fronts.{front-refl, front-trans, front-compare}
+use Rattle.qq_base.proofs.Puts.{put-each, put-same, put-other}
 use Rattle.qq_entry.specs.declared.command.Entry.{Entry}
-use Rattle.qq_raft_model.specs.World.{Sent, World, put}
+use Rattle.qq_raft_model.specs.World.{Sent, World}
 use Rattle.qq_raft_model.specs.World.Role.{Follower, Candidate, Leader}
-use Rattle.qq_raft_model.specs.Facts.{IsFront, In, Within, Good, Point, Holds}
+use Rattle.qq_raft_model.specs.Facts.{In, Within, Good, Point, Holds}
 use Rattle.qq_raft_model.specs.Moves.{MayWrite, push, next_lane, after, Allowed}
 use Rattle.qq_raft_model.specs.Moves.Move.{Write}
 use Rattle.qq_raft_model.proofs.Changes.{Follows, push-each, push-noticed, push-older, push-led, push-ask, push-grant, push-asked, push-ack, pushed-grows}
-use Rattle.qq_raft_model.proofs.Fronts.{front-refl, front-trans, front-compare, Within-front, Within-later}
 use Rattle.qq_raft_model.proofs.Grows.{Grows, holds-grows, settled-grows, won-grows}
 use Rattle.qq_raft_model.proofs.Kept.{Kept, LeaderKept, CandidateKept, DoneKept, ack_grows, sent_grows, done_grows}
-use Rattle.qq_raft_model.proofs.Puts.{put-each, put-same, put-other}
 use Rattle.qq_raft_model.proofs.Settles.{point_holds, settled_in, settled_later}
 use Rattle.qq_raft_model.proofs.Roles.{follower_leads, follower_asks}
+use Rattle.qq_raft_model.proofs.Logs.{Within-front, Within-later}
 
 -- two fronts of a leader's log: the one that is in the own log is in the one that replaces it
 replaced_front : {x front own whole : List Entry} → IsFront x whole → IsFront front whole → IsFront x own

@@ -1,14 +1,10 @@
 -- What is said of a world.
 use Rattle.std.specs.Prelude.{◌≡◌, ◌⊎◌, ◌<◌, ◌≤◌, ◌+◌, ◌*◌, ℕ, Bool, true, List, [], ◌∷◌, ◌++◌, length, if◌then◌else◌}
+use Rattle.qq_base.specs.Fronts.{IsFront}
 use Rattle.qq_entry.specs.declared.command.Entry.{Entry}
 use Rattle.qq_raft_model.specs.World.{Lane, Grant, Ack, World, lanes}
 
 -- ---- lists
-
--- one list begins another
-pub record IsFront {A : Type 0} (front whole : List A) : Type 0 where
-  pub rest : List A
-  pub is : whole ≡ front ++ rest
 
 -- a list and one entry more
 abbrev pub add : List Entry → Entry → List Entry

@@ -1,9 +1,10 @@
 -- What may happen in a group. A server's step is one move or a few.
 use Rattle.std.specs.Prelude.{◌≡◌, ◌⊎◌, ◌<◌, ◌≤◌, ◌+◌, ℕ, Bool, List, [], ◌∷◌, length, filter, Option, Some, None, nat_lt, nat_le, nat_eq, not, ◌||◌, if◌then◌else◌}
+use Rattle.qq_base.specs.Fronts.{IsFront, put}
 use Rattle.qq_entry.specs.declared.command.Entry.{Entry}
-use Rattle.qq_raft_model.specs.World.{Lane, Member, Ask, Sent, World, lanes, put}
+use Rattle.qq_raft_model.specs.World.{Lane, Member, Ask, Sent, World, lanes}
 use Rattle.qq_raft_model.specs.World.Role.{Follower, Candidate, Leader}
-use Rattle.qq_raft_model.specs.Facts.{IsFront, add, In, Most, Committed, Elects}
+use Rattle.qq_raft_model.specs.Facts.{add, In, Most, Committed, Elects}
 
 pub data Move : Type 0 where
   -- a server takes up a term, a vote or a leader's log, and follows

@@ -4,7 +4,7 @@
 -- The world has what the protocol is about: what each server holds, what each disk may still hold, and every message
 -- that was ever made. Messages are never taken out, so that loss, repeat, reordering and delay are no moves of the
 -- protocol. Members are numbers.
-use Rattle.std.specs.Prelude.{ℕ, List, [], ◌∷◌, Option, None, nat_eq, if◌then◌else◌}
+use Rattle.std.specs.Prelude.{ℕ, List, [], ◌∷◌, Option, None}
 use Rattle.qq_entry.specs.declared.command.Entry.{Entry}
 
 -- what one change leaves on a server's disk: the change's number, and the server's term, vote and log
@@ -70,10 +70,6 @@ pub record World : Type 0 where
   pub acks : List Ack
   pub sents : List Sent
   pub audit : List Entry  -- the longest list of entries that a server has known to be committed
-
--- a function with another value at one number
-unfoldable pub put : {A : Type 0} → ℕ → A → (ℕ → A) → ℕ → A
-put k x f i = if nat_eq i k then x else f i
 
 -- ---- the start
 

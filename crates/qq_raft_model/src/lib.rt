@@ -4,4 +4,7 @@
 
 mod laws;
 
-pub use laws::{a_group_may_commit, servers_agree, what_is_committed_stays};
+pub use laws::{
+    a_group_may_commit, a_leader_has_all_of_its_term, a_leader_only_appends, servers_agree,
+    what_is_committed_stays,
+};

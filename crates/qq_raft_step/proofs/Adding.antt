@@ -1,21 +1,21 @@
 -- A leader that is ticked sends again, and a ready one adds a client's command.
 use Rattle.std.proofs.Common.{◌≡◌, ◌⊎◌, ℕ, ◌+◌, ◌≤◌, true, List, map, refl, sym, ap, subst, ◌∙◌, arith, inl, inr}
 use Rattle.std.proofs.lemmas.Bool.{cond_both, cond-true, and_parts, false≢true}
+use Rattle.qq_base.specs.Fronts.{IsFront}
 use Rattle.qq_entry.specs.declared.command.Command.{Command}
 use Rattle.qq_entry.specs.declared.command.Entry.{Entry}
-use Rattle.qq_raft_model.specs.Facts.{IsFront}
 use Rattle.qq_raft_model.specs.Safe.{IsSafe}
 use Rattle.qq_raft_model.specs.World.{Lane, World}
+use Rattle.qq_raft_model.proofs.Lists.{In-map}
 use Rattle.qq_raft_msg.specs.declared.state.Role.{Role}
 use Rattle.qq_raft_msg.specs.declared.state.Role.TheVariants.{Leader, Candidate, Follower}
 use Rattle.qq_raft_step.specs.declared.peer.Peer.{Peer}
 use Rattle.qq_raft_step.specs.State.{Server, last, is_leader}
 use Rattle.qq_raft_step.specs.Leading.{add_entry, everyone, send, stand}
 use Rattle.qq_raft_step.specs.Server.{is_ready, send_again, submit, tick}
-use Rattle.qq_raft_step.specs.Refines.{HasMatched, IsReached, IsWithinLog, Refines, Stands}
+use Rattle.qq_raft_step.specs.Refines.{HasMatched, IsReached, Refines, Stands}
 use Rattle.qq_raft_step.proofs.Leads.{add-refines}
 use Rattle.qq_raft_step.proofs.Matches.{Promise}
-use Rattle.qq_raft_step.proofs.Moving.{In-map}
 use Rattle.qq_raft_step.proofs.Refining.{refines-refl}
 use Rattle.qq_raft_step.proofs.Sending.{leader_asks, send-refines}
 
@@ -56,32 +56,33 @@ again-stands {w = w} {k = k} {s = s} st leads = record {
           durable = x.durable;
         })
       ]);
+  within = λ is p here.
+      let m = In-map send_again p s.peers here in
+      let next : p.next ≡ m.item.matched + 1 = ap (λ (x : Peer). x.next) m.is in
+      let matched : p.matched ≡ m.item.matched = ap (λ (x : Peer). x.matched) m.is in
+      let le : m.item.matched ≤ last s = (st.within is m.item m.here).1 in
+      (omega (arith, next, le), omega (arith, matched, le));
+  itself = st.itself;
   waiting = st.waiting;
   out = st.out;
 }
 
 pub leader_tick-refines : {members : List ℕ} {w : World} {k : ℕ} {s : Server} → Promise → IsReached members w
-    → Stands w k s → is_leader s.role ≡ true → IsWithinLog s → Refines members w k (tick s)
+    → Stands w k s → is_leader s.role ≡ true → Refines members w k (tick s)
 unfolding tick
-leader_tick-refines {members} {w} {k} {s} promise reached st e within =
+leader_tick-refines {members} {w} {k} {s} promise reached st e =
     let leads = is_leader_of s.role e in
     let again = record s { peers = map send_again s.peers } in
     subst (Refines members w k) (sym (cond-true (is_leader s.role) (send everyone again) (stand s) e))
-    (send-refines {members = members} everyone (again-stands st leads) leads (done-front promise reached st) (λ p here.
-    let m = In-map send_again p s.peers here in
-    let next : p.next ≡ m.item.matched + 1 = ap (λ (x : Peer). x.next) m.is in
-    let le : m.item.matched ≤ last s = (within m.item m.here).1 in
-    omega (arith, next, le)))
+    (send-refines {members = members} everyone (again-stands st leads) leads (done-front promise reached st))
 
 pub submit-refines : {members : List ℕ} {w : World} {k : ℕ} {s : Server} (time : ℕ) (command : Command) → Promise
-    → IsReached members w → Stands w k s → IsWithinLog s → Refines members w k (submit time command s)
+    → IsReached members w → Stands w k s → Refines members w k (submit time command s)
 unfolding submit
-submit-refines {members} {w} {k} {s} time command promise reached st within =
+submit-refines {members} {w} {k} {s} time command promise reached st =
     let entry : Entry = record { term = s.term; time = time; command = command } in
     cond_both (is_ready s) (add_entry entry s) s (Refines members w k)
     (λ e.
     let leads = is_leader_of s.role (and_parts (is_leader s.role) _ e).0 in
-    add-refines {members = members} entry st leads refl (done-front promise reached st) (λ p here.
-    let le : p.next ≤ last s + 1 = (within p here).0 in
-    omega (arith, le)))
+    add-refines {members = members} entry st leads refl (done-front promise reached st))
     (λ _. refines-refl st)

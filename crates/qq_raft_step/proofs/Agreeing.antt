@@ -1,20 +1,20 @@
 -- What the protocol promises, of servers that stand for its members.
-use Rattle.std.proofs.Common.{◌≡◌, ℕ, ◌≤◌, List, ◌++◌, length, take, sym, ap, subst, ◌∙◌, arith}
+use Rattle.std.proofs.Common.{◌≡◌, ℕ, ◌≤◌, List, length, take, sym, ap, subst, ◌∙◌, arith}
 use Rattle.std.proofs.Math.Seq.{take-append_seam}
+use Rattle.qq_base.specs.Fronts.{IsFront}
+use Rattle.qq_base.proofs.Fronts.{front-shorter, front-trans}
 use Rattle.qq_entry.specs.declared.command.Entry.{Entry}
-use Rattle.qq_raft_model.specs.Facts.{IsFront}
-use Rattle.qq_raft_model.specs.Moves.{AreAllowed, run}
+use Rattle.qq_raft_model.specs.Moves.{run}
 use Rattle.qq_raft_model.specs.Safe.{IsSafe}
-use Rattle.qq_raft_model.specs.World.{Lane, World, new_world}
+use Rattle.qq_raft_model.specs.World.{Lane, World}
 use Rattle.qq_raft_msg.specs.declared.state.Role.TheVariants.{Leader}
 use Rattle.qq_raft_step.specs.State.{Server}
 use Rattle.qq_raft_step.specs.Refines.{role_of, IsReached, Stands, Refines}
 use Rattle.qq_raft_step.proofs.Adding.{done-front}
-use Rattle.qq_raft_step.proofs.Fronts.{front-shorter, front-trans}
 use Rattle.qq_raft_step.proofs.Matches.{Promise}
-use Rattle.qq_raft_step.proofs.Refining.{run-append, allowed-append}
+use Rattle.qq_raft_step.proofs.Reached.{then-reached}
 
-safe_there : {members : List ℕ} {w : World} → Promise → IsReached members w → IsSafe members w
+pub safe_there : {members : List ℕ} {w : World} → Promise → IsReached members w → IsSafe members w
 safe_there {members} promise reached =
     subst (IsSafe members) (sym reached.is) (promise members reached.moves reached.allowed)
 
@@ -25,7 +25,7 @@ one-leader {members} {w} {p} {q} {s} {t} promise reached first second leads othe
     (second.role ∙ ap role_of other)
     (ap (λ (l : Lane). l.term) first.lane ∙ same ∙ sym (ap (λ (l : Lane). l.term) second.lane))
 
-take_front : (x log : List Entry) (n : ℕ) → IsFront x log → length x ≡ n → take n log ≡ x
+pub take_front : (x log : List Entry) (n : ℕ) → IsFront x log → length x ≡ n → take n log ≡ x
 take_front x log n p long =
     ap (λ (i : ℕ). take i log) (sym long) ∙ ap (take (length x)) p.is ∙ take-append_seam x p.rest
 
@@ -42,12 +42,4 @@ one-history {members} {w} {p} {q} {s} {t} promise reached first second le =
 
 pub still-reached : {members : List ℕ} {w : World} {k : ℕ} {s : Server} → IsReached members w
     → (r : Refines members w k s) → IsReached members (run w r.moves)
-still-reached {members} {w} reached r =
-    let is : w ≡ run new_world reached.moves = reached.is in
-    record {
-      moves = reached.moves ++ r.moves;
-      allowed =
-          allowed-append members new_world reached.moves r.moves reached.allowed
-          (subst (λ (v : World). AreAllowed members v r.moves) is r.allowed);
-      is = ap (λ (v : World). run v r.moves) is ∙ sym (run-append new_world reached.moves r.moves);
-    }
+still-reached reached r = then-reached r.moves reached r.allowed

@@ -6,8 +6,10 @@ use Rattle.std.proofs.Math.Nat.{min-le_left, min-le_right}
 use Rattle.std.specs.Prelude.{option_map}
 use Rattle.qq_base.specs.declared.ids.NodeId.{NodeId}
 use Rattle.qq_base.specs.declared.ids.Term.{Term}
+use Rattle.qq_base.specs.Fronts.{IsFront}
+use Rattle.qq_base.proofs.Fronts.{front-refl, front-trans, front-shorter}
 use Rattle.qq_entry.specs.declared.command.Entry.{Entry}
-use Rattle.qq_raft_model.specs.Facts.{IsFront, In}
+use Rattle.qq_raft_model.specs.Facts.{In}
 use Rattle.qq_raft_model.specs.Moves.{HasSent, MayWrite, after}
 use Rattle.qq_raft_model.specs.Moves.Move.{Write, Reply, Learn}
 use Rattle.qq_raft_model.specs.World.{Lane, Sent, World}
@@ -17,7 +19,6 @@ use Rattle.qq_raft_step.specs.State.{Server, last, change, follow, enter, vote_i
 use Rattle.qq_raft_step.specs.Server.{appended, is_match, has_agreed, write, end, learn, say_appended, take_entries, refuse_entries, receive_append, refuse, accept, receive}
 use Rattle.qq_raft_step.specs.Refines.{number, Sends, IsSaid, IsOnItsWay, Stands, Refines, IsReached}
 use Rattle.qq_raft_step.proofs.Fits.{own_is, all_there, becomes, differs}
-use Rattle.qq_raft_step.proofs.Fronts.{front-refl, front-trans, front-shorter}
 use Rattle.qq_raft_step.proofs.Later.{only-trans}
 use Rattle.qq_raft_step.proofs.Learning.{reply-only, reply-stands, learn-only, learn-stands}
 use Rattle.qq_raft_step.proofs.Matches.{Promise, Match, sent-matches, take-front}

@@ -4,13 +4,19 @@ use Rattle.std.proofs.lemmas.Bool.{cond_both, cond-true, cond-false, and_parts, 
 use Rattle.std.proofs.lemmas.List.{length-append, length-map, length-take-le}
 use Rattle.std.proofs.lemmas.List.Sums.{length-filter}
 use Rattle.std.proofs.Math.Nat.{min-le_left}
+use Rattle.qq_base.specs.Fronts.{IsFront}
 use Rattle.qq_base.proofs.Lists.{filter-map}
 use Rattle.qq_base.specs.declared.ids.NodeId.{NodeId}
+use Rattle.qq_base.proofs.Puts.{put-same, put-other}
+use Rattle.qq_base.proofs.Fronts.{front-length}
 use Rattle.qq_entry.specs.declared.command.Entry.{Entry}
-use Rattle.qq_raft_model.specs.Facts.{IsFront, add, In, Committed}
+use Rattle.qq_raft_model.specs.Facts.{add, In, Committed}
 use Rattle.qq_raft_model.specs.Moves.{after, longer, last_term}
 use Rattle.qq_raft_model.specs.Moves.Move.{Commit}
-use Rattle.qq_raft_model.specs.World.{Role as ModelRole, Lane, World}
+use Rattle.qq_raft_model.specs.World.{Role as ModelRole, Lane, Ack, World}
+use Rattle.qq_raft_model.proofs.Logs.{last_of, last_term-add}
+use Rattle.qq_raft_model.proofs.Leaders.{leader-acks}
+use Rattle.qq_raft_model.proofs.Lists.{In-map}
 use Rattle.qq_raft_msg.specs.declared.rpc.AppendedMsg.{AppendedMsg}
 use Rattle.qq_raft_msg.specs.declared.rpc.Rpc.TheVariants.{Appended}
 use Rattle.qq_raft_msg.specs.declared.state.Role.TheVariants.{Leader}
@@ -18,14 +24,13 @@ use Rattle.qq_raft_step.specs.declared.peer.Peer.{Peer}
 use Rattle.qq_raft_step.specs.State.{Server, last, term_at, is_leader, change, follow, enter}
 use Rattle.qq_raft_step.specs.Leading.{one_if, pass, send, is_majority, durable, may_commit, commit_within, advance}
 use Rattle.qq_raft_step.specs.Server.{is_peer, at_peer, greater, match_peer, back_peer, lacks, take_ack, step_back, take_reply, receive_appended, refuse, accept, receive}
-use Rattle.qq_raft_step.specs.Refines.{role_of, IsOnItsWay, HasMatched, IsGroup, IsReached, IsWithinLog, HasOwnAck, AcksItself, Stands, OnlyMoves, Refines}
+use Rattle.qq_raft_step.specs.Refines.{role_of, IsOnItsWay, HasMatched, IsGroup, IsReached, IsWithinLog, HasOwnAck, Stands, OnlyMoves, Refines}
 use Rattle.qq_raft_step.proofs.Adding.{is_leader_of, done-front}
 use Rattle.qq_raft_step.proofs.Electing.{majority}
-use Rattle.qq_raft_step.proofs.Fronts.{put-same, put-other, front-length}
 use Rattle.qq_raft_step.proofs.Later.{there-later, said-later, way-later, elects-later, matched-later}
 use Rattle.qq_raft_step.proofs.Learning.{longer-length}
-use Rattle.qq_raft_step.proofs.Matches.{Promise, last_of, last_term-add, take-front}
-use Rattle.qq_raft_step.proofs.Moving.{In-map}
+use Rattle.qq_raft_step.proofs.Matches.{Promise, take-front}
+use Rattle.qq_raft_step.proofs.Reached.{kept-there}
 use Rattle.qq_raft_step.proofs.Refining.{refines-refl, refines-then, refines-change}
 use Rattle.qq_raft_step.proofs.Sending.{leader_asks, send-refines}
 
@@ -40,6 +45,7 @@ commit-only w k a e = record {
     sents = λ y here. here;
     noticed = λ q. omega arith;
   };
+  lanes = λ l here le. here;
   member = λ q other. refl;
   role = λ q other. refl;
   done = λ q other. put-other k (longer (w.done k) (add a e)) w.done q other;
@@ -61,6 +67,8 @@ commit-stands {w = w} {k = k} {s = s} a e index st long lt =
       own_vote = λ is. there-later g.grants (st.own_vote is);
       votes = λ is p here granted. elects-later g (st.votes is p here granted);
       matches = λ is p here. elim (st.matches is p here) [ inl start ↦ inl start | inr y ↦ inr (matched-later g y) ];
+      within = st.within;
+      itself = st.itself;
       waiting = λ y here. said-later g (st.waiting y here);
       out = λ r here. way-later g (st.out r here);
     }
@@ -68,14 +76,14 @@ commit-stands {w = w} {k = k} {s = s} a e index st long lt =
 -- ---- what may be committed is
 
 committed : {members : List ℕ} {w : World} {k : ℕ} {s : Server} (a : List Entry) (e : Entry)
-    → IsGroup members k s.peers → Stands w k s → s.role ≡ Leader → AcksItself w k s → IsFront (add a e) s.log
+    → IsGroup members k s.peers → Stands w k s → s.role ≡ Leader → IsFront (add a e) s.log
     → e.term.0 ≡ s.term.0
     → is_majority (leb (length a + 1) (durable s)) (λ p. leb (length a + 1) p.matched) s.peers ≡ true
     → Committed members w a e
-committed {members} {w} {k} {s} a e group st leads itself front own most =
+committed {members} {w} {k} {s} a e group st leads front own most =
     majority (leb (length a + 1) (durable s)) (λ p. leb (length a + 1) p.matched) k s.peers group most
     (λ yes_own.
-    let x : HasOwnAck w k s.term.0 (last s) s.op a = itself a e front own in
+    let x : HasOwnAck w.acks k s.term.0 (last s) s.op a = st.itself leads a e front own in
     let le = leb-true (length a + 1) (durable s) yes_own in
     let same : (w.member k).noticed ≡ s.noticed = st.noticed in
     let op : x.ack.op + last s ≤ s.op + (length a + 1) = x.op_is in
@@ -138,15 +146,17 @@ same-commit {members} {w} {k} {s} c st same =
       own_vote = st.own_vote;
       votes = st.votes;
       matches = st.matches;
+      within = st.within;
+      itself = st.itself;
       waiting = st.waiting;
       out = st.out;
     })
 
 -- the entry at a place is the last one up to there
 found-refines : {members : List ℕ} {w : World} {k : ℕ} {s : Server} (n c : ℕ) → IsGroup members k s.peers
-    → Stands w k s → s.role ≡ Leader → AcksItself w k s → s.commit + n ≤ last s → FoundAt s n c
+    → Stands w k s → s.role ≡ Leader → s.commit + n ≤ last s → FoundAt s n c
     → Refines members w k (record s { commit = c })
-found-refines {members} {w} {k} {s} n c group st leads itself le f =
+found-refines {members} {w} {k} {s} n c group st leads le f =
     let within : c ≤ s.commit + n = f.within in
     let later : s.commit < c = f.later in
     let long : length (take c s.log) ≡ c = length-take-le c s.log (omega (arith, within, le)) in
@@ -175,7 +185,7 @@ found-refines {members} {w} {k} {s} n c group st leads itself le f =
                 role,
                 mine,
                 own ∙ sym (ap (λ (x : Lane). x.term) st.lane),
-                committed a e group st leads itself front own most,
+                committed a e group st leads front own most,
               ),
               tt,
             );
@@ -185,20 +195,20 @@ found-refines {members} {w} {k} {s} n c group st leads itself le f =
     ]
 
 pub advance-refines : {members : List ℕ} {w : World} {k : ℕ} {s : Server} → IsGroup members k s.peers
-    → Stands w k s → s.role ≡ Leader → AcksItself w k s → s.commit ≤ last s → Refines members w k (advance s)
+    → Stands w k s → s.role ≡ Leader → s.commit ≤ last s → Refines members w k (advance s)
 unfolding advance
-advance-refines {members} {w} {k} {s} group st leads itself le =
+advance-refines {members} {w} {k} {s} group st leads le =
     let n = last s - s.commit in
     subst (Refines members w k)
     (sym (cond-true (is_leader s.role) (record s { commit = commit_within s n }) s (ap is_leader leads)))
     (elim (found s n) [
       | inl same ↦ same-commit (commit_within s n) st same
-      | inr f ↦ found-refines n (commit_within s n) group st leads itself (omega (arith, le)) f
+      | inr f ↦ found-refines n (commit_within s n) group st leads (omega (arith, le)) f
     ])
 
 -- ---- peers
 
-mapped-group : {members : List ℕ} {k : ℕ} (f : Peer → Peer) (peers : List Peer)
+pub mapped-group : {members : List ℕ} {k : ℕ} (f : Peer → Peer) (peers : List Peer)
     → ((p : Peer) → (f p).node.0 ≡ p.node.0) → IsGroup members k peers → IsGroup members k (map f peers)
 mapped-group {members} {k} f peers same_node group =
     record {
@@ -263,11 +273,15 @@ matched-peer {w = w} {s = s} m st leads term ok way p here =
     ])
     (λ _. old)
 
+abbrev IsPeerWithin : ℕ → Peer → Type 0
+IsPeerWithin last p = (p.next ≤ last + 1) × (p.matched ≤ last)
+
 -- a leader whose peers are changed
 peers-stand : {w : World} {k : ℕ} {s : Server} (f : Peer → Peer) → Stands w k s → s.role ≡ Leader
     → ((p : Peer) → In p s.peers → ((f p).matched ≡ 0) ⊎ HasMatched w s.term.0 (f p))
+    → ((p : Peer) → In p s.peers → IsPeerWithin (last s) (f p))
     → Stands w k (record s { peers = map f s.peers })
-peers-stand {w = w} {k = k} {s = s} f st leads each = record {
+peers-stand {w = w} {k = k} {s = s} f st leads each within = record {
   node = st.node;
   lane = st.lane;
   noticed = st.noticed;
@@ -278,6 +292,10 @@ peers-stand {w = w} {k = k} {s = s} f st leads each = record {
   matches = λ is p here.
       let m = In-map f p s.peers here in
       subst (λ (y : Peer). (y.matched ≡ 0) ⊎ HasMatched w s.term.0 y) (sym m.is) (each m.item m.here);
+  within = λ is p here.
+      let m = In-map f p s.peers here in
+      subst (IsPeerWithin (last s)) (sym m.is) (within m.item m.here);
+  itself = st.itself;
   waiting = st.waiting;
   out = st.out;
 }
@@ -290,62 +308,74 @@ same-peer node g p same =
 -- ---- an acknowledgement
 
 matched-within : (s : Server) (index : ℕ) (node : NodeId) → IsWithinLog s → index ≤ last s → (p : Peer)
-    → In p s.peers → (cond (is_peer node p) (match_peer index p) p).next ≤ last s + 1
+    → In p s.peers → IsPeerWithin (last s) (cond (is_peer node p) (match_peer index p) p)
 matched-within s index node within le p here =
     let next : p.next ≤ last s + 1 = (within p here).0 in
     let matched : p.matched ≤ last s = (within p here).1 in
     let most : greater p.matched index ≤ last s = greater_most p.matched index (last s) matched le in
-    cond_both (is_peer node p) (match_peer index p) p (λ (y : Peer). y.next ≤ last s + 1)
-    (λ _. greater_most p.next (greater p.matched index + 1) (last s + 1) next (omega (arith, most)))
-    (λ _. next)
+    cond_both (is_peer node p) (match_peer index p) p (IsPeerWithin (last s))
+    (λ _. (greater_most p.next (greater p.matched index + 1) (last s + 1) next (omega (arith, most)), most))
+    (λ _. (next, matched))
+
+-- an acknowledgement of a leader's term is of an entry of its log
+pub acks-within : {members : List ℕ} {w : World} {k : ℕ} {s : Server} (x : Ack) → IsReached members w
+    → Stands w k s → s.role ≡ Leader → In x w.acks → x.term ≡ s.term.0 → x.upto ≤ last s
+acks-within {members} {w} {k} {s} x reached st leads here same =
+    let term : x.term ≡ (w.member k).mine.term = same ∙ sym (ap (λ (l : Lane). l.term) st.lane) in
+    let le : x.upto ≤ length (w.member k).mine.log =
+    leader-acks k x (kept-there members w reached) (st.role ∙ ap role_of leads) here term in
+    let long : length (w.member k).mine.log ≡ last s = ap (λ (l : Lane). length l.log) st.lane in
+    omega (arith, le, long)
+
+acked-within : {members : List ℕ} {w : World} {k : ℕ} {s : Server} (m : AppendedMsg) → IsReached members w
+    → Stands w k s → s.role ≡ Leader → s.term.0 ≡ m.term.0 → m.ok ≡ true → IsOnItsWay w (Appended m)
+    → m.index.0 ≤ last s
+acked-within {members} {w} {k} {s} m reached st leads term ok way =
+    let a = way.said.says ok in
+    let upto : m.index.0 ≤ a.item.upto = a.is.upto in
+    let le : a.item.upto ≤ last s =
+    acks-within {members = members} a.item reached st leads a.here (a.is.term ∙ sym term) in
+    omega (arith, upto, le)
 
 ack-refines : {members : List ℕ} {w : World} {k : ℕ} {s : Server} (m : AppendedMsg) → Promise
     → IsReached members w → IsGroup members k s.peers → Stands w k s → s.role ≡ Leader → s.term.0 ≡ m.term.0
-    → m.ok ≡ true → IsWithinLog s → AcksItself w k s → m.index.0 ≤ last s → IsOnItsWay w (Appended m)
-    → Refines members w k (take_ack m s)
+    → m.ok ≡ true → IsOnItsWay w (Appended m) → Refines members w k (take_ack m s)
 unfolding take_ack send
-ack-refines {members} {w} {k} {s} m promise reached group st leads term ok within itself le way =
+ack-refines {members} {w} {k} {s} m promise reached group st leads term ok way =
     let f : Peer → Peer = λ (p : Peer). cond (is_peer m.from p) (match_peer m.index.0 p) p in
     let picks = lacks m.from (last s) in
     let g : Peer → Peer = λ (p : Peer). cond (picks p) (pass s.log p) p in
     let t : Server = at_peer m.from (match_peer m.index.0) s in
-    let matched : Stands w k t = peers-stand f st leads (λ p here. matched-peer m st leads term ok way p here) in
+    let le : m.index.0 ≤ last s = acked-within m reached st leads term ok way in
+    let matched : Stands w k t =
+    peers-stand f st leads (λ p here. matched-peer m st leads term ok way p here)
+    (matched-within s m.index.0 m.from (st.within leads) le) in
     let done : IsFront (w.done k) s.log = done-front promise reached st in
     let known : length (w.done k) ≤ length s.log = front-length done in
     let commit : length (w.done k) ≡ s.commit = st.commit in
     let sent : Refines members w k (send picks t) =
-    send-refines {members = members} picks matched leads done (λ p here.
-    let y = In-map f p s.peers here in
-    let next : (f y.item).next ≤ last s + 1 =
-    matched-within s m.index.0 m.from within le y.item y.here in
-    let is : p.next ≡ (f y.item).next = ap (λ (x : Peer). x.next) y.is in
-    omega (arith, next, is)) in
+    send-refines {members = members} picks matched leads done in
     let whole : IsGroup members k (map g (map f s.peers)) =
     mapped-group g (map f s.peers)
     (λ p. cond_both (picks p) (pass s.log p) p (λ (y : Peer). y.node.0 ≡ p.node.0) (λ _. refl) (λ _. refl))
     (mapped-group f s.peers (λ p. same-peer m.from (match_peer m.index.0) p refl) group) in
     refines-then sent (λ v there only.
-    advance-refines {members = members} whole there leads (λ a e front own.
-    let x : HasOwnAck w k s.term.0 (last s) s.op a = itself a e front own in
-    record {
-      ack = x.ack;
-      said = only.later.acks x.ack x.said;
-      from = x.from;
-      term_is = x.term_is;
-      upto = x.upto;
-      op_is = x.op_is;
-    }) (omega (arith, known, commit)))
+    advance-refines {members = members} whole there leads (omega (arith, known, commit)))
 
 back-within : (s : Server) (index : ℕ) (node : NodeId) → IsWithinLog s → (p : Peer) → In p s.peers
-    → (cond (is_peer node p) (back_peer index p) p).next ≤ last s + 1
+    → IsPeerWithin (last s) (cond (is_peer node p) (back_peer index p) p)
 back-within s index node within p here =
     let next : p.next ≤ last s + 1 = (within p here).0 in
     let matched : p.matched ≤ last s = (within p here).1 in
     let least = min-le_left (p.next - 1) (index + 1) in
-    cond_both (is_peer node p) (back_peer index p) p (λ (y : Peer). y.next ≤ last s + 1)
-    (λ _. greater_most (p.matched + 1) (min (p.next - 1) (index + 1)) (last s + 1) (omega (arith, matched))
-    (omega (arith, least, next)))
-    (λ _. next)
+    cond_both (is_peer node p) (back_peer index p) p (IsPeerWithin (last s))
+    (λ _.
+    (
+      greater_most (p.matched + 1) (min (p.next - 1) (index + 1)) (last s + 1) (omega (arith, matched))
+      (omega (arith, least, next)),
+      matched,
+    ))
+    (λ _. (next, matched))
 
 back-peer : {w : World} {k : ℕ} {s : Server} (index : ℕ) (node : NodeId) → Stands w k s → s.role ≡ Leader
     → (p : Peer) → In p s.peers → ((cond (is_peer node p) (back_peer index p) p).matched ≡ 0)
@@ -368,37 +398,32 @@ back-peer {w = w} {s = s} index node st leads p here =
     (λ _. old)
 
 back-refines : {members : List ℕ} {w : World} {k : ℕ} {s : Server} (m : AppendedMsg) → Promise
-    → IsReached members w → Stands w k s → s.role ≡ Leader → IsWithinLog s → Refines members w k (step_back m s)
+    → IsReached members w → Stands w k s → s.role ≡ Leader → Refines members w k (step_back m s)
 unfolding step_back
-back-refines {members} {w} {k} {s} m promise reached st leads within =
+back-refines {members} {w} {k} {s} m promise reached st leads =
     let f : Peer → Peer = λ (p : Peer). cond (is_peer m.from p) (back_peer m.index.0 p) p in
     let there : Stands w k (at_peer m.from (back_peer m.index.0) s) =
-    peers-stand f st leads (λ p here. back-peer m.index.0 m.from st leads p here) in
-    send-refines {members = members} (is_peer m.from) there leads (done-front promise reached st) (λ p here.
-    let y = In-map f p s.peers here in
-    let next : (f y.item).next ≤ last s + 1 = back-within s m.index.0 m.from within y.item y.here in
-    let is : p.next ≡ (f y.item).next = ap (λ (x : Peer). x.next) y.is in
-    omega (arith, next, is))
+    peers-stand f st leads (λ p here. back-peer m.index.0 m.from st leads p here)
+    (back-within s m.index.0 m.from (st.within leads)) in
+    send-refines {members = members} (is_peer m.from) there leads (done-front promise reached st)
 
 reply-refines : {members : List ℕ} {w : World} {k : ℕ} {s : Server} (m : AppendedMsg) → Promise
     → IsReached members w → IsGroup members k s.peers → Stands w k s → s.term.0 ≡ m.term.0
-    → (s.role ≡ Leader → IsWithinLog s) → (s.role ≡ Leader → AcksItself w k s)
-    → (s.role ≡ Leader → m.index.0 ≤ last s) → IsOnItsWay w (Appended m) → Refines members w k (take_reply m s)
-reply-refines {members} {w} {k} {s} m promise reached group st term within itself le way =
+    → IsOnItsWay w (Appended m) → Refines members w k (take_reply m s)
+reply-refines {members} {w} {k} {s} m promise reached group st term way =
     cond_both (is_leader s.role) (cond m.ok (take_ack m s) (step_back m s)) s (Refines members w k)
     (λ e.
     let leads = is_leader_of s.role e in
     cond_both m.ok (take_ack m s) (step_back m s) (Refines members w k)
-    (λ ok. ack-refines m promise reached group st leads term ok (within leads) (itself leads) (le leads) way)
-    (λ _. back-refines m promise reached st leads (within leads)))
+    (λ ok. ack-refines m promise reached group st leads term ok way)
+    (λ _. back-refines m promise reached st leads))
     (λ _. refines-refl st)
 
 pub appended-refines : {members : List ℕ} {w : World} {k : ℕ} {s : Server} (m : AppendedMsg) → Promise
-    → IsReached members w → IsGroup members k s.peers → Stands w k s
-    → (s.role ≡ Leader → IsWithinLog s) → (s.role ≡ Leader → AcksItself w k s)
-    → (s.role ≡ Leader → m.index.0 ≤ last s) → IsOnItsWay w (Appended m) → Refines members w k (receive (Appended m) s)
+    → IsReached members w → IsGroup members k s.peers → Stands w k s → IsOnItsWay w (Appended m)
+    → Refines members w k (receive (Appended m) s)
 unfolding receive accept refuse receive_appended enter
-appended-refines {members} {w} {k} {s} m promise reached group st within itself bound way =
+appended-refines {members} {w} {k} {s} m promise reached group st way =
     cond_both (ltb m.term.0 s.term.0) s (accept (Appended m) s) (Refines members w k) (λ _. refines-refl st)
     (λ e.
     let le = ltb-false m.term.0 s.term.0 e in
@@ -409,4 +434,4 @@ appended-refines {members} {w} {k} {s} m promise reached group st within itself 
     refines-change None m.term None st le (λ same. absurd (omega (arith, lt, same))))
     (λ own.
     let ge = ltb-false s.term.0 m.term.0 own in
-    reply-refines m promise reached group st (omega (arith, le, ge)) within itself bound way))
+    reply-refines m promise reached group st (omega (arith, le, ge)) way))

@@ -3,8 +3,8 @@ use Rattle.std.proofs.Common.{◌≡◌, suc, ◌+◌, true, cond, ◌&&◌, eqb
 use Rattle.std.proofs.lemmas.Bool.{or_cases, and_parts, eqb-true, leb-true, eq-eqb}
 use Rattle.std.proofs.lemmas.List.{append-nil, append_cancel_left, nil_from_length, length-take-le, take-append-drop, drop_all}
 use Rattle.std.proofs.Math.Seq.{take-append-add}
+use Rattle.qq_base.specs.Fronts.{IsFront}
 use Rattle.qq_entry.specs.declared.command.Entry.{Entry}
-use Rattle.qq_raft_model.specs.Facts.{IsFront}
 use Rattle.qq_raft_model.specs.World.{Sent}
 use Rattle.qq_raft_msg.specs.declared.rpc.AppendMsg.{AppendMsg}
 use Rattle.qq_raft_step.specs.State.{term_at}

@@ -6,7 +6,7 @@ use Rattle.qq_raft_msg.specs.declared.rpc.Rpc.{Rpc}
 use Rattle.qq_raft_msg.specs.declared.rpc.Rpc.TheVariants.{Vote, Voted, Append, Appended, Install, Installed}
 use Rattle.qq_raft_step.specs.declared.peer.Peer.{Peer}
 use Rattle.qq_raft_step.specs.State.{Server}
-use Rattle.qq_raft_step.specs.Refines.{There, Says, IsSaid, IsOnItsWay, HasMatched, Stands, Later, OnlyMoves}
+use Rattle.qq_raft_step.specs.Refines.{There, Says, IsSaid, IsOnItsWay, HasMatched, AcksItself, Stands, Later, OnlyMoves}
 
 pub later-refl : (w : World) → Later w w
 later-refl w = record {
@@ -29,14 +29,16 @@ later-trans f g = record {
 pub only-refl : (k : ℕ) (w : World) → OnlyMoves k w w
 only-refl k w = record {
   later = later-refl w;
+  lanes = λ l here le. here;
   member = λ q other. refl;
   role = λ q other. refl;
   done = λ q other. refl;
 }
 
 pub only-trans : {k : ℕ} {u v w : World} → OnlyMoves k u v → OnlyMoves k v w → OnlyMoves k u w
-only-trans f g = record {
+only-trans {k = k} f g = record {
   later = later-trans f.later g.later;
+  lanes = λ l here le. g.lanes l (f.lanes l here (omega (arith, g.later.noticed k, le))) le;
   member = λ q other. g.member q other ∙ f.member q other;
   role = λ q other. g.role q other ∙ f.role q other;
   done = λ q other. g.done q other ∙ f.done q other;
@@ -90,10 +92,22 @@ matched-later {w = w} {v = v} g x =
       durable = omega (arith, le, rises);
     }
 
+pub itself-later : {w v : World} {k : ℕ} (s : Server) → Later w v → AcksItself w.acks k s → AcksItself v.acks k s
+itself-later s g itself = λ a e front own.
+    let x = itself a e front own in
+    record {
+      ack = x.ack;
+      said = g.acks x.ack x.said;
+      from = x.from;
+      term_is = x.term_is;
+      upto = x.upto;
+      op_is = x.op_is;
+    }
+
 -- a server whose member is as it was
 pub stands-later : {w v : World} {q : ℕ} {s : Server} → Later w v → v.member q ≡ w.member q → v.role q ≡ w.role q
     → v.done q ≡ w.done q → Stands w q s → Stands v q s
-stands-later g member role done st = record {
+stands-later {s = s} g member role done st = record {
   node = st.node;
   lane = ap (λ m. m.mine) member ∙ st.lane;
   noticed = ap (λ m. m.noticed) member ∙ st.noticed;
@@ -102,6 +116,8 @@ stands-later g member role done st = record {
   own_vote = λ is. there-later g.grants (st.own_vote is);
   votes = λ is p here granted. elects-later g (st.votes is p here granted);
   matches = λ is p here. elim (st.matches is p here) [ inl zero ↦ inl zero | inr x ↦ inr (matched-later g x) ];
+  within = st.within;
+  itself = λ is. itself-later s g (st.itself is);
   waiting = λ x here. said-later g (st.waiting x here);
   out = λ r here. way-later g (st.out r here);
 }

@@ -1,17 +1,23 @@
 -- A candidate that has a majority of votes leads, adds the first entry of its term, and sends it.
-use Rattle.std.proofs.Common.{◌≡◌, ℕ, ◌+◌, ◌-◌, ◌≤◌, Bool, true, cond, ◌&&◌, ltb, leb, List, [], ◌∷◌, ◌++◌, length, map, filter, count_by, take, Some, None, refl, sym, ap, subst, ◌∙◌, arith, inl, inr}
+use Rattle.std.proofs.Common.{◌≡◌, ℕ, ◌+◌, ◌≤◌, Bool, true, cond, ◌&&◌, ltb, leb, List, [], ◌∷◌, ◌++◌, length, map, filter, count_by, take, Some, None, refl, sym, ap, subst, ◌∙◌, arith, inl, inr}
 use Rattle.std.proofs.lemmas.Bool.{cond_both, and_parts, ltb-true, ltb-false, leb-true, eqb-true, cases_Bool, false≢true}
-use Rattle.std.proofs.lemmas.List.{length-append, length-map, take_all}
+use Rattle.std.proofs.lemmas.List.{length-map, take_all}
 use Rattle.std.proofs.lemmas.List.Sums.{length-filter}
+use Rattle.qq_base.specs.Fronts.{IsFront}
 use Rattle.qq_base.proofs.Lists.{filter-map}
 use Rattle.std.specs.Prelude.{option_map}
 use Rattle.qq_base.specs.declared.ids.NodeId.{NodeId}
+use Rattle.qq_base.proofs.Puts.{put-same, put-other}
+use Rattle.qq_base.proofs.Fronts.{front-trans}
 use Rattle.qq_entry.specs.declared.command.Entry.{Entry}
-use Rattle.qq_raft_model.specs.Facts.{IsFront, add, In, Most, Elects}
+use Rattle.qq_raft_model.specs.Facts.{add, In, Most, Elects}
 use Rattle.qq_raft_model.specs.Moves.{after, push, next_lane}
 use Rattle.qq_raft_model.specs.Moves.Move.{Lead, Append}
 use Rattle.qq_raft_model.specs.Safe.{IsSafe}
 use Rattle.qq_raft_model.specs.World.{Role as ModelRole, Lane, World}
+use Rattle.qq_raft_model.proofs.Leaders.{candidate-first}
+use Rattle.qq_raft_model.proofs.Lists.{In-map}
+use Rattle.qq_raft_model.proofs.Logs.{length-add, front-of_add}
 use Rattle.qq_raft_msg.specs.declared.rpc.Rpc.TheVariants.{Voted}
 use Rattle.qq_raft_msg.specs.declared.rpc.VotedMsg.{VotedMsg}
 use Rattle.qq_raft_msg.specs.declared.state.Role.{Role}
@@ -20,12 +26,12 @@ use Rattle.qq_raft_step.specs.declared.peer.Peer.{Peer}
 use Rattle.qq_raft_step.specs.State.{Server, last, is_candidate, change, follow, enter}
 use Rattle.qq_raft_step.specs.Leading.{send, everyone, add_entry, noop, start_peer, lead, one_if, is_majority, is_elected, lead_if_elected}
 use Rattle.qq_raft_step.specs.Server.{is_peer, grant_peer, at_peer, count_vote, receive_voted, refuse, accept, receive}
-use Rattle.qq_raft_step.specs.Refines.{number, role_of, IsOnItsWay, IsGroup, Stands, OnlyMoves, Refines, IsReached}
+use Rattle.qq_raft_step.specs.Refines.{number, lane_of, role_of, IsOnItsWay, IsGroup, HasOwnAck, AcksItself, Stands, OnlyMoves, Refines, IsReached}
 use Rattle.qq_raft_step.proofs.Electing.{majority}
-use Rattle.qq_raft_step.proofs.Fronts.{put-same, put-other, front-trans}
 use Rattle.qq_raft_step.proofs.Later.{said-later, way-later, matched-later, only-trans}
 use Rattle.qq_raft_step.proofs.Matches.{Promise}
-use Rattle.qq_raft_step.proofs.Moving.{In-map, push-noticed}
+use Rattle.qq_raft_step.proofs.Moving.{push-noticed, pushed-lanes}
+use Rattle.qq_raft_step.proofs.Reached.{kept-there}
 use Rattle.qq_raft_step.proofs.Refining.{refines-refl, refines-change}
 use Rattle.qq_raft_step.proofs.Sending.{leader_asks, send-refines}
 
@@ -52,13 +58,49 @@ append-only w k e =
         sents = λ x here. here;
         noticed = λ q. let same = push-noticed w k (added w k e) q in omega (arith, same);
       };
+      lanes = λ l here le. pushed-lanes w k (added w k e) l here;
       member = λ q other. put-other k (push (w.member k) (added w k e)) w.member q other;
       role = λ q other. refl;
       done = λ q other. refl;
     }
 
-whole : (log : List Entry) (e : Entry) → log ++ e ∷ [] ≡ take (length log) log ++ e ∷ []
+pub whole : (log : List Entry) (e : Entry) → log ++ e ∷ [] ≡ take (length log) log ++ e ∷ []
 whole log e = ap (λ (t : List Entry). t ++ e ∷ []) (sym (take_all (length log) log (omega arith)))
+
+-- the entry is acknowledged by the leader itself, as those before it are
+added-itself : {w : World} {k : ℕ} {s : Server} (e : Entry) → Stands w k s → s.role ≡ Leader
+    → AcksItself (after w (Append k e)).acks k (change s.term s.vote (last s) (e ∷ []) s)
+unfolding change
+added-itself {w = w} {k = k} {s = s} e st leads a f front own =
+    let mine = (w.member k).mine in
+    let log = take (length s.log) s.log ++ e ∷ [] in
+    let long : length (add s.log e) ≡ length log = ap length (whole s.log e) in
+    let there : IsFront (add a f) (add s.log e) = subst (λ x. IsFront (add a f) x) (sym (whole s.log e)) front in
+    let op : mine.op ≡ s.op = ap (λ (l : Lane). l.op) st.lane in
+    let size : length mine.log ≡ length s.log = ap (λ (l : Lane). length l.log) st.lane in
+    elim (front-of_add (add a f) s.log e there) [
+      | inl old ↦
+          let x : HasOwnAck w.acks k s.term.0 (last s) s.op a = st.itself leads a f old own in
+          let before : x.ack.op + last s ≤ s.op + (length a + 1) = x.op_is in
+          record {
+            ack = x.ack;
+            said = inr x.said;
+            from = x.from;
+            term_is = x.term_is;
+            upto = x.upto;
+            op_is = omega (arith, before, long, length-add s.log e);
+          }
+      | inr new ↦
+          let same : length (add a f) ≡ length (add s.log e) = ap length new in
+          record {
+            ack = record { from = k; term = mine.term; upto = length (add mine.log e); op = mine.op + 1 };
+            said = inl refl;
+            from = refl;
+            term_is = ap (λ (l : Lane). l.term) st.lane;
+            upto = omega (arith, same, size, length-add a f, length-add s.log e, length-add mine.log e);
+            op_is = omega (arith, op, long, same, length-add a f, length-add s.log e);
+          }
+    ]
 
 append-stands : {w : World} {k : ℕ} {s : Server} (e : Entry) → Stands w k s → s.role ≡ Leader
     → Stands (after w (Append k e)) k (change s.term s.vote (last s) (e ∷ []) s)
@@ -78,16 +120,22 @@ append-stands {w = w} {k = k} {s = s} e st leads =
       own_vote = λ is. absurd (leader_asks (sym leads ∙ is));
       votes = λ is. absurd (leader_asks (sym leads ∙ is));
       matches = λ is p here. elim (st.matches is p here) [ inl zero ↦ inl zero | inr x ↦ inr (matched-later g x) ];
+      within = λ is p here.
+          let old = st.within is p here in
+          let next : p.next ≤ last s + 1 = old.0 in
+          let matched : p.matched ≤ last s = old.1 in
+          let long : length (add s.log e) ≡ length (take (length s.log) s.log ++ e ∷ []) = ap length (whole s.log e) in
+          (omega (arith, next, long, length-add s.log e), omega (arith, matched, long, length-add s.log e));
+      itself = λ is. added-itself e st is;
       waiting = λ x here. said-later g (st.waiting x here);
       out = λ r here. way-later g (st.out r here);
     }
 
 -- the entry is added, and sent with all that the peers lack
 pub add-refines : {members : List ℕ} {w : World} {k : ℕ} {s : Server} (e : Entry) → Stands w k s → s.role ≡ Leader
-    → e.term.0 ≡ s.term.0 → IsFront (w.done k) s.log → ((p : Peer) → In p s.peers → p.next - 1 ≤ last s)
-    → Refines members w k (add_entry e s)
+    → e.term.0 ≡ s.term.0 → IsFront (w.done k) s.log → Refines members w k (add_entry e s)
 unfolding add_entry change
-add-refines {members} {w} {k} {s} e st leads own done each =
+add-refines {members} {w} {k} {s} e st leads own done =
     let t = change s.term s.vote (last s) (e ∷ []) s in
     let role : w.role k ≡ ModelRole.Leader = st.role ∙ ap role_of leads in
     let term : e.term.0 ≡ (w.member k).mine.term = own ∙ sym (ap (λ (l : Lane). l.term) st.lane) in
@@ -99,9 +147,7 @@ add-refines {members} {w} {k} {s} e st leads own done each =
       only = append-only w k e;
     } in
     let second : Refines members (after w (Append k e)) k (send everyone t) =
-    send-refines {members = members} everyone (append-stands e st leads) leads (front-trans done longer)
-    (λ p here. let le = each p here in
-    omega (arith, le, ap length (whole s.log e), length-append s.log (e ∷ []))) in
+    send-refines {members = members} everyone (append-stands e st leads) leads (front-trans done longer) in
     record {
       moves = Append k e ∷ second.moves;
       allowed = ((role, term), second.allowed);
@@ -120,6 +166,7 @@ lead-only w k = record {
     sents = λ x here. here;
     noticed = λ q. omega arith;
   };
+  lanes = λ l here le. here;
   member = λ q other. refl;
   role = λ q other. put-other k ModelRole.Leader w.role q other;
   done = λ q other. refl;
@@ -129,9 +176,14 @@ lead-only w k = record {
 leading : Server → Server
 leading s = record s { role = Leader; leader = Some s.node; peers = map (start_peer (last s + 1)) s.peers }
 
-lead-stands : {w : World} {k : ℕ} {s : Server} → Stands w k s → Stands (after w (Lead k)) k (leading s)
+-- no entry of the log has the server's term
+abbrev IsBefore : Lane → Type 0
+IsBefore l = (a : List Entry) (e : Entry) → IsFront (add a e) l.log → e.term.0 ≡ l.term → ⊥
+
+lead-stands : {w : World} {k : ℕ} {s : Server} → Stands w k s → IsBefore (lane_of s)
+    → Stands (after w (Lead k)) k (leading s)
 unfolding leading
-lead-stands {w = w} {k = k} {s = s} st =
+lead-stands {w = w} {k = k} {s = s} st first =
     let g = (lead-only w k).later in
     record {
       node = st.node;
@@ -144,6 +196,12 @@ lead-stands {w = w} {k = k} {s = s} st =
       matches = λ is p here.
           let m = In-map (start_peer (last s + 1)) p s.peers here in
           inl (ap (λ (x : Peer). x.matched) m.is);
+      within = λ is p here.
+          let m = In-map (start_peer (last s + 1)) p s.peers here in
+          let next : p.next ≡ last s + 1 = ap (λ (x : Peer). x.next) m.is in
+          let matched : p.matched ≡ 0 = ap (λ (x : Peer). x.matched) m.is in
+          (omega (arith, next), omega (arith, matched));
+      itself = λ is a e front own. absurd (first a e front own);
       waiting = λ x here. said-later g (st.waiting x here);
       out = λ r here. way-later g (st.out r here);
     }
@@ -182,11 +240,10 @@ lead-refines {members} {w} {k} {s} promise reached group st e =
     let safe : IsSafe members w =
     subst (IsSafe members) (sym reached.is) (promise members reached.moves reached.allowed) in
     let done : IsFront (w.done k) s.log = subst (λ (l : Lane). IsFront (w.done k) l.log) st.lane (safe.done k).1 in
+    let first : IsBefore (lane_of s) =
+    subst IsBefore st.lane (candidate-first k (kept-there members w reached) role most) in
     let rest : Refines members (after w (Lead k)) k (add_entry (noop s.term) (leading s)) =
-    add-refines {members = members} (noop s.term) (lead-stands st) refl refl done (λ p here.
-    let m = In-map (start_peer (last s + 1)) p s.peers here in
-    let next : p.next ≡ last s + 1 = ap (λ (x : Peer). x.next) m.is in
-    omega (arith, next)) in
+    add-refines {members = members} (noop s.term) (lead-stands st first) refl refl done in
     record {
       moves = Lead k ∷ rest.moves;
       allowed = ((role, most), rest.allowed);
@@ -194,7 +251,7 @@ lead-refines {members} {w} {k} {s} promise reached group st e =
       only = only-trans (lead-only w k) rest.only;
     }
 
-lead_if-refines : {members : List ℕ} {w : World} {k : ℕ} {s : Server} → Promise → IsReached members w
+pub lead_if-refines : {members : List ℕ} {w : World} {k : ℕ} {s : Server} → Promise → IsReached members w
     → IsGroup members k s.peers → Stands w k s → Refines members w k (lead_if_elected s)
 unfolding lead_if_elected
 lead_if-refines {members} {w} {k} {s} promise reached group st =
@@ -246,6 +303,8 @@ counted-stands {w = w} {k = k} {s = s} m st is term to granted x =
                 (subst (λ b. (cond b (grant_peer y.item) y.item).granted ≡ true) other there)
           ]);
       matches = λ leads. absurd (leader_asks (sym leads ∙ is));
+      within = λ leads. absurd (leader_asks (sym leads ∙ is));
+      itself = λ leads. absurd (leader_asks (sym leads ∙ is));
       waiting = st.waiting;
       out = st.out;
     }

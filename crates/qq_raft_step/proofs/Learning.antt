@@ -1,5 +1,6 @@
 -- A server acknowledges what was sent, and learns that entries are committed.
 use Rattle.std.proofs.Common.{◌≡◌, ℕ, Bool, true, false, cond, ltb, List, length, refl, ap, ◌∙◌, arith, inl, inr}
+use Rattle.qq_base.proofs.Puts.{put-same, put-other}
 use Rattle.qq_entry.specs.declared.command.Entry.{Entry}
 use Rattle.qq_raft_model.specs.Moves.{after, longer}
 use Rattle.qq_raft_model.specs.Moves.Move.{Reply, Learn}
@@ -7,7 +8,6 @@ use Rattle.qq_raft_model.specs.World.{Sent, World}
 use Rattle.qq_raft_step.specs.State.{Server}
 use Rattle.qq_raft_step.specs.Server.{learn}
 use Rattle.qq_raft_step.specs.Refines.{Stands, OnlyMoves}
-use Rattle.qq_raft_step.proofs.Fronts.{put-same, put-other}
 use Rattle.qq_raft_step.proofs.Later.{there-later, said-later, way-later, elects-later, matched-later, stands-later}
 
 pub reply-only : (w : World) (k : ℕ) (x : Sent) → OnlyMoves k w (after w (Reply k x))
@@ -19,6 +19,7 @@ reply-only w k x = record {
     sents = λ y here. here;
     noticed = λ q. omega arith;
   };
+  lanes = λ l here le. here;
   member = λ q other. refl;
   role = λ q other. refl;
   done = λ q other. refl;
@@ -36,6 +37,7 @@ learn-only w k x z = record {
     sents = λ y here. here;
     noticed = λ q. omega arith;
   };
+  lanes = λ l here le. here;
   member = λ q other. refl;
   role = λ q other. refl;
   done = λ q other. put-other k (longer (w.done k) z) w.done q other;
@@ -67,6 +69,8 @@ learn-stands {w = w} {k = k} {s = s} x z index st long =
       own_vote = λ is. there-later g.grants (st.own_vote is);
       votes = λ is p here granted. elects-later g (st.votes is p here granted);
       matches = λ is p here. elim (st.matches is p here) [ inl zero ↦ inl zero | inr y ↦ inr (matched-later g y) ];
+      within = st.within;
+      itself = st.itself;
       waiting = λ y here. said-later g (st.waiting y here);
       out = λ r here. way-later g (st.out r here);
     }

@@ -1,19 +1,21 @@
-mod Adding
-mod Agreeing
+pub mod Adding
+pub mod Agreeing
 mod Appends
 mod Counting
 mod Electing
 mod Fits
-mod Fronts
-mod Later
+pub mod Handing
+pub mod Later
 mod Leading
-mod Leads
+pub mod Leads
 mod Learning
 mod Matches
 mod Moving
 mod Noticing
-mod Refining
-mod Restarting
+pub mod Reached
+pub mod Refining
+pub mod Restarting
 mod Sending
 mod Standing
+pub mod Steps
 mod Votes

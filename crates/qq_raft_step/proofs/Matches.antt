@@ -2,15 +2,18 @@
 use Rattle.std.proofs.Common.{◌≡◌, ◌⊎◌, ℕ, suc, ◌+◌, ◌≤◌, eqb, List, [], ◌∷◌, ◌++◌, length, take, drop, None, refl, sym, ap, subst, ◌∙◌, append_assoc, arith, inl, inr}
 use Rattle.std.proofs.lemmas.Bool.{cond_both, eqb-true}
 use Rattle.std.proofs.lemmas.List.{length-append, nil_from_length, take-append-drop}
+use Rattle.qq_base.specs.Fronts.{IsFront}
+use Rattle.qq_base.proofs.Puts.{put-same, put-other}
+use Rattle.qq_base.proofs.Fronts.{front-trans, front-length, either-same}
 use Rattle.qq_entry.specs.declared.command.Entry.{Entry}
-use Rattle.qq_raft_model.specs.Facts.{IsFront, add, In}
+use Rattle.qq_raft_model.specs.Facts.{add, In}
 use Rattle.qq_raft_model.specs.Moves.{Move, MayWrite, AreAllowed, after, run, push, next_lane, last_term}
 use Rattle.qq_raft_model.specs.Moves.Move.{Write, Stand, Vote, Lead, Append, Send, Reply, Learn, Commit, Notice, Restart, Follow}
 use Rattle.qq_raft_model.specs.Safe.{IsSafe, IsLaneOf}
 use Rattle.qq_raft_model.specs.World.{Member, Sent, World, lanes, new_member, new_world}
+use Rattle.qq_raft_model.proofs.Logs.{last_of, last_term-add}
 use Rattle.qq_raft_step.specs.Refines.{IsReached}
 use Rattle.qq_raft_step.specs.Server.{agreed}
-use Rattle.qq_raft_step.proofs.Fronts.{put-same, put-other, front-trans, front-length, either-same}
 use Rattle.qq_raft_step.proofs.Refining.{run-append, allowed-append}
 
 -- what the protocol promises, as its law says it
@@ -112,7 +115,7 @@ sent-matches {members} {w} k x promise reached said a b e f p r same =
     (sym (put-other q (push m lane) w.member k (λ same. omega (arith, same)))) (inl refl) in
     let taken : IsLaneOf (after w move) q lane =
     subst (λ (y : Member). In lane (lanes y)) (sym (put-same q (push m lane) w.member)) (inl refl) in
-    safe.logs_match k q (w.member k).mine lane own taken a b e f p r same
+    safe.supported.logs_match k q (w.member k).mine lane own taken a b e f p r same
 
 -- ---- entries of one term at one index are the same
 
@@ -146,24 +149,6 @@ agreed-same own log p (y ∷ ys) (x ∷ xs) match in_own in_log =
     (λ _. refl)
 
 -- ---- the entry before the new ones
-
-pub record Last (log : List Entry) : Type 0 where
-  pub before : List Entry
-  pub entry : Entry
-  pub is : log ≡ add before entry
-
-pub last_of : (log : List Entry) → (log ≡ []) ⊎ Last log
-last_of [] = inl refl
-last_of (x ∷ log) =
-    elim (last_of log) [
-      | inl nothing ↦ inr (record { before = []; entry = x; is = ap (λ t. x ∷ t) nothing })
-      | inr l ↦ inr (record { before = x ∷ l.before; entry = l.entry; is = ap (λ t. x ∷ t) l.is })
-    ]
-
-pub last_term-add : (a : List Entry) (e : Entry) → last_term (add a e) ≡ e.term.0
-last_term-add [] e = refl
-last_term-add (x ∷ []) e = refl
-last_term-add (x ∷ y ∷ a) e = last_term-add (y ∷ a) e
 
 -- two fronts that are as long and end in entries of one term
 pub front-matches : (own log a b : List Entry) → Match own log → IsFront a own → IsFront b log

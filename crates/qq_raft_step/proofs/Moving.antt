@@ -4,17 +4,19 @@ use Rattle.std.proofs.lemmas.Bool.{cond_both, leb-true, eqb-true}
 use Rattle.std.specs.Prelude.{option_map, nat_eq}
 use Rattle.qq_base.specs.declared.ids.NodeId.{NodeId}
 use Rattle.qq_base.specs.declared.ids.Term.{Term}
+use Rattle.qq_base.specs.Fronts.{put}
+use Rattle.qq_base.proofs.Puts.{put-same, put-other}
 use Rattle.qq_entry.specs.declared.command.Entry.{Entry}
 use Rattle.qq_raft_model.specs.Facts.{In}
 use Rattle.qq_raft_model.specs.Moves.{after, push, next_lane}
 use Rattle.qq_raft_model.specs.Moves.Move.{Write, Vote, Follow}
-use Rattle.qq_raft_model.specs.World.{Role as ModelRole, Lane, Member, Ask, World, put}
+use Rattle.qq_raft_model.specs.World.{Role as ModelRole, Lane, Member, Ask, World, lanes}
+use Rattle.qq_raft_model.proofs.Lists.{In-append, In-map}
 use Rattle.qq_raft_msg.specs.declared.rpc.Rpc.{Rpc}
 use Rattle.qq_raft_msg.specs.declared.state.Role.TheVariants.{Leader, Candidate, Follower}
 use Rattle.qq_raft_step.specs.declared.peer.Waiting.{Waiting}
 use Rattle.qq_raft_step.specs.State.{Server, change, follow, say, say_all, wait}
 use Rattle.qq_raft_step.specs.Refines.{number, IsSaid, IsOnItsWay, Stands, OnlyMoves}
-use Rattle.qq_raft_step.proofs.Fronts.{put-same, put-other, In-append}
 use Rattle.qq_raft_step.proofs.Later.{said-later, way-later, stands-later}
 
 -- ---- what is said
@@ -31,22 +33,11 @@ said_out {s = s} rs st way =
       own_vote = st.own_vote;
       votes = st.votes;
       matches = st.matches;
+      within = st.within;
+      itself = st.itself;
       waiting = st.waiting;
       out = λ x here. elim (In-append x s.out rs here) [ inl old ↦ st.out x old | inr new ↦ way x new ];
     }
-
--- what stands in a list that was mapped
-pub record Mapped {A B : Type 0} (f : A → B) (xs : List A) (y : B) : Type 0 where
-  pub item : A
-  pub here : In item xs
-  pub is : y ≡ f item
-
-pub In-map : {A B : Type 0} (f : A → B) (y : B) (xs : List A) → In y (map f xs) → Mapped f xs y
-In-map f y [] here = absurd here
-In-map f y (x ∷ xs) (inl same) = record { item = x; here = inl refl; is = same }
-In-map f y (x ∷ xs) (inr later) =
-    let m = In-map f y xs later in
-    record { item = m.item; here = inr m.here; is = m.is }
 
 said_later : {w : World} {k : ℕ} {s : Server} (rs : List Rpc) → Stands w k s
     → ((r : Rpc) → In r rs → IsSaid w k s.op r)
@@ -60,6 +51,8 @@ said_later {w = w} {k = k} {s = s} rs st said = record {
   own_vote = st.own_vote;
   votes = st.votes;
   matches = st.matches;
+  within = st.within;
+  itself = st.itself;
   waiting = λ x here. elim (In-append x s.waiting (map (wait s.op) rs) here) [
     | inl old ↦ st.waiting x old
     | inr new ↦
@@ -111,6 +104,12 @@ pub push-noticed : (w : World) (k : ℕ) (lane : Lane) (q : ℕ)
 unfolding put
 push-noticed w k lane q = put_noticed k (push (w.member k) lane) w.member refl q (nat_eq q k) refl
 
+-- and what the disk may hold it may hold still
+pub pushed-lanes : (w : World) (k : ℕ) (lane l : Lane) → In l (lanes (w.member k))
+    → In l (lanes (put k (push (w.member k) lane) w.member k))
+pushed-lanes w k lane l here =
+    subst (λ (m : Member). In l (lanes m)) (sym (put-same k (push (w.member k) lane) w.member)) (inr here)
+
 pub write-only : (w : World) (k term : ℕ) (vote : Option ℕ) (log : List Entry)
     → OnlyMoves k w (after w (Write k term vote log))
 write-only w k term vote log =
@@ -124,6 +123,7 @@ write-only w k term vote log =
         sents = λ x here. here;
         noticed = λ q. let same = push-noticed w k lane q in omega (arith, same);
       };
+      lanes = λ l here le. pushed-lanes w k lane l here;
       member = λ q other. put-other k (push m lane) w.member q other;
       role = λ q other. put-other k ModelRole.Follower w.role q other;
       done = λ q other. refl;
@@ -151,6 +151,8 @@ write-stands {w = w} {k = k} {s = s} leader term vote keep entries st =
       own_vote = λ is. absurd (follower_asks is);
       votes = λ is. absurd (follower_asks is);
       matches = λ is. absurd (follower_leads is);
+      within = λ is. absurd (follower_leads is);
+      itself = λ is. absurd (follower_leads is);
       waiting = λ x here. said-later g (st.waiting x here);
       out = λ r here. way-later g (st.out r here);
     }
@@ -166,6 +168,7 @@ vote-only w k ask = record {
     sents = λ x here. here;
     noticed = λ q. omega arith;
   };
+  lanes = λ l here le. here;
   member = λ q other. refl;
   role = λ q other. refl;
   done = λ q other. refl;
@@ -183,6 +186,7 @@ follow-only w k = record {
     sents = λ x here. here;
     noticed = λ q. omega arith;
   };
+  lanes = λ l here le. here;
   member = λ q other. refl;
   role = λ q other. put-other k ModelRole.Follower w.role q other;
   done = λ q other. refl;
@@ -199,6 +203,8 @@ follow-stands {w = w} {k = k} leader st = record {
   own_vote = λ is. absurd (follower_asks is);
   votes = λ is. absurd (follower_asks is);
   matches = λ is. absurd (follower_leads is);
+  within = λ is. absurd (follower_leads is);
+  itself = λ is. absurd (follower_leads is);
   waiting = λ x here. said-later (follow-only w k).later (st.waiting x here);
   out = λ r here. way-later (follow-only w k).later (st.out r here);
 }

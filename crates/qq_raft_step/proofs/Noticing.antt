@@ -1,18 +1,18 @@
 -- A follower notices that its changes are durable, and what waited for them leaves.
 use Rattle.std.proofs.Common.{◌≡◌, ℕ, ◌≤◌, Bool, true, false, cond, eqb, ltb, leb, ◌-◌, List, [], ◌∷◌, filter, refl, sym, ap, subst, ◌∙◌, arith, inl, inr}
-use Rattle.std.proofs.lemmas.Bool.{cond_both, cond-false, and_left, ltb-true, leb-true, eqb-true}
+use Rattle.std.proofs.lemmas.Bool.{cond_both, ltb-true, leb-true, le-leb, eqb-true}
+use Rattle.qq_base.specs.Fronts.{put}
+use Rattle.qq_base.proofs.Puts.{put-same, put-other}
 use Rattle.qq_raft_model.specs.Facts.{In}
 use Rattle.qq_raft_model.specs.Moves.{after}
 use Rattle.qq_raft_model.specs.Moves.Move.{Notice}
-use Rattle.qq_raft_model.specs.World.{Lane, Member, World, put}
+use Rattle.qq_raft_model.specs.World.{Lane, Member, World, lanes}
+use Rattle.qq_raft_model.proofs.Lists.{In-append, filter-In}
 use Rattle.qq_raft_msg.specs.declared.rpc.Rpc.{Rpc}
-use Rattle.qq_raft_msg.specs.declared.state.Role.TheVariants.{Follower}
 use Rattle.qq_raft_step.specs.declared.peer.Waiting.{Waiting}
-use Rattle.qq_raft_step.specs.State.{Server, last, is_leader, is_candidate}
-use Rattle.qq_raft_step.specs.Leading.{is_majority, is_elected, lead, lead_if_elected, commit_within, advance}
-use Rattle.qq_raft_step.specs.Server.{greater, free, still_waiting, take_notice, notice}
+use Rattle.qq_raft_step.specs.State.{Server}
+use Rattle.qq_raft_step.specs.Server.{greater, free, still_waiting, take_notice}
 use Rattle.qq_raft_step.specs.Refines.{IsOnItsWay, Stands, OnlyMoves, Refines}
-use Rattle.qq_raft_step.proofs.Fronts.{put-same, put-other, In-append}
 use Rattle.qq_raft_step.proofs.Later.{there-later, said-later, way-later, elects-later, matched-later}
 
 pub greater_le : (a b : ℕ) → a ≤ greater a b
@@ -41,6 +41,20 @@ after_notice w k op =
     let m = w.member k in
     record { mine = m.mine; older = filter (λ l. leb op l.op) m.older; noticed = op }
 
+-- what isn't older than what is noticed the disk may hold still
+noticed-lanes : (w : World) (k op : ℕ) (l : Lane) → In l (lanes (w.member k))
+    → ((after w (Notice k op)).member k).noticed ≤ l.op → In l (lanes ((after w (Notice k op)).member k))
+unfolding after_notice
+noticed-lanes w k op l here le =
+    let v = after w (Notice k op) in
+    let same : v.member k ≡ after_notice w k op = put-same k (after_notice w k op) w.member in
+    let now : (v.member k).noticed ≡ op = ap (λ (m : Member). m.noticed) same in
+    let late : op ≤ l.op = omega (arith, le, now) in
+    subst (λ (m : Member). In l (lanes m)) (sym same) (elim here [
+      | inl newest ↦ inl newest
+      | inr old ↦ inr (filter-In (λ y. leb op y.op) l (w.member k).older (le-leb op l.op late) old)
+    ])
+
 pub notice-only : (w : World) (k op : ℕ) → (w.member k).noticed ≤ op → OnlyMoves k w (after w (Notice k op))
 unfolding after_notice
 notice-only w k op le =
@@ -52,6 +66,7 @@ notice-only w k op le =
         sents = λ x here. here;
         noticed = λ q. put-noticed w.member k (after_notice w k op) q le;
       };
+      lanes = noticed-lanes w k op;
       member = λ q other. put-other k (after_notice w k op) w.member q other;
       role = λ q other. refl;
       done = λ q other. refl;
@@ -99,6 +114,8 @@ take-stands {w = w} {k = k} {s = s} op st rises =
       own_vote = λ is. there-later g.grants (st.own_vote is);
       votes = λ is p here granted. elects-later g (st.votes is p here granted);
       matches = λ is p here. elim (st.matches is p here) [ inl zero ↦ inl zero | inr x ↦ inr (matched-later g x) ];
+      within = st.within;
+      itself = st.itself;
       waiting = λ x here. said-later g (st.waiting x (still-in op s.waiting x here));
       out = λ r here. elim (In-append r s.out (free op s.waiting) here) [
         | inl old ↦ way-later g (st.out r old)
@@ -114,31 +131,14 @@ take-stands {w = w} {k = k} {s = s} op st rises =
       ];
     }
 
--- ---- a follower
-
-follower_notice : (op : ℕ) (s : Server) → s.role ≡ Follower
-    → notice op s ≡ take_notice (greater s.noticed op) s
-unfolding notice advance lead_if_elected
-follower_notice op s is =
-    let t = take_notice (greater s.noticed op) s in
-    let elected : is_elected t ≡ false =
-    and_left (is_candidate s.role) (is_majority (leb t.op t.noticed) (λ p. p.granted) t.peers)
-    (ap is_candidate is) in
-    let stays : lead_if_elected t ≡ t = cond-false (is_elected t) (lead t) t elected in
-    ap advance stays
-    ∙ cond-false (is_leader s.role) (record t { commit = commit_within t (last t - t.commit) }) t (ap is_leader is)
-
-pub notice-refines : {members : List ℕ} {w : World} {k : ℕ} {s : Server} (op : ℕ) → Stands w k s
-    → s.role ≡ Follower → op ≤ s.op → s.noticed ≤ s.op → Refines members w k (notice op s)
-notice-refines {members} {w} {k} {s} op st is le below =
-    let n = greater s.noticed op in
-    let rises = greater_le s.noticed op in
+pub take-refines : {members : List ℕ} {w : World} {k : ℕ} {s : Server} (n : ℕ) → Stands w k s → s.noticed ≤ n
+    → n ≤ s.op → Refines members w k (take_notice n s)
+take-refines {members} {w} {k} {s} n st rises le =
     let same : (w.member k).noticed ≡ s.noticed = st.noticed in
     let mine : (w.member k).mine.op ≡ s.op = ap (λ (l : Lane). l.op) st.lane in
-    let most = greater_most s.noticed op s.op below le in
-    subst (Refines members w k) (sym (follower_notice op s is)) (record {
+    record {
       moves = Notice k n ∷ [];
-      allowed = ((omega (arith, same, rises), omega (arith, mine, most)), tt);
+      allowed = ((omega (arith, same, rises), omega (arith, mine, le)), tt);
       stands = take-stands n st rises;
       only = notice-only w k n (omega (arith, same, rises));
-    })
+    }

@@ -2,12 +2,14 @@
 use Rattle.std.proofs.Common.{◌≡◌, ℕ, ◌≤◌, Bool, true, false, ◌||◌, not, eqb, leb, List, [], ◌∷◌, length, filter, refl, sym, ap, subst, ◌∙◌, arith, inl, inr}
 use Rattle.std.proofs.lemmas.Bool.{cond_both, cond-true, le-leb, eqb-true}
 use Rattle.qq_base.specs.declared.ids.NodeId.{NodeId}
+use Rattle.qq_base.proofs.Puts.{put-same, put-other}
 use Rattle.qq_entry.specs.declared.command.Entry.{Entry}
 use Rattle.qq_log.specs.declared.lane.Lane.{Lane as DiskLane}
 use Rattle.qq_raft_model.specs.Facts.{In, Elects}
 use Rattle.qq_raft_model.specs.Moves.{after, stays}
 use Rattle.qq_raft_model.specs.Moves.Move.{Restart}
 use Rattle.qq_raft_model.specs.World.{Role as ModelRole, Lane, Member, World}
+use Rattle.qq_raft_model.proofs.Lists.{filter-In}
 use Rattle.qq_raft_msg.specs.Rpc.{envelope}
 use Rattle.qq_raft_msg.specs.declared.rpc.Rpc.{Rpc}
 use Rattle.qq_raft_msg.specs.declared.rpc.Rpc.TheVariants.{Vote, Voted, Append, Appended, Install, Installed}
@@ -16,18 +18,9 @@ use Rattle.qq_raft_step.specs.declared.peer.Peer.{Peer}
 use Rattle.qq_raft_step.specs.State.{Server}
 use Rattle.qq_raft_step.specs.Server.{restart}
 use Rattle.qq_raft_step.specs.Refines.{disk_lane, Says, IsOnItsWay, HasMatched, Stands, OnlyRestarts}
-use Rattle.qq_raft_step.proofs.Fronts.{put-same, put-other}
 use Rattle.qq_raft_step.proofs.Noticing.{put-noticed}
 
 -- ---- what stays
-
-In-kept : {A : Type 0} (test : A → Bool) (x : A) (xs : List A) → In x xs → test x ≡ true → In x (filter test xs)
-In-kept test x [] here e = absurd here
-In-kept test x (y ∷ ys) (inl same) e =
-    subst (In x) (sym (cond-true (test y) (y ∷ filter test ys) (filter test ys) (ap test (sym same) ∙ e))) (inl same)
-In-kept test x (y ∷ ys) (inr later) e =
-    let there = In-kept test x ys later e in
-    cond_both (test y) (y ∷ filter test ys) (filter test ys) (In x) (λ _. inr there) (λ _. there)
 
 stays_by : (noticed op : ℕ) (b : Bool) → (b ≡ true → op ≤ noticed) → (not b || leb op noticed) ≡ true
 stays_by noticed op true f = le-leb op noticed (f refl)
@@ -46,11 +39,11 @@ restart-only w k lane le =
     let noticed = (w.member k).noticed in
     record {
       asks = λ x here left.
-          In-kept (λ y. stays k noticed y.from y.op) x w.asks here (stays-left k noticed x.from x.op left);
+          filter-In (λ y. stays k noticed y.from y.op) x w.asks (stays-left k noticed x.from x.op left) here;
       grants = λ x here left.
-          In-kept (λ y. stays k noticed y.from y.op) x w.grants here (stays-left k noticed x.from x.op left);
+          filter-In (λ y. stays k noticed y.from y.op) x w.grants (stays-left k noticed x.from x.op left) here;
       acks = λ x here left.
-          In-kept (λ y. stays k noticed y.from y.op) x w.acks here (stays-left k noticed x.from x.op left);
+          filter-In (λ y. stays k noticed y.from y.op) x w.acks (stays-left k noticed x.from x.op left) here;
       sents = λ x here. here;
       noticed = λ q. put-noticed w.member k (restarted lane) q le;
       member = λ q other. put-other k (restarted lane) w.member q other;
@@ -151,6 +144,17 @@ restart-others {k} {q} {w} {v} {s} g other st = record {
       };
   votes = λ is p here granted. elects-left g (st.votes is p here granted);
   matches = λ is p here. elim (st.matches is p here) [ inl zero ↦ inl zero | inr x ↦ inr (matched-left g x) ];
+  within = st.within;
+  itself = λ is a e front own.
+      let x = st.itself is a e front own in
+      record {
+        ack = x.ack;
+        said = g.acks x.ack x.said (λ same. absurd (other (sym x.from ∙ same)));
+        from = x.from;
+        term_is = x.term_is;
+        upto = x.upto;
+        op_is = x.op_is;
+      };
   waiting = λ x here.
       let said = st.waiting x here in
       record {
@@ -182,6 +186,8 @@ restart-stands w k node nodes lane is =
       own_vote = λ e. absurd (follower_asks e);
       votes = λ e. absurd (follower_asks e);
       matches = λ e. absurd (follower_leads e);
+      within = λ e. absurd (follower_leads e);
+      itself = λ e. absurd (follower_leads e);
       waiting = λ x here. absurd here;
       out = λ r here. absurd here;
     }

@@ -1,21 +1,22 @@
 -- A leader sends: each message is one move.
-use Rattle.std.proofs.Common.{◌≡◌, ◌⊎◌, ℕ, zero, suc, ◌-◌, ◌≤◌, Bool, cond, leb, List, [], ◌∷◌, ◌++◌, map, filter, take, drop, refl, sym, ap, subst, ◌∙◌, append_assoc, arith, inl, inr}
+use Rattle.std.proofs.Common.{◌≡◌, ◌⊎◌, ℕ, zero, suc, ◌+◌, ◌-◌, ◌≤◌, Bool, cond, leb, List, [], ◌∷◌, ◌++◌, length, map, filter, take, drop, refl, sym, ap, subst, ◌∙◌, append_assoc, arith, inl, inr}
 use Rattle.std.proofs.lemmas.Bool.{cond_both}
-use Rattle.std.proofs.lemmas.List.{length-take-le, take-append-drop}
+use Rattle.std.proofs.lemmas.List.{length-drop, length-take-le, take-append-drop}
+use Rattle.qq_base.specs.Fronts.{IsFront}
+use Rattle.qq_base.proofs.Fronts.{front-refl, front-length, front-compare}
 use Rattle.qq_entry.specs.declared.command.Entry.{Entry}
-use Rattle.qq_raft_model.specs.Facts.{IsFront, In}
+use Rattle.qq_raft_model.specs.Facts.{In}
 use Rattle.qq_raft_model.specs.Moves.{Move, AreAllowed, after, run}
 use Rattle.qq_raft_model.specs.Moves.Move.{Send}
 use Rattle.qq_raft_model.specs.World.{Role as ModelRole, Lane, World}
+use Rattle.qq_raft_model.proofs.Lists.{In-append, In-filter, In-map}
 use Rattle.qq_raft_msg.specs.declared.state.Role.TheVariants.{Leader, Candidate}
 use Rattle.qq_raft_step.specs.declared.limits.TheConstants.{BATCH_BYTES, BATCH_ENTRIES}
 use Rattle.qq_raft_step.specs.declared.peer.Peer.{Peer}
 use Rattle.qq_raft_step.specs.State.{Server, last}
 use Rattle.qq_raft_step.specs.Leading.{weight, fit, batch, batch_from, append_to, pass, send}
 use Rattle.qq_raft_step.specs.Refines.{role_of, IsOnItsWay, HasMatched, Stands, OnlyMoves, Refines}
-use Rattle.qq_raft_step.proofs.Fronts.{front-refl, front-compare, In-append}
 use Rattle.qq_raft_step.proofs.Later.{only-refl, only-trans, way-later, stands-later}
-use Rattle.qq_raft_step.proofs.Moving.{In-map}
 
 pub leader_asks : Leader ≡ Candidate → ⊥
 leader_asks e = absurd cc
@@ -48,6 +49,7 @@ send-only w k front done = record {
     sents = λ x here. inr here;
     noticed = λ q. omega arith;
   };
+  lanes = λ l here le. here;
   member = λ q other. refl;
   role = λ q other. refl;
   done = λ q other. refl;
@@ -142,23 +144,24 @@ send-all {members} {k} {s} (p ∷ ps) w st leads done each =
       ];
     }
 
-In-filter : (test : Peer → Bool) (x : Peer) (xs : List Peer) → In x (filter test xs) → In x xs
-In-filter test x [] here = absurd here
-In-filter test x (y ∷ ys) here =
-    cond_both (test y) (y ∷ filter test ys) (filter test ys) (λ zs. In x zs → In x (y ∷ ys))
-    (λ _ there. elim there [ inl same ↦ inl same | inr later ↦ inr (In-filter test x ys later) ])
-    (λ _ there. inr (In-filter test x ys there)) here
+-- what is sent ends within the log
+passed-within : (s : Server) (p : Peer) → p.next ≤ last s + 1 → (pass s.log p).next ≤ last s + 1
+passed-within s p next =
+    let left = drop (p.next - 1) s.log in
+    let few : length (batch_from p.next s.log) ≤ length left = front-length (batch-front left) in
+    omega (arith, next, few, length-drop (p.next - 1) s.log)
 
 -- sending moves the next entries alone
 pub send-refines : {members : List ℕ} {w : World} {k : ℕ} {s : Server} (picks : Peer → Bool) → Stands w k s
-    → s.role ≡ Leader → IsFront (w.done k) s.log → ((p : Peer) → In p s.peers → p.next - 1 ≤ last s)
-    → Refines members w k (send picks s)
+    → s.role ≡ Leader → IsFront (w.done k) s.log → Refines members w k (send picks s)
 unfolding send
-send-refines {members} {w} {k} {s} picks st leads done each =
+send-refines {members} {w} {k} {s} picks st leads done =
     let ps = filter picks s.peers in
     let sent : HasSentAll members w k s ps =
     send-all {members = members} {k = k} {s = s} ps w st leads done
-    (λ p here. each p (In-filter picks p s.peers here)) in
+    (λ p here.
+    let next : p.next ≤ last s + 1 = (st.within leads p (In-filter picks p s.peers here).0).0 in
+    omega (arith, next)) in
     let v = run w sent.moves in
     let moved : Peer → Peer = λ (p : Peer). cond (picks p) (pass s.log p) p in
     record {
@@ -188,6 +191,14 @@ send-refines {members} {w} {k} {s} picks st leads done each =
                 durable = x.durable;
               })
             ]) (λ _. old));
+        within = λ is p here.
+            let m = In-map moved p s.peers here in
+            let old = st.within is m.item m.here in
+            subst (λ (y : Peer). (y.next ≤ last s + 1) × (y.matched ≤ last s)) (sym m.is)
+            (cond_both (picks m.item) (pass s.log m.item) m.item
+            (λ (y : Peer). (y.next ≤ last s + 1) × (y.matched ≤ last s))
+            (λ _. (passed-within s m.item old.0, old.1)) (λ _. old));
+        itself = sent.stands.itself;
         waiting = sent.stands.waiting;
         out = λ r here. elim (In-append r s.out (map (append_to s) ps) here) [
           | inl old ↦ sent.stands.out r old

@@ -1,19 +1,20 @@
 -- A server stands for election.
 use Rattle.std.proofs.Common.{◌≡◌, ℕ, ◌+◌, false, List, [], ◌∷◌, length, map, Some, refl, sym, ap, subst, ◌∙◌, arith, inl, inr}
 use Rattle.std.proofs.lemmas.Bool.{cond-false, false≢true}
+use Rattle.qq_base.proofs.Puts.{put-same, put-other}
 use Rattle.qq_entry.specs.declared.command.Entry.{Entry}
 use Rattle.qq_raft_model.specs.Moves.{after, push, next_lane, last_term}
 use Rattle.qq_raft_model.specs.Moves.Move.{Stand}
 use Rattle.qq_raft_model.specs.World.{Role as ModelRole, Lane, World}
+use Rattle.qq_raft_model.proofs.Lists.{In-map}
 use Rattle.qq_raft_msg.specs.declared.state.Role.TheVariants.{Leader, Candidate}
 use Rattle.qq_raft_step.specs.declared.peer.Peer.{Peer}
 use Rattle.qq_raft_step.specs.State.{Server, is_leader, change}
 use Rattle.qq_raft_step.specs.Leading.{ask, clear_vote, become_candidate, stand, send, everyone}
 use Rattle.qq_raft_step.specs.Server.{send_again, tick}
 use Rattle.qq_raft_step.specs.Refines.{IsSaid, Stands, OnlyMoves, Refines}
-use Rattle.qq_raft_step.proofs.Fronts.{put-same, put-other}
 use Rattle.qq_raft_step.proofs.Later.{said-later, way-later}
-use Rattle.qq_raft_step.proofs.Moving.{In-map, push-noticed, say_all-stands}
+use Rattle.qq_raft_step.proofs.Moving.{push-noticed, pushed-lanes, say_all-stands}
 use Rattle.qq_raft_step.proofs.Refining.{kept_log}
 
 candidate_leads : Candidate ≡ Leader → ⊥
@@ -35,6 +36,7 @@ stand-only w k =
         sents = λ x here. here;
         noticed = λ q. let same = push-noticed w k (stood w k) q in omega (arith, same);
       };
+      lanes = λ l here le. pushed-lanes w k (stood w k) l here;
       member = λ q other. put-other k (push (w.member k) (stood w k)) w.member q other;
       role = λ q other. put-other k ModelRole.Candidate w.role q other;
       done = λ q other. refl;
@@ -78,6 +80,8 @@ become-stands {w = w} {k = k} {s = s} st =
           let m = In-map clear_vote p s.peers here in
           absurd (false≢true (sym (ap (λ (x : Peer). x.granted) m.is) ∙ granted));
       matches = λ is. absurd (candidate_leads is);
+      within = λ is. absurd (candidate_leads is);
+      itself = λ is. absurd (candidate_leads is);
       waiting = λ x here. said-later g (st.waiting x here);
       out = λ r here. way-later g (st.out r here);
     }

@@ -1,4 +1,5 @@
 pub mod Example
+pub mod Handing
 pub mod Leading
 pub mod Refines
 pub mod Server

@@ -3,11 +3,12 @@
 use Rattle.std.specs.Prelude.{◌≡◌, ◌⊎◌, ◌≤◌, ◌<◌, ◌+◌, ℕ, Bool, true, List, length, ◌++◌, option_map}
 use Rattle.std.specs.List.{count_by}
 use Rattle.qq_base.specs.declared.ids.NodeId.{NodeId}
+use Rattle.qq_base.specs.Fronts.{IsFront}
 use Rattle.qq_entry.specs.declared.command.Entry.{Entry}
 use Rattle.qq_log.specs.declared.lane.Lane.{Lane as DiskLane}
-use Rattle.qq_raft_model.specs.Facts.{IsFront, add, In, Elects, tally}
+use Rattle.qq_raft_model.specs.Facts.{add, In, Elects, tally}
 use Rattle.qq_raft_model.specs.Moves.{Move, AreAllowed, run, last_term}
-use Rattle.qq_raft_model.specs.World.{Role as ModelRole, Lane, Ask, Grant, Ack, Sent, World, new_world}
+use Rattle.qq_raft_model.specs.World.{Role as ModelRole, Lane, Ask, Grant, Ack, Sent, World, lanes, new_world}
 use Rattle.qq_raft_msg.specs.Rpc.{envelope}
 use Rattle.qq_raft_msg.specs.declared.rpc.AppendMsg.{AppendMsg}
 use Rattle.qq_raft_msg.specs.declared.rpc.AppendedMsg.{AppendedMsg}
@@ -18,6 +19,8 @@ use Rattle.qq_raft_msg.specs.declared.rpc.VotedMsg.{VotedMsg}
 use Rattle.qq_raft_msg.specs.declared.state.Role.{Role}
 use Rattle.qq_raft_msg.specs.declared.state.Role.TheVariants.{Leader, Candidate, Follower}
 use Rattle.qq_raft_step.specs.Leading.{one_if}
+use Rattle.qq_raft_step.specs.Server.{Input}
+use Rattle.qq_raft_step.specs.Server.Input.{Tick, Receive, Submit, Notice}
 use Rattle.qq_raft_step.specs.State.{Server, last}
 use Rattle.qq_raft_step.specs.declared.peer.Peer.{Peer}
 use Rattle.qq_raft_step.specs.declared.peer.Waiting.{Waiting}
@@ -111,6 +114,25 @@ pub record HasMatched (w : World) (term : ℕ) (peer : Peer) : Type 0 where
   pub upto : peer.matched ≤ ack.upto
   pub durable : ack.op ≤ (w.member ack.from).noticed
 
+-- An entry of a leader behind these is acknowledged by itself: the change that added it is as many before the last
+-- one as the entry is before the last entry.
+pub record HasOwnAck (acks : List Ack) (k term last op : ℕ) (a : List Entry) : Type 0 where
+  pub ack : Ack
+  pub said : In ack acks
+  pub from : ack.from ≡ k
+  pub term_is : ack.term ≡ term
+  pub upto : length a < ack.upto
+  pub op_is : ack.op + last ≤ op + (length a + 1)
+
+abbrev pub AcksItself : List Ack → ℕ → Server → Type 0
+AcksItself acks k s =
+    (a : List Entry) (e : Entry) → IsFront (add a e) s.log → e.term.0 ≡ s.term.0
+    → HasOwnAck acks k s.term.0 (last s) s.op a
+
+-- what a server may send to its peers, and has of them, is within its log
+abbrev pub IsWithinLog : Server → Type 0
+IsWithinLog s = (p : Peer) → In p s.peers → (p.next ≤ last s + 1) × (p.matched ≤ last s)
+
 pub record Stands (w : World) (k : ℕ) (s : Server) : Type 0 where
   pub node : s.node.0 ≡ k
   pub lane : (w.member k).mine ≡ lane_of s
@@ -120,6 +142,8 @@ pub record Stands (w : World) (k : ℕ) (s : Server) : Type 0 where
   pub own_vote : s.role ≡ Candidate → There w.grants (IsOwnVote k s.term.0 s.op)
   pub votes : s.role ≡ Candidate → (p : Peer) → In p s.peers → p.granted ≡ true → Elects w s.term.0 k p.node.0
   pub matches : s.role ≡ Leader → (p : Peer) → In p s.peers → (p.matched ≡ 0) ⊎ HasMatched w s.term.0 p
+  pub within : s.role ≡ Leader → IsWithinLog s
+  pub itself : s.role ≡ Leader → AcksItself w.acks k s
   pub waiting : (x : Waiting) → In x s.waiting → IsSaid w k x.op x.rpc
   pub out : (r : Rpc) → In r s.out → IsOnItsWay w r
 
@@ -127,25 +151,6 @@ pub record Stands (w : World) (k : ℕ) (s : Server) : Type 0 where
 pub record IsGroup (members : List ℕ) (k : ℕ) (peers : List Peer) : Type 0 where
   pub count : length members ≡ length peers + 1
   pub each : (test : ℕ → Bool) → tally test members ≡ one_if (test k) + count_by (λ p. test p.node.0) peers
-
--- an entry of a leader behind these is acknowledged by itself: the change that added it is as many before the last
--- one as the entry is before the last entry
-pub record HasOwnAck (w : World) (k term last op : ℕ) (a : List Entry) : Type 0 where
-  pub ack : Ack
-  pub said : In ack w.acks
-  pub from : ack.from ≡ k
-  pub term_is : ack.term ≡ term
-  pub upto : length a < ack.upto
-  pub op_is : ack.op + last ≤ op + (length a + 1)
-
-abbrev pub AcksItself : World → ℕ → Server → Type 0
-AcksItself w k s =
-    (a : List Entry) (e : Entry) → IsFront (add a e) s.log → e.term.0 ≡ s.term.0
-    → HasOwnAck w k s.term.0 (last s) s.op a
-
--- what a server may send to its peers, and has of them, is within its log
-abbrev pub IsWithinLog : Server → Type 0
-IsWithinLog s = (p : Peer) → In p s.peers → (p.next ≤ last s + 1) × (p.matched ≤ last s)
 
 -- ---- what a member's moves leave of the rest
 
@@ -157,9 +162,11 @@ pub record Later (w v : World) : Type 0 where
   pub sents : (x : Sent) → In x w.sents → In x v.sents
   pub noticed : (q : ℕ) → (w.member q).noticed ≤ (v.member q).noticed
 
--- all others are as they were
+-- All others are as they were. What the member's disk may hold it may hold still, but for what is older than what was
+-- noticed.
 pub record OnlyMoves (k : ℕ) (w v : World) : Type 0 where
   pub later : Later w v
+  pub lanes : (l : Lane) → In l (lanes (w.member k)) → (v.member k).noticed ≤ l.op → In l (lanes (v.member k))
   pub member : (q : ℕ) → (q ≡ k → ⊥) → v.member q ≡ w.member q
   pub role : (q : ℕ) → (q ≡ k → ⊥) → v.role q ≡ w.role q
   pub done : (q : ℕ) → (q ≡ k → ⊥) → v.done q ≡ w.done q
@@ -194,6 +201,14 @@ pub record Refines (members : List ℕ) (w : World) (k : ℕ) (s : Server) : Typ
   pub allowed : AreAllowed members w moves
   pub stands : Stands (run w moves) k s
   pub only : OnlyMoves k w (run w moves)
+
+-- What may come to a server: a message on its way to it, and that changes are durable that it handed out. A clock and
+-- commands may come at any time.
+abbrev pub MayCome : World → ℕ → Server → Input → Type 0
+MayCome w k s Tick = Unit {0}
+MayCome w k s (Receive rpc) = ((envelope rpc).to.0 ≡ k) × IsOnItsWay w rpc
+MayCome w k s (Submit time command) = Unit {0}
+MayCome w k s (Notice op) = op ≤ s.op
 
 -- a world that allowed moves lead to
 pub record IsReached (members : List ℕ) (w : World) : Type 0 where

@@ -1,20 +1,24 @@
 //! Laws: what a server does is the protocol's.
-ghost use Rattle.std.specs.Prelude.{◌≡◌, ◌≤◌, List, ℕ, take, true, false};
+ghost use Rattle.std.specs.Prelude.{◌≡◌, ◌≤◌, List, ◌++◌, ℕ, Some, take, true, false};
 ghost use Rattle.qq_base.specs.declared.ids.NodeId.{NodeId};
 ghost use Rattle.qq_entry.specs.declared.command.Command.{Command};
 ghost use Rattle.qq_log.specs.declared.lane.Lane.{Lane};
+ghost use Rattle.qq_log.specs.declared.op.Op.{Op};
+ghost use Rattle.qq_log.specs.Stable.{stable};
+ghost use Rattle.qq_raft_model.specs.Facts.{In};
 ghost use Rattle.qq_raft_model.specs.Moves.Move.{Restart};
 ghost use Rattle.qq_raft_model.specs.Moves.{after, run};
-ghost use Rattle.qq_raft_model.specs.World.{World};
+ghost use Rattle.qq_raft_model.specs.World.{Ack, World};
 ghost use Rattle.qq_raft_msg.specs.declared.rpc.AppendMsg.{AppendMsg};
 ghost use Rattle.qq_raft_msg.specs.declared.rpc.AppendedMsg.{AppendedMsg};
 ghost use Rattle.qq_raft_msg.specs.declared.rpc.Rpc.{Rpc};
 ghost use Rattle.qq_raft_msg.specs.declared.rpc.Rpc.TheVariants.{Vote, Voted, Append, Appended};
 ghost use Rattle.qq_raft_msg.specs.declared.rpc.VoteMsg.{VoteMsg};
 ghost use Rattle.qq_raft_msg.specs.declared.rpc.VotedMsg.{VotedMsg};
-ghost use Rattle.qq_raft_msg.specs.declared.state.Role.TheVariants.{Follower, Leader};
-ghost use Rattle.qq_raft_step.specs.Refines.{IsOnItsWay, IsReached, IsGroup, IsWithinLog, AcksItself, Stands, OnlyMoves, Refines, disk_lane};
-ghost use Rattle.qq_raft_step.specs.Server.{receive, tick, submit, notice, restart};
+ghost use Rattle.qq_raft_msg.specs.declared.state.Role.TheVariants.{Leader};
+ghost use Rattle.qq_raft_step.specs.Handing.{Continues, plain_state, state_of};
+ghost use Rattle.qq_raft_step.specs.Refines.{IsOnItsWay, IsReached, IsGroup, IsWithinLog, AcksItself, MayCome, Stands, OnlyMoves, Refines, disk_lane};
+ghost use Rattle.qq_raft_step.specs.Server.{Input, receive, tick, submit, notice, step, restart};
 ghost use Rattle.qq_raft_step.specs.State.{Server, is_leader, last};
 
 use qq_raft_model::servers_agree;
@@ -52,46 +56,68 @@ pub fn standing_is_a_move()
 {}
 
 /// A law: a leader that is ticked sends, and a server that gets a command adds it where it is ready, by moves
-/// of the protocol, as long as what it keeps of its peers is within its log.
+/// of the protocol.
 pub fn a_leader_sends_and_adds_by_moves()
     ensures tick { (members : List ℕ) (w : World) (k : ℕ) (s : Server) → IsReached members w →
-        Stands w k s → is_leader s.role ≡ true → IsWithinLog s → Refines members w k (tick s) }
+        Stands w k s → is_leader s.role ≡ true → Refines members w k (tick s) }
     ensures submit { (members : List ℕ) (w : World) (k : ℕ) (s : Server) (time : ℕ)
-        (command : Command) → IsReached members w → Stands w k s → IsWithinLog s →
+        (command : Command) → IsReached members w → Stands w k s →
         Refines members w k (submit time command s) }
 {
     servers_agree();
 }
 
 /// A law: a server of a group takes an acknowledgement by moves of the protocol. A leader sends what is left
-/// and commits what a majority has by them, as long as what it keeps of its peers, and what is acknowledged,
-/// is within its log, and its own entries are acknowledged by itself.
+/// and commits what a majority has by them.
 pub fn an_acknowledgement_is_counted_by_moves()
     ensures { (members : List ℕ) (w : World) (k : ℕ) (s : Server) (m : AppendedMsg) →
-        IsReached members w → IsGroup members k s.peers → Stands w k s →
-        (s.role ≡ Leader → IsWithinLog s) → (s.role ≡ Leader → AcksItself w k s) →
-        (s.role ≡ Leader → m.index.0 ≤ last s) → IsOnItsWay w (Appended m) →
+        IsReached members w → IsGroup members k s.peers → Stands w k s → IsOnItsWay w (Appended m) →
         Refines members w k (receive (Appended m) s) }
 {
     servers_agree();
 }
 
-/// A law: a follower that is told up to which change its disk is durable notices it by a move of the
-/// protocol.
-pub fn a_follower_notices_by_a_move()
-    ensures { (members : List ℕ) (w : World) (k : ℕ) (s : Server) (op : ℕ) → Stands w k s →
-        s.role ≡ Follower → op ≤ s.op → s.noticed ≤ s.op → Refines members w k (notice op s) }
-{}
-
-/// A law: a leader of a group that is told up to which change its disk is durable notices it, and commits what
-/// a majority has by then, by moves of the protocol, as long as its own entries are acknowledged by itself.
-pub fn a_leader_notices_by_moves()
+/// A law: a server of a group that is told up to which change its disk is durable notices it by moves of the
+/// protocol. By then a candidate may lead, and a leader commits what a majority has.
+pub fn what_is_durable_is_noticed_by_moves()
     ensures { (members : List ℕ) (w : World) (k : ℕ) (s : Server) (op : ℕ) → IsReached members w →
-        IsGroup members k s.peers → Stands w k s → s.role ≡ Leader → AcksItself w k s →
-        op ≤ s.op → s.noticed ≤ s.op → Refines members w k (notice op s) }
+        IsGroup members k s.peers → Stands w k s → op ≤ s.op → Refines members w k (notice op s) }
 {
     servers_agree();
 }
+
+/// A law: a leader keeps what it may send, and what it knows its peers to have, within its log; each entry of
+/// its term is acknowledged by itself; and no acknowledgement of its term passes its log.
+pub fn a_leader_keeps_to_its_log()
+    ensures within { (w : World) (k : ℕ) (s : Server) → Stands w k s → s.role ≡ Leader → IsWithinLog s }
+    ensures itself { (w : World) (k : ℕ) (s : Server) → Stands w k s → s.role ≡ Leader →
+        AcksItself w.acks k s }
+    ensures acks { (members : List ℕ) (w : World) (k : ℕ) (s : Server) (x : Ack) →
+        IsReached members w → Stands w k s → s.role ≡ Leader → In x w.acks → x.term ≡ s.term.0 →
+        x.upto ≤ last s }
+{}
+
+/// A law: whatever comes to a server of a group, what it does is moves of the protocol, which allows them, in
+/// each world that the protocol can come to.
+pub fn each_step_is_moves()
+    ensures { (members : List ℕ) (w : World) (k : ℕ) (s : Server) (input : Input) →
+        IsReached members w → IsGroup members k s.peers → Stands w k s → MayCome w k s input →
+        Refines members w k (step s input) }
+{
+    servers_agree();
+}
+
+/// A law: a step keeps the node and its peers, and hands out one change at most. So what a server works on
+/// is what all that it handed out comes to, from a restart on.
+pub fn a_server_works_on_what_it_handed_out()
+    ensures one { (s : Server) (input : Input) → Continues s (step s input) }
+    ensures step { (ops : List Op) (s : Server) (input : Input) →
+        stable (ops ++ s.ops) ≡ Some (state_of s) →
+        stable (ops ++ (step s input).ops) ≡ Some (state_of (step s input)) }
+    ensures restart { (ops : List Op) (node : NodeId) (nodes : List NodeId) (lane : Lane) →
+        stable ops ≡ Some (plain_state lane.op lane.term lane.vote lane.entries) →
+        stable (ops ++ (restart node nodes lane).ops) ≡ Some (state_of (restart node nodes lane)) }
+{}
 
 /// A law: a server that restarts with a lane that isn't older than what was noticed stands for its member
 /// after the protocol's move. The others stand as before, and what is on its way stays so.

@@ -2,9 +2,9 @@ use Rattle.qq_raft_step.proofs.Adding.{leader_tick-refines, submit-refines}
 use Rattle.qq_raft_step.proofs.laws.a_leader_sends_and_adds_by_moves.Goals as goal
 
 pub returns-clause-tick : goal.returns-clause-tick
-returns-clause-tick c = λ members w k s reached st e within.
-    leader_tick-refines c.servers_agree.ensures reached st e within
+returns-clause-tick c = λ members w k s reached st e.
+    leader_tick-refines c.servers_agree.ensures reached st e
 
 pub returns-clause-submit : goal.returns-clause-submit
-returns-clause-submit c = λ members w k s time command reached st within.
-    submit-refines time command c.servers_agree.ensures reached st within
+returns-clause-submit c = λ members w k s time command reached st.
+    submit-refines time command c.servers_agree.ensures reached st

@@ -1,68 +1,13 @@
--- Lists that begin others.
-use Rattle.std.proofs.Common.{◌≡◌, ◌⊎◌, ℕ, ◌+◌, ◌≤◌, List, [], ◌∷◌, ◌++◌, length, refl, sym, ap, subst, ◌∙◌, append_assoc, arith, inl, inr}
+-- Logs: one entry more, where an entry stands, and the terms of entries.
+use Rattle.std.proofs.Common.{◌≡◌, ◌⊎◌, ℕ, ◌+◌, ◌≤◌, List, [], ◌∷◌, ◌++◌, length, refl, sym, ap, subst, ◌∙◌, arith, inl, inr}
 use Rattle.std.proofs.lemmas.Bool.{cases_lt}
-use Rattle.std.proofs.lemmas.List.{append-nil, length-append, nil_from_length}
+use Rattle.std.proofs.lemmas.List.{length-append}
+use Rattle.qq_base.specs.Fronts.{IsFront}
+use Rattle.qq_base.proofs.Fronts.{same_head, same_tail, longer_front, front-trans, front-whole, front-shorter}
 use Rattle.qq_entry.specs.declared.command.Entry.{Entry}
-use Rattle.qq_raft_model.specs.Facts.{IsFront, add, In, Within}
+use Rattle.qq_raft_model.specs.Facts.{add, In, Within}
 use Rattle.qq_raft_model.specs.Moves.{last_term}
-
-pub front-refl : {A : Type 0} (xs : List A) → IsFront xs xs
-front-refl xs = record { rest = []; is = sym (append-nil xs) }
-
-pub front-nil : {A : Type 0} (xs : List A) → IsFront [] xs
-front-nil xs = record { rest = xs; is = refl }
-
-pub front-trans : {A : Type 0} {a b c : List A} → IsFront a b → IsFront b c → IsFront a c
-front-trans {a = a} p q =
-    record {
-      rest = p.rest ++ q.rest;
-      is = q.is ∙ ap (λ t. t ++ q.rest) p.is
-          ∙ append_assoc a p.rest q.rest;
-    }
-
-pub front-same : {A : Type 0} {a b c : List A} → a ≡ b → IsFront a c → IsFront b c
-front-same {c = c} e p = subst (λ x. IsFront x c) e p
-
-pub front-length : {A : Type 0} {a b : List A} → IsFront a b → length a ≤ length b
-front-length {a = a} p = omega (arith, ap length p.is, length-append a p.rest)
-
-same_head : {A : Type 0} (x y : A) (xs ys : List A) → x ∷ xs ≡ y ∷ ys → x ≡ y
-same_head x y xs ys e = cc
-
-same_tail : {A : Type 0} (x y : A) (xs ys : List A) → x ∷ xs ≡ y ∷ ys → xs ≡ ys
-same_tail x y xs ys e = cc
-
-longer_front : {A : Type 0} (x y : A) {a b : List A} → x ≡ y → IsFront a b → IsFront (x ∷ a) (y ∷ b)
-longer_front x y {a = a} same p = record { rest = p.rest; is = ap (λ t. y ∷ t) p.is ∙ ap (λ t. t ∷ (a ++ p.rest)) (sym same) }
-
-compare : {A : Type 0} (a b r s : List A) → a ++ r ≡ b ++ s → IsFront a b ⊎ IsFront b a
-compare [] b r s e = inl (front-nil b)
-compare (x ∷ a) [] r s e = inr (front-nil (x ∷ a))
-compare (x ∷ a) (y ∷ b) r s e =
-    let head : x ≡ y = same_head x y (a ++ r) (b ++ s) e in
-    elim (compare a b r s (same_tail x y (a ++ r) (b ++ s) e)) [
-      | inl p ↦ inl (longer_front x y head p)
-      | inr p ↦ inr (longer_front y x (sym head) p)
-    ]
-
--- two fronts of one list
-pub front-compare : {A : Type 0} {a b c : List A} → IsFront a c → IsFront b c → IsFront a b ⊎ IsFront b a
-front-compare {a = a} {b = b} p q = compare a b p.rest q.rest (sym p.is ∙ q.is)
-
--- no front is shorter than its whole
-pub front-whole : {A : Type 0} {a b : List A} → IsFront a b → length b ≤ length a → a ≡ b
-front-whole {a = a} {b = b} p le =
-    let nothing : p.rest ≡ [] = nil_from_length p.rest (omega (arith, ap length p.is, length-append a p.rest)) in
-    sym (p.is ∙ ap (λ t. a ++ t) nothing ∙ append-nil a)
-
-pub front-shorter : {A : Type 0} {a b c : List A} → IsFront a c → IsFront b c → length a ≤ length b → IsFront a b
-front-shorter {a = a} {b = b} p q le =
-    elim (front-compare p q) [
-      | inl front ↦ front
-      | inr front ↦ subst (λ x. IsFront x b) (front-whole front le) (front-refl b)
-    ]
-
--- ---- one entry more
+use Rattle.qq_raft_model.proofs.Lists.{In-front}
 
 pub length-add : (a : List Entry) (e : Entry) → length (add a e) ≡ length a + 1
 length-add a e = omega (arith, length-append a (e ∷ []))
@@ -95,15 +40,7 @@ front-of_add x log e p =
       | inr long ↦ inr (front-whole p long)
     ]
 
--- ---- what stands in a list
-
-pub In-left : {A : Type 0} (x : A) (xs ys : List A) → In x xs → In x (xs ++ ys)
-In-left x [] ys here = absurd here
-In-left x (y ∷ xs) ys (inl same) = inl same
-In-left x (y ∷ xs) ys (inr later) = inr (In-left x xs ys later)
-
-pub In-front : {A : Type 0} {a b : List A} (x : A) → IsFront a b → In x a → In x b
-In-front {a = a} {b = b} x p here = subst (λ t. In x t) (sym p.is) (In-left x a p.rest here)
+-- ---- where an entry stands
 
 pub In-add : (a : List Entry) (e : Entry) → In e (add a e)
 In-add [] e = inl refl

@@ -1,0 +1,47 @@
+-- What a step leaves of a server, and what it hands to the log's disk.
+use Rattle.std.specs.Prelude.{◌≡◌, ◌⊎◌, ◌+◌, ℕ, List, [], ◌∷◌, ◌++◌, map, Option, Some}
+use Rattle.qq_base.specs.declared.ids.NodeId.{NodeId}
+use Rattle.qq_base.specs.declared.ids.Term.{Term}
+use Rattle.qq_entry.specs.declared.command.Entry.{Entry}
+use Rattle.qq_log.specs.declared.op.Op.{Op}
+use Rattle.qq_log.specs.Stable.{Stable, no_snapshot, apply_op}
+use Rattle.qq_raft_step.specs.declared.peer.Peer.{Peer}
+use Rattle.qq_raft_step.specs.State.{Server}
+
+-- the state of a log's disk that has no snapshot and no segment
+abbrev pub plain_state : ℕ → Term → Option NodeId → List Entry → Stable
+plain_state op term vote log =
+    record {
+      op = op;
+      term = term;
+      vote = vote;
+      base = no_snapshot;
+      snapshot = 0;
+      log = map Some log;
+      segments = [];
+    }
+
+-- what the disk is to hold
+abbrev pub state_of : Server → Stable
+state_of s = plain_state s.op s.term s.vote s.log
+
+-- no change is handed out, and the disk is to hold what it held
+pub record Rests (s t : Server) : Type 0 where
+  pub ops : t.ops ≡ s.ops
+  pub state : state_of t ≡ state_of s
+
+-- one change is handed out, with the next number, and with it the disk's state is what it is to hold
+pub record Changes (s t : Server) : Type 0 where
+  pub op : Op
+  pub next : t.op ≡ s.op + 1
+  pub ops : t.ops ≡ s.ops ++ op ∷ []
+  pub is : apply_op (state_of s) op ≡ Some (state_of t)
+
+abbrev pub peer_number : Peer → ℕ
+peer_number peer = peer.node.0
+
+-- it is the same node with the same peers, and has handed out one change at most
+pub record Continues (s t : Server) : Type 0 where
+  pub node : t.node ≡ s.node
+  pub nodes : map peer_number t.peers ≡ map peer_number s.peers
+  pub hands : Rests s t ⊎ Changes s t
