@@ -1,8 +1,9 @@
 -- A step hands out one change at most, and with it the disk's state is what the server works on.
-use Rattle.std.proofs.Common.{◌≡◌, ◌⊎◌, ℕ, suc, ◌+◌, ◌-◌, ◌≤◌, Bool, true, false, cond, ◌&&◌, eqb, ltb, leb, min, List, [], ◌∷◌, ◌++◌, length, map, take, drop, Option, Some, None, refl, sym, ap, subst, ◌∙◌, append_assoc, arith, inl, inr}
-use Rattle.std.proofs.lemmas.Bool.{cond_both, cond-true, or_cases, and_parts, and_from, eq-eqb, eqb-true, le-leb, leb-true}
+use Rattle.std.proofs.Common.{◌≡◌, ℕ, suc, ◌+◌, ◌-◌, ◌≤◌, Bool, true, false, cond, ◌&&◌, eqb, ltb, leb, min, List, [], ◌∷◌, ◌++◌, length, map, take, drop, Option, Some, None, refl, sym, ap, subst, ◌∙◌, append_assoc, arith, inl, inr}
+use Rattle.std.proofs.lemmas.Bool.{cond_both, cond-true, or_cases, and_parts, and_from, eq-eqb, eqb-true, le-leb, leb-true, ltb-false, ltb-true}
 use Rattle.std.proofs.lemmas.List.{length-drop, length-map, map-append, take-map}
 use Rattle.std.proofs.lemmas.Grind.{fold-append}
+use Rattle.std.specs.Prelude.{option_map}
 use Rattle.qq_base.specs.declared.ids.NodeId.{NodeId}
 use Rattle.qq_base.specs.declared.ids.QueueId.{QueueId}
 use Rattle.qq_base.specs.declared.ids.Term.{Term}
@@ -10,19 +11,21 @@ use Rattle.qq_entry.specs.declared.command.Entry.{Entry}
 use Rattle.qq_log.specs.declared.op.Op.{Op}
 use Rattle.qq_log.specs.declared.op.Op.TheVariants.{Change}
 use Rattle.qq_log.specs.Same.{same_vote}
-use Rattle.qq_log.specs.Stable.{Stable, new_state, act, apply_op, change as change_state, last_index, may_keep, stable, then_apply}
+use Rattle.qq_log.specs.Stable.{Stable, new_state, act, apply_op, change as change_state, known_entries, last_index, may_keep, stable, then_apply}
+use Rattle.qq_raft_model.specs.World.{Lane}
 use Rattle.qq_raft_msg.specs.declared.rpc.AppendMsg.{AppendMsg}
 use Rattle.qq_raft_msg.specs.declared.rpc.AppendedMsg.{AppendedMsg}
 use Rattle.qq_raft_msg.specs.declared.rpc.Rpc.{Rpc}
 use Rattle.qq_raft_msg.specs.declared.rpc.Rpc.TheVariants.{Vote, Voted, Append, Appended, Install, Installed}
 use Rattle.qq_raft_msg.specs.declared.rpc.VoteMsg.{VoteMsg}
 use Rattle.qq_raft_msg.specs.declared.rpc.VotedMsg.{VotedMsg}
-use Rattle.qq_raft_msg.specs.declared.state.Role.TheVariants.{Leader, Candidate}
+use Rattle.qq_raft_msg.specs.declared.state.Role.TheVariants.{Leader}
 use Rattle.qq_raft_msg.specs.Rpc.{envelope}
 use Rattle.qq_raft_step.specs.declared.peer.Peer.{Peer}
-use Rattle.qq_raft_step.specs.Handing.{plain_state, state_of, Rests, Changes, peer_number, Continues}
+use Rattle.qq_raft_step.specs.Handing.{plain_state, state_of, lane_in, Rests, peer_number, Continues}
+use Rattle.qq_raft_step.specs.Refines.{number, lane_of}
 use Rattle.qq_raft_step.specs.Leading.{add_entry, advance, ask, become_candidate, clear_vote, commit_within, everyone, is_elected, lead, lead_if_elected, next_term, noop, pass, send, stand, start_peer}
-use Rattle.qq_raft_step.specs.Server.{Input, accept, agreed, appended, at_peer, back_peer, end, give_vote, grant_peer, greater, has_agreed, installed, is_match, is_peer, is_ready, lacks, learn, match_peer, may_grant, notice, receive, receive_append, receive_appended, receive_vote, receive_voted, refuse, refuse_entries, send_again, step, step_back, submit, take_ack, take_entries, take_notice, take_reply, tick, voted, write, write_missing}
+use Rattle.qq_raft_step.specs.Server.{Input, accept, agreed, appended, at_peer, back_peer, end, give_vote, grant_peer, greater, has_agreed, installed, is_match, is_peer, is_ready, lacks, learn, match_peer, may_grant, notice, receive, receive_append, receive_appended, receive_vote, receive_voted, refuse, refuse_entries, send_again, step, step_back, submit, take_ack, take_entries, take_notice, take_reply, tick, voted, write}
 use Rattle.qq_raft_step.specs.Server.Input.{Tick, Receive, Submit, Notice}
 use Rattle.qq_raft_step.specs.State.{Server, last, term_at, is_candidate, is_leader, change, enter, follow, leader_in, say, say_all, vote_in}
 
@@ -63,6 +66,18 @@ changed queue op was term had vote keep log entries le =
       segments = [];
     })) (more_entries keep log entries)
 
+-- all entries of a log that was made of entries are known
+pub known-all : (log : List Entry) → known_entries (map Some log) ≡ log
+known-all [] = refl
+known-all (e ∷ log) = ap (λ (l : List Entry). e ∷ l) (known-all log)
+
+-- the disk's state tells the protocol's lane
+pub same-lane : (s : Server) → lane_in (state_of s) ≡ lane_of s
+same-lane s =
+    let with_log : List Entry → Lane =
+    λ (log : List Entry). record { op = s.op; term = s.term.0; vote = option_map number s.vote; log = log } in
+    ap with_log (known-all s.log)
+
 -- ---- what stays
 
 pub record Stays (s t : Server) : Type 0 where
@@ -80,15 +95,21 @@ stays-stays f g = record {
   rests = record { ops = g.rests.ops ∙ f.rests.ops; state = g.rests.state ∙ f.rests.state };
 }
 
+same-term : {s t : Server} → Stays s t → t.term.0 ≡ s.term.0
+same-term f = ap (λ (x : Stable). x.term.0) f.rests.state
+
 stays-is : {s t : Server} → Stays s t → Continues s t
-stays-is f = record { node = f.node; nodes = f.nodes; hands = inl f.rests }
+stays-is {s = s} {t = t} f =
+    let same : t.term.0 ≡ s.term.0 = same-term f in
+    record { node = f.node; term = omega (arith, same); nodes = f.nodes; hands = inl f.rests }
 
 continues-refl : (s : Server) → Continues s s
 continues-refl s = stays-is (stays-refl s)
 
 stays-continues : {s t u : Server} → Stays s t → Continues t u → Continues s u
-stays-continues f g = record {
+stays-continues {s = s} {t = t} {u = u} f g = record {
   node = g.node ∙ f.node;
+  term = subst (λ (i : ℕ). i ≤ u.term.0) (same-term f) g.term;
   nodes = g.nodes ∙ f.nodes;
   hands = elim g.hands [
     | inl r ↦ inl (record { ops = r.ops ∙ f.rests.ops; state = r.state ∙ f.rests.state })
@@ -102,8 +123,9 @@ stays-continues f g = record {
 }
 
 continues-stays : {s t u : Server} → Continues s t → Stays t u → Continues s u
-continues-stays f g = record {
+continues-stays {s = s} {t = t} {u = u} f g = record {
   node = g.node ∙ f.node;
+  term = subst (λ (i : ℕ). s.term.0 ≤ i) (sym (same-term g)) f.term;
   nodes = g.nodes ∙ f.nodes;
   hands = elim f.hands [
     | inl r ↦ inl (record { ops = g.rests.ops ∙ r.ops; state = g.rests.state ∙ r.state })
@@ -173,11 +195,12 @@ stays-advance s =
 -- ---- changes
 
 continues-change : (term : Term) (vote : Option NodeId) (keep : ℕ) (entries : List Entry) (s : Server)
-    → keep ≤ last s → Continues s (change term vote keep entries s)
+    → s.term.0 ≤ term.0 → keep ≤ last s → Continues s (change term vote keep entries s)
 unfolding change
-continues-change term vote keep entries s le =
+continues-change term vote keep entries s rises le =
     record {
       node = refl;
+      term = rises;
       nodes = refl;
       hands = inr (record {
         op = Change s.queue (s.op + 1) term vote (record { 0 = keep }) entries;
@@ -189,21 +212,22 @@ continues-change term vote keep entries s le =
 
 -- a term or a vote, and a follower
 continues-write : (leader : Option NodeId) (term : Term) (vote : Option NodeId) (s : Server)
-    → Continues s (follow leader (change term vote (last s) [] s))
-continues-write leader term vote s =
-    continues-stays (continues-change term vote (last s) [] s (omega arith))
+    → s.term.0 ≤ term.0 → Continues s (follow leader (change term vote (last s) [] s))
+continues-write leader term vote s rises =
+    continues-stays (continues-change term vote (last s) [] s rises (omega arith))
     (stays-follow leader (change term vote (last s) [] s))
 
 continues-enter : (term : Term) (s : Server) → Continues s (enter term s)
 unfolding enter
 continues-enter term s =
     cond_both (ltb s.term.0 term.0) (follow None (change term None (last s) [] s)) s (Continues s)
-    (λ _. continues-write None term None s) (λ _. continues-refl s)
+    (λ e. let lt = ltb-true s.term.0 term.0 e in continues-write None term None s (omega (arith, lt)))
+    (λ _. continues-refl s)
 
 continues-add : (entry : Entry) (s : Server) → Continues s (add_entry entry s)
 unfolding add_entry
 continues-add entry s =
-    continues-stays (continues-change s.term s.vote (last s) (entry ∷ []) s (omega arith))
+    continues-stays (continues-change s.term s.vote (last s) (entry ∷ []) s (omega arith) (omega arith))
     (stays-send everyone (change s.term s.vote (last s) (entry ∷ []) s))
 
 continues-lead : (s : Server) → Continues s (lead s)
@@ -237,18 +261,18 @@ unfolding stand
 continues-stand s =
     let c = become_candidate s in
     continues-stays
-    (continues-stays (continues-change (next_term s.term) (Some s.node) (last s) [] s (omega arith))
+    (continues-stays (continues-change (next_term s.term) (Some s.node) (last s) [] s (omega arith) (omega arith))
     (candidate-stays s)) (stays-say_all (map (ask c) c.peers) c)
 
 -- ---- messages
 
-continues-vote : (m : VoteMsg) (s : Server) → Continues s (receive_vote m s)
+continues-vote : (m : VoteMsg) (s : Server) → s.term.0 ≤ m.term.0 → Continues s (receive_vote m s)
 unfolding receive_vote give_vote
-continues-vote m s =
+continues-vote m s rises =
     let given : Continues s (give_vote m s) =
     cond_both (same_vote (vote_in m.term s) (Some m.from)) s
     (follow (leader_in m.term s) (change m.term (Some m.from) (last s) [] s)) (Continues s)
-    (λ _. continues-refl s) (λ _. continues-write (leader_in m.term s) m.term (Some m.from) s) in
+    (λ _. continues-refl s) (λ _. continues-write (leader_in m.term s) m.term (Some m.from) s rises) in
     cond_both (may_grant m s) (say (voted m.from true (give_vote m s)) (give_vote m s))
     (say (voted m.from false (enter m.term s)) (enter m.term s)) (Continues s)
     (λ _. continues-stays given (stays-say (voted m.from true (give_vote m s)) (give_vote m s)))
@@ -262,7 +286,7 @@ continues-voted m s =
     cond_both (ltb s.term.0 m.term.0) (follow None (change m.term None (last s) [] s)) s
     (λ (t : Server). Continues s
     (cond (is_candidate t.role && m.granted) (lead_if_elected (at_peer m.from grant_peer t)) t))
-    (λ _. continues-write None m.term None s)
+    (λ e. let lt = ltb-true s.term.0 m.term.0 e in continues-write None m.term None s (omega (arith, lt)))
     (λ _. cond_both (is_candidate s.role && m.granted) (lead_if_elected counted) s (Continues s)
     (λ _. stays-continues (stays-at_peer m.from grant_peer s (λ p. refl)) (continues-lead_if counted))
     (λ _. continues-refl s))
@@ -292,23 +316,24 @@ keeps-within m log matches =
           omega (arith, few, left, le)
     ]
 
-continues-missing : (m : AppendMsg) (missing : List Entry) (s : Server) → is_match m s.log ≡ true
-    → Continues s (write m missing s)
-continues-missing m [] s matches = continues-enter m.term s
-continues-missing m (e ∷ es) s matches =
-    continues-change m.term (vote_in m.term s) (m.prev_index.0 + has_agreed m s.log) (e ∷ es) s
+continues-missing : (m : AppendMsg) (missing : List Entry) (s : Server) → s.term.0 ≤ m.term.0
+    → is_match m s.log ≡ true → Continues s (write m missing s)
+continues-missing m [] s rises matches = continues-enter m.term s
+continues-missing m (e ∷ es) s rises matches =
+    continues-change m.term (vote_in m.term s) (m.prev_index.0 + has_agreed m s.log) (e ∷ es) s rises
     (keeps-within m s.log matches)
 
-continues-take : (m : AppendMsg) (s : Server) → is_match m s.log ≡ true → Continues s (take_entries m s)
+continues-take : (m : AppendMsg) (s : Server) → s.term.0 ≤ m.term.0 → is_match m s.log ≡ true
+    → Continues s (take_entries m s)
 unfolding take_entries
-continues-take m s matches =
+continues-take m s rises matches =
     let missing = drop (has_agreed m s.log) m.entries in
     let written = write m missing s in
     let followed = follow (Some m.from) written in
     let learnt = learn (min m.commit.0 (end m)) followed in
     let learns : Stays followed learnt =
     record { node = refl; nodes = refl; rests = record { ops = refl; state = refl } } in
-    continues-stays (continues-missing m missing s matches)
+    continues-stays (continues-missing m missing s rises matches)
     (stays-stays (stays-follow (Some m.from) written)
     (stays-stays learns (stays-say (appended m.from true (end m) learnt) learnt)))
 
@@ -321,11 +346,11 @@ continues-refuse m s =
     (stays-stays (stays-follow (Some m.from) entered)
     (stays-say (appended m.from false (min (m.prev_index.0 - 1) (last s)) followed) followed))
 
-continues-append : (m : AppendMsg) (s : Server) → Continues s (receive_append m s)
+continues-append : (m : AppendMsg) (s : Server) → s.term.0 ≤ m.term.0 → Continues s (receive_append m s)
 unfolding receive_append
-continues-append m s =
+continues-append m s rises =
     cond_both (is_match m s.log) (take_entries m s) (refuse_entries m s) (Continues s)
-    (λ matches. continues-take m s matches) (λ _. continues-refuse m s)
+    (λ matches. continues-take m s rises matches) (λ _. continues-refuse m s)
 
 stays-ack : (m : AppendedMsg) (s : Server) → Stays s (take_ack m s)
 unfolding take_ack
@@ -360,14 +385,14 @@ stays-refuse (Voted m) s = stays-refl s
 stays-refuse (Appended m) s = stays-refl s
 stays-refuse (Installed m) s = stays-refl s
 
-continues-accept : (rpc : Rpc) (s : Server) → Continues s (accept rpc s)
+continues-accept : (rpc : Rpc) (s : Server) → s.term.0 ≤ (envelope rpc).term.0 → Continues s (accept rpc s)
 unfolding accept
-continues-accept (Vote m) s = continues-vote m s
-continues-accept (Voted m) s = continues-voted m s
-continues-accept (Append m) s = continues-append m s
-continues-accept (Appended m) s = continues-appended m s
-continues-accept (Install m) s = continues-enter m.term s
-continues-accept (Installed m) s = continues-enter m.term s
+continues-accept (Vote m) s rises = continues-vote m s rises
+continues-accept (Voted m) s rises = continues-voted m s
+continues-accept (Append m) s rises = continues-append m s rises
+continues-accept (Appended m) s rises = continues-appended m s
+continues-accept (Install m) s rises = continues-enter m.term s
+continues-accept (Installed m) s rises = continues-enter m.term s
 
 -- ---- the inputs
 
@@ -383,7 +408,8 @@ continues-receive : (rpc : Rpc) (s : Server) → Continues s (receive rpc s)
 unfolding receive
 continues-receive rpc s =
     cond_both (ltb (envelope rpc).term.0 s.term.0) (refuse rpc s) (accept rpc s) (Continues s)
-    (λ _. stays-is (stays-refuse rpc s)) (λ _. continues-accept rpc s)
+    (λ _. stays-is (stays-refuse rpc s))
+    (λ e. continues-accept rpc s (ltb-false (envelope rpc).term.0 s.term.0 e))
 
 continues-notice : (op : ℕ) (s : Server) → Continues s (notice op s)
 unfolding notice

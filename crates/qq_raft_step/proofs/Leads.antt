@@ -10,7 +10,7 @@ use Rattle.qq_base.specs.declared.ids.NodeId.{NodeId}
 use Rattle.qq_base.proofs.Puts.{put-same, put-other}
 use Rattle.qq_base.proofs.Fronts.{front-trans}
 use Rattle.qq_entry.specs.declared.command.Entry.{Entry}
-use Rattle.qq_raft_model.specs.Facts.{add, In, Most, Elects}
+use Rattle.qq_raft_model.specs.Facts.{add, Most, Elects}
 use Rattle.qq_raft_model.specs.Moves.{after, push, next_lane}
 use Rattle.qq_raft_model.specs.Moves.Move.{Lead, Append}
 use Rattle.qq_raft_model.specs.Safe.{IsSafe}

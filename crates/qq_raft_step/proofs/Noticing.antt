@@ -1,5 +1,5 @@
 -- A follower notices that its changes are durable, and what waited for them leaves.
-use Rattle.std.proofs.Common.{◌≡◌, ℕ, ◌≤◌, Bool, true, false, cond, eqb, ltb, leb, ◌-◌, List, [], ◌∷◌, filter, refl, sym, ap, subst, ◌∙◌, arith, inl, inr}
+use Rattle.std.proofs.Common.{◌≡◌, ℕ, ◌≤◌, Bool, true, false, cond, eqb, ltb, leb, List, [], ◌∷◌, filter, refl, sym, ap, subst, ◌∙◌, arith, inl, inr}
 use Rattle.std.proofs.lemmas.Bool.{cond_both, ltb-true, leb-true, le-leb, eqb-true}
 use Rattle.qq_base.specs.Fronts.{put}
 use Rattle.qq_base.proofs.Puts.{put-same, put-other}

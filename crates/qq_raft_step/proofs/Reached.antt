@@ -1,5 +1,5 @@
 -- Worlds that the protocol can come to: what it keeps in them, and moves that lead on.
-use Rattle.std.proofs.Common.{◌≡◌, ℕ, ◌≤◌, List, ◌++◌, sym, ap, subst, ◌∙◌}
+use Rattle.std.proofs.Common.{◌≡◌, ℕ, List, ◌++◌, sym, ap, subst, ◌∙◌}
 use Rattle.qq_raft_model.specs.Moves.{Move, AreAllowed, run}
 use Rattle.qq_raft_model.specs.World.{World, new_world}
 use Rattle.qq_raft_model.proofs.Kept.{Kept}

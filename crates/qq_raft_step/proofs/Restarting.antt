@@ -1,11 +1,11 @@
 -- A server that crashed restarts with a lane that its disk holds.
-use Rattle.std.proofs.Common.{◌≡◌, ℕ, ◌≤◌, Bool, true, false, ◌||◌, not, eqb, leb, List, [], ◌∷◌, length, filter, refl, sym, ap, subst, ◌∙◌, arith, inl, inr}
-use Rattle.std.proofs.lemmas.Bool.{cond_both, cond-true, le-leb, eqb-true}
+use Rattle.std.proofs.Common.{◌≡◌, ℕ, ◌≤◌, Bool, true, false, ◌||◌, not, eqb, leb, List, [], length, refl, sym, ap, subst, ◌∙◌, arith, inl, inr}
+use Rattle.std.proofs.lemmas.Bool.{le-leb, eqb-true}
 use Rattle.qq_base.specs.declared.ids.NodeId.{NodeId}
 use Rattle.qq_base.proofs.Puts.{put-same, put-other}
 use Rattle.qq_entry.specs.declared.command.Entry.{Entry}
 use Rattle.qq_log.specs.declared.lane.Lane.{Lane as DiskLane}
-use Rattle.qq_raft_model.specs.Facts.{In, Elects}
+use Rattle.qq_raft_model.specs.Facts.{Elects}
 use Rattle.qq_raft_model.specs.Moves.{after, stays}
 use Rattle.qq_raft_model.specs.Moves.Move.{Restart}
 use Rattle.qq_raft_model.specs.World.{Role as ModelRole, Lane, Member, World}

@@ -1,5 +1,5 @@
 -- Every input of a server is moves.
-use Rattle.std.proofs.Common.{◌≡◌, ℕ, true, false, ltb, List, refl, inl, inr}
+use Rattle.std.proofs.Common.{◌≡◌, ℕ, ltb, List, inl, inr}
 use Rattle.std.proofs.lemmas.Bool.{cond_both, cases_Bool}
 use Rattle.qq_raft_model.specs.World.{World}
 use Rattle.qq_raft_msg.specs.Rpc.{envelope}

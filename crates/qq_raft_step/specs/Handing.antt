@@ -1,11 +1,13 @@
 -- What a step leaves of a server, and what it hands to the log's disk.
-use Rattle.std.specs.Prelude.{◌≡◌, ◌⊎◌, ◌+◌, ℕ, List, [], ◌∷◌, ◌++◌, map, Option, Some}
+use Rattle.std.specs.Prelude.{◌≡◌, ◌⊎◌, ◌≤◌, ◌+◌, ℕ, List, [], ◌∷◌, ◌++◌, map, Option, Some, option_map}
 use Rattle.qq_base.specs.declared.ids.NodeId.{NodeId}
 use Rattle.qq_base.specs.declared.ids.Term.{Term}
 use Rattle.qq_entry.specs.declared.command.Entry.{Entry}
 use Rattle.qq_log.specs.declared.op.Op.{Op}
-use Rattle.qq_log.specs.Stable.{Stable, no_snapshot, apply_op}
+use Rattle.qq_log.specs.Stable.{Stable, apply_op, known_entries, no_snapshot}
+use Rattle.qq_raft_model.specs.World.{Lane}
 use Rattle.qq_raft_step.specs.declared.peer.Peer.{Peer}
+use Rattle.qq_raft_step.specs.Refines.{number}
 use Rattle.qq_raft_step.specs.State.{Server}
 
 -- the state of a log's disk that has no snapshot and no segment
@@ -25,6 +27,16 @@ plain_state op term vote log =
 abbrev pub state_of : Server → Stable
 state_of s = plain_state s.op s.term s.vote s.log
 
+-- what a disk's state tells of a server, as the protocol's lane
+abbrev pub lane_in : Stable → Lane
+lane_in state =
+    record {
+      op = state.op;
+      term = state.term.0;
+      vote = option_map number state.vote;
+      log = known_entries state.log;
+    }
+
 -- no change is handed out, and the disk is to hold what it held
 pub record Rests (s t : Server) : Type 0 where
   pub ops : t.ops ≡ s.ops
@@ -40,8 +52,9 @@ pub record Changes (s t : Server) : Type 0 where
 abbrev pub peer_number : Peer → ℕ
 peer_number peer = peer.node.0
 
--- it is the same node with the same peers, and has handed out one change at most
+-- it is the same node with the same peers, its term doesn't fall, and it has handed out one change at most
 pub record Continues (s t : Server) : Type 0 where
   pub node : t.node ≡ s.node
+  pub term : s.term.0 ≤ t.term.0
   pub nodes : map peer_number t.peers ≡ map peer_number s.peers
   pub hands : Rests s t ⊎ Changes s t

@@ -16,8 +16,8 @@ ghost use Rattle.qq_raft_msg.specs.declared.rpc.Rpc.TheVariants.{Vote, Voted, Ap
 ghost use Rattle.qq_raft_msg.specs.declared.rpc.VoteMsg.{VoteMsg};
 ghost use Rattle.qq_raft_msg.specs.declared.rpc.VotedMsg.{VotedMsg};
 ghost use Rattle.qq_raft_msg.specs.declared.state.Role.TheVariants.{Leader};
-ghost use Rattle.qq_raft_step.specs.Handing.{Continues, plain_state, state_of};
-ghost use Rattle.qq_raft_step.specs.Refines.{IsOnItsWay, IsReached, IsGroup, IsWithinLog, AcksItself, MayCome, Stands, OnlyMoves, Refines, disk_lane};
+ghost use Rattle.qq_raft_step.specs.Handing.{Continues, lane_in, plain_state, state_of};
+ghost use Rattle.qq_raft_step.specs.Refines.{IsOnItsWay, IsReached, IsGroup, IsWithinLog, AcksItself, MayCome, Stands, OnlyMoves, Refines, disk_lane, lane_of};
 ghost use Rattle.qq_raft_step.specs.Server.{Input, receive, tick, submit, notice, step, restart};
 ghost use Rattle.qq_raft_step.specs.State.{Server, is_leader, last};
 
@@ -107,8 +107,9 @@ pub fn each_step_is_moves()
     servers_agree();
 }
 
-/// A law: a step keeps the node and its peers, and hands out one change at most. So what a server works on
-/// is what all that it handed out comes to, from a restart on.
+/// A law: a step keeps the node and its peers, its term doesn't fall, and it hands out one change at most. So
+/// what a server works on is what all that it handed out comes to, from a restart on, and that is the lane by
+/// which it stands for a member.
 pub fn a_server_works_on_what_it_handed_out()
     ensures one { (s : Server) (input : Input) → Continues s (step s input) }
     ensures step { (ops : List Op) (s : Server) (input : Input) →
@@ -117,6 +118,7 @@ pub fn a_server_works_on_what_it_handed_out()
     ensures restart { (ops : List Op) (node : NodeId) (nodes : List NodeId) (lane : Lane) →
         stable ops ≡ Some (plain_state lane.op lane.term lane.vote lane.entries) →
         stable (ops ++ (restart node nodes lane).ops) ≡ Some (state_of (restart node nodes lane)) }
+    ensures lane { (s : Server) → lane_in (state_of s) ≡ lane_of s }
 {}
 
 /// A law: a server that restarts with a lane that isn't older than what was noticed stands for its member

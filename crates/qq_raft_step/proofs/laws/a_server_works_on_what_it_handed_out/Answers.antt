@@ -2,7 +2,7 @@ use Rattle.std.proofs.Common.{ap, ◌∙◌}
 use Rattle.std.proofs.lemmas.List.{append-nil}
 use Rattle.qq_log.specs.Stable.{stable}
 use Rattle.qq_raft_step.specs.Server.{step}
-use Rattle.qq_raft_step.proofs.Handing.{comes-to, continues-step}
+use Rattle.qq_raft_step.proofs.Handing.{comes-to, continues-step, same-lane}
 use Rattle.qq_raft_step.proofs.laws.a_server_works_on_what_it_handed_out.Goals as goal
 
 pub returns-clause-one : goal.returns-clause-one
@@ -13,3 +13,6 @@ returns-clause-step c = λ ops s input is. comes-to ops s (step s input) (contin
 
 pub returns-clause-restart : goal.returns-clause-restart
 returns-clause-restart c = λ ops node nodes lane is. ap stable (append-nil ops) ∙ is
+
+pub returns-clause-lane : goal.returns-clause-lane
+returns-clause-lane c = λ s. same-lane s
