@@ -3,13 +3,13 @@ use Rattle.std.proofs.Common.{◌≡◌, ◌≤◌, ◌<◌, ℕ, Bool, true, fa
 use Rattle.std.proofs.lemmas.Bool.{cases_eq}
 use Rattle.std.specs.List.{AllByRecursion}
 use Rattle.qq_disk.specs.Disk.{FileState, whole, file_content}
-use Rattle.qq_chain.specs.Front.{IsFront}
+use Rattle.qq_base.specs.Fronts.{IsFront}
 use Rattle.qq_chain.specs.Format.{Format, IsFormat}
 use Rattle.qq_chain.specs.Records.{Restate, end_of, file_records}
 use Rattle.qq_chain.specs.Chain.{Logs, Found, Reading, has_header, newest, good_length, add_file, chain, read_chain, reading}
 use Rattle.qq_chain.specs.Image.{Files, IsLogImage, MayLeaveLog, is_removed, put, shown_logs}
 use Rattle.qq_chain.specs.Promise.{Recovers, found_world, Keeps, IsSteady, IsLog, Continues}
-use Rattle.qq_chain.proofs.Fronts.{front-all, front-front}
+use Rattle.qq_base.proofs.Fronts.{front-refl, front-trans}
 use Rattle.qq_chain.proofs.Runs.{records-nil}
 use Rattle.qq_chain.proofs.Honest.{header-front, trusted-header, trusted-front}
 use Rattle.qq_chain.proofs.Replays.{restated, restate-front}
@@ -172,7 +172,7 @@ module _ (F : Format) (laws : IsFormat F) (b : ℕ) (r : Reading F) (before : Fo
           ∙ file-header F laws n h carries [] start.header_fits in
           let head_is : F.read_header others ≡ Some h = head ∙ sym in_all ∙ ours in
           let rs : List F.Record = file_records F n others in
-          let cut : IsFront rs carries = front-front rs (file_records F n bytes) carries
+          let cut : IsFront rs carries = front-trans
           (trusted-front F laws n (new_log bytes) others torn.tail torn.is honest)
           (subst (λ (l : List F.Record). IsFront (file_records F n bytes) l) carries-read
           (file-front F laws n bytes (file_bytes F laws n h carries) front)) in
@@ -240,7 +240,7 @@ module _ (F : Format) (laws : IsFormat F) (b : ℕ) (r : Reading F) (before : Fo
       (subst (λ (l : List F.Record). IsFront l carries)
       (sym (file-records F laws n h carries [] start.header_fits start.fit
       ∙ ap (λ (l : List F.Record). carries ++ l) (records-nil F laws n) ∙ append-nil carries))
-      (front-all carries))
+      (front-refl carries))
       (record {
         each = λ rs held cut. subst (λ (w : Option F.World). Recovers F noticed given w)
             (old-world ∙ sym (restated F before.world rs (restate-front F before.world rs carries cut start.restate)))

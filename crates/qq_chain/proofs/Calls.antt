@@ -12,7 +12,7 @@ use Rattle.qq_chain.specs.Records.{Restate, encode_all, end_of, replay}
 use Rattle.qq_chain.specs.Chain.{Found, Reading, add_file, reading}
 use Rattle.qq_chain.specs.Image.{Files, files_of, put, shown_logs}
 use Rattle.qq_chain.specs.Promise.{Continues, Holds, IsLog, IsRunning, IsSteady, Keeps, Promises, Recovers, StaysPromised, found_world, log_file}
-use Rattle.qq_chain.proofs.Fronts.{front-all, front-more, front-take}
+use Rattle.qq_base.proofs.Fronts.{front-refl, front-more, front-take}
 use Rattle.qq_chain.proofs.Replays.{replay-append, restated, IsSome}
 use Rattle.qq_chain.proofs.Walk.{put-at}
 use Rattle.qq_chain.proofs.Images.{shown-image}
@@ -103,7 +103,7 @@ module _ (F : Format) (laws : IsFormat F) (b n : ℕ) (h : F.Header) (before : F
       → IsAppending d (log_of n) (encode_all F n batch) e → Promises F b noticed (given ++ batch) e
   append-moment noticed given batch e keeps holds some fits (inl same) =
       subst (λ (d : Disk). Promises F b noticed (given ++ batch) d) (sym same)
-      (keeps-weaker F b noticed given noticed (given ++ batch) (files_of d) (front-all noticed)
+      (keeps-weaker F b noticed given noticed (given ++ batch) (files_of d) (front-refl noticed)
       (front-more given batch) keeps)
   append-moment noticed given batch e keeps holds some fits (inr (count, same)) =
       subst (λ (files : Files). Keeps F b noticed (given ++ batch) files)

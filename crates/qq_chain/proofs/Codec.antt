@@ -11,10 +11,10 @@ use Rattle.qq_wal_record.specs.declared.header.Header.{Header}
 use Rattle.qq_wal_record.specs.Encoding.{record_encoding, header_encoding}
 use Rattle.qq_wal_record.specs.Reading.{record_at, header_at, IsHeader, IsRecordAt}
 use Rattle.qq_wal_record.specs.Record.{IsWritable}
-use Rattle.qq_chain.specs.Front.{IsFront}
+use Rattle.qq_base.specs.Fronts.{IsFront}
 use Rattle.qq_chain.specs.Format.{IsFormat}
 use Rattle.qq_chain.specs.Wal.{real_bytes, record_of, read_record, WholeHeader, Ours, Another, whole_header, read_whole_header, encode_header, RecordFits, HeaderFits, wal}
-use Rattle.qq_chain.proofs.Fronts.{front-cons, front-none}
+use Rattle.qq_base.proofs.Fronts.{front-cons, front-nil}
 
 real-append : (a rest : List ℕ) → AreBytes a → real_bytes (a ++ rest) ≡ a ++ real_bytes rest
 real-append [] rest h = refl
@@ -40,12 +40,12 @@ real-are (b ∷ bytes) i = by (ltb b 256) refl i (real-are bytes)
     by false e i later = omega arith
 
 real-front : (bytes : List ℕ) → IsFront (real_bytes bytes) bytes
-real-front [] = front-none []
+real-front [] = front-nil []
 real-front (b ∷ bytes) = by (ltb b 256) (real-front bytes)
   where
     by : (t : Bool) → IsFront (real_bytes bytes) bytes → IsFront (cond t (b ∷ real_bytes bytes) []) (b ∷ bytes)
     by true later = front-cons b (real_bytes bytes) bytes later
-    by false later = front-none (b ∷ bytes)
+    by false later = front-nil (b ∷ bytes)
 
 -- what two lists that begin alike have between two places
 same-part : (a x y : List ℕ) (p k : ℕ) → p + k ≤ length a → take k (drop p (a ++ x)) ≡ take k (drop p (a ++ y))

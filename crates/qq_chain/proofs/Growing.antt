@@ -5,13 +5,13 @@ use Rattle.std.proofs.lemmas.List.{append_cancel_left}
 use Rattle.std.specs.List.{AllByRecursion}
 use Rattle.qq_base.proofs.Lists.{AllByRecursion-append}
 use Rattle.qq_disk.specs.Disk.{FileState, whole, file_content}
-use Rattle.qq_chain.specs.Front.{IsFront}
+use Rattle.qq_base.specs.Fronts.{IsFront}
 use Rattle.qq_chain.specs.Format.{Format, IsFormat}
 use Rattle.qq_chain.specs.Records.{encode_all, file_records, replay}
 use Rattle.qq_chain.specs.Chain.{Found, Reading, reading}
 use Rattle.qq_chain.specs.Image.{Files, put, shown_logs}
 use Rattle.qq_chain.specs.Promise.{Recovers, found_world, Keeps, log_file, IsLog}
-use Rattle.qq_chain.proofs.Fronts.{front-all, front-more, front-front, front-behind, front-either, front-same}
+use Rattle.qq_base.proofs.Fronts.{front-refl, front-more, front-trans, front-behind, front-shorter, front-same}
 use Rattle.qq_chain.proofs.Runs.{encode-append, written-again, records-nil}
 use Rattle.qq_chain.proofs.Replays.{replay-append, replay-front, IsSome}
 use Rattle.qq_chain.proofs.Images.{shown-image}
@@ -29,14 +29,14 @@ which-front {A} a b all f g = by (cases_lt (length a) (length b))
   where
     by : (length a < length b) ⊎ (length b ≤ length a) → IsFront b a ⊎ Beyond a b all
     by (inl less) =
-        let h : IsFront a b = front-either a f.rest b g.rest (sym f.is ∙ g.is) (omega arith) in
+        let h : IsFront a b = front-shorter f g (omega arith) in
         inr (record {
           more = h.rest;
           is = h.is;
           front =
               record { rest = g.rest; is = g.is ∙ ap (λ (l : List A). l ++ g.rest) h.is };
         })
-    by (inr most) = inl (front-either b g.rest a f.rest (sym g.is ∙ f.is) most)
+    by (inr most) = inl (front-shorter g f most)
 
 module _ (F : Format) where
   -- a batch more, whose ops were given: what was promised of the records before goes on
@@ -54,10 +54,10 @@ module _ (F : Format) where
           by : IsFront rs all ⊎ Beyond all rs (all ++ batch)
               → Recovers F noticed (given ++ batch) (replay F rs (Some before))
           by (inl f) =
-              recovers-weaker F noticed given noticed (given ++ batch) (replay F rs (Some before)) (front-all noticed)
+              recovers-weaker F noticed given noticed (given ++ batch) (replay F rs (Some before)) (front-refl noticed)
               (front-more given batch) (follows.each rs held f)
           by (inr beyond) =
-              let whole = follows.each all within (front-all all) in
+              let whole = follows.each all within (front-refl all) in
               let rest : List F.Record = beyond.front.rest in
               let split : all ++ batch ≡ all ++ (beyond.more ++ rest) = beyond.front.is
               ∙ append_assoc all beyond.more rest in
@@ -73,8 +73,7 @@ module _ (F : Format) where
               let here = replay-front F (given ++ beyond.more) rest (Some F.start) longer in
               record {
                 ops = given ++ beyond.more;
-                held = front-front noticed whole.ops (given ++ beyond.more) whole.held
-                    (front-front whole.ops given (given ++ beyond.more) whole.front (front-more given beyond.more));
+                held = front-trans whole.held (front-trans whole.front (front-more given beyond.more));
                 front = front-behind given beyond.more batch (record { rest = rest; is = cut });
                 world = here.world;
                 is = value ∙ here.is;
@@ -174,21 +173,21 @@ module _ (F : Format) (laws : IsFormat F) (b n : ℕ) (h : F.Header) (before : F
           subst (λ (l : List F.Record). IsFront l (kept ++ pending))
           (sym (file-records F laws n h (kept ++ pending) [] log.header_fits all-fit
           ∙ ap (λ (l : List F.Record). (kept ++ pending) ++ l) (records-nil F laws n)
-          ∙ append-nil (kept ++ pending))) (front-all (kept ++ pending))
+          ∙ append-nil (kept ++ pending))) (front-refl (kept ++ pending))
 
       each : (rs : List F.Record) → IsFront (kept ++ pending) rs → IsFront rs (kept ++ pending)
           → Recovers F given given (replay F rs (Some before.world))
       each rs held front =
           let here = (follows-all noticed given keeps).each (kept ++ pending) (front-more kept pending)
-          (front-all (kept ++ pending)) in
+          (front-refl (kept ++ pending)) in
           record {
             ops = given;
-            held = front-all given;
-            front = front-all given;
+            held = front-refl given;
+            front = front-refl given;
             world = here.world;
             is =
                 ap (λ (l : List F.Record). replay F l (Some before.world))
-                (front-same (kept ++ pending) rs held front)
+                (front-same held front)
                 ∙ here.is;
             value = same ∙ here.is;
           }

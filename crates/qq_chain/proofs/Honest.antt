@@ -4,11 +4,11 @@ use Rattle.std.proofs.Common.{◌≡◌, ◌≤◌, ◌<◌, ◌+◌, ℕ, List,
 use Rattle.std.proofs.lemmas.Bool.{cases_lt}
 use Rattle.std.proofs.lemmas.List.{drop-append-le}
 use Rattle.qq_disk.specs.Disk.{FileState}
-use Rattle.qq_chain.specs.Front.{IsFront}
+use Rattle.qq_base.specs.Fronts.{IsFront}
 use Rattle.qq_chain.specs.Format.{Format, IsFormat}
 use Rattle.qq_chain.specs.Records.{encode_all, records, file_records, end_of}
 use Rattle.qq_chain.specs.Image.{IsHonest, all_bytes, place}
-use Rattle.qq_chain.proofs.Fronts.{front-none, front-cons, front-behind}
+use Rattle.qq_base.proofs.Fronts.{front-nil, front-cons, front-behind}
 use Rattle.qq_chain.proofs.Runs.{records-none, records-some, read-local, read-fits, encode-append}
 
 module _ (F : Format) (laws : IsFormat F) (n : ℕ) where
@@ -90,7 +90,7 @@ module _ (F : Format) (laws : IsFormat F) (n : ℕ) where
             → IsFront (records F n (drop (end_of F n done) (kept ++ tail))) (x ∷ left)
         by None e next =
             subst (λ (rs : List F.Record). IsFront rs (x ∷ left))
-            (sym (records-none F laws n (drop (end_of F n done) (kept ++ tail)) e)) (front-none (x ∷ left))
+            (sym (records-none F laws n (drop (end_of F n done) (kept ++ tail)) e)) (front-nil (x ∷ left))
         by (Some r) e next =
             let some = records-some F laws n (drop (end_of F n done) (kept ++ pending)) r
             (read-at done (x ∷ left) r split e) in

@@ -6,7 +6,7 @@ use Rattle.qq_disk.proofs.Stored.{no_bytes}
 use Rattle.qq_chain.specs.Format.{Format, IsFormat}
 use Rattle.qq_chain.specs.Chain.{Logs}
 use Rattle.qq_chain.specs.Image.{Files, put, all_bytes, MayLeaveLog, IsLogImage, shown_logs}
-use Rattle.qq_chain.proofs.Fronts.{front-all}
+use Rattle.qq_base.proofs.Fronts.{front-refl}
 use Rattle.qq_chain.proofs.Walk.{put-at, put-other}
 use Rattle.qq_chain.proofs.Honest.{cut-honest}
 
@@ -56,7 +56,7 @@ module _ (F : Format) (laws : IsFormat F) (n : ℕ) where
   all-left f = (
     record { tail = f.pending; is = refl; fits = omega arith },
     cut-honest F laws n f f.pending
-        (front-all f.pending),
+        (front-refl f.pending),
   )
 
   shown-by : (f : FileState) (b : Bool) → f.removed ≡ b

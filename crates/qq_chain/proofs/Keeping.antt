@@ -3,13 +3,13 @@ use Rattle.std.proofs.Common.{◌≡◌, ℕ, List, [], ◌++◌, length, Option
 use Rattle.std.proofs.lemmas.List.{append_cancel_left}
 use Rattle.std.specs.List.{AllByRecursion}
 use Rattle.qq_disk.specs.Disk.{FileState, whole}
-use Rattle.qq_chain.specs.Front.{IsFront}
+use Rattle.qq_base.specs.Fronts.{IsFront}
 use Rattle.qq_chain.specs.Format.{Format, IsFormat}
 use Rattle.qq_chain.specs.Records.{encode_all, records, file_records, end_of, replay}
 use Rattle.qq_chain.specs.Chain.{Found, Reading, add_file, reading}
 use Rattle.qq_chain.specs.Image.{Files, put, MayLeaveLog, shown_logs}
 use Rattle.qq_chain.specs.Promise.{Recovers, found_world, Keeps, IsSteady, log_file, IsLog}
-use Rattle.qq_chain.proofs.Fronts.{front-front, all-front}
+use Rattle.qq_base.proofs.Fronts.{front-trans, all-front}
 use Rattle.qq_chain.proofs.Runs.{stand, encode-append, written-again, records-nil}
 use Rattle.qq_chain.proofs.Honest.{cut-honest}
 use Rattle.qq_chain.proofs.Walk.{put-at}
@@ -21,8 +21,8 @@ module _ (F : Format) where
       → IsFront given more → Recovers F noticed given found → Recovers F held more found
   recovers-weaker noticed given held more found f g r = record {
     ops = r.ops;
-    held = front-front held noticed r.ops f r.held;
-    front = front-front r.ops given more r.front g;
+    held = front-trans f r.held;
+    front = front-trans r.front g;
     world = r.world;
     is = r.is;
     value = r.value;
@@ -58,8 +58,7 @@ module _ (F : Format) (laws : IsFormat F) (b n : ℕ) (h : F.Header) (before : F
         (sym (ap (λ (r : Reading F). found_world F r.found) reads
         ∙ world-added F laws n (file_records F n s.bytes) before))
         (follows.each (file_records F n s.bytes) s.held
-        (front-front (file_records F n s.bytes) (file_records F n (file_bytes F laws n h kept ++ pending)) all
-        s.front within));
+        (front-trans s.front within));
     alike = λ L K one other same.
         log-reads F laws b n h before kept pending files log L one
         ∙ ap (λ (o : Option (List ℕ)). log_reading F laws n before o)

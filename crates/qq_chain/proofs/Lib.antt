@@ -1,4 +1,3 @@
-pub mod Fronts
 pub mod Runs
 pub mod Replays
 pub mod Honest

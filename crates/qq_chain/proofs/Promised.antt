@@ -13,7 +13,7 @@ use Rattle.qq_log.specs.declared.op.Op.{Op}
 use Rattle.qq_wal_record.specs.declared.record.LogRecord.{LogRecord}
 use Rattle.qq_wal_record.specs.declared.record.LogRecord.TheVariants.{Op as OpRecord}
 use Rattle.qq_disk.specs.declared.name.FileName.{FileName}
-use Rattle.qq_chain.specs.Front.{IsFront}
+use Rattle.qq_base.specs.Fronts.{IsFront}
 use Rattle.qq_chain.specs.Format.{Format, IsFormat}
 use Rattle.qq_chain.specs.Records.{encode_all, replay}
 use Rattle.qq_chain.specs.Chain.{Logs, Found, newest, read_chain, reading}
@@ -21,7 +21,7 @@ use Rattle.qq_chain.specs.Image.{MayLeaveLog, IsLogImage, files_of, logs_of}
 use Rattle.qq_chain.specs.Promise.{Holds, Promises, StaysPromised, sync_all, IsRunning, found_world}
 use Rattle.qq_chain.specs.Wal.{wal, WholeHeader}
 use Rattle.qq_chain.specs.Laws.{KeepsPromise, HoldsOps, IsHonestImage, IsRecoverable, SettlesOn, lanes_read, op_records, batch_bytes, AreSound, AreWritable}
-use Rattle.qq_chain.proofs.Fronts.{front-all}
+use Rattle.qq_base.proofs.Fronts.{front-refl}
 use Rattle.qq_chain.proofs.Replays.{IsSome}
 use Rattle.qq_chain.proofs.Walk.{chain-none, nothing}
 use Rattle.qq_chain.proofs.Recovery.{again-keeps, opened-keeps}
@@ -72,8 +72,8 @@ empty-keeps queues bound =
     ∙ chain-none (wal queues) bound none 0 in
     opened-keeps (wal queues) bound [] [] none (record {
       ops = [];
-      held = front-all [];
-      front = front-all [];
+      held = front-refl [];
+      front = front-refl [];
       world = (wal queues).start;
       is = ap (λ (f : Option (Found (wal queues))). found_world (wal queues) f) found;
       value = refl;

@@ -8,7 +8,7 @@ use Rattle.qq_log.specs.Op.{queue}
 use Rattle.qq_log.specs.Stable.{Stable, new_state, apply_op, then_apply, apply_ops, take_carry, restates}
 use Rattle.qq_wal_record.specs.declared.record.LogRecord.{LogRecord}
 use Rattle.qq_wal_record.specs.declared.record.LogRecord.TheVariants.{Op as OpRecord, Carry as CarryRecord}
-use Rattle.qq_chain.specs.Front.{IsFront}
+use Rattle.qq_base.specs.Fronts.{IsFront}
 use Rattle.qq_chain.specs.Records.{replay}
 use Rattle.qq_chain.specs.Image.{put}
 use Rattle.qq_chain.specs.Promise.{Recovers}

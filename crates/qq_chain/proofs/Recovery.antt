@@ -9,7 +9,7 @@ use Rattle.qq_chain.specs.Records.{file_records}
 use Rattle.qq_chain.specs.Chain.{Logs, Found, has_header, chain, reading}
 use Rattle.qq_chain.specs.Image.{Files, put, all_bytes, MayLeaveLog, IsLogImage, is_removed, shown_logs}
 use Rattle.qq_chain.specs.Promise.{Recovers, found_world, Keeps, IsSteady, IsLog, IsSettled}
-use Rattle.qq_chain.proofs.Fronts.{front-all}
+use Rattle.qq_base.proofs.Fronts.{front-refl}
 use Rattle.qq_chain.proofs.Walk.{put-at, put-other, chain-same, chain-without, Misses}
 use Rattle.qq_chain.proofs.Images.{image-back, image-here, whole-log-left, all-left, shown-image}
 use Rattle.qq_chain.proofs.Running.{file_bytes}
@@ -239,5 +239,5 @@ module _ (F : Format) (laws : IsFormat F) where
         log-keeps F laws b n h before kept pending (put files m (option_map mark_removed (files m))) remove-log
         noticed
         given (file_records F n (file_bytes F laws n h kept ++ pending))
-        (front-all (file_records F n (file_bytes F laws n h kept ++ pending)))
+        (front-refl (file_records F n (file_bytes F laws n h kept ++ pending)))
         (follows-of F laws b n h before kept pending files log noticed given keeps)

@@ -4,13 +4,13 @@ use Rattle.std.proofs.lemmas.Bool.{ne_eqb}
 use Rattle.std.proofs.lemmas.List.{drop-take}
 use Rattle.std.specs.List.{AllByRecursion}
 use Rattle.qq_disk.specs.Disk.{FileState}
-use Rattle.qq_chain.specs.Front.{IsFront}
+use Rattle.qq_base.specs.Fronts.{IsFront}
 use Rattle.qq_chain.specs.Format.{Format, IsFormat}
 use Rattle.qq_chain.specs.Records.{encode_all, records, file_records, end_of, replay}
 use Rattle.qq_chain.specs.Chain.{Logs, Found, Reading, has_header, newest, records_up_to, add_file, chain, good_length, read_chain, reading}
 use Rattle.qq_chain.specs.Image.{Files, put, MayLeaveLog, IsLogImage, is_removed}
 use Rattle.qq_chain.specs.Promise.{found_world, log_file, IsLog}
-use Rattle.qq_chain.proofs.Fronts.{front-drop}
+use Rattle.qq_base.proofs.Fronts.{front-drop}
 use Rattle.qq_chain.proofs.Runs.{any-written, any-size, any-front}
 use Rattle.qq_chain.proofs.Honest.{trusted-front}
 use Rattle.qq_chain.proofs.Walk.{newest-is, chain-same, chain-onto, counts-from, put-at, put-other}

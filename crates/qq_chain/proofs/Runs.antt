@@ -1,10 +1,10 @@
 -- The records of a file: those that were written are read, up to the first place where none stands.
 use Rattle.std.proofs.Common.{◌≡◌, ◌≤◌, ℕ, zero, suc, List, [], ◌∷◌, ◌++◌, length, take, drop, Option, Some, None, refl, sym, ap, subst, ◌∙◌, append_assoc, append-nil, length-append, length-drop, take_at, drop_at, arith}
 use Rattle.std.specs.List.{AllByRecursion}
-use Rattle.qq_chain.specs.Front.{IsFront}
+use Rattle.qq_base.specs.Fronts.{IsFront}
 use Rattle.qq_chain.specs.Format.{Format, IsFormat}
 use Rattle.qq_chain.specs.Records.{encode_all, next_records, records_within, records}
-use Rattle.qq_chain.proofs.Fronts.{front-either}
+use Rattle.qq_base.proofs.Fronts.{front-more, front-shorter}
 
 module _ (F : Format) (laws : IsFormat F) (n : ℕ) where
   -- no record is read where no byte stands
@@ -166,8 +166,8 @@ module _ (F : Format) (laws : IsFormat F) (n : ℕ) where
       ∙ laws.again n r (front.rest ++ other) (laws.fits n (same ++ one) r e)
     where
       front-here : IsFront (F.encode n r) same
-      front-here = front-either (F.encode n r) (drop (length (F.encode n r)) (same ++ one)) same one
-          (sym (laws.exact n (same ++ one) r e)) h
+      front-here = front-shorter (record { rest = drop (length (F.encode n r)) (same ++ one); is = laws.exact n (same ++ one) r e })
+          (front-more same one) h
 
 pub encode-append : (F : Format) (n : ℕ) (a b : List F.Record)
     → encode_all F n (a ++ b) ≡ encode_all F n a ++ encode_all F n b

@@ -6,12 +6,12 @@ use Rattle.qq_disk.specs.Name.{same_name}
 use Rattle.qq_disk.specs.Disk.{Disk, FileState, sync, keep, whole, file_content, IsListing, IsListed, contents}
 use Rattle.qq_disk.specs.Image.{log_of}
 use Rattle.qq_disk.proofs.Names.{same_name-refl, same_name-true, set-at, set-other}
-use Rattle.qq_chain.specs.Front.{IsFront}
+use Rattle.qq_base.specs.Fronts.{IsFront}
 use Rattle.qq_chain.specs.Format.{Format, IsFormat}
 use Rattle.qq_chain.specs.Chain.{reading}
 use Rattle.qq_chain.specs.Image.{files_of, shown_logs}
 use Rattle.qq_chain.specs.Promise.{IsSettled, IsSteady, Holds, Promises, sync_all}
-use Rattle.qq_chain.proofs.Fronts.{front-all}
+use Rattle.qq_base.proofs.Fronts.{front-refl}
 use Rattle.qq_chain.proofs.Images.{shown-image}
 use Rattle.qq_chain.proofs.Beginning.{steady-keeps}
 use Rattle.qq_chain.proofs.Recovery.{IsSettledAt, settled-keep, settled-free, settled-steady}
@@ -119,8 +119,8 @@ module _ (F : Format) (laws : IsFormat F) where
         holds = r.value ∙ sym r.is;
         promise = steady-keeps F b (reading F b (shown_logs (files_of d))) r.ops r.ops (files_of d) steady (record {
           ops = r.ops;
-          held = front-all r.ops;
-          front = front-all r.ops;
+          held = front-refl r.ops;
+          front = front-refl r.ops;
           world = r.world;
           is = r.is;
           value = r.value;

@@ -8,7 +8,7 @@ use Rattle.qq_disk.specs.Image.{log_of}
 use Rattle.qq_log.specs.declared.op.Op.{Op}
 use Rattle.qq_wal_record.specs.declared.record.LogRecord.{LogRecord}
 use Rattle.qq_wal_record.specs.declared.record.LogRecord.TheVariants.{Op as OpRecord}
-use Rattle.qq_chain.specs.Front.{IsFront}
+use Rattle.qq_base.specs.Fronts.{IsFront}
 use Rattle.qq_chain.specs.Records.{encode_all, replay}
 use Rattle.qq_chain.specs.Chain.{reading}
 use Rattle.qq_chain.specs.Image.{IsHonest, files_of, logs_of, shown_logs}

@@ -1,5 +1,4 @@
 pub mod Format
-pub mod Front
 pub mod Records
 pub mod Chain
 pub mod Image

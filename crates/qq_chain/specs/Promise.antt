@@ -4,7 +4,7 @@ use Rattle.std.specs.List.{AllByRecursion}
 use Rattle.qq_disk.specs.declared.name.FileName.{FileName}
 use Rattle.qq_disk.specs.Disk.{Disk, FileState, now, sync, file_content}
 use Rattle.qq_disk.specs.Moments.{Adds}
-use Rattle.qq_chain.specs.Front.{IsFront}
+use Rattle.qq_base.specs.Fronts.{IsFront}
 use Rattle.qq_chain.specs.Format.{Format}
 use Rattle.qq_chain.specs.Records.{encode_all, records, file_records, replay, Restate}
 use Rattle.qq_chain.specs.Chain.{Logs, Found, Reading, chain, has_header, reading}

@@ -11,7 +11,7 @@ ghost use Rattle.qq_disk.specs.Image.{log_of};
 ghost use Rattle.qq_log.specs.declared.op.Op.{Op};
 ghost use Rattle.qq_wal_record.specs.declared.record.LogRecord.{LogRecord};
 ghost use Rattle.qq_chain.specs.Format.{IsFormat};
-ghost use Rattle.qq_chain.specs.Front.{IsFront};
+ghost use Rattle.qq_base.specs.Fronts.{IsFront};
 ghost use Rattle.qq_chain.specs.Chain.{Found, Reading};
 ghost use Rattle.qq_chain.specs.Image.{IsHonest, files_of, shown_logs};
 ghost use Rattle.qq_chain.specs.Promise.{StaysPromised, IsRunning, Continues, sync_all};

@@ -12,7 +12,7 @@ use Rattle.qq_chain.specs.Lanes.{IsStateOf, Lanes, RecoversLanes, of_queue}
 use Rattle.qq_chain.specs.Laws.{IsHonestImage, KeepsPromise, SettlesOn, op_records}
 use Rattle.qq_chain.specs.Promise.{found_world}
 use Rattle.qq_chain.specs.Wal.{wal}
-use Rattle.qq_chain.proofs.Fronts.{front-all, front-same}
+use Rattle.qq_base.proofs.Fronts.{front-refl, front-same}
 use Rattle.qq_chain.proofs.Images.{shown-image}
 use Rattle.qq_chain.proofs.Promised.{crash-keeps}
 use Rattle.qq_chain.proofs.Queues.{recovers-lanes}
@@ -35,7 +35,7 @@ same-lanes queues ops lanes r id =
     let lane = r.each id in
     let found : lanes ≡ r.lanes = cc (r.is) in
     subst (λ (l : Lanes). IsStateOf (of_queue id ops) (l id)) (sym found)
-    (subst (λ (l : List Op). IsStateOf l (r.lanes id)) (sym (front-same lane.ops (of_queue id ops) lane.front lane.held))
+    (subst (λ (l : List Op). IsStateOf l (r.lanes id)) (sym (front-same lane.front lane.held))
     lane.is)
 
 -- ---- what recovery settled on
@@ -50,8 +50,8 @@ settles-lanes queues noticed given lanes mid new s shown stays still = record {
   front = s.front;
   each = same-lanes queues s.ops lanes (recovers-lanes queues s.ops s.ops (Some lanes) (record {
     ops = op_records s.ops;
-    held = front-all (op_records s.ops);
-    front = front-all (op_records s.ops);
+    held = front-refl (op_records s.ops);
+    front = front-refl (op_records s.ops);
     world = lanes;
     is = refl;
     value = s.holds ∙ shown;

@@ -3,7 +3,7 @@ use Rattle.std.specs.Prelude.{◌≡◌, ℕ, false, List, Some, Ok}
 use Rattle.qq_base.specs.declared.ids.QueueId.{QueueId}
 use Rattle.qq_disk.specs.Disk.{Disk}
 use Rattle.qq_log.specs.declared.op.Op.{Op}
-use Rattle.qq_chain.specs.Front.{IsFront}
+use Rattle.qq_base.specs.Fronts.{IsFront}
 use Rattle.qq_chain.specs.Chain.{Logs, reading}
 use Rattle.qq_chain.specs.Image.{Files, IsLogImage, files_of, is_removed}
 use Rattle.qq_chain.specs.Lanes.{Lanes, IsStateOf, RecoversLanes, of_queue}

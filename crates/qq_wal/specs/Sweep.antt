@@ -7,7 +7,7 @@ use Rattle.qq_disk.specs.declared.name.FileName.{FileName}
 use Rattle.qq_log.specs.declared.head.Span.{Span}
 use Rattle.qq_log.specs.declared.op.Op.{Op}
 use Rattle.qq_log.specs.Stable.{Stable, stable}
-use Rattle.qq_chain.specs.Front.{IsFront}
+use Rattle.qq_base.specs.Fronts.{IsFront}
 
 -- a snapshot's file, where there is one
 abbrev pub snapshot_file : ℕ → List FileName
