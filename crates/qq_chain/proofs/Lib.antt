@@ -14,5 +14,6 @@ pub mod Settling
 pub mod Codec
 pub mod Queues
 pub mod Promised
+pub mod Gives
 pub mod Alone
 pub mod Examples

@@ -2,6 +2,9 @@
 use Rattle.std.specs.Prelude.{◌≡◌, ◌⊎◌, ◌+◌, ◌<◌, ℕ, Bool, true, false, List, ◌++◌, length, take, drop, Option, Some, None, nat_eq, if◌then◌else◌}
 use Rattle.qq_disk.specs.Disk.{Disk, FileState, file_content}
 use Rattle.qq_disk.specs.Image.{log_of}
+use Rattle.qq_disk.specs.declared.image.Image.{Image}
+use Rattle.qq_disk.specs.declared.image.Tail.{Tail}
+use Rattle.qq_disk.specs.declared.image.Tail.TheVariants.{Junk}
 use Rattle.qq_disk.specs.Crash.{Remains, IsTorn}
 use Rattle.qq_chain.specs.Format.{Format}
 use Rattle.qq_chain.specs.Records.{file_records, end_of}
@@ -49,6 +52,15 @@ MayLeaveLog F n (Some f) (Some bytes) = IsTorn f bytes × IsHonest F n f bytes
 -- what a crash may leave of the log files, under the premise
 abbrev pub IsLogImage : (F : Format) → Files → Logs → Type 0
 IsLogImage F files logs = (n : ℕ) → MayLeaveLog F n (files n) (logs n)
+
+-- a named image that leaves no bytes but those that were written
+abbrev pub is_junk : Tail → Bool
+is_junk (Junk bytes) = true
+is_junk _ = false
+
+pub record HasNoJunk (image : Image) : Type 0 where
+  pub newest_log : is_junk image.newest_log ≡ false
+  pub others : is_junk image.others ≡ false
 
 -- the log files as the disk shows them
 abbrev pub shown_logs : Files → Logs

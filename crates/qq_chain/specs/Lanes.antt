@@ -1,5 +1,5 @@
 -- The queues of a log, and what its records make of them.
-use Rattle.std.specs.Prelude.{◌≡◌, ◌+◌, ℕ, Bool, true, false, List, [], ◌∷◌, length, filter, Option, Some, None, option_map, unwrap_or, nat_eq, nat_le, ◌&&◌, if◌then◌else◌}
+use Rattle.std.specs.Prelude.{◌≡◌, ◌≤◌, ◌+◌, ℕ, Bool, true, false, List, [], ◌∷◌, length, filter, take, Option, Some, None, option_map, unwrap_or, nat_eq, nat_le, ◌&&◌, if◌then◌else◌}
 use Rattle.qq_base.specs.declared.ids.QueueId.{QueueId}
 use Rattle.std.specs.List.{list_any, list_all}
 use Rattle.qq_base.specs.declared.memory.TheConstants.{NUMBER_END}
@@ -96,6 +96,14 @@ pub record RecoversLane (noticed given : List Op) (lane : Option Stable) : Type 
   pub held : IsFront noticed ops
   pub front : IsFront ops given
   pub is : IsStateOf ops lane
+
+-- What is recovered of a queue is what its first ops come to, so many of them at least. A queue without a lane has the
+-- state of one without ops.
+pub record FirstOpsGive (low : ℕ) (ops : List Op) (lane : Option Stable) : Type 0 where
+  pub count : ℕ
+  pub least : low ≤ count
+  pub most : count ≤ length ops
+  pub is : Some (unwrap_or lane new_state) ≡ stable (take count ops)
 
 -- and so has each queue
 pub record RecoversLanes (noticed given : List Op) (found : Option Lanes) : Type 0 where

@@ -1,5 +1,5 @@
 //! The promise of the log, as laws: the functions do nothing, and their contracts are the laws.
-ghost use Rattle.std.specs.Prelude.{◌≡◌, ◌≢◌, ◌++◌, ℕ, List, [], Option, None, false, nat_eq};
+ghost use Rattle.std.specs.Prelude.{◌≡◌, ◌≢◌, ◌++◌, ℕ, List, [], ◌≤◌, Option, Some, None, false, length, nat_eq, take, unwrap_or};
 ghost use Rattle.std.specs.List.{AllByRecursion};
 ghost use Rattle.qq_base.specs.declared.ids.QueueId.{QueueId};
 ghost use Rattle.qq_disk.specs.declared.name.FileName.{FileName};
@@ -7,13 +7,16 @@ ghost use Rattle.qq_disk.specs.declared.name.FileKind.TheVariants.{Log};
 ghost use Rattle.qq_disk.specs.Disk.{Disk, FileState, now, set, append, sync, IsListing};
 ghost use Rattle.qq_disk.specs.Moments.{Adds, IsAppending, IsSyncing, IsRemoving};
 ghost use Rattle.qq_disk.specs.Crash.{Remains, IsImage, reopen};
-ghost use Rattle.qq_disk.specs.Image.{log_of};
+ghost use Rattle.qq_disk.specs.Image.{image_of, log_of};
+ghost use Rattle.qq_disk.specs.declared.image.Image.{Image};
+ghost use Rattle.qq_log.specs.Stable.{Stable, new_state, stable};
+ghost use Rattle.qq_chain.specs.Lanes.{FirstOpsGive, Lanes, RecoversLane, RecoversLanes, of_queue};
 ghost use Rattle.qq_log.specs.declared.op.Op.{Op};
 ghost use Rattle.qq_wal_record.specs.declared.record.LogRecord.{LogRecord};
 ghost use Rattle.qq_chain.specs.Format.{IsFormat};
 ghost use Rattle.qq_base.specs.Fronts.{IsFront};
 ghost use Rattle.qq_chain.specs.Chain.{Found, Reading};
-ghost use Rattle.qq_chain.specs.Image.{IsHonest, files_of, shown_logs};
+ghost use Rattle.qq_chain.specs.Image.{HasNoJunk, IsHonest, files_of, shown_logs};
 ghost use Rattle.qq_chain.specs.Promise.{StaysPromised, IsRunning, Continues, sync_all};
 ghost use Rattle.qq_chain.specs.Wal.{wal, WholeHeader};
 ghost use Rattle.qq_chain.specs.Laws.{KeepsPromise, HoldsOps, IsHonestImage, IsRecoverable, SettlesOn, op_records, batch_bytes, first_bytes, AreSound, AreWritable, IsSettledDisk};
@@ -74,6 +77,42 @@ pub fn a_crash_keeps_the_promise()
         (i : Remains) → KeepsPromise queues bound noticed given d → IsImage d i →
         IsHonestImage queues d i → KeepsPromise queues bound noticed given (reopen i) }
 {}
+
+/// A promise of more is one of less: with fewer ops noticed, and more given.
+pub fn promises_of_more_are_of_less()
+    ensures { (queues : List QueueId) (bound : ℕ) (fewer noticed given more : List Op) (d : Disk) →
+        IsFront fewer noticed → IsFront given more → KeepsPromise queues bound noticed given d →
+        KeepsPromise queues bound fewer more d }
+{}
+
+/// What is recovered of a queue is what so many of its first ops come to, all that it was noticed of
+/// among them. A queue without a lane is a new one.
+///
+/// - `each`: so it is of each queue, where so much is recovered of all.
+/// - `words`: a count of them, no fewer than were noticed and no more than were given.
+pub fn queues_get_their_first_ops()
+    ensures one { (noticed given : List Op) (lane : Option Stable) → RecoversLane noticed given lane →
+        FirstOpsGive (length noticed) given lane }
+    ensures each { (noticed given : List Op) (found : Option Lanes) →
+        RecoversLanes noticed given found → (lanes : Lanes) × (found ≡ Some lanes) × ((id : ℕ) →
+        FirstOpsGive (length (of_queue id noticed)) (of_queue id given) (lanes id)) }
+    ensures words { (low : ℕ) (ops : List Op) (lane : Option Stable) → FirstOpsGive low ops lane →
+        (count : ℕ) × (low ≤ count) × (count ≤ length ops)
+        × (stable (take count ops) ≡ Some (unwrap_or lane new_state)) }
+{}
+
+/// A crash into a named image without junk keeps the promise: such an image is one that the disk may leave,
+/// and it is honest.
+pub fn a_crash_without_junk_keeps_the_promise()
+    ensures image { (queues : List QueueId) (image : Image) (newest : Option FileName) (d : Disk) →
+        HasNoJunk image → IsHonestImage queues d (image_of image newest d) }
+    ensures promise { (queues : List QueueId) (bound : ℕ) (noticed given : List Op) (d : Disk)
+        (image : Image) (newest : Option FileName) → HasNoJunk image →
+        KeepsPromise queues bound noticed given d →
+        KeepsPromise queues bound noticed given (reopen (image_of image newest d)) }
+{
+    the_log_has_a_format();
+}
 
 /// A sync of any file keeps the promise, at each moment.
 pub fn a_sync_keeps_the_promise()
