@@ -12,7 +12,7 @@ use Rattle.qq_session.specs.Publishing.{Numbers, next_command, hand, answer, ope
 use Rattle.qq_world.specs.Laws.{take_of, is_sent_by, takes_of, deeds_at, deeds, after_deeds, CountsDeeds}
 use Rattle.qq_world.specs.Server.{is_ready, notice, submit, may_restart}
 use Rattle.qq_world.specs.World.{World, Client, Clients, Event, Mutes, Ticks, Submits, Resends, Writes, Syncs, Notices, Stops, Finds, new_world, is_up, may_hand, sender, take_answer, hear_by, hear, hear_all, offer, offer_all, set_numbers, send, own_rows, tell, find, happens, after}
-use Rattle.qq_world.proofs.Puts.{put-each}
+use Rattle.qq_base.proofs.Puts.{put-each}
 
 pub deeds-append : (first second : List Deed) (n : Numbers)
     → after_deeds (first ++ second) n ≡ after_deeds second (after_deeds first n)

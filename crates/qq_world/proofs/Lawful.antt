@@ -10,12 +10,13 @@ use Rattle.qq_log.specs.declared.op.Op.{Op}
 use Rattle.qq_log.specs.Stable.{Stable, stable}
 use Rattle.qq_model.specs.Audit.{IsSerial, entries_of}
 use Rattle.qq_model.specs.State.{empty_queue}
-use Rattle.qq_world.specs.Front.{IsFront}
+use Rattle.qq_base.specs.Fronts.{IsFront}
 use Rattle.qq_world.specs.Laws.{world_after, HasSerialAudit, KeepsAudit, CountsRise, HandsSoundOps, HasAppliedWhereReady, HoldsWhatIsPromised, TakesUpWhatIsPromised}
 use Rattle.qq_world.specs.Promise.{ComesTo, HoldsAudit, IsPromised, Promises, Supports, state_of}
 use Rattle.qq_world.specs.Server.{Server, entries_in, is_down, is_leader_in, log_of}
 use Rattle.qq_world.specs.World.{Event}
-use Rattle.qq_world.proofs.Fronts.{front-front, front-map, front-flat_map, front-takes, audit-serial}
+use Rattle.qq_base.proofs.Fronts.{front-trans, front-map, front-flat_map, front-takes}
+use Rattle.qq_world.proofs.Audits.{audit-serial}
 use Rattle.qq_world.proofs.Moves.{Good}
 use Rattle.qq_world.proofs.Worlds.{follows-all, reached}
 
@@ -57,11 +58,11 @@ applied-where_ready args events ready =
     ∙ ap (λ (a : QueueArgs). queue_audit a (log_of (take s.noticed s.ops))) to.args_is
 
 -- so many of a first part of a list are so many of the whole
-take-front : {A : Type 0} (k : ℕ) (a b : List A) → IsFront a b → k ≤ length a → take k a ≡ take k b
+pub take-front : {A : Type 0} (k : ℕ) (a b : List A) → IsFront a b → k ≤ length a → take k a ≡ take k b
 take-front k a b front le = sym (take-append-le k a front.rest le) ∙ ap (take k) (sym front.is)
 
 -- what is promised of an image is what so many of the server's ops come to
-comes-to : (s : Server) (lane : Option Stable) → IsPromised s lane → ComesTo s.noticed s.ops lane
+pub comes-to : (s : Server) (lane : Option Stable) → IsPromised s lane → ComesTo s.noticed s.ops lane
 comes-to s lane it = record {
   count = it.comes.count;
   least = omega (arith, it.noticed, it.comes.least);
@@ -70,13 +71,13 @@ comes-to s lane it = record {
 }
 
 -- and has what is noticed of them
-holds-good : (args : QueueArgs) (ops : List Op) (noticed : ℕ) (audit : List AuditRow) → Good args ops noticed audit
+pub holds-good : (args : QueueArgs) (ops : List Op) (noticed : ℕ) (audit : List AuditRow) → Good args ops noticed audit
     → (lane : Option Stable) → ComesTo noticed ops lane → HoldsAudit audit lane
 holds-good args ops noticed audit good lane comes = record {
   state = state_of (take comes.count ops);
   is = comes.is ∙ good.states comes.count;
   front = front-map Some (entries_of audit) (log_of (take comes.count ops))
-      (front-front (entries_of audit) (log_of (take noticed ops)) (log_of (take comes.count ops)) good.front
+      (front-trans good.front
       (front-flat_map entries_in (take noticed ops) (take comes.count ops)
       (front-takes noticed comes.count ops comes.least)));
 }

@@ -1,19 +1,18 @@
-mod Fronts
-mod Ops
-mod Moves
-mod Worlds
-mod Lawful
-mod Puts
+mod Audits
+pub mod Ops
+pub mod Moves
+pub mod Worlds
+pub mod Lawful
 mod Confirming
 mod Printed
 mod Once
 mod Deeds
 mod Handed
 mod SessionLaws
-mod EachQueue
+pub mod EachQueue
 mod Settling
 mod Leading
-mod Serving
+pub mod Serving
 mod Worked
 mod Stopping
 mod PrintedOnce

@@ -15,9 +15,10 @@ use Rattle.qq_entry.specs.declared.queue.QueueArgs.{QueueArgs}
 use Rattle.qq_log.specs.declared.op.Op.{Op}
 use Rattle.qq_model.specs.Audit.{audit_of, entries_of}
 use Rattle.qq_model.specs.State.{empty_queue}
-use Rattle.qq_world.specs.Front.{IsFront}
+use Rattle.qq_base.specs.Fronts.{IsFront}
 use Rattle.qq_world.specs.Server.{Server, new_server, Role, Down, Follower, Candidate, Leader, entries_in, log_of, term_after, term_of, is_leader_in, node, stand, tick_by, tick, entry_of, lead, go_on, notice, submit, stop, restart}
-use Rattle.qq_world.proofs.Fronts.{front-all, front-front, front-takes, front-flat_map, entries-of_audit, audit-front}
+use Rattle.qq_base.proofs.Fronts.{front-refl, front-trans, front-takes, front-flat_map}
+use Rattle.qq_world.proofs.Audits.{entries-of_audit, audit-front}
 use Rattle.qq_world.proofs.Ops.{adding, AreSound, sound-none, sound-more, sound-front, take-all}
 
 -- ops, how many of them are noticed, and an audit fit together
@@ -51,7 +52,7 @@ good-notice args ops noticed op audit good more within =
       within = within;
       states = good.states;
       serial = good.serial;
-      front = front-front (entries_of audit) (log_of (take noticed ops)) (log_of (take op ops)) good.front
+      front = front-trans good.front
           (front-flat_map entries_in (take noticed ops) (take op ops) (front-takes noticed op ops more));
     }
 
@@ -64,7 +65,7 @@ good-apply args ops noticed audit good =
       within = good.within;
       states = good.states;
       serial = ap (audit_of (empty_queue args)) (sym same);
-      front = subst (λ (l : List Entry). IsFront l entries) (sym same) (front-all entries);
+      front = subst (λ (l : List Entry). IsFront l entries) (sym same) (front-refl entries);
     }
 
 -- rows are only added
@@ -116,14 +117,14 @@ moves-stop most s sound upto = record {
     applied = λ leads. absurd (false≢true leads);
   };
   args_is = refl;
-  rows = front-all s.audit;
+  rows = front-refl s.audit;
   longer = omega arith;
   upto = upto;
 }
 
 moves-same : (most : ℕ) (s : Server) → Sound s → s.noticed ≤ most → Moves most s s
 moves-same most s sound upto =
-    record { sound = sound; args_is = refl; rows = front-all s.audit; longer = omega arith; upto = upto }
+    record { sound = sound; args_is = refl; rows = front-refl s.audit; longer = omega arith; upto = upto }
 
 moves-stand : (most : ℕ) (s : Server) → Sound s → s.noticed ≤ most → Moves most s (stand s)
 moves-stand most s sound upto =
@@ -136,7 +137,7 @@ moves-stand most s sound upto =
         applied = λ leads. absurd (false≢true leads);
       };
       args_is = refl;
-      rows = front-all s.audit;
+      rows = front-refl s.audit;
       longer = longer-pushed s.ops x;
       upto = upto;
     }
@@ -164,7 +165,7 @@ moves-submit most command s sound upto =
             (sym (take-append-le s.noticed s.ops (x ∷ []) sound.good.within));
       };
       args_is = refl;
-      rows = front-all s.audit;
+      rows = front-refl s.audit;
       longer = longer-pushed s.ops x;
       upto = upto;
     }
@@ -180,7 +181,7 @@ moves-notice op s sound more within = by s.role refl (nat_le s.since op) refl
     waits applied = record {
       sound = record { good = good; term_is = sound.term_is; applied = applied };
       args_is = refl;
-      rows = front-all s.audit;
+      rows = front-refl s.audit;
       longer = omega arith;
       upto = omega arith;
     }
@@ -196,7 +197,7 @@ moves-notice op s sound more within = by s.role refl (nat_le s.since op) refl
             applied = λ leads since. absurd (omega (arith, since, within));
           };
           args_is = refl;
-          rows = front-all s.audit;
+          rows = front-refl s.audit;
           longer = longer-pushed s.ops x;
           upto = omega arith;
         }
@@ -233,7 +234,7 @@ sound-restart op s sound more within = record {
 
 pub sound-new : (args : QueueArgs) → Sound (new_server args)
 sound-new args = record {
-  good = record { within = omega arith; states = sound-none; serial = refl; front = front-all [] };
+  good = record { within = omega arith; states = sound-none; serial = refl; front = front-refl [] };
   term_is = refl;
   applied = λ leads. absurd (false≢true leads);
 }

@@ -25,7 +25,7 @@ use Rattle.qq_entry.specs.Answer.{comes_from_gate}
 use Rattle.qq_session.specs.Answered.{IsAnswered, WasAnswered}
 use Rattle.qq_session.proofs.AnsweredLemmas.{FreshRow, fresh_row}
 use Rattle.qq_session.proofs.AuditRows.{RowAt, row_at, filter_map-append}
-use Rattle.qq_world.specs.Front.{ExactlyOne}
+use Rattle.qq_world.specs.ExactlyOne.{ExactlyOne}
 use Rattle.qq_world.specs.Laws.{IsAnswer, IsAudited, IsConfirmedPublish, IsConfirmedOnce}
 use Rattle.qq_world.specs.World.{Shown, Answered, NoLeader, WindowFull, sender, sender_by}
 use Rattle.qq_world.proofs.Confirming.{IsEnqueue, confirmed-enqueue}

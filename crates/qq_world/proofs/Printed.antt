@@ -10,7 +10,7 @@ use Rattle.qq_entry.specs.declared.command.Command.{Command}
 use Rattle.qq_entry.specs.declared.queue.QueueArgs.{QueueArgs}
 use Rattle.qq_session.proofs.AuditRows.{Contains-middle}
 use Rattle.qq_session.specs.Publishing.{Numbers, next_command, open_commands}
-use Rattle.qq_world.specs.Front.{IsFront}
+use Rattle.qq_base.specs.Fronts.{IsFront}
 use Rattle.qq_world.specs.Laws.{IsAnswer, IsAudited, HasAuditedAnswers}
 use Rattle.qq_world.specs.Server.{Server, is_ready, notice}
 use Rattle.qq_world.specs.World.{World, Clients, Event, Mutes, Ticks, Submits, Resends, Writes, Syncs, Notices, Stops, Finds, Shown, Answered, NoLeader, WindowFull, new_world, is_up, may_hand, sender, hear, is_printed_by, is_printed, printed, own_rows, tell, happens, said_of, said, after, all_said}

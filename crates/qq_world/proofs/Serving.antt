@@ -17,13 +17,13 @@ use Rattle.qq_world.proofs.Worlds.{SoundWorld, follows-all, sound-world}
 
 -- ---- a node stays up, or down
 
-abbrev IsQuiet : Event → Type 0
+abbrev pub IsQuiet : Event → Type 0
 IsQuiet Stops = ⊥
 IsQuiet (Finds op) = ⊥
 IsQuiet _ = Unit {0}
 
 -- one world is down where the other is
-abbrev Same : World → World → Type 0
+abbrev pub Same : World → World → Type 0
 Same w v = is_down v.server ≡ is_down w.server
 
 same-tick : (s : Server) → is_down (tick s) ≡ is_down s
@@ -56,7 +56,7 @@ same-offer_all : (commands : List Command) (w : World) → Same w (offer_all com
 same-offer_all [] w = refl
 same-offer_all (command ∷ commands) w = same-offer_all commands (offer command w) ∙ same-offer command w
 
-same-event : (w : World) (event : Event) → IsQuiet event → Same w (happens w event)
+pub same-event : (w : World) (event : Event) → IsQuiet event → Same w (happens w event)
 same-event w (Mutes session muted) quiet = refl
 same-event w Ticks quiet = same-tick w.server
 same-event w (Submits session body) quiet =
@@ -85,7 +85,7 @@ record Steady (setup : Setup) (n : Node) : Type 0 where
   alike : AreDown setup n down
 
 -- an event by which no queue goes up or down
-abbrev IsCalm : NodeEvent → Type 0
+abbrev pub IsCalm : NodeEvent → Type 0
 IsCalm (Alike event) = IsQuiet event
 IsCalm (At place event) = IsQuiet event
 IsCalm Fails = ⊥
@@ -93,7 +93,7 @@ IsCalm (Crashes image) = ⊥
 IsCalm (FindsEach ops) = ⊥
 IsCalm _ = Unit {0}
 
-calm-part : (n : Node) (event : NodeEvent) (place : ℕ) → IsCalm event
+pub calm-part : (n : Node) (event : NodeEvent) (place : ℕ) → IsCalm event
     → Same (n.queue place) (after (n.queue place) (part_of place event))
 calm-part n (Sets auto) place calm = refl
 calm-part n (Alike event) place calm = same-event (n.queue place) event calm
@@ -122,7 +122,7 @@ steady-calm setup n event calm steady = record {
       (λ place is. calm-part n event place calm ∙ is) setup.places steady.alike;
 }
 
-each-of : {A : Type 0} (P : A → Type 0) → ((x : A) → P x) → (xs : List A) → AllByRecursion P xs
+pub each-of : {A : Type 0} (P : A → Type 0) → ((x : A) → P x) → (xs : List A) → AllByRecursion P xs
 each-of P all [] = tt
 each-of P all (x ∷ xs) = (all x, each-of P all xs)
 
@@ -137,7 +137,7 @@ record ServedBy (setup : Setup) (n : Node) (Allowed : List NodeEvent → Type 0)
 abbrev Served : Setup → (Node → List NodeEvent → Type 0) → Node → Type 0
 Served setup Allows n = ServedBy setup n (Allows n)
 
-after-both : (n : Node) (first second : List NodeEvent)
+pub after-both : (n : Node) (first second : List NodeEvent)
     → node_after n (first ++ second) ≡ node_after (node_after n first) second
 after-both n [] second = refl
 after-both n (event ∷ first) second = after-both (node_happens n event) first second

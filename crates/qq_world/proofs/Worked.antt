@@ -7,7 +7,7 @@ use Rattle.qq_model.specs.Commands.{act, enqueue, get}
 use Rattle.qq_model.specs.Gate.{gate, admit, keep_answer, turn_away}
 use Rattle.qq_model.specs.Serving.{check_out, check_out_all, drain_after, drop_head, keep_limits, give_dead, give_all_dead}
 use Rattle.qq_model.specs.Step.{carry_out, step}
-use Rattle.qq_world.specs.Front.{put}
+use Rattle.qq_base.specs.Fronts.{put}
 use Rattle.qq_world.specs.Example.{one_queue, publish_a, one_round, opening, lines_by_hand, lines_with_a_fault, by_hand, behind_a_crash, while_muted, with_a_fault, two_queues, sent_again, output}
 use Rattle.qq_world.specs.Node.{Sets, Alike, At, Fails, new_node}
 use Rattle.qq_world.specs.Rules.{most_rounds, IsOpening, IsRun}

@@ -6,11 +6,11 @@ use Rattle.std.proofs.lemmas.List.{length-take-le}
 use Rattle.qq_entry.specs.declared.command.Command.{Command}
 use Rattle.qq_entry.specs.declared.queue.QueueArgs.{QueueArgs}
 use Rattle.qq_session.specs.Publishing.{Numbers, next_command, hand, open_commands}
-use Rattle.qq_world.specs.Front.{IsFront, put}
+use Rattle.qq_base.specs.Fronts.{IsFront, put}
 use Rattle.qq_world.specs.Laws.{CountsRise, world_after}
 use Rattle.qq_world.specs.Server.{Server, is_down, is_ready, tick, notice, submit, stop, may_restart}
 use Rattle.qq_world.specs.World.{World, Clients, Event, Mutes, Ticks, Submits, Resends, Writes, Syncs, Notices, Stops, Finds, new_world, is_up, may_hand, offer, offer_all, set_numbers, tell, find, happens, after}
-use Rattle.qq_world.proofs.Fronts.{front-all, front-front}
+use Rattle.qq_base.proofs.Fronts.{front-refl, front-trans}
 use Rattle.qq_world.proofs.Moves.{Sound, Moves, moves-stop, moves-tick, moves-submit, moves-notice, sound-restart, sound-new}
 
 pub record SoundWorld (w : World) : Type 0 where
@@ -24,13 +24,13 @@ pub record Follows (w v : World) : Type 0 where
   pub rows : IsFront w.server.audit v.server.audit
 
 follows-same : (w : World) → SoundWorld w → Follows w w
-follows-same w sound = record { sound = sound; args_is = refl; rows = front-all w.server.audit }
+follows-same w sound = record { sound = sound; args_is = refl; rows = front-refl w.server.audit }
 
 pub follows-then : (w v u : World) → Follows w v → Follows v u → Follows w u
 follows-then w v u first second = record {
   sound = second.sound;
   args_is = second.args_is ∙ first.args_is;
-  rows = front-front w.server.audit v.server.audit u.server.audit first.rows second.rows;
+  rows = front-trans first.rows second.rows;
 }
 
 follows-clients : (w : World) (clients : Clients) → SoundWorld w → Follows w (record w { clients = clients })
@@ -44,7 +44,7 @@ follows-clients w clients sound = record {
     };
   };
   args_is = refl;
-  rows = front-all w.server.audit;
+  rows = front-refl w.server.audit;
 }
 
 follows-move : (w : World) (t : Server) (clients : Clients) → SoundWorld w → Moves w.synced w.server t
@@ -87,7 +87,7 @@ follows-find op w sound more within = record {
     };
   };
   args_is = refl;
-  rows = front-all w.server.audit;
+  rows = front-refl w.server.audit;
 }
 
 pub follows : (w : World) (event : Event) → SoundWorld w → Follows w (happens w event)
@@ -118,7 +118,7 @@ follows w Writes sound =
         };
       };
       args_is = refl;
-      rows = front-all w.server.audit;
+      rows = front-refl w.server.audit;
     }) (λ _. follows-same w sound)
 follows w Syncs sound =
     cond_both (is_up w) (record w { synced = w.written }) w (Follows w)
@@ -132,7 +132,7 @@ follows w Syncs sound =
         };
       };
       args_is = refl;
-      rows = front-all w.server.audit;
+      rows = front-refl w.server.audit;
     }) (λ _. follows-same w sound)
 follows w Notices sound =
     cond_both (is_up w) (tell w) w (Follows w)

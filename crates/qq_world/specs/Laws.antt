@@ -21,7 +21,8 @@ use Rattle.qq_model.specs.State.{empty_queue}
 use Rattle.qq_script.specs.Text.{seq_of}
 use Rattle.qq_session.specs.Arriving.{Deed, Hands, Takes, after_deed, handed, fresh_command}
 use Rattle.qq_session.specs.Publishing.{Numbers, new_numbers, next_command, hand, closes, open_commands}
-use Rattle.qq_world.specs.Front.{IsFront, ExactlyOne}
+use Rattle.qq_world.specs.ExactlyOne.{ExactlyOne}
+use Rattle.qq_base.specs.Fronts.{IsFront}
 use Rattle.qq_world.specs.Promise.{HoldsAudit, IsPromised, MayTakeUp, state_of}
 use Rattle.qq_world.specs.Server.{Server, is_down, is_ready, log_of, submit}
 use Rattle.qq_world.specs.World.{World, Clients, Event, Submits, Resends, Notices, Shown, Answered, NoLeader, WindowFull, new_world, is_up, sender, own_rows, after_notice, happens, said, after, all_said}

@@ -1,4 +1,4 @@
-pub mod Front
+pub mod ExactlyOne
 pub mod Server
 pub mod World
 pub mod Promise

@@ -6,7 +6,7 @@ use Rattle.qq_log.specs.declared.op.Op.{Op}
 use Rattle.qq_log.specs.declared.op.Op.TheVariants.{Change}
 use Rattle.qq_log.specs.Stable.{Stable, no_snapshot, stable}
 use Rattle.qq_model.specs.Audit.{entries_of}
-use Rattle.qq_world.specs.Front.{IsFront}
+use Rattle.qq_base.specs.Fronts.{IsFront}
 use Rattle.qq_world.specs.Server.{Server, log_of, term_of, may_restart}
 
 -- whom the server has voted for once an op counts

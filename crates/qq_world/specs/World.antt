@@ -11,7 +11,7 @@ use Rattle.qq_entry.specs.Command.{stamp}
 use Rattle.qq_model.specs.declared.TheConstants.{WINDOW}
 use Rattle.qq_session.specs.Publishing.{Numbers, new_numbers, next_command, hand, is_open, answer, open_commands}
 use Rattle.qq_script.specs.Text.{seq_of}
-use Rattle.qq_world.specs.Front.{put}
+use Rattle.qq_base.specs.Fronts.{put}
 use Rattle.qq_world.specs.Server.{Server, new_server, is_down, is_ready, tick, notice, submit, stop, restart, may_restart}
 
 -- ---- the clients
