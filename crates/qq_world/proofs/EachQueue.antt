@@ -34,7 +34,7 @@ has-queues setup events place = node-queue (new_node setup) events place
 
 -- ---- what is printed
 
-abbrev IsOwn : Node → Printed → Type 0
+abbrev pub IsOwn : Node → Printed → Type 0
 IsOwn n (Of place shown) = IsAudited (n.queue place).server.audit shown
 IsOwn n _ = Unit {0}
 
@@ -62,7 +62,7 @@ one-own n (Shows place) events sound = (tt, tt)
 one-own n SaysDown events sound = (tt, tt)
 one-own n SaysBusy events sound = (tt, tt)
 
-all-own : (n : Node) (events : List NodeEvent) → ((place : ℕ) → SoundWorld (n.queue place))
+pub all-own : (n : Node) (events : List NodeEvent) → ((place : ℕ) → SoundWorld (n.queue place))
     → AllByRecursion (IsOwn (node_after n events)) (all_prints n events)
 all-own n [] sound = tt
 all-own n (event ∷ events) sound =

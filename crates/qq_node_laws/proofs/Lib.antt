@@ -1,0 +1,12 @@
+pub mod Both
+pub mod Promises
+pub mod Writes
+pub mod Stops
+pub mod Finds
+pub mod Quiet
+pub mod Traces
+pub mod Serves
+pub mod Answered
+pub mod Own
+pub mod Waiting
+pub mod Said
