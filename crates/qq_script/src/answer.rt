@@ -1,4 +1,4 @@
-ghost use Rattle.std.specs.Prelude.{◌≡◌, ◌++◌, ◌∷◌, [], OnOk, IsOkUnless, OnErr, IfOk};
+ghost use Rattle.std.specs.Prelude.{◌≡◌, ◌++◌, ◌∷◌, [], Some, OnOk, IsOkUnless, OnErr, IfOk};
 ghost use Rattle.qq_entry.specs.Command.{session};
 ghost use Rattle.qq_script.specs.Text.{seq_of, tag_of, full_text, cause_text, answer_words, content_body, shown_body, is_first_client, line_prefix, answer_text};
 
@@ -157,6 +157,29 @@ fn content_body(content: &Option<Content>) -> &[u8]
         None => &[],
         Some(content) => content.body.as_slice(),
     }
+}
+
+/// Adds a line about a client's session, with its line feed: whom it is about, and then the words. `first`
+/// says that the queue is the first one.
+///
+/// - `ok`: the line stands behind what `out` had.
+/// - `err`, `want`: it fails for want of memory alone, and then `out` stays.
+pub fn session_line(
+    alloc: Global,
+    first: bool,
+    session: SessionId,
+    queue: &Text,
+    words: &str,
+    out: &mut Vec<u8>,
+) -> Result<(), Memory>
+    ensures ok { OnOk result (out.new.items ≡ out.old.items
+        ++ (line_prefix first (Some session) queue.now ++ words.now ++ 10 ∷ [])) }
+    ensures err { OnErr result (out.new.items ≡ out.old.items) }
+    ensures want { IsOkUnless result Memory.Want }
+{
+    let mut prefix = Vec::new(alloc);
+    push_line_prefix(&mut prefix, first, Some(session), queue.as_str())?;
+    push_line(out, &prefix, words.as_bytes())
 }
 
 /// Adds the line of an answer, with its line feed. `first` says that the queue is the first one. Session

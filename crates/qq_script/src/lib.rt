@@ -6,6 +6,7 @@ mod audit;
 mod line;
 mod words;
 
-pub use answer::{answer_text, seq_of};
+pub use answer::{answer_text, seq_of, session_line};
 pub use audit::{audit_head_text, row_text};
 pub use line::{ScriptFault, ScriptLine, parse_line};
+pub use words::{push_number, push_text};

@@ -1,21 +1,25 @@
 //! Pieces of text, each put at the end of a line.
-ghost use Rattle.std.specs.Prelude.{◌≡◌, ◌++◌, OnOk, IsOkUnless};
+ghost use Rattle.std.specs.Prelude.{◌≡◌, ◌++◌, OnOk, OnErr, IsOkUnless};
 ghost use Rattle.std.specs.Fmt.{decimal};
 ghost use Rattle.qq_script.specs.Text.{session_text, mark_text};
 
 use itoa::Buffer;
 use qq_base::{Memory, SessionId};
 
+/// Adds a text. It fails for want of memory alone, and then `out` stays.
 pub fn push_text(out: &mut Vec<u8>, text: &str) -> Result<(), Memory>
     ensures ok { OnOk result (out.new.items ≡ out.old.items ++ text.now) }
+    ensures err { OnErr result (out.new.items ≡ out.old.items) }
     ensures want { IsOkUnless result Memory.Want }
 {
     out.extend_from_slice(text.as_bytes())?;
     Ok(())
 }
 
+/// Adds a number in decimal. It fails for want of memory alone, and then `out` stays.
 pub fn push_number(out: &mut Vec<u8>, number: u64) -> Result<(), Memory>
     ensures ok { OnOk result (out.new.items ≡ out.old.items ++ decimal number) }
+    ensures err { OnErr result (out.new.items ≡ out.old.items) }
     ensures want { IsOkUnless result Memory.Want }
 {
     let mut buffer = Buffer::new();
