@@ -13,16 +13,16 @@ use Rattle.qq_log.specs.Stable.{Stable, stable}
 use Rattle.qq_raft_model.specs.Moves.{longer, run}
 use Rattle.qq_raft_model.specs.World.{Member, World}
 use Rattle.qq_raft_model.proofs.Lists.{In-append}
-use Rattle.qq_raft_model.proofs.Runs.{audit-run, safe-run}
+use Rattle.qq_raft_model.proofs.Runs.{audit-run}
 use Rattle.qq_raft_step.specs.Handing.{state_of, Continues}
 use Rattle.qq_raft_step.specs.Refines.{number, IsReached, MayCome, OnlyMoves, Refines, Stands}
 use Rattle.qq_raft_step.specs.Server.{Input, step}
 use Rattle.qq_raft_step.specs.State.{Server}
 use Rattle.qq_raft_step.proofs.Adding.{done-front}
-use Rattle.qq_raft_step.proofs.Agreeing.{safe_there, take_front}
+use Rattle.qq_raft_step.proofs.Agreeing.{take_front}
 use Rattle.qq_raft_step.proofs.Handing.{comes-to, continues-step}
 use Rattle.qq_raft_step.proofs.Later.{others-stand, way-later}
-use Rattle.qq_raft_step.proofs.Reached.{kept-there, then-reached}
+use Rattle.qq_raft_step.proofs.Reached.{kept-there, safe-there, then-reached}
 use Rattle.qq_raft_step.proofs.Steps.{step-refines}
 use Rattle.qq_group_model.specs.Group.{Group, Seat, after_step, feed, feed_by}
 use Rattle.qq_group_model.specs.Promises.{members_of}
@@ -51,9 +51,9 @@ longer-whole {a = a} {b = b} {c = c} p q =
 pub known-front : {members : List ℕ} {w : World} {k : ℕ} {s : Server} → IsReached members w → Stands w k s
     → IsFront (take s.commit s.log) w.audit
 known-front {members} {w} {k} {s} reached st =
-    let own : IsFront (w.done k) s.log = done-front {members = members} safe-run reached st in
+    let own : IsFront (w.done k) s.log = done-front {members = members} reached st in
     subst (λ (x : List Entry). IsFront x w.audit) (sym (take_front (w.done k) s.log s.commit own st.commit))
-    ((safe_there {members = members} safe-run reached).done k).0
+    ((safe-there members w reached).done k).0
 
 -- ---- what the log comes to
 
@@ -185,7 +185,7 @@ feed-some {nodes} {w} {g} k input s tied is may =
     let ops = (g.seat k).ops in
     let was = (g.seat k).noticed in
     let old : IsTied members w k ops was g.audit s = (tied.seats k).up s is in
-    let r : Refines members w k t = step-refines input safe-run tied.reached old.group old.stands may in
+    let r : Refines members w k t = step-refines input tied.reached old.group old.stands may in
     let v = run w r.moves in
     let next : Continues s t = continues-step s input in
     let reached : IsReached members v = then-reached r.moves tied.reached r.allowed in

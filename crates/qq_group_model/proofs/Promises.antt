@@ -17,7 +17,7 @@ use Rattle.qq_raft_model.specs.Safe.{HasVoted, IsSafe, IsSupported}
 use Rattle.qq_raft_model.specs.World.{Role as ModelRole, Lane, World, lanes, new_world}
 use Rattle.qq_raft_model.proofs.Logs.{length-add}
 use Rattle.qq_raft_model.proofs.Majorities.{Most-map}
-use Rattle.qq_raft_model.proofs.Runs.{leader-run, log-run, safe-run}
+use Rattle.qq_raft_model.proofs.Runs.{leader-run, log-run}
 use Rattle.qq_raft_msg.specs.declared.state.Role.TheVariants.{Leader}
 use Rattle.qq_raft_step.specs.Handing.{lane_in, plain_state}
 use Rattle.qq_raft_step.specs.Leading.{add_entry, send}
@@ -25,10 +25,9 @@ use Rattle.qq_raft_step.specs.Refines.{number, role_of, Stands}
 use Rattle.qq_raft_step.specs.Server.{Input, is_ready, step, submit}
 use Rattle.qq_raft_step.specs.State.{Server, change, last, is_leader}
 use Rattle.qq_raft_step.proofs.Adding.{done-front, is_leader_of}
-use Rattle.qq_raft_step.proofs.Agreeing.{safe_there}
 use Rattle.qq_raft_step.proofs.Handing.{known-all}
 use Rattle.qq_raft_step.proofs.Leads.{whole}
-use Rattle.qq_raft_step.proofs.Reached.{kept-there}
+use Rattle.qq_raft_step.proofs.Reached.{kept-there, safe-there}
 use Rattle.qq_group_model.specs.Group.{Event, Group, Seat, feed_by, group_after, happens, new_group}
 use Rattle.qq_group_model.specs.Group.Event.{Submit}
 use Rattle.qq_group_model.specs.Promises.{AreDistinct, HasCarried, HasLater, IsLeft, IsUp, members_of}
@@ -67,7 +66,7 @@ pub commit-within : {nodes : List NodeId} (w : World) (g : Group) (k : ℕ) (s :
     → s.commit ≤ last s
 commit-within {nodes} w g k s tied up =
     let st : Stands w k s = ((tied.seats k).up s up).stands in
-    let done : IsFront (w.done k) s.log = done-front {members = members_of nodes} safe-run tied.reached st in
+    let done : IsFront (w.done k) s.log = done-front {members = members_of nodes} tied.reached st in
     let le : length (w.done k) ≤ length s.log = front-length done in
     let same : length (w.done k) ≡ s.commit = st.commit in
     omega (arith, le, same)
@@ -183,7 +182,7 @@ leaves-lane w g k upto tied late handed =
 pub supported : {nodes : List NodeId} (w : World) (g : Group) → Tied nodes g w
     → IsSupported (members_of nodes) (IsLeft g) g.audit
 supported {nodes} w g tied =
-    let safe : IsSafe (members_of nodes) w = safe_there safe-run tied.reached in
+    let safe : IsSafe (members_of nodes) w = safe-there (members_of nodes) w tied.reached in
     record {
       logs_match = λ p q l m here there a b e f first second same.
           safe.supported.logs_match p q l m (left-lane p l tied here) (left-lane q m tied there) a b e f first second

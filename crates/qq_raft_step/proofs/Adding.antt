@@ -4,7 +4,6 @@ use Rattle.std.proofs.lemmas.Bool.{cond_both, cond-true, and_parts, false≢true
 use Rattle.qq_base.specs.Fronts.{IsFront}
 use Rattle.qq_entry.specs.declared.command.Command.{Command}
 use Rattle.qq_entry.specs.declared.command.Entry.{Entry}
-use Rattle.qq_raft_model.specs.Safe.{IsSafe}
 use Rattle.qq_raft_model.specs.World.{Lane, World}
 use Rattle.qq_raft_model.proofs.Lists.{In-map}
 use Rattle.qq_raft_msg.specs.declared.state.Role.{Role}
@@ -15,7 +14,7 @@ use Rattle.qq_raft_step.specs.Leading.{add_entry, everyone, send, stand}
 use Rattle.qq_raft_step.specs.Server.{is_ready, send_again, submit, tick}
 use Rattle.qq_raft_step.specs.Refines.{HasMatched, IsReached, Refines, Stands}
 use Rattle.qq_raft_step.proofs.Leads.{add-refines}
-use Rattle.qq_raft_step.proofs.Matches.{Promise}
+use Rattle.qq_raft_step.proofs.Reached.{safe-there}
 use Rattle.qq_raft_step.proofs.Refining.{refines-refl}
 use Rattle.qq_raft_step.proofs.Sending.{leader_asks, send-refines}
 
@@ -25,12 +24,10 @@ is_leader_of Candidate e = absurd (false≢true e)
 is_leader_of Follower e = absurd (false≢true e)
 
 -- what a server knows to be committed begins its log
-pub done-front : {members : List ℕ} {w : World} {k : ℕ} {s : Server} → Promise → IsReached members w → Stands w k s
+pub done-front : {members : List ℕ} {w : World} {k : ℕ} {s : Server} → IsReached members w → Stands w k s
     → IsFront (w.done k) s.log
-done-front {members} {w} {k} {s} promise reached st =
-    let safe : IsSafe members w =
-    subst (IsSafe members) (sym reached.is) (promise members reached.moves reached.allowed) in
-    subst (λ (l : Lane). IsFront (w.done k) l.log) st.lane (safe.done k).1
+done-front {members} {w} {k} {s} reached st =
+    subst (λ (l : Lane). IsFront (w.done k) l.log) st.lane ((safe-there members w reached).done k).1
 
 again-stands : {w : World} {k : ℕ} {s : Server} → Stands w k s → s.role ≡ Leader
     → Stands w k (record s { peers = map send_again s.peers })
@@ -67,22 +64,22 @@ again-stands {w = w} {k = k} {s = s} st leads = record {
   out = st.out;
 }
 
-pub leader_tick-refines : {members : List ℕ} {w : World} {k : ℕ} {s : Server} → Promise → IsReached members w
+pub leader_tick-refines : {members : List ℕ} {w : World} {k : ℕ} {s : Server} → IsReached members w
     → Stands w k s → is_leader s.role ≡ true → Refines members w k (tick s)
 unfolding tick
-leader_tick-refines {members} {w} {k} {s} promise reached st e =
+leader_tick-refines {members} {w} {k} {s} reached st e =
     let leads = is_leader_of s.role e in
     let again = record s { peers = map send_again s.peers } in
     subst (Refines members w k) (sym (cond-true (is_leader s.role) (send everyone again) (stand s) e))
-    (send-refines {members = members} everyone (again-stands st leads) leads (done-front promise reached st))
+    (send-refines {members = members} everyone (again-stands st leads) leads (done-front reached st))
 
-pub submit-refines : {members : List ℕ} {w : World} {k : ℕ} {s : Server} (time : ℕ) (command : Command) → Promise
+pub submit-refines : {members : List ℕ} {w : World} {k : ℕ} {s : Server} (time : ℕ) (command : Command)
     → IsReached members w → Stands w k s → Refines members w k (submit time command s)
 unfolding submit
-submit-refines {members} {w} {k} {s} time command promise reached st =
+submit-refines {members} {w} {k} {s} time command reached st =
     let entry : Entry = record { term = s.term; time = time; command = command } in
     cond_both (is_ready s) (add_entry entry s) s (Refines members w k)
     (λ e.
     let leads = is_leader_of s.role (and_parts (is_leader s.role) _ e).0 in
-    add-refines {members = members} entry st leads refl (done-front promise reached st))
+    add-refines {members = members} entry st leads refl (done-front reached st))
     (λ _. refines-refl st)

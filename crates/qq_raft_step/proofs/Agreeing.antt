@@ -1,5 +1,5 @@
 -- What the protocol promises, of servers that stand for its members.
-use Rattle.std.proofs.Common.{◌≡◌, ℕ, ◌≤◌, List, length, take, sym, ap, subst, ◌∙◌, arith}
+use Rattle.std.proofs.Common.{◌≡◌, ℕ, ◌≤◌, List, length, take, sym, ap, ◌∙◌, arith}
 use Rattle.std.proofs.Math.Seq.{take-append_seam}
 use Rattle.qq_base.specs.Fronts.{IsFront}
 use Rattle.qq_base.proofs.Fronts.{front-shorter, front-trans}
@@ -11,17 +11,12 @@ use Rattle.qq_raft_msg.specs.declared.state.Role.TheVariants.{Leader}
 use Rattle.qq_raft_step.specs.State.{Server}
 use Rattle.qq_raft_step.specs.Refines.{role_of, IsReached, Stands, Refines}
 use Rattle.qq_raft_step.proofs.Adding.{done-front}
-use Rattle.qq_raft_step.proofs.Matches.{Promise}
-use Rattle.qq_raft_step.proofs.Reached.{then-reached}
+use Rattle.qq_raft_step.proofs.Reached.{safe-there, then-reached}
 
-pub safe_there : {members : List ℕ} {w : World} → Promise → IsReached members w → IsSafe members w
-safe_there {members} promise reached =
-    subst (IsSafe members) (sym reached.is) (promise members reached.moves reached.allowed)
-
-pub one-leader : {members : List ℕ} {w : World} {p q : ℕ} {s t : Server} → Promise → IsReached members w
+pub one-leader : {members : List ℕ} {w : World} {p q : ℕ} {s t : Server} → IsReached members w
     → Stands w p s → Stands w q t → s.role ≡ Leader → t.role ≡ Leader → s.term.0 ≡ t.term.0 → p ≡ q
-one-leader {members} {w} {p} {q} {s} {t} promise reached first second leads other same =
-    (safe_there {members = members} promise reached).one_leader p q (first.role ∙ ap role_of leads)
+one-leader {members} {w} {p} {q} {s} {t} reached first second leads other same =
+    (safe-there members w reached).one_leader p q (first.role ∙ ap role_of leads)
     (second.role ∙ ap role_of other)
     (ap (λ (l : Lane). l.term) first.lane ∙ same ∙ sym (ap (λ (l : Lane). l.term) second.lane))
 
@@ -29,16 +24,16 @@ pub take_front : (x log : List Entry) (n : ℕ) → IsFront x log → length x �
 take_front x log n p long =
     ap (λ (i : ℕ). take i log) (sym long) ∙ ap (take (length x)) p.is ∙ take-append_seam x p.rest
 
-pub one-history : {members : List ℕ} {w : World} {p q : ℕ} {s t : Server} → Promise → IsReached members w
+pub one-history : {members : List ℕ} {w : World} {p q : ℕ} {s t : Server} → IsReached members w
     → Stands w p s → Stands w q t → s.commit ≤ t.commit → take s.commit s.log ≡ take s.commit t.log
-one-history {members} {w} {p} {q} {s} {t} promise reached first second le =
-    let safe : IsSafe members w = safe_there promise reached in
+one-history {members} {w} {p} {q} {s} {t} reached first second le =
+    let safe : IsSafe members w = safe-there members w reached in
     let own : length (w.done p) ≡ s.commit = first.commit in
     let other : length (w.done q) ≡ t.commit = second.commit in
     let shorter : IsFront (w.done p) (w.done q) =
     front-shorter (safe.done p).0 (safe.done q).0 (omega (arith, own, other, le)) in
-    take_front (w.done p) s.log s.commit (done-front promise reached first) own
-    ∙ sym (take_front (w.done p) t.log s.commit (front-trans shorter (done-front promise reached second)) own)
+    take_front (w.done p) s.log s.commit (done-front reached first) own
+    ∙ sym (take_front (w.done p) t.log s.commit (front-trans shorter (done-front reached second)) own)
 
 pub still-reached : {members : List ℕ} {w : World} {k : ℕ} {s : Server} → IsReached members w
     → (r : Refines members w k s) → IsReached members (run w r.moves)

@@ -21,7 +21,7 @@ use Rattle.qq_raft_step.specs.Refines.{number, Sends, IsSaid, IsOnItsWay, Stands
 use Rattle.qq_raft_step.proofs.Fits.{own_is, all_there, becomes, differs}
 use Rattle.qq_raft_step.proofs.Later.{only-trans}
 use Rattle.qq_raft_step.proofs.Learning.{reply-only, reply-stands, learn-only, learn-stands}
-use Rattle.qq_raft_step.proofs.Matches.{Promise, Match, sent-matches, take-front}
+use Rattle.qq_raft_step.proofs.Matches.{Match, sent-matches, take-front}
 use Rattle.qq_raft_step.proofs.Moving.{say-stands, write-only, write-stands}
 use Rattle.qq_raft_step.proofs.Refining.{kept_log, refines-then, refines-say, refines-enter, refines-follow}
 use Rattle.qq_raft_step.proofs.Votes.{vote_there}
@@ -165,14 +165,14 @@ acknowledge {members} {w} {k} {t} m x st said sends taken =
 
 -- ---- the answers
 
-take-answers : {members : List ℕ} {w : World} {k : ℕ} {s : Server} (m : AppendMsg) → Promise
+take-answers : {members : List ℕ} {w : World} {k : ℕ} {s : Server} (m : AppendMsg)
     → IsReached members w → Stands w k s → IsOnItsWay w (Append m) → s.term.0 ≤ m.term.0
     → is_match m s.log ≡ true → Refines members w k (take_entries m s)
 unfolding take_entries
-take-answers {members} {w} {k} {s} m promise reached st way le matches =
+take-answers {members} {w} {k} {s} m reached st way le matches =
     let t = way.said.says in
     let x = t.item in
-    let own : Match (w.member k).mine.log x.front = sent-matches k x promise reached t.here in
+    let own : Match (w.member k).mine.log x.front = sent-matches k x reached t.here in
     let match : Match s.log x.front = subst (λ (l : Lane). Match l.log x.front) st.lane own in
     let missing = drop (has_agreed m s.log) m.entries in
     refines-then (write_by m x s t.is match matches le st t.here missing refl) (λ v there only.
@@ -192,13 +192,13 @@ refuse-answers {s = s} m st =
     refines-then (refines-follow (Some m.from) entered) (λ u followed only.
     refines-say (appended m.from false index there) followed (no_ack m.from index followed)))
 
-pub append-refines : {members : List ℕ} {w : World} {k : ℕ} {s : Server} (m : AppendMsg) → Promise
+pub append-refines : {members : List ℕ} {w : World} {k : ℕ} {s : Server} (m : AppendMsg)
     → IsReached members w → Stands w k s → IsOnItsWay w (Append m) → Refines members w k (receive (Append m) s)
 unfolding receive accept refuse receive_append
-append-refines {members} {w} {k} {s} m promise reached st way =
+append-refines {members} {w} {k} {s} m reached st way =
     cond_both (ltb m.term.0 s.term.0) (refuse (Append m) s) (accept (Append m) s) (Refines members w k)
     (λ _. refines-say (appended m.from false (last s) s) st (no_ack m.from (last s) st))
     (λ e.
     let le = ltb-false m.term.0 s.term.0 e in
     cond_both (is_match m s.log) (take_entries m s) (refuse_entries m s) (Refines members w k)
-    (λ matches. take-answers m promise reached st way le matches) (λ _. refuse-answers m st))
+    (λ matches. take-answers m reached st way le matches) (λ _. refuse-answers m st))

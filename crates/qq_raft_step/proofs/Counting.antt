@@ -29,7 +29,7 @@ use Rattle.qq_raft_step.proofs.Adding.{is_leader_of, done-front}
 use Rattle.qq_raft_step.proofs.Electing.{majority}
 use Rattle.qq_raft_step.proofs.Later.{there-later, said-later, way-later, elects-later, matched-later}
 use Rattle.qq_raft_step.proofs.Learning.{longer-length}
-use Rattle.qq_raft_step.proofs.Matches.{Promise, take-front}
+use Rattle.qq_raft_step.proofs.Matches.{take-front}
 use Rattle.qq_raft_step.proofs.Reached.{kept-there}
 use Rattle.qq_raft_step.proofs.Refining.{refines-refl, refines-then, refines-change}
 use Rattle.qq_raft_step.proofs.Sending.{leader_asks, send-refines}
@@ -337,11 +337,11 @@ acked-within {members} {w} {k} {s} m reached st leads term ok way =
     acks-within {members = members} a.item reached st leads a.here (a.is.term ∙ sym term) in
     omega (arith, upto, le)
 
-ack-refines : {members : List ℕ} {w : World} {k : ℕ} {s : Server} (m : AppendedMsg) → Promise
+ack-refines : {members : List ℕ} {w : World} {k : ℕ} {s : Server} (m : AppendedMsg)
     → IsReached members w → IsGroup members k s.peers → Stands w k s → s.role ≡ Leader → s.term.0 ≡ m.term.0
     → m.ok ≡ true → IsOnItsWay w (Appended m) → Refines members w k (take_ack m s)
 unfolding take_ack send
-ack-refines {members} {w} {k} {s} m promise reached group st leads term ok way =
+ack-refines {members} {w} {k} {s} m reached group st leads term ok way =
     let f : Peer → Peer = λ (p : Peer). cond (is_peer m.from p) (match_peer m.index.0 p) p in
     let picks = lacks m.from (last s) in
     let g : Peer → Peer = λ (p : Peer). cond (picks p) (pass s.log p) p in
@@ -350,7 +350,7 @@ ack-refines {members} {w} {k} {s} m promise reached group st leads term ok way =
     let matched : Stands w k t =
     peers-stand f st leads (λ p here. matched-peer m st leads term ok way p here)
     (matched-within s m.index.0 m.from (st.within leads) le) in
-    let done : IsFront (w.done k) s.log = done-front promise reached st in
+    let done : IsFront (w.done k) s.log = done-front reached st in
     let known : length (w.done k) ≤ length s.log = front-length done in
     let commit : length (w.done k) ≡ s.commit = st.commit in
     let sent : Refines members w k (send picks t) =
@@ -369,10 +369,9 @@ back-within s index node within p here =
     let matched : p.matched ≤ last s = (within p here).1 in
     let least = min-le_left (p.next - 1) (index + 1) in
     cond_both (is_peer node p) (back_peer index p) p (IsPeerWithin (last s))
-    (λ _.
-    (
+    (λ _. (
       greater_most (p.matched + 1) (min (p.next - 1) (index + 1)) (last s + 1) (omega (arith, matched))
-      (omega (arith, least, next)),
+          (omega (arith, least, next)),
       matched,
     ))
     (λ _. (next, matched))
@@ -397,33 +396,33 @@ back-peer {w = w} {s = s} index node st leads p here =
     ])
     (λ _. old)
 
-back-refines : {members : List ℕ} {w : World} {k : ℕ} {s : Server} (m : AppendedMsg) → Promise
+back-refines : {members : List ℕ} {w : World} {k : ℕ} {s : Server} (m : AppendedMsg)
     → IsReached members w → Stands w k s → s.role ≡ Leader → Refines members w k (step_back m s)
 unfolding step_back
-back-refines {members} {w} {k} {s} m promise reached st leads =
+back-refines {members} {w} {k} {s} m reached st leads =
     let f : Peer → Peer = λ (p : Peer). cond (is_peer m.from p) (back_peer m.index.0 p) p in
     let there : Stands w k (at_peer m.from (back_peer m.index.0) s) =
     peers-stand f st leads (λ p here. back-peer m.index.0 m.from st leads p here)
     (back-within s m.index.0 m.from (st.within leads)) in
-    send-refines {members = members} (is_peer m.from) there leads (done-front promise reached st)
+    send-refines {members = members} (is_peer m.from) there leads (done-front reached st)
 
-reply-refines : {members : List ℕ} {w : World} {k : ℕ} {s : Server} (m : AppendedMsg) → Promise
+reply-refines : {members : List ℕ} {w : World} {k : ℕ} {s : Server} (m : AppendedMsg)
     → IsReached members w → IsGroup members k s.peers → Stands w k s → s.term.0 ≡ m.term.0
     → IsOnItsWay w (Appended m) → Refines members w k (take_reply m s)
-reply-refines {members} {w} {k} {s} m promise reached group st term way =
+reply-refines {members} {w} {k} {s} m reached group st term way =
     cond_both (is_leader s.role) (cond m.ok (take_ack m s) (step_back m s)) s (Refines members w k)
     (λ e.
     let leads = is_leader_of s.role e in
     cond_both m.ok (take_ack m s) (step_back m s) (Refines members w k)
-    (λ ok. ack-refines m promise reached group st leads term ok way)
-    (λ _. back-refines m promise reached st leads))
+    (λ ok. ack-refines m reached group st leads term ok way)
+    (λ _. back-refines m reached st leads))
     (λ _. refines-refl st)
 
-pub appended-refines : {members : List ℕ} {w : World} {k : ℕ} {s : Server} (m : AppendedMsg) → Promise
+pub appended-refines : {members : List ℕ} {w : World} {k : ℕ} {s : Server} (m : AppendedMsg)
     → IsReached members w → IsGroup members k s.peers → Stands w k s → IsOnItsWay w (Appended m)
     → Refines members w k (receive (Appended m) s)
 unfolding receive accept refuse receive_appended enter
-appended-refines {members} {w} {k} {s} m promise reached group st way =
+appended-refines {members} {w} {k} {s} m reached group st way =
     cond_both (ltb m.term.0 s.term.0) s (accept (Appended m) s) (Refines members w k) (λ _. refines-refl st)
     (λ e.
     let le = ltb-false m.term.0 s.term.0 e in
@@ -434,4 +433,4 @@ appended-refines {members} {w} {k} {s} m promise reached group st way =
     refines-change None m.term None st le (λ same. absurd (omega (arith, lt, same))))
     (λ own.
     let ge = ltb-false s.term.0 m.term.0 own in
-    reply-refines m promise reached group st (omega (arith, le, ge)) way))
+    reply-refines m reached group st (omega (arith, le, ge)) way))

@@ -13,7 +13,6 @@ use Rattle.qq_raft_step.specs.Refines.{IsGroup, IsReached, Stands, Refines}
 use Rattle.qq_raft_step.proofs.Adding.{is_leader_of, done-front}
 use Rattle.qq_raft_step.proofs.Counting.{advance-refines, mapped-group}
 use Rattle.qq_raft_step.proofs.Leads.{lead_if-refines}
-use Rattle.qq_raft_step.proofs.Matches.{Promise}
 use Rattle.qq_raft_step.proofs.Noticing.{greater_le, greater_most, take-refines}
 use Rattle.qq_raft_step.proofs.Reached.{kept-there, refines-next}
 use Rattle.qq_raft_step.proofs.Refining.{refines-refl}
@@ -31,31 +30,31 @@ lead-group {members} {k} s group =
     (λ _. group)
 
 -- what is known to be committed is within the log
-commit-within : {members : List ℕ} {w : World} {k : ℕ} {s : Server} → Promise → IsReached members w
+commit-within : {members : List ℕ} {w : World} {k : ℕ} {s : Server} → IsReached members w
     → Stands w k s → s.commit ≤ last s
-commit-within {members} {w} {k} {s} promise reached st =
-    let done : IsFront (w.done k) s.log = done-front promise reached st in
+commit-within {members} {w} {k} {s} reached st =
+    let done : IsFront (w.done k) s.log = done-front reached st in
     let known : length (w.done k) ≤ length s.log = front-length done in
     let commit : length (w.done k) ≡ s.commit = st.commit in
     omega (arith, known, commit)
 
-advance-any : {members : List ℕ} {w : World} {k : ℕ} {s : Server} → Promise → IsReached members w
+advance-any : {members : List ℕ} {w : World} {k : ℕ} {s : Server} → IsReached members w
     → IsGroup members k s.peers → Stands w k s → Refines members w k (advance s)
 unfolding advance
-advance-any {members} {w} {k} {s} promise reached group st =
+advance-any {members} {w} {k} {s} reached group st =
     let moved = record s { commit = commit_within s (last s - s.commit) } in
     elim (cases_Bool (is_leader s.role)) [
       | inl e ↦
-          advance-refines {members = members} group st (is_leader_of s.role e) (commit-within promise reached st)
+          advance-refines {members = members} group st (is_leader_of s.role e) (commit-within reached st)
       | inr e ↦
           subst (Refines members w k) (sym (cond-false (is_leader s.role) moved s e)) (refines-refl st)
     ]
 
-pub notice-refines : {members : List ℕ} {w : World} {k : ℕ} {s : Server} (op : ℕ) → Promise
+pub notice-refines : {members : List ℕ} {w : World} {k : ℕ} {s : Server} (op : ℕ)
     → IsReached members w → IsGroup members k s.peers → Stands w k s → op ≤ s.op
     → Refines members w k (notice op s)
 unfolding notice
-notice-refines {members} {w} {k} {s} op promise reached group st le =
+notice-refines {members} {w} {k} {s} op reached group st le =
     let n = greater s.noticed op in
     let same : (w.member k).noticed ≡ s.noticed = st.noticed in
     let mine : (w.member k).mine.op ≡ s.op = ap (λ (l : Lane). l.op) st.lane in
@@ -63,5 +62,5 @@ notice-refines {members} {w} {k} {s} op promise reached group st le =
     (kept-there members w reached).noticed k (w.member k).mine (inl refl) in
     let most : n ≤ s.op = greater_most s.noticed op s.op (omega (arith, same, mine, below)) le in
     refines-next {t = notice op s} reached (take-refines n st (greater_le s.noticed op) most) (λ v reached_v taken only.
-    refines-next {t = notice op s} reached_v (lead_if-refines promise reached_v group taken) (λ u reached_u led only_u.
-    advance-any promise reached_u (lead-group (take_notice n s) group) led))
+    refines-next {t = notice op s} reached_v (lead_if-refines reached_v group taken) (λ u reached_u led only_u.
+    advance-any reached_u (lead-group (take_notice n s) group) led))

@@ -13,7 +13,6 @@ use Rattle.qq_entry.specs.declared.command.Entry.{Entry}
 use Rattle.qq_raft_model.specs.Facts.{add, Most, Elects}
 use Rattle.qq_raft_model.specs.Moves.{after, push, next_lane}
 use Rattle.qq_raft_model.specs.Moves.Move.{Lead, Append}
-use Rattle.qq_raft_model.specs.Safe.{IsSafe}
 use Rattle.qq_raft_model.specs.World.{Role as ModelRole, Lane, World}
 use Rattle.qq_raft_model.proofs.Leaders.{candidate-first}
 use Rattle.qq_raft_model.proofs.Lists.{In-map}
@@ -29,9 +28,8 @@ use Rattle.qq_raft_step.specs.Server.{is_peer, grant_peer, at_peer, count_vote, 
 use Rattle.qq_raft_step.specs.Refines.{number, lane_of, role_of, IsOnItsWay, IsGroup, HasOwnAck, AcksItself, Stands, OnlyMoves, Refines, IsReached}
 use Rattle.qq_raft_step.proofs.Electing.{majority}
 use Rattle.qq_raft_step.proofs.Later.{said-later, way-later, matched-later, only-trans}
-use Rattle.qq_raft_step.proofs.Matches.{Promise}
 use Rattle.qq_raft_step.proofs.Moving.{push-noticed, pushed-lanes}
-use Rattle.qq_raft_step.proofs.Reached.{kept-there}
+use Rattle.qq_raft_step.proofs.Reached.{kept-there, safe-there}
 use Rattle.qq_raft_step.proofs.Refining.{refines-refl, refines-change}
 use Rattle.qq_raft_step.proofs.Sending.{leader_asks, send-refines}
 
@@ -227,19 +225,18 @@ elected {members} {w} {k} {s} group st e =
       durable = omega (arith, le, op, same);
     }) (λ p here granted. st.votes is p here granted)
 
-lead-refines : {members : List ℕ} {w : World} {k : ℕ} {s : Server} → Promise → IsReached members w
+lead-refines : {members : List ℕ} {w : World} {k : ℕ} {s : Server} → IsReached members w
     → IsGroup members k s.peers → Stands w k s → is_elected s ≡ true → Refines members w k (lead s)
 unfolding lead leading
-lead-refines {members} {w} {k} {s} promise reached group st e =
+lead-refines {members} {w} {k} {s} reached group st e =
     let parts = and_parts (is_candidate s.role)
     (is_majority (leb s.op s.noticed) (λ p. p.granted) s.peers) e in
     let is : s.role ≡ Candidate = is_candidate_of s.role parts.0 in
     let role : w.role k ≡ ModelRole.Candidate = st.role ∙ ap role_of is in
     let most : Most members (Elects w (w.member k).mine.term k) =
     subst (λ (l : Lane). Most members (Elects w l.term k)) (sym st.lane) (elected group st e) in
-    let safe : IsSafe members w =
-    subst (IsSafe members) (sym reached.is) (promise members reached.moves reached.allowed) in
-    let done : IsFront (w.done k) s.log = subst (λ (l : Lane). IsFront (w.done k) l.log) st.lane (safe.done k).1 in
+    let done : IsFront (w.done k) s.log =
+    subst (λ (l : Lane). IsFront (w.done k) l.log) st.lane ((safe-there members w reached).done k).1 in
     let first : IsBefore (lane_of s) =
     subst IsBefore st.lane (candidate-first k (kept-there members w reached) role most) in
     let rest : Refines members (after w (Lead k)) k (add_entry (noop s.term) (leading s)) =
@@ -251,12 +248,12 @@ lead-refines {members} {w} {k} {s} promise reached group st e =
       only = only-trans (lead-only w k) rest.only;
     }
 
-pub lead_if-refines : {members : List ℕ} {w : World} {k : ℕ} {s : Server} → Promise → IsReached members w
+pub lead_if-refines : {members : List ℕ} {w : World} {k : ℕ} {s : Server} → IsReached members w
     → IsGroup members k s.peers → Stands w k s → Refines members w k (lead_if_elected s)
 unfolding lead_if_elected
-lead_if-refines {members} {w} {k} {s} promise reached group st =
+lead_if-refines {members} {w} {k} {s} reached group st =
     cond_both (is_elected s) (lead s) s (Refines members w k)
-    (λ e. lead-refines promise reached group st e) (λ _. refines-refl st)
+    (λ e. lead-refines reached group st e) (λ _. refines-refl st)
 
 -- ---- a vote is counted
 
@@ -325,24 +322,24 @@ counted-group {members} {k} node peers group =
           group.each test ∙ ap (λ n. one_if (test k) + n) (sym same);
     }
 
-count-refines : {members : List ℕ} {w : World} {k : ℕ} {s : Server} (m : VotedMsg) → Promise
+count-refines : {members : List ℕ} {w : World} {k : ℕ} {s : Server} (m : VotedMsg)
     → IsReached members w → IsGroup members k s.peers → Stands w k s → s.term.0 ≡ m.term.0 → m.to.0 ≡ k
     → IsOnItsWay w (Voted m) → Refines members w k (count_vote m s)
-count-refines {members} {w} {k} {s} m promise reached group st term to x =
+count-refines {members} {w} {k} {s} m reached group st term to x =
     let counted = at_peer m.from grant_peer s in
     cond_both (is_candidate s.role && m.granted) (lead_if_elected counted) s (Refines members w k)
     (λ e.
     let parts = and_parts (is_candidate s.role) m.granted e in
     let is = is_candidate_of s.role parts.0 in
-    lead_if-refines promise reached (counted-group m.from s.peers group)
+    lead_if-refines reached (counted-group m.from s.peers group)
     (counted-stands m st is term to parts.1 x))
     (λ _. refines-refl st)
 
-pub voted-refines : {members : List ℕ} {w : World} {k : ℕ} {s : Server} (m : VotedMsg) → Promise
+pub voted-refines : {members : List ℕ} {w : World} {k : ℕ} {s : Server} (m : VotedMsg)
     → IsReached members w → IsGroup members k s.peers → Stands w k s → m.to.0 ≡ k → IsOnItsWay w (Voted m)
     → Refines members w k (receive (Voted m) s)
 unfolding receive accept refuse receive_voted enter
-voted-refines {members} {w} {k} {s} m promise reached group st to x =
+voted-refines {members} {w} {k} {s} m reached group st to x =
     cond_both (ltb m.term.0 s.term.0) s (accept (Voted m) s) (Refines members w k) (λ _. refines-refl st)
     (λ e.
     let le = ltb-false m.term.0 s.term.0 e in
@@ -353,4 +350,4 @@ voted-refines {members} {w} {k} {s} m promise reached group st to x =
     refines-change None m.term None st le (λ same. absurd (omega (arith, lt, same))))
     (λ own.
     let ge = ltb-false s.term.0 m.term.0 own in
-    count-refines m promise reached group st (omega (arith, le, ge)) to x))
+    count-refines m reached group st (omega (arith, le, ge)) to x))

@@ -12,15 +12,10 @@ use Rattle.qq_raft_model.specs.Moves.Move.{Write, Stand, Vote, Lead, Append, Sen
 use Rattle.qq_raft_model.specs.Safe.{IsSafe, IsLaneOf}
 use Rattle.qq_raft_model.specs.World.{Member, Sent, World, lanes, new_member, new_world}
 use Rattle.qq_raft_model.proofs.Logs.{last_of, last_term-add}
+use Rattle.qq_raft_model.proofs.Runs.{safe-run}
 use Rattle.qq_raft_step.specs.Refines.{IsReached}
 use Rattle.qq_raft_step.specs.Server.{agreed}
 use Rattle.qq_raft_step.proofs.Refining.{run-append, allowed-append}
-
--- what the protocol promises, as its law says it
-abbrev pub Promise : Type 0
-Promise =
-    (members : List ℕ) (moves : List Move) → AreAllowed members new_world moves
-    → IsSafe members (run new_world moves)
 
 -- ---- a member that never moved
 
@@ -89,9 +84,9 @@ may_take w q x b f new said p =
       });
     })
 
-pub sent-matches : {members : List ℕ} {w : World} (k : ℕ) (x : Sent) → Promise → IsReached members w
+pub sent-matches : {members : List ℕ} {w : World} (k : ℕ) (x : Sent) → IsReached members w
     → In x w.sents → Match (w.member k).mine.log x.front
-sent-matches {members} {w} k x promise reached said a b e f p r same =
+sent-matches {members} {w} k x reached said a b e f p r same =
     let ms = reached.moves in
     let q = above ms + k + 1 in
     let start = run new_world ms in
@@ -107,7 +102,7 @@ sent-matches {members} {w} k x promise reached said a b e f p r same =
     let ends : run new_world (ms ++ move ∷ []) ≡ after w move =
     run-append new_world ms (move ∷ []) ∙ ap (λ (v : World). after v move) (sym is) in
     let safe : IsSafe members (after w move) =
-    subst (λ (v : World). IsSafe members v) ends (promise members (ms ++ move ∷ []) allowed) in
+    subst (λ (v : World). IsSafe members v) ends (safe-run members (ms ++ move ∷ []) allowed) in
     let m = w.member q in
     let lane = next_lane m x.term None x.front in
     let own : IsLaneOf (after w move) k (w.member k).mine =

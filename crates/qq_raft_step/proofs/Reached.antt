@@ -1,9 +1,10 @@
 -- Worlds that the protocol can come to: what it keeps in them, and moves that lead on.
 use Rattle.std.proofs.Common.{◌≡◌, ℕ, List, ◌++◌, sym, ap, subst, ◌∙◌}
 use Rattle.qq_raft_model.specs.Moves.{Move, AreAllowed, run}
+use Rattle.qq_raft_model.specs.Safe.{IsSafe}
 use Rattle.qq_raft_model.specs.World.{World, new_world}
 use Rattle.qq_raft_model.proofs.Kept.{Kept}
-use Rattle.qq_raft_model.proofs.Runs.{kept-moves}
+use Rattle.qq_raft_model.proofs.Runs.{kept-moves, safe-run}
 use Rattle.qq_raft_step.specs.State.{Server}
 use Rattle.qq_raft_step.specs.Refines.{IsReached, OnlyMoves, Refines, Stands}
 use Rattle.qq_raft_step.proofs.Later.{only-trans}
@@ -12,6 +13,10 @@ use Rattle.qq_raft_step.proofs.Refining.{run-append, allowed-append}
 pub kept-there : (members : List ℕ) (w : World) → IsReached members w → Kept members w
 kept-there members w reached =
     subst (Kept members) (sym reached.is) (kept-moves members reached.moves reached.allowed)
+
+pub safe-there : (members : List ℕ) (w : World) → IsReached members w → IsSafe members w
+safe-there members w reached =
+    subst (IsSafe members) (sym reached.is) (safe-run members reached.moves reached.allowed)
 
 pub then-reached : {members : List ℕ} {w : World} (moves : List Move) → IsReached members w
     → AreAllowed members w moves → IsReached members (run w moves)

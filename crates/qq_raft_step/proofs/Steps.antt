@@ -16,7 +16,6 @@ use Rattle.qq_raft_step.proofs.Appends.{append-refines}
 use Rattle.qq_raft_step.proofs.Counting.{appended-refines}
 use Rattle.qq_raft_step.proofs.Leading.{notice-refines}
 use Rattle.qq_raft_step.proofs.Leads.{voted-refines}
-use Rattle.qq_raft_step.proofs.Matches.{Promise}
 use Rattle.qq_raft_step.proofs.Refining.{refines-refl, refines-enter, refines-say}
 use Rattle.qq_raft_step.proofs.Standing.{tick-refines}
 use Rattle.qq_raft_step.proofs.Votes.{vote-refines}
@@ -36,24 +35,24 @@ installed-refines {members} {w} {k} {s} m st =
     cond_both (ltb m.term.0 s.term.0) s (enter m.term s) (Refines members w k)
     (λ _. refines-refl st) (λ _. refines-enter m.term st)
 
-receive-refines : {members : List ℕ} {w : World} {k : ℕ} {s : Server} (rpc : Rpc) → Promise
+receive-refines : {members : List ℕ} {w : World} {k : ℕ} {s : Server} (rpc : Rpc)
     → IsReached members w → IsGroup members k s.peers → Stands w k s → (envelope rpc).to.0 ≡ k
     → IsOnItsWay w rpc → Refines members w k (receive rpc s)
-receive-refines (Vote m) promise reached group st to way = vote-refines m st way
-receive-refines (Voted m) promise reached group st to way = voted-refines m promise reached group st to way
-receive-refines (Append m) promise reached group st to way = append-refines m promise reached st way
-receive-refines (Appended m) promise reached group st to way = appended-refines m promise reached group st way
-receive-refines (Install m) promise reached group st to way = install-refines m st
-receive-refines (Installed m) promise reached group st to way = installed-refines m st
+receive-refines (Vote m) reached group st to way = vote-refines m st way
+receive-refines (Voted m) reached group st to way = voted-refines m reached group st to way
+receive-refines (Append m) reached group st to way = append-refines m reached st way
+receive-refines (Appended m) reached group st to way = appended-refines m reached group st way
+receive-refines (Install m) reached group st to way = install-refines m st
+receive-refines (Installed m) reached group st to way = installed-refines m st
 
-pub step-refines : {members : List ℕ} {w : World} {k : ℕ} {s : Server} (input : Input) → Promise
+pub step-refines : {members : List ℕ} {w : World} {k : ℕ} {s : Server} (input : Input)
     → IsReached members w → IsGroup members k s.peers → Stands w k s → MayCome w k s input
     → Refines members w k (step s input)
-step-refines {s = s} Tick promise reached group st may = elim (cases_Bool (is_leader s.role)) [
-  | inl leads ↦ leader_tick-refines promise reached st leads
+step-refines {s = s} Tick reached group st may = elim (cases_Bool (is_leader s.role)) [
+  | inl leads ↦ leader_tick-refines reached st leads
   | inr other ↦ tick-refines st other
 ]
-step-refines (Receive rpc) promise reached group st may =
-    receive-refines rpc promise reached group st may.0 may.1
-step-refines (Submit time command) promise reached group st may = submit-refines time command promise reached st
-step-refines (Notice op) promise reached group st may = notice-refines op promise reached group st may
+step-refines (Receive rpc) reached group st may =
+    receive-refines rpc reached group st may.0 may.1
+step-refines (Submit time command) reached group st may = submit-refines time command reached st
+step-refines (Notice op) reached group st may = notice-refines op reached group st may

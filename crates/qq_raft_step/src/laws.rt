@@ -21,8 +21,6 @@ ghost use Rattle.qq_raft_step.specs.Refines.{IsOnItsWay, IsReached, IsGroup, IsW
 ghost use Rattle.qq_raft_step.specs.Server.{Input, receive, tick, submit, notice, step, restart};
 ghost use Rattle.qq_raft_step.specs.State.{Server, is_leader, last};
 
-use qq_raft_model::servers_agree;
-
 /// A law: what a server does with a request for its vote is moves of the protocol, which allows them.
 pub fn a_request_for_a_vote_is_answered_by_moves()
     ensures { (members : List ℕ) (w : World) (k : ℕ) (s : Server) (m : VoteMsg) → Stands w k s →
@@ -35,9 +33,7 @@ pub fn a_vote_is_counted_by_moves()
     ensures { (members : List ℕ) (w : World) (k : ℕ) (s : Server) (m : VotedMsg) →
         IsReached members w → IsGroup members k s.peers → Stands w k s → m.to.0 ≡ k →
         IsOnItsWay w (Voted m) → Refines members w k (receive (Voted m) s) }
-{
-    servers_agree();
-}
+{}
 
 /// A law: what a server does with entries that a leader sent, or doesn't do, is moves of the protocol, which
 /// allows them, in each world that the protocol can come to.
@@ -45,9 +41,7 @@ pub fn sent_entries_are_taken_by_moves()
     ensures { (members : List ℕ) (w : World) (k : ℕ) (s : Server) (m : AppendMsg) →
         IsReached members w → Stands w k s → IsOnItsWay w (Append m) →
         Refines members w k (receive (Append m) s) }
-{
-    servers_agree();
-}
+{}
 
 /// A law: a server that doesn't lead and is ticked stands for election by a move of the protocol.
 pub fn standing_is_a_move()
@@ -63,9 +57,7 @@ pub fn a_leader_sends_and_adds_by_moves()
     ensures submit { (members : List ℕ) (w : World) (k : ℕ) (s : Server) (time : ℕ)
         (command : Command) → IsReached members w → Stands w k s →
         Refines members w k (submit time command s) }
-{
-    servers_agree();
-}
+{}
 
 /// A law: a server of a group takes an acknowledgement by moves of the protocol. A leader sends what is left
 /// and commits what a majority has by them.
@@ -73,18 +65,14 @@ pub fn an_acknowledgement_is_counted_by_moves()
     ensures { (members : List ℕ) (w : World) (k : ℕ) (s : Server) (m : AppendedMsg) →
         IsReached members w → IsGroup members k s.peers → Stands w k s → IsOnItsWay w (Appended m) →
         Refines members w k (receive (Appended m) s) }
-{
-    servers_agree();
-}
+{}
 
 /// A law: a server of a group that is told up to which change its disk is durable notices it by moves of the
 /// protocol. By then a candidate may lead, and a leader commits what a majority has.
 pub fn what_is_durable_is_noticed_by_moves()
     ensures { (members : List ℕ) (w : World) (k : ℕ) (s : Server) (op : ℕ) → IsReached members w →
         IsGroup members k s.peers → Stands w k s → op ≤ s.op → Refines members w k (notice op s) }
-{
-    servers_agree();
-}
+{}
 
 /// A law: a leader keeps what it may send, and what it knows its peers to have, within its log; each entry of
 /// its term is acknowledged by itself; and no acknowledgement of its term passes its log.
@@ -103,9 +91,7 @@ pub fn each_step_is_moves()
     ensures { (members : List ℕ) (w : World) (k : ℕ) (s : Server) (input : Input) →
         IsReached members w → IsGroup members k s.peers → Stands w k s → MayCome w k s input →
         Refines members w k (step s input) }
-{
-    servers_agree();
-}
+{}
 
 /// A law: a step keeps the node and its peers, its term doesn't fall, and it hands out one change at most. So
 /// what a server works on is what all that it handed out comes to, from a restart on, and that is the lane by
@@ -155,6 +141,4 @@ pub fn servers_that_stand_agree()
         take s.commit s.log ≡ take s.commit t.log }
     ensures later { (members : List ℕ) (w : World) (k : ℕ) (s : Server) → IsReached members w →
         (r : Refines members w k s) → IsReached members (run w r.moves) }
-{
-    servers_agree();
-}
+{}

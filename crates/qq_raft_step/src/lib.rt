@@ -15,9 +15,9 @@ pub use laws::{
     a_leader_keeps_to_its_log, a_leader_sends_and_adds_by_moves,
     a_request_for_a_vote_is_answered_by_moves, a_restart_is_a_move,
     a_server_works_on_what_it_handed_out, a_step_of_one_leaves_the_others,
-    a_vote_is_counted_by_moves,
-    an_acknowledgement_is_counted_by_moves, each_step_is_moves, sent_entries_are_taken_by_moves,
-    servers_that_stand_agree, standing_is_a_move, what_is_durable_is_noticed_by_moves,
+    a_vote_is_counted_by_moves, an_acknowledgement_is_counted_by_moves, each_step_is_moves,
+    sent_entries_are_taken_by_moves, servers_that_stand_agree, standing_is_a_move,
+    what_is_durable_is_noticed_by_moves,
 };
 pub use limits::{BATCH_BYTES, BATCH_ENTRIES};
 pub use peer::{Peer, Waiting};

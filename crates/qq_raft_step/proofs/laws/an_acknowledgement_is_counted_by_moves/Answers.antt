@@ -3,4 +3,4 @@ use Rattle.qq_raft_step.proofs.laws.an_acknowledgement_is_counted_by_moves.Goals
 
 pub returns : goal.returns
 returns c = λ members w k s m reached group st way.
-    appended-refines m c.servers_agree.ensures reached group st way
+    appended-refines m reached group st way

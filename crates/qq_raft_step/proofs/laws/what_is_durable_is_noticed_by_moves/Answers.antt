@@ -3,4 +3,4 @@ use Rattle.qq_raft_step.proofs.laws.what_is_durable_is_noticed_by_moves.Goals as
 
 pub returns : goal.returns
 returns c = λ members w k s op reached group st le.
-    notice-refines op c.servers_agree.ensures reached group st le
+    notice-refines op reached group st le
