@@ -60,7 +60,7 @@ module _ {D : Type 0} (queues : List QueueId) (names : List FileName) (log_bytes
       ranges_are = b.ranges_are
           ∙ ap (λ (h : Header). begin_files h.file vec.items ranges) (sym b.header_is)
           ∙ ap (λ (v : Vec QueueId). begin_files w.header.file v.items ranges) (sym b.queues_are);
-      size = b.size ∙ ap (λ (h : Header). first_length h w.marks.items) (sym b.header_is);
+      size = b.size ∙ ap (λ (h : Header). first_length h w.marks) (sym b.header_is);
       numbers = b.numbers ∙ ap (λ (h : Header). first_numbers h names) (sym b.header_is);
       limit = b.limit;
       clean = b.clean;
@@ -72,12 +72,12 @@ module _ {D : Type 0} (queues : List QueueId) (names : List FileName) (log_bytes
   begun-knows r above =
       let lanes : Lanes = lanes_left r in
       let carries : List Carry = carries_of queues lanes in
-      let made : (wal_of r).marks.items ≡ map (new_mark carries) queues =
+      let made : (wal_of r).marks ≡ map (new_mark carries) queues =
       above.begun.marks ∙ ap (λ (l : List QueueId). map (new_mark carries) l) above.queues_are in
       let agree : Agree lanes (map (new_mark carries) queues) = begun-agree lanes queues in
       record {
         ahead = λ id listed.
-            ap (λ (l : List LogRecord). add_records (known (wal_of r).marks.items) l id.0) above.begun.waiting
+            ap (λ (l : List LogRecord). add_records (known (wal_of r).marks) l id.0) above.begun.waiting
             ∙ ap (λ (l : List Mark). known l id.0) made
             ∙ agree-known lanes (map (new_mark carries) queues) id agree
             (subst (λ (l : List QueueId). is_listed l id ≡ true) (sym (begun-queues carries queues)) listed);

@@ -16,3 +16,6 @@ mod Begun
 mod Carries
 mod Prepared
 mod Outcomes
+pub mod Causes
+pub mod Reread
+pub mod GoingOn

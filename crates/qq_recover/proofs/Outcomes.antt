@@ -15,7 +15,7 @@ use Rattle.qq_recover.specs.declared.start.Start.{Start}
 use Rattle.qq_recover.specs.Answer.{Answer, Fails}
 use Rattle.qq_recover.specs.Log.{IsNewest}
 use Rattle.qq_recover.specs.Reading.{shown}
-use Rattle.qq_recover.specs.Recovered.{IsBegunAbove, IsBegunBehind, IsDiskCaused, IsNoRefusal, IsSpentOn, KnowsLanes, lanes_left, wal_of}
+use Rattle.qq_recover.specs.Recovered.{IsBegunAbove, IsBegunBehind, IsDiskCaused, IsNewLog, IsNoRefusal, IsSpentOn, KnowsLanes, lanes_left, wal_of}
 use Rattle.qq_recover.specs.Recovery.{SettlesLanes}
 use Rattle.qq_recover.specs.Start.{IsReadOf}
 use Rattle.qq_recover.specs.Table.{lanes_of}
@@ -57,6 +57,15 @@ module _ {D : Type 0} (queues : List QueueId) (s : Start) (log_bytes : ℕ)
       by : (r : Result (Recovered D) (RecoverFault × D)) → IfOk r (IsBegunAbove queues s.names.items (ranges_in s.ranges) log_bytes)
           → IfOk r (KnowsLanes queues)
       by (Ok x) begun = begun-knows queues s.names.items log_bytes (ranges_in s.ranges) x begun
+      by (Err e) begun = tt
+
+  pub new-ok : IfOk r (IsBegunAbove queues s.names.items (ranges_in s.ranges) log_bytes)
+      → IfOk r (IsNewLog queues log_bytes)
+  new-ok = by r
+    where
+      by : (r : Result (Recovered D) (RecoverFault × D))
+          → IfOk r (IsBegunAbove queues s.names.items (ranges_in s.ranges) log_bytes) → IfOk r (IsNewLog queues log_bytes)
+      by (Ok x) begun = record { names = s.names.items; ranges = ranges_in s.ranges; above = begun }
       by (Err e) begun = tt
 
   pub lanes-ok : (logs : Answer Lanes) → logs ≡ Ok (lanes_of s.table)

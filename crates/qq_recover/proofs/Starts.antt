@@ -50,7 +50,7 @@ listed-within d names listing n here = by (cases_lt (greatest_number OfLog names
     by (inr within) = within
 
 -- the newest file is listed
-newest-within-listed : (queues : List QueueId) (d : Disk) (names : List FileName) → IsListing d names
+pub newest-within-listed : (queues : List QueueId) (d : Disk) (names : List FileName) → IsListing d names
     → newest (wal queues) top (shown d) ≤ greatest_number OfLog names
 newest-within-listed queues d names listing =
     by (newest (wal queues) top (shown d)) (newest-has (wal queues) top (shown d))

@@ -19,7 +19,7 @@ use Rattle.qq_recover.specs.Replay.{replay_records, replay_files}
 use Rattle.qq_recover.specs.State.{state_with_op, state_with_carry}
 use Rattle.qq_recover.specs.Table.{Rows, set_row, state_in, Fit}
 
-same_number : (n m : ℕ) → is_eq (nat_cmp n m) ≡ eqb n m
+pub same_number : (n m : ℕ) → is_eq (nat_cmp n m) ≡ eqb n m
 same_number n m = grind (arith, nat_tests)
 
 abbrev pub lanes_in : Rows → Lanes

@@ -78,6 +78,24 @@ module _ (queues : List QueueId) where
           let same : read ≡ h = ended read (eqb counted.end good) e in
           header-back n (header_at bytes) h (is ∙ ap (λ (h : Header). Ok h) same)
 
+  pub file-number : (n good : ℕ) (bytes : List ℕ) (h : Header) (file : ChainFile)
+      → file_at queues n good bytes ≡ Ok (h, file) → file.number ≡ n
+  unfolding file_at
+  file-number n good bytes h file e = by (header_of n (header_at bytes)) e
+    where
+      counted : ChainFile
+      counted = file_of queues n (records_up_to (wal queues) n good bytes)
+
+      ended : (read : Header) (t : Bool) → cond {A = Answer (Header × ChainFile)} t (Ok (read, counted)) (Err (Damaged (log_of n) counted.end)) ≡ Ok (h, file)
+          → file.number ≡ n
+      ended read true e =
+          let both : (read, counted) ≡ (h, file) = cc in sym (ap (λ (p : Header × ChainFile). p.1.number) both)
+      ended read false e = absurd cc
+
+      by : (o : Answer Header) → (o >>= λ h. ends_at good h counted) ≡ Ok (h, file) → file.number ≡ n
+      by (Err refusal) e = absurd cc
+      by (Ok read) e = ended read (eqb counted.end good) e
+
   -- ---- one file of the way
 
   module _ (logs : Logs) (n good : ℕ) (some : 0 < n) (within : n ≤ top) where

@@ -1,12 +1,14 @@
 -- Where the entries lie that recovery reads.
-use Rattle.std.specs.Prelude.{ℕ, List, [], ◌∷◌, Ok, if◌then◌else◌}
+use Rattle.std.specs.Prelude.{ℕ, List, [], ◌∷◌, Ok, nat_eq, if◌then◌else◌}
 use Rattle.std.specs.List.{fold}
 use Rattle.qq_base.specs.declared.ids.QueueId.{QueueId}
 use Rattle.qq_log.specs.declared.op.Op.{Op}
+use Rattle.qq_log.specs.Op.{queue}
 use Rattle.qq_wal_record.specs.declared.record.LogRecord.{LogRecord}
 use Rattle.qq_wal_record.specs.declared.record.LogRecord.TheVariants.{Op as OpRecord, Carry as CarryRecord}
 use Rattle.qq_chain.specs.Chain.{Logs}
 use Rattle.qq_chain.specs.Lanes.{is_within_end}
+use Rattle.qq_wal.specs.Entries.{files_behind}
 use Rattle.qq_wal.specs.Notices.{last_index}
 use Rattle.qq_wal.specs.Ranges.{AllRanges, ranges_of, write_op_in}
 use Rattle.qq_recover.specs.declared.file.ChainFile.{ChainFile}
@@ -34,3 +36,16 @@ find_files (file ∷ older) all = fold (find_record file.number) (find_files old
 -- where the entries of the files lie that are read
 abbrev pub ranges_read : List QueueId → Logs → Answer AllRanges
 ranges_read queues logs = files_read queues logs >>= λ files. Ok (find_files files (ranges_of queues))
+
+-- ---- entry by entry
+
+-- the log file of each entry of a queue, from the first on, with a record of file n more
+abbrev pub with_record : ℕ → ℕ → List ℕ → LogRecord → List ℕ
+with_record id n files (OpRecord op) = if nat_eq (queue op).0 id then files_behind files n op else files
+with_record id n files (CarryRecord c) = files
+
+-- as the records of these files leave them
+abbrev pub entry_files : ℕ → List ChainFile → List ℕ
+entry_files id [] = []
+entry_files id (file ∷ older) =
+    fold (λ files (r : Placed). with_record id file.number files r.entry) (entry_files id older) file.records

@@ -66,7 +66,14 @@ last_op (Some s) = s.op
 pub record KnowsLanes {D : Type 0} (queues : List QueueId) (r : Recovered D) : Type 0 where
   pub ahead : (id : QueueId) → is_listed queues id ≡ true → carries_ahead (wal_of r) id.0 ≡ carry_in (lanes_left r) id
   pub synced : (id : QueueId) → is_listed queues id ≡ true
-      → synced_in (wal_of r).marks.items id ≡ last_op (lanes_left r id.0)
+      → synced_in (wal_of r).marks id ≡ last_op (lanes_left r id.0)
+
+-- Whatever the disk tells: the log is of these queues, nothing waits in it, no call has failed, and of each queue it knows
+-- what its lane comes to.
+pub record IsNewLog {D : Type 0} (queues : List QueueId) (log_bytes : ℕ) (r : Recovered D) : Type 0 where
+  pub names : List FileName
+  pub ranges : AllRanges
+  pub above : IsBegunAbove queues names ranges log_bytes r
 
 -- its header names the newest file that was read, and how far that is good; entries lie in the files where they were read
 pub record IsBegunBehind {D : Type 0} (queues : List QueueId) (log_bytes : ℕ) (d : Disk) (r : Recovered D) : Type 0

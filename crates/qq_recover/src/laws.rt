@@ -1,20 +1,48 @@
 //! Laws of what recovery reads: the functions do nothing, and their contracts are the laws.
-ghost use Rattle.std.specs.Prelude.{◌≡◌, ℕ, List, false};
+ghost use Rattle.std.specs.Prelude.{◌≡◌, ◌≤◌, ◌+◌, ◌⊎◌, ◌^◌, ℕ, List, Option, Some, Ok, Err, length, unwrap_or, true, false};
+ghost use Rattle.qq_base.specs.Causes.{Rose};
+ghost use Rattle.qq_base.specs.Fronts.{IsFront};
+ghost use Rattle.qq_base.specs.declared.ids.Index.{Index};
+ghost use Rattle.qq_base.specs.declared.ids.NodeId.{NodeId};
+ghost use Rattle.qq_base.specs.declared.ids.Term.{Term};
+ghost use Rattle.qq_entry.specs.declared.command.Entry.{Entry};
 ghost use Rattle.qq_base.specs.declared.ids.QueueId.{QueueId};
+ghost use Rattle.qq_base.specs.declared.memory.Memory.{Memory};
+ghost use Rattle.qq_base.specs.declared.memory.Memory.TheVariants.{Want, Spent};
 ghost use Rattle.qq_disk.specs.Crash.{IsImage, Remains, reopen};
-ghost use Rattle.qq_disk.specs.Disk.{Disk};
+ghost use Rattle.qq_disk.specs.Disk.{Disk, IsListed, now};
+ghost use Rattle.qq_disk.specs.Image.{log_of};
+ghost use Rattle.qq_disk.specs.declared.name.FileName.{FileName};
 ghost use Rattle.qq_log.specs.declared.op.Op.{Op};
+ghost use Rattle.qq_log.specs.declared.op.Op.TheVariants.{Change};
 ghost use Rattle.qq_chain.specs.Chain.{Logs, reading};
 ghost use Rattle.qq_chain.specs.Image.{files_of, is_removed};
-ghost use Rattle.qq_chain.specs.Laws.{IsHonestImage, KeepsPromise};
+ghost use Rattle.qq_chain.specs.Laws.{HoldsOps, IsHonestImage, KeepsPromise};
 ghost use Rattle.qq_chain.specs.Promise.{found_world};
 ghost use Rattle.qq_chain.specs.Wal.{wal};
-ghost use Rattle.qq_recover.specs.Answer.{answered};
-ghost use Rattle.qq_wal.specs.Running.{top};
-ghost use Rattle.qq_recover.specs.Reading.{lanes_read};
-ghost use Rattle.qq_recover.specs.Recovery.{IsReadable, MayRecover};
+ghost use Rattle.qq_chain.specs.Lanes.{Lanes, is_listed, of_queue};
+ghost use Rattle.qq_recover.specs.Answer.{Answer, Fails, answered};
+ghost use Rattle.qq_recover.specs.Fault.{IsCaused};
+ghost use Rattle.qq_recover.specs.declared.fault.RecoverFault.{RecoverFault};
+ghost use Rattle.qq_recover.specs.declared.fault.RecoverFault.TheVariants.{Disk as DiskFailed, Damaged, Version, Memory as OfMemory};
+ghost use Rattle.qq_wal.specs.Running.{NoneRemoved, StaysWhole, top};
+ghost use Rattle.qq_log.specs.Stable.{Stable, last_index, new_state, stable};
+ghost use Rattle.qq_wal.specs.Marks.{GoesOn};
+ghost use Rattle.qq_wal.specs.Notices.{synced_in};
+ghost use Rattle.qq_wal.specs.Wal.{carries_ahead};
+ghost use Rattle.qq_wal.specs.declared.ranges.QueueRanges.{QueueRanges};
+ghost use Rattle.qq_wal.specs.Entries.{IsRangeOf, LieAs};
+ghost use Rattle.qq_wal.specs.Ranges.{AllRanges, as_indices, in_file, ranges_in};
+ghost use Rattle.qq_wal.specs.Spans.{Range};
+ghost use Rattle.qq_recover.specs.declared.file.ChainFile.{ChainFile};
+ghost use Rattle.qq_recover.specs.declared.recovered.Recovered.{Recovered};
+ghost use Rattle.qq_recover.specs.Entries.{entry_files, ranges_read};
+ghost use Rattle.qq_recover.specs.Reading.{files_read, lanes_read, shown};
+ghost use Rattle.qq_recover.specs.Recovered.{IsBegunBehind, IsNoRefusal, IsRecoverCaused, IsSpentOn, KnowsLanes, lanes_left, wal_of};
+ghost use Rattle.qq_recover.specs.Recovery.{IsReadable, MayRecover, SettlesLanes};
 
 use qq_chain::the_log_has_a_format;
+use qq_disk::NodeDisk;
 
 /// The lanes that recovery reads are what the chain of files comes to, and it refuses exactly where
 /// the chain is damaged.
@@ -26,13 +54,15 @@ pub fn lanes_are_those_of_the_chain()
 }
 
 /// Which disks may be recovered: one that keeps a promise of the log, one of which no log file is removed,
-/// and so one that was just opened.
+/// and so one that was just opened; and what calls of the log leave of such a one.
 pub fn these_disks_may_be_recovered()
     ensures promised { (queues : List QueueId) (noticed given : List Op) (d : Disk) →
         KeepsPromise queues top noticed given d → MayRecover queues d }
     ensures whole { (queues : List QueueId) (d : Disk) →
         ((n : ℕ) → is_removed (files_of d n) ≡ false) → MayRecover queues d }
     ensures opened { (queues : List QueueId) (i : Remains) → MayRecover queues (reopen i) }
+    ensures later { (queues : List QueueId) (old new : List Disk) → NoneRemoved (now old) →
+        StaysWhole old new → MayRecover queues (now new) }
 {}
 
 /// A disk that keeps a promise of the log is read, and gives each queue what it was promised. So does
@@ -46,3 +76,76 @@ pub fn a_promised_disk_is_read()
 {
     the_log_has_a_format();
 }
+
+/// What recovery has settled on: some of the given ops, from the first on, with all the noticed ones among
+/// them. They are on the disk, each image has them all from then on, and of each queue its lane is what its
+/// own ops among them come to, a queue without a lane being a new one.
+pub fn recovery_settles_on_first_ops()
+    ensures { (queues : List QueueId) (noticed given : List Op) (lanes : Lanes) (d : Disk) →
+        SettlesLanes queues noticed given lanes d → (ops : List Op) × IsFront noticed ops
+        × IsFront ops given × HoldsOps queues top ops d × KeepsPromise queues top ops ops d
+        × ((id : ℕ) → stable (of_queue id ops) ≡ Some (unwrap_or (lanes id) new_state)) }
+{}
+
+/// Where a recovered queue goes on: a change with the next number, which keeps no more entries than its lane
+/// has, may be handed to the log, and the log counts as synced what its lane has.
+pub fn a_recovered_queue_goes_on<D: NodeDisk>()
+    ensures next { (queues : List QueueId) (r : Recovered D) (id : QueueId) (n : ℕ) (term : Term)
+        (vote : Option NodeId) (keep : Index) (entries : List Entry) → KnowsLanes queues r →
+        is_listed queues id ≡ true → let lane = unwrap_or (lanes_left r id.0) new_state in
+        n ≡ lane.op + 1 → lane.base.index.0 ≤ keep.0 → keep.0 ≤ last_index lane →
+        GoesOn queues (carries_ahead (wal_of r)) (Change id n term vote keep entries) }
+    ensures synced { (queues : List QueueId) (r : Recovered D) (id : QueueId) → KnowsLanes queues r →
+        is_listed queues id ≡ true →
+        synced_in (wal_of r).marks id ≡ (unwrap_or (lanes_left r id.0) new_state).op }
+{}
+
+/// What `in_file` tells once a log was recovered is true of the files that were read: of each queue the
+/// changes in these files, one after the other, leave each of its entries in one file, and of those that lie
+/// in a file the first and the last are told.
+///
+/// - `each`: so many entries a lane has, and each of them has its file.
+/// - `read`: where the entries lie that recovery reads is what these say one by one.
+/// - `told`: and so the log that was begun tells it.
+pub fn entries_lie_where_they_were_read<D: NodeDisk>()
+    ensures each { (queues : List QueueId) (logs : Logs) (files : List ChainFile) (lanes : Lanes)
+        (ranges : AllRanges) (id : QueueId) (state : Stable) → is_listed queues id ≡ true →
+        files_read queues logs ≡ Ok files → lanes_read queues logs ≡ Ok lanes →
+        ranges_read queues logs ≡ Ok ranges → lanes id.0 ≡ Some state →
+        length state.log ≡ length (entry_files id.0 files) }
+    ensures read { (queues : List QueueId) (logs : Logs) (files : List ChainFile) (lanes : Lanes)
+        (ranges : AllRanges) (id : QueueId) → is_listed queues id ≡ true →
+        files_read queues logs ≡ Ok files → lanes_read queues logs ≡ Ok lanes →
+        ranges_read queues logs ≡ Ok ranges → (q : QueueRanges) × (ranges id.0 ≡ Some q)
+        × LieAs (entry_files id.0 files) q }
+    ensures told { (queues : List QueueId) (log_bytes : ℕ) (d : Disk) (r : Recovered D)
+        (files : List ChainFile) (lanes : Lanes) (id : QueueId) (n : ℕ) →
+        IsBegunBehind queues log_bytes d r → files_read queues (shown d) ≡ Ok files →
+        lanes_read queues (shown d) ≡ Ok lanes → is_listed queues id ≡ true → (range : Range)
+        × (in_file (ranges_in (wal_of r).ranges) id n ≡ as_indices range)
+        × IsRangeOf (entry_files id.0 files) n range }
+{}
+
+/// Why recovery gave up.
+///
+/// - `disk`: `Disk` comes only where the disk has counted a failure.
+/// - `memory`: of `inspect` and of the files nothing else comes but that there is no memory.
+/// - `spent`: a listed log file's number is 2^63 or more, and the greatest of them is told.
+/// - `damaged`, `version`: the files break the rules there first.
+/// - `never`: what is no refusal is neither of these two.
+pub fn recovery_tells_why_it_refuses()
+    ensures disk { (before now : ℕ) → IsCaused before now DiskFailed
+        ⊎ IsRecoverCaused before now DiskFailed → Rose before now }
+    ensures memory { (before now : ℕ) (memory : Memory) →
+        IsCaused before now (OfMemory memory) → memory ≡ Want }
+    ensures spent { (d : Disk) (before now number : ℕ) →
+        IsRecoverCaused before now (OfMemory (Spent number)) →
+        IsSpentOn d (OfMemory (Spent number)) → (2 ^ 63 ≤ number)
+        × IsListed d (log_of number) × ((other : ℕ) → IsListed d (log_of other) → other ≤ number) }
+    ensures damaged { (read : Answer Lanes) (file : FileName) (place : ℕ) →
+        Fails (Damaged file place) read → read ≡ Err (Damaged file place) }
+    ensures version { (read : Answer Lanes) (file : FileName) (byte : ℕ) →
+        Fails (Version file byte) read → read ≡ Err (Version file byte) }
+    ensures never { (e : RecoverFault) (file : FileName) (number : ℕ) → IsNoRefusal e →
+        (e ≡ Damaged file number) ⊎ (e ≡ Version file number) → ⊥ }
+{}

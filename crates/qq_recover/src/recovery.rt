@@ -7,11 +7,11 @@ ghost use Rattle.qq_log.specs.declared.op.Op.{Op};
 ghost use Rattle.qq_chain.specs.Laws.{KeepsPromise};
 ghost use Rattle.qq_wal.specs.Fault.{IsCaused as IsWalCaused};
 ghost use Rattle.qq_wal.specs.Ranges.{ranges_in};
-ghost use Rattle.qq_wal.specs.Running.{MayBegin, StillHolds, Stays, top};
+ghost use Rattle.qq_wal.specs.Running.{MayBegin, StillHolds, Stays, StaysWhole, top};
 ghost use Rattle.qq_wal.specs.Wal.{IsSound};
 ghost use Rattle.qq_recover.specs.Answer.{Fails};
 ghost use Rattle.qq_recover.specs.Reading.{shown, lanes_read};
-ghost use Rattle.qq_recover.specs.Recovered.{IsBeginFault, IsBegunAbove, IsBegunBehind, IsDiskCaused, IsNoRefusal, IsRecoverCaused, IsSpentOn, KnowsLanes, disk_of, lanes_left, wal_of};
+ghost use Rattle.qq_recover.specs.Recovered.{IsBeginFault, IsBegunAbove, IsBegunBehind, IsDiskCaused, IsNewLog, IsNoRefusal, IsRecoverCaused, IsSpentOn, KnowsLanes, disk_of, lanes_left, wal_of};
 ghost use Rattle.qq_recover.specs.Recovery.{MayRecover, SettlesLanes};
 ghost use Rattle.qq_recover.specs.Start.{IsStart};
 ghost use Rattle.qq_recover.specs.Table.{lanes_of};
@@ -58,6 +58,8 @@ fn begin_behind<D: NodeDisk>(
         Stays queues.now (D.past disk) (D.past (disk_of result)) }
     ensures holds { IsTrue (D.tells disk) → OnOk result (
         StillHolds queues.now (now (D.past disk)) (now (D.past (disk_of result)))) }
+    ensures whole { IsTrue (D.tells disk) →
+        StaysWhole (D.past disk) (D.past (disk_of result)) }
     ensures told { D.tells (disk_of result) ≡ D.tells disk }
     ensures later { D.faults disk ≤ D.faults (disk_of result) }
     ensures cause { IfErr result (λ e. IsDiskCaused (D.faults disk) (D.faults e.1) e.0) }
@@ -109,6 +111,7 @@ pub fn recover<D: NodeDisk>(
     requires { IsTrue (D.tells disk) → MayRecover queues.now (now (D.past disk)) }
     ensures sound { IfOk result (λ r. IsSound D.tells D.past (wal_of r)) }
     ensures knows { IfOk result (KnowsLanes queues.now) }
+    ensures goes_on { IfOk result (IsNewLog queues.now log_bytes) }
     ensures begun { IsTrue (D.tells disk) →
         IfOk result (IsBegunBehind queues.now log_bytes (now (D.past disk))) }
     ensures lanes { IsTrue (D.tells disk) → IfOk result (λ r.
@@ -127,6 +130,8 @@ pub fn recover<D: NodeDisk>(
         IfErr result (λ e. IsSpentOn (now (D.past disk)) e.0) }
     ensures end { IsTrue (D.tells disk) → (number : ℕ) → NUMBER_END ≤ number →
         IsListed (now (D.past disk)) (log_of number) → OnOk result ⊥ }
+    ensures whole { IsTrue (D.tells disk) →
+        StaysWhole (D.past disk) (D.past (disk_of result)) }
     ensures told { D.tells (disk_of result) ≡ D.tells disk }
     ensures later { D.faults disk ≤ D.faults (disk_of result) }
     ensures cause { IfErr result (λ e. IsRecoverCaused (D.faults disk) (D.faults e.1) e.0) }

@@ -5,7 +5,7 @@ ghost use Rattle.qq_base.specs.Causes.{HasCause};
 ghost use Rattle.qq_disk.specs.Disk.{now, sync};
 ghost use Rattle.qq_disk.specs.Fault.{IsCaused};
 ghost use Rattle.qq_chain.specs.Promise.{sync_all};
-ghost use Rattle.qq_wal.specs.Running.{Stays};
+ghost use Rattle.qq_wal.specs.Running.{Stays, StaysWhole};
 
 use qq_chain::the_log_has_a_format;
 use qq_disk::{DiskFault, FileName, NodeDisk};
@@ -17,6 +17,8 @@ fn sync_one<D: NodeDisk>(disk: &mut D, alloc: Global, file: FileName) -> Result<
         OnOk result (now (D.past disk.new) ≡ sync (now (D.past disk.old)) file) }
     ensures stays { IsTrue (D.tells disk.old) → (queues : List QueueId) →
         Stays queues (D.past disk.old) (D.past disk.new) }
+    ensures whole { IsTrue (D.tells disk.old) →
+        StaysWhole (D.past disk.old) (D.past disk.new) }
     ensures told { D.tells disk.new ≡ D.tells disk.old }
     ensures cause { HasCause IsCaused (D.faults disk.old) (D.faults disk.new) result }
 {
@@ -34,6 +36,8 @@ pub(crate) fn settle_all<D: NodeDisk>(
         OnOk result (now (D.past disk.new) ≡ sync_all (now (D.past disk.old)) names.now) }
     ensures stays { IsTrue (D.tells disk.old) → (queues : List QueueId) →
         Stays queues (D.past disk.old) (D.past disk.new) }
+    ensures whole { IsTrue (D.tells disk.old) →
+        StaysWhole (D.past disk.old) (D.past disk.new) }
     ensures told { D.tells disk.new ≡ D.tells disk.old }
     ensures cause { HasCause IsCaused (D.faults disk.old) (D.faults disk.new) result }
 {

@@ -8,7 +8,7 @@ ghost use Rattle.qq_disk.specs.declared.name.FileKind.TheVariants.{Log as OfLog}
 ghost use Rattle.qq_disk.specs.Disk.{now};
 ghost use Rattle.qq_wal.specs.Marks.{IsCarry, carries_of, carry_in};
 ghost use Rattle.qq_wal.specs.Numbers.{greatest_number};
-ghost use Rattle.qq_wal.specs.Running.{Stays};
+ghost use Rattle.qq_wal.specs.Running.{Stays, StaysWhole};
 ghost use Rattle.qq_recover.specs.Answer.{Gives};
 ghost use Rattle.qq_recover.specs.Reading.{shown, lanes_read};
 ghost use Rattle.qq_recover.specs.Recovered.{IsRecoverCaused, IsSpentOn};
@@ -142,6 +142,8 @@ pub(crate) fn prepare<D: NodeDisk>(
         (lanes_read queues.now (shown (now (D.past disk.old)))) }
     ensures stays { IsTrue (D.tells disk.old) →
         Stays queues.now (D.past disk.old) (D.past disk.new) }
+    ensures whole { IsTrue (D.tells disk.old) →
+        StaysWhole (D.past disk.old) (D.past disk.new) }
     ensures told { D.tells disk.new ≡ D.tells disk.old }
     ensures later { D.faults disk.old ≤ D.faults disk.new }
     ensures cause { IfErr result (IsRecoverCaused (D.faults disk.old) (D.faults disk.new)) }

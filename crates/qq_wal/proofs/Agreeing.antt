@@ -88,7 +88,7 @@ next id s (Change q n term vote keep entries) e none = record {
 next id s (SnapshotMade q n head file) e none = absurd cc
 next id s (SegmentMade q n file first last) e none = absurd cc
 
-or-new : (id : QueueId) (o : Option Stable)
+pub or-new : (id : QueueId) (o : Option Stable)
     → carry_or_new (option_map (carry_of id) o) id ≡ carry_of id (unwrap_or o new_state)
 or-new id None = refl
 or-new id (Some s) = refl

@@ -11,3 +11,7 @@ pub mod Steps
 pub mod Swept
 pub mod Taking
 pub mod Told
+pub mod Causes
+pub mod Counted
+pub mod Unremoved
+pub mod Runs

@@ -8,7 +8,8 @@ use Rattle.std.specs.List.{AllByRecursion}
 use Rattle.qq_log.specs.declared.head.Span.{Span}
 use Rattle.qq_wal.specs.declared.ranges.QueueRanges.{QueueRanges}
 use Rattle.qq_wal.specs.Entries.{AreApart, IsRangeOf, LieAs, Rise, file_at}
-use Rattle.qq_wal.specs.Ranges.{Range, begin_file, enter_file, find_file, first_or, least_kept, new_ranges, places_of, range_behind, range_to, span_of, span_to, spans_to, write}
+use Rattle.qq_wal.specs.Ranges.{begin_file, enter_file, new_ranges, places_of, write}
+use Rattle.qq_wal.specs.Spans.{Range, find_file, first_or, least_kept, range_behind, range_to, span_of, span_to, spans_to}
 
 -- ---- the file of an entry
 

@@ -3,6 +3,7 @@ use Rattle.std.proofs.Common.{◌≡◌, arith, ℕ, map, Bool, true, false, con
 use Rattle.std.specs.Prelude.{All}
 use Rattle.std.specs.List.{AllByRecursion, Contains, fold}
 use Rattle.std.proofs.lemmas.List.Elements.{recursion_from_All}
+use Rattle.qq_base.proofs.Fronts.{all-front}
 use Rattle.qq_disk.specs.declared.name.FileName.{FileName}
 use Rattle.qq_log.specs.declared.head.Span.{Span}
 use Rattle.qq_log.specs.declared.op.Op.{Op}
@@ -33,10 +34,6 @@ none-all : (ops : List Op) (o : Option Stable) → NamesNone o → AllByRecursio
 none-all [] o none all = none
 none-all (op ∷ ops) o none all = none-all ops (then_apply o op) (none-then o op none all.0) all.1
 
-front-all : (front rest : List Op) → AllByRecursion IsChange (front ++ rest) → AllByRecursion IsChange front
-front-all [] rest all = tt
-front-all (op ∷ front) rest all = (all.0, front-all front rest all.1)
-
 named-none : (o : Option Stable) → NamesNone o → files_named o ≡ []
 named-none None none = refl
 named-none (Some s) none =
@@ -45,7 +42,7 @@ named-none (Some s) none =
 
 pub none-replaced : (ops : List Op) → All IsChange ops → (file : FileName) → IsReplaced ops file → ⊥
 none-replaced ops all file is =
-    let each : AllByRecursion IsChange is.earlier = front-all is.earlier is.front.rest
+    let each : AllByRecursion IsChange is.earlier = all-front IsChange is.earlier is.front.rest
     (subst (AllByRecursion IsChange) is.front.is (recursion_from_All IsChange ops all)) in
     nowhere file (subst (λ (names : List FileName). Contains names file)
     (named-none (stable is.earlier) (none-all is.earlier (Some new_state) (refl, refl) each)) is.named)

@@ -5,7 +5,7 @@ use Rattle.qq_log.specs.declared.head.Span.{Span}
 use Rattle.qq_log.specs.declared.op.Op.{Op}
 use Rattle.qq_log.specs.declared.op.Op.TheVariants.{Change, SnapshotMade, SegmentMade}
 use Rattle.qq_wal.specs.declared.ranges.QueueRanges.{QueueRanges}
-use Rattle.qq_wal.specs.Ranges.{Range, find_file, spans_to}
+use Rattle.qq_wal.specs.Spans.{Range, find_file, spans_to}
 
 -- The log file of each entry of a queue's log, from the first on, behind an op that is written to file n: those that
 -- are kept lie where they lay, and the others in this file.

@@ -6,5 +6,6 @@ pub mod Notices
 pub mod Numbers
 pub mod Ranges
 pub mod Running
+pub mod Spans
 pub mod Sweep
 pub mod Wal

@@ -94,18 +94,25 @@ carries_of queues lanes = flat_map (λ (id : QueueId). option_to_list (carry_in 
 
 -- ---- as the log keeps them
 
-abbrev pub is_below : QueueId → List QueueId → Bool
-is_below id [] = true
-is_below id (next ∷ queues) = nat_lt id.0 next.0
+abbrev pub is_below : ℕ → List ℕ → Bool
+is_below n [] = true
+is_below n (next ∷ numbers) = nat_lt n next
 
--- each queue's number is below the next one's
-abbrev pub is_rising : List QueueId → Bool
+-- each number is below the next one
+abbrev pub is_rising : List ℕ → Bool
 is_rising [] = true
-is_rising (id ∷ queues) = is_below id queues && is_rising queues
+is_rising (n ∷ numbers) = is_below n numbers && is_rising numbers
+
+abbrev pub numbers_of : List QueueId → List ℕ
+numbers_of queues = map (λ (id : QueueId). id.0) queues
 
 -- the queues of the marks
 abbrev pub queues_in : List Mark → List QueueId
 queues_in marks = map (λ (m : Mark). m.queue) marks
+
+-- and their numbers
+abbrev pub numbers_in : List Mark → List ℕ
+numbers_in marks = map (λ (m : Mark). m.queue.0) marks
 
 -- a place in the marks: those before it are of queues below this one, and those from it on aren't
 abbrev pub IsPlaceOf : QueueId → List Mark → ℕ → Type 0

@@ -1,6 +1,6 @@
 -- What each queue is told of once its ops are synced (the Ra library's internals, written events).
 use Rattle.std.specs.Prelude.{◌≡◌, ◌+◌, ℕ, zero, suc, List, [], ◌∷◌, length, map, min, Option, Some, None, option_map, option_to_list, unwrap_or, nat_eq, if◌then◌else◌}
-use Rattle.std.specs.List.{fold, flat_map, last_or}
+use Rattle.std.specs.List.{AllByRecursion, fold, flat_map, last_or}
 use Rattle.qq_base.specs.declared.ids.QueueId.{QueueId}
 use Rattle.qq_log.specs.declared.lane.Carry.{Carry}
 use Rattle.qq_log.specs.declared.op.Op.{Op}
@@ -109,6 +109,11 @@ abbrev pub synced_in : List Mark → QueueId → ℕ
 synced_in [] id = 0
 synced_in (mark ∷ marks) id = if nat_eq mark.queue.0 id.0 then mark.synced else synced_in marks id
 
+-- as a mark says it that may be the queue's own
+abbrev pub synced_by : Option Mark → QueueId → ℕ
+synced_by None id = 0
+synced_by (Some mark) id = if nat_eq mark.queue.0 id.0 then mark.synced else 0
+
 -- the number of the last op that was synced
 abbrev pub synced_of : Mark → ℕ
 synced_of mark = unwrap_or (option_map (λ n. n.op) mark.notice) mark.synced
@@ -119,6 +124,10 @@ sync_mark mark = record mark { notice = None; synced = synced_of mark }
 abbrev pub carried_op : Option Carry → ℕ
 carried_op None = 0
 carried_op (Some c) = c.op
+
+-- of each queue what is synced, or will be at the next sync, is what its carry says
+abbrev pub AreCounted : List Mark → Type 0
+AreCounted marks = AllByRecursion (λ (m : Mark). synced_of m ≡ carried_op m.carry) marks
 
 -- a queue's mark before any op is appended
 abbrev pub new_mark : List Carry → QueueId → Mark

@@ -1,7 +1,7 @@
 -- Which of a queue's entries lie in which log file (the Ra library's internals: the write-ahead log keeps for each file
 -- the range of indices that each server has in it).
-use Rattle.std.specs.Prelude.{ℕ, ◌+◌, List, [], ◌∷◌, ◌++◌, length, min, false, Option, Some, None, option_to_list, nat_eq, nat_le, if◌then◌else◌}
-use Rattle.std.specs.List.{fold, flat_map}
+use Rattle.std.specs.Prelude.{ℕ, ◌+◌, List, [], ◌∷◌, ◌++◌, length, Option, Some, None, nat_eq, if◌then◌else◌}
+use Rattle.std.specs.List.{fold}
 use Rattle.std.specs.Ordering.{nat_cmp, is_eq}
 use Rattle.qq_base.specs.declared.ids.Index.{Index}
 use Rattle.qq_base.specs.declared.ids.QueueId.{QueueId}
@@ -13,40 +13,9 @@ use Rattle.qq_wal_record.specs.declared.record.LogRecord.TheVariants.{Op as OpRe
 use Rattle.std.specs.BTreeMap.{get}
 use Rattle.qq_wal.specs.declared.ranges.QueueRanges.{QueueRanges}
 use Rattle.qq_wal.specs.declared.ranges.FileRanges.{FileRanges}
-
--- the first and the last of some indices, None where there are none
-abbrev pub Range : Type 0
-Range = Option (ℕ × ℕ)
-
--- those of them that a cut behind an index leaves
-abbrev pub range_to : ℕ → Range → Range
-range_to keep None = None
-range_to keep (Some r) = if nat_le r.0 keep then Some (r.0, min r.1 keep) else None
-
-abbrev pub first_or : ℕ → Range → ℕ
-first_or index None = index
-first_or index (Some r) = r.0
-
--- with so many more behind an index
-abbrev pub range_behind : ℕ → ℕ → Range → Range
-range_behind keep count r = if nat_eq count 0 then r else Some (first_or (keep + 1) r, keep + count)
+use Rattle.qq_wal.specs.Spans.{Range, range_to, range_behind, spans_to, span_of, least_kept, find_file}
 
 -- ---- a queue
-
--- where a cut leaves entries, each cut being told by the least index that was kept
-abbrev pub span_to : Option ℕ → Span → Option Span
-span_to None s = Some s
-span_to (Some keep) s =
-    if nat_le s.first.0 keep then Some (record s { last = record { 0 = min s.last.0 keep } }) else None
-
-abbrev pub spans_to : Option ℕ → List Span → List Span
-spans_to cut spans = flat_map (λ (s : Span). option_to_list (span_to cut s)) spans
-
--- the entries of a range that lie in a log file
-abbrev pub span_of : ℕ → Range → List Span
-span_of file None = []
-span_of file (Some r) =
-    record { file = file; segment = false; first = record { 0 = r.0 }; last = record { 0 = r.1 } } ∷ []
 
 -- where the queue's entries lie, the oldest file first
 abbrev pub places_of : QueueRanges → List Span
@@ -55,10 +24,6 @@ places_of q = spans_to q.cut q.older ++ span_of q.file q.own
 -- a queue without entries
 abbrev pub new_ranges : QueueRanges
 new_ranges = record { file = 0; own = None; older = []; cut = None }
-
-abbrev pub least_kept : Option ℕ → ℕ → ℕ
-least_kept None keep = keep
-least_kept (Some cut) keep = min cut keep
 
 -- a change that is written to the present file cuts the log behind an index, and adds so many entries there
 abbrev pub write : ℕ → ℕ → QueueRanges → QueueRanges
@@ -72,11 +37,6 @@ begin_file file q = record { file = file; own = None; older = places_of q; cut =
 -- and where they are already, nothing changes
 abbrev pub enter_file : ℕ → QueueRanges → QueueRanges
 enter_file file q = if nat_eq q.file file then q else begin_file file q
-
--- the first and the last entry that lies in a log file, None where none does
-abbrev pub find_file : ℕ → List Span → Range
-find_file file [] = None
-find_file file (s ∷ spans) = if nat_eq s.file file then Some (s.first.0, s.last.0) else find_file file spans
 
 -- ---- all queues
 

@@ -1,5 +1,5 @@
 -- What a log that is written to keeps of its promise, from call to call.
-use Rattle.std.specs.Prelude.{◌≡◌, ◌≢◌, ◌-◌, ◌^◌, ◌<◌, ℕ, List, [], ◌++◌, Option, Some}
+use Rattle.std.specs.Prelude.{◌≡◌, ◌≢◌, ◌-◌, ◌^◌, ◌<◌, ℕ, false, List, [], ◌++◌, Option, Some}
 use Rattle.qq_base.specs.declared.ids.QueueId.{QueueId}
 use Rattle.qq_disk.specs.declared.name.FileName.{FileName}
 use Rattle.qq_disk.specs.Disk.{Disk, now, IsListing}
@@ -10,7 +10,7 @@ use Rattle.qq_wal_record.specs.declared.header.Header.{Header}
 use Rattle.qq_chain.specs.Lanes.{Lanes}
 use Rattle.qq_chain.specs.Records.{replay}
 use Rattle.qq_chain.specs.Chain.{Found, Reading, reading}
-use Rattle.qq_chain.specs.Image.{files_of, shown_logs}
+use Rattle.qq_chain.specs.Image.{files_of, is_removed, shown_logs}
 use Rattle.qq_chain.specs.Promise.{IsRunningLog, StaysPromised, pending_records, found_world}
 use Rattle.qq_chain.specs.Laws.{KeepsPromise, HoldsOps, AreWritable, IsSettledDisk, batch_bytes, op_records}
 use Rattle.qq_chain.specs.Wal.{wal, Ours}
@@ -57,6 +57,14 @@ StillHolds queues d e = (given : List Op) → HoldsOps queues top given d → Ho
 abbrev pub MayNotice : List QueueId → Disk → Disk → Type 0
 MayNotice queues d e = (noticed given : List Op) → KeepsPromise queues top noticed given d → HoldsOps queues top given d
     → KeepsPromise queues top given given e
+
+-- none of the log files is removed
+abbrev pub NoneRemoved : Disk → Type 0
+NoneRemoved d = (n : ℕ) → is_removed (files_of d n) ≡ false
+
+-- nor is any in the end
+abbrev pub StaysWhole : List Disk → List Disk → Type 0
+StaysWhole old new = NoneRemoved (now old) → NoneRemoved (now new)
 
 -- these bytes are a batch of ops for the log's file
 pub record IsBatchOf (queues : List QueueId) (h : Header) (batch : List Op) (bytes : List ℕ) : Type 0 where

@@ -17,7 +17,7 @@ use Rattle.qq_chain.specs.Image.{files_of}
 use Rattle.qq_chain.specs.Lanes.{Lanes}
 use Rattle.qq_chain.specs.Laws.{op_records}
 use Rattle.qq_wal.specs.Batch.{AllFitBatch, IsBatch, encodings}
-use Rattle.qq_wal.specs.Marks.{Carries, AllFollow, HasCarry, Agree, known, is_rising, queues_in, carries_in, add_records}
+use Rattle.qq_wal.specs.Marks.{Carries, AllFollow, HasCarry, Agree, known, queues_in, carries_in, add_records}
 use Rattle.qq_wal.specs.Notices.{note_record, new_mark}
 use Rattle.qq_wal.specs.Numbers.{first_numbers, raise}
 use Rattle.qq_wal.specs.Ranges.{AllRanges, begin_files, ranges_in, write_record}
@@ -42,19 +42,18 @@ pub record IsOnDisk (queues : List QueueId) (header : Header) (marks : List Mark
 -- failed, the disk is as the log knows it, and where nothing was appended since the last sync, nothing waits for one.
 pub record IsSound {D : Type 0} (tells : D → Bool) (past : D → List Disk) (w : Wal D) : Type 0 where
   pub waiting : AllFitBatch w.waiting.items
-  pub follow : AllFollow w.queues.items (known w.marks.items) w.waiting.items
-  pub queues_are : queues_in w.marks.items ≡ w.queues.items
-  pub rising : w.rising ≡ is_rising w.queues.items
-  pub carries : AllByRecursion HasCarry w.marks.items
+  pub follow : AllFollow w.queues.items (known w.marks) w.waiting.items
+  pub queues_are : queues_in w.marks ≡ w.queues.items
+  pub carries : AllByRecursion HasCarry w.marks
   pub number : w.header.file ≤ w.numbers.log
   pub on_disk : IsTrue (tells w.disk) → w.stopped ≡ false
-      → IsOnDisk w.queues.items w.header w.marks.items w.size w.numbers (now (past w.disk))
+      → IsOnDisk w.queues.items w.header w.marks w.size w.numbers (now (past w.disk))
   pub synced : IsTrue (tells w.disk) → w.stopped ≡ false → w.dirty ≡ false
       → IsSynced w.queues.items w.header (now (past w.disk))
 
 -- what each queue has once all that waits is appended
 abbrev pub carries_ahead : {D : Type 0} → Wal D → Carries
-carries_ahead w = add_records (known w.marks.items) w.waiting.items
+carries_ahead w = add_records (known w.marks) w.waiting.items
 
 -- the log is of the same queues, in the same file
 pub record SameFile {D : Type 0} (old new : Wal D) : Type 0 where
@@ -67,7 +66,7 @@ pub record SameFile {D : Type 0} (old new : Wal D) : Type 0 where
 pub record Appends {D : Type 0} (count : ℕ) (old new : Wal D) : Type 0 where
   pub batch : IsBatch old.header.file count old.waiting.items
   pub waiting : new.waiting.items ≡ drop count old.waiting.items
-  pub marks : new.marks.items ≡ fold note_record old.marks.items (take count old.waiting.items)
+  pub marks : new.marks ≡ fold note_record old.marks (take count old.waiting.items)
   pub ranges : ranges_in new.ranges ≡ fold write_record (ranges_in old.ranges) (take count old.waiting.items)
   pub size : new.size ≡ old.size + length (encodings old.header.file (take count old.waiting.items))
   pub going : new.stopped ≡ false
@@ -87,9 +86,9 @@ pub record IsBegun {D : Type 0} (queues : Vec QueueId) (header : Header) (carrie
   pub queues_are : w.queues ≡ queues
   pub header_is : w.header ≡ header
   pub waiting : w.waiting.items ≡ []
-  pub marks : w.marks.items ≡ map (new_mark carries) queues.items
+  pub marks : w.marks ≡ map (new_mark carries) queues.items
   pub ranges_are : ranges_in w.ranges ≡ begin_files header.file queues.items ranges
-  pub size : w.size ≡ first_length header w.marks.items
+  pub size : w.size ≡ first_length header w.marks
   pub numbers : w.numbers ≡ first_numbers header names
   pub limit : w.log_bytes ≡ log_bytes
   pub clean : w.dirty ≡ false
@@ -98,7 +97,7 @@ pub record IsBegun {D : Type 0} (queues : Vec QueueId) (header : Header) (carrie
 -- the log goes on in a new file, which names the old one with its length
 pub record IsRolled {D : Type 0} (old new : Wal D) : Type 0 where
   pub header : new.header ≡ record { file = old.numbers.log + 1; previous = old.header.file; good = old.size }
-  pub size : new.size ≡ first_length new.header new.marks.items
+  pub size : new.size ≡ first_length new.header new.marks
   pub numbers : new.numbers ≡ raise Log old.numbers
   pub log_bytes : new.log_bytes ≡ old.log_bytes
   pub waiting : new.waiting ≡ old.waiting

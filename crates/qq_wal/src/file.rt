@@ -14,7 +14,7 @@ ghost use Rattle.qq_chain.specs.Promise.{Continues};
 ghost use Rattle.qq_chain.specs.Records.{replay};
 ghost use Rattle.qq_chain.specs.Laws.{first_bytes, op_records};
 ghost use Rattle.qq_chain.specs.Wal.{wal, Ours};
-ghost use Rattle.qq_wal.specs.Running.{top, IsWrittenTo, IsSynced, IsBatchOf, MayAdd, Stays, StaysGiving, SameOthers, MayNotice, lanes_shown};
+ghost use Rattle.qq_wal.specs.Running.{top, IsWrittenTo, IsSynced, IsBatchOf, MayAdd, Stays, StaysGiving, StaysWhole, SameOthers, MayNotice, lanes_shown};
 
 use qq_chain::the_log_has_a_format;
 use qq_disk::{DiskFault, FileKind, FileName, NodeDisk};
@@ -61,6 +61,8 @@ pub(crate) fn begin_file<D: NodeDisk>(
         (files_of (now (D.past disk.old))) →
         bytes.now ≡ first_bytes queues header.file (Ours header) carries →
         OnOk result (SameOthers header.file (now (D.past disk.old)) (now (D.past disk.new))) }
+    ensures whole { IsTrue (D.tells disk.old) →
+        StaysWhole (D.past disk.old) (D.past disk.new) }
     ensures range { IsHeader header }
     ensures told { D.tells disk.new ≡ D.tells disk.old }
     ensures cause { HasCause IsCaused (D.faults disk.old) (D.faults disk.new) result }
@@ -98,6 +100,8 @@ pub(crate) fn append_file<D: NodeDisk>(
         ≡ length (content (now (D.past disk.old)) (log_of header.file)) + length bytes.now) }
     ensures others { IsTrue (D.tells disk.old) →
         OnOk result (SameOthers header.file (now (D.past disk.old)) (now (D.past disk.new))) }
+    ensures whole { IsTrue (D.tells disk.old) →
+        StaysWhole (D.past disk.old) (D.past disk.new) }
     ensures told { D.tells disk.new ≡ D.tells disk.old }
     ensures cause { HasCause IsCaused (D.faults disk.old) (D.faults disk.new) result }
 {
@@ -130,6 +134,8 @@ pub(crate) fn sync_file<D: NodeDisk>(
         IsWrittenTo queues header (now (D.past disk.old)) →
         (dirty ≡ false → IsSynced queues header (now (D.past disk.old))) →
         OnOk result (MayNotice queues (now (D.past disk.old)) (now (D.past disk.new))) }
+    ensures whole { IsTrue (D.tells disk.old) →
+        StaysWhole (D.past disk.old) (D.past disk.new) }
     ensures told { D.tells disk.new ≡ D.tells disk.old }
     ensures cause { HasCause IsCaused (D.faults disk.old) (D.faults disk.new) result }
 {

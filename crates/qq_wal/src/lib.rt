@@ -13,17 +13,20 @@ mod marks;
 mod measure;
 mod notices;
 mod numbers;
+mod older;
 mod ranges;
 mod roll;
 mod sweep;
 mod synced;
+mod table;
 mod wal;
 
 pub use batch::{BATCH_BYTES, BATCH_OPS};
 pub use fault::WalFault;
 pub use laws::{
+    a_sync_counts_what_was_appended, calls_keep_what_was_promised,
     entries_lie_where_they_were_written, notices_are_of_their_ops, other_files_keep_the_log_sound,
-    what_is_appended_and_synced_is_kept,
+    the_log_tells_why_it_refuses, what_is_appended_and_synced_is_kept,
 };
 pub use notices::Notice;
 pub use numbers::greatest_number;

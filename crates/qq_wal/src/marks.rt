@@ -1,6 +1,6 @@
 //! What is kept of each queue.
 ghost use Rattle.std.specs.Prelude.{◌≡◌, ◌≤◌, ◌-◌, ◌^◌, map, true, IfOk, IsOkUnless};
-ghost use Rattle.qq_wal.specs.Marks.{carry_behind, carry_or_new, carry_for, is_below, is_rising, IsPlaceOf, new_carry, queues_in};
+ghost use Rattle.qq_wal.specs.Marks.{carry_behind, carry_or_new, carry_for, is_below, is_rising, numbers_in, numbers_of, IsPlaceOf, new_carry};
 ghost use Rattle.qq_wal.specs.Notices.{last_index, new_mark, carried_op, synced_in};
 
 use crate::notices::Notice;
@@ -153,7 +153,7 @@ pub(crate) fn new_marks(
 }
 
 fn is_below(queue: QueueId, after: &[QueueId]) -> bool
-    ensures { result ≡ is_below queue after.now }
+    ensures { result ≡ is_below queue.0 (numbers_of after.now) }
 {
     match after {
         [] => true,
@@ -163,7 +163,7 @@ fn is_below(queue: QueueId, after: &[QueueId]) -> bool
 
 /// Whether each queue's number is below the next one's.
 pub(crate) fn is_rising(queues: &[QueueId]) -> bool
-    ensures { result ≡ is_rising queues.now }
+    ensures { result ≡ is_rising (numbers_of queues.now) }
 {
     let mut rest = queues;
     'rest: while let [queue, after @ ..] = rest {
@@ -177,7 +177,7 @@ pub(crate) fn is_rising(queues: &[QueueId]) -> bool
 
 /// Where the mark of a queue stands, or would stand.
 pub(crate) fn place_of(queue: QueueId, marks: &[Mark]) -> usize
-    requires { is_rising (queues_in marks.now) ≡ true }
+    requires { is_rising (numbers_in marks.now) ≡ true }
     ensures { IsPlaceOf queue marks.now result }
 {
     marks.partition_point(|mark| mark.queue.0 < queue.0)

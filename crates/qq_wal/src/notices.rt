@@ -2,10 +2,11 @@
 ghost use Rattle.std.specs.Prelude.{◌≡◌, ◌++◌, ◌≤◌, ◌-◌, ◌^◌, Some, option_to_list, length, take, drop, map, IfOk, OnOk, IsOkUnless};
 ghost use Rattle.std.specs.List.{fold};
 ghost use Rattle.qq_wal.specs.Batch.{AllFitBatch};
-ghost use Rattle.qq_wal.specs.Marks.{is_rising, queues_in};
+ghost use Rattle.qq_wal.specs.Marks.{is_rising, numbers_in};
 ghost use Rattle.qq_wal.specs.Notices.{change_at, note_record, op_term, last_index, first_index, lesser_index, note_mark, note_all, sync_mark, notices_in, note_op};
 
 use crate::marks::{Mark, add_op, place_of};
+use crate::table::Marks;
 use qq_base::{Index, Memory, QueueId, Term};
 use qq_log::Op;
 use qq_wal_record::LogRecord;
@@ -94,7 +95,7 @@ fn note_at(alloc: Global, marks: &mut [Mark], place: usize, op: &Op)
 /// Notes an op in its queue's mark, by binary search where the queues rise.
 pub(crate) fn note(alloc: Global, marks: &mut [Mark], rising: bool, op: &Op)
     requires end { last_index op.now ≤ 2 ^ 64 - 1 }
-    requires rising { rising ≡ is_rising (queues_in marks.old) }
+    requires rising { rising ≡ is_rising (numbers_in marks.old) }
     ensures { marks.new ≡ note_all marks.old op.now }
 {
     if !rising {
@@ -160,7 +161,8 @@ fn sync_mark(mark: &mut Mark)
     }
 }
 
-fn sync_each(marks: &mut [Mark])
+/// What waited for a sync is synced.
+pub(crate) fn sync_each(marks: &mut [Mark])
     ensures { marks.new ≡ map sync_mark marks.old }
 {
     'marks: for mark in marks.iter_mut() {
@@ -168,46 +170,21 @@ fn sync_each(marks: &mut [Mark])
     }
 }
 
-/// What waited for a sync is synced.
-pub(crate) fn sync_marks(marks: &mut Vec<Mark>)
-    ensures { marks.new.items ≡ map sync_mark marks.old.items }
-{
-    sync_each(marks);
-}
-
-fn note_batch(
+/// Takes the first records, and notes their ops.
+pub(crate) fn take_batch(
     alloc: Global,
     waiting: &mut VecDeque<LogRecord>,
-    marks: &mut [Mark],
-    rising: bool,
+    marks: &mut Marks,
     count: usize,
 )
     requires fit { AllFitBatch waiting.old.items }
-    requires rising { rising ≡ is_rising (queues_in marks.old) }
     requires count { count ≤ length waiting.old.items }
     ensures waiting { waiting.new.items ≡ drop count waiting.old.items }
     ensures marks { marks.new ≡ fold note_record marks.old (take count waiting.old.items) }
 {
     for _ in 0..count {
         if let Some(LogRecord::Op(op)) = waiting.pop_front() {
-            note(alloc, marks, rising, &op);
+            marks.note(alloc, &op);
         }
     }
-}
-
-/// Takes the first records, and notes their ops.
-pub(crate) fn take_batch(
-    alloc: Global,
-    waiting: &mut VecDeque<LogRecord>,
-    marks: &mut Vec<Mark>,
-    rising: bool,
-    count: usize,
-)
-    requires fit { AllFitBatch waiting.old.items }
-    requires rising { rising ≡ is_rising (queues_in marks.old.items) }
-    requires count { count ≤ length waiting.old.items }
-    ensures waiting { waiting.new.items ≡ drop count waiting.old.items }
-    ensures marks { marks.new.items ≡ fold note_record marks.old.items (take count waiting.old.items) }
-{
-    note_batch(alloc, waiting, marks, rising, count);
 }

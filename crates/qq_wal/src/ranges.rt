@@ -5,16 +5,15 @@ ghost use Rattle.std.specs.Ordering.{nat_cmp};
 ghost use Rattle.std.specs.BTreeMap.{get};
 ghost use Rattle.qq_wal.specs.Batch.{AllFitBatch};
 ghost use Rattle.qq_wal.specs.Notices.{last_index};
-ghost use Rattle.qq_wal.specs.Ranges.{range_to, first_or, range_behind, span_to, spans_to, span_of, new_ranges, least_kept, write, begin_file, enter_file, find_file, as_indices, places_of, put_ranges, ranges_of, change_ranges, write_op, write_op_in, write_record, begin_queue, begin_files, in_file, ranges_in};
+ghost use Rattle.qq_wal.specs.Ranges.{new_ranges, write, begin_file, enter_file, as_indices, places_of, put_ranges, ranges_of, change_ranges, write_op, write_op_in, write_record, begin_queue, begin_files, in_file, ranges_in};
+ghost use Rattle.qq_wal.specs.Spans.{range_to, first_or, range_behind, span_to, spans_to, span_of, least_kept, find_file};
 
-use qq_base::{Index, Items, Memory, QueueId};
-use qq_log::{Op, Places, Span};
+use crate::older::{Older, Range, span_to};
+use qq_base::{Index, Memory, QueueId};
+use qq_log::{Op, Span};
 use qq_wal_record::LogRecord;
 use std::alloc::Global;
 use std::collections::{BTreeMap, VecDeque};
-
-/// Indices of entries that follow one another: the first and the last.
-type Range = (u64, u64);
 
 /// Which of a queue's entries lie in which log file.
 #[derive(Drop)]
@@ -24,7 +23,7 @@ pub(crate) struct QueueRanges {
     /// Those in that file.
     own: Option<Range>,
     /// Those in older files, the oldest first, as they were when the file was begun.
-    older: Places,
+    older: Older,
     /// The least index behind which the log was cut since then. It cuts those in older files only when the
     /// next file is begun, so that a change takes no memory and no walk.
     cut: Option<u64>,
@@ -72,23 +71,6 @@ fn least_kept(cut: Option<u64>, keep: u64) -> u64
     }
 }
 
-fn span_to(cut: Option<u64>, span: Span) -> Option<Span>
-    ensures { result ≡ span_to cut span }
-{
-    match cut {
-        None => Some(span),
-        Some(keep) => {
-            if span.first.0 <= keep {
-                return Some(Span {
-                    last: Index(span.last.0.min(keep)),
-                    ..span
-                });
-            }
-            None
-        }
-    }
-}
-
 fn push_span(spans: &mut Vec<Span>, span: Option<Span>) -> Result<(), Memory>
     ensures ok { OnOk result (spans.new.items ≡ spans.old.items ++ option_to_list span) }
     ensures want { IsOkUnless result Memory.Want }
@@ -131,22 +113,6 @@ fn push_range(spans: &mut Vec<Span>, file: u64, range: Option<Range>) -> Result<
     }
 }
 
-/// The entries that lie in a file, where the log was cut.
-fn find_cut(cut: Option<u64>, file: u64, spans: &[Span]) -> Option<Range>
-    ensures { result ≡ find_file file (spans_to cut spans.now) }
-{
-    let mut rest = spans;
-    'rest: while let [span, after @ ..] = rest {
-        if let Some(left) = span_to(cut, *span) {
-            if left.file == file {
-                return Some((left.first.0, left.last.0));
-            }
-        }
-        rest = after;
-    }
-    None
-}
-
 fn find_own(file: u64, own: u64, range: Option<Range>) -> Option<Range>
     ensures { result ≡ find_file file (span_of own range) }
 {
@@ -178,7 +144,7 @@ impl QueueRanges {
         QueueRanges {
             file: 0,
             own: None,
-            older: Places::new(alloc),
+            older: Older::new(alloc),
             cut: None,
         }
     }
@@ -211,7 +177,7 @@ impl QueueRanges {
         Ok(QueueRanges {
             file,
             own: None,
-            older: Items::from_vec(older),
+            older: Older::from_vec(older),
             cut: None,
         })
     }
@@ -230,7 +196,7 @@ impl QueueRanges {
     fn find_file(&self, file: u64) -> Option<Range>
         ensures { result ≡ find_file file (places_of self.now) }
     {
-        match find_cut(self.cut, file, self.older.as_slice()) {
+        match self.older.find(self.cut, file) {
             Some(range) => Some(range),
             None => find_own(file, self.file, self.own),
         }

@@ -5,7 +5,7 @@ ghost use Rattle.qq_base.specs.Causes.{HasCause};
 ghost use Rattle.qq_disk.specs.Disk.{now};
 ghost use Rattle.qq_wal.specs.Fault.{IsRollCaused};
 ghost use Rattle.qq_wal.specs.Numbers.{number_of, raise};
-ghost use Rattle.qq_wal.specs.Running.{Stays, StillHolds};
+ghost use Rattle.qq_wal.specs.Running.{Stays, StaysWhole, StillHolds};
 ghost use Rattle.qq_wal.specs.Wal.{IsSound, IsRolled, carries_ahead};
 
 use crate::begin::first_bytes;
@@ -50,6 +50,8 @@ impl<D: NodeDisk> Wal<D> {
         ensures stops { result ≡ Err WalFault.Disk → self.new.stopped ≡ true }
         ensures spent { self.old.stopped ≡ false → NUMBER_END ≤ self.old.numbers.log →
             result ≡ Err (WalFault.Memory (Memory.Spent self.old.numbers.log)) }
+        ensures whole { IsTrue (D.tells self.old.disk) →
+            StaysWhole (D.past self.old.disk) (D.past self.new.disk) }
         ensures told { D.tells self.new.disk ≡ D.tells self.old.disk }
         ensures cause { HasCause (IsRollCaused self.old.stopped self.old.numbers.log)
             (D.faults self.old.disk) (D.faults self.new.disk) result }

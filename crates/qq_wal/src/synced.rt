@@ -1,4 +1,3 @@
-use crate::marks::synced_in;
 use crate::wal::Wal;
 use qq_base::QueueId;
 use qq_disk::NodeDisk;
@@ -7,12 +6,12 @@ use qq_log::Synced;
 impl<D: NodeDisk> Synced for Wal<D> {
     ghost use Rattle.qq_wal.specs.Notices.{synced_in};
 
-    ghost synced_op = { λ w id. synced_in w.marks.items id };
+    ghost synced_op = { λ w id. synced_in w.marks id };
 
     ghost is_stopped = { λ w. w.stopped };
 
     fn synced(&self, queue: QueueId) -> u64 {
-        synced_in(self.marks.as_slice(), queue)
+        self.marks.synced(queue)
     }
 
     fn stopped(&self) -> bool {

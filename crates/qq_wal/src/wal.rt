@@ -15,18 +15,18 @@ ghost use Rattle.qq_wal.specs.Marks.{IsCarry, GoesOn, add_op};
 ghost use Rattle.qq_wal.specs.Notices.{notices_in, sync_mark};
 ghost use Rattle.qq_wal.specs.Numbers.{greatest_number};
 ghost use Rattle.qq_wal.specs.Ranges.{ranges_in};
-ghost use Rattle.qq_wal.specs.Running.{MayBegin, Stays, StaysGiving, HoldsAlso, StillHolds, MayNotice};
+ghost use Rattle.qq_wal.specs.Running.{MayBegin, Stays, StaysGiving, StaysWhole, HoldsAlso, StillHolds, MayNotice};
 ghost use Rattle.qq_wal.specs.Wal.{IsSound, IsBegun, carries_ahead, disk_of, SameFile, Appends, StaysAppending};
 
 use crate::batch::{BATCH_BYTES, put_batch};
 use crate::begin::first_bytes;
 use crate::fault::{WalFault, fault_of};
 use crate::file::{append_file, begin_file, sync_file};
-use crate::marks::{Mark, is_rising, new_marks};
 use crate::measure::is_short;
-use crate::notices::{Notice, notices_in, sync_marks, take_batch};
+use crate::notices::{Notice, notices_in, take_batch};
 use crate::numbers::{Numbers, first_numbers};
 use crate::ranges::FileRanges;
+use crate::table::Marks;
 use qq_base::{Memory, QueueId};
 use qq_disk::{FileName, NodeDisk};
 use qq_log::{Carry, Op, carries_restate};
@@ -51,11 +51,9 @@ pub struct Wal<D: NodeDisk> {
     /// What was gathered and isn't appended yet.
     pub(crate) waiting: VecDeque<LogRecord>,
     /// What is kept of each queue, in the same order.
-    pub(crate) marks: Vec<Mark>,
+    pub(crate) marks: Marks,
     /// Where the queues' entries lie.
     pub(crate) ranges: FileRanges,
-    /// Whether the queues rise by their numbers, so that a queue's mark is found by binary search.
-    pub(crate) rising: bool,
     /// Whether something was appended since the last sync.
     pub(crate) dirty: bool,
     /// Whether a call of the disk has failed.
@@ -91,6 +89,8 @@ impl<D: NodeDisk> Wal<D> {
             Stays queues.items (D.past disk) (D.past (disk_of result)) }
         ensures holds { IsTrue (D.tells disk) → OnOk result (
             StillHolds queues.items (now (D.past disk)) (now (D.past (disk_of result)))) }
+        ensures whole { IsTrue (D.tells disk) →
+            StaysWhole (D.past disk) (D.past (disk_of result)) }
         ensures told { D.tells (disk_of result) ≡ D.tells disk }
         ensures later { D.faults disk ≤ D.faults (disk_of result) }
         ensures cause { IfErr result (λ e.
@@ -98,7 +98,7 @@ impl<D: NodeDisk> Wal<D> {
     {
         carries_restate();
         let mut disk = disk;
-        let marks = match new_marks(alloc, queues.as_slice(), carries) {
+        let marks = match Marks::new(alloc, queues.as_slice(), carries) {
             Ok(marks) => marks,
             Err(memory) => return Err((WalFault::Memory(memory), disk)),
         };
@@ -113,7 +113,6 @@ impl<D: NodeDisk> Wal<D> {
         if let Err(fault) = begin_file(&mut disk, alloc, header, bytes.as_slice()) {
             return Err((fault_of(fault), disk));
         }
-        let rising = is_rising(queues.as_slice());
         Ok(Wal {
             disk,
             queues,
@@ -124,7 +123,6 @@ impl<D: NodeDisk> Wal<D> {
             waiting: VecDeque::new(alloc),
             marks,
             ranges,
-            rising,
             dirty: false,
             stopped: false,
         })
@@ -200,6 +198,8 @@ impl<D: NodeDisk> Wal<D> {
             (self.new ≡ self.old) × (result ≡ Err WalFault.Stopped) }
         ensures stops { result ≡ Err WalFault.Disk → self.new.stopped ≡ true }
         ensures file { SameFile self.old self.new }
+        ensures whole { IsTrue (D.tells self.old.disk) →
+            StaysWhole (D.past self.old.disk) (D.past self.new.disk) }
         ensures told { D.tells self.new.disk ≡ D.tells self.old.disk }
         ensures cause { HasCause (IsAppendCaused self.old.stopped self.old.size)
             (D.faults self.old.disk) (D.faults self.new.disk) result }
@@ -224,13 +224,7 @@ impl<D: NodeDisk> Wal<D> {
             return Err(fault_of(fault));
         }
         self.ranges.write_batch(&self.waiting, count);
-        take_batch(
-            alloc,
-            &mut self.waiting,
-            &mut self.marks,
-            self.rising,
-            count,
-        );
+        take_batch(alloc, &mut self.waiting, &mut self.marks, count);
         self.size += bytes.len() as u64;
         self.stopped = false;
         Ok(count as u64)
@@ -241,8 +235,8 @@ impl<D: NodeDisk> Wal<D> {
     pub fn sync_batch(&mut self, alloc: Global) -> Result<Vec<Notice>, WalFault>
         requires { IsSound D.tells D.past self.old }
         ensures sound { IsSound D.tells D.past self.new }
-        ensures notices { IfOk result (λ notices. notices.items ≡ notices_in self.old.marks.items) }
-        ensures marks { OnOk result (self.new.marks.items ≡ map sync_mark self.old.marks.items) }
+        ensures notices { IfOk result (λ notices. notices.items ≡ notices_in self.old.marks) }
+        ensures marks { OnOk result (self.new.marks ≡ map sync_mark self.old.marks) }
         ensures ranges { self.new.ranges ≡ self.old.ranges }
         ensures synced { OnOk result (self.new.dirty ≡ false) }
         ensures going { OnOk result (self.new.stopped ≡ false) }
@@ -259,6 +253,8 @@ impl<D: NodeDisk> Wal<D> {
             (self.new ≡ self.old) × (result ≡ Err WalFault.Stopped) }
         ensures stops { result ≡ Err WalFault.Disk → self.new.stopped ≡ true }
         ensures file { SameFile self.old self.new }
+        ensures whole { IsTrue (D.tells self.old.disk) →
+            StaysWhole (D.past self.old.disk) (D.past self.new.disk) }
         ensures told { D.tells self.new.disk ≡ D.tells self.old.disk }
         ensures cause { HasCause (IsCaused self.old.stopped)
             (D.faults self.old.disk) (D.faults self.new.disk) result }
@@ -274,7 +270,7 @@ impl<D: NodeDisk> Wal<D> {
         if let Err(fault) = sync_file(&mut self.disk, alloc, self.header, self.dirty) {
             return Err(fault_of(fault));
         }
-        sync_marks(&mut self.marks);
+        self.marks.sync();
         self.dirty = false;
         self.stopped = false;
         Ok(notices)

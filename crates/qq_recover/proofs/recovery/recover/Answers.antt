@@ -6,7 +6,7 @@ use Rattle.qq_wal.proofs.Steps.{stays-then}
 use Rattle.qq_recover.specs.Reading.{lanes_read, shown}
 use Rattle.qq_recover.specs.Recovered.{disk_of}
 use Rattle.qq_recover.specs.Table.{lanes_of}
-use Rattle.qq_recover.proofs.Outcomes.{begun-ok, disk-fails, disk-no-refusal, disk-unspent, err-weaker, knows-ok, lanes-ok, never-ok, settles-ok}
+use Rattle.qq_recover.proofs.Outcomes.{begun-ok, disk-fails, disk-no-refusal, disk-unspent, err-weaker, knows-ok, lanes-ok, never-ok, new-ok, settles-ok}
 use Rattle.qq_recover.proofs.Promised.{no-refusal, readable, settles-lanes}
 use Rattle.qq_recover.proofs.Starts.{may-begin, none-at-end, shows-lanes}
 use Rattle.qq_recover.proofs.recovery.recover.Goals as goal
@@ -23,6 +23,10 @@ begin_behind-requires-clause-goes_on g c = λ told.
 pub returns-in-Ok-clause-knows : goal.returns-in-Ok-clause-knows
 returns-in-Ok-clause-knows g c =
     knows-ok c.args.queues.now c.in-Ok.start c.args.log_bytes c.begin_behind.result c.begin_behind.ensures.begun
+
+pub returns-in-Ok-clause-goes_on : goal.returns-in-Ok-clause-goes_on
+returns-in-Ok-clause-goes_on g c =
+    new-ok c.args.queues.now c.in-Ok.start c.args.log_bytes c.begin_behind.result c.begin_behind.ensures.begun
 
 pub returns-in-Ok-clause-begun : goal.returns-in-Ok-clause-begun
 returns-in-Ok-clause-begun g c = λ told.
@@ -95,3 +99,8 @@ returns-in-Err-clause-never_refused g c = λ told noticed given keeps.
     let d = now (g.D.NodeDisk.past c.args.disk) in
     let r = readable queues (c.the_log_has_a_format.ensures queues) noticed given d keeps in
     no-refusal c.in-Err.fault (lanes_read queues (shown d)) r.lanes r.read (c.in-Err.ensures.lanes told)
+
+pub returns-in-Ok-clause-whole : goal.returns-in-Ok-clause-whole
+returns-in-Ok-clause-whole g c = λ told none.
+    c.begin_behind.ensures.whole (subst (λ (t : Bool). IsTrue t) (sym c.prepare.ensures.told) told)
+    (c.prepare.ensures.whole told none)

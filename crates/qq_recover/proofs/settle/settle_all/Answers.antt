@@ -12,6 +12,11 @@ returns-in_err-sync_one-clause-stays g c = λ told queues.
     (c.loop-name.invariant.stays told queues)
     (c.sync_one.ensures.stays (subst (λ (t : Bool). IsTrue t) (sym c.loop-name.invariant.told) told) queues)
 
+pub returns-in_err-sync_one-clause-whole : goal.returns-in_err-sync_one-clause-whole
+returns-in_err-sync_one-clause-whole g c = λ told none.
+    c.sync_one.ensures.whole (subst (λ (t : Bool). IsTrue t) (sym c.loop-name.invariant.told) told)
+    (c.loop-name.invariant.whole told none)
+
 pub loop-name-preserved : goal.loop-name-preserved
 loop-name-preserved g c =
     let past = g.D.NodeDisk.past in
@@ -29,6 +34,9 @@ loop-name-preserved g c =
           stays-then queues (past c.args.disk.now) (past c.loop-name.disk) (past c.sync_one.new.disk)
           (c.loop-name.invariant.stays told queues)
           (c.sync_one.ensures.stays (subst (λ (t : Bool). IsTrue t) (sym c.loop-name.invariant.told) told) queues);
+      whole = λ told none.
+          c.sync_one.ensures.whole (subst (λ (t : Bool). IsTrue t) (sym c.loop-name.invariant.told) told)
+          (c.loop-name.invariant.whole told none);
       told = c.sync_one.ensures.told ∙ c.loop-name.invariant.told;
       later = omega (arith, c.loop-name.invariant.later, c.sync_one.ensures.cause.later);
     }

@@ -1,9 +1,15 @@
 use Rattle.qq_chain.proofs.Calls.{sync-stays}
 use Rattle.qq_chain.specs.Wal.{wal}
 use Rattle.qq_wal.specs.Running.{top}
+use Rattle.qq_wal.proofs.Unremoved.{synced-whole}
 use Rattle.qq_recover.proofs.settle.sync_one.Goals as goal
 
 pub returns-clause-stays : goal.returns-clause-stays
 returns-clause-stays g c = λ told queues.
     sync-stays (wal queues) (c.the_log_has_a_format.ensures queues) top (g.D.NodeDisk.past c.args.disk.now)
     (g.D.NodeDisk.past c.sync.new.self) c.args.file (c.sync.ensures.moments told)
+
+pub returns-clause-whole : goal.returns-clause-whole
+returns-clause-whole g c = λ told.
+    synced-whole (g.D.NodeDisk.past c.args.disk.now) (g.D.NodeDisk.past c.sync.new.self) c.args.file
+    (c.sync.ensures.moments told)

@@ -9,6 +9,7 @@ use Rattle.qq_chain.proofs.Settling.{shown-sync}
 use Rattle.qq_wal.specs.Running.{top}
 use Rattle.qq_wal.proofs.Steps.{sync-log, sync-notices}
 use Rattle.qq_wal.proofs.Batches.{clean-notices}
+use Rattle.qq_wal.proofs.Unremoved.{synced-whole}
 use Rattle.qq_wal.proofs.file.sync_file.Goals as goal
 
 pub returns-clause-stays : goal.returns-clause-stays
@@ -41,3 +42,8 @@ pub returns-then-not-dirty-clause-noticed : goal.returns-then-not-dirty-clause-n
 returns-then-not-dirty-clause-noticed g c = λ told queues running clean.
     clean-notices queues (c.the_log_has_a_format.ensures queues) c.args.header
     (now (g.D.NodeDisk.past c.args.disk.now)) running (clean (search rules))
+
+pub returns-clause-whole : goal.returns-clause-whole
+returns-clause-whole g c = λ told.
+    synced-whole (g.D.NodeDisk.past c.args.disk.now) (g.D.NodeDisk.past c.sync.new.self)
+    (log_of c.args.header.file) (c.sync.ensures.moments told)

@@ -8,11 +8,10 @@ returns-clause-sound g c = λ w d is tells same. record {
   waiting = is.waiting;
   follow = is.follow;
   queues_are = is.queues_are;
-  rising = is.rising;
   carries = is.carries;
   number = is.number;
   on_disk = λ told going.
-      beside-on_disk w.queues.items (now (g.D.NodeDisk.past w.disk)) (now (g.D.NodeDisk.past d)) same w.header w.marks.items
+      beside-on_disk w.queues.items (now (g.D.NodeDisk.past w.disk)) (now (g.D.NodeDisk.past d)) same w.header w.marks
       w.size w.numbers (is.on_disk (told_before tells told) going);
   synced = λ told going clean.
       beside-synced w.queues.items (now (g.D.NodeDisk.past w.disk)) (now (g.D.NodeDisk.past d)) same w.header

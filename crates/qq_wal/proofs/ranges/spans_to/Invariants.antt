@@ -1,5 +1,5 @@
 use Rattle.std.proofs.Common.{◌≡◌, take}
-use Rattle.qq_wal.specs.Ranges.{spans_to}
+use Rattle.qq_wal.specs.Spans.{spans_to}
 use Rattle.qq_wal.proofs.ranges.spans_to.Given as goal
 
 -- the first runs are cut

@@ -6,7 +6,7 @@ use Rattle.qq_disk.specs.Image.{log_of}
 use Rattle.qq_wal_record.specs.declared.record.LogRecord.{LogRecord}
 use Rattle.qq_wal.specs.declared.marks.Mark.{Mark}
 use Rattle.qq_wal.specs.Batch.{FitsBatch, AllFitBatch}
-use Rattle.qq_wal.specs.Marks.{AllFollow, HasCarry, add_records, is_rising, known, queues_in}
+use Rattle.qq_wal.specs.Marks.{AllFollow, HasCarry, add_records, known, queues_in}
 use Rattle.qq_wal.specs.Notices.{note_record}
 use Rattle.qq_wal.specs.Wal.{IsOnDisk}
 use Rattle.qq_wal.proofs.Batches.{told_before, ops_of, is_batch}
@@ -15,9 +15,6 @@ use Rattle.qq_wal.proofs.OnDisk.{appended, may-add}
 use Rattle.qq_wal.proofs.Steps.{holds-also}
 use Rattle.qq_wal.proofs.Taking.{left-ahead, left-carries, left-follow, taken-fit}
 use Rattle.qq_wal.proofs.wal.Wal.append_batch.Goals as goal
-
-pub take_batch-requires-clause-rising : goal.take_batch-requires-clause-rising
-take_batch-requires-clause-rising g c = c.requires.rising ∙ ap is_rising (sym c.requires.queues_are)
 
 pub returns-in-Err-append_file-clause-stays : goal.returns-in-Err-append_file-clause-stays
 returns-in-Err-append_file-clause-stays g c = λ told going.
@@ -29,9 +26,9 @@ returns-in-Err-append_file-clause-stays g c = λ told going.
       stays = λ batch are. c.append_file.ensures.stays told was.queues.items batch on.log
           (is_batch was.queues.items was.header taken c.as_slice.result.now
           (c.as_slice.ensures.value ∙ c.in-Ok.ensures.ok) c.in-Ok.ensures.fits batch are)
-          (may-add was.queues.items was.header was.marks.items was.size was.numbers taken
+          (may-add was.queues.items was.header was.marks was.size was.numbers taken
           (now (g.D.NodeDisk.past was.disk)) on c.requires.queues_are c.requires.carries
-          (follow-take was.queues.items c.in-Ok.count was.waiting.items (known was.marks.items) c.requires.follow)
+          (follow-take was.queues.items c.in-Ok.count was.waiting.items (known was.marks) c.requires.follow)
           (taken-fit c.in-Ok.count was.waiting.items c.requires.waiting) batch are);
     }
 
@@ -45,9 +42,9 @@ returns-clause-stays g c = λ told going.
       stays = λ batch are. c.append_file.ensures.stays told was.queues.items batch on.log
           (is_batch was.queues.items was.header taken c.as_slice.result.now
           (c.as_slice.ensures.value ∙ c.in-Ok.ensures.ok) c.in-Ok.ensures.fits batch are)
-          (may-add was.queues.items was.header was.marks.items was.size was.numbers taken
+          (may-add was.queues.items was.header was.marks was.size was.numbers taken
           (now (g.D.NodeDisk.past was.disk)) on c.requires.queues_are c.requires.carries
-          (follow-take was.queues.items c.in-Ok.count was.waiting.items (known was.marks.items) c.requires.follow)
+          (follow-take was.queues.items c.in-Ok.count was.waiting.items (known was.marks) c.requires.follow)
           (taken-fit c.in-Ok.count was.waiting.items c.requires.waiting) batch are);
     }
 
@@ -59,9 +56,9 @@ returns-clause-holds g c = λ told batch are.
     let b = is_batch was.queues.items was.header taken c.as_slice.result.now
     (c.as_slice.ensures.value ∙ c.in-Ok.ensures.ok) c.in-Ok.ensures.fits batch are in (
       c.append_file.ensures.stays told was.queues.items batch on.log b
-          (may-add was.queues.items was.header was.marks.items was.size was.numbers taken
+          (may-add was.queues.items was.header was.marks was.size was.numbers taken
           (now (g.D.NodeDisk.past was.disk)) on c.requires.queues_are c.requires.carries
-          (follow-take was.queues.items c.in-Ok.count was.waiting.items (known was.marks.items) c.requires.follow)
+          (follow-take was.queues.items c.in-Ok.count was.waiting.items (known was.marks) c.requires.follow)
           (taken-fit c.in-Ok.count was.waiting.items c.requires.waiting) batch are),
       holds-also was.queues.items batch (now (g.D.NodeDisk.past was.disk))
           (now (g.D.NodeDisk.past c.append_file.new.disk))
@@ -74,8 +71,8 @@ returns-clause-ahead g c =
     let marks = c.take_batch.ensures.marks in
     ap (λ (l : List Mark). add_records (known l) c.take_batch.new.waiting.items) marks
     ∙ ap (λ (l : List LogRecord). add_records
-    (known (fold note_record was.marks.items (take c.in-Ok.count was.waiting.items))) l) c.take_batch.ensures.waiting
-    ∙ left-ahead was.queues.items was.marks.items c.in-Ok.count was.waiting.items c.requires.waiting
+    (known (fold note_record was.marks (take c.in-Ok.count was.waiting.items))) l) c.take_batch.ensures.waiting
+    ∙ left-ahead was.queues.items was.marks c.in-Ok.count was.waiting.items c.requires.waiting
     c.requires.follow c.requires.queues_are
 
 pub returns-clause-sound : goal.returns-clause-sound
@@ -86,16 +83,15 @@ returns-clause-sound g c =
     record {
       waiting = subst (λ (l : List LogRecord). AllFitBatch l) (sym c.take_batch.ensures.waiting)
           (All-drop FitsBatch c.in-Ok.count was.waiting.items c.requires.waiting);
-      follow = subst (λ (l : List LogRecord). AllFollow was.queues.items (known c.take_batch.new.marks.items) l)
+      follow = subst (λ (l : List LogRecord). AllFollow was.queues.items (known c.take_batch.new.marks) l)
           (sym c.take_batch.ensures.waiting)
           (subst (λ (l : List Mark). AllFollow was.queues.items (known l)
           (drop c.in-Ok.count was.waiting.items)) (sym marks)
-          (left-follow was.queues.items was.marks.items c.in-Ok.count was.waiting.items c.requires.waiting
+          (left-follow was.queues.items was.marks c.in-Ok.count was.waiting.items c.requires.waiting
           c.requires.follow c.requires.queues_are));
-      queues_are = ap queues_in marks ∙ noted-queues taken was.marks.items ∙ c.requires.queues_are;
-      rising = c.requires.rising;
+      queues_are = ap queues_in marks ∙ noted-queues taken was.marks ∙ c.requires.queues_are;
       carries = subst (λ (l : List Mark). AllByRecursion HasCarry l) (sym marks)
-          (left-carries was.queues.items was.marks.items c.in-Ok.count was.waiting.items c.requires.waiting
+          (left-carries was.queues.items was.marks c.in-Ok.count was.waiting.items c.requires.waiting
           c.requires.follow c.requires.queues_are c.requires.carries);
       number = c.requires.number;
       on_disk = λ told going.
@@ -107,9 +103,9 @@ returns-clause-sound g c =
           subst (λ (l : List Mark). IsOnDisk was.queues.items was.header l
           (was.size + c.len.result) was.numbers
           (now (g.D.NodeDisk.past c.append_file.new.disk))) (sym marks)
-          (appended was.queues.items was.header was.marks.items was.size was.numbers taken
+          (appended was.queues.items was.header was.marks was.size was.numbers taken
           (now (g.D.NodeDisk.past was.disk)) on c.requires.queues_are c.requires.carries
-          (follow-take was.queues.items c.in-Ok.count was.waiting.items (known was.marks.items) c.requires.follow)
+          (follow-take was.queues.items c.in-Ok.count was.waiting.items (known was.marks) c.requires.follow)
           (taken-fit c.in-Ok.count was.waiting.items c.requires.waiting) ops.ops ops.are c.len.result
           (now (g.D.NodeDisk.past c.append_file.new.disk)) c.requires.number
           (c.in_default.ensures.log before was.queues.items ops.ops on.log b)

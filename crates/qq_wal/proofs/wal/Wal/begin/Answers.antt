@@ -8,7 +8,7 @@ use Rattle.qq_wal_record.specs.declared.record.LogRecord.{LogRecord}
 use Rattle.qq_wal_record.specs.declared.record.LogRecord.TheVariants.{Carry as CarryRecord}
 use Rattle.qq_wal.specs.declared.marks.Mark.{Mark}
 use Rattle.qq_wal.specs.Batch.{AllFitBatch}
-use Rattle.qq_wal.specs.Marks.{AllFollow, HasCarry, IsCarry, carries_in, is_rising, known, queues_in}
+use Rattle.qq_wal.specs.Marks.{AllFollow, HasCarry, IsCarry, carries_in, known, queues_in}
 use Rattle.qq_wal.specs.Notices.{new_mark}
 use Rattle.qq_wal.specs.Ranges.{begin_files, ranges_in}
 use Rattle.qq_wal.specs.Wal.{first_length}
@@ -20,7 +20,7 @@ use Rattle.qq_wal.proofs.wal.Wal.begin.Goals as goal
 
 pub first_bytes-requires : goal.first_bytes-requires
 first_bytes-requires g c =
-    subst (λ (l : List Mark). AllByRecursion HasCarry l) (sym (c.as_slice-2.ensures.value ∙ c.in-Ok.ensures.ok))
+    subst (λ (l : List Mark). AllByRecursion HasCarry l) (sym (c.as_slice-2.ensures ∙ c.in-Ok.ensures.ok))
     (begun-carries c.args.carries.now c.as_slice.result.now
     (recursion_from_All IsCarry c.args.carries.now c.requires.carries))
 
@@ -32,7 +32,7 @@ returns-in-Err-begin_file-clause-stays g c = λ told.
     (begin-continues (λ id s. (c.carries_restate.ensures.exact (carry_of id s) s).1 refl) c.args.queues.items
     c.args.header c.args.carries.now c.args.names.now (now (g.D.NodeDisk.past c.args.disk)) may c.requires.number
     (recursion_from_All IsCarry c.args.carries.now c.requires.carries) c.as_slice-2.result.now
-    (c.as_slice-2.ensures.value ∙ c.in-Ok.ensures.ok
+    (c.as_slice-2.ensures ∙ c.in-Ok.ensures.ok
     ∙ ap (λ (l : List QueueId). map (new_mark c.args.carries.now) l) c.as_slice.ensures.value)
     (search rules) (in_top c.args.header.file (search rules)) c.in-Ok-first_bytes.ensures.fits)
     (c.as_slice-3.ensures.value ∙ c.in-Ok-first_bytes.ensures.ok c.args.queues.items)
@@ -45,7 +45,7 @@ returns-clause-stays g c = λ told.
     (begin-continues (λ id s. (c.carries_restate.ensures.exact (carry_of id s) s).1 refl) c.args.queues.items
     c.args.header c.args.carries.now c.args.names.now (now (g.D.NodeDisk.past c.args.disk)) may c.requires.number
     (recursion_from_All IsCarry c.args.carries.now c.requires.carries) c.as_slice-2.result.now
-    (c.as_slice-2.ensures.value ∙ c.in-Ok.ensures.ok
+    (c.as_slice-2.ensures ∙ c.in-Ok.ensures.ok
     ∙ ap (λ (l : List QueueId). map (new_mark c.args.carries.now) l) c.as_slice.ensures.value)
     (search rules) (in_top c.args.header.file (search rules)) c.in-Ok-first_bytes.ensures.fits)
     (c.as_slice-3.ensures.value ∙ c.in-Ok-first_bytes.ensures.ok c.args.queues.items)
@@ -60,7 +60,7 @@ returns-clause-holds g c = λ told.
     (begin-continues (λ id s. (c.carries_restate.ensures.exact (carry_of id s) s).1 refl) c.args.queues.items
     c.args.header c.args.carries.now c.args.names.now (now (g.D.NodeDisk.past c.args.disk)) may c.requires.number
     (recursion_from_All IsCarry c.args.carries.now c.requires.carries) c.as_slice-2.result.now
-    (c.as_slice-2.ensures.value ∙ c.in-Ok.ensures.ok
+    (c.as_slice-2.ensures ∙ c.in-Ok.ensures.ok
     ∙ ap (λ (l : List QueueId). map (new_mark c.args.carries.now) l) c.as_slice.ensures.value)
     (search rules) (in_top c.args.header.file (search rules)) c.in-Ok-first_bytes.ensures.fits)
     (c.as_slice-3.ensures.value ∙ c.in-Ok-first_bytes.ensures.ok c.args.queues.items))
@@ -73,11 +73,10 @@ returns-clause-sound g c =
     let each = recursion_from_All IsCarry c.args.carries.now c.requires.carries in
     let records = map CarryRecord (carries_in c.as_slice-2.result.now) in
     record {
-      waiting = subst (λ (l : List LogRecord). AllFitBatch l) (sym c.new.ensures.items) (search rules);
-      follow = subst (λ (l : List LogRecord). AllFollow queues (known c.in-Ok.marks.items) l) (sym c.new.ensures.items)
+      waiting = subst (λ (l : List LogRecord). AllFitBatch l) (sym c.new-2.ensures.items) (search rules);
+      follow = subst (λ (l : List LogRecord). AllFollow queues (known c.in-Ok.marks) l) (sym c.new-2.ensures.items)
           tt;
       queues_are = ap queues_in made ∙ begun-queues c.args.carries.now queues;
-      rising = c.is_rising-rising.ensures ∙ ap is_rising c.as_slice-4.ensures.value;
       carries = subst (λ (l : List Mark). AllByRecursion HasCarry l) (sym made)
           (begun-carries c.args.carries.now queues each);
       number = search rules;
@@ -86,12 +85,12 @@ returns-clause-sound g c =
           let may = c.requires.goes_on before in
           let goes_on = begin-continues (λ id s. (c.carries_restate.ensures.exact (carry_of id s) s).1 refl) queues
           c.args.header c.args.carries.now c.args.names.now (now (g.D.NodeDisk.past c.args.disk)) may
-          c.requires.number each c.as_slice-2.result.now (c.as_slice-2.ensures.value ∙ made) (search rules)
+          c.requires.number each c.as_slice-2.result.now (c.as_slice-2.ensures ∙ made) (search rules)
           (in_top c.args.header.file (search rules)) c.in-Ok-first_bytes.ensures.fits in
           let is = c.as_slice-3.ensures.value ∙ c.in-Ok-first_bytes.ensures.ok queues in
           begin-on-disk (λ id s. (c.carries_restate.ensures.exact (carry_of id s) s).1 refl) queues
           c.args.header c.args.carries.now c.args.names.now (now (g.D.NodeDisk.past c.args.disk)) may
-          c.requires.number each c.in-Ok.marks.items made c.len.result c.first_numbers.result
+          c.requires.number each c.in-Ok.marks made c.len.result c.first_numbers.result
           (now (g.D.NodeDisk.past c.begin_file.new.disk)) c.first_numbers.ensures
           (c.in_default.ensures.log before queues may.before records goes_on is).0
           (c.in_default.ensures.shown before queues may.before records goes_on is)
@@ -102,7 +101,7 @@ returns-clause-sound g c =
           let may = c.requires.goes_on before in
           let goes_on = begin-continues (λ id s. (c.carries_restate.ensures.exact (carry_of id s) s).1 refl) queues
           c.args.header c.args.carries.now c.args.names.now (now (g.D.NodeDisk.past c.args.disk)) may
-          c.requires.number each c.as_slice-2.result.now (c.as_slice-2.ensures.value ∙ made) (search rules)
+          c.requires.number each c.as_slice-2.result.now (c.as_slice-2.ensures ∙ made) (search rules)
           (in_top c.args.header.file (search rules)) c.in-Ok-first_bytes.ensures.fits in
           (c.in_default.ensures.log before queues may.before records goes_on
           (c.as_slice-3.ensures.value ∙ c.in-Ok-first_bytes.ensures.ok queues)).1;
@@ -114,13 +113,13 @@ returns-clause-ok g c =
     record {
       queues_are = refl;
       header_is = refl;
-      waiting = c.new.ensures.items;
+      waiting = c.new-2.ensures.items;
       marks = c.in-Ok.ensures.ok
           ∙ ap (λ (l : List QueueId). map (new_mark c.args.carries.now) l) c.as_slice.ensures.value;
       ranges_are = c.in-Ok-begin_files.ensures.ok
           ∙ ap (λ (l : List QueueId). begin_files c.args.header.file l (ranges_in c.args.ranges.now)) c.deref.ensures.value;
       size = long ∙ c.in-Ok-first_bytes.ensures.length
-          ∙ ap (λ (l : List Mark). first_length c.args.header l) c.as_slice-2.ensures.value;
+          ∙ ap (λ (l : List Mark). first_length c.args.header l) c.as_slice-2.ensures;
       numbers = c.first_numbers.ensures;
       limit = refl;
       clean = refl;

@@ -13,11 +13,10 @@ returns-clause-sound g c =
     record {
       waiting = gathered-fit was.waiting.items c.push_back_reserved.new.self.items c.args.op is
           c.requires.takes (search rules) c.requires.sound.waiting;
-      follow = gathered-follow was.queues.items (known was.marks.items) was.waiting.items
+      follow = gathered-follow was.queues.items (known was.marks) was.waiting.items
           c.push_back_reserved.new.self.items c.args.op is c.requires.sound.follow c.requires.takes
           c.requires.goes_on;
       queues_are = c.requires.sound.queues_are;
-      rising = c.requires.sound.rising;
       carries = c.requires.sound.carries;
       number = c.requires.sound.number;
       on_disk = c.requires.sound.on_disk;
@@ -26,7 +25,7 @@ returns-clause-sound g c =
 
 pub returns-clause-ahead : goal.returns-clause-ahead
 returns-clause-ahead g c =
-    gathered-ahead (known c.args.self.now.marks.items) c.args.self.now.waiting.items
+    gathered-ahead (known c.args.self.now.marks) c.args.self.now.waiting.items
     c.push_back_reserved.new.self.items c.args.op
     (c.push_back_reserved.ensures.items
     ∙ ap (λ (l : List LogRecord). l ++ OpRecord c.args.op ∷ []) c.reserve.ensures.items)

@@ -29,10 +29,10 @@ returns-in-Err-begin_file-clause-stays g c = λ told.
       world = on.lanes;
     }) (map CarryRecord (carries_in c.as_slice.result.now))
     (next-file was.queues.items (c.the_log_has_a_format.ensures was.queues.items) was.header header
-    was.marks.items was.size was.numbers (now (g.D.NodeDisk.past was.disk)) on
+    was.marks was.size was.numbers (now (g.D.NodeDisk.past was.disk)) on
     (c.requires.sound.synced told c.if-self.false c.requires.synced) c.requires.sound.queues_are
     c.requires.sound.carries (λ id s. (c.carries_restate.ensures.exact (carry_of id s) s).1 refl)
-    c.as_slice.result.now c.as_slice.ensures.value c.requires.sound.number c.in-Ok.ensures.ok refl refl
+    c.as_slice.result.now c.as_slice.ensures c.requires.sound.number c.in-Ok.ensures.ok refl refl
     c.begin_file.ensures.range (in_top c.in-Ok.number c.begin_file.ensures.range.0) c.in-Ok-first_bytes.ensures.fits)
     (c.as_slice-2.ensures.value ∙ c.in-Ok-first_bytes.ensures.ok was.queues.items)
 
@@ -48,10 +48,10 @@ returns-clause-stays g c = λ told.
       world = on.lanes;
     }) (map CarryRecord (carries_in c.as_slice.result.now))
     (next-file was.queues.items (c.the_log_has_a_format.ensures was.queues.items) was.header header
-    was.marks.items was.size was.numbers (now (g.D.NodeDisk.past was.disk)) on
+    was.marks was.size was.numbers (now (g.D.NodeDisk.past was.disk)) on
     (c.requires.sound.synced told c.if-self.false c.requires.synced) c.requires.sound.queues_are
     c.requires.sound.carries (λ id s. (c.carries_restate.ensures.exact (carry_of id s) s).1 refl)
-    c.as_slice.result.now c.as_slice.ensures.value c.requires.sound.number c.in-Ok.ensures.ok refl refl
+    c.as_slice.result.now c.as_slice.ensures c.requires.sound.number c.in-Ok.ensures.ok refl refl
     c.begin_file.ensures.range (in_top c.in-Ok.number c.begin_file.ensures.range.0) c.in-Ok-first_bytes.ensures.fits)
     (c.as_slice-2.ensures.value ∙ c.in-Ok-first_bytes.ensures.ok was.queues.items)
 
@@ -68,10 +68,10 @@ returns-clause-holds g c = λ told.
       world = on.lanes;
     }) (map CarryRecord (carries_in c.as_slice.result.now))
     (next-file was.queues.items (c.the_log_has_a_format.ensures was.queues.items) was.header header
-    was.marks.items was.size was.numbers (now (g.D.NodeDisk.past was.disk)) on
+    was.marks was.size was.numbers (now (g.D.NodeDisk.past was.disk)) on
     (c.requires.sound.synced told c.if-self.false c.requires.synced) c.requires.sound.queues_are
     c.requires.sound.carries (λ id s. (c.carries_restate.ensures.exact (carry_of id s) s).1 refl)
-    c.as_slice.result.now c.as_slice.ensures.value c.requires.sound.number c.in-Ok.ensures.ok refl refl
+    c.as_slice.result.now c.as_slice.ensures c.requires.sound.number c.in-Ok.ensures.ok refl refl
     c.begin_file.ensures.range (in_top c.in-Ok.number c.begin_file.ensures.range.0) c.in-Ok-first_bytes.ensures.fits)
     (c.as_slice-2.ensures.value ∙ c.in-Ok-first_bytes.ensures.ok was.queues.items))
 
@@ -80,7 +80,6 @@ returns-clause-sound g c = record {
   waiting = c.requires.sound.waiting;
   follow = c.requires.sound.follow;
   queues_are = c.requires.sound.queues_are;
-  rising = c.requires.sound.rising;
   carries = c.requires.sound.carries;
   number = search rules;
   on_disk = λ told going.
@@ -89,7 +88,7 @@ returns-clause-sound g c = record {
       let header : Header = record { file = c.in-Ok.number; previous = was.header.file; good = was.size } in
       let on = c.requires.sound.on_disk before c.if-self.false in
       next-on-disk was.queues.items (c.the_log_has_a_format.ensures was.queues.items) was.header header
-      was.marks.items was.size was.numbers (now (g.D.NodeDisk.past was.disk)) on
+      was.marks was.size was.numbers (now (g.D.NodeDisk.past was.disk)) on
       (c.requires.sound.synced before c.if-self.false c.requires.synced) c.requires.sound.queues_are
       c.requires.sound.carries (λ id s. (c.carries_restate.ensures.exact (carry_of id s) s).1 refl)
       c.len.result (record { log = c.in-Ok.number; segment = was.numbers.segment; snapshot = was.numbers.snapshot })
@@ -101,10 +100,10 @@ returns-clause-sound g c = record {
         world = on.lanes;
       }) (map CarryRecord (carries_in c.as_slice.result.now))
       (next-file was.queues.items (c.the_log_has_a_format.ensures was.queues.items) was.header header
-      was.marks.items was.size was.numbers (now (g.D.NodeDisk.past was.disk)) on
+      was.marks was.size was.numbers (now (g.D.NodeDisk.past was.disk)) on
       (c.requires.sound.synced before c.if-self.false c.requires.synced) c.requires.sound.queues_are
       c.requires.sound.carries (λ id s. (c.carries_restate.ensures.exact (carry_of id s) s).1 refl)
-      c.as_slice.result.now c.as_slice.ensures.value c.requires.sound.number c.in-Ok.ensures.ok refl refl
+      c.as_slice.result.now c.as_slice.ensures c.requires.sound.number c.in-Ok.ensures.ok refl refl
       c.begin_file.ensures.range (in_top c.in-Ok.number c.begin_file.ensures.range.0) c.in-Ok-first_bytes.ensures.fits)
       (c.as_slice-2.ensures.value ∙ c.in-Ok-first_bytes.ensures.ok was.queues.items)).0
       (c.in_default.ensures.shown before was.queues.items
@@ -114,10 +113,10 @@ returns-clause-sound g c = record {
         world = on.lanes;
       }) (map CarryRecord (carries_in c.as_slice.result.now))
       (next-file was.queues.items (c.the_log_has_a_format.ensures was.queues.items) was.header header
-      was.marks.items was.size was.numbers (now (g.D.NodeDisk.past was.disk)) on
+      was.marks was.size was.numbers (now (g.D.NodeDisk.past was.disk)) on
       (c.requires.sound.synced before c.if-self.false c.requires.synced) c.requires.sound.queues_are
       c.requires.sound.carries (λ id s. (c.carries_restate.ensures.exact (carry_of id s) s).1 refl)
-      c.as_slice.result.now c.as_slice.ensures.value c.requires.sound.number c.in-Ok.ensures.ok refl refl
+      c.as_slice.result.now c.as_slice.ensures c.requires.sound.number c.in-Ok.ensures.ok refl refl
       c.begin_file.ensures.range (in_top c.in-Ok.number c.begin_file.ensures.range.0) c.in-Ok-first_bytes.ensures.fits)
       (c.as_slice-2.ensures.value ∙ c.in-Ok-first_bytes.ensures.ok was.queues.items))
       (search rules ∙ sym (c.in_default.ensures.length before was.queues.items
@@ -127,10 +126,10 @@ returns-clause-sound g c = record {
         world = on.lanes;
       }) (map CarryRecord (carries_in c.as_slice.result.now))
       (next-file was.queues.items (c.the_log_has_a_format.ensures was.queues.items) was.header header
-      was.marks.items was.size was.numbers (now (g.D.NodeDisk.past was.disk)) on
+      was.marks was.size was.numbers (now (g.D.NodeDisk.past was.disk)) on
       (c.requires.sound.synced before c.if-self.false c.requires.synced) c.requires.sound.queues_are
       c.requires.sound.carries (λ id s. (c.carries_restate.ensures.exact (carry_of id s) s).1 refl)
-      c.as_slice.result.now c.as_slice.ensures.value c.requires.sound.number c.in-Ok.ensures.ok refl refl
+      c.as_slice.result.now c.as_slice.ensures c.requires.sound.number c.in-Ok.ensures.ok refl refl
       c.begin_file.ensures.range (in_top c.in-Ok.number c.begin_file.ensures.range.0) c.in-Ok-first_bytes.ensures.fits)
       (c.as_slice-2.ensures.value ∙ c.in-Ok-first_bytes.ensures.ok was.queues.items)))
       (c.in_default.ensures.others before was.queues.items
@@ -140,10 +139,10 @@ returns-clause-sound g c = record {
         world = on.lanes;
       }) (map CarryRecord (carries_in c.as_slice.result.now))
       (next-file was.queues.items (c.the_log_has_a_format.ensures was.queues.items) was.header header
-      was.marks.items was.size was.numbers (now (g.D.NodeDisk.past was.disk)) on
+      was.marks was.size was.numbers (now (g.D.NodeDisk.past was.disk)) on
       (c.requires.sound.synced before c.if-self.false c.requires.synced) c.requires.sound.queues_are
       c.requires.sound.carries (λ id s. (c.carries_restate.ensures.exact (carry_of id s) s).1 refl)
-      c.as_slice.result.now c.as_slice.ensures.value c.requires.sound.number c.in-Ok.ensures.ok refl refl
+      c.as_slice.result.now c.as_slice.ensures c.requires.sound.number c.in-Ok.ensures.ok refl refl
       c.begin_file.ensures.range (in_top c.in-Ok.number c.begin_file.ensures.range.0) c.in-Ok-first_bytes.ensures.fits)
       (c.as_slice-2.ensures.value ∙ c.in-Ok-first_bytes.ensures.ok was.queues.items));
   synced = λ told going clean.
@@ -158,10 +157,10 @@ returns-clause-sound g c = record {
         world = on.lanes;
       }) (map CarryRecord (carries_in c.as_slice.result.now))
       (next-file was.queues.items (c.the_log_has_a_format.ensures was.queues.items) was.header header
-      was.marks.items was.size was.numbers (now (g.D.NodeDisk.past was.disk)) on
+      was.marks was.size was.numbers (now (g.D.NodeDisk.past was.disk)) on
       (c.requires.sound.synced before c.if-self.false c.requires.synced) c.requires.sound.queues_are
       c.requires.sound.carries (λ id s. (c.carries_restate.ensures.exact (carry_of id s) s).1 refl)
-      c.as_slice.result.now c.as_slice.ensures.value c.requires.sound.number c.in-Ok.ensures.ok refl refl
+      c.as_slice.result.now c.as_slice.ensures c.requires.sound.number c.in-Ok.ensures.ok refl refl
       c.begin_file.ensures.range (in_top c.in-Ok.number c.begin_file.ensures.range.0) c.in-Ok-first_bytes.ensures.fits)
       (c.as_slice-2.ensures.value ∙ c.in-Ok-first_bytes.ensures.ok was.queues.items)).1;
 }
@@ -174,7 +173,7 @@ returns-clause-ok g c =
     record {
       header = λ i. record { file = c.in-Ok.ensures.ok i; previous = was.header.file; good = was.size };
       size = long ∙ c.in-Ok-first_bytes.ensures.length
-          ∙ ap (λ (l : List Mark). first_length header l) c.as_slice.ensures.value;
+          ∙ ap (λ (l : List Mark). first_length header l) c.as_slice.ensures;
       numbers = λ i. record {
         log = c.in-Ok.ensures.ok i;
         segment = was.numbers.segment;

@@ -28,28 +28,27 @@ returns-clause-holds g c = λ told.
 pub returns-clause-ahead : goal.returns-clause-ahead
 returns-clause-ahead g c =
     ap (λ (l : List Mark). add_records (known l) c.args.self.now.waiting.items)
-    c.sync_marks.ensures
-    ∙ ap (λ (k : Carries). add_records k c.args.self.now.waiting.items) (synced-known c.args.self.now.marks.items)
+    c.sync.ensures
+    ∙ ap (λ (k : Carries). add_records k c.args.self.now.waiting.items) (synced-known c.args.self.now.marks)
 
 pub returns-clause-sound : goal.returns-clause-sound
 returns-clause-sound g c =
     let was = c.args.self.now in
-    let marks = c.sync_marks.ensures in
+    let marks = c.sync.ensures in
     record {
       waiting = c.requires.waiting;
       follow = subst (λ (k : Carries). AllFollow was.queues.items k was.waiting.items)
-          (sym (ap known marks ∙ synced-known was.marks.items)) c.requires.follow;
-      queues_are = ap queues_in marks ∙ synced-queues was.marks.items ∙ c.requires.queues_are;
-      rising = c.requires.rising;
+          (sym (ap known marks ∙ synced-known was.marks)) c.requires.follow;
+      queues_are = ap queues_in marks ∙ synced-queues was.marks ∙ c.requires.queues_are;
       carries = subst (λ (l : List Mark). AllByRecursion HasCarry l) (sym marks)
-          (synced-carries was.marks.items c.requires.carries);
+          (synced-carries was.marks c.requires.carries);
       number = c.requires.number;
       on_disk = λ told going.
           let before = told_before c.sync_file.ensures.told told in
           let on = c.requires.on_disk before c.if-self.false in
           subst (λ (l : List Mark). IsOnDisk was.queues.items was.header l was.size was.numbers
           (now (g.D.NodeDisk.past c.sync_file.new.disk))) (sym marks)
-          (now-synced was.queues.items was.header was.marks.items was.size was.numbers
+          (now-synced was.queues.items was.header was.marks was.size was.numbers
           (now (g.D.NodeDisk.past was.disk)) (now (g.D.NodeDisk.past c.sync_file.new.disk)) on
           (c.in_default.ensures.log before was.queues.items on.log (c.requires.synced before c.if-self.false)).0
           (c.in_default.ensures.shown before));

@@ -1,6 +1,6 @@
 use Rattle.std.proofs.Common.{◌≡◌, length}
-use Rattle.qq_wal.specs.Ranges.{find_file, spans_to}
-use Rattle.qq_wal.proofs.ranges.find_cut.Given as goal
+use Rattle.qq_wal.specs.Spans.{find_file, spans_to}
+use Rattle.qq_wal.proofs.older.find_cut.Given as goal
 
 -- the others decide
 abbrev pub invariant-rest : goal.invariant-rest

@@ -1,7 +1,7 @@
 use Rattle.std.proofs.Common.{◌≡◌, take, drop}
 use Rattle.std.specs.List.{fold}
 use Rattle.qq_wal.specs.Notices.{note_record}
-use Rattle.qq_wal.proofs.notices.note_batch.Given as goal
+use Rattle.qq_wal.proofs.notices.take_batch.Given as goal
 
 -- as many are taken as the loop has come
 abbrev pub invariant-loop : goal.invariant-loop

@@ -1,0 +1,22 @@
+use Rattle.qq_wal.proofs.Kept.{appended-tell, failed-keeps, stays-keeps}
+use Rattle.std.proofs.Common.{take}
+use Rattle.qq_wal.proofs.laws.calls_keep_what_was_promised.Goals as goal
+
+pub returns-clause-batch : goal.returns-clause-batch
+returns-clause-batch g c = λ n count waiting b. (b.within, b.ops, b.bytes, b.most)
+
+pub returns-clause-appended : goal.returns-clause-appended
+returns-clause-appended g c = λ queues ops batch count old new a are told. (
+  appended-tell queues ops batch (take count old.waiting.items) old.marks new.marks a.marks are told,
+  a.waiting,
+  a.going,
+)
+
+pub returns-clause-failed : goal.returns-clause-failed
+returns-clause-failed g c = failed-keeps
+
+pub returns-clause-stays : goal.returns-clause-stays
+returns-clause-stays g c = stays-keeps
+
+pub returns-clause-holds : goal.returns-clause-holds
+returns-clause-holds g c = λ queues given d e holds still. still given holds
