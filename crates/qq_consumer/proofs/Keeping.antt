@@ -182,7 +182,7 @@ delivered-kept turn x id old new last ws vs kept some next is after =
 
 -- ---- one joins
 
-none-there : (id : ConsumerId) (old : List Served) → is_there id old ≡ false → one_of id old ≡ None
+pub none-there : (id : ConsumerId) (old : List Served) → is_there id old ≡ false → one_of id old ≡ None
 none-there id old free = by (one_of id old) free
   where
     by : (o : Option Served) → is_some o ≡ false → o ≡ None

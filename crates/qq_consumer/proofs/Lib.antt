@@ -1,5 +1,6 @@
 mod Calls
 mod Changing
+mod Copying
 mod Cutting
 mod JoinedRows
 mod Keeping
@@ -7,4 +8,5 @@ mod NextOne
 mod Ones
 mod Places
 mod Queueing
+mod Restoring
 mod Taking

@@ -1,12 +1,12 @@
 -- Where a number stands among numbers that rise.
 use Rattle.std.proofs.Common.{◌≡◌, ℕ, zero, suc, ◌<◌, ◌≤◌, ◌⊎◌, Bool, true, false, List, [], ◌∷◌, ◌++◌, Some, None, length, get_or, refl, sym, ap, ◌∙◌, subst, inl, inr, arith}
-use Rattle.std.specs.Prelude.{nat_lt, find, slice_get, remove}
+use Rattle.std.specs.Prelude.{nat_lt, find, slice_get, insert, remove}
 use Rattle.std.specs.List.{AllByRecursion}
 use Rattle.std.specs.List.Sorted.{IsNonDecreasingBy}
 use Rattle.std.proofs.lemmas.Bool.{false≢true, cases_Bool, cond-true, cond-false, cond_both, ltb-true, ltb-false, ne_eqb}
 use Rattle.qq_base.proofs.Lists.{AllByRecursion-append, AllByRecursion-weaker}
 use Rattle.qq_consumer.specs.declared.rising.Numbered.{Numbered}
-use Rattle.qq_consumer.specs.Numbers.{Rises, AreBelow, has_number, without, place_of, is_at}
+use Rattle.qq_consumer.specs.Numbers.{Rises, AreBelow, IsFree, has_number, with_item, without, place_of, is_at}
 
 module _ {T : Type 0} where
   -- a search's answer is the place
@@ -165,3 +165,65 @@ module _ {T : Type 0} where
       → is_at number place rows ≡ true → slice_get rows place ≡ find (has_number {T = T} number) rows
   taken-value number rows place rising at there =
       ap (slice_get rows) at ∙ sym ((placed number rows rising).found (at-own number rows place at there))
+
+  -- ---- one item more
+
+  pub place-within : (number : ℕ) (rows : List (Numbered T)) → place_of number rows ≤ length rows
+  place-within number [] = omega arith
+  place-within number (one ∷ rows) =
+      let rest = place-within number rows in
+      cond_both (nat_lt one.number number) (suc (place_of number rows)) 0 (λ k. k ≤ length (one ∷ rows))
+      (λ _. omega (arith, rest)) (λ _. omega arith)
+
+  pub insert-is : (one : Numbered T) (rows : List (Numbered T))
+      → insert rows (place_of one.number rows) one ≡ with_item one rows
+  insert-is one [] = refl
+  insert-is one (first ∷ rows) = by (cases_Bool (nat_lt first.number one.number)) (insert-is one rows)
+    where
+      by : (nat_lt first.number one.number ≡ true) ⊎ (nat_lt first.number one.number ≡ false)
+          → insert rows (place_of one.number rows) one ≡ with_item one rows
+          → insert (first ∷ rows) (place_of one.number (first ∷ rows)) one ≡ with_item one (first ∷ rows)
+      by (inl less) rest =
+          ap (λ k. insert (first ∷ rows) k one)
+          (cond-true (nat_lt first.number one.number) (suc (place_of one.number rows)) 0 less)
+          ∙ ap (λ (xs : List (Numbered T)). first ∷ xs) rest
+          ∙ sym (cond-true (nat_lt first.number one.number) (first ∷ with_item one rows) (one ∷ first ∷ rows) less)
+      by (inr more) rest =
+          ap (λ k. insert (first ∷ rows) k one)
+          (cond-false (nat_lt first.number one.number) (suc (place_of one.number rows)) 0 more)
+          ∙ sym (cond-false (nat_lt first.number one.number) (first ∷ with_item one rows) (one ∷ first ∷ rows) more)
+
+  pub each-with : (P : Numbered T → Type 0) (one : Numbered T) (rows : List (Numbered T)) → AllByRecursion P rows
+      → P one → AllByRecursion P (with_item one rows)
+  each-with P one [] each own = (own, tt)
+  each-with P one (first ∷ rows) each own =
+      cond_both (nat_lt first.number one.number) (first ∷ with_item one rows) (one ∷ first ∷ rows) (AllByRecursion P)
+      (λ _. (each.0, each-with P one rows each.1 own)) (λ _. (own, each))
+
+  pub rises-with : (one : Numbered T) (rows : List (Numbered T)) → Rises rows → IsFree one.number rows
+      → Rises (with_item one rows)
+  rises-with one [] rising free = (tt, tt)
+  rises-with one (first ∷ rows) rising free =
+      cond_both (nat_lt first.number one.number) (first ∷ with_item one rows) (one ∷ first ∷ rows)
+      (λ (xs : List (Numbered T)). Rises xs)
+      (λ less. (
+        each-with (λ (other : Numbered T). first.number < other.number) one rows rising.0
+            (ltb-true first.number one.number less),
+        rises-with one rows rising.1 free.1,
+      ))
+      (λ more. beyond (ltb-false first.number one.number more))
+    where
+      beyond : one.number ≤ first.number → Rises (one ∷ first ∷ rows)
+      beyond le =
+          let less : one.number < first.number = apart le in
+          ((less, above one.number first.number rows le rising.0), rising)
+        where
+          apart : one.number ≤ first.number → one.number < first.number
+          apart le' = by (cases_Bool (nat_lt one.number first.number))
+            where
+              by : (nat_lt one.number first.number ≡ true) ⊎ (nat_lt one.number first.number ≡ false)
+                  → one.number < first.number
+              by (inl less) = ltb-true one.number first.number less
+              by (inr more) =
+                  let ge : first.number ≤ one.number = ltb-false one.number first.number more in
+                  absurd (free.0 (omega arith))

@@ -1,17 +1,17 @@
 -- The queue of consumers that wait: one leaves it, one enters it, and its first one is next.
-use Rattle.std.proofs.Common.{◌≡◌, ◌⊎◌, ℕ, ◌<◌, ◌≤◌, true, false, [], ◌∷◌, ◌++◌, Option, Some, None, is_some, refl, sym, ap, ◌∙◌, subst, inl, inr, arith}
-use Rattle.std.specs.Prelude.{nat_eq, find}
+use Rattle.std.proofs.Common.{◌≡◌, ◌⊎◌, ℕ, ◌<◌, ◌≤◌, true, false, [], ◌∷◌, ◌++◌, Option, Some, None, IfSome, is_some, refl, sym, ap, ◌∙◌, subst, inl, inr, arith}
+use Rattle.std.specs.Prelude.{nat_eq, nat_lt, find}
 use Rattle.std.specs.List.{AllByRecursion}
 use Rattle.std.specs.Option.{option_map}
-use Rattle.std.proofs.lemmas.Bool.{false≢true, cases_Bool, cond-true, cond-false, eqb-true, eq-eqb}
+use Rattle.std.proofs.lemmas.Bool.{false≢true, cases_Bool, cond-true, cond-false, cond_both, eqb-true, eq-eqb}
 use Rattle.qq_base.specs.declared.ids.ConsumerId.{ConsumerId}
 use Rattle.qq_base.specs.Ids.{same_consumer}
 use Rattle.qq_base.proofs.Lists.{AllByRecursion-append, AllByRecursion-weaker}
 use Rattle.qq_model.proofs.OneConsumer.{same_consumer-true, same_consumer-refl}
 use Rattle.qq_consumer.specs.declared.rising.Numbered.{Numbered}
-use Rattle.qq_consumer.specs.Numbers.{Rises, AreBelow, has_number, item_by, without}
-use Rattle.qq_consumer.specs.Turns.{Waiting, waiter, IsIn, IsQueue, leave, enter}
-use Rattle.qq_consumer.proofs.Places.{rises-push, rises-without, each-without}
+use Rattle.qq_consumer.specs.Numbers.{Rises, AreBelow, IsFree, has_number, item_by, with_item, without}
+use Rattle.qq_consumer.specs.Turns.{Waiting, waiter, IsIn, IsQueue, leave, enter, place_in}
+use Rattle.qq_consumer.proofs.Places.{rises-push, rises-with, each-with, rises-without, each-without}
 
 -- ---- where one stands
 
@@ -31,8 +31,24 @@ in-last : (one : Numbered ConsumerId) (ws : Waiting) → IsIn one (ws ++ one ∷
 in-last one [] = inl refl
 in-last one (w ∷ ws) = inr (in-last one ws)
 
+in-with_own : (one : Numbered ConsumerId) (ws : Waiting) → IsIn one (with_item one ws)
+in-with_own one [] = inl refl
+in-with_own one (w ∷ ws) =
+    cond_both (nat_lt w.number one.number) (w ∷ with_item one ws) (one ∷ w ∷ ws) (IsIn one)
+    (λ _. inr (in-with_own one ws)) (λ _. inl refl)
+
+in-with : (one other : Numbered ConsumerId) (ws : Waiting) → IsIn other ws → IsIn other (with_item one ws)
+in-with one other [] here = absurd here
+in-with one other (w ∷ ws) here =
+    cond_both (nat_lt w.number one.number) (w ∷ with_item one ws) (one ∷ w ∷ ws) (IsIn other)
+    (λ _. by here (λ later. in-with one other ws later)) (λ _. inr here)
+  where
+    by : IsIn other (w ∷ ws) → (IsIn other ws → IsIn other (with_item one ws)) → IsIn other (w ∷ with_item one ws)
+    by (inl same) rest = inl same
+    by (inr later) rest = inr (rest later)
+
 -- numbers that rise are each one's own
-in-once : (a b : Numbered ConsumerId) (ws : Waiting) → Rises ws → IsIn a ws → IsIn b ws → a.number ≡ b.number → a ≡ b
+pub in-once : (a b : Numbered ConsumerId) (ws : Waiting) → Rises ws → IsIn a ws → IsIn b ws → a.number ≡ b.number → a ≡ b
 in-once a b [] rising here there same = absurd here
 in-once a b (w ∷ ws) rising (inl here) (inl there) same = here ∙ sym there
 in-once a b (w ∷ ws) rising (inl here) (inr there) same =
@@ -213,6 +229,39 @@ enter-queue id f g last later ws (Some n) queue aside none own less (inr new) = 
         (ap (λ k. waiter k id) (sym turns) ∙ ap (waiter m) ids) (in-last (waiter n id) ws)
     there q m is (inr no_one) =
         in-left (waiter m q) ws (waiter n id ∷ []) (queue.all q m (sym (aside q no_one) ∙ is))
+
+-- one with a turn that nobody has waits in its place
+pub place-queue : (id : ConsumerId) (f g : ConsumerId → Option ℕ) (last : ℕ) (ws : Waiting) (turn : Option ℕ)
+    → IsQueue f last ws → IsAside id f g → f id ≡ None → g id ≡ turn → IfSome turn (λ n. n ≤ last)
+    → IfSome turn (λ n. IsFree n ws) → IsQueue g last (place_in id turn ws)
+place-queue id f g last ws None queue aside none own drawn free =
+    stays-queue id f g last last ws queue aside (own ∙ sym none) (omega arith)
+place-queue id f g last ws (Some n) queue aside none own drawn free = record {
+  order = rises-with (waiter n id) ws queue.order free;
+  drawn = each-with (λ (o : Numbered ConsumerId). o.number ≤ last) (waiter n id) ws queue.drawn drawn;
+  among =
+      each-with (λ (o : Numbered ConsumerId). g o.item ≡ Some o.number) (waiter n id) ws
+      (AllByRecursion-weaker (λ (o : Numbered ConsumerId). f o.item ≡ Some o.number)
+      (λ (o : Numbered ConsumerId). g o.item ≡ Some o.number) still ws queue.among) own;
+  all = λ q m is. there q m is (cases_Bool (same_consumer id q));
+}
+  where
+    still : (o : Numbered ConsumerId) → f o.item ≡ Some o.number → g o.item ≡ Some o.number
+    still o is = by (cases_Bool (same_consumer id o.item))
+      where
+        by : (same_consumer id o.item ≡ true) ⊎ (same_consumer id o.item ≡ false) → g o.item ≡ Some o.number
+        by (inl its) = let e : None ≡ Some o.number = sym none ∙ sym (own-turn id o.item f its) ∙ is in absurd cc
+        by (inr no_one) = aside o.item no_one ∙ is
+
+    there : (q : ConsumerId) (m : ℕ) → g q ≡ Some m → (same_consumer id q ≡ true) ⊎ (same_consumer id q ≡ false)
+        → IsIn (waiter m q) (with_item (waiter n id) ws)
+    there q m is (inl its) =
+        let turns : m ≡ n = some-is m n (sym is ∙ own-turn id q g its ∙ own) in
+        let ids : id ≡ q = same_consumer-true id q its in
+        subst (λ (o : Numbered ConsumerId). IsIn o (with_item (waiter n id) ws))
+        (ap (λ k. waiter k id) (sym turns) ∙ ap (waiter m) ids) (in-with_own (waiter n id) ws)
+    there q m is (inr no_one) =
+        in-with (waiter n id) (waiter m q) ws (queue.all q m (sym (aside q no_one) ∙ is))
 
 -- a turn that is in the queue is found there
 pub found-turn : (n : ℕ) (id : ConsumerId) (ws : Waiting) → IsIn (waiter n id) ws → is_some (item_by n ws) ≡ true

@@ -1,5 +1,5 @@
 -- Lists that rise by the numbers of their items.
-use Rattle.std.specs.Prelude.{ℕ, suc, ◌<◌, List, [], ◌∷◌, Option, Bool, nat_eq, nat_lt, find, slice_get, false, if◌then◌else◌}
+use Rattle.std.specs.Prelude.{◌≡◌, ℕ, suc, ◌<◌, List, [], ◌∷◌, Option, Bool, nat_eq, nat_lt, find, slice_get, false, if◌then◌else◌}
 use Rattle.std.specs.List.{AllByRecursion}
 use Rattle.std.specs.Option.{option_map, option_map_or}
 use Rattle.qq_consumer.specs.declared.rising.Numbered.{Numbered}
@@ -32,6 +32,15 @@ item_by {T = T} number items = option_map (item_of {T = T}) (find (has_number {T
 abbrev pub without : {T : Type 0} → ℕ → List (Numbered T) → List (Numbered T)
 without number [] = []
 without number (one ∷ rest) = if has_number number one then rest else one ∷ without number rest
+
+-- no item has this number
+abbrev pub IsFree : {T : Type 0} → ℕ → List (Numbered T) → Type 0
+IsFree {T = T} number items = AllByRecursion (λ (one : Numbered T). one.number ≡ number → ⊥) items
+
+-- and one item more, at the place of its number
+abbrev pub with_item : {T : Type 0} → Numbered T → List (Numbered T) → List (Numbered T)
+with_item one [] = one ∷ []
+with_item one (other ∷ rest) = if nat_lt other.number one.number then other ∷ with_item one rest else one ∷ other ∷ rest
 
 -- all but the first
 abbrev pub without_first : {T : Type 0} → List (Numbered T) → List (Numbered T)

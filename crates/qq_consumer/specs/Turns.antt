@@ -1,5 +1,5 @@
 -- Whose turn is next: the consumers that wait to be served are a queue.
-use Rattle.std.specs.Prelude.{◌≡◌, ◌⊎◌, ℕ, ◌≤◌, List, [], ◌∷◌, ◌++◌, Option, Some, None, true, if◌then◌else◌}
+use Rattle.std.specs.Prelude.{◌≡◌, ◌⊎◌, ℕ, ◌≤◌, List, [], ◌∷◌, ◌++◌, Option, Some, None, IfSome, true, if◌then◌else◌}
 use Rattle.std.specs.List.{AllByRecursion}
 use Rattle.std.specs.Option.{option_and_then}
 use Rattle.qq_base.specs.declared.ids.ConsumerId.{ConsumerId}
@@ -7,7 +7,7 @@ use Rattle.qq_parts.specs.Parts.{Served}
 use Rattle.qq_parts.specs.Turns.{may_serve}
 use Rattle.qq_parts.specs.Consumers.{needed_one}
 use Rattle.qq_consumer.specs.declared.rising.Numbered.{Numbered}
-use Rattle.qq_consumer.specs.Numbers.{Rises, without}
+use Rattle.qq_consumer.specs.Numbers.{Rises, with_item, without}
 use Rattle.qq_consumer.specs.Roster.{Roster, one_of}
 
 -- the turn of a consumer that may be served
@@ -44,7 +44,29 @@ abbrev pub enter : ConsumerId → Option ℕ → Waiting → Waiting
 enter id None waiting = waiting
 enter id (Some turn) waiting = waiting ++ waiter turn id ∷ []
 
+-- or waits in the place of its turn
+abbrev pub place_in : ConsumerId → Option ℕ → Waiting → Waiting
+place_in id None waiting = waiting
+place_in id (Some turn) waiting = with_item (waiter turn id) waiting
+
 -- the queue is that of these consumers, and each of them is needed
 pub record IsKept (waiting : Waiting) (r : Roster) : Type 0 where
   pub queue : IsQueue (waiting_turn r.served) r.turns waiting
   pub needed : AllByRecursion (λ (one : Served). needed_one one ≡ true) r.served
+
+-- one that may be served has a turn that was drawn
+abbrev pub HasDrawn : ℕ → Served → Type 0
+HasDrawn last one = IfSome (turn_of one) (λ turn. turn ≤ last)
+
+-- two that may be served have two turns
+abbrev pub HaveTwoTurns : Served → Served → Type 0
+HaveTwoTurns a b = IfSome (turn_of a) (λ turn. turn_of b ≡ Some turn → ⊥)
+
+abbrev pub TurnsDiffer : List Served → Type 0
+TurnsDiffer [] = Unit {0}
+TurnsDiffer (one ∷ ones) = AllByRecursion (HaveTwoTurns one) ones × TurnsDiffer ones
+
+-- those that may be served have turns of their own, which were drawn
+pub record HaveTurns (r : Roster) : Type 0 where
+  pub drawn : AllByRecursion (HasDrawn r.turns) r.served
+  pub differ : TurnsDiffer r.served

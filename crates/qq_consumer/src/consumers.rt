@@ -1,14 +1,15 @@
-ghost use Rattle.std.specs.Prelude.{◌≡◌, ◌+◌, ◌<◌, ◌≤◌, ◌^◌, [], false, true, not, map, length, slice_get, is_some, IfSome, IfOk, IfErr, IsOkUnless, Some, None, OnOk, OnErr, nat_eq, nat_lt, ◌&&◌, if◌then◌else◌};
+ghost use Rattle.std.specs.Prelude.{◌≡◌, ◌+◌, ◌<◌, ◌≤◌, ◌^◌, ◌++◌, ◌∷◌, [], false, true, not, map, length, slice_get, is_some, IfSome, IfOk, IfErr, IsOkUnless, Some, None, OnOk, OnErr, nat_eq, nat_lt, ◌&&◌, if◌then◌else◌};
 ghost use Rattle.std.specs.List.{AllByRecursion};
 ghost use Rattle.std.specs.Option.{option_copied, option_map};
 ghost use Rattle.qq_base.specs.Ids.{same_consumer};
 ghost use Rattle.qq_entry.specs.declared.command.Mode.TheVariants.{Link};
 ghost use Rattle.qq_model.specs.declared.place.Place.{Place};
 ghost use Rattle.qq_parts.specs.Parts.{HasOut, AreApart, consumer_at};
+ghost use Rattle.qq_parts.specs.Consumers.{needed_one};
 ghost use Rattle.qq_service.specs.Next.{next};
-ghost use Rattle.qq_consumer.specs.Roster.{served_of, item_at, one_of, is_there, standing_one, no_consumers, join, subscribe_refusal, is_spent, is_full, IsRefusal, check_out, next_id_at, CanCount, CanDrain, HoldsAt, set_credit, give_credit, credit_fault, drain, drained, link_credit_at, cancel, is_current_at, end, first_of, take_out, taken_rows, room_at, KeepsRoom};
-ghost use Rattle.qq_consumer.specs.Numbers.{AreBelow, item_by};
-ghost use Rattle.qq_consumer.specs.Turns.{waiting_turn, leave, enter};
+ghost use Rattle.qq_consumer.specs.Roster.{served_of, roster_of, item_at, one_of, is_there, standing_one, no_consumers, join, subscribe_refusal, is_spent, is_full, IsRefusal, check_out, next_id_at, CanCount, CanDrain, HoldsAt, set_credit, give_credit, credit_fault, drain, drained, link_credit_at, cancel, is_current_at, end, first_of, take_out, taken_rows, room_at, KeepsRoom};
+ghost use Rattle.qq_consumer.specs.Numbers.{AreBelow, IsFree, item_by};
+ghost use Rattle.qq_consumer.specs.Turns.{waiting_turn, leave, enter, place_in, HasDrawn, HaveTwoTurns, HaveTurns};
 
 use crate::fault::SubscribeFault;
 use crate::joined::Joined;
@@ -73,6 +74,18 @@ fn enter(waiting: &mut Rising<ConsumerId>, id: ConsumerId, turn: Option<u64>)
     }
 }
 
+// A consumer with a turn waits in the place of its turn.
+fn place_in(waiting: &mut Rising<ConsumerId>, id: ConsumerId, turn: Option<u64>)
+    requires room { 0 < waiting.old.room }
+    requires free { IfSome turn (λ n. IsFree n waiting.old.items) }
+
+    ensures { waiting.new.items ≡ place_in id turn waiting.old.items }
+{
+    if let Some(turn) = turn {
+        waiting.insert(turn, id);
+    }
+}
+
 fn is_zero(credit: u64) -> bool
     ensures { result ≡ nat_eq credit 0 }
 {
@@ -103,14 +116,73 @@ impl Consumers {
         }
     }
 
-    /// How many consumers there are. They have ids of their own, and what is out with each has ids
-    /// that it was given.
+    /// The consumers of these rows, in the order of joining, of which so many turns were drawn. They
+    /// have ids of their own, what is out with each has ids that it was given, and one that was
+    /// cancelled has something out. Those that may be served have turns of their own, which were drawn.
+    pub fn from_parts(alloc: Global, rows: Vec<ConsumerRow>, turns: u64) -> Result<Self, Memory>
+        requires apart { AreApart (map served_of rows.items) }
+        requires out { AllByRecursion HasOut (map served_of rows.items) }
+        requires needed { AllByRecursion (λ one. needed_one one ≡ true) (map served_of rows.items) }
+        requires turns { HaveTurns (roster_of (map served_of rows.items) turns) }
+
+        ensures ok { IfOk result (λ consumers.
+            consumers.roster ≡ roster_of (map served_of rows.items) turns) }
+        ensures want { IsOkUnless result Memory.Want }
+    {
+        let mut consumers = Consumers {
+            joined: Joined::new(alloc),
+            waiting: Rising::new(alloc),
+            turns,
+        };
+        let mut rows = VecDeque::from_vec(rows);
+        'rows: while let Some(row) = rows.pop_front() {
+            consumers.put_back(row)?;
+        }
+        Ok(consumers)
+    }
+
+    // A consumer joins at the end with the turn that it has.
+    fn put_back(&mut self, row: ConsumerRow) -> Result<(), Memory>
+        requires free { is_there row.consumer.id self.old.roster.served ≡ false }
+        requires out { HasOut (served_of row) }
+        requires needed { needed_one (served_of row) ≡ true }
+        requires drawn { HasDrawn self.old.roster.turns (served_of row) }
+        requires turns { AllByRecursion (λ one. HaveTwoTurns one (served_of row))
+            self.old.roster.served }
+
+        ensures ok { OnOk result (self.new.roster
+            ≡ roster_of (self.old.roster.served ++ served_of row ∷ []) self.old.roster.turns) }
+        ensures want { IsOkUnless result Memory.Want }
+    {
+        self.waiting.reserve(1)?;
+        let id = row.consumer.id;
+        let turn = turn_of(&row);
+        self.joined.push(row)?;
+        place_in(&mut self.waiting, id, turn);
+        Ok(())
+    }
+
+    /// How many consumers there are. They are as `from_parts` asks for.
     pub fn len(&self) -> usize
         ensures len { result ≡ length self.now.roster.served }
         ensures apart { AreApart self.now.roster.served }
         ensures out { AllByRecursion HasOut self.now.roster.served }
+        ensures needed { AllByRecursion (λ one. needed_one one ≡ true) self.now.roster.served }
+        ensures turns { HaveTurns self.now.roster }
     {
         self.joined.len()
+    }
+
+    /// The same consumers and turns, with copies of what is out. Room isn't copied.
+    pub fn copy(&self, alloc: Global) -> Result<Self, Memory>
+        ensures ok { IfOk result (λ twin. twin.roster ≡ self.now.roster) }
+        ensures want { IsOkUnless result Memory.Want }
+    {
+        Ok(Consumers {
+            joined: self.joined.copy(alloc)?,
+            waiting: self.waiting.copy(alloc)?,
+            turns: self.turns,
+        })
     }
 
     /// How many turns were drawn.

@@ -1,4 +1,4 @@
-ghost use Rattle.std.specs.Prelude.{◌≡◌, ◌+◌, ◌<◌, ◌≤◌, ◌++◌, ◌∷◌, [], false, true, not, filter, map, length, slice_get, is_some, nat_lt, IfSome, Some, None, OnOk, OnErr, IsOkUnless, if◌then◌else◌};
+ghost use Rattle.std.specs.Prelude.{◌≡◌, ◌+◌, ◌<◌, ◌≤◌, ◌++◌, ◌∷◌, [], false, true, not, filter, map, length, slice_get, is_some, nat_lt, IfSome, Some, None, IfOk, OnOk, OnErr, IsOkUnless, if◌then◌else◌};
 ghost use Rattle.std.specs.List.{AllByRecursion};
 ghost use Rattle.std.specs.Option.{option_copied, option_map};
 ghost use Rattle.std.specs.VecDeque.{deque_len, deque_capacity};
@@ -12,7 +12,7 @@ ghost use Rattle.qq_consumer.specs.Turns.{waiting_turn};
 ghost use Rattle.qq_consumer.specs.Next.{IsNextOf};
 
 use crate::next::Next;
-use crate::row::{ConsumerRow, next_of, serve_one, take_ids, turn_of};
+use crate::row::{ConsumerRow, copy_row, next_of, serve_one, take_ids, turn_of};
 use indexmap::IndexMap;
 use qq_base::{ConsumerId, Memory, SessionId};
 use qq_entry::ReadyRow;
@@ -226,5 +226,19 @@ impl Joined {
             }
         }
         None
+    }
+
+    /// The same consumers, with copies of what is out with them. Room isn't copied.
+    pub fn copy(&self, alloc: Global) -> Result<Self, Memory>
+        ensures ok { IfOk result (λ twin. twin.served ≡ self.now.served) }
+        ensures want { IsOkUnless result Memory.Want }
+    {
+        let mut twin = Joined::new(alloc);
+        let len = self.len();
+        twin.rows.reserve(len)?;
+        'rows: for place in 0..len {
+            twin.push(copy_row(alloc, self.row(place))?)?;
+        }
+        Ok(twin)
     }
 }

@@ -1,9 +1,9 @@
-ghost use Rattle.std.specs.Prelude.{◌≡◌, ◌+◌, ◌<◌, ◌≤◌, ◌++◌, ◌∷◌, [], true, length, slice_get, remove, is_some, nat_eq, Some, IsOkUnless, OnOk};
+ghost use Rattle.std.specs.Prelude.{◌≡◌, ◌+◌, ◌<◌, ◌≤◌, ◌++◌, ◌∷◌, [], true, length, slice_get, insert, remove, is_some, nat_eq, Some, IfOk, IsOkUnless, OnOk};
 ghost use Rattle.std.specs.Option.{option_copied, option_map};
 ghost use Rattle.std.specs.VecDeque.{deque_len, deque_capacity};
-ghost use Rattle.qq_consumer.specs.Numbers.{Rises, AreBelow, item_by, without, without_first, place_of, is_at};
+ghost use Rattle.qq_consumer.specs.Numbers.{Rises, AreBelow, IsFree, item_by, with_item, without, without_first, place_of, is_at};
 
-use qq_base::Memory;
+use qq_base::{Duplicate, Memory};
 use std::alloc::Global;
 use std::collections::VecDeque;
 use std::marker::Model;
@@ -65,6 +65,61 @@ fn take_at<T: Drop>(rows: &mut VecDeque<Numbered<T>>, place: usize) -> Numbered<
     rows.remove(place).unwrap()
 }
 
+fn insert_at<T: Drop>(rows: &mut VecDeque<Numbered<T>>, place: usize, one: Numbered<T>)
+    requires room { deque_len rows.old < deque_capacity rows.old }
+    requires place { place ≤ deque_len rows.old }
+
+    ensures items { rows.new.items ≡ insert rows.old.items place one }
+    ensures len { deque_len rows.new ≡ deque_len rows.old + 1 }
+    ensures capacity { deque_capacity rows.old ≤ deque_capacity rows.new }
+{
+    match rows.insert(place, one) {
+        Ok(()) => {}
+        Err(_) => unreachable!(),
+    }
+}
+
+impl<T: Duplicate> Duplicate for Numbered<T> {
+    fn copy(&self, alloc: Global) -> Result<Self, Memory> {
+        Ok(Numbered {
+            number: self.number,
+            item: self.item.copy(alloc)?,
+        })
+    }
+}
+
+fn copy_rows<T: Duplicate>(
+    alloc: Global,
+    rows: &VecDeque<Numbered<T>>,
+) -> Result<VecDeque<Numbered<T>>, Memory>
+    ensures ok { IfOk result (λ twin. twin.items ≡ rows.now.items) }
+    ensures want { IsOkUnless result Memory.Want }
+{
+    let mut twin = VecDeque::with_capacity(alloc, rows.len())?;
+    'rows: for place in 0..rows.len() {
+        twin.push_back(rows[place].copy(alloc)?)?;
+    }
+    Ok(twin)
+}
+
+fn copy_plain_rows<T: Copy>(
+    alloc: Global,
+    rows: &VecDeque<Numbered<T>>,
+) -> Result<VecDeque<Numbered<T>>, Memory>
+    ensures ok { IfOk result (λ twin. twin.items ≡ rows.now.items) }
+    ensures want { IsOkUnless result Memory.Want }
+{
+    let mut twin = VecDeque::with_capacity(alloc, rows.len())?;
+    'rows: for place in 0..rows.len() {
+        let row = &rows[place];
+        twin.push_back(Numbered {
+            number: row.number,
+            item: row.item,
+        })?;
+    }
+    Ok(twin)
+}
+
 impl<T> Rising<T> {
     /// No items. It takes no memory.
     pub fn new(alloc: Global) -> Self
@@ -72,6 +127,17 @@ impl<T> Rising<T> {
     {
         Rising {
             rows: VecDeque::new(alloc),
+        }
+    }
+
+    /// These items, whose numbers rise. It takes no memory.
+    pub fn from_parts(rows: Vec<Numbered<T>>) -> Self
+        requires { Rises rows.items }
+
+        ensures { result.items ≡ rows.items }
+    {
+        Rising {
+            rows: VecDeque::from_vec(rows),
         }
     }
 
@@ -121,6 +187,19 @@ impl<T: Drop> Rising<T> {
         self.rows.push_back_reserved(Numbered { number, item });
     }
 
+    /// Adds an item at the place of its number, which no item may have. There has to be room.
+    pub fn insert(&mut self, number: u64, item: T)
+        requires room { 0 < self.old.room }
+        requires free { IsFree number self.old.items }
+
+        ensures items { self.new.items
+            ≡ with_item (record { number = number; item = item }) self.old.items }
+        ensures room { self.old.room ≤ self.new.room + 1 }
+    {
+        let place = place_of(number, &self.rows);
+        insert_at(&mut self.rows, place, Numbered { number, item });
+    }
+
     /// Takes out the item of a number. None exactly where there is none.
     pub fn take(&mut self, number: u64) -> Option<T>
         ensures value { result ≡ item_by number self.old.items }
@@ -146,5 +225,29 @@ impl<T: Drop> Rising<T> {
             None => None,
             Some(one) => Some(one.item),
         }
+    }
+}
+
+impl<T: Duplicate> Rising<T> {
+    /// The same items, in memory of their own.
+    pub fn duplicate(&self, alloc: Global) -> Result<Self, Memory>
+        ensures ok { IfOk result (λ twin. twin.items ≡ self.now.items) }
+        ensures want { IsOkUnless result Memory.Want }
+    {
+        Ok(Rising {
+            rows: copy_rows(alloc, &self.rows)?,
+        })
+    }
+}
+
+impl<T: Copy> Rising<T> {
+    /// The same items.
+    pub fn copy(&self, alloc: Global) -> Result<Self, Memory>
+        ensures ok { IfOk result (λ twin. twin.items ≡ self.now.items) }
+        ensures want { IsOkUnless result Memory.Want }
+    {
+        Ok(Rising {
+            rows: copy_plain_rows(alloc, &self.rows)?,
+        })
     }
 }

@@ -1,4 +1,4 @@
-ghost use Rattle.std.specs.Prelude.{◌≡◌, ◌+◌, ◌<◌, ◌≤◌, ◌^◌, ◌++◌, ◌∷◌, [], map, length, slice_get, nat_eq, nat_lt, ◌&&◌, Some};
+ghost use Rattle.std.specs.Prelude.{◌≡◌, ◌+◌, ◌<◌, ◌≤◌, ◌^◌, ◌++◌, ◌∷◌, [], map, length, slice_get, nat_eq, nat_lt, ◌&&◌, Some, IfOk, IsOkUnless};
 ghost use Rattle.std.specs.VecDeque.{deque_len, deque_capacity};
 ghost use Rattle.qq_model.specs.declared.place.Place.{Place};
 ghost use Rattle.qq_model.specs.Choice.{prefetch_limit, credit_left};
@@ -15,9 +15,10 @@ ghost use Rattle.qq_consumer.specs.Joined.{IsGiven};
 
 use crate::next::Next;
 use crate::rising::Rising;
-use qq_base::ConsumerId;
+use qq_base::{ConsumerId, Memory};
 use qq_entry::{Mode, ReadyRow, Standing};
 use qq_model::{Consumer, UNBOUNDED_PREFETCH};
+use std::alloc::Global;
 use std::collections::VecDeque;
 
 /// A consumer, and the messages that are out with it, under the ids of their deliveries.
@@ -216,4 +217,15 @@ pub fn standing_one(row: &ConsumerRow) -> Standing
         turn: row.consumer.turn,
         cancelled: row.consumer.cancelled,
     }
+}
+
+/// The same consumer, with copies of the messages that are out with it.
+pub fn copy_row(alloc: Global, row: &ConsumerRow) -> Result<ConsumerRow, Memory>
+    ensures ok { IfOk result (λ twin. served_of twin ≡ served_of row.now) }
+    ensures want { IsOkUnless result Memory.Want }
+{
+    Ok(ConsumerRow {
+        consumer: row.consumer,
+        out: row.out.duplicate(alloc)?,
+    })
 }
