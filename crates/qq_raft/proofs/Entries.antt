@@ -34,7 +34,7 @@ drop-none [] (suc k) e = refl
 drop-none (y ∷ ys) zero e = absurd cc
 drop-none (y ∷ ys) (suc k) e = drop-none ys k e
 
-slice_get-none-past : {A : Type 0} (xs : List A) (k : ℕ) → slice_get xs k ≡ None → k < length xs → ⊥
+pub slice_get-none-past : {A : Type 0} (xs : List A) (k : ℕ) → slice_get xs k ≡ None → k < length xs → ⊥
 slice_get-none-past [] k e lt = absurd (omega arith)
 slice_get-none-past (x ∷ xs) zero e lt = absurd cc
 slice_get-none-past (x ∷ xs) (suc k) e lt = slice_get-none-past xs k e (omega arith)

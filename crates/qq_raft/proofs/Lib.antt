@@ -1,7 +1,9 @@
 mod Commits
-mod Entries
+pub mod Entries
 mod Fitting
+mod Holding
 mod Members
 mod Pushes
+mod Ranges
 mod Said
 mod Waits

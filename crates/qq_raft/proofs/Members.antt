@@ -2,14 +2,21 @@
 use Rattle.std.proofs.Common.{◌≤◌, ◌<◌, ◌^◌, Bool, true, false, cond, not, List, [], ◌∷◌, length, map, arith}
 use Rattle.std.specs.Prelude.{All, filter, nat_eq}
 use Rattle.std.proofs.lemmas.List.{length-map}
-use Rattle.std.proofs.lemmas.List.Elements.{All-map}
+use Rattle.std.proofs.lemmas.List.Elements.{All-filter, All-map, All-weaker}
 use Rattle.qq_base.specs.declared.ids.NodeId.{NodeId}
-use Rattle.qq_base.specs.declared.memory.TheConstants.{NUMBER_END}
-use Rattle.qq_raft_step.specs.declared.peer.Peer.{Peer}
+use Rattle.qq_raft_msg.specs.Rpc.{IsNode}
 use Rattle.qq_raft_step.specs.Server.{new_peer}
+use Rattle.qq_raft.specs.Raft.{IsPeer}
 
-pub new-matched : (nodes : List NodeId) → All (λ (p : Peer). p.matched ≤ NUMBER_END) (map new_peer nodes)
-new-matched nodes = All-map (λ (p : Peer). p.matched ≤ NUMBER_END) new_peer nodes (λ k d lt. omega arith)
+new-peer : (d : NodeId) → IsNode d → IsPeer (new_peer d)
+new-peer d f = (omega arith, f)
+
+pub new-each : (node : NodeId) (members : List NodeId) → All IsNode members
+    → All IsPeer (map new_peer (filter (λ (q : NodeId). not (nat_eq q.0 node.0)) members))
+new-each node members all =
+    let p = λ (q : NodeId). not (nat_eq q.0 node.0) in
+    All-map IsPeer new_peer (filter p members)
+    (All-weaker IsNode (λ (d : NodeId). IsPeer (new_peer d)) new-peer (filter p members) (All-filter p IsNode members all))
 
 filtered : {A : Type 0} (p : A → Bool) (xs : List A) → length (filter p xs) ≤ length xs
 filtered p [] = omega arith

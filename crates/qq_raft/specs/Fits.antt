@@ -1,6 +1,11 @@
 -- Which messages a server takes.
-use Rattle.std.specs.Prelude.{◌+◌, ◌≤◌, ⊤, ℕ, Bool, true, length, nat_eq, nat_le, ◌&&◌}
-use Rattle.std.specs.List.{list_any}
+use Rattle.std.specs.Prelude.{◌+◌, ◌≤◌, ⊤, ℕ, Bool, true, List, All, length, nat_eq, nat_le, ◌&&◌}
+use Rattle.std.specs.List.{flat_map, list_all, list_any}
+use Rattle.qq_command.specs.Encoding.{encoding}
+use Rattle.qq_entry.specs.declared.command.Entry.{Entry}
+use Rattle.qq_log.specs.declared.limits.TheConstants.{RECORD_LIMIT}
+use Rattle.qq_raft_msg.specs.Rpc.{IsNode}
+use Rattle.qq_raft.specs.Raft.{IsInLog}
 use Rattle.qq_base.specs.declared.memory.TheConstants.{NUMBER_END}
 use Rattle.qq_raft_msg.specs.Rpc.{envelope}
 use Rattle.qq_raft_msg.specs.declared.rpc.AppendMsg.{AppendMsg}
@@ -13,32 +18,51 @@ use Rattle.qq_raft_step.specs.Server.{is_peer}
 abbrev pub is_within : ℕ → Bool
 is_within n = nat_le n NUMBER_END
 
+abbrev pub has_term : Entry → Bool
+has_term e = is_within e.term.0
+
 abbrev pub has_indices : Rpc → Bool
 has_indices (Vote m) = is_within m.last_index.0 && is_within m.last_term.0
 has_indices (Voted m) = true
 has_indices (Append m) =
     is_within m.prev_index.0 && is_within m.prev_term.0 && is_within m.commit.0
-    && is_within (m.prev_index.0 + length m.entries)
+    && is_within (m.prev_index.0 + length m.entries) && list_all has_term m.entries
 has_indices (Appended m) = is_within m.index.0
 has_indices (Install m) = is_within m.index.0 && is_within m.last_term.0 && is_within m.through.0
 has_indices (Installed m) = is_within m.index.0
 
--- a message for this server from another member, whose terms and indices are within their ends
+-- entries of one change, whose record the log writes
+abbrev pub is_short : List Entry → Bool
+is_short entries = nat_le (46 + length (flat_map encoding entries)) RECORD_LIMIT
+
+abbrev pub has_size : Rpc → Bool
+has_size (Append m) = is_short m.entries
+has_size _ = true
+
+-- a message for this server from another member, whose terms and indices are within their ends, and whose entries are
+-- no more than one change may have
 unfoldable pub fits : Server → Rpc → Bool
 fits s rpc =
     nat_eq (envelope rpc).to.0 s.node.0 && list_any (is_peer (envelope rpc).from) s.peers
-    && is_within (envelope rpc).term.0 && has_indices rpc
+    && is_within (envelope rpc).term.0 && has_indices rpc && has_size rpc
 
--- the last entry of the message is within the end of indices
-abbrev pub AppendFits : AppendMsg → Type 0
-AppendFits m = m.prev_index.0 + length m.entries ≤ NUMBER_END
+-- entries of one change
+abbrev pub IsShort : List Entry → Type 0
+IsShort entries = 46 + length (flat_map encoding entries) ≤ RECORD_LIMIT
+
+-- the last entry of the message is within the end of indices, and its entries may be written in one change
+pub record AppendFits (m : AppendMsg) : Type 0 where
+  pub last : m.prev_index.0 + length m.entries ≤ NUMBER_END
+  pub entries : All IsInLog m.entries
+  pub short : IsShort m.entries
 
 abbrev pub HasIndices : Rpc → Type 0
 HasIndices (Append m) = AppendFits m
 HasIndices (Appended m) = m.index.0 ≤ NUMBER_END
 HasIndices _ = ⊤
 
--- the term and the indices that a server goes by are within their ends
+-- the sender is a node, and the term and the indices that a server goes by are within their ends
 pub record IsWithin (rpc : Rpc) : Type 0 where
+  pub from : IsNode (envelope rpc).from
   pub term : (envelope rpc).term.0 ≤ NUMBER_END
   pub indices : HasIndices rpc

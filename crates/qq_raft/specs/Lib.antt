@@ -1,3 +1,4 @@
 pub mod Fits
+pub mod Held
 pub mod Peers
 pub mod Raft

@@ -1,5 +1,10 @@
 -- What a server holds, as Raft's definition has it.
 use Rattle.std.specs.Prelude.{◌≡◌, ◌⊎◌, ◌<◌, ◌≤◌, ◌^◌, [], All, length}
+use Rattle.qq_entry.specs.Range.{IsWritable as IsEntry}
+use Rattle.qq_entry.specs.declared.command.Entry.{Entry}
+use Rattle.qq_log.specs.Writable.{IsQueue, IsVote, MayWrite}
+use Rattle.qq_raft_msg.specs.Rpc.{IsNode, IsWritable}
+use Rattle.qq_raft_step.specs.declared.peer.Waiting.{Waiting}
 use Rattle.qq_base.specs.Causes.{SpentOnlyWhere}
 use Rattle.qq_base.specs.declared.memory.Memory.{Memory}
 use Rattle.qq_base.specs.declared.memory.TheConstants.{NUMBER_END}
@@ -31,14 +36,32 @@ server_of log r =
       out = r.out.items;
     }
 
--- the log is whole, its indices and what is known of the others are within the end of indices
+-- what is known of another member is within the end of indices
+abbrev pub IsPeer : Peer → Type 0
+IsPeer p = (p.matched ≤ NUMBER_END) × IsNode p.node
+
+-- an entry with bytes, of a term within its end
+abbrev pub IsInLog : Entry → Type 0
+IsInLog e = IsEntry e × (e.term.0 ≤ NUMBER_END)
+
+abbrev pub IsWaiting : Waiting → Type 0
+IsWaiting w = IsWritable w.rpc
+
+-- the log is whole, no number is past its end, and what is handed out may be written
 pub record IsSound {L : Type 0} (log : L → LogState) (r : Raft L) : Type 0 where
   pub whole : (log r.log).base ≡ no_snapshot
   pub last : length (log r.log).entries ≤ NUMBER_END
-  pub matched : All (λ (p : Peer). p.matched ≤ NUMBER_END) r.peers.items
+  pub entries : All IsInLog (log r.log).entries
+  pub each : All IsPeer r.peers.items
   pub peers : length r.peers.items < 2 ^ 32
   pub op : r.op ≤ NUMBER_END
   pub term : r.term.0 ≤ NUMBER_END
+  pub vote : IsVote r.vote
+  pub queue : IsQueue r.queue
+  pub node : IsNode r.node
+  pub ops : All MayWrite r.ops.items
+  pub out : All IsWritable r.out.items
+  pub waiting : All IsWaiting r.waiting.items
 
 -- a number of the server stands at its end
 abbrev pub IsAtEnd : Server → Type 0
@@ -68,11 +91,13 @@ lane_of queue l =
       places = [];
     }
 
--- none of its numbers is past its end
+-- its entries and its vote may be written, and none of its numbers is past its end
 pub record IsWithinEnds (l : LogState) : Type 0 where
   pub op : l.op ≤ NUMBER_END
   pub term : l.term.0 ≤ NUMBER_END
+  pub vote : IsVote l.vote
   pub last : length l.entries ≤ NUMBER_END
+  pub entries : All IsInLog l.entries
 
 -- what a server tells of itself
 abbrev pub state_of : Server → MemberState

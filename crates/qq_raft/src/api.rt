@@ -1,12 +1,15 @@
 //! What the layer above calls.
-ghost use Rattle.std.specs.Prelude.{◌≡◌, ◌<◌, ◌^◌, Ok, true, false, not, drop, filter, map, length, nat_eq, slice_get, IfOk, IfErr, OnOk, OnErr, IsOkUnless};
+ghost use Rattle.std.specs.Prelude.{◌≡◌, ◌<◌, ◌^◌, Ok, true, false, not, All, drop, filter, map, length, nat_eq, slice_get, IfOk, IfErr, IfSome, OnOk, OnErr, IsOkUnless};
 ghost use Rattle.qq_log.specs.Stable.{no_snapshot};
 ghost use Rattle.qq_raft_step.specs.State.{last};
 ghost use Rattle.qq_raft_step.specs.Server.{new_peer, restart, tick, receive, is_ready, submit, notice};
+ghost use Rattle.qq_entry.specs.Range.{IsCommand, HasContent};
+ghost use Rattle.qq_log.specs.Writable.{MayWrite};
+ghost use Rattle.qq_raft_msg.specs.Rpc.{IsNode, IsWritable};
 ghost use Rattle.qq_raft.specs.Fits.{fits};
 ghost use Rattle.qq_raft.specs.Raft.{server_of, lane_of, IsSound, IsCaused, IsWithinEnds, HandsNothingOut, state_of};
 
-use crate::fits::{has_indices, has_peer, is_within};
+use crate::fits::{has_indices, has_peer, has_size, is_within};
 use crate::raft::Raft;
 use qq_base::{Index, Memory, NodeId, QueueId};
 use qq_entry::Command;
@@ -47,6 +50,7 @@ impl<L: LogView> Raft<L> {
         log: L,
     ) -> Result<Self, Memory>
         requires members { length members.now < 2 ^ 32 }
+        requires nodes { IsNode node × All IsNode members.now }
         requires whole { (L.log log).base ≡ no_snapshot }
         requires ends { IsWithinEnds (L.log log) }
 
@@ -57,6 +61,9 @@ impl<L: LogView> Raft<L> {
     {
         let peers = new_peers(alloc, node, members)?;
         let (op, term, vote) = log.start();
+        let waiting = VecDeque::new(alloc);
+        let ops = VecDeque::new(alloc);
+        let out = VecDeque::new(alloc);
         Ok(Raft {
             queue,
             node,
@@ -69,9 +76,9 @@ impl<L: LogView> Raft<L> {
             role: Role::Follower,
             leader: None,
             commit: 0,
-            waiting: VecDeque::new(alloc),
-            ops: VecDeque::new(alloc),
-            out: VecDeque::new(alloc),
+            waiting,
+            ops,
+            out,
         })
     }
 
@@ -93,9 +100,10 @@ impl<L: LogView> Raft<L> {
     }
 
     /// Whether it takes a message: one for itself, from another member, whose terms and indices are within
-    /// their ends.
+    /// their ends, and whose entries may be written to the log in one change.
     #[tactic(auto, unfolding(crate::specs::Fits::fits))]
     pub fn fits(&self, rpc: &Rpc) -> bool
+        requires { IsWritable rpc.now }
         ensures { result ≡ fits (server_of L.log self.now) rpc.now }
     {
         let envelope = rpc.envelope();
@@ -103,17 +111,19 @@ impl<L: LogView> Raft<L> {
             && has_peer(envelope.from, &self.peers)
             && is_within(envelope.term.0)
             && has_indices(rpc)
+            && has_size(rpc)
     }
 
     /// Takes a message that fits. After an error it hands nothing out. `Spent` comes only where a number
     /// stands at its end.
-    pub fn receive(&mut self, alloc: Global, rpc: &Rpc) -> Result<(), Memory>
+    pub fn receive(&mut self, alloc: Global, rpc: Rpc) -> Result<(), Memory>
         requires sound { IsSound L.log self.old }
-        requires fits { fits (server_of L.log self.old) rpc.now ≡ true }
+        requires rpc { IsWritable rpc }
+        requires fits { fits (server_of L.log self.old) rpc ≡ true }
 
         ensures sound { OnOk result (IsSound L.log self.new) }
         ensures ok { OnOk result (server_of L.log self.new
-            ≡ receive rpc.now (server_of L.log self.old)) }
+            ≡ receive rpc (server_of L.log self.old)) }
         ensures err { OnErr result (HandsNothingOut (server_of L.log self.new)) }
         ensures cause { IfErr result (IsCaused (server_of L.log self.old)) }
     {
@@ -128,7 +138,8 @@ impl<L: LogView> Raft<L> {
     /// other server stays as it is. After an error it hands nothing out. `Spent` comes only where a number
     /// stands at its end.
     pub fn submit(&mut self, alloc: Global, time: u64, command: &Command) -> Result<(), Memory>
-        requires { IsSound L.log self.old }
+        requires sound { IsSound L.log self.old }
+        requires command { IsCommand command.now × HasContent command.now }
 
         ensures sound { OnOk result (IsSound L.log self.new) }
         ensures ok { OnOk result (server_of L.log self.new
@@ -160,7 +171,8 @@ impl<L: LogView> Raft<L> {
         Ok(())
     }
 
-    fn clear(&mut self)
+    /// It gives up what it would hand out, as after a refused call.
+    pub fn clear(&mut self)
         ensures { HandsNothingOut (server_of L.log self.new) }
     {
         self.waiting.clear();
@@ -168,10 +180,12 @@ impl<L: LogView> Raft<L> {
         self.out.clear();
     }
 
-    /// The next change for the log's disk. None exactly where there is none.
+    /// The next change for the log's disk, which the log takes and writes. None exactly where there is none.
+    #[tactic(auto, using(crate::proofs::Ranges::all_rest, crate::proofs::Ranges::all_front))]
     pub fn next_op(&mut self) -> Option<Op>
         requires { IsSound L.log self.old }
 
+        ensures may { IfSome result MayWrite }
         ensures sound { IsSound L.log self.new }
         ensures value { result ≡ slice_get (server_of L.log self.old).ops 0 }
         ensures rest { server_of L.log self.new ≡ record (server_of L.log self.old) {
@@ -181,10 +195,12 @@ impl<L: LogView> Raft<L> {
         self.ops.pop_front()
     }
 
-    /// The next message that may leave. None exactly where there is none.
+    /// The next message that may leave, which has bytes. None exactly where there is none.
+    #[tactic(auto, using(crate::proofs::Ranges::all_rest, crate::proofs::Ranges::all_front))]
     pub fn next_rpc(&mut self) -> Option<Rpc>
         requires { IsSound L.log self.old }
 
+        ensures rpc { IfSome result IsWritable }
         ensures sound { IsSound L.log self.new }
         ensures value { result ≡ slice_get (server_of L.log self.old).out 0 }
         ensures rest { server_of L.log self.new ≡ record (server_of L.log self.old) {

@@ -1,12 +1,16 @@
 //! What a leader sends in one message.
-ghost use Rattle.std.specs.Prelude.{◌≡◌, ◌+◌, ◌≤◌, ◌<◌, ◌^◌, ◌++◌, drop, length, IfOk, OnOk, IsOkUnless};
+ghost use Rattle.std.specs.Prelude.{◌≡◌, ◌+◌, ◌≤◌, ◌<◌, ◌^◌, ◌++◌, All, drop, length, IfOk, OnOk, IsOkUnless};
 ghost use Rattle.qq_base.specs.declared.memory.TheConstants.{NUMBER_END};
 ghost use Rattle.qq_log.specs.Stable.{no_snapshot};
 ghost use Rattle.qq_raft_step.specs.State.{term_at};
-ghost use Rattle.qq_raft_step.specs.Leading.{size_of, weight, fit, batch_from};
+ghost use Rattle.qq_entry.specs.Range.{IsWritable};
+ghost use Rattle.qq_raft_step.specs.declared.limits.TheConstants.{BATCH_ENTRIES};
+ghost use Rattle.qq_raft_step.specs.Leading.{weight, fit, batch_from};
+ghost use Rattle.qq_raft.specs.Raft.{IsInLog};
 
 use qq_base::{Duplicate, Index, Memory, Term};
-use qq_entry::{Command, Entries, Entry};
+use qq_command::encoded_len;
+use qq_entry::{Entries, Entry};
 use qq_raft_msg::LogView;
 use qq_raft_step::{BATCH_BYTES, BATCH_ENTRIES};
 use std::alloc::Global;
@@ -22,19 +26,11 @@ pub(crate) fn term_at<L: LogView>(log: &L, index: u64) -> Term
     }
 }
 
-fn size_of(command: &Command) -> u64
-    ensures { result ≡ size_of command.now }
-{
-    match command {
-        Command::Enqueue { message, .. } => u64::from(message.size),
-        _ => 0,
-    }
-}
-
 fn weight(entry: &Entry) -> u64
+    requires { IsWritable entry.now }
     ensures { result ≡ weight entry.now }
 {
-    size_of(&entry.command)
+    encoded_len(entry) as u64
 }
 
 /// Adds the entries from a place on that fit.
@@ -47,6 +43,7 @@ fn add_fitting<L: LogView>(
     entries: &mut Vec<Entry>,
 ) -> Result<(), Memory>
     requires whole { (L.log log.now).base ≡ no_snapshot }
+    requires entries { All IsInLog (L.log log.now).entries }
     requires within { place + count < 2 ^ 64 }
     ensures ok { OnOk result (entries.new.items
         ≡ entries.old.items ++ fit count room (drop place (L.log log.now).entries)) }
@@ -71,8 +68,11 @@ fn add_fitting<L: LogView>(
 pub(crate) fn batch_from<L: LogView>(alloc: Global, log: &L, next: u64) -> Result<Entries, Memory>
     requires whole { (L.log log.now).base ≡ no_snapshot }
     requires last { length (L.log log.now).entries ≤ NUMBER_END }
+    requires entries { All IsInLog (L.log log.now).entries }
     ensures ok { IfOk result (λ entries.
         entries ≡ batch_from next (L.log log.now).entries) }
+    ensures each { IfOk result (All IsInLog) }
+    ensures count { IfOk result (λ entries. length entries ≤ BATCH_ENTRIES) }
     ensures want { IsOkUnless result Memory.Want }
 {
     let place = next.saturating_sub(1);

@@ -4,21 +4,24 @@ ghost use Rattle.qq_base.specs.declared.memory.TheConstants.{NUMBER_END};
 ghost use Rattle.qq_raft_msg.specs.declared.rpc.Rpc.TheVariants.{Vote};
 ghost use Rattle.qq_raft_step.specs.State.{last, say_all};
 ghost use Rattle.qq_raft_step.specs.Leading.{is_majority, ask, stand, lead, noop, is_elected, lead_if_elected};
-ghost use Rattle.qq_raft.specs.Raft.{server_of, IsSound, IsCaused};
+ghost use Rattle.qq_raft_msg.specs.Rpc.{IsWritable};
+ghost use Rattle.qq_raft.specs.Raft.{server_of, IsSound, IsPeer, IsInLog, IsCaused};
 
 use crate::batch::term_at;
 use crate::peers::{PeerChange, change_peers, granted_count, is_majority};
-use crate::raft::Raft;
+use crate::raft::{Raft, no_entries};
 use qq_base::{Index, Memory, NUMBER_END, Term};
-use qq_entry::{Command, Entries, Entry, MACHINE_VERSION};
+use qq_entry::{Command, Entry, MACHINE_VERSION};
 use qq_raft_msg::{LogView, Role, Rpc, VoteMsg};
 use qq_raft_step::Peer;
 use std::alloc::Global;
 
 impl<L: LogView> Raft<L> {
     fn ask(&self, peer: &Peer) -> VoteMsg
-        requires { IsSound L.log self.now }
-        ensures { Vote result ≡ ask (server_of L.log self.now) peer.now }
+        requires sound { IsSound L.log self.now }
+        requires peer { IsPeer peer.now }
+        ensures value { Vote result ≡ ask (server_of L.log self.now) peer.now }
+        ensures rpc { IsWritable (Vote result) }
     {
         let last = self.last();
         VoteMsg {
@@ -59,12 +62,26 @@ impl<L: LogView> Raft<L> {
             });
         }
         let (term, vote, last) = (Term(self.term.0 + 1), Some(self.node), self.last());
-        self.change(alloc, term, vote, last, Entries::new(alloc))?;
+        self.change(alloc, term, vote, last, no_entries(alloc))?;
         self.role = Role::Candidate;
         self.leader = None;
         change_peers(PeerChange::Asked, &mut self.peers);
         self.ask_all()?;
         Ok(())
+    }
+
+    fn noop(&self) -> Entry
+        requires { IsSound L.log self.now }
+        ensures value { result ≡ noop self.now.term }
+        ensures entry { IsInLog result }
+    {
+        Entry {
+            term: self.term,
+            time: 0,
+            command: Command::Noop {
+                version: MACHINE_VERSION,
+            },
+        }
     }
 
     #[tactic(auto, unfolding(qq_raft_step::specs::Leading::lead))]
@@ -78,13 +95,7 @@ impl<L: LogView> Raft<L> {
         self.role = Role::Leader;
         self.leader = Some(self.node);
         change_peers(PeerChange::Started { next }, &mut self.peers);
-        let noop = Entry {
-            term: self.term,
-            time: 0,
-            command: Command::Noop {
-                version: MACHINE_VERSION,
-            },
-        };
+        let noop = self.noop();
         self.add_entry(alloc, noop)
     }
 

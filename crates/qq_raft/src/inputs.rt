@@ -1,12 +1,14 @@
 //! What makes a server act beside messages: time, clients, and its log's disk.
-ghost use Rattle.std.specs.Prelude.{◌≡◌, ◌++◌, false, nat_le, slice_get, IfErr, OnOk, IsOkUnless};
+ghost use Rattle.std.specs.Prelude.{◌≡◌, ◌++◌, All, false, nat_le, slice_get, IfErr, IfOk, OnOk, IsOkUnless};
 ghost use Rattle.std.specs.Option.{option_map_or};
 ghost use Rattle.qq_raft_step.specs.Server.{tick, is_ready, submit, free, still_waiting, notice};
-ghost use Rattle.qq_raft.specs.Raft.{server_of, IsSound, IsCaused};
+ghost use Rattle.qq_entry.specs.Range.{IsCommand, HasContent};
+ghost use Rattle.qq_raft_msg.specs.Rpc.{IsWritable};
+ghost use Rattle.qq_raft.specs.Raft.{server_of, IsSound, IsInLog, IsWaiting, IsCaused};
 
 use crate::batch::term_at;
 use crate::peers::{PeerChange, Target, change_peers, greater};
-use crate::raft::Raft;
+use crate::raft::{Raft, push_rpc};
 use qq_base::{Duplicate, Memory};
 use qq_entry::{Command, Entry};
 use qq_raft_msg::{LogView, Role, Rpc};
@@ -24,9 +26,13 @@ fn is_free(op: u64, waiting: &VecDeque<Waiting>) -> bool
 }
 
 /// Messages whose change is durable leave, in the order of their changes.
+#[tactic(auto, using(crate::proofs::Ranges::all_rest))]
 fn free(op: u64, waiting: &mut VecDeque<Waiting>, out: &mut VecDeque<Rpc>) -> Result<(), Memory>
+    requires waiting { All IsWaiting waiting.old.items }
+    requires out { All IsWritable out.old.items }
     ensures out { OnOk result (out.new.items ≡ out.old.items ++ free op waiting.old.items) }
     ensures waiting { OnOk result (waiting.new.items ≡ still_waiting op waiting.old.items) }
+    ensures kept { OnOk result (All IsWaiting waiting.new.items × All IsWritable out.new.items) }
     ensures want { IsOkUnless result Memory.Want }
 {
     'free: for _ in 0..waiting.len() {
@@ -36,7 +42,7 @@ fn free(op: u64, waiting: &mut VecDeque<Waiting>, out: &mut VecDeque<Rpc>) -> Re
         let Some(first) = waiting.pop_front() else {
             return Ok(());
         };
-        out.push_back(first.rpc)?;
+        push_rpc(out, first.rpc)?;
     }
     Ok(())
 }
@@ -65,6 +71,25 @@ impl<L: LogView> Raft<L> {
         self.role == Role::Leader && term_at(&self.log, self.commit).0 == self.term.0
     }
 
+    #[tactic(auto, using(crate::proofs::Ranges::entry_in_log))]
+    fn entry_for(&self, alloc: Global, time: u64, command: &Command) -> Result<Entry, Memory>
+        requires sound { IsSound L.log self.now }
+        requires command { IsCommand command.now × HasContent command.now }
+        ensures ok { IfOk result (λ e. e ≡ record {
+          term = self.now.term;
+          time = time;
+          command = command.now;
+        }) }
+        ensures entry { IfOk result IsInLog }
+        ensures want { IsOkUnless result Memory.Want }
+    {
+        Ok(Entry {
+            term: self.term,
+            time,
+            command: command.copy(alloc)?,
+        })
+    }
+
     /// A ready leader adds an entry for a command.
     #[tactic(auto, unfolding(qq_raft_step::specs::Server::submit))]
     pub(crate) fn try_submit(
@@ -73,7 +98,8 @@ impl<L: LogView> Raft<L> {
         time: u64,
         command: &Command,
     ) -> Result<(), Memory>
-        requires { IsSound L.log self.old }
+        requires sound { IsSound L.log self.old }
+        requires command { IsCommand command.now × HasContent command.now }
         ensures sound { OnOk result (IsSound L.log self.new) }
         ensures ok { OnOk result (server_of L.log self.new
             ≡ submit time command.now (server_of L.log self.old)) }
@@ -82,11 +108,7 @@ impl<L: LogView> Raft<L> {
         if !self.is_ready() {
             return Ok(());
         }
-        let entry = Entry {
-            term: self.term,
-            time,
-            command: command.copy(alloc)?,
-        };
+        let entry = self.entry_for(alloc, time, command)?;
         self.add_entry(alloc, entry)
     }
 

@@ -8,9 +8,11 @@ mod committing;
 mod electing;
 mod fits;
 mod inputs;
+mod laws;
 mod peers;
 mod raft;
 mod receiving;
 mod sending;
 
+pub use laws::the_entries_of_a_message_fit;
 pub use raft::Raft;

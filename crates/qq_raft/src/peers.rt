@@ -5,6 +5,7 @@ ghost use Rattle.qq_raft_step.specs.declared.peer.Peer.{Peer};
 ghost use Rattle.qq_raft_step.specs.Leading.{one_if};
 ghost use Rattle.qq_raft_step.specs.Server.{greater, match_peer, back_peer};
 ghost use Rattle.qq_raft.specs.Peers.{change_peer, picks, IsCounted};
+ghost use Rattle.qq_raft.specs.Raft.{IsPeer};
 
 use qq_base::NodeId;
 use qq_raft_step::Peer;
@@ -75,10 +76,10 @@ fn back_peer(peer: &mut Peer, index: u64)
 }
 
 fn change_peer(change: PeerChange, peer: &mut Peer)
-    requires matched { peer.old.matched ≤ NUMBER_END }
+    requires peer { IsPeer peer.old }
     requires counted { IsCounted change }
     ensures value { peer.new ≡ change_peer change peer.old }
-    ensures matched { peer.new.matched ≤ NUMBER_END }
+    ensures peer { IsPeer peer.new }
 {
     match change {
         PeerChange::Started { next } => {
@@ -106,10 +107,10 @@ fn change_peer(change: PeerChange, peer: &mut Peer)
 }
 
 fn change_each(change: PeerChange, peers: &mut [Peer])
-    requires matched { All (λ (p : Peer). p.matched ≤ NUMBER_END) peers.old }
+    requires each { All IsPeer peers.old }
     requires counted { IsCounted change }
     ensures value { peers.new ≡ map (change_peer change) peers.old }
-    ensures matched { All (λ (p : Peer). p.matched ≤ NUMBER_END) peers.new }
+    ensures each { All IsPeer peers.new }
 {
     'peers: for peer in peers.iter_mut() {
         change_peer(change, peer);
@@ -118,10 +119,10 @@ fn change_each(change: PeerChange, peers: &mut [Peer])
 
 /// Changes each of the other members.
 pub(crate) fn change_peers(change: PeerChange, peers: &mut Vec<Peer>)
-    requires matched { All (λ (p : Peer). p.matched ≤ NUMBER_END) peers.old.items }
+    requires each { All IsPeer peers.old.items }
     requires counted { IsCounted change }
     ensures value { peers.new.items ≡ map (change_peer change) peers.old.items }
-    ensures matched { All (λ (p : Peer). p.matched ≤ NUMBER_END) peers.new.items }
+    ensures each { All IsPeer peers.new.items }
 {
     change_each(change, peers);
 }

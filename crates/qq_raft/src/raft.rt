@@ -1,9 +1,13 @@
 //! What a server holds beside its machine, and how it changes.
-ghost use Rattle.std.specs.Prelude.{◌≡◌, ◌+◌, ◌≤◌, ◌<◌, ◌++◌, take, length, IfErr, OnOk, IsOkUnless};
+ghost use Rattle.std.specs.Prelude.{◌≡◌, ◌+◌, ◌≤◌, ◌<◌, ◌++◌, ◌∷◌, [], All, take, length, IfErr, OnOk, IsOkUnless};
 ghost use Rattle.qq_base.specs.declared.memory.TheConstants.{NUMBER_END};
 ghost use Rattle.qq_log.specs.Stable.{no_snapshot};
-ghost use Rattle.qq_raft_step.specs.State.{last, change, enter, say};
-ghost use Rattle.qq_raft.specs.Raft.{server_of, IsSound, IsCaused};
+ghost use Rattle.qq_raft_step.specs.State.{last, change, enter, wait, say};
+ghost use Rattle.qq_log.specs.Writable.{IsQueue, IsVote, MayWrite};
+ghost use Rattle.qq_log.specs.declared.op.Op.TheVariants.{Change};
+ghost use Rattle.qq_raft_msg.specs.Rpc.{IsWritable};
+ghost use Rattle.qq_raft.specs.Fits.{IsShort};
+ghost use Rattle.qq_raft.specs.Raft.{server_of, IsSound, IsInLog, IsWaiting, IsCaused};
 ghost use Rattle.qq_base.specs.Causes.{SpentOnlyWhere};
 
 use qq_base::{Duplicate, Index, Memory, NUMBER_END, NodeId, QueueId, Term};
@@ -65,17 +69,98 @@ fn replace_tail<L: LogView>(
     requires whole { (L.log log.old).base ≡ no_snapshot }
     requires last { length (L.log log.old).entries ≤ NUMBER_END }
     requires keep { keep ≤ length (L.log log.old).entries }
+    requires old { All IsInLog (L.log log.old).entries }
+    requires added { All IsInLog entries.now }
     requires within { 1 < length entries.now → keep + length entries.now ≤ NUMBER_END }
     ensures base { (L.log log.new).base ≡ no_snapshot }
     ensures ok { OnOk result ((L.log log.new).entries
         ≡ take keep (L.log log.old).entries ++ entries.now) }
     ensures last { OnOk result (length (L.log log.new).entries ≤ NUMBER_END) }
+    ensures entries { OnOk result (All IsInLog (L.log log.new).entries) }
+    ensures end { OnOk result (keep + length entries.now ≤ NUMBER_END) }
     ensures cause { IfErr result (λ e. SpentOnlyWhere e NUMBER_END
         ((keep ≡ NUMBER_END) × (keep ≡ length (L.log log.old).entries))) }
 {
     log.keep_to(Index(keep));
     log.reserve(entries.len())?;
-    append_all(alloc, log, entries)
+    append_all(alloc, log, entries)?;
+    Ok(())
+}
+
+/// A change of the log, which may be written.
+#[tactic(auto, using(crate::proofs::Ranges::change_may))]
+fn change_op(
+    queue: QueueId,
+    op: u64,
+    term: Term,
+    vote: Option<NodeId>,
+    keep: u64,
+    entries: Entries,
+) -> Op
+    requires queue { IsQueue queue }
+    requires op { op ≤ NUMBER_END }
+    requires term { term.0 ≤ NUMBER_END }
+    requires vote { IsVote vote }
+    requires last { keep + length entries ≤ NUMBER_END }
+    requires entries { All IsInLog entries }
+    requires short { IsShort entries }
+    ensures value { result ≡ Change queue op term vote (record { 0 = keep }) entries }
+    ensures may { MayWrite result }
+{
+    Op::Change {
+        queue,
+        op,
+        term,
+        vote,
+        keep: Index(keep),
+        entries,
+    }
+}
+
+#[tactic(auto, using(crate::proofs::Ranges::all_more))]
+fn push_op(ops: &mut VecDeque<Op>, op: Op) -> Result<(), Memory>
+    requires ops { All MayWrite ops.old.items }
+    requires op { MayWrite op }
+    ensures ok { OnOk result (ops.new.items ≡ ops.old.items ++ op ∷ []) }
+    ensures ops { OnOk result (All MayWrite ops.new.items) }
+    ensures want { IsOkUnless result Memory.Want }
+{
+    ops.push_back(op)?;
+    Ok(())
+}
+
+/// Adds a message that may leave.
+#[tactic(auto, using(crate::proofs::Ranges::all_more))]
+pub(crate) fn push_rpc(out: &mut VecDeque<Rpc>, rpc: Rpc) -> Result<(), Memory>
+    requires out { All IsWritable out.old.items }
+    requires rpc { IsWritable rpc }
+    ensures ok { OnOk result (out.new.items ≡ out.old.items ++ rpc ∷ []) }
+    ensures out { OnOk result (All IsWritable out.new.items) }
+    ensures want { IsOkUnless result Memory.Want }
+{
+    out.push_back(rpc)?;
+    Ok(())
+}
+
+fn push_waiting(waiting: &mut VecDeque<Waiting>, op: u64, rpc: Rpc) -> Result<(), Memory>
+    requires waiting { All IsWaiting waiting.old.items }
+    requires rpc { IsWritable rpc }
+    ensures ok { OnOk result (waiting.new.items ≡ waiting.old.items ++ wait op rpc ∷ []) }
+    ensures waiting { OnOk result (All IsWaiting waiting.new.items) }
+    ensures want { IsOkUnless result Memory.Want }
+{
+    waiting.push_back(Waiting { op, rpc })?;
+    Ok(())
+}
+
+/// No entries, which may be written.
+#[tactic(auto, using(crate::proofs::Ranges::all_none, crate::proofs::Ranges::none_short))]
+pub(crate) fn no_entries(alloc: Global) -> Entries
+    ensures value { result ≡ [] }
+    ensures entries { All IsInLog result }
+    ensures short { IsShort result }
+{
+    Entries::new(alloc)
 }
 
 impl<L: LogView> Raft<L> {
@@ -100,7 +185,10 @@ impl<L: LogView> Raft<L> {
         requires sound { IsSound L.log self.old }
         requires term { term.0 ≤ NUMBER_END }
         requires keep { keep ≤ last (server_of L.log self.old) }
+        requires vote { IsVote vote }
         requires within { 1 < length entries → keep + length entries ≤ NUMBER_END }
+        requires entries { All IsInLog entries }
+        requires short { IsShort entries }
         ensures sound { OnOk result (IsSound L.log self.new) }
         ensures ok { OnOk result (server_of L.log self.new
             ≡ change term vote keep entries (server_of L.log self.old)) }
@@ -111,14 +199,8 @@ impl<L: LogView> Raft<L> {
         }
         replace_tail(alloc, &mut self.log, keep, entries.as_slice())?;
         let op = self.op + 1;
-        self.ops.push_back(Op::Change {
-            queue: self.queue,
-            op,
-            term,
-            vote,
-            keep: Index(keep),
-            entries,
-        })?;
+        let change = change_op(self.queue, op, term, vote, keep, entries);
+        push_op(&mut self.ops, change)?;
         self.op = op;
         self.term = term;
         self.vote = vote;
@@ -139,7 +221,7 @@ impl<L: LogView> Raft<L> {
             return Ok(());
         }
         let last = self.last();
-        self.change(alloc, term, None, last, Entries::new(alloc))?;
+        self.change(alloc, term, None, last, no_entries(alloc))?;
         self.role = Role::Follower;
         self.leader = None;
         Ok(())
@@ -148,17 +230,17 @@ impl<L: LogView> Raft<L> {
     /// A message that speaks of the changes so far leaves once the last of these is durable.
     #[tactic(auto, unfolding(qq_raft_step::specs::State::say_all))]
     pub(crate) fn say(&mut self, rpc: Rpc) -> Result<(), Memory>
-        requires { IsSound L.log self.old }
+        requires sound { IsSound L.log self.old }
+        requires rpc { IsWritable rpc }
         ensures sound { OnOk result (IsSound L.log self.new) }
         ensures ok { OnOk result (server_of L.log self.new
             ≡ say rpc (server_of L.log self.old)) }
         ensures want { IsOkUnless result Memory.Want }
     {
         if self.op <= self.noticed {
-            self.out.push_back(rpc)?;
+            push_rpc(&mut self.out, rpc)
         } else {
-            self.waiting.push_back(Waiting { op: self.op, rpc })?;
+            push_waiting(&mut self.waiting, self.op, rpc)
         }
-        Ok(())
     }
 }

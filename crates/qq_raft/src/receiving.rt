@@ -1,25 +1,30 @@
 //! How a server answers messages.
-ghost use Rattle.std.specs.Prelude.{◌≡◌, ◌+◌, ◌≤◌, Some, drop, length, IfOk, IfErr, OnOk, IsOkUnless};
+ghost use Rattle.std.specs.Prelude.{◌≡◌, ◌+◌, ◌≤◌, All, Some, drop, length, IfErr, OnOk, IsOkUnless};
 ghost use Rattle.qq_log.specs.Same.{same_vote};
 ghost use Rattle.qq_log.specs.Stable.{no_snapshot};
 ghost use Rattle.qq_base.specs.declared.memory.TheConstants.{NUMBER_END};
 ghost use Rattle.qq_raft_msg.specs.declared.rpc.Rpc.TheVariants.{Voted, Appended, Installed};
 ghost use Rattle.qq_raft_step.specs.State.{last, vote_in, leader_in};
 ghost use Rattle.qq_raft_step.specs.Server.{voted, appended, installed, refuse, is_current, is_free, may_grant, give_vote, receive_vote, receive_voted, is_match, agreed, has_agreed, write, end, take_entries, refuse_entries, receive_append, take_ack, step_back, receive_appended, accept, receive};
-ghost use Rattle.qq_raft.specs.Raft.{server_of, IsSound, IsCaused};
-ghost use Rattle.qq_raft.specs.Fits.{IsWithin, AppendFits};
+ghost use Rattle.qq_raft_msg.specs.Rpc.{IsNode, IsWritable, envelope};
+ghost use Rattle.qq_log.specs.Writable.{IsVote};
+ghost use Rattle.qq_raft.specs.Raft.{server_of, IsSound, IsInLog, IsCaused};
+ghost use Rattle.qq_raft.specs.Fits.{IsShort, IsWithin, AppendFits};
 
 use crate::batch::term_at;
 use crate::peers::{PeerChange, Target, change_peers, greater};
-use crate::raft::Raft;
-use qq_base::{Duplicate, Index, Memory, NodeId, Term};
+use crate::raft::{Raft, no_entries};
+use qq_base::{Index, Memory, NodeId, Term};
 use qq_entry::{Entries, Entry};
 use qq_raft_msg::{AppendMsg, AppendedMsg, InstalledMsg, LogView, Role, Rpc, VoteMsg, VotedMsg};
 use std::alloc::Global;
 
 impl<L: LogView> Raft<L> {
     fn voted(&self, to: NodeId, granted: bool) -> VotedMsg
-        ensures { Voted result ≡ voted to granted (server_of L.log self.now) }
+        requires sound { IsSound L.log self.now }
+        requires to { IsNode to }
+        ensures value { Voted result ≡ voted to granted (server_of L.log self.now) }
+        ensures rpc { IsWritable (Voted result) }
     {
         VotedMsg {
             from: self.node,
@@ -30,7 +35,10 @@ impl<L: LogView> Raft<L> {
     }
 
     fn appended(&self, to: NodeId, ok: bool, index: u64) -> AppendedMsg
-        ensures { Appended result ≡ appended to ok index (server_of L.log self.now) }
+        requires sound { IsSound L.log self.now }
+        requires to { IsNode to }
+        ensures value { Appended result ≡ appended to ok index (server_of L.log self.now) }
+        ensures rpc { IsWritable (Appended result) }
     {
         AppendedMsg {
             from: self.node,
@@ -42,7 +50,10 @@ impl<L: LogView> Raft<L> {
     }
 
     fn installed(&self, to: NodeId, index: u64) -> InstalledMsg
-        ensures { Installed result ≡ installed to index (server_of L.log self.now) }
+        requires sound { IsSound L.log self.now }
+        requires to { IsNode to }
+        ensures value { Installed result ≡ installed to index (server_of L.log self.now) }
+        ensures rpc { IsWritable (Installed result) }
     {
         InstalledMsg {
             from: self.node,
@@ -55,23 +66,34 @@ impl<L: LogView> Raft<L> {
     /// A message of an earlier term.
     #[tactic(auto, unfolding(qq_raft_step::specs::Server::refuse))]
     fn refuse(&mut self, rpc: &Rpc) -> Result<(), Memory>
-        requires { IsSound L.log self.old }
+        requires sound { IsSound L.log self.old }
+        requires from { IsNode (envelope rpc.now).from }
         ensures sound { OnOk result (IsSound L.log self.new) }
         ensures ok { OnOk result (server_of L.log self.new
             ≡ refuse rpc.now (server_of L.log self.old)) }
         ensures want { IsOkUnless result Memory.Want }
     {
-        let answer = match rpc {
-            Rpc::Vote(m) => Rpc::Voted(self.voted(m.from, false)),
-            Rpc::Append(m) => Rpc::Appended(self.appended(m.from, false, self.last())),
-            Rpc::Install(m) => Rpc::Installed(self.installed(m.from, self.commit)),
-            Rpc::Voted(_) | Rpc::Appended(_) | Rpc::Installed(_) => return Ok(()),
-        };
-        self.say(answer)
+        match rpc {
+            Rpc::Vote(m) => {
+                let answer = self.voted(m.from, false);
+                self.say(Rpc::Voted(answer))
+            }
+            Rpc::Append(m) => {
+                let answer = self.appended(m.from, false, self.last());
+                self.say(Rpc::Appended(answer))
+            }
+            Rpc::Install(m) => {
+                let answer = self.installed(m.from, self.commit);
+                self.say(Rpc::Installed(answer))
+            }
+            Rpc::Voted(_) | Rpc::Appended(_) | Rpc::Installed(_) => Ok(()),
+        }
     }
 
     fn vote_in(&self, term: Term) -> Option<NodeId>
-        ensures { result ≡ vote_in term (server_of L.log self.now) }
+        requires { IsSound L.log self.now }
+        ensures value { result ≡ vote_in term (server_of L.log self.now) }
+        ensures vote { IsVote result }
     {
         if self.term.0 < term.0 {
             None
@@ -109,6 +131,7 @@ impl<L: LogView> Raft<L> {
     #[tactic(auto, unfolding(qq_raft_step::specs::Server::give_vote))]
     fn give_vote(&mut self, alloc: Global, m: &VoteMsg) -> Result<(), Memory>
         requires sound { IsSound L.log self.old }
+        requires from { IsNode m.now.from }
         requires term { m.now.term.0 ≤ NUMBER_END }
         ensures sound { OnOk result (IsSound L.log self.new) }
         ensures ok { OnOk result (server_of L.log self.new
@@ -119,7 +142,7 @@ impl<L: LogView> Raft<L> {
             return Ok(());
         }
         let (leader, last) = (self.leader_in(m.term), self.last());
-        self.change(alloc, m.term, Some(m.from), last, Entries::new(alloc))?;
+        self.change(alloc, m.term, Some(m.from), last, no_entries(alloc))?;
         self.role = Role::Follower;
         self.leader = leader;
         Ok(())
@@ -128,6 +151,7 @@ impl<L: LogView> Raft<L> {
     #[tactic(auto, unfolding(qq_raft_step::specs::Server::receive_vote))]
     fn receive_vote(&mut self, alloc: Global, m: &VoteMsg) -> Result<(), Memory>
         requires sound { IsSound L.log self.old }
+        requires from { IsNode m.now.from }
         requires term { m.now.term.0 ≤ NUMBER_END }
         ensures sound { OnOk result (IsSound L.log self.new) }
         ensures ok { OnOk result (server_of L.log self.new
@@ -147,6 +171,7 @@ impl<L: LogView> Raft<L> {
     #[tactic(auto, unfolding(qq_raft_step::specs::Server::receive_voted, qq_raft_step::specs::State::enter))]
     fn receive_voted(&mut self, alloc: Global, m: &VotedMsg) -> Result<(), Memory>
         requires sound { IsSound L.log self.old }
+        requires from { IsNode m.now.from }
         requires term { m.now.term.0 ≤ NUMBER_END }
         ensures sound { OnOk result (IsSound L.log self.new) }
         ensures ok { OnOk result (server_of L.log self.new
@@ -175,52 +200,55 @@ impl<L: LogView> Raft<L> {
     }
 
     /// The log is cut where the first entry differs, and what is missing follows.
-    fn write(&mut self, alloc: Global, m: &AppendMsg, agreed: usize) -> Result<(), Memory>
+    fn write(&mut self, alloc: Global, m: AppendMsg, agreed: usize) -> Result<(), Memory>
         requires sound { IsSound L.log self.old }
-        requires term { m.now.term.0 ≤ NUMBER_END }
-        requires fits { AppendFits m.now }
-        requires there { m.now.prev_index.0 + agreed ≤ last (server_of L.log self.old) }
-        requires within { agreed ≤ length m.now.entries }
-        requires agreed { agreed ≡ has_agreed m.now (server_of L.log self.old).log }
+        requires from { IsNode m.from }
+        requires term { m.term.0 ≤ NUMBER_END }
+        requires fits { AppendFits m }
+        requires there { m.prev_index.0 + agreed ≤ last (server_of L.log self.old) }
+        requires within { agreed ≤ length m.entries }
+        requires agreed { agreed ≡ has_agreed m (server_of L.log self.old).log }
         ensures sound { OnOk result (IsSound L.log self.new) }
         ensures ok { OnOk result (server_of L.log self.new
-            ≡ write m.now (drop agreed m.now.entries) (server_of L.log self.old)) }
+            ≡ write m (drop agreed m.entries) (server_of L.log self.old)) }
         ensures cause { IfErr result (IsCaused (server_of L.log self.old)) }
     {
-        let missing = m.entries.as_slice().split_at(agreed).1;
-        if missing.is_empty() {
-            return self.enter(alloc, m.term);
-        }
-        let entries = copies(alloc, missing)?;
-        let vote = self.vote_in(m.term);
+        let (term, vote) = (m.term, self.vote_in(m.term));
         let keep = m.prev_index.0 + agreed as u64;
-        self.change(alloc, m.term, vote, keep, entries)
+        let missing = behind(m.entries, agreed);
+        if missing.is_empty() {
+            return self.enter(alloc, term);
+        }
+        self.change(alloc, term, vote, keep, missing)
     }
 
     #[tactic(auto, unfolding(qq_raft_step::specs::Server::take_entries))]
-    fn take_entries(&mut self, alloc: Global, m: &AppendMsg) -> Result<(), Memory>
+    fn take_entries(&mut self, alloc: Global, m: AppendMsg) -> Result<(), Memory>
         requires sound { IsSound L.log self.old }
-        requires term { m.now.term.0 ≤ NUMBER_END }
-        requires fits { AppendFits m.now }
-        requires there { m.now.prev_index.0 ≤ last (server_of L.log self.old) }
+        requires from { IsNode m.from }
+        requires term { m.term.0 ≤ NUMBER_END }
+        requires fits { AppendFits m }
+        requires there { m.prev_index.0 ≤ last (server_of L.log self.old) }
         ensures sound { OnOk result (IsSound L.log self.new) }
         ensures ok { OnOk result (server_of L.log self.new
-            ≡ take_entries m.now (server_of L.log self.old)) }
+            ≡ take_entries m (server_of L.log self.old)) }
         ensures cause { IfErr result (IsCaused (server_of L.log self.old)) }
     {
         let count = agreed(&self.log, m.prev_index.0, m.entries.as_slice());
+        let (from, commit) = (m.from, m.commit.0);
+        let end = m.prev_index.0 + m.entries.len() as u64;
         self.write(alloc, m, count)?;
         self.role = Role::Follower;
-        self.leader = Some(m.from);
-        let end = m.prev_index.0 + m.entries.len() as u64;
-        self.commit = greater(self.commit, m.commit.0.min(end));
-        let answer = self.appended(m.from, true, end);
+        self.leader = Some(from);
+        self.commit = greater(self.commit, commit.min(end));
+        let answer = self.appended(from, true, end);
         self.say(Rpc::Appended(answer))
     }
 
     #[tactic(auto, unfolding(qq_raft_step::specs::Server::refuse_entries))]
     fn refuse_entries(&mut self, alloc: Global, m: &AppendMsg) -> Result<(), Memory>
         requires sound { IsSound L.log self.old }
+        requires from { IsNode m.now.from }
         requires term { m.now.term.0 ≤ NUMBER_END }
         ensures sound { OnOk result (IsSound L.log self.new) }
         ensures ok { OnOk result (server_of L.log self.new
@@ -236,19 +264,20 @@ impl<L: LogView> Raft<L> {
     }
 
     #[tactic(auto, unfolding(qq_raft_step::specs::Server::receive_append))]
-    fn receive_append(&mut self, alloc: Global, m: &AppendMsg) -> Result<(), Memory>
+    fn receive_append(&mut self, alloc: Global, m: AppendMsg) -> Result<(), Memory>
         requires sound { IsSound L.log self.old }
-        requires term { m.now.term.0 ≤ NUMBER_END }
-        requires fits { AppendFits m.now }
+        requires from { IsNode m.from }
+        requires term { m.term.0 ≤ NUMBER_END }
+        requires fits { AppendFits m }
         ensures sound { OnOk result (IsSound L.log self.new) }
         ensures ok { OnOk result (server_of L.log self.new
-            ≡ receive_append m.now (server_of L.log self.old)) }
+            ≡ receive_append m (server_of L.log self.old)) }
         ensures cause { IfErr result (IsCaused (server_of L.log self.old)) }
     {
-        if self.is_match(m) {
+        if self.is_match(&m) {
             self.take_entries(alloc, m)
         } else {
-            self.refuse_entries(alloc, m)
+            self.refuse_entries(alloc, &m)
         }
     }
 
@@ -306,19 +335,19 @@ impl<L: LogView> Raft<L> {
     }
 
     #[tactic(auto, unfolding(qq_raft_step::specs::Server::accept))]
-    fn accept(&mut self, alloc: Global, rpc: &Rpc) -> Result<(), Memory>
+    fn accept(&mut self, alloc: Global, rpc: Rpc) -> Result<(), Memory>
         requires sound { IsSound L.log self.old }
-        requires within { IsWithin rpc.now }
+        requires within { IsWithin rpc }
         ensures sound { OnOk result (IsSound L.log self.new) }
         ensures ok { OnOk result (server_of L.log self.new
-            ≡ accept rpc.now (server_of L.log self.old)) }
+            ≡ accept rpc (server_of L.log self.old)) }
         ensures cause { IfErr result (IsCaused (server_of L.log self.old)) }
     {
         match rpc {
-            Rpc::Vote(m) => self.receive_vote(alloc, m),
-            Rpc::Voted(m) => self.receive_voted(alloc, m),
+            Rpc::Vote(m) => self.receive_vote(alloc, &m),
+            Rpc::Voted(m) => self.receive_voted(alloc, &m),
             Rpc::Append(m) => self.receive_append(alloc, m),
-            Rpc::Appended(m) => self.receive_appended(alloc, m),
+            Rpc::Appended(m) => self.receive_appended(alloc, &m),
             Rpc::Install(m) => self.enter(alloc, m.term),
             Rpc::Installed(m) => self.enter(alloc, m.term),
         }
@@ -326,32 +355,35 @@ impl<L: LogView> Raft<L> {
 
     /// Takes a message.
     #[tactic(auto, unfolding(qq_raft_step::specs::Server::receive))]
-    pub(crate) fn try_receive(&mut self, alloc: Global, rpc: &Rpc) -> Result<(), Memory>
+    pub(crate) fn try_receive(&mut self, alloc: Global, rpc: Rpc) -> Result<(), Memory>
         requires sound { IsSound L.log self.old }
-        requires within { IsWithin rpc.now }
+        requires within { IsWithin rpc }
         ensures sound { OnOk result (IsSound L.log self.new) }
         ensures ok { OnOk result (server_of L.log self.new
-            ≡ receive rpc.now (server_of L.log self.old)) }
+            ≡ receive rpc (server_of L.log self.old)) }
         ensures cause { IfErr result (IsCaused (server_of L.log self.old)) }
     {
         if rpc.envelope().term.0 < self.term.0 {
-            self.refuse(rpc)
+            self.refuse(&rpc)
         } else {
             self.accept(alloc, rpc)
         }
     }
 }
 
-/// Copies of entries.
-fn copies(alloc: Global, list: &[Entry]) -> Result<Entries, Memory>
-    ensures ok { IfOk result (λ entries. entries ≡ list.now) }
-    ensures want { IsOkUnless result Memory.Want }
+/// The entries behind the first so many.
+#[tactic(auto, using(crate::proofs::Ranges::behind_all, crate::proofs::Ranges::behind_short))]
+fn behind(entries: Entries, count: usize) -> Entries
+    requires count { count ≤ length entries }
+    requires entries { All IsInLog entries }
+    requires short { IsShort entries }
+    ensures value { result ≡ drop count entries }
+    ensures entries { All IsInLog result }
+    ensures short { IsShort result }
 {
-    let mut entries = Vec::with_capacity(alloc, list.len())?;
-    for entry in list {
-        entries.push(entry.copy(alloc)?)?;
-    }
-    Ok(Entries::from_vec(entries))
+    let mut list = entries.into_vec();
+    list.drain(..count);
+    Entries::from_vec(list)
 }
 
 /// How many entries have the terms of the own ones behind an index.

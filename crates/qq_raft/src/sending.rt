@@ -1,18 +1,21 @@
 //! What a leader sends to the others.
-ghost use Rattle.std.specs.Prelude.{◌≡◌, ◌≤◌, ◌++◌, All, length, map, filter, IfOk, IfErr, OnOk, IsOkUnless};
+ghost use Rattle.std.specs.Prelude.{◌≡◌, ◌≤◌, ◌++◌, ◌∷◌, [], All, length, map, filter, IfOk, IfErr, OnOk, IsOkUnless};
 ghost use Rattle.qq_base.specs.declared.memory.TheConstants.{NUMBER_END};
 ghost use Rattle.qq_log.specs.Stable.{no_snapshot};
 ghost use Rattle.qq_raft_msg.specs.declared.rpc.Rpc.TheVariants.{Append};
 ghost use Rattle.qq_raft_step.specs.declared.peer.Peer.{Peer};
 ghost use Rattle.qq_raft_step.specs.State.{last, change};
 ghost use Rattle.qq_raft_step.specs.Leading.{send, add_entry};
+ghost use Rattle.qq_raft.specs.Fits.{IsShort};
 ghost use Rattle.qq_raft.specs.Peers.{picks, append_from, sent_to, passed};
-ghost use Rattle.qq_raft.specs.Raft.{server_of, IsSound, IsCaused};
+ghost use Rattle.qq_raft_msg.specs.Rpc.{IsNode, IsWritable};
+ghost use Rattle.qq_raft.specs.Raft.{server_of, IsSound, IsInLog, IsPeer, IsCaused};
 
 use crate::batch::{batch_from, term_at};
 use crate::peers::Target;
-use crate::raft::Raft;
+use crate::raft::{Raft, push_rpc};
 use qq_base::{Index, Memory, NodeId, Term};
+use qq_command::entries_read_back;
 use qq_entry::{Entries, Entry};
 use qq_raft_msg::{AppendMsg, LogView, Rpc};
 use qq_raft_step::Peer;
@@ -36,8 +39,12 @@ fn append_from<L: LogView>(
 ) -> Result<AppendMsg, Memory>
     requires whole { (L.log log.now).base ≡ no_snapshot }
     requires last { length (L.log log.now).entries ≤ NUMBER_END }
+    requires entries { All IsInLog (L.log log.now).entries }
+    requires sender { IsNode sender.node }
+    requires peer { IsPeer peer.now }
     ensures ok { IfOk result (λ m. Append m
         ≡ append_from sender.node sender.term sender.commit (L.log log.now).entries peer.now) }
+    ensures rpc { IfOk result (λ m. IsWritable (Append m)) }
     ensures want { IsOkUnless result Memory.Want }
 {
     let before = peer.next.saturating_sub(1);
@@ -63,11 +70,15 @@ fn send_to<L: LogView>(
 ) -> Result<(), Memory>
     requires whole { (L.log log.now).base ≡ no_snapshot }
     requires last { length (L.log log.now).entries ≤ NUMBER_END }
-    requires matched { peer.old.matched ≤ NUMBER_END }
+    requires entries { All IsInLog (L.log log.now).entries }
+    requires sender { IsNode sender.node }
+    requires peer { IsPeer peer.old }
+    requires out { All IsWritable out.old.items }
     ensures ok { OnOk result (out.new.items ≡ out.old.items
         ++ sent_to target sender.node sender.term sender.commit (L.log log.now).entries peer.old) }
     ensures peer { OnOk result (peer.new ≡ passed target (L.log log.now).entries peer.old) }
-    ensures matched { peer.new.matched ≤ NUMBER_END }
+    ensures peer_kept { IsPeer peer.new }
+    ensures out { OnOk result (All IsWritable out.new.items) }
     ensures want { IsOkUnless result Memory.Want }
 {
     if !target.picks(log.last().0, peer) {
@@ -75,7 +86,7 @@ fn send_to<L: LogView>(
     }
     let message = append_from(alloc, sender, log, peer)?;
     let count = message.entries.len() as u64;
-    out.push_back(Rpc::Append(message))?;
+    push_rpc(out, Rpc::Append(message))?;
     peer.next += count;
     Ok(())
 }
@@ -91,12 +102,16 @@ fn send_to_each<L: LogView>(
 ) -> Result<(), Memory>
     requires whole { (L.log log.now).base ≡ no_snapshot }
     requires last { length (L.log log.now).entries ≤ NUMBER_END }
-    requires matched { All (λ (p : Peer). p.matched ≤ NUMBER_END) peers.old }
+    requires entries { All IsInLog (L.log log.now).entries }
+    requires sender { IsNode sender.node }
+    requires each { All IsPeer peers.old }
+    requires out { All IsWritable out.old.items }
     ensures ok { OnOk result (out.new.items ≡ out.old.items
         ++ map (append_from sender.node sender.term sender.commit (L.log log.now).entries)
         (filter (picks target (length (L.log log.now).entries)) peers.old)) }
     ensures peers { OnOk result (peers.new ≡ map (passed target (L.log log.now).entries) peers.old) }
-    ensures matched { All (λ (p : Peer). p.matched ≤ NUMBER_END) peers.new }
+    ensures each { All IsPeer peers.new }
+    ensures out { OnOk result (All IsWritable out.new.items) }
     ensures want { IsOkUnless result Memory.Want }
 {
     'peers: for peer in peers.iter_mut() {
@@ -115,16 +130,34 @@ fn send_to_all<L: LogView>(
 ) -> Result<(), Memory>
     requires whole { (L.log log.now).base ≡ no_snapshot }
     requires last { length (L.log log.now).entries ≤ NUMBER_END }
-    requires matched { All (λ (p : Peer). p.matched ≤ NUMBER_END) peers.old.items }
+    requires entries { All IsInLog (L.log log.now).entries }
+    requires sender { IsNode sender.node }
+    requires each { All IsPeer peers.old.items }
+    requires out { All IsWritable out.old.items }
     ensures ok { OnOk result (out.new.items ≡ out.old.items
         ++ map (append_from sender.node sender.term sender.commit (L.log log.now).entries)
         (filter (picks target (length (L.log log.now).entries)) peers.old.items)) }
     ensures peers { OnOk result
         (peers.new.items ≡ map (passed target (L.log log.now).entries) peers.old.items) }
-    ensures matched { All (λ (p : Peer). p.matched ≤ NUMBER_END) peers.new.items }
+    ensures each { All IsPeer peers.new.items }
+    ensures out { OnOk result (All IsWritable out.new.items) }
     ensures want { IsOkUnless result Memory.Want }
 {
     send_to_each(alloc, sender, log, target, peers, out)
+}
+
+#[tactic(auto, using(crate::proofs::Ranges::one_all, crate::proofs::Ranges::one_short))]
+fn one_entry(alloc: Global, entry: Entry) -> Result<Entries, Memory>
+    requires { IsInLog entry }
+    ensures ok { IfOk result (λ entries. entries ≡ entry ∷ []) }
+    ensures entries { IfOk result (All IsInLog) }
+    ensures short { IfOk result IsShort }
+    ensures want { IsOkUnless result Memory.Want }
+{
+    entries_read_back();
+    let mut entries = Entries::new(alloc);
+    entries.push(entry)?;
+    Ok(entries)
 }
 
 impl<L: LogView> Raft<L> {
@@ -156,13 +189,13 @@ impl<L: LogView> Raft<L> {
     #[tactic(auto, unfolding(qq_raft_step::specs::Leading::add_entry))]
     pub(crate) fn add_entry(&mut self, alloc: Global, entry: Entry) -> Result<(), Memory>
         requires sound { IsSound L.log self.old }
+        requires entry { IsInLog entry }
         ensures sound { OnOk result (IsSound L.log self.new) }
         ensures ok { OnOk result (server_of L.log self.new
             ≡ add_entry entry (server_of L.log self.old)) }
         ensures cause { IfErr result (IsCaused (server_of L.log self.old)) }
     {
-        let mut entries = Entries::new(alloc);
-        entries.push(entry)?;
+        let entries = one_entry(alloc, entry)?;
         let (term, vote, last) = (self.term, self.vote, self.last());
         self.change(alloc, term, vote, last, entries)?;
         self.send(alloc, Target::Everyone)

@@ -2,8 +2,8 @@
 use Rattle.std.specs.Prelude.{◌+◌, ◌-◌, ◌*◌, ℕ, zero, suc, Bool, true, false, List, [], ◌∷◌, ◌++◌, length, drop, map, filter, Some, None, nat_le, nat_lt, ◌==◌, ◌&&◌, if◌then◌else◌}
 use Rattle.std.specs.List.{count_by}
 use Rattle.qq_base.specs.declared.ids.Term.{Term}
-use Rattle.qq_entry.specs.declared.command.Command.{Command}
-use Rattle.qq_entry.specs.declared.command.Command.TheVariants.{Noop, Enqueue}
+use Rattle.qq_command.specs.Encoding.{encoding}
+use Rattle.qq_entry.specs.declared.command.Command.TheVariants.{Noop}
 use Rattle.qq_entry.specs.declared.command.Entry.{Entry}
 use Rattle.qq_entry.specs.declared.limits.TheConstants.{MACHINE_VERSION}
 use Rattle.qq_raft_model.specs.Moves.{last_term}
@@ -16,13 +16,9 @@ use Rattle.qq_raft_step.specs.State.{Server, last, term_at, is_leader, is_candid
 
 -- ---- sending
 
--- the bytes of the message that a command publishes
-abbrev pub size_of : Command → ℕ
-size_of (Enqueue stamp origin message) = message.size
-size_of _ = 0
-
+-- how many bytes an entry's encoding has
 abbrev pub weight : Entry → ℕ
-weight e = size_of e.command
+weight e = length (encoding e)
 
 -- the entries that fit, no more than so many, and no more than so many bytes
 abbrev pub fit : ℕ → ℕ → List Entry → List Entry

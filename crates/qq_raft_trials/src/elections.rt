@@ -1,5 +1,6 @@
 //! Servers that elect a leader and commit an entry.
 ghost use Rattle.std.specs.Prelude.{IfOk, OnOk};
+ghost use Rattle.qq_raft_msg.specs.Rpc.{IsNode};
 ghost use Rattle.qq_raft.specs.Raft.{IsSound};
 
 use qq_base::{Memory, NodeId, QueueId, Term};
@@ -11,9 +12,10 @@ use std::alloc::Global;
 use std::process::Abort;
 use std::test::Fail;
 
-const MEMBERS: [NodeId; 3] = [NodeId(1), NodeId(2), NodeId(3)];
+pub(crate) const MEMBERS: [NodeId; 3] = [NodeId(1), NodeId(2), NodeId(3)];
 
 fn server(alloc: Global, node: NodeId) -> Result<Raft<Log>, Memory>
+    requires { IsNode node }
     ensures { IfOk result (IsSound (λ l. l)) }
 {
     let log = Log::from_lane(Lane::empty(alloc, QueueId(1)));
@@ -33,7 +35,7 @@ fn pass(alloc: Global, from: &mut Raft<Log>, to: &mut Raft<Log>) -> Result<(), F
             if !to.fits(&rpc) {
                 return Err("the message is for another".into());
             }
-            to.receive(alloc, &rpc)?;
+            to.receive(alloc, rpc)?;
             Ok(())
         }
     }

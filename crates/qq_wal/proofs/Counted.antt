@@ -1,5 +1,5 @@
 -- What a sync counts as synced is what was appended.
-use Rattle.std.proofs.Common.{◌≡◌, ℕ, Bool, true, false, cond, eqb, List, [], ◌∷◌, map, Option, refl, sym, ap, subst, ◌∙◌, unwrap_or, option_map}
+use Rattle.std.proofs.Common.{◌≡◌, ℕ, Bool, true, false, cond, eqb, List, [], ◌∷◌, map, refl, ap, ◌∙◌}
 use Rattle.std.specs.Prelude.{All}
 use Rattle.std.specs.List.{AllByRecursion, fold}
 use Rattle.std.proofs.lemmas.List.Elements.{recursion_from_All}
@@ -11,10 +11,9 @@ use Rattle.qq_log.specs.Op.{queue}
 use Rattle.qq_log.specs.Writable.{IsChange}
 use Rattle.qq_chain.specs.Image.{put}
 use Rattle.qq_chain.specs.Laws.{op_records}
-use Rattle.qq_chain.proofs.Walk.{put-at, put-other}
 use Rattle.qq_wal.specs.declared.marks.Mark.{Mark}
 use Rattle.qq_wal.specs.Marks.{Carries, known}
-use Rattle.qq_wal.specs.Notices.{AreCounted, carried_op, new_mark, note_all, note_mark, note_record, sync_mark, synced_in, synced_of}
+use Rattle.qq_wal.specs.Notices.{AreCounted, carried_op, new_mark, note_all, note_record, sync_mark, synced_in, synced_of}
 use Rattle.qq_wal.proofs.Follows.{noted}
 
 -- ---- the marks count

@@ -5,7 +5,7 @@ use Rattle.std.specs.List.Sorted.{IsPartitionPoint}
 use Rattle.std.proofs.lemmas.Bool.{cases_eq, cond-true, cond-false, eq-eqb, ne_eqb}
 use Rattle.qq_log.specs.declared.head.Span.{Span}
 use Rattle.qq_wal.specs.Marks.{is_rising}
-use Rattle.qq_wal.specs.Spans.{Range, files_in, find_file, range_at, range_in, span_to, spans_to}
+use Rattle.qq_wal.specs.Spans.{files_in, find_file, range_at, range_in, span_to, spans_to}
 use Rattle.qq_wal.proofs.Rising.{items-apart}
 
 -- a run of another file is passed over

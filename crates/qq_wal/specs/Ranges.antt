@@ -1,6 +1,6 @@
 -- Which of a queue's entries lie in which log file (the Ra library's internals: the write-ahead log keeps for each file
 -- the range of indices that each server has in it).
-use Rattle.std.specs.Prelude.{ℕ, ◌+◌, List, [], ◌∷◌, ◌++◌, length, Option, Some, None, nat_eq, if◌then◌else◌}
+use Rattle.std.specs.Prelude.{ℕ, List, [], ◌++◌, length, Option, Some, None, nat_eq, if◌then◌else◌}
 use Rattle.std.specs.List.{fold}
 use Rattle.std.specs.Ordering.{nat_cmp, is_eq}
 use Rattle.qq_base.specs.declared.ids.Index.{Index}

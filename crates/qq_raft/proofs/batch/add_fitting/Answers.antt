@@ -1,5 +1,7 @@
 use Rattle.std.proofs.Common.{◌+◌, ◌<◌, ◌≤◌, [], ◌∷◌, ◌++◌, sym, ap, subst, ◌∙◌, append_assoc}
 use Rattle.std.proofs.lemmas.List.{append-nil}
+use Rattle.qq_raft.proofs.Ranges.{all_at}
+use Rattle.qq_raft.specs.Raft.{IsInLog}
 use Rattle.qq_raft.proofs.Entries.{fit-more, fit-full, fit-ended, entry-known}
 use Rattle.qq_raft.proofs.batch.add_fitting.Goals as goal
 
@@ -23,6 +25,12 @@ returns-then-left-size-clause-ok g c =
     ∙ ap (λ es. so_far ++ es)
     (sym (fit-full log.entries c.args.place c.args.count c.entries.i c.entries.left c.in-Some.entry.now there lt))
     ∙ c.entries.invariant
+
+pub weight-size-requires : goal.weight-size-requires
+weight-size-requires g c =
+    let log = g.L.LogView.log c.args.log.now in
+    let there = sym (entry-known log (c.args.place + c.entries.i) c.requires.whole) ∙ c.in-Some.ensures.some in
+    (all_at IsInLog log.entries (c.args.place + c.entries.i) c.in-Some.entry.now there c.requires.entries).0
 
 pub entries-preserved : goal.entries-preserved
 entries-preserved g c =

@@ -1,8 +1,11 @@
-use Rattle.std.proofs.Common.{◌+◌, ◌-◌, [], ◌∷◌, ◌++◌, drop, sym, ap, ◌∙◌, arith}
+use Rattle.std.proofs.Common.{◌+◌, ◌-◌, ◌≤◌, List, [], ◌∷◌, ◌++◌, length, drop, sym, ap, subst, ◌∙◌, arith}
+use Rattle.std.specs.Prelude.{All}
 use Rattle.std.proofs.lemmas.Option.{slice_get_within}
 use Rattle.qq_entry.specs.declared.command.Entry.{Entry}
-use Rattle.qq_raft_step.specs.declared.limits.TheConstants.{BATCH_BYTES}
+use Rattle.qq_raft_step.specs.declared.limits.TheConstants.{BATCH_BYTES, BATCH_ENTRIES}
 use Rattle.qq_raft_step.specs.Leading.{fit}
+use Rattle.qq_raft.proofs.Ranges.{all_at, batch_all, batch_count}
+use Rattle.qq_raft.specs.Raft.{IsInLog}
 use Rattle.qq_raft.proofs.Entries.{batch-first, batch-none, entry-known}
 use Rattle.qq_raft.proofs.batch.batch_from.Goals as goal
 
@@ -27,6 +30,36 @@ returns-clause-ok g c =
     (c.in_ok-push.ensures.items ∙ ap (λ es. es ++ c.in_ok-copy.field-0 ∷ []) c.new-entries.ensures.items
     ∙ ap (λ (e : Entry). e ∷ []) c.in_ok-copy.ensures.ok)
     ∙ batch-first log.entries c.args.next place room first c.saturating_sub-place.ensures there left
+
+pub returns-in_default-clause-each : goal.returns-in_default-clause-each
+returns-in_default-clause-each g c =
+    let log = (g.L.LogView.log c.args.log.now).entries in
+    subst (All IsInLog) (sym (returns-in_default-clause-ok g c))
+    (batch_all IsInLog c.args.next log c.requires.entries)
+
+pub returns-clause-each : goal.returns-clause-each
+returns-clause-each g c =
+    let log = (g.L.LogView.log c.args.log.now).entries in
+    subst (All IsInLog) (sym (returns-clause-ok g c)) (batch_all IsInLog c.args.next log c.requires.entries)
+
+pub returns-in_default-clause-count : goal.returns-in_default-clause-count
+returns-in_default-clause-count g c =
+    let log = (g.L.LogView.log c.args.log.now).entries in
+    subst (λ (es : List Entry). length es ≤ BATCH_ENTRIES) (sym (returns-in_default-clause-ok g c))
+    (batch_count (drop (c.args.next - 1) log))
+
+pub returns-clause-count : goal.returns-clause-count
+returns-clause-count g c =
+    let log = (g.L.LogView.log c.args.log.now).entries in
+    subst (λ (es : List Entry). length es ≤ BATCH_ENTRIES) (sym (returns-clause-ok g c))
+    (batch_count (drop (c.args.next - 1) log))
+
+pub weight-requires : goal.weight-requires
+weight-requires g c =
+    let log = g.L.LogView.log c.args.log.now in
+    let place = c.saturating_sub-place.result in
+    let there = sym (entry-known log place c.requires.whole) ∙ c.in-Some.ensures.some in
+    (all_at IsInLog log.entries place c.in-Some.first.now there c.requires.entries).0
 
 pub add_fitting-requires-clause-within : goal.add_fitting-requires-clause-within
 add_fitting-requires-clause-within g c =

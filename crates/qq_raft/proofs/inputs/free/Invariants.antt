@@ -1,5 +1,8 @@
 use Rattle.std.proofs.Common.{◌≡◌, ◌+◌, ◌++◌, length}
 use Rattle.qq_raft_step.specs.Server.{free, still_waiting}
+use Rattle.std.specs.Prelude.{All}
+use Rattle.qq_raft_msg.specs.Rpc.{IsWritable}
+use Rattle.qq_raft.specs.Raft.{IsWaiting}
 use Rattle.qq_raft.proofs.inputs.free.Given as goal
 
 -- those at the front have left
@@ -8,4 +11,6 @@ invariant-free l = record {
   out : l.out.items ++ free l.op l.waiting.items ≡ l.fn.out.items ++ free l.op l.fn.waiting.items;
   waiting : still_waiting l.op l.waiting.items ≡ still_waiting l.op l.fn.waiting.items;
   length : length l.waiting.items + l.counter ≡ length l.fn.waiting.items;
+  kept : All IsWaiting l.waiting.items;
+  freed : All IsWritable l.out.items;
 }

@@ -1,7 +1,6 @@
 use Rattle.std.proofs.Common.{◌≤◌, arith}
 use Rattle.std.proofs.lemmas.List.Elements.{All-set}
-use Rattle.qq_base.specs.declared.memory.TheConstants.{NUMBER_END}
-use Rattle.qq_raft_step.specs.declared.peer.Peer.{Peer}
+use Rattle.qq_raft.specs.Raft.{IsPeer}
 use Rattle.qq_raft.specs.Peers.{change_peer}
 use Rattle.qq_base.proofs.InPlace.{mapped_front, mapped_rest}
 use Rattle.qq_raft.proofs.peers.change_each.Goals as goal
@@ -13,5 +12,5 @@ peers-preserved c = record {
       c.change_peer.ensures.value;
   rest = mapped_rest c.args.peers.now c.peers.peers c.peers.peer-index c.change_peer.new.peer
       c.peers.invariant.rest;
-  each = All-set (λ (p : Peer). p.matched ≤ NUMBER_END) c.peers.peers c.peers.peer-index c.change_peer.new.peer c.change_peer.ensures.matched c.peers.invariant.each;
+  each = All-set IsPeer c.peers.peers c.peers.peer-index c.change_peer.new.peer c.change_peer.ensures.peer c.peers.invariant.each;
 }

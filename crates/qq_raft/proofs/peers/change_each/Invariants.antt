@@ -1,7 +1,6 @@
 use Rattle.std.proofs.Common.{◌≡◌, ◌≤◌, take, drop, map}
 use Rattle.std.specs.Prelude.{All}
-use Rattle.qq_base.specs.declared.memory.TheConstants.{NUMBER_END}
-use Rattle.qq_raft_step.specs.declared.peer.Peer.{Peer}
+use Rattle.qq_raft.specs.Raft.{IsPeer}
 use Rattle.qq_raft.specs.Peers.{change_peer}
 use Rattle.qq_raft.proofs.peers.change_each.Given as goal
 
@@ -10,5 +9,5 @@ abbrev pub invariant-peers : goal.invariant-peers
 invariant-peers l = record {
   front : take l.peer-index l.peers ≡ map (change_peer l.change) (take l.peer-index l.fn.peers);
   rest : drop l.peer-index l.peers ≡ drop l.peer-index l.fn.peers;
-  each : All (λ (p : Peer). p.matched ≤ NUMBER_END) l.peers;
+  each : All IsPeer l.peers;
 }

@@ -1,7 +1,6 @@
 use Rattle.std.proofs.Common.{◌≤◌, length, arith}
 use Rattle.std.proofs.lemmas.List.Elements.{All-set}
-use Rattle.qq_base.specs.declared.memory.TheConstants.{NUMBER_END}
-use Rattle.qq_raft_step.specs.declared.peer.Peer.{Peer}
+use Rattle.qq_raft.specs.Raft.{IsPeer}
 use Rattle.qq_raft.specs.Peers.{picks, append_from, passed}
 use Rattle.qq_base.proofs.InPlace.{mapped_front, mapped_rest}
 use Rattle.qq_raft.proofs.Pushes.{sent-front}
@@ -19,6 +18,7 @@ peers-preserved g c =
           c.send_to.new.peer (omega arith) (omega arith) c.peers.invariant.front c.peers.invariant.rest
           c.in_ok-send_to.ensures.peer;
       rest = mapped_rest c.args.peers.now c.peers.peers c.peers.peer-index c.send_to.new.peer c.peers.invariant.rest;
-      each = All-set (λ (p : Peer). p.matched ≤ NUMBER_END) c.peers.peers c.peers.peer-index c.send_to.new.peer
-          c.send_to.ensures.matched c.peers.invariant.each;
+      each = All-set IsPeer c.peers.peers c.peers.peer-index c.send_to.new.peer
+          c.send_to.ensures.peer_kept c.peers.invariant.each;
+      sent = c.in_ok-send_to.ensures.out;
     }

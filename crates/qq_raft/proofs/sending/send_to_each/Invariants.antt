@@ -1,7 +1,7 @@
 use Rattle.std.proofs.Common.{◌≡◌, ◌≤◌, ◌++◌, length, take, drop, map}
 use Rattle.std.specs.Prelude.{All, filter}
-use Rattle.qq_base.specs.declared.memory.TheConstants.{NUMBER_END}
-use Rattle.qq_raft_step.specs.declared.peer.Peer.{Peer}
+use Rattle.qq_raft_msg.specs.Rpc.{IsWritable}
+use Rattle.qq_raft.specs.Raft.{IsPeer}
 use Rattle.qq_raft.specs.Peers.{picks, append_from, passed}
 use Rattle.qq_raft.proofs.sending.send_to_each.Given as goal
 
@@ -15,5 +15,6 @@ invariant-peers g l =
           (filter (picks l.target (length log)) (take l.peer-index l.fn.peers));
       front : take l.peer-index l.peers ≡ map (passed l.target log) (take l.peer-index l.fn.peers);
       rest : drop l.peer-index l.peers ≡ drop l.peer-index l.fn.peers;
-      each : All (λ (p : Peer). p.matched ≤ NUMBER_END) l.peers;
+      each : All IsPeer l.peers;
+      sent : All IsWritable l.out.items;
     }

@@ -1,5 +1,6 @@
 use Rattle.std.proofs.Common.{◌-◌, ℕ, leb, List, [], ◌∷◌, refl, ap}
 use Rattle.std.proofs.lemmas.Bool.{cond-true, cond-false}
+use Rattle.qq_command.specs.Encoding.{encoding, payload, fields}
 use Rattle.qq_entry.specs.declared.command.Entry.{Entry}
 use Rattle.qq_raft_step.specs.declared.limits.TheConstants.{BATCH_BYTES}
 use Rattle.qq_raft_step.specs.Leading.{weight}
@@ -9,6 +10,7 @@ pub returns-clause-first : goal.returns-clause-first
 returns-clause-first c = λ e. refl
 
 pub returns-clause-count : goal.returns-clause-count
+unfolding encoding payload fields
 returns-clause-count c = refl
 
 pub returns-clause-full : goal.returns-clause-full

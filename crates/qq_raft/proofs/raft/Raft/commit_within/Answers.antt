@@ -1,16 +1,12 @@
-use Rattle.std.proofs.Common.{sym, ◌∙◌}
+use Rattle.std.proofs.Common.{ap, ◌∙◌, ◌-◌}
+use Rattle.std.specs.Prelude.{min}
 use Rattle.qq_raft.specs.Raft.{server_of}
-use Rattle.qq_raft.proofs.Commits.{found, passed}
+use Rattle.qq_raft.proofs.Holding.{begins-held}
 use Rattle.qq_raft.proofs.raft.Raft.commit_within.Goals as goal
 
-pub returns-then-may_commit : goal.returns-then-may_commit
-returns-then-may_commit g c =
-    sym (found (server_of g.L.LogView.log c.args.self.now) c.args.above c.search.i c.search-test.true
-    (sym c.may_commit.ensures ∙ c.if-may_commit.true))
-    ∙ c.search.invariant
-
-pub search-preserved : goal.search-preserved
-search-preserved g c =
-    sym (passed (server_of g.L.LogView.log c.args.self.now) c.args.above c.search.i c.search-test.true
-    (sym c.may_commit.ensures ∙ c.if-may_commit.false))
-    ∙ c.search.invariant
+pub returns : goal.returns
+returns g c =
+    let s = server_of g.L.LogView.log c.args.self.now in
+    c.commit_up_to.ensures
+    ∙ begins-held s c.args.above c.held-held.result _
+    (c.min-start.ensures ∙ ap (λ n. min c.args.above n) c.saturating_sub.ensures) c.held-held.ensures

@@ -1,20 +1,28 @@
-use Rattle.std.proofs.Common.{◌≤◌, ◌<◌, ◌^◌, length, not, sym, subst}
-use Rattle.std.specs.Prelude.{All, filter, nat_eq}
-use Rattle.qq_base.specs.declared.ids.NodeId.{NodeId}
-use Rattle.qq_base.specs.declared.memory.TheConstants.{NUMBER_END}
-use Rattle.qq_raft_step.specs.declared.peer.Peer.{Peer}
-use Rattle.qq_raft.proofs.Members.{new-matched, new-count}
+use Rattle.std.proofs.Common.{◌≤◌, ◌<◌, ◌^◌, length, sym, subst, arith}
+use Rattle.std.specs.Prelude.{All}
+use Rattle.qq_raft.proofs.Members.{new-each, new-count}
+use Rattle.qq_log.specs.Writable.{MayWrite}
+use Rattle.qq_raft_msg.specs.Rpc.{IsWritable}
+use Rattle.qq_raft.proofs.Ranges.{all_none}
+use Rattle.qq_raft.specs.Raft.{IsPeer, IsWaiting}
 use Rattle.qq_raft.proofs.raft.Raft.new.Goals as goal
 
 pub returns-clause-sound : goal.returns-clause-sound
 returns-clause-sound g c =
-    let others = filter (λ (q : NodeId). not (nat_eq q.0 c.args.node.0)) c.args.members.now in
     record {
       whole = c.requires.whole;
       last = c.requires.ends.last;
-      matched = subst (All (λ (p : Peer). p.matched ≤ NUMBER_END)) (sym c.in_ok-peers.ensures.ok) (new-matched others);
+      entries = c.requires.ends.entries;
+      each = subst (All IsPeer) (sym c.in_ok-peers.ensures.ok)
+          (new-each c.args.node c.args.members.now c.requires.nodes.1);
       peers = subst (λ ps. length ps < 2 ^ 32) (sym c.in_ok-peers.ensures.ok)
           (new-count c.args.node c.args.members.now c.requires.members);
       op = rw c.start-op.ensures c.requires.ends.op;
       term = rw c.start-op.ensures c.requires.ends.term;
+      vote = rw c.start-op.ensures c.requires.ends.vote;
+      queue = omega arith;
+      node = c.requires.nodes.0;
+      ops = all_none MayWrite _ c.new-ops.ensures.items;
+      out = all_none IsWritable _ c.new-out.ensures.items;
+      waiting = all_none IsWaiting _ c.new-waiting.ensures.items;
     }

@@ -14,8 +14,8 @@ returns-clause-ok g c =
     let s = server_of g.L.LogView.log c.args.self.now in
     let changed = server_of g.L.LogView.log c.change.new.self in
     let written = c.in_ok-change.ensures.ok
-    ∙ ap (λ keep. change (next_term s.term) (Some s.node) keep c.new.result s) c.last-last.ensures
-    ∙ ap (λ (es : List Entry). change (next_term s.term) (Some s.node) (last s) es s) c.new.ensures in
+    ∙ ap (λ keep. change (next_term s.term) (Some s.node) keep c.no_entries.result s) c.last-last.ensures
+    ∙ ap (λ (es : List Entry). change (next_term s.term) (Some s.node) (last s) es s) c.no_entries.ensures.value in
     c.in_ok-ask_all.ensures.ok
     ∙ ap ask_all (
     ap (λ (ps : List Peer). record changed { role = Candidate; leader = None; peers = ps })

@@ -1,10 +1,10 @@
 use Rattle.std.proofs.Common.{◌≡◌, ◌-◌}
 use Rattle.qq_raft_step.specs.Leading.{commit_within}
 use Rattle.qq_raft.specs.Raft.{server_of}
-use Rattle.qq_raft.proofs.raft.Raft.commit_within.Given as goal
+use Rattle.qq_raft.proofs.raft.Raft.commit_up_to.Given as goal
 
 -- none of those above may be committed
 abbrev pub invariant-search : goal.invariant-search
 invariant-search g l =
     let s = server_of g.L.LogView.log l.self in
-    commit_within s (l.above - l.i) ≡ commit_within s l.above
+    commit_within s (l.start - l.i) ≡ commit_within s l.start
