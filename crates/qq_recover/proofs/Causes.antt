@@ -1,5 +1,5 @@
 -- Why recovery gave up.
-use Rattle.std.proofs.Common.{◌≡◌, ◌≤◌, ◌<◌, ◌^◌, ◌⊎◌, ℕ, suc, Bool, cond, List, [], ◌∷◌, max, refl, sym, ap, subst, ◌∙◌, inl, inr, arith}
+use Rattle.std.proofs.Common.{◌≡◌, ◌≤◌, ◌<◌, ◌^◌, ◌⊎◌, ℕ, suc, cond, List, [], ◌∷◌, max, refl, sym, ap, subst, ◌∙◌, inl, inr, arith}
 use Rattle.std.specs.Prelude.{Contains}
 use Rattle.std.specs.List.{fold}
 use Rattle.std.proofs.lemmas.Bool.{cases_lt}
@@ -12,7 +12,7 @@ use Rattle.qq_disk.specs.Disk.{Disk, IsListed}
 use Rattle.qq_disk.specs.Image.{log_of}
 use Rattle.qq_wal.specs.Numbers.{greater, greatest_number, same_kind}
 use Rattle.qq_recover.specs.declared.fault.RecoverFault.{RecoverFault}
-use Rattle.qq_recover.specs.declared.fault.RecoverFault.TheVariants.{Disk as DiskFailed, Damaged, Version, Memory}
+use Rattle.qq_recover.specs.declared.fault.RecoverFault.TheVariants.{Disk as DiskFailed, Damaged, Version}
 use Rattle.qq_recover.specs.Fault.{IsCaused}
 use Rattle.qq_recover.specs.Recovered.{IsGreatest, IsNoRefusal, IsRecoverCaused}
 use Rattle.qq_recover.proofs.Starts.{listed-within}

@@ -11,7 +11,7 @@ use Rattle.qq_disk.specs.Disk.{Disk}
 use Rattle.qq_log.specs.declared.lane.Carry.{Carry}
 use Rattle.qq_log.specs.declared.op.Op.{Op}
 use Rattle.qq_log.specs.declared.op.Op.TheVariants.{Change}
-use Rattle.qq_log.specs.Stable.{Stable, carry_of, last_index, new_state, stable}
+use Rattle.qq_log.specs.Stable.{Stable, last_index, new_state, stable}
 use Rattle.qq_chain.specs.Lanes.{Lanes, is_listed, of_queue}
 use Rattle.qq_chain.specs.Laws.{HoldsOps, KeepsPromise}
 use Rattle.qq_chain.proofs.Gives.{state-given}

@@ -1,5 +1,5 @@
 -- Where the entries lie that recovery read.
-use Rattle.std.proofs.Common.{◌≡◌, ◌≤◌, ◌<◌, ◌+◌, ◌-◌, ◌&&◌, ◌||◌, ℕ, zero, suc, Bool, true, false, cond, eqb, leb, List, [], ◌∷◌, ◌++◌, length, map, take, replicate, Option, Some, None, Ok, Err, refl, sym, ap, subst, ◌∙◌, inl, inr, ◌⊎◌, arith, length-append, length-take, is_eq, nat_cmp, unwrap_or}
+use Rattle.std.proofs.Common.{◌≡◌, ◌≤◌, ◌<◌, ◌+◌, ◌-◌, ◌&&◌, ◌||◌, ℕ, zero, suc, Bool, true, false, cond, eqb, leb, List, [], ◌∷◌, ◌++◌, length, map, take, replicate, Option, Some, None, Ok, Err, refl, sym, ap, subst, ◌∙◌, inl, inr, ◌⊎◌, arith, length-append, length-take, unwrap_or}
 use Rattle.std.specs.List.{fold, list_all}
 use Rattle.std.proofs.lemmas.Bool.{and_parts, cases_eq, eq-eqb, eqb-true, ne_eqb, leb-true}
 use Rattle.std.proofs.lemmas.List.{length-map, length-replicate}
@@ -27,7 +27,6 @@ use Rattle.qq_chain.specs.Wal.{no_lanes, wal}
 use Rattle.qq_chain.proofs.Walk.{put-at, put-other}
 use Rattle.qq_wal.specs.declared.ranges.QueueRanges.{QueueRanges}
 use Rattle.qq_wal.specs.Entries.{IsRangeOf, LieAs, files_behind}
-use Rattle.qq_wal.specs.Notices.{last_index}
 use Rattle.qq_wal.specs.Ranges.{AllRanges, as_indices, begin_file, begin_files, begin_queue, change_by, enter_file, in_file, in_file_by, list_queue, new_ranges, no_queues, places_of, put_ranges, ranges_in, ranges_of, write, write_op_in}
 use Rattle.qq_wal.specs.Spans.{Range, find_file}
 use Rattle.qq_wal.specs.Running.{top}
@@ -159,12 +158,12 @@ module _ (queues : List QueueId) (n : ℕ) (lanes next : Lanes) (all : AllRanges
           q = write keep.0 (length entries) entered;
           is = change-here (λ (r : QueueRanges). write keep.0 (length entries) (enter_file n r)) all q.0 (all q.0) k.q k.is;
           lies = subst (λ (f : ℕ). LieAs (take keep.0 files ++ replicate (length entries) f)
-          (write keep.0 (length entries) entered)) at
-          (lie-written files entered (lie-entered files k.q k.lies n k.file) keep.0 (length entries) within);
+              (write keep.0 (length entries) entered)) at
+              (lie-written files entered (lie-entered files k.q k.lies n k.file) keep.0 (length entries) within);
           file = omega (arith, at);
           each = subst (λ (o : Option Stable). TellsEach o (take keep.0 files ++ replicate (length entries) n))
-          (sym (ap (λ (l : Lanes). l q.0) so ∙ put-at lanes q.0 (Some t)))
-          (ap (λ (b : SnapshotHead). b.index.0) c.base ∙ each.0, long);
+              (sym (ap (λ (l : Lanes). l q.0) so ∙ put-at lanes q.0 (Some t)))
+              (ap (λ (b : SnapshotHead). b.index.0) c.base ∙ each.0, long);
         }
 
     -- and of another one
