@@ -1,0 +1,10 @@
+mod Lists
+mod Ready
+mod Ending
+mod NextOne
+mod Delivering
+mod Dead
+mod Changing
+mod Whole
+mod Finishing
+mod Leaving

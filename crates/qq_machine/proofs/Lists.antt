@@ -1,0 +1,96 @@
+-- What is counted and found of a mapped list, and the while loop of so many rounds.
+use Rattle.std.proofs.Common.{◌≡◌, ℕ, zero, suc, ◌+◌, ◌-◌, ◌<◌, Bool, true, false, cond, List, [], ◌∷◌, ◌++◌, Option, Some, None, map, take, fold, length, refl, sym, ap, ◌∙◌, arith, if◌then◌else◌}
+use Rattle.std.specs.Prelude.{find, count_by, sum_by, slice_get}
+use Rattle.std.specs.Option.{option_map, option_map_or, option_and_then}
+use Rattle.std.proofs.lemmas.List.{length-append}
+use Rattle.std.proofs.lemmas.List.Sums.{sum_by-cons}
+use Rattle.qq_model.specs.Choice.{is_lesser, lesser, least_by}
+use Rattle.qq_model.specs.Changes.{while_next}
+use Rattle.qq_gone.specs.Reduced.{Item}
+use Rattle.qq_parts.specs.Parts.{Served, outs}
+
+pub find-over : {A B : Type 0} (test : B → Bool) (f : A → B) (xs : List A)
+    → find test (map f xs) ≡ option_map f (find (λ (x : A). test (f x)) xs)
+find-over test f [] = refl
+find-over {A = A} test f (x ∷ xs) = by (find-over test f xs) (test (f x))
+  where
+    by : find test (map f xs) ≡ option_map f (find (λ (y : A). test (f y)) xs) → (b : Bool)
+        → cond b (Some (f x)) (find test (map f xs)) ≡ option_map f (cond b (Some x) (find (λ (y : A). test (f y)) xs))
+    by later true = refl
+    by later false = later
+
+pub sum-over : {A B : Type 0} (g : B → ℕ) (f : A → B) (xs : List A)
+    → sum_by g (map f xs) ≡ sum_by (λ (x : A). g (f x)) xs
+sum-over g f [] = refl
+sum-over {A = A} g f (x ∷ xs) =
+    sum_by-cons g (f x) (map f xs) ∙ ap (λ n. g (f x) + n) (sum-over g f xs)
+    ∙ sym (sum_by-cons (λ (y : A). g (f y)) x xs)
+
+pub count-over : {A B : Type 0} (test : B → Bool) (f : A → B) (xs : List A)
+    → count_by test (map f xs) ≡ count_by (λ (x : A). test (f x)) xs
+count-over test f xs = sum-over (λ y. if test y then 1 else 0) f xs
+
+lesser-over : {A B K : Type 0} (less : K → K → Bool) (key : B → Option K) (f : A → B) (best : Option A) (x : A)
+    → lesser less key (option_map f best) (f x) ≡ option_map f (lesser less (λ (y : A). key (f y)) best x)
+lesser-over {A = A} {B = B} less key f None x = by (is_lesser less (key (f x)) None)
+  where
+    by : (b : Bool) → cond b (Some (f x)) None ≡ option_map f (cond b (Some x) None)
+    by true = refl
+    by false = refl
+lesser-over {A = A} {B = B} less key f (Some y) x = by (is_lesser less (key (f x)) (key (f y)))
+  where
+    by : (b : Bool) → cond b (Some (f x)) (Some (f y)) ≡ option_map f (cond b (Some x) (Some y))
+    by true = refl
+    by false = refl
+
+fold-over : {A B K : Type 0} (less : K → K → Bool) (key : B → Option K) (f : A → B) (xs : List A) (best : Option A)
+    → fold (lesser less key) (option_map f best) (map f xs)
+    ≡ option_map f (fold (lesser less (λ (y : A). key (f y))) best xs)
+fold-over less key f [] best = refl
+fold-over {A = A} {B = B} less key f (x ∷ xs) best =
+    ap (λ (o : Option B). fold (lesser less key) o (map f xs)) (lesser-over less key f best x)
+    ∙ fold-over less key f xs (lesser less (λ (y : A). key (f y)) best x)
+
+pub least-over : {A B K : Type 0} (less : K → K → Bool) (key : B → Option K) (f : A → B) (xs : List A)
+    → least_by less key (map f xs) ≡ option_map f (least_by less (λ (y : A). key (f y)) xs)
+least-over less key f xs = fold-over less key f xs None
+
+-- a round with a next step leaves one round less, from that step on
+pub while_next-more : {A : Type 0} (n i : ℕ) (next : A → Option A) (a b whole : A) (did : Bool) → i < n
+    → next a ≡ (if did then Some b else None) → did ≡ true → while_next (n - i) next a ≡ whole
+    → while_next (n - (i + 1)) next b ≡ whole
+while_next-more {A = A} n i next a b whole did lt made went so_far =
+    let rounds : n - i ≡ suc (n - (i + 1)) = omega arith in
+    let step : next a ≡ Some b = made ∙ ap (λ (d : Bool). if d then Some b else None) went in
+    sym (ap (λ (k : ℕ). while_next k next a) rounds
+    ∙ ap (λ (o : Option A). option_map_or (while_next (n - (i + 1)) next) o a) step) ∙ so_far
+
+-- what is out with one consumer more
+pub outs-more : (ones : List Served) (i : ℕ) → i < length ones
+    → length (outs (take i ones)) + option_map_or (λ (one : Served). length one.out) (slice_get ones i) 0
+    ≡ length (outs (take (i + 1) ones))
+outs-more [] i lt = absurd (omega (arith, lt))
+outs-more (one ∷ ones) zero lt =
+    let all : length (one.out ++ []) ≡ length one.out + 0 = length-append one.out [] in omega (arith, all)
+outs-more (one ∷ ones) (suc i) lt =
+    let rest : length (outs (take i ones)) + option_map_or (λ (other : Served). length other.out) (slice_get ones i) 0
+    ≡ length (outs (take (i + 1) ones)) = outs-more ones i (omega (arith, lt)) in
+    let here : length (outs (take (suc i) (one ∷ ones))) ≡ length one.out + length (outs (take i ones)) =
+    length-append one.out (outs (take i ones)) in
+    let there : length (outs (take (suc (i + 1)) (one ∷ ones))) ≡ length one.out + length (outs (take (i + 1) ones)) =
+    length-append one.out (outs (take (i + 1) ones)) in
+    let more : suc i + 1 ≡ suc (i + 1) = omega arith in
+    let same : length (outs (take (suc i + 1) (one ∷ ones))) ≡ length (outs (take (suc (i + 1)) (one ∷ ones))) =
+    ap (λ (k : ℕ). length (outs (take k (one ∷ ones)))) more in
+    omega (arith, rest, here, there, same)
+
+pub while_next-none : {A : Type 0} (n : ℕ) (next : A → Option A) (a : A) → next a ≡ None → while_next n next a ≡ a
+while_next-none zero next a none = refl
+while_next-none {A = A} (suc n) next a none = ap (λ (o : Option A). option_map_or (while_next n next) o a) none
+
+-- where there is no next step, the loop has led here
+pub while_next-over : {A : Type 0} (n : ℕ) (next : A → Option A) (a b whole : A) (did : Bool)
+    → next a ≡ (if did then Some b else None) → did ≡ false → while_next n next a ≡ whole → b ≡ a → whole ≡ b
+while_next-over {A = A} n next a b whole did made went so_far still =
+    sym so_far
+    ∙ while_next-none n next a (made ∙ ap (λ (d : Bool). if d then Some b else None) went) ∙ sym still

@@ -1,0 +1,282 @@
+//! What each command does and answers, but for those that end deliveries.
+ghost use Rattle.std.specs.Prelude.{◌≡◌, ◌+◌, length, slice_get, if◌then◌else◌, IfOk, IsOkUnless, OnOk};
+ghost use Rattle.qq_entry.specs.declared.queue.QueueArgs.{QueueArgs};
+ghost use Rattle.std.specs.Option.{option_map_or};
+ghost use Rattle.qq_parts.specs.Parts.{items_of, outs};
+ghost use Rattle.qq_parts_step.specs.Commands.{parts_enqueue, parts_get, parts_subscribe, parts_cancel, parts_give_credit, parts_purge, parts_dead_attach, parts_settle_dead, parts_settle_dead_by, take_given, parts_dead_settle, full_by};
+ghost use Rattle.qq_model.specs.Commands.{is_at_least_once};
+ghost use Rattle.qq_machine.specs.Views.{work_of, parts_of, Becomes, Changes, Replies};
+
+use crate::queue::{Draft, Queue, next_number};
+use qq_base::{ConsumerId, Index, Memory, Term};
+use qq_consumer::Consumers;
+use qq_entry::{Answer, Cause, DeadDone, Delivery, Full, Message, Mode, QueueArgs, Strategy};
+use qq_model::MOST_CONSUMERS;
+use qq_ready::Ready;
+use qq_rules::refuses;
+use std::alloc::Global;
+
+// A sum that fits. Lists in memory are never so long that theirs doesn't.
+fn add(a: u64, b: u64) -> Result<u64, Memory>
+    ensures ok { IfOk result (λ sum. sum ≡ a + b) }
+    ensures want { IsOkUnless result Memory.Want }
+{
+    match a.checked_add(b) {
+        Some(sum) => Ok(sum),
+        None => Err(Memory::Want),
+    }
+}
+
+fn out_at(consumers: &Consumers, place: usize) -> u64
+    ensures { option_map_or (λ one. length one.out) (slice_get consumers.now.roster.served place) 0
+        ≡ result }
+{
+    match consumers.row_at(place) {
+        None => 0,
+        Some(row) => row.out.len() as u64,
+    }
+}
+
+// How many messages are out with all consumers.
+fn out_count(consumers: &Consumers) -> Result<u64, Memory>
+    ensures ok { IfOk result (λ count. count ≡ length (outs consumers.now.roster.served)) }
+    ensures want { IsOkUnless result Memory.Want }
+{
+    let mut count: u64 = 0;
+    'consumers: for place in 0..consumers.len() {
+        let more = add(count, out_at(consumers, place))?;
+        count = more;
+    }
+    Ok(count)
+}
+
+fn count_if(more: bool, count: u64) -> Result<u64, Memory>
+    ensures ok { IfOk result (λ after. after ≡ (if more then count + 1 else count)) }
+    ensures want { IsOkUnless result Memory.Want }
+{
+    if more { next_number(count) } else { Ok(count) }
+}
+
+fn is_at_least_once(strategy: Strategy) -> bool
+    ensures { result ≡ is_at_least_once strategy }
+{
+    matches!(strategy, Strategy::AtLeastOnce)
+}
+
+impl Queue {
+    // How many messages aren't gone.
+    #[tactic(auto, using(crate::proofs::Ready::live_count))]
+    fn live(&self) -> Result<u64, Memory>
+        ensures ok { IfOk result (λ count. (args : QueueArgs) →
+            count ≡ length (items_of (parts_of args self.now))) }
+        ensures want { IsOkUnless result Memory.Want }
+    {
+        let out = out_count(&self.consumers)?;
+        let kept = add(out, self.dead.len() as u64)?;
+        let live = add(self.ready.count(), kept)?;
+        Ok(live)
+    }
+
+    fn full_by(&self, args: &QueueArgs) -> Result<Option<Full>, Memory>
+        ensures ok { IfOk result (λ full. full ≡ full_by (parts_of args.now self.now)) }
+        ensures want { IsOkUnless result Memory.Want }
+    {
+        let live = self.live()?;
+        Ok(refuses(args, self.ready.count(), self.ready.bytes(), live))
+    }
+}
+
+impl Draft {
+    /// Publishes a message.
+    #[tactic(auto, unfolding(qq_parts_step::specs::Commands::parts_enqueue))]
+    pub fn enqueue(
+        &mut self,
+        alloc: Global,
+        args: &QueueArgs,
+        index: Index,
+        message: &Message,
+    ) -> Result<Answer, Memory>
+        ensures ok { IfOk result (Replies (parts_enqueue index message.now)
+            args.now self.old self.new) }
+        ensures want { IsOkUnless result Memory.Want }
+    {
+        let full = self.queue.full_by(args)?;
+        match full {
+            Some(full) => Ok(Answer::Rejected(full)),
+            None => {
+                self.queue.arrive(alloc, index, message)?;
+                Ok(Answer::Confirmed)
+            }
+        }
+    }
+
+    /// Takes the next message, settled at once.
+    #[tactic(auto, unfolding(qq_parts_step::specs::Commands::parts_get))]
+    pub fn get(&mut self, args: &QueueArgs) -> Answer
+        ensures { Replies parts_get args.now self.old self.new result }
+    {
+        if args.single_active {
+            return Answer::Refused(Cause::SingleActive);
+        }
+        match self.queue.take_first() {
+            None => Answer::Empty,
+            Some(row) => Answer::Got(Delivery {
+                index: row.index,
+                arrival: row.arrival,
+                id: 0,
+                count: row.count,
+                message: row.message,
+            }),
+        }
+    }
+
+    /// Attaches the dead-letter worker of a term.
+    #[tactic(auto, unfolding(qq_parts_step::specs::Commands::parts_dead_attach))]
+    pub fn dead_attach(&mut self, args: &QueueArgs, term: Term) -> Answer
+        ensures { Replies (parts_dead_attach term) args.now self.old self.new result }
+    {
+        if !is_at_least_once(args.strategy) {
+            return Answer::Stale;
+        }
+        if self.queue.dead.attach(term) {
+            Answer::Attached
+        } else {
+            Answer::Stale
+        }
+    }
+
+    /// Adds a consumer.
+    #[tactic(auto, unfolding(qq_parts_step::specs::Commands::parts_subscribe))]
+    pub fn subscribe(
+        &mut self,
+        alloc: Global,
+        args: &QueueArgs,
+        id: ConsumerId,
+        mode: Mode,
+    ) -> Result<Answer, Memory>
+        ensures ok { IfOk result (Replies (parts_subscribe id mode) args.now self.old self.new) }
+        ensures want { IsOkUnless result Memory.Want }
+    {
+        let greatest = self.queue.sessions.greatest_tag(id.session);
+        if id.tag <= greatest {
+            return Ok(Answer::Refused(Cause::NumberSpent));
+        }
+        if MOST_CONSUMERS <= self.queue.consumers.len() as u64 {
+            return Ok(Answer::Refused(Cause::ConsumersFull));
+        }
+        next_number(self.queue.consumers.turns())?;
+        match self.queue.consumers.subscribe(alloc, id, mode, greatest, 0) {
+            Ok(()) => {}
+            Err(_) => return Err(Memory::Want),
+        }
+        self.queue.sessions.take_tag(id.session, id.tag);
+        Ok(Answer::Subscribed)
+    }
+
+    /// Cancels a consumer.
+    #[tactic(auto, unfolding(qq_parts_step::specs::Commands::parts_cancel))]
+    pub fn cancel(&mut self, args: &QueueArgs, id: ConsumerId) -> Answer
+        ensures { Replies (parts_cancel id) args.now self.old self.new result }
+    {
+        if self.queue.consumers.cancel(id) {
+            Answer::Done
+        } else {
+            Answer::Refused(Cause::NoConsumer)
+        }
+    }
+
+    /// Sets the link credit of a consumer.
+    #[tactic(auto, unfolding(qq_parts_step::specs::Commands::parts_give_credit))]
+    pub fn give_credit(
+        &mut self,
+        args: &QueueArgs,
+        id: ConsumerId,
+        count: u32,
+        credit: u32,
+    ) -> Result<Answer, Memory>
+        ensures ok { IfOk result (Replies (parts_give_credit id (count + credit))
+            args.now self.old self.new) }
+        ensures want { IsOkUnless result Memory.Want }
+    {
+        next_number(self.queue.consumers.turns())?;
+        self.queue.consumers.reserve(id, 0)?;
+        match self.queue.consumers.credit(id, count, credit) {
+            Ok(()) => Ok(Answer::Credited { drained: 0 }),
+            Err(cause) => Ok(Answer::Refused(cause)),
+        }
+    }
+
+    /// Removes all ready messages.
+    #[tactic(auto, unfolding(qq_parts_step::specs::Commands::parts_purge))]
+    pub fn purge(&mut self, alloc: Global, args: &QueueArgs) -> Answer
+        ensures { Replies parts_purge args.now self.old self.new result }
+    {
+        let count = self.queue.ready.count();
+        let (orders, returns) = self.queue.ready.counters();
+        self.queue.ready = Ready::from_parts(Vec::new(alloc), Vec::new(alloc), orders, returns);
+        Answer::Purged { count }
+    }
+
+    #[tactic(auto, using(crate::proofs::Dead::attached_stays))]
+    fn settle_one(
+        &mut self,
+        args: &QueueArgs,
+        term: Term,
+        number: u64,
+        count: u64,
+    ) -> Result<u64, Memory>
+        requires { term.0 ≡ self.old.queue.dead.letters.attached }
+
+        ensures ok { IfOk result (λ after. parts_settle_dead_by
+            (take_given number (parts_of args.now self.old.queue))
+            (record { work = work_of args.now self.old; count = count })
+            ≡ record { work = work_of args.now self.new; count = after }) }
+        ensures attached { self.new.queue.dead.letters.attached
+            ≡ self.old.queue.dead.letters.attached }
+        ensures want { IsOkUnless result Memory.Want }
+    {
+        self.queue.dead.counters();
+        let settled = self.queue.dead.settle(term, number).is_some();
+        let after = count_if(settled, count)?;
+        Ok(after)
+    }
+
+    fn settle_dead(
+        &mut self,
+        args: &QueueArgs,
+        term: Term,
+        done: &[DeadDone],
+    ) -> Result<u64, Memory>
+        requires { term.0 ≡ self.old.queue.dead.letters.attached }
+
+        ensures ok { IfOk result (λ count. parts_settle_dead done.now (work_of args.now self.old)
+            ≡ record { work = work_of args.now self.new; count = count }) }
+        ensures want { IsOkUnless result Memory.Want }
+    {
+        let mut count = 0;
+        for one in done {
+            count = self.settle_one(args, term, one.number, count)?;
+        }
+        Ok(count)
+    }
+
+    /// Settles dead letters.
+    #[tactic(auto, unfolding(qq_parts_step::specs::Commands::parts_dead_settle))]
+    pub fn dead_settle(
+        &mut self,
+        args: &QueueArgs,
+        term: Term,
+        done: &[DeadDone],
+    ) -> Result<Answer, Memory>
+        ensures ok { IfOk result (Replies (parts_dead_settle term done.now)
+            args.now self.old self.new) }
+        ensures want { IsOkUnless result Memory.Want }
+    {
+        let (_, _, attached) = self.queue.dead.counters();
+        if !is_at_least_once(args.strategy) || term.0 != attached.0 {
+            return Ok(Answer::Stale);
+        }
+        let count = self.settle_dead(args, term, done)?;
+        Ok(Answer::DeadSettled { count })
+    }
+}

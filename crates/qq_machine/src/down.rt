@@ -1,0 +1,74 @@
+//! The end of a session.
+ghost use Rattle.std.specs.Prelude.{◌≡◌, false, IfOk, IsOkUnless, OnOk};
+ghost use Rattle.qq_model.specs.declared.place.Place.{Place};
+ghost use Rattle.qq_parts_step.specs.Commands.{parts_return_session, parts_down};
+ghost use Rattle.qq_machine.specs.Views.{work_of, Changes, Replies, return_rows};
+
+use crate::queue::Draft;
+use qq_base::{Memory, SessionId};
+use qq_consumer::Rising;
+use qq_entry::{Answer, QueueArgs, ReadyRow};
+use std::alloc::Global;
+
+impl Draft {
+    fn return_rows(&mut self, args: &QueueArgs, mut rows: Rising<ReadyRow>) -> Result<(), Memory>
+        ensures ok { OnOk result ((place : Place) → Changes
+            (return_rows place rows.items) args.now self.old self.new) }
+        ensures want { IsOkUnless result Memory.Want }
+    {
+        'rows: for _round in 0..rows.len() {
+            let Some(row) = rows.take_first() else {
+                return Err(Memory::Want);
+            };
+            self.return_row(args, row)?;
+        }
+        Ok(())
+    }
+
+    // The longest joined consumer of a session leaves, and what is out with it goes back. False where
+    // there is none.
+    fn return_first(&mut self, args: &QueueArgs, session: SessionId) -> Result<bool, Memory>
+        ensures ok { IfOk result (λ did. parts_return_session session (work_of args.now self.old)
+            ≡ parts_return_session session (work_of args.now self.new)) }
+        ensures over { IfOk result (λ did. did ≡ false →
+            parts_return_session session (work_of args.now self.new) ≡ work_of args.now self.new) }
+        ensures want { IsOkUnless result Memory.Want }
+    {
+        self.queue.consumers.len();
+        let Some(row) = self.queue.consumers.end(session) else {
+            return Ok(false);
+        };
+        self.return_rows(args, row.out)?;
+        Ok(true)
+    }
+
+    fn return_session(&mut self, args: &QueueArgs, session: SessionId) -> Result<(), Memory>
+        ensures ok { OnOk result (Changes (parts_return_session session)
+            args.now self.old self.new) }
+        ensures want { IsOkUnless result Memory.Want }
+    {
+        'rounds: for _round in 0..u64::MAX {
+            if !self.return_first(args, session)? {
+                return Ok(());
+            }
+        }
+        Err(Memory::Want)
+    }
+
+    /// Ends a session.
+    #[tactic(auto, unfolding(qq_parts_step::specs::Commands::parts_down))]
+    pub fn down(
+        &mut self,
+        alloc: Global,
+        args: &QueueArgs,
+        session: SessionId,
+    ) -> Result<Answer, Memory>
+        ensures ok { IfOk result (Replies (parts_down session) args.now self.old self.new) }
+        ensures want { IsOkUnless result Memory.Want }
+    {
+        self.return_session(args, session)?;
+        self.queue.sessions.reserve(alloc, session)?;
+        self.queue.sessions.end(session);
+        Ok(Answer::Down)
+    }
+}

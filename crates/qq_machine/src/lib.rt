@@ -1,0 +1,18 @@
+//! The machine of parts: a queue that keeps lists of its live messages alone, each in its own order. Each
+//! command is a method over these lists, and a whole step is that of `qq_parts_step`.
+#![tactic(auto)]
+
+mod commands;
+mod down;
+mod ends;
+mod finish;
+mod machine;
+mod moves;
+mod queue;
+mod serving;
+mod step;
+mod table;
+
+pub use machine::Machine;
+pub use qq_base::Memory;
+pub use queue::{Draft, Made, Queue};

@@ -1,0 +1,46 @@
+ghost use Rattle.std.specs.Prelude.{◌≡◌, ◌+◌, ◌<◌, ◌≤◌, ◌^◌, IfOk, IsOkUnless, OnOk};
+
+use qq_base::Memory;
+use qq_consumer::Consumers;
+use qq_dead::Dead;
+use qq_entry::{Answer, Effect};
+use qq_ready::Ready;
+use qq_sessions::Sessions;
+
+/// A queue but for its arguments, which a step never copies.
+#[derive(Debug, Drop)]
+pub struct Queue {
+    pub applied: u64,
+    pub arrivals: u64,
+    pub sessions: Sessions,
+    pub ready: Ready,
+    pub consumers: Consumers,
+    pub dead: Dead,
+}
+
+/// A queue while an entry is applied, and the effects so far.
+#[derive(Debug, Drop)]
+pub struct Draft {
+    pub queue: Queue,
+    pub effects: Vec<Effect>,
+}
+
+/// A queue as an entry leaves it, whether the entry's command counted as fresh, and its answer.
+#[derive(Debug, Drop)]
+pub struct Made {
+    pub draft: Draft,
+    pub fresh: bool,
+    pub answer: Answer,
+}
+
+/// The number that follows. At the end of 64 bits memory is out.
+pub fn next_number(number: u64) -> Result<u64, Memory>
+    ensures ok { IfOk result (λ next. next ≡ number + 1) }
+    ensures fits { OnOk result (number + 1 < 2 ^ 64) }
+    ensures want { IsOkUnless result Memory.Want }
+{
+    match number.checked_add(1) {
+        Some(next) => Ok(next),
+        None => Err(Memory::Want),
+    }
+}
