@@ -60,7 +60,7 @@ pub covers-more :
 covers-more s held new place p is lt c rises here =
     let F = λ (q : Peer). is_held s q.matched ≡ true → q.matched ≤ new in
     let weaker = All-weaker (λ (q : Peer). is_held s q.matched ≡ true → q.matched ≤ held) F
-        (λ q f t. let le = f t in omega (arith, le, rises)) (take place s.peers) c.each in
+    (λ q f t. let le = f t in omega (arith, le, rises)) (take place s.peers) c.each in
     record {
       own = λ t. let le = c.own t in omega (arith, le, rises);
       each = All-more F s.peers place p lt weaker (subst F is here);
@@ -70,9 +70,10 @@ each-more : (s : Server) (held index : ℕ) (peers : List Peer)
     → AllByRecursion (λ (p : Peer). is_held s p.matched ≡ true → p.matched ≤ held) peers → is_held s index ≡ true
     → held < index → AllByRecursion (λ (p : Peer). nat_le index p.matched ≡ nat_le (index + 1) p.matched) peers
 each-more s held index [] all t lt = tt
-each-more s held index (p ∷ peers) all t lt =
-    (one-more held index p.matched (λ same. all.0 (subst (λ n. is_held s n ≡ true) (sym same) t)) lt,
-    each-more s held index peers all.1 t lt)
+each-more s held index (p ∷ peers) all t lt = (
+  one-more held index p.matched (λ same. all.0 (subst (λ n. is_held s n ≡ true) (sym same) t)) lt,
+  each-more s held index peers all.1 t lt,
+)
 
 next-held : (s : Server) (held index : ℕ) → Covers s held s.peers → held < index → is_held s index ≡ true
     → is_held s (index + 1) ≡ true
@@ -80,7 +81,7 @@ next-held s held index c lt t =
     let own = one-more held index (durable s) (λ same. c.own (subst (λ n. is_held s n ≡ true) (sym same) t)) lt in
     let each = recursion_from_All (λ (p : Peer). is_held s p.matched ≡ true → p.matched ≤ held) s.peers c.each in
     let others = count-same (λ (p : Peer). nat_le index p.matched) (λ (p : Peer). nat_le (index + 1) p.matched) s.peers
-        (each-more s held index s.peers each t lt) in
+    (each-more s held index s.peers each t lt) in
     ap (λ n. nat_lt (length s.peers + 1) (2 * (one_if (nat_le (index + 1) (durable s)) + n))) (sym others)
     ∙ ap (λ b. nat_lt (length s.peers + 1) (2 * (one_if b + count_by (λ (p : Peer). nat_le index p.matched) s.peers)))
     (sym own)
@@ -109,7 +110,7 @@ past-end : (s : Server) (index : ℕ) → All IsPeer s.peers → last s ≤ NUMB
     → is_held s index ≡ false
 past-end s index peers end lt =
     let none = count-none (λ (p : Peer). nat_le index p.matched) s.peers
-        (none-past index s.peers (recursion_from_All IsPeer s.peers peers) lt) in
+    (none-past index s.peers (recursion_from_All IsPeer s.peers peers) lt) in
     let own : nat_le index (durable s) ≡ false = lt-leb index (durable s) (omega (arith, end, lt)) in
     ap (λ n. nat_lt (length s.peers + 1) (2 * (one_if (nat_le index (durable s)) + n))) none
     ∙ ap (λ b. nat_lt (length s.peers + 1) (2 * (one_if b + 0))) own

@@ -56,11 +56,13 @@ all_index P xs i x is lt all = subst P (sym is) (All-get_or P xs i x lt all)
 
 pub entry_in_log : (term : Term) (time : ℕ) (command : Command) → term.0 ≤ NUMBER_END → time < 2 ^ 64
     → IsCommand command → HasContent command → IsInLog (record { term = term; time = time; command = command })
-entry_in_log term time command le lt is content =
-    (record {
-      range = record { term = omega (arith, le); time = lt; command = is };
-      content = content;
-    }, le)
+entry_in_log term time command le lt is content = (
+  record {
+    range = record { term = omega (arith, le); time = lt; command = is };
+    content = content;
+  },
+  le,
+)
 
 pub with_bytes : (es : List Entry) → All IsInLog es → All IsEntry es
 with_bytes es all = All-weaker IsInLog IsEntry (λ e f. f.0) es all

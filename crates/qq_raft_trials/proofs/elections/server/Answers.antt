@@ -4,8 +4,9 @@ use Rattle.qq_raft_msg.specs.Rpc.{IsNode}
 use Rattle.qq_raft_trials.proofs.elections.server.Goals as goal
 
 pub new-requires-clause-nodes : goal.new-requires-clause-nodes
-new-requires-clause-nodes c =
-    (c.requires,
-    All-cons IsNode _ _ (omega arith, omega arith)
-    (All-cons IsNode _ _ (omega arith, omega arith)
-    (All-cons IsNode _ _ (omega arith, omega arith) (All-nil IsNode))))
+new-requires-clause-nodes c = (
+  c.requires,
+  All-cons IsNode _ _ (omega arith, omega arith)
+      (All-cons IsNode _ _ (omega arith, omega arith)
+      (All-cons IsNode _ _ (omega arith, omega arith) (All-nil IsNode))),
+)
