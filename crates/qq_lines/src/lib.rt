@@ -16,4 +16,5 @@ mod words;
 pub use fault::ScriptFault;
 pub use laws::numbers_are_decimal_texts;
 pub use line::{LINE_LIMIT, Nodes, Place, ScriptLine};
+pub use numbers::number_in;
 pub use parse::parse_line;

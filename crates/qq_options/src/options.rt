@@ -1,0 +1,38 @@
+ghost use Rattle.std.specs.Prelude.{◌≡◌, IfOk, IsOkUnless};
+ghost use Rattle.qq_defs.specs.Setup.{state_of, plain_setup};
+
+use qq_base::Memory;
+use qq_defs::Setup;
+use std::alloc::Global;
+
+/// The most queues that a script may have.
+pub const QUEUES_MOST: u64 = 1_024;
+
+/// How long a log file becomes at most, where the words don't say it: 4 MiB.
+pub const LOG_BYTES: u64 = 4_194_304;
+
+/// The least that may be said of it: 64 KiB.
+pub const LOG_BYTES_LEAST: u64 = 65_536;
+
+/// The most that may be said of it: 64 MiB.
+pub const LOG_BYTES_MOST: u64 = 67_108_864;
+
+/// What a script is run with.
+#[derive(Clone, Copy, Debug, PartialEq, Eq, Hash)]
+pub struct Options {
+    /// How many queues there are, from 1 to `QUEUES_MOST`.
+    pub queues: u32,
+    /// How many bytes a log file may have before a new one begins.
+    pub log_bytes: u64,
+}
+
+impl Options {
+    /// The setup of one node: queues `q1`, `q2` and so on with no arguments, each alone in its group.
+    pub fn setup(self, alloc: Global) -> Result<Setup, Memory>
+        ensures ok { IfOk result (λ setup.
+            state_of setup ≡ plain_setup 1 1 self.queues self.log_bytes) }
+        ensures want { IsOkUnless result Memory.Want }
+    {
+        Setup::plain(alloc, 1, 1, self.queues, self.log_bytes)
+    }
+}
