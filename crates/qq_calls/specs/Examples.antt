@@ -1,0 +1,10 @@
+-- Setups of examples.
+use Rattle.std.specs.Prelude.{None}
+use Rattle.qq_route.specs.declared.routes.Routes.{Routes}
+use Rattle.qq_defs.specs.declared.setup.Setup.{Setup}
+use Rattle.qq_defs.specs.Setup.{plain_rows}
+
+-- one node with two queues
+abbrev pub two_queues : Routes → Setup
+two_queues routes =
+    record { nodes = 1; queues = plain_rows 1 1 2; routes = routes; log_bytes = 4194304; made = None }

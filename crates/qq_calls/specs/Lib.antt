@@ -1,0 +1,4 @@
+pub mod Queues
+pub mod Calls
+pub mod Lines
+pub mod Examples

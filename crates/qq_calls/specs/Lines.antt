@@ -1,0 +1,75 @@
+-- What the lines of a script ask of a node of one server.
+use Rattle.std.specs.Prelude.{ℕ, List, [], ◌∷◌, true, false, None, Result, Ok, Err, length, nat_eq, if◌then◌else◌}
+use Rattle.std.specs.List.{find}
+use Rattle.qq_entry.specs.declared.command.Unstamped.{Unstamped}
+use Rattle.qq_entry.specs.declared.command.Unstamped.TheVariants as bodies
+use Rattle.qq_entry.specs.Message.{new_message}
+use Rattle.qq_defs.specs.declared.members.QueueRow.{QueueRow}
+use Rattle.qq_defs.specs.declared.setup.Setup.{Setup}
+use Rattle.qq_lines.specs.declared.fault.ScriptFault.{ScriptFault}
+use Rattle.qq_lines.specs.declared.fault.ScriptFault.TheVariants.{Unknown, NoSuch}
+use Rattle.qq_lines.specs.declared.line.Place.{Place}
+use Rattle.qq_lines.specs.declared.line.ScriptLine.{ScriptLine}
+use Rattle.qq_lines.specs.declared.line.ScriptLine.TheVariants as lines
+use Rattle.qq_lines.specs.Bodies.{limited}
+use Rattle.qq_lines.specs.Lines.{parse_line}
+use Rattle.qq_lines.specs.Names.{named}
+use Rattle.qq_lines.specs.Words.{◌>>=◌, or_fault}
+use Rattle.qq_world.specs.Rules.{Line, Nothing, Send, Resend, Mute, Auto, Pump, Write, Sync, Notice, Tick, Crash, Restart, Show}
+use Rattle.qq_calls.specs.Queues.{place_of}
+
+-- ---- messages
+
+-- a publish by way of the default exchange, whose key is the queue's name
+abbrev pub publish_to : QueueRow → List ℕ → Unstamped
+publish_to row body = bodies.Enqueue None (new_message (record { body = body; key = row.name; deaths = [] }))
+
+abbrev pub send_to : QueueRow → ℕ → List ℕ → Result Line ScriptFault
+send_to row session body = limited body >>= λ short. Ok (Send (place_of row) session (publish_to row short))
+
+-- to the first queue
+abbrev pub publish : List QueueRow → List ℕ → Result Line ScriptFault
+publish [] body = Err NoSuch
+publish (row ∷ rows) body = send_to row 1 body
+
+-- to the queue of a name
+abbrev pub send_by_name : List QueueRow → ℕ → List ℕ → List ℕ → Result Line ScriptFault
+send_by_name rows session key body = or_fault NoSuch (find (named key) rows) >>= λ row. send_to row session body
+
+-- to the queue that the key names: there is no exchange but the default one, which has no name
+abbrev pub send : List QueueRow → ℕ → List ℕ → List ℕ → List ℕ → Result Line ScriptFault
+send rows session exchange key body =
+    if nat_eq (length exchange) 0 then send_by_name rows session key body else Err NoSuch
+
+-- ---- lines
+
+-- What a line asks of a node. A node has no consumers yet, so what is about them is unknown.
+unfoldable pub line_of : List QueueRow → ScriptLine → Result Line ScriptFault
+line_of rows lines.Nothing = Ok Nothing
+line_of rows (lines.Publish body) = publish rows body
+line_of rows (lines.Send by exchange key body) = send rows by.number exchange key body
+line_of rows (lines.Get by at) = Ok (Send at.0 by.number bodies.Get)
+line_of rows (lines.Resend by) = Ok (Resend by.number)
+line_of rows (lines.Mute by) = Ok (Mute by.number true)
+line_of rows (lines.Unmute by) = Ok (Mute by.number false)
+line_of rows lines.Manual = Ok (Auto false)
+line_of rows lines.Auto = Ok (Auto true)
+line_of rows lines.Pump = Ok Pump
+line_of rows (lines.Write node) = Ok Write
+line_of rows (lines.Sync node) = Ok Sync
+line_of rows (lines.Notice node at) = Ok (Notice at.0)
+line_of rows (lines.Tick node at) = Ok (Tick at.0)
+line_of rows (lines.Crash nodes image) = Ok (Crash image)
+line_of rows (lines.Restart nodes) = Ok Restart
+line_of rows (lines.Show at) = Ok (Show at.0)
+line_of rows _ = Err Unknown
+
+-- ---- bytes
+
+-- above all clients' sections
+abbrev pub at_line : ℕ → Place
+at_line number = record { number = number; run = false; section = None }
+
+-- what a line of a script asks for, or its first fault
+unfoldable pub read_line : Setup → ℕ → List ℕ → Result Line ScriptFault
+read_line s number line = parse_line s (at_line number) line >>= line_of s.queues

@@ -1,0 +1,56 @@
+//! What lines ask for, as laws: the functions do nothing, and their contracts are the laws.
+ghost use Rattle.std.specs.Prelude.{◌≡◌, ◌<◌, ◌+◌, ◌++◌, ℕ, Ok, Err, true, false, codes};
+ghost use Rattle.std.specs.List.{range_with_len};
+ghost use Rattle.std.specs.Fmt.{decimal};
+ghost use Rattle.qq_disk.specs.declared.image.Tail.TheVariants.{Cut};
+ghost use Rattle.qq_entry.specs.declared.command.Unstamped.TheVariants.{Get};
+ghost use Rattle.qq_entry.specs.Queue.{default_args};
+ghost use Rattle.qq_route.specs.declared.routes.Routes.{Routes};
+ghost use Rattle.qq_defs.specs.Setup.{plain_row, plain_rows};
+ghost use Rattle.qq_lines.specs.declared.fault.ScriptFault.TheVariants.{Unknown, Words, NoSuch};
+ghost use Rattle.qq_world.specs.Rules.{Send, Mute, Auto, Notice, Crash};
+ghost use Rattle.qq_calls.specs.Queues.{node_setup};
+ghost use Rattle.qq_calls.specs.Lines.{publish_to, read_line};
+ghost use Rattle.qq_calls.specs.Examples.{two_queues};
+
+/// A law: a setup of queues without arguments is one of a node with the places 1, 2 and so on. The first queue
+/// has place 1, and each one its name and the arguments that a queue has by default, in a group of one.
+pub fn a_node_has_the_queues_of_its_setup()
+    ensures places { (count : ℕ) → (node_setup (plain_rows 1 1 count)).places
+        ≡ range_with_len 1 count }
+    ensures first { (count : ℕ) → 0 < count → (node_setup (plain_rows 1 1 count)).first ≡ 1 }
+    ensures name { (count before : ℕ) → before < count →
+        (node_setup (plain_rows 1 1 count)).name (before + 1)
+        ≡ codes "q" ++ decimal (before + 1) }
+    ensures args { (count before : ℕ) → before < count →
+        (node_setup (plain_rows 1 1 count)).args (before + 1)
+        ≡ default_args (record { 0 = before + 1 }) 1 }
+{}
+
+/// A law: what some lines ask of a node with the queues `q1` and `q2`, and why others aren't served.
+pub fn lines_ask_for_their_rules()
+    ensures publish { (routes : Routes) → read_line (two_queues routes) 1 (codes "publish a")
+        ≡ Ok (Send 1 1 (publish_to (plain_row 1 1 0) (codes "a"))) }
+    ensures send { (routes : Routes) → read_line (two_queues routes) 1 (codes "send 3 - q2 bb")
+        ≡ Ok (Send 2 3 (publish_to (plain_row 1 1 1) (codes "bb"))) }
+    ensures get { (routes : Routes) →
+        read_line (two_queues routes) 1 (codes "get 3 q2") ≡ Ok (Send 2 3 Get) }
+    ensures mute { (routes : Routes) →
+        read_line (two_queues routes) 1 (codes "mute 3") ≡ Ok (Mute 3 true) }
+    ensures manual { (routes : Routes) →
+        read_line (two_queues routes) 1 (codes "manual") ≡ Ok (Auto false) }
+    ensures notice { (routes : Routes) →
+        read_line (two_queues routes) 1 (codes "notice 1 #2") ≡ Ok (Notice 2) }
+    ensures crash { (routes : Routes) → read_line (two_queues routes) 1 (codes "crash 1 cut 20")
+        ≡ Ok (Crash (record { newest_log = Cut 20; others = Cut 0; removed_back = false })) }
+    ensures another_node { (routes : Routes) →
+        read_line (two_queues routes) 1 (codes "write 2") ≡ Err NoSuch }
+    ensures another_queue { (routes : Routes) →
+        read_line (two_queues routes) 1 (codes "send 1 - q3 a") ≡ Err NoSuch }
+    ensures another_exchange { (routes : Routes) →
+        read_line (two_queues routes) 1 (codes "send 1 logs q1 a") ≡ Err NoSuch }
+    ensures no_body { (routes : Routes) →
+        read_line (two_queues routes) 1 (codes "publish") ≡ Err Words }
+    ensures consumers { (routes : Routes) →
+        read_line (two_queues routes) 1 (codes "subscribe 1 q1 1 1") ≡ Err Unknown }
+{}

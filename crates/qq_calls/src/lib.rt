@@ -1,0 +1,10 @@
+//! What the lines of a script ask of a node.
+#![tactic(auto)]
+
+mod call;
+mod laws;
+mod lines;
+
+pub use call::Call;
+pub use laws::{a_node_has_the_queues_of_its_setup, lines_ask_for_their_rules};
+pub use lines::{call_of, read_line};

@@ -1,0 +1,170 @@
+ghost use Rattle.std.specs.Prelude.{◌≡◌, Ok, IfOk, IfErr};
+ghost use Rattle.std.specs.List.{find};
+ghost use Rattle.std.specs.Option.{option_copied};
+ghost use Rattle.qq_lines.specs.Names.{named};
+ghost use Rattle.qq_lines.specs.Lines.{HasScriptCause};
+ghost use Rattle.qq_calls.specs.Calls.{rule_of};
+ghost use Rattle.qq_calls.specs.Lines.{send_to, publish, send, line_of, read_line};
+
+use crate::call::Call;
+use qq_base::{Bytes, Duplicate, Text};
+use qq_defs::{QueueRow, Setup};
+use qq_entry::{BODY_LIMIT, Content, Deaths, Message, Unstamped};
+use qq_lines::{Place, ScriptFault, ScriptLine, parse_line};
+use std::alloc::Global;
+
+fn is_named(word: &Text, row: &QueueRow) -> bool
+    ensures { result ≡ named word.now row.now }
+{
+    row.name.as_str() == word.as_str()
+}
+
+fn find_named<'a>(rows: &'a [QueueRow], word: &Text) -> Option<&'a QueueRow>
+    ensures { option_copied result ≡ find (named word.now) rows.now }
+{
+    for row in rows {
+        if is_named(word, row) {
+            return Some(row);
+        }
+    }
+    None
+}
+
+// A message to a queue by way of the default exchange.
+fn send_to(alloc: Global, row: &QueueRow, session: u64, body: Bytes) -> Result<Call, ScriptFault>
+    ensures ok { IfOk result (λ call. send_to row.now session body ≡ Ok (rule_of call)) }
+    ensures cause { IfErr result (λ e. HasScriptCause e (send_to row.now session body)) }
+{
+    if body.len() > BODY_LIMIT {
+        return Err(ScriptFault::Body {
+            size: body.len() as u64,
+        });
+    }
+    let message = Message::new(Content {
+        body,
+        key: row.name.copy(alloc)?,
+        deaths: Deaths::new(alloc),
+    });
+    Ok(Call::Send {
+        queue: row.args.queue,
+        session,
+        body: Unstamped::Enqueue {
+            origin: None,
+            message,
+        },
+    })
+}
+
+fn publish(alloc: Global, rows: &[QueueRow], body: Bytes) -> Result<Call, ScriptFault>
+    ensures ok { IfOk result (λ call. publish rows.now body ≡ Ok (rule_of call)) }
+    ensures cause { IfErr result (λ e. HasScriptCause e (publish rows.now body)) }
+{
+    match rows {
+        [row, ..] => send_to(alloc, row, 1, body),
+        [] => Err(ScriptFault::NoSuch),
+    }
+}
+
+fn send(
+    alloc: Global,
+    rows: &[QueueRow],
+    session: u64,
+    exchange: &Text,
+    key: &Text,
+    body: Bytes,
+) -> Result<Call, ScriptFault>
+    ensures ok { IfOk result (λ call.
+        send rows.now session exchange.now key.now body ≡ Ok (rule_of call)) }
+    ensures cause { IfErr result (λ e.
+        HasScriptCause e (send rows.now session exchange.now key.now body)) }
+{
+    if exchange.len() != 0 {
+        return Err(ScriptFault::NoSuch);
+    }
+    match find_named(rows, key) {
+        Some(row) => send_to(alloc, row, session, body),
+        None => Err(ScriptFault::NoSuch),
+    }
+}
+
+/// What a line asks of a node of these queues.
+///
+/// - `ok`: it is the line's call.
+/// - `cause`: `NoSuch` comes where a message goes to an exchange, or to a queue that isn't there, `Body` where
+///   it is too long, and `Unknown` for a line about consumers. `Memory(Memory::Want)` may come at any time.
+#[tactic(auto, unfolding(crate::specs::Lines::line_of))]
+pub fn call_of(alloc: Global, rows: &[QueueRow], said: ScriptLine) -> Result<Call, ScriptFault>
+    ensures ok { IfOk result (λ call. line_of rows.now said ≡ Ok (rule_of call)) }
+    ensures cause { IfErr result (λ e. HasScriptCause e (line_of rows.now said)) }
+{
+    match said {
+        ScriptLine::Nothing => Ok(Call::Nothing),
+        ScriptLine::Publish { body } => publish(alloc, rows, body),
+        ScriptLine::Send {
+            session,
+            exchange,
+            key,
+            body,
+        } => send(alloc, rows, session.number, &exchange, &key, body),
+        ScriptLine::Get { session, queue } => Ok(Call::Send {
+            queue,
+            session: session.number,
+            body: Unstamped::Get,
+        }),
+        ScriptLine::Resend { session } => Ok(Call::Resend {
+            session: session.number,
+        }),
+        ScriptLine::Mute { session } => Ok(Call::Mute {
+            session: session.number,
+            muted: true,
+        }),
+        ScriptLine::Unmute { session } => Ok(Call::Mute {
+            session: session.number,
+            muted: false,
+        }),
+        ScriptLine::Manual => Ok(Call::Auto { auto: false }),
+        ScriptLine::Auto => Ok(Call::Auto { auto: true }),
+        ScriptLine::Pump => Ok(Call::Pump),
+        ScriptLine::Write { .. } => Ok(Call::Write),
+        ScriptLine::Sync { .. } => Ok(Call::Sync),
+        ScriptLine::Notice { queue, .. } => Ok(Call::Notice { queue }),
+        ScriptLine::Tick { queue, .. } => Ok(Call::Tick { queue }),
+        ScriptLine::Crash { image, .. } => Ok(Call::Crash { image }),
+        ScriptLine::Restart { .. } => Ok(Call::Restart),
+        ScriptLine::Show { queue } => Ok(Call::Show { queue }),
+        ScriptLine::Subscribe { .. } => Err(ScriptFault::Unknown),
+        ScriptLine::Link { .. } => Err(ScriptFault::Unknown),
+        ScriptLine::Credit { .. } => Err(ScriptFault::Unknown),
+        ScriptLine::Settle { .. } => Err(ScriptFault::Unknown),
+        ScriptLine::Return { .. } => Err(ScriptFault::Unknown),
+        ScriptLine::Discard { .. } => Err(ScriptFault::Unknown),
+        ScriptLine::Cancel { .. } => Err(ScriptFault::Unknown),
+        ScriptLine::Purge { .. } => Err(ScriptFault::Unknown),
+        ScriptLine::End { .. } => Err(ScriptFault::Unknown),
+    }
+}
+
+/// Reads the line of this number, from 1, without its line feed.
+///
+/// - `ok`: it is the call that the line asks for.
+/// - `cause`: the fault is the line's first one, or `Memory(Memory::Want)`, which may come at any time.
+#[tactic(auto, unfolding(crate::specs::Lines::read_line))]
+pub fn read_line(
+    alloc: Global,
+    setup: &Setup,
+    number: u64,
+    line: &[u8],
+) -> Result<Call, ScriptFault>
+    ensures ok { IfOk result (λ call. read_line setup.now number line.now ≡ Ok (rule_of call)) }
+    ensures cause { IfErr result (λ e. HasScriptCause e (read_line setup.now number line.now)) }
+{
+    let place = Place {
+        number,
+        run: false,
+        section: None,
+    };
+    match parse_line(alloc, line, setup, place) {
+        Ok(said) => call_of(alloc, setup.queues.as_slice(), said),
+        Err(fault) => Err(fault),
+    }
+}
