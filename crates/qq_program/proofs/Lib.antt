@@ -1,0 +1,12 @@
+mod Prefixes
+mod Pieces
+mod Says
+mod Statuses
+mod Printing
+mod InputLines
+mod Going
+mod Ahead
+mod Answering
+mod Audits
+mod Endings
+mod Closings

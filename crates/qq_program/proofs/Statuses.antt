@@ -1,0 +1,204 @@
+-- What an exit status tells of a run.
+use Rattle.std.proofs.Common.{◌≡◌, ◌⊎◌, ℕ, ◌+◌, ◌<◌, ◌≤◌, Result, Ok, Err, List, [], ◌∷◌, ◌++◌, take, Option, Some, None, true, false, inl, inr, refl, sym, ap, subst, ◌∙◌, append-nil, codes, arith}
+use Rattle.std.proofs.lemmas.Bool.{cases_lt}
+use Rattle.std.proofs.Math.Seq.{take-nil}
+use Rattle.qq_lines.specs.declared.fault.ScriptFault.{ScriptFault}
+use Rattle.qq_lines.specs.declared.fault.ScriptFault.TheVariants as faults
+use Rattle.qq_defs.specs.declared.setup.Setup.{Setup}
+use Rattle.qq_options.specs.declared.options.Options.{Options}
+use Rattle.qq_calls.specs.Queues.{node_setup}
+use Rattle.qq_world.specs.Rules.{Line, Crash, Restart}
+use Rattle.qq_program.specs.declared.ending.TheConstants.{LINES_LIMIT}
+use Rattle.qq_program.specs.declared.stop.Stop.{Stop}
+use Rattle.qq_program.specs.declared.stop.Stop.TheVariants as stops
+use Rattle.qq_program.specs.Endings.{Ending, usage, refusal, limit_body, limit_lines}
+use Rattle.qq_program.specs.Inputs.{Input}
+use Rattle.qq_program.specs.Reading.{Says, Asks, Ends, read_input, says_by, says}
+use Rattle.qq_program.specs.Serving.{IsDamaged, EndsLost, StopsAt, MayStop, Stops, EndsRun, text_behind}
+use Rattle.qq_program.specs.Runs.{EndsBy, BreaksOff, HasStopped, ending_of, IsSetup, MayNotOpen, Closes, HasRun}
+use Rattle.qq_program.proofs.Says.{says_within, says_past}
+use Rattle.qq_program.specs.Statuses.{Streams, SourceRose, SinkRose, YardRose, HasEnded, HasEndedAtWords, Over, run_over, Prints, IsNext, PrintsAlone, IsServed, IsRefused, IsReadFault, IsCutOff, CutWithin, CutAtClosing, CutAtOpening, IsYardFault, NoDisk, AtCrash, IsDamage, MeetsDamage, DamagedAtOpening, DamagedAtRestart, HasLost, PassesLimit, IsLimited, HasNoMemory, NoneAtOpening, NoneWithin, IsSpent, SpentAtOpening, SpentAtLine, Told, Done, Refused, ReadFault, WriteFault, YardFault, Damaged, Lost, Limited, NoMemory, Spent}
+
+-- ---- before a line is read
+
+alone : (s : Streams) (text other : List ℕ) → text ≡ other → s.rest ≡ s.bytes → s.new ≡ s.old ++ text → PrintsAlone s other
+alone s text other same rest grown = (rest, grown ∙ ap (λ (l : List ℕ). s.old ++ l) same)
+
+damage_of : (ending : Ending) → IsDamaged ending → (ending.status ≡ 8) × IsDamage ending.text
+damage_of ending (inl (file, place, is)) = (ap (λ (e : Ending). e.status) is, inl (file, place, ap (λ (e : Ending). e.text) is))
+damage_of ending (inr (file, byte, is)) = (ap (λ (e : Ending). e.status) is, inr (file, byte, ap (λ (e : Ending). e.text) is))
+
+unopened_told : (n : ℕ) (options : Options) (s : Streams) (ending : Ending) → MayNotOpen ending → n ≡ ending.status
+    → s.rest ≡ s.bytes → s.new ≡ s.old ++ ending.text → Told n options s
+unopened_told n options s ending (inl e) is rest grown =
+    NoMemory (is ∙ ap (λ (e : Ending). e.status) e)
+    (NoneAtOpening (alone s ending.text (codes "memory\n") (ap (λ (e : Ending). e.text) e) rest grown))
+unopened_told n options s ending (inr (inl e)) is rest grown =
+    YardFault (is ∙ ap (λ (e : Ending). e.status) e)
+    (NoDisk (alone s ending.text (codes "yard fault\n") (ap (λ (e : Ending). e.text) e) rest grown))
+unopened_told n options s ending (inr (inr (inl damage))) is rest grown =
+    let so = damage_of ending damage in
+    Damaged (is ∙ so.0) (DamagedAtOpening ending.text so.1 (rest, grown))
+unopened_told n options s ending (inr (inr (inr (number, past, e)))) is rest grown =
+    Spent (is ∙ ap (λ (e : Ending). e.status) e)
+    (SpentAtOpening ending.text (number, past, ap (λ (e : Ending). e.text) e) (rest, grown))
+
+-- ---- a line ends the run
+
+-- by what it says
+data IsSaid (setup : Setup) (lines : ℕ) (input : Input) (ending : Ending) : Type 0 where
+  Refuses : (fault : ScriptFault) → read_input setup (lines + 1) input ≡ Err fault → ending ≡ refusal (lines + 1) fault
+      → IsSaid setup lines input ending
+  Passes : PassesLimit setup lines input ending.text → ending.status ≡ 11 → IsSaid setup lines input ending
+
+said_by : (setup : Setup) (lines : ℕ) (input : Input) (ending : Ending) (read : Result Line ScriptFault)
+    → read_input setup (lines + 1) input ≡ read → says_by (lines + 1) read ≡ Ends ending → IsSaid setup lines input ending
+said_by setup lines input ending (Ok line) reads is = absurd cc
+said_by setup lines input ending (Err (faults.Body size)) reads is =
+    let same : limit_body size ≡ ending = cc in
+    Passes (inr (size, reads, ap (λ (e : Ending). e.text) (sym same))) (ap (λ (e : Ending). e.status) (sym same))
+said_by setup lines input ending (Err faults.Unknown) reads is =
+    let same : refusal (lines + 1) faults.Unknown ≡ ending = cc in Refuses faults.Unknown reads (sym same)
+said_by setup lines input ending (Err faults.Words) reads is =
+    let same : refusal (lines + 1) faults.Words ≡ ending = cc in Refuses faults.Words reads (sym same)
+said_by setup lines input ending (Err faults.Number) reads is =
+    let same : refusal (lines + 1) faults.Number ≡ ending = cc in Refuses faults.Number reads (sym same)
+said_by setup lines input ending (Err faults.NoSuch) reads is =
+    let same : refusal (lines + 1) faults.NoSuch ≡ ending = cc in Refuses faults.NoSuch reads (sym same)
+said_by setup lines input ending (Err faults.TooLong) reads is =
+    let same : refusal (lines + 1) faults.TooLong ≡ ending = cc in Refuses faults.TooLong reads (sym same)
+said_by setup lines input ending (Err faults.Session) reads is =
+    let same : refusal (lines + 1) faults.Session ≡ ending = cc in Refuses faults.Session reads (sym same)
+said_by setup lines input ending (Err (faults.Memory memory)) reads is =
+    let same : refusal (lines + 1) (faults.Memory memory) ≡ ending = cc in
+    Refuses (faults.Memory memory) reads (sym same)
+
+of_said : (setup : Setup) (lines : ℕ) (input : Input) (ending : Ending) → says setup lines input ≡ Ends ending
+    → IsSaid setup lines input ending
+of_said setup lines input ending is = elim (cases_lt lines LINES_LIMIT) [
+  | inl lt ↦ said_by setup lines input ending (read_input setup (lines + 1) input) refl
+      (sym (says_within setup lines input lt) ∙ is)
+  | inr le ↦
+      let past : Ends limit_lines ≡ Ends ending = sym (says_past setup lines input le) ∙ is in
+      let same : limit_lines ≡ ending = cc in
+      Passes (inl (le, ap (λ (e : Ending). e.text) (sym same))) (ap (λ (e : Ending). e.status) (sym same))
+]
+
+said_told : (n : ℕ) (options : Options) (s : Streams) (over : Over options s) (input : Input) (ending : Ending)
+    → IsNext over input → n ≡ ending.status → Prints over ending.text
+    → IsSaid over.setup (run_over over).lines input ending → Told n options s
+said_told n options s over input ending next is grown (Refuses fault reads same) =
+    Refused (is ∙ ap (λ (e : Ending). e.status) same)
+    (record {
+      over = over;
+      input = input;
+      is_next = next;
+      fault = fault;
+      reads = reads;
+      prints = subst (Prints over) (ap (λ (e : Ending). e.text) same) grown;
+    })
+said_told n options s over input ending next is grown (Passes passes eleven) =
+    Limited (is ∙ eleven)
+    (record { over = over; input = input; is_next = next; text = ending.text; passes = passes; prints = grown })
+
+-- by its call
+stops_told : (n : ℕ) (options : Options) (s : Streams) (over : Over options s) (input : Input) (line : Line)
+    (ending : Ending) → IsNext over input → says over.setup (run_over over).lines input ≡ Asks line → n ≡ ending.status
+    → Prints over ending.text
+    → StopsAt (YardRose s) (node_setup over.setup.queues) (run_over over).node line ending → Told n options s
+stops_told n options s over input (Crash image) ending next asks is grown (rose, same) =
+    YardFault (is ∙ ap (λ (e : Ending). e.status) same)
+    (AtCrash rose over image (input, next, asks) (subst (Prints over) (ap (λ (e : Ending). e.text) same) grown))
+stops_told n options s over input Restart ending next asks is grown (inl damage) =
+    let so = damage_of ending damage in
+    Damaged (is ∙ so.0) (DamagedAtRestart over ending.text so.1 (input, next, asks) grown)
+stops_told n options s over input Restart ending next asks is grown (inr lost) =
+    Lost (is ∙ lost.status_is)
+    (record { over = over; text = ending.text; lost = lost.lost; asks = (input, next, asks); prints = grown })
+stops_told n options s over input _ ending next asks is grown stops = absurd stops
+
+may_stop_told : (n : ℕ) (options : Options) (s : Streams) (over : Over options s) (input : Input) (line : Line)
+    (ending : Ending) → IsNext over input → says over.setup (run_over over).lines input ≡ Asks line → n ≡ ending.status
+    → Prints over ending.text
+    → MayStop (YardRose s) (node_setup over.setup.queues) (run_over over).node line ending → Told n options s
+may_stop_told n options s over input line ending next asks is grown (inl (number, past, same)) =
+    Spent (is ∙ ap (λ (e : Ending). e.status) same)
+    (SpentAtLine over line ending.text (number, past, ap (λ (e : Ending). e.text) same) (input, next, asks) grown)
+may_stop_told n options s over input line ending next asks is grown (inr stops) =
+    stops_told n options s over input line ending next asks is grown stops
+
+ends_told : (n : ℕ) (options : Options) (s : Streams) (over : Over options s) (input : Input) (ending : Ending)
+    → IsNext over input → n ≡ ending.status → Prints over ending.text
+    → EndsRun (YardRose s) over.setup (run_over over) input ending → Told n options s
+ends_told n options s over input ending next is grown (inl says') =
+    said_told n options s over input ending next is grown
+    (of_said over.setup (run_over over).lines input ending says')
+ends_told n options s over input ending next is grown (inr stops) =
+    may_stop_told n options s over input stops.line ending next stops.asks is grown stops.stops
+
+-- ---- a run that stopped
+
+stopped_told : (n : ℕ) (options : Options) (s : Streams) (setup : Setup) → IsSetup options setup → (stop : Stop)
+    → n ≡ (ending_of stop).status
+    → HasStopped stop setup (Some s.bytes) (Some s.rest) (Some s.old) (Some s.new) (SourceRose s) (SinkRose s)
+    (YardRose s) (ending_of stop).text
+    → Told n options s
+stopped_told n options s setup is_setup (stops.Ended ending) is (may, ends) =
+    let over : Over options s = record { setup = setup; is_setup = is_setup; served = ends.served } in
+    ends_told n options s over ends.next.input ending (ends.next.more, ends.next.is) is ends.written ends.next.ends
+stopped_told n options s setup is_setup stops.ReadFault is (rose, answers) =
+    ReadFault is
+    (record {
+      rose = rose;
+      over = record { setup = setup; is_setup = is_setup; served = answers.served };
+      piece = answers.is_piece;
+      prints = answers.written;
+    })
+stopped_told n options s setup is_setup stops.WriteFault is (rose, breaks) =
+    WriteFault is rose (CutWithin setup is_setup breaks)
+stopped_told n options s setup is_setup stops.NoMemory is breaks =
+    NoMemory is (NoneWithin setup is_setup breaks)
+
+closes_told : (n : ℕ) (options : Options) (s : Streams) (setup : Setup) → IsSetup options setup → (stop : Stop)
+    → Closes n (ending_of stop) (SinkRose s)
+    (λ more. HasStopped stop setup (Some s.bytes) (Some s.rest) (Some s.old) (Some s.new) (SourceRose s) (SinkRose s)
+    (YardRose s) more)
+    → Told n options s
+closes_told n options s setup is_setup stop (inl (is, stands)) = stopped_told n options s setup is_setup stop is stands
+closes_told n options s setup is_setup stop (inr (is, rose, (count, stands))) =
+    WriteFault is rose (CutAtClosing setup is_setup stop count stands)
+
+unopened_closes : (n : ℕ) (options : Options) (s : Streams) (ending : Ending) → MayNotOpen ending → s.rest ≡ s.bytes
+    → Closes n ending (SinkRose s) (λ more. s.new ≡ s.old ++ more) → Told n options s
+unopened_closes n options s ending may rest (inl (is, grown)) = unopened_told n options s ending may is rest grown
+unopened_closes n options s ending may rest (inr (is, rose, (count, grown))) =
+    WriteFault is rose (CutAtOpening ending may count (rest, grown))
+
+-- ---- any run
+
+over_told : (n : ℕ) (options : Options) (s : Streams) (setup : Setup) → IsSetup options setup
+    → HasRun n setup (Some s.bytes) (Some s.rest) (Some s.old) (Some s.new) (SourceRose s) (SinkRose s) (YardRose s)
+    → Told n options s
+over_told n options s setup is_setup (inl unopened) =
+    unopened_closes n options s unopened.ending unopened.may unopened.keeps unopened.closes
+over_told n options s setup is_setup (inr (inl done)) =
+    Done done.status_is
+    (record {
+      over = record { setup = setup; is_setup = is_setup; served = done.over.served };
+      all = done.over.all;
+      read = done.ended;
+      prints = done.over.written;
+    })
+over_told n options s setup is_setup (inr (inr stopped)) =
+    closes_told n options s setup is_setup stopped.stop stopped.closes
+
+pub told : (n : ℕ) (options : Options) (s : Streams) → HasEnded n options s → Told n options s
+told n options s (inl unopened) =
+    unopened_closes n options s unopened.ending unopened.may unopened.keeps unopened.closes
+told n options s (inr over) = over_told n options s over.setup over.is_setup over.ends
+
+-- ---- words that are no command
+
+pub words_usage : (s : Streams) → HasEndedAtWords 2 s → (s.rest ≡ s.bytes) × (s.new ≡ s.old ++ usage.text)
+words_usage s (keeps, inl (is, grown)) = (keeps, grown)
+words_usage s (keeps, inr (is, rose, part)) = absurd (omega (arith, is))

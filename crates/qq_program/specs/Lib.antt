@@ -1,0 +1,11 @@
+pub mod Endings
+pub mod Inputs
+pub mod Reading
+pub mod Pieces
+pub mod Asking
+pub mod Serving
+pub mod Service
+pub mod Runs
+pub mod Answers
+pub mod Statuses
+pub mod Printing
