@@ -1,0 +1,5 @@
+mod Audits
+mod ShortOps
+mod KnownClients
+mod Sending
+mod Noticing

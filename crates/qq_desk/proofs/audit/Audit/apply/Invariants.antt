@@ -1,0 +1,16 @@
+use Rattle.std.proofs.Common.{◌≤◌, ◌-◌, length}
+use Rattle.qq_model.specs.State.{State}
+use Rattle.qq_desk.specs.Audited.{IsAuditOf}
+use Rattle.qq_desk.proofs.audit.Audit.apply.Given as goal
+
+-- what was sound is, and nothing past the count was applied
+abbrev pub invariant-ops : goal.invariant-ops
+invariant-ops l = record {
+  sound : (s : State) → IsAuditOf s l.ops l.fn.self → IsAuditOf s l.ops l.self;
+  behind : l.self.applied ≤ l.self.audited;
+  most : l.self.audited ≤ l.count;
+  rows : length l.fn.self.rows.items ≤ length l.self.rows.items;
+}
+
+abbrev pub decreases-ops : goal.decreases-ops
+decreases-ops l = l.count - l.self.applied

@@ -1,0 +1,40 @@
+use Rattle.std.proofs.Common.{◌∙◌, ◌++◌, List, drop, filter, length, map, sym, ap, subst, arith}
+use Rattle.std.specs.List.{flat_map}
+use Rattle.qq_base.specs.declared.ids.Term.{Term}
+use Rattle.qq_entry.specs.declared.audit.AuditRow.{AuditRow}
+use Rattle.qq_world.specs.World.{Notices, Answered, hear_all, printed}
+use Rattle.qq_desk.specs.Clients.{clients_of}
+use Rattle.qq_desk.specs.Desk.{DeskState, Does, is_of_term}
+use Rattle.qq_desk.specs.Text.{shown_text_as}
+use Rattle.qq_desk.proofs.Noticing.{noticed}
+use Rattle.qq_desk.proofs.desk.Desk.notice.Goals as goal
+
+pub split_at-requires : goal.split_at-requires
+split_at-requires c =
+    omega (arith, c.notice.ensures.rows, ap length c.rows.ensures, ap length c.rows-before.ensures)
+
+pub returns-clause-ok : goal.returns-clause-ok
+returns-clause-ok c =
+    let old : DeskState = record {
+      name = c.self.inside.label.name;
+      first = c.self.inside.label.first;
+      server = c.self.inside.server;
+      known = c.self.inside.clients;
+      written = c.self.inside.written;
+      synced = c.self.inside.synced;
+    } in
+    subst (λ (d : DeskState). Does Notices d
+    (record old { server = c.notice.new.self; known = c.tell.new.clients })
+    c.args.out.now.items c.tell.new.out.items) c.self.view_is
+    (noticed old c.notice.new.self c.tell.new.clients c.split_at.result.1.now c.args.out.now.items
+    c.tell.new.out.items (sym c.is_down.ensures ∙ c.if-is_down.false) c.in_default.ensures.ok
+    (c.split_at.ensures.back ∙ ap (drop (length c.rows-before.result.now)) c.rows.ensures
+    ∙ ap (λ (l : List AuditRow). drop (length l) c.notice.new.self.audit) c.rows-before.ensures)
+    (c.in_default-tell.ensures.heard
+    ∙ ap (λ (t : Term). hear_all (filter (is_of_term t) c.split_at.result.1.now) (clients_of c.self.inside.clients))
+    c.term-term.ensures)
+    (c.in_default-tell.ensures.said
+    ∙ ap (λ (t : Term). c.args.out.now.items
+    ++ flat_map (shown_text_as c.self.inside.label.first c.self.inside.label.name) (map Answered
+    (printed (filter (is_of_term t) c.split_at.result.1.now) (clients_of c.self.inside.clients))))
+    c.term-term.ensures))

@@ -1,0 +1,22 @@
+-- The text of what a queue shows.
+use Rattle.std.specs.Prelude.{ℕ, List, ◌++◌, Bool, Some, codes}
+use Rattle.qq_base.specs.Ids.{client}
+use Rattle.qq_script.specs.Text.{line_prefix, answer_text}
+use Rattle.qq_world.specs.Node.{role_text, state_words}
+use Rattle.qq_world.specs.Server.{Server}
+use Rattle.qq_world.specs.World.{Shown, Answered, NoLeader, WindowFull}
+
+-- a line is about session 1 and the first queue, or says whom it is about
+abbrev pub prefix_as : Bool → List ℕ → ℕ → List ℕ
+prefix_as first name session = line_prefix first (Some (client session)) name
+
+-- the text of what is shown of a queue of this name, the first one or not
+abbrev pub shown_text_as : Bool → List ℕ → Shown → List ℕ
+shown_text_as first name (Answered row) = answer_text first row.entry.command name row.answer
+shown_text_as first name (NoLeader session) =
+    prefix_as first name session ++ codes "no leader " ++ name ++ codes "\n"
+shown_text_as first name (WindowFull session) = prefix_as first name session ++ codes "window full\n"
+
+-- the line that tells a server's state
+abbrev pub state_text_as : List ℕ → Server → List ℕ
+state_text_as name server = name ++ codes " 1 " ++ role_text server.role ++ state_words server ++ codes "\n"

@@ -1,0 +1,156 @@
+//! The queue's machine and its audit: what is durable is applied, op by op.
+ghost use Rattle.std.specs.Prelude.{◌≡◌, ◌<◌, ◌≤◌, ◌∷◌, [], List, false, length, take, option_to_list, IfErr, OnOk, OnErr};
+ghost use Rattle.std.specs.Option.{option_copied};
+ghost use Rattle.qq_base.specs.Causes.{SpentOnlyWhere};
+ghost use Rattle.qq_log.specs.declared.op.Op.{Op};
+ghost use Rattle.qq_model.specs.State.{State, empty_queue};
+ghost use Rattle.qq_replay.specs.Replay.{stays_within};
+ghost use Rattle.qq_world.specs.Server.{entries_in, log_of};
+ghost use Rattle.qq_desk.specs.Audited.{IsShort, AreShort, IsAuditOf, Applies, IsSameAudit};
+
+use qq_base::{Duplicate, Index, Memory, NUMBER_END};
+use qq_entry::{AuditRow, Entry, QueueArgs};
+use qq_log::Op;
+use qq_serial::Serial;
+use std::alloc::Global;
+
+/// The machine and the audit of a queue.
+#[derive(Debug, Drop)]
+pub struct Audit {
+    /// What the first ops make of a new queue.
+    pub machine: Serial,
+    /// A row for each entry of the first ops, in order. They stay where the machine runs anew.
+    pub rows: Vec<AuditRow>,
+    /// Of how many ops the machine has applied the entries.
+    pub applied: usize,
+    /// Of how many ops the rows are. It is more than `applied` once the node was restarted.
+    pub audited: usize,
+}
+
+/// The entry of an op of a group of one, which adds no more than one.
+fn entry_in(op: &Op) -> Option<&Entry>
+    requires { IsShort op.now }
+
+    ensures { entries_in op.now ≡ option_to_list (option_copied result) }
+{
+    match op {
+        Op::Change { entries, .. } => entries.as_slice().first(),
+        _ => None,
+    }
+}
+
+impl Audit {
+    /// Nothing was applied. It takes no memory.
+    pub fn new(alloc: Global, args: QueueArgs) -> Self
+        ensures sound { (ops : List Op) → IsAuditOf (empty_queue args) ops result }
+        ensures rows { result.rows.items ≡ [] }
+        ensures audited { result.audited ≡ 0 }
+    {
+        Audit {
+            machine: Serial::new(alloc, args),
+            rows: Vec::new(alloc),
+            applied: 0,
+            audited: 0,
+        }
+    }
+
+    /// The machine runs anew, from a new queue. The rows stay. It takes no memory.
+    pub fn restart(&mut self, alloc: Global, args: QueueArgs)
+        ensures rows { self.new.rows ≡ self.old.rows }
+        ensures audited { self.new.audited ≡ self.old.audited }
+        ensures applied { self.new.applied ≡ 0 }
+        ensures machine { self.new.machine ≡ empty_queue args }
+    {
+        self.machine = Serial::new(alloc, args);
+        self.applied = 0;
+    }
+
+    // Applies an entry whose row is there.
+    fn repeat_entry(&mut self, alloc: Global, entry: &Entry) -> Result<(), Memory>
+        requires { self.old.applied < self.old.audited }
+
+        ensures ok { OnOk result (Applies (entry.now ∷ []) self.old self.new) }
+        ensures err { OnErr result (IsSameAudit self.old self.new) }
+        ensures cause { IfErr result (λ e. SpentOnlyWhere e NUMBER_END
+            (stays_within self.old.machine (entry.now ∷ []) ≡ false)) }
+    {
+        let index = Index(self.machine.applied() + 1);
+        match self.machine.step(alloc, index, entry) {
+            Ok(_) => Ok(()),
+            Err(cause) => Err(cause),
+        }
+    }
+
+    // Applies an entry and adds its row.
+    fn apply_entry(&mut self, alloc: Global, entry: &Entry) -> Result<(), Memory>
+        requires { self.old.audited ≤ self.old.applied }
+
+        ensures ok { OnOk result (Applies (entry.now ∷ []) self.old self.new) }
+        ensures err { OnErr result (IsSameAudit self.old self.new) }
+        ensures cause { IfErr result (λ e. SpentOnlyWhere e NUMBER_END
+            (stays_within self.old.machine (entry.now ∷ []) ≡ false)) }
+    {
+        let index = Index(self.machine.applied() + 1);
+        if let Err(_) = self.rows.reserve(1) {
+            return Err(Memory::Want);
+        }
+        let kept = match entry.copy(alloc) {
+            Ok(kept) => kept,
+            Err(_) => return Err(Memory::Want),
+        };
+        match self.machine.step(alloc, index, entry) {
+            Ok((fresh, answer, _)) => {
+                self.rows.push_reserved(AuditRow {
+                    index,
+                    entry: kept,
+                    fresh,
+                    answer,
+                });
+                Ok(())
+            }
+            Err(cause) => Err(cause),
+        }
+    }
+
+    // Applies what an op adds.
+    fn apply_op(&mut self, alloc: Global, op: &Op) -> Result<(), Memory>
+        requires { IsShort op.now }
+
+        ensures ok { OnOk result (Applies (entries_in op.now) self.old self.new) }
+        ensures err { OnErr result (IsSameAudit self.old self.new) }
+        ensures cause { IfErr result (λ e. SpentOnlyWhere e NUMBER_END
+            (stays_within self.old.machine (entries_in op.now) ≡ false)) }
+    {
+        let Some(entry) = entry_in(op) else {
+            return Ok(());
+        };
+        if self.applied < self.audited {
+            return self.repeat_entry(alloc, entry);
+        }
+        self.apply_entry(alloc, entry)
+    }
+
+    /// Applies the entries of the first ops, as far as they aren't, and adds a row for each that has none.
+    pub fn apply(&mut self, alloc: Global, ops: &[Op], count: usize) -> Result<(), Memory>
+        requires short { AreShort ops.now }
+        requires behind { self.old.applied ≤ self.old.audited }
+        requires more { self.old.audited ≤ count }
+        requires most { count ≤ length ops.now }
+
+        ensures sound { (s : State) → IsAuditOf s ops.now self.old → IsAuditOf s ops.now self.new }
+        ensures most { self.new.audited ≤ count }
+        ensures rows { length self.old.rows.items ≤ length self.new.rows.items }
+        ensures ok { OnOk result ((self.new.applied ≡ count) × (self.new.audited ≡ count)) }
+        ensures cause { (s : State) → IsAuditOf s ops.now self.old → IfErr result (λ e.
+            SpentOnlyWhere e NUMBER_END (stays_within s (log_of (take count ops.now)) ≡ false)) }
+    {
+        'ops: while self.applied < count {
+            if let Err(cause) = self.apply_op(alloc, &ops[self.applied]) {
+                return Err(cause);
+            }
+            self.applied += 1;
+            self.audited = self.audited.max(self.applied);
+        }
+        Ok(())
+    }
+}

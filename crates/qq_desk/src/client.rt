@@ -1,0 +1,115 @@
+//! A session of a client at the queue.
+ghost use Rattle.std.specs.Prelude.{◌≡◌, ◌<◌, length, IfOk, IfErr, OnOk, OnErr};
+ghost use Rattle.qq_base.specs.Ids.{client};
+ghost use Rattle.qq_base.specs.declared.memory.TheConstants.{NUMBER_END};
+ghost use Rattle.qq_model.specs.declared.TheConstants.{WINDOW};
+ghost use Rattle.qq_session.specs.Publishing.{next_command, hand, HasHandCause};
+ghost use Rattle.qq_world.specs.World.{sender_by, sender, take_answer, is_printed_to, may_hand};
+ghost use Rattle.qq_desk.specs.Clients.{new_client, set_muted, set_numbers};
+
+use qq_base::{QueueId, SessionId};
+use qq_entry::{AuditRow, Command, Stamp, Unstamped};
+use qq_model::WINDOW;
+use qq_script::seq_of;
+use qq_session::{HandFault, Publishing};
+use std::alloc::Global;
+use std::marker::Model;
+
+/// The numbers of a client's session at the queue, and whether answers to it are lost.
+#[derive(Debug, Drop)]
+pub struct Client {
+    numbers: Publishing,
+    muted: bool,
+}
+
+impl Model for Client {
+    ghost use Rattle.qq_world.specs.World as world;
+
+    ghost Value = { world.Client };
+
+    ghost view = { λ c. record { numbers = c.numbers; muted = c.muted } };
+}
+
+impl Client {
+    /// A session that has handed out no number for the queue. It takes no memory.
+    pub fn new(alloc: Global, queue: QueueId, session: u64) -> Self
+        ensures { result ≡ new_client queue session }
+    {
+        Client {
+            numbers: Publishing::new(alloc, SessionId::client(session), queue),
+            muted: false,
+        }
+    }
+
+    /// From here on its answers are lost, or come again.
+    pub fn set_muted(&mut self, muted: bool)
+        ensures { self.new ≡ set_muted muted self.old }
+    {
+        self.muted = muted;
+    }
+
+    /// The numbers of its commands.
+    pub fn numbers(&self) -> &Publishing
+        ensures { result.now ≡ self.now.numbers }
+    {
+        &self.numbers
+    }
+
+    /// Whether it may give a number: its window isn't full.
+    pub fn may_hand(&self) -> bool
+        ensures { result ≡ may_hand self.now.numbers }
+    {
+        (self.numbers.open_count() as u64) < WINDOW
+    }
+
+    /// Gives a command the next number.
+    pub fn hand(&mut self, alloc: Global, body: Unstamped) -> Result<Command, HandFault>
+        ensures ok { IfOk result (λ command. command ≡ next_command body self.old.numbers) }
+        ensures handed { OnOk result (self.new ≡ set_numbers (hand body self.old.numbers) self.old) }
+        ensures room { OnOk result (length self.old.numbers.opened < WINDOW) }
+        ensures within { OnOk result (self.old.numbers.next < NUMBER_END) }
+        ensures err { OnErr result (self.new ≡ self.old) }
+        ensures cause { IfErr result (λ fault. HasHandCause fault self.old.numbers) }
+    {
+        self.numbers.hand(alloc, body)
+    }
+
+    /// Whether the answer of a row of its own is printed: it isn't lost, and its number is open.
+    pub fn is_printed_to(&self, row: &AuditRow) -> bool
+        ensures { result ≡ is_printed_to self.now row.now }
+    {
+        !self.muted && self.numbers.is_open(seq_of(&row.entry.command))
+    }
+
+    /// Takes the answer of a row of its own, unless that is lost.
+    pub fn take_answer(&mut self, row: &AuditRow)
+        ensures { self.new ≡ take_answer row.now self.old }
+    {
+        if self.muted {
+            return;
+        }
+        self.numbers.answer(seq_of(&row.entry.command), &row.answer);
+    }
+}
+
+// Whose session a stamp is of, where it is a client's.
+fn sender_by(stamp: Option<Stamp>) -> Option<u64>
+    ensures { result ≡ sender_by stamp }
+{
+    match stamp {
+        None => None,
+        Some(stamp) => {
+            if stamp.session == SessionId::client(stamp.session.number) {
+                return Some(stamp.session.number);
+            }
+            None
+        }
+    }
+}
+
+/// The number of the client's session that a row's command is of, None where it is of none.
+pub fn sender(row: &AuditRow) -> Option<u64>
+    ensures { result ≡ sender row.now }
+{
+    sender_by(row.entry.command.stamp())
+}

@@ -1,0 +1,147 @@
+//! The clients' sessions at the queue.
+ghost use Rattle.std.specs.Prelude.{◌≡◌, ◌<◌, [], length, true, IfOk, IfErr, OnOk, OnErr, IsOkUnless};
+ghost use Rattle.std.specs.Option.{option_copied};
+ghost use Rattle.std.specs.Map.{lookup};
+ghost use Rattle.std.specs.Prelude.{nat_eq};
+ghost use Rattle.qq_base.specs.Fronts.{put};
+ghost use Rattle.qq_base.specs.declared.memory.TheConstants.{NUMBER_END};
+ghost use Rattle.qq_model.specs.declared.TheConstants.{WINDOW};
+ghost use Rattle.qq_session.specs.Publishing.{next_command, hand, open_commands, HasHandCause};
+ghost use Rattle.qq_world.specs.World.{hear, is_printed, may_hand, take_answer};
+ghost use Rattle.qq_desk.specs.Clients.{clients_of, is_known, set_muted, set_numbers};
+
+use crate::client::{Client, sender};
+use indexmap::IndexMap;
+use qq_base::{Memory, QueueId};
+use qq_entry::{AuditRow, Command, Unstamped};
+use qq_session::HandFault;
+use std::alloc::Global;
+use std::marker::Model;
+
+/// The sessions of clients that have sent something, by their numbers. Any other is a new one.
+#[derive(Debug, Drop)]
+pub struct Clients {
+    queue: QueueId,
+    rows: IndexMap<u64, Client>,
+}
+
+impl Model for Clients {
+    ghost use Rattle.qq_desk.specs.Clients.{Known};
+
+    ghost Value = { Known };
+
+    ghost view = { λ c. record { queue = c.queue; rows = c.rows.entries } };
+}
+
+impl Clients {
+    /// No session has sent anything. It takes no memory.
+    pub fn new(alloc: Global, queue: QueueId) -> Self
+        ensures { result ≡ record { queue = queue; rows = [] } }
+    {
+        Clients {
+            queue,
+            rows: IndexMap::new(alloc),
+        }
+    }
+
+    fn client(&self, session: u64) -> Option<&Client>
+        ensures { option_copied result ≡ lookup (nat_eq session) self.now.rows }
+    {
+        self.rows.get(&session)
+    }
+
+    // Makes a row for a session that has none.
+    fn open(&mut self, alloc: Global, session: u64) -> Result<(), Memory>
+        ensures same { clients_of self.new ≡ clients_of self.old }
+        ensures ok { OnOk result (is_known session self.new ≡ true) }
+        ensures want { IsOkUnless result Memory.Want }
+    {
+        if self.rows.contains_key(&session) {
+            return Ok(());
+        }
+        let client = Client::new(alloc, self.queue, session);
+        self.rows.insert(session, client)?;
+        Ok(())
+    }
+
+    /// From here on answers to a session are lost, or come again.
+    pub fn mute(&mut self, alloc: Global, session: u64, muted: bool) -> Result<(), Memory>
+        ensures ok { OnOk result (clients_of self.new
+            ≡ put session (set_muted muted (clients_of self.old session)) (clients_of self.old)) }
+        ensures want { IsOkUnless result Memory.Want }
+    {
+        self.open(alloc, session)?;
+        let Some(client) = self.rows.get_mut(&session) else {
+            unreachable!()
+        };
+        client.set_muted(muted);
+        Ok(())
+    }
+
+    /// Gives a command of a session the next number.
+    pub fn hand(
+        &mut self,
+        alloc: Global,
+        session: u64,
+        body: Unstamped,
+    ) -> Result<Command, HandFault>
+        ensures ok { IfOk result (λ command.
+            command ≡ next_command body (clients_of self.old session).numbers) }
+        ensures handed { OnOk result (clients_of self.new ≡ put session
+            (set_numbers (hand body (clients_of self.old session).numbers)
+            (clients_of self.old session))
+            (clients_of self.old)) }
+        ensures room { OnOk result
+            (length (clients_of self.old session).numbers.opened < WINDOW) }
+        ensures within { OnOk result ((clients_of self.old session).numbers.next < NUMBER_END) }
+        ensures err { OnErr result (clients_of self.new ≡ clients_of self.old) }
+        ensures cause { IfErr result (λ fault.
+            HasHandCause fault (clients_of self.old session).numbers) }
+    {
+        if let Err(cause) = self.open(alloc, session) {
+            return Err(HandFault::Memory(cause));
+        }
+        let Some(client) = self.rows.get_mut(&session) else {
+            unreachable!()
+        };
+        client.hand(alloc, body)
+    }
+
+    /// Copies of a session's open commands in the order of their numbers.
+    pub fn resend(&self, alloc: Global, session: u64) -> Result<Vec<Command>, Memory>
+        ensures ok { IfOk result (λ commands.
+            commands.items ≡ open_commands (clients_of self.now session).numbers) }
+        ensures want { IsOkUnless result Memory.Want }
+    {
+        match self.client(session) {
+            None => Ok(Vec::new(alloc)),
+            Some(client) => client.numbers().resend(alloc),
+        }
+    }
+
+    /// Whether the answer of a row is printed.
+    pub fn is_printed(&self, row: &AuditRow) -> bool
+        ensures { result ≡ is_printed (clients_of self.now) row.now }
+    {
+        let Some(session) = sender(row) else {
+            return false;
+        };
+        match self.client(session) {
+            None => false,
+            Some(client) => client.is_printed_to(row),
+        }
+    }
+
+    /// The answer of a row comes to its session, unless that is lost.
+    pub fn hear(&mut self, row: &AuditRow)
+        ensures { clients_of self.new ≡ hear row.now (clients_of self.old) }
+    {
+        let Some(session) = sender(row) else {
+            return;
+        };
+        let Some(client) = self.rows.get_mut(&session) else {
+            return;
+        };
+        client.take_answer(row);
+    }
+}

@@ -1,0 +1,16 @@
+//! One queue of a node: its server in a group of one, with the sessions of its clients.
+#![tactic(auto)]
+
+mod audit;
+mod client;
+mod clients;
+mod desk;
+mod role;
+mod server;
+mod text;
+
+pub use desk::Desk;
+pub use qq_base::{Memory, Term, Text};
+pub use qq_entry::{AuditRow, QueueArgs, Unstamped};
+pub use qq_log::{Lane, Op};
+pub use role::Role;
