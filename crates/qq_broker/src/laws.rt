@@ -48,7 +48,10 @@ pub fn a_status_tells_what_was_done()
 /// served as it reads.
 pub fn a_script_has_ten_million_lines()
     ensures past { (run : Run) (line : Line) → 10000000 ≤ run.lines → answer_line run line
-        ≡ Ends (record { status = 11; text = codes "limit lines " ++ decimal 10000001 ++ codes "\n" }) }
+        ≡ Ends (record {
+          status = 11;
+          text = codes "limit lines " ++ decimal 10000001 ++ codes "\n";
+        }) }
     ensures within { (run : Run) (line : Line) (read : Result ScriptLine ScriptFault) →
         run.lines < 10000000 → read_line line ≡ read → answer_line run line ≡ serve_read run read }
 {}

@@ -91,7 +91,8 @@ pub fn promises_of_more_are_of_less()
 /// - `each`: so it is of each queue, where so much is recovered of all.
 /// - `words`: a count of them, no fewer than were noticed and no more than were given.
 pub fn queues_get_their_first_ops()
-    ensures one { (noticed given : List Op) (lane : Option Stable) → RecoversLane noticed given lane →
+    ensures one { (noticed given : List Op) (lane : Option Stable)
+        → RecoversLane noticed given lane →
         FirstOpsGive (length noticed) given lane }
     ensures each { (noticed given : List Op) (found : Option Lanes) →
         RecoversLanes noticed given found → (lanes : Lanes) × (found ≡ Some lanes) × ((id : ℕ) →

@@ -65,7 +65,8 @@ impl Client {
     /// Gives a command the next number.
     pub fn hand(&mut self, alloc: Global, body: Unstamped) -> Result<Command, HandFault>
         ensures ok { IfOk result (λ command. command ≡ next_command body self.old.numbers) }
-        ensures handed { OnOk result (self.new ≡ set_numbers (hand body self.old.numbers) self.old) }
+        ensures handed { OnOk result
+            (self.new ≡ set_numbers (hand body self.old.numbers) self.old) }
         ensures room { OnOk result (length self.old.numbers.opened < WINDOW) }
         ensures within { OnOk result (self.old.numbers.next < NUMBER_END) }
         ensures err { OnErr result (self.new ≡ self.old) }

@@ -47,7 +47,8 @@ impl<F: Drop> Handles<F> {
     }
 
     fn place(&self, name: FileName) -> Option<usize>
-        ensures place { result ≡ position (λ handle. same_name handle.name name) self.now.files.items }
+        ensures place { result
+            ≡ position (λ handle. same_name handle.name name) self.now.files.items }
         ensures within { IfSome result (λ place. place < vec_len self.now.files) }
     {
         self.files

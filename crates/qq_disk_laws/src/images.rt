@@ -83,7 +83,8 @@ pub fn a_named_image_keeps_what_it_names()
     ensures gone { (image : Image) (newest : Option FileName) (d : Disk) (file : FileName)
         (f : FileState) → d file ≡ Some f → image.removed_back ≡ false → f.removed ≡ true →
         image_of image newest d file ≡ None }
-    ensures cut { (count : ℕ) (pending : List ℕ) → tail_of (Cut count) pending ≡ take count pending }
+    ensures cut { (count : ℕ) (pending : List ℕ)
+        → tail_of (Cut count) pending ≡ take count pending }
     ensures junk { (junk : List ℕ) (pending : List ℕ) →
         tail_of (Junk junk) pending ≡ take (length pending) junk }
 {}

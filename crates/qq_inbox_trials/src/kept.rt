@@ -16,7 +16,8 @@ pub(crate) struct Kept {
 impl Synced for Kept {
     ghost use Rattle.std.specs.Prelude.{if◌then◌else◌, ◌==◌};
 
-    ghost synced_op = { λ k id. if id.0 == 1 then k.first else if id.0 == 2 then k.second else k.third };
+    ghost synced_op = { λ k id. if id.0 == 1 then k.first else if id.0 == 2 then k.second
+        else k.third };
 
     ghost is_stopped = { λ k. k.stopped };
 

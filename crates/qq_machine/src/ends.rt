@@ -17,7 +17,8 @@ use std::collections::VecDeque;
 impl Queue {
     /// A message goes back: before all others under a delivery limit, else to the back.
     fn put_back(&mut self, limit: Option<u64>, row: ReadyRow) -> Result<(), Memory>
-        ensures ok { OnOk result ((place : Place) → Becomes (put_back limit (item_at place row)) self.old self.new) }
+        ensures ok { OnOk result
+            ((place : Place) → Becomes (put_back limit (item_at place row)) self.old self.new) }
         ensures want { IsOkUnless result Memory.Want }
     {
         match limit {

@@ -15,16 +15,19 @@ impl Queue {
     /// Takes out the next message.
     pub fn take_first(&mut self) -> Option<ReadyRow>
         ensures some { IfSome result (λ row. IsFirst row self.old self.new) }
-        ensures none { IfNone result ((args : QueueArgs) → take_first (parts_of args self.old) ≡ None) }
+        ensures none { IfNone result
+            ((args : QueueArgs) → take_first (parts_of args self.old) ≡ None) }
         ensures consumers { self.new.consumers ≡ self.old.consumers }
-        ensures still { IfNone result ((args : QueueArgs) → parts_of args self.new ≡ parts_of args self.old) }
+        ensures still { IfNone result
+            ((args : QueueArgs) → parts_of args self.new ≡ parts_of args self.old) }
     {
         self.ready.pop_next()
     }
 
     /// Puts a message at the back.
     pub fn push_back(&mut self, row: ReadyRow) -> Result<(), Memory>
-        ensures ok { OnOk result ((place : Place) → Becomes (push_back (item_at place row)) self.old self.new) }
+        ensures ok { OnOk result
+            ((place : Place) → Becomes (push_back (item_at place row)) self.old self.new) }
         ensures want { IsOkUnless result Memory.Want }
     {
         let (orders, _) = self.ready.counters();
@@ -36,7 +39,8 @@ impl Queue {
 
     /// Puts a message that was returned under a delivery limit behind those returned before.
     pub fn push_front(&mut self, row: ReadyRow) -> Result<(), Memory>
-        ensures ok { OnOk result ((place : Place) → Becomes (push_front (item_at place row)) self.old self.new) }
+        ensures ok { OnOk result
+            ((place : Place) → Becomes (push_front (item_at place row)) self.old self.new) }
         ensures want { IsOkUnless result Memory.Want }
     {
         let (_, returns) = self.ready.counters();
@@ -48,7 +52,8 @@ impl Queue {
 
     /// Keeps a message that has died.
     pub fn push_dead(&mut self, reason: Reason, row: ReadyRow) -> Result<(), Memory>
-        ensures ok { OnOk result ((place : Place) → Becomes (push_dead reason (item_at place row)) self.old self.new) }
+        ensures ok { OnOk result
+            ((place : Place) → Becomes (push_dead reason (item_at place row)) self.old self.new) }
         ensures want { IsOkUnless result Memory.Want }
     {
         let (deads, _, _) = self.dead.counters();

@@ -57,7 +57,8 @@ impl Draft {
     fn deliver(&mut self, alloc: Global, id: ConsumerId, row: ReadyRow) -> Result<(), Memory>
         requires { is_some (waiting_turn self.old.queue.consumers.roster.served id) ≡ true }
 
-        ensures ok { OnOk result ((place : Place) → Delivers id (item_at place row) self.old self.new) }
+        ensures ok { OnOk result
+            ((place : Place) → Delivers id (item_at place row) self.old self.new) }
         ensures want { IsOkUnless result Memory.Want }
     {
         self.queue.can_deliver(id)?;
@@ -81,7 +82,8 @@ impl Draft {
     #[tactic(auto, unfolding(qq_parts_step::specs::Follows::parts_check_out))]
     fn check_out(&mut self, alloc: Global, args: &QueueArgs) -> Result<bool, Memory>
         ensures ok { IfOk result (GoesOn parts_check_out args.now self.old self.new) }
-        ensures still { IfOk result (λ did. did ≡ false → work_of args.now self.new ≡ work_of args.now self.old) }
+        ensures still { IfOk result
+            (λ did. did ≡ false → work_of args.now self.new ≡ work_of args.now self.old) }
         ensures want { IsOkUnless result Memory.Want }
     {
         let Some(id) = self.queue.next_one(args.single_active) else {
@@ -170,7 +172,8 @@ impl Draft {
     #[tactic(auto, unfolding(qq_parts_step::specs::Follows::parts_drop_head))]
     fn drop_head(&mut self, args: &QueueArgs) -> Result<bool, Memory>
         ensures ok { IfOk result (GoesOn parts_drop_head args.now self.old self.new) }
-        ensures still { IfOk result (λ did. did ≡ false → work_of args.now self.new ≡ work_of args.now self.old) }
+        ensures still { IfOk result
+            (λ did. did ≡ false → work_of args.now self.new ≡ work_of args.now self.old) }
         ensures want { IsOkUnless result Memory.Want }
     {
         if !over(args, self.queue.ready.count(), self.queue.ready.bytes()) {
@@ -201,7 +204,8 @@ impl Draft {
     #[tactic(auto, unfolding(qq_parts_step::specs::Follows::parts_give_dead))]
     fn give_dead(&mut self, alloc: Global, args: &QueueArgs) -> Result<bool, Memory>
         ensures ok { IfOk result (GoesOn parts_give_dead args.now self.old self.new) }
-        ensures still { IfOk result (λ did. did ≡ false → work_of args.now self.new ≡ work_of args.now self.old) }
+        ensures still { IfOk result
+            (λ did. did ≡ false → work_of args.now self.new ≡ work_of args.now self.old) }
         ensures want { IsOkUnless result Memory.Want }
     {
         let Some(one) = self.queue.dead.next_offer() else {

@@ -7,7 +7,8 @@ ghost use Rattle.qq_model.specs.Choice.{free_credit, next_consumer};
 /// only where no consumer that isn't cancelled has free credit; with a single active consumer, where
 /// the longest joined one that isn't cancelled has none.
 pub fn the_next_consumer_has_credit()
-    ensures chosen { (single : Bool) (rows : List Row) (consumers : List Consumer) (one : Consumer) →
+    ensures chosen { (single : Bool) (rows : List Row) (consumers : List Consumer)
+        (one : Consumer) →
         next_consumer single rows consumers ≡ Some one →
         Contains consumers one × (one.cancelled ≡ false) × (0 < free_credit rows one) }
     ensures nobody { (rows : List Row) (consumers : List Consumer) (one : Consumer) →
@@ -15,5 +16,6 @@ pub fn the_next_consumer_has_credit()
         free_credit rows one ≡ 0 }
     ensures active { (rows : List Row) (consumers : List Consumer) (one : Consumer) →
         next_consumer true rows consumers ≡ None →
-        find (λ (other : Consumer). not other.cancelled) consumers ≡ Some one → free_credit rows one ≡ 0 }
+        find (λ (other : Consumer). not other.cancelled) consumers ≡ Some one
+        → free_credit rows one ≡ 0 }
 {}

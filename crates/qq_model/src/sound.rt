@@ -10,5 +10,6 @@ ghost use Rattle.qq_model.specs.Sound.{IsSound};
 /// queue has at most `MOST_CONSUMERS` of them, a cancelled one has something out, and each open session
 /// keeps the answers above its low mark.
 pub fn queues_are_sound()
-    ensures { (args : QueueArgs) (entries : List Entry) → IsSound (state_after (empty_queue args) entries) }
+    ensures { (args : QueueArgs) (entries : List Entry)
+        → IsSound (state_after (empty_queue args) entries) }
 {}

@@ -34,7 +34,8 @@ pub fn messages_come_and_go()
     ensures arrives { (m : Parts) (s : State) → Stands m s → IsWhole m → MayArrive m s }
     ensures taken { (m : Parts) (s : State) (taken : Taken) → Stands m s → IsWhole m →
         take_first m ≡ Some taken → IsTaken taken m s }
-    ensures leaves { (x : Item) (m : Parts) (s : State) → StandsWith x m s → IsWhole m → MayLeave x m s }
+    ensures leaves { (x : Item) (m : Parts) (s : State) → StandsWith x m s → IsWhole m
+        → MayLeave x m s }
 {}
 
 /// A law: the delivery of an id to a consumer is that of the consumer's own list, and once it is taken out
@@ -73,7 +74,8 @@ pub fn parts_tell_dead_letters()
 /// the first ready message goes to the first consumer that waits, which then waits behind all others. The
 /// deliveries and their order are the definition's.
 pub fn all_checkouts_are_made()
-    ensures { (t : Serving) (p : Progress) → IsServing t p → IsServing (serve_all t) (check_out_all p) }
+    ensures { (t : Serving) (p : Progress) → IsServing t p
+        → IsServing (serve_all t) (check_out_all p) }
 {}
 
 /// A law: a consumer may be cancelled, get credit or a turn, or have its credit drained, and consumers that

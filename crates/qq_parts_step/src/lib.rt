@@ -102,7 +102,8 @@ pub fn ids_may_be_cut_at_once()
 pub fn consumers_may_go_one_by_one()
     ensures first { (session : SessionId) (one : Served) (t : Work) →
         first_of_session session t.parts.served ≡ Some one →
-        parts_return_session session t ≡ parts_return_session session (return_first_of session one t) }
+        parts_return_session session t
+        ≡ parts_return_session session (return_first_of session one t) }
     ensures over { (session : SessionId) (t : Work) →
         first_of_session session t.parts.served ≡ None → parts_return_session session t ≡ t }
 {}

@@ -133,7 +133,8 @@ fn front(bytes: &[u8], count: usize) -> &[u8]
 // Puts a piece at a place of a buffer that has room for it there.
 fn put(buffer: &mut [u8], place: usize, piece: &[u8])
     requires { place + length piece.now ≤ length buffer.old }
-    ensures front { take (place + length piece.now) buffer.new ≡ take place buffer.old ++ piece.now }
+    ensures front { take (place + length piece.now) buffer.new
+        ≡ take place buffer.old ++ piece.now }
     ensures length { length buffer.new ≡ length buffer.old }
 {
     let (_, rest) = buffer.split_at_mut(place);

@@ -56,8 +56,12 @@ pub fn runs_settle()
 /// A script may have 10,000,000 lines. Behind them each line ends it, whatever it says; before, each line is
 /// served as it reads.
 pub fn a_script_has_ten_million_lines()
-    ensures past { (s : Setup) (before : ℕ) (input : Input) → 10000000 ≤ before → says s before input
-        ≡ Ends (record { status = 11; text = codes "limit lines " ++ decimal 10000001 ++ codes "\n" }) }
+    ensures past { (s : Setup) (before : ℕ) (input : Input) → 10000000 ≤ before
+        → says s before input
+        ≡ Ends (record {
+          status = 11;
+          text = codes "limit lines " ++ decimal 10000001 ++ codes "\n";
+        }) }
     ensures within { (s : Setup) (before : ℕ) (input : Input) → before < 10000000 →
         says s before input ≡ says_by (before + 1) (read_input s (before + 1) input) }
 {}

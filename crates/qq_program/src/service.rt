@@ -56,7 +56,8 @@ pub trait Service: Sized + Drop {
             text.old.items text.new.items) }
         ensures cause { (setup : NodeSetup) (n : Node) → IsReached setup n → stands setup self n
             → IfErr result (λ stop. HasServeCause
-            (Rose (Self.Yard.faults yard.old) (Self.Yard.faults yard.new)) setup n (rule_of call) stop) }
+            (Rose (Self.Yard.faults yard.old) (Self.Yard.faults yard.new)) setup n
+            (rule_of call) stop) }
         ensures later { Self.Yard.faults yard.old ≤ Self.Yard.faults yard.new };
 
     /// The rows of a queue's audit.

@@ -109,7 +109,8 @@ fn send_to_each<L: LogView>(
     ensures ok { OnOk result (out.new.items ≡ out.old.items
         ++ map (append_from sender.node sender.term sender.commit (L.log log.now).entries)
         (filter (picks target (length (L.log log.now).entries)) peers.old)) }
-    ensures peers { OnOk result (peers.new ≡ map (passed target (L.log log.now).entries) peers.old) }
+    ensures peers { OnOk result
+        (peers.new ≡ map (passed target (L.log log.now).entries) peers.old) }
     ensures each { All IsPeer peers.new }
     ensures out { OnOk result (All IsWritable out.new.items) }
     ensures want { IsOkUnless result Memory.Want }

@@ -77,7 +77,8 @@ pub fn what_is_durable_is_noticed_by_moves()
 /// A law: a leader keeps what it may send, and what it knows its peers to have, within its log; each entry of
 /// its term is acknowledged by itself; and no acknowledgement of its term passes its log.
 pub fn a_leader_keeps_to_its_log()
-    ensures within { (w : World) (k : ℕ) (s : Server) → Stands w k s → s.role ≡ Leader → IsWithinLog s }
+    ensures within { (w : World) (k : ℕ) (s : Server) → Stands w k s → s.role ≡ Leader
+        → IsWithinLog s }
     ensures itself { (w : World) (k : ℕ) (s : Server) → Stands w k s → s.role ≡ Leader →
         AcksItself w.acks k s }
     ensures acks { (members : List ℕ) (w : World) (k : ℕ) (s : Server) (x : Ack) →

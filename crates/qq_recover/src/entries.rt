@@ -41,7 +41,8 @@ fn find_in(
     file: u64,
     entry: &LogRecord,
 ) -> Result<(), Memory>
-    ensures ok { OnOk result (ranges_in ranges.new ≡ find_in file (ranges_in ranges.old) entry.now) }
+    ensures ok { OnOk result
+        (ranges_in ranges.new ≡ find_in file (ranges_in ranges.old) entry.now) }
     ensures want { IsOkUnless result Memory.Want }
 {
     match entry {
@@ -69,7 +70,8 @@ fn find_file_at(
     place: usize,
 ) -> Result<(), Memory>
     requires { place < length files.now }
-    ensures ok { (other : ChainFile) → let file = slice_index_or files.now place other in OnOk result (
+    ensures ok { (other : ChainFile)
+        → let file = slice_index_or files.now place other in OnOk result (
         ranges_in ranges.new ≡ fold (find_record file.number) (ranges_in ranges.old) file.records) }
     ensures want { IsOkUnless result Memory.Want }
 {

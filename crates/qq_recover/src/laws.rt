@@ -95,7 +95,8 @@ pub fn a_recovered_queue_goes_on<D: NodeDisk>()
         is_listed queues id ≡ true → let lane = unwrap_or (lanes_left r id.0) new_state in
         n ≡ lane.op + 1 → lane.base.index.0 ≤ keep.0 → keep.0 ≤ last_index lane →
         GoesOn queues (carries_ahead (wal_of r)) (Change id n term vote keep entries) }
-    ensures synced { (queues : List QueueId) (r : Recovered D) (id : QueueId) → KnowsLanes queues r →
+    ensures synced { (queues : List QueueId) (r : Recovered D) (id : QueueId)
+        → KnowsLanes queues r →
         is_listed queues id ≡ true →
         synced_in (wal_of r).marks id ≡ (unwrap_or (lanes_left r id.0) new_state).op }
 {}

@@ -35,7 +35,8 @@ impl Model for State {
 
     ghost view = { λ s. known_state s.op s.term s.vote s.base s.snapshot s.entries.items };
 
-    ghost invariant = { λ s. IsCarried (known_state s.op s.term s.vote s.base s.snapshot s.entries.items) };
+    ghost invariant = { λ s. IsCarried
+        (known_state s.op s.term s.vote s.base s.snapshot s.entries.items) };
 }
 
 fn is_within_end(n: u64) -> bool

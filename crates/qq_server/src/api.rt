@@ -42,7 +42,8 @@ impl<Q: Queue, L: LogView> Server<Q, L> {
 
         ensures sound { IfOk result (IsSound L.log Q.applied) }
         ensures ok { IfOk result (λ server. (state : Q.Plain) → Q.stands state machine →
-            StandsFor Q.stands L.log (new_state (restart node members.now (lane_of queue (L.log log))) state)
+            StandsFor Q.stands L.log
+            (new_state (restart node members.now (lane_of queue (L.log log))) state)
             server) }
         ensures want { IsOkUnless result Memory.Want }
     {

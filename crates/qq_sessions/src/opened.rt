@@ -301,7 +301,8 @@ fn drop_earlier(rows: &mut IndexMap<SessionId, SessionRow>, session: SessionId, 
     }
     rows.retain(
         |_: &SessionId, row: &mut SessionRow| -> bool
-            ensures { (result ≡ not (is_giving_way session (open_of row.old))) × (row.new ≡ row.old) }
+            ensures { (result ≡ not (is_giving_way session (open_of row.old)))
+                × (row.new ≡ row.old) }
         { !is_giving_way(session, row) },
     );
 }

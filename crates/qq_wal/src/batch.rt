@@ -43,7 +43,8 @@ pub(crate) fn put_batch(
     requires fit { AllFitBatch waiting.now.items }
     requires empty { out.old.items ≡ [] }
     ensures batch { IfOk result (λ count. IsBatch file count waiting.now.items) }
-    ensures ok { IfOk result (λ count. out.new.items ≡ encodings file (take count waiting.now.items)) }
+    ensures ok { IfOk result
+        (λ count. out.new.items ≡ encodings file (take count waiting.now.items)) }
     ensures fits { IfOk result (λ count.
         AllByRecursion (RecordFits file) (take count waiting.now.items)) }
     ensures want { IsOkUnless result Memory.Want }

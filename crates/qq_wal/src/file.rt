@@ -84,14 +84,17 @@ pub(crate) fn append_file<D: NodeDisk>(
     bytes: &[u8],
 ) -> Result<(), DiskFault>
     ensures stays { IsTrue (D.tells disk.old) → (queues : List QueueId) (batch : List Op) →
-        IsWrittenTo queues header (now (D.past disk.old)) → IsBatchOf queues header batch bytes.now →
+        IsWrittenTo queues header (now (D.past disk.old))
+        → IsBatchOf queues header batch bytes.now →
         MayAdd queues batch (now (D.past disk.old)) →
         StaysGiving queues batch (D.past disk.old) (D.past disk.new) }
     ensures log { IsTrue (D.tells disk.old) → (queues : List QueueId) (batch : List Op) →
-        IsWrittenTo queues header (now (D.past disk.old)) → IsBatchOf queues header batch bytes.now →
+        IsWrittenTo queues header (now (D.past disk.old))
+        → IsBatchOf queues header batch bytes.now →
         OnOk result (IsWrittenTo queues header (now (D.past disk.new))) }
     ensures shown { IsTrue (D.tells disk.old) → (queues : List QueueId) (batch : List Op) →
-        IsWrittenTo queues header (now (D.past disk.old)) → IsBatchOf queues header batch bytes.now →
+        IsWrittenTo queues header (now (D.past disk.old))
+        → IsBatchOf queues header batch bytes.now →
         OnOk result (lanes_shown queues (now (D.past disk.new))
         ≡ replay (wal queues) (op_records batch) (lanes_shown queues (now (D.past disk.old)))) }
     ensures length { IsTrue (D.tells disk.old) → (queues : List QueueId) →

@@ -254,7 +254,8 @@ impl FileRanges {
 
     fn write(&mut self, queue: QueueId, keep: u64, count: u64)
         requires { keep + count < 2 ^ 64 }
-        ensures { ranges_in self.new ≡ change_ranges (write keep count) (ranges_in self.old) queue.0 }
+        ensures { ranges_in self.new
+            ≡ change_ranges (write keep count) (ranges_in self.old) queue.0 }
     {
         let Some(row) = self.rows.get_mut(&queue.0) else {
             return;
@@ -287,7 +288,8 @@ impl FileRanges {
     /// the ranges are of no use any more.
     pub fn write_op_in(&mut self, alloc: Global, file: u64, op: &Op) -> Result<(), Memory>
         requires { last_index op.now ≤ 2 ^ 64 - 1 }
-        ensures ok { OnOk result (ranges_in self.new ≡ write_op_in file (ranges_in self.old) op.now) }
+        ensures ok { OnOk result
+            (ranges_in self.new ≡ write_op_in file (ranges_in self.old) op.now) }
         ensures want { IsOkUnless result Memory.Want }
     {
         match op {

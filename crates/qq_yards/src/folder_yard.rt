@@ -74,7 +74,8 @@ where
         image: &Image,
     ) -> Result<EitherDisk<MemDisk, DirDisk<R>>, YardFault>
         ensures ok { IfOk result (λ after.
-            IsCrashed (λ old new. IsReopened old.folder new.folder new.faults) image.now disk after) }
+            IsCrashed (λ old new. IsReopened old.folder new.folder new.faults)
+            image.now disk after) }
         ensures want { IsOkUnless result (YardFault.Memory Want) }
         ensures cause { HasCause IsYardCaused 0 0 result }
     {
