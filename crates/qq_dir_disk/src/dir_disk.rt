@@ -82,8 +82,8 @@ impl<R: Files> DirDisk<R> {
 
     // Keeps a handle open for the calls to come.
     fn keep_open(&mut self, handle: Handle<R::File>)
-        ensures handles {
-            KeepsOpen handle self.old.handles.files.items self.new.handles.files.items }
+        ensures handles { KeepsOpen handle self.old.handles.files.items
+            self.new.handles.files.items }
         ensures later { self.old.faults.count ≤ self.new.faults.count }
         ensures stopped { self.old.faults.stopped ≡ true → self.new.faults.stopped ≡ true }
     {

@@ -11,11 +11,11 @@ ghost use Rattle.qq_raft_step.specs.State.{wait};
 /// A law: of the leader of term 3 with entries of terms 1, 1 and 3, an acknowledgement of entry 2 commits
 /// nothing, and one of entry 3 commits all three (Ongaro's dissertation, figure 3.7).
 pub fn an_entry_of_an_older_term_is_not_committed_by_counting()
-    ensures older {
-        (receive (acknowledgement 3 2) (server Leader 3 (Some (node 1)) (1 ∷ 1 ∷ 3 ∷ []))).commit
+    ensures older { (receive (acknowledgement 3 2)
+        (server Leader 3 (Some (node 1)) (1 ∷ 1 ∷ 3 ∷ []))).commit
         ≡ 0 }
-    ensures own {
-        (receive (acknowledgement 3 3) (server Leader 3 (Some (node 1)) (1 ∷ 1 ∷ 3 ∷ []))).commit
+    ensures own { (receive (acknowledgement 3 3)
+        (server Leader 3 (Some (node 1)) (1 ∷ 1 ∷ 3 ∷ []))).commit
         ≡ 3 }
     ensures ready { is_ready (receive (acknowledgement 3 3)
         (server Leader 3 (Some (node 1)) (1 ∷ 1 ∷ 3 ∷ []))) ≡ true }
@@ -26,13 +26,13 @@ pub fn an_entry_of_an_older_term_is_not_committed_by_counting()
 pub fn an_append_cuts_only_what_differs()
     ensures old { (receive (append 3 1 1 []) (server Follower 3 None (1 ∷ 1 ∷ 3 ∷ []))).log
         ≡ map of_term (1 ∷ 1 ∷ 3 ∷ []) }
-    ensures nothing {
-        (receive (append 3 1 1 (1 ∷ [])) (server Follower 3 None (1 ∷ 1 ∷ 3 ∷ []))).ops ≡ [] }
-    ensures tail {
-        (receive (append 3 1 1 (3 ∷ [])) (server Follower 2 None (1 ∷ 2 ∷ 2 ∷ 2 ∷ []))).log
+    ensures nothing { (receive (append 3 1 1 (1 ∷ []))
+        (server Follower 3 None (1 ∷ 1 ∷ 3 ∷ []))).ops ≡ [] }
+    ensures tail { (receive (append 3 1 1 (3 ∷ []))
+        (server Follower 2 None (1 ∷ 2 ∷ 2 ∷ 2 ∷ []))).log
         ≡ map of_term (1 ∷ 3 ∷ []) }
-    ensures change {
-        (receive (append 3 1 1 (3 ∷ [])) (server Follower 2 None (1 ∷ 2 ∷ 2 ∷ 2 ∷ []))).ops
+    ensures change { (receive (append 3 1 1 (3 ∷ []))
+        (server Follower 2 None (1 ∷ 2 ∷ 2 ∷ 2 ∷ []))).ops
         ≡ Change (record { 0 = 1 }) 6 (record { 0 = 3 }) None (record { 0 = 1 })
         (of_term 3 ∷ []) ∷ [] }
     ensures gap { (receive (append 3 3 3 (3 ∷ [])) (server Follower 3 None (1 ∷ 2 ∷ []))).log
