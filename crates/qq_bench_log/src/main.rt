@@ -1,15 +1,24 @@
-//! Writes ops to a node's log on a disk in memory, for `bench/log`, and tries the log's limits.
+//! Writes ops to a node's log on a disk in memory, for `bench/log`, and tries the log by cases.
 //!
 //! The words are `BODY RECORDS BATCHES`: BATCHES batches of RECORDS ops each are gathered, appended and synced,
 //! each op with one entry, which publishes a message with a body of BODY bytes. The program prints how many
 //! ops of how many bytes that was, and how many nanoseconds gathering, appending and syncing took, and SHA-256
-//! of as many records by itself. With the word `limits` it prints what the log does at its limits. Without
-//! words it says how it is called.
+//! of as many records by itself. Without words it says how it is called.
+//!
+//! With the word `cases` it reads cases from its input, and prints them again with what a log of queues 1 and 2
+//! answers. A line that begins with `#` or is empty is a comment, and one that begins with two blanks is an
+//! answer of an earlier run, which is passed over. The others are
+//!
+//! - `log CALLS..`: a new log, on a disk that fails at calls of these numbers;
+//! - `gather QUEUE COUNT SIZE`: the queue's next op, which publishes so many messages with bodies of 65,536
+//!   bytes, and then one with a body of SIZE bytes; `many COUNT`: so many ops of queue 1 with empty bodies;
+//! - `append`, `sync`, and `roll`, which syncs before it;
+//! - `size FILE`: how long a log file is; `entries QUEUE FILE`: which entries of a queue lie in it.
 #![tactic(auto)]
 
+mod cases;
 mod feed;
 mod hiding;
-mod limits;
 mod made;
 mod timing;
 
@@ -36,8 +45,8 @@ fn main(rt: HostRuntime) -> Result<()> {
         words.push(word)?;
     }
     match words.first() {
-        None => println!(rt; "usage: qq_bench_log limits | BODY RECORDS BATCHES")?,
-        Some(word) if word.as_str() == "limits" => limits::run(rt)?,
+        None => println!(rt; "usage: qq_bench_log cases | BODY RECORDS BATCHES")?,
+        Some(word) if word.as_str() == "cases" => cases::run(rt)?,
         Some(_) => timing::run(rt, read_load(&words)?)?,
     }
     Ok(())
