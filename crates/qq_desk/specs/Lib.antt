@@ -1,5 +1,8 @@
 pub mod Clients
 pub mod Audited
+pub mod Range
+pub mod Taking
+pub mod Same
 pub mod Roles
 pub mod Server
 pub mod Text

@@ -1,18 +1,31 @@
 -- A server as it stands in memory, and the numbers that end its calls.
-use Rattle.std.specs.Prelude.{◌≡◌, ◌≤◌, ℕ, Bool, true, false, not, ◌&&◌, List, length, take, nat_le}
+use Rattle.std.specs.Prelude.{◌≡◌, ◌≤◌, ◌<◌, ◌^◌, ℕ, Bool, true, false, not, ◌&&◌, List, Some, length, take, nat_le}
+use Rattle.std.specs.List.{AllByRecursion}
+use Rattle.qq_base.specs.declared.ids.Term.{Term}
 use Rattle.qq_base.specs.declared.memory.TheConstants.{NUMBER_END}
 use Rattle.qq_entry.specs.declared.queue.QueueArgs.{QueueArgs}
 use Rattle.qq_log.specs.declared.op.Op.{Op}
+use Rattle.qq_log.specs.Stable.{stable}
+use Rattle.qq_log.specs.Writable.{MayGather}
 use Rattle.qq_model.specs.State.{empty_queue}
 use Rattle.qq_replay.specs.Replay.{stays_within}
 use Rattle.qq_world.specs.Server.{Server, Role, Follower, Candidate, is_leader_in, entries_in, log_of}
+use Rattle.qq_world.specs.Promise.{state_of}
 use Rattle.qq_desk.specs.declared.audit.Audit.{Audit}
 use Rattle.qq_desk.specs.Audited.{IsAuditOf, AreShort}
 
--- its machine and its audit are behind its ops, and it knows how long its log is
-pub record IsServer (args : QueueArgs) (ops : List Op) (last noticed : ℕ) (audit : Audit) : Type 0 where
+-- each first part of the ops comes to its state
+abbrev pub AreSound : List Op → Type 0
+AreSound ops = (count : ℕ) → stable (take count ops) ≡ Some (state_of (take count ops))
+
+-- its machine and its audit are behind its ops, which the log takes, and it knows how long its log is
+pub record IsServer (args : QueueArgs) (term : Term) (ops : List Op) (last noticed : ℕ) (audit : Audit) : Type 0 where
   pub audit_is : IsAuditOf (empty_queue args) ops audit
   pub short : AreShort ops
+  pub gather : AllByRecursion MayGather ops
+  pub sound : AreSound ops
+  pub queue : args.queue.0 < 2 ^ 32
+  pub term_within : term.0 ≤ NUMBER_END
   pub last_is : last ≡ length (log_of ops)
   pub audited : audit.audited ≤ noticed
   pub within : noticed ≤ length ops

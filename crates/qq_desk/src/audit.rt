@@ -28,7 +28,7 @@ pub struct Audit {
 }
 
 /// The entry of an op of a group of one, which adds no more than one.
-fn entry_in(op: &Op) -> Option<&Entry>
+pub fn entry_in(op: &Op) -> Option<&Entry>
     requires { IsShort op.now }
 
     ensures { entries_in op.now ≡ option_to_list (option_copied result) }

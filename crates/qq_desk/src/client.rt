@@ -1,13 +1,15 @@
 //! A session of a client at the queue.
-ghost use Rattle.std.specs.Prelude.{◌≡◌, ◌<◌, length, IfOk, IfErr, OnOk, OnErr};
+ghost use Rattle.std.specs.Prelude.{◌≡◌, ◌<◌, length, IfOk, IfErr, OnOk, OnErr, IsOkUnless};
+ghost use Rattle.std.specs.List.{AllByRecursion};
 ghost use Rattle.qq_base.specs.Ids.{client};
 ghost use Rattle.qq_base.specs.declared.memory.TheConstants.{NUMBER_END};
 ghost use Rattle.qq_model.specs.declared.TheConstants.{WINDOW};
-ghost use Rattle.qq_session.specs.Publishing.{next_command, hand, HasHandCause};
+ghost use Rattle.qq_session.specs.Publishing.{next_command, hand, open_commands, HasHandCause};
 ghost use Rattle.qq_world.specs.World.{sender_by, sender, take_answer, is_printed_to, may_hand};
 ghost use Rattle.qq_desk.specs.Clients.{new_client, set_muted, set_numbers};
+ghost use Rattle.qq_desk.specs.Range.{HasBytes, MayStamp};
 
-use qq_base::{QueueId, SessionId};
+use qq_base::{Memory, QueueId, SessionId};
 use qq_entry::{AuditRow, Command, Stamp, Unstamped};
 use qq_model::WINDOW;
 use qq_script::seq_of;
@@ -24,15 +26,20 @@ pub struct Client {
 
 impl Model for Client {
     ghost use Rattle.qq_world.specs.World as world;
+    ghost use Rattle.qq_desk.specs.Range.{IsClient};
 
     ghost Value = { world.Client };
 
     ghost view = { λ c. record { numbers = c.numbers; muted = c.muted } };
+
+    ghost invariant = { λ c. IsClient c.numbers };
 }
 
 impl Client {
-    /// A session that has handed out no number for the queue. It takes no memory.
+    /// A session, numbered from 1, that has handed out no number for the queue. It takes no memory.
     pub fn new(alloc: Global, queue: QueueId, session: u64) -> Self
+        requires { 0 < session }
+
         ensures { result ≡ new_client queue session }
     {
         Client {
@@ -48,13 +55,6 @@ impl Client {
         self.muted = muted;
     }
 
-    /// The numbers of its commands.
-    pub fn numbers(&self) -> &Publishing
-        ensures { result.now ≡ self.now.numbers }
-    {
-        &self.numbers
-    }
-
     /// Whether it may give a number: its window isn't full.
     pub fn may_hand(&self) -> bool
         ensures { result ≡ may_hand self.now.numbers }
@@ -64,15 +64,34 @@ impl Client {
 
     /// Gives a command the next number.
     pub fn hand(&mut self, alloc: Global, body: Unstamped) -> Result<Command, HandFault>
+        requires { MayStamp body }
+
         ensures ok { IfOk result (λ command. command ≡ next_command body self.old.numbers) }
         ensures handed { OnOk result
             (self.new ≡ set_numbers (hand body self.old.numbers) self.old) }
         ensures room { OnOk result (length self.old.numbers.opened < WINDOW) }
         ensures within { OnOk result (self.old.numbers.next < NUMBER_END) }
         ensures err { OnErr result (self.new ≡ self.old) }
+        ensures bytes { IfOk result HasBytes }
         ensures cause { IfErr result (λ fault. HasHandCause fault self.old.numbers) }
     {
-        self.numbers.hand(alloc, body)
+        // The low mark of the stamp is below its number.
+        let _ = self.numbers.low_mark();
+        let command = match self.numbers.hand(alloc, body) {
+            Ok(command) => command,
+            Err(fault) => return Err(fault),
+        };
+        Ok(command)
+    }
+
+    /// Copies of its open commands in the order of their numbers.
+    pub fn resend(&self, alloc: Global) -> Result<Vec<Command>, Memory>
+        ensures ok { IfOk result (λ commands.
+            commands.items ≡ open_commands self.now.numbers) }
+        ensures bytes { IfOk result (λ commands. AllByRecursion HasBytes commands.items) }
+        ensures want { IsOkUnless result Memory.Want }
+    {
+        self.numbers.resend(alloc)
     }
 
     /// Whether the answer of a row of its own is printed: it isn't lost, and its number is open.

@@ -1,5 +1,6 @@
 //! The clients' sessions at the queue.
 ghost use Rattle.std.specs.Prelude.{◌≡◌, ◌<◌, [], length, true, IfOk, IfErr, OnOk, OnErr, IsOkUnless};
+ghost use Rattle.std.specs.List.{AllByRecursion};
 ghost use Rattle.std.specs.Option.{option_copied};
 ghost use Rattle.std.specs.Map.{lookup};
 ghost use Rattle.std.specs.Prelude.{nat_eq};
@@ -8,6 +9,7 @@ ghost use Rattle.qq_base.specs.declared.memory.TheConstants.{NUMBER_END};
 ghost use Rattle.qq_model.specs.declared.TheConstants.{WINDOW};
 ghost use Rattle.qq_session.specs.Publishing.{next_command, hand, open_commands, HasHandCause};
 ghost use Rattle.qq_world.specs.World.{hear, is_printed, may_hand, take_answer};
+ghost use Rattle.qq_desk.specs.Range.{HasBytes, MayStamp};
 ghost use Rattle.qq_desk.specs.Clients.{clients_of, is_known, set_muted, set_numbers};
 
 use crate::client::{Client, sender};
@@ -52,6 +54,8 @@ impl Clients {
 
     // Makes a row for a session that has none.
     fn open(&mut self, alloc: Global, session: u64) -> Result<(), Memory>
+        requires { 0 < session }
+
         ensures same { clients_of self.new ≡ clients_of self.old }
         ensures ok { OnOk result (is_known session self.new ≡ true) }
         ensures want { IsOkUnless result Memory.Want }
@@ -66,6 +70,8 @@ impl Clients {
 
     /// From here on answers to a session are lost, or come again.
     pub fn mute(&mut self, alloc: Global, session: u64, muted: bool) -> Result<(), Memory>
+        requires { 0 < session }
+
         ensures ok { OnOk result (clients_of self.new
             ≡ put session (set_muted muted (clients_of self.old session)) (clients_of self.old)) }
         ensures want { IsOkUnless result Memory.Want }
@@ -85,6 +91,9 @@ impl Clients {
         session: u64,
         body: Unstamped,
     ) -> Result<Command, HandFault>
+        requires session { 0 < session }
+        requires bytes { MayStamp body }
+
         ensures ok { IfOk result (λ command.
             command ≡ next_command body (clients_of self.old session).numbers) }
         ensures handed { OnOk result (clients_of self.new ≡ put session
@@ -94,6 +103,7 @@ impl Clients {
         ensures room { OnOk result
             (length (clients_of self.old session).numbers.opened < WINDOW) }
         ensures within { OnOk result ((clients_of self.old session).numbers.next < NUMBER_END) }
+        ensures bytes { IfOk result HasBytes }
         ensures err { OnErr result (clients_of self.new ≡ clients_of self.old) }
         ensures cause { IfErr result (λ fault.
             HasHandCause fault (clients_of self.old session).numbers) }
@@ -111,11 +121,12 @@ impl Clients {
     pub fn resend(&self, alloc: Global, session: u64) -> Result<Vec<Command>, Memory>
         ensures ok { IfOk result (λ commands.
             commands.items ≡ open_commands (clients_of self.now session).numbers) }
+        ensures bytes { IfOk result (λ commands. AllByRecursion HasBytes commands.items) }
         ensures want { IsOkUnless result Memory.Want }
     {
         match self.client(session) {
             None => Ok(Vec::new(alloc)),
-            Some(client) => client.numbers().resend(alloc),
+            Some(client) => client.resend(alloc),
         }
     }
 

@@ -1,16 +1,21 @@
 //! A queue's part of a node: a method for each event.
-ghost use Rattle.std.specs.Prelude.{◌≡◌, ◌++◌, ◌∷◌, [], false, true, drop, filter, length, map, IfOk, IfErr, IsOkUnless, OnOk, OnErr};
+ghost use Rattle.std.specs.Prelude.{◌≡◌, ◌<◌, ◌++◌, ◌∷◌, [], false, true, drop, filter, length, map, IfOk, IfErr, IsOkUnless, OnOk, OnErr};
 ghost use Rattle.qq_base.specs.Causes.{SpentOnlyWhere};
 ghost use Rattle.qq_base.specs.Fronts.{IsFront};
 ghost use Rattle.qq_base.specs.declared.memory.TheConstants.{NUMBER_END};
 ghost use Rattle.qq_world.specs.Node.{commit_of};
+ghost use Rattle.qq_world.specs.Promise.{MayTakeUp};
 ghost use Rattle.qq_world.specs.Rules.{waits_written, waits_synced, waits_noticed, is_settled};
 ghost use Rattle.qq_world.specs.Server.{is_ready, log_of, may_restart};
-ghost use Rattle.std.specs.List.{flat_map};
+ghost use Rattle.std.specs.Bool.{Decides};
+ghost use Rattle.std.specs.List.{AllByRecursion, flat_map};
+ghost use Rattle.std.specs.Option.{option_copied};
 ghost use Rattle.qq_world.specs.World.{Mutes, Ticks, Submits, Resends, Writes, Syncs, Notices, Stops, Finds, Answered, happens, hear_all, is_up, new_world, offer, printed, said_of};
 ghost use Rattle.qq_desk.specs.Clients.{clients_of};
 ghost use Rattle.qq_desk.specs.Desk.{AreCounts, Does, IsSameQueue, is_of_term, is_spent, world_of};
+ghost use Rattle.qq_desk.specs.Range.{HasBytes, MayStamp, MayWait};
 ghost use Rattle.qq_desk.specs.Roles.{role_of};
+ghost use Rattle.qq_desk.specs.Taking.{told};
 ghost use Rattle.qq_desk.specs.Text.{shown_text_as, state_text_as};
 
 use crate::clients::Clients;
@@ -19,7 +24,7 @@ use crate::server::Server;
 use crate::text::Label;
 use qq_base::{Memory, Term, Text};
 use qq_entry::{AuditRow, Command, QueueArgs, Unstamped};
-use qq_log::Op;
+use qq_log::{Lane, Op};
 use qq_session::HandFault;
 use std::alloc::Global;
 use std::collections::VecDeque;
@@ -133,9 +138,11 @@ impl Desk {
         })
     }
 
-    /// From here on answers to a session are lost, or come again. The only error is `Memory::Want`, out of
-    /// memory.
+    /// From here on answers to a session, numbered from 1, are lost, or come again. The only error is
+    /// `Memory::Want`, out of memory.
     pub fn mute(&mut self, alloc: Global, session: u64, muted: bool) -> Result<(), Memory>
+        requires { 0 < session }
+
         ensures ok { OnOk result
             (world_of self.new ≡ happens (world_of self.old) (Mutes session muted)) }
         ensures same { IsSameQueue self.old self.new }
@@ -164,6 +171,8 @@ impl Desk {
         command: Command,
         out: &mut Vec<u8>,
     ) -> Result<(), Memory>
+        requires { HasBytes command }
+
         ensures ok { OnOk result (world_of self.new ≡ offer command (world_of self.old)) }
         ensures said { OnOk result (out.new.items ≡ out.old.items
             ++ flat_map (shown_text_as self.old.first self.old.name)
@@ -178,9 +187,9 @@ impl Desk {
         self.label.no_leader(alloc, session, out)
     }
 
-    /// A client gives a command the next number and sends it, and `out` grows by what it is told: that its
-    /// window is full, or that no leader is ready. `Spent` comes exactly where a number would be past its
-    /// end. After an error `out` begins with what it had.
+    /// A client, numbered from 1, gives a command in range the next number and sends it, and `out` grows by
+    /// what it is told: that its window is full, or that no leader is ready. `Spent` comes exactly where a
+    /// number would be past its end. After an error `out` begins with what it had.
     pub fn submit(
         &mut self,
         alloc: Global,
@@ -188,6 +197,9 @@ impl Desk {
         body: Unstamped,
         out: &mut Vec<u8>,
     ) -> Result<(), Memory>
+        requires session { 0 < session }
+        requires range { MayStamp body }
+
         ensures ok { OnOk result
             (Does (Submits session body) self.old self.new out.old.items out.new.items) }
         ensures within { OnOk result (is_spent (world_of self.old) (Submits session body) ≡ false) }
@@ -283,6 +295,15 @@ impl Desk {
         self.server.may_restart(op)
     }
 
+    /// Whether a restart may take up what recovery found of the queue, None standing for a queue without ops:
+    /// the node is stopped, and so many of the server's first ops, with all that were noticed, come to what the
+    /// lane tells, each of its entries. A lane behind a snapshot, or with entries in a segment, may not be.
+    pub fn may_take_up(&self, found: Option<&Lane>) -> bool
+        ensures { Decides result (MayTakeUp self.now.server (told (option_copied found.entry))) }
+    {
+        self.server.may_take_up(found)
+    }
+
     /// The node is restarted, and recovery found so many of the server's ops. The only error is
     /// `Memory::Want`, out of memory, after which all is as before.
     pub fn find(&mut self, alloc: Global, op: u64) -> Result<(), Memory>
@@ -352,9 +373,32 @@ impl Desk {
         self.server.noticed()
     }
 
-    /// The ops that aren't appended to the log yet, in order.
+    /// How many ops the server handed out.
+    pub fn op_count(&self) -> usize
+        ensures { result ≡ length self.now.server.ops }
+    {
+        self.server.ops().len()
+    }
+
+    /// How many of these were appended to the log.
+    pub fn written_count(&self) -> usize
+        ensures { result ≡ self.now.written }
+    {
+        self.written
+    }
+
+    /// How many of these a sync has kept.
+    pub fn synced_count(&self) -> usize
+        ensures { result ≡ self.now.synced }
+    {
+        self.synced
+    }
+
+    /// The ops that aren't appended to the log yet, in order. The log takes each of them, and each adds an
+    /// entry or none.
     pub fn waiting(&self) -> &[Op]
-        ensures { result.now ≡ drop self.now.written self.now.server.ops }
+        ensures value { result.now ≡ drop self.now.written self.now.server.ops }
+        ensures range { AllByRecursion MayWait result.now }
     {
         let (_, waiting) = self.server.ops().split_at(self.written);
         waiting

@@ -5,11 +5,15 @@ mod audit;
 mod client;
 mod clients;
 mod desk;
+mod laws;
 mod role;
+mod same;
 mod server;
+mod taking;
 mod text;
 
 pub use desk::Desk;
+pub use laws::lines_are_those_of_the_node;
 pub use qq_base::{Memory, Term, Text};
 pub use qq_entry::{AuditRow, QueueArgs, Unstamped};
 pub use qq_log::{Lane, Op};

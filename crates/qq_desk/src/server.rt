@@ -1,18 +1,25 @@
 //! The queue's server in a group of one.
-ghost use Rattle.std.specs.Prelude.{◌≡◌, ◌+◌, ◌<◌, ◌≤◌, true, false, filter, length, option_to_list, IfOk, IfErr, IsOkUnless, OnOk, OnErr};
+ghost use Rattle.std.specs.Prelude.{◌≡◌, ◌+◌, ◌<◌, ◌≤◌, true, false, filter, length, option_to_list, IfOk, IfErr, IfSome, IsOkUnless, OnOk, OnErr};
+ghost use Rattle.std.specs.List.{AllByRecursion};
 ghost use Rattle.qq_base.specs.Causes.{SpentOnlyWhere};
 ghost use Rattle.qq_base.specs.declared.memory.TheConstants.{NUMBER_END};
+ghost use Rattle.std.specs.Bool.{Decides};
+ghost use Rattle.std.specs.Option.{option_copied};
 ghost use Rattle.qq_world.specs.Node.{commit_of};
-ghost use Rattle.qq_world.specs.Server.{log_of, term_after, term_of, new_server, is_down, is_leader_in, is_ready, hand_out, stand, tick, entry_of, lead, apply, notice, submit, stop, restart, may_restart};
+ghost use Rattle.qq_world.specs.Promise.{MayTakeUp};
+ghost use Rattle.qq_world.specs.Server.{log_of, term_of, new_server, is_down, is_leader_in, is_ready, hand_out, stand, tick, entry_of, lead, apply, notice, submit, stop, restart, may_restart};
 ghost use Rattle.qq_desk.specs.Audited.{AreShort};
+ghost use Rattle.qq_desk.specs.Range.{HasBytes, IsEntryOf, MayWait};
 ghost use Rattle.qq_desk.specs.Roles.{role_of};
+ghost use Rattle.qq_desk.specs.Taking.{told};
 ghost use Rattle.qq_desk.specs.Server.{has_entry, Continues, is_spent_by, is_spent_by_tick, is_spent_by_notice};
 
 use crate::audit::Audit;
 use crate::role::Role;
+use crate::taking::{come_to, term_of};
 use qq_base::{Duplicate, Index, Memory, NUMBER_END, NodeId, Term};
 use qq_entry::{AuditRow, Command, Entries, Entry, QueueArgs};
-use qq_log::Op;
+use qq_log::{Lane, Op};
 use std::alloc::Global;
 use std::marker::Model;
 
@@ -55,7 +62,7 @@ impl Model for Server {
       audit = s.audit.rows.items;
     } };
 
-    ghost invariant = { λ s. IsServer s.args s.ops.items s.last s.noticed s.audit };
+    ghost invariant = { λ s. IsServer s.args s.term s.ops.items s.last s.noticed s.audit };
 }
 
 // An entry of a term, at time 0.
@@ -79,24 +86,6 @@ fn entries_with(alloc: Global, entry: Option<Entry>) -> Result<Entries, Memory>
         entries.push(entry)?;
     }
     Ok(entries)
-}
-
-// The term once an op counts.
-fn term_after(before: Term, op: &Op) -> Term
-    ensures { result ≡ term_after before op.now }
-{
-    match op {
-        Op::Change { term, .. } => *term,
-        _ => before,
-    }
-}
-
-// The term of the last op, 0 where there is none.
-fn term_of(ops: &[Op]) -> Term
-    ensures { result ≡ term_of ops.now }
-{
-    ops.iter()
-        .fold(Term(0), |before, op| term_after(before, op))
 }
 
 #[tactic(auto, unfolding(crate::specs::Server::has_entry))]
@@ -195,7 +184,8 @@ impl Server {
 
     /// The ops that it handed out.
     pub fn ops(&self) -> &[Op]
-        ensures { result.now ≡ self.now.ops }
+        ensures value { result.now ≡ self.now.ops }
+        ensures range { AllByRecursion MayWait result.now }
     {
         self.ops.as_slice()
     }
@@ -249,8 +239,25 @@ impl Server {
         self.is_down() && self.noticed as u64 <= op && op <= self.ops.len() as u64
     }
 
+    /// Whether its node may be restarted with what recovery found, None standing for a queue without ops: its
+    /// node is stopped, and so many of its first ops, with all that were noticed, come to that.
+    pub fn may_take_up(&self, found: Option<&Lane>) -> bool
+        ensures { Decides result (MayTakeUp self.now (told (option_copied found.entry))) }
+    {
+        let Some(lane) = found else {
+            return self.may_restart(0);
+        };
+        if !self.may_restart(lane.op) {
+            return false;
+        }
+        let (first, _) = self.ops.split_at(lane.op as usize);
+        come_to(first, lane)
+    }
+
     // Hands a change to the log that adds an entry or none.
     fn hand_out(&mut self, alloc: Global, entry: Option<Entry>) -> Result<(), Memory>
+        requires { IfSome entry (IsEntryOf self.old.term) }
+
         ensures ok { OnOk result (self.new ≡ hand_out (option_to_list entry) self.old) }
         ensures err { OnErr result (self.new ≡ self.old) }
         ensures want { IsOkUnless result Memory.Want }
@@ -327,6 +334,8 @@ impl Server {
 
     /// A leader takes a command.
     pub fn submit(&mut self, alloc: Global, command: Command) -> Result<(), Memory>
+        requires { HasBytes command }
+
         ensures ok { OnOk result (self.new ≡ submit command self.old) }
         ensures continues { Continues self.old self.new }
         ensures want { IsOkUnless result Memory.Want }

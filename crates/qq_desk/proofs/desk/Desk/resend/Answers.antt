@@ -1,11 +1,12 @@
 use Rattle.std.proofs.Common.{◌≡◌, ◌∷◌, [], ◌++◌, ℕ, Bool, List, sym, ap, subst, ◌∙◌}
-use Rattle.std.specs.List.{flat_map}
+use Rattle.std.specs.List.{AllByRecursion, flat_map}
 use Rattle.qq_base.specs.Fronts.{IsFront}
 use Rattle.qq_base.proofs.Fronts.{front-more, front-trans}
 use Rattle.qq_entry.specs.declared.command.Command.{Command}
 use Rattle.qq_world.specs.Server.{is_ready}
 use Rattle.qq_world.specs.World.{Shown, offer_all, said_of}
 use Rattle.qq_desk.specs.Desk.{DeskState, world_of}
+use Rattle.qq_desk.specs.Range.{HasBytes}
 use Rattle.qq_desk.specs.Text.{shown_text_as}
 use Rattle.qq_desk.proofs.Sending.{said-then}
 use Rattle.qq_desk.proofs.desk.Desk.resend.Goals as goal
@@ -40,7 +41,12 @@ commands-preserved c =
         first_is = c.offer.ensures.same.first_is ∙ c.commands.invariant.same.first_is;
         args_is = c.offer.ensures.same.args_is ∙ c.commands.invariant.same.args_is;
       };
+      bytes = (subst (AllByRecursion HasBytes) (sym here) c.commands.invariant.bytes).1;
       front = front-trans c.commands.invariant.front
           (subst (λ (t : List ℕ). IsFront c.commands.out.items t) (sym said)
           (front-more c.commands.out.items (flat_map text shown)));
     }
+
+pub offer-requires : goal.offer-requires
+offer-requires c =
+    (subst (AllByRecursion HasBytes) c.in-Some.ensures.items c.commands.invariant.bytes).0

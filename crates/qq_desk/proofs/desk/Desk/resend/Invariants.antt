@@ -1,9 +1,10 @@
 use Rattle.std.proofs.Common.{◌≡◌, ◌++◌, length}
-use Rattle.std.specs.List.{flat_map}
+use Rattle.std.specs.List.{AllByRecursion, flat_map}
 use Rattle.qq_base.specs.Fronts.{IsFront}
 use Rattle.qq_world.specs.Server.{is_ready}
 use Rattle.qq_world.specs.World.{offer_all, said_of}
 use Rattle.qq_desk.specs.Desk.{IsSameQueue, world_of}
+use Rattle.qq_desk.specs.Range.{HasBytes}
 use Rattle.qq_desk.specs.Text.{shown_text_as}
 use Rattle.qq_desk.proofs.desk.Desk.resend.Given as goal
 
@@ -17,6 +18,7 @@ invariant-commands l = record {
       (said_of (is_ready l.fn.self.server) l.session l.initial.commands.items);
   same : IsSameQueue l.fn.self l.self;
   front : IsFront l.fn.out.items l.out.items;
+  bytes : AllByRecursion HasBytes l.commands.items;
 }
 
 abbrev pub decreases-commands : goal.decreases-commands
