@@ -1,0 +1,4 @@
+mod Sizes
+mod Numbers
+mod Lying
+mod InOrder
