@@ -1,0 +1,40 @@
+use Rattle.std.proofs.Common.{List, ap, refl, subst}
+use Rattle.std.specs.Global.{Vec}
+use Rattle.qq_base.specs.declared.ids.QueueId.{QueueId}
+use Rattle.qq_disk.specs.Disk.{now}
+use Rattle.qq_disk.proofs.Stored.{still_tells}
+use Rattle.qq_wal.specs.Running.{Stays, StillHolds}
+use Rattle.qq_node.proofs.log.sync_log.Goals as goal
+
+pub returns-in-Ok-true-clause-come : goal.returns-in-Ok-true-clause-come
+returns-in-Ok-true-clause-come g c = λ told.
+    let past = g.D.NodeDisk.past in
+    let tells = still_tells c.sync_batch.ensures.told told in
+    let same = ap (λ (q : Vec QueueId). q.items) c.sync_batch.ensures.file.queues in
+    record {
+      mid = past c.sync_batch.new.self.disk;
+      synced = record {
+        stays = c.sync_batch.ensures.stays told;
+        noticed = c.in-Ok.ensures.noticed told;
+        holds = c.in-Ok.ensures.holds told;
+      };
+      stays = subst (λ (l : List QueueId). Stays l (past c.sync_batch.new.self.disk) (past c.begin_next.new.wal.disk))
+          same (c.begin_next.ensures.stays tells);
+      holds = subst (λ (l : List QueueId). StillHolds l (now (past c.sync_batch.new.self.disk))
+          (now (past c.begin_next.new.wal.disk))) same (c.in-Ok-true.ensures.holds tells refl);
+    }
+
+pub returns-in-Ok-false-clause-come : goal.returns-in-Ok-false-clause-come
+returns-in-Ok-false-clause-come g c = λ told.
+    let past = g.D.NodeDisk.past in
+    let same = ap (λ (q : Vec QueueId). q.items) c.sync_batch.ensures.file.queues in
+    record {
+      mid = past c.sync_batch.new.self.disk;
+      synced = record {
+        stays = c.sync_batch.ensures.stays told;
+        noticed = c.in-Ok.ensures.noticed told;
+        holds = c.in-Ok.ensures.holds told;
+      };
+      stays = subst (λ (l : List QueueId). Stays l (past c.sync_batch.new.self.disk) (past c.begin_next.new.wal.disk))
+          same (c.begin_next.ensures.stays (still_tells c.sync_batch.ensures.told told));
+    }

@@ -1,0 +1,4 @@
+pub mod Carried
+pub mod Gather
+pub mod Log
+pub mod Found
