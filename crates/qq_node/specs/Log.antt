@@ -1,5 +1,5 @@
 -- What a node's log does in one step.
-use Rattle.std.specs.Prelude.{◌≡◌, ◌<◌, ◌+◌, ℕ, Bool, true, false, List, [], take, drop, length, IsTrue}
+use Rattle.std.specs.Prelude.{◌≡◌, ◌<◌, ◌+◌, ℕ, Bool, true, false, List, [], ◌∷◌, take, drop, length, IsTrue}
 use Rattle.qq_base.specs.Causes.{Rose}
 use Rattle.qq_base.specs.declared.ids.QueueId.{QueueId}
 use Rattle.qq_disk.specs.Disk.{Disk, now}
@@ -11,6 +11,8 @@ use Rattle.qq_wal.specs.declared.fault.WalFault.TheVariants.{Disk as DiskFailed,
 use Rattle.qq_wal.specs.declared.wal.Wal.{Wal}
 use Rattle.qq_wal.specs.Running.{StaysGiving, HoldsAlso, MayNotice, NoneRemoved, Stays, StillHolds}
 use Rattle.qq_wal_record.specs.declared.record.LogRecord.{LogRecord}
+use Rattle.qq_world.specs.Node.{NodeEvent, Alike, Fails}
+use Rattle.qq_world.specs.World.{Syncs}
 use Rattle.qq_node.specs.declared.log.SyncOutcome.{SyncOutcome}
 use Rattle.qq_node.specs.declared.log.SyncOutcome.TheVariants.{Whole, NoFile, Nothing}
 
@@ -96,10 +98,25 @@ abbrev pub GoesOnAt : SyncOutcome → Bool → Type 0
 GoesOnAt Whole stopped = stopped ≡ false
 GoesOnAt _ stopped = Unit {0}
 
+-- The events of a sync: whether something was appended since the last one, all of that is synced; and a failure stops the
+-- node.
+abbrev pub sync_events : Bool → SyncOutcome → List NodeEvent
+sync_events true Whole = Alike Syncs ∷ []
+sync_events true NoFile = Alike Syncs ∷ Fails ∷ []
+sync_events true Nothing = Fails ∷ []
+sync_events false Whole = []
+sync_events false NoFile = Fails ∷ []
+sync_events false Nothing = Fails ∷ []
+
 -- what was gathered waits on
 abbrev pub KeepsWaiting : {D : Type 0} → SyncOutcome → Wal D → Wal D → Type 0
 KeepsWaiting Whole old new = new.waiting.items ≡ old.waiting.items
 KeepsWaiting _ old new = Unit {0}
+
+-- and a file is full with as many bytes
+abbrev pub KeepsLimit : {D : Type 0} → SyncOutcome → Wal D → Wal D → Type 0
+KeepsLimit Whole old new = new.log_bytes ≡ old.log_bytes
+KeepsLimit _ old new = Unit {0}
 
 -- a full file is replaced by the next one, and no other
 abbrev pub IsNextFile : {D : Type 0} → Bool → Wal D → Wal D → Type 0

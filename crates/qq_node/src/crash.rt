@@ -28,5 +28,8 @@ pub fn crash_disk<Y: Yard>(
     ensures whole { IfOk result (IsWhole Y.Disk.tells Y.Disk.past) }
     ensures cause { HasCause IsYardCaused (Y.faults yard.old) (Y.faults yard.new) result }
 {
-    yard.crash(alloc, disk, image)
+    match yard.crash(alloc, disk, image) {
+        Ok(after) => Ok(after),
+        Err(fault) => Err(fault),
+    }
 }

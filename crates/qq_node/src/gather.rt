@@ -6,7 +6,8 @@ ghost use Rattle.qq_wal.specs.Marks.{GoesOn, add_op};
 ghost use Rattle.qq_wal.specs.Wal.{IsSound, carries_ahead};
 ghost use Rattle.qq_node.specs.Gather.{AllGoOn, AllMayTake, MayTake, add_ops};
 
-use qq_base::Memory;
+use qq_base::{Duplicate, Memory};
+use qq_command::entries_read_back;
 use qq_disk::NodeDisk;
 use qq_log::Op;
 use qq_wal::{Wal, WalFault};
@@ -52,6 +53,7 @@ fn gather_one<D: NodeDisk>(wal: &mut Wal<D>, alloc: Global, op: &Op) -> Result<(
     ensures same { wal.new ≡ record wal.old { waiting = wal.new.waiting } }
     ensures want { IsOkUnless result Memory.Want }
 {
+    entries_read_back();
     let twin = copy_change(alloc, op)?;
     match wal.gather(twin) {
         Ok(()) => Ok(()),

@@ -5,7 +5,7 @@ ghost use Rattle.qq_disk.specs.Disk.{now};
 ghost use Rattle.qq_recover.specs.Recovered.{IsAtEnd};
 ghost use Rattle.qq_wal.specs.Running.{Stays, StaysWhole, StillHolds};
 ghost use Rattle.qq_wal.specs.Wal.{IsSound, StaysAppending, carries_ahead};
-ghost use Rattle.qq_node.specs.Log.{AppendsAll, AppendsSome, FailsByCount, GoesOnAt, HasCome, HasWritten, IsLogCaused, IsNextFile, KeepsWaiting};
+ghost use Rattle.qq_node.specs.Log.{AppendsAll, AppendsSome, FailsByCount, GoesOnAt, HasCome, HasWritten, IsLogCaused, IsNextFile, KeepsLimit, KeepsWaiting};
 
 use qq_base::Memory;
 use qq_disk::NodeDisk;
@@ -119,9 +119,10 @@ pub fn begin_next<D: NodeDisk>(wal: &mut Wal<D>, alloc: Global) -> Result<bool, 
         Rose (D.faults wal.old.disk) (D.faults wal.new.disk)) }
     ensures waiting { IfOk result (λ more. more ≡ true →
         wal.new.waiting.items ≡ wal.old.waiting.items) }
+    ensures limit { IfOk result (λ more. more ≡ true →
+        wal.new.log_bytes ≡ wal.old.log_bytes) }
     ensures ahead { carries_ahead wal.new ≡ carries_ahead wal.old }
     ensures queues { wal.new.queues ≡ wal.old.queues }
-    ensures limit { wal.new.log_bytes ≡ wal.old.log_bytes }
     ensures whole { IsTrue (D.tells wal.old.disk) →
         StaysWhole (D.past wal.old.disk) (D.past wal.new.disk) }
     ensures told { D.tells wal.new.disk ≡ D.tells wal.old.disk }
@@ -154,11 +155,11 @@ pub fn sync_log<D: NodeDisk>(wal: &mut Wal<D>, alloc: Global) -> Result<SyncOutc
         (D.past wal.old.disk) (D.past wal.new.disk)) }
     ensures going { IfOk result (λ s. GoesOnAt s wal.new.stopped) }
     ensures waiting { IfOk result (λ s. KeepsWaiting s wal.old wal.new) }
+    ensures limit { IfOk result (λ s. KeepsLimit s wal.old wal.new) }
     ensures failed { IfOk result (λ s.
         FailsByCount (D.faults wal.old.disk) (D.faults wal.new.disk) s) }
     ensures ahead { carries_ahead wal.new ≡ carries_ahead wal.old }
     ensures queues { wal.new.queues ≡ wal.old.queues }
-    ensures limit { wal.new.log_bytes ≡ wal.old.log_bytes }
     ensures whole { IsTrue (D.tells wal.old.disk) →
         StaysWhole (D.past wal.old.disk) (D.past wal.new.disk) }
     ensures told { D.tells wal.new.disk ≡ D.tells wal.old.disk }

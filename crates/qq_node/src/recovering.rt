@@ -39,7 +39,9 @@ fn take_lanes<D: NodeDisk>(
     let mut lanes = Vec::new(alloc);
     let mut at = 0;
     'queues: while at < queues.len() {
-        lanes.push(recovered.lane(alloc, queues[at]))?;
+        let queue = queues[at];
+        let lane = recovered.lane(alloc, queue);
+        lanes.push(lane)?;
         at += 1;
     }
     Ok(lanes)

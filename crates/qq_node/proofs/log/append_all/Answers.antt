@@ -1,4 +1,4 @@
-use Rattle.std.proofs.Common.{◌∙◌, ap, sym, subst, arith, rules}
+use Rattle.std.proofs.Common.{◌∙◌, arith, rules}
 use Rattle.qq_disk.proofs.Stored.{still_tells}
 use Rattle.qq_node.proofs.Appends.{begun-all, begun-more, begun-none, begun-some, less-waits, nothing-waits}
 use Rattle.qq_node.proofs.log.append_all.Goals as goal
@@ -10,6 +10,8 @@ batches-init g c = record {
   begun = begun-none g.D.NodeDisk.tells g.D.NodeDisk.past c.args.wal.now;
   ahead = search rules;
   queues = search rules;
+  limit = search rules;
+  whole = λ told none. none;
   told = search rules;
   later = omega arith;
 }
@@ -28,6 +30,9 @@ batches-preserved g c = record {
       c.in_ok-append_some.ensures.ok;
   ahead = c.append_some.ensures.ahead ∙ c.batches.invariant.ahead;
   queues = c.append_some.ensures.queues ∙ c.batches.invariant.queues;
+  limit = c.append_some.ensures.limit ∙ c.batches.invariant.limit;
+  whole = λ told none. c.append_some.ensures.whole (still_tells c.batches.invariant.told told)
+      (c.batches.invariant.whole told none);
   told = c.append_some.ensures.told ∙ c.batches.invariant.told;
   later = omega (arith, c.batches.invariant.later, c.append_some.ensures.cause.later);
 }
@@ -38,14 +43,24 @@ returns-in_err-append_some-clause-stays g c = λ told.
     c.batches.invariant.queues c.batches.invariant.begun told
     (c.append_some.ensures.stays (still_tells c.batches.invariant.told told))
 
-pub returns-clause-all : goal.returns-clause-all
-returns-clause-all g c = λ told.
-    begun-all g.D.NodeDisk.tells g.D.NodeDisk.past c.args.wal.now c.append_some.new.wal
-    (begun-more g.D.NodeDisk.tells g.D.NodeDisk.past c.in_ok-append_some.field-0 c.args.wal.now c.batches.wal
-    c.append_some.new.wal c.batches.invariant.queues c.batches.invariant.told c.batches.invariant.begun
-    c.in_ok-append_some.ensures.ok)
-    (nothing-waits g.D.NodeDisk.tells g.D.NodeDisk.past c.in_ok-append_some.field-0 c.batches.wal
-    c.append_some.new.wal c.if-branch.false c.in_ok-append_some.ensures.ok) told
+pub returns-in_err-append_some-clause-whole : goal.returns-in_err-append_some-clause-whole
+returns-in_err-append_some-clause-whole g c = λ told none.
+    c.append_some.ensures.whole (still_tells c.batches.invariant.told told) (c.batches.invariant.whole told none)
+
+pub returns-clause-ok : goal.returns-clause-ok
+returns-clause-ok g c =
+    let waiting =
+    nothing-waits g.D.NodeDisk.tells g.D.NodeDisk.past c.in_ok-append_some.field-0 c.batches.wal
+    c.append_some.new.wal c.if-branch.false c.in_ok-append_some.ensures.ok in
+    record {
+      waiting = waiting;
+      going = c.in_ok-append_some.ensures.ok.going;
+      appended = λ told.
+          begun-all g.D.NodeDisk.tells g.D.NodeDisk.past c.args.wal.now c.append_some.new.wal
+          (begun-more g.D.NodeDisk.tells g.D.NodeDisk.past c.in_ok-append_some.field-0 c.args.wal.now c.batches.wal
+          c.append_some.new.wal c.batches.invariant.queues c.batches.invariant.told c.batches.invariant.begun
+          c.in_ok-append_some.ensures.ok) waiting told;
+    }
 
 pub returns-clause-stays : goal.returns-clause-stays
 returns-clause-stays g c = λ told.
@@ -53,7 +68,6 @@ returns-clause-stays g c = λ told.
     c.batches.invariant.queues c.batches.invariant.begun told
     (c.append_some.ensures.stays (still_tells c.batches.invariant.told told))
 
-pub returns-clause-ok : goal.returns-clause-ok
-returns-clause-ok g c =
-    nothing-waits g.D.NodeDisk.tells g.D.NodeDisk.past c.in_ok-append_some.field-0 c.batches.wal
-    c.append_some.new.wal c.if-branch.false c.in_ok-append_some.ensures.ok
+pub returns-clause-whole : goal.returns-clause-whole
+returns-clause-whole g c = λ told none.
+    c.append_some.ensures.whole (still_tells c.batches.invariant.told told) (c.batches.invariant.whole told none)

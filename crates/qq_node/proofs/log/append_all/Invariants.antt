@@ -1,6 +1,6 @@
-use Rattle.std.proofs.Common.{◌≡◌, ◌≤◌, ℕ, drop, false, length, IsTrue}
+use Rattle.std.proofs.Common.{◌≡◌, ◌≤◌, false, length, IsTrue}
+use Rattle.qq_wal.specs.Running.{StaysWhole}
 use Rattle.qq_wal.specs.Wal.{IsSound, carries_ahead}
-use Rattle.qq_node.specs.Log.{AppendsFirst}
 use Rattle.qq_node.proofs.Appends.{Begun}
 use Rattle.qq_node.proofs.log.append_all.Given as goal
 
@@ -15,6 +15,8 @@ invariant-batches g l =
       begun : Begun tells past l.fn.wal l.wal;
       ahead : carries_ahead l.wal ≡ carries_ahead l.fn.wal;
       queues : l.wal.queues ≡ l.fn.wal.queues;
+      limit : l.wal.log_bytes ≡ l.fn.wal.log_bytes;
+      whole : IsTrue (tells l.fn.wal.disk) → StaysWhole (past l.fn.wal.disk) (past l.wal.disk);
       told : tells l.wal.disk ≡ tells l.fn.wal.disk;
       later : g.D.NodeDisk.faults l.fn.wal.disk ≤ g.D.NodeDisk.faults l.wal.disk;
     }

@@ -1,4 +1,4 @@
-use Rattle.std.proofs.Common.{List, ap, refl, subst}
+use Rattle.std.proofs.Common.{List, ap, subst}
 use Rattle.std.specs.Global.{Vec}
 use Rattle.qq_base.specs.declared.ids.QueueId.{QueueId}
 use Rattle.qq_disk.specs.Disk.{now}
@@ -21,7 +21,7 @@ returns-in-Ok-true-clause-come g c = λ told.
       stays = subst (λ (l : List QueueId). Stays l (past c.sync_batch.new.self.disk) (past c.begin_next.new.wal.disk))
           same (c.begin_next.ensures.stays tells);
       holds = subst (λ (l : List QueueId). StillHolds l (now (past c.sync_batch.new.self.disk))
-          (now (past c.begin_next.new.wal.disk))) same (c.in-Ok-true.ensures.holds tells refl);
+          (now (past c.begin_next.new.wal.disk))) same (c.in-Ok-true.ensures.holds tells c.in-Ok-true.field-0-test);
     }
 
 pub returns-in-Ok-false-clause-come : goal.returns-in-Ok-false-clause-come
@@ -38,3 +38,11 @@ returns-in-Ok-false-clause-come g c = λ told.
       stays = subst (λ (l : List QueueId). Stays l (past c.sync_batch.new.self.disk) (past c.begin_next.new.wal.disk))
           same (c.begin_next.ensures.stays (still_tells c.sync_batch.ensures.told told));
     }
+
+pub returns-in-Ok-true-clause-whole : goal.returns-in-Ok-true-clause-whole
+returns-in-Ok-true-clause-whole g c = λ told none.
+    c.begin_next.ensures.whole (still_tells c.sync_batch.ensures.told told) (c.sync_batch.ensures.whole told none)
+
+pub returns-in-Ok-false-clause-whole : goal.returns-in-Ok-false-clause-whole
+returns-in-Ok-false-clause-whole g c = λ told none.
+    c.begin_next.ensures.whole (still_tells c.sync_batch.ensures.told told) (c.sync_batch.ensures.whole told none)
