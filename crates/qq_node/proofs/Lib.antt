@@ -5,3 +5,10 @@ pub mod Carried
 pub mod Moments
 pub mod Finding
 pub mod Lanes
+pub mod Causes
+pub mod EachDesk
+pub mod Stands
+pub mod Places
+pub mod Logs
+pub mod Lines
+pub mod EachGathers

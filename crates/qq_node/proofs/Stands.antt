@@ -1,0 +1,295 @@
+-- Which node is stood for behind a call, and what the call has served.
+use Rattle.std.proofs.Common.{◌≡◌, ◌≢◌, ◌<◌, ◌+◌, ℕ, suc, Bool, true, false, not, ◌&&◌, List, [], ◌∷◌, ◌++◌, length, get_or, drop, map, refl, sym, ap, ◌∙◌, subst, arith, append-nil, eq-eqb, ne_eqb}
+use Rattle.std.specs.Prelude.{if◌then◌else◌}
+use Rattle.std.specs.Global.{Vec}
+use Rattle.std.specs.List.{list_any, list_all}
+use Rattle.qq_base.specs.declared.ids.QueueId.{QueueId}
+use Rattle.qq_disk.specs.Disk.{Disk}
+use Rattle.qq_desk.specs.Desk.{DeskState, world_of}
+use Rattle.qq_world.specs.Node.{Setup, Node, NodeEvent, Sets, Alike, At, Fails, Crashes, FindsEach, Shows, SaysDown, SaysBusy, auto_after, node_happens, node_after, text_of}
+use Rattle.qq_world.specs.Rules.{Is, Then, some_queue, is_node_up, is_idle, is_settled}
+use Rattle.qq_wal.specs.Wal.{carries_ahead}
+use Rattle.qq_world.specs.World.{World, Event, Mutes, Ticks, Submits, Resends, Writes, Syncs, Notices, Stops, Finds, is_up, after, happens}
+use Rattle.qq_world.proofs.Serving.{IsCalm, calm-part}
+use Rattle.qq_node_laws.proofs.Both.{same-any}
+use Rattle.qq_node_laws.specs.Quiet.{IsQuiet, IsUnseen}
+use Rattle.qq_node_laws.specs.Reads.{IsReached, queue_at, queues_of}
+use Rattle.qq_node_laws.specs.Serves.{Seen, Serves}
+use Rattle.qq_node_laws.specs.Waiting.{AreApart}
+use Rattle.qq_node_laws.proofs.Promises.{reached-after}
+use Rattle.qq_node_laws.proofs.Serves.{serves-both, serves-nothing, serves-quiet, serves-weaker}
+use Rattle.qq_node.specs.declared.desks.Ask.{Ask}
+use Rattle.qq_node.specs.declared.desks.Ask.TheVariants.{Submit, Resend, Tick, Notice}
+use Rattle.qq_desk.specs.Text.{state_text_as}
+use Rattle.qq_node.specs.declared.node.Node.{Node as Held}
+use Rattle.qq_node.specs.declared.node.NodeLog.{NodeLog}
+use Rattle.qq_node.specs.declared.node.NodeLog.TheVariants.{Open, Closed}
+use Rattle.qq_node.specs.Desks.{AllDo, DoesAt, asked}
+use Rattle.qq_node.specs.Log.{IsWhole}
+use Rattle.qq_node.specs.Node.{AreDesks, AtIndex, AtQueue, CanServe, HasPlace, IsAt, IsDesk, IsLogAt, IsQueueAt, Served, Stands, disk_in, seen}
+use Rattle.qq_node.proofs.Carried.{carries-unseen}
+use Rattle.qq_node.proofs.EachDesk.{all-desks, all-done, any-desks, as-many, desk-at, drop-at, one-done, one-said}
+
+-- ---- what is asked of all queues
+
+pub idle-is : (setup : Setup) (n : Node) (up unsettled : Bool) (desks : List DeskState) → AreDesks setup n setup.places desks
+    → up ≡ list_all (λ (d : DeskState). is_up (world_of d)) desks
+    → unsettled ≡ list_any (λ (d : DeskState). not (is_settled (world_of d))) desks → not (up && unsettled) ≡ is_idle setup n
+idle-is setup n up unsettled desks are up_is unsettled_is =
+    ap (λ (b : Bool). not (b && unsettled)) (up_is ∙ all-desks setup n is_up setup.places desks are)
+    ∙ ap (λ (b : Bool). not (is_node_up setup n && b))
+    (unsettled_is ∙ any-desks setup n (λ (w : World). not (is_settled w)) setup.places desks are)
+
+-- ---- places
+
+-- a queue has the place of its index
+pub place-at : (setup : Setup) (n : Node) (desks : List DeskState) (at : ℕ) → AreDesks setup n setup.places desks
+    → at < length desks → (place : ℕ) × HasPlace setup at place
+place-at setup n desks at are lt = (
+  get_or setup.places at 0,
+  drop-at setup.places at 0 (omega (arith, lt, as-many setup n setup.places desks are)),
+)
+
+-- ---- what is asked
+
+pub asked-unseen : (ask : Ask) → IsUnseen (asked ask)
+asked-unseen (Submit session body) = tt
+asked-unseen (Resend session) = tt
+asked-unseen Tick = tt
+asked-unseen Notice = tt
+
+-- where no queue changes they stand as before
+same-desks : (setup : Setup) (n m : Node) (places : List ℕ) (desks : List DeskState)
+    → ((place : ℕ) → m.queue place ≡ n.queue place) → AreDesks setup n places desks → AreDesks setup m places desks
+same-desks setup n m [] [] same are = tt
+same-desks setup n m (place ∷ places) (d ∷ desks) same are = (
+  record {
+    world_is = are.0.world_is ∙ sym (same place);
+    name_is = are.0.name_is;
+    first_is = are.0.first_is;
+  },
+  same-desks setup n m places desks same are.1,
+)
+same-desks setup n m [] (d ∷ desks) same are = absurd are
+same-desks setup n m (place ∷ places) [] same are = absurd are
+
+-- ---- the log
+
+calm : (event : NodeEvent) → IsQuiet event → IsCalm event
+calm (Sets auto) quiet = tt
+calm (Alike event) quiet = by event quiet
+  where
+    by : (event : Event) → IsUnseen event → IsCalm (Alike event)
+    by (Mutes session muted) unseen = tt
+    by Ticks unseen = tt
+    by (Submits session body) unseen = tt
+    by (Resends session) unseen = tt
+    by Notices unseen = tt
+    by Writes unseen = absurd unseen
+    by Syncs unseen = absurd unseen
+    by Stops unseen = absurd unseen
+    by (Finds op) unseen = absurd unseen
+calm (At place event) quiet = by event quiet
+  where
+    by : (event : Event) → IsUnseen event → IsCalm (At place event)
+    by (Mutes session muted) unseen = tt
+    by Ticks unseen = tt
+    by (Submits session body) unseen = tt
+    by (Resends session) unseen = tt
+    by Notices unseen = tt
+    by Writes unseen = absurd unseen
+    by Syncs unseen = absurd unseen
+    by Stops unseen = absurd unseen
+    by (Finds op) unseen = absurd unseen
+calm Fails quiet = absurd quiet
+calm (Crashes image) quiet = absurd quiet
+calm (FindsEach ops) quiet = absurd quiet
+calm (Shows place) quiet = tt
+calm SaysDown quiet = tt
+calm SaysBusy quiet = tt
+
+quiet-up : (setup : Setup) (n : Node) (event : NodeEvent) → IsQuiet event
+    → some_queue setup is_up (node_happens n event) ≡ some_queue setup is_up n
+quiet-up setup n event quiet =
+    same-any (λ (place : ℕ). is_up ((node_happens n event).queue place)) (λ (place : ℕ). is_up (n.queue place))
+    (λ place. ap not (calm-part n event place (calm event quiet))) setup.places
+
+-- what the log doesn't see leaves it as it is
+pub log-quiet : {D : Type 0} (tells : D → Bool) (past : D → List Disk) (setup : Setup) (n : Node) (event : NodeEvent)
+    (log : NodeLog D) → IsReached setup n → IsQuiet event → IsLogAt tells past setup n log
+    → IsLogAt tells past setup (node_happens n event) log
+log-quiet tells past setup n event (Open wal) r quiet is = λ up.
+    let run = is (sym (quiet-up setup n event quiet) ∙ up) in record {
+      sound = run.sound;
+      queues_are = run.queues_are;
+      waiting = run.waiting;
+      going = run.going;
+      carries = carries-unseen setup n event (carries_ahead wal) r quiet run.carries;
+    }
+log-quiet tells past setup n event (Closed disk) r quiet is = quiet-up setup n event quiet ∙ is
+
+-- ---- the node
+
+module _ {D : Type 0} (tells : D → Bool) (past : D → List Disk) (faults : D → ℕ) where
+  -- behind an event that the log doesn't see
+  pub stands-quiet : (setup : Setup) (n : Node) (event : NodeEvent) (old new : Held D) → IsReached setup n
+      → IsQuiet event → Stands tells past setup old n → AreDesks setup (node_happens n event) setup.places new.desks
+      → new.queues ≡ old.queues → new.log ≡ old.log → new.auto ≡ auto_after event old.auto
+      → Stands tells past setup new (node_happens n event)
+  stands-quiet setup n event old new r quiet st desks queues log auto = record {
+    apart = st.apart;
+    desks = desks;
+    queues = ap (λ (v : Vec QueueId). v.items) queues ∙ st.queues;
+    auto = auto ∙ ap (auto_after event) st.auto;
+    log = subst (IsLogAt tells past setup (node_happens n event)) (sym log)
+        (log-quiet tells past setup n event old.log r quiet st.log);
+    whole = subst (λ (l : NodeLog D). IsWhole tells past (disk_in l)) (sym log) st.whole;
+  }
+
+  -- ---- calls, one after the other
+
+  pub can-after : (Rule : Setup → Node → List NodeEvent → Type 0) (old new : Held D) (before later : List ℕ)
+      → CanServe tells past old → Served tells past faults Rule old new before later → CanServe tells past new
+  can-after Rule old new before later can served =
+      let s = served can.0 can.1 can.2 can.3 in
+      (can.0, node_after can.1 s.events, reached-after can.0 can.1 s.events can.2, s.stands)
+
+  -- what the first and then the second allow is what the whole allows
+  pub served-both : (First Second Whole : Setup → Node → List NodeEvent → Type 0) (old mid new : Held D)
+      (before middle later : List ℕ) → Served tells past faults First old mid before middle
+      → Served tells past faults Second mid new middle later
+      → ((setup : Setup) (n : Node) (events others : List NodeEvent) → First setup n events
+      → Second setup (node_after n events) others → Whole setup n (events ++ others))
+      → Served tells past faults Whole old new before later
+  served-both First Second Whole old mid new before middle later first second join setup n r st =
+      let s = first setup n r st in
+      let k : Node = node_after n s.events in
+      let t = second setup k (reached-after setup n s.events r) s.stands in
+      serves-both setup n (First setup n) (Second setup k) (Whole setup n) (Stands tells past setup mid)
+      (Stands tells past setup new) (seen tells past faults old) (seen tells past faults mid)
+      (seen tells past faults new) before middle later s t (join setup n s.events t.events s.means t.means)
+
+  pub served-then : (First Second : Setup → Node → List NodeEvent → Type 0) (old mid new : Held D)
+      (before middle later : List ℕ) → Served tells past faults First old mid before middle
+      → Served tells past faults Second mid new middle later
+      → Served tells past faults (λ setup. Then (First setup) (Second setup)) old new before later
+  served-then First Second old mid new before middle later first second =
+      served-both First Second (λ setup. Then (First setup) (Second setup)) old mid new before middle later first second
+      (λ setup n events others one other.
+      record { early = events; late = others; is = refl; first = one; second = other })
+
+  pub served-weaker : (Rule More : Setup → Node → List NodeEvent → Type 0) (old new : Held D) (before later : List ℕ)
+      → Served tells past faults Rule old new before later
+      → ((setup : Setup) (n : Node) (events : List NodeEvent) → IsReached setup n → Stands tells past setup old n
+      → Rule setup n events → More setup n events)
+      → Served tells past faults More old new before later
+  served-weaker Rule More old new before later served more setup n r st =
+      serves-weaker setup n (Rule setup n) (More setup n) (Stands tells past setup new) (Stands tells past setup new)
+      (seen tells past faults old) (seen tells past faults new) before later
+      (λ events allowed. more setup n events r st allowed) (λ k is. is) (served setup n r st)
+
+  pub served-nothing : (Rule : Setup → Node → List NodeEvent → Type 0) (node : Held D) (text : List ℕ)
+      → ((setup : Setup) (n : Node) → IsReached setup n → Stands tells past setup node n → Rule setup n [])
+      → Served tells past faults Rule node node text text
+  served-nothing Rule node text allowed setup n r st =
+      serves-nothing setup n (Rule setup n) (Stands tells past setup node) (seen tells past faults node) text
+      (allowed setup n r st) st
+
+  -- an event that the log doesn't see
+  pub served-quiet : (Rule : Setup → Node → List NodeEvent → Type 0) (old new : Held D) (before later : List ℕ)
+      → new.queues ≡ old.queues → new.log ≡ old.log
+      → ((setup : Setup) (n : Node) → IsReached setup n → Stands tells past setup old n → (event : NodeEvent)
+      × IsQuiet event × Rule setup n (event ∷ []) × AreDesks setup (node_happens n event) setup.places new.desks
+      × (new.auto ≡ auto_after event old.auto) × (later ≡ before ++ text_of setup n (event ∷ [])))
+      → Served tells past faults Rule old new before later
+  served-quiet Rule old new before later queues log does setup n r st =
+      let d = does setup n r st in
+      subst (λ (b : Seen). Serves setup n (Rule setup n) (Stands tells past setup new) (seen tells past faults old) b
+      before later) (ap seen_in (sym log))
+      (serves-quiet setup n d.0 (Rule setup n) (Stands tells past setup new) (seen tells past faults old) before later
+      r d.1 d.2 (stands-quiet setup n d.0 old new r d.1 st d.3 queues log d.4) d.5)
+    where
+      seen_in : NodeLog D → Seen
+      seen_in l = record { tells = tells (disk_in l); past = past (disk_in l); faults = faults (disk_in l) }
+
+  -- one queue does what is asked of it
+  pub served-at : (event : Event) (at : ℕ) (old new : Held D) (before later : List ℕ) → IsUnseen event
+      → at < length old.desks → new.queues ≡ old.queues → new.log ≡ old.log → new.auto ≡ old.auto
+      → DoesAt event at old.desks new.desks before later
+      → Served tells past faults (AtIndex at (IsAt event)) old new before later
+  served-at event at old new before later unseen lt queues log auto does =
+      served-quiet (AtIndex at (IsAt event)) old new before later queues log (λ setup n r st.
+      (let place = place-at setup n old.desks at st.desks lt in (
+        At place.0 event,
+        unseen,
+        (place.0, place.1, refl),
+        one-done setup n (node_happens n (At place.0 event)) event at place.0 setup.places old.desks new.desks
+            (drop (at + 1) setup.places) before later st.apart place.1 st.desks does (here n place.0) (there n place.0),
+        auto,
+        one-said setup n event at place.0 setup.places old.desks new.desks (drop (at + 1) setup.places) before later
+            place.1 st.desks does,
+      )))
+    where
+      here : (n : Node) (place : ℕ) → (node_happens n (At place event)).queue place ≡ happens (n.queue place) event
+      here n place =
+          ap (λ (b : Bool). after (n.queue place) (if b then event ∷ [] else [])) (eq-eqb place place refl)
+
+      there : (n : Node) (place other : ℕ) → other ≢ place
+          → (node_happens n (At place event)).queue other ≡ n.queue other
+      there n place other ne =
+          ap (λ (b : Bool). after (n.queue other) (if b then event ∷ [] else []))
+          (ne_eqb place other (λ is. ne (sym is)))
+
+  -- each queue does, and prints nothing
+  pub served-alike : (event : Event) (old new : Held D) (text : List ℕ) → IsUnseen event → new.queues ≡ old.queues
+      → new.log ≡ old.log → new.auto ≡ old.auto → AllDo event old.desks new.desks
+      → Served tells past faults (λ setup. Is (Alike event)) old new text text
+  served-alike event old new text unseen queues log auto done =
+      served-quiet (λ setup. Is (Alike event)) old new text text queues log (λ setup n r st. (
+        Alike event,
+        unseen,
+        refl,
+        all-done setup n (node_happens n (Alike event)) event setup.places old.desks new.desks st.desks done
+            (λ place. refl),
+        auto,
+        sym (append-nil text),
+      ))
+
+  -- nothing happens to any queue, and a text has grown
+  pub served-same : (event : NodeEvent) (old new : Held D) (before later : List ℕ) → IsQuiet event
+      → new.queues ≡ old.queues → new.log ≡ old.log → new.desks ≡ old.desks → new.auto ≡ auto_after event old.auto
+      → ((n : Node) (place : ℕ) → (node_happens n event).queue place ≡ n.queue place)
+      → ((setup : Setup) (n : Node) → later ≡ before ++ text_of setup n (event ∷ []))
+      → Served tells past faults (λ setup. Is event) old new before later
+  served-same event old new before later quiet queues log desks auto same says =
+      served-quiet (λ setup. Is event) old new before later queues log (λ setup n r st. (
+        event,
+        quiet,
+        refl,
+        subst (AreDesks setup (node_happens n event) setup.places) (sym desks)
+            (same-desks setup n (node_happens n event) setup.places old.desks (same n) st.desks),
+        auto,
+        says setup n,
+      ))
+
+  -- the state of a queue is shown
+  pub served-shown : (at : ℕ) (node : Held D) (before later : List ℕ) (d : DeskState)
+      → drop at node.desks ≡ d ∷ drop (at + 1) node.desks → at < length node.desks
+      → later ≡ before ++ state_text_as d.name d.server
+      → Served tells past faults (AtIndex at (λ setup place. Is (Shows place))) node node before later
+  served-shown at node before later d here lt says =
+      served-quiet (AtIndex at (λ setup place. Is (Shows place))) node node before later refl refl (λ setup n r st.
+      (let place = place-at setup n node.desks at st.desks lt in
+      let is : IsDesk setup n place.0 d =
+      desk-at setup n setup.places node.desks at place.0 d (drop (at + 1) setup.places) (drop (at + 1) node.desks)
+      st.desks place.1 here in (
+        Shows place.0,
+        tt,
+        (place.0, place.1, refl),
+        same-desks setup n (node_happens n (Shows place.0)) setup.places node.desks (λ p. refl) st.desks,
+        refl,
+        says ∙ ap (λ (name : List ℕ). before ++ state_text_as name d.server) is.name_is
+            ∙ ap (λ (w : World). before ++ state_text_as (setup.name place.0) w.server) is.world_is
+            ∙ ap (λ (l : List ℕ). before ++ l)
+            (sym (append-nil (state_text_as (setup.name place.0) (n.queue place.0).server))),
+      )))

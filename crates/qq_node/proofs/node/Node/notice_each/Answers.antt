@@ -1,0 +1,35 @@
+use Rattle.std.proofs.Common.{arith}
+use Rattle.qq_world.specs.Rules.{IsNotice}
+use Rattle.qq_node.specs.Node.{LeadsFrom}
+use Rattle.qq_node.proofs.Places.{each-end, each-more, each-start, still-many}
+use Rattle.qq_node.proofs.Stands.{can-after}
+use Rattle.qq_node.proofs.node.Node.notice_each.Goals as goal
+
+pub places-init : goal.places-init
+places-init g c =
+    each-start g.D.NodeDisk.tells g.D.NodeDisk.past g.D.NodeDisk.faults IsNotice c.args.self.now c.args.text.now.items
+
+pub notice_at-requires-clause-serve : goal.notice_at-requires-clause-serve
+notice_at-requires-clause-serve g c =
+    can-after g.D.NodeDisk.tells g.D.NodeDisk.past g.D.NodeDisk.faults (LeadsFrom c.places.at IsNotice) c.args.self.now
+    c.places.self c.args.text.now.items c.places.text.items c.requires c.places.invariant
+
+pub notice_at-requires-clause-place : goal.notice_at-requires-clause-place
+notice_at-requires-clause-place g c =
+    omega (
+      arith,
+      c.len-count.ensures,
+      still-many g.D.NodeDisk.tells g.D.NodeDisk.past g.D.NodeDisk.faults (LeadsFrom c.places.at IsNotice) c.args.self.now
+          c.places.self c.args.text.now.items c.places.text.items c.requires c.places.invariant,
+    )
+
+pub places-preserved : goal.places-preserved
+places-preserved g c =
+    each-more g.D.NodeDisk.tells g.D.NodeDisk.past g.D.NodeDisk.faults IsNotice c.places.at c.args.self.now c.places.self
+    c.notice_at.new.self c.args.text.now.items c.places.text.items c.notice_at.new.text.items c.places.invariant
+    c.in_default.ensures.ok
+
+pub returns-clause-ok : goal.returns-clause-ok
+returns-clause-ok g c =
+    each-end g.D.NodeDisk.tells g.D.NodeDisk.past g.D.NodeDisk.faults IsNotice c.places.at c.args.self.now c.places.self
+    c.args.text.now.items c.places.text.items c.places.invariant (omega (arith, c.len-count.ensures))

@@ -1,0 +1,15 @@
+use Rattle.std.proofs.Common.{refl}
+use Rattle.qq_node.proofs.Logs.{may-sync, served-sync}
+use Rattle.qq_node.proofs.node.Node.sync_running.Goals as goal
+
+pub sync_in-requires : goal.sync_in-requires
+sync_in-requires g c =
+    may-sync g.D.NodeDisk.tells g.D.NodeDisk.past g.D.NodeDisk.faults c.requires.serve.0 c.requires.serve.1
+    c.args.self.now c.requires.serve.3 c.requires.up c.requires.some
+
+pub returns-clause-ok : goal.returns-clause-ok
+returns-clause-ok g c =
+    served-sync g.D.NodeDisk.tells g.D.NodeDisk.past g.D.NodeDisk.faults c.in-Ok.outcome c.some_waits_synced-waits.result
+    c.args.self.now (record c.args.self.now { desks = c.settle.new.self; log = c.sync_in.new.log })
+    c.args.text.now.items c.settle.new.out.items c.requires.up c.requires.some c.some_waits_synced-waits.ensures refl
+    refl c.in-Ok.ensures.ok c.in_default.ensures.ok
