@@ -1,2 +1,3 @@
 pub mod Queues
 mod Examples
+mod Named

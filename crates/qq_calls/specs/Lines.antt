@@ -1,20 +1,22 @@
 -- What the lines of a script ask of a node of one server.
-use Rattle.std.specs.Prelude.{ℕ, List, [], ◌∷◌, true, false, None, Result, Ok, Err, length, nat_eq, if◌then◌else◌}
+use Rattle.std.specs.Prelude.{ℕ, List, [], ◌∷◌, Bool, true, false, ◌&&◌, Option, Some, None, Result, Ok, Err, length, nat_eq, codes, if◌then◌else◌}
 use Rattle.std.specs.List.{find}
+use Rattle.std.specs.Option.{is_some}
+use Rattle.std.specs.Str.{bytes_eq}
 use Rattle.qq_entry.specs.declared.command.Unstamped.{Unstamped}
 use Rattle.qq_entry.specs.declared.command.Unstamped.TheVariants as bodies
 use Rattle.qq_entry.specs.Message.{new_message}
 use Rattle.qq_defs.specs.declared.members.QueueRow.{QueueRow}
 use Rattle.qq_defs.specs.declared.setup.Setup.{Setup}
 use Rattle.qq_lines.specs.declared.fault.ScriptFault.{ScriptFault}
-use Rattle.qq_lines.specs.declared.fault.ScriptFault.TheVariants.{Unknown, NoSuch}
+use Rattle.qq_lines.specs.declared.fault.ScriptFault.TheVariants.{Unknown, NoSuch, Body}
 use Rattle.qq_lines.specs.declared.line.Place.{Place}
 use Rattle.qq_lines.specs.declared.line.ScriptLine.{ScriptLine}
 use Rattle.qq_lines.specs.declared.line.ScriptLine.TheVariants as lines
 use Rattle.qq_lines.specs.Bodies.{limited}
-use Rattle.qq_lines.specs.Lines.{parse_line}
+use Rattle.qq_lines.specs.Lines.{text_in, parse_line}
 use Rattle.qq_lines.specs.Names.{named}
-use Rattle.qq_lines.specs.Words.{◌>>=◌, or_fault}
+use Rattle.qq_lines.specs.Words.{◌>>=◌, or_fault, text_of, words_of}
 use Rattle.qq_world.specs.Rules.{Line, Nothing, Send, Resend, Mute, Auto, Pump, Write, Sync, Notice, Tick, Crash, Restart, Show}
 use Rattle.qq_calls.specs.Queues.{place_of}
 
@@ -70,6 +72,28 @@ line_of rows _ = Err Unknown
 abbrev pub at_line : ℕ → Place
 at_line number = record { number = number; run = false; section = None }
 
+-- the exchange and the key of a line that sends a message
+abbrev pub target_in : List (List ℕ) → Option (List ℕ × List ℕ)
+target_in (first ∷ session ∷ exchange ∷ key ∷ body) =
+    if bytes_eq first (codes "send") then Some (text_of exchange, text_of key) else None
+target_in _ = None
+
+abbrev pub target_of : Option (List ℕ) → Option (List ℕ × List ℕ)
+target_of None = None
+target_of (Some text) = target_in (words_of text)
+
+-- there is a queue for it
+abbrev pub is_there : List QueueRow → Option (List ℕ × List ℕ) → Bool
+is_there rows None = true
+is_there rows (Some target) = nat_eq (length target.0) 0 && is_some (find (named target.1) rows)
+
+-- that a message has no queue comes before the length of its body
+abbrev pub ask_by : Setup → List ℕ → Result ScriptLine ScriptFault → Result Line ScriptFault
+ask_by s line (Ok said) = line_of s.queues said
+ask_by s line (Err (Body size)) =
+    if is_there s.queues (target_of (text_in line)) then Err (Body size) else Err NoSuch
+ask_by s line (Err fault) = Err fault
+
 -- what a line of a script asks for, or its first fault
 unfoldable pub read_line : Setup → ℕ → List ℕ → Result Line ScriptFault
-read_line s number line = parse_line s (at_line number) line >>= line_of s.queues
+read_line s number line = ask_by s line (parse_line s (at_line number) line)

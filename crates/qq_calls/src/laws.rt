@@ -1,16 +1,18 @@
 //! What lines ask for, as laws: the functions do nothing, and their contracts are the laws.
-ghost use Rattle.std.specs.Prelude.{◌≡◌, ◌<◌, ◌+◌, ◌++◌, ℕ, Ok, Err, true, false, codes};
+ghost use Rattle.std.specs.Prelude.{◌≡◌, ◌<◌, ◌+◌, ◌++◌, ℕ, List, Ok, Err, true, false, codes};
 ghost use Rattle.std.specs.List.{range_with_len};
 ghost use Rattle.std.specs.Fmt.{decimal};
 ghost use Rattle.qq_disk.specs.declared.image.Tail.TheVariants.{Cut};
 ghost use Rattle.qq_entry.specs.declared.command.Unstamped.TheVariants.{Get};
 ghost use Rattle.qq_entry.specs.Queue.{default_args};
 ghost use Rattle.qq_route.specs.declared.routes.Routes.{Routes};
+ghost use Rattle.qq_defs.specs.declared.setup.Setup.{Setup};
 ghost use Rattle.qq_defs.specs.Setup.{plain_row, plain_rows};
 ghost use Rattle.qq_lines.specs.declared.fault.ScriptFault.TheVariants.{Unknown, Words, NoSuch};
-ghost use Rattle.qq_world.specs.Rules.{Send, Mute, Auto, Notice, Crash};
+ghost use Rattle.qq_world.specs.Rules.{Line, Send, Mute, Auto, Notice, Crash};
 ghost use Rattle.qq_calls.specs.Queues.{node_setup};
 ghost use Rattle.qq_calls.specs.Lines.{publish_to, read_line};
+ghost use Rattle.qq_calls.specs.Named.{HaveNames, IsNamed};
 ghost use Rattle.qq_calls.specs.Examples.{two_queues};
 
 /// A law: a setup of queues without arguments is one of a node with the places 1, 2 and so on. The first queue
@@ -53,4 +55,11 @@ pub fn lines_ask_for_their_rules()
         read_line (two_queues routes) 1 (codes "publish") ≡ Err Words }
     ensures consumers { (routes : Routes) →
         read_line (two_queues routes) 1 (codes "subscribe 1 q1 1 1") ≡ Err Unknown }
+{}
+
+/// A law: over queues whose names are texts, what a line asks for names queues of the setup and sessions from
+/// 1, and each body that it sends is in range.
+pub fn a_line_names_what_is_there()
+    ensures { (s : Setup) (number : ℕ) (line : List ℕ) (asked : Line) → HaveNames s.queues →
+        read_line s number line ≡ Ok asked → IsNamed (node_setup s.queues).places asked }
 {}

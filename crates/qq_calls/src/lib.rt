@@ -6,5 +6,7 @@ mod laws;
 mod lines;
 
 pub use call::Call;
-pub use laws::{a_node_has_the_queues_of_its_setup, lines_ask_for_their_rules};
+pub use laws::{
+    a_line_names_what_is_there, a_node_has_the_queues_of_its_setup, lines_ask_for_their_rules,
+};
 pub use lines::{call_of, read_line};

@@ -1,25 +1,25 @@
-ghost use Rattle.std.specs.Prelude.{◌≡◌, Ok, IfOk, IfErr};
+ghost use Rattle.std.specs.Prelude.{◌≡◌, Ok, Err, Some, map, IfOk, IfErr, IsOkUnless};
 ghost use Rattle.std.specs.List.{find};
-ghost use Rattle.std.specs.Option.{option_copied};
+ghost use Rattle.std.specs.Option.{option_copied, option_map};
 ghost use Rattle.qq_lines.specs.Names.{named};
-ghost use Rattle.qq_lines.specs.Lines.{HasScriptCause};
+ghost use Rattle.qq_lines.specs.Lines.{HasScriptCause, text_in};
 ghost use Rattle.qq_calls.specs.Calls.{rule_of};
-ghost use Rattle.qq_calls.specs.Lines.{send_to, publish, send, line_of, read_line};
+ghost use Rattle.qq_calls.specs.Lines.{send_to, publish, send, line_of, target_in, target_of, is_there, ask_by, read_line};
 
 use crate::call::Call;
-use qq_base::{Bytes, Duplicate, Text};
+use qq_base::{Bytes, Duplicate, Memory, Text};
 use qq_defs::{QueueRow, Setup};
 use qq_entry::{BODY_LIMIT, Content, Deaths, Message, Unstamped};
-use qq_lines::{Place, ScriptFault, ScriptLine, parse_line};
+use qq_lines::{Place, ScriptFault, ScriptLine, parse_line, parts_of, text_in, text_of};
 use std::alloc::Global;
 
-fn is_named(word: &Text, row: &QueueRow) -> bool
+fn is_named(word: &str, row: &QueueRow) -> bool
     ensures { result ≡ named word.now row.now }
 {
-    row.name.as_str() == word.as_str()
+    row.name.as_str() == word
 }
 
-fn find_named<'a>(rows: &'a [QueueRow], word: &Text) -> Option<&'a QueueRow>
+fn find_named<'a>(rows: &'a [QueueRow], word: &str) -> Option<&'a QueueRow>
     ensures { option_copied result ≡ find (named word.now) rows.now }
 {
     for row in rows {
@@ -81,7 +81,7 @@ fn send(
     if exchange.len() != 0 {
         return Err(ScriptFault::NoSuch);
     }
-    match find_named(rows, key) {
+    match find_named(rows, key.as_str()) {
         Some(row) => send_to(alloc, row, session, body),
         None => Err(ScriptFault::NoSuch),
     }
@@ -144,6 +144,60 @@ pub fn call_of(alloc: Global, rows: &[QueueRow], said: ScriptLine) -> Result<Cal
     }
 }
 
+// The exchange and the key of a line that sends a message.
+fn target_in<'a>(words: &[&'a str]) -> Option<(&'a str, &'a str)>
+    ensures { option_map (λ target. (target.0.now, target.1.now)) result
+        ≡ target_in (map (λ w. w.now) words.now) }
+{
+    let [first, _, exchange, key, _rest @ ..] = words else {
+        return None;
+    };
+    if *first != "send" {
+        return None;
+    }
+    Some((text_of(exchange), text_of(key)))
+}
+
+fn is_there(rows: &[QueueRow], exchange: &str, key: &str) -> bool
+    ensures { result ≡ is_there rows.now (Some (exchange.now, key.now)) }
+{
+    if !exchange.is_empty() {
+        return false;
+    }
+    match find_named(rows, key) {
+        Some(_) => true,
+        None => false,
+    }
+}
+
+// Whether there is a queue for the message of a line, where it sends one.
+fn has_queue(alloc: Global, rows: &[QueueRow], line: &[u8]) -> Result<bool, Memory>
+    ensures ok { IfOk result (λ there.
+        there ≡ is_there rows.now (target_of (text_in line.now))) }
+    ensures want { IsOkUnless result Memory.Want }
+{
+    let Some(text) = text_in(line) else {
+        return Ok(true);
+    };
+    let words = parts_of(alloc, ' ', text)?;
+    match target_in(words.as_slice()) {
+        Some((exchange, key)) => Ok(is_there(rows, exchange, key)),
+        None => Ok(true),
+    }
+}
+
+// What a line asks for whose body is too long.
+fn refuse_body(alloc: Global, rows: &[QueueRow], line: &[u8], size: u64) -> ScriptFault
+    ensures { (s : Setup) → s.queues ≡ rows.now
+        → HasScriptCause result (ask_by s line.now (Err (ScriptFault.Body size))) }
+{
+    match has_queue(alloc, rows, line) {
+        Ok(true) => ScriptFault::Body { size },
+        Ok(false) => ScriptFault::NoSuch,
+        Err(cause) => ScriptFault::Memory(cause),
+    }
+}
+
 /// Reads the line of this number, from 1, without its line feed.
 ///
 /// - `ok`: it is the call that the line asks for.
@@ -165,6 +219,9 @@ pub fn read_line(
     };
     match parse_line(alloc, line, setup, place) {
         Ok(said) => call_of(alloc, setup.queues.as_slice(), said),
+        Err(ScriptFault::Body { size }) => {
+            Err(refuse_body(alloc, setup.queues.as_slice(), line, size))
+        }
         Err(fault) => Err(fault),
     }
 }

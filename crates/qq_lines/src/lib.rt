@@ -17,4 +17,5 @@ pub use fault::ScriptFault;
 pub use laws::numbers_are_decimal_texts;
 pub use line::{LINE_LIMIT, Nodes, Place, ScriptLine};
 pub use numbers::number_in;
-pub use parse::parse_line;
+pub use parse::{parse_line, text_in};
+pub use words::{parts_of, text_of};

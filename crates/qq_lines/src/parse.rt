@@ -164,7 +164,8 @@ fn read_words(
     }
 }
 
-fn text_in(line: &[u8]) -> Option<&str>
+/// A line as text, None where it isn't UTF-8.
+pub fn text_in(line: &[u8]) -> Option<&str>
     ensures { option_map (λ text. text.now) result ≡ text_in line.now }
 {
     match str::from_utf8(line) {

@@ -1,0 +1,35 @@
+-- What is true of the calls that lines ask for: which queues and sessions they name, and that their messages have bytes.
+use Rattle.std.specs.Prelude.{◌<◌, ◌≤◌, ℕ, List, [], ◌∷◌, length, Contains, None, IfSome}
+use Rattle.std.specs.List.{AllByRecursion}
+use Rattle.std.specs.Str.{IsUtf8}
+use Rattle.qq_entry.specs.declared.command.Unstamped.{Unstamped}
+use Rattle.qq_entry.specs.declared.command.Unstamped.TheVariants as bodies
+use Rattle.qq_entry.specs.declared.limits.TheConstants.{KEY_LIMIT}
+use Rattle.qq_entry.specs.Range.{IsContent, IsWhole}
+use Rattle.qq_defs.specs.declared.members.QueueRow.{QueueRow}
+use Rattle.qq_world.specs.Rules.{Line, Send, Mute, Notice, Tick, Show}
+
+-- a message in range with its content, or a command without fields
+abbrev pub IsBody : Unstamped → Type 0
+IsBody (bodies.Enqueue None message) = IfSome message.content IsContent × IsWhole message
+IsBody bodies.Get = Unit {0}
+IsBody _ = ⊥
+
+-- these places, sessions from 1, and bodies in range
+abbrev pub IsNamed : List ℕ → Line → Type 0
+IsNamed places (Send place session body) = Contains places place × (0 < session) × IsBody body
+IsNamed places (Mute session muted) = 0 < session
+IsNamed places (Notice place) = Contains places place
+IsNamed places (Tick place) = Contains places place
+IsNamed places (Show place) = Contains places place
+IsNamed places _ = Unit {0}
+
+-- the first one's name is a routing key
+abbrev pub HasFirstKey : List QueueRow → Type 0
+HasFirstKey [] = Unit {0}
+HasFirstKey (row ∷ rows) = length row.name ≤ KEY_LIMIT
+
+-- queues whose names are texts
+pub record HaveNames (rows : List QueueRow) : Type 0 where
+  pub texts : AllByRecursion (λ (row : QueueRow). IsUtf8 row.name) rows
+  pub first : HasFirstKey rows
