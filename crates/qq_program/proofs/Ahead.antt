@@ -1,5 +1,5 @@
 -- A run over what is ahead of a reader, and how it ends.
-use Rattle.std.proofs.Common.{◌≡◌, ℕ, ◌+◌, List, [], ◌∷◌, ◌++◌, length, take, drop, Option, Some, None, inl, inr, refl, sym, ap, subst, ◌∙◌, append_assoc, append-nil, take-append-drop}
+use Rattle.std.proofs.Common.{◌≡◌, ℕ, List, [], ◌∷◌, ◌++◌, take, drop, Option, Some, None, inl, inr, refl, sym, ap, subst, ◌∙◌, append_assoc, append-nil, take-append-drop}
 use Rattle.std.specs.Prelude.{IfSome}
 use Rattle.std.specs.Io.KnownBytes.{Appends, Consumes, IsAtEnd, prepend_known}
 use Rattle.std.proofs.KnownBytes.{Appends-trans, Appends-nil}
@@ -7,18 +7,16 @@ use Rattle.std.proofs.lemmas.Option.{IfSome_then}
 use Rattle.qq_defs.specs.declared.setup.Setup.{Setup}
 use Rattle.qq_calls.specs.Queues.{node_setup}
 use Rattle.qq_ports.specs.Faults.{AppendsPrefix}
-use Rattle.qq_ports.specs.Lines.{first_line, HasNoFeed, TakesLine, BeginsTooLong, LosesSome, LosesPiece, FirstLineLeads}
-use Rattle.qq_world.specs.Node.{Setup as NodeSetup, Node, NodeEvent, new_node, node_after, text_of}
+use Rattle.qq_ports.specs.Lines.{first_line, TakesLine, BeginsTooLong, LosesSome, LosesPiece, FirstLineLeads}
+use Rattle.qq_world.specs.Node.{Node, NodeEvent, new_node, node_after, text_of}
 use Rattle.qq_world.specs.Rules.{IsOpening}
-use Rattle.qq_program.specs.declared.stop.AskStop.{AskStop}
-use Rattle.qq_program.specs.declared.stop.AskStop.TheVariants as asks
 use Rattle.qq_program.specs.Endings.{Ending}
 use Rattle.qq_program.specs.Inputs.{Input, inputs_of}
 use Rattle.qq_program.specs.Reading.{Ends, says}
-use Rattle.qq_program.specs.Serving.{Run, Serves, EndsRun, NextEnds, Behind, run_behind, text_behind, audits_behind, Goes, Served}
+use Rattle.qq_program.specs.Serving.{Run, Serves, EndsRun, Behind, run_behind, text_behind, audits_behind, Goes, Served}
 use Rattle.qq_program.specs.Runs.{EndsBy, HasAnswers, BreaksOff, MayEnd, IsDoneOver}
 use Rattle.qq_program.proofs.InputLines.{takes_input, BeginsLong, long_begins}
-use Rattle.qq_program.proofs.Going.{More, more}
+use Rattle.qq_program.proofs.Going.{more}
 
 without_nil : (a b : Option (List ℕ)) (xs : List ℕ) → Appends a b (xs ++ []) → Appends a b xs
 without_nil a b xs grown = subst (Appends a b) (append-nil xs) grown

@@ -1,5 +1,5 @@
 -- A line is read and served.
-use Rattle.std.proofs.Common.{◌≡◌, ℕ, ◌+◌, ◌≤◌, List, [], ◌∷◌, ◌++◌, Option, Some, refl, sym, ap, ◌∙◌, inl, inr}
+use Rattle.std.proofs.Common.{◌≡◌, ℕ, List, [], ◌++◌, Option, Some, refl, sym, ap, ◌∙◌, inl, inr}
 use Rattle.qq_defs.specs.declared.setup.Setup.{Setup}
 use Rattle.qq_calls.specs.Queues.{node_setup}
 use Rattle.qq_world.specs.Node.{Setup as NodeSetup, Node, NodeEvent, new_node, node_after, text_of}
@@ -59,7 +59,7 @@ asks_from yard s before n bytes asks.NoMemory cause = tt
 -- ---- a line ends the run
 
 -- the yard has failed since an earlier time
-yard_earlier : (yard yard' : Type 0) → (yard → yard') → (s : Setup) (run : Run) (input : Input) (ending : Ending)
+pub yard_earlier : (yard yard' : Type 0) → (yard → yard') → (s : Setup) (run : Run) (input : Input) (ending : Ending)
     → EndsRun yard s run input ending → EndsRun yard' s run input ending
 yard_earlier yard yard' f s run input ending (inl says') = inl says'
 yard_earlier yard yard' f s run input ending (inr stops) =

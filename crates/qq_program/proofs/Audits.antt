@@ -1,5 +1,5 @@
 -- The audits of a node's queues, one for each row of its setup.
-use Rattle.std.proofs.Common.{◌≡◌, ℕ, ◌+◌, ◌<◌, ◌≤◌, zero, suc, List, [], ◌∷◌, ◌++◌, length, map, flat_map, get_or, refl, sym, ap, subst, ◌∙◌, arith}
+use Rattle.std.proofs.Common.{◌≡◌, ℕ, ◌+◌, ◌<◌, ◌≤◌, zero, suc, List, ◌++◌, length, map, flat_map, get_or, refl, sym, ap, subst, ◌∙◌, arith}
 use Rattle.std.specs.Prelude.{Contains}
 use Rattle.std.specs.List.{range_with_len}
 use Rattle.std.proofs.lemmas.List.{length-map, get_or-map}
@@ -39,9 +39,9 @@ plain_audits count n = audits_from count n 0 count (omega arith)
 
 pub audits_by_rows : (s : Setup) (n : Node) → IsPlain s
     → flat_map (row_audit n) s.queues ≡ audits_text (node_setup s.queues) n
-audits_by_rows s n (count, is) =
-    subst (λ (rows : List QueueRow). flat_map (row_audit n) rows ≡ audits_text (node_setup rows) n) (sym is)
-    (plain_audits count n)
+audits_by_rows s n plain =
+    subst (λ (rows : List QueueRow). flat_map (row_audit n) rows ≡ audits_text (node_setup rows) n) (sym plain.is)
+    (plain_audits plain.count n)
 
 -- a row's queue has a place on the node
 pub has_place : (rows : List QueueRow) (i : ℕ) (row : QueueRow) → i < length rows → row ≡ get_or rows i row

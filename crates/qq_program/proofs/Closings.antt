@@ -1,6 +1,5 @@
 -- How a run closes.
-use Rattle.std.proofs.Common.{◌≡◌, ℕ, ◌≤◌, inl, inr, List, [], ◌++◌, take, Option, sym, subst, append_assoc, append-nil, arith}
-use Rattle.std.specs.Prelude.{IfSome}
+use Rattle.std.proofs.Common.{ℕ, ◌≤◌, inl, inr, List, [], ◌++◌, take, Option, subst, append-nil, arith}
 use Rattle.std.proofs.lemmas.Bool.{cases_lt}
 use Rattle.std.proofs.lemmas.Option.{IfSome_then}
 use Rattle.std.specs.Io.KnownBytes.{Appends}
@@ -10,8 +9,9 @@ use Rattle.qq_defs.specs.declared.setup.Setup.{Setup}
 use Rattle.qq_program.specs.declared.stop.Stop.{Stop}
 use Rattle.qq_program.specs.declared.stop.Stop.TheVariants as stops
 use Rattle.qq_program.specs.Endings.{Ending}
-use Rattle.qq_program.specs.Serving.{text_behind}
+use Rattle.qq_program.specs.Serving.{run_behind, text_behind}
 use Rattle.qq_program.specs.Runs.{EndsBy, HasAnswers, BreaksOff, HasStopped, Closes}
+use Rattle.qq_program.proofs.Answering.{yard_earlier}
 
 without_nil : (a b : Option (List ℕ)) (xs : List ℕ) → Appends a b (xs ++ []) → Appends a b xs
 without_nil a b xs grown = subst (Appends a b) (append-nil xs) grown
@@ -93,3 +93,31 @@ stop_closes stop status ending s left rest a b c source yard old mid new before 
             (Rose_later old mid new before after) so part.1,
       ),
     )
+
+-- ---- the yard of a run
+
+ends_earlier : (yard yard' : Type 0) → (yard → yard') → (ending : Ending) (s : Setup) (bytes : List ℕ)
+    (rest a b : Option (List ℕ)) (more : List ℕ) → EndsBy yard ending s bytes rest a b more
+    → EndsBy yard' ending s bytes rest a b more
+ends_earlier yard yard' f ending s bytes rest a b more so = record {
+  served = so.served;
+  next = record {
+    input = so.next.input;
+    more = so.next.more;
+    is = so.next.is;
+    ends = yard_earlier yard yard' f s (run_behind so.served.behind) so.next.input ending so.next.ends;
+  };
+  written = so.written;
+}
+
+-- the yard has failed since an earlier time
+pub stopped_earlier : (yard yard' : Type 0) → (yard → yard') → (stop : Stop) (s : Setup)
+    (left rest a b : Option (List ℕ)) (source sink : Type 0) (more : List ℕ)
+    → HasStopped stop s left rest a b source sink yard more → HasStopped stop s left rest a b source sink yard' more
+stopped_earlier yard yard' f (stops.Ended ending) s left rest a b source sink more so = (
+  (so.0.0, so.0.1, yard_earlier yard yard' f s so.0.0 so.0.1 ending so.0.2),
+  IfSome_then left so.1 (λ bytes h. ends_earlier yard yard' f ending s bytes rest a b more h),
+)
+stopped_earlier yard yard' f stops.ReadFault s left rest a b source sink more so = so
+stopped_earlier yard yard' f stops.WriteFault s left rest a b source sink more so = so
+stopped_earlier yard yard' f stops.NoMemory s left rest a b source sink more so = so

@@ -1,15 +1,15 @@
 -- A run goes on, line by line.
-use Rattle.std.proofs.Common.{◌≡◌, ℕ, ◌+◌, suc, List, [], ◌∷◌, ◌++◌, length, take, drop, Option, Some, None, inl, inr, refl, sym, ap, subst, ◌∙◌, append_assoc, append-nil, take-append-drop, arith}
+use Rattle.std.proofs.Common.{◌≡◌, ℕ, ◌+◌, suc, List, [], ◌∷◌, ◌++◌, length, refl, sym, ap, subst, ◌∙◌, append_assoc, append-nil, arith}
 use Rattle.std.specs.List.{flat_map}
 use Rattle.std.proofs.lemmas.List.{length-append}
 use Rattle.std.proofs.lemmas.Grind.{flat_map-append}
 use Rattle.qq_defs.specs.declared.setup.Setup.{Setup}
 use Rattle.qq_calls.specs.Queues.{node_setup}
 use Rattle.qq_world.specs.Node.{Setup as NodeSetup, Node, NodeEvent, Printed, new_node, node_happens, node_after, prints, all_prints, printed_text, text_of}
-use Rattle.qq_world.specs.Rules.{Line, Then, IsNothing, IsLine, IsOpening, IsScript, IsRun}
-use Rattle.qq_program.specs.Inputs.{Input, inputs_of}
+use Rattle.qq_world.specs.Rules.{Line, IsLine, IsScript, IsRun}
+use Rattle.qq_program.specs.Inputs.{Input}
 use Rattle.qq_program.specs.Reading.{Asks, says, AskFor}
-use Rattle.qq_program.specs.Serving.{Run, Serves, Behind, run_behind, text_behind, Goes}
+use Rattle.qq_program.specs.Serving.{Run, Serves, Behind, run_behind, text_behind}
 
 -- ---- events behind events
 

@@ -10,3 +10,5 @@ mod Answering
 mod Audits
 mod Endings
 mod Closings
+mod Named
+mod Looping

@@ -1,5 +1,5 @@
 -- What a sink has of a text that is written piece by piece.
-use Rattle.std.proofs.Common.{◌≡◌, ℕ, List, [], ◌++◌, Option, take, drop, refl, sym, ap, subst, ◌∙◌, append_assoc, append-nil, length, take-append-drop, arith, suc, ◌+◌, ◌<◌, ◌≤◌, get_or, flat_map, add-one}
+use Rattle.std.proofs.Common.{◌≡◌, ℕ, List, [], ◌++◌, Option, take, drop, refl, sym, ap, subst, ◌∙◌, append_assoc, append-nil, length, take-append-drop, suc, ◌+◌, ◌<◌, ◌≤◌, get_or, flat_map, add-one}
 use Rattle.std.proofs.lemmas.List.{drop_all}
 use Rattle.std.proofs.Math.Seq.{drop-cons}
 use Rattle.std.specs.Io.KnownBytes.{Appends}

@@ -1,5 +1,5 @@
 -- What a sink has of a text that is written part by part.
-use Rattle.std.proofs.Common.{◌≡◌, ℕ, List, [], ◌++◌, Option, take, sym, subst, arith, length, ◌+◌, ◌≤◌}
+use Rattle.std.proofs.Common.{ℕ, List, ◌++◌, Option, take, sym, subst, arith, length, ◌+◌}
 use Rattle.std.proofs.lemmas.List.{length-append, take-append-le}
 use Rattle.std.proofs.Math.Seq.{take-append-add}
 use Rattle.std.specs.Io.KnownBytes.{Appends}

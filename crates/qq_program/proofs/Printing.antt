@@ -1,20 +1,20 @@
 -- What runs print, and which statuses are left where all lines are served.
-use Rattle.std.proofs.Common.{◌≡◌, ℕ, ◌+◌, suc, List, [], ◌∷◌, ◌++◌, length, Ok, Err, false, inl, inr, refl, sym, ap, subst, ◌∙◌, append-nil, zero-add, arith}
+use Rattle.std.proofs.Common.{◌≡◌, ℕ, ◌+◌, suc, List, [], ◌∷◌, ◌++◌, length, Err, inl, inr, refl, sym, ap, subst, ◌∙◌, append-nil, zero-add, arith}
 use Rattle.std.proofs.lemmas.Bool.{cases_lt}
 use Rattle.qq_lines.specs.declared.fault.ScriptFault.{ScriptFault}
 use Rattle.qq_lines.specs.declared.fault.ScriptFault.TheVariants as faults
 use Rattle.qq_defs.specs.declared.setup.Setup.{Setup}
 use Rattle.qq_options.specs.declared.options.Options.{Options}
 use Rattle.qq_calls.specs.Queues.{node_setup}
-use Rattle.qq_world.specs.Node.{Setup as NodeSetup, Node, new_node}
-use Rattle.qq_world.specs.NodeLaws.{has_failure, findings, LeavesNoChoice}
+use Rattle.qq_world.specs.Node.{Setup as NodeSetup, new_node}
+use Rattle.qq_world.specs.NodeLaws.{LeavesNoChoice}
 use Rattle.qq_world.specs.Rules.{Line, IsRun}
 use Rattle.qq_program.specs.declared.ending.TheConstants.{LINES_LIMIT}
-use Rattle.qq_program.specs.Endings.{Ending, limit_lines}
+use Rattle.qq_program.specs.Endings.{limit_lines}
 use Rattle.qq_program.specs.Inputs.{Input, inputs_of}
-use Rattle.qq_program.specs.Reading.{Says, Asks, Ends, read_input, says_by, says, AskFor}
+use Rattle.qq_program.specs.Reading.{Asks, Ends, read_input, says_by, says, AskFor}
 use Rattle.qq_program.specs.Serving.{Behind}
-use Rattle.qq_program.specs.Statuses.{Streams, HasEnded, Over, run_over, IsNext, IsRefused, IsLimited, PassesLimit, Told, Done, Refused, ReadFault, WriteFault, YardFault, Damaged, Lost, Limited, NoMemory, Spent}
+use Rattle.qq_program.specs.Statuses.{Streams, HasEnded, Over, run_over, IsNext, PassesLimit, Told, Done, Refused, ReadFault, WriteFault, YardFault, Damaged, Lost, Limited, NoMemory, Spent}
 use Rattle.qq_program.specs.Printing.{GoAlike, HasNoFault, IsServedStatus}
 use Rattle.qq_program.proofs.Says.{says_within, says_past}
 use Rattle.qq_program.proofs.Statuses.{told}

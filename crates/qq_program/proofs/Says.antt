@@ -1,5 +1,5 @@
 -- What a line says, for a body that reads it.
-use Rattle.std.proofs.Common.{◌≡◌, ℕ, ◌+◌, ◌<◌, ◌≤◌, List, Some, None, Result, Ok, Err, refl, ap, ◌∙◌}
+use Rattle.std.proofs.Common.{◌≡◌, ℕ, ◌+◌, ◌<◌, ◌≤◌, List, Some, None, Ok, refl, ap, ◌∙◌}
 use Rattle.std.proofs.lemmas.Bool.{lt-ltb, le-ltb}
 use Rattle.qq_defs.specs.declared.setup.Setup.{Setup}
 use Rattle.qq_lines.specs.declared.fault.ScriptFault.{ScriptFault}

@@ -1,7 +1,6 @@
 -- What an exit status tells of a run.
-use Rattle.std.proofs.Common.{◌≡◌, ◌⊎◌, ℕ, ◌+◌, ◌<◌, ◌≤◌, Result, Ok, Err, List, [], ◌∷◌, ◌++◌, take, Option, Some, None, true, false, inl, inr, refl, sym, ap, subst, ◌∙◌, append-nil, codes, arith}
+use Rattle.std.proofs.Common.{◌≡◌, ℕ, ◌+◌, Result, Ok, Err, List, ◌++◌, Some, inl, inr, refl, sym, ap, subst, ◌∙◌, codes, arith}
 use Rattle.std.proofs.lemmas.Bool.{cases_lt}
-use Rattle.std.proofs.Math.Seq.{take-nil}
 use Rattle.qq_lines.specs.declared.fault.ScriptFault.{ScriptFault}
 use Rattle.qq_lines.specs.declared.fault.ScriptFault.TheVariants as faults
 use Rattle.qq_defs.specs.declared.setup.Setup.{Setup}
@@ -13,11 +12,11 @@ use Rattle.qq_program.specs.declared.stop.Stop.{Stop}
 use Rattle.qq_program.specs.declared.stop.Stop.TheVariants as stops
 use Rattle.qq_program.specs.Endings.{Ending, usage, refusal, limit_body, limit_lines}
 use Rattle.qq_program.specs.Inputs.{Input}
-use Rattle.qq_program.specs.Reading.{Says, Asks, Ends, read_input, says_by, says}
-use Rattle.qq_program.specs.Serving.{IsDamaged, EndsLost, StopsAt, MayStop, Stops, EndsRun, text_behind}
-use Rattle.qq_program.specs.Runs.{EndsBy, BreaksOff, HasStopped, ending_of, IsSetup, MayNotOpen, Closes, HasRun}
+use Rattle.qq_program.specs.Reading.{Asks, Ends, read_input, says_by, says}
+use Rattle.qq_program.specs.Serving.{IsDamaged, StopsAt, MayStop, EndsRun}
+use Rattle.qq_program.specs.Runs.{HasStopped, ending_of, IsSetup, MayNotOpen, Closes, HasRun}
 use Rattle.qq_program.proofs.Says.{says_within, says_past}
-use Rattle.qq_program.specs.Statuses.{Streams, SourceRose, SinkRose, YardRose, HasEnded, HasEndedAtWords, Over, run_over, Prints, IsNext, PrintsAlone, IsServed, IsRefused, IsReadFault, IsCutOff, CutWithin, CutAtClosing, CutAtOpening, IsYardFault, NoDisk, AtCrash, IsDamage, MeetsDamage, DamagedAtOpening, DamagedAtRestart, HasLost, PassesLimit, IsLimited, HasNoMemory, NoneAtOpening, NoneWithin, IsSpent, SpentAtOpening, SpentAtLine, Told, Done, Refused, ReadFault, WriteFault, YardFault, Damaged, Lost, Limited, NoMemory, Spent}
+use Rattle.qq_program.specs.Statuses.{Streams, SourceRose, SinkRose, YardRose, HasEnded, HasEndedAtWords, Over, run_over, Prints, IsNext, PrintsAlone, CutWithin, CutAtClosing, CutAtOpening, NoDisk, AtCrash, IsDamage, DamagedAtOpening, DamagedAtRestart, PassesLimit, NoneAtOpening, NoneWithin, SpentAtOpening, SpentAtLine, Told, Done, Refused, ReadFault, WriteFault, YardFault, Damaged, Lost, Limited, NoMemory, Spent}
 
 -- ---- before a line is read
 

@@ -1,5 +1,5 @@
 -- What serving a script's lines over a node has come to.
-use Rattle.std.specs.Prelude.{◌≡◌, ℕ, ◌+◌, List, [], ◌++◌, Option, Some, IfSome}
+use Rattle.std.specs.Prelude.{◌≡◌, ◌<◌, ◌^◌, ℕ, ◌+◌, List, [], ◌++◌, Option, IfSome}
 use Rattle.std.specs.Io.KnownBytes.{IsAtEnd}
 use Rattle.qq_defs.specs.declared.setup.Setup.{Setup}
 use Rattle.qq_defs.specs.Setup.{plain_rows}
@@ -34,6 +34,8 @@ pub record IsServedToEnd (s : Setup) (Stands : Node → Type 0) (left rest old n
   pub ended : IsAtEnd rest
   pub goes : IfSome left (λ bytes. Goes s (inputs_of bytes) (record { lines = lines; node = node }) [] old new)
 
--- queues without arguments
-abbrev pub IsPlain : Setup → Type 0
-IsPlain s = (count : ℕ) × (s.queues ≡ plain_rows 1 1 count)
+-- so many queues without arguments
+pub record IsPlain (s : Setup) : Type 0 where
+  pub count : ℕ
+  pub within : count < 2 ^ 32
+  pub is : s.queues ≡ plain_rows 1 1 count

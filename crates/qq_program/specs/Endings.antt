@@ -2,7 +2,7 @@
 use Rattle.std.specs.Prelude.{ℕ, ◌+◌, List, [], ◌++◌, Option, Some, None, codes}
 use Rattle.std.specs.Fmt.{decimal}
 use Rattle.qq_lines.specs.declared.fault.ScriptFault.{ScriptFault}
-use Rattle.qq_lines.specs.declared.fault.ScriptFault.TheVariants.{Unknown, Words, Number, NoSuch, TooLong, Session}
+use Rattle.qq_lines.specs.declared.fault.ScriptFault.TheVariants.{Words, Number, NoSuch, TooLong, Session}
 use Rattle.qq_world.specs.Endings.{yard_fault_text, damaged_text, version_text, lost_text}
 use Rattle.qq_program.specs.declared.status.TheConstants.{USAGE, REFUSED, READ_FAULT, WRITE_FAULT, YARD_FAULT, DAMAGED, LOST, LIMIT, NO_MEMORY, SPENT}
 use Rattle.qq_program.specs.declared.ending.TheConstants.{LINES_LIMIT}

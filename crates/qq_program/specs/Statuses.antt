@@ -1,5 +1,5 @@
 -- What an exit status tells of a run, where source and sink tell their bytes.
-use Rattle.std.specs.Prelude.{◌≡◌, ◌⊎◌, ℕ, ◌+◌, ◌^◌, ◌<◌, ◌≤◌, List, [], ◌∷◌, ◌++◌, Some, None, Err, take, codes}
+use Rattle.std.specs.Prelude.{◌≡◌, ◌⊎◌, ℕ, ◌+◌, ◌^◌, ◌≤◌, List, [], ◌∷◌, ◌++◌, Some, None, Err, take, codes}
 use Rattle.std.specs.Fmt.{decimal}
 use Rattle.qq_base.specs.Causes.{Rose}
 use Rattle.qq_disk.specs.declared.image.Image.{Image}

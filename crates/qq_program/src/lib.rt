@@ -5,6 +5,7 @@ mod asking;
 mod audit;
 mod ending;
 mod laws;
+mod program;
 mod service;
 pub mod status;
 mod stop;
@@ -13,3 +14,5 @@ pub use laws::{
     a_script_has_ten_million_lines, a_status_tells_what_was_done, runs_settle, scripts_are_served,
     what_was_printed_is_true,
 };
+pub use program::run_over;
+pub use service::Service;

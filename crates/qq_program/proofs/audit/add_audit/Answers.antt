@@ -1,7 +1,6 @@
-use Rattle.std.proofs.Common.{◌≡◌, ℕ, List, ◌+◌, ◌++◌, drop, flat_map, length, refl, subst, sym, append_assoc, ◌∙◌, ap, arith}
-use Rattle.qq_script.specs.Audit.{audit_text, audit_head_text, row_text}
-use Rattle.qq_program.specs.Pieces.{HasPrefix}
-use Rattle.qq_program.proofs.Pieces.{nothing, next_item, join, last_item, some_next}
+use Rattle.std.proofs.Common.{◌+◌, ◌++◌, drop, flat_map, arith}
+use Rattle.qq_script.specs.Audit.{audit_text, row_text}
+use Rattle.qq_program.proofs.Pieces.{nothing, next_item, join, some_next}
 use Rattle.qq_program.proofs.audit.add_audit.Goals as goal
 
 pub returns-in-Err-clause-err : goal.returns-in-Err-clause-err

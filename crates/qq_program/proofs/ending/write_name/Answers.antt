@@ -1,4 +1,3 @@
-use Rattle.std.proofs.Common.{◌++◌}
 use Rattle.std.proofs.lemmas.Result.{on_err_weaker}
 use Rattle.qq_program.specs.Endings.{name_text}
 use Rattle.qq_program.proofs.Prefixes.{prefix_then}

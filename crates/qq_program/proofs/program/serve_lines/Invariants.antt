@@ -1,0 +1,22 @@
+use Rattle.std.proofs.Common.{◌≤◌, ◌-◌}
+use Rattle.qq_calls.specs.Queues.{node_setup}
+use Rattle.qq_ports.specs.Lines.{ahead}
+use Rattle.qq_program.specs.declared.ending.TheConstants.{LINES_LIMIT}
+use Rattle.qq_program.proofs.Looping.{LoopsOn}
+use Rattle.qq_program.proofs.program.serve_lines.Given as goal
+
+-- the lines so far were served, and what the last one printed stands in the text
+abbrev pub invariant-lines : goal.invariant-lines
+invariant-lines g l = record {
+  going :
+      LoopsOn l.setup (g.S.Service.stands (node_setup l.setup.queues) l.service) (g.I.Source.left l.fn.input)
+      (ahead l.lines (g.I.Source.left l.input)) (g.O.Sink.written l.fn.output) (g.O.Sink.written l.output) l.served
+      l.text.items;
+  within : l.served ≤ LINES_LIMIT;
+  source_later : g.I.Source.faults l.fn.input ≤ g.I.Source.faults l.input;
+  sink_later : g.O.Sink.faults l.fn.output ≤ g.O.Sink.faults l.output;
+  yard_later : g.S.Yard.Yard.faults l.fn.yard ≤ g.S.Yard.Yard.faults l.yard;
+}
+
+abbrev pub decreases-lines : goal.decreases-lines
+decreases-lines g l = LINES_LIMIT - l.served
