@@ -1,5 +1,5 @@
 -- Where entries lie behind a batch, and behind a new file.
-use Rattle.std.proofs.Common.{◌≡◌, ◌≤◌, ◌||◌, ℕ, Bool, true, false, cond, eqb, List, [], ◌∷◌, ◌++◌, length, take, replicate, Option, Some, None, refl, sym, ap, subst, ◌∙◌, inl, inr, ◌⊎◌, append-nil, arith}
+use Rattle.std.proofs.Common.{◌≡◌, ◌||◌, ℕ, Bool, true, false, cond, eqb, List, [], ◌∷◌, ◌++◌, length, take, replicate, Option, Some, None, refl, sym, ap, subst, ◌∙◌, inl, inr, ◌⊎◌, append-nil, arith}
 use Rattle.std.specs.List.{fold}
 use Rattle.std.specs.Ordering.{nat_cmp, is_eq}
 use Rattle.std.proofs.lemmas.Bool.{cases_eq, eq-eqb, eqb-true, ne_eqb}
@@ -9,15 +9,14 @@ use Rattle.qq_log.specs.declared.head.Span.{Span}
 use Rattle.qq_log.specs.declared.op.Op.{Op}
 use Rattle.qq_log.specs.declared.op.Op.TheVariants.{Change, SnapshotMade, SegmentMade}
 use Rattle.qq_log.specs.Op.{queue}
-use Rattle.qq_wal_record.specs.declared.record.LogRecord.{LogRecord}
 use Rattle.qq_chain.specs.Lanes.{is_listed, of_queue}
 use Rattle.qq_chain.specs.Laws.{op_records}
 use Rattle.qq_wal.specs.declared.ranges.QueueRanges.{QueueRanges}
-use Rattle.qq_wal.specs.Entries.{LieAs, files_behind}
+use Rattle.qq_wal.specs.Entries.{LieAs}
 use Rattle.qq_wal.specs.Ranges.{AllRanges, as_indices, begin_file, begin_files, begin_queue, change_by, in_file, in_file_by, no_queues, places_of, put_ranges, write, write_op, write_record}
 use Rattle.qq_wal.specs.Spans.{find_file, spans_to}
 use Rattle.qq_wal.proofs.Lying.{lie-written}
-use Rattle.qq_log_laws.specs.Batches.{AllKeepWithin, cut_at, files_after}
+use Rattle.qq_log_laws.specs.Batches.{AllKeepWithin, files_after}
 
 -- ---- ranges by queue
 

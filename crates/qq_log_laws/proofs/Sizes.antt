@@ -1,5 +1,5 @@
 -- How long a new log file is.
-use Rattle.std.proofs.Common.{◌≡◌, ◌+◌, ◌*◌, ◌&&◌, ℕ, suc, eqb, List, [], ◌∷◌, ◌++◌, length, map, refl, sym, ap, ◌∙◌, arith, length-append}
+use Rattle.std.proofs.Common.{◌≡◌, ◌+◌, ◌*◌, ℕ, suc, eqb, List, [], ◌∷◌, ◌++◌, length, map, refl, arith, length-append}
 use Rattle.std.specs.List.{AllByRecursion}
 use Rattle.std.proofs.lemmas.Bool.{and_parts, eqb-true}
 use Rattle.qq_log.specs.declared.lane.Carry.{Carry}

@@ -1,9 +1,12 @@
 //! Laws of the calls that write to the log: the functions do nothing, and their contracts are the laws.
-ghost use Rattle.std.specs.Prelude.{◌≡◌, ◌≤◌, ◌<◌, ◌+◌, ◌*◌, ◌⊎◌, ℕ, true, false, List, length, take, nat_le, Some};
+ghost use Rattle.std.specs.Prelude.{◌≡◌, ◌≤◌, ◌<◌, ◌+◌, ◌*◌, ◌⊎◌, ℕ, true, false, List, length, take, nat_le, Contains, Some};
 ghost use Rattle.qq_base.specs.declared.ids.QueueId.{QueueId};
+ghost use Rattle.qq_base.specs.Fronts.{IsFront};
 ghost use Rattle.qq_disk.specs.declared.name.FileKind.{FileKind};
 ghost use Rattle.qq_disk.specs.declared.name.FileKind.TheVariants.{Log, Segment, Snapshot};
+ghost use Rattle.qq_disk.specs.declared.name.FileName.{FileName};
 ghost use Rattle.qq_log.specs.declared.op.Op.{Op};
+ghost use Rattle.qq_log.specs.Stable.{stable};
 ghost use Rattle.qq_chain.specs.Lanes.{is_listed, of_queue};
 ghost use Rattle.qq_chain.specs.Laws.{op_records};
 ghost use Rattle.qq_wal.specs.Batch.{encodings};
@@ -14,6 +17,7 @@ ghost use Rattle.qq_wal.specs.Marks.{Carries, GoesOn, carries_in};
 ghost use Rattle.qq_wal.specs.Notices.{notices_in, synced_in};
 ghost use Rattle.qq_wal.specs.Numbers.{number_of};
 ghost use Rattle.qq_wal.specs.Ranges.{in_file, ranges_in};
+ghost use Rattle.qq_wal.specs.Sweep.{IsReplaced, files_named};
 ghost use Rattle.qq_wal.specs.Wal.{Appends, IsRolled, IsSound, SameFile, carries_ahead};
 ghost use Rattle.qq_log_laws.specs.Batches.{AllKeepWithin, files_after};
 
@@ -93,3 +97,14 @@ pub fn a_new_file_goes_on_from_the_old_one<D: NodeDisk>()
 {
     encodings_have_lengths();
 }
+
+/// Which files beside the log no queue needs any more.
+///
+/// - `named`: some of the queue's ops, from the first on, name such a file.
+/// - `no_more`: all of them together don't.
+pub fn a_replaced_file_is_named_no_more()
+    ensures named { (ops : List Op) (file : FileName) → IsReplaced ops file → (earlier : List Op)
+        × IsFront earlier ops × Contains (files_named (stable earlier)) file }
+    ensures no_more { (ops : List Op) (file : FileName) → IsReplaced ops file →
+        Contains (files_named (stable ops)) file → ⊥ }
+{}
