@@ -1,7 +1,7 @@
 -- What recovery gives, in the words of a node.
 use Rattle.std.proofs.Common.{◌≡◌, ℕ, Bool, true, false, List, [], ◌∷◌, Option, Some, None, map, take, refl, sym, ap, ◌∙◌, subst, arith, option_map}
 use Rattle.std.specs.Global.{Vec}
-use Rattle.std.specs.Prelude.{Ok, IsTrue, filter, unwrap_or}
+use Rattle.std.specs.Prelude.{Ok, IsTrue, unwrap_or}
 use Rattle.std.specs.List.{AllByRecursion}
 use Rattle.std.proofs.lemmas.Bool.{cond-true}
 use Rattle.std.proofs.lemmas.List.{length-take}
@@ -10,6 +10,7 @@ use Rattle.qq_base.specs.Fronts.{IsFront}
 use Rattle.qq_base.proofs.Fronts.{front-refl}
 use Rattle.qq_base.specs.declared.ids.QueueId.{QueueId}
 use Rattle.qq_base.specs.declared.memory.Memory.{Memory}
+use Rattle.qq_desk.specs.Taking.{told}
 use Rattle.qq_disk.specs.Crash.{Remains, reopen}
 use Rattle.qq_disk.specs.Disk.{Disk, now, whole}
 use Rattle.qq_disk.specs.Image.{image_of, log_of}
@@ -18,7 +19,6 @@ use Rattle.qq_chain.specs.Image.{is_removed}
 use Rattle.qq_chain.specs.Lanes.{Lanes, IsStateOf, is_listed, of_queue}
 use Rattle.qq_chain.specs.Laws.{HoldsOps, KeepsPromise}
 use Rattle.qq_chain.proofs.Promised.{empty-keeps}
-use Rattle.qq_log.specs.declared.head.Span.{Span}
 use Rattle.qq_log.specs.declared.lane.Carry.{Carry}
 use Rattle.qq_log.specs.declared.lane.Lane.{Lane}
 use Rattle.qq_log.specs.declared.op.Op.{Op}
@@ -54,20 +54,7 @@ use Rattle.qq_node.proofs.Moments.{fails-traced}
 
 -- ---- lanes, one for each queue
 
--- what a lane tells, as the queue that is to take it up sees it
-abbrev pub told : Option Lane → Stable
-told None = new_state
-told (Some lane) =
-    record {
-      op = lane.op;
-      term = lane.term;
-      vote = lane.vote;
-      base = lane.base;
-      snapshot = 0;
-      log = map Some lane.entries;
-      segments = filter (λ (span : Span). span.segment) lane.places;
-    }
-
+-- what a lane tells is the state that recovery gives, but for a snapshot's file
 pub lane-told : (id : QueueId) (state : Option Stable) (lane : Option Lane) → IsLaneFor id state lane
     → told lane ≡ as_told (unwrap_or state new_state)
 lane-told id None None is = refl
@@ -215,7 +202,24 @@ finds-linked queues lanes old new read stays settles setup n same r down l =
       ) (λ fair. found-linked setup n p.noticed p.given lanes (now new) r p.each settled taken);
     }
 
--- a new disk
+-- a new disk keeps the promise of no ops
+pub new-promised : (setup : Setup) (old : List Disk) → IsNew old → KeepsPromised setup (new_node setup) (now old)
+new-promised setup old fresh = record {
+  noticed = [];
+  given = [];
+  each = all-promised setup.places;
+  promise = subst (λ (past : List Disk). KeepsPromise (queues_of setup) top [] [] (now past)) (sym fresh)
+      (empty-keeps (queues_of setup) top);
+}
+  where
+    all-promised : (places : List ℕ)
+        → AllByRecursion
+        (λ (place : ℕ). IsPromised ((new_node setup).queue place) (ops_at setup place []) (ops_at setup place [])) places
+    all-promised [] = tt
+    all-promised (place ∷ places) =
+        (record { front = front-refl []; covers = omega arith }, all-promised places)
+
+-- nothing is found on it
 pub begins-linked : (queues : List QueueId) (lanes : Lanes) (old new : List Disk) → Stays queues old new
     → ((noticed given : List Op) → KeepsPromise queues top noticed given (now old)
     → SettlesLanes queues noticed given lanes (now new)) → BeginsLinked queues lanes old new
@@ -226,13 +230,7 @@ begins-linked queues lanes old new stays settles setup same fresh =
     let settled : SettlesLanes queues [] [] lanes (now new) = settles [] [] keeps in
     let none : settled.ops ≡ [] = front-none settled.ops settled.front in
     let r : IsReached setup n = ([], refl) in
-    let p : KeepsPromised setup n (now old) =
-    record {
-      noticed = [];
-      given = [];
-      each = all-promised setup.places;
-      promise = subst (λ (ids : List QueueId). KeepsPromise ids top [] [] (now old)) same keeps;
-    } in
+    let p : KeepsPromised setup n (now old) = new-promised setup old fresh in
     let t : IsTied setup n (now new) =
     record {
       noticed = [];
@@ -254,13 +252,6 @@ begins-linked queues lanes old new stays settles setup same fresh =
     front-none : (ops : List Op) → IsFront ops [] → ops ≡ []
     front-none [] f = refl
     front-none (op ∷ ops) f = absurd (cc f.is)
-
-    all-promised : (places : List ℕ)
-        → AllByRecursion
-        (λ (place : ℕ). IsPromised ((new_node setup).queue place) (ops_at setup place []) (ops_at setup place [])) places
-    all-promised [] = tt
-    all-promised (place ∷ places) =
-        (record { front = front-refl []; covers = omega arith }, all-promised places)
 
     all-written : (places : List ℕ)
         → AllByRecursion

@@ -12,3 +12,6 @@ pub mod Places
 pub mod Logs
 pub mod Lines
 pub mod EachGathers
+pub mod Restarts
+pub mod Taken
+pub mod TakenUp

@@ -5,3 +5,4 @@ pub mod Found
 pub mod Desks
 pub mod Node
 pub mod Writing
+pub mod Restarting

@@ -5,12 +5,15 @@ ghost use Rattle.qq_desk.specs.Desk.{DeskState, Does, IsSameQueue, world_of};
 ghost use Rattle.qq_recover.specs.Recovered.{IsAtEnd};
 ghost use Rattle.qq_world.specs.Rules.{is_settled, waits_synced, waits_written};
 ghost use Rattle.qq_world.specs.World.{Mutes, Stops, happens, is_up};
+ghost use Rattle.qq_node.specs.Restarting.{AllTake, IsTakeAllCaused};
 ghost use Rattle.qq_node.specs.Desks.{AllDo, DoesAt, HasSettled, MayAsk, asked, event_of};
 
 use crate::log::SyncOutcome;
+use crate::restarting::{RestartFault, take_up_each};
 use qq_base::Memory;
 use qq_desk::Desk;
 use qq_entry::Unstamped;
+use qq_log::Lane;
 use qq_script::push_text;
 use std::alloc::Global;
 use std::marker::Model;
@@ -236,5 +239,18 @@ impl Desks {
         ensures { result ≡ list_any (λ (d : DeskState). not (is_settled (world_of d))) self.now }
     {
         self.rows.iter().any(|desk| !desk.is_settled())
+    }
+
+    /// Each queue takes up what was found of it, one lane for each. `Lost` tells of one that may not.
+    pub(crate) fn take_up(
+        &mut self,
+        alloc: Global,
+        lanes: &[Option<Lane>],
+    ) -> Result<(), RestartFault>
+        requires { length lanes.now ≡ length self.old }
+        ensures ok { OnOk result (AllTake lanes.now self.old self.new) }
+        ensures cause { IfErr result (IsTakeAllCaused self.old lanes.now) }
+    {
+        take_up_each(&mut self.rows, alloc, lanes)
     }
 }

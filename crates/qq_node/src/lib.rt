@@ -3,18 +3,24 @@
 
 mod calls;
 mod crash;
+mod crashing;
 mod desks;
 mod gather;
 mod log;
 mod node;
+mod opening;
 mod recovering;
+mod restarting;
 mod rounds;
 mod writing;
 
 pub use crash::crash_disk;
+pub use crashing::crash_node;
 pub use desks::Desks;
 pub use gather::gather_all;
 pub use log::{SyncOutcome, begin_next, sync_log, write_log};
 pub use node::{Node, NodeLog};
+pub use opening::{OpenFault, open_node};
 pub use recovering::{Found, recover_log};
+pub use restarting::{RestartFault, restart_node};
 pub use rounds::MOST_ROUNDS;

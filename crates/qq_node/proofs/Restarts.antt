@@ -1,0 +1,185 @@
+-- A node that is crashed, opened or restarted.
+use Rattle.std.proofs.Common.{◌≡◌, ◌≤◌, ℕ, Bool, true, false, not, List, [], ◌∷◌, Option, Some, None, refl, sym, ap, ◌∙◌, subst, append-nil}
+use Rattle.std.specs.Global.{Vec}
+use Rattle.std.specs.Prelude.{IsTrue, is_some}
+use Rattle.std.specs.List.{AllByRecursion, list_all}
+use Rattle.std.proofs.lemmas.Bool.{false≢true}
+use Rattle.qq_base.specs.declared.ids.QueueId.{QueueId}
+use Rattle.qq_desk.specs.Desk.{DeskState}
+use Rattle.qq_disk.specs.declared.image.Image.{Image}
+use Rattle.qq_disk.specs.Disk.{Disk, now}
+use Rattle.qq_log.specs.declared.lane.Lane.{Lane}
+use Rattle.qq_log.specs.Stable.{Stable}
+use Rattle.qq_recover.specs.declared.fault.RecoverFault.{RecoverFault}
+use Rattle.qq_recover.specs.declared.fault.RecoverFault.TheVariants as recover_fault
+use Rattle.qq_recover.specs.Recovered.{IsLaneFor, IsNoRefusal, IsRecoverCaused}
+use Rattle.qq_wal.specs.Running.{StaysWhole}
+use Rattle.qq_world.specs.Node.{Setup, Node, NodeEvent, Crashes, Fails, new_node, node_happens}
+use Rattle.qq_world.specs.Rules.{Then, some_queue}
+use Rattle.qq_world.specs.World.{Stops, is_up}
+use Rattle.qq_node_laws.specs.Reads.{IsReached}
+use Rattle.qq_node_laws.specs.Serves.{Serves, seen_of}
+use Rattle.qq_node_laws.specs.Traced.{LeavesImage, IsTraced}
+use Rattle.qq_node_laws.proofs.Both.{none-any}
+use Rattle.qq_node_laws.proofs.Serves.{serves-both}
+use Rattle.qq_node_laws.proofs.Stops.{failed-linked}
+use Rattle.qq_yards.specs.Yard.{IsNew}
+use Rattle.qq_node.specs.declared.node.Node.{Node as Held}
+use Rattle.qq_node.specs.declared.node.NodeLog.{NodeLog}
+use Rattle.qq_node.specs.declared.node.NodeLog.TheVariants.{Open, Closed}
+use Rattle.qq_node.specs.declared.recovering.Found.{Found}
+use Rattle.qq_node.specs.Desks.{AllDo}
+use Rattle.qq_node.specs.Found.{AreDistinct, AreLanes, FailsLinked, HasFound}
+use Rattle.qq_node.specs.Log.{IsWhole}
+use Rattle.qq_node.specs.Node.{IsLogAt, IsRunning, Served, Stands, disk_in, seen}
+use Rattle.qq_node.specs.Restarting.{HasBegun, HasCrashed, IsOpenCaused, IsSetFor, opening_fault}
+use Rattle.qq_node.proofs.Carried.{apart-distinct}
+use Rattle.qq_node.proofs.EachDesk.{all-done}
+use Rattle.qq_node.proofs.Finding.{new-promised, new-whole, none-found}
+use Rattle.qq_node.proofs.Moments.{crashed-traced}
+
+module _ {D : Type 0} (tells : D → Bool) (past : D → List Disk) (faults : D → ℕ) where
+  -- ---- crashes
+
+  crashes-down : (setup : Setup) (n : Node) (image : Image)
+      → some_queue setup is_up (node_happens n (Crashes image)) ≡ false
+  crashes-down setup n image =
+      none-any (λ (place : ℕ). is_up ((node_happens n (Crashes image)).queue place)) (λ place. refl) setup.places
+
+  pub crashed : (image : Image) (setup : Setup) (n : Node) (old new : Held D) (given left : D) → IsReached setup n
+      → Stands tells past setup old n → new.queues ≡ old.queues → new.auto ≡ old.auto
+      → AllDo Stops old.desks new.desks → new.log ≡ Closed left → given ≡ disk_in old.log
+      → tells left ≡ tells given → (IsTrue (tells given) → LeavesImage image (past given) (past left))
+      → IsWhole tells past left → HasCrashed tells past image setup n old new
+  crashed image setup n old new given left r st queues auto done log same told leaves whole =
+      let later : Node = node_happens n (Crashes image) in
+      let image_is : IsTrue (tells (disk_in old.log)) → LeavesImage image (past (disk_in old.log)) (past (disk_in new.log)) =
+      λ tell. subst (λ (l : NodeLog D). LeavesImage image (past (disk_in old.log)) (past (disk_in l))) (sym log)
+      (subst (λ (d : D). LeavesImage image (past d) (past left)) same
+      (leaves (subst (λ (d : D). IsTrue (tells d)) (sym same) tell))) in
+      record {
+        stands = record {
+          apart = st.apart;
+          desks = all-done setup n later Stops setup.places old.desks new.desks st.desks done (λ place. refl);
+          queues = ap (λ (v : Vec QueueId). v.items) queues ∙ st.queues;
+          auto = auto ∙ st.auto;
+          log = subst (IsLogAt tells past setup later) (sym log) (crashes-down setup n image);
+          whole = subst (λ (l : NodeLog D). IsWhole tells past (disk_in l)) (sym log) whole;
+        };
+        told = ap (λ (l : NodeLog D). tells (disk_in l)) log ∙ told ∙ ap tells same;
+        image_is = image_is;
+        moments = λ tell linked. crashed-traced setup n image (past (disk_in old.log)) (past (disk_in new.log))
+            (image_is tell) linked;
+      }
+
+  -- ---- openings
+
+  pub may-begin : (setup : Setup) (queues : List QueueId) (desks : List DeskState) → IsSetFor setup queues desks
+      → AreDistinct queues
+  may-begin setup queues desks set =
+      subst AreDistinct (sym set.queues_are) (apart-distinct setup setup.places set.apart)
+
+  all-none : (lanes : List (Option Lane)) → list_all (λ (lane : Option Lane). not (is_some lane)) lanes ≡ true
+      → AllByRecursion (λ (lane : Option Lane). lane ≡ None) lanes
+  all-none [] none = tt
+  all-none (None ∷ lanes) none = (refl, all-none lanes none)
+  all-none (Some lane ∷ lanes) none = absurd (false≢true none)
+
+  -- the node behind recovery
+  pub begun : (setup : Setup) (queues : List QueueId) (log_bytes : ℕ) (disk : D) (f : Found D) (new : Held D)
+      → IsSetFor setup queues new.desks → (IsTrue (tells disk) → IsNew (past disk))
+      → HasFound tells past queues log_bytes disk f
+      → list_all (λ (lane : Option Lane). not (is_some lane)) f.lanes.items ≡ true
+      → (IsTrue (tells disk) → StaysWhole (past disk) (past f.wal.disk)) → tells f.wal.disk ≡ tells disk
+      → faults disk ≤ faults f.wal.disk → new.queues.items ≡ queues → new.auto ≡ true → new.log ≡ Open f.wal
+      → HasBegun tells past faults setup disk new
+  begun setup queues log_bytes disk f new set fresh found none whole told later same auto log =
+      let running : IsRunning tells past setup (new_node setup) f.wal =
+      record {
+        sound = found.sound;
+        queues_are = found.queues_are ∙ set.queues_are;
+        waiting = found.waiting;
+        going = found.going;
+        carries = found.goes_on_new setup set.queues_are
+            (none-found queues found.lanes f.lanes.items found.each (all-none f.lanes.items none));
+      } in
+      let still : IsWhole tells past f.wal.disk =
+      λ tell. (let before : IsTrue (tells disk) = subst (λ (b : Bool). IsTrue b) told tell in
+      whole before (new-whole (past disk) (fresh before))) in
+      record {
+        stands = record {
+          apart = set.apart;
+          desks = set.desks_are;
+          queues = same ∙ set.queues_are;
+          auto = auto;
+          log = subst (IsLogAt tells past setup (new_node setup)) (sym log) (λ up. running);
+          whole = subst (λ (l : NodeLog D). IsWhole tells past (disk_in l)) (sym log) still;
+        };
+        told = ap (λ (l : NodeLog D). tells (disk_in l)) log ∙ told;
+        rises = subst (λ (l : NodeLog D). faults disk ≤ faults (disk_in l)) (sym log) later;
+        moments = λ tell.
+            subst (λ (l : NodeLog D). IsTraced setup (new_node setup) [] (past disk) (past (disk_in l))) (sym log)
+            (found.begins tell setup set.queues_are (fresh tell)).traced;
+      }
+
+  -- on a new disk no queue has ops
+  pub never-used : (setup : Setup) (queues : List QueueId) (desks : List DeskState) (log_bytes : ℕ) (disk : D) (f : Found D)
+      → IsSetFor setup queues desks → (IsTrue (tells disk) → IsNew (past disk))
+      → HasFound tells past queues log_bytes disk f
+      → list_all (λ (lane : Option Lane). not (is_some lane)) f.lanes.items ≡ false → IsTrue (tells disk) → ⊥
+  never-used setup queues desks log_bytes disk f set fresh found used tell =
+      false≢true (sym used ∙ by queues f.lanes.items found.each)
+    where
+      by : (ids : List QueueId) (lanes : List (Option Lane)) → AreLanes ids found.lanes lanes
+          → list_all (λ (lane : Option Lane). not (is_some lane)) lanes ≡ true
+      by [] [] are = refl
+      by [] (lane ∷ lanes) are = absurd are
+      by (id ∷ ids) [] are = absurd are
+      by (id ∷ ids) (None ∷ lanes) are = by ids lanes are.1
+      by (id ∷ ids) (Some lane ∷ lanes) are =
+          absurd (subst (λ (o : Option Stable). IsLaneFor id o (Some lane))
+          ((found.begins tell setup set.queues_are (fresh tell)).none id.0) are.0)
+
+  -- nor is one refused
+  pub open-caused : (setup : Setup) (queues : List QueueId) (desks : List DeskState) (disk given : D)
+      (fault : RecoverFault) → IsSetFor setup queues desks → (IsTrue (tells disk) → IsNew (past disk))
+      → (IsTrue (tells disk) → FailsLinked queues (past disk) (past given) fault)
+      → IsRecoverCaused (faults disk) (faults given) fault → IsOpenCaused (tells disk) (opening_fault fault)
+  open-caused setup queues desks disk given fault set fresh fails cause = by fault fails cause
+    where
+      refused : (fault : RecoverFault) → (IsTrue (tells disk) → FailsLinked queues (past disk) (past given) fault)
+          → IsTrue (tells disk) → IsNoRefusal fault
+      refused fault fails tell =
+          let n : Node = node_happens (new_node setup) Fails in
+          (fails tell setup n set.queues_are (Fails ∷ [], refl)
+          (failed-linked setup (new_node setup) (now (past disk)) (new-promised setup (past disk) (fresh tell)))).no_refusal
+
+      by : (fault : RecoverFault) → (IsTrue (tells disk) → FailsLinked queues (past disk) (past given) fault)
+          → IsRecoverCaused (faults disk) (faults given) fault → IsOpenCaused (tells disk) (opening_fault fault)
+      by recover_fault.Disk fails cause = tt
+      by (recover_fault.Damaged file place) fails cause = refused (recover_fault.Damaged file place) fails
+      by (recover_fault.Version file byte) fails cause = refused (recover_fault.Version file byte) fails
+      by (recover_fault.Memory memory) fails cause = cause
+
+  -- behind it each queue's clock ticks, and a pump follows
+  pub opened : (Ticks Pump : Setup → Node → List NodeEvent → Type 0) (setup : Setup) (disk : D) (mid new : Held D)
+      (before later : List ℕ) → HasBegun tells past faults setup disk mid
+      → Served tells past faults (λ setup. Then (Ticks setup) (Pump setup)) mid new before later
+      → Serves setup (new_node setup) (Then (Ticks setup) (Pump setup) (new_node setup)) (Stands tells past setup new)
+      (seen_of tells past faults disk) (seen tells past faults new) before later
+  opened Ticks Pump setup disk mid new before later b served =
+      let n : Node = new_node setup in
+      let t = served setup n ([], refl) b.stands in
+      serves-both setup n (λ es. es ≡ []) (Then (Ticks setup) (Pump setup) n) (Then (Ticks setup) (Pump setup) n)
+      (Stands tells past setup mid) (Stands tells past setup new) (seen_of tells past faults disk)
+      (seen tells past faults mid) (seen tells past faults new) before before later
+      (record {
+        events = [];
+        means = refl;
+        stands = b.stands;
+        says = sym (append-nil before);
+        told = b.told;
+        rises = b.rises;
+        cause = λ failed. absurd (false≢true failed);
+        moments = λ tell linked. b.moments tell;
+      }) t t.means

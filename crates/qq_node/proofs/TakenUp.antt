@@ -1,0 +1,240 @@
+-- A stopped node is restarted: its queues take up what was found of them.
+use Rattle.std.proofs.Common.{◌≡◌, ◌≤◌, ◌⊎◌, ℕ, Bool, true, false, ◌&&◌, List, [], ◌∷◌, Option, length, map, refl, sym, ap, ◌∙◌, subst, inl, inr, append-nil}
+use Rattle.std.specs.Prelude.{IsTrue, nat_le}
+use Rattle.std.specs.List.{AllByRecursion}
+use Rattle.std.proofs.lemmas.Bool.{false≢true}
+use Rattle.std.proofs.lemmas.List.{length-map}
+use Rattle.std.proofs.lemmas.Slice.Zip.{AllZip-long}
+use Rattle.qq_base.proofs.Lists.{AllByRecursion-weaker}
+use Rattle.qq_base.specs.Causes.{Rose}
+use Rattle.qq_base.specs.declared.ids.QueueId.{QueueId}
+use Rattle.qq_desk.specs.Desk.{DeskState}
+use Rattle.qq_desk.specs.Taking.{told}
+use Rattle.qq_disk.specs.Disk.{Disk}
+use Rattle.qq_chain.specs.Lanes.{Lanes}
+use Rattle.qq_log.specs.declared.lane.Lane.{Lane}
+use Rattle.qq_log.specs.Stable.{Stable}
+use Rattle.qq_recover.specs.declared.fault.RecoverFault.{RecoverFault}
+use Rattle.qq_recover.specs.Recovered.{IsAtEnd, IsLaneFor}
+use Rattle.qq_wal.specs.Running.{StaysWhole}
+use Rattle.qq_world.specs.Node.{Setup, Node, NodeEvent, Fails, FindsEach, node_happens}
+use Rattle.qq_world.specs.Promise.{MayTakeUp}
+use Rattle.qq_world.specs.Rules.{FindsLanes, IsNothing, IsRestart, if_so, is_node_up, some_queue}
+use Rattle.qq_world.specs.Server.{is_down}
+use Rattle.qq_world.specs.World.{World, Finds, Stops, happens, is_up}
+use Rattle.qq_node_laws.specs.Reads.{AreDown, ops_found, queue_at, queues_of, state_in}
+use Rattle.qq_node_laws.proofs.Both.{none-any}
+use Rattle.qq_node.specs.declared.node.Node.{Node as Held}
+use Rattle.qq_node.specs.declared.node.NodeLog.TheVariants.{Open, Closed}
+use Rattle.qq_node.specs.declared.recovering.Found.{Found}
+use Rattle.qq_node.specs.declared.restarting.RestartFault.{RestartFault}
+use Rattle.qq_node.specs.declared.restarting.RestartFault.TheVariants as restart_fault
+use Rattle.qq_node.specs.Found.{AllTakeUpTold, AreLanes, FailsLinked, HasFound, as_told}
+use Rattle.qq_node.specs.Node.{AreDesks, Served, Stands, disk_in}
+use Rattle.qq_node.specs.Restarting.{AllTake, GoesOnWith, IsLostOf, IsRestartCaused, IsTakeAllCaused, SomeIsLost, StopsWith, TakesUp}
+use Rattle.qq_node.proofs.Carried.{may_restart-all}
+use Rattle.qq_node.proofs.EachDesk.{all-done, as-many}
+use Rattle.qq_node.proofs.Finding.{lane-told}
+use Rattle.qq_node.proofs.Logs.{LogDid, served-by}
+
+module _ {D : Type 0} (tells : D → Bool) (past : D → List Disk) (faults : D → ℕ) where
+  -- so many lanes are found as there are queues
+  pub lanes-many : (setup : Setup) (n : Node) (queues : List QueueId) (desks : List DeskState) (lanes : Lanes)
+      (found : List (Option Lane)) → queues ≡ queues_of setup → AreDesks setup n setup.places desks
+      → AreLanes queues lanes found → length found ≡ length desks
+  lanes-many setup n queues desks lanes found same are zip =
+      AllZip-long (λ (id : QueueId) (lane : Option Lane). IsLaneFor id (lanes id.0) lane) queues found zip
+      ∙ ap length same ∙ length-map setup.places (queue_at setup) ∙ sym (as-many setup n setup.places desks are)
+
+  -- what each queue has taken up is what its lane tells, and it stands behind that
+  taken-places : (setup : Setup) (n : Node) (lanes : Lanes) (places : List ℕ) (olds news : List DeskState)
+      (found : List (Option Lane)) → AreDesks setup n places olds
+      → AreLanes (map (queue_at setup) places) lanes found → AllTake found olds news
+      → AllByRecursion
+      (λ (place : ℕ). MayTakeUp (n.queue place).server (as_told (state_in lanes (queue_at setup place)))) places
+      × AreDesks setup (node_happens n (FindsEach (ops_found setup lanes))) places news
+  taken-places setup n lanes [] [] [] [] are zip take = (tt, tt)
+  taken-places setup n lanes [] (d ∷ olds) news found are zip take = absurd are
+  taken-places setup n lanes [] [] (e ∷ news) [] are zip take = absurd take
+  taken-places setup n lanes [] [] news (l ∷ found) are zip take = absurd zip
+  taken-places setup n lanes (p ∷ places) [] news found are zip take = absurd are
+  taken-places setup n lanes (p ∷ places) (d ∷ olds) news [] are zip take = absurd zip
+  taken-places setup n lanes (p ∷ places) (d ∷ olds) [] (l ∷ found) are zip take = absurd take
+  taken-places setup n lanes (p ∷ places) (d ∷ olds) (e ∷ news) (l ∷ found) are zip take =
+      let id : QueueId = queue_at setup p in
+      let one : TakesUp l d e = take.0 in
+      let is : told l ≡ as_told (state_in lanes id) = lane-told id (lanes id.0) l zip.0 in
+      let rest = taken-places setup n lanes places olds news found are.1 zip.1 take.1 in (
+        (
+          subst (λ (w : World). MayTakeUp w.server (as_told (state_in lanes id))) are.0.world_is
+              (subst (MayTakeUp d.server) is one.may),
+          rest.0,
+        ),
+        (
+          record {
+            world_is = one.does ∙ ap (λ (w : World). happens w (Finds (told l).op)) are.0.world_is
+                ∙ ap (λ (s : Stable). happens (n.queue p) (Finds s.op)) is;
+            name_is = one.same.name_is ∙ are.0.name_is;
+            first_is = one.same.first_is ∙ are.0.first_is;
+          },
+          rest.1,
+        ),
+      )
+
+  -- what may be taken up is found of stopped queues
+  taken-down : (setup : Setup) (n : Node) (lanes : Lanes) → AllTakeUpTold setup n lanes → AreDown setup n
+  taken-down setup n lanes taken =
+      AllByRecursion-weaker
+      (λ (place : ℕ). MayTakeUp (n.queue place).server (as_told (state_in lanes (queue_at setup place))))
+      (λ (place : ℕ). is_down (n.queue place).server ≡ true)
+      (λ place may. (let s = (n.queue place).server in let op = (as_told (state_in lanes (queue_at setup place))).op in
+      first (is_down s) (nat_le s.noticed op) (nat_le op (length s.ops)) may.0)) setup.places taken
+    where
+      first : (a b c : Bool) → (a && b && c) ≡ true → a ≡ true
+      first true b c is = refl
+      first false b c is = absurd (false≢true is)
+
+  -- some queue may not, and so the queue at its place
+  pub lost-place : (setup : Setup) (n : Node) (places : List ℕ) (desks : List DeskState) (found : List (Option Lane))
+      (name : List ℕ) (noticed op : ℕ) → is_node_up setup n ≡ false → AreDesks setup n places desks
+      → SomeIsLost desks found name noticed op → IsLostOf setup n name noticed op
+  lost-place setup n [] [] found name noticed op down are lost = absurd lost
+  lost-place setup n [] (d ∷ desks) found name noticed op down are lost = absurd are
+  lost-place setup n (p ∷ places) [] found name noticed op down are lost = absurd are
+  lost-place setup n (p ∷ places) (d ∷ desks) [] name noticed op down are lost = absurd lost
+  lost-place setup n (p ∷ places) (d ∷ desks) (l ∷ found) name noticed op down are (inr lost) =
+      lost-place setup n places desks found name noticed op down are.1 lost
+  lost-place setup n (p ∷ places) (d ∷ desks) (l ∷ found) name noticed op down are (inl lost) = record {
+    place = p;
+    lane = told l;
+    stopped = down;
+    lost = λ may. lost.lost (subst (λ (w : World). MayTakeUp w.server (told l)) (sym are.0.world_is) may);
+    name_is = lost.name_is ∙ are.0.name_is;
+    noticed_is = lost.noticed_is ∙ ap (λ (w : World). w.server.noticed) are.0.world_is;
+    found_is = lost.found_is;
+  }
+
+  pub restart-caused : (setup : Setup) (n : Node) (desks : List DeskState) (found : List (Option Lane))
+      (fault : RestartFault) → is_node_up setup n ≡ false → AreDesks setup n setup.places desks
+      → IsTakeAllCaused desks found fault → IsRestartCaused setup n fault
+  restart-caused setup n desks found (restart_fault.Damaged file place) down are cause = tt
+  restart-caused setup n desks found (restart_fault.Version file byte) down are cause = tt
+  restart-caused setup n desks found (restart_fault.Lost name noticed op) down are cause =
+      lost-place setup n setup.places desks found name noticed op down are cause
+  restart-caused setup n desks found (restart_fault.Memory memory) down are cause =
+      subst IsAtEnd (sym cause) tt
+
+  allowed-down : (setup : Setup) (n : Node) (events : List NodeEvent) → is_node_up setup n ≡ false
+      → (FindsLanes setup n events ⊎ (events ≡ Fails ∷ [])) → IsRestart setup n events
+  allowed-down setup n events down allowed =
+      subst (λ (b : Bool). if_so b IsNothing (λ m es. FindsLanes setup m es ⊎ (es ≡ Fails ∷ [])) n events) (sym down)
+      allowed
+
+  pub allowed-up : (setup : Setup) (n : Node) → is_node_up setup n ≡ true → IsRestart setup n []
+  allowed-up setup n up =
+      subst (λ (b : Bool). if_so b IsNothing (λ m es. FindsLanes setup m es ⊎ (es ≡ Fails ∷ [])) n []) (sym up) refl
+
+  -- what recovery has done with a disk
+  abbrev pub Recovers : List QueueId → ℕ → Found D → D → Type 0
+  Recovers queues log_bytes f disk =
+      HasFound tells past queues log_bytes disk f × (IsTrue (tells disk) → StaysWhole (past disk) (past f.wal.disk))
+      × (tells f.wal.disk ≡ tells disk) × (faults disk ≤ faults f.wal.disk)
+
+  goes-on : (old new : Held D) (f : Found D) (log_bytes : ℕ) (text : List ℕ)
+      → ((setup : Setup) (n : Node) → Stands tells past setup old n → is_node_up setup n ≡ false)
+      → Recovers old.queues.items log_bytes f (disk_in old.log) → GoesOnWith f old.desks old.queues old.auto new
+      → Served tells past faults IsRestart old new text text
+  goes-on old new f log_bytes text down rec g =
+      served-by tells past faults IsRestart old new text text g.queues_are (λ setup n r st.
+      (let found : HasFound tells past old.queues.items log_bytes (disk_in old.log) f = rec.0 in
+      let events : List NodeEvent = FindsEach (ops_found setup found.lanes) ∷ [] in
+      let both = taken-places setup n found.lanes setup.places old.desks new.desks f.lanes.items st.desks
+      (subst (λ (l : List QueueId). AreLanes l found.lanes f.lanes.items) st.queues found.each) g.take in
+      let log : LogDid tells past faults setup n events old.log (Open f.wal) =
+      record {
+        log = λ up. record {
+          sound = found.sound;
+          queues_are = found.queues_are ∙ st.queues;
+          waiting = found.waiting;
+          going = found.going;
+          carries = found.goes_on setup n st.queues r both.0;
+        };
+        told = rec.2;
+        rises = rec.3;
+        cause = λ failed. absurd (false≢true failed);
+        whole = λ before tell. (let tell_before : IsTrue (tells (disk_in old.log)) =
+            subst (λ (b : Bool). IsTrue b) rec.2 tell in rec.1 tell_before (before tell_before));
+        moments = λ tell linked.
+            (found.finds tell setup n st.queues r (taken-down setup n found.lanes both.0) linked).traced;
+      } in
+      record {
+        events = events;
+        allowed = allowed-down setup n events (down setup n st) (inl (record {
+          ops = ops_found setup found.lanes;
+          may = may_restart-all setup n found.lanes setup.places both.0;
+          is = refl;
+        }));
+        desks = both.1;
+        auto = g.auto_is ∙ st.auto;
+        log = subst (LogDid tells past faults setup n events old.log) (sym g.log) log;
+        says = sym (append-nil text);
+      }))
+
+  pub restarted : (old new : Held D) (given : D) (f : Found D) (queues : List QueueId) (log_bytes : ℕ) (text : List ℕ)
+      → given ≡ disk_in old.log → queues ≡ old.queues.items
+      → ((setup : Setup) (n : Node) → Stands tells past setup old n → is_node_up setup n ≡ false)
+      → Recovers queues log_bytes f given → GoesOnWith f old.desks old.queues old.auto new
+      → Served tells past faults IsRestart old new text text
+  restarted old new given f queues log_bytes text disk ids down rec g =
+      goes-on old new f log_bytes text down
+      (subst (Recovers old.queues.items log_bytes f) disk
+      (subst (λ (l : List QueueId). Recovers l log_bytes f given) ids rec)) g
+
+  -- ---- or the disk fails
+
+  abbrev pub FailsWith : List QueueId → D → RecoverFault → D → Type 0
+  FailsWith queues left fault disk =
+      (IsTrue (tells disk) → FailsLinked queues (past disk) (past left) fault)
+      × (IsTrue (tells disk) → StaysWhole (past disk) (past left)) × (tells left ≡ tells disk)
+      × (faults disk ≤ faults left) × Rose (faults disk) (faults left)
+
+  fails-down : (setup : Setup) (n : Node) → some_queue setup is_up (node_happens n Fails) ≡ false
+  fails-down setup n =
+      none-any (λ (place : ℕ). is_up ((node_happens n Fails).queue place)) (λ place. refl) setup.places
+
+  stops : (old new : Held D) (left : D) (fault : RecoverFault) (before later : List ℕ)
+      → ((setup : Setup) (n : Node) → Stands tells past setup old n → is_node_up setup n ≡ false)
+      → FailsWith old.queues.items left fault (disk_in old.log)
+      → StopsWith left old.desks old.queues old.auto before later new
+      → Served tells past faults IsRestart old new before later
+  stops old new left fault before later down f s =
+      served-by tells past faults IsRestart old new before later s.queues_are (λ setup n r st.
+      (let m : Node = node_happens n Fails in
+      let log : LogDid tells past faults setup n (Fails ∷ []) old.log (Closed left) =
+      record {
+        log = fails-down setup n;
+        told = f.2;
+        rises = f.3;
+        cause = λ failed. f.4;
+        whole = λ whole tell. (let tell_before : IsTrue (tells (disk_in old.log)) =
+            subst (λ (b : Bool). IsTrue b) f.2 tell in f.1 tell_before (whole tell_before));
+        moments = λ tell linked. (f.0 tell setup n st.queues r linked).traced;
+      } in
+      record {
+        events = Fails ∷ [];
+        allowed = allowed-down setup n (Fails ∷ []) (down setup n st) (inr refl);
+        desks = all-done setup n m Stops setup.places old.desks new.desks st.desks s.stop (λ place. refl);
+        auto = s.auto_is ∙ st.auto;
+        log = subst (LogDid tells past faults setup n (Fails ∷ []) old.log) (sym s.log) log;
+        says = s.says;
+      }))
+
+  pub stopped : (old new : Held D) (given left : D) (fault : RecoverFault) (queues : List QueueId) (before later : List ℕ)
+      → given ≡ disk_in old.log → queues ≡ old.queues.items
+      → ((setup : Setup) (n : Node) → Stands tells past setup old n → is_node_up setup n ≡ false)
+      → FailsWith queues left fault given → StopsWith left old.desks old.queues old.auto before later new
+      → Served tells past faults IsRestart old new before later
+  stopped old new given left fault queues before later disk ids down f s =
+      stops old new left fault before later down
+      (subst (FailsWith old.queues.items left fault) disk
+      (subst (λ (l : List QueueId). FailsWith l left fault given) ids f)) s

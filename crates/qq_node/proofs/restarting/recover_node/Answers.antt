@@ -1,0 +1,53 @@
+use Rattle.std.proofs.Common.{◌∙◌, sym, subst}
+use Rattle.std.proofs.lemmas.Result.{IfErr-weaker, IfOk-weaker}
+use Rattle.qq_recover.specs.Recovered.{IsRecoverCaused}
+use Rattle.qq_node.specs.Found.{AreDistinct}
+use Rattle.qq_node.proofs.Carried.{apart-distinct}
+use Rattle.qq_node.proofs.TakenUp.{lanes-many, restart-caused, restarted, stopped}
+use Rattle.qq_node.proofs.restarting.recover_node.Goals as goal
+
+pub recover_log-requires-clause-apart : goal.recover_log-requires-clause-apart
+recover_log-requires-clause-apart g c =
+    let st = c.requires.serve.3 in
+    subst AreDistinct (sym (c.deref.ensures.value ∙ st.queues))
+    (apart-distinct c.requires.serve.0 c.requires.serve.0.places st.apart)
+
+pub go_on-requires : goal.go_on-requires
+go_on-requires g c =
+    let st = c.requires.serve.3 in
+    lanes-many g.D.NodeDisk.tells g.D.NodeDisk.past g.D.NodeDisk.faults c.requires.serve.0 c.requires.serve.1
+    c.deref.result.now c.args.node.desks c.in-Ok.ensures.ok.lanes c.in-Ok.found.lanes.items
+    (c.deref.ensures.value ∙ st.queues) st.desks c.in-Ok.ensures.ok.each
+
+pub returns-in-Ok-clause-ok : goal.returns-in-Ok-clause-ok
+returns-in-Ok-clause-ok g c =
+    IfOk-weaker c.go_on.result _ _ (λ next goes.
+    restarted g.D.NodeDisk.tells g.D.NodeDisk.past g.D.NodeDisk.faults c.args.node next c.into_disk.result
+    c.in-Ok.found c.deref.result.now c.args.node.log_bytes c.args.text.now.items c.into_disk.ensures
+    c.deref.ensures.value c.requires.down (
+      c.in-Ok.ensures.ok,
+      (λ told. c.in-Ok.ensures.whole told),
+      c.in-Ok.ensures.told,
+      c.in-Ok.ensures.later,
+    ) goes) c.go_on.ensures.ok
+
+pub returns-in-Ok-clause-cause : goal.returns-in-Ok-clause-cause
+returns-in-Ok-clause-cause g c = λ setup n r st.
+    IfErr-weaker c.go_on.result _ _ (λ fault cause.
+    restart-caused g.D.NodeDisk.tells g.D.NodeDisk.past g.D.NodeDisk.faults setup n c.args.node.desks
+    c.in-Ok.found.lanes.items fault (c.requires.down setup n st) st.desks cause) c.go_on.ensures.cause
+
+pub returns-in-Err-Disk-default-clause-ok : goal.returns-in-Err-Disk-default-clause-ok
+returns-in-Err-Disk-default-clause-ok g c =
+    let faults = g.D.NodeDisk.faults in
+    IfOk-weaker c.stop.result _ _ (λ next stops.
+    stopped g.D.NodeDisk.tells g.D.NodeDisk.past faults c.args.node next c.into_disk.result
+    c.in-Err-Disk-default.disk c.in-Err-Disk-default.field-0-0 c.deref.result.now c.args.text.now.items
+    c.stop.new.text.items c.into_disk.ensures c.deref.ensures.value c.requires.down (
+      (λ told. c.in-Err-Disk-default.ensures.fails told),
+      (λ told. c.in-Err-Disk-default.ensures.whole told),
+      c.in-Err-Disk-default.ensures.told,
+      c.in-Err-Disk-default.ensures.later,
+      subst (IsRecoverCaused (faults c.into_disk.result) (faults c.in-Err-Disk-default.disk))
+          c.in-Err-Disk-default.field-0-0-is c.in-Err-Disk-default.ensures.cause,
+    ) stops) c.stop.ensures.ok

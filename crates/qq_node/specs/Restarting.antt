@@ -1,0 +1,149 @@
+-- How a node is opened, crashed and restarted.
+use Rattle.std.specs.Prelude.{◌≡◌, ◌≤◌, ◌⊎◌, ℕ, Bool, false, List, [], ◌∷◌, ◌++◌, Option, IsTrue, codes}
+use Rattle.std.specs.Global.{Vec}
+use Rattle.qq_base.specs.declared.ids.QueueId.{QueueId}
+use Rattle.qq_base.specs.declared.memory.Memory.TheVariants.{Want}
+use Rattle.qq_desk.specs.Desk.{DeskState, IsSameQueue, world_of}
+use Rattle.qq_desk.specs.Taking.{told}
+use Rattle.qq_disk.specs.declared.image.Image.{Image}
+use Rattle.qq_disk.specs.Disk.{Disk, now}
+use Rattle.qq_log.specs.declared.lane.Lane.{Lane}
+use Rattle.qq_log.specs.Stable.{Stable}
+use Rattle.qq_recover.specs.declared.fault.RecoverFault.{RecoverFault}
+use Rattle.qq_recover.specs.declared.fault.RecoverFault.TheVariants as recover_fault
+use Rattle.qq_recover.specs.Recovered.{IsAtEnd}
+use Rattle.qq_world.specs.Node.{Setup, Node, Crashes, new_node, node_happens}
+use Rattle.qq_world.specs.Promise.{MayTakeUp}
+use Rattle.qq_world.specs.Rules.{is_node_up}
+use Rattle.qq_world.specs.World.{Finds, Stops, happens}
+use Rattle.qq_node_laws.specs.Linked.{IsLinked}
+use Rattle.qq_node_laws.specs.Reads.{queues_of}
+use Rattle.qq_node_laws.specs.Traced.{LeavesImage, IsTraced}
+use Rattle.qq_node_laws.specs.Waiting.{AreApart}
+use Rattle.qq_node.specs.declared.node.Node.{Node as Held}
+use Rattle.qq_node.specs.declared.node.NodeLog.TheVariants.{Open, Closed}
+use Rattle.qq_node.specs.declared.recovering.Found.{Found}
+use Rattle.qq_node.specs.declared.opening.OpenFault.{OpenFault}
+use Rattle.qq_node.specs.declared.opening.OpenFault.TheVariants as open_fault
+use Rattle.qq_node.specs.declared.restarting.RestartFault.{RestartFault}
+use Rattle.qq_node.specs.declared.restarting.RestartFault.TheVariants as restart_fault
+use Rattle.qq_node.specs.Desks.{AllDo}
+use Rattle.qq_node.specs.Node.{AreDesks, Stands, disk_in}
+
+-- ---- a crash
+
+-- It stands for the node that was crashed; a disk that tells its contents is the named image of what it was, and no moment
+-- came before.
+pub record HasCrashed {D : Type 0} (tells : D → Bool) (past : D → List Disk) (image : Image) (setup : Setup) (n : Node)
+    (old new : Held D) : Type 0 where
+  pub stands : Stands tells past setup new (node_happens n (Crashes image))
+  pub told : tells (disk_in new.log) ≡ tells (disk_in old.log)
+  pub image_is : IsTrue (tells (disk_in old.log)) → LeavesImage image (past (disk_in old.log)) (past (disk_in new.log))
+  pub moments : IsTrue (tells (disk_in old.log)) → IsLinked setup n (now (past (disk_in old.log)))
+      → IsTraced setup n (Crashes image ∷ []) (past (disk_in old.log)) (past (disk_in new.log))
+
+-- ---- an opening
+
+-- these are the new queues of a setup, which have numbers apart
+pub record IsSetFor (setup : Setup) (queues : List QueueId) (desks : List DeskState) : Type 0 where
+  pub queues_are : queues ≡ queues_of setup
+  pub apart : AreApart setup setup.places
+  pub desks_are : AreDesks setup (new_node setup) setup.places desks
+
+-- recovery's fault, as an opening tells it
+abbrev pub opening_fault : RecoverFault → OpenFault
+opening_fault recover_fault.Disk = open_fault.Disk
+opening_fault (recover_fault.Damaged file place) = open_fault.Damaged file place
+opening_fault (recover_fault.Version file byte) = open_fault.Version file byte
+opening_fault (recover_fault.Memory memory) = open_fault.Memory memory
+
+-- It stands for the new node of a setup, over the disk that it was given. Over one that tells its contents the log is linked
+-- to it.
+pub record HasBegun {D : Type 0} (tells : D → Bool) (past : D → List Disk) (faults : D → ℕ) (setup : Setup) (disk : D)
+    (new : Held D) : Type 0 where
+  pub stands : Stands tells past setup new (new_node setup)
+  pub told : tells (disk_in new.log) ≡ tells disk
+  pub rises : faults disk ≤ faults (disk_in new.log)
+  pub moments : IsTrue (tells disk) → IsTraced setup (new_node setup) [] (past disk) (past (disk_in new.log))
+
+-- Why a node isn't opened. A disk that tells its contents, on which nothing ever was, is never refused for what it holds.
+abbrev pub IsOpenCaused : Bool → OpenFault → Type 0
+IsOpenCaused tells open_fault.Disk = Unit {0}
+IsOpenCaused tells (open_fault.Damaged file place) = IsTrue tells → ⊥
+IsOpenCaused tells (open_fault.Version file byte) = IsTrue tells → ⊥
+IsOpenCaused tells open_fault.NotEmpty = IsTrue tells → ⊥
+IsOpenCaused tells (open_fault.Memory memory) = IsAtEnd memory
+
+-- ---- a restart
+
+-- what was found of a queue is taken up
+pub record TakesUp (lane : Option Lane) (old new : DeskState) : Type 0 where
+  pub same : IsSameQueue old new
+  pub may : MayTakeUp old.server (told lane)
+  pub does : world_of new ≡ happens (world_of old) (Finds (told lane).op)
+
+-- and so of each queue, in order
+abbrev pub AllTake : List (Option Lane) → List DeskState → List DeskState → Type 0
+AllTake [] [] [] = Unit {0}
+AllTake (lane ∷ lanes) (old ∷ olds) (new ∷ news) = TakesUp lane old new × AllTake lanes olds news
+AllTake _ _ _ = ⊥
+
+-- a queue of this name may not take up what was found of it, so many ops, where so many were noticed
+pub record IsLostAt (d : DeskState) (lane : Option Lane) (name : List ℕ) (noticed found : ℕ) : Type 0 where
+  pub lost : MayTakeUp d.server (told lane) → ⊥
+  pub name_is : name ≡ d.name
+  pub noticed_is : noticed ≡ d.server.noticed
+  pub found_is : found ≡ (told lane).op
+
+-- and so some queue
+abbrev pub SomeIsLost : List DeskState → List (Option Lane) → List ℕ → ℕ → ℕ → Type 0
+SomeIsLost (d ∷ desks) (lane ∷ lanes) name noticed found =
+    IsLostAt d lane name noticed found ⊎ SomeIsLost desks lanes name noticed found
+SomeIsLost _ _ name noticed found = ⊥
+
+-- why a queue doesn't take up what was found of it
+abbrev pub IsTakeCaused : DeskState → Option Lane → RestartFault → Type 0
+IsTakeCaused d lane (restart_fault.Damaged file place) = ⊥
+IsTakeCaused d lane (restart_fault.Version file byte) = ⊥
+IsTakeCaused d lane (restart_fault.Lost name noticed found) = IsLostAt d lane name noticed found
+IsTakeCaused d lane (restart_fault.Memory memory) = memory ≡ Want
+
+abbrev pub IsTakeAllCaused : List DeskState → List (Option Lane) → RestartFault → Type 0
+IsTakeAllCaused desks lanes (restart_fault.Damaged file place) = ⊥
+IsTakeAllCaused desks lanes (restart_fault.Version file byte) = ⊥
+IsTakeAllCaused desks lanes (restart_fault.Lost name noticed found) = SomeIsLost desks lanes name noticed found
+IsTakeAllCaused desks lanes (restart_fault.Memory memory) = memory ≡ Want
+
+-- recovery finds of the queue at a place of a stopped node what its server may not take up
+pub record IsLostOf (setup : Setup) (n : Node) (name : List ℕ) (noticed found : ℕ) : Type 0 where
+  pub place : ℕ
+  pub lane : Stable
+  pub stopped : is_node_up setup n ≡ false
+  pub lost : MayTakeUp (n.queue place).server lane → ⊥
+  pub name_is : name ≡ setup.name place
+  pub noticed_is : noticed ≡ (n.queue place).server.noticed
+  pub found_is : found ≡ lane.op
+
+-- why a node isn't restarted
+abbrev pub IsRestartCaused : Setup → Node → RestartFault → Type 0
+IsRestartCaused setup n (restart_fault.Damaged file place) = Unit {0}
+IsRestartCaused setup n (restart_fault.Version file byte) = Unit {0}
+IsRestartCaused setup n (restart_fault.Lost name noticed found) = IsLostOf setup n name noticed found
+IsRestartCaused setup n (restart_fault.Memory memory) = IsAtEnd memory
+
+-- the queues have taken up what was found, and the log is the one that goes on behind it
+pub record GoesOnWith {D : Type 0} (found : Found D) (desks : List DeskState) (queues : Vec QueueId) (auto : Bool)
+    (new : Held D) : Type 0 where
+  pub take : AllTake found.lanes.items desks new.desks
+  pub log : new.log ≡ Open found.wal
+  pub queues_are : new.queues ≡ queues
+  pub auto_is : new.auto ≡ auto
+
+-- the queues have stopped, with this disk, and the node says so
+pub record StopsWith {D : Type 0} (disk : D) (desks : List DeskState) (queues : Vec QueueId) (auto : Bool)
+    (before later : List ℕ) (new : Held D) : Type 0 where
+  pub stop : AllDo Stops desks new.desks
+  pub log : new.log ≡ Closed disk
+  pub queues_are : new.queues ≡ queues
+  pub auto_is : new.auto ≡ auto
+  pub says : later ≡ before ++ codes "node 1 stopped\n"

@@ -1,0 +1,132 @@
+//! A node is opened.
+ghost use Rattle.std.specs.Prelude.{◌≡◌, IsTrue, IfOk, IfErr, Option, is_some, not};
+ghost use Rattle.std.specs.List.{list_all};
+ghost use Rattle.qq_log.specs.declared.lane.Lane.{Lane as LaneOf};
+ghost use Rattle.qq_world.specs.Node.{Setup, new_node};
+ghost use Rattle.qq_world.specs.Rules.{IsOpening};
+ghost use Rattle.qq_node_laws.specs.Serves.{Serves, seen_of};
+ghost use Rattle.qq_yards.specs.Yard.{IsNew};
+ghost use Rattle.qq_node.specs.Node.{Stands, seen};
+ghost use Rattle.qq_node.specs.Restarting.{HasBegun, IsOpenCaused, IsSetFor, opening_fault};
+
+use crate::desks::Desks;
+use crate::node::{Node, NodeLog};
+use crate::recovering::{Found, recover_log};
+use qq_base::{Memory, QueueId};
+use qq_desk::Desk;
+use qq_disk::{FileName, NodeDisk};
+use qq_log::Lane;
+use qq_recover::RecoverFault;
+use std::alloc::Global;
+use thiserror::Error;
+
+/// Why a node isn't opened.
+#[derive(Clone, Copy, Debug, PartialEq, Eq, Error)]
+pub enum OpenFault {
+    /// The disk failed.
+    #[error("the disk failed")]
+    Disk,
+    /// A file breaks the rules of the log.
+    #[error("a file is damaged")]
+    Damaged {
+        /// The file.
+        file: FileName,
+        /// The first byte of the header or record that breaks them.
+        place: u64,
+    },
+    /// A file's header is of another version of the format.
+    #[error("a file has version {byte}")]
+    Version {
+        /// The file.
+        file: FileName,
+        /// The version.
+        byte: u8,
+    },
+    /// The disk holds ops of a node before.
+    #[error("the disk isn't empty")]
+    NotEmpty,
+    /// There was no memory, or a number is at its end.
+    #[error("out of memory or numbers")]
+    Memory(Memory),
+}
+
+fn fault_at_opening(fault: RecoverFault) -> OpenFault
+    ensures { result ≡ opening_fault fault }
+{
+    match fault {
+        RecoverFault::Disk => OpenFault::Disk,
+        RecoverFault::Damaged { file, place } => OpenFault::Damaged { file, place },
+        RecoverFault::Version { file, byte } => OpenFault::Version { file, byte },
+        RecoverFault::Memory(memory) => OpenFault::Memory(memory),
+    }
+}
+
+fn are_none(lanes: &[Option<Lane>]) -> bool
+    ensures { result ≡ list_all (λ (lane : Option LaneOf). not (is_some lane)) lanes.now }
+{
+    lanes.iter().all(|lane| !lane.is_some())
+}
+
+// The node before anything happens to it: its log, on which no queue has an op.
+fn begin<D: NodeDisk>(
+    disk: D,
+    alloc: Global,
+    queues: Vec<QueueId>,
+    desks: Desks,
+    log_bytes: u64,
+) -> Result<Node<D>, OpenFault>
+    requires set { (setup : Setup) × IsSetFor setup queues.items desks }
+    requires fresh { IsTrue (D.tells disk) → IsNew (D.past disk) }
+    ensures ok { (setup : Setup) → IsSetFor setup queues.items desks →
+        IfOk result (HasBegun D.tells D.past D.faults setup disk) }
+    ensures cause { IfErr result (IsOpenCaused (D.tells disk)) }
+{
+    let Found { wal, lanes } = match recover_log(disk, alloc, &queues, log_bytes) {
+        Ok(found) => found,
+        Err((fault, _)) => return Err(fault_at_opening(fault)),
+    };
+    if !are_none(&lanes) {
+        return Err(OpenFault::NotEmpty);
+    }
+    Ok(Node {
+        desks,
+        queues,
+        log: NodeLog::Open(wal),
+        log_bytes,
+        auto: true,
+    })
+}
+
+/// Opens a node with these new queues, of which the ids are given in the same order: each queue's clock ticks
+/// once, and a pump follows. The disk is a new one where it tells its contents.
+///
+/// `Disk` comes where the disk failed, `Damaged`, `Version` and `NotEmpty` where it isn't a new one. `Spent`
+/// comes only where a number stands at its end.
+pub fn open_node<D: NodeDisk>(
+    disk: D,
+    alloc: Global,
+    queues: Vec<QueueId>,
+    desks: Vec<Desk>,
+    log_bytes: u64,
+    text: &mut Vec<u8>,
+) -> Result<Node<D>, OpenFault>
+    requires set { (setup : Setup) × IsSetFor setup queues.items desks.items }
+    requires fresh { IsTrue (D.tells disk) → IsNew (D.past disk) }
+    ensures ok { (setup : Setup) → IsSetFor setup queues.items desks.items → IfOk result (λ node.
+        Serves setup (new_node setup) (IsOpening setup (new_node setup))
+        (Stands D.tells D.past setup node) (seen_of D.tells D.past D.faults disk)
+        (seen D.tells D.past D.faults node) text.old.items text.new.items) }
+    ensures cause { IfErr result (IsOpenCaused (D.tells disk)) }
+{
+    let mut node = match begin(disk, alloc, queues, Desks::new(desks), log_bytes) {
+        Ok(node) => node,
+        Err(fault) => return Err(fault),
+    };
+    if let Err(memory) = node.tick_each(alloc, text) {
+        return Err(OpenFault::Memory(memory));
+    }
+    if let Err(memory) = node.pump(alloc, text) {
+        return Err(OpenFault::Memory(memory));
+    }
+    Ok(node)
+}

@@ -1,0 +1,228 @@
+//! A node is restarted.
+ghost use Rattle.std.specs.Prelude.{◌≡◌, ◌≤◌, false, length, IfOk, IfErr, OnOk, IsOkUnless};
+ghost use Rattle.std.specs.List.{list_all};
+ghost use Rattle.qq_desk.specs.Desk.{DeskState, world_of};
+ghost use Rattle.qq_desk.specs.Taking.{told};
+ghost use Rattle.qq_world.specs.Node.{Setup, Node as World};
+ghost use Rattle.qq_world.specs.Rules.{IsRestart, is_node_up};
+ghost use Rattle.qq_world.specs.World.{is_up};
+ghost use Rattle.qq_node_laws.specs.Reads.{IsReached};
+ghost use Rattle.qq_node.specs.Node.{CanServe, Served, Stands};
+ghost use Rattle.qq_node.specs.Restarting.{AllTake, IsRestartCaused, IsTakeAllCaused, IsTakeCaused, GoesOnWith, StopsWith, TakesUp};
+
+use crate::crashing::into_disk;
+use crate::desks::Desks;
+use crate::node::{Node, NodeLog};
+use crate::recovering::{Found, recover_log};
+use qq_base::{Duplicate, Memory, QueueId, Text};
+use qq_desk::Desk;
+use qq_disk::{FileName, NodeDisk};
+use qq_log::Lane;
+use qq_recover::RecoverFault;
+use std::alloc::Global;
+use thiserror::Error;
+
+/// Why a node isn't restarted.
+#[derive(Debug, Drop, Error)]
+pub enum RestartFault {
+    /// A file breaks the rules of the log.
+    #[error("a file is damaged")]
+    Damaged {
+        /// The file.
+        file: FileName,
+        /// The first byte of the header or record that breaks them.
+        place: u64,
+    },
+    /// A file's header is of another version of the format.
+    #[error("a file has version {byte}")]
+    Version {
+        /// The file.
+        file: FileName,
+        /// The version.
+        byte: u8,
+    },
+    /// Of a queue another state was found than the log had promised.
+    #[error("synced ops were lost")]
+    Lost {
+        /// The queue's name.
+        name: Text,
+        /// How many of its ops were noticed as synced.
+        noticed: u64,
+        /// How many ops were found.
+        found: u64,
+    },
+    /// There was no memory, or a number is at its end.
+    #[error("out of memory or numbers")]
+    Memory(Memory),
+}
+
+fn op_of(lane: &Option<Lane>) -> u64
+    ensures { result ≡ (told lane.now).op }
+{
+    match lane {
+        Some(lane) => lane.op,
+        None => 0,
+    }
+}
+
+fn lost(desk: &Desk, alloc: Global, found: u64) -> Result<RestartFault, Memory>
+    ensures ok { IfOk result (λ fault. fault ≡ RestartFault.Lost desk.now.name
+        desk.now.server.noticed found) }
+    ensures want { IsOkUnless result Memory.Want }
+{
+    let name = desk.name().copy(alloc)?;
+    let noticed = desk.noticed() as u64;
+    Ok(RestartFault::Lost {
+        name,
+        noticed,
+        found,
+    })
+}
+
+// A queue takes up what was found of it.
+fn take_up(desk: &mut Desk, alloc: Global, lane: &Option<Lane>) -> Result<(), RestartFault>
+    ensures ok { OnOk result (TakesUp lane.now desk.old desk.new) }
+    ensures cause { IfErr result (IsTakeCaused desk.old lane.now) }
+{
+    let op = op_of(lane);
+    if !desk.may_take_up(lane.as_ref()) {
+        return match lost(desk, alloc, op) {
+            Ok(fault) => Err(fault),
+            Err(memory) => Err(RestartFault::Memory(memory)),
+        };
+    }
+    match desk.find(alloc, op) {
+        Ok(()) => Ok(()),
+        Err(memory) => Err(RestartFault::Memory(memory)),
+    }
+}
+
+// Each queue takes up what was found of it, in order.
+pub(crate) fn take_up_each(
+    desks: &mut [Desk],
+    alloc: Global,
+    lanes: &[Option<Lane>],
+) -> Result<(), RestartFault>
+    requires { length lanes.now ≡ length desks.old }
+    ensures ok { OnOk result (AllTake lanes.now desks.old desks.new) }
+    ensures cause { IfErr result (IsTakeAllCaused desks.old lanes.now) }
+{
+    let mut at = 0;
+    'desks: for desk in desks.iter_mut() {
+        if let Err(fault) = take_up(desk, alloc, &lanes[at]) {
+            return Err(fault);
+        }
+        at += 1;
+    }
+    Ok(())
+}
+
+// A stopped node goes on with what was found.
+fn go_on<D: NodeDisk>(
+    desks: Desks,
+    alloc: Global,
+    queues: Vec<QueueId>,
+    found: Found<D>,
+    log_bytes: u64,
+    auto: bool,
+) -> Result<Node<D>, RestartFault>
+    requires { length found.lanes.items ≡ length desks }
+    ensures ok { IfOk result (GoesOnWith found desks queues auto) }
+    ensures cause { IfErr result (IsTakeAllCaused desks found.lanes.items) }
+{
+    let mut desks = desks;
+    let Found { wal, lanes } = found;
+    if let Err(fault) = desks.take_up(alloc, &lanes) {
+        return Err(fault);
+    }
+    Ok(Node {
+        desks,
+        queues,
+        log: NodeLog::Open(wal),
+        log_bytes,
+        auto,
+    })
+}
+
+// A node whose disk has failed says so.
+fn stop<D: NodeDisk>(
+    desks: Desks,
+    queues: Vec<QueueId>,
+    disk: D,
+    log_bytes: u64,
+    auto: bool,
+    text: &mut Vec<u8>,
+) -> Result<Node<D>, RestartFault>
+    ensures ok { IfOk result (StopsWith disk desks queues auto text.old.items text.new.items) }
+    ensures cause { IfErr result (λ fault. fault ≡ RestartFault.Memory Memory.Want) }
+{
+    let mut desks = desks;
+    if let Err(memory) = desks.stop(text) {
+        return Err(RestartFault::Memory(memory));
+    }
+    Ok(Node {
+        desks,
+        queues,
+        log: NodeLog::Closed(disk),
+        log_bytes,
+        auto,
+    })
+}
+
+// A stopped node is recovered, or its disk fails.
+fn recover_node<D: NodeDisk>(
+    node: Node<D>,
+    alloc: Global,
+    text: &mut Vec<u8>,
+) -> Result<Node<D>, RestartFault>
+    requires serve { CanServe D.tells D.past node }
+    requires down { (setup : Setup) (n : World) → Stands D.tells D.past setup node n →
+        is_node_up setup n ≡ false }
+    ensures ok { IfOk result (λ next. Served D.tells D.past D.faults IsRestart node next
+        text.old.items text.new.items) }
+    ensures cause { (setup : Setup) (n : World) → IsReached setup n →
+        Stands D.tells D.past setup node n → IfErr result (IsRestartCaused setup n) }
+{
+    let Node {
+        desks,
+        queues,
+        log,
+        log_bytes,
+        auto,
+    } = node;
+    match recover_log(into_disk(log), alloc, &queues, log_bytes) {
+        Ok(found) => go_on(desks, alloc, queues, found, log_bytes, auto),
+        Err((RecoverFault::Disk, disk)) => stop(desks, queues, disk, log_bytes, auto, text),
+        Err((RecoverFault::Damaged { file, place }, _)) => {
+            Err(RestartFault::Damaged { file, place })
+        }
+        Err((RecoverFault::Version { file, byte }, _)) => {
+            Err(RestartFault::Version { file, byte })
+        }
+        Err((RecoverFault::Memory(memory), _)) => Err(RestartFault::Memory(memory)),
+    }
+}
+
+/// Restarts a node: its log is recovered, and each queue takes up what was found of it. If the disk fails, the
+/// node stays stopped and says so. A node that is up stays as it is.
+///
+/// `Damaged` and `Version` come where the log's files break its rules, `Lost` where a queue may not take up
+/// what was found of it, with that queue's name; neither of a disk that tells its contents and is linked to
+/// the node. `Spent` comes only where a number of a log file stands at its end. After an error the node is
+/// given up.
+pub fn restart_node<D: NodeDisk>(
+    node: Node<D>,
+    alloc: Global,
+    text: &mut Vec<u8>,
+) -> Result<Node<D>, RestartFault>
+    requires { CanServe D.tells D.past node }
+    ensures ok { IfOk result (λ next. Served D.tells D.past D.faults IsRestart node next
+        text.old.items text.new.items) }
+    ensures cause { (setup : Setup) (n : World) → IsReached setup n →
+        Stands D.tells D.past setup node n → IfErr result (IsRestartCaused setup n) }
+{
+    if node.is_up() {
+        return Ok(node);
+    }
+    recover_node(node, alloc, text)
+}
