@@ -224,6 +224,20 @@ impl<L: LogView> Raft<L> {
         }
     }
 
+    /// The number of its last change.
+    pub fn op(&self) -> u64
+        ensures { result ≡ (server_of L.log self.now).op }
+    {
+        self.op
+    }
+
+    /// The change up to which it was told that its disk is durable.
+    pub fn noticed(&self) -> u64
+        ensures { result ≡ (server_of L.log self.now).noticed }
+    {
+        self.noticed
+    }
+
     /// The leader of its term, as far as it knows.
     pub fn leader(&self) -> Option<NodeId>
         ensures { result ≡ (server_of L.log self.now).leader }

@@ -241,6 +241,20 @@ impl<Q: Queue, L: LogView> Server<Q, L> {
         self.raft.state()
     }
 
+    /// The number of its last change.
+    pub fn op(&self) -> u64
+        ensures { result ≡ (server_of L.log self.now.raft).op }
+    {
+        self.raft.op()
+    }
+
+    /// The change up to which it was told that its disk is durable.
+    pub fn noticed(&self) -> u64
+        ensures { result ≡ (server_of L.log self.now.raft).noticed }
+    {
+        self.raft.noticed()
+    }
+
     /// Its queue machine.
     pub fn machine(&self) -> &Q
         ensures { result.now ≡ self.now.machine }
