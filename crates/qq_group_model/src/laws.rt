@@ -1,5 +1,5 @@
 //! The laws of a group. They speak of all lists of events, from new logs on.
-ghost use Rattle.std.specs.Prelude.{◌≡◌, ◌⊎◌, ◌≤◌, ◌<◌, List, ℕ, length, take, true};
+ghost use Rattle.std.specs.Prelude.{◌≡◌, ◌⊎◌, ◌+◌, ◌≤◌, ◌<◌, List, ℕ, length, take, true};
 ghost use Rattle.qq_base.specs.Fronts.{IsFront};
 ghost use Rattle.qq_base.specs.declared.ids.NodeId.{NodeId};
 ghost use Rattle.qq_base.specs.declared.ids.QueueId.{QueueId};
@@ -92,4 +92,11 @@ pub fn the_disks_support_the_audit()
 pub fn a_term_does_not_fall()
     ensures { (g : Group) (e : Event) (k : ℕ) (s t : Server) → IsUp g k s →
         IsUp (happens e g) k t → s.term.0 ≤ t.term.0 }
+{}
+
+/// A law: a server's changes are those that its log was handed, and those that it still holds.
+pub fn a_log_was_handed_the_changes_of_its_server()
+    ensures { (queue : QueueId) (nodes : List NodeId) (events : List Event) (k : ℕ) (s : Server) →
+        AreDistinct nodes → IsUp (from_new queue nodes events) k s →
+        s.op ≡ length ((from_new queue nodes events).seat k).ops + length s.ops }
 {}

@@ -10,6 +10,6 @@ pub use examples::{
     an_entry_of_an_older_term_may_be_replaced,
 };
 pub use laws::{
-    a_term_does_not_fall, a_term_has_one_leader, an_answered_command_stays,
-    the_disks_support_the_audit, what_a_group_committed_stays,
+    a_log_was_handed_the_changes_of_its_server, a_term_does_not_fall, a_term_has_one_leader,
+    an_answered_command_stays, the_disks_support_the_audit, what_a_group_committed_stays,
 };
