@@ -10,7 +10,7 @@ use Rattle.qq_base.specs.Causes.{Rose}
 use Rattle.qq_base.specs.declared.ids.QueueId.{QueueId}
 use Rattle.qq_desk.specs.Desk.{DeskState}
 use Rattle.qq_desk.specs.Taking.{told}
-use Rattle.qq_disk.specs.Disk.{Disk}
+use Rattle.qq_disk.specs.Disk.{Disk, now}
 use Rattle.qq_chain.specs.Lanes.{Lanes}
 use Rattle.qq_log.specs.declared.lane.Lane.{Lane}
 use Rattle.qq_log.specs.Stable.{Stable}
@@ -22,7 +22,8 @@ use Rattle.qq_world.specs.Promise.{MayTakeUp}
 use Rattle.qq_world.specs.Rules.{FindsLanes, IsNothing, IsRestart, if_so, is_node_up, some_queue}
 use Rattle.qq_world.specs.Server.{is_down}
 use Rattle.qq_world.specs.World.{World, Finds, Stops, happens, is_up}
-use Rattle.qq_node_laws.specs.Reads.{AreDown, ops_found, queue_at, queues_of, state_in}
+use Rattle.qq_node_laws.specs.Linked.{IsLinked}
+use Rattle.qq_node_laws.specs.Reads.{IsReached, AreDown, ops_found, queue_at, queues_of, state_in}
 use Rattle.qq_node_laws.proofs.Both.{none-any}
 use Rattle.qq_node.specs.declared.node.Node.{Node as Held}
 use Rattle.qq_node.specs.declared.node.NodeLog.TheVariants.{Open, Closed}
@@ -31,7 +32,7 @@ use Rattle.qq_node.specs.declared.restarting.RestartFault.{RestartFault}
 use Rattle.qq_node.specs.declared.restarting.RestartFault.TheVariants as restart_fault
 use Rattle.qq_node.specs.Found.{AllTakeUpTold, AreLanes, FailsLinked, HasFound, as_told}
 use Rattle.qq_node.specs.Node.{AreDesks, Served, Stands, disk_in}
-use Rattle.qq_node.specs.Restarting.{AllTake, GoesOnWith, IsLostOf, IsRestartCaused, IsTakeAllCaused, SomeIsLost, StopsWith, TakesUp}
+use Rattle.qq_node.specs.Restarting.{AllTake, GoesOnWith, IsLinkedTo, IsLostOf, IsOfMemory, IsRestartCaused, IsTakeAllCaused, SomeIsLost, StopsWith, TakesUp}
 use Rattle.qq_node.proofs.Carried.{may_restart-all}
 use Rattle.qq_node.proofs.EachDesk.{all-done, as-many}
 use Rattle.qq_node.proofs.Finding.{lane-told}
@@ -238,3 +239,49 @@ module _ {D : Type 0} (tells : D → Bool) (past : D → List Disk) (faults : D 
       stops old new left fault before later down
       (subst (FailsWith old.queues.items left fault) disk
       (subst (λ (l : List QueueId). FailsWith l left fault given) ids f)) s
+
+  -- ---- a disk that is linked
+
+  -- where each queue may take up what its lane tells, none is lost
+  never-lost : (setup : Setup) (n : Node) (lanes : Lanes) (places : List ℕ) (desks : List DeskState)
+      (found : List (Option Lane)) (name : List ℕ) (noticed op : ℕ) → AreDesks setup n places desks
+      → AreLanes (map (queue_at setup) places) lanes found
+      → AllByRecursion
+      (λ (place : ℕ). MayTakeUp (n.queue place).server (as_told (state_in lanes (queue_at setup place)))) places
+      → SomeIsLost desks found name noticed op → ⊥
+  never-lost setup n lanes [] [] found name noticed op are zip may lost = lost
+  never-lost setup n lanes [] (d ∷ desks) found name noticed op are zip may lost = are
+  never-lost setup n lanes (p ∷ places) [] found name noticed op are zip may lost = are
+  never-lost setup n lanes (p ∷ places) (d ∷ desks) [] name noticed op are zip may lost = zip
+  never-lost setup n lanes (p ∷ places) (d ∷ desks) (l ∷ found) name noticed op are zip may (inl lost) =
+      let id : QueueId = queue_at setup p in
+      let is : told l ≡ as_told (state_in lanes id) = lane-told id (lanes id.0) l zip.0 in
+      lost.lost (subst (λ (w : World). MayTakeUp w.server (told l)) (sym are.0.world_is)
+      (subst (MayTakeUp (n.queue p).server) (sym is) may.0))
+  never-lost setup n lanes (p ∷ places) (d ∷ desks) (l ∷ found) name noticed op are zip may (inr lost) =
+      never-lost setup n lanes places desks found name noticed op are.1 zip.1 may.1 lost
+
+  pub takes-never : (setup : Setup) (n : Node) (old : Held D) (given : D) (f : Found D) (queues : List QueueId)
+      (log_bytes : ℕ) (fault : RestartFault) → given ≡ disk_in old.log → queues ≡ old.queues.items
+      → IsReached setup n → Stands tells past setup old n → IsLinkedTo tells past setup n old → AreDown setup n
+      → HasFound tells past queues log_bytes given f → IsTakeAllCaused old.desks f.lanes.items fault
+      → IsOfMemory fault
+  takes-never setup n old given f queues log_bytes fault disk ids r st linked down found cause = by fault cause
+    where
+      same : queues ≡ queues_of setup
+      same = ids ∙ st.queues
+
+      told_ : IsTrue (tells given)
+      told_ = subst (λ (d : D). IsTrue (tells d)) (sym disk) linked.0
+
+      link : IsLinked setup n (now (past given))
+      link = subst (λ (d : D). IsLinked setup n (now (past d))) (sym disk) linked.1
+
+      by : (fault : RestartFault) → IsTakeAllCaused old.desks f.lanes.items fault → IsOfMemory fault
+      by (restart_fault.Damaged file place) cause = cause
+      by (restart_fault.Version file byte) cause = cause
+      by (restart_fault.Lost name noticed op) cause =
+          never-lost setup n found.lanes setup.places old.desks f.lanes.items name noticed op st.desks
+          (subst (λ (l : List QueueId). AreLanes l found.lanes f.lanes.items) same found.each)
+          (found.finds told_ setup n same r down link).taken_up cause
+      by (restart_fault.Memory memory) cause = tt

@@ -131,6 +131,18 @@ IsRestartCaused setup n (restart_fault.Version file byte) = Unit {0}
 IsRestartCaused setup n (restart_fault.Lost name noticed found) = IsLostOf setup n name noticed found
 IsRestartCaused setup n (restart_fault.Memory memory) = IsAtEnd memory
 
+-- there was no memory, or a number is at its end
+abbrev pub IsOfMemory : RestartFault → Type 0
+IsOfMemory (restart_fault.Damaged file place) = ⊥
+IsOfMemory (restart_fault.Version file byte) = ⊥
+IsOfMemory (restart_fault.Lost name noticed found) = ⊥
+IsOfMemory (restart_fault.Memory memory) = Unit {0}
+
+-- the disk tells its contents, and is linked to a node
+abbrev pub IsLinkedTo : {D : Type 0} → (D → Bool) → (D → List Disk) → Setup → Node → Held D → Type 0
+IsLinkedTo tells past setup n node =
+    IsTrue (tells (disk_in node.log)) × IsLinked setup n (now (past (disk_in node.log)))
+
 -- the queues have taken up what was found, and the log is the one that goes on behind it
 pub record GoesOnWith {D : Type 0} (found : Found D) (desks : List DeskState) (queues : Vec QueueId) (auto : Bool)
     (new : Held D) : Type 0 where

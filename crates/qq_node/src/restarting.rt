@@ -6,9 +6,9 @@ ghost use Rattle.qq_desk.specs.Taking.{told};
 ghost use Rattle.qq_world.specs.Node.{Setup, Node as World};
 ghost use Rattle.qq_world.specs.Rules.{IsRestart, is_node_up};
 ghost use Rattle.qq_world.specs.World.{is_up};
-ghost use Rattle.qq_node_laws.specs.Reads.{IsReached};
+ghost use Rattle.qq_node_laws.specs.Reads.{IsReached, AreDown};
 ghost use Rattle.qq_node.specs.Node.{CanServe, Served, Stands};
-ghost use Rattle.qq_node.specs.Restarting.{AllTake, IsRestartCaused, IsTakeAllCaused, IsTakeCaused, GoesOnWith, StopsWith, TakesUp};
+ghost use Rattle.qq_node.specs.Restarting.{AllTake, IsLinkedTo, IsOfMemory, IsRestartCaused, IsTakeAllCaused, IsTakeCaused, GoesOnWith, StopsWith, TakesUp};
 
 use crate::crashing::into_disk;
 use crate::desks::Desks;
@@ -182,6 +182,9 @@ fn recover_node<D: NodeDisk>(
         text.old.items text.new.items) }
     ensures cause { (setup : Setup) (n : World) → IsReached setup n →
         Stands D.tells D.past setup node n → IfErr result (IsRestartCaused setup n) }
+    ensures never { (setup : Setup) (n : World) → IsReached setup n →
+        Stands D.tells D.past setup node n → IsLinkedTo D.tells D.past setup n node →
+        AreDown setup n → IfErr result IsOfMemory }
 {
     let Node {
         desks,
@@ -207,8 +210,8 @@ fn recover_node<D: NodeDisk>(
 /// node stays stopped and says so. A node that is up stays as it is.
 ///
 /// `Damaged` and `Version` come where the log's files break its rules, `Lost` where a queue may not take up
-/// what was found of it, with that queue's name; neither of a disk that tells its contents and is linked to
-/// the node. `Spent` comes only where a number of a log file stands at its end. After an error the node is
+/// what was found of it, with that queue's name: none of them where the disk tells its contents and is linked
+/// to the node, whose queues are stopped together (`never`). `Spent` comes only where a number of a log file stands at its end. After an error the node is
 /// given up.
 pub fn restart_node<D: NodeDisk>(
     node: Node<D>,
@@ -220,6 +223,9 @@ pub fn restart_node<D: NodeDisk>(
         text.old.items text.new.items) }
     ensures cause { (setup : Setup) (n : World) → IsReached setup n →
         Stands D.tells D.past setup node n → IfErr result (IsRestartCaused setup n) }
+    ensures never { (setup : Setup) (n : World) → IsReached setup n →
+        Stands D.tells D.past setup node n → IsLinkedTo D.tells D.past setup n node →
+        (is_node_up setup n ≡ false → AreDown setup n) → IfErr result IsOfMemory }
 {
     if node.is_up() {
         return Ok(node);

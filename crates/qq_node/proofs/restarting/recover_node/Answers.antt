@@ -3,7 +3,7 @@ use Rattle.std.proofs.lemmas.Result.{IfErr-weaker, IfOk-weaker}
 use Rattle.qq_recover.specs.Recovered.{IsRecoverCaused}
 use Rattle.qq_node.specs.Found.{AreDistinct}
 use Rattle.qq_node.proofs.Carried.{apart-distinct}
-use Rattle.qq_node.proofs.TakenUp.{lanes-many, restart-caused, restarted, stopped}
+use Rattle.qq_node.proofs.TakenUp.{lanes-many, restart-caused, restarted, stopped, takes-never}
 use Rattle.qq_node.proofs.restarting.recover_node.Goals as goal
 
 pub recover_log-requires-clause-apart : goal.recover_log-requires-clause-apart
@@ -51,3 +51,10 @@ returns-in-Err-Disk-default-clause-ok g c =
       subst (IsRecoverCaused (faults c.into_disk.result) (faults c.in-Err-Disk-default.disk))
           c.in-Err-Disk-default.field-0-0-is c.in-Err-Disk-default.ensures.cause,
     ) stops) c.stop.ensures.ok
+
+pub returns-in-Ok-clause-never : goal.returns-in-Ok-clause-never
+returns-in-Ok-clause-never g c = λ setup n r st linked down.
+    IfErr-weaker c.go_on.result _ _ (λ fault cause.
+    takes-never g.D.NodeDisk.tells g.D.NodeDisk.past g.D.NodeDisk.faults setup n c.args.node c.into_disk.result
+    c.in-Ok.found c.deref.result.now c.args.node.log_bytes fault c.into_disk.ensures c.deref.ensures.value r st linked
+    down c.in-Ok.ensures.ok cause) c.go_on.ensures.cause
