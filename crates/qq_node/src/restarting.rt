@@ -206,13 +206,13 @@ fn recover_node<D: NodeDisk>(
     }
 }
 
-/// Restarts a node: its log is recovered, and each queue takes up what was found of it. If the disk fails, the
-/// node stays stopped and says so. A node that is up stays as it is.
+/// Restarts a node: its log is recovered, and each queue takes up what was found of it. If the disk fails,
+/// the node stays stopped and says so. A node that is up stays as it is. After an error it is given up.
 ///
 /// `Damaged` and `Version` come where the log's files break its rules, `Lost` where a queue may not take up
-/// what was found of it, with that queue's name: none of them where the disk tells its contents and is linked
-/// to the node, whose queues are stopped together (`never`). `Spent` comes only where a number of a log file stands at its end. After an error the node is
-/// given up.
+/// what was found of it, with that queue's name. `Spent` comes only where a number of a log file stands at
+/// its end. Where the disk tells its contents and is linked to the node, whose queues are stopped together,
+/// no error comes but that one and want of memory (`never`).
 pub fn restart_node<D: NodeDisk>(
     node: Node<D>,
     alloc: Global,
