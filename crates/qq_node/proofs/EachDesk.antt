@@ -1,10 +1,8 @@
 -- What the queues of a node do, and which world they stand for then.
-use Rattle.std.proofs.Common.{◌≡◌, ◌≢◌, ◌<◌, ◌≤◌, ◌+◌, ℕ, zero, suc, Bool, true, ◌||◌, ◌&&◌, List, [], ◌∷◌, ◌++◌, length, get_or, set, take, drop, map, refl, sym, ap, ◌∙◌, subst, arith, append-nil}
+use Rattle.std.proofs.Common.{◌≡◌, ◌≢◌, ◌<◌, ◌≤◌, ◌+◌, ℕ, zero, suc, Bool, ◌||◌, ◌&&◌, List, [], ◌∷◌, ◌++◌, length, get_or, set, take, drop, map, refl, sym, ap, ◌∙◌, subst, arith, append-nil}
 use Rattle.std.specs.List.{AllByRecursion, flat_map, list_all, list_any}
 use Rattle.std.proofs.lemmas.List.{take_more_set, take_more}
 use Rattle.qq_base.proofs.InPlace.{mapped_rest}
-use Rattle.qq_base.proofs.Lists.{AllByRecursion-weaker}
-use Rattle.qq_base.specs.declared.ids.QueueId.{QueueId}
 use Rattle.qq_desk.specs.Desk.{DeskState, Does, IsSameQueue, world_of}
 use Rattle.qq_desk.specs.Text.{shown_text_as}
 use Rattle.qq_world.specs.Node.{Setup, Node, At, Of, is_first, printed_text, shown_text, text_of}

@@ -1,21 +1,21 @@
 -- The lines of a script, as a node carries them out.
 use Rattle.std.specs.Prelude.{Contains}
-use Rattle.std.proofs.Common.{◌≡◌, ◌<◌, ◌+◌, ℕ, zero, suc, Bool, true, false, not, ◌&&◌, List, [], ◌∷◌, ◌++◌, length, drop, map, refl, sym, ap, ◌∙◌, subst, inl, arith, append-nil}
+use Rattle.std.proofs.Common.{◌≡◌, ◌<◌, ◌+◌, ℕ, zero, suc, Bool, true, false, ◌&&◌, List, [], ◌∷◌, ◌++◌, length, drop, map, refl, sym, ap, ◌∙◌, subst, inl, arith, append-nil}
 use Rattle.qq_base.specs.declared.ids.QueueId.{QueueId}
 use Rattle.qq_disk.specs.Disk.{Disk}
 use Rattle.qq_world.specs.Node.{Setup, Node, NodeEvent, Alike, At, SaysBusy, SaysDown, node_after}
 use Rattle.qq_world.specs.Rules.{Is, IsNotice, IsPump, IsPumped, IsRound, IsSync, IsSynced, IsWrite, MayRoll, OrFails, Pumps, Then, WhereUp, if_so, is_idle, is_node_up, most_rounds, some_queue, waits_noticed, waits_synced, waits_written}
 use Rattle.std.specs.List.{list_all, list_any}
 use Rattle.qq_world.specs.World.{Event, Notices, Writes, is_up}
-use Rattle.qq_node_laws.specs.Reads.{IsReached, queue_at}
+use Rattle.qq_node_laws.specs.Reads.{queue_at}
 use Rattle.qq_node_laws.specs.Serves.{Leads}
-use Rattle.qq_node_laws.proofs.Serves.{leads-end, leads-more, leads-start}
+use Rattle.qq_node_laws.proofs.Serves.{leads-more, leads-start}
 use Rattle.qq_node.specs.declared.node.Node.{Node as Held}
 use Rattle.qq_node.specs.Node.{AtIndex, AtQueue, CanServe, HasPlace, IsAt, IsDesk, IsQueueAt, Served, Stands}
 use Rattle.qq_desk.specs.Desk.{DeskState, world_of}
 use Rattle.qq_node.proofs.EachDesk.{all-desks, any-desks, as-many, desk-at}
 use Rattle.qq_node.proofs.Places.{at-none, at-queue}
-use Rattle.qq_node.proofs.Stands.{place-at, served-both, served-nothing, served-then, served-weaker}
+use Rattle.qq_node.proofs.Stands.{place-at, served-both, served-nothing, served-weaker}
 
 -- ---- tests
 

@@ -1,5 +1,5 @@
 -- What a write and a sync do to the log of a node, and which node is stood for behind them.
-use Rattle.std.proofs.Common.{◌≡◌, ◌<◌, ◌≤◌, ℕ, suc, Bool, true, false, not, ◌&&◌, ◌||◌, List, [], ◌∷◌, ◌++◌, length, refl, sym, ap, ◌∙◌, subst, inl, inr, arith, append-nil}
+use Rattle.std.proofs.Common.{◌≡◌, ◌<◌, ◌≤◌, ℕ, Bool, true, false, ◌&&◌, ◌||◌, List, [], ◌∷◌, ◌++◌, length, refl, sym, ap, ◌∙◌, subst, inl, inr, arith, append-nil}
 use Rattle.std.specs.Global.{Vec}
 use Rattle.std.specs.Prelude.{IsTrue, codes}
 use Rattle.std.specs.List.{list_any, list_all}
@@ -7,11 +7,9 @@ use Rattle.std.proofs.lemmas.Bool.{and_parts, false≢true}
 use Rattle.qq_base.specs.Causes.{Rose}
 use Rattle.qq_base.specs.declared.ids.QueueId.{QueueId}
 use Rattle.qq_disk.specs.Disk.{Disk, now}
-use Rattle.qq_disk.proofs.Stored.{still_tells}
 use Rattle.qq_chain.specs.Laws.{op_records}
 use Rattle.qq_desk.specs.Desk.{DeskState, world_of}
 use Rattle.qq_log.specs.declared.op.Op.{Op}
-use Rattle.qq_wal.specs.Marks.{Carries}
 use Rattle.qq_wal.specs.Wal.{StaysAppending, carries_ahead}
 use Rattle.qq_wal.specs.declared.wal.Wal.{Wal}
 use Rattle.qq_world.specs.Node.{Setup, Node, NodeEvent, Alike, Fails, node_happens, node_after, text_of}
@@ -20,7 +18,6 @@ use Rattle.qq_world.specs.Rules.{IsSync, IsWrite, OrFails, if_so, is_node_up, so
 use Rattle.qq_world.specs.World.{World, Writes, Syncs, Stops, is_up}
 use Rattle.qq_node_laws.specs.Linked.{IsLinked}
 use Rattle.qq_node_laws.specs.Reads.{IsReached, queues_of}
-use Rattle.qq_node_laws.specs.Serves.{Seen, Serves}
 use Rattle.qq_node_laws.specs.Traced.{IsTraced}
 use Rattle.qq_node_laws.specs.Waiting.{AreApart, ops_waiting, waiting}
 use Rattle.qq_node_laws.proofs.Both.{none-any}
@@ -33,8 +30,8 @@ use Rattle.qq_node.specs.Carried.{CarriesAre}
 use Rattle.qq_node.specs.Desks.{AllDo, HasSettled, all_waiting}
 use Rattle.qq_node.specs.Gather.{AllGoOn, add_ops}
 use Rattle.qq_node.specs.Log.{AppendsAll, HasCome, IsWhole, sync_events}
-use Rattle.qq_node.specs.Node.{AreDesks, IsLogAt, IsRunning, Served, Stands, disk_in, seen}
-use Rattle.qq_node.specs.Writing.{Appends, AppendsIn, HasAppended, MayAppend, MayAppendIn, MaySync, MaySyncIn, SameLog, Syncs as SyncsLog, SyncsIn}
+use Rattle.qq_node.specs.Node.{AreDesks, IsLogAt, IsRunning, Served, Stands, disk_in}
+use Rattle.qq_node.specs.Writing.{AppendsIn, HasAppended, MayAppendIn, MaySyncIn, SameLog, Syncs as SyncsLog, SyncsIn}
 use Rattle.qq_node.proofs.Carried.{carries-synced, carries-written, goes_on-waiting}
 use Rattle.qq_node.proofs.EachDesk.{all-desks, all-done, any-desks, as-many}
 use Rattle.qq_node.proofs.Moments.{sync-allowed, sync-caused, synced-traced, write_fails-traced, writes-traced}

@@ -2,20 +2,17 @@
 use Rattle.std.proofs.Common.{◌≡◌, ◌≢◌, ◌<◌, ◌≤◌, ◌+◌, ℕ, Bool, inl, inr, zero, suc, List, [], ◌∷◌, ◌++◌, length, get_or, drop, map, refl, sym, ap, ◌∙◌, subst, arith, append-nil}
 use Rattle.std.specs.Prelude.{Contains}
 use Rattle.std.proofs.lemmas.Bool.{cases_lt}
-use Rattle.std.proofs.lemmas.List.{drop-map}
 use Rattle.std.specs.List.{AllByRecursion}
 use Rattle.qq_base.specs.declared.ids.QueueId.{QueueId}
 use Rattle.qq_disk.specs.Disk.{Disk}
-use Rattle.qq_desk.specs.Desk.{DeskState}
 use Rattle.qq_world.specs.Node.{Setup, Node, NodeEvent, node_after}
-use Rattle.qq_world.specs.Rules.{ForEach, Then}
-use Rattle.qq_node_laws.specs.Reads.{IsReached, queue_at, queues_of}
-use Rattle.qq_node_laws.specs.Serves.{Leads}
+use Rattle.qq_world.specs.Rules.{ForEach}
+use Rattle.qq_node_laws.specs.Reads.{queue_at, queues_of}
 use Rattle.qq_node_laws.specs.Waiting.{AreApart}
-use Rattle.qq_node_laws.proofs.Serves.{leads-end, leads-more, leads-start}
+use Rattle.qq_node_laws.proofs.Serves.{leads-more, leads-start}
 use Rattle.qq_node.specs.declared.node.Node.{Node as Held}
-use Rattle.qq_node.specs.Node.{AreDesks, AtIndex, AtQueue, CanServe, HasPlace, IsQueueAt, LeadsFrom, Served, Stands}
-use Rattle.qq_node.proofs.EachDesk.{all-at, as-many, drop-at}
+use Rattle.qq_node.specs.Node.{AtIndex, AtQueue, CanServe, IsQueueAt, LeadsFrom, Served}
+use Rattle.qq_node.proofs.EachDesk.{as-many}
 use Rattle.qq_node.proofs.Stands.{served-both, served-nothing, served-weaker}
 
 -- ---- the place of a queue

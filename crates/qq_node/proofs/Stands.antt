@@ -1,5 +1,5 @@
 -- Which node is stood for behind a call, and what the call has served.
-use Rattle.std.proofs.Common.{◌≡◌, ◌≢◌, ◌<◌, ◌+◌, ℕ, suc, Bool, true, false, not, ◌&&◌, List, [], ◌∷◌, ◌++◌, length, get_or, drop, map, refl, sym, ap, ◌∙◌, subst, arith, append-nil, eq-eqb, ne_eqb}
+use Rattle.std.proofs.Common.{◌≡◌, ◌≢◌, ◌<◌, ◌+◌, ℕ, Bool, not, ◌&&◌, List, [], ◌∷◌, ◌++◌, length, get_or, drop, refl, sym, ap, ◌∙◌, subst, arith, append-nil, eq-eqb, ne_eqb}
 use Rattle.std.specs.Prelude.{if◌then◌else◌}
 use Rattle.std.specs.Global.{Vec}
 use Rattle.std.specs.List.{list_any, list_all}
@@ -13,9 +13,8 @@ use Rattle.qq_world.specs.World.{World, Event, Mutes, Ticks, Submits, Resends, W
 use Rattle.qq_world.proofs.Serving.{IsCalm, calm-part}
 use Rattle.qq_node_laws.proofs.Both.{same-any}
 use Rattle.qq_node_laws.specs.Quiet.{IsQuiet, IsUnseen}
-use Rattle.qq_node_laws.specs.Reads.{IsReached, queue_at, queues_of}
+use Rattle.qq_node_laws.specs.Reads.{IsReached}
 use Rattle.qq_node_laws.specs.Serves.{Seen, Serves}
-use Rattle.qq_node_laws.specs.Waiting.{AreApart}
 use Rattle.qq_node_laws.proofs.Promises.{reached-after}
 use Rattle.qq_node_laws.proofs.Serves.{serves-both, serves-nothing, serves-quiet, serves-weaker}
 use Rattle.qq_node.specs.declared.desks.Ask.{Ask}
@@ -26,7 +25,7 @@ use Rattle.qq_node.specs.declared.node.NodeLog.{NodeLog}
 use Rattle.qq_node.specs.declared.node.NodeLog.TheVariants.{Open, Closed}
 use Rattle.qq_node.specs.Desks.{AllDo, DoesAt, asked}
 use Rattle.qq_node.specs.Log.{IsWhole}
-use Rattle.qq_node.specs.Node.{AreDesks, AtIndex, AtQueue, CanServe, HasPlace, IsAt, IsDesk, IsLogAt, IsQueueAt, Served, Stands, disk_in, seen}
+use Rattle.qq_node.specs.Node.{AreDesks, AtIndex, CanServe, HasPlace, IsAt, IsDesk, IsLogAt, Served, Stands, disk_in, seen}
 use Rattle.qq_node.proofs.Carried.{carries-unseen}
 use Rattle.qq_node.proofs.EachDesk.{all-desks, all-done, any-desks, as-many, desk-at, drop-at, one-done, one-said}
 

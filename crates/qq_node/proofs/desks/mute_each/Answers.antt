@@ -1,6 +1,6 @@
 use Rattle.std.proofs.Common.{arith}
 use Rattle.qq_world.specs.World.{Mutes}
-use Rattle.qq_node.proofs.EachDesk.{first-all, first-more, first-none}
+use Rattle.qq_node.proofs.EachDesk.{first-more, first-none}
 use Rattle.qq_node.proofs.desks.mute_each.Goals as goal
 
 pub desks-init : goal.desks-init

@@ -1,5 +1,4 @@
-use Rattle.std.proofs.Common.{sym, subst, ◌∙◌, arith}
-use Rattle.qq_node.specs.Gather.{AllMayTake}
+use Rattle.std.proofs.Common.{arith}
 use Rattle.qq_node.proofs.EachGathers.{ahead-all, gathered-all, gathered-goes, gathered-more, gathered-none}
 use Rattle.qq_node.proofs.writing.gather_each.Goals as goal
 

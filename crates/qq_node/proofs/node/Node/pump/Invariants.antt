@@ -1,5 +1,3 @@
-use Rattle.std.proofs.Common.{◌≤◌}
-use Rattle.qq_world.specs.Rules.{most_rounds}
 use Rattle.qq_node.specs.Node.{Served}
 use Rattle.qq_node.proofs.Lines.{PumpLeads}
 use Rattle.qq_node.proofs.node.Node.pump.Given as goal

@@ -1,5 +1,5 @@
 use Rattle.qq_world.specs.Node.{Setup}
-use Rattle.qq_world.specs.Rules.{ForEach, IsNotice, IsRound, IsSync, IsWrite, Then}
+use Rattle.qq_world.specs.Rules.{ForEach, IsNotice, IsSync, IsWrite, Then}
 use Rattle.qq_node.proofs.Stands.{can-after, served-then}
 use Rattle.qq_node.proofs.node.Node.round.Goals as goal
 

@@ -1,4 +1,3 @@
-use Rattle.qq_world.specs.Node.{At}
 use Rattle.qq_world.specs.Rules.{IsLine, Send}
 use Rattle.qq_world.specs.World.{Submits}
 use Rattle.qq_node.specs.Node.{AtIndex, IsAt}
