@@ -68,8 +68,8 @@ every-has (q ∷ queues) lanes list id state are listed is =
   where
     by : (t : Bool) → eqb q.0 id.0 ≡ t → (o : Option Stable) → lanes q.0 ≡ o → (list : List Lane)
         → Begins (AreLanes queues (put lanes q.0 None)) q o list → (t || is_listed queues id) ≡ true
-        → ((list : List Lane) → AreLanes queues (put lanes q.0 None) list → is_listed queues id ≡ true → put lanes q.0 None id.0 ≡ Some state
-        → Has id list) → Has id list
+        → ((list : List Lane) → AreLanes queues (put lanes q.0 None) list → is_listed queues id ≡ true
+        → put lanes q.0 None id.0 ≡ Some state → Has id list) → Has id list
     by true e None none list are listed later =
         absurd (cc (sym none ∙ ap lanes (eqb-true q.0 id.0 e) ∙ is))
     by true e (Some s) some [] are listed later = absurd are

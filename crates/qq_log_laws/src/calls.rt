@@ -42,10 +42,11 @@ pub fn appends_and_syncs_stay_in_their_file<D: NodeDisk>()
 
 /// What an append takes of what waits, and what it leaves.
 ///
-/// - `batch`: the first ops that wait, at most 8,192 with at most 4,194,304 bytes, and as many as that allows.
+/// - `batch`: the first ops that wait, at most 8,192 with at most 4,194,304 bytes, and as many as that
+///   allows.
 /// - `size`: the file is longer by their bytes.
-/// - `lies`: what the log keeps of a queue says where its entries lie behind these ops: those that were kept lie
-///   where they lay, and the others in the file to which the log is written.
+/// - `lies`: what the log keeps of a queue says where its entries lie behind these ops: those that were kept
+///   lie where they lay, and the others in the file to which the log is written.
 pub fn an_append_takes_what_fits<D: NodeDisk>()
     ensures batch { (count : ℕ) (old new : Wal D) → Appends count old new →
         let waiting = old.waiting.items in let file = old.header.file in
@@ -69,7 +70,8 @@ pub fn an_append_takes_what_fits<D: NodeDisk>()
 /// - `size`: it has 38 bytes of header, and 78 for each queue that has ops.
 /// - `numbers`: the log's greatest number is the file's, and no other number was given.
 /// - `full`: as many bytes as before make it full.
-/// - `waits`: what was gathered waits on, each queue goes on where it stood, and is told what it was to be told.
+/// - `waits`: what was gathered waits on, each queue goes on where it stood, and is told what it was to be
+///   told.
 /// - `ready`: where nothing waited for a sync nothing does, and no call has failed: the next file may follow.
 /// - `entries`: each entry lies in the file where it lay.
 pub fn a_new_file_goes_on_from_the_old_one<D: NodeDisk>()

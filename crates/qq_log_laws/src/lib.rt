@@ -1,5 +1,5 @@
-//! Laws of a node's shared log: what the facts that its calls tell come to, so that none of them can be weakened
-//! alone.
+//! Laws of a node's shared log: what the facts that its calls tell come to, so that none of them can be
+//! weakened alone.
 #![tactic(auto)]
 
 mod begun;

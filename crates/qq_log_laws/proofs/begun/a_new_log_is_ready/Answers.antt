@@ -26,4 +26,5 @@ returns-clause-full g c = λ queues header carries names ranges log_bytes bytes 
 
 pub returns-clause-numbers : goal.returns-clause-numbers
 returns-clause-numbers g c = λ queues header carries names ranges log_bytes w file newer b has.
-    subst (λ (n : Numbers). file.number ≤ number_of file.kind n) (sym b.numbers) (first-above header names file newer has)
+    subst (λ (n : Numbers). file.number ≤ number_of file.kind n) (sym b.numbers)
+    (first-above header names file newer has)
