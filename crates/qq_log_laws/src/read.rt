@@ -2,11 +2,12 @@
 ghost use Rattle.std.specs.Prelude.{◌≡◌, ◌≤◌, ℕ, IsTrue, List, Ok, Err, Some, length, take, unwrap_or};
 ghost use Rattle.qq_base.specs.declared.ids.QueueId.{QueueId};
 ghost use Rattle.qq_disk.specs.declared.name.FileName.{FileName};
+ghost use Rattle.qq_disk.specs.Crash.{IsImage, Remains};
 ghost use Rattle.qq_disk.specs.Disk.{Disk, now};
 ghost use Rattle.qq_log.specs.declared.op.Op.{Op};
 ghost use Rattle.qq_log.specs.Stable.{new_state, stable};
 ghost use Rattle.qq_chain.specs.Lanes.{Lanes, of_queue};
-ghost use Rattle.qq_chain.specs.Laws.{KeepsPromise};
+ghost use Rattle.qq_chain.specs.Laws.{IsHonestImage, IsRecoverable, KeepsPromise, lanes_read as lanes_left};
 ghost use Rattle.qq_wal.specs.Running.{top};
 ghost use Rattle.qq_recover.specs.declared.fault.RecoverFault.TheVariants.{Damaged, Version};
 ghost use Rattle.qq_recover.specs.Reading.{lanes_read, shown};
@@ -50,6 +51,18 @@ pub fn a_readable_disk_gives_what_was_promised()
         (file : FileName) (place : ℕ) → IsReadable queues noticed given d →
         (lanes_read queues (shown d) ≡ Err (Damaged file place) → ⊥)
         × (lanes_read queues (shown d) ≡ Err (Version file place) → ⊥) }
+{
+    queues_get_their_first_ops();
+}
+
+/// Whatever a crash leaves, under the premise on what stands behind what was synced, gives each queue what so
+/// many of its first ops come to, no fewer than it was noticed of and no more than were given.
+pub fn each_image_gives_what_was_promised()
+    ensures { (queues : List QueueId) (bound : ℕ) (noticed given : List Op) (d : Disk) (i : Remains) →
+        IsRecoverable queues bound noticed given d → IsImage d i → IsHonestImage queues d i →
+        (lanes : Lanes) × (lanes_left queues bound i ≡ Some lanes) × ((id : ℕ) → (count : ℕ)
+        × (length (of_queue id noticed) ≤ count) × (count ≤ length (of_queue id given))
+        × (stable (take count (of_queue id given)) ≡ Some (unwrap_or (lanes id) new_state))) }
 {
     queues_get_their_first_ops();
 }
