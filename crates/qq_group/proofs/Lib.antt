@@ -1,0 +1,13 @@
+mod Audits
+mod Bags
+mod Following
+mod Inputs
+mod Notices
+mod Opening
+mod Promises
+mod Reached
+mod Seats
+mod Settles
+mod Stepped
+mod Taking
+mod Travel

@@ -1,0 +1,162 @@
+-- New groups, and what a restart makes of the states that a group stands for.
+use Rattle.std.proofs.Common.{◌≡◌, ℕ, ◌&&◌, Bool, true, false, leb, List, [], length, take, Option, Some, None, refl, sym, ap, subst, ◌∙◌, arith, inl, inr}
+use Rattle.std.specs.Prelude.{slice_get}
+use Rattle.std.proofs.lemmas.Bool.{cond-true, false≢true, le-leb}
+use Rattle.std.proofs.lemmas.List.{length-take}
+use Rattle.std.proofs.lemmas.List.Elements.{All-get_or}
+use Rattle.std.proofs.lemmas.Option.{slice_get_cases}
+use Rattle.qq_base.specs.declared.ids.NodeId.{NodeId}
+use Rattle.qq_base.specs.declared.ids.QueueId.{QueueId}
+use Rattle.qq_base.specs.declared.ids.Term.{Term}
+use Rattle.qq_entry.specs.declared.command.Entry.{Entry}
+use Rattle.qq_log.specs.Log.{LogState}
+use Rattle.qq_log.specs.Stable.{Stable, known_entries, stable}
+use Rattle.qq_raft.specs.Raft.{server_of, lane_of}
+use Rattle.qq_raft_step.specs.Server.{restart}
+use Rattle.qq_raft_step.specs.State.{Server as Raft}
+use Rattle.qq_server.specs.declared.server.Server.{Server}
+use Rattle.qq_group_model.specs.Group.{Group as GroupState, Seat as SeatState, happens, has_node, is_down, lane_with, may_restart, new_group, restart_by}
+use Rattle.qq_group_model.specs.Group.Event.{Restart}
+use Rattle.qq_server.specs.Stands.{StandsFor}
+use Rattle.qq_server.specs.Step.{new_state}
+use Rattle.qq_group.specs.Follows.{OthersStay}
+use Rattle.qq_group.specs.Group.{IsSeat, IsSeatBy, IsServed, HasReturned, IsReturned, Represents, server_at, server_by}
+use Rattle.qq_group.specs.Restarts.{AreEmpty, HasStarted, IsAllDown, IsEmpty, IsOpened, IsStarted, Restarts}
+use Rattle.qq_group.specs.Step.{ChangesSeat}
+use Rattle.qq_group.specs.declared.group.Group.{Group}
+use Rattle.qq_group.specs.declared.seat.Seat.{Seat}
+use Rattle.qq_group.proofs.Stepped.{changed-other, changed-own, is-down, represents-put}
+
+-- ---- new groups
+
+pub each-seat : {Q L : Type 0} (known : Bool) (xs : List (Seat Q L)) (P : Option (Seat Q L) → Type 0)
+    → AreEmpty known xs → P None → ((s : Seat Q L) → IsEmpty known s → P (Some s)) → (k : ℕ) → P (slice_get xs k)
+each-seat {Q = Q} {L = L} known xs P all none some k =
+    elim (slice_get_cases xs k).1 [
+      | inl found ↦ subst P (sym found.2)
+          (some found.0 (subst (IsEmpty known) found.3 (All-get_or (IsEmpty known) xs k found.0 found.1 all.each)))
+      | inr beyond ↦ subst P (sym beyond.1) none
+    ]
+
+pub empty-served : {P Q L : Type 0} (stands : P → Q → Type 0) (log : L → LogState) (index_of : Q → ℕ) (known : Bool)
+    (xs : List (Seat Q L)) → AreEmpty known xs → (k : ℕ) → IsServed stands log index_of (server_by (slice_get xs k))
+empty-served stands log index_of known xs all =
+    each-seat known xs (λ o. IsServed stands log index_of (server_by o)) all tt
+    (λ s e. subst (IsServed stands log index_of) (sym e.server) tt)
+
+pub empty-returned : {Q L : Type 0} (known : Bool) (xs : List (Seat Q L)) → AreEmpty known xs → (k : ℕ)
+    → HasReturned (slice_get xs k)
+empty-returned known xs all =
+    each-seat known xs (λ o. HasReturned o) all tt (λ s e. subst IsReturned (sym e.returned) tt)
+
+empty-numbers : {Q L : Type 0} (log : L → LogState) (known : Bool) (state : SeatState) (s : Seat Q L)
+    → IsEmpty known s → state.server ≡ None → (known ≡ true → (state.noticed ≡ 0) × (length state.ops ≡ 0))
+    → IsSeatBy log state s s.server
+empty-numbers log known state s e down zeros =
+    subst (IsSeatBy log state s) (sym e.server) (
+      down,
+      λ is.
+          record {
+            noticed = (zeros (sym e.known_is ∙ is)).0 ∙ sym e.noticed;
+            handed = (zeros (sym e.known_is ∙ is)).1 ∙ sym e.handed;
+          },
+    )
+
+pub opened : {Q L : Type 0} (log : L → LogState) (queue : QueueId) (nodes : List NodeId) (audit : List Entry)
+    (known : Bool) (g : GroupState) (group : Group Q L) → IsOpened queue nodes audit known group
+    → IsAllDown queue nodes audit g
+    → ((k : ℕ) → known ≡ true → ((g.seat k).noticed ≡ 0) × (length (g.seat k).ops ≡ 0)) → Represents log g group
+opened log queue nodes audit known g group o down zeros = record {
+  queue = down.queue_is ∙ sym o.queue_is;
+  nodes = down.nodes_is ∙ sym o.nodes_is;
+  bag = down.bag ∙ sym o.bag;
+  audit = down.audit_is ∙ sym o.audit_is;
+  seats = λ k. each-seat known group.seats.items (IsSeat log (g.seat k)) o.seats (down.seats k)
+      (λ s e. empty-numbers log known (g.seat k) s e (down.seats k) (zeros k)) k;
+}
+
+pub opened-new : {Q L : Type 0} (log : L → LogState) (queue : QueueId) (nodes : List NodeId) (group : Group Q L)
+    → IsOpened queue nodes [] true group → Represents log (new_group queue nodes) group
+opened-new log queue nodes group o =
+    opened log queue nodes [] true (new_group queue nodes) group o
+    (record { queue_is = refl; nodes_is = refl; seats = λ k. refl; bag = refl; audit_is = refl }) (λ k is. (refl, refl))
+
+pub opened-old : {Q L : Type 0} (log : L → LogState) (queue : QueueId) (nodes : List NodeId) (audit : List Entry)
+    (group : Group Q L) → IsOpened queue nodes audit false group → (g : GroupState)
+    → IsAllDown queue nodes audit g → Represents log g group
+opened-old log queue nodes audit group o g down =
+    opened log queue nodes audit false g group o down (λ k is. absurd (false≢true is))
+
+-- ---- restarts
+
+-- the server that the log's disk tells of
+restart-with : NodeId → List NodeId → QueueId → ℕ → Term → Option NodeId → List Entry → LogState → Raft
+restart-with node nodes queue op term vote entries l =
+    restart node nodes (record (lane_of queue l) { op = op; term = term; vote = vote; entries = entries })
+
+restarted : (node : NodeId) (g : GroupState) (l : LogState) (state : Stable) → state.op ≡ l.op → state.term ≡ l.term
+    → state.vote ≡ l.vote → known_entries state.log ≡ l.entries
+    → restart node g.nodes (lane_with g.queue state) ≡ restart node g.nodes (lane_of g.queue l)
+unfolding restart-with
+restarted node g l state op term vote entries =
+    ap (λ n. restart-with node g.nodes g.queue n state.term state.vote (known_entries state.log) l) op
+    ∙ ap (λ t. restart-with node g.nodes g.queue l.op t state.vote (known_entries state.log) l) term
+    ∙ ap (λ v. restart-with node g.nodes g.queue l.op l.term v (known_entries state.log) l) vote
+    ∙ ap (λ es. restart-with node g.nodes g.queue l.op l.term l.vote es l) entries
+
+and-true : (a b : Bool) → a ≡ true → b ≡ true → (a && b) ≡ true
+and-true true b p q = q
+and-true false b p q = absurd (false≢true p)
+
+pub restarts : {Q L : Type 0} (log : L → LogState) (node : NodeId) (l : LogState) (s : Server Q L)
+    (was : Seat Q L) (old new : Group Q L) → has_node node.0 old.nodes.items ≡ true
+    → server_at node.0 old ≡ None
+    → server_of log s.raft ≡ restart node old.nodes.items (lane_of old.queue l)
+    → ChangesSeat node.0 was (record { server = Some s; known = true; noticed = l.op; handed = l.op; returned = None }) old new
+    → new.bag ≡ old.bag → new.audit ≡ old.audit → Restarts log node.0 l old new
+restarts {Q = Q} {L = L} log node l s was old new member down made c bag audit = λ g r f.
+    let k = node.0 in
+    let may : may_restart k l.op g ≡ true =
+    and-true (is_down (g.seat k).server) _ (ap is_down (is-down log g k old r down))
+    (and-true (has_node k g.nodes) _ (ap (has_node k) r.nodes ∙ member)
+    (and-true (leb (g.seat k).noticed l.op) _ (le-leb (g.seat k).noticed l.op f.noticed)
+    (le-leb l.op (length (g.seat k).ops) f.handed))) in
+    let state : SeatState = record {
+      server = Some (restart (record { 0 = k }) g.nodes (lane_with g.queue f.state));
+      ops = take l.op (g.seat k).ops;
+      noticed = l.op;
+    } in
+    let now : Seat Q L = record { server = Some s; known = true; noticed = l.op; handed = l.op; returned = None } in
+    let same : happens (Restart k l.op) g ≡ restart_by k l.op (Some f.state) g =
+    cond-true (may_restart k l.op g) (restart_by k l.op (stable (take l.op (g.seat k).ops)) g) g may
+    ∙ ap (λ o. restart_by k l.op o g) f.is in
+    let server : restart node g.nodes (lane_with g.queue f.state) ≡ server_of log s.raft =
+    restarted node g l f.state f.op f.term f.vote f.entries
+    ∙ ap (λ q. restart node g.nodes (lane_of q l)) r.queue
+    ∙ ap (λ ns. restart node ns (lane_of old.queue l)) r.nodes ∙ sym made in
+    subst (λ h. Represents log h new) (sym same)
+    (represents-put log g k state was now g.bag g.audit old new r c
+    (ap Some server, record { noticed = refl; handed = omega (arith, length-take l.op (g.seat k).ops, f.handed) })
+    (r.bag ∙ sym bag) (r.audit ∙ ap (λ a. a.items) (sym audit)))
+
+-- the server that starts is put into its seat
+pub started-restarts : {Q L : Type 0} (log : L → LogState) (node : NodeId) (l : LogState) (op : ℕ) (s : Server Q L)
+    (old new : Group Q L) → op ≡ l.op → has_node node.0 old.nodes.items ≡ true → server_at node.0 old ≡ None
+    → server_of log s.raft ≡ restart node old.nodes.items (lane_of old.queue l) → IsStarted node.0 op s old new
+    → Restarts log node.0 l old new
+started-restarts log node l op s old new same member down made started =
+    let t = subst (λ n. IsStarted node.0 n s old new) same started in
+    restarts log node l s t.was old new member down made t.changes t.bag t.audit
+
+pub started-others : {Q L : Type 0} (k op : ℕ) (s : Server Q L) (old new : Group Q L) → IsStarted k op s old new
+    → OthersStay k old new
+started-others k op s old new t = λ q other. changed-other k q t.was _ old new t.changes other
+
+pub has-started : {P Q L : Type 0} (stands : P → Q → Type 0) (log : L → LogState) (raft : Raft) (machine : Q)
+    (k op : ℕ) (s : Server Q L) (old new : Group Q L) → IsStarted k op s old new
+    → ((queue : P) → stands queue machine → StandsFor stands log (new_state raft queue) s)
+    → HasStarted stands machine (server_at k new)
+has-started {Q = Q} {L = L} stands log raft machine k op s old new t made =
+    subst (λ (o : Option (Server Q L)). HasStarted stands machine o)
+    (sym (ap server_by (changed-own k t.was _ old new t.changes)))
+    (λ queue stood. ((made queue stood).queue, (made queue stood).applied, (made queue stood).rows))

@@ -1,0 +1,164 @@
+-- What an op that is handed out makes of the states that a group stands for.
+use Rattle.std.proofs.Common.{◌≡◌, ◌⊎◌, ℕ, ◌+◌, ◌≤◌, List, [], ◌∷◌, ◌++◌, length, drop, Some, None, refl, sym, ap, subst, ◌∙◌, length-append, arith, inl, inr}
+use Rattle.std.specs.Prelude.{slice_get}
+use Rattle.std.proofs.lemmas.Bool.{cases_eq}
+use Rattle.std.proofs.lemmas.Option.{none-some}
+use Rattle.qq_base.specs.declared.ids.NodeId.{NodeId}
+use Rattle.qq_base.specs.declared.ids.QueueId.{QueueId}
+use Rattle.qq_base.specs.declared.memory.TheConstants.{NUMBER_END}
+use Rattle.qq_log.specs.Log.{LogState}
+use Rattle.qq_log.specs.declared.op.Op.{Op}
+use Rattle.qq_raft.specs.Raft.{server_of}
+use Rattle.qq_raft_step.specs.State.{Server as Raft}
+use Rattle.qq_server.specs.declared.server.Server.{Server}
+use Rattle.qq_group_model.specs.Group.{Event, Group as GroupState, Seat as SeatState, from_new, happens, take_by, take_op}
+use Rattle.qq_group_model.specs.Group.Event.{Take}
+use Rattle.qq_group_model.specs.Promises.{AreDistinct, IsUp}
+use Rattle.qq_group.specs.Follows.{Follows, OthersStay}
+use Rattle.qq_group.specs.Group.{IsReached, IsSeat, Represents, server_at}
+use Rattle.qq_group.specs.Handing.{IsReseated, reseated}
+use Rattle.qq_group.specs.Step.{IsTaken, emptied}
+use Rattle.qq_group.specs.declared.group.Group.{Group}
+use Rattle.qq_group.specs.declared.seat.Seat.{Seat}
+use Rattle.qq_group.proofs.Stepped.{changed-other, changed-own, is-down, is-up, represents-with, taken-crashes}
+
+-- `a_log_was_handed_the_changes_of_its_server` of `qq_group_model`
+abbrev pub CountLaw : Type 0
+CountLaw =
+    (queue : QueueId) (nodes : List NodeId) (events : List Event) (k : ℕ) (s : Raft) → AreDistinct nodes
+    → IsUp (from_new queue nodes events) k s
+    → s.op ≡ length ((from_new queue nodes events).seat k).ops + length s.ops
+
+handed-count : CountLaw → (g : GroupState) (k : ℕ) (s : Raft) → IsReached g → IsUp g k s
+    → s.op ≡ length (g.seat k).ops + length s.ops
+handed-count law g k s r up =
+    subst (λ (h : GroupState). s.op ≡ length (h.seat k).ops + length s.ops) (sym r.is)
+    (law r.queue r.nodes r.events k s r.distinct (subst (λ (h : GroupState). IsUp h k s) r.is up))
+
+some-is : {A : Type 0} (x y : A) → Some x ≡ Some y → x ≡ y
+some-is x y e = grind (arith, e)
+
+first-op : (ops : List Op) (op : Op) → Some op ≡ slice_get ops 0 → ops ≡ op ∷ drop 1 ops
+first-op [] op is = absurd (none-some op (sym is))
+first-op (x ∷ ops) op is = ap (λ y. y ∷ ops) (grind (arith, is))
+
+taken-from : (k : ℕ) (s : Raft) (g : GroupState) (op : Op) (rest : List Op) → (g.seat k).server ≡ Some s
+    → s.ops ≡ op ∷ rest → happens (Take k) g ≡ take_by k s (op ∷ rest) g
+taken-from k s g op rest up is = ap (λ o. take_op k o g) up ∙ ap (λ ops. take_by k s ops g) is
+
+none-taken : (k : ℕ) (s : Raft) (g : GroupState) → (g.seat k).server ≡ Some s → s.ops ≡ []
+    → happens (Take k) g ≡ g
+none-taken k s g up is = ap (λ o. take_op k o g) up ∙ ap (λ ops. take_by k s ops g) is
+
+-- the seat of one member stands for the same, and the others stay
+again : {Q L : Type 0} (log : L → LogState) (g : GroupState) (k : ℕ) (old new : Group Q L) → Represents log g old
+    → IsSeat log (g.seat k) (slice_get new.seats.items k)
+    → ((i : ℕ) → (i ≡ k → ⊥) → slice_get new.seats.items i ≡ slice_get old.seats.items i) → new.queue ≡ old.queue
+    → new.nodes ≡ old.nodes → new.bag ≡ old.bag → new.audit ≡ old.audit → Represents log g new
+again log g k old new r own others queue nodes bag audit = record {
+  queue = r.queue ∙ sym queue;
+  nodes = r.nodes ∙ ap (λ v. v.items) (sym nodes);
+  bag = r.bag ∙ sym bag;
+  audit = r.audit ∙ ap (λ a. a.items) (sym audit);
+  seats = λ i. by i (cases_eq i k);
+}
+  where
+    by : (i : ℕ) → (i ≡ k) ⊎ (i ≡ k → ⊥) → IsSeat log (g.seat i) (slice_get new.seats.items i)
+    by i (inl same) =
+        subst (λ (j : ℕ). IsSeat log (g.seat j) (slice_get new.seats.items j)) (sym same) own
+    by i (inr other) = subst (IsSeat log (g.seat i)) (sym (others i other)) (r.seats i)
+
+no-ops : (ops : List Op) → None ≡ slice_get ops 0 → ops ≡ []
+no-ops [] is = refl
+no-ops (x ∷ ops) is = absurd (none-some x is)
+
+-- the next op is handed to the log
+pub handed-one : {Q L : Type 0} (log : L → LogState) → CountLaw → (k : ℕ) (s t : Server Q L) (op : Op)
+    (old mid new : Group Q L) → IsTaken k s old mid → (server_of log s.raft).op ≤ NUMBER_END
+    → Some op ≡ slice_get (server_of log s.raft).ops 0
+    → server_of log t.raft ≡ record (server_of log s.raft) { ops = drop 1 (server_of log s.raft).ops }
+    → IsReseated k 1 t mid new → Follows log (happens (Take k)) old new
+handed-one log law k s t op old mid new taken within next rest put = λ g reached r.
+    let view = server_of log s.raft in
+    let up = is-up log g k taken.seat s old r taken.changes.there taken.up in
+    let here : view.ops ≡ op ∷ drop 1 view.ops = first-op view.ops op next in
+    let same = taken-from k view g op (drop 1 view.ops) up.0 here in
+    let count = handed-count law g k view reached up.0 in
+    let crashed = taken-crashes log k s old mid taken g r in
+    let seat_is : put.seat ≡ emptied taken.seat =
+    some-is put.seat (emptied taken.seat)
+    (sym put.changes.there ∙ changed-own k taken.seat (emptied taken.seat) old mid taken.changes) in
+    let handed_is : put.seat.handed ≡ taken.seat.handed = ap (λ (x : Seat _ _). x.handed) seat_is in
+    let noticed_is : put.seat.noticed ≡ taken.seat.noticed = ap (λ (x : Seat _ _). x.noticed) seat_is in
+    let state : SeatState = record {
+      server = Some (record view { ops = drop 1 view.ops });
+      ops = (g.seat k).ops ++ op ∷ [];
+      noticed = (g.seat k).noticed;
+    } in
+    subst (λ h. Represents log h new) (sym same)
+    (represents-with log g k state put.seat (reseated 1 t put.seat) g.bag g.audit mid new crashed.queue crashed.nodes
+    (λ i other.
+    subst (IsSeat log (g.seat i)) (sym (changed-other k i taken.seat (emptied taken.seat) old mid taken.changes other))
+    (r.seats i))
+    put.changes (
+      ap Some (sym rest),
+      record {
+        noticed = up.1.noticed ∙ sym noticed_is;
+        handed = omega (
+          arith,
+          length-append (g.seat k).ops (op ∷ []),
+          up.1.handed,
+          handed_is,
+          count,
+          within,
+        );
+      },
+    )
+    (crashed.bag ∙ sym put.bag) (crashed.audit ∙ ap (λ a. a.items) (sym put.audit)))
+
+-- there is none
+pub handed-none : {Q L : Type 0} (log : L → LogState) → CountLaw → (k : ℕ) (s t : Server Q L)
+    (old mid new : Group Q L) → IsTaken k s old mid → (server_of log s.raft).op ≤ NUMBER_END
+    → None ≡ slice_get (server_of log s.raft).ops 0
+    → server_of log t.raft ≡ record (server_of log s.raft) { ops = drop 1 (server_of log s.raft).ops }
+    → IsReseated k 0 t mid new → Follows log (happens (Take k)) old new
+handed-none log law k s t old mid new taken within next rest put = λ g reached r.
+    let view = server_of log s.raft in
+    let up = is-up log g k taken.seat s old r taken.changes.there taken.up in
+    let none : view.ops ≡ [] = no-ops view.ops next in
+    let same = none-taken k view g up.0 none in
+    let count = handed-count law g k view reached up.0 in
+    let unchanged : server_of log t.raft ≡ view =
+    rest ∙ ap (λ ops. record view { ops = drop 1 ops }) none ∙ ap (λ ops. record view { ops = ops }) (sym none) in
+    let seat_is : put.seat ≡ emptied taken.seat =
+    some-is put.seat (emptied taken.seat)
+    (sym put.changes.there ∙ changed-own k taken.seat (emptied taken.seat) old mid taken.changes) in
+    let handed_is : put.seat.handed ≡ taken.seat.handed = ap (λ (x : Seat _ _). x.handed) seat_is in
+    let noticed_is : put.seat.noticed ≡ taken.seat.noticed = ap (λ (x : Seat _ _). x.noticed) seat_is in
+    subst (λ h. Represents log h new) (sym same)
+    (again log g k old new r
+    (subst (IsSeat log (g.seat k)) (sym (changed-own k put.seat (reseated 0 t put.seat) mid new put.changes)) (
+      up.0 ∙ ap Some (sym unchanged),
+      record {
+        noticed = up.1.noticed ∙ sym noticed_is;
+        handed = omega (arith, up.1.handed, handed_is, count, within);
+      },
+    ))
+    (λ i other.
+    changed-other k i put.seat (reseated 0 t put.seat) mid new put.changes other
+    ∙ changed-other k i taken.seat (emptied taken.seat) old mid taken.changes other)
+    (put.changes.queue ∙ taken.changes.queue) (put.changes.nodes ∙ taken.changes.nodes) (put.bag ∙ taken.bag)
+    (put.audit ∙ taken.audit))
+
+-- the member is down
+pub down-hands : {Q L : Type 0} (log : L → LogState) (k : ℕ) (old new : Group Q L) → new ≡ old
+    → server_at k old ≡ None → Follows log (happens (Take k)) old new
+down-hands log k old new same down = λ g reached r.
+    subst (λ h. Represents log h new) (sym (ap (λ o. take_op k o g) (is-down log g k old r down)))
+    (subst (Represents log g) (sym same) r)
+
+pub reseated-others : {Q L : Type 0} (k count : ℕ) (s t : Server Q L) (old mid new : Group Q L)
+    → IsTaken k s old mid → IsReseated k count t mid new → OthersStay k old new
+reseated-others k count s t old mid new taken put = λ q other.
+    changed-other k q put.seat (reseated count t put.seat) mid new put.changes other
+    ∙ changed-other k q taken.seat (emptied taken.seat) old mid taken.changes other

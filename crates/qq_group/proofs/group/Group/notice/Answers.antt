@@ -1,0 +1,14 @@
+use Rattle.std.proofs.Common.{sym}
+use Rattle.std.proofs.lemmas.Result.{on_ok_weaker}
+use Rattle.qq_raft_step.specs.Server.{Input}
+use Rattle.qq_group_model.specs.Group.{Event}
+use Rattle.qq_group.proofs.Following.{feeds-follows}
+use Rattle.qq_group.proofs.Notices.{notice-fed}
+use Rattle.qq_group.proofs.group.Group.notice.Goals as goal
+
+pub returns-clause-ok : goal.returns-clause-ok
+returns-clause-ok g c =
+    on_ok_weaker c.feed.result
+    (feeds-follows g.L.LogView.log c.what_a_group_committed_stays.ensures.audit c.args.node.0 (Input.Notice c.args.op)
+    (Event.Notice c.args.node.0 c.args.op) c.args.self.now c.feed.new.self
+    (λ h r. notice-fed g.L.LogView.log h c.args.node.0 c.args.op c.args.self.now r (sym c.if-lacks_op.ensures))) c.feed.ensures.ok

@@ -1,0 +1,36 @@
+use Rattle.std.proofs.Common.{◌+◌, ◌++◌, length, sym, ap, ◌∙◌, length-append}
+use Rattle.qq_raft_msg.specs.Rpc.{IsWritable}
+use Rattle.qq_raft.specs.Raft.{server_of}
+use Rattle.qq_raft_step.specs.State.{Server as Raft}
+use Rattle.qq_group.proofs.Bags.{all-more, front-one, moved, only-out, only-raft, full-with}
+use Rattle.qq_group.proofs.group.send_all.Goals as goal
+
+pub messages-preserved : goal.messages-preserved
+messages-preserved g c =
+    let log = g.L.LogView.log in
+    let inv = c.messages.invariant in
+    let sent = c.in-Some.ensures in
+    let rest = ap (λ (s : Raft). s.out) sent.rest in
+    record {
+      bag = moved c.messages.bag c.put.new.self (server_of log c.messages.server.raft).out
+          (server_of log c.next_rpc.new.self.raft).out
+          (c.args.bag.now ++ (server_of log c.args.server.now.raft).out) c.in-Some.rpc
+          c.in_default-put.ensures.ok sent.value rest inv.bag;
+      writable = all-more IsWritable c.messages.bag c.put.new.self c.in-Some.rpc c.in_default-put.ensures.ok inv.writable
+          sent.rpc;
+      front = front-one c.args.bag.now c.messages.bag c.put.new.self c.in-Some.rpc inv.front c.in_default-put.ensures.ok;
+      raft = only-out (server_of log c.args.server.now.raft) (server_of log c.messages.server.raft)
+          (server_of log c.next_rpc.new.self.raft) inv.raft sent.rest;
+      sound = sent.sound;
+      same = only-raft c.args.server.now c.messages.server c.next_rpc.new.self inv.same sent.same;
+    }
+
+pub returns-in-Err-clause-cause : goal.returns-in-Err-clause-cause
+returns-in-Err-clause-cause g c =
+    let log = g.L.LogView.log in
+    let inv = c.messages.invariant in
+    full-with c.in-Err.cause c.messages.bag (server_of log c.messages.server.raft).out c.in-Some.rpc
+    (length c.args.bag.now + length (server_of log c.args.server.now.raft).out)
+    c.in-Some.ensures.value
+    (sym (length-append c.messages.bag (server_of log c.messages.server.raft).out) ∙ ap length inv.bag
+    ∙ length-append c.args.bag.now (server_of log c.args.server.now.raft).out) c.in-Err.ensures.cause

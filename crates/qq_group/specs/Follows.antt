@@ -1,0 +1,55 @@
+-- What a call does to each state that the group stands for.
+use Rattle.std.specs.Prelude.{◌≡◌, ℕ, List, [], Option, Some, None, slice_get}
+use Rattle.qq_base.specs.Fronts.{IsFront}
+use Rattle.qq_log.specs.Log.{LogState}
+use Rattle.qq_raft_step.specs.Server.{Input}
+use Rattle.qq_server.specs.Stands.{state_of}
+use Rattle.qq_server.specs.Step.{ServerState}
+use Rattle.qq_server.specs.declared.row.AppliedRow.{AppliedRow}
+use Rattle.qq_server.specs.declared.server.Server.{Server}
+use Rattle.qq_group_model.specs.Group.{Group as GroupState, feed}
+use Rattle.qq_group.specs.Group.{Represents, IsReached}
+use Rattle.qq_group.specs.declared.group.Group.{Group}
+
+-- whichever state it stood for, it stands for what this makes of it
+abbrev pub Makes : {Q L : Type 0} → (L → LogState) → (GroupState → GroupState) → Group Q L → Group Q L → Type 0
+Makes log f old new = (g : GroupState) → Represents log g old → Represents log (f g) new
+
+-- whichever reached state it stood for, it stands for what this makes of it
+abbrev pub Follows : {Q L : Type 0} → (L → LogState) → (GroupState → GroupState) → Group Q L → Group Q L → Type 0
+Follows log f old new = (g : GroupState) → IsReached g → Represents log g old → Represents log (f g) new
+
+-- an input reaches a server: the next state is a reached one, whose audit is no shorter
+abbrev pub Feeds : {Q L : Type 0} → (L → LogState) → ℕ → Input → Group Q L → Group Q L → Type 0
+Feeds log k input old new =
+    (g : GroupState) → Represents log g old → IsReached (feed k input g) → IsFront g.audit (feed k input g).audit
+    → Represents log (feed k input g) new
+
+-- ---- the servers with their queues
+
+-- a server behind a step, with its queue, and the rows that it has shown
+pub record Shows {P Q L : Type 0} (stands : P → Q → Type 0) (made : ServerState P) (server : Server Q L)
+    (rows : List AppliedRow) : Type 0 where
+  pub queue : stands made.queue server.machine
+  pub applied : server.applied ≡ made.applied
+  pub rows_are : rows ≡ made.rows
+
+-- a server has made this step, and shown the rows of it, whichever state of the queue its machine stood for
+abbrev pub HasShown :
+    {P Q L : Type 0} → (P → Q → Type 0) → (L → LogState) → (ServerState P → ServerState P) → Server Q L
+    → Option (Server Q L) → List AppliedRow → Type 0
+HasShown stands log f old None rows = ⊥
+HasShown {P} stands log f old (Some new) rows =
+    (queue : P) → stands queue old.machine → Shows stands (f (state_of log queue old)) new rows
+
+-- where a member is down nothing is shown
+abbrev pub HasShownBy :
+    {P Q L : Type 0} → (P → Q → Type 0) → (L → LogState) → (ServerState P → ServerState P) → Option (Server Q L)
+    → Option (Server Q L) → List AppliedRow → Type 0
+HasShownBy stands log f None new rows = rows ≡ []
+HasShownBy stands log f (Some old) new rows = HasShown stands log f old new rows
+
+-- all members but one are as they were
+abbrev pub OthersStay : {Q L : Type 0} → ℕ → Group Q L → Group Q L → Type 0
+OthersStay k old new =
+    (q : ℕ) → (q ≡ k → ⊥) → slice_get new.seats.items q ≡ slice_get old.seats.items q

@@ -1,0 +1,93 @@
+-- What a group's code keeps, as the definition of a group has it.
+use Rattle.std.specs.Prelude.{◌≡◌, ◌+◌, ◌<◌, ◌^◌, ⊤, ℕ, true, List, length, All, Option, Some, None, slice_get}
+use Rattle.qq_base.specs.declared.ids.NodeId.{NodeId}
+use Rattle.qq_base.specs.declared.ids.QueueId.{QueueId}
+use Rattle.qq_log.specs.Log.{LogState}
+use Rattle.qq_log.specs.Writable.{MayWrite}
+use Rattle.qq_log.specs.declared.limits.TheConstants.{NODE_LIMIT}
+use Rattle.qq_log.specs.declared.op.Op.{Op}
+use Rattle.qq_raft.specs.Raft.{server_of}
+use Rattle.qq_raft_msg.specs.Rpc.{IsNode, IsWritable}
+use Rattle.qq_server.specs.Stands.{IsSound as IsSoundServer}
+use Rattle.qq_server.specs.declared.server.Server.{Server}
+use Rattle.qq_group_model.specs.Group.{Event, Group as GroupState, Seat as SeatState, from_new}
+use Rattle.qq_group_model.specs.Promises.{AreDistinct}
+use Rattle.qq_group.specs.declared.group.Group.{Group}
+use Rattle.qq_group.specs.declared.seat.Seat.{Seat}
+
+-- ---- seats
+
+abbrev pub server_by : {Q L : Type 0} → Option (Seat Q L) → Option (Server Q L)
+server_by None = None
+server_by (Some seat) = seat.server
+
+-- the server of a member, None while it is down
+abbrev pub server_at : {Q L : Type 0} → ℕ → Group Q L → Option (Server Q L)
+server_at k group = server_by (slice_get group.seats.items k)
+
+-- the numbers of a member's log
+pub record HasNumbers {Q L : Type 0} (state : SeatState) (seat : Seat Q L) : Type 0 where
+  pub noticed : state.noticed ≡ seat.noticed
+  pub handed : length state.ops ≡ seat.handed
+
+-- of a member that is down the numbers may be unknown
+abbrev pub IsSeatBy : {Q L : Type 0} → (L → LogState) → SeatState → Seat Q L → Option (Server Q L) → Type 0
+IsSeatBy log state seat None = (state.server ≡ None) × (seat.known ≡ true → HasNumbers state seat)
+IsSeatBy log state seat (Some s) = (state.server ≡ Some (server_of log s.raft)) × HasNumbers state seat
+
+abbrev pub IsSeat : {Q L : Type 0} → (L → LogState) → SeatState → Option (Seat Q L) → Type 0
+IsSeat log state None = state.server ≡ None
+IsSeat log state (Some seat) = IsSeatBy log state seat seat.server
+
+-- ---- groups
+
+-- A group stands for a state of the definition. What the logs were handed it knows by its length alone.
+pub record Represents {Q L : Type 0} (log : L → LogState) (g : GroupState) (group : Group Q L) : Type 0 where
+  pub queue : g.queue ≡ group.queue
+  pub nodes : g.nodes ≡ group.nodes.items
+  pub bag : g.bag ≡ group.bag
+  pub audit : g.audit ≡ group.audit.items
+  pub seats : (k : ℕ) → IsSeat log (g.seat k) (slice_get group.seats.items k)
+
+-- events lead to it, of a new group whose nodes differ
+pub record IsReached (g : GroupState) : Type 0 where
+  pub queue : QueueId
+  pub nodes : List NodeId
+  pub events : List Event
+  pub distinct : AreDistinct nodes
+  pub is : g ≡ from_new queue nodes events
+
+-- ---- what each call asks for and gives back
+
+-- a machine stands for some state
+abbrev pub HasState : {P Q : Type 0} → (P → Q → Type 0) → Q → Type 0
+HasState {P} stands machine = (state : P) × stands state machine
+
+-- a server that is up
+pub record IsServing {P Q L : Type 0} (stands : P → Q → Type 0) (log : L → LogState) (index_of : Q → ℕ)
+    (server : Server Q L) : Type 0 where
+  pub sound : IsSoundServer log index_of server
+  pub state : HasState stands server.machine
+
+abbrev pub IsServed :
+    {P Q L : Type 0} → (P → Q → Type 0) → (L → LogState) → (Q → ℕ) → Option (Server Q L) → Type 0
+IsServed stands log index_of None = ⊤
+IsServed stands log index_of (Some server) = IsServing stands log index_of server
+
+abbrev pub IsReturned : Option Op → Type 0
+IsReturned None = ⊤
+IsReturned (Some op) = MayWrite op
+
+abbrev pub HasReturned : {Q L : Type 0} → Option (Seat Q L) → Type 0
+HasReturned None = ⊤
+HasReturned (Some seat) = IsReturned seat.returned
+
+-- its servers are sound, what is on its way has bytes, and there is a seat for each node
+pub record IsSound {P Q L : Type 0} (stands : P → Q → Type 0) (log : L → LogState) (index_of : Q → ℕ)
+    (group : Group Q L) : Type 0 where
+  pub servers : (k : ℕ) → IsServed stands log index_of (server_at k group)
+  pub returned : (k : ℕ) → HasReturned (slice_get group.seats.items k)
+  pub bag : All IsWritable group.bag
+  pub nodes : All IsNode group.nodes.items
+  pub count : length group.nodes.items < 2 ^ 32
+  pub seats : length group.seats.items ≡ NODE_LIMIT + 1

@@ -1,0 +1,9 @@
+pub mod Events
+pub mod Follows
+pub mod Group
+pub mod Handing
+pub mod Input
+pub mod Reads
+pub mod Restarts
+pub mod Step
+pub mod Steps

@@ -1,0 +1,89 @@
+//! What holds of a group, whatever has happened in it.
+ghost use Rattle.std.specs.Prelude.{◌≡◌, ◌≤◌, ◌<◌, ℕ, List, Some, length, take, true};
+ghost use Rattle.qq_base.specs.Fronts.{IsFront};
+ghost use Rattle.qq_base.specs.declared.ids.NodeId.{NodeId};
+ghost use Rattle.qq_base.specs.declared.ids.QueueId.{QueueId};
+ghost use Rattle.qq_entry.specs.declared.command.Command.{Command};
+ghost use Rattle.qq_raft.specs.Raft.{server_of};
+ghost use Rattle.qq_raft_step.specs.Server.{is_ready};
+ghost use Rattle.qq_raft_step.specs.State.{last};
+ghost use Rattle.qq_raft_model.specs.Facts.{add};
+ghost use Rattle.qq_raft_model.specs.Safe.{IsSupported};
+ghost use Rattle.qq_raft_msg.specs.declared.state.Role.TheVariants.{Leader};
+ghost use Rattle.qq_server.specs.declared.server.Server.{Server};
+ghost use Rattle.qq_group_model.specs.Group.{Event, Group as GroupState, group_after, happens, new_group};
+ghost use Rattle.qq_group_model.specs.Promises.{AreDistinct, IsLeft, members_of};
+ghost use Rattle.qq_group.specs.Group.{IsReached, Represents, server_at};
+ghost use Rattle.qq_group.specs.declared.group.Group.{Group};
+
+use qq_group_model::{
+    a_term_does_not_fall, a_term_has_one_leader, an_answered_command_stays,
+    the_disks_support_the_audit, what_a_group_committed_stays,
+};
+use qq_raft_msg::{LogView, Queue};
+
+/// A law: a new group whose nodes differ is reached, and so is what any event makes of a reached one.
+pub fn events_reach_groups()
+    ensures first { (queue : QueueId) (nodes : List NodeId) → AreDistinct nodes →
+        IsReached (new_group queue nodes) }
+    ensures next { (g : GroupState) (e : Event) → IsReached g → IsReached (happens e g) }
+    ensures later { (g : GroupState) (events : List Event) → IsReached g →
+        IsReached (group_after g events) }
+{}
+
+/// A law: of the servers of a group, then and later, one leads a term at most (Ongaro's dissertation, section
+/// 3.4).
+pub fn one_server_leads_a_term<Q: Queue, L: LogView>()
+    ensures { (g : GroupState) (events : List Event) (old new : Group Q L) (p q : ℕ)
+        (s t : Server Q L) → IsReached g → Represents L.log g old →
+        Represents L.log (group_after g events) new → server_at p old ≡ Some s →
+        server_at q new ≡ Some t → s.raft.role ≡ Leader → t.raft.role ≡ Leader →
+        s.raft.term.0 ≡ t.raft.term.0 → p ≡ q }
+{
+    a_term_has_one_leader();
+}
+
+/// A law: what a server knows to be committed begins the audit, which only grows (section 3.6.3).
+pub fn what_is_committed_stays_in_the_audit<Q: Queue, L: LogView>()
+    ensures known { (g : GroupState) (group : Group Q L) (k : ℕ) (s : Server Q L) → IsReached g →
+        Represents L.log g group → server_at k group ≡ Some s →
+        IsFront (take s.raft.commit (L.log s.raft.log).entries) group.audit.items }
+    ensures grows { (g : GroupState) (events : List Event) (old new : Group Q L) → IsReached g →
+        Represents L.log g old → Represents L.log (group_after g events) new →
+        IsFront old.audit.items new.audit.items }
+{
+    what_a_group_committed_stays();
+}
+
+/// A law: whichever ops that weren't noticed a crash takes, the logs that are left support the audit
+/// (`the_disks_support_the_audit` of `qq_group_model` says what that is).
+pub fn the_logs_support_the_audit<Q: Queue, L: LogView>()
+    ensures { (g : GroupState) (group : Group Q L) → IsReached g → Represents L.log g group →
+        IsSupported (members_of g.nodes) (IsLeft g) group.audit.items }
+{
+    the_disks_support_the_audit();
+}
+
+/// A law: where a ready leader took a command, and a leader of its term, as it is mostly itself, later knows
+/// so many entries to be committed, the command stands in the audit behind the log that it was added to.
+pub fn an_answered_command_is_in_the_audit<Q: Queue, L: LogView>()
+    ensures { (g : GroupState) (events : List Event) (old new : Group Q L) (k p time : ℕ)
+        (command : Command) (s t : Server Q L) → IsReached g → Represents L.log g old →
+        Represents L.log (group_after (happens (Event.Submit k time command) g) events) new →
+        server_at k old ≡ Some s → is_ready (server_of L.log s.raft) ≡ true →
+        server_at p new ≡ Some t → t.raft.role ≡ Leader → t.raft.term.0 ≡ s.raft.term.0 →
+        last (server_of L.log s.raft) < t.raft.commit →
+        IsFront (add (L.log s.raft.log).entries
+        (record { term = s.raft.term; time = time; command = command })) new.audit.items }
+{
+    an_answered_command_stays();
+}
+
+/// A law: no event makes a server's term fall while it is up (section 3.3).
+pub fn the_term_of_a_server_does_not_fall<Q: Queue, L: LogView>()
+    ensures { (g : GroupState) (e : Event) (old new : Group Q L) (k : ℕ) (s t : Server Q L) →
+        Represents L.log g old → Represents L.log (happens e g) new → server_at k old ≡ Some s →
+        server_at k new ≡ Some t → s.raft.term.0 ≤ t.raft.term.0 }
+{
+    a_term_does_not_fall();
+}

@@ -1,0 +1,59 @@
+//! What a group tells of itself.
+ghost use Rattle.std.specs.Prelude.{◌≡◌, length, slice_get};
+ghost use Rattle.qq_raft_msg.specs.Bag.{at_place};
+ghost use Rattle.qq_group.specs.Group.{IsSound, server_at};
+ghost use Rattle.qq_group.specs.Reads.{handed_at, member_at, receiver_of};
+
+use crate::group::Group;
+use qq_base::NodeId;
+use qq_entry::Entry;
+use qq_raft_msg::{LogView, MemberState, Queue};
+
+impl<Q: Queue, L: LogView> Group<Q, L> {
+    /// The entries that were committed, in order. They only grow.
+    pub fn audit(&self) -> &[Entry]
+        ensures { result.now ≡ self.now.audit.items }
+    {
+        self.audit.as_slice()
+    }
+
+    /// How many messages are on their way.
+    pub fn messages(&self) -> u32
+        ensures { result ≡ length self.now.bag }
+    {
+        self.bag.len()
+    }
+
+    /// Whom the message at a place, from 1, is for. None exactly where there is none.
+    pub fn receiver(&self, place: u32) -> Option<NodeId>
+        ensures { result ≡ receiver_of (at_place place self.now.bag) }
+    {
+        match self.bag.get(place) {
+            None => None,
+            Some(rpc) => Some(rpc.envelope().to),
+        }
+    }
+
+    /// What a member's server tells of itself. None exactly where the member is down.
+    pub fn member(&self, node: NodeId) -> Option<MemberState>
+        requires { IsSound Q.stands L.log Q.applied self.now }
+
+        ensures { result ≡ member_at L.log (server_at node.0 self.now) }
+    {
+        match self.server(node) {
+            None => None,
+            Some(server) => Some(server.state()),
+        }
+    }
+
+    /// The greatest op that a member may be told to be durable, which is how many ops its log was handed. 0
+    /// where the member is down.
+    pub fn handed(&self, node: NodeId) -> u64
+        ensures { result ≡ handed_at (slice_get self.now.seats.items node.0) }
+    {
+        match self.seat(node) {
+            None => 0,
+            Some(seat) => seat.handed_up(),
+        }
+    }
+}
