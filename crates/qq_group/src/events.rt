@@ -38,8 +38,8 @@ impl<Q: Queue, L: LogView> Group<Q, L> {
         self.feed(alloc, node, Input::Tick)
     }
 
-    /// A client's command reaches a member at this time: a ready leader adds it to its log and sends it. After
-    /// an error the member has crashed, and nothing else has changed.
+    /// A client's command reaches a member at this time: a ready leader adds it to its log and sends it.
+    /// After an error the member has crashed, and nothing else has changed.
     pub fn submit(
         &mut self,
         alloc: Global,

@@ -36,9 +36,9 @@ impl<Q: Queue, L: LogView> Group<Q, L> {
         }
     }
 
-    /// A member is told that its log is durable up to an op (Ongaro's dissertation, section 10.2.1). An op that
-    /// its log wasn't handed changes nothing. After an error the member has crashed, and nothing else has
-    /// changed.
+    /// A member is told that its log is durable up to an op (Ongaro's dissertation, section 10.2.1). An op
+    /// that its log wasn't handed changes nothing. After an error the member has crashed, and nothing else
+    /// has changed.
     pub fn notice(&mut self, alloc: Global, node: NodeId, op: u64) -> Result<Shown, Memory>
         requires { IsSound Q.stands L.log Q.applied self.old }
 

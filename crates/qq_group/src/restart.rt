@@ -88,8 +88,8 @@ impl<Q: Queue, L: LogView> Group<Q, L> {
         })
     }
 
-    /// A group over new disks: all members are down, and nothing is on its way or committed. The only error is
-    /// `Memory::Want`, out of memory.
+    /// A group over new disks: all members are down, and nothing is on its way or committed. The only error
+    /// is `Memory::Want`, out of memory.
     pub fn new(alloc: Global, queue: QueueId, nodes: &[NodeId]) -> Result<Self, Memory>
         requires nodes { All IsNode nodes.now }
         requires count { length nodes.now < 2 ^ 32 }
@@ -101,8 +101,8 @@ impl<Q: Queue, L: LogView> Group<Q, L> {
         Group::open(alloc, queue, nodes, Vec::new(alloc), true)
     }
 
-    /// A group goes on over old disks with the audit that it had: all members are down, nothing is on its way,
-    /// and what their logs hold is taken as found at the first restart of each. The only error is
+    /// A group goes on over old disks with the audit that it had: all members are down, nothing is on its
+    /// way, and what their logs hold is taken as found at the first restart of each. The only error is
     /// `Memory::Want`, out of memory.
     pub fn resume(
         alloc: Global,
@@ -140,9 +140,9 @@ impl<Q: Queue, L: LogView> Group<Q, L> {
         seat.returned = None;
     }
 
-    /// A member that is down restarts with a machine that has applied nothing and the log that its disk holds.
-    /// `Lost` comes exactly where the log lost an op that was noticed, or has one that it wasn't handed, as far
-    /// as that is known. After an error the member stays down, and nothing has changed.
+    /// A member that is down restarts with a machine that has applied nothing and the log that its disk
+    /// holds. `Lost` comes exactly where the log lost an op that was noticed, or has one that it wasn't
+    /// handed, as far as that is known. After an error the member stays down, and nothing has changed.
     pub fn restart(
         &mut self,
         alloc: Global,
@@ -188,8 +188,8 @@ impl<Q: Queue, L: LogView> Group<Q, L> {
         Ok(())
     }
 
-    /// The op that a member was noticed of, where a log with this last op lost it, or has one that the member's
-    /// log wasn't handed. None exactly where neither is so.
+    /// The op that a member was noticed of, where a log with this last op lost it, or has one that the
+    /// member's log wasn't handed. None exactly where neither is so.
     fn lost(&self, node: NodeId, op: u64) -> Option<u64>
         ensures some { IfSome result (λ noticed.
             (is_lost (slice_get self.now.seats.items node.0) op ≡ true)
