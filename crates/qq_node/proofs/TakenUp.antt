@@ -15,6 +15,7 @@ use Rattle.qq_chain.specs.Lanes.{Lanes}
 use Rattle.qq_log.specs.declared.lane.Lane.{Lane}
 use Rattle.qq_log.specs.Stable.{Stable}
 use Rattle.qq_recover.specs.declared.fault.RecoverFault.{RecoverFault}
+use Rattle.qq_recover.specs.Answer.{Answer}
 use Rattle.qq_recover.specs.Recovered.{IsAtEnd, IsLaneFor}
 use Rattle.qq_wal.specs.Running.{StaysWhole}
 use Rattle.qq_world.specs.Node.{Setup, Node, NodeEvent, Fails, FindsEach, node_happens}
@@ -32,7 +33,7 @@ use Rattle.qq_node.specs.declared.restarting.RestartFault.{RestartFault}
 use Rattle.qq_node.specs.declared.restarting.RestartFault.TheVariants as restart_fault
 use Rattle.qq_node.specs.Found.{AllTakeUpTold, AreLanes, FailsLinked, HasFound, as_told}
 use Rattle.qq_node.specs.Node.{AreDesks, Served, Stands, disk_in}
-use Rattle.qq_node.specs.Restarting.{AllTake, GoesOnWith, IsLinkedTo, IsLostOf, IsOfMemory, IsRestartCaused, IsTakeAllCaused, SomeIsLost, StopsWith, TakesUp}
+use Rattle.qq_node.specs.Restarting.{AllTake, GoesOnWith, IsLinkedTo, IsLostOf, IsOfMemory, IsRefusedBy, IsRestartCaused, IsTakeAllCaused, SomeIsLost, StopsWith, TakesUp}
 use Rattle.qq_node.proofs.Carried.{may_restart-all}
 use Rattle.qq_node.proofs.EachDesk.{all-done, as-many}
 use Rattle.qq_node.proofs.Finding.{lane-told}
@@ -285,3 +286,11 @@ module _ {D : Type 0} (tells : D → Bool) (past : D → List Disk) (faults : D 
           (subst (λ (l : List QueueId). AreLanes l found.lanes f.lanes.items) same found.each)
           (found.finds told_ setup n same r down link).taken_up cause
       by (restart_fault.Memory memory) cause = tt
+
+-- what queues may not take up, the files don't refuse
+pub takes-refused : (read : Answer Lanes) (desks : List DeskState) (found : List (Option Lane)) (fault : RestartFault)
+    → IsTakeAllCaused desks found fault → IsRefusedBy read fault
+takes-refused read desks found (restart_fault.Damaged file place) cause = absurd cause
+takes-refused read desks found (restart_fault.Version file byte) cause = absurd cause
+takes-refused read desks found (restart_fault.Lost name noticed op) cause = tt
+takes-refused read desks found (restart_fault.Memory memory) cause = tt

@@ -1,5 +1,5 @@
 -- How a node is opened, crashed and restarted.
-use Rattle.std.specs.Prelude.{◌≡◌, ◌≤◌, ◌⊎◌, ℕ, Bool, false, List, [], ◌∷◌, ◌++◌, Option, IsTrue, codes}
+use Rattle.std.specs.Prelude.{◌≡◌, ◌≤◌, ◌⊎◌, ℕ, Bool, false, List, [], ◌∷◌, ◌++◌, Option, Err, IsTrue, codes}
 use Rattle.std.specs.Global.{Vec}
 use Rattle.qq_base.specs.declared.ids.QueueId.{QueueId}
 use Rattle.qq_base.specs.declared.memory.Memory.TheVariants.{Want}
@@ -7,10 +7,13 @@ use Rattle.qq_desk.specs.Desk.{DeskState, IsSameQueue, world_of}
 use Rattle.qq_desk.specs.Taking.{told}
 use Rattle.qq_disk.specs.declared.image.Image.{Image}
 use Rattle.qq_disk.specs.Disk.{Disk, now}
+use Rattle.qq_chain.specs.Lanes.{Lanes}
 use Rattle.qq_log.specs.declared.lane.Lane.{Lane}
 use Rattle.qq_log.specs.Stable.{Stable}
 use Rattle.qq_recover.specs.declared.fault.RecoverFault.{RecoverFault}
 use Rattle.qq_recover.specs.declared.fault.RecoverFault.TheVariants as recover_fault
+use Rattle.qq_recover.specs.Answer.{Answer}
+use Rattle.qq_recover.specs.Reading.{lanes_read, shown}
 use Rattle.qq_recover.specs.Recovered.{IsAtEnd}
 use Rattle.qq_world.specs.Node.{Setup, Node, Crashes, new_node, node_happens}
 use Rattle.qq_world.specs.Promise.{MayTakeUp}
@@ -137,6 +140,17 @@ IsOfMemory (restart_fault.Damaged file place) = ⊥
 IsOfMemory (restart_fault.Version file byte) = ⊥
 IsOfMemory (restart_fault.Lost name noticed found) = ⊥
 IsOfMemory (restart_fault.Memory memory) = Unit {0}
+
+-- it is the first place where what the files hold breaks the rules, or their version, or none of both
+abbrev pub IsRefusedBy : Answer Lanes → RestartFault → Type 0
+IsRefusedBy read (restart_fault.Damaged file place) = read ≡ Err (recover_fault.Damaged file place)
+IsRefusedBy read (restart_fault.Version file byte) = read ≡ Err (recover_fault.Version file byte)
+IsRefusedBy read (restart_fault.Lost name noticed found) = Unit {0}
+IsRefusedBy read (restart_fault.Memory memory) = Unit {0}
+
+-- what recovery reads of a node's disk as it is now
+abbrev pub lanes_in : {D : Type 0} → (D → List Disk) → Held D → Answer Lanes
+lanes_in past node = lanes_read node.queues.items (shown (now (past (disk_in node.log))))
 
 -- the disk tells its contents, and is linked to a node
 abbrev pub IsLinkedTo : {D : Type 0} → (D → Bool) → (D → List Disk) → Setup → Node → Held D → Type 0

@@ -1,5 +1,5 @@
 //! A node is restarted.
-ghost use Rattle.std.specs.Prelude.{◌≡◌, ◌≤◌, false, length, IfOk, IfErr, OnOk, IsOkUnless};
+ghost use Rattle.std.specs.Prelude.{◌≡◌, ◌≤◌, false, length, IsTrue, IfOk, IfErr, OnOk, IsOkUnless};
 ghost use Rattle.std.specs.List.{list_all};
 ghost use Rattle.qq_desk.specs.Desk.{DeskState, world_of};
 ghost use Rattle.qq_desk.specs.Taking.{told};
@@ -7,8 +7,8 @@ ghost use Rattle.qq_world.specs.Node.{Setup, Node as World};
 ghost use Rattle.qq_world.specs.Rules.{IsRestart, is_node_up};
 ghost use Rattle.qq_world.specs.World.{is_up};
 ghost use Rattle.qq_node_laws.specs.Reads.{IsReached, AreDown};
-ghost use Rattle.qq_node.specs.Node.{CanServe, Served, Stands};
-ghost use Rattle.qq_node.specs.Restarting.{AllTake, IsLinkedTo, IsOfMemory, IsRestartCaused, IsTakeAllCaused, IsTakeCaused, GoesOnWith, StopsWith, TakesUp};
+ghost use Rattle.qq_node.specs.Node.{CanServe, Served, Stands, disk_in};
+ghost use Rattle.qq_node.specs.Restarting.{AllTake, IsLinkedTo, IsOfMemory, IsRefusedBy, IsRestartCaused, IsTakeAllCaused, IsTakeCaused, GoesOnWith, StopsWith, TakesUp, lanes_in};
 
 use crate::crashing::into_disk;
 use crate::desks::Desks;
@@ -185,6 +185,8 @@ fn recover_node<D: NodeDisk>(
     ensures never { (setup : Setup) (n : World) → IsReached setup n →
         Stands D.tells D.past setup node n → IsLinkedTo D.tells D.past setup n node →
         AreDown setup n → IfErr result IsOfMemory }
+    ensures refused { IsTrue (D.tells (disk_in node.log)) →
+        IfErr result (IsRefusedBy (lanes_in D.past node)) }
 {
     let Node {
         desks,
@@ -209,7 +211,7 @@ fn recover_node<D: NodeDisk>(
 /// Restarts a node: its log is recovered, and each queue takes up what was found of it. If the disk fails,
 /// the node stays stopped and says so. A node that is up stays as it is. After an error it is given up.
 ///
-/// `Damaged` and `Version` come where the log's files break its rules, `Lost` where a queue may not take up
+/// `Damaged` and `Version` come where the log's files break its rules, at the first place, `Lost` where a queue may not take up
 /// what was found of it, with that queue's name. `Spent` comes only where a number of a log file stands at
 /// its end. Where the disk tells its contents and is linked to the node, whose queues are stopped together,
 /// no error comes but that one and want of memory (`never`).
@@ -226,6 +228,8 @@ pub fn restart_node<D: NodeDisk>(
     ensures never { (setup : Setup) (n : World) → IsReached setup n →
         Stands D.tells D.past setup node n → IsLinkedTo D.tells D.past setup n node →
         (is_node_up setup n ≡ false → AreDown setup n) → IfErr result IsOfMemory }
+    ensures refused { IsTrue (D.tells (disk_in node.log)) →
+        IfErr result (IsRefusedBy (lanes_in D.past node)) }
 {
     if node.is_up() {
         return Ok(node);

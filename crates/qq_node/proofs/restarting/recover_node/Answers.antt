@@ -2,8 +2,9 @@ use Rattle.std.proofs.Common.{◌∙◌, sym, subst}
 use Rattle.std.proofs.lemmas.Result.{IfErr-weaker, IfOk-weaker}
 use Rattle.qq_recover.specs.Recovered.{IsRecoverCaused}
 use Rattle.qq_node.specs.Found.{AreDistinct}
+use Rattle.qq_node.specs.Restarting.{lanes_in}
 use Rattle.qq_node.proofs.Carried.{apart-distinct}
-use Rattle.qq_node.proofs.TakenUp.{lanes-many, restart-caused, restarted, stopped, takes-never}
+use Rattle.qq_node.proofs.TakenUp.{lanes-many, restart-caused, restarted, stopped, takes-never, takes-refused}
 use Rattle.qq_node.proofs.restarting.recover_node.Goals as goal
 
 pub recover_log-requires-clause-apart : goal.recover_log-requires-clause-apart
@@ -58,3 +59,9 @@ returns-in-Ok-clause-never g c = λ setup n r st linked down.
     takes-never g.D.NodeDisk.tells g.D.NodeDisk.past g.D.NodeDisk.faults setup n c.args.node c.into_disk.result
     c.in-Ok.found c.deref.result.now c.args.node.log_bytes fault c.into_disk.ensures c.deref.ensures.value r st linked
     down c.in-Ok.ensures.ok cause) c.go_on.ensures.cause
+
+pub returns-in-Ok-clause-refused : goal.returns-in-Ok-clause-refused
+returns-in-Ok-clause-refused g c = λ tell.
+    IfErr-weaker c.go_on.result _ _ (λ fault cause.
+    takes-refused (lanes_in g.D.NodeDisk.past c.args.node) c.args.node.desks c.in-Ok.found.lanes.items fault cause)
+    c.go_on.ensures.cause
