@@ -1,8 +1,4 @@
-mod Prefixes
-mod ScriptLines
-mod Lines
-mod Serving
-mod Going
-mod Closings
-mod Logs
-mod Statuses
+mod Plain
+mod Desks
+mod Asked
+mod Served

@@ -1,7 +1,2 @@
-pub mod Endings
-pub mod Script
-pub mod Outcome
-pub mod Answered
-pub mod Statuses
-pub mod Steady
-pub mod Stops
+pub mod Queues
+pub mod Nodes

@@ -1,15 +1,11 @@
-//! The broker: one queue in memory, and the top call that serves a script.
+//! The program's top call: a node is opened over a disk of a yard, and serves a script's lines.
 #![tactic(auto)]
 
-mod audit;
-mod broker;
-mod ending;
+mod asking;
 mod laws;
 mod program;
-pub mod status;
-mod stop;
+mod queues;
+mod serving;
 
-pub use laws::{
-    a_command_is_an_entry, a_script_has_ten_million_lines, a_status_tells_what_was_done,
-};
+pub use laws::runs_have_queues_of_their_own;
 pub use program::run;

@@ -1,115 +1,186 @@
-ghost use Rattle.std.specs.Prelude.{◌≡◌, ◌≤◌, ℕ, List, [], map, string_bytes, IfErr, IfSome, OnOk};
-ghost use Rattle.std.specs.Io.KnownBytes.{Appends, IsAtEnd};
+ghost use Rattle.std.specs.Prelude.{◌≡◌, ◌≤◌, ◌<◌, ◌++◌, ℕ, List, [], Some, map, string_bytes, IfOk, IfErr, IfSome, OnOk, OnErr};
+ghost use Rattle.std.specs.Io.KnownBytes.{Appends};
 ghost use Rattle.qq_base.specs.Causes.{Rose};
-ghost use Rattle.qq_broker.specs.declared.status.TheConstants.{DONE};
-ghost use Rattle.qq_broker.specs.Script.{script_of};
-ghost use Rattle.qq_broker.specs.Answered.{CarriesOutOnce};
-ghost use Rattle.qq_broker.specs.Outcome.{first_run, outcome};
-ghost use Rattle.qq_broker.specs.Stops.{is_script, Goes, IsDone, HasStopped, Closes, RunEnds};
+ghost use Rattle.qq_calls.specs.Queues.{node_setup};
+ghost use Rattle.qq_world.specs.Node.{Node as World, audits_text};
+ghost use Rattle.qq_program.specs.Answers.{Answers, HasAnswerCause, IsServedToEnd, IsPlain};
+ghost use Rattle.qq_program.specs.Pieces.{HasSomePrefix, HasPrintCause};
+ghost use Rattle.qq_options.specs.Words.{read_options};
+ghost use Rattle.qq_program.specs.declared.status.TheConstants.{DONE};
+ghost use Rattle.qq_program.specs.Runs.{HasStopped, IsDone, Closes, HasRun, RunEnds};
+ghost use Rattle.qq_broker.specs.Nodes.{IsNodeOf};
+ghost use Rattle.qq_program.specs.Service.{IsReached, HasOpened};
 
-use crate::audit::write_audit;
-use crate::broker::Broker;
-use crate::ending::Ending;
-use crate::status::{DONE, WRITE_FAULT};
-use crate::stop::{PrintFault, Stop};
+use crate::serving::{open, serve};
+use qq_calls::a_line_names_what_is_there;
+use qq_defs::Setup;
+use qq_disk::NodeDisk;
+use qq_node::Node;
+use qq_options::{Options, read_options};
 use qq_ports::{LineFault, Lines, Sink, Source, lines_law, next_line, write_all};
-use qq_session::commands_are_answered_once;
+use qq_program::status::{DONE, WRITE_FAULT};
+use qq_program::{
+    AskStop, Ending, LINES_LIMIT, PrintFault, Stop, add_audit, ask, refuse_long_line,
+};
+use qq_yards::Yard;
 use std::alloc::Global;
 
-fn is_script(words: &[String]) -> bool
-    ensures { result ≡ is_script (map string_bytes words.now) }
+// Reads a line that has so many before it, and serves it.
+fn answer<Y: Yard>(
+    alloc: Global,
+    setup: &Setup,
+    node: Node<Y::Disk>,
+    yard: &mut Y,
+    before: u64,
+    line: &[u8],
+    text: &mut Vec<u8>,
+) -> Result<Node<Y::Disk>, AskStop>
+    requires plain { IsPlain setup.now }
+    requires stands { (n : World) × IsReached (node_setup setup.now.queues) n
+        × IsNodeOf Y.Disk.tells Y.Disk.past (node_setup setup.now.queues) node n }
+    ensures ok { (n : World) → IsReached (node_setup setup.now.queues) n
+        → IsNodeOf Y.Disk.tells Y.Disk.past (node_setup setup.now.queues) node n
+        → IfOk result (λ next.
+        Answers setup.now (record { lines = before; node = n }) (Some line.now)
+        (IsNodeOf Y.Disk.tells Y.Disk.past (node_setup setup.now.queues) next)
+        text.old.items text.new.items) }
+    ensures within { IfOk result (λ _. before < LINES_LIMIT) }
+    ensures cause { (n : World) → IsReached (node_setup setup.now.queues) n
+        → IsNodeOf Y.Disk.tells Y.Disk.past (node_setup setup.now.queues) node n
+        → IfErr result (λ stop.
+        HasAnswerCause (Rose (Y.faults yard.old) (Y.faults yard.new)) setup.now
+        (record { lines = before; node = n }) (Some line.now) stop) }
+    ensures later { Y.faults yard.old ≤ Y.faults yard.new }
 {
-    match words {
-        [word] => word.as_str() == "script",
-        _ => false,
+    a_line_names_what_is_there();
+    match ask(alloc, setup, before, line) {
+        Ok(call) => serve::<Y>(alloc, node, yard, call, text),
+        Err(stop) => Err(stop),
     }
 }
 
-// Serves the lines of the input to its end. Each answer is written before the next line is read: whoever
-// types the script sees it.
-fn serve_lines<I: Source, O: Sink>(
+// Serves the lines of the input to its end. What the node's opening has printed stands in the text. Each
+// answer is written before the next line is read: whoever types the script sees it.
+fn serve_lines<Y: Yard, I: Source, O: Sink>(
     alloc: Global,
-    broker: &mut Broker,
+    setup: &Setup,
+    mut node: Node<Y::Disk>,
+    yard: &mut Y,
+    text: &mut Vec<u8>,
+    input: &mut I,
+    output: &mut O,
+) -> Result<Node<Y::Disk>, Stop>
+    requires plain { IsPlain setup.now }
+    requires opened { HasOpened (node_setup setup.now.queues)
+        (IsNodeOf Y.Disk.tells Y.Disk.past (node_setup setup.now.queues) node)
+        [] text.old.items }
+    ensures ok { IfOk result (λ after. IsServedToEnd setup.now
+        (IsNodeOf Y.Disk.tells Y.Disk.past (node_setup setup.now.queues) after)
+        (I.left input.old) (I.left input.new)
+        (O.written output.old) (O.written output.new)) }
+    ensures cause { IfErr result (λ stop. HasStopped stop setup.now (I.left input.old)
+        (I.left input.new) (O.written output.old) (O.written output.new)
+        (Rose (I.faults input.old) (I.faults input.new))
+        (Rose (O.faults output.old) (O.faults output.new))
+        (Rose (Y.faults yard.old) (Y.faults yard.new)) []) }
+    ensures source_later { I.faults input.old ≤ I.faults input.new }
+    ensures sink_later { O.faults output.old ≤ O.faults output.new }
+    ensures yard_later { Y.faults yard.old ≤ Y.faults yard.new }
+{
+    lines_law();
+    let mut lines = Lines::new();
+    let mut served: u64 = 0;
+    'lines: loop {
+        if let Err(_) = write_all(output, text) {
+            return Err(Stop::WriteFault);
+        }
+        text.clear();
+        let line = match next_line(alloc, input, &mut lines) {
+            Ok(Some(line)) => line,
+            Ok(None) => return Ok(node),
+            Err(LineFault::Failed) => return Err(Stop::ReadFault),
+            Err(LineFault::TooLong { .. }) => {
+                return Err(Stop::Ended(refuse_long_line(served)));
+            }
+            Err(LineFault::Memory(_)) => return Err(Stop::NoMemory),
+        };
+        match answer::<Y>(alloc, setup, node, yard, served, line.as_slice(), text) {
+            Ok(next) => node = next,
+            Err(stop) => return Err(Stop::from(stop)),
+        }
+        served += 1;
+    }
+}
+
+// Writes the audits of all queues. `text` is room for their pieces.
+fn write_audits<D: NodeDisk, O: Sink>(
+    alloc: Global,
+    setup: &Setup,
+    node: &Node<D>,
+    text: &mut Vec<u8>,
+    output: &mut O,
+) -> Result<(), PrintFault>
+    requires stands { (n : World)
+        × IsNodeOf D.tells D.past (node_setup setup.now.queues) node.now n }
+    requires plain { IsPlain setup.now }
+    ensures ok { (n : World) →
+        IsNodeOf D.tells D.past (node_setup setup.now.queues) node.now n
+        → OnOk result (Appends (O.written output.old) (O.written output.new)
+        (audits_text (node_setup setup.now.queues) n)) }
+    ensures err { (n : World) →
+        IsNodeOf D.tells D.past (node_setup setup.now.queues) node.now n
+        → OnErr result (HasSomePrefix (O.written output.old) (O.written output.new)
+        (audits_text (node_setup setup.now.queues) n)) }
+    ensures cause { IfErr result (λ fault.
+        HasPrintCause fault (Rose (O.faults output.old) (O.faults output.new))) }
+    ensures later { O.faults output.old ≤ O.faults output.new }
+{
+    text.clear();
+    let rows = setup.queues.as_slice();
+    for row in rows {
+        match add_audit(alloc, &row.name, node.rows(row.args.queue), text, output) {
+            Ok(()) => {}
+            Err(fault) => return Err(fault),
+        }
+    }
+    match write_all(output, text) {
+        Ok(()) => Ok(()),
+        Err(_) => Err(PrintFault::Failed),
+    }
+}
+
+// Serves a script over a node that was opened, and writes the audits.
+fn serve_script<Y: Yard, I: Source, O: Sink>(
+    alloc: Global,
+    setup: &Setup,
+    node: Node<Y::Disk>,
+    yard: &mut Y,
     text: &mut Vec<u8>,
     input: &mut I,
     output: &mut O,
 ) -> Result<(), Stop>
-    requires { broker.old ≡ first_run }
-    ensures ended { OnOk result (IsAtEnd (I.left input.new)) }
-    ensures ok { OnOk result (IfSome (I.left input.old) (λ bytes.
-        Goes (script_of bytes) broker.new [] (O.written output.old) (O.written output.new))) }
-    ensures cause { IfErr result (λ stop. HasStopped stop (I.left input.old) (I.left input.new)
-        (O.written output.old) (O.written output.new)
-        (Rose (I.faults input.old) (I.faults input.new))
-        (Rose (O.faults output.old) (O.faults output.new)) []) }
-    ensures source_later { I.faults input.old ≤ I.faults input.new }
-    ensures sink_later { O.faults output.old ≤ O.faults output.new }
-{
-    lines_law();
-    let mut lines = Lines::new();
-    'lines: loop {
-        let line = match next_line(alloc, input, &mut lines) {
-            Ok(Some(line)) => line,
-            Ok(None) => return Ok(()),
-            Err(LineFault::Failed) => return Err(Stop::ReadFault),
-            Err(LineFault::TooLong { .. }) => {
-                return Err(Stop::Ended(broker.refuse_line()));
-            }
-            Err(LineFault::Memory(_)) => return Err(Stop::NoMemory),
-        };
-        text.clear();
-        match broker.answer_line(alloc, line.as_slice(), text) {
-            Ok(()) => {}
-            Err(stop) => return Err(Stop::from(stop)),
-        }
-        if let Err(_) = write_all(output, text) {
-            return Err(Stop::WriteFault);
-        }
-    }
-}
-
-// Serves a script: the answers of its lines, and then the audit.
-fn serve_script<I: Source, O: Sink>(
-    alloc: Global,
-    broker: &mut Broker,
-    input: &mut I,
-    output: &mut O,
-) -> Result<(), Stop>
-    requires { broker.old ≡ first_run }
-    ensures ok { OnOk result (IsDone DONE (I.left input.old) (I.left input.new)
+    requires opened { HasOpened (node_setup setup.now.queues)
+        (IsNodeOf Y.Disk.tells Y.Disk.past (node_setup setup.now.queues) node)
+        [] text.old.items }
+    requires plain { IsPlain setup.now }
+    ensures ok { OnOk result (IsDone DONE setup.now (I.left input.old) (I.left input.new)
         (O.written output.old) (O.written output.new)) }
-    ensures cause { IfErr result (λ stop. HasStopped stop (I.left input.old) (I.left input.new)
-        (O.written output.old) (O.written output.new)
+    ensures cause { IfErr result (λ stop. HasStopped stop setup.now (I.left input.old)
+        (I.left input.new) (O.written output.old) (O.written output.new)
         (Rose (I.faults input.old) (I.faults input.new))
-        (Rose (O.faults output.old) (O.faults output.new)) []) }
+        (Rose (O.faults output.old) (O.faults output.new))
+        (Rose (Y.faults yard.old) (Y.faults yard.new)) []) }
     ensures source_later { I.faults input.old ≤ I.faults input.new }
     ensures sink_later { O.faults output.old ≤ O.faults output.new }
+    ensures yard_later { Y.faults yard.old ≤ Y.faults yard.new }
 {
-    let mut text = Vec::new(alloc);
-    if let Err(stop) = serve_lines(alloc, broker, &mut text, input, output) {
-        return Err(stop);
-    }
-    match write_audit(alloc, broker, &mut text, output) {
-        Ok(()) => Ok(()),
-        Err(PrintFault::Failed) => Err(Stop::WriteFault),
-        Err(PrintFault::NoMemory) => Err(Stop::NoMemory),
-    }
-}
-
-// Serves a script to a new broker.
-fn serve<I: Source, O: Sink>(alloc: Global, input: &mut I, output: &mut O) -> Result<(), Stop>
-    ensures ok { OnOk result (IsDone DONE (I.left input.old) (I.left input.new)
-        (O.written output.old) (O.written output.new)) }
-    ensures cause { IfErr result (λ stop. HasStopped stop (I.left input.old) (I.left input.new)
-        (O.written output.old) (O.written output.new)
-        (Rose (I.faults input.old) (I.faults input.new))
-        (Rose (O.faults output.old) (O.faults output.new)) []) }
-    ensures source_later { I.faults input.old ≤ I.faults input.new }
-    ensures sink_later { O.faults output.old ≤ O.faults output.new }
-{
-    match Broker::new(alloc) {
-        Ok(mut broker) => serve_script(alloc, &mut broker, input, output),
-        Err(_) => Err(Stop::NoMemory),
+    match serve_lines::<Y, I, O>(alloc, setup, node, yard, text, input, output) {
+        Ok(node) => match write_audits(alloc, setup, &node, text, output) {
+            Ok(()) => Ok(()),
+            Err(PrintFault::Failed) => Err(Stop::WriteFault),
+            Err(PrintFault::NoMemory) => Err(Stop::NoMemory),
+        },
+        Err(stop) => Err(stop),
     }
 }
 
@@ -125,40 +196,84 @@ fn close<O: Sink>(output: &mut O, ending: Ending) -> u8
     }
 }
 
-/// Runs the program on its words, an input and an output, and answers the exit status. The one command
-/// is `script`, which serves the input's lines: `publish` and a body, `get`, `resend 1`, `mute 1` and
-/// `unmute 1`. Each answer is printed as it is given, unless it is lost or its number was answered
-/// before, and the queue's audit at the end of the input.
-///
-/// - `ends`: a run is done, or it stopped at a line, at a fault of the source or the sink, or for want
-///   of memory. In each case a prefix was written of what the script prints, as a function of the bytes
-///   that the source had, and then the closing line, as far as the sink took it. After a read fault
-///   these are the answers of the lines that were read whole. The statuses are in `status`.
-/// - `answered`: in the audit of a script that is served to its end, whatever its lines, the commands of
-///   session 1 that were carried out have the numbers 1, 2, 3 and so on, each once, in order. Each other
-///   command of it has an answer of the session gate, or the one that its number has in a row before
-///   (Ongaro's dissertation, section 6.3).
-/// - `source_later`, `sink_later`: the counts of faults don't fall.
-pub fn run<R: AllocGlobal, I: Source, O: Sink>(
-    rt: &R,
-    words: &[String],
+// Opens a node over a disk of the yard, and serves a script.
+fn open_script<Y: Yard, I: Source, O: Sink>(
+    alloc: Global,
+    setup: &Setup,
+    yard: &mut Y,
     input: &mut I,
     output: &mut O,
 ) -> u8
-    ensures ends { RunEnds result (is_script (map string_bytes words.now))
-        (I.left input.old) (I.left input.new) (O.written output.old) (O.written output.new)
+    requires { IsPlain setup.now }
+    ensures ends { HasRun result setup.now (I.left input.old) (I.left input.new)
+        (O.written output.old) (O.written output.new)
         (Rose (I.faults input.old) (I.faults input.new))
-        (Rose (O.faults output.old) (O.faults output.new)) }
-    ensures answered { (bytes : List ℕ) → CarriesOutOnce bytes }
+        (Rose (O.faults output.old) (O.faults output.new))
+        (Rose (Y.faults yard.old) (Y.faults yard.new)) }
     ensures source_later { I.faults input.old ≤ I.faults input.new }
     ensures sink_later { O.faults output.old ≤ O.faults output.new }
+    ensures yard_later { Y.faults yard.old ≤ Y.faults yard.new }
 {
-    commands_are_answered_once();
-    if !is_script(words) {
-        return close(output, Ending::usage());
-    }
-    match serve(rt.alloc(), input, output) {
+    let mut text = Vec::new(alloc);
+    let node = match open::<Y>(alloc, setup, yard, &mut text) {
+        Ok(node) => node,
+        Err(ending) => return close(output, ending),
+    };
+    match serve_script::<Y, I, O>(alloc, setup, node, yard, &mut text, input, output) {
         Ok(()) => DONE,
         Err(stop) => close(output, stop.ending()),
+    }
+}
+
+// Runs a script with these options.
+fn run_script<Y: Yard, I: Source, O: Sink>(
+    alloc: Global,
+    options: Options,
+    yard: &mut Y,
+    input: &mut I,
+    output: &mut O,
+) -> u8
+    ensures ends { RunEnds result (Some options) (I.left input.old) (I.left input.new)
+        (O.written output.old) (O.written output.new)
+        (Rose (I.faults input.old) (I.faults input.new))
+        (Rose (O.faults output.old) (O.faults output.new))
+        (Rose (Y.faults yard.old) (Y.faults yard.new)) }
+    ensures source_later { I.faults input.old ≤ I.faults input.new }
+    ensures sink_later { O.faults output.old ≤ O.faults output.new }
+    ensures yard_later { Y.faults yard.old ≤ Y.faults yard.new }
+{
+    match options.setup(alloc) {
+        Ok(setup) => open_script::<Y, I, O>(alloc, &setup, yard, input, output),
+        Err(_) => close(output, Ending::no_memory()),
+    }
+}
+
+/// Runs the program on its words, a yard, an input and an output, and answers the exit
+/// status. The one command is `script`, with the options that `qq_options` reads: a node is opened over a disk
+/// of the yard, the input's lines are served, and the audits of its queues are written at the end.
+///
+/// - `ends`: what a run has done that ends with this status (`a_status_tells_what_was_done`). What was written is
+///   the text of some events that the lines allow, and then the audits, or a first part of that and a closing
+///   line.
+/// - `source_later`, `sink_later`, `yard_later`: the counts of faults don't fall.
+pub fn run<R: AllocGlobal, Y: Yard, I: Source, O: Sink>(
+    rt: &R,
+    words: &[String],
+    yard: &mut Y,
+    input: &mut I,
+    output: &mut O,
+) -> u8
+    ensures ends { RunEnds result (read_options (map string_bytes words.now))
+        (I.left input.old) (I.left input.new) (O.written output.old) (O.written output.new)
+        (Rose (I.faults input.old) (I.faults input.new))
+        (Rose (O.faults output.old) (O.faults output.new))
+        (Rose (Y.faults yard.old) (Y.faults yard.new)) }
+    ensures source_later { I.faults input.old ≤ I.faults input.new }
+    ensures sink_later { O.faults output.old ≤ O.faults output.new }
+    ensures yard_later { Y.faults yard.old ≤ Y.faults yard.new }
+{
+    match read_options(words) {
+        Some(options) => run_script::<Y, I, O>(rt.alloc(), options, yard, input, output),
+        None => close(output, Ending::usage()),
     }
 }

@@ -1,5 +1,6 @@
 use qq_broker::run;
 use qq_ports::{MemSink, MemSource};
+use qq_yards::MemYard;
 use std::test::Fail;
 
 #[test]
@@ -18,7 +19,8 @@ fn a_failing_source_or_sink_ends_the_run(rt: HostRuntime) -> Result<(), Fail> {
     ] {
         let mut source = MemSource::new(input.to_vec(alloc)?, [read].to_vec(alloc)?);
         let mut sink = MemSink::new(alloc, 1_000, [write].to_vec(alloc)?)?;
-        assert_eq!(rt; run(&rt, &words, &mut source, &mut sink), status);
+        let mut yard = MemYard::new(Vec::new(alloc), Vec::new(alloc));
+        assert_eq!(rt; run(&rt, &words, &mut yard, &mut source, &mut sink), status);
         assert_eq!(rt; sink.bytes(), wanted);
     }
     Ok(())

@@ -1,8 +1,11 @@
-//! The program `qq`: it hands its words, its standard input and its standard output to the broker.
+//! The program `qq`: it hands its words, a yard over the system's files, its standard input and its standard
+//! output to the broker.
 #![tactic(auto)]
 
-use qq_broker::{run, status};
+use qq_broker::run;
 use qq_ports::{StdSink, StdSource, write_all};
+use qq_program::status;
+use qq_yards::FolderYard;
 use std::process::ExitCode;
 use std::rt::Env;
 use std::{env, io};
@@ -19,8 +22,9 @@ fn words(rt: &(impl Env + AllocGlobal)) -> io::Result<Vec<String>> {
 fn main(rt: HostRuntime) -> ExitCode {
     let mut input = StdSource::new(rt.stdin());
     let mut output = StdSink::new(rt.stdout());
+    let mut yard = FolderYard::new(rt);
     let status = match words(&rt) {
-        Ok(words) => run(&rt, &words, &mut input, &mut output),
+        Ok(words) => run(&rt, &words, &mut yard, &mut input, &mut output),
         Err(error) if error.kind() == io::ErrorKind::OutOfMemory => {
             match write_all(&mut output, b"memory\n") {
                 Ok(()) => status::NO_MEMORY,
@@ -28,7 +32,7 @@ fn main(rt: HostRuntime) -> ExitCode {
             }
         }
         // Words that aren't text are no command.
-        Err(_) => run(&rt, &[], &mut input, &mut output),
+        Err(_) => run(&rt, &[], &mut yard, &mut input, &mut output),
     };
     ExitCode::from(status)
 }

@@ -1,14 +1,14 @@
-mod Prefixes
-mod Pieces
-mod Says
-mod Statuses
-mod Printing
-mod InputLines
-mod Going
-mod Ahead
-mod Answering
-mod Audits
-mod Endings
-mod Closings
-mod Named
-mod Looping
+pub mod Prefixes
+pub mod Pieces
+pub mod Says
+pub mod Statuses
+pub mod Printing
+pub mod InputLines
+pub mod Going
+pub mod Ahead
+pub mod Answering
+pub mod Audits
+pub mod Endings
+pub mod Closings
+pub mod Named
+pub mod Looping

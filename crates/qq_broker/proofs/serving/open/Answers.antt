@@ -1,0 +1,30 @@
+use Rattle.std.proofs.Common.{true, List, map, ap, subst, ◌∙◌}
+use Rattle.qq_calls.specs.Queues.{node_setup}
+use Rattle.qq_defs.specs.declared.members.QueueRow.{QueueRow}
+use Rattle.qq_node.specs.Restarting.{IsSetFor}
+use Rattle.qq_broker.specs.Queues.{queue_of, AreNewDesks}
+use Rattle.qq_broker.proofs.Plain.{plain-queue}
+use Rattle.qq_broker.proofs.Served.{has-opened, set-for}
+use Rattle.qq_broker.proofs.serving.open.Goals as goal
+
+pub open_node-requires-clause-set : goal.open_node-requires-clause-set
+open_node-requires-clause-set g c =
+    let s = c.args.setup.now in (
+      node_setup s.queues,
+      set-for s c.in-Ok.queues.items c.in-Ok-new_desks.desks.items c.requires
+          (c.in-Ok.ensures.ok ∙ ap (map queue_of) c.as_slice-rows.ensures)
+          (subst (λ (rows : List QueueRow). AreNewDesks true rows c.in-Ok-new_desks.desks.items)
+          c.as_slice-rows.ensures c.in-Ok-new_desks.ensures.ok),
+    )
+
+pub returns-in-Ok-open_node-clause-ok : goal.returns-in-Ok-open_node-clause-ok
+returns-in-Ok-open_node-clause-ok g c =
+    let s = c.args.setup.now in
+    let set : IsSetFor (node_setup s.queues) c.in-Ok.queues.items c.in-Ok-new_desks.desks.items =
+    set-for s c.in-Ok.queues.items c.in-Ok-new_desks.desks.items c.requires
+    (c.in-Ok.ensures.ok ∙ ap (map queue_of) c.as_slice-rows.ensures)
+    (subst (λ (rows : List QueueRow). AreNewDesks true rows c.in-Ok-new_desks.desks.items)
+    c.as_slice-rows.ensures c.in-Ok-new_desks.ensures.ok) in
+    has-opened g.Y.Disk.NodeDisk.tells g.Y.Disk.NodeDisk.past (node_setup s.queues) c.in-Ok-open_node.node _ _
+    c.args.text.now.items c.open_node.new.text.items (λ place has. plain-queue s place c.requires has)
+    (c.in-Ok-open_node.ensures.ok (node_setup s.queues) set)
