@@ -1,11 +1,14 @@
 mod Audits
 mod Bags
+mod Copies
 mod Following
+mod Idle
 mod Inputs
 mod Notices
 mod Opening
 mod Promises
 mod Reached
+mod Returning
 mod Seats
 mod Settles
 mod Stepped

@@ -1,17 +1,19 @@
 -- What a notice and a crash make of the states that a group stands for.
-use Rattle.std.proofs.Common.{◌≡◌, ◌⊎◌, ℕ, ◌<◌, Bool, true, false, cond, leb, length, Option, Some, None, refl, sym, ap, subst, arith, inl, inr}
-use Rattle.std.specs.Prelude.{slice_get}
-use Rattle.std.proofs.lemmas.Bool.{cond-false, false≢true, le-leb, lt-leb, ltb-false, ltb-true}
+use Rattle.std.proofs.Common.{◌≡◌, ◌⊎◌, ℕ, ◌-◌, ◌≤◌, Bool, true, false, cond, leb, length, Option, Some, None, refl, sym, ap, subst, arith, inl, inr}
+use Rattle.std.specs.Prelude.{is_some, if◌then◌else◌, slice_get}
+use Rattle.std.proofs.lemmas.Bool.{false≢true, le-leb, ltb-false}
 use Rattle.qq_base.specs.Fronts.{put}
 use Rattle.qq_base.proofs.Puts.{put-each}
 use Rattle.qq_log.specs.Log.{LogState}
+use Rattle.qq_log.specs.declared.op.Op.{Op}
 use Rattle.qq_raft_step.specs.Server.{Input}
 use Rattle.qq_server.specs.declared.server.Server.{Server}
 use Rattle.qq_group_model.specs.Group.{Group as GroupState, Seat as SeatState, feed, feed_by, happens}
 use Rattle.qq_group_model.specs.Group.Event.{Crash, Notice}
-use Rattle.qq_group.specs.Events.{lacks_by, lacks_op}
+use Rattle.qq_group.specs.Events.{lacks_by, lacks_op, notices}
 use Rattle.qq_group.specs.Follows.{Follows, Makes, OthersStay}
 use Rattle.qq_group.specs.Group.{IsSeat, IsSeatBy, Represents, server_at, server_by}
+use Rattle.qq_group.specs.Handing.{held}
 use Rattle.qq_group.specs.Step.{IsTaken, emptied}
 use Rattle.qq_group.specs.declared.group.Group.{Group}
 use Rattle.qq_group.specs.declared.seat.Seat.{Seat}
@@ -25,12 +27,17 @@ cond-fed true fed g h = refl
 cond-fed false fed g (inl is) = absurd (false≢true is)
 cond-fed false fed g (inr same) = same
 
+held-by : (o : Option Op) (n : ℕ) → (if is_some o then n - 1 else n) ≤ n
+held-by None n = omega arith
+held-by (Some op) n = omega arith
+
 fed-by : {Q L : Type 0} (log : L → LogState) (g : GroupState) (k op : ℕ) (seat : Seat Q L) (o : Option (Server Q L))
     → IsSeatBy log (g.seat k) seat o → lacks_by op (Some (record seat { server = o })) ≡ false
     → (leb op (length (g.seat k).ops) ≡ true) ⊎ (feed k (Input.Notice op) g ≡ g)
 fed-by log g k op seat None is lacks = inr (ap (λ s. feed_by k (Input.Notice op) s g) is.0)
 fed-by log g k op seat (Some s) is lacks =
-    inl (le-leb op (length (g.seat k).ops) (omega (arith, ltb-false seat.handed op lacks, is.1.handed)))
+    let within = held-by seat.returned seat.handed in
+    inl (le-leb op (length (g.seat k).ops) (omega (arith, ltb-false (held seat) op lacks, within, is.1.handed)))
 
 fed-seat : {Q L : Type 0} (log : L → LogState) (g : GroupState) (k op : ℕ) (o : Option (Seat Q L))
     → IsSeat log (g.seat k) o → lacks_by op o ≡ false
@@ -44,27 +51,10 @@ notice-fed log g k op group r lacks =
     cond-fed (leb op (length (g.seat k).ops)) (feed k (Input.Notice op) g) g
     (fed-seat log g k op (slice_get group.seats.items k) (r.seats k) lacks)
 
-lacking-by : {Q L : Type 0} (log : L → LogState) (g : GroupState) (k op : ℕ) (seat : Seat Q L)
-    (o : Option (Server Q L)) → IsSeatBy log (g.seat k) seat o → lacks_by op (Some (record seat { server = o })) ≡ true
-    → length (g.seat k).ops < op
-lacking-by log g k op seat None is lacks = absurd (false≢true lacks)
-lacking-by log g k op seat (Some s) is lacks = omega (arith, ltb-true seat.handed op lacks, is.1.handed)
-
-lacking-seat : {Q L : Type 0} (log : L → LogState) (g : GroupState) (k op : ℕ) (o : Option (Seat Q L))
-    → IsSeat log (g.seat k) o → lacks_by op o ≡ true → length (g.seat k).ops < op
-lacking-seat log g k op None is lacks = absurd (false≢true lacks)
-lacking-seat log g k op (Some seat) is lacks = lacking-by log g k op seat seat.server is lacks
-
--- an op that wasn't handed changes nothing
-pub notice-lacks : {Q L : Type 0} (log : L → LogState) (k op : ℕ) (old new : Group Q L)
-    → lacks_op k op old ≡ true → new ≡ old → Follows log (happens (Notice k op)) old new
-notice-lacks log k op old new lacks same = λ g reached r.
-    let short : length (g.seat k).ops < op =
-    lacking-seat log g k op (slice_get old.seats.items k) (r.seats k) lacks in
-    subst (λ h. Represents log h new)
-    (sym (cond-false (leb op (length (g.seat k).ops)) (feed k (Input.Notice op) g) g
-    (lt-leb op (length (g.seat k).ops) short)))
-    (subst (Represents log g) (sym same) r)
+pub notice-lacks : {Q L : Type 0} (log : L → LogState) (k op : ℕ) (lacks : Bool) (old new : Group Q L)
+    → lacks ≡ true → new ≡ old → Follows log (notices k op lacks) old new
+notice-lacks log k op lacks old new is same = λ g reached r.
+    subst (λ b. Represents log (notices k op b g) new) (sym is) (subst (Represents log g) (sym same) r)
 
 -- ---- crashes
 

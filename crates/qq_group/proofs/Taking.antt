@@ -1,7 +1,7 @@
 -- What an op that is handed out makes of the states that a group stands for.
-use Rattle.std.proofs.Common.{◌≡◌, ◌⊎◌, ℕ, ◌+◌, ◌≤◌, List, [], ◌∷◌, ◌++◌, length, drop, Some, None, refl, sym, ap, subst, ◌∙◌, length-append, arith, inl, inr}
-use Rattle.std.specs.Prelude.{slice_get}
-use Rattle.std.proofs.lemmas.Bool.{cases_eq}
+use Rattle.std.proofs.Common.{◌≡◌, ◌⊎◌, ℕ, ◌+◌, ◌≤◌, List, [], ◌∷◌, ◌++◌, Bool, true, false, length, drop, Option, Some, None, refl, sym, ap, subst, ◌∙◌, length-append, arith, inl, inr}
+use Rattle.std.specs.Prelude.{◌&&◌, is_some, slice_get}
+use Rattle.std.proofs.lemmas.Bool.{cases_eq, false≢true}
 use Rattle.std.proofs.lemmas.Option.{none-some}
 use Rattle.qq_base.specs.declared.ids.NodeId.{NodeId}
 use Rattle.qq_base.specs.declared.ids.QueueId.{QueueId}
@@ -14,9 +14,9 @@ use Rattle.qq_server.specs.declared.server.Server.{Server}
 use Rattle.qq_group_model.specs.Group.{Event, Group as GroupState, Seat as SeatState, from_new, happens, take_by, take_op}
 use Rattle.qq_group_model.specs.Group.Event.{Take}
 use Rattle.qq_group_model.specs.Promises.{AreDistinct, IsUp}
-use Rattle.qq_group.specs.Follows.{Follows, OthersStay}
-use Rattle.qq_group.specs.Group.{IsReached, IsSeat, Represents, server_at}
-use Rattle.qq_group.specs.Handing.{IsReseated, reseated}
+use Rattle.qq_group.specs.Follows.{Follows, Makes, OthersStay}
+use Rattle.qq_group.specs.Group.{IsReached, IsSeat, IsSeatBy, Represents, server_at, server_by}
+use Rattle.qq_group.specs.Handing.{hands, has_returned, next_at, next_by, returned_at, with_returned, IsReseated, Refills, reseated}
 use Rattle.qq_group.specs.Step.{IsTaken, emptied}
 use Rattle.qq_group.specs.declared.group.Group.{Group}
 use Rattle.qq_group.specs.declared.seat.Seat.{Seat}
@@ -29,7 +29,7 @@ CountLaw =
     → IsUp (from_new queue nodes events) k s
     → s.op ≡ length ((from_new queue nodes events).seat k).ops + length s.ops
 
-handed-count : CountLaw → (g : GroupState) (k : ℕ) (s : Raft) → IsReached g → IsUp g k s
+pub handed-count : CountLaw → (g : GroupState) (k : ℕ) (s : Raft) → IsReached g → IsUp g k s
     → s.op ≡ length (g.seat k).ops + length s.ops
 handed-count law g k s r up =
     subst (λ (h : GroupState). s.op ≡ length (h.seat k).ops + length s.ops) (sym r.is)
@@ -162,3 +162,61 @@ pub reseated-others : {Q L : Type 0} (k count : ℕ) (s t : Server Q L) (old mid
 reseated-others k count s t old mid new taken put = λ q other.
     changed-other k q put.seat (reseated count t put.seat) mid new put.changes other
     ∙ changed-other k q taken.seat (emptied taken.seat) old mid taken.changes other
+
+-- ---- what was given back
+
+seat-by : {Q L : Type 0} (log : L → LogState) (state : SeatState) (seat : Seat Q L) (returned : Option Op)
+    (o : Option (Server Q L)) → IsSeatBy log state seat o → IsSeatBy log state (record seat { returned = returned }) o
+seat-by log state seat returned None is =
+    (is.0, λ known. record { noticed = (is.1 known).noticed; handed = (is.1 known).handed })
+seat-by log state seat returned (Some s) is = (is.0, record { noticed = is.1.noticed; handed = is.1.handed })
+
+seat-with : {Q L : Type 0} (log : L → LogState) (state : SeatState) (returned : Option Op) (o : Option (Seat Q L))
+    → IsSeat log state o → IsSeat log state (with_returned returned o)
+seat-with log state returned None is = is
+seat-with log state returned (Some seat) is = seat-by log state seat returned seat.server is
+
+-- it is the code's alone
+pub refilled : {Q L : Type 0} (log : L → LogState) (k : ℕ) (returned : Option Op) (old new : Group Q L)
+    → Refills k returned old new → Makes log (λ g. g) old new
+refilled log k returned old new made = λ g r.
+    again log g k old new r
+    (subst (IsSeat log (g.seat k)) (sym made.seat)
+    (seat-with log (g.seat k) returned (slice_get old.seats.items k) (r.seats k)))
+    made.only.others made.only.queue made.only.nodes made.only.bag made.only.audit
+
+-- an op that was given back is handed out again
+pub again-handed : {Q L : Type 0} (log : L → LogState) (k : ℕ) (has : Bool) (returned : Option Op)
+    (old new : Group Q L) → has ≡ true → Refills k returned old new → Follows log (hands k has) old new
+again-handed log k has returned old new is made = λ g reached r.
+    subst (λ b. Represents log (hands k b g) new) (sym is) (refilled log k returned old new made g r)
+
+pub first-handed : {Q L : Type 0} (log : L → LogState) (k : ℕ) (has : Bool) (old new : Group Q L) → has ≡ false
+    → Follows log (happens (Take k)) old new → Follows log (hands k has) old new
+first-handed log k has old new is follows = λ g reached r.
+    subst (λ b. Represents log (hands k b g) new) (sym is) (follows g reached r)
+
+next-returned : {Q L : Type 0} (log : L → LogState) (returned : Option Op) (o : Option (Server Q L))
+    → (is_some o && is_some returned) ≡ true → returned ≡ next_by log returned o
+next-returned log None None is = absurd (false≢true is)
+next-returned log None (Some s) is = absurd (false≢true is)
+next-returned log (Some op) None is = absurd (false≢true is)
+next-returned log (Some op) (Some s) is = refl
+
+-- it is the next one
+pub returned-next : {Q L : Type 0} (log : L → LogState) (seat : Option (Seat Q L)) → has_returned seat ≡ true
+    → returned_at seat ≡ next_at log seat
+returned-next log None is = absurd (false≢true is)
+returned-next log (Some seat) is = next-returned log seat.returned seat.server is
+
+next-own : {Q L : Type 0} (log : L → LogState) (returned : Option Op) (o : Option (Server Q L))
+    → (is_some o && is_some returned) ≡ false → next_by log None o ≡ next_by log returned o
+next-own log None o is = refl
+next-own log (Some op) None is = refl
+next-own log (Some op) (Some s) is = absurd (false≢true (sym is))
+
+-- there is none that was given back
+pub server-next : {Q L : Type 0} (log : L → LogState) (seat : Option (Seat Q L)) → has_returned seat ≡ false
+    → next_by log None (server_by seat) ≡ next_at log seat
+server-next log None is = refl
+server-next log (Some seat) is = next-own log seat.returned seat.server is

@@ -14,9 +14,10 @@ use Rattle.qq_raft_step.specs.State.{Server as Raft}
 use Rattle.qq_server.specs.declared.row.AppliedRow.{AppliedRow}
 use Rattle.qq_server.specs.declared.server.Server.{Server}
 use Rattle.qq_group_model.specs.Group.{Group as GroupState, happens}
-use Rattle.qq_group_model.specs.Group.Event.{Deliver, Lose, Copy, Crash}
-use Rattle.qq_group.specs.Follows.{HasShownBy}
+use Rattle.qq_group_model.specs.Group.Event.{Deliver, Lose, Copy, Crash, Notice as Notify}
+use Rattle.qq_group.specs.Follows.{HasShownBy, OthersStay}
 use Rattle.qq_group.specs.Group.{server_at}
+use Rattle.qq_group.specs.Handing.{held}
 use Rattle.qq_group.specs.Input.{acts, IsFeedCaused}
 use Rattle.qq_group.specs.declared.group.Group.{Group}
 use Rattle.qq_group.specs.declared.input.Input.TheVariants.{Notice, Receive}
@@ -61,11 +62,16 @@ refuses place g = crash_on (at_place place g.bag) (loses place g)
 
 abbrev pub lacks_by : {Q L : Type 0} → ℕ → Option (Seat Q L) → Bool
 lacks_by op None = false
-lacks_by op (Some seat) = is_some seat.server && nat_lt seat.handed op
+lacks_by op (Some seat) = is_some seat.server && nat_lt (held seat) op
 
 -- a member that is up hasn't handed its log an op with this number
 abbrev pub lacks_op : {Q L : Type 0} → ℕ → ℕ → Group Q L → Bool
 lacks_op k op group = lacks_by op (slice_get group.seats.items k)
+
+-- a notice of such an op isn't taken
+abbrev pub notices : ℕ → ℕ → Bool → GroupState → GroupState
+notices k op true g = g
+notices k op false g = happens (Notify k op) g
 
 -- ---- outcomes
 
@@ -104,6 +110,11 @@ HasShownMessage stands step log (Some rpc) old new rows =
     let k = (envelope rpc).to.0 in
     OneOf (takes_at log rpc (server_at k old))
     (HasShownBy stands log (acts step (Receive rpc)) (server_at k old) (server_at k new) rows) (rows ≡ [])
+
+-- all members but the message's receiver are as they were
+abbrev pub ReachesOne : {Q L : Type 0} → Option Rpc → Group Q L → Group Q L → Type 0
+ReachesOne None old new = new.seats ≡ old.seats
+ReachesOne (Some rpc) old new = OthersStay (envelope rpc).to.0 old new
 
 abbrev pub IsDeliveryCaused :
     {P Q L : Type 0} → (P → Q → Type 0) → (P → Index → Entry → Applied P) → (P → Index → Entry → Type 0)

@@ -1,18 +1,21 @@
 -- What each event of a group's code is to its definition.
-use Rattle.std.specs.Prelude.{◌≡◌, ⊤, List, []}
+use Rattle.std.specs.Prelude.{◌≡◌, ⊤, ℕ, List, [], length, IsSome}
+use Rattle.qq_base.specs.Causes.{SpentOnlyWhere}
 use Rattle.qq_base.specs.declared.ids.Index.{Index}
+use Rattle.qq_base.specs.declared.memory.Memory.{Memory}
 use Rattle.qq_entry.specs.Range.{IsCommand, HasContent}
 use Rattle.qq_entry.specs.declared.command.Entry.{Entry}
 use Rattle.qq_log.specs.Log.{LogState}
-use Rattle.qq_raft_msg.specs.Bag.{at_place}
+use Rattle.qq_raft_msg.specs.Bag.{at_place, without}
 use Rattle.qq_raft_msg.specs.Queue.{Applied}
+use Rattle.qq_raft_msg.specs.declared.bag.TheConstants.{BAG_LIMIT}
 use Rattle.qq_server.specs.Step.{tick, submit}
 use Rattle.qq_server.specs.declared.row.AppliedRow.{AppliedRow}
 use Rattle.qq_group_model.specs.Group.{Event as GroupEvent, Group as GroupState, happens}
-use Rattle.qq_group.specs.Events.{copies, crash_outcome, delivers, delivery_outcome, lacks_op, loses, notice_outcome, place_outcome, refuses, HasShownMessage, HasShownNotice}
-use Rattle.qq_group.specs.Follows.{HasShownBy}
+use Rattle.qq_group.specs.Events.{copies, crash_outcome, delivers, delivery_outcome, lacks_op, loses, notice_outcome, notices, place_outcome, refuses, HasShownMessage, HasShownNotice, IsDeliveryCaused, ReachesOne}
+use Rattle.qq_group.specs.Follows.{HasShownBy, OthersStay}
 use Rattle.qq_group.specs.Group.{server_at}
-use Rattle.qq_group.specs.Input.{fed_outcome}
+use Rattle.qq_group.specs.Input.{fed_outcome, IsFeedCaused}
 use Rattle.qq_group.specs.declared.event.Event.{Event}
 use Rattle.qq_group.specs.declared.event.Event.TheVariants.{Tick, Submit, Deliver, Lose, Copy, Notice, Crash}
 use Rattle.qq_group.specs.declared.group.Group.{Group}
@@ -28,14 +31,14 @@ MayHappen (Copy place) = ⊤
 MayHappen (Notice node op) = ⊤
 MayHappen (Crash node) = ⊤
 
-abbrev pub made_by : Event → GroupState → GroupState
-made_by (Tick node) = happens (GroupEvent.Tick node.0)
-made_by (Submit node time command) = happens (GroupEvent.Submit node.0 time command)
-made_by (Deliver place) = delivers place
-made_by (Lose place) = loses place
-made_by (Copy place) = copies place
-made_by (Notice node op) = happens (GroupEvent.Notice node.0 op)
-made_by (Crash node) = happens (GroupEvent.Crash node.0)
+abbrev pub made_by : {Q L : Type 0} → Event → Group Q L → GroupState → GroupState
+made_by (Tick node) group = happens (GroupEvent.Tick node.0)
+made_by (Submit node time command) group = happens (GroupEvent.Submit node.0 time command)
+made_by (Deliver place) group = delivers place
+made_by (Lose place) group = loses place
+made_by (Copy place) group = copies place
+made_by (Notice node op) group = notices node.0 op (lacks_op node.0 op group)
+made_by (Crash node) group = happens (GroupEvent.Crash node.0)
 
 -- a refused event: the member that it reached has crashed
 abbrev pub refused_by : Event → GroupState → GroupState
@@ -71,3 +74,35 @@ HasShownEvent stands step log (Copy place) old new rows = rows ≡ []
 HasShownEvent stands step log (Notice node op) old new rows =
     HasShownNotice stands step log op (lacks_op node.0 op old) (server_at node.0 old) (server_at node.0 new) rows
 HasShownEvent stands step log (Crash node) old new rows = rows ≡ []
+
+-- all members but the one that an event reaches are as they were
+abbrev pub ReachesAtMost : {Q L : Type 0} → Event → Group Q L → Group Q L → Type 0
+ReachesAtMost (Tick node) old new = OthersStay node.0 old new
+ReachesAtMost (Submit node time command) old new = OthersStay node.0 old new
+ReachesAtMost (Deliver place) old new = ReachesOne (at_place place old.bag) old new
+ReachesAtMost (Lose place) old new = new.seats ≡ old.seats
+ReachesAtMost (Copy place) old new = new.seats ≡ old.seats
+ReachesAtMost (Notice node op) old new = OthersStay node.0 old new
+ReachesAtMost (Crash node) old new = OthersStay node.0 old new
+
+-- a copy was one message too many
+abbrev pub IsCopyCaused : {Q L : Type 0} → ℕ → Group Q L → Memory → Type 0
+IsCopyCaused place old e =
+    SpentOnlyWhere e BAG_LIMIT (IsSome (at_place place old.bag) × (length old.bag ≡ BAG_LIMIT))
+
+-- the member that it reaches had a cause, or the bag had
+abbrev pub IsEventCaused :
+    {P Q L : Type 0} → (P → Q → Type 0) → (P → Index → Entry → Applied P) → (P → Index → Entry → Type 0)
+    → (L → LogState) → Event → Group Q L → Memory → Type 0
+IsEventCaused stands step passes log (Tick node) old e =
+    IsFeedCaused stands step passes log input.Tick old (server_at node.0 old) e
+IsEventCaused stands step passes log (Submit node time command) old e =
+    IsFeedCaused stands step passes log (input.Submit time command) old (server_at node.0 old) e
+IsEventCaused stands step passes log (Deliver place) old e =
+    IsDeliveryCaused stands step passes log (at_place place old.bag)
+    (record old { bag = without place old.bag }) e
+IsEventCaused stands step passes log (Lose place) old e = ⊥
+IsEventCaused stands step passes log (Copy place) old e = IsCopyCaused place old e
+IsEventCaused stands step passes log (Notice node op) old e =
+    IsFeedCaused stands step passes log (input.Notice op) old (server_at node.0 old) e
+IsEventCaused stands step passes log (Crash node) old e = ⊥

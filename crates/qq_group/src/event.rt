@@ -1,8 +1,9 @@
 //! One call for whatever may happen in a group.
-ghost use Rattle.std.specs.Prelude.{◌≡◌, [], IfOk, OnOk, OnErr};
+ghost use Rattle.std.specs.Prelude.{◌≡◌, [], IfOk, IfErr, OnOk, OnErr};
 ghost use Rattle.qq_group.specs.Follows.{Follows, Makes};
 ghost use Rattle.qq_group.specs.Group.{IsSound};
-ghost use Rattle.qq_group.specs.Steps.{made_by, outcome_by, refused_by, HasShownEvent, MayHappen};
+ghost use Rattle.qq_group.specs.Handing.{KeepsReturned};
+ghost use Rattle.qq_group.specs.Steps.{made_by, outcome_by, refused_by, HasShownEvent, IsEventCaused, MayHappen, ReachesAtMost};
 
 use crate::group::Group;
 use crate::outcome::{Outcome, Shown};
@@ -67,11 +68,15 @@ impl<Q: Queue, L: LogView> Group<Q, L> {
         requires event { MayHappen event }
 
         ensures sound { IsSound Q.stands L.log Q.applied self.new }
-        ensures ok { OnOk result (Follows L.log (made_by event) self.old self.new) }
+        ensures ok { OnOk result (Follows L.log (made_by event self.old) self.old self.new) }
         ensures err { OnErr result (Makes L.log (refused_by event) self.old self.new) }
         ensures outcome { IfOk result (λ shown. shown.outcome ≡ outcome_by L.log event self.old) }
         ensures rows { IfOk result (λ shown. HasShownEvent Q.stands Q.step L.log event self.old
             self.new shown.rows.items) }
+        ensures others { ReachesAtMost event self.old self.new }
+        ensures returned { KeepsReturned self.old self.new }
+        ensures cause { IfErr result (IsEventCaused Q.stands Q.step Q.passes_end L.log event
+            self.old) }
     {
         match event {
             Event::Tick { node } => self.tick(alloc, node),

@@ -5,6 +5,7 @@ ghost use Rattle.qq_server.specs.Step.{tick, submit};
 ghost use Rattle.qq_group_model.specs.Group.{happens, Event as GroupEvent};
 ghost use Rattle.qq_group.specs.Follows.{Follows, HasShownBy, Makes, OthersStay};
 ghost use Rattle.qq_group.specs.Group.{IsSound, server_at};
+ghost use Rattle.qq_group.specs.Handing.{KeepsReturned};
 ghost use Rattle.qq_group.specs.Input.{fed_outcome, IsFeedCaused};
 ghost use Rattle.qq_group.specs.declared.input.Input.TheVariants.{Submit, Tick};
 
@@ -24,13 +25,16 @@ impl<Q: Queue, L: LogView> Group<Q, L> {
         requires { IsSound Q.stands L.log Q.applied self.old }
 
         ensures sound { IsSound Q.stands L.log Q.applied self.new }
-        ensures ok { OnOk result (Follows L.log (happens (GroupEvent.Tick node.0)) self.old self.new) }
-        ensures err { OnErr result (Makes L.log (happens (GroupEvent.Crash node.0)) self.old self.new) }
+        ensures ok { OnOk result (Follows L.log (happens (GroupEvent.Tick node.0))
+            self.old self.new) }
+        ensures err { OnErr result (Makes L.log (happens (GroupEvent.Crash node.0))
+            self.old self.new) }
         ensures outcome { IfOk result (λ shown.
             shown.outcome ≡ fed_outcome L.log Tick (server_at node.0 self.old)) }
         ensures rows { IfOk result (λ shown. HasShownBy Q.stands L.log tick
             (server_at node.0 self.old) (server_at node.0 self.new) shown.rows.items) }
         ensures others { OthersStay node.0 self.old self.new }
+        ensures returned { KeepsReturned self.old self.new }
         ensures cause { IfErr result (IsFeedCaused Q.stands Q.step Q.passes_end L.log Tick self.old
             (server_at node.0 self.old)) }
     {
@@ -53,12 +57,14 @@ impl<Q: Queue, L: LogView> Group<Q, L> {
         ensures sound { IsSound Q.stands L.log Q.applied self.new }
         ensures ok { OnOk result (Follows L.log (happens (GroupEvent.Submit node.0 time command))
             self.old self.new) }
-        ensures err { OnErr result (Makes L.log (happens (GroupEvent.Crash node.0)) self.old self.new) }
+        ensures err { OnErr result (Makes L.log (happens (GroupEvent.Crash node.0))
+            self.old self.new) }
         ensures outcome { IfOk result (λ shown.
             shown.outcome ≡ fed_outcome L.log (Submit time command) (server_at node.0 self.old)) }
         ensures rows { IfOk result (λ shown. HasShownBy Q.stands L.log (submit time command)
             (server_at node.0 self.old) (server_at node.0 self.new) shown.rows.items) }
         ensures others { OthersStay node.0 self.old self.new }
+        ensures returned { KeepsReturned self.old self.new }
         ensures cause { IfErr result (IsFeedCaused Q.stands Q.step Q.passes_end L.log
             (Submit time command) self.old (server_at node.0 self.old)) }
     {

@@ -4,6 +4,7 @@ ghost use Rattle.qq_group_model.specs.Group.{happens};
 ghost use Rattle.qq_group_model.specs.Group.Event.{Crash};
 ghost use Rattle.qq_group.specs.Follows.{Feeds, HasShownBy, Makes, OthersStay};
 ghost use Rattle.qq_group.specs.Group.{IsSound, server_at};
+ghost use Rattle.qq_group.specs.Handing.{KeepsReturned};
 ghost use Rattle.qq_group.specs.Input.{acts, fed_outcome, input_of, IsFeedCaused, MayReach};
 
 use crate::group::Group;
@@ -34,6 +35,7 @@ impl<Q: Queue, L: LogView> Group<Q, L> {
         ensures rows { IfOk result (λ shown. HasShownBy Q.stands L.log (acts Q.step input)
             (server_at node.0 self.old) (server_at node.0 self.new) shown.rows.items) }
         ensures others { OthersStay node.0 self.old self.new }
+        ensures returned { KeepsReturned self.old self.new }
         ensures cause { IfErr result (IsFeedCaused Q.stands Q.step Q.passes_end L.log input self.old
             (server_at node.0 self.old)) }
     {

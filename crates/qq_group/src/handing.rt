@@ -1,10 +1,10 @@
 //! How ops leave a group for the members' logs.
-ghost use Rattle.std.specs.Prelude.{◌≡◌, ◌<◌, None, length, IfSome};
+ghost use Rattle.std.specs.Prelude.{◌≡◌, ◌<◌, None, Some, false, length, slice_get, true, IfNone, IfSome};
 ghost use Rattle.qq_log.specs.Writable.{MayWrite};
 ghost use Rattle.qq_group_model.specs.Group.{happens, Event as GroupEvent};
 ghost use Rattle.qq_group.specs.Follows.{Follows, Makes, OthersStay};
-ghost use Rattle.qq_group.specs.Group.{IsServing, IsSound, server_at};
-ghost use Rattle.qq_group.specs.Handing.{next_at, IsReseated};
+ghost use Rattle.qq_group.specs.Group.{IsReturned, IsServing, IsSound, server_at};
+ghost use Rattle.qq_group.specs.Handing.{given_back, hands, has_returned, next_at, next_by, returned_at, takes_back, ChangesOnly, IsReseated, KeepsReturned, Refills};
 
 use crate::group::Group;
 use qq_base::NodeId;
@@ -12,6 +12,7 @@ use qq_group_model::a_log_was_handed_the_changes_of_its_server;
 use qq_log::Op;
 use qq_raft_msg::{LogView, Queue};
 use qq_server::Server;
+use std::mem;
 
 impl<Q: Queue, L: LogView> Group<Q, L> {
     /// Puts a server that has handed out an op back into its seat.
@@ -30,16 +31,53 @@ impl<Q: Queue, L: LogView> Group<Q, L> {
         seat.handed = seat.handed.saturating_add(count);
     }
 
-    /// The next change of a member for its log, which the log takes and writes. None exactly where the member
-    /// is down or has none.
-    pub fn waiting(&mut self, node: NodeId) -> Option<Op>
+    /// Whether a member is up and has an op that was given back.
+    fn has_returned(&self, node: NodeId) -> bool
+        ensures { result ≡ has_returned (slice_get self.now.seats.items node.0) }
+    {
+        match self.seat(node) {
+            None => false,
+            Some(seat) => seat.has_returned(),
+        }
+    }
+
+    /// Whether a member is up and has no op that was given back.
+    fn takes_back(&self, node: NodeId) -> bool
+        ensures { result ≡ takes_back (slice_get self.now.seats.items node.0) }
+    {
+        match self.seat(node) {
+            None => false,
+            Some(seat) => seat.takes_back(),
+        }
+    }
+
+    /// Changes what a member was given back, and answers what it was before.
+    fn refill(&mut self, node: NodeId, returned: Option<Op>) -> Option<Op>
+        requires sound { IsSound Q.stands L.log Q.applied self.old }
+        requires returned { IsReturned returned }
+        requires there { node.0 < length self.old.seats.items }
+
+        ensures sound { IsSound Q.stands L.log Q.applied self.new }
+        ensures value { result ≡ returned_at (slice_get self.old.seats.items node.0) }
+        ensures may { IfSome result MayWrite }
+        ensures refills { Refills node.0 returned self.old self.new }
+    {
+        let Some(seat) = self.seats.get_mut(node.0 as usize) else {
+            unreachable!()
+        };
+        mem::replace(&mut seat.returned, returned)
+    }
+
+    /// The next change of a member's server. None exactly where the member is down or has none.
+    fn next_change(&mut self, node: NodeId) -> Option<Op>
         requires { IsSound Q.stands L.log Q.applied self.old }
 
         ensures sound { IsSound Q.stands L.log Q.applied self.new }
         ensures may { IfSome result MayWrite }
-        ensures value { result ≡ next_at L.log (server_at node.0 self.old) }
+        ensures value { result ≡ next_by L.log None (server_at node.0 self.old) }
         ensures made { Follows L.log (happens (GroupEvent.Take node.0)) self.old self.new }
         ensures others { OthersStay node.0 self.old self.new }
+        ensures returned { KeepsReturned self.old self.new }
     {
         a_log_was_handed_the_changes_of_its_server();
         let Some(mut server) = self.take_server(node) else {
@@ -55,5 +93,45 @@ impl<Q: Queue, L: LogView> Group<Q, L> {
                 Some(op)
             }
         }
+    }
+
+    /// The next change of a member for its log, which the log takes and writes: the one that was given back,
+    /// else the next of its server. None exactly where the member is down or has none.
+    pub fn waiting(&mut self, node: NodeId) -> Option<Op>
+        requires { IsSound Q.stands L.log Q.applied self.old }
+
+        ensures sound { IsSound Q.stands L.log Q.applied self.new }
+        ensures may { IfSome result MayWrite }
+        ensures value { result ≡ next_at L.log (slice_get self.old.seats.items node.0) }
+        ensures made { Follows L.log (hands node.0
+            (has_returned (slice_get self.old.seats.items node.0))) self.old self.new }
+        ensures others { OthersStay node.0 self.old self.new }
+        ensures left { IfSome result (λ _.
+            returned_at (slice_get self.new.seats.items node.0) ≡ None) }
+    {
+        if self.has_returned(node) {
+            return self.refill(node, None);
+        }
+        self.next_change(node)
+    }
+
+    /// Gives a member back the op that `waiting` handed out last for it, since there was no room for it on
+    /// the way to its log: `waiting` hands it out again first, and no notice of it is taken until then. A
+    /// member that is down, or has an op that was given back, stays as it is.
+    pub fn give_back(&mut self, node: NodeId, op: Op)
+        requires sound { IsSound Q.stands L.log Q.applied self.old }
+        requires op { MayWrite op }
+
+        ensures sound { IsSound Q.stands L.log Q.applied self.new }
+        ensures made { Makes L.log (λ g. g) self.old self.new }
+        ensures seat { slice_get self.new.seats.items node.0
+            ≡ given_back (takes_back (slice_get self.old.seats.items node.0)) op
+            (slice_get self.old.seats.items node.0) }
+        ensures only { ChangesOnly node.0 self.old self.new }
+    {
+        if !self.takes_back(node) {
+            return;
+        }
+        let _ = self.refill(node, Some(op));
     }
 }

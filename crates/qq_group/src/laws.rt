@@ -14,11 +14,12 @@ ghost use Rattle.qq_server.specs.declared.server.Server.{Server};
 ghost use Rattle.qq_group_model.specs.Group.{Event, Group as GroupState, group_after, happens, new_group};
 ghost use Rattle.qq_group_model.specs.Promises.{AreDistinct, IsLeft, members_of};
 ghost use Rattle.qq_group.specs.Group.{IsReached, Represents, server_at};
+ghost use Rattle.qq_group.specs.Reads.{is_idle, IsIdle};
 ghost use Rattle.qq_group.specs.declared.group.Group.{Group};
 
 use qq_group_model::{
-    a_term_does_not_fall, a_term_has_one_leader, an_answered_command_stays,
-    the_disks_support_the_audit, what_a_group_committed_stays,
+    a_log_was_handed_the_changes_of_its_server, a_term_does_not_fall, a_term_has_one_leader,
+    an_answered_command_stays, the_disks_support_the_audit, what_a_group_committed_stays,
 };
 use qq_raft_msg::{LogView, Queue};
 
@@ -86,4 +87,15 @@ pub fn the_term_of_a_server_does_not_fall<Q: Queue, L: LogView>()
         server_at k new ≡ Some t → s.raft.term.0 ≤ t.raft.term.0 }
 {
     a_term_does_not_fall();
+}
+
+/// A law: a group is idle exactly where no message is on its way, and each change of a server that is up was
+/// handed to its log and noticed to be durable.
+pub fn an_idle_group_has_nothing_open<Q: Queue, L: LogView>()
+    ensures idle { (g : GroupState) (group : Group Q L) → IsReached g → Represents L.log g group →
+        is_idle L.log group ≡ true → IsIdle g }
+    ensures settled { (g : GroupState) (group : Group Q L) → IsReached g →
+        Represents L.log g group → IsIdle g → is_idle L.log group ≡ true }
+{
+    a_log_was_handed_the_changes_of_its_server();
 }

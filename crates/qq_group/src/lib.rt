@@ -3,6 +3,7 @@
 //! event of the definition of a group (`qq_group_model`).
 #![tactic(auto)]
 
+mod entries;
 mod event;
 mod events;
 mod feeding;
@@ -10,6 +11,7 @@ mod group;
 mod handing;
 mod input;
 mod laws;
+mod leading;
 mod logs;
 mod messages;
 mod outcome;
@@ -21,8 +23,8 @@ mod steps;
 pub use event::Event;
 pub use group::Group;
 pub use laws::{
-    an_answered_command_is_in_the_audit, events_reach_groups, one_server_leads_a_term,
-    the_logs_support_the_audit, the_term_of_a_server_does_not_fall,
+    an_answered_command_is_in_the_audit, an_idle_group_has_nothing_open, events_reach_groups,
+    one_server_leads_a_term, the_logs_support_the_audit, the_term_of_a_server_does_not_fall,
     what_is_committed_stays_in_the_audit,
 };
 pub use outcome::{Outcome, Shown};

@@ -3,9 +3,10 @@ ghost use Rattle.std.specs.Prelude.{◌≡◌, None, Some, IfOk, IfErr, IfSome, 
 ghost use Rattle.qq_log.specs.Writable.{MayWrite};
 ghost use Rattle.qq_server.specs.Step.{notice};
 ghost use Rattle.qq_group_model.specs.Group.{happens, Event as GroupEvent};
-ghost use Rattle.qq_group.specs.Events.{crash_outcome, lacks_op, notice_outcome, HasShownNotice};
+ghost use Rattle.qq_group.specs.Events.{crash_outcome, lacks_op, notice_outcome, notices, HasShownNotice};
 ghost use Rattle.qq_group.specs.Follows.{Follows, Makes, OthersStay};
 ghost use Rattle.qq_group.specs.Group.{IsSound, server_at};
+ghost use Rattle.qq_group.specs.Handing.{KeepsReturned};
 ghost use Rattle.qq_group.specs.Input.{IsFeedCaused};
 ghost use Rattle.qq_group.specs.declared.input.Input.TheVariants.{Notice};
 
@@ -20,13 +21,14 @@ use std::alloc::Global;
 
 impl<Q: Queue, L: LogView> Group<Q, L> {
     pub(crate) fn seat(&self, node: NodeId) -> Option<&Seat<Q, L>>
-        ensures some { IfSome result (λ seat. slice_get self.now.seats.items node.0 ≡ Some seat.now) }
+        ensures some { IfSome result (λ seat.
+            slice_get self.now.seats.items node.0 ≡ Some seat.now) }
         ensures none { IfNone result (slice_get self.now.seats.items node.0 ≡ None) }
     {
         self.seats.get(node.0 as usize)
     }
 
-    /// Whether a member is up and has handed its log no op with this number.
+    /// Whether a member is up and its log wasn't handed an op with this number, or gave it back.
     fn lacks_op(&self, node: NodeId, op: u64) -> bool
         ensures { result ≡ lacks_op node.0 op self.now }
     {
@@ -37,13 +39,13 @@ impl<Q: Queue, L: LogView> Group<Q, L> {
     }
 
     /// A member is told that its log is durable up to an op (Ongaro's dissertation, section 10.2.1). An op
-    /// that its log wasn't handed changes nothing. After an error the member has crashed, and nothing else
-    /// has changed.
+    /// that its log wasn't handed, or that was given back, changes nothing. After an error the member has
+    /// crashed, and nothing else has changed.
     pub fn notice(&mut self, alloc: Global, node: NodeId, op: u64) -> Result<Shown, Memory>
         requires { IsSound Q.stands L.log Q.applied self.old }
 
         ensures sound { IsSound Q.stands L.log Q.applied self.new }
-        ensures ok { OnOk result (Follows L.log (happens (GroupEvent.Notice node.0 op))
+        ensures ok { OnOk result (Follows L.log (notices node.0 op (lacks_op node.0 op self.old))
             self.old self.new) }
         ensures err { OnErr result (Makes L.log (happens (GroupEvent.Crash node.0))
             self.old self.new) }
@@ -53,6 +55,7 @@ impl<Q: Queue, L: LogView> Group<Q, L> {
             (lacks_op node.0 op self.old) (server_at node.0 self.old) (server_at node.0 self.new)
             shown.rows.items) }
         ensures others { OthersStay node.0 self.old self.new }
+        ensures returned { KeepsReturned self.old self.new }
         ensures cause { IfErr result (IsFeedCaused Q.stands Q.step Q.passes_end L.log (Notice op)
             self.old (server_at node.0 self.old)) }
     {
@@ -75,6 +78,7 @@ impl<Q: Queue, L: LogView> Group<Q, L> {
         ensures outcome { result ≡ crash_outcome (server_at node.0 self.old) }
         ensures down { server_at node.0 self.new ≡ None }
         ensures others { OthersStay node.0 self.old self.new }
+        ensures returned { KeepsReturned self.old self.new }
     {
         let Some(_) = self.take_server(node) else {
             return Outcome::Down;

@@ -6,9 +6,10 @@ ghost use Rattle.qq_raft_msg.specs.Rpc.{IsWritable, envelope};
 ghost use Rattle.qq_raft_msg.specs.declared.bag.TheConstants.{BAG_LIMIT};
 ghost use Rattle.qq_raft_step.specs.Server.{Input as GroupInput};
 ghost use Rattle.qq_group_model.specs.Group.{happens, Event as GroupEvent};
-ghost use Rattle.qq_group.specs.Events.{OneOf, taken_outcome, copies, delivers, delivery_outcome, loses, place_outcome, refuses, takes_at, HasShownMessage, IsDeliveryCaused};
-ghost use Rattle.qq_group.specs.Follows.{Feeds, Follows, Makes};
+ghost use Rattle.qq_group.specs.Events.{OneOf, taken_outcome, copies, delivers, delivery_outcome, loses, place_outcome, refuses, takes_at, HasShownMessage, IsDeliveryCaused, ReachesOne};
+ghost use Rattle.qq_group.specs.Follows.{Feeds, Follows, Makes, OthersStay};
 ghost use Rattle.qq_group.specs.Group.{IsSound, server_at};
+ghost use Rattle.qq_group.specs.Handing.{KeepsReturned};
 
 use crate::group::Group;
 use crate::input::Input;
@@ -89,7 +90,8 @@ impl<Q: Queue, L: LogView> Group<Q, L> {
         requires rpc { IsWritable rpc }
 
         ensures sound { IsSound Q.stands L.log Q.applied self.new }
-        ensures ok { OnOk result (OneOf (takes_at L.log rpc (server_at (envelope rpc).to.0 self.old))
+        ensures ok { OnOk result (OneOf
+            (takes_at L.log rpc (server_at (envelope rpc).to.0 self.old))
             (Feeds L.log (envelope rpc).to.0 (GroupInput.Receive rpc) self.old self.new)
             (self.new ≡ self.old)) }
         ensures err { OnErr result (Makes L.log (happens (GroupEvent.Crash (envelope rpc).to.0))
@@ -98,6 +100,8 @@ impl<Q: Queue, L: LogView> Group<Q, L> {
             ≡ taken_outcome L.log rpc (server_at (envelope rpc).to.0 self.old)) }
         ensures rows { IfOk result (λ shown. HasShownMessage Q.stands Q.step L.log
             (Some rpc) self.old self.new shown.rows.items) }
+        ensures others { OthersStay (envelope rpc).to.0 self.old self.new }
+        ensures returned { KeepsReturned self.old self.new }
         ensures cause { IfErr result (IsDeliveryCaused Q.stands Q.step Q.passes_end L.log
             (Some rpc) self.old) }
     {
@@ -124,6 +128,8 @@ impl<Q: Queue, L: LogView> Group<Q, L> {
             shown.outcome ≡ delivery_outcome L.log (at_place place self.old.bag) self.old) }
         ensures rows { IfOk result (λ shown. HasShownMessage Q.stands Q.step L.log
             (at_place place self.old.bag) self.old self.new shown.rows.items) }
+        ensures others { ReachesOne (at_place place self.old.bag) self.old self.new }
+        ensures returned { KeepsReturned self.old self.new }
         ensures cause { IfErr result (IsDeliveryCaused Q.stands Q.step Q.passes_end L.log
             (at_place place self.old.bag) (record self.old { bag = without place self.old.bag })) }
     {

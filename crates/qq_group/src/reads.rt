@@ -1,11 +1,14 @@
 //! What a group tells of itself.
 ghost use Rattle.std.specs.Prelude.{◌≡◌, length, slice_get};
+ghost use Rattle.std.specs.List.{list_all};
+ghost use Rattle.std.specs.Option.{option_copied};
 ghost use Rattle.qq_raft_msg.specs.Bag.{at_place};
 ghost use Rattle.qq_group.specs.Group.{IsSound, server_at};
-ghost use Rattle.qq_group.specs.Reads.{handed_at, member_at, receiver_of};
+ghost use Rattle.qq_group.specs.declared.seat.Seat.{Seat};
+ghost use Rattle.qq_group.specs.Reads.{handed_at, has_settled, is_idle, machine_at, member_at, receiver_of};
 
 use crate::group::Group;
-use qq_base::NodeId;
+use qq_base::{Index, NodeId};
 use qq_entry::Entry;
 use qq_raft_msg::{LogView, MemberState, Queue};
 
@@ -15,6 +18,13 @@ impl<Q: Queue, L: LogView> Group<Q, L> {
         ensures { result.now ≡ self.now.audit.items }
     {
         self.audit.as_slice()
+    }
+
+    /// The index of the last entry that was committed, 0 for none.
+    pub fn end(&self) -> Index
+        ensures { result.0 ≡ length self.now.audit.items }
+    {
+        Index(self.audit.len() as u64)
     }
 
     /// How many messages are on their way.
@@ -46,7 +56,19 @@ impl<Q: Queue, L: LogView> Group<Q, L> {
         }
     }
 
-    /// The greatest op that a member may be told to be durable, which is how many ops its log was handed. 0
+    /// The queue of a member, as far as it has applied what was committed. None exactly where the member is
+    /// down.
+    pub fn machine(&self, node: NodeId) -> Option<&Q>
+        ensures { option_copied result ≡ machine_at (server_at node.0 self.now) }
+    {
+        match self.server(node) {
+            None => None,
+            Some(server) => Some(server.machine()),
+        }
+    }
+
+    /// The greatest op that a member may be told to be durable, which is how many ops its log was handed, but
+    /// for one that was given back. 0
     /// where the member is down.
     pub fn handed(&self, node: NodeId) -> u64
         ensures { result ≡ handed_at (slice_get self.now.seats.items node.0) }
@@ -55,5 +77,23 @@ impl<Q: Queue, L: LogView> Group<Q, L> {
             None => 0,
             Some(seat) => seat.handed_up(),
         }
+    }
+
+    fn all_settled(&self) -> bool
+        ensures { result ≡ list_all (λ (seat : Seat Q L). has_settled L.log seat seat.server)
+            self.now.seats.items }
+    {
+        self.seats.iter().all(|seat| seat.has_settled())
+    }
+
+    /// Whether no message is on its way, and no member that is up has a change that waits for its log or of
+    /// which it wasn't told yet that it is durable.
+    pub fn idle(&self) -> bool
+        ensures { result ≡ is_idle L.log self.now }
+    {
+        if self.bag.len() > 0 {
+            return false;
+        }
+        self.all_settled()
     }
 }

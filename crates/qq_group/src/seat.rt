@@ -1,7 +1,9 @@
-ghost use Rattle.std.specs.Prelude.{◌≡◌, ◌&&◌, ◌||◌, is_some, nat_lt, if◌then◌else◌};
+ghost use Rattle.std.specs.Prelude.{◌≡◌, ◌&&◌, ◌||◌, is_none, is_some, nat_lt, if◌then◌else◌};
+ghost use Rattle.qq_group.specs.Handing.{held};
+ghost use Rattle.qq_group.specs.Reads.{has_settled};
 
 use qq_log::Op;
-use qq_raft_msg::LogView;
+use qq_raft_msg::{LogView, Queue};
 use qq_server::Server;
 
 /// A member of a group.
@@ -21,11 +23,35 @@ pub(crate) struct Seat<Q: Drop, L: LogView> {
 }
 
 impl<Q: Drop, L: LogView> Seat<Q, L> {
-    /// Whether it is up and has handed its log no op with this number.
-    pub(crate) fn lacks_op(&self, op: u64) -> bool
-        ensures { result ≡ is_some self.now.server && nat_lt self.now.handed op }
+    /// How many ops its log was handed. One that was given back doesn't count.
+    fn held(&self) -> u64
+        ensures { result ≡ held self.now }
     {
-        self.server.is_some() && self.handed < op
+        if self.returned.is_some() {
+            return self.handed.saturating_sub(1);
+        }
+        self.handed
+    }
+
+    /// Whether it is up and its log wasn't handed an op with this number, or gave it back.
+    pub(crate) fn lacks_op(&self, op: u64) -> bool
+        ensures { result ≡ is_some self.now.server && nat_lt (held self.now) op }
+    {
+        self.server.is_some() && self.held() < op
+    }
+
+    /// Whether it is up and has an op that was given back.
+    pub(crate) fn has_returned(&self) -> bool
+        ensures { result ≡ is_some self.now.server && is_some self.now.returned }
+    {
+        self.server.is_some() && self.returned.is_some()
+    }
+
+    /// Whether it is up and has no op that was given back.
+    pub(crate) fn takes_back(&self) -> bool
+        ensures { result ≡ is_some self.now.server && is_none self.now.returned }
+    {
+        self.server.is_some() && self.returned.is_none()
     }
 
     /// Whether a log with this last op lost an op that was noticed, or has one that it wasn't handed.
@@ -38,11 +64,24 @@ impl<Q: Drop, L: LogView> Seat<Q, L> {
 
     /// How many ops its log was handed, 0 while it is down.
     pub(crate) fn handed_up(&self) -> u64
-        ensures { result ≡ if is_some self.now.server then self.now.handed else 0 }
+        ensures { result ≡ if is_some self.now.server then held self.now else 0 }
     {
         if self.server.is_some() {
-            return self.handed;
+            return self.held();
         }
         0
+    }
+}
+
+impl<Q: Queue, L: LogView> Seat<Q, L> {
+    /// Whether it is down, or its log was handed all changes of its server, and all are durable, as far as
+    /// that was told.
+    pub(crate) fn has_settled(&self) -> bool
+        ensures { result ≡ has_settled L.log self.now self.now.server }
+    {
+        match &self.server {
+            None => true,
+            Some(server) => server.op() <= self.handed && self.handed <= self.noticed,
+        }
     }
 }

@@ -1,4 +1,5 @@
 use Rattle.qq_group.proofs.Notices.{down-crashes, taken-down}
+use Rattle.qq_group.proofs.Returning.{taken-returned}
 use Rattle.qq_group.proofs.Stepped.{taken-crashes, taken-others}
 use Rattle.qq_group.proofs.group.Group.crash.Goals as goal
 
@@ -19,3 +20,7 @@ returns-clause-down g c =
 pub returns-clause-others : goal.returns-clause-others
 returns-clause-others g c =
     taken-others c.args.node.0 c.in-Some.field-0 c.args.self.now c.take_server.new.self c.in-Some.ensures.taken
+
+pub returns-clause-returned : goal.returns-clause-returned
+returns-clause-returned g c =
+    taken-returned c.args.node.0 c.in-Some.field-0 c.args.self.now c.take_server.new.self c.in-Some.ensures.taken

@@ -1,5 +1,6 @@
 use Rattle.qq_group.specs.Input.{acts, input_of}
 use Rattle.qq_group.proofs.Inputs.{does-step}
+use Rattle.qq_group.proofs.Returning.{settled-returned, taken-returned, undone-returned}
 use Rattle.qq_group.proofs.Stepped.{full-caused, settled-others, shown, stepped, taken-crashes, taken-others, taken-within, undone-makes, undone-others}
 use Rattle.qq_group.proofs.group.Group.feed.Goals as goal
 
@@ -55,3 +56,17 @@ returns-in-Err-settle-clause-cause g c =
     c.act.new.server c.args.self.now c.take_server.new.self c.in-Err-settle.cause c.in-Some.ensures.taken
     (does-step g.Q.Queue.stands g.Q.Queue.step log c.args.input c.in-Some.server c.act.new.server
     c.in-Some.ensures.serving.state c.in-Ok.ensures.ok) c.in-Err-settle.ensures.cause
+
+pub returns-in-Err-clause-returned : goal.returns-in-Err-clause-returned
+returns-in-Err-clause-returned g c =
+    taken-returned c.args.node.0 c.in-Some.server c.args.self.now c.take_server.new.self c.in-Some.ensures.taken
+
+pub returns-in-Ok-settle-clause-returned : goal.returns-in-Ok-settle-clause-returned
+returns-in-Ok-settle-clause-returned g c =
+    settled-returned g.L.LogView.log c.args.node.0 c.in-Some.server c.act.new.server c.args.self.now
+    c.take_server.new.self c.settle.new.self c.in-Some.ensures.taken c.in-Ok-settle.ensures.ok
+
+pub returns-in-Err-settle-clause-returned : goal.returns-in-Err-settle-clause-returned
+returns-in-Err-settle-clause-returned g c =
+    undone-returned c.args.node.0 c.in-Some.server c.args.self.now c.take_server.new.self c.settle.new.self
+    c.in-Some.ensures.taken c.in-Err-settle.ensures.err

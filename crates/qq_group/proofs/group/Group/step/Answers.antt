@@ -24,5 +24,5 @@ returns-in-Notice-clause-err g c =
 
 pub returns-in-Crash-clause-ok : goal.returns-in-Crash-clause-ok
 returns-in-Crash-clause-ok g c =
-    subst (λ (e : Event). Follows g.L.LogView.log (made_by e) c.args.self.now c.crash.new.self) (sym c.in-Crash.is)
-    (λ h reached r. c.crash.ensures.made h r)
+    subst (λ (e : Event). Follows g.L.LogView.log (made_by e c.args.self.now) c.args.self.now c.crash.new.self)
+    (sym c.in-Crash.is) (λ h reached r. c.crash.ensures.made h r)

@@ -1,30 +1,47 @@
-use Rattle.qq_group.proofs.Taking.{down-hands, handed-none, handed-one, reseated-others}
+use Rattle.std.proofs.Common.{◌≡◌, None, ap, refl, sym, ◌∙◌}
+use Rattle.std.specs.Prelude.{slice_get}
+use Rattle.qq_group.specs.Group.{server_by}
+use Rattle.qq_group.specs.Handing.{has_returned, next_by, returned_at}
+use Rattle.qq_group.proofs.Returning.{any-some, left-after, left-none, none-returned, there-of}
+use Rattle.qq_group.proofs.Taking.{again-handed, first-handed, returned-next, server-next}
 use Rattle.qq_group.proofs.group.Group.waiting.Goals as goal
 
-pub returns-in_default-clause-made : goal.returns-in_default-clause-made
-returns-in_default-clause-made g c =
-    down-hands g.L.LogView.log c.args.node.0 c.args.self.now c.take_server.new.self c.in_default.ensures.none.0
-    c.in_default.ensures.none.1
+pub refill-requires-clause-there : goal.refill-requires-clause-there
+refill-requires-clause-there g c =
+    there-of c.args.self.now.seats.items c.args.node.0 has_returned refl (sym c.if-has_returned.ensures)
 
-pub returns-in-None-clause-made : goal.returns-in-None-clause-made
-returns-in-None-clause-made g c =
-    handed-none g.L.LogView.log c.a_log_was_handed_the_changes_of_its_server.ensures c.args.node.0 c.in-Some.server
-    c.next_op.new.self c.args.self.now c.take_server.new.self c.reseat.new.self c.in-Some.ensures.taken
-    c.in-Some.ensures.serving.sound.raft.op c.in-None.ensures.value c.in-None.ensures.rest c.reseat.ensures.put
+pub returns-then-has_returned-clause-value : goal.returns-then-has_returned-clause-value
+returns-then-has_returned-clause-value g c =
+    c.refill.ensures.value
+    ∙ returned-next g.L.LogView.log (slice_get c.args.self.now.seats.items c.args.node.0)
+    (sym c.if-has_returned.ensures)
 
-pub returns-in-None-clause-others : goal.returns-in-None-clause-others
-returns-in-None-clause-others g c =
-    reseated-others c.args.node.0 0 c.in-Some.server c.next_op.new.self c.args.self.now c.take_server.new.self
-    c.reseat.new.self c.in-Some.ensures.taken c.reseat.ensures.put
+pub returns-then-has_returned-clause-made : goal.returns-then-has_returned-clause-made
+returns-then-has_returned-clause-made g c =
+    again-handed g.L.LogView.log c.args.node.0 (has_returned (slice_get c.args.self.now.seats.items c.args.node.0)) None
+    c.args.self.now c.refill.new.self (sym c.if-has_returned.ensures) c.refill.ensures.refills
 
-pub returns-in-Some-next_op-clause-made : goal.returns-in-Some-next_op-clause-made
-returns-in-Some-next_op-clause-made g c =
-    handed-one g.L.LogView.log c.a_log_was_handed_the_changes_of_its_server.ensures c.args.node.0 c.in-Some.server
-    c.next_op.new.self c.in-Some-next_op.op c.args.self.now c.take_server.new.self
-    c.reseat-in-Some-next_op.new.self c.in-Some.ensures.taken c.in-Some.ensures.serving.sound.raft.op
-    c.in-Some-next_op.ensures.value c.in-Some-next_op.ensures.rest c.reseat-in-Some-next_op.ensures.put
+pub returns-clause-value : goal.returns-clause-value
+returns-clause-value g c =
+    c.next_change.ensures.value
+    ∙ server-next g.L.LogView.log (slice_get c.args.self.now.seats.items c.args.node.0) (sym c.if-has_returned.ensures)
 
-pub returns-in-Some-next_op-clause-others : goal.returns-in-Some-next_op-clause-others
-returns-in-Some-next_op-clause-others g c =
-    reseated-others c.args.node.0 1 c.in-Some.server c.next_op.new.self c.args.self.now c.take_server.new.self
-    c.reseat-in-Some-next_op.new.self c.in-Some.ensures.taken c.reseat-in-Some-next_op.ensures.put
+pub returns-clause-made : goal.returns-clause-made
+returns-clause-made g c =
+    first-handed g.L.LogView.log c.args.node.0 (has_returned (slice_get c.args.self.now.seats.items c.args.node.0))
+    c.args.self.now c.next_change.new.self (sym c.if-has_returned.ensures) c.next_change.ensures.made
+
+pub returns-then-has_returned-clause-left : goal.returns-then-has_returned-clause-left
+returns-then-has_returned-clause-left g c =
+    let seat = slice_get c.args.self.now.seats.items c.args.node.0 in
+    let none : returned_at (slice_get c.refill.new.self.seats.items c.args.node.0) ≡ None =
+    ap returned_at c.refill.ensures.refills.seat ∙ none-returned seat in
+    left-after c.refill.result c.refill.result None
+    (returned_at (slice_get c.refill.new.self.seats.items c.args.node.0)) refl none (any-some c.refill.result)
+
+pub returns-clause-left : goal.returns-clause-left
+returns-clause-left g c =
+    let seat = slice_get c.args.self.now.seats.items c.args.node.0 in
+    left-after c.next_change.result (next_by g.L.LogView.log None (server_by seat)) (returned_at seat)
+    (returned_at (slice_get c.next_change.new.self.seats.items c.args.node.0)) c.next_change.ensures.value
+    (c.next_change.ensures.returned c.args.node.0) (left-none g.L.LogView.log seat (sym c.if-has_returned.ensures))

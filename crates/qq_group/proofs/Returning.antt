@@ -1,0 +1,118 @@
+-- Ops that are given back.
+use Rattle.std.proofs.Common.{◌≡◌, ◌⊎◌, ℕ, ◌<◌, Bool, true, false, List, length, Option, Some, None, refl, sym, ap, subst, ◌∙◌, inl, inr}
+use Rattle.std.specs.Prelude.{◌&&◌, is_some, IfSome, slice_get, slice_set}
+use Rattle.std.proofs.lemmas.Bool.{cases_eq, false≢true}
+use Rattle.std.proofs.lemmas.Option.{slice_get_cases}
+use Rattle.qq_log.specs.Log.{LogState}
+use Rattle.qq_log.specs.Writable.{MayWrite}
+use Rattle.qq_log.specs.declared.op.Op.{Op}
+use Rattle.qq_raft.specs.Raft.{server_of}
+use Rattle.qq_server.specs.declared.server.Server.{Server}
+use Rattle.qq_group.specs.Group.{IsReturned, server_by}
+use Rattle.qq_group.specs.Handing.{given_back, has_returned, next_by, reseated, returned_at, with_returned, IsReseated, KeepsReturned, Refills}
+use Rattle.qq_group.specs.Step.{ChangesSeat, IsSettled, IsTaken, IsUndone, emptied, seated}
+use Rattle.qq_group.specs.declared.group.Group.{Group}
+use Rattle.qq_group.specs.declared.seat.Seat.{Seat}
+use Rattle.qq_group.proofs.Seats.{set-other, set-own}
+use Rattle.qq_group.proofs.Stepped.{changed-other, changed-own}
+
+-- what is true of a seat alone says that it is there
+pub there-of : {A : Type 0} (xs : List A) (k : ℕ) (f : Option A → Bool) → f None ≡ false
+    → f (slice_get xs k) ≡ true → k < length xs
+there-of xs k f none is =
+    elim (slice_get_cases xs k).1 [
+      | inl found ↦ found.1
+      | inr beyond ↦ absurd (false≢true (sym none ∙ ap f (sym beyond.1) ∙ is))
+    ]
+
+pub refills : {Q L : Type 0} (k : ℕ) (returned after : Option Op) (seat : Seat Q L) (old new : Group Q L)
+    → k < length old.seats.items → slice_get old.seats.items k ≡ Some seat → after ≡ returned
+    → new.seats.items ≡ slice_set old.seats.items k (record seat { returned = after }) → new.queue ≡ old.queue
+    → new.nodes ≡ old.nodes → new.bag ≡ old.bag → new.audit ≡ old.audit → Refills k returned old new
+refills {Q = Q} {L = L} k returned after seat old new lt there is set queue nodes bag audit = record {
+  seat = ap (λ (l : List (Seat Q L)). slice_get l k) set
+      ∙ set-own old.seats.items k (record seat { returned = after }) lt
+      ∙ ap (λ (r : Option Op). Some (record seat { returned = r })) is
+      ∙ sym (ap (with_returned returned) there);
+  only = record {
+    others = λ q other.
+        ap (λ (l : List (Seat Q L)). slice_get l q) set
+        ∙ set-other old.seats.items k q (record seat { returned = after }) other;
+    queue = queue;
+    nodes = nodes;
+    bag = bag;
+    audit = audit;
+  };
+}
+
+pub may-write : (returned : Option Op) → IsReturned returned → IfSome returned MayWrite
+may-write None is = tt
+may-write (Some op) is = is
+
+pub given : {Q L : Type 0} (takes : Bool) (op : Op) (seat : Option (Seat Q L)) → takes ≡ true
+    → with_returned (Some op) seat ≡ given_back takes op seat
+given true op seat is = refl
+given false op seat is = absurd (false≢true is)
+
+-- ---- what leaves it there
+
+changes-returned : {Q L : Type 0} (k : ℕ) (was now : Seat Q L) (old new : Group Q L) → ChangesSeat k was now old new
+    → now.returned ≡ was.returned → KeepsReturned old new
+changes-returned {Q = Q} {L = L} k was now old new c same = λ q. by q (cases_eq q k)
+  where
+    by : (q : ℕ) → (q ≡ k) ⊎ (q ≡ k → ⊥)
+        → returned_at (slice_get new.seats.items q) ≡ returned_at (slice_get old.seats.items q)
+    by q (inl is) =
+        subst (λ (j : ℕ). returned_at (slice_get new.seats.items j) ≡ returned_at (slice_get old.seats.items j))
+        (sym is) (ap returned_at (changed-own k was now old new c) ∙ same ∙ sym (ap returned_at c.there))
+    by q (inr other) = ap returned_at (changed-other k q was now old new c other)
+
+pub taken-returned : {Q L : Type 0} (k : ℕ) (s : Server Q L) (old mid : Group Q L) → IsTaken k s old mid
+    → KeepsReturned old mid
+taken-returned k s old mid t = changes-returned k t.seat (emptied t.seat) old mid t.changes refl
+
+pub settled-returned : {Q L : Type 0} (log : L → LogState) (k : ℕ) (s t : Server Q L) (old mid new : Group Q L)
+    → IsTaken k s old mid → IsSettled log k t mid new → KeepsReturned old new
+settled-returned log k s t old mid new taken settled = λ q.
+    changes-returned k settled.seat (seated (server_of log t.raft).noticed settled.left settled.seat) mid new
+    settled.changes refl q
+    ∙ taken-returned k s old mid taken q
+
+pub undone-returned : {Q L : Type 0} (k : ℕ) (s : Server Q L) (old mid new : Group Q L) → IsTaken k s old mid
+    → IsUndone mid new → KeepsReturned old new
+undone-returned k s old mid new taken u = λ q.
+    ap (λ v. returned_at (slice_get v.items q)) u.seats ∙ taken-returned k s old mid taken q
+
+pub reseated-returned : {Q L : Type 0} (k count : ℕ) (s t : Server Q L) (old mid new : Group Q L)
+    → IsTaken k s old mid → IsReseated k count t mid new → KeepsReturned old new
+reseated-returned k count s t old mid new taken put = λ q.
+    changes-returned k put.seat (reseated count t put.seat) mid new put.changes refl q
+    ∙ taken-returned k s old mid taken q
+
+-- ---- and what takes it
+
+pub none-returned : {Q L : Type 0} (seat : Option (Seat Q L)) → returned_at (with_returned None seat) ≡ None
+none-returned None = refl
+none-returned (Some seat) = refl
+
+pub any-some : (result : Option Op) → IfSome result (λ _. ◌≡◌ {A = Option Op} None None)
+any-some None = tt
+any-some (Some op) = refl
+
+left-by : {Q L : Type 0} (log : L → LogState) (returned : Option Op) (o : Option (Server Q L))
+    → (is_some o && is_some returned) ≡ false → IfSome (next_by log None o) (λ _. returned ≡ None)
+left-by log returned None is = tt
+left-by log (Some op) (Some s) is = absurd (false≢true (sym is))
+left-by log None (Some s) is = any-some (slice_get (server_of log s.raft).ops 0)
+
+-- where the next op is the server's own, none was given back
+pub left-none : {Q L : Type 0} (log : L → LogState) (seat : Option (Seat Q L)) → has_returned seat ≡ false
+    → IfSome (next_by log None (server_by seat)) (λ _. returned_at seat ≡ None)
+left-none log None is = tt
+left-none log (Some seat) is = left-by log seat.returned seat.server is
+
+pub left-after : (result next : Option Op) (old new : Option Op) → result ≡ next → new ≡ old
+    → IfSome next (λ _. old ≡ None) → IfSome result (λ _. new ≡ None)
+left-after None next old new is same left = tt
+left-after (Some op) next old new is same left =
+    same ∙ subst (λ (o : Option Op). IfSome o (λ _. old ≡ None)) (sym is) left

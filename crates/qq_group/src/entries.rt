@@ -1,0 +1,87 @@
+//! Copies of a member's entries.
+ghost use Rattle.std.specs.Prelude.{◌≡◌, ◌≤◌, drop, take, length, IfOk, IsOkUnless};
+ghost use Rattle.qq_log.specs.Stable.{no_snapshot};
+ghost use Rattle.qq_raft.specs.Raft.{server_of};
+ghost use Rattle.qq_server.specs.Stands.{IsSound as IsSoundServer};
+ghost use Rattle.qq_group.specs.Group.{IsSound, server_at};
+ghost use Rattle.qq_group.specs.Reads.{entries_at, entries_from};
+
+use crate::group::Group;
+use qq_base::{Duplicate, Index, Memory, NodeId};
+use qq_entry::{Entries, Entry};
+use qq_raft_msg::{LogView, Queue};
+use qq_server::Server;
+use std::alloc::Global;
+
+/// Copies of a log's entries behind one index, up to another.
+fn copy_behind<L: LogView>(
+    alloc: Global,
+    log: &L,
+    first: u64,
+    end: u64,
+) -> Result<Vec<Entry>, Memory>
+    requires whole { (L.log log.now).base ≡ no_snapshot }
+    requires order { first ≤ end }
+    requires within { end ≤ length (L.log log.now).entries }
+
+    ensures ok { IfOk result (λ copied.
+        copied.items ≡ drop first (take end (L.log log.now).entries)) }
+    ensures want { IsOkUnless result Memory.Want }
+{
+    let mut copied = Vec::new(alloc);
+    'entries: for index in first..end {
+        let Some(entry) = log.entry(Index(index + 1)) else {
+            unreachable!()
+        };
+        copied.push(entry.copy(alloc)?)?;
+    }
+    Ok(copied)
+}
+
+/// Copies of a server's entries from one index to another. None exactly where its log lacks one of them.
+fn copy_entries<Q: Queue, L: LogView>(
+    alloc: Global,
+    server: &Server<Q, L>,
+    first: u64,
+    last: u64,
+) -> Result<Option<Entries>, Memory>
+    requires { IsSoundServer L.log Q.applied server.now }
+
+    ensures ok { IfOk result (λ copied.
+        copied ≡ entries_from first last (server_of L.log server.now.raft).log) }
+    ensures want { IsOkUnless result Memory.Want }
+{
+    if last < first {
+        return Ok(Some(Entries::new(alloc)));
+    }
+    if first == 0 || server.state().last.0 < last {
+        return Ok(None);
+    }
+    match copy_behind(alloc, server.log(), first - 1, last) {
+        Ok(copied) => Ok(Some(Entries::from_vec(copied))),
+        Err(cause) => Err(cause),
+    }
+}
+
+impl<Q: Queue, L: LogView> Group<Q, L> {
+    /// Copies of a member's entries from one index to another, from 1. None exactly where the member is down
+    /// or its log lacks one of them. The only error is `Memory::Want`, out of memory.
+    pub fn entries(
+        &self,
+        alloc: Global,
+        node: NodeId,
+        first: Index,
+        last: Index,
+    ) -> Result<Option<Entries>, Memory>
+        requires { IsSound Q.stands L.log Q.applied self.now }
+
+        ensures ok { IfOk result (λ copied.
+            copied ≡ entries_at L.log first.0 last.0 (server_at node.0 self.now)) }
+        ensures want { IsOkUnless result Memory.Want }
+    {
+        match self.server(node) {
+            None => Ok(None),
+            Some(server) => copy_entries(alloc, server, first.0, last.0),
+        }
+    }
+}
