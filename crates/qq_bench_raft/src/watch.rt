@@ -1,0 +1,78 @@
+use crate::party::Party;
+use anyhow::{Context, Result, ensure};
+use qq_entry::{Answer, Entry};
+use qq_group::Shown;
+use qq_raft_msg::Role;
+use qq_server::AppliedRow;
+use std::alloc::Global;
+
+/// What was seen of a group so far.
+#[derive(Drop)]
+pub struct Watch {
+    /// The rows that were shown.
+    pub rows: u64,
+    /// Each term that had a leader, with the leader.
+    pub leaders: Vec<(u64, u8)>,
+    /// The length of the audit.
+    audited: usize,
+}
+
+// Whether a row is that of an entry, by its term and time, and counts as many entries as its index.
+fn is_row_of(row: &AppliedRow, entry: &Entry) -> bool {
+    if row.row.entry.term.0 != entry.term.0 || row.row.entry.time != entry.time {
+        return false;
+    }
+    matches!(&row.row.answer, Answer::Purged { count } if *count == row.row.index.0)
+}
+
+impl Watch {
+    pub fn new(alloc: Global) -> Self {
+        Watch {
+            rows: 0,
+            leaders: Vec::new(alloc),
+            audited: 0,
+        }
+    }
+
+    /// Looks at the rows that an event has shown: each is the audit's entry at its index.
+    pub fn look_at_rows(&mut self, audit: &[Entry], shown: &Shown) -> Result<()> {
+        for row in shown.rows.as_slice() {
+            let place = row.row.index.0.saturating_sub(1);
+            let entry = audit
+                .get(usize::try_from(place)?)
+                .context("a row is of no entry")?;
+            ensure!(is_row_of(row, entry), "a row isn't that of its entry");
+            self.rows = self.rows.saturating_add(1);
+        }
+        Ok(())
+    }
+
+    fn look_at_leader(&mut self, term: u64, node: u8) -> Result<()> {
+        for (led, leader) in self.leaders.as_slice() {
+            if *led == term {
+                ensure!(*leader == node, "two members lead a term");
+                return Ok(());
+            }
+        }
+        self.leaders.push((term, node))?;
+        Ok(())
+    }
+
+    /// Looks at the members: none knows more to be committed than the audit has, which hasn't become shorter,
+    /// and one leads a term at most.
+    pub fn look_at_members(&mut self, party: &Party) -> Result<()> {
+        let audited = party.audit().len();
+        ensure!(self.audited <= audited, "the audit has become shorter");
+        self.audited = audited;
+        for node in 1..=party.count {
+            let Some(state) = party.member(node) else {
+                continue;
+            };
+            ensure!(state.commit.0 <= audited as u64, "the audit lacks an entry");
+            if state.role == Role::Leader {
+                self.look_at_leader(state.term.0, node)?;
+            }
+        }
+        Ok(())
+    }
+}
