@@ -7,5 +7,5 @@ mod program;
 mod queues;
 mod serving;
 
-pub use laws::runs_have_queues_of_their_own;
+pub use laws::{runs_carry_out_each_command_once, runs_have_queues_of_their_own};
 pub use program::run;
