@@ -2,7 +2,7 @@
 use crate::fault::Fault;
 use crate::reader::{read_number, read_pair};
 use qq_base::{Bytes, QueueId, Text};
-use qq_entry::{BODY_LIMIT, Content, Death, Deaths, Message, Origin, Reason};
+use qq_entry::{BODY_LIMIT, Content, Death, Deaths, Message, Origin, Reason, Shared};
 use std::alloc::Global;
 
 /// A message, and where it comes from, of its body and the parts behind it.
@@ -30,7 +30,7 @@ pub fn read_message(
     };
     let message = Message {
         size,
-        content: Some(content),
+        content: Some(Shared::new(alloc, content)?),
     };
     Ok((origin, message))
 }

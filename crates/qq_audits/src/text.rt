@@ -35,6 +35,7 @@ fn push_message(alloc: Global, text: &mut Vec<u8>, message: &Message) -> Result<
         let words = format!(in alloc; "of {size} bytes\n")?;
         return push_str(text, words.as_str());
     };
+    let content = content.get();
     text.extend_from_slice(content.body.as_slice())?;
     if content.key.len() != 0 {
         let key = content.key.as_str();

@@ -12,11 +12,12 @@ fn message(alloc: Global) -> Result<Message, Fail> {
         queue: QueueId(3),
         reason: Reason::MaxLen,
     })?;
-    Ok(Message::new(Content {
+    let content = Content {
         body: Bytes::from_vec([7, 8].to_vec(alloc)?),
         key: Text::from_str(alloc, "orders")?,
         deaths,
-    }))
+    };
+    Ok(Message::new(alloc, content)?)
 }
 
 #[test]

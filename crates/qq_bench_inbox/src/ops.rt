@@ -13,11 +13,18 @@ use std::alloc::Global;
 use std::collections::VecDeque;
 
 // The entry that publishes a body.
-fn publishing(alloc: Global, seq: u64, body: Bytes) -> Entry
+fn publishing(alloc: Global, seq: u64, body: Bytes) -> Result<Entry, Memory>
     requires { length body ≤ BODY_LIMIT }
-    ensures { result ≡ publishing seq body }
+
+    ensures { IfOk result (λ entry. entry ≡ publishing seq body) }
 {
-    Entry {
+    let content = Content {
+        body,
+        key: Text::new(alloc),
+        deaths: Deaths::new(alloc),
+    };
+    let message = Message::new(alloc, content)?;
+    Ok(Entry {
         term: Term(1),
         time: 0,
         command: Command::Enqueue {
@@ -27,13 +34,9 @@ fn publishing(alloc: Global, seq: u64, body: Bytes) -> Entry
                 done: 0,
             },
             origin: None,
-            message: Message::new(Content {
-                body,
-                key: Text::new(alloc),
-                deaths: Deaths::new(alloc),
-            }),
+            message,
         },
-    }
+    })
 }
 
 // Queue 1's op that adds the entry.
@@ -43,7 +46,7 @@ fn op_of(alloc: Global, number: u64, body: Bytes) -> Result<Op, Memory>
     ensures { IfOk result (λ op. op ≡ op_of number body) }
 {
     let mut entries = Entries::new(alloc);
-    entries.push(publishing(alloc, number, body))?;
+    entries.push(publishing(alloc, number, body)?)?;
     Ok(Op::Change {
         queue: QueueId(1),
         op: number,

@@ -1,9 +1,9 @@
-ghost use Rattle.std.specs.Prelude.{◌≡◌, ◌≤◌, [], length, All};
+ghost use Rattle.std.specs.Prelude.{◌≡◌, ◌≤◌, [], length, All, IfOk};
 ghost use Rattle.qq_entry.specs.declared.limits.TheConstants.{BODY_LIMIT};
 ghost use Rattle.qq_bench_log.specs.Feed.{IsMade};
 
 use anyhow::{Result, ensure};
-use qq_base::{Bytes, SessionId, Term, Text};
+use qq_base::{Bytes, Memory, SessionId, Term, Text};
 use qq_command::{BODY_LIMIT, Command, Content, Deaths, Entries, Entry, Message, Stamp};
 use std::alloc::Global;
 use std::marker::Model;
@@ -27,21 +27,23 @@ impl Model for Made {
 }
 
 // Publishes a message with this body.
-fn entry_of(body: Bytes, alloc: Global) -> Entry
+fn entry_of(body: Bytes, alloc: Global) -> Result<Entry, Memory>
     requires { length body ≤ BODY_LIMIT }
-    ensures { IsMade result }
+
+    ensures { IfOk result IsMade }
 {
-    let message = Message::new(Content {
+    let content = Content {
         body,
         key: Text::new(alloc),
         deaths: Deaths::new(alloc),
-    });
+    };
+    let message = Message::new(alloc, content)?;
     let stamp = Stamp {
         session: SessionId::client(1),
         seq: 1,
         done: 0,
     };
-    Entry {
+    Ok(Entry {
         term: Term(1),
         time: 0,
         command: Command::Enqueue {
@@ -49,7 +51,7 @@ fn entry_of(body: Bytes, alloc: Global) -> Entry
             origin: None,
             message,
         },
-    }
+    })
 }
 
 impl Made {
@@ -67,7 +69,8 @@ impl Made {
         ensure!(size <= BODY_LIMIT, "a body is too long");
         let mut body = Vec::new(alloc);
         body.resize(size, b'x')?;
-        self.entries.push(entry_of(Bytes::from_vec(body), alloc))?;
+        let entry = entry_of(Bytes::from_vec(body), alloc)?;
+        self.entries.push(entry)?;
         Ok(())
     }
 

@@ -30,11 +30,12 @@ impl Publish {
         ensure!(size <= BODY_LIMIT, "a body is too long");
         let mut body = Vec::new(alloc);
         body.resize(size, b'x')?;
-        let message = Message::new(Content {
+        let content = Content {
             body: Bytes::from_vec(body),
             key: Text::new(alloc),
             deaths: Deaths::new(alloc),
-        });
+        };
+        let message = Message::new(alloc, content)?;
         let stamp = Stamp {
             session: SessionId::client(1),
             seq: 1,

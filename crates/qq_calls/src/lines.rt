@@ -40,11 +40,12 @@ fn send_to(alloc: Global, row: &QueueRow, session: u64, body: Bytes) -> Result<C
             size: body.len() as u64,
         });
     }
-    let message = Message::new(Content {
+    let content = Content {
         body,
         key: row.name.copy(alloc)?,
         deaths: Deaths::new(alloc),
-    });
+    };
+    let message = Message::new(alloc, content)?;
     Ok(Call::Send {
         queue: row.args.queue,
         session,

@@ -1,6 +1,7 @@
 use qq_base::{Bytes, Ids, Index, SessionId, Term, Text};
 use qq_entry::{
-    Answer, AuditRow, Cause, Command, Content, Deaths, Delivery, Entry, Full, Message, Stamp,
+    Answer, AuditRow, Cause, Command, Content, Deaths, Delivery, Entry, Full, Message, Shared,
+    Stamp,
 };
 use qq_script::{answer_text, row_text};
 use std::alloc::Global;
@@ -68,6 +69,11 @@ fn answers_read_as_printed(rt: HostRuntime) -> Result<(), Fail> {
 #[test]
 fn a_message_that_was_returned_says_how_often(rt: HostRuntime) -> Result<(), Fail> {
     let alloc = rt.alloc();
+    let content = Content {
+        body: Bytes::from_vec(b"ab".to_vec(alloc)?),
+        key: Text::new(alloc),
+        deaths: Deaths::new(alloc),
+    };
     let delivery = Delivery {
         index: Index(4),
         arrival: 2,
@@ -75,11 +81,7 @@ fn a_message_that_was_returned_says_how_often(rt: HostRuntime) -> Result<(), Fai
         count: 3,
         message: Message {
             size: 2,
-            content: Some(Content {
-                body: Bytes::from_vec(b"ab".to_vec(alloc)?),
-                key: Text::new(alloc),
-                deaths: Deaths::new(alloc),
-            }),
+            content: Some(Shared::new(alloc, content)?),
         },
     };
     let text = line(alloc, stamp(1, 0, 1, 7), &Answer::Got(delivery))?;

@@ -214,7 +214,8 @@ pub fn message_at(alloc: Global, bytes: &[u8]) -> Result<(Message, &[u8]), Refus
     let (body, rest) = body_at(alloc, bytes)?;
     let (key, rest) = key_at(alloc, rest)?;
     let (deaths, rest) = deaths_at(alloc, rest)?;
-    Ok((Message::new(Content { body, key, deaths }), rest))
+    let message = Message::new(alloc, Content { body, key, deaths })?;
+    Ok((message, rest))
 }
 
 #[tactic(auto, unfolding(crate::specs::Reading::mode_at))]

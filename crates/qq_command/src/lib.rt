@@ -19,8 +19,8 @@ pub use qq_entry::{
     Answer, AuditRow, BODY_LIMIT, Cause, Command, Content, DEAD_DONE_LIMIT, DEATHS_LIMIT,
     DELIVERY_LIMIT, DeadDone, DeadDones, Death, Deaths, Delivery, Effect, Effects, Entries, Entry,
     Full, IDS_LIMIT, KEY_LIMIT, LENGTH_LIMIT, LIVE_LIMIT, MACHINE_VERSION, Members, Message, Mode,
-    Origin, Overflow, QueueArgs, ReadyRow, Reason, Rows, Stamp, Standing, Strategy, TARGETS_LIMIT,
-    TERM_LIMIT, Table, Unstamped,
+    Origin, Overflow, QueueArgs, ReadyRow, Reason, Rows, Shared, Stamp, Standing, Strategy,
+    TARGETS_LIMIT, TERM_LIMIT, Table, Unstamped,
 };
 pub use reading::{decode, entries_read_back, no_encoding_begins_another};
 pub use refusal::Refusal;

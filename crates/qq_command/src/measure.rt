@@ -4,7 +4,7 @@ ghost use Rattle.qq_command.specs.Encoding.{encoding};
 ghost use Rattle.qq_entry.specs.Range.{AreDeadDones, AreIds, IsCommand, IsContent, IsWritable};
 ghost use Rattle.qq_command.specs.Lengths.{origin_length, content_length, ids_length, dead_dones_length, fields_length};
 
-use qq_entry::{Command, Content, DeadDone, Entry, Origin};
+use qq_entry::{Command, Content, DeadDone, Entry, Origin, Shared};
 
 /// The bytes of an entry beside its command's fields: term, length, time and kind.
 const ENTRY_LEN: usize = 21;
@@ -27,14 +27,17 @@ fn origin_len(from: &Option<Origin>) -> usize
     }
 }
 
-fn content_len(of: &Option<Content>) -> usize
+fn content_len(of: &Option<Shared<Content>>) -> usize
     requires { IfSome of.now IsContent }
     ensures len { result ≡ content_length of.now }
     ensures within { result < 2 ^ 32 }
 {
     match of {
         None => 0,
-        Some(c) => 7 + c.body.len() + c.key.len() + 5 * c.deaths.len(),
+        Some(shared) => {
+            let c = shared.get();
+            7 + c.body.len() + c.key.len() + 5 * c.deaths.len()
+        }
     }
 }
 

@@ -6,7 +6,7 @@ ghost use Rattle.qq_command.specs.Encoding.{IsPrefix, flag, session, stamp, orig
 use crate::lengths::{CONTENT_LEN, DEATH_LEN};
 use crate::lists::put_deaths;
 use qq_base::{Memory, SessionId, put_u8, put_u16, put_u32, put_u64};
-use qq_entry::{BODY_LIMIT, Content, KEY_LIMIT, Mode, Origin, Stamp};
+use qq_entry::{BODY_LIMIT, Content, KEY_LIMIT, Mode, Origin, Shared, Stamp};
 
 pub fn put_flag(out: &mut Vec<u8>, value: bool) -> Result<(), Memory>
     ensures ok { OnOk result (out.new.items ≡ out.old.items ++ flag value) }
@@ -98,7 +98,7 @@ fn put_key(out: &mut Vec<u8>, bytes: &[u8]) -> Result<(), Memory>
 
 /// A content. One that was taken out has no bytes.
 #[tactic(auto, using(crate::proofs::Appends::prefix_rules), unfolding(crate::specs::Encoding::content))]
-pub fn put_content(out: &mut Vec<u8>, value: &Option<Content>) -> Result<(), Memory>
+pub fn put_content(out: &mut Vec<u8>, value: &Option<Shared<Content>>) -> Result<(), Memory>
     requires { IfSome value.now IsContent }
     ensures ok { OnOk result (out.new.items ≡ out.old.items ++ content value.now) }
     ensures err { OnErr result (IsPrefix out.old.items out.new.items) }
@@ -106,7 +106,8 @@ pub fn put_content(out: &mut Vec<u8>, value: &Option<Content>) -> Result<(), Mem
 {
     match value {
         None => Ok(()),
-        Some(value) => {
+        Some(shared) => {
+            let value = shared.get();
             let deaths_len = DEATH_LEN * value.deaths.len();
             out.reserve(CONTENT_LEN + value.body.len() + value.key.len() + deaths_len)?;
             put_body(out, value.body.as_slice())?;

@@ -4,7 +4,9 @@ ghost use Rattle.std.specs.Cmp.Lexicographic.{pointwise};
 ghost use Rattle.qq_desk.specs.Same.{reason_rank, same_content, same_contents, same_message, same_origin, same_stamp, same_mode, same_ids, same_command, same_entry};
 
 use qq_base::QueueId;
-use qq_entry::{Command, Content, DeadDone, Death, Entry, Message, Mode, Origin, Reason, Stamp};
+use qq_entry::{
+    Command, Content, DeadDone, Death, Entry, Message, Mode, Origin, Reason, Shared, Stamp,
+};
 
 /// An item of a list that is compared with another.
 trait Same {
@@ -68,12 +70,12 @@ fn same_content(a: &Content, b: &Content) -> bool
     a.body == b.body && a.key == b.key && are_same(a.deaths.as_slice(), b.deaths.as_slice())
 }
 
-fn same_contents(a: &Option<Content>, b: &Option<Content>) -> bool
+fn same_contents(a: &Option<Shared<Content>>, b: &Option<Shared<Content>>) -> bool
     ensures { result ≡ same_contents a.now b.now }
 {
     match (a, b) {
         (None, None) => true,
-        (Some(a), Some(b)) => same_content(a, b),
+        (Some(a), Some(b)) => same_content(a.get(), b.get()),
         _ => false,
     }
 }

@@ -1,5 +1,5 @@
 use qq_base::SessionId;
-use qq_command::{Command, Content, DeadDone, Entry, Mode, Origin, Stamp};
+use qq_command::{Command, Content, DeadDone, Entry, Mode, Origin, Shared, Stamp};
 use std::fmt;
 
 /// A body up to this length is shown in full.
@@ -108,11 +108,12 @@ fn write_origin<W: fmt::Write>(f: &mut fmt::Formatter<W>, origin: Option<Origin>
 
 fn write_content<W: fmt::Write>(
     f: &mut fmt::Formatter<W>,
-    content: &Option<Content>,
+    content: &Option<Shared<Content>>,
 ) -> fmt::Result {
     let Some(content) = content else {
         return f.write_str(", no content");
     };
+    let content = content.get();
     f.write_str(", body ")?;
     for byte in content.body.as_slice().iter().take(BODY_SHOWN) {
         write!(f, "{byte:02x}")?;

@@ -31,6 +31,7 @@ mod command;
 mod limits;
 mod message;
 mod queue;
+mod shared;
 mod table;
 
 pub use answer::{Answer, Cause, Delivery, Full};
@@ -42,4 +43,5 @@ pub use limits::{
 };
 pub use message::{Content, Death, Deaths, Message, Origin, ReadyRow, Reason};
 pub use queue::{DELIVERY_LIMIT, LIVE_LIMIT, Members, Overflow, QueueArgs, Strategy};
+pub use shared::Shared;
 pub use table::{Standing, Table};

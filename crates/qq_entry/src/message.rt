@@ -1,3 +1,4 @@
+use crate::shared::Shared;
 use qq_base::{Bytes, Duplicate, Index, Items, Memory, QueueId, Text};
 use std::alloc::Global;
 
@@ -42,8 +43,8 @@ pub struct Content {
 pub struct Message {
     /// The size of its body in bytes, also once that was taken out.
     pub size: u32,
-    /// What it carries. None where this was taken out.
-    pub content: Option<Content>,
+    /// What it carries, shared by all copies. None where this was taken out.
+    pub content: Option<Shared<Content>>,
 }
 
 /// Where a dead letter comes from.
@@ -69,18 +70,20 @@ pub struct ReadyRow {
 }
 
 impl Message {
-    ghost use Rattle.std.specs.Prelude.{◌≡◌, ◌<◌, ◌^◌, length};
+    ghost use Rattle.std.specs.Prelude.{◌≡◌, ◌<◌, ◌^◌, length, IfOk, IsOkUnless};
     ghost use Rattle.qq_entry.specs.Message.{new_message};
 
     /// The message with this content, whose size is that of the body.
-    pub fn new(content: Content) -> Self
+    pub fn new(alloc: Global, content: Content) -> Result<Self, Memory>
         requires { length content.body < 2 ^ 32 }
-        ensures { result ≡ new_message content }
+
+        ensures ok { IfOk result (λ message. message ≡ new_message content) }
+        ensures want { IsOkUnless result Memory.Want }
     {
-        Message {
+        Ok(Message {
             size: content.body.len() as u32,
-            content: Some(content),
-        }
+            content: Some(Shared::new(alloc, content)?),
+        })
     }
 }
 

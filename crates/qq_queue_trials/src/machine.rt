@@ -21,14 +21,15 @@ fn stamp(seq: u64) -> Stamp {
 }
 
 fn publish(alloc: Global) -> Result<Command, Fail> {
+    let content = Content {
+        body: Bytes::new(alloc),
+        key: Text::new(alloc),
+        deaths: Deaths::new(alloc),
+    };
     Ok(Command::Enqueue {
         stamp: stamp(1),
         origin: None,
-        message: Message::new(Content {
-            body: Bytes::new(alloc),
-            key: Text::new(alloc),
-            deaths: Deaths::new(alloc),
-        }),
+        message: Message::new(alloc, content)?,
     })
 }
 

@@ -4,7 +4,7 @@ ghost use Rattle.qq_script.specs.Text.{seq_of, tag_of, full_text, cause_text, an
 
 use crate::words::{push_mark, push_number, push_numbered, push_session, push_text};
 use qq_base::{Memory, SessionId, Text};
-use qq_entry::{Answer, Cause, Command, Content, Full};
+use qq_entry::{Answer, Cause, Command, Content, Full, Shared};
 use std::alloc::Global;
 
 /// The number of a command with a stamp, and 0 of any other.
@@ -150,12 +150,12 @@ pub fn push_line(out: &mut Vec<u8>, head: &[u8], body: &[u8]) -> Result<(), Memo
     Ok(())
 }
 
-fn content_body(content: &Option<Content>) -> &[u8]
+fn content_body(content: &Option<Shared<Content>>) -> &[u8]
     ensures { result.now ≡ content_body content.now }
 {
     match content {
         None => &[],
-        Some(content) => content.body.as_slice(),
+        Some(content) => content.get().body.as_slice(),
     }
 }
 

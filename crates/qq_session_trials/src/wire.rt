@@ -1,5 +1,5 @@
 use qq_base::{Bytes, Index, Memory, QueueId, SessionId, Term, Text};
-use qq_entry::{Answer, Command, Content, Deaths, Entry, Message, Unstamped};
+use qq_entry::{Answer, Command, Content, Deaths, Entry, Message, Shared, Unstamped};
 use qq_serial::Serial;
 use qq_session::Publishing;
 use std::alloc::Global;
@@ -20,7 +20,7 @@ pub(crate) fn publish(alloc: Global, byte: u8) -> Result<Unstamped, Memory> {
         origin: None,
         message: Message {
             size: 1,
-            content: Some(content),
+            content: Some(Shared::new(alloc, content)?),
         },
     })
 }

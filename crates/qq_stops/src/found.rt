@@ -10,7 +10,7 @@ fn publishes(entry: &Entry, front: &[u8]) -> bool {
         return false;
     };
     match &message.content {
-        Some(content) => content.body.as_slice().starts_with(front),
+        Some(content) => content.get().body.as_slice().starts_with(front),
         None => false,
     }
 }
