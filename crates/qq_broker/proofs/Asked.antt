@@ -20,7 +20,13 @@ pub body-stamps : (body : Unstamped) → IsBody body → MayStamp body
 body-stamps (bodies.Enqueue None message) is = λ by counted. ((counted.0, tt, is.0), is.1)
 body-stamps (bodies.Enqueue (Some from) message) is = absurd is
 body-stamps bodies.Get is = λ by counted. (counted, tt)
-body-stamps _ is = absurd is
+body-stamps (bodies.Subscribe tag mode) is = λ by counted. (((counted, is.0), is.1), tt)
+body-stamps (bodies.Cancel tag) is = λ by counted. ((counted, is), tt)
+body-stamps (bodies.Credit tag count credit drain) is = λ by counted. (((counted, is.0), is.1, is.2), tt)
+body-stamps (bodies.Settle tag ids) is = λ by counted. (((counted, is.0), is.1), tt)
+body-stamps (bodies.Return tag ids) is = λ by counted. (((counted, is.0), is.1), tt)
+body-stamps (bodies.Discard tag ids) is = λ by counted. (((counted, is.0), is.1), tt)
+body-stamps bodies.Purge is = λ by counted. (counted, tt)
 
 -- nothing was asked
 pub has-nothing : (setup : Setup) (n : Node) (Stands' : Node → Type 0) (text : List ℕ) → Stands' n

@@ -1,15 +1,16 @@
 -- What some lines ask for.
-use Rattle.std.proofs.Common.{◌≡◌, true, false, Ok, Err, codes, refl}
+use Rattle.std.proofs.Common.{◌≡◌, ◌∷◌, [], true, false, Ok, Err, codes, refl}
 use Rattle.std.specs.Fmt.{digits}
 use Rattle.std.specs.Char.{encode_utf8}
 use Rattle.std.specs.Str.{chars, is_utf8}
 use Rattle.qq_disk.specs.declared.image.Tail.TheVariants.{Cut}
-use Rattle.qq_entry.specs.declared.command.Unstamped.TheVariants.{Get}
+use Rattle.qq_entry.specs.declared.command.Mode.TheVariants.{Prefetch, Link}
+use Rattle.qq_entry.specs.declared.command.Unstamped.TheVariants.{Get, Subscribe, Cancel, Credit, Settle, Return, Discard, Purge}
 use Rattle.qq_route.specs.declared.routes.Routes.{Routes}
 use Rattle.qq_defs.specs.Setup.{plain_row}
 use Rattle.qq_lines.specs.declared.fault.ScriptFault.TheVariants.{Unknown, Words, NoSuch}
 use Rattle.qq_lines.specs.Kinds.{kind_of}
-use Rattle.qq_lines.specs.Calls.{alone, one_session, one_queue, one_node, some_nodes, one_member, session_at, get, subscribe, crash, send}
+use Rattle.qq_lines.specs.Calls.{alone, one_session, one_queue, one_node, some_nodes, one_member, session_at, consumer_at, get, subscribe, credit, deliveries, crash, send}
 use Rattle.qq_lines.specs.Images.{image_of}
 use Rattle.qq_lines.specs.Lines.{read_plain, read}
 use Rattle.qq_world.specs.Rules.{Send, Mute, Auto, Notice, Crash}
@@ -60,6 +61,38 @@ pub is_no_body : (routes : Routes) → read_line (two_queues routes) 1 (codes "p
 unfolding is_utf8 chars encode_utf8 digits read_line line_of read read_plain kind_of alone one_session one_queue one_node some_nodes one_member session_at get subscribe crash send image_of
 is_no_body routes = refl
 
-pub is_consumers : (routes : Routes) → read_line (two_queues routes) 1 (codes "subscribe 1 q1 1 1") ≡ Err Unknown
-unfolding is_utf8 chars encode_utf8 digits read_line line_of read read_plain kind_of alone one_session one_queue one_node some_nodes one_member session_at get subscribe crash send image_of
-is_consumers routes = refl
+pub is_subscribe : (routes : Routes) → read_line (two_queues routes) 1 (codes "subscribe 3 q2 7 10") ≡ Ok (Send 2 3 (Subscribe 7 (Prefetch 10)))
+unfolding is_utf8 chars encode_utf8 digits read_line line_of read read_plain kind_of one_session session_at consumer_at subscribe credit deliveries
+is_subscribe routes = refl
+
+pub is_link : (routes : Routes) → read_line (two_queues routes) 1 (codes "link 3 q2 7") ≡ Ok (Send 2 3 (Subscribe 7 Link))
+unfolding is_utf8 chars encode_utf8 digits read_line line_of read read_plain kind_of one_session session_at consumer_at subscribe credit deliveries
+is_link routes = refl
+
+pub is_credit : (routes : Routes) → read_line (two_queues routes) 1 (codes "credit 3 q2 7 5 10 drain") ≡ Ok (Send 2 3 (Credit 7 5 10 true))
+unfolding is_utf8 chars encode_utf8 digits read_line line_of read read_plain kind_of one_session session_at consumer_at subscribe credit deliveries
+is_credit routes = refl
+
+pub is_settle : (routes : Routes) → read_line (two_queues routes) 1 (codes "settle 3 q2 7 1,4") ≡ Ok (Send 2 3 (Settle 7 (1 ∷ 4 ∷ [])))
+unfolding is_utf8 chars encode_utf8 digits read_line line_of read read_plain kind_of one_session session_at consumer_at subscribe credit deliveries
+is_settle routes = refl
+
+pub is_return : (routes : Routes) → read_line (two_queues routes) 1 (codes "return 3 q2 7 4") ≡ Ok (Send 2 3 (Return 7 (4 ∷ [])))
+unfolding is_utf8 chars encode_utf8 digits read_line line_of read read_plain kind_of one_session session_at consumer_at subscribe credit deliveries
+is_return routes = refl
+
+pub is_discard : (routes : Routes) → read_line (two_queues routes) 1 (codes "discard 3 q2 7 4") ≡ Ok (Send 2 3 (Discard 7 (4 ∷ [])))
+unfolding is_utf8 chars encode_utf8 digits read_line line_of read read_plain kind_of one_session session_at consumer_at subscribe credit deliveries
+is_discard routes = refl
+
+pub is_cancel : (routes : Routes) → read_line (two_queues routes) 1 (codes "cancel 3 q2 7") ≡ Ok (Send 2 3 (Cancel 7))
+unfolding is_utf8 chars encode_utf8 digits read_line line_of read read_plain kind_of one_session session_at consumer_at subscribe credit deliveries
+is_cancel routes = refl
+
+pub is_purge : (routes : Routes) → read_line (two_queues routes) 1 (codes "purge 3 #2") ≡ Ok (Send 2 3 Purge)
+unfolding is_utf8 chars encode_utf8 digits read_line line_of read read_plain kind_of one_session session_at consumer_at subscribe credit deliveries
+is_purge routes = refl
+
+pub is_end : (routes : Routes) → read_line (two_queues routes) 1 (codes "end 3") ≡ Err Unknown
+unfolding is_utf8 chars encode_utf8 digits read_line line_of read read_plain kind_of one_session session_at consumer_at subscribe credit deliveries
+is_end routes = refl

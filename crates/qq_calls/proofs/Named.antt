@@ -1,11 +1,12 @@
 -- A line that is read names queues of the setup, and sessions from 1.
 use Rattle.std.proofs.Common.{◌≡◌, ◌≤◌, ◌<◌, ◌^◌, ◌-◌, ℕ, zero, suc, Bool, true, false, cond, List, [], ◌∷◌, Option, Some, None, Result, Ok, Err, length, map, refl, sym, ap, subst, ◌∙◌, inl, inr, arith}
 use Rattle.std.specs.Prelude.{nat_eq, nat_le, nat_lt, slice_get, Contains, codes}
-use Rattle.std.specs.List.{find}
-use Rattle.std.specs.Option.{option_and_then}
+use Rattle.std.specs.List.{AllByRecursion, find, slice_split}
+use Rattle.std.specs.Option.{option_and_then, option_map}
 use Rattle.std.specs.Str.{IsUtf8, bytes_eq}
 use Rattle.std.proofs.lemmas.Bool.{and_parts, false≢true, leb-true, ltb-false}
-use Rattle.std.proofs.lemmas.List.Elements.{All-nil}
+use Rattle.std.proofs.lemmas.List.Elements.{All-nil, All-from_recursion}
+use Rattle.std.proofs.lemmas.List.Splits.{length-slice_split}
 use Rattle.std.proofs.lemmas.Slice.Eq.{bytes_eq-Decides}
 use Rattle.qq_base.proofs.Lists.{In, In-map, find-in, AllByRecursion-in}
 use Rattle.qq_base.specs.Ids.{client}
@@ -14,8 +15,10 @@ use Rattle.qq_base.specs.declared.ids.NodeId.{NodeId}
 use Rattle.qq_base.specs.declared.ids.QueueId.{QueueId}
 use Rattle.qq_base.specs.declared.ids.SessionId.{SessionId}
 use Rattle.qq_entry.specs.declared.command.Unstamped.TheVariants as bodies
-use Rattle.qq_entry.specs.declared.limits.TheConstants.{BODY_LIMIT, KEY_LIMIT}
-use Rattle.qq_entry.specs.Range.{IsDeath}
+use Rattle.qq_entry.specs.declared.command.Mode.TheVariants.{Prefetch, Link}
+use Rattle.qq_entry.specs.declared.command.Unstamped.{Unstamped}
+use Rattle.qq_entry.specs.declared.limits.TheConstants.{BODY_LIMIT, KEY_LIMIT, IDS_LIMIT}
+use Rattle.qq_entry.specs.Range.{IsDeath, IsPositive, AreIds}
 use Rattle.qq_defs.specs.declared.members.QueueRow.{QueueRow}
 use Rattle.qq_defs.specs.declared.setup.Setup.{Setup}
 use Rattle.qq_lines.specs.declared.fault.ScriptFault.{ScriptFault}
@@ -36,11 +39,11 @@ use Rattle.qq_lines.specs.Images.{image_of}
 use Rattle.qq_lines.specs.Kinds.{kind_of}
 use Rattle.qq_lines.specs.Lines.{is_nothing, publish_text, may_stand, text_in, parse_line, read_plain, read, in_place, read_as, read_words, read_text, read_bytes}
 use Rattle.qq_lines.specs.Names.{named, numbered, behind_hash, row_of, row_at, node_of, is_member}
-use Rattle.qq_lines.specs.Numbers.{number_in, number_of, session_of, consumer_of, ids_of, within, is_within}
+use Rattle.qq_lines.specs.Numbers.{number_in, number_of, session_of, tag_of, consumer_of, id_of, with_first, all_ids, is_comma, ids_of, within, is_within}
 use Rattle.qq_lines.specs.Words.{◌>>=◌, or_fault, text_of, behind_four, words_of}
 use Rattle.qq_world.specs.Rules.{Line, Nothing, Send, Resend, Mute, Auto, Pump, Write, Sync, Notice, Tick, Crash, Restart, Show}
-use Rattle.qq_calls.specs.Named.{IsNamed, HaveNames}
-use Rattle.qq_calls.specs.Lines.{line_of, publish_to, send_to, publish, send, send_by_name, at_line, read_line, ask_by, is_there, target_of}
+use Rattle.qq_calls.specs.Named.{IsBody, IsNamed, HaveNames}
+use Rattle.qq_calls.specs.Lines.{of_consumer, line_of, publish_to, send_to, publish, send, send_by_name, at_line, read_line, ask_by, is_there, target_of}
 use Rattle.qq_calls.specs.Queues.{place_of}
 
 -- ---- one step after another
@@ -87,15 +90,16 @@ abbrev number_at : Option SessionId → ℕ
 number_at None = 0
 number_at (Some by) = by.number
 
-in-range : (first last : ℕ) (o : Option ℕ) (n : ℕ) → within first last o ≡ Some n → first ≤ n
+in-range : (first last : ℕ) (o : Option ℕ) (n : ℕ) → within first last o ≡ Some n → (first ≤ n) × (n ≤ last)
 in-range first last None n is = absurd cc
 in-range first last (Some m) n is = by (is_within first last m) refl
   where
-    by : (b : Bool) → is_within first last m ≡ b → first ≤ n
+    by : (b : Bool) → is_within first last m ≡ b → (first ≤ n) × (n ≤ last)
     by true passes =
         let here : Some m ≡ Some n = sym (rw passes refl) ∙ is in
         let same : m ≡ n = cc in
-        subst (λ (k : ℕ). first ≤ k) same (leb-true _ _ (and_parts _ _ passes).0)
+        let parts = and_parts (nat_le first m) (nat_le m last) passes in
+        subst (λ (k : ℕ). (first ≤ k) × (k ≤ last)) same (leb-true first m parts.0, leb-true m last parts.1)
     by false fails =
         let here : nothing {A = ℕ} ≡ Some n = sym (rw fails refl) ∙ is in
         absurd cc
@@ -110,7 +114,91 @@ session-positive word by is = from (number_in 1 (2 ^ 32 - 1) word) refl
     from (Some n) some =
         let here : Some (record { class = 1; owner = 0; number = n }) ≡ Some by = sym (rw some refl) ∙ is in
         let same : n ≡ by.number = ap (λ (o : Option SessionId). number_at o) here in
-        omega (arith, same, in-range 1 (2 ^ 32 - 1) (number_of word) n some)
+        omega (arith, same, (in-range 1 (2 ^ 32 - 1) (number_of word) n some).0)
+
+positive-in : (bits : ℕ) (word : List ℕ) (n : ℕ) → number_in 1 (2 ^ bits - 1) word ≡ Some n → IsPositive bits n
+positive-in bits word n is =
+    let range = in-range 1 (2 ^ bits - 1) (number_of word) n is in
+    (omega (arith, range.0), omega (arith, range.0, range.1))
+
+below-in : (bits : ℕ) (word : List ℕ) (n : ℕ) → 0 < 2 ^ bits → number_in 0 (2 ^ bits - 1) word ≡ Some n → n < 2 ^ bits
+below-in bits word n some is =
+    let range = in-range 0 (2 ^ bits - 1) (number_of word) n is in
+    omega (arith, some, range.1)
+
+abbrev consumer-at : Option ConsumerId → ConsumerId → ConsumerId
+consumer-at None d = d
+consumer-at (Some by) d = by
+
+abbrev IsConsumer : ConsumerId → Type 0
+IsConsumer by = (0 < by.session.number) × IsPositive 32 by.tag
+
+consumer-positive : (session tag : List ℕ) (by : ConsumerId) → consumer_of session tag ≡ Some by → IsConsumer by
+consumer-positive session tag by is = from (session_of session) refl
+  where
+    from : (o : Option SessionId) → session_of session ≡ o → IsConsumer by
+    from None none =
+        let here : nothing {A = ConsumerId} ≡ Some by = sym (rw none refl) ∙ is in
+        absurd cc
+    from (Some owner) some = behind (tag_of tag) refl
+      where
+        behind : (o : Option ℕ) → tag_of tag ≡ o → IsConsumer by
+        behind None none =
+            let here : nothing {A = ConsumerId} ≡ Some by = sym (rw some (rw none refl)) ∙ is in
+            absurd cc
+        behind (Some n) given =
+            let one : ConsumerId = record { session = owner; tag = n } in
+            let here : Some one ≡ Some by = sym (rw some (rw given refl)) ∙ is in
+            let same : one ≡ by = ap (λ (o : Option ConsumerId). consumer-at o one) here in
+            subst IsConsumer same (session-positive session owner some, positive-in 32 tag n given)
+
+abbrev ids-at : Option (List ℕ) → List ℕ
+ids-at None = []
+ids-at (Some ids) = ids
+
+-- as many ids as words, each from 1
+record AreAll (words : List (List ℕ)) (ids : List ℕ) : Type 0 where
+  count : length ids ≡ length words
+  each : AllByRecursion (IsPositive 64) ids
+
+all-positive : (words : List (List ℕ)) (ids : List ℕ) → all_ids words ≡ Some ids → AreAll words ids
+all-positive [] ids is =
+    let same : [] ≡ ids = ap ids-at is in
+    subst (AreAll []) same (record { count = refl; each = tt })
+all-positive (word ∷ words) ids is = from (id_of word) refl (λ more others. all-positive words more others)
+  where
+    from : (o : Option ℕ) → id_of word ≡ o
+        → ((more : List ℕ) → all_ids words ≡ Some more → AreAll words more) → AreAll (word ∷ words) ids
+    from None none each =
+        let here : nothing {A = List ℕ} ≡ Some ids = sym (rw none refl) ∙ is in
+        absurd cc
+    from (Some id) some each = behind (all_ids words) refl
+      where
+        behind : (o : Option (List ℕ)) → all_ids words ≡ o → AreAll (word ∷ words) ids
+        behind None none =
+            let here : nothing {A = List ℕ} ≡ Some ids = sym (rw some (rw none refl)) ∙ is in
+            absurd cc
+        behind (Some more) others =
+            let here : Some (id ∷ more) ≡ Some ids = sym (rw some (rw others refl)) ∙ is in
+            let same : id ∷ more ≡ ids = ap ids-at here in
+            let rest : AreAll words more = each more others in
+            subst (AreAll (word ∷ words)) same
+            (record { count = ap suc rest.count; each = (positive-in 64 word id some, rest.each) })
+
+ids-positive : (word : List ℕ) (ids : List ℕ) → ids_of word ≡ Some ids → AreIds ids
+ids-positive word ids is = by (nat_le (length (slice_split is_comma word)) IDS_LIMIT) refl
+  where
+    by : (b : Bool) → nat_le (length (slice_split is_comma word)) IDS_LIMIT ≡ b → AreIds ids
+    by true few =
+        let here : all_ids (slice_split is_comma word) ≡ Some ids = sym (rw few refl) ∙ is in
+        let all : AreAll (slice_split is_comma word) ids = all-positive (slice_split is_comma word) ids here in (
+          omega (arith, all.count, length-slice_split is_comma word),
+          omega (arith, all.count, leb-true (length (slice_split is_comma word)) IDS_LIMIT few),
+          All-from_recursion (IsPositive 64) ids all.each,
+        )
+    by false many =
+        let here : nothing {A = List ℕ} ≡ Some ids = sym (rw many refl) ∙ is in
+        absurd cc
 
 -- ---- queues
 
@@ -180,12 +268,36 @@ session-at-said s (session ∷ queue ∷ []) p is =
     (queue-said s queue at second, session-positive session by (found Number (session_of session) by first))))
 session-at-said s _ p is = absurd (refused Words p is)
 
+-- a consumer of a session from 1, and a queue that is there
+abbrev IsConsumerAt : Setup → ConsumerId → QueueId → Type 0
+IsConsumerAt s by at = IsPlaceOf s.queues at.0 × IsConsumer by
+
+consumer-at-said : (s : Setup) (words : List (List ℕ)) (p : ConsumerId × QueueId) → consumer_at s words ≡ Ok p
+    → IsConsumerAt s p.0 p.1
+unfolding consumer_at
+consumer-at-said s (session ∷ queue ∷ tag ∷ []) p is =
+    bound _ (or_fault Number (consumer_of session tag)) _ p is
+    (λ by first more. bound _ (queue_of s queue) _ p more
+    (λ at second last.
+    let same : (by, at) ≡ p = same-read (by, at) p last in
+    subst (λ (q : ConsumerId × QueueId). IsConsumerAt s q.0 q.1) same
+    (queue-said s queue at second, consumer-positive session tag by (found Number (consumer_of session tag) by first))))
+consumer-at-said s _ p is = absurd (refused Words p is)
+
 -- ---- lines
 
 -- what a line says of queues and sessions
 abbrev Says : Setup → ScriptLine → Type 0
 Says s (lines.Send by exchange key body) = (0 < by.number) × (length key ≤ KEY_LIMIT)
 Says s (lines.Get by at) = IsPlaceOf s.queues at.0 × (0 < by.number)
+Says s (lines.Subscribe by at most) = IsConsumerAt s by at × (most < 2 ^ 16)
+Says s (lines.Link by at) = IsConsumerAt s by at
+Says s (lines.Credit by at had given drain) = IsConsumerAt s by at × (had < 2 ^ 32) × (given < 2 ^ 32)
+Says s (lines.Settle by at ids) = IsConsumerAt s by at × AreIds ids
+Says s (lines.Return by at ids) = IsConsumerAt s by at × AreIds ids
+Says s (lines.Discard by at ids) = IsConsumerAt s by at × AreIds ids
+Says s (lines.Cancel by at) = IsConsumerAt s by at
+Says s (lines.Purge by at) = IsPlaceOf s.queues at.0 × (0 < by.number)
 Says s (lines.Mute by) = 0 < by.number
 Says s (lines.Unmute by) = 0 < by.number
 Says s (lines.Notice node at) = IsPlaceOf s.queues at.0
@@ -265,7 +377,7 @@ unfolding alone
 alone-said s one said [] is holds = plain-said s one said is holds
 alone-said s one said (word ∷ words) is holds = absurd (refused Words said is)
 
--- ---- lines about consumers, which ask a node for nothing
+-- ---- lines about consumers
 
 subscribe-said : (s : Setup) (words : List (List ℕ)) (said : ScriptLine) → subscribe s words ≡ Ok said → Says s said
 unfolding subscribe
@@ -273,7 +385,13 @@ subscribe-said s (session ∷ queue ∷ tag ∷ prefetch ∷ []) said is =
     bound _ (or_fault Number (consumer_of session tag)) _ said is
     (λ by one rest. bound _ (or_fault Number (number_in 0 (2 ^ 16 - 1) prefetch)) _ said rest
     (λ most two rest'. bound _ (queue_of s queue) _ said rest'
-    (λ at three last. plain-said s (lines.Subscribe by at most) said last tt)))
+    (λ at three last. plain-said s (lines.Subscribe by at most) said last (
+      (
+        queue-said s queue at three,
+        consumer-positive session tag by (found Number (consumer_of session tag) by one),
+      ),
+      below-in 16 prefetch most (omega arith) (found Number (number_in 0 (2 ^ 16 - 1) prefetch) most two),
+    ))))
 subscribe-said s _ said is = absurd (refused Words said is)
 
 credit-said : (s : Setup) (words : List (List ℕ)) (said : ScriptLine) → credit s words ≡ Ok said → Says s said
@@ -284,14 +402,21 @@ credit-said s (session ∷ queue ∷ tag ∷ count ∷ more ∷ how ∷ []) said
     (λ by two rest'. bound _ (or_fault Number (amount_of count)) _ said rest'
     (λ had three later. bound _ (or_fault Number (amount_of more)) _ said later
     (λ given four later'. bound _ (queue_of s queue) _ said later'
-    (λ at five last. plain-said s (lines.Credit by at had given drain) said last tt)))))
+    (λ at five last. plain-said s (lines.Credit by at had given drain) said last (
+      (
+        queue-said s queue at five,
+        consumer-positive session tag by (found Number (consumer_of session tag) by two),
+      ),
+      below-in 32 count had (omega arith) (found Number (amount_of count) had three),
+      below-in 32 more given (omega arith) (found Number (amount_of more) given four),
+    ))))))
 credit-said s _ said is = absurd (refused Words said is)
 
 verdict-said : (s : Setup) (verdict : Verdict) (by : ConsumerId) (at : QueueId) (ids : List ℕ)
-    → Says s (verdict_on verdict by at ids)
-verdict-said s verdicts.Settle by at ids = tt
-verdict-said s verdicts.Return by at ids = tt
-verdict-said s verdicts.Discard by at ids = tt
+    → IsConsumerAt s by at × AreIds ids → Says s (verdict_on verdict by at ids)
+verdict-said s verdicts.Settle by at ids holds = holds
+verdict-said s verdicts.Return by at ids holds = holds
+verdict-said s verdicts.Discard by at ids holds = holds
 
 deliveries-said : (s : Setup) (verdict : Verdict) (words : List (List ℕ)) (said : ScriptLine)
     → deliveries verdict s words ≡ Ok said → Says s said
@@ -300,7 +425,13 @@ deliveries-said s verdict (session ∷ queue ∷ tag ∷ ids ∷ []) said is =
     bound _ (or_fault Number (consumer_of session tag)) _ said is
     (λ by one rest. bound _ (or_fault Number (ids_of ids)) _ said rest
     (λ list two rest'. bound _ (queue_of s queue) _ said rest'
-    (λ at three last. plain-said s (verdict_on verdict by at list) said last (verdict-said s verdict by at list))))
+    (λ at three last. plain-said s (verdict_on verdict by at list) said last (verdict-said s verdict by at list (
+      (
+        queue-said s queue at three,
+        consumer-positive session tag by (found Number (consumer_of session tag) by one),
+      ),
+      ids-positive ids list (found Number (ids_of ids) list two),
+    )))))
 deliveries-said s verdict _ said is = absurd (refused Words said is)
 
 crash-said : (s : Setup) (words : List (List ℕ)) (said : ScriptLine) → crash s words ≡ Ok said → Says s said
@@ -319,12 +450,15 @@ unfolding read_plain
 read_plain-said s plains.Get words said is = get-said s words said is
 read_plain-said s plains.Subscribe words said is = subscribe-said s words said is
 read_plain-said s plains.Link words said is =
-    bound _ (consumer_at s words) _ said is (λ p one last. plain-said s (lines.Link p.0 p.1) said last tt)
+    bound _ (consumer_at s words) _ said is
+    (λ p one last. plain-said s (lines.Link p.0 p.1) said last (consumer-at-said s words p one))
 read_plain-said s plains.Credit words said is = credit-said s words said is
 read_plain-said s plains.Cancel words said is =
-    bound _ (consumer_at s words) _ said is (λ p one last. plain-said s (lines.Cancel p.0 p.1) said last tt)
+    bound _ (consumer_at s words) _ said is
+    (λ p one last. plain-said s (lines.Cancel p.0 p.1) said last (consumer-at-said s words p one))
 read_plain-said s plains.Purge words said is =
-    bound _ (session_at s words) _ said is (λ p one last. plain-said s (lines.Purge p.0 p.1) said last tt)
+    bound _ (session_at s words) _ said is
+    (λ p one last. plain-said s (lines.Purge p.0 p.1) said last (session-at-said s words p one))
 read_plain-said s plains.End words said is =
     bound _ (one_session words) _ said is (λ by one last. plain-said s (lines.End by) said last tt)
 read_plain-said s plains.Resend words said is =
@@ -469,6 +603,12 @@ sent-to rows session exchange key body asked names positive short is = by (nat_e
     by true none = to (sym (rw none refl) ∙ is)
     by false some = absurd (refused NoSuch asked (sym (rw some refl) ∙ is))
 
+-- a command of a consumer's session
+consumed : (s : Setup) (by : ConsumerId) (at : QueueId) (body : Unstamped) (asked : Line) → IsConsumerAt s by at
+    → IsBody body → ok_of (of_consumer by at body) ≡ Ok asked → IsNamed (map place_of s.queues) asked
+consumed s by at body asked says range is =
+    same-line s.queues (of_consumer by at body) asked is (says.0, says.1.0, range)
+
 line-named : (s : Setup) (said : ScriptLine) (asked : Line) → HaveNames s.queues → Says s said
     → line_of s.queues said ≡ Ok asked → IsNamed (map place_of s.queues) asked
 unfolding line_of
@@ -491,7 +631,23 @@ line-named s (lines.Tick node at) asked names says is = same-line s.queues (Tick
 line-named s (lines.Crash nodes image) asked names says is = same-line s.queues (Crash image) asked is tt
 line-named s (lines.Restart nodes) asked names says is = same-line s.queues Restart asked is tt
 line-named s (lines.Show at) asked names says is = same-line s.queues (Show at.0) asked is says
-line-named s _ asked names says is = absurd (refused Unknown asked is)
+line-named s (lines.Subscribe by at most) asked names says is =
+    consumed s by at (bodies.Subscribe by.tag (Prefetch most)) asked says.0 (says.0.1.1, says.1) is
+line-named s (lines.Link by at) asked names says is =
+    consumed s by at (bodies.Subscribe by.tag Link) asked says (says.1.1, tt) is
+line-named s (lines.Credit by at had given drain) asked names says is =
+    consumed s by at (bodies.Credit by.tag had given drain) asked says.0 (says.0.1.1, says.1, says.2) is
+line-named s (lines.Settle by at ids) asked names says is =
+    consumed s by at (bodies.Settle by.tag ids) asked says.0 (says.0.1.1, says.1) is
+line-named s (lines.Return by at ids) asked names says is =
+    consumed s by at (bodies.Return by.tag ids) asked says.0 (says.0.1.1, says.1) is
+line-named s (lines.Discard by at ids) asked names says is =
+    consumed s by at (bodies.Discard by.tag ids) asked says.0 (says.0.1.1, says.1) is
+line-named s (lines.Cancel by at) asked names says is =
+    consumed s by at (bodies.Cancel by.tag) asked says says.1.1 is
+line-named s (lines.Purge by at) asked names says is =
+    same-line s.queues (Send at.0 by.number bodies.Purge) asked is (says.0, says.1, tt)
+line-named s (lines.End by) asked names says is = absurd (refused Unknown asked is)
 
 ask-named : (s : Setup) (line : List ℕ) (read' : Result ScriptLine ScriptFault) (asked : Line) → HaveNames s.queues
     → ((said : ScriptLine) → read' ≡ Ok said → Says s said) → ask_by s line read' ≡ Ok asked

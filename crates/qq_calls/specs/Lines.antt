@@ -3,6 +3,9 @@ use Rattle.std.specs.Prelude.{ℕ, List, [], ◌∷◌, Bool, true, false, ◌&&
 use Rattle.std.specs.List.{find}
 use Rattle.std.specs.Option.{is_some}
 use Rattle.std.specs.Str.{bytes_eq}
+use Rattle.qq_base.specs.declared.ids.ConsumerId.{ConsumerId}
+use Rattle.qq_base.specs.declared.ids.QueueId.{QueueId}
+use Rattle.qq_entry.specs.declared.command.Mode.TheVariants.{Prefetch, Link}
 use Rattle.qq_entry.specs.declared.command.Unstamped.{Unstamped}
 use Rattle.qq_entry.specs.declared.command.Unstamped.TheVariants as bodies
 use Rattle.qq_entry.specs.Message.{new_message}
@@ -45,7 +48,11 @@ send rows session exchange key body =
 
 -- ---- lines
 
--- What a line asks of a node. A node has no consumers yet, so what is about them is unknown.
+-- a command about a consumer is one of its session
+abbrev pub of_consumer : ConsumerId → QueueId → Unstamped → Line
+of_consumer by at body = Send at.0 by.session.number body
+
+-- What a line asks of a node. That a session ends is unknown to it yet.
 unfoldable pub line_of : List QueueRow → ScriptLine → Result Line ScriptFault
 line_of rows lines.Nothing = Ok Nothing
 line_of rows (lines.Publish body) = publish rows body
@@ -64,7 +71,15 @@ line_of rows (lines.Tick node at) = Ok (Tick at.0)
 line_of rows (lines.Crash nodes image) = Ok (Crash image)
 line_of rows (lines.Restart nodes) = Ok Restart
 line_of rows (lines.Show at) = Ok (Show at.0)
-line_of rows _ = Err Unknown
+line_of rows (lines.Subscribe by at most) = Ok (of_consumer by at (bodies.Subscribe by.tag (Prefetch most)))
+line_of rows (lines.Link by at) = Ok (of_consumer by at (bodies.Subscribe by.tag Link))
+line_of rows (lines.Credit by at had given drain) = Ok (of_consumer by at (bodies.Credit by.tag had given drain))
+line_of rows (lines.Settle by at ids) = Ok (of_consumer by at (bodies.Settle by.tag ids))
+line_of rows (lines.Return by at ids) = Ok (of_consumer by at (bodies.Return by.tag ids))
+line_of rows (lines.Discard by at ids) = Ok (of_consumer by at (bodies.Discard by.tag ids))
+line_of rows (lines.Cancel by at) = Ok (of_consumer by at (bodies.Cancel by.tag))
+line_of rows (lines.Purge by at) = Ok (Send at.0 by.number bodies.Purge)
+line_of rows (lines.End by) = Err Unknown
 
 -- ---- bytes
 

@@ -1,9 +1,10 @@
 //! What lines ask for, as laws: the functions do nothing, and their contracts are the laws.
-ghost use Rattle.std.specs.Prelude.{◌≡◌, ◌<◌, ◌+◌, ◌++◌, ℕ, List, Ok, Err, true, false, codes};
+ghost use Rattle.std.specs.Prelude.{◌≡◌, ◌<◌, ◌+◌, ◌++◌, ◌∷◌, [], ℕ, List, Ok, Err, true, false, codes};
 ghost use Rattle.std.specs.List.{range_with_len};
 ghost use Rattle.std.specs.Fmt.{decimal};
 ghost use Rattle.qq_disk.specs.declared.image.Tail.TheVariants.{Cut};
-ghost use Rattle.qq_entry.specs.declared.command.Unstamped.TheVariants.{Get};
+ghost use Rattle.qq_entry.specs.declared.command.Mode.TheVariants.{Prefetch, Link};
+ghost use Rattle.qq_entry.specs.declared.command.Unstamped.TheVariants.{Get, Subscribe, Cancel, Credit, Settle, Return, Discard, Purge};
 ghost use Rattle.qq_entry.specs.Queue.{default_args};
 ghost use Rattle.qq_route.specs.declared.routes.Routes.{Routes};
 ghost use Rattle.qq_defs.specs.declared.setup.Setup.{Setup};
@@ -53,8 +54,29 @@ pub fn lines_ask_for_their_rules()
         read_line (two_queues routes) 1 (codes "send 1 logs q1 a") ≡ Err NoSuch }
     ensures no_body { (routes : Routes) →
         read_line (two_queues routes) 1 (codes "publish") ≡ Err Words }
-    ensures consumers { (routes : Routes) →
-        read_line (two_queues routes) 1 (codes "subscribe 1 q1 1 1") ≡ Err Unknown }
+    ensures subscribe { (routes : Routes) →
+        read_line (two_queues routes) 1 (codes "subscribe 3 q2 7 10")
+        ≡ Ok (Send 2 3 (Subscribe 7 (Prefetch 10))) }
+    ensures link { (routes : Routes) → read_line (two_queues routes) 1 (codes "link 3 q2 7")
+        ≡ Ok (Send 2 3 (Subscribe 7 Link)) }
+    ensures credit { (routes : Routes) →
+        read_line (two_queues routes) 1 (codes "credit 3 q2 7 5 10 drain")
+        ≡ Ok (Send 2 3 (Credit 7 5 10 true)) }
+    ensures settle { (routes : Routes) →
+        read_line (two_queues routes) 1 (codes "settle 3 q2 7 1,4")
+        ≡ Ok (Send 2 3 (Settle 7 (1 ∷ 4 ∷ []))) }
+    ensures give_back { (routes : Routes) →
+        read_line (two_queues routes) 1 (codes "return 3 q2 7 4")
+        ≡ Ok (Send 2 3 (Return 7 (4 ∷ []))) }
+    ensures discard { (routes : Routes) →
+        read_line (two_queues routes) 1 (codes "discard 3 q2 7 4")
+        ≡ Ok (Send 2 3 (Discard 7 (4 ∷ []))) }
+    ensures cancel { (routes : Routes) →
+        read_line (two_queues routes) 1 (codes "cancel 3 q2 7") ≡ Ok (Send 2 3 (Cancel 7)) }
+    ensures purge { (routes : Routes) →
+        read_line (two_queues routes) 1 (codes "purge 3 #2") ≡ Ok (Send 2 3 Purge) }
+    ensures ends { (routes : Routes) →
+        read_line (two_queues routes) 1 (codes "end 3") ≡ Err Unknown }
 {}
 
 /// A law: over queues whose names are texts, what a line asks for names queues of the setup and sessions from

@@ -4,12 +4,12 @@ ghost use Rattle.std.specs.Option.{option_copied, option_map};
 ghost use Rattle.qq_lines.specs.Names.{named};
 ghost use Rattle.qq_lines.specs.Lines.{HasScriptCause, text_in};
 ghost use Rattle.qq_calls.specs.Calls.{rule_of};
-ghost use Rattle.qq_calls.specs.Lines.{send_to, publish, send, line_of, target_in, target_of, is_there, ask_by, read_line};
+ghost use Rattle.qq_calls.specs.Lines.{send_to, publish, send, of_consumer, line_of, target_in, target_of, is_there, ask_by, read_line};
 
 use crate::call::Call;
-use qq_base::{Bytes, Duplicate, Memory, Text};
+use qq_base::{Bytes, ConsumerId, Duplicate, Memory, QueueId, Text};
 use qq_defs::{QueueRow, Setup};
-use qq_entry::{BODY_LIMIT, Content, Deaths, Message, Unstamped};
+use qq_entry::{BODY_LIMIT, Content, Deaths, Message, Mode, Unstamped};
 use qq_lines::{Place, ScriptFault, ScriptLine, parse_line, parts_of, text_in, text_of};
 use std::alloc::Global;
 
@@ -88,11 +88,22 @@ fn send(
     }
 }
 
+// A command about a consumer.
+fn of_consumer(consumer: ConsumerId, queue: QueueId, body: Unstamped) -> Call
+    ensures { rule_of result ≡ of_consumer consumer queue body }
+{
+    Call::Send {
+        queue,
+        session: consumer.session.number,
+        body,
+    }
+}
+
 /// What a line asks of a node of these queues.
 ///
 /// - `ok`: it is the line's call.
 /// - `cause`: `NoSuch` comes where a message goes to an exchange, or to a queue that isn't there, `Body` where
-///   it is too long, and `Unknown` for a line about consumers. `Memory(Memory::Want)` may come at any time.
+///   it is too long, and `Unknown` where a session is to end. `Memory(Memory::Want)` may come at any time.
 #[tactic(auto, unfolding(crate::specs::Lines::line_of))]
 pub fn call_of(alloc: Global, rows: &[QueueRow], said: ScriptLine) -> Result<Call, ScriptFault>
     ensures ok { IfOk result (λ call. line_of rows.now said ≡ Ok (rule_of call)) }
@@ -133,14 +144,70 @@ pub fn call_of(alloc: Global, rows: &[QueueRow], said: ScriptLine) -> Result<Cal
         ScriptLine::Crash { image, .. } => Ok(Call::Crash { image }),
         ScriptLine::Restart { .. } => Ok(Call::Restart),
         ScriptLine::Show { queue } => Ok(Call::Show { queue }),
-        ScriptLine::Subscribe { .. } => Err(ScriptFault::Unknown),
-        ScriptLine::Link { .. } => Err(ScriptFault::Unknown),
-        ScriptLine::Credit { .. } => Err(ScriptFault::Unknown),
-        ScriptLine::Settle { .. } => Err(ScriptFault::Unknown),
-        ScriptLine::Return { .. } => Err(ScriptFault::Unknown),
-        ScriptLine::Discard { .. } => Err(ScriptFault::Unknown),
-        ScriptLine::Cancel { .. } => Err(ScriptFault::Unknown),
-        ScriptLine::Purge { .. } => Err(ScriptFault::Unknown),
+        ScriptLine::Subscribe {
+            consumer,
+            queue,
+            prefetch,
+        } => {
+            let tag = consumer.tag;
+            let mode = Mode::Prefetch(prefetch);
+            let body = Unstamped::Subscribe { tag, mode };
+            Ok(of_consumer(consumer, queue, body))
+        }
+        ScriptLine::Link { consumer, queue } => {
+            let tag = consumer.tag;
+            let mode = Mode::Link;
+            let body = Unstamped::Subscribe { tag, mode };
+            Ok(of_consumer(consumer, queue, body))
+        }
+        ScriptLine::Credit {
+            consumer,
+            queue,
+            count,
+            credit,
+            drain,
+        } => {
+            let body = Unstamped::Credit {
+                tag: consumer.tag,
+                count,
+                credit,
+                drain,
+            };
+            Ok(of_consumer(consumer, queue, body))
+        }
+        ScriptLine::Settle {
+            consumer,
+            queue,
+            ids,
+        } => {
+            let tag = consumer.tag;
+            Ok(of_consumer(consumer, queue, Unstamped::Settle { tag, ids }))
+        }
+        ScriptLine::Return {
+            consumer,
+            queue,
+            ids,
+        } => {
+            let tag = consumer.tag;
+            Ok(of_consumer(consumer, queue, Unstamped::Return { tag, ids }))
+        }
+        ScriptLine::Discard {
+            consumer,
+            queue,
+            ids,
+        } => {
+            let tag = consumer.tag;
+            Ok(of_consumer(consumer, queue, Unstamped::Discard { tag, ids }))
+        }
+        ScriptLine::Cancel { consumer, queue } => {
+            let tag = consumer.tag;
+            Ok(of_consumer(consumer, queue, Unstamped::Cancel { tag }))
+        }
+        ScriptLine::Purge { session, queue } => Ok(Call::Send {
+            queue,
+            session: session.number,
+            body: Unstamped::Purge,
+        }),
         ScriptLine::End { .. } => Err(ScriptFault::Unknown),
     }
 }

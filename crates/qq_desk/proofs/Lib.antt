@@ -5,4 +5,5 @@ mod Equalities
 mod TakenUp
 mod KnownClients
 mod Sending
+mod Showing
 mod Noticing

@@ -1,15 +1,16 @@
 //! The queue's machine and its audit: what is durable is applied, op by op.
-ghost use Rattle.std.specs.Prelude.{◌≡◌, ◌<◌, ◌≤◌, ◌∷◌, [], List, false, length, take, option_to_list, IfErr, OnOk, OnErr};
+ghost use Rattle.std.specs.Prelude.{◌≡◌, ◌<◌, ◌≤◌, ◌∷◌, ◌++◌, [], List, false, length, nat_eq, take, option_to_list, if◌then◌else◌, IfErr, OnOk, OnErr};
 ghost use Rattle.std.specs.Option.{option_copied};
 ghost use Rattle.qq_base.specs.Causes.{SpentOnlyWhere};
 ghost use Rattle.qq_log.specs.declared.op.Op.{Op};
 ghost use Rattle.qq_model.specs.State.{State, empty_queue};
 ghost use Rattle.qq_replay.specs.Replay.{stays_within};
 ghost use Rattle.qq_world.specs.Server.{entries_in, log_of};
-ghost use Rattle.qq_desk.specs.Audited.{IsShort, AreShort, IsAuditOf, Applies, IsSameAudit};
+ghost use Rattle.qq_world.specs.World.{effects_behind, effects_of_term};
+ghost use Rattle.qq_desk.specs.Audited.{IsShort, AreShort, IsAuditOf, Applies, IsSameAudit, all_effects, effects_next};
 
-use qq_base::{Duplicate, Index, Memory, NUMBER_END};
-use qq_entry::{AuditRow, Entry, QueueArgs};
+use qq_base::{Duplicate, Index, Memory, NUMBER_END, Term};
+use qq_entry::{AuditRow, Effect, Effects, Entry, QueueArgs};
 use qq_log::Op;
 use qq_serial::Serial;
 use std::alloc::Global;
@@ -37,6 +38,22 @@ pub fn entry_in(op: &Op) -> Option<&Entry>
         Op::Change { entries, .. } => entries.as_slice().first(),
         _ => None,
     }
+}
+
+fn is_of(entry: &Entry, term: Term) -> bool
+    ensures { result ≡ nat_eq entry.now.term.0 term.0 }
+{
+    entry.term.0 == term.0
+}
+
+// The effects of a row as far as they are shown.
+fn shown(alloc: Global, own: bool, made: Vec<Effect>) -> Effects
+    ensures { result ≡ (if own then made.items else []) }
+{
+    if own {
+        return Effects::from_vec(made);
+    }
+    Effects::new(alloc)
 }
 
 impl Audit {
@@ -81,11 +98,19 @@ impl Audit {
         }
     }
 
-    // Applies an entry and adds its row.
-    fn apply_entry(&mut self, alloc: Global, entry: &Entry) -> Result<(), Memory>
+    // Applies an entry and adds its row, and its effects where it is of this term.
+    fn apply_entry(
+        &mut self,
+        alloc: Global,
+        entry: &Entry,
+        term: Term,
+        effects: &mut Vec<Effects>,
+    ) -> Result<(), Memory>
         requires { self.old.audited ≤ self.old.applied }
 
         ensures ok { OnOk result (Applies (entry.now ∷ []) self.old self.new) }
+        ensures shown { OnOk result (all_effects effects.new.items ≡ all_effects effects.old.items
+            ++ effects_of_term term self.old.machine (entry.now ∷ [])) }
         ensures err { OnErr result (IsSameAudit self.old self.new) }
         ensures cause { IfErr result (λ e. SpentOnlyWhere e NUMBER_END
             (stays_within self.old.machine (entry.now ∷ []) ≡ false)) }
@@ -94,12 +119,17 @@ impl Audit {
         if let Err(_) = self.rows.reserve(1) {
             return Err(Memory::Want);
         }
+        if let Err(_) = effects.reserve(1) {
+            return Err(Memory::Want);
+        }
+        let own = is_of(entry, term);
         let kept = match entry.copy(alloc) {
             Ok(kept) => kept,
             Err(_) => return Err(Memory::Want),
         };
         match self.machine.step(alloc, index, entry) {
-            Ok((fresh, answer, _)) => {
+            Ok((fresh, answer, made)) => {
+                effects.push_reserved(shown(alloc, own, made));
                 self.rows.push_reserved(AuditRow {
                     index,
                     entry: kept,
@@ -113,10 +143,18 @@ impl Audit {
     }
 
     // Applies what an op adds.
-    fn apply_op(&mut self, alloc: Global, op: &Op) -> Result<(), Memory>
+    fn apply_op(
+        &mut self,
+        alloc: Global,
+        op: &Op,
+        term: Term,
+        effects: &mut Vec<Effects>,
+    ) -> Result<(), Memory>
         requires { IsShort op.now }
 
         ensures ok { OnOk result (Applies (entries_in op.now) self.old self.new) }
+        ensures shown { OnOk result (all_effects effects.new.items ≡ all_effects effects.old.items
+            ++ effects_next term (entries_in op.now) self.old) }
         ensures err { OnErr result (IsSameAudit self.old self.new) }
         ensures cause { IfErr result (λ e. SpentOnlyWhere e NUMBER_END
             (stays_within self.old.machine (entries_in op.now) ≡ false)) }
@@ -127,11 +165,19 @@ impl Audit {
         if self.applied < self.audited {
             return self.repeat_entry(alloc, entry);
         }
-        self.apply_entry(alloc, entry)
+        self.apply_entry(alloc, entry, term, effects)
     }
 
-    /// Applies the entries of the first ops, as far as they aren't, and adds a row for each that has none.
-    pub fn apply(&mut self, alloc: Global, ops: &[Op], count: usize) -> Result<(), Memory>
+    /// Applies the entries of the first ops, as far as they aren't, and adds a row for each that has none, and
+    /// its effects where the entry is of this term.
+    pub fn apply(
+        &mut self,
+        alloc: Global,
+        ops: &[Op],
+        count: usize,
+        term: Term,
+        effects: &mut Vec<Effects>,
+    ) -> Result<(), Memory>
         requires short { AreShort ops.now }
         requires behind { self.old.applied ≤ self.old.audited }
         requires more { self.old.audited ≤ count }
@@ -141,11 +187,14 @@ impl Audit {
         ensures most { self.new.audited ≤ count }
         ensures rows { length self.old.rows.items ≤ length self.new.rows.items }
         ensures ok { OnOk result ((self.new.applied ≡ count) × (self.new.audited ≡ count)) }
+        ensures shown { OnOk result ((s : State) → IsAuditOf s ops.now self.old →
+            all_effects effects.new.items ≡ all_effects effects.old.items
+            ++ effects_behind term s self.old.rows.items self.new.rows.items) }
         ensures cause { (s : State) → IsAuditOf s ops.now self.old → IfErr result (λ e.
             SpentOnlyWhere e NUMBER_END (stays_within s (log_of (take count ops.now)) ≡ false)) }
     {
         'ops: while self.applied < count {
-            if let Err(cause) = self.apply_op(alloc, &ops[self.applied]) {
+            if let Err(cause) = self.apply_op(alloc, &ops[self.applied], term, effects) {
                 return Err(cause);
             }
             self.applied += 1;

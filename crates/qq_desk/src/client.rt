@@ -55,6 +55,13 @@ impl Client {
         self.muted = muted;
     }
 
+    /// Whether what comes to it is lost.
+    pub fn is_muted(&self) -> bool
+        ensures { result ≡ self.now.muted }
+    {
+        self.muted
+    }
+
     /// Whether it may give a number: its window isn't full.
     pub fn may_hand(&self) -> bool
         ensures { result ≡ may_hand self.now.numbers }

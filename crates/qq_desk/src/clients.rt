@@ -8,13 +8,13 @@ ghost use Rattle.qq_base.specs.Fronts.{put};
 ghost use Rattle.qq_base.specs.declared.memory.TheConstants.{NUMBER_END};
 ghost use Rattle.qq_model.specs.declared.TheConstants.{WINDOW};
 ghost use Rattle.qq_session.specs.Publishing.{next_command, hand, open_commands, HasHandCause};
-ghost use Rattle.qq_world.specs.World.{hear, is_printed, may_hand, take_answer};
+ghost use Rattle.qq_world.specs.World.{hear, is_delivered_to, is_printed, may_hand, take_answer};
 ghost use Rattle.qq_desk.specs.Range.{HasBytes, MayStamp};
 ghost use Rattle.qq_desk.specs.Clients.{clients_of, is_known, set_muted, set_numbers};
 
 use crate::client::{Client, sender};
 use indexmap::IndexMap;
-use qq_base::{Memory, QueueId};
+use qq_base::{Memory, QueueId, SessionId};
 use qq_entry::{AuditRow, Command, Unstamped};
 use qq_session::HandFault;
 use std::alloc::Global;
@@ -140,6 +140,19 @@ impl Clients {
         match self.client(session) {
             None => false,
             Some(client) => client.is_printed_to(row),
+        }
+    }
+
+    /// Whether a session gets its deliveries: it is a client's, and what comes to it isn't lost.
+    pub fn is_delivered_to(&self, session: SessionId) -> bool
+        ensures { result ≡ is_delivered_to (clients_of self.now) session }
+    {
+        if session != SessionId::client(session.number) {
+            return false;
+        }
+        match self.client(session.number) {
+            None => true,
+            Some(client) => !client.is_muted(),
         }
     }
 

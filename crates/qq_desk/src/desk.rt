@@ -19,6 +19,7 @@ ghost use Rattle.qq_desk.specs.Taking.{told};
 ghost use Rattle.qq_desk.specs.Text.{shown_text_as, state_text_as};
 
 use crate::clients::Clients;
+use crate::delivering::deliver_all;
 use crate::role::Role;
 use crate::server::Server;
 use crate::text::Label;
@@ -253,7 +254,8 @@ impl Desk {
         }
     }
 
-    /// The server notices what is synced, and `out` grows by the answers that its clients hear of it.
+    /// The server notices what is synced, and `out` grows by the answers and then the deliveries that come to
+    /// its clients.
     /// `Spent` comes exactly where a number of the queue would be past its end. After an error `out` begins
     /// with what it had.
     pub fn notice(&mut self, alloc: Global, out: &mut Vec<u8>) -> Result<(), Memory>
@@ -268,12 +270,16 @@ impl Desk {
             return Ok(());
         }
         let before = self.server.rows().len();
-        if let Err(cause) = self.server.notice(alloc, self.synced) {
+        let mut effects = Vec::new(alloc);
+        if let Err(cause) = self.server.notice(alloc, self.synced, &mut effects) {
             return Err(cause);
         }
         let (_, rows) = self.server.rows().split_at(before);
         let term = self.server.term();
         if let Err(cause) = tell(alloc, &mut self.clients, rows, term, &self.label, out) {
+            return Err(cause);
+        }
+        if let Err(cause) = deliver_all(alloc, &self.clients, &effects, &self.label, out) {
             return Err(cause);
         }
         Ok(())

@@ -4,6 +4,7 @@
 mod audit;
 mod client;
 mod clients;
+mod delivering;
 mod desk;
 mod laws;
 mod role;

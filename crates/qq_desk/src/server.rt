@@ -1,5 +1,5 @@
 //! The queue's server in a group of one.
-ghost use Rattle.std.specs.Prelude.{◌≡◌, ◌+◌, ◌<◌, ◌≤◌, true, false, filter, length, option_to_list, IfOk, IfErr, IfSome, IsOkUnless, OnOk, OnErr};
+ghost use Rattle.std.specs.Prelude.{◌≡◌, ◌+◌, ◌++◌, ◌<◌, ◌≤◌, true, false, filter, length, option_to_list, IfOk, IfErr, IfSome, IsOkUnless, OnOk, OnErr};
 ghost use Rattle.std.specs.List.{AllByRecursion};
 ghost use Rattle.qq_base.specs.Causes.{SpentOnlyWhere};
 ghost use Rattle.qq_base.specs.declared.memory.TheConstants.{NUMBER_END};
@@ -8,7 +8,8 @@ ghost use Rattle.std.specs.Option.{option_copied};
 ghost use Rattle.qq_world.specs.Node.{commit_of};
 ghost use Rattle.qq_world.specs.Promise.{MayTakeUp};
 ghost use Rattle.qq_world.specs.Server.{log_of, term_of, new_server, is_down, is_leader_in, is_ready, hand_out, stand, tick, entry_of, lead, apply, notice, submit, stop, restart, may_restart};
-ghost use Rattle.qq_desk.specs.Audited.{AreShort};
+ghost use Rattle.qq_world.specs.World.{own_effects};
+ghost use Rattle.qq_desk.specs.Audited.{AreShort, all_effects};
 ghost use Rattle.qq_desk.specs.Range.{HasBytes, IsEntryOf, MayWait};
 ghost use Rattle.qq_desk.specs.Roles.{role_of};
 ghost use Rattle.qq_desk.specs.Taking.{told};
@@ -18,7 +19,7 @@ use crate::audit::Audit;
 use crate::role::Role;
 use crate::taking::{come_to, term_of};
 use qq_base::{Duplicate, Index, Memory, NUMBER_END, NodeId, Term};
-use qq_entry::{AuditRow, Command, Entries, Entry, QueueArgs};
+use qq_entry::{AuditRow, Command, Effects, Entries, Entry, QueueArgs};
 use qq_log::{Lane, Op};
 use std::alloc::Global;
 use std::marker::Model;
@@ -345,24 +346,35 @@ impl Server {
     }
 
     // The entries of what was noticed are applied.
-    fn apply(&mut self, alloc: Global) -> Result<(), Memory>
+    fn apply(&mut self, alloc: Global, effects: &mut Vec<Effects>) -> Result<(), Memory>
         ensures ok { OnOk result (self.new ≡ apply self.old) }
+        ensures shown { OnOk result (all_effects effects.new.items ≡ all_effects effects.old.items
+            ++ own_effects self.old self.new) }
         ensures continues { Continues self.old self.new }
         ensures rows { length self.old.audit ≤ length self.new.audit }
         ensures cause { IfErr result (λ e.
             SpentOnlyWhere e NUMBER_END (is_spent_by self.old.noticed self.old ≡ true)) }
         ensures within { OnOk result (is_spent_by self.old.noticed self.old ≡ false) }
     {
-        self.audit.apply(alloc, &self.ops, self.noticed)
+        let term = self.term;
+        self.audit
+            .apply(alloc, &self.ops, self.noticed, term, effects)
     }
 
     /// So many of its ops are durable: a candidate leads once its vote is, and a leader applies what is
-    /// durable once its first entry is.
-    pub fn notice(&mut self, alloc: Global, count: usize) -> Result<(), Memory>
+    /// durable once its first entry is. `effects` grows by what the rows that it answers have done.
+    pub fn notice(
+        &mut self,
+        alloc: Global,
+        count: usize,
+        effects: &mut Vec<Effects>,
+    ) -> Result<(), Memory>
         requires more { self.old.noticed ≤ count }
         requires most { count ≤ length self.old.ops }
 
         ensures ok { OnOk result (self.new ≡ notice count self.old) }
+        ensures shown { OnOk result (all_effects effects.new.items ≡ all_effects effects.old.items
+            ++ own_effects self.old self.new) }
         ensures within { OnOk result (is_spent_by_notice count self.old ≡ false) }
         ensures noticed { self.new.noticed ≡ count }
         ensures ops { length self.old.ops ≤ length self.new.ops }
@@ -377,7 +389,7 @@ impl Server {
         }
         match self.role {
             Role::Candidate => self.lead(alloc),
-            Role::Leader => self.apply(alloc),
+            Role::Leader => self.apply(alloc, effects),
             Role::Follower | Role::Down => Ok(()),
         }
     }

@@ -2,15 +2,15 @@
 ghost use Rattle.std.specs.Prelude.{◌≡◌, ◌++◌, codes, IfOk, OnOk, OnErr, IsOkUnless};
 ghost use Rattle.std.specs.Fmt.{decimal};
 ghost use Rattle.qq_world.specs.Node.{role_text, state_words, commit_of};
-ghost use Rattle.qq_world.specs.World.{Answered, NoLeader, WindowFull};
+ghost use Rattle.qq_world.specs.World.{Answered, Delivered, NoLeader, WindowFull};
 ghost use Rattle.qq_desk.specs.Roles.{role_of};
 ghost use Rattle.qq_desk.specs.Text.{shown_text_as, state_text_as};
 
 use crate::role::Role;
 use crate::server::Server;
-use qq_base::{Memory, SessionId, Text};
-use qq_entry::AuditRow;
-use qq_script::{answer_text, push_number, push_text, session_line};
+use qq_base::{ConsumerId, Memory, SessionId, Text};
+use qq_entry::{AuditRow, Delivery};
+use qq_script::{answer_text, delivery_text, push_number, push_text, session_line};
 use std::alloc::Global;
 
 /// Whose lines they are: the queue's name, and whether it is the node's first queue.
@@ -36,6 +36,22 @@ impl Label {
             &row.answer,
             out,
         )
+    }
+
+    /// Adds a delivery.
+    pub fn delivered(
+        &self,
+        alloc: Global,
+        consumer: ConsumerId,
+        delivery: &Delivery,
+        out: &mut Vec<u8>,
+    ) -> Result<(), Memory>
+        ensures ok { OnOk result (out.new.items ≡ out.old.items
+            ++ shown_text_as self.now.first self.now.name (Delivered consumer delivery.now)) }
+        ensures err { OnErr result (out.new.items ≡ out.old.items) }
+        ensures want { IsOkUnless result Memory.Want }
+    {
+        delivery_text(alloc, self.first, &self.name, consumer, delivery, out)
     }
 
     /// Adds that no leader is ready to take a session's command.

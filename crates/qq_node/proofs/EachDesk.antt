@@ -6,7 +6,7 @@ use Rattle.qq_base.proofs.InPlace.{mapped_rest}
 use Rattle.qq_desk.specs.Desk.{DeskState, Does, IsSameQueue, world_of}
 use Rattle.qq_desk.specs.Text.{shown_text_as}
 use Rattle.qq_world.specs.Node.{Setup, Node, At, Of, is_first, printed_text, shown_text, text_of}
-use Rattle.qq_world.specs.World.{World, Event, Shown, Answered, NoLeader, WindowFull, happens, said}
+use Rattle.qq_world.specs.World.{World, Event, Shown, Answered, Delivered, NoLeader, WindowFull, happens, said}
 use Rattle.qq_node_laws.specs.Reads.{queue_at}
 use Rattle.qq_node_laws.specs.Waiting.{AreApart}
 use Rattle.qq_node.specs.Desks.{AllDo, DoesAt}
@@ -218,6 +218,7 @@ one-done setup n m event (suc at) place (p ∷ places) (old ∷ olds) [] later b
 pub shown-as : (setup : Setup) (place : ℕ) (shown : Shown)
     → shown_text_as (is_first setup place) (setup.name place) shown ≡ shown_text setup place shown
 shown-as setup place (Answered row) = refl
+shown-as setup place (Delivered consumer delivery) = refl
 shown-as setup place (NoLeader session) = refl
 shown-as setup place (WindowFull session) = refl
 

@@ -9,7 +9,7 @@ use Rattle.qq_model.specs.Audit.{entries_of}
 use Rattle.qq_model.proofs.Soundness.{Contains-in, in_contains}
 use Rattle.qq_world.specs.Node.{Setup, NodeEvent, Printed, Of, Stopped, IsDown, Busy, State, new_node, node_after, all_prints}
 use Rattle.qq_world.specs.Promise.{HoldsAudit}
-use Rattle.qq_world.specs.World.{Answered, NoLeader, WindowFull}
+use Rattle.qq_world.specs.World.{Answered, Delivered, NoLeader, WindowFull}
 use Rattle.qq_world.proofs.EachQueue.{IsOwn, all-own}
 use Rattle.qq_world.proofs.Worlds.{sound-world}
 use Rattle.qq_node_laws.specs.Answers.{HasEntry, IsKept, KeepsAnswers}
@@ -48,7 +48,8 @@ keeps-answers setup events d linked =
     one (Of place (Answered row)) own = λ within read may.
         holds-entry ((node_after (new_node setup) events).queue place).server.audit row read
         (AllByRecursion-in (HasAudit setup (node_after (new_node setup) events) d) place setup.places audits
-        (in_contains setup.places place within) read may) own.is_in
+        (in_contains setup.places place within) read may) own.0.is_in
+    one (Of place (Delivered consumer delivery)) own = tt
     one (Of place (NoLeader session)) own = tt
     one (Of place (WindowFull session)) own = tt
     one Stopped own = tt

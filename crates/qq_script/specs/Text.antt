@@ -1,7 +1,8 @@
--- The text of answers.
+-- The text of answers and deliveries.
 use Rattle.std.specs.Prelude.{ℕ, List, [], ◌∷◌, ◌++◌, Bool, true, false, ◌==◌, ◌&&◌, Option, Some, None, unwrap_or, codes, if◌then◌else◌}
 use Rattle.std.specs.Fmt.{decimal}
 use Rattle.std.specs.Option.{option_map_or}
+use Rattle.qq_base.specs.declared.ids.ConsumerId.{ConsumerId}
 use Rattle.qq_base.specs.declared.ids.SessionId.{SessionId}
 use Rattle.qq_entry.specs.declared.message.Message.{Message}
 use Rattle.qq_entry.specs.declared.message.Content.{Content}
@@ -13,6 +14,7 @@ use Rattle.qq_entry.specs.declared.answer.Full.TheVariants.{Length, ByteLength, 
 use Rattle.qq_entry.specs.declared.answer.Cause.{Cause}
 use Rattle.qq_entry.specs.declared.answer.Cause.TheVariants.{SingleActive, NumberSpent, ConsumersFull, NoConsumer, WrongMode}
 use Rattle.qq_entry.specs.declared.answer.Answer.{Answer}
+use Rattle.qq_entry.specs.declared.answer.Delivery.{Delivery}
 use Rattle.qq_entry.specs.declared.answer.Answer.TheVariants as answers
 
 -- the number of a stamped command, and 0 of one without a stamp
@@ -102,3 +104,17 @@ answer_text first command queue answer =
     line_prefix first (session command) queue
     ++ answer_words (seq_of command) (tag_of command) answer
     ++ shown_body answer ++ 10 ∷ []
+
+-- ---- deliveries
+
+-- the consumer's tag, the delivery's number and the message's, without its body
+abbrev pub delivery_words : ConsumerId → Delivery → List ℕ
+delivery_words consumer delivery =
+    codes "deliver " ++ decimal consumer.tag ++ codes " " ++ decimal delivery.id ++ codes " "
+    ++ mark_text delivery.arrival delivery.count
+
+-- the printed line of a delivery
+abbrev pub delivery_text : Bool → List ℕ → ConsumerId → Delivery → List ℕ
+delivery_text first queue consumer delivery =
+    line_prefix first (Some consumer.session) queue ++ delivery_words consumer delivery
+    ++ 32 ∷ content_body delivery.message.content ++ 10 ∷ []

@@ -97,7 +97,7 @@ fn is_first_client(session: Option<SessionId>) -> bool
     }
 }
 
-fn push_line_prefix(
+pub fn push_line_prefix(
     out: &mut Vec<u8>,
     first: bool,
     session: Option<SessionId>,
@@ -150,7 +150,7 @@ pub fn push_line(out: &mut Vec<u8>, head: &[u8], body: &[u8]) -> Result<(), Memo
     Ok(())
 }
 
-fn content_body(content: &Option<Shared<Content>>) -> &[u8]
+pub fn content_body(content: &Option<Shared<Content>>) -> &[u8]
     ensures { result.now ≡ content_body content.now }
 {
     match content {

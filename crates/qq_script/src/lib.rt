@@ -1,10 +1,12 @@
-//! The text of answers and audits as it is printed.
+//! The text of answers, deliveries and audits as it is printed.
 #![tactic(auto)]
 
 mod answer;
 mod audit;
+mod delivery;
 mod words;
 
 pub use answer::{answer_text, seq_of, session_line};
 pub use audit::{audit_head_text, row_text};
+pub use delivery::delivery_text;
 pub use words::{push_number, push_text};

@@ -12,14 +12,16 @@ use Rattle.qq_laws.specs.Numbers.{CountsCommands}
 use Rattle.qq_model.specs.Audit.{entries_of}
 use Rattle.qq_model.specs.Gate.{IsNumbered}
 use Rattle.qq_session.specs.Answered.{IsAnswered}
-use Rattle.qq_world.specs.Laws.{IsAudited, IsConfirmedOnce}
+use Rattle.qq_world.specs.Laws.{IsAudited, IsConfirmedOnce, IsMade}
+use Rattle.qq_world.specs.Server.{Server}
 use Rattle.qq_world.specs.Node.{Setup, Node, NodeEvent, Sets, Alike, At, Fails, Crashes, FindsEach, Shows, SaysDown, SaysBusy, Printed, Of, Stopped, IsDown, Busy, State, new_node, node_happens, node_after, part_of, parts_of, prints, all_prints}
 use Rattle.qq_world.specs.NodeLaws.{HasItsQueues, IsTrueOf, PrintsWhatIsTrue}
-use Rattle.qq_world.specs.World.{World, Event, said, after, all_said, happens}
+use Rattle.qq_world.specs.World.{World, Event, Shown, said, after, all_said, happens}
 use Rattle.qq_world.proofs.Handed.{all-front}
 use Rattle.qq_world.proofs.Lawful.{good-reached}
 use Rattle.qq_world.proofs.Once.{confirmed-once}
 use Rattle.qq_world.proofs.Printed.{all-audited}
+use Rattle.qq_world.proofs.Made.{all-made}
 use Rattle.qq_world.proofs.Worlds.{SoundWorld, follows-all, sound-world, after-append}
 
 node-queue : (n : Node) (events : List NodeEvent) (place : ℕ)
@@ -34,8 +36,16 @@ has-queues setup events place = node-queue (new_node setup) events place
 
 -- ---- what is printed
 
+abbrev pub IsOf : Server → Shown → Type 0
+IsOf s shown = IsAudited s.audit shown × IsMade s shown
+
+both-of : (s : Server) (shown : List Shown) → AllByRecursion (IsAudited s.audit) shown
+    → AllByRecursion (IsMade s) shown → AllByRecursion (IsOf s) shown
+both-of s [] audited made = tt
+both-of s (one ∷ more) audited made = ((audited.0, made.0), both-of s more audited.1 made.1)
+
 abbrev pub IsOwn : Node → Printed → Type 0
-IsOwn n (Of place shown) = IsAudited (n.queue place).server.audit shown
+IsOwn n (Of place shown) = IsOf (n.queue place).server shown
 IsOwn n _ = Unit {0}
 
 one-own : (n : Node) (event : NodeEvent) (events : List NodeEvent) → ((place : ℕ) → SoundWorld (n.queue place))
@@ -47,12 +57,16 @@ one-own n (At place event) events sound =
     let is : final.queue place ≡ after w (event ∷ more) =
     node-queue n (At place event ∷ events) place
     ∙ ap (λ (b : Bool). after w (cond b (event ∷ []) [] ++ more)) (eq-eqb place place refl) in
-    let each : AllByRecursion (IsAudited (after w (event ∷ more)).server.audit) (said w event) =
-    all-front (IsAudited (after w (event ∷ more)).server.audit) (said w event) (all_said (happens w event) more)
-    (all-audited w (event ∷ more) (sound place)) in
-    AllByRecursion-map (IsAudited (final.queue place).server.audit) (IsOwn final) (Of place) (said w event)
+    let s : Server = (after w (event ∷ more)).server in
+    let each : AllByRecursion (IsOf s) (said w event) =
+    both-of s (said w event)
+    (all-front (IsAudited s.audit) (said w event) (all_said (happens w event) more)
+    (all-audited w (event ∷ more) (sound place)))
+    (all-front (IsMade s) (said w event) (all_said (happens w event) more)
+    (all-made w (event ∷ more) (sound place))) in
+    AllByRecursion-map (IsOf (final.queue place).server) (IsOwn final) (Of place) (said w event)
     (λ shown own. own)
-    (subst (λ (v : World). AllByRecursion (IsAudited v.server.audit) (said w event)) (sym is) each)
+    (subst (λ (v : World). AllByRecursion (IsOf v.server) (said w event)) (sym is) each)
 one-own n (Sets auto) events sound = tt
 one-own n (Alike event) events sound = tt
 one-own n Fails events sound = (tt, tt)
@@ -94,10 +108,11 @@ prints-true counts answered setup events =
         let audit : List AuditRow = ((node_after (new_node setup) events).queue place).server.audit in
         let args : QueueArgs = setup.args place in
         let entries : List Entry = entries_of audit in (
-          own,
+          own.0,
           subst (λ (rows : List AuditRow). IsConfirmedOnce rows shown) (sym (serial place))
               (confirmed-once args entries (counts args entries) (answered args entries) shown
-              (subst (λ (rows : List AuditRow). IsAudited rows shown) (serial place) own)),
+              (subst (λ (rows : List AuditRow). IsAudited rows shown) (serial place) own.0)),
+          own.1,
         )
     one Stopped own = tt
     one IsDown own = tt

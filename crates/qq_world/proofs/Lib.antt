@@ -5,6 +5,7 @@ pub mod Worlds
 pub mod Lawful
 mod Confirming
 mod Printed
+pub mod Made
 mod Once
 mod Deeds
 mod Handed

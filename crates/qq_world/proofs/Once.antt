@@ -27,7 +27,7 @@ use Rattle.qq_session.proofs.AnsweredLemmas.{FreshRow, fresh_row}
 use Rattle.qq_session.proofs.AuditRows.{RowAt, row_at, filter_map-append}
 use Rattle.qq_world.specs.ExactlyOne.{ExactlyOne}
 use Rattle.qq_world.specs.Laws.{IsAnswer, IsAudited, IsConfirmedPublish, IsConfirmedOnce}
-use Rattle.qq_world.specs.World.{Shown, Answered, NoLeader, WindowFull, sender, sender_by}
+use Rattle.qq_world.specs.World.{Shown, Answered, Delivered, NoLeader, WindowFull, sender, sender_by}
 use Rattle.qq_world.proofs.Confirming.{IsEnqueue, confirmed-enqueue}
 
 -- ---- places in a list
@@ -226,6 +226,7 @@ answer-once args entries counts answered row audited given is confirmed =
 pub confirmed-once : (args : QueueArgs) (entries : List Entry) → CountsCommands args entries
     → ((session : SessionId) → IsNumbered session → IsAnswered session (queue_audit args entries))
     → (shown : Shown) → IsAudited (queue_audit args entries) shown → IsConfirmedOnce (queue_audit args entries) shown
+confirmed-once args entries counts answered (Delivered consumer delivery) audited = tt
 confirmed-once args entries counts answered (NoLeader session) audited = tt
 confirmed-once args entries counts answered (WindowFull session) audited = tt
 confirmed-once args entries counts answered (Answered row) audited =

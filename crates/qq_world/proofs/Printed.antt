@@ -1,11 +1,13 @@
 -- What is printed as an answer is a row of the audit.
-use Rattle.std.proofs.Common.{◌≡◌, ℕ, zero, suc, Bool, true, false, cond, List, [], ◌∷◌, Option, Some, None, length, map, drop, refl, sym, subst}
+use Rattle.std.proofs.Common.{◌≡◌, ℕ, zero, suc, Bool, true, false, cond, List, [], ◌∷◌, ◌++◌, Option, Some, None, length, map, drop, refl, sym, subst}
 use Rattle.std.specs.Prelude.{nat_eq, Contains}
-use Rattle.std.specs.List.{AllByRecursion}
+use Rattle.std.specs.List.{AllByRecursion, flat_map}
 use Rattle.std.proofs.lemmas.Bool.{false≢true, cond_both}
 use Rattle.std.proofs.lemmas.List.Elements.{Contains-append_left, Contains-append_right}
 use Rattle.qq_base.proofs.Lists.{AllByRecursion-append, AllByRecursion-filter, AllByRecursion-map, AllByRecursion-weaker}
 use Rattle.qq_entry.specs.declared.audit.AuditRow.{AuditRow}
+use Rattle.qq_entry.specs.declared.audit.Effect.{Effect}
+use Rattle.qq_entry.specs.declared.audit.Effect.TheVariants.{Deliver, DeadOnce, Offer}
 use Rattle.qq_entry.specs.declared.command.Command.{Command}
 use Rattle.qq_entry.specs.declared.queue.QueueArgs.{QueueArgs}
 use Rattle.qq_session.proofs.AuditRows.{Contains-middle}
@@ -13,10 +15,10 @@ use Rattle.qq_session.specs.Publishing.{Numbers, next_command, open_commands}
 use Rattle.qq_base.specs.Fronts.{IsFront}
 use Rattle.qq_world.specs.Laws.{IsAnswer, IsAudited, HasAuditedAnswers}
 use Rattle.qq_world.specs.Server.{Server, is_ready, notice}
-use Rattle.qq_world.specs.World.{World, Clients, Event, Mutes, Ticks, Submits, Resends, Writes, Syncs, Notices, Stops, Finds, Shown, Answered, NoLeader, WindowFull, new_world, is_up, may_hand, sender, hear, is_printed_by, is_printed, printed, own_rows, tell, happens, said_of, said, after, all_said}
+use Rattle.qq_world.specs.World.{World, Clients, Event, Mutes, Ticks, Submits, Resends, Writes, Syncs, Notices, Stops, Finds, Shown, Answered, Delivered, NoLeader, WindowFull, new_world, is_up, may_hand, sender, hear, is_printed_by, is_printed, printed, own_rows, own_effects, is_delivered_to, delivered, tell, told, happens, said_of, said, after, all_said}
 use Rattle.qq_world.proofs.Worlds.{SoundWorld, follows, follows-all, sound-world}
 
-each-contained : {A : Type 0} (xs : List A) → AllByRecursion (Contains xs) xs
+pub each-contained : {A : Type 0} (xs : List A) → AllByRecursion (Contains xs) xs
 each-contained [] = tt
 each-contained (x ∷ xs) = (
   Contains-middle [] xs x,
@@ -62,6 +64,18 @@ offered-audited audit true session commands = tt
 offered-audited audit false session [] = tt
 offered-audited audit false session (command ∷ commands) = (tt, offered-audited audit false session commands)
 
+delivered-audited : (audit : List AuditRow) (clients : Clients) (effects : List Effect)
+    → AllByRecursion (IsAudited audit) (flat_map (delivered clients) effects)
+delivered-audited audit clients [] = tt
+delivered-audited audit clients (Deliver consumer delivery ∷ effects) =
+    AllByRecursion-append (IsAudited audit) (delivered clients (Deliver consumer delivery))
+    (flat_map (delivered clients) effects)
+    (cond_both (is_delivered_to clients consumer.session) (Delivered consumer delivery ∷ []) []
+    (AllByRecursion (IsAudited audit)) (λ _. (tt, tt)) (λ _. tt))
+    (delivered-audited audit clients effects)
+delivered-audited audit clients (DeadOnce reason message ∷ effects) = delivered-audited audit clients effects
+delivered-audited audit clients (Offer number reason message ∷ effects) = delivered-audited audit clients effects
+
 said-audited : (w : World) (event : Event) → AllByRecursion (IsAudited (happens w event).server.audit) (said w event)
 said-audited w (Mutes session muted) = tt
 said-audited w Ticks = tt
@@ -79,12 +93,15 @@ said-audited w Syncs = tt
 said-audited w Notices = by (is_up w)
   where
     by : (b : Bool) → AllByRecursion (IsAudited (cond b (tell w) w).server.audit)
-        (cond b (map Answered (printed (own_rows w.server (notice w.synced w.server)) w.clients)) [])
+        (cond b (told w) [])
     by true =
         let now : Server = notice w.synced w.server in
-        AllByRecursion-map (IsAnswer now.audit) (IsAudited now.audit) Answered
+        AllByRecursion-append (IsAudited now.audit) (map Answered (printed (own_rows w.server now) w.clients))
+        (flat_map (delivered (tell w).clients) (own_effects w.server now))
+        (AllByRecursion-map (IsAnswer now.audit) (IsAudited now.audit) Answered
         (printed (own_rows w.server now) w.clients) (λ row is. is)
-        (printed-are now.audit (own_rows w.server now) w.clients (own-contained w.server now))
+        (printed-are now.audit (own_rows w.server now) w.clients (own-contained w.server now)))
+        (delivered-audited now.audit (tell w).clients (own_effects w.server now))
     by false = tt
 said-audited w Stops = tt
 said-audited w (Finds op) = tt
@@ -92,6 +109,7 @@ said-audited w (Finds op) = tt
 later-audited : (a b : List AuditRow) → IsFront a b → (shown : Shown) → IsAudited a shown → IsAudited b shown
 later-audited a b front (Answered row) is =
     record { is_in = front-contains a b row front is.is_in; session = is.session; sender_is = is.sender_is }
+later-audited a b front (Delivered consumer delivery) is = tt
 later-audited a b front (NoLeader session) is = tt
 later-audited a b front (WindowFull session) is = tt
 

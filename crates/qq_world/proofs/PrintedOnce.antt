@@ -1,12 +1,14 @@
 -- The answer that closes a number is printed once.
-use Rattle.std.proofs.Common.{◌≡◌, ◌≢◌, ◌<◌, ◌+◌, ℕ, Bool, true, false, cond, not, ◌&&◌, ◌||◌, List, [], ◌∷◌, ◌++◌, Option, Some, None, map, refl, sym, ap, ◌∙◌, subst, arith}
+use Rattle.std.proofs.Common.{◌≡◌, ◌≢◌, ◌<◌, ◌+◌, ℕ, Bool, true, false, cond, not, ◌&&◌, ◌||◌, List, [], ◌∷◌, ◌++◌, Option, Some, None, map, refl, sym, ap, ◌∙◌, subst, append-nil, arith}
 use Rattle.std.specs.Prelude.{filter_map, nat_eq, nat_lt, length}
-use Rattle.std.specs.List.{AllByRecursion, cons_option}
+use Rattle.std.specs.List.{AllByRecursion, cons_option, flat_map}
 use Rattle.std.proofs.lemmas.Bool.{false≢true, cond_both, cond-true, and_parts, eqb-true, ne_eqb}
 use Rattle.std.proofs.lemmas.List.Folds.{list_any-append}
 use Rattle.qq_base.proofs.Lists.{AllByRecursion-append, AllByRecursion-filter, AllByRecursion-weaker, list_any-filter}
 use Rattle.qq_entry.specs.declared.answer.Answer.{Answer}
 use Rattle.qq_entry.specs.declared.audit.AuditRow.{AuditRow}
+use Rattle.qq_entry.specs.declared.audit.Effect.{Effect}
+use Rattle.qq_entry.specs.declared.audit.Effect.TheVariants.{Deliver, DeadOnce, Offer}
 use Rattle.qq_entry.specs.declared.command.Command.{Command}
 use Rattle.qq_entry.specs.declared.command.Unstamped.{Unstamped}
 use Rattle.qq_entry.specs.declared.queue.QueueArgs.{QueueArgs}
@@ -17,7 +19,7 @@ use Rattle.qq_session.specs.Publishing.{OpenCommand, Numbers, next_command, hand
 use Rattle.qq_session.proofs.AuditRows.{filter_map-append}
 use Rattle.qq_world.specs.Laws.{is_sent_by, takes_of, after_deeds, deeds_at, closed_number, Distinct, ClosesOnce}
 use Rattle.qq_world.specs.Server.{is_ready, notice}
-use Rattle.qq_world.specs.World.{World, Clients, Event, Mutes, Ticks, Submits, Resends, Writes, Syncs, Notices, Stops, Finds, Shown, Answered, WindowFull, new_world, is_up, may_hand, sender, hear, hear_all, is_printed_by, is_printed, printed, own_rows, said_of, said, tell, happens, all_said}
+use Rattle.qq_world.specs.World.{World, Clients, Event, Mutes, Ticks, Submits, Resends, Writes, Syncs, Notices, Stops, Finds, Shown, Answered, Delivered, WindowFull, new_world, is_up, may_hand, sender, hear, hear_all, is_printed_by, is_printed, printed, own_rows, own_effects, is_delivered_to, delivered, said_of, said, tell, told, happens, all_said}
 use Rattle.qq_world.proofs.Deeds.{heard, heard-numbers, event-numbers}
 
 -- a number was given and is closed
@@ -229,6 +231,26 @@ offered-none session own true commands = refl
 offered-none session own false [] = refl
 offered-none session own false (command ∷ commands) = offered-none session own false commands
 
+-- a delivery closes no number
+delivered-none : (session : ℕ) (clients : Clients) (effects : List Effect)
+    → numbers_in session (flat_map (delivered clients) effects) ≡ []
+delivered-none session clients [] = refl
+delivered-none session clients (Deliver consumer delivery ∷ effects) =
+    cond_both (is_delivered_to clients consumer.session) (Delivered consumer delivery ∷ []) []
+    (λ (l : List Shown). numbers_in session (l ++ flat_map (delivered clients) effects) ≡ [])
+    (λ _. delivered-none session clients effects) (λ _. delivered-none session clients effects)
+delivered-none session clients (DeadOnce reason message ∷ effects) = delivered-none session clients effects
+delivered-none session clients (Offer number reason message ∷ effects) = delivered-none session clients effects
+
+told-numbers : (session : ℕ) (w : World) → numbers_in session (told w)
+    ≡ printed_numbers session (own_rows w.server (notice w.synced w.server)) w.clients
+told-numbers session w =
+    let answers : List Shown = map Answered (printed (own_rows w.server (notice w.synced w.server)) w.clients) in
+    let effects : List Effect = own_effects w.server (notice w.synced w.server) in
+    filter_map-append (closed_number session) answers (flat_map (delivered (tell w).clients) effects)
+    ∙ ap (λ (l : List ℕ). numbers_in session answers ++ l) (delivered-none session (tell w).clients effects)
+    ∙ append-nil (numbers_in session answers)
+
 -- what an event shows closes no number, or it is a notice
 event-shows : (session : ℕ) (w : World) (event : Event) (P : World → List ℕ → Type 0) → ((v : World) → P v [])
     → (is_up w ≡ true → P (tell w)
@@ -252,9 +274,8 @@ event-shows session w Syncs P nothing notices = nothing (happens w Syncs)
 event-shows session w Notices P nothing notices = by (is_up w) refl
   where
     by : (b : Bool) → is_up w ≡ b → P (cond b (tell w) w)
-        (numbers_in session
-        (cond b (map Answered (printed (own_rows w.server (notice w.synced w.server)) w.clients)) []))
-    by true up = notices up
+        (numbers_in session (cond b (told w) []))
+    by true up = subst (P (tell w)) (sym (told-numbers session w)) (notices up)
     by false down = nothing w
 event-shows session w Stops P nothing notices = nothing (happens w Stops)
 event-shows session w (Finds op) P nothing notices = nothing (happens w (Finds op))

@@ -3,12 +3,13 @@ use Rattle.std.proofs.Common.{◌≡◌, false, [], ◌∷◌, ◌++◌, refl, i
 use Rattle.std.specs.Fmt.{digits}
 use Rattle.std.specs.Prelude.{codes}
 use Rattle.qq_entry.specs.declared.command.Unstamped.TheVariants.{Get}
-use Rattle.qq_model.specs.Commands.{act, enqueue, get}
-use Rattle.qq_model.specs.Gate.{gate, admit, keep_answer, turn_away}
+use Rattle.qq_model.specs.Changes.{return_row, die}
+use Rattle.qq_model.specs.Commands.{act, enqueue, finish, get, subscribe}
+use Rattle.qq_model.specs.Gate.{gate, admit, keep_answer, take_tag, turn_away}
 use Rattle.qq_model.specs.Serving.{check_out, check_out_all, drain_after, drop_head, keep_limits, give_dead, give_all_dead}
 use Rattle.qq_model.specs.Step.{carry_out, step}
 use Rattle.qq_base.specs.Fronts.{put}
-use Rattle.qq_world.specs.Example.{one_queue, publish_a, one_round, opening, lines_by_hand, lines_with_a_fault, by_hand, behind_a_crash, while_muted, with_a_fault, two_queues, sent_again, output}
+use Rattle.qq_world.specs.Example.{one_queue, publish_a, one_round, opening, lines_by_hand, lines_with_a_fault, by_hand, behind_a_crash, while_muted, with_a_fault, with_consumers, two_queues, sent_again, output}
 use Rattle.qq_world.specs.Node.{Sets, Alike, At, Fails, new_node}
 use Rattle.qq_world.specs.Rules.{most_rounds, IsOpening, IsRun}
 use Rattle.qq_world.specs.World.{Ticks, Submits, Writes, Syncs, Notices}
@@ -29,6 +30,15 @@ pub muted-printed : output one_queue while_muted
     ++ codes "3 1 enqueue 1 1 1 confirmed 1 again\n4 1 enqueue 1 1 1 confirmed 1 again\n"
 unfolding digits put step carry_out act gate admit keep_answer turn_away enqueue get check_out check_out_all drain_after drop_head keep_limits give_dead give_all_dead
 muted-printed = refl
+
+pub consumers-printed : output one_queue with_consumers
+    ≡ codes "subscribed 1\nconfirmed 2\ndeliver 1 1 1 a\nconfirmed 3\ndone\n"
+    ++ codes "deliver 1 2 1/1 a\naudit q1 0 6\n1 1 noop 1 lead\n"
+    ++ codes "2 1 subscribe 1 1 1 subscribed 1\n3 1 subscribe 2 1 1 subscribed 1\n"
+    ++ codes "4 1 enqueue 1 2 1 confirmed 2\n5 1 enqueue 1 3 1 confirmed 3\n"
+    ++ codes "6 1 return 1 4 1 1 done\n"
+unfolding digits put step carry_out act gate admit keep_answer take_tag turn_away enqueue get subscribe finish return_row die check_out check_out_all drain_after drop_head keep_limits give_dead give_all_dead
+consumers-printed = refl
 
 pub both-printed : output two_queues sent_again
     ≡ codes "confirmed 1\n1 q2: confirmed 1\naudit q1 0 3\n1 1 noop 1 lead\n2 2 noop 1 lead\n"

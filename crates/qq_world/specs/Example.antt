@@ -1,10 +1,11 @@
--- Worked runs of one queue: a restart behind a crash, a muted session, and a disk that fails.
+-- Worked runs of one queue: a restart behind a crash, a muted session, a disk that fails, and two consumers.
 use Rattle.std.specs.Prelude.{ℕ, List, [], ◌∷◌, ◌++◌, true, false, None, codes}
 use Rattle.std.specs.Fmt.{decimal}
 use Rattle.qq_disk.specs.declared.image.Image.{Image}
 use Rattle.qq_disk.specs.declared.image.Tail.TheVariants.{Whole}
 use Rattle.qq_entry.specs.declared.command.Unstamped.{Unstamped}
-use Rattle.qq_entry.specs.declared.command.Unstamped.TheVariants.{Enqueue, Get}
+use Rattle.qq_entry.specs.declared.command.Mode.TheVariants.{Prefetch}
+use Rattle.qq_entry.specs.declared.command.Unstamped.TheVariants.{Enqueue, Get, Subscribe, Return}
 use Rattle.qq_entry.specs.Message.{new_message}
 use Rattle.qq_entry.specs.Queue.{default_args}
 use Rattle.qq_world.specs.Node.{Setup, NodeEvent, Sets, Alike, At, Fails, Crashes, FindsEach, Shows, SaysDown, new_node, node_after, text_of, audits_text}
@@ -61,6 +62,14 @@ lines_with_a_fault = Send 1 1 publish_a ∷ Send 1 1 Get ∷ []
 
 abbrev pub with_a_fault : List NodeEvent
 with_a_fault = opening ++ At 1 (Submits 1 publish_a) ∷ Alike Writes ∷ Fails ∷ At 1 (Submits 1 Get) ∷ []
+
+-- Two sessions have a consumer each, which gets one message ahead. The second one is muted, so what comes to it is lost:
+-- that it has subscribed, and the second message. The first message is returned, and the first consumer is free for it.
+abbrev pub with_consumers : List NodeEvent
+with_consumers =
+    opening ++ At 1 (Submits 1 (Subscribe 1 (Prefetch 1))) ∷ one_round ++ Alike (Mutes 2 true)
+    ∷ At 1 (Submits 2 (Subscribe 1 (Prefetch 1))) ∷ one_round ++ At 1 (Submits 1 publish_a) ∷ one_round
+    ++ At 1 (Submits 1 publish_a) ∷ one_round ++ At 1 (Submits 1 (Return 1 (1 ∷ []))) ∷ one_round
 
 -- two queues
 abbrev pub two_queues : Setup

@@ -5,6 +5,7 @@ use Rattle.qq_base.specs.Ids.{client}
 use Rattle.qq_base.specs.declared.ids.SessionId.{SessionId}
 use Rattle.qq_entry.specs.declared.answer.Answer.TheVariants.{Confirmed}
 use Rattle.qq_entry.specs.declared.audit.AuditRow.{AuditRow}
+use Rattle.qq_entry.specs.declared.audit.Effect.TheVariants.{Deliver}
 use Rattle.qq_entry.specs.declared.command.Command.{Command}
 use Rattle.qq_entry.specs.declared.command.Command.TheVariants.{Enqueue}
 use Rattle.qq_entry.specs.declared.command.Stamp.{Stamp}
@@ -16,7 +17,7 @@ use Rattle.qq_entry.specs.Command.{stamp}
 use Rattle.qq_laws.specs.Always.{queue_audit}
 use Rattle.qq_log.specs.Stable.{Stable, stable}
 use Rattle.qq_model.specs.declared.TheConstants.{WINDOW}
-use Rattle.qq_model.specs.Audit.{IsSerial}
+use Rattle.qq_model.specs.Audit.{IsSerial, effects_of, entries_of}
 use Rattle.qq_model.specs.State.{empty_queue}
 use Rattle.qq_script.specs.Text.{seq_of}
 use Rattle.qq_session.specs.Arriving.{Deed, Hands, Takes, after_deed, handed, fresh_command}
@@ -25,7 +26,7 @@ use Rattle.qq_world.specs.ExactlyOne.{ExactlyOne}
 use Rattle.qq_base.specs.Fronts.{IsFront}
 use Rattle.qq_world.specs.Promise.{HoldsAudit, IsPromised, MayTakeUp, state_of}
 use Rattle.qq_world.specs.Server.{Server, is_down, is_ready, log_of, submit}
-use Rattle.qq_world.specs.World.{World, Clients, Event, Submits, Resends, Notices, Shown, Answered, NoLeader, WindowFull, new_world, is_up, sender, own_rows, after_notice, happens, said, after, all_said}
+use Rattle.qq_world.specs.World.{World, Clients, Event, Submits, Resends, Notices, Shown, Answered, Delivered, NoLeader, WindowFull, new_world, is_up, sender, own_rows, after_notice, happens, said, after, all_said}
 
 -- a world that may be reached
 abbrev pub world_after : QueueArgs → List Event → World
@@ -54,6 +55,15 @@ IsAudited audit _ = Unit {0}
 
 abbrev pub HasAuditedAnswers : World → List Event → Type 0
 HasAuditedAnswers w events = AllByRecursion (IsAudited (after w events).server.audit) (all_said w events)
+
+-- what is printed as a delivery is an effect of an entry of the audit
+abbrev pub IsMade : Server → Shown → Type 0
+IsMade s (Delivered consumer delivery) =
+    Contains (effects_of (empty_queue s.args) (entries_of s.audit)) (Deliver consumer delivery)
+IsMade s _ = Unit {0}
+
+abbrev pub HasMadeDeliveries : World → List Event → Type 0
+HasMadeDeliveries w events = AllByRecursion (IsMade (after w events).server) (all_said w events)
 
 -- ---- a session's commands
 

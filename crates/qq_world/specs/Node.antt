@@ -6,9 +6,9 @@ use Rattle.qq_base.specs.Ids.{client}
 use Rattle.qq_disk.specs.declared.image.Image.{Image}
 use Rattle.qq_entry.specs.declared.queue.QueueArgs.{QueueArgs}
 use Rattle.qq_script.specs.Audit.{audit_text}
-use Rattle.qq_script.specs.Text.{line_prefix, answer_text}
+use Rattle.qq_script.specs.Text.{line_prefix, answer_text, delivery_text}
 use Rattle.qq_world.specs.Server.{Server, Role, Down, Follower, Candidate, Leader, is_down_in, is_ready, log_of}
-use Rattle.qq_world.specs.World.{World, Event, Stops, Finds, Shown, Answered, NoLeader, WindowFull, new_world, said, after}
+use Rattle.qq_world.specs.World.{World, Event, Stops, Finds, Shown, Answered, Delivered, NoLeader, WindowFull, new_world, said, after}
 
 -- ---- the queues of a node
 
@@ -107,6 +107,8 @@ prefix_of setup place session = line_prefix (is_first setup place) (Some (client
 abbrev pub shown_text : Setup → ℕ → Shown → List ℕ
 shown_text setup place (Answered row) =
     answer_text (is_first setup place) row.entry.command (setup.name place) row.answer
+shown_text setup place (Delivered consumer delivery) =
+    delivery_text (is_first setup place) (setup.name place) consumer delivery
 shown_text setup place (NoLeader session) =
     prefix_of setup place session ++ codes "no leader " ++ setup.name place ++ codes "\n"
 shown_text setup place (WindowFull session) = prefix_of setup place session ++ codes "window full\n"

@@ -1,7 +1,8 @@
 -- What holds of a node with several queues, whatever happens, and what its rules leave open.
 use Rattle.std.specs.Prelude.{◌≡◌, ℕ, List, [], ◌∷◌, Bool, true, false}
 use Rattle.std.specs.List.{AllByRecursion, flat_map, list_any}
-use Rattle.qq_world.specs.Laws.{world_after, IsAudited, IsConfirmedOnce}
+use Rattle.qq_world.specs.Laws.{world_after, IsAudited, IsConfirmedOnce, IsMade}
+use Rattle.qq_world.specs.Server.{Server}
 use Rattle.qq_world.specs.Node.{Setup, Node, NodeEvent, Fails, FindsEach, SaysDown, Printed, Of, new_node, node_after, parts_of, all_prints}
 use Rattle.qq_world.specs.Rules.{Line, Pump, Write, Sync, Notice, Tick, is_node_up, is_idle, IsLine, IsRun}
 
@@ -11,10 +12,12 @@ HasItsQueues setup events =
     (place : ℕ)
     → (node_after (new_node setup) events).queue place ≡ world_after (setup.args place) (parts_of place events)
 
--- what is printed as an answer at a queue is one of its audit, and what is confirmed there was published once
+-- What is printed as an answer at a queue is one of its audit, what is confirmed there was published once, and what is
+-- delivered is what an entry of the audit did.
 abbrev pub IsTrueOf : Node → Printed → Type 0
 IsTrueOf n (Of place shown) =
-    let audit = (n.queue place).server.audit in IsAudited audit shown × IsConfirmedOnce audit shown
+    let server : Server = (n.queue place).server in
+    IsAudited server.audit shown × IsConfirmedOnce server.audit shown × IsMade server shown
 IsTrueOf n _ = Unit {0}
 
 abbrev pub PrintsWhatIsTrue : Setup → List NodeEvent → Type 0

@@ -1,7 +1,14 @@
 -- One queue on one node, with the sessions of its clients and the part of the node's log that is its own: what may
 -- happen, and what is shown of it.
-use Rattle.std.specs.Prelude.{ℕ, List, [], ◌∷◌, ◌++◌, Bool, true, false, not, ◌&&◌, Option, Some, None, length, drop, filter, map, nat_eq, nat_lt, if◌then◌else◌}
+use Rattle.std.specs.Prelude.{ℕ, List, [], ◌∷◌, ◌++◌, Bool, true, false, not, ◌&&◌, Option, Some, None, length, drop, filter, map, flat_map, nat_eq, nat_lt, if◌then◌else◌}
 use Rattle.qq_base.specs.Ids.{client, same_session}
+use Rattle.qq_base.specs.declared.ids.ConsumerId.{ConsumerId}
+use Rattle.qq_base.specs.declared.ids.SessionId.{SessionId}
+use Rattle.qq_base.specs.declared.ids.Term.{Term}
+use Rattle.qq_entry.specs.declared.answer.Delivery.{Delivery}
+use Rattle.qq_entry.specs.declared.audit.Effect.{Effect}
+use Rattle.qq_entry.specs.declared.audit.Effect.TheVariants.{Deliver}
+use Rattle.qq_entry.specs.declared.command.Entry.{Entry}
 use Rattle.qq_entry.specs.declared.command.Stamp.{Stamp}
 use Rattle.qq_entry.specs.declared.command.Command.{Command}
 use Rattle.qq_entry.specs.declared.command.Unstamped.{Unstamped}
@@ -9,6 +16,8 @@ use Rattle.qq_entry.specs.declared.audit.AuditRow.{AuditRow}
 use Rattle.qq_entry.specs.declared.queue.QueueArgs.{QueueArgs}
 use Rattle.qq_entry.specs.Command.{stamp}
 use Rattle.qq_model.specs.declared.TheConstants.{WINDOW}
+use Rattle.qq_model.specs.State.{State, empty_queue}
+use Rattle.qq_model.specs.Audit.{next_step, state_after, entries_of}
 use Rattle.qq_session.specs.Publishing.{Numbers, new_numbers, next_command, hand, is_open, answer, open_commands}
 use Rattle.qq_script.specs.Text.{seq_of}
 use Rattle.qq_base.specs.Fronts.{put}
@@ -133,6 +142,22 @@ abbrev pub own_rows : Server → Server → List AuditRow
 own_rows before after =
     filter (λ (row : AuditRow). nat_eq row.entry.term.0 after.term.0) (drop (length before.audit) after.audit)
 
+-- what entries do beside their answers, those of a term alone
+abbrev pub effects_of_term : Term → State → List Entry → List Effect
+effects_of_term term s [] = []
+effects_of_term term s (entry ∷ entries) =
+    (if nat_eq entry.term.0 term.0 then (next_step s entry).effects else [])
+    ++ effects_of_term term (next_step s entry).state entries
+
+-- what the entries of an audit do that stand behind those of a first part of it
+abbrev pub effects_behind : Term → State → List AuditRow → List AuditRow → List Effect
+effects_behind term s first all =
+    effects_of_term term (state_after s (entries_of first)) (entries_of (drop (length first) all))
+
+-- the effects that a change of a server shows: those of the rows that it adds to its audit and answers
+abbrev pub own_effects : Server → Server → List Effect
+own_effects before after = effects_behind after.term (empty_queue before.args) before.audit after.audit
+
 -- the server once it is told what is synced
 abbrev pub after_notice : World → Server
 after_notice w = notice w.synced w.server
@@ -166,15 +191,34 @@ happens w (Finds op) = if may_restart op w.server then find op w else w
 pub data Shown : Type 0 where
   -- the answer of a row, to the session of its command
   Answered : (row : AuditRow) → Shown
+  -- a delivery, to the session of its consumer
+  Delivered : (consumer : ConsumerId) (delivery : Delivery) → Shown
   -- no leader is ready to take a session's command
   NoLeader : (session : ℕ) → Shown
   -- as many of a session's numbers are open as may be
   WindowFull : (session : ℕ) → Shown
 
+-- a client's session gets its deliveries, unless what comes to it is lost
+abbrev pub is_delivered_to : Clients → SessionId → Bool
+is_delivered_to clients session =
+    same_session session (client session.number) && not (clients session.number).muted
+
+-- an effect shows a delivery; a dead letter shows nothing
+abbrev pub delivered : Clients → Effect → List Shown
+delivered clients (Deliver consumer delivery) =
+    if is_delivered_to clients consumer.session then Delivered consumer delivery ∷ [] else []
+delivered clients _ = []
+
 -- what becomes of commands that are offered
 abbrev pub said_of : Bool → ℕ → List Command → List Shown
 said_of true session commands = []
 said_of false session commands = map (λ (c : Command). NoLeader session) commands
+
+-- a server is told what is synced: the answers in the order of its rows, and then the deliveries
+abbrev pub told : World → List Shown
+told w =
+    map Answered (printed (own_rows w.server (after_notice w)) w.clients)
+    ++ flat_map (delivered (tell w).clients) (own_effects w.server (after_notice w))
 
 abbrev pub said : World → Event → List Shown
 said w (Submits session body) =
@@ -182,8 +226,7 @@ said w (Submits session body) =
     if may_hand numbers then said_of (is_ready w.server) session (next_command body numbers ∷ [])
     else WindowFull session ∷ []
 said w (Resends session) = said_of (is_ready w.server) session (open_commands (w.clients session).numbers)
-said w Notices =
-    if is_up w then map Answered (printed (own_rows w.server (after_notice w)) w.clients) else []
+said w Notices = if is_up w then told w else []
 said w _ = []
 
 -- ---- lists of events

@@ -1,6 +1,6 @@
 //! Worked runs: what they print, letter by letter.
 ghost use Rattle.std.specs.Prelude.{◌≡◌, ◌++◌, codes};
-ghost use Rattle.qq_world.specs.Example.{one_queue, lines_by_hand, lines_with_a_fault, by_hand, behind_a_crash, while_muted, with_a_fault, two_queues, sent_again, output};
+ghost use Rattle.qq_world.specs.Example.{one_queue, lines_by_hand, lines_with_a_fault, by_hand, behind_a_crash, while_muted, with_a_fault, with_consumers, two_queues, sent_again, output};
 ghost use Rattle.qq_world.specs.Node.{new_node};
 ghost use Rattle.qq_world.specs.Rules.{IsRun};
 
@@ -12,6 +12,8 @@ ghost use Rattle.qq_world.specs.Rules.{IsRun};
 ///   the restart, by the next leader, which answers none of an earlier term.
 /// - `muted`: a session publishes, and sends that twice again. Once it hears an answer, that is
 ///   printed once.
+/// - `consumers`: two consumers get a message each, the second one's is lost since it is muted. The
+///   first returns its message and gets it again, with a number of its own, once returned.
 /// - `lost`: a message to each of two queues is appended, and lost by a crash. Sent again, it is
 ///   confirmed.
 /// - `hand_run`, `fault_run`: these events are what the lines of their scripts ask for.
@@ -25,6 +27,12 @@ pub fn worked_runs_print()
         ≡ codes "confirmed 1\nq1 1 leader term 1 last 4 commit 4\ndown 1\nq1 1 down\n"
         ++ codes "no leader q1\naudit q1 0 4\n1 1 noop 1 lead\n2 1 enqueue 1 1 1 confirmed 1\n"
         ++ codes "3 1 enqueue 1 1 1 confirmed 1 again\n4 1 enqueue 1 1 1 confirmed 1 again\n" }
+    ensures consumers { output one_queue with_consumers
+        ≡ codes "subscribed 1\nconfirmed 2\ndeliver 1 1 1 a\nconfirmed 3\ndone\n"
+        ++ codes "deliver 1 2 1/1 a\naudit q1 0 6\n1 1 noop 1 lead\n"
+        ++ codes "2 1 subscribe 1 1 1 subscribed 1\n3 1 subscribe 2 1 1 subscribed 1\n"
+        ++ codes "4 1 enqueue 1 2 1 confirmed 2\n5 1 enqueue 1 3 1 confirmed 3\n"
+        ++ codes "6 1 return 1 4 1 1 done\n" }
     ensures lost { output two_queues sent_again
         ≡ codes "confirmed 1\n1 q2: confirmed 1\naudit q1 0 3\n1 1 noop 1 lead\n2 2 noop 1 lead\n"
         ++ codes "3 2 enqueue 1 1 2 confirmed 1\naudit q2 0 3\n1 1 noop 1 lead\n2 2 noop 1 lead\n"

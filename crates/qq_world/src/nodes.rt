@@ -13,8 +13,9 @@ pub fn each_queue_is_its_own()
     ensures { (setup : Setup) (events : List NodeEvent) → HasItsQueues setup events }
 {}
 
-/// A law: each answer that is printed at a queue is that of a row of its audit, and what is printed
-/// as `confirmed` has exactly one publish of its session and number there.
+/// A law: each answer that is printed at a queue is that of a row of its audit, what is printed as
+/// `confirmed` has exactly one publish of its session and number there, and each delivery that is
+/// printed is an effect of an entry of it.
 pub fn a_node_prints_what_is_true()
     ensures { (setup : Setup) (events : List NodeEvent) → PrintsWhatIsTrue setup events }
 {

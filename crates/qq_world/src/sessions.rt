@@ -4,19 +4,21 @@ ghost use Rattle.qq_base.specs.Ids.{client};
 ghost use Rattle.qq_entry.specs.declared.queue.QueueArgs.{QueueArgs};
 ghost use Rattle.qq_session.specs.Answered.{IsAnswered};
 ghost use Rattle.qq_world.specs.World.{Event, new_world};
-ghost use Rattle.qq_world.specs.Laws.{world_after, HasAuditedAnswers, ClosesOnce, ConfirmsOnce, CountsDeeds, CarriesOutInOrder};
+ghost use Rattle.qq_world.specs.Laws.{world_after, HasAuditedAnswers, HasMadeDeliveries, ClosesOnce, ConfirmsOnce, CountsDeeds, CarriesOutInOrder};
 
 use qq_laws::commands_count_by_one;
 use qq_session::{commands_are_answered_once, commands_arrive_in_order};
 
 /// A law: each answer that is printed is that of a row of the audit, to a command of a client. What
 /// is printed as `confirmed` has exactly one publish of its session and number in the audit, after
-/// any crashes and restarts.
+/// any crashes and restarts. Each delivery that is printed is an effect of an entry of the audit.
 pub fn what_is_printed_is_audited()
     ensures answers { (args : QueueArgs) (events : List Event) →
         HasAuditedAnswers (new_world args) events }
     ensures confirmed { (args : QueueArgs) (events : List Event) →
         ConfirmsOnce (new_world args) events }
+    ensures deliveries { (args : QueueArgs) (events : List Event) →
+        HasMadeDeliveries (new_world args) events }
 {
     commands_count_by_one();
     commands_are_answered_once();

@@ -1,11 +1,16 @@
-use Rattle.std.proofs.Common.{◌≡◌, ◌+◌, take, refl, sym, ap, subst, ◌∙◌, false, arith}
+use Rattle.std.proofs.Common.{◌≡◌, ◌+◌, ◌++◌, List, take, refl, sym, ap, subst, ◌∙◌, false, append_assoc, arith}
+use Rattle.qq_base.proofs.Fronts.{front-trans}
 use Rattle.qq_base.specs.declared.memory.TheConstants.{NUMBER_END}
+use Rattle.qq_entry.specs.declared.audit.Effect.{Effect}
+use Rattle.qq_entry.specs.declared.command.Entry.{Entry}
 use Rattle.qq_log.specs.declared.op.Op.{Op}
 use Rattle.qq_replay.specs.Replay.{stays_within}
 use Rattle.qq_world.specs.Server.{entries_in, log_of}
 use Rattle.qq_desk.specs.declared.audit.Audit.{Audit}
-use Rattle.qq_desk.specs.Audited.{Applies}
+use Rattle.qq_world.specs.World.{effects_behind}
+use Rattle.qq_desk.specs.Audited.{Applies, all_effects, effects_next}
 use Rattle.qq_desk.proofs.Audits.{sound-more, spent-next, spent-weaker, rows-longer}
+use Rattle.qq_desk.proofs.Showing.{rows-front, shows-next}
 use Rattle.qq_desk.proofs.audit.Audit.apply.Goals as goal
 
 pub returns-in-Err-clause-cause : goal.returns-in-Err-clause-cause
@@ -21,6 +26,7 @@ pub ops-preserved : goal.ops-preserved
 ops-preserved c =
     let ok = c.in_default.ensures.ok in
     let b : Audit = c.apply_op.new.self in
+    let entries : List Entry = entries_in c.index-ops-self.result in
     record {
       sound = λ s was.
           sound-more s c.args.ops.now c.index-ops-self.result c.ops.self b
@@ -42,4 +48,14 @@ ops-preserved c =
         c.ops.invariant.rows,
         rows-longer (entries_in c.index-ops-self.result) c.ops.self b ok,
       );
+      front = front-trans c.ops.invariant.front (rows-front entries c.ops.self b ok);
+      shown = λ s was.
+          c.in_default.ensures.shown
+          ∙ ap (λ (l : List Effect). l ++ effects_next c.args.term entries c.ops.self) (c.ops.invariant.shown s was)
+          ∙ append_assoc (all_effects c.args.effects.now.items)
+          (effects_behind c.args.term s c.args.self.now.rows.items c.ops.self.rows.items)
+          (effects_next c.args.term entries c.ops.self)
+          ∙ ap (λ (l : List Effect). all_effects c.args.effects.now.items ++ l)
+          (shows-next c.args.term s c.args.ops.now c.args.self.now.rows.items entries c.ops.self b
+          (c.ops.invariant.sound s was) ok c.ops.invariant.front);
     }

@@ -1,11 +1,13 @@
-use Rattle.std.proofs.Common.{◌∙◌, ◌++◌, List, drop, filter, length, map, sym, ap, subst, arith}
+use Rattle.std.proofs.Common.{◌∙◌, ◌++◌, ℕ, List, drop, filter, length, map, sym, ap, subst, arith}
 use Rattle.std.specs.List.{flat_map}
 use Rattle.qq_base.specs.declared.ids.Term.{Term}
 use Rattle.qq_entry.specs.declared.audit.AuditRow.{AuditRow}
-use Rattle.qq_world.specs.World.{Notices, Answered, hear_all, printed}
+use Rattle.qq_entry.specs.declared.audit.Effect.{Effect}
+use Rattle.qq_world.specs.World.{Notices, Answered, hear_all, own_effects, printed}
+use Rattle.qq_desk.specs.Audited.{all_effects}
 use Rattle.qq_desk.specs.Clients.{clients_of}
 use Rattle.qq_desk.specs.Desk.{DeskState, Does, is_of_term}
-use Rattle.qq_desk.specs.Text.{shown_text_as}
+use Rattle.qq_desk.specs.Text.{shown_text_as, effects_text}
 use Rattle.qq_desk.proofs.Noticing.{noticed}
 use Rattle.qq_desk.proofs.desk.Desk.notice.Goals as goal
 
@@ -25,9 +27,9 @@ returns-clause-ok c =
     } in
     subst (λ (d : DeskState). Does Notices d
     (record old { server = c.notice.new.self; known = c.tell.new.clients })
-    c.args.out.now.items c.tell.new.out.items) c.self.view_is
-    (noticed old c.notice.new.self c.tell.new.clients c.split_at.result.1.now c.args.out.now.items
-    c.tell.new.out.items (sym c.is_down.ensures ∙ c.if-is_down.false) c.in_default.ensures.ok
+    c.args.out.now.items c.deliver_all.new.out.items) c.self.view_is
+    (noticed old c.notice.new.self c.tell.new.clients c.split_at.result.1.now c.notice.new.effects.items
+    c.args.out.now.items c.tell.new.out.items c.deliver_all.new.out.items (sym c.is_down.ensures ∙ c.if-is_down.false) c.in_default.ensures.ok
     (c.split_at.ensures.back ∙ ap (drop (length c.rows-before.result.now)) c.rows.ensures
     ∙ ap (λ (l : List AuditRow). drop (length l) c.notice.new.self.audit) c.rows-before.ensures)
     (c.in_default-tell.ensures.heard
@@ -37,4 +39,11 @@ returns-clause-ok c =
     ∙ ap (λ (t : Term). c.args.out.now.items
     ++ flat_map (shown_text_as c.self.inside.label.first c.self.inside.label.name) (map Answered
     (printed (filter (is_of_term t) c.split_at.result.1.now) (clients_of c.self.inside.clients))))
-    c.term-term.ensures))
+    c.term-term.ensures)
+    (c.in_default.ensures.shown
+    ∙ ap (λ (l : List (List Effect)). all_effects l ++ own_effects c.self.inside.server c.notice.new.self)
+    c.new-effects.ensures.items)
+    (c.in_default-deliver_all.ensures.ok
+    ∙ ap (λ (l : List (List Effect)). c.tell.new.out.items
+    ++ flat_map (effects_text c.self.inside.label.first c.self.inside.label.name (clients_of c.tell.new.clients)) l)
+    c.deref.ensures.value))
