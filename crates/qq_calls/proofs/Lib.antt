@@ -1,3 +1,4 @@
 pub mod Queues
 mod Examples
 mod Named
+mod Refusals

@@ -8,3 +8,8 @@ use Rattle.qq_defs.specs.Setup.{plain_rows}
 abbrev pub two_queues : Routes → Setup
 two_queues routes =
     record { nodes = 1; queues = plain_rows 1 1 2; routes = routes; log_bytes = 4194304; made = None }
+
+-- one node without queues
+abbrev pub no_queues : Routes → Setup
+no_queues routes =
+    record { nodes = 1; queues = plain_rows 1 1 0; routes = routes; log_bytes = 4194304; made = None }

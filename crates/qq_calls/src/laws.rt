@@ -1,5 +1,5 @@
 //! What lines ask for, as laws: the functions do nothing, and their contracts are the laws.
-ghost use Rattle.std.specs.Prelude.{◌≡◌, ◌<◌, ◌+◌, ◌++◌, ◌∷◌, [], ℕ, List, Ok, Err, true, false, codes};
+ghost use Rattle.std.specs.Prelude.{◌≡◌, ◌<◌, ◌+◌, ◌++◌, ◌∷◌, [], ℕ, List, Ok, Err, true, false, codes, replicate};
 ghost use Rattle.std.specs.List.{range_with_len};
 ghost use Rattle.std.specs.Fmt.{decimal};
 ghost use Rattle.qq_disk.specs.declared.image.Tail.TheVariants.{Cut};
@@ -9,12 +9,12 @@ ghost use Rattle.qq_entry.specs.Queue.{default_args};
 ghost use Rattle.qq_route.specs.declared.routes.Routes.{Routes};
 ghost use Rattle.qq_defs.specs.declared.setup.Setup.{Setup};
 ghost use Rattle.qq_defs.specs.Setup.{plain_row, plain_rows};
-ghost use Rattle.qq_lines.specs.declared.fault.ScriptFault.TheVariants.{Unknown, Words, NoSuch};
+ghost use Rattle.qq_lines.specs.declared.fault.ScriptFault.TheVariants.{Unknown, Words, Number, NoSuch, Body};
 ghost use Rattle.qq_world.specs.Rules.{Line, Send, Mute, Auto, Notice, Crash};
 ghost use Rattle.qq_calls.specs.Queues.{node_setup};
 ghost use Rattle.qq_calls.specs.Lines.{publish_to, read_line};
 ghost use Rattle.qq_calls.specs.Named.{HaveNames, IsNamed};
-ghost use Rattle.qq_calls.specs.Examples.{two_queues};
+ghost use Rattle.qq_calls.specs.Examples.{no_queues, two_queues};
 
 /// A law: a setup of queues without arguments is one of a node with the places 1, 2 and so on. The first queue
 /// has place 1, and each one its name and the arguments that a queue has by default, in a group of one.
@@ -77,6 +77,28 @@ pub fn lines_ask_for_their_rules()
         read_line (two_queues routes) 1 (codes "purge 3 #2") ≡ Ok (Send 2 3 Purge) }
     ensures ends { (routes : Routes) →
         read_line (two_queues routes) 1 (codes "end 3") ≡ Err Unknown }
+{}
+
+/// A law: the whole of a line that sends a message is looked at for its words, then for its number, then for the
+/// exchange and the queue that it names, and only then for the length of its body.
+pub fn a_message_is_refused_by_its_first_fault()
+    ensures words { (routes : Routes) →
+        read_line (two_queues routes) 1 (codes "send x logs q9") ≡ Err Words }
+    ensures number { (routes : Routes) →
+        read_line (two_queues routes) 1 (codes "send x logs q9 =65537") ≡ Err Number }
+    ensures exchange { (routes : Routes) →
+        read_line (two_queues routes) 1 (codes "send 1 logs q1 =65537") ≡ Err NoSuch }
+    ensures queue { (routes : Routes) →
+        read_line (two_queues routes) 1 (codes "send 1 - q9 =65537") ≡ Err NoSuch }
+    ensures no_queue { (routes : Routes) →
+        read_line (no_queues routes) 1 (codes "publish =65537") ≡ Err NoSuch }
+    ensures body { (routes : Routes) →
+        read_line (two_queues routes) 1 (codes "send 1 - q2 =65537") ≡ Err (Body 65537) }
+    ensures first_queue { (routes : Routes) →
+        read_line (two_queues routes) 1 (codes "publish =65537") ≡ Err (Body 65537) }
+    ensures longest { (routes : Routes) →
+        read_line (two_queues routes) 1 (codes "send 1 - q2 =65536")
+        ≡ Ok (Send 2 1 (publish_to (plain_row 1 1 1) (replicate 65536 120))) }
 {}
 
 /// A law: over queues whose names are texts, what a line asks for names queues of the setup and sessions from
