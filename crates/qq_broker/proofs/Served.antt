@@ -1,9 +1,10 @@
 -- What a node of a run has done when it is opened, crashed and restarted.
 use Rattle.std.proofs.Common.{◌≡◌, ◌≤◌, ◌<◌, ◌+◌, ℕ, zero, suc, Bool, true, false, List, [], ◌∷◌, map, refl, sym, ap, subst, ◌∙◌, inl, inr, append-nil, arith}
-use Rattle.std.specs.Prelude.{nat_eq}
+use Rattle.std.specs.Prelude.{nat_eq, IsTrue}
 use Rattle.std.specs.List.{range_with_len}
 use Rattle.std.proofs.lemmas.Bool.{eqb-true, cases_Bool}
 use Rattle.qq_base.specs.declared.ids.QueueId.{QueueId}
+use Rattle.qq_base.specs.declared.memory.Memory.TheVariants.{Want, Spent}
 use Rattle.qq_calls.specs.Queues.{node_setup}
 use Rattle.qq_calls.proofs.Queues.{places, first_is, name_is, args_is}
 use Rattle.qq_defs.specs.declared.members.QueueRow.{QueueRow}
@@ -11,37 +12,108 @@ use Rattle.qq_defs.specs.declared.setup.Setup.{Setup}
 use Rattle.qq_defs.specs.Setup.{plain_row, plain_rows}
 use Rattle.qq_desk.specs.Desk.{DeskState}
 use Rattle.qq_disk.specs.declared.image.Image.{Image}
-use Rattle.qq_disk.specs.Disk.{Disk}
+use Rattle.qq_disk.specs.Disk.{Disk, now}
 use Rattle.qq_node.specs.declared.node.Node.{Node as Held}
 use Rattle.qq_node.specs.declared.opening.OpenFault.{OpenFault}
 use Rattle.qq_node.specs.declared.opening.OpenFault.TheVariants as open_fault
-use Rattle.qq_node.specs.Node.{IsDesk, AreDesks, Stands}
-use Rattle.qq_node.specs.Restarting.{HasCrashed, IsSetFor, IsOpenCaused}
+use Rattle.qq_node.specs.declared.restarting.RestartFault.{RestartFault}
+use Rattle.qq_node.specs.declared.restarting.RestartFault.TheVariants as restart_fault
+use Rattle.qq_node.specs.Node.{IsDesk, AreDesks, Stands, disk_in}
+use Rattle.qq_node.specs.Restarting.{HasCrashed, IsSetFor, IsOpenCaused, IsRefusedBy, IsRestartCaused, lanes_in}
 use Rattle.qq_node_laws.specs.Serves.{Seen, Serves}
 use Rattle.qq_program.specs.declared.stop.AskStop.{AskStop}
 use Rattle.qq_program.specs.declared.stop.AskStop.TheVariants.{Ended, NoMemory}
 use Rattle.qq_program.specs.Answers.{IsPlain}
+use Rattle.qq_program.specs.Runs.{MayNotOpen}
 use Rattle.qq_program.specs.Service.{HasOpened, HasServed, HasServeCause}
+use Rattle.qq_program.specs.Troubles.{Trouble, YardFails, DiskFails, DiskIsSilent, FilesBreak, AtPlace, OfVersion}
+use Rattle.qq_program.proofs.Closings.{Rose_earlier}
+use Rattle.qq_recover.specs.declared.fault.RecoverFault.TheVariants as recover_fault
+use Rattle.qq_recover.specs.Reading.{lanes_read, shown}
+use Rattle.qq_world.specs.Endings.{lost_text}
 use Rattle.qq_world.specs.Node.{Setup as NodeSetup, Node, Crashes, new_node, is_first}
-use Rattle.qq_world.specs.Rules.{Line, Crash, IsOpening}
+use Rattle.qq_world.specs.Rules.{Line, Crash, Restart, IsOpening}
 use Rattle.qq_world.specs.World.{new_world}
 use Rattle.qq_broker.specs.Queues.{queue_of, IsNewDesk, AreNewDesks}
-use Rattle.qq_broker.specs.Nodes.{NumbersPlaces, IsNodeOf, IsMemoryStop, HasOpenFault}
+use Rattle.qq_yards.specs.Yard.{IsNew}
+use Rattle.qq_broker.specs.Nodes.{NumbersPlaces, IsNodeOf, IsMemoryStop, Meets, open_ending, restart_stop}
 use Rattle.qq_broker.proofs.Plain.{plain-apart, plain-queues}
 
 -- ---- causes
 
-pub memory-stops : (yard : Type 0) (setup : NodeSetup) (n : Node) (line : Line) (stop : AskStop) → IsMemoryStop stop
-    → HasServeCause yard setup n line stop
-memory-stops yard setup n line (Ended ending) is = inl is
-memory-stops yard setup n line NoMemory is = tt
+pub memory-stops : (met : Trouble → Type 0) (setup : NodeSetup) (n : Node) (line : Line) (stop : AskStop)
+    → IsMemoryStop stop → HasServeCause met setup n line stop
+memory-stops met setup n line (Ended ending) is = inl is
+memory-stops met setup n line NoMemory is = tt
 
-pub open-fault : (tells : Bool) (fault : OpenFault) → IsOpenCaused tells fault → HasOpenFault fault
-open-fault tells open_fault.Disk is = tt
-open-fault tells (open_fault.Damaged file place) is = tt
-open-fault tells (open_fault.Version file byte) is = tt
-open-fault tells open_fault.NotEmpty is = tt
-open-fault tells (open_fault.Memory memory) is = is
+module _ {D : Type 0} (tells : D → Bool) (past : D → List Disk) (faults : D → ℕ) (before after : ℕ) where
+  -- what was met since a time was met since an earlier one
+  pub meets-earlier : (first : ℕ) → first ≤ before → (trouble : Trouble)
+      → Meets tells past faults before after trouble → Meets tells past faults first after trouble
+  meets-earlier first le YardFails met = Rose_earlier first before after le met
+  meets-earlier first le DiskFails met = met
+  meets-earlier first le DiskIsSilent met = met
+  meets-earlier first le (FilesBreak setup damage) met = met
+
+  pub may-not-open : (disk left : D) (fault : OpenFault) → (IsTrue (tells disk) → IsNew (past disk))
+      → tells left ≡ tells disk → IsOpenCaused (tells disk) (faults disk) (faults left) fault
+      → MayNotOpen (Meets tells past faults before after) (open_ending fault)
+  may-not-open disk left open_fault.Disk fresh told cause =
+      inr (inl (
+        inr (inl (record { disk = disk; left = left; fresh = fresh; told = told; rose = cause })),
+        refl,
+      ))
+  may-not-open disk left (open_fault.Damaged file place) fresh told cause =
+      inr (inr (inl (AtPlace file.number place, record { disk = disk; is = cause }, refl)))
+  may-not-open disk left (open_fault.Version file byte) fresh told cause =
+      inr (inr (inl (OfVersion file.number byte, record { disk = disk; is = cause }, refl)))
+  may-not-open disk left open_fault.NotEmpty fresh told cause = inr (inl (inr (inr (record { disk = disk; is = cause })), refl))
+  may-not-open disk left (open_fault.Memory Want) fresh told cause = inl refl
+  may-not-open disk left (open_fault.Memory (Spent number)) fresh told cause = inr (inr (inr (number, cause, refl)))
+
+  pub restart-stops : (setup : NodeSetup) (n : Node) (node : Held D) (fault : RestartFault)
+      → Stands tells past setup node n → IsRestartCaused setup n fault
+      → (IsTrue (tells (disk_in node.log)) → IsRefusedBy (lanes_in past node) fault)
+      → HasServeCause (Meets tells past faults before after) setup n Restart (restart_stop fault)
+  restart-stops setup n node (restart_fault.Damaged file place) st cause refused =
+      inr (inl (
+        AtPlace file.number place,
+        record {
+          disk = disk_in node.log;
+          fault = recover_fault.Damaged file place;
+          is = refl;
+          reads = λ tell. sym (ap (λ (ids : List QueueId). lanes_read ids (shown (now (past (disk_in node.log))))) st.queues)
+              ∙ refused tell;
+        },
+        refl,
+      ))
+  restart-stops setup n node (restart_fault.Version file byte) st cause refused =
+      inr (inl (
+        OfVersion file.number byte,
+        record {
+          disk = disk_in node.log;
+          fault = recover_fault.Version file byte;
+          is = refl;
+          reads = λ tell. sym (ap (λ (ids : List QueueId). lanes_read ids (shown (now (past (disk_in node.log))))) st.queues)
+              ∙ refused tell;
+        },
+        refl,
+      ))
+  restart-stops setup n node (restart_fault.Lost name noticed found) st cause refused =
+      inr (inr (record {
+        status_is = refl;
+        lost = record {
+          place = cause.place;
+          lane = cause.lane;
+          stopped = cause.stopped;
+          lost = cause.lost;
+          text_is = ap (λ (l : List ℕ). lost_text l noticed found) cause.name_is
+              ∙ ap (λ (k : ℕ). lost_text (setup.name cause.place) k found) cause.noticed_is
+              ∙ ap (lost_text (setup.name cause.place) (n.queue cause.place).server.noticed) cause.found_is;
+        };
+      }))
+  restart-stops setup n node (restart_fault.Memory Want) st cause refused = tt
+  restart-stops setup n node (restart_fault.Memory (Spent number)) st cause refused = inl (number, cause, refl)
 
 -- ---- what was done
 

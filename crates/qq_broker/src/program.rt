@@ -8,7 +8,7 @@ ghost use Rattle.qq_program.specs.Pieces.{HasSomePrefix, HasPrintCause};
 ghost use Rattle.qq_options.specs.Words.{read_options};
 ghost use Rattle.qq_program.specs.declared.status.TheConstants.{DONE};
 ghost use Rattle.qq_program.specs.Runs.{HasStopped, IsDone, Closes, HasRun, RunEnds};
-ghost use Rattle.qq_broker.specs.Nodes.{IsNodeOf};
+ghost use Rattle.qq_broker.specs.Nodes.{IsNodeOf, Meets};
 ghost use Rattle.qq_program.specs.Service.{IsReached, HasOpened};
 
 use crate::serving::{open, serve};
@@ -48,7 +48,8 @@ fn answer<Y: Yard>(
     ensures cause { (n : World) → IsReached (node_setup setup.now.queues) n
         → IsNodeOf Y.Disk.tells Y.Disk.past (node_setup setup.now.queues) node n
         → IfErr result (λ stop.
-        HasAnswerCause (Rose (Y.faults yard.old) (Y.faults yard.new)) setup.now
+        HasAnswerCause (Meets Y.Disk.tells Y.Disk.past Y.Disk.faults
+        (Y.faults yard.old) (Y.faults yard.new)) setup.now
         (record { lines = before; node = n }) (Some line.now) stop) }
     ensures later { Y.faults yard.old ≤ Y.faults yard.new }
 {
@@ -82,7 +83,8 @@ fn serve_lines<Y: Yard, I: Source, O: Sink>(
         (I.left input.new) (O.written output.old) (O.written output.new)
         (Rose (I.faults input.old) (I.faults input.new))
         (Rose (O.faults output.old) (O.faults output.new))
-        (Rose (Y.faults yard.old) (Y.faults yard.new)) []) }
+        (Meets Y.Disk.tells Y.Disk.past Y.Disk.faults
+        (Y.faults yard.old) (Y.faults yard.new)) []) }
     ensures source_later { I.faults input.old ≤ I.faults input.new }
     ensures sink_later { O.faults output.old ≤ O.faults output.new }
     ensures yard_later { Y.faults yard.old ≤ Y.faults yard.new }
@@ -169,7 +171,8 @@ fn serve_script<Y: Yard, I: Source, O: Sink>(
         (I.left input.new) (O.written output.old) (O.written output.new)
         (Rose (I.faults input.old) (I.faults input.new))
         (Rose (O.faults output.old) (O.faults output.new))
-        (Rose (Y.faults yard.old) (Y.faults yard.new)) []) }
+        (Meets Y.Disk.tells Y.Disk.past Y.Disk.faults
+        (Y.faults yard.old) (Y.faults yard.new)) []) }
     ensures source_later { I.faults input.old ≤ I.faults input.new }
     ensures sink_later { O.faults output.old ≤ O.faults output.new }
     ensures yard_later { Y.faults yard.old ≤ Y.faults yard.new }
@@ -209,7 +212,8 @@ fn open_script<Y: Yard, I: Source, O: Sink>(
         (O.written output.old) (O.written output.new)
         (Rose (I.faults input.old) (I.faults input.new))
         (Rose (O.faults output.old) (O.faults output.new))
-        (Rose (Y.faults yard.old) (Y.faults yard.new)) }
+        (Meets Y.Disk.tells Y.Disk.past Y.Disk.faults
+        (Y.faults yard.old) (Y.faults yard.new)) }
     ensures source_later { I.faults input.old ≤ I.faults input.new }
     ensures sink_later { O.faults output.old ≤ O.faults output.new }
     ensures yard_later { Y.faults yard.old ≤ Y.faults yard.new }
@@ -237,7 +241,8 @@ fn run_script<Y: Yard, I: Source, O: Sink>(
         (O.written output.old) (O.written output.new)
         (Rose (I.faults input.old) (I.faults input.new))
         (Rose (O.faults output.old) (O.faults output.new))
-        (Rose (Y.faults yard.old) (Y.faults yard.new)) }
+        (Meets Y.Disk.tells Y.Disk.past Y.Disk.faults
+        (Y.faults yard.old) (Y.faults yard.new)) }
     ensures source_later { I.faults input.old ≤ I.faults input.new }
     ensures sink_later { O.faults output.old ≤ O.faults output.new }
     ensures yard_later { Y.faults yard.old ≤ Y.faults yard.new }
@@ -267,7 +272,8 @@ pub fn run<R: AllocGlobal, Y: Yard, I: Source, O: Sink>(
         (I.left input.old) (I.left input.new) (O.written output.old) (O.written output.new)
         (Rose (I.faults input.old) (I.faults input.new))
         (Rose (O.faults output.old) (O.faults output.new))
-        (Rose (Y.faults yard.old) (Y.faults yard.new)) }
+        (Meets Y.Disk.tells Y.Disk.past Y.Disk.faults
+        (Y.faults yard.old) (Y.faults yard.new)) }
     ensures source_later { I.faults input.old ≤ I.faults input.new }
     ensures sink_later { O.faults output.old ≤ O.faults output.new }
     ensures yard_later { Y.faults yard.old ≤ Y.faults yard.new }

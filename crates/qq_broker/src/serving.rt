@@ -1,6 +1,5 @@
 //! A node of a run is opened, and serves lines.
-ghost use Rattle.std.specs.Prelude.{◌≡◌, ◌≤◌, IfOk, IfErr};
-ghost use Rattle.qq_base.specs.Causes.{Rose};
+ghost use Rattle.std.specs.Prelude.{◌≡◌, ◌≤◌, ℕ, IfOk, IfErr};
 ghost use Rattle.qq_calls.specs.Calls.{rule_of};
 ghost use Rattle.qq_calls.specs.Named.{IsNamed};
 ghost use Rattle.qq_calls.specs.Queues.{node_setup};
@@ -12,8 +11,7 @@ ghost use Rattle.qq_program.specs.Service.{IsReached, HasOpened, HasServed, HasS
 ghost use Rattle.qq_recover.specs.Recovered.{IsAtEnd};
 ghost use Rattle.qq_world.specs.Node.{Setup as NodeSetup, Node as World};
 ghost use Rattle.qq_world.specs.Rules.{Crash, Restart};
-ghost use Rattle.qq_node.specs.Restarting.{IsRestartCaused};
-ghost use Rattle.qq_broker.specs.Nodes.{HasOpenFault, IsMemoryStop, IsNodeOf};
+ghost use Rattle.qq_broker.specs.Nodes.{IsMemoryStop, IsNodeOf, Meets, open_ending, restart_stop};
 
 use crate::asking::ask;
 use crate::laws::runs_have_queues_of_their_own;
@@ -43,8 +41,7 @@ fn memory_stop(memory: Memory) -> AskStop
 
 // How a run ends whose node isn't opened. A disk that isn't empty isn't what the yard should give.
 fn open_ending(fault: OpenFault) -> Ending
-    requires { HasOpenFault fault }
-    ensures { MayNotOpen result }
+    ensures { result ≡ open_ending fault }
 {
     match fault {
         OpenFault::Disk => Ending::yard_fault(),
@@ -59,8 +56,9 @@ fn open_ending(fault: OpenFault) -> Ending
 /// Opens a node with the queues of a setup over a disk of the yard, and adds what that prints to `text`.
 ///
 /// - `ok`: it is opened, each queue's clock has ticked once, and a pump has followed.
-/// - `cause`: the disk couldn't be had or used, its files break the rules, there was no memory, or a number
-///   stands at its end. A disk that isn't empty counts as one that couldn't be had.
+/// - `cause`: the yard has failed or the disk has, or the disk doesn't tell what it holds and isn't empty or
+///   its files break the rules; or there was no memory, or a number stands at its end. A disk that isn't empty
+///   counts as one that couldn't be had.
 pub fn open<Y: Yard>(
     alloc: Global,
     setup: &Setup,
@@ -71,7 +69,8 @@ pub fn open<Y: Yard>(
     ensures ok { IfOk result (λ node. HasOpened (node_setup setup.now.queues)
         (IsNodeOf Y.Disk.tells Y.Disk.past (node_setup setup.now.queues) node)
         text.old.items text.new.items) }
-    ensures cause { IfErr result MayNotOpen }
+    ensures cause { IfErr result (MayNotOpen (Meets Y.Disk.tells Y.Disk.past Y.Disk.faults
+        (Y.faults yard.old) (Y.faults yard.new))) }
     ensures later { Y.faults yard.old ≤ Y.faults yard.new }
 {
     runs_have_queues_of_their_own();
@@ -91,7 +90,7 @@ pub fn open<Y: Yard>(
     };
     match open_node(disk, alloc, queues, desks, setup.log_bytes, text) {
         Ok(node) => Ok(node),
-        Err(fault) => Err(open_ending(fault)),
+        Err((fault, _)) => Err(open_ending(fault)),
     }
 }
 
@@ -108,9 +107,9 @@ fn crash<Y: Yard>(
         IsNodeOf Y.Disk.tells Y.Disk.past setup node n → IfOk result (λ next.
         HasServed setup n (Crash image.now) (IsNodeOf Y.Disk.tells Y.Disk.past setup next)
         text.old.items text.new.items) }
-    ensures cause { (setup : NodeSetup) (n : World) → IfErr result (λ stop.
-        HasServeCause (Rose (Y.faults yard.old) (Y.faults yard.new)) setup n
-        (Crash image.now) stop) }
+    ensures cause { (setup : NodeSetup) (n : World) → IfErr result (λ stop. HasServeCause
+        (Meets Y.Disk.tells Y.Disk.past Y.Disk.faults (Y.faults yard.old) (Y.faults yard.new))
+        setup n (Crash image.now) stop) }
     ensures later { Y.faults yard.old ≤ Y.faults yard.new }
 {
     match crash_node(node, alloc, yard, image) {
@@ -122,9 +121,7 @@ fn crash<Y: Yard>(
 
 // How a run ends whose node isn't restarted.
 fn restart_stop(fault: RestartFault) -> AskStop
-    requires { (setup : NodeSetup) × (n : World) × IsRestartCaused setup n fault }
-    ensures { (setup : NodeSetup) (n : World) → IsRestartCaused setup n fault →
-        HasServeCause ⊥ setup n Restart result }
+    ensures { result ≡ restart_stop fault }
 {
     match fault {
         RestartFault::Damaged { file, place } => {
@@ -154,8 +151,9 @@ fn restart<D: NodeDisk>(
         IsNodeOf D.tells D.past setup node n → IfOk result (λ next.
         HasServed setup n Restart (IsNodeOf D.tells D.past setup next)
         text.old.items text.new.items) }
-    ensures cause { (setup : NodeSetup) (n : World) → IsReached setup n →
-        IsNodeOf D.tells D.past setup node n → IfErr result (HasServeCause ⊥ setup n Restart) }
+    ensures cause { (setup : NodeSetup) (n : World) (before after : ℕ) → IsReached setup n →
+        IsNodeOf D.tells D.past setup node n → IfErr result
+        (HasServeCause (Meets D.tells D.past D.faults before after) setup n Restart) }
 {
     match restart_node(node, alloc, text) {
         Ok(next) => Ok(next),
@@ -204,7 +202,8 @@ pub fn serve<Y: Yard>(
         (IsNodeOf Y.Disk.tells Y.Disk.past setup next) text.old.items text.new.items) }
     ensures cause { (setup : NodeSetup) (n : World) → IsReached setup n →
         IsNodeOf Y.Disk.tells Y.Disk.past setup node n → IfErr result (λ stop. HasServeCause
-        (Rose (Y.faults yard.old) (Y.faults yard.new)) setup n (rule_of call) stop) }
+        (Meets Y.Disk.tells Y.Disk.past Y.Disk.faults (Y.faults yard.old) (Y.faults yard.new))
+        setup n (rule_of call) stop) }
     ensures later { Y.faults yard.old ≤ Y.faults yard.new }
 {
     match call {

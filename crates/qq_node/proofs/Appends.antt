@@ -14,7 +14,9 @@ use Rattle.qq_disk.proofs.Moments.{adds-none, adds-now, adds-then, adds-weaker}
 use Rattle.qq_disk.proofs.Stored.{still_tells}
 use Rattle.qq_chain.specs.Laws.{HoldsOps, KeepsPromise, op_records}
 use Rattle.qq_log.specs.declared.op.Op.{Op}
-use Rattle.qq_wal.specs.Running.{top, StaysGiving, HoldsAlso}
+use Rattle.qq_chain.specs.Promise.{Promises}
+use Rattle.qq_chain.specs.Wal.{wal}
+use Rattle.qq_wal.specs.Running.{top, Stays, StaysGiving, HoldsAlso}
 use Rattle.qq_wal.specs.Batch.{AllFitBatch, FitsBatch, IsBatch, encodings}
 use Rattle.qq_wal.specs.declared.batch.TheConstants.{BATCH_BYTES, BATCH_OPS}
 use Rattle.qq_wal.specs.Fault.{IsAppendCaused}
@@ -28,6 +30,14 @@ use Rattle.qq_wal_record.specs.Encoding.{record_encoding}
 use Rattle.qq_wal_record.specs.Record.{payload_length}
 use Rattle.qq_node_laws.proofs.Promises.{more-given}
 use Rattle.qq_node.specs.Log.{AppendsAll, AppendsFirst, AppendsSome, IsBatchOf, IsLogCaused}
+
+-- what was promised is promised in one part of a call, and then in another
+pub stays-then : (queues : List QueueId) (old mid new : List Disk) → Stays queues old mid → Stays queues mid new
+    → Stays queues old new
+stays-then queues old mid new first second noticed given keeps =
+    let P : Disk → Type 0 = λ d. Promises (wal queues) top noticed given d in
+    let early : Adds P old mid = first noticed given keeps in
+    adds-then P old mid new early (second noticed given (adds-now P old mid early keeps))
 
 -- one batch is given, and then another
 pub giving-then : (queues : List QueueId) (first second : List Op) (old mid new : List Disk)

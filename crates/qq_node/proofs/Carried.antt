@@ -32,7 +32,7 @@ use Rattle.qq_node.specs.Carried.{CarriesAre, IsCarryAt, TellsEnd, ops_written}
 use Rattle.qq_node.specs.Found.{AreDistinct, as_told}
 use Rattle.qq_node.specs.Gather.{AllGoOn, add_ops}
 use Rattle.qq_node.proofs.Gathers.{add_ops-both, goes_on-then}
-use Rattle.qq_node.proofs.Unseen.{Extends, part-extends}
+use Rattle.qq_node_laws.proofs.Quiet.{Extends, part-extends}
 
 -- ---- an op of a queue
 

@@ -1,5 +1,6 @@
 -- Why a call gave up.
 use Rattle.std.proofs.Common.{◌≡◌, arith}
+use Rattle.std.specs.Prelude.{Result, Ok, Err, OnErr}
 use Rattle.qq_base.specs.Causes.{SpentOnlyWhere}
 use Rattle.qq_base.specs.declared.memory.Memory.{Memory}
 use Rattle.qq_base.specs.declared.memory.Memory.TheVariants.{Want, Spent}
@@ -15,3 +16,8 @@ at_end (Spent number) P cause = omega (arith, cause.0)
 pub at_want : (m : Memory) → m ≡ Want → IsAtEnd m
 at_want Want is = tt
 at_want (Spent number) is = absurd cc
+
+-- what holds whatever a call answers, holds at its error
+pub on_err-any : {T E P : Type 0} (r : Result T E) → P → OnErr r P
+on_err-any (Ok x) p = tt
+on_err-any (Err e) p = p

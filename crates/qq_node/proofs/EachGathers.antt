@@ -3,12 +3,13 @@ use Rattle.std.proofs.Common.{◌≡◌, ◌≤◌, ◌+◌, ℕ, zero, suc, Boo
 use Rattle.std.specs.Prelude.{IsTrue}
 use Rattle.qq_base.specs.Causes.{Rose}
 use Rattle.qq_base.specs.declared.ids.QueueId.{QueueId}
-use Rattle.qq_chain.specs.Laws.{op_records}
+use Rattle.qq_chain.specs.Laws.{KeepsPromise, op_records}
 use Rattle.qq_desk.specs.Desk.{DeskState, world_of}
 use Rattle.qq_disk.specs.Disk.{Disk}
+use Rattle.qq_disk.proofs.Moments.{adds-none}
 use Rattle.qq_log.specs.declared.op.Op.{Op}
 use Rattle.qq_node_laws.specs.Waiting.{ops_waiting}
-use Rattle.qq_wal.specs.Running.{StaysWhole}
+use Rattle.qq_wal.specs.Running.{StaysWhole, top}
 use Rattle.qq_wal.specs.Wal.{IsSound, StaysAppending, carries_ahead}
 use Rattle.qq_wal.specs.Marks.{Carries}
 use Rattle.qq_wal.specs.declared.wal.Wal.{Wal}
@@ -16,7 +17,7 @@ use Rattle.qq_wal_record.specs.declared.record.LogRecord.{LogRecord}
 use Rattle.qq_node.specs.Desks.{all_waiting}
 use Rattle.qq_node.specs.Gather.{AllGoOn, add_ops}
 use Rattle.qq_node.specs.Log.{AppendsAll, HasWritten}
-use Rattle.qq_node.specs.Writing.{Appends}
+use Rattle.qq_node.specs.Writing.{Appends, BreaksOff, StaysGivingSome}
 use Rattle.qq_node.proofs.Gathers.{add_ops-both, goes_on-both}
 
 records-both : (ops others : List Op) → op_records (ops ++ others) ≡ op_records ops ++ op_records others
@@ -97,6 +98,35 @@ module _ {D : Type 0} (tells : D → Bool) (past : D → List Disk) (desks : Lis
       ap (λ (l : List DeskState). add_ops (carries_ahead wal) (all_waiting l)) (sym (drop-past desks at most)) ∙ g.ahead
 
 -- ---- and appended
+
+-- there was no memory for them
+pub gather-breaks : {D : Type 0} (tells : D → Bool) (past : D → List Disk) (faults : D → ℕ) (ops : List Op)
+    (old new : Wal D) → new ≡ record old { waiting = new.waiting }
+    → BreaksOff tells past faults (StaysGivingSome ops old.queues.items) old.disk new.disk
+gather-breaks {D} tells past faults ops old new same =
+    subst (BreaksOff tells past faults (StaysGivingSome ops old.queues.items) old.disk)
+    (sym (ap (λ (w : Wal D). w.disk) same))
+    (record {
+      told = refl;
+      later = omega arith;
+      moments = λ tell. record {
+        count = 0;
+        stays = λ batch is noticed given keeps holds.
+            adds-none (KeepsPromise old.queues.items top noticed (given ++ batch)) (past old.disk);
+      };
+    })
+
+-- or while they were appended
+pub append-breaks : {D : Type 0} (tells : D → Bool) (past : D → List Disk) (faults : D → ℕ) (ops : List Op)
+    (old mid new : Wal D) → old.waiting.items ≡ [] → mid.waiting.items ≡ old.waiting.items ++ op_records ops
+    → mid ≡ record old { waiting = mid.waiting }
+    → BreaksOff tells past faults (StaysAppending mid.queues.items mid.waiting.items) mid.disk new.disk
+    → BreaksOff tells past faults (StaysGivingSome ops old.queues.items) old.disk new.disk
+append-breaks {D} tells past faults ops old mid new none waits same breaks =
+    subst (λ (l : List LogRecord). BreaksOff tells past faults (StaysAppending old.queues.items l) old.disk new.disk)
+    (waits ∙ ap (λ (l : List LogRecord). l ++ op_records ops) none)
+    (subst (λ (m : Wal D). BreaksOff tells past faults (StaysAppending m.queues.items mid.waiting.items) m.disk new.disk)
+    same breaks)
 
 -- what a write has done to the log that was gathered for it
 pub record WroteFrom {D : Type 0} (tells : D → Bool) (past : D → List Disk) (faults : D → ℕ) (more : Bool) (mid new : Wal D)

@@ -1,6 +1,5 @@
 pub mod Appends
 pub mod Gathers
-pub mod Unseen
 pub mod Carried
 pub mod Moments
 pub mod Finding

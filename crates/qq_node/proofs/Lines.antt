@@ -292,6 +292,7 @@ module _ {D : Type 0} (tells : D → Bool) (past : D → List Disk) (faults : D 
         events = s.events;
         means = subst (IsPump setup n) (append-nil s.events)
             (s.means [] (idle-pumps left setup (node_after n s.events) (sym (idle setup (node_after n s.events) s.stands))));
+        no_crash = s.no_crash;
         stands = s.stands;
         says = s.says;
         told = s.told;

@@ -10,6 +10,7 @@ use Rattle.qq_disk.specs.Disk.{Disk, now}
 use Rattle.qq_chain.specs.Laws.{op_records}
 use Rattle.qq_desk.specs.Desk.{DeskState, world_of}
 use Rattle.qq_log.specs.declared.op.Op.{Op}
+use Rattle.qq_wal.specs.Running.{Stays}
 use Rattle.qq_wal.specs.Wal.{StaysAppending, carries_ahead}
 use Rattle.qq_wal.specs.declared.wal.Wal.{Wal}
 use Rattle.qq_world.specs.Node.{Setup, Node, NodeEvent, Alike, Fails, node_happens, node_after, text_of}
@@ -18,9 +19,11 @@ use Rattle.qq_world.specs.Rules.{IsSync, IsWrite, OrFails, if_so, is_node_up, so
 use Rattle.qq_world.specs.World.{World, Writes, Syncs, Stops, is_up}
 use Rattle.qq_node_laws.specs.Linked.{IsLinked}
 use Rattle.qq_node_laws.specs.Reads.{IsReached, queues_of}
-use Rattle.qq_node_laws.specs.Traced.{IsTraced}
+use Rattle.qq_node_laws.specs.Serves.{GivesUp, seen_of}
+use Rattle.qq_node_laws.specs.Traced.{HasNoCrash, IsTraced}
 use Rattle.qq_node_laws.specs.Waiting.{AreApart, ops_waiting, waiting}
 use Rattle.qq_node_laws.proofs.Both.{none-any}
+use Rattle.qq_node_laws.proofs.Writes.{stays-keeps}
 use Rattle.qq_node.specs.declared.log.SyncOutcome.{SyncOutcome}
 use Rattle.qq_node.specs.declared.log.SyncOutcome.TheVariants.{Whole, NoFile, Nothing}
 use Rattle.qq_node.specs.declared.node.Node.{Node as Held}
@@ -30,11 +33,11 @@ use Rattle.qq_node.specs.Carried.{CarriesAre}
 use Rattle.qq_node.specs.Desks.{AllDo, HasSettled, all_waiting}
 use Rattle.qq_node.specs.Gather.{AllGoOn, add_ops}
 use Rattle.qq_node.specs.Log.{AppendsAll, HasCome, IsWhole, sync_events}
-use Rattle.qq_node.specs.Node.{AreDesks, IsLogAt, IsRunning, Served, Stands, disk_in}
-use Rattle.qq_node.specs.Writing.{AppendsIn, HasAppended, MayAppendIn, MaySyncIn, SameLog, Syncs as SyncsLog, SyncsIn}
+use Rattle.qq_node.specs.Node.{AreDesks, GaveUp, IsLogAt, IsRunning, Served, Stands, disk_in}
+use Rattle.qq_node.specs.Writing.{AppendsIn, BreaksOffIn, HasAppended, MayAppendIn, MaySyncIn, SameLog, StaysGivingSome, Syncs as SyncsLog, SyncsIn}
 use Rattle.qq_node.proofs.Carried.{carries-synced, carries-written, goes_on-waiting}
 use Rattle.qq_node.proofs.EachDesk.{all-desks, all-done, any-desks, as-many}
-use Rattle.qq_node.proofs.Moments.{sync-allowed, sync-caused, synced-traced, write_fails-traced, writes-traced}
+use Rattle.qq_node.proofs.Moments.{appending-keeps, sync-allowed, sync-caused, sync-no_crash, synced-traced, write_fails-traced, writes-traced}
 
 -- ---- tests
 
@@ -130,6 +133,7 @@ module _ {D : Type 0} (tells : D → Bool) (past : D → List Disk) (faults : D 
       (before later : List ℕ) : Type 0 where
     pub events : List NodeEvent
     pub allowed : Rule setup n events
+    pub no_crash : HasNoCrash events
     pub desks : AreDesks setup (node_after n events) setup.places new.desks
     pub auto : new.auto ≡ (node_after n events).auto
     pub log : LogDid setup n events old.log new.log
@@ -144,6 +148,7 @@ module _ {D : Type 0} (tells : D → Bool) (past : D → List Disk) (faults : D 
       let d = did setup n r st in record {
         events = d.events;
         means = d.allowed;
+        no_crash = d.no_crash;
         stands = record {
           apart = st.apart;
           desks = d.desks;
@@ -255,6 +260,7 @@ module _ {D : Type 0} (tells : D → Bool) (past : D → List Disk) (faults : D 
       let some = sym (any-desks setup n waits_written setup.places old.desks st.desks) ∙ waits in record {
         events = Alike Writes ∷ [];
         allowed = write-rule setup n (Alike Writes ∷ []) all_up some (inl refl);
+        no_crash = (tt, tt);
         desks = all-done setup n (node_happens n (Alike Writes)) Writes setup.places old.desks new.desks st.desks done
             (λ place. refl);
         auto = auto ∙ st.auto;
@@ -275,6 +281,7 @@ module _ {D : Type 0} (tells : D → Bool) (past : D → List Disk) (faults : D 
       let some = sym (any-desks setup n waits_written setup.places old.desks st.desks) ∙ waits in record {
         events = Fails ∷ [];
         allowed = write-rule setup n (Fails ∷ []) all_up some (inr refl);
+        no_crash = (tt, tt);
         desks = all-done setup n (node_happens n Fails) Stops setup.places old.desks new.desks st.desks done
             (λ place. refl);
         auto = auto ∙ st.auto;
@@ -357,6 +364,7 @@ module _ {D : Type 0} (tells : D → Bool) (past : D → List Disk) (faults : D 
       (settles setup n s waits old.desks new.desks before later st.desks settled) in record {
         events = sync_events (some_queue setup waits_synced n) s;
         allowed = sync-allowed setup n s all_up;
+        no_crash = sync-no_crash (some_queue setup waits_synced n) s;
         desks = done.desks;
         auto = auto ∙ st.auto ∙ sym done.auto;
         log = log-synced setup n s old.log new.log r all_up
@@ -364,3 +372,67 @@ module _ {D : Type 0} (tells : D → Bool) (past : D → List Disk) (faults : D 
             did;
         says = done.says;
       }))
+
+  -- ---- calls that are given up
+
+  gives_up-appending : (setup : Setup) (n : Node) (ops : List Op) (was is : NodeLog D) → IsReached setup n
+      → AreApart setup setup.places → is_node_up setup n ≡ true → some_queue setup waits_written n ≡ true
+      → ops ≡ waiting n setup.places → IsLogAt tells past setup n was
+      → BreaksOffIn tells past faults (StaysGivingSome ops) was is
+      → GivesUp setup n (seen_of tells past faults (disk_in was)) (seen_of tells past faults (disk_in is))
+  gives_up-appending setup n ops (Open old) (Open new) r apart up waits all was b =
+      let run = was (some-up n waits_written setup.places up waits) in record {
+        told = b.told;
+        rises = b.later;
+        moments = λ tell linked. (appending-keeps setup n (past old.disk) (past new.disk) r apart up waits
+            (subst (λ (l : List Op). StaysAppending (queues_of setup) (op_records l) (past old.disk) (past new.disk)) all
+            (subst (λ (ids : List QueueId). StaysAppending ids (op_records ops) (past old.disk) (past new.disk))
+            run.queues_are (b.moments tell))) linked).0;
+      }
+  gives_up-appending setup n ops (Open old) (Closed disk) r apart up waits all was b = absurd b
+  gives_up-appending setup n ops (Closed disk) is r apart up waits all was b = absurd b
+
+  -- there was no memory while what waits was appended, or behind that
+  pub gave_up-write : (old new : Held D) → list_all (λ (d : DeskState). is_up (world_of d)) old.desks ≡ true
+      → list_any (λ (d : DeskState). waits_written (world_of d)) old.desks ≡ true
+      → BreaksOffIn tells past faults (StaysGivingSome (all_waiting old.desks)) old.log new.log
+      → GaveUp tells past faults old new
+  gave_up-write old new up waits breaks setup n r st =
+      gives_up-appending setup n (all_waiting old.desks) old.log new.log r st.apart
+      (sym (all-desks setup n is_up setup.places old.desks st.desks) ∙ up)
+      (sym (any-desks setup n waits_written setup.places old.desks st.desks) ∙ waits)
+      (waiting-is setup n setup.places old.desks st.desks) st.log breaks
+
+  pub appends-break : (ops : List Op) (more : Bool) (was is : NodeLog D) → AppendsIn tells past faults ops more was is
+      → BreaksOffIn tells past faults (StaysGivingSome ops) was is
+  appends-break ops more (Open old) (Open new) a = record { told = a.same.told; later = a.same.later; moments = a.stays }
+  appends-break ops more (Open old) (Closed disk) a = absurd a
+  appends-break ops more (Closed disk) is a = absurd a
+
+  gives_up-syncing : (setup : Setup) (n : Node) (was is : NodeLog D) → IsReached setup n
+      → some_queue setup is_up n ≡ true → IsLogAt tells past setup n was → BreaksOffIn tells past faults Stays was is
+      → GivesUp setup n (seen_of tells past faults (disk_in was)) (seen_of tells past faults (disk_in is))
+  gives_up-syncing setup n (Open old) (Open new) r some was b =
+      let run = was some in record {
+        told = b.told;
+        rises = b.later;
+        moments = λ tell linked. (stays-keeps setup n (past old.disk) (past new.disk) r linked.promised
+            (subst (λ (ids : List QueueId). Stays ids (past old.disk) (past new.disk)) run.queues_are
+            (b.moments tell))).0;
+      }
+  gives_up-syncing setup n (Open old) (Closed disk) r some was b = absurd b
+  gives_up-syncing setup n (Closed disk) is r some was b = absurd b
+
+  -- there was no memory in a sync, or behind it
+  pub gave_up-sync : (old new : Held D) → list_all (λ (d : DeskState). is_up (world_of d)) old.desks ≡ true
+      → 0 < length old.desks → BreaksOffIn tells past faults Stays old.log new.log → GaveUp tells past faults old new
+  gave_up-sync old new up lt breaks setup n r st =
+      gives_up-syncing setup n old.log new.log r
+      (first-up n setup.places (sym (all-desks setup n is_up setup.places old.desks st.desks) ∙ up)
+      (omega (arith, lt, as-many setup n setup.places old.desks st.desks))) st.log breaks
+
+  pub syncs-break : (s : SyncOutcome) (was is : NodeLog D) → SyncsIn tells past faults s was is
+      → BreaksOffIn tells past faults Stays was is
+  syncs-break s (Open old) (Open new) did = record { told = did.same.told; later = did.same.later; moments = did.stays }
+  syncs-break s (Open old) (Closed disk) did = absurd did
+  syncs-break s (Closed disk) is did = absurd did

@@ -18,7 +18,7 @@ use Rattle.qq_world.specs.Rules.{IsSync, IsSynced as IsSyncedBy, MayRoll, if_so,
 use Rattle.qq_world.specs.World.{World, Writes, Syncs, is_up}
 use Rattle.qq_node_laws.specs.Linked.{IsLinked, IsTied, KeepsPromised, LacksRest}
 use Rattle.qq_node_laws.specs.Reads.{IsReached, HasAudits, queues_of}
-use Rattle.qq_node_laws.specs.Traced.{KeepsAudits, LeavesImage, IsTraced}
+use Rattle.qq_node_laws.specs.Traced.{HasNoCrash, KeepsAudits, LeavesImage, IsTraced}
 use Rattle.qq_node_laws.specs.Waiting.{AreApart, waiting}
 use Rattle.qq_node_laws.proofs.Promises.{promised-of, reached-after}
 use Rattle.qq_node_laws.proofs.Stops.{crashed-linked, failed-linked}
@@ -73,24 +73,32 @@ writes-traced setup n old new r apart up some appends l =
     (λ fair. linked-of setup later (now new) (reached-after setup n (Alike Writes ∷ []) r)
     (lacks-none setup n (now new) up (batch-lacks setup n ops [] old new all given.0 given.1)))
 
--- or the disk fails
-pub write_fails-traced : (setup : Setup) (n : Node) (old new : List Disk) → IsReached setup n
+-- or some of it
+pub appending-keeps : (setup : Setup) (n : Node) (old new : List Disk) → IsReached setup n
     → AreApart setup setup.places → is_node_up setup n ≡ true → some_queue setup waits_written n ≡ true
     → StaysAppending (queues_of setup) (op_records (waiting n setup.places)) old new → IsLinked setup n (now old)
-    → IsTraced setup n (Fails ∷ []) old new
-write_fails-traced setup n old new r apart up some stays l =
+    → KeepsAudits setup n old new × KeepsPromised setup n (now new)
+appending-keeps setup n old new r apart up some stays l =
     let ops : List Op = waiting n setup.places in
     let first : List Op = take stays.count ops in
     let rest : List Op = drop stays.count ops in
     let all : LacksRest setup n (first ++ rest) (now old) =
     subst (λ (whole : List Op). LacksRest setup n whole (now old)) (sym (take-append-drop stays.count ops))
     (waits-first setup n (now old) r apart up some l) in
-    let keeps : KeepsAudits setup n old new × KeepsPromised setup n (now new) =
-    batch-keeps setup n first rest old new r all (stays.stays first (records stays.count ops)) in
-    traced-one setup n Fails old new keeps.0 (λ fair. failed-linked setup n (now new) keeps.1)
+    batch-keeps setup n first rest old new r all (stays.stays first (records stays.count ops))
   where
     records : (count : ℕ) (ops : List Op) → op_records (take count ops) ≡ take count (op_records ops)
     records count ops = sym (take-map OpRecord count ops)
+
+-- and the disk fails
+pub write_fails-traced : (setup : Setup) (n : Node) (old new : List Disk) → IsReached setup n
+    → AreApart setup setup.places → is_node_up setup n ≡ true → some_queue setup waits_written n ≡ true
+    → StaysAppending (queues_of setup) (op_records (waiting n setup.places)) old new → IsLinked setup n (now old)
+    → IsTraced setup n (Fails ∷ []) old new
+write_fails-traced setup n old new r apart up some stays l =
+    let keeps : KeepsAudits setup n old new × KeepsPromised setup n (now new) =
+    appending-keeps setup n old new r apart up some stays l in
+    traced-one setup n Fails old new keeps.0 (λ fair. failed-linked setup n (now new) keeps.1)
 
 -- ---- syncs
 
@@ -189,6 +197,15 @@ sync-allowed setup n s up =
     by false Whole = inl refl
     by false NoFile = inr refl
     by false Nothing = inr refl
+
+-- it isn't a crash
+pub sync-no_crash : (some : Bool) (s : SyncOutcome) → HasNoCrash (sync_events some s)
+sync-no_crash true Whole = (tt, tt)
+sync-no_crash true NoFile = (tt, (tt, tt))
+sync-no_crash true Nothing = (tt, tt)
+sync-no_crash false Whole = tt
+sync-no_crash false NoFile = (tt, tt)
+sync-no_crash false Nothing = (tt, tt)
 
 -- there is a failure only where the disk's count rose
 pub sync-caused : (some : Bool) (s : SyncOutcome) (before later : ℕ) → FailsByCount before later s

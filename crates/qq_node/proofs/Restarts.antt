@@ -1,5 +1,5 @@
 -- A node that is crashed, opened or restarted.
-use Rattle.std.proofs.Common.{◌≡◌, ◌≤◌, ℕ, Bool, true, false, not, List, [], ◌∷◌, Option, Some, None, refl, sym, ap, ◌∙◌, subst, append-nil}
+use Rattle.std.proofs.Common.{◌≡◌, ◌≤◌, ℕ, Bool, true, false, not, List, [], ◌∷◌, Option, Some, None, refl, sym, ap, ◌∙◌, subst, arith, append-nil}
 use Rattle.std.specs.Global.{Vec}
 use Rattle.std.specs.Prelude.{IsTrue, is_some}
 use Rattle.std.specs.List.{AllByRecursion, list_all}
@@ -31,7 +31,7 @@ use Rattle.qq_node.specs.declared.recovering.Found.{Found}
 use Rattle.qq_node.specs.Desks.{AllDo}
 use Rattle.qq_node.specs.Found.{AreDistinct, AreLanes, FailsLinked, HasFound}
 use Rattle.qq_node.specs.Log.{IsWhole}
-use Rattle.qq_node.specs.Node.{IsLogAt, IsRunning, Served, Stands, disk_in, seen}
+use Rattle.qq_node.specs.Node.{GaveUp, IsLogAt, IsRunning, Served, Stands, disk_in, seen}
 use Rattle.qq_node.specs.Restarting.{HasBegun, HasCrashed, IsOpenCaused, IsSetFor, opening_fault}
 use Rattle.qq_node.proofs.Carried.{apart-distinct}
 use Rattle.qq_node.proofs.EachDesk.{all-done}
@@ -122,21 +122,26 @@ module _ {D : Type 0} (tells : D → Bool) (past : D → List Disk) (faults : D 
             (found.begins tell setup set.queues_are (fresh tell)).traced;
       }
 
+  -- the disk tells nothing
+  silent : (b : Bool) → (IsTrue b → ⊥) → b ≡ false
+  silent true never = absurd (never refl)
+  silent false never = refl
+
   -- on a new disk no queue has ops
   pub never-used : (setup : Setup) (queues : List QueueId) (desks : List DeskState) (log_bytes : ℕ) (disk : D) (f : Found D)
       → IsSetFor setup queues desks → (IsTrue (tells disk) → IsNew (past disk))
       → HasFound tells past queues log_bytes disk f
-      → list_all (λ (lane : Option Lane). not (is_some lane)) f.lanes.items ≡ false → IsTrue (tells disk) → ⊥
-  never-used setup queues desks log_bytes disk f set fresh found used tell =
-      false≢true (sym used ∙ by queues f.lanes.items found.each)
+      → list_all (λ (lane : Option Lane). not (is_some lane)) f.lanes.items ≡ false → tells disk ≡ false
+  never-used setup queues desks log_bytes disk f set fresh found used =
+      silent (tells disk) (λ tell. false≢true (sym used ∙ by tell queues f.lanes.items found.each))
     where
-      by : (ids : List QueueId) (lanes : List (Option Lane)) → AreLanes ids found.lanes lanes
+      by : IsTrue (tells disk) → (ids : List QueueId) (lanes : List (Option Lane)) → AreLanes ids found.lanes lanes
           → list_all (λ (lane : Option Lane). not (is_some lane)) lanes ≡ true
-      by [] [] are = refl
-      by [] (lane ∷ lanes) are = absurd are
-      by (id ∷ ids) [] are = absurd are
-      by (id ∷ ids) (None ∷ lanes) are = by ids lanes are.1
-      by (id ∷ ids) (Some lane ∷ lanes) are =
+      by tell [] [] are = refl
+      by tell [] (lane ∷ lanes) are = absurd are
+      by tell (id ∷ ids) [] are = absurd are
+      by tell (id ∷ ids) (None ∷ lanes) are = by tell ids lanes are.1
+      by tell (id ∷ ids) (Some lane ∷ lanes) are =
           absurd (subst (λ (o : Option Stable). IsLaneFor id o (Some lane))
           ((found.begins tell setup set.queues_are (fresh tell)).none id.0) are.0)
 
@@ -144,7 +149,8 @@ module _ {D : Type 0} (tells : D → Bool) (past : D → List Disk) (faults : D 
   pub open-caused : (setup : Setup) (queues : List QueueId) (desks : List DeskState) (disk given : D)
       (fault : RecoverFault) → IsSetFor setup queues desks → (IsTrue (tells disk) → IsNew (past disk))
       → (IsTrue (tells disk) → FailsLinked queues (past disk) (past given) fault)
-      → IsRecoverCaused (faults disk) (faults given) fault → IsOpenCaused (tells disk) (opening_fault fault)
+      → IsRecoverCaused (faults disk) (faults given) fault
+      → IsOpenCaused (tells disk) (faults disk) (faults given) (opening_fault fault)
   open-caused setup queues desks disk given fault set fresh fails cause = by fault fails cause
     where
       refused : (fault : RecoverFault) → (IsTrue (tells disk) → FailsLinked queues (past disk) (past given) fault)
@@ -155,11 +161,23 @@ module _ {D : Type 0} (tells : D → Bool) (past : D → List Disk) (faults : D 
           (failed-linked setup (new_node setup) (now (past disk)) (new-promised setup (past disk) (fresh tell)))).no_refusal
 
       by : (fault : RecoverFault) → (IsTrue (tells disk) → FailsLinked queues (past disk) (past given) fault)
-          → IsRecoverCaused (faults disk) (faults given) fault → IsOpenCaused (tells disk) (opening_fault fault)
-      by recover_fault.Disk fails cause = tt
-      by (recover_fault.Damaged file place) fails cause = refused (recover_fault.Damaged file place) fails
-      by (recover_fault.Version file byte) fails cause = refused (recover_fault.Version file byte) fails
+          → IsRecoverCaused (faults disk) (faults given) fault
+          → IsOpenCaused (tells disk) (faults disk) (faults given) (opening_fault fault)
+      by recover_fault.Disk fails cause = cause
+      by (recover_fault.Damaged file place) fails cause =
+          silent (tells disk) (refused (recover_fault.Damaged file place) fails)
+      by (recover_fault.Version file byte) fails cause =
+          silent (tells disk) (refused (recover_fault.Version file byte) fails)
       by (recover_fault.Memory memory) fails cause = cause
+
+  -- or there is no memory for what follows
+  pub opening-gives-up : (setup : Setup) (disk : D) (mid new : Held D) → HasBegun tells past faults setup disk mid
+      → GaveUp tells past faults mid new
+      → (tells (disk_in new.log) ≡ tells disk) × (faults disk ≤ faults (disk_in new.log))
+  opening-gives-up setup disk mid new b gave =
+      let up = gave setup (new_node setup) ([], refl) b.stands in
+      let later : faults (disk_in mid.log) ≤ faults (disk_in new.log) = up.rises in
+      (up.told ∙ b.told, omega (arith, b.rises, later))
 
   -- behind it each queue's clock ticks, and a pump follows
   pub opened : (Ticks Pump : Setup → Node → List NodeEvent → Type 0) (setup : Setup) (disk : D) (mid new : Held D)
@@ -176,6 +194,7 @@ module _ {D : Type 0} (tells : D → Bool) (past : D → List Disk) (faults : D 
       (record {
         events = [];
         means = refl;
+        no_crash = tt;
         stands = b.stands;
         says = sym (append-nil before);
         told = b.told;

@@ -10,13 +10,12 @@ use Rattle.qq_world.specs.Node.{Setup, Node, NodeEvent, Sets, Alike, At, Fails, 
 use Rattle.qq_world.specs.Rules.{Is, Then, some_queue, is_node_up, is_idle, is_settled}
 use Rattle.qq_wal.specs.Wal.{carries_ahead}
 use Rattle.qq_world.specs.World.{World, Event, Mutes, Ticks, Submits, Resends, Writes, Syncs, Notices, Stops, Finds, is_up, after, happens}
-use Rattle.qq_world.proofs.Serving.{IsCalm, calm-part}
-use Rattle.qq_node_laws.proofs.Both.{same-any}
 use Rattle.qq_node_laws.specs.Quiet.{IsQuiet, IsUnseen}
 use Rattle.qq_node_laws.specs.Reads.{IsReached}
-use Rattle.qq_node_laws.specs.Serves.{Seen, Serves}
+use Rattle.qq_node_laws.specs.Serves.{GivesUp, Seen, Serves}
 use Rattle.qq_node_laws.proofs.Promises.{reached-after}
-use Rattle.qq_node_laws.proofs.Serves.{serves-both, serves-nothing, serves-quiet, serves-weaker}
+use Rattle.qq_node_laws.proofs.Quiet.{still-up}
+use Rattle.qq_node_laws.proofs.Serves.{gives_up-behind, gives_up-same, serves-both, serves-nothing, serves-quiet, serves-weaker}
 use Rattle.qq_node.specs.declared.desks.Ask.{Ask}
 use Rattle.qq_node.specs.declared.desks.Ask.TheVariants.{Submit, Resend, Tick, Notice}
 use Rattle.qq_desk.specs.Text.{state_text_as}
@@ -25,7 +24,7 @@ use Rattle.qq_node.specs.declared.node.NodeLog.{NodeLog}
 use Rattle.qq_node.specs.declared.node.NodeLog.TheVariants.{Open, Closed}
 use Rattle.qq_node.specs.Desks.{AllDo, DoesAt, asked}
 use Rattle.qq_node.specs.Log.{IsWhole}
-use Rattle.qq_node.specs.Node.{AreDesks, AtIndex, CanServe, HasPlace, IsAt, IsDesk, IsLogAt, Served, Stands, disk_in, seen}
+use Rattle.qq_node.specs.Node.{AreDesks, AtIndex, CanServe, GaveUp, HasPlace, IsAt, IsDesk, IsLogAt, Served, Stands, disk_in, seen}
 use Rattle.qq_node.proofs.Carried.{carries-unseen}
 use Rattle.qq_node.proofs.EachDesk.{all-desks, all-done, any-desks, as-many, desk-at, drop-at, one-done, one-said}
 
@@ -74,58 +73,19 @@ same-desks setup n m (place ∷ places) [] same are = absurd are
 
 -- ---- the log
 
-calm : (event : NodeEvent) → IsQuiet event → IsCalm event
-calm (Sets auto) quiet = tt
-calm (Alike event) quiet = by event quiet
-  where
-    by : (event : Event) → IsUnseen event → IsCalm (Alike event)
-    by (Mutes session muted) unseen = tt
-    by Ticks unseen = tt
-    by (Submits session body) unseen = tt
-    by (Resends session) unseen = tt
-    by Notices unseen = tt
-    by Writes unseen = absurd unseen
-    by Syncs unseen = absurd unseen
-    by Stops unseen = absurd unseen
-    by (Finds op) unseen = absurd unseen
-calm (At place event) quiet = by event quiet
-  where
-    by : (event : Event) → IsUnseen event → IsCalm (At place event)
-    by (Mutes session muted) unseen = tt
-    by Ticks unseen = tt
-    by (Submits session body) unseen = tt
-    by (Resends session) unseen = tt
-    by Notices unseen = tt
-    by Writes unseen = absurd unseen
-    by Syncs unseen = absurd unseen
-    by Stops unseen = absurd unseen
-    by (Finds op) unseen = absurd unseen
-calm Fails quiet = absurd quiet
-calm (Crashes image) quiet = absurd quiet
-calm (FindsEach ops) quiet = absurd quiet
-calm (Shows place) quiet = tt
-calm SaysDown quiet = tt
-calm SaysBusy quiet = tt
-
-quiet-up : (setup : Setup) (n : Node) (event : NodeEvent) → IsQuiet event
-    → some_queue setup is_up (node_happens n event) ≡ some_queue setup is_up n
-quiet-up setup n event quiet =
-    same-any (λ (place : ℕ). is_up ((node_happens n event).queue place)) (λ (place : ℕ). is_up (n.queue place))
-    (λ place. ap not (calm-part n event place (calm event quiet))) setup.places
-
 -- what the log doesn't see leaves it as it is
 pub log-quiet : {D : Type 0} (tells : D → Bool) (past : D → List Disk) (setup : Setup) (n : Node) (event : NodeEvent)
     (log : NodeLog D) → IsReached setup n → IsQuiet event → IsLogAt tells past setup n log
     → IsLogAt tells past setup (node_happens n event) log
 log-quiet tells past setup n event (Open wal) r quiet is = λ up.
-    let run = is (sym (quiet-up setup n event quiet) ∙ up) in record {
+    let run = is (sym (still-up setup n event quiet) ∙ up) in record {
       sound = run.sound;
       queues_are = run.queues_are;
       waiting = run.waiting;
       going = run.going;
       carries = carries-unseen setup n event (carries_ahead wal) r quiet run.carries;
     }
-log-quiet tells past setup n event (Closed disk) r quiet is = quiet-up setup n event quiet ∙ is
+log-quiet tells past setup n event (Closed disk) r quiet is = still-up setup n event quiet ∙ is
 
 -- ---- the node
 
@@ -193,6 +153,29 @@ module _ {D : Type 0} (tells : D → Bool) (past : D → List Disk) (faults : D 
   served-nothing Rule node text allowed setup n r st =
       serves-nothing setup n (Rule setup n) (Stands tells past setup node) (seen tells past faults node) text
       (allowed setup n r st) st
+
+  -- ---- calls that are given up
+
+  -- the log is as it was
+  pub gave_up-same : (old new : Held D) → new.log ≡ old.log → GaveUp tells past faults old new
+  gave_up-same old new log setup n r st =
+      subst (λ (l : NodeLog D). GivesUp setup n (seen tells past faults old) (seen_in l)) (sym log)
+      (gives_up-same setup n (seen tells past faults old))
+    where
+      seen_in : NodeLog D → Seen
+      seen_in l = record { tells = tells (disk_in l); past = past (disk_in l); faults = faults (disk_in l) }
+
+  -- behind one that was served
+  pub gave_up-behind : (Rule : Setup → Node → List NodeEvent → Type 0) (old mid new : Held D) (before later : List ℕ)
+      → Served tells past faults Rule old mid before later → GaveUp tells past faults mid new
+      → GaveUp tells past faults old new
+  gave_up-behind Rule old mid new before later first second setup n r st =
+      let s = first setup n r st in
+      gives_up-behind setup n (Rule setup n) (Stands tells past setup mid) (seen tells past faults old)
+      (seen tells past faults mid) (seen tells past faults new) before later r s
+      (second setup (node_after n s.events) (reached-after setup n s.events r) s.stands)
+
+  -- ---- single events
 
   -- an event that the log doesn't see
   pub served-quiet : (Rule : Setup → Node → List NodeEvent → Type 0) (old new : Held D) (before later : List ℕ)

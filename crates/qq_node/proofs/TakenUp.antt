@@ -176,6 +176,7 @@ module _ {D : Type 0} (tells : D → Bool) (past : D → List Disk) (faults : D 
           may = may_restart-all setup n found.lanes setup.places both.0;
           is = refl;
         }));
+        no_crash = (tt, tt);
         desks = both.1;
         auto = g.auto_is ∙ st.auto;
         log = subst (LogDid tells past faults setup n events old.log) (sym g.log) log;
@@ -225,6 +226,7 @@ module _ {D : Type 0} (tells : D → Bool) (past : D → List Disk) (faults : D 
       record {
         events = Fails ∷ [];
         allowed = allowed-down setup n (Fails ∷ []) (down setup n st) (inr refl);
+        no_crash = (tt, tt);
         desks = all-done setup n m Stops setup.places old.desks new.desks st.desks s.stop (λ place. refl);
         auto = s.auto_is ∙ st.auto;
         log = subst (LogDid tells past faults setup n (Fails ∷ []) old.log) (sym s.log) log;

@@ -9,7 +9,7 @@ use Rattle.qq_world.specs.Node.{Setup, Node, NodeEvent, At, is_first}
 use Rattle.qq_world.specs.Rules.{some_queue, ForEach}
 use Rattle.qq_world.specs.World.{Event, is_up}
 use Rattle.qq_node_laws.specs.Reads.{IsReached, queue_at, queues_of}
-use Rattle.qq_node_laws.specs.Serves.{Leads, Seen, Serves, seen_of}
+use Rattle.qq_node_laws.specs.Serves.{GivesUp, Leads, Seen, Serves, seen_of}
 use Rattle.qq_node_laws.specs.Waiting.{AreApart}
 use Rattle.qq_node.specs.declared.node.Node.{Node as Held}
 use Rattle.qq_node.specs.declared.node.NodeLog.{NodeLog}
@@ -81,6 +81,12 @@ Served tells past faults Rule old new before later =
     (setup : Setup) (n : Node) → IsReached setup n → Stands tells past setup old n
     → Serves setup n (Rule setup n) (Stands tells past setup new) (seen tells past faults old)
     (seen tells past faults new) before later
+
+-- of whatever node it stood for, at each moment of a call that was given up each queue has its audit as it stood there
+abbrev pub GaveUp : {D : Type 0} → (D → Bool) → (D → List Disk) → (D → ℕ) → Held D → Held D → Type 0
+GaveUp tells past faults old new =
+    (setup : Setup) (n : Node) → IsReached setup n → Stands tells past setup old n
+    → GivesUp setup n (seen tells past faults old) (seen tells past faults new)
 
 -- a rule for the place of a queue; where the node doesn't have the queue nothing happens
 pub record AtQueue (queue : QueueId) (Rule : Setup → ℕ → Node → List NodeEvent → Type 0) (setup : Setup) (n : Node)

@@ -1,6 +1,7 @@
 -- How a node is opened, crashed and restarted.
 use Rattle.std.specs.Prelude.{◌≡◌, ◌≤◌, ◌⊎◌, ℕ, Bool, false, List, [], ◌∷◌, ◌++◌, Option, Err, IsTrue, codes}
 use Rattle.std.specs.Global.{Vec}
+use Rattle.qq_base.specs.Causes.{Rose}
 use Rattle.qq_base.specs.declared.ids.QueueId.{QueueId}
 use Rattle.qq_base.specs.declared.memory.Memory.TheVariants.{Want}
 use Rattle.qq_desk.specs.Desk.{DeskState, IsSameQueue, world_of}
@@ -69,13 +70,14 @@ pub record HasBegun {D : Type 0} (tells : D → Bool) (past : D → List Disk) (
   pub rises : faults disk ≤ faults (disk_in new.log)
   pub moments : IsTrue (tells disk) → IsTraced setup (new_node setup) [] (past disk) (past (disk_in new.log))
 
--- Why a node isn't opened. A disk that tells its contents, on which nothing ever was, is never refused for what it holds.
-abbrev pub IsOpenCaused : Bool → OpenFault → Type 0
-IsOpenCaused tells open_fault.Disk = Unit {0}
-IsOpenCaused tells (open_fault.Damaged file place) = IsTrue tells → ⊥
-IsOpenCaused tells (open_fault.Version file byte) = IsTrue tells → ⊥
-IsOpenCaused tells open_fault.NotEmpty = IsTrue tells → ⊥
-IsOpenCaused tells (open_fault.Memory memory) = IsAtEnd memory
+-- Why a node isn't opened: the disk's count of faults rose, or it holds something, or there was no memory, or a number is at
+-- its end. A disk that tells its contents, on which nothing ever was, is never refused for what it holds.
+abbrev pub IsOpenCaused : Bool → ℕ → ℕ → OpenFault → Type 0
+IsOpenCaused tells before now open_fault.Disk = Rose before now
+IsOpenCaused tells before now (open_fault.Damaged file place) = tells ≡ false
+IsOpenCaused tells before now (open_fault.Version file byte) = tells ≡ false
+IsOpenCaused tells before now open_fault.NotEmpty = tells ≡ false
+IsOpenCaused tells before now (open_fault.Memory memory) = IsAtEnd memory
 
 -- ---- a restart
 

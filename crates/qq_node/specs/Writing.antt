@@ -1,11 +1,12 @@
 -- What a node's calls do to its log.
 use Rattle.std.specs.Prelude.{◌≡◌, ◌≤◌, ℕ, Bool, true, false, List, [], IsTrue}
 use Rattle.qq_base.specs.Causes.{Rose}
+use Rattle.qq_base.specs.declared.ids.QueueId.{QueueId}
 use Rattle.qq_disk.specs.Disk.{Disk}
 use Rattle.qq_chain.specs.Laws.{op_records}
 use Rattle.qq_desk.specs.Desk.{DeskState}
 use Rattle.qq_log.specs.declared.op.Op.{Op}
-use Rattle.qq_wal.specs.Running.{StaysWhole}
+use Rattle.qq_wal.specs.Running.{Stays, StaysWhole}
 use Rattle.qq_wal.specs.Wal.{IsSound, StaysAppending, carries_ahead}
 use Rattle.qq_wal.specs.declared.wal.Wal.{Wal}
 use Rattle.qq_node.specs.declared.log.SyncOutcome.{SyncOutcome}
@@ -26,6 +27,20 @@ pub record SameLog {D : Type 0} (tells : D → Bool) (past : D → List Disk) (f
     pub later : faults old.disk ≤ faults new.disk
     pub whole : IsTrue (tells old.disk) → StaysWhole (past old.disk) (past new.disk)
 
+-- It was given up: the disk tells as before, and at each moment of it this holds.
+pub record BreaksOff {D : Type 0} (tells : D → Bool) (past : D → List Disk) (faults : D → ℕ)
+    (Moments : List Disk → List Disk → Type 0) (old new : D) : Type 0 where
+  pub told : tells new ≡ tells old
+  pub later : faults old ≤ faults new
+  pub moments : IsTrue (tells old) → Moments (past old) (past new)
+
+-- and so of a log that is written to, of the queues that it has
+abbrev pub BreaksOffIn : {D : Type 0} → (D → Bool) → (D → List Disk) → (D → ℕ)
+    → (List QueueId → List Disk → List Disk → Type 0) → NodeLog D → NodeLog D → Type 0
+BreaksOffIn tells past faults Moments (Open old) (Open new) =
+    BreaksOff tells past faults (Moments old.queues.items) old.disk new.disk
+BreaksOffIn tells past faults Moments _ _ = ⊥
+
 -- ---- a write
 
 -- all of these ops are appended, and the log goes on behind them
@@ -37,14 +52,17 @@ pub record HasAppended {D : Type 0} (tells : D → Bool) (past : D → List Disk
     pub appended : IsTrue (tells old.disk)
         → AppendsAll old.queues.items (op_records ops) (past old.disk) (past new.disk)
 
+-- at each moment some of these ops, from the first on, are among what was given
+abbrev pub StaysGivingSome : List Op → List QueueId → List Disk → List Disk → Type 0
+StaysGivingSome ops queues old new = StaysAppending queues (op_records ops) old new
+
 -- these ops are appended, or the disk failed
 pub record Appends {D : Type 0} (tells : D → Bool) (past : D → List Disk) (faults : D → ℕ) (ops : List Op) (more : Bool)
     (old new : Wal D) : Type 0 where
   pub same : SameLog tells past faults old new
   pub done : more ≡ true → HasAppended tells past ops old new
   pub failed : more ≡ false → Rose (faults old.disk) (faults new.disk)
-  pub stays : IsTrue (tells old.disk)
-      → StaysAppending old.queues.items (op_records ops) (past old.disk) (past new.disk)
+  pub stays : IsTrue (tells old.disk) → StaysGivingSome ops old.queues.items (past old.disk) (past new.disk)
 
 -- the log goes on, nothing waits in it, and it takes what waits of the queues
 pub record MayAppend {D : Type 0} (tells : D → Bool) (past : D → List Disk) (desks : List DeskState) (wal : Wal D) : Type 0
@@ -70,6 +88,7 @@ pub record Syncs {D : Type 0} (tells : D → Bool) (past : D → List Disk) (fau
     : Type 0 where
   pub same : SameLog tells past faults old new
   pub come : IsTrue (tells old.disk) → HasCome old.queues.items s (past old.disk) (past new.disk)
+  pub stays : IsTrue (tells old.disk) → Stays old.queues.items (past old.disk) (past new.disk)
   pub going : GoesOnAt s new.stopped
   pub waiting : KeepsWaiting s old new
   pub ahead : carries_ahead new ≡ carries_ahead old

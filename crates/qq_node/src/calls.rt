@@ -1,11 +1,11 @@
 //! The lines of a script, as a node carries them out.
-ghost use Rattle.std.specs.Prelude.{◌≡◌, ◌<◌, IfErr, IsOkUnless, OnOk};
+ghost use Rattle.std.specs.Prelude.{◌≡◌, ◌<◌, IfErr, IsOkUnless, OnErr, OnOk};
 ghost use Rattle.qq_desk.specs.Range.{MayStamp};
 ghost use Rattle.qq_recover.specs.Recovered.{IsAtEnd};
 ghost use Rattle.qq_world.specs.Node.{Setup};
 ghost use Rattle.qq_world.specs.Rules.{IsLine, Notice, Resend, Send, Show, Sync, Tick, WhereUp, Write};
 ghost use Rattle.qq_node.specs.Desks.{MayAsk, asked};
-ghost use Rattle.qq_node.specs.Node.{AtQueue, CanServe, IsAt, Served};
+ghost use Rattle.qq_node.specs.Node.{AtQueue, CanServe, GaveUp, IsAt, Served};
 
 use crate::desks::Ask;
 use crate::node::Node;
@@ -31,6 +31,7 @@ impl<D: NodeDisk> Node<D> {
         ensures ok { OnOk result (Served D.tells D.past D.faults (AtQueue queue
             (λ (setup : Setup) place. IsLine setup (Send place session body)))
             self.old self.new text.old.items text.new.items) }
+        ensures err { OnErr result (GaveUp D.tells D.past D.faults self.old self.new) }
         ensures cause { IfErr result IsAtEnd }
     {
         let at = match self.find(queue) {
@@ -53,6 +54,7 @@ impl<D: NodeDisk> Node<D> {
         ensures ok { OnOk result (Served D.tells D.past D.faults
             (λ (setup : Setup). IsLine setup (Resend session))
             self.old self.new text.old.items text.new.items) }
+        ensures err { OnErr result (GaveUp D.tells D.past D.faults self.old self.new) }
         ensures cause { IfErr result IsAtEnd }
     {
         if let Err(cause) = self.resend_each(alloc, session, text) {
@@ -71,6 +73,7 @@ impl<D: NodeDisk> Node<D> {
         ensures ok { OnOk result (Served D.tells D.past D.faults
             (λ (setup : Setup). IsLine setup Write)
             self.old self.new text.old.items text.new.items) }
+        ensures err { OnErr result (GaveUp D.tells D.past D.faults self.old self.new) }
         ensures cause { IfErr result IsAtEnd }
     {
         if !self.is_up() {
@@ -92,6 +95,7 @@ impl<D: NodeDisk> Node<D> {
         ensures ok { OnOk result (Served D.tells D.past D.faults
             (λ (setup : Setup). IsLine setup Sync)
             self.old self.new text.old.items text.new.items) }
+        ensures err { OnErr result (GaveUp D.tells D.past D.faults self.old self.new) }
         ensures cause { IfErr result IsAtEnd }
     {
         if !self.is_up() {
@@ -118,6 +122,7 @@ impl<D: NodeDisk> Node<D> {
         ensures ok { OnOk result (Served D.tells D.past D.faults (AtQueue queue
             (λ (setup : Setup) place. IsLine setup (Notice place)))
             self.old self.new text.old.items text.new.items) }
+        ensures err { OnErr result (GaveUp D.tells D.past D.faults self.old self.new) }
         ensures cause { IfErr result IsAtEnd }
     {
         self.ask_where_up(alloc, queue, Ask::Notice, text)
@@ -130,6 +135,7 @@ impl<D: NodeDisk> Node<D> {
         ensures ok { OnOk result (Served D.tells D.past D.faults (AtQueue queue
             (λ (setup : Setup) place. IsLine setup (Tick place)))
             self.old self.new text.old.items text.new.items) }
+        ensures err { OnErr result (GaveUp D.tells D.past D.faults self.old self.new) }
         ensures cause { IfErr result IsAtEnd }
     {
         self.ask_where_up(alloc, queue, Ask::Tick, text)
@@ -148,6 +154,7 @@ impl<D: NodeDisk> Node<D> {
         ensures ok { OnOk result (Served D.tells D.past D.faults (AtQueue queue
             (λ (setup : Setup) place. WhereUp setup (IsAt (asked ask) setup place)))
             self.old self.new text.old.items text.new.items) }
+        ensures err { OnErr result (GaveUp D.tells D.past D.faults self.old self.new) }
         ensures cause { IfErr result IsAtEnd }
     {
         let at = match self.find(queue) {

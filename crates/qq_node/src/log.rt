@@ -143,8 +143,8 @@ pub fn begin_next<D: NodeDisk>(wal: &mut Wal<D>, alloc: Global) -> Result<bool, 
 
 /// Syncs what was appended, and begins a new file where the old one is full.
 ///
-/// - `come`: over a disk that tells its contents, at each moment what was promised is promised; once all
-///   is synced it may be noticed.
+/// - `come`: over a disk that tells its contents, once all is synced it may be noticed.
+/// - `stays`: at each moment, also where there is no memory, what was promised is promised.
 /// - `failed`: where it didn't come to its end, the disk's count of faults rose.
 /// - `cause`: `Spent` comes only where the greatest number of a log file is 2^63 or more.
 pub fn sync_log<D: NodeDisk>(wal: &mut Wal<D>, alloc: Global) -> Result<SyncOutcome, Memory>
@@ -153,6 +153,8 @@ pub fn sync_log<D: NodeDisk>(wal: &mut Wal<D>, alloc: Global) -> Result<SyncOutc
     ensures sound { IsSound D.tells D.past wal.new }
     ensures come { IsTrue (D.tells wal.old.disk) → IfOk result (λ s. HasCome wal.old.queues.items s
         (D.past wal.old.disk) (D.past wal.new.disk)) }
+    ensures stays { IsTrue (D.tells wal.old.disk) → Stays wal.old.queues.items
+        (D.past wal.old.disk) (D.past wal.new.disk) }
     ensures going { IfOk result (λ s. GoesOnAt s wal.new.stopped) }
     ensures waiting { IfOk result (λ s. KeepsWaiting s wal.old wal.new) }
     ensures limit { IfOk result (λ s. KeepsLimit s wal.old wal.new) }

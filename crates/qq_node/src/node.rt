@@ -1,12 +1,12 @@
 //! A node: its queues over one log.
-ghost use Rattle.std.specs.Prelude.{◌≡◌, ◌<◌, ◌++◌, ◌∷◌, [], not, ◌&&◌, ℕ, List, Contains, codes, drop, length, IfOk, IfErr, IfNone, IfSome, IsOkUnless, OnOk};
+ghost use Rattle.std.specs.Prelude.{◌≡◌, ◌<◌, ◌++◌, ◌∷◌, [], not, ◌&&◌, ℕ, List, Contains, codes, drop, length, IfOk, IfErr, IfNone, IfSome, IsOkUnless, OnErr, OnOk};
 ghost use Rattle.qq_recover.specs.Recovered.{IsAtEnd};
 ghost use Rattle.qq_world.specs.Node.{Setup, Node as World, Alike, SaysBusy, SaysDown, Sets, Shows};
 ghost use Rattle.qq_world.specs.Rules.{Is, is_idle, is_node_up};
 ghost use Rattle.qq_world.specs.World.{Mutes};
 ghost use Rattle.qq_node_laws.specs.Reads.{queue_at};
 ghost use Rattle.qq_node.specs.Desks.{MayAsk, asked};
-ghost use Rattle.qq_node.specs.Node.{AtIndex, CanServe, IsAt, IsQueueAt, Served, Stands};
+ghost use Rattle.qq_node.specs.Node.{AtIndex, CanServe, GaveUp, IsAt, IsQueueAt, Served, Stands};
 
 use crate::desks::{Ask, Desks};
 use qq_base::{Memory, QueueId};
@@ -110,6 +110,7 @@ impl<D: NodeDisk> Node<D> {
         requires may { MayAsk ask }
         ensures ok { OnOk result (Served D.tells D.past D.faults (AtIndex at (IsAt (asked ask)))
             self.old self.new text.old.items text.new.items) }
+        ensures err { OnErr result (GaveUp D.tells D.past D.faults self.old self.new) }
         ensures cause { IfErr result IsAtEnd }
     {
         self.desks.ask(alloc, at, ask, text)
@@ -122,6 +123,7 @@ impl<D: NodeDisk> Node<D> {
         requires session { 0 < session }
         ensures ok { OnOk result ((text : List ℕ) → Served D.tells D.past D.faults
             (λ setup. Is (Alike (Mutes session muted))) self.old self.new text text) }
+        ensures err { OnErr result (GaveUp D.tells D.past D.faults self.old self.new) }
         ensures want { IsOkUnless result Memory.Want }
     {
         self.desks.mute(alloc, session, muted)

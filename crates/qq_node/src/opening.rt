@@ -1,14 +1,15 @@
 //! A node is opened.
-ghost use Rattle.std.specs.Prelude.{◌≡◌, IsTrue, IfOk, IfErr, Option, is_some, not};
+ghost use Rattle.std.specs.Prelude.{◌≡◌, ◌≤◌, IsTrue, IfOk, IfErr, Option, is_some, not};
 ghost use Rattle.std.specs.List.{list_all};
 ghost use Rattle.qq_log.specs.declared.lane.Lane.{Lane as LaneOf};
 ghost use Rattle.qq_world.specs.Node.{Setup, new_node};
 ghost use Rattle.qq_world.specs.Rules.{IsOpening};
 ghost use Rattle.qq_node_laws.specs.Serves.{Serves, seen_of};
 ghost use Rattle.qq_yards.specs.Yard.{IsNew};
-ghost use Rattle.qq_node.specs.Node.{Stands, seen};
+ghost use Rattle.qq_node.specs.Node.{Stands, disk_in, seen};
 ghost use Rattle.qq_node.specs.Restarting.{HasBegun, IsOpenCaused, IsSetFor, opening_fault};
 
+use crate::crashing::into_disk;
 use crate::desks::Desks;
 use crate::node::{Node, NodeLog};
 use crate::recovering::{Found, recover_log};
@@ -67,6 +68,12 @@ fn are_none(lanes: &[Option<Lane>]) -> bool
     lanes.iter().all(|lane| !lane.is_some())
 }
 
+fn disk_of<D: NodeDisk>(node: Node<D>) -> D
+    ensures { result ≡ disk_in node.log }
+{
+    into_disk(node.log)
+}
+
 // The node before anything happens to it: its log, on which no queue has an op.
 fn begin<D: NodeDisk>(
     disk: D,
@@ -74,19 +81,22 @@ fn begin<D: NodeDisk>(
     queues: Vec<QueueId>,
     desks: Desks,
     log_bytes: u64,
-) -> Result<Node<D>, OpenFault>
+) -> Result<Node<D>, (OpenFault, D)>
     requires set { (setup : Setup) × IsSetFor setup queues.items desks }
     requires fresh { IsTrue (D.tells disk) → IsNew (D.past disk) }
     ensures ok { (setup : Setup) → IsSetFor setup queues.items desks →
         IfOk result (HasBegun D.tells D.past D.faults setup disk) }
-    ensures cause { IfErr result (IsOpenCaused (D.tells disk)) }
+    ensures told { IfErr result (λ e. D.tells e.1 ≡ D.tells disk) }
+    ensures later { IfErr result (λ e. D.faults disk ≤ D.faults e.1) }
+    ensures cause { IfErr result (λ e.
+        IsOpenCaused (D.tells disk) (D.faults disk) (D.faults e.1) e.0) }
 {
     let Found { wal, lanes } = match recover_log(disk, alloc, &queues, log_bytes) {
         Ok(found) => found,
-        Err((fault, _)) => return Err(fault_at_opening(fault)),
+        Err((fault, disk)) => return Err((fault_at_opening(fault), disk)),
     };
     if !are_none(&lanes) {
-        return Err(OpenFault::NotEmpty);
+        return Err((OpenFault::NotEmpty, wal.into_disk()));
     }
     Ok(Node {
         desks,
@@ -98,10 +108,10 @@ fn begin<D: NodeDisk>(
 }
 
 /// Opens a node with these new queues, of which the ids are given in the same order: each queue's clock ticks
-/// once, and a pump follows. The disk is a new one where it tells its contents.
+/// once, and a pump follows. The disk is a new one where it tells its contents. An error hands the disk back.
 ///
-/// `Disk` comes where the disk failed, `Damaged`, `Version` and `NotEmpty` where it isn't a new one. `Spent`
-/// comes only where a number stands at its end.
+/// `Disk` comes only where the disk's count of faults rose, `Damaged`, `Version` and `NotEmpty` only where it
+/// doesn't tell its contents and isn't a new one. `Spent` comes only where a number stands at its end.
 pub fn open_node<D: NodeDisk>(
     disk: D,
     alloc: Global,
@@ -109,24 +119,27 @@ pub fn open_node<D: NodeDisk>(
     desks: Vec<Desk>,
     log_bytes: u64,
     text: &mut Vec<u8>,
-) -> Result<Node<D>, OpenFault>
+) -> Result<Node<D>, (OpenFault, D)>
     requires set { (setup : Setup) × IsSetFor setup queues.items desks.items }
     requires fresh { IsTrue (D.tells disk) → IsNew (D.past disk) }
     ensures ok { (setup : Setup) → IsSetFor setup queues.items desks.items → IfOk result (λ node.
         Serves setup (new_node setup) (IsOpening setup (new_node setup))
         (Stands D.tells D.past setup node) (seen_of D.tells D.past D.faults disk)
         (seen D.tells D.past D.faults node) text.old.items text.new.items) }
-    ensures cause { IfErr result (IsOpenCaused (D.tells disk)) }
+    ensures told { IfErr result (λ e. D.tells e.1 ≡ D.tells disk) }
+    ensures later { IfErr result (λ e. D.faults disk ≤ D.faults e.1) }
+    ensures cause { IfErr result (λ e.
+        IsOpenCaused (D.tells disk) (D.faults disk) (D.faults e.1) e.0) }
 {
     let mut node = match begin(disk, alloc, queues, Desks::new(desks), log_bytes) {
         Ok(node) => node,
         Err(fault) => return Err(fault),
     };
     if let Err(memory) = node.tick_each(alloc, text) {
-        return Err(OpenFault::Memory(memory));
+        return Err((OpenFault::Memory(memory), disk_of(node)));
     }
     if let Err(memory) = node.pump(alloc, text) {
-        return Err(OpenFault::Memory(memory));
+        return Err((OpenFault::Memory(memory), disk_of(node)));
     }
     Ok(node)
 }

@@ -1,10 +1,10 @@
 //! Rounds of a write, a sync and notices, and pumps, which make rounds until no op waits.
-ghost use Rattle.std.specs.Prelude.{◌≡◌, ◌<◌, length, IfErr, OnOk};
+ghost use Rattle.std.specs.Prelude.{◌≡◌, ◌<◌, length, IfErr, OnErr, OnOk};
 ghost use Rattle.qq_recover.specs.Recovered.{IsAtEnd};
 ghost use Rattle.qq_world.specs.Node.{Setup};
 ghost use Rattle.qq_world.specs.Rules.{ForEach, IsNotice, IsPump, IsPumped, IsRound};
 ghost use Rattle.qq_world.specs.World.{Resends, Ticks};
-ghost use Rattle.qq_node.specs.Node.{AtIndex, CanServe, IsAt, Served};
+ghost use Rattle.qq_node.specs.Node.{AtIndex, CanServe, GaveUp, IsAt, Served};
 
 use crate::desks::Ask;
 use crate::node::Node;
@@ -22,6 +22,7 @@ impl<D: NodeDisk> Node<D> {
         requires place { at < length self.old.desks }
         ensures ok { OnOk result (Served D.tells D.past D.faults (AtIndex at IsNotice)
             self.old self.new text.old.items text.new.items) }
+        ensures err { OnErr result (GaveUp D.tells D.past D.faults self.old self.new) }
         ensures cause { IfErr result IsAtEnd }
     {
         let up = self.is_up();
@@ -41,6 +42,7 @@ impl<D: NodeDisk> Node<D> {
         ensures ok { OnOk result (Served D.tells D.past D.faults
             (λ (setup : Setup). ForEach setup.places (IsNotice setup))
             self.old self.new text.old.items text.new.items) }
+        ensures err { OnErr result (GaveUp D.tells D.past D.faults self.old self.new) }
         ensures cause { IfErr result IsAtEnd }
     {
         let count = self.desks.len();
@@ -63,6 +65,7 @@ impl<D: NodeDisk> Node<D> {
         ensures ok { OnOk result (Served D.tells D.past D.faults
             (λ (setup : Setup). ForEach setup.places (IsAt (Resends session) setup))
             self.old self.new text.old.items text.new.items) }
+        ensures err { OnErr result (GaveUp D.tells D.past D.faults self.old self.new) }
         ensures cause { IfErr result IsAtEnd }
     {
         let count = self.desks.len();
@@ -80,6 +83,7 @@ impl<D: NodeDisk> Node<D> {
         ensures ok { OnOk result (Served D.tells D.past D.faults
             (λ (setup : Setup). ForEach setup.places (IsAt Ticks setup))
             self.old self.new text.old.items text.new.items) }
+        ensures err { OnErr result (GaveUp D.tells D.past D.faults self.old self.new) }
         ensures cause { IfErr result IsAtEnd }
     {
         let count = self.desks.len();
@@ -96,6 +100,7 @@ impl<D: NodeDisk> Node<D> {
         requires { CanServe D.tells D.past self.old }
         ensures ok { OnOk result (Served D.tells D.past D.faults IsRound
             self.old self.new text.old.items text.new.items) }
+        ensures err { OnErr result (GaveUp D.tells D.past D.faults self.old self.new) }
         ensures cause { IfErr result IsAtEnd }
     {
         if let Err(cause) = self.write_up(alloc, text) {
@@ -116,6 +121,7 @@ impl<D: NodeDisk> Node<D> {
         requires { CanServe D.tells D.past self.old }
         ensures ok { OnOk result (Served D.tells D.past D.faults IsPump
             self.old self.new text.old.items text.new.items) }
+        ensures err { OnErr result (GaveUp D.tells D.past D.faults self.old self.new) }
         ensures cause { IfErr result IsAtEnd }
     {
         let mut left = MOST_ROUNDS;
@@ -142,6 +148,7 @@ impl<D: NodeDisk> Node<D> {
         requires { CanServe D.tells D.past self.old }
         ensures ok { OnOk result (Served D.tells D.past D.faults IsPumped
             self.old self.new text.old.items text.new.items) }
+        ensures err { OnErr result (GaveUp D.tells D.past D.faults self.old self.new) }
         ensures cause { IfErr result IsAtEnd }
     {
         if !self.auto {

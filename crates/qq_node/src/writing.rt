@@ -1,17 +1,18 @@
 //! What waits of a node's queues is written to its log, and synced.
-ghost use Rattle.std.specs.Prelude.{◌≡◌, ◌++◌, true, false, length, ◌<◌, IfErr, IfOk, IsOkUnless, OnOk};
+ghost use Rattle.std.specs.Prelude.{◌≡◌, ◌++◌, true, false, length, ◌<◌, IfErr, IfOk, IsOkUnless, OnErr, OnOk};
 ghost use Rattle.std.specs.List.{list_all, list_any};
 ghost use Rattle.qq_chain.specs.Laws.{op_records};
 ghost use Rattle.qq_desk.specs.Desk.{DeskState, world_of};
 ghost use Rattle.qq_recover.specs.Recovered.{IsAtEnd};
+ghost use Rattle.qq_wal.specs.Running.{Stays};
 ghost use Rattle.qq_wal.specs.Wal.{IsSound, carries_ahead};
 ghost use Rattle.qq_world.specs.Node.{Setup};
 ghost use Rattle.qq_world.specs.Rules.{IsSync, IsWrite, waits_synced, waits_written};
 ghost use Rattle.qq_world.specs.World.{is_up};
 ghost use Rattle.qq_node.specs.Desks.{all_waiting};
 ghost use Rattle.qq_node.specs.Gather.{AllGoOn, add_ops};
-ghost use Rattle.qq_node.specs.Node.{CanServe, Served};
-ghost use Rattle.qq_node.specs.Writing.{Appends, AppendsIn, MayAppend, MayAppendIn, MaySync, MaySyncIn, Syncs, SyncsIn};
+ghost use Rattle.qq_node.specs.Node.{CanServe, GaveUp, Served};
+ghost use Rattle.qq_node.specs.Writing.{Appends, AppendsIn, BreaksOff, BreaksOffIn, MayAppend, MayAppendIn, MaySync, MaySyncIn, StaysGivingSome, Syncs, SyncsIn};
 
 use crate::desks::{Desks, LogStep};
 use crate::gather::gather_all;
@@ -55,6 +56,9 @@ fn append_waiting<D: NodeDisk>(
     requires { MayAppend D.tells D.past desks.now wal.old }
     ensures ok { IfOk result (λ more. Appends D.tells D.past D.faults (all_waiting desks.now) more
         wal.old wal.new) }
+    ensures err { OnErr result (BreaksOff D.tells D.past D.faults
+        (StaysGivingSome (all_waiting desks.now) wal.old.queues.items)
+        wal.old.disk wal.new.disk) }
     ensures cause { IfErr result IsAtEnd }
 {
     if let Err(cause) = gather_each(wal, alloc, desks) {
@@ -74,6 +78,8 @@ fn append_in<D: NodeDisk>(
     requires { MayAppendIn D.tells D.past desks.now log.old }
     ensures ok { IfOk result (λ more. AppendsIn D.tells D.past D.faults (all_waiting desks.now) more
         log.old log.new) }
+    ensures err { OnErr result (BreaksOffIn D.tells D.past D.faults
+        (StaysGivingSome (all_waiting desks.now)) log.old log.new) }
     ensures cause { IfErr result IsAtEnd }
 {
     match log {
@@ -86,6 +92,8 @@ fn append_in<D: NodeDisk>(
 fn sync_open<D: NodeDisk>(wal: &mut Wal<D>, alloc: Global) -> Result<SyncOutcome, Memory>
     requires { MaySync D.tells D.past wal.old }
     ensures ok { IfOk result (λ s. Syncs D.tells D.past D.faults s wal.old wal.new) }
+    ensures err { OnErr result (BreaksOff D.tells D.past D.faults (Stays wal.old.queues.items)
+        wal.old.disk wal.new.disk) }
     ensures cause { IfErr result IsAtEnd }
 {
     match sync_log(wal, alloc) {
@@ -97,6 +105,7 @@ fn sync_open<D: NodeDisk>(wal: &mut Wal<D>, alloc: Global) -> Result<SyncOutcome
 fn sync_in<D: NodeDisk>(log: &mut NodeLog<D>, alloc: Global) -> Result<SyncOutcome, Memory>
     requires { MaySyncIn D.tells D.past log.old }
     ensures ok { IfOk result (λ s. SyncsIn D.tells D.past D.faults s log.old log.new) }
+    ensures err { OnErr result (BreaksOffIn D.tells D.past D.faults Stays log.old log.new) }
     ensures cause { IfErr result IsAtEnd }
 {
     match log {
@@ -114,6 +123,7 @@ impl<D: NodeDisk> Node<D> {
             ≡ true }
         ensures ok { OnOk result (Served D.tells D.past D.faults IsWrite
             self.old self.new text.old.items text.new.items) }
+        ensures err { OnErr result (GaveUp D.tells D.past D.faults self.old self.new) }
         ensures cause { IfErr result IsAtEnd }
     {
         let wrote = match append_in(&mut self.log, alloc, &self.desks) {
@@ -135,6 +145,7 @@ impl<D: NodeDisk> Node<D> {
         requires { CanServe D.tells D.past self.old }
         ensures ok { OnOk result (Served D.tells D.past D.faults IsWrite
             self.old self.new text.old.items text.new.items) }
+        ensures err { OnErr result (GaveUp D.tells D.past D.faults self.old self.new) }
         ensures cause { IfErr result IsAtEnd }
     {
         let up = self.desks.all_up();
@@ -158,6 +169,7 @@ impl<D: NodeDisk> Node<D> {
         requires some { 0 < length self.old.desks }
         ensures ok { OnOk result (Served D.tells D.past D.faults IsSync
             self.old self.new text.old.items text.new.items) }
+        ensures err { OnErr result (GaveUp D.tells D.past D.faults self.old self.new) }
         ensures cause { IfErr result IsAtEnd }
     {
         let waits = self.desks.some_waits_synced();
@@ -176,6 +188,7 @@ impl<D: NodeDisk> Node<D> {
         requires { CanServe D.tells D.past self.old }
         ensures ok { OnOk result (Served D.tells D.past D.faults IsSync
             self.old self.new text.old.items text.new.items) }
+        ensures err { OnErr result (GaveUp D.tells D.past D.faults self.old self.new) }
         ensures cause { IfErr result IsAtEnd }
     {
         let up = self.desks.all_up();

@@ -5,8 +5,8 @@ pub mod Stops
 pub mod Finds
 pub mod Quiet
 pub mod Traces
-pub mod Serves
 pub mod Answered
 pub mod Own
 pub mod Waiting
 pub mod Said
+pub mod Serves

@@ -27,10 +27,10 @@ use Rattle.qq_node_laws.proofs.Both.{same-any}
 use Rattle.qq_node_laws.proofs.Promises.{sound-at}
 
 -- ops are only added, and as many are written and synced
-record Extends (w v : World) : Type 0 where
-  ops : IsFront w.server.ops v.server.ops
-  written : v.written ≡ w.written
-  synced : v.synced ≡ w.synced
+pub record Extends (w v : World) : Type 0 where
+  pub ops : IsFront w.server.ops v.server.ops
+  pub written : v.written ≡ w.written
+  pub synced : v.synced ≡ w.synced
 
 same : (w : World) → Extends w w
 same w = record { ops = front-refl w.server.ops; written = refl; synced = refl }
@@ -102,7 +102,7 @@ extends w Syncs unseen = absurd unseen
 extends w Stops unseen = absurd unseen
 extends w (Finds op) unseen = absurd unseen
 
-part-extends : (n : Node) (event : NodeEvent) (place : ℕ) → IsQuiet event
+pub part-extends : (n : Node) (event : NodeEvent) (place : ℕ) → IsQuiet event
     → Extends (n.queue place) ((node_happens n event).queue place)
 part-extends n (Sets auto) place quiet = same (n.queue place)
 part-extends n (Alike event) place quiet = extends (n.queue place) event quiet
@@ -167,7 +167,8 @@ calm (Shows place) quiet = tt
 calm SaysDown quiet = tt
 calm SaysBusy quiet = tt
 
-still-up : (setup : Setup) (n : Node) (event : NodeEvent) → IsQuiet event
+-- as many queues are up
+pub still-up : (setup : Setup) (n : Node) (event : NodeEvent) → IsQuiet event
     → some_queue setup is_up (node_happens n event) ≡ some_queue setup is_up n
 still-up setup n event quiet =
     same-any (λ (place : ℕ). is_up ((node_happens n event).queue place)) (λ (place : ℕ). is_up (n.queue place))

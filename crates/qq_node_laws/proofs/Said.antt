@@ -42,6 +42,13 @@ earlier setup n event d r has =
     (λ place own read may. shorter (n.queue place).server.audit ((node_happens n event).queue place).server.audit read
     (follows-all (n.queue place) (part_of place event) (sound-at setup n r place)).rows (own read may)) setup.places has
 
+pub earlier-after : (setup : Setup) (n : Node) (events : List NodeEvent) (d : Disk) → IsReached setup n
+    → HasAudits setup (node_after n events) d → HasAudits setup n d
+earlier-after setup n [] d r has = has
+earlier-after setup n (event ∷ events) d r has =
+    earlier setup n event d r
+    (earlier-after setup (node_happens n event) events d (reached-after setup n (event ∷ []) r) has)
+
 -- ---- events that are no crash
 
 calm-moments : (setup : Setup) (n : Node) (event : NodeEvent) (old new : List Disk) → IsNoCrash event
@@ -85,3 +92,12 @@ pub trace-linked : (setup : Setup) (n : Node) (events : List NodeEvent) (old new
 trace-linked setup n [] old new calm (adds, linked) = linked
 trace-linked setup n (event ∷ events) old new calm (start, mid, first, keeps, rest) =
     trace-linked setup (node_happens n event) events mid new calm.1 (rest (calm-fair setup event (now start) calm.0))
+
+-- and what keeps the audits behind them keeps those of before
+pub trace-behind : (setup : Setup) (n : Node) (events : List NodeEvent) (old mid new : List Disk) → IsReached setup n
+    → HasNoCrash events → IsTraced setup n events old mid → KeepsAudits setup (node_after n events) mid new
+    → KeepsAudits setup n old new
+trace-behind setup n events old mid new r calm traced behind =
+    adds-then (HasAudits setup n) old mid new (trace-moments setup n events old mid r calm traced)
+    (adds-weaker (HasAudits setup (node_after n events)) (HasAudits setup n) mid new
+    (λ d has. earlier-after setup n events d r has) behind)

@@ -7,17 +7,19 @@ use Rattle.std.proofs.lemmas.Grind.{flat_map-append}
 use Rattle.std.proofs.lemmas.List.Folds.{list_any-append}
 use Rattle.qq_base.specs.Causes.{Rose}
 use Rattle.qq_disk.specs.Disk.{now}
+use Rattle.qq_disk.proofs.Moments.{adds-none}
 use Rattle.qq_world.specs.Node.{Setup, Node, NodeEvent, Sets, Alike, At, Fails, Crashes, FindsEach, Shows, SaysDown, SaysBusy, Printed, node_happens, node_after, prints, all_prints, printed_text, text_of}
 use Rattle.qq_world.specs.NodeLaws.{is_failure, has_failure}
 use Rattle.qq_world.specs.Rules.{Then}
 use Rattle.qq_world.proofs.Serving.{after-both}
 use Rattle.qq_node_laws.specs.Linked.{IsLinked}
 use Rattle.qq_node_laws.specs.Quiet.{IsQuiet}
-use Rattle.qq_node_laws.specs.Reads.{IsReached}
-use Rattle.qq_node_laws.specs.Serves.{Leads, Seen, Serves}
-use Rattle.qq_node_laws.specs.Traced.{IsTraced}
+use Rattle.qq_node_laws.specs.Reads.{IsReached, HasAudits}
+use Rattle.qq_node_laws.specs.Serves.{GivesUp, Leads, Seen, Serves}
+use Rattle.qq_node_laws.specs.Traced.{HasNoCrash, IsNoCrash, IsTraced}
 use Rattle.qq_node_laws.proofs.Promises.{reached-after}
 use Rattle.qq_node_laws.proofs.Quiet.{quiet-keeps, quiet-linked}
+use Rattle.qq_node_laws.proofs.Said.{trace-behind, trace-linked}
 use Rattle.qq_node_laws.proofs.Traces.{traced-none, traced-one, traced-then}
 
 -- ---- texts and failures of lists of events
@@ -39,6 +41,10 @@ text-both setup n events others =
 fails-both : (events others : List NodeEvent)
     → has_failure (events ++ others) ≡ (has_failure events || has_failure others)
 fails-both events others = list_any-append is_failure events others
+
+no_crash-both : (events others : List NodeEvent) → HasNoCrash events → HasNoCrash others → HasNoCrash (events ++ others)
+no_crash-both [] others first second = second
+no_crash-both (event ∷ events) others first second = (first.0, no_crash-both events others first.1 second)
 
 -- a count that rose, and later didn't fall
 rose-early : (a m b : ℕ) → a ≤ m → Rose a m → m ≤ b → Rose a b
@@ -67,6 +73,7 @@ pub serves-both : (setup : Setup) (n : Node) (First Second Whole : List NodeEven
 serves-both setup n First Second Whole Mid Last a m b before mid later s t whole = record {
   events = s.events ++ t.events;
   means = whole;
+  no_crash = no_crash-both s.events t.events s.no_crash t.no_crash;
   stands = subst Last (sym (after-both n s.events t.events)) t.stands;
   says = t.says ∙ ap (λ (l : List ℕ). l ++ text_of setup (node_after n s.events) t.events) s.says
       ∙ append_assoc before (text_of setup n s.events) (text_of setup (node_after n s.events) t.events)
@@ -98,6 +105,7 @@ pub serves-weaker : (setup : Setup) (n : Node) (Allowed More : List NodeEvent �
 serves-weaker setup n Allowed More Stands Holds a b before later rule holds s = record {
   events = s.events;
   means = rule s.events s.means;
+  no_crash = s.no_crash;
   stands = holds (node_after n s.events) s.stands;
   says = s.says;
   told = s.told;
@@ -114,6 +122,7 @@ pub serves-nothing : (setup : Setup) (n : Node) (Allowed : List NodeEvent → Ty
 serves-nothing setup n Allowed Stands a text allowed stands = record {
   events = [];
   means = allowed;
+  no_crash = tt;
   stands = stands;
   says = sym (append-nil text);
   told = refl;
@@ -124,14 +133,15 @@ serves-nothing setup n Allowed Stands a text allowed stands = record {
 
 -- one event happened
 pub serves-event : (setup : Setup) (n : Node) (event : NodeEvent) (Allowed : List NodeEvent → Type 0)
-    (Stands : Node → Type 0) (a b : Seen) (before later : List ℕ) → Allowed (event ∷ [])
+    (Stands : Node → Type 0) (a b : Seen) (before later : List ℕ) → IsNoCrash event → Allowed (event ∷ [])
     → Stands (node_happens n event) → later ≡ before ++ text_of setup n (event ∷ []) → b.tells ≡ a.tells
     → a.faults ≤ b.faults → (is_failure event ≡ true → Rose a.faults b.faults)
     → (IsTrue a.tells → IsLinked setup n (now a.past) → IsTraced setup n (event ∷ []) a.past b.past)
     → Serves setup n Allowed Stands a b before later
-serves-event setup n event Allowed Stands a b before later allowed stands says told rises cause moments = record {
+serves-event setup n event Allowed Stands a b before later no_crash allowed stands says told rises cause moments = record {
   events = event ∷ [];
   means = allowed;
+  no_crash = (no_crash, tt);
   stands = stands;
   says = says;
   told = told;
@@ -150,7 +160,8 @@ pub serves-quiet : (setup : Setup) (n : Node) (event : NodeEvent) (Allowed : Lis
     → Allowed (event ∷ []) → Stands (node_happens n event) → later ≡ before ++ text_of setup n (event ∷ [])
     → Serves setup n Allowed Stands a a before later
 serves-quiet setup n event Allowed Stands a before later r quiet allowed stands says =
-    serves-event setup n event Allowed Stands a a before later allowed stands says refl (omega arith)
+    serves-event setup n event Allowed Stands a a before later (no_crash event quiet) allowed stands says refl
+    (omega arith)
     (λ failed. absurd (no_failure event quiet failed))
     (λ tells linked. traced-one setup n event a.past a.past (quiet-keeps setup n event a.past quiet)
     (λ fair. quiet-linked setup n event (now a.past) r quiet linked))
@@ -165,6 +176,17 @@ serves-quiet setup n event Allowed Stands a before later r quiet allowed stands 
     no_failure (Shows place) quiet failed = false≢true failed
     no_failure SaysDown quiet failed = false≢true failed
     no_failure SaysBusy quiet failed = false≢true failed
+
+    no_crash : (event : NodeEvent) → IsQuiet event → IsNoCrash event
+    no_crash (Sets auto) quiet = tt
+    no_crash (Alike event) quiet = tt
+    no_crash (At place event) quiet = tt
+    no_crash Fails quiet = tt
+    no_crash (Crashes image) quiet = absurd quiet
+    no_crash (FindsEach ops) quiet = tt
+    no_crash (Shows place) quiet = tt
+    no_crash SaysDown quiet = tt
+    no_crash SaysBusy quiet = tt
 
 -- ---- loops
 
@@ -183,3 +205,27 @@ leads-more Rest Less Whole n events others first second late allowed =
 pub leads-end : (Rest Whole : Node → List NodeEvent → Type 0) (n : Node) (events others : List NodeEvent)
     → Leads Rest Whole n events → Rest (node_after n events) others → Whole n (events ++ others)
 leads-end Rest Whole n events others first allowed = first others allowed
+
+-- ---- a call that is given up
+
+-- the disk is as it was
+pub gives_up-same : (setup : Setup) (n : Node) (a : Seen) → GivesUp setup n a a
+gives_up-same setup n a = record {
+  told = refl;
+  rises = omega arith;
+  moments = λ tells linked. adds-none (HasAudits setup n) a.past;
+}
+
+-- behind one that was served
+pub gives_up-behind : (setup : Setup) (n : Node) (First : List NodeEvent → Type 0) (Mid : Node → Type 0) (a m b : Seen)
+    (before mid : List ℕ) → IsReached setup n → (s : Serves setup n First Mid a m before mid)
+    → GivesUp setup (node_after n s.events) m b → GivesUp setup n a b
+gives_up-behind setup n First Mid a m b before mid r s t = record {
+  told = t.told ∙ s.told;
+  rises = omega (arith, s.rises, t.rises);
+  moments = λ tells linked.
+      (let traced : IsTraced setup n s.events a.past m.past = s.moments tells linked in
+      trace-behind setup n s.events a.past m.past b.past r s.no_crash traced
+      (t.moments (subst (λ (b : Bool). IsTrue b) (sym s.told) tells)
+      (trace-linked setup n s.events a.past m.past s.no_crash traced)));
+}

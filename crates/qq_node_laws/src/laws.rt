@@ -117,7 +117,8 @@ pub fn what_waits_goes_on()
 {}
 
 /// A law: over events without a crash a trace says that at each moment whatever a crash leaves has each
-/// queue's audit as it stood at first, and that in the end the log is linked to the node.
+/// queue's audit as it stood at first, and that in the end the log is linked to the node. So a call behind them
+/// at whose moments each queue has its audit, as one that is given up, keeps the audits of before them too.
 pub fn a_trace_tells_of_the_disk()
     ensures moments { (setup : Setup) (n : Node) (events : List NodeEvent)
         (old new : List Disk) → IsReached setup n → HasNoCrash events →
@@ -125,4 +126,8 @@ pub fn a_trace_tells_of_the_disk()
     ensures linked { (setup : Setup) (n : Node) (events : List NodeEvent)
         (old new : List Disk) → HasNoCrash events → IsTraced setup n events old new →
         IsLinked setup (node_after n events) (now new) }
+    ensures behind { (setup : Setup) (n : Node) (events : List NodeEvent)
+        (old mid new : List Disk) → IsReached setup n → HasNoCrash events →
+        IsTraced setup n events old mid → KeepsAudits setup (node_after n events) mid new →
+        KeepsAudits setup n old new }
 {}

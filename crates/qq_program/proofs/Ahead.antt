@@ -15,6 +15,7 @@ use Rattle.qq_program.specs.Inputs.{Input, inputs_of}
 use Rattle.qq_program.specs.Reading.{Ends, says}
 use Rattle.qq_program.specs.Serving.{Run, Serves, EndsRun, Behind, run_behind, text_behind, audits_behind, Goes, Served}
 use Rattle.qq_program.specs.Runs.{EndsBy, HasAnswers, BreaksOff, MayEnd, IsDoneOver}
+use Rattle.qq_program.specs.Troubles.{Trouble}
 use Rattle.qq_program.proofs.InputLines.{takes_input, BeginsLong, long_begins}
 use Rattle.qq_program.proofs.Going.{more}
 
@@ -138,47 +139,47 @@ waiting_line s (Some bytes) (Some rest) (Some ahead) run run' line said a b law 
 -- ---- how it ends
 
 -- a line ends the run
-ends_at : (yard : Type 0) (s : Setup) (bytes now : List ℕ) (rest : Option (List ℕ)) (read : List ℕ) (run : Run)
+ends_at : (met : Trouble → Type 0) (s : Setup) (bytes now : List ℕ) (rest : Option (List ℕ)) (read : List ℕ) (run : Run)
     (input : Input) (ahead : List Input) (ending : Ending) (a b : Option (List ℕ))
     → Goes s (inputs_of bytes) run (inputs_of now) a b → IsParted now rest read → inputs_of now ≡ input ∷ ahead
-    → EndsRun yard s run input ending → EndsBy yard ending s bytes rest a b []
-ends_at yard s bytes now rest read run input ahead ending a b so parts is ends = record {
+    → EndsRun met s run input ending → EndsBy met ending s bytes rest a b []
+ends_at met s bytes now rest read run input ahead ending a b so parts is ends = record {
   served = served s bytes now rest read (inputs_of now) so.behind refl parts;
   next = record {
     input = input;
     more = ahead;
     is = is;
-    ends = subst (λ (r : Run). EndsRun yard s r input ending) so.run_is ends;
+    ends = subst (λ (r : Run). EndsRun met s r input ending) so.run_is ends;
   };
   written = with_nil a b (text_behind so.behind) so.written;
 }
 
-pub going_ends : (yard : Type 0) (s : Setup) (start now next rest : Option (List ℕ)) (ending : Ending) (run : Run)
+pub going_ends : (met : Trouble → Type 0) (s : Setup) (start now next rest : Option (List ℕ)) (ending : Ending) (run : Run)
     (line : List ℕ) (a b : Option (List ℕ))
     → ((bytes : List ℕ) → FirstLineLeads bytes (first_line bytes)) → Going s start now run a b
-    → TakesLine now next line → LosesSome now rest → EndsRun yard s run (Some line) ending
-    → MayEnd yard s ending × IfSome start (λ bytes. EndsBy yard ending s bytes rest a b [])
-going_ends yard s None now next rest ending run line a b law so takes lost ends = ((run, Some line, ends), tt)
-going_ends yard s (Some bytes) None next rest ending run line a b law so takes lost ends = absurd so
-going_ends yard s (Some bytes) (Some xs) None rest ending run line a b law so takes lost ends = absurd takes
-going_ends yard s (Some bytes) (Some xs) (Some ahead) rest ending run line a b law so takes lost ends = (
+    → TakesLine now next line → LosesSome now rest → EndsRun met s run (Some line) ending
+    → MayEnd met s ending × IfSome start (λ bytes. EndsBy met ending s bytes rest a b [])
+going_ends met s None now next rest ending run line a b law so takes lost ends = ((run, Some line, ends), tt)
+going_ends met s (Some bytes) None next rest ending run line a b law so takes lost ends = absurd so
+going_ends met s (Some bytes) (Some xs) None rest ending run line a b law so takes lost ends = absurd takes
+going_ends met s (Some bytes) (Some xs) (Some ahead) rest ending run line a b law so takes lost ends = (
   (run, Some line, ends),
-  ends_at yard s bytes xs rest lost.0 run (Some line) (inputs_of ahead) ending a b so (parted xs rest lost.0 lost.1)
+  ends_at met s bytes xs rest lost.0 run (Some line) (inputs_of ahead) ending a b so (parted xs rest lost.0 lost.1)
       (takes_input xs line ahead law takes) ends,
 )
 
 -- the next line is too long
-pub going_too_long : (yard : Type 0) (s : Setup) (start now rest : Option (List ℕ)) (ending : Ending) (run : Run)
+pub going_too_long : (met : Trouble → Type 0) (s : Setup) (start now rest : Option (List ℕ)) (ending : Ending) (run : Run)
     (a b : Option (List ℕ))
     → ((bytes : List ℕ) → FirstLineLeads bytes (first_line bytes)) → Going s start now run a b → BeginsTooLong now
     → LosesSome now rest → says s run.lines None ≡ Ends ending
-    → MayEnd yard s ending × IfSome start (λ bytes. EndsBy yard ending s bytes rest a b [])
-going_too_long yard s None now rest ending run a b law so long lost ends = ((run, None, inl ends), tt)
-going_too_long yard s (Some bytes) None rest ending run a b law so long lost ends = absurd so
-going_too_long yard s (Some bytes) (Some xs) rest ending run a b law so long lost ends =
+    → MayEnd met s ending × IfSome start (λ bytes. EndsBy met ending s bytes rest a b [])
+going_too_long met s None now rest ending run a b law so long lost ends = ((run, None, inl ends), tt)
+going_too_long met s (Some bytes) None rest ending run a b law so long lost ends = absurd so
+going_too_long met s (Some bytes) (Some xs) rest ending run a b law so long lost ends =
     let begins : BeginsLong xs = long_begins xs (law xs) long in (
       (run, None, inl ends),
-      ends_at yard s bytes xs rest lost.0 run None begins.left ending a b so (parted xs rest lost.0 lost.1) begins.is
+      ends_at met s bytes xs rest lost.0 run None begins.left ending a b so (parted xs rest lost.0 lost.1) begins.is
           (inl ends),
     )
 

@@ -14,6 +14,7 @@ use Rattle.qq_program.specs.Inputs.{Input}
 use Rattle.qq_program.specs.Serving.{Run, StopsAt, MayStop, EndsRun}
 use Rattle.qq_program.specs.Runs.{HasStopped, stop_of}
 use Rattle.qq_program.specs.Service.{IsReached, HasServed, HasServeCause}
+use Rattle.qq_program.specs.Troubles.{Trouble, YardFails, FilesBreak}
 use Rattle.qq_program.specs.Answers.{Answers, HasAnswerCause}
 use Rattle.qq_program.proofs.Going.{after-both}
 use Rattle.qq_program.proofs.Ahead.{Going, going_ends, going_stops}
@@ -43,46 +44,48 @@ answers_from s before n line bytes Stands old new reached asks so = record {
   says = so.says;
 }
 
-pub stops_from : (yard : Type 0) (s : Setup) (before : ℕ) (n : Node) (line : Line) (bytes : List ℕ) (stop : AskStop)
-    → says s before (Some bytes) ≡ Asks line → HasServeCause yard (node_setup s.queues) n line stop
-    → HasAnswerCause yard s (record { lines = before; node = n }) (Some bytes) stop
-stops_from yard s before n line bytes (asks.Ended ending) asks cause =
+pub stops_from : (met : Trouble → Type 0) (s : Setup) (before : ℕ) (n : Node) (line : Line) (bytes : List ℕ) (stop : AskStop)
+    → says s before (Some bytes) ≡ Asks line → HasServeCause met (node_setup s.queues) n line stop
+    → HasAnswerCause met s (record { lines = before; node = n }) (Some bytes) stop
+stops_from met s before n line bytes (asks.Ended ending) asks cause =
     inr (record { line = line; asks = asks; stops = cause })
-stops_from yard s before n line bytes asks.NoMemory asks cause = tt
+stops_from met s before n line bytes asks.NoMemory asks cause = tt
 
-pub asks_from : (yard : Type 0) (s : Setup) (before : ℕ) (n : Node) (bytes : List ℕ) (stop : AskStop)
+pub asks_from : (met : Trouble → Type 0) (s : Setup) (before : ℕ) (n : Node) (bytes : List ℕ) (stop : AskStop)
     → HasAskCause stop (says s before (Some bytes))
-    → HasAnswerCause yard s (record { lines = before; node = n }) (Some bytes) stop
-asks_from yard s before n bytes (asks.Ended ending) cause = inl cause
-asks_from yard s before n bytes asks.NoMemory cause = tt
+    → HasAnswerCause met s (record { lines = before; node = n }) (Some bytes) stop
+asks_from met s before n bytes (asks.Ended ending) cause = inl cause
+asks_from met s before n bytes asks.NoMemory cause = tt
 
 -- ---- a line ends the run
 
--- the yard has failed since an earlier time
-pub yard_earlier : (yard yard' : Type 0) → (yard → yard') → (s : Setup) (run : Run) (input : Input) (ending : Ending)
-    → EndsRun yard s run input ending → EndsRun yard' s run input ending
-yard_earlier yard yard' f s run input ending (inl says') = inl says'
-yard_earlier yard yard' f s run input ending (inr stops) =
+-- what was met since a time was met since an earlier one
+pub met_earlier : (met met' : Trouble → Type 0) → ((trouble : Trouble) → met trouble → met' trouble) → (s : Setup)
+    (run : Run) (input : Input) (ending : Ending) → EndsRun met s run input ending → EndsRun met' s run input ending
+met_earlier met met' f s run input ending (inl says') = inl says'
+met_earlier met met' f s run input ending (inr stops) =
     inr (record { line = stops.line; asks = stops.asks; stops = by stops.line stops.stops })
   where
-    at : (line : Line) → StopsAt yard (node_setup s.queues) run.node line ending
-        → StopsAt yard' (node_setup s.queues) run.node line ending
-    at (Crash image) (rose, is) = (f rose, is)
-    at Restart cause = cause
+    at : (line : Line) → StopsAt met (node_setup s.queues) run.node line ending
+        → StopsAt met' (node_setup s.queues) run.node line ending
+    at (Crash image) (rose, is) = (f YardFails rose, is)
+    at Restart (inl damage) = inl (damage.0, f (FilesBreak (node_setup s.queues) damage.0) damage.1, damage.2)
+    at Restart (inr lost) = inr lost
     at _ cause = absurd cause
 
-    by : (line : Line) → MayStop yard (node_setup s.queues) run.node line ending
-        → MayStop yard' (node_setup s.queues) run.node line ending
+    by : (line : Line) → MayStop met (node_setup s.queues) run.node line ending
+        → MayStop met' (node_setup s.queues) run.node line ending
     by line (inl spent) = inl spent
     by line (inr stops') = inr (at line stops')
 
-pub answer_stops : (yard yard' source sink : Type 0) → (yard → yard') → (stop : AskStop) (s : Setup)
+pub answer_stops : (met met' : Trouble → Type 0) (source sink : Type 0)
+    → ((trouble : Trouble) → met trouble → met' trouble) → (stop : AskStop) (s : Setup)
     (start now next rest : Option (List ℕ)) (run : Run) (line : List ℕ) (a b : Option (List ℕ))
     → ((bytes : List ℕ) → FirstLineLeads bytes (first_line bytes)) → Going s start now run a b
-    → TakesLine now next line → LosesSome now rest → HasAnswerCause yard s run (Some line) stop
-    → HasStopped (stop_of stop) s start rest a b source sink yard' []
-answer_stops yard yard' source sink f (asks.Ended ending) s start now next rest run line a b law so takes lost cause =
-    going_ends yard' s start now next rest ending run line a b law so takes lost
-    (yard_earlier yard yard' f s run (Some line) ending cause)
-answer_stops yard yard' source sink f asks.NoMemory s start now next rest run line a b law so takes lost cause =
+    → TakesLine now next line → LosesSome now rest → HasAnswerCause met s run (Some line) stop
+    → HasStopped (stop_of stop) s start rest a b source sink met' []
+answer_stops met met' source sink f (asks.Ended ending) s start now next rest run line a b law so takes lost cause =
+    going_ends met' s start now next rest ending run line a b law so takes lost
+    (met_earlier met met' f s run (Some line) ending cause)
+answer_stops met met' source sink f asks.NoMemory s start now next rest run line a b law so takes lost cause =
     going_stops s start now rest run a b so lost

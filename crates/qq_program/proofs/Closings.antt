@@ -11,7 +11,8 @@ use Rattle.qq_program.specs.declared.stop.Stop.TheVariants as stops
 use Rattle.qq_program.specs.Endings.{Ending}
 use Rattle.qq_program.specs.Serving.{run_behind, text_behind}
 use Rattle.qq_program.specs.Runs.{EndsBy, HasAnswers, BreaksOff, HasStopped, Closes}
-use Rattle.qq_program.proofs.Answering.{yard_earlier}
+use Rattle.qq_program.specs.Troubles.{Trouble}
+use Rattle.qq_program.proofs.Answering.{met_earlier}
 
 without_nil : (a b : Option (List ℕ)) (xs : List ℕ) → Appends a b (xs ++ []) → Appends a b xs
 without_nil a b xs grown = subst (Appends a b) (append-nil xs) grown
@@ -26,10 +27,10 @@ Rose_earlier a b c ab (inr end) = inr end
 
 -- ---- the closing line
 
-ends_then : (yard : Type 0) (ending : Ending) (s : Setup) (bytes : List ℕ) (rest a b c : Option (List ℕ))
-    (more : List ℕ) → EndsBy yard ending s bytes rest a b [] → Appends b c more
-    → EndsBy yard ending s bytes rest a c more
-ends_then yard ending s bytes rest a b c more so grown =
+ends_then : (met : Trouble → Type 0) (ending : Ending) (s : Setup) (bytes : List ℕ) (rest a b c : Option (List ℕ))
+    (more : List ℕ) → EndsBy met ending s bytes rest a b [] → Appends b c more
+    → EndsBy met ending s bytes rest a c more
+ends_then met ending s bytes rest a b c more so grown =
     let text : List ℕ = text_behind so.served.behind in
     record {
       served = so.served;
@@ -59,65 +60,65 @@ breaks_then s bytes rest a b c more so grown = record {
   written = Appends-trans a b c so.said more (without_nil a b so.said so.written) grown;
 }
 
-stopped_then : (stop : Stop) (s : Setup) (left rest a b c : Option (List ℕ)) (source sink sink' yard : Type 0)
-    (more : List ℕ) → (sink → sink') → HasStopped stop s left rest a b source sink yard [] → Appends b c more
-    → HasStopped stop s left rest a c source sink' yard more
-stopped_then (stops.Ended ending) s left rest a b c source sink sink' yard more f so grown =
-    (so.0, IfSome_then left so.1 (λ bytes h. ends_then yard ending s bytes rest a b c more h grown))
-stopped_then stops.ReadFault s left rest a b c source sink sink' yard more f so grown =
+stopped_then : (stop : Stop) (s : Setup) (left rest a b c : Option (List ℕ)) (source sink sink' : Type 0)
+    (met : Trouble → Type 0) (more : List ℕ) → (sink → sink') → HasStopped stop s left rest a b source sink met [] → Appends b c more
+    → HasStopped stop s left rest a c source sink' met more
+stopped_then (stops.Ended ending) s left rest a b c source sink sink' met more f so grown =
+    (so.0, IfSome_then left so.1 (λ bytes h. ends_then met ending s bytes rest a b c more h grown))
+stopped_then stops.ReadFault s left rest a b c source sink sink' met more f so grown =
     (so.0, IfSome_then left so.1 (λ bytes h. answers_then s bytes rest a b c more h grown))
-stopped_then stops.WriteFault s left rest a b c source sink sink' yard more f so grown =
+stopped_then stops.WriteFault s left rest a b c source sink sink' met more f so grown =
     (f so.0, IfSome_then left so.1 (λ bytes h. breaks_then s bytes rest a b c more h grown))
-stopped_then stops.NoMemory s left rest a b c source sink sink' yard more f so grown =
+stopped_then stops.NoMemory s left rest a b c source sink sink' met more f so grown =
     IfSome_then left so (λ bytes h. breaks_then s bytes rest a b c more h grown)
 
 -- a run that stopped, and whose closing line was written, whole or in part
 pub stop_closes : (stop : Stop) (status : ℕ) (ending : Ending) (s : Setup) (left rest a b c : Option (List ℕ))
-    (source yard : Type 0) (old mid new : ℕ) → old ≤ mid → mid ≤ new
-    → HasStopped stop s left rest a b source (Rose old mid) yard []
+    (source : Type 0) (met : Trouble → Type 0) (old mid new : ℕ) → old ≤ mid → mid ≤ new
+    → HasStopped stop s left rest a b source (Rose old mid) met []
     → Closes status ending (Rose mid new) (λ more. Appends b c more)
-    → Closes status ending (Rose old new) (λ more. HasStopped stop s left rest a c source (Rose old new) yard more)
-stop_closes stop status ending s left rest a b c source yard old mid new before after so (inl (is, grown)) =
+    → Closes status ending (Rose old new) (λ more. HasStopped stop s left rest a c source (Rose old new) met more)
+stop_closes stop status ending s left rest a b c source met old mid new before after so (inl (is, grown)) =
     inl (
       is,
-      stopped_then stop s left rest a b c source (Rose old mid) (Rose old new) yard ending.text
+      stopped_then stop s left rest a b c source (Rose old mid) (Rose old new) met ending.text
           (Rose_later old mid new before after) so grown,
     )
-stop_closes stop status ending s left rest a b c source yard old mid new before after so (inr (is, rose, part)) =
+stop_closes stop status ending s left rest a b c source met old mid new before after so (inr (is, rose, part)) =
     inr (
       is,
       Rose_earlier old mid new before rose,
       (
         part.0,
-        stopped_then stop s left rest a b c source (Rose old mid) (Rose old new) yard (take part.0 ending.text)
+        stopped_then stop s left rest a b c source (Rose old mid) (Rose old new) met (take part.0 ending.text)
             (Rose_later old mid new before after) so part.1,
       ),
     )
 
--- ---- the yard of a run
+-- ---- what a run has met
 
-ends_earlier : (yard yard' : Type 0) → (yard → yard') → (ending : Ending) (s : Setup) (bytes : List ℕ)
-    (rest a b : Option (List ℕ)) (more : List ℕ) → EndsBy yard ending s bytes rest a b more
-    → EndsBy yard' ending s bytes rest a b more
-ends_earlier yard yard' f ending s bytes rest a b more so = record {
+ends_earlier : (met met' : Trouble → Type 0) → ((trouble : Trouble) → met trouble → met' trouble)
+    → (ending : Ending) (s : Setup) (bytes : List ℕ) (rest a b : Option (List ℕ)) (more : List ℕ) → EndsBy met ending s bytes rest a b more
+    → EndsBy met' ending s bytes rest a b more
+ends_earlier met met' f ending s bytes rest a b more so = record {
   served = so.served;
   next = record {
     input = so.next.input;
     more = so.next.more;
     is = so.next.is;
-    ends = yard_earlier yard yard' f s (run_behind so.served.behind) so.next.input ending so.next.ends;
+    ends = met_earlier met met' f s (run_behind so.served.behind) so.next.input ending so.next.ends;
   };
   written = so.written;
 }
 
--- the yard has failed since an earlier time
-pub stopped_earlier : (yard yard' : Type 0) → (yard → yard') → (stop : Stop) (s : Setup)
-    (left rest a b : Option (List ℕ)) (source sink : Type 0) (more : List ℕ)
-    → HasStopped stop s left rest a b source sink yard more → HasStopped stop s left rest a b source sink yard' more
-stopped_earlier yard yard' f (stops.Ended ending) s left rest a b source sink more so = (
-  (so.0.0, so.0.1, yard_earlier yard yard' f s so.0.0 so.0.1 ending so.0.2),
-  IfSome_then left so.1 (λ bytes h. ends_earlier yard yard' f ending s bytes rest a b more h),
+-- since an earlier time
+pub stopped_earlier : (met met' : Trouble → Type 0) → ((trouble : Trouble) → met trouble → met' trouble)
+    → (stop : Stop) (s : Setup) (left rest a b : Option (List ℕ)) (source sink : Type 0) (more : List ℕ)
+    → HasStopped stop s left rest a b source sink met more → HasStopped stop s left rest a b source sink met' more
+stopped_earlier met met' f (stops.Ended ending) s left rest a b source sink more so = (
+  (so.0.0, so.0.1, met_earlier met met' f s so.0.0 so.0.1 ending so.0.2),
+  IfSome_then left so.1 (λ bytes h. ends_earlier met met' f ending s bytes rest a b more h),
 )
-stopped_earlier yard yard' f stops.ReadFault s left rest a b source sink more so = so
-stopped_earlier yard yard' f stops.WriteFault s left rest a b source sink more so = so
-stopped_earlier yard yard' f stops.NoMemory s left rest a b source sink more so = so
+stopped_earlier met met' f stops.ReadFault s left rest a b source sink more so = so
+stopped_earlier met met' f stops.WriteFault s left rest a b source sink more so = so
+stopped_earlier met met' f stops.NoMemory s left rest a b source sink more so = so

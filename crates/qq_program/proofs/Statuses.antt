@@ -13,31 +13,37 @@ use Rattle.qq_program.specs.declared.stop.Stop.TheVariants as stops
 use Rattle.qq_program.specs.Endings.{Ending, usage, refusal, limit_body, limit_lines}
 use Rattle.qq_program.specs.Inputs.{Input}
 use Rattle.qq_program.specs.Reading.{Asks, Ends, read_input, says_by, says}
-use Rattle.qq_program.specs.Serving.{IsDamaged, StopsAt, MayStop, EndsRun}
+use Rattle.qq_program.specs.Serving.{StopsAt, MayStop, EndsRun}
 use Rattle.qq_program.specs.Runs.{HasStopped, ending_of, IsSetup, MayNotOpen, Closes, HasRun}
 use Rattle.qq_program.proofs.Says.{says_within, says_past}
-use Rattle.qq_program.specs.Statuses.{Streams, SourceRose, SinkRose, YardRose, HasEnded, HasEndedAtWords, Over, run_over, Prints, IsNext, PrintsAlone, CutWithin, CutAtClosing, CutAtOpening, NoDisk, AtCrash, IsDamage, DamagedAtOpening, DamagedAtRestart, PassesLimit, NoneAtOpening, NoneWithin, SpentAtOpening, SpentAtLine, Told, Done, Refused, ReadFault, WriteFault, YardFault, Damaged, Lost, Limited, NoMemory, Spent}
+use Rattle.qq_program.specs.Troubles.{Damage, AtPlace, OfVersion, damage_ending, damage_text}
+use Rattle.qq_program.specs.Statuses.{Streams, SourceRose, SinkRose, HasEnded, HasEndedAtWords, Over, run_over, Prints, IsNext, Met, PrintsAlone, CutWithin, CutAtClosing, CutAtOpening, NoDisk, AtCrash, DamagedAtOpening, DamagedAtRestart, PassesLimit, NoneAtOpening, NoneWithin, SpentAtOpening, SpentAtLine, Told, Done, Refused, ReadFault, WriteFault, YardFault, Damaged, Lost, Limited, NoMemory, Spent}
 
 -- ---- before a line is read
 
 alone : (s : Streams) (text other : List ℕ) → text ≡ other → s.rest ≡ s.bytes → s.new ≡ s.old ++ text → PrintsAlone s other
 alone s text other same rest grown = (rest, grown ∙ ap (λ (l : List ℕ). s.old ++ l) same)
 
-damage_of : (ending : Ending) → IsDamaged ending → (ending.status ≡ 8) × IsDamage ending.text
-damage_of ending (inl (file, place, is)) = (ap (λ (e : Ending). e.status) is, inl (file, place, ap (λ (e : Ending). e.text) is))
-damage_of ending (inr (file, byte, is)) = (ap (λ (e : Ending). e.status) is, inr (file, byte, ap (λ (e : Ending). e.text) is))
+damage_status : (damage : Damage) → (damage_ending damage).status ≡ 8
+damage_status (AtPlace file place) = refl
+damage_status (OfVersion file byte) = refl
 
-unopened_told : (n : ℕ) (options : Options) (s : Streams) (ending : Ending) → MayNotOpen ending → n ≡ ending.status
+damage_says : (damage : Damage) → (damage_ending damage).text ≡ damage_text damage
+damage_says (AtPlace file place) = refl
+damage_says (OfVersion file byte) = refl
+
+unopened_told : (n : ℕ) (options : Options) (s : Streams) (ending : Ending) → MayNotOpen (Met s) ending → n ≡ ending.status
     → s.rest ≡ s.bytes → s.new ≡ s.old ++ ending.text → Told n options s
 unopened_told n options s ending (inl e) is rest grown =
     NoMemory (is ∙ ap (λ (e : Ending). e.status) e)
     (NoneAtOpening (alone s ending.text (codes "memory\n") (ap (λ (e : Ending). e.text) e) rest grown))
-unopened_told n options s ending (inr (inl e)) is rest grown =
+unopened_told n options s ending (inr (inl (cause, e))) is rest grown =
     YardFault (is ∙ ap (λ (e : Ending). e.status) e)
-    (NoDisk (alone s ending.text (codes "yard fault\n") (ap (λ (e : Ending). e.text) e) rest grown))
-unopened_told n options s ending (inr (inr (inl damage))) is rest grown =
-    let so = damage_of ending damage in
-    Damaged (is ∙ so.0) (DamagedAtOpening ending.text so.1 (rest, grown))
+    (NoDisk cause (alone s ending.text (codes "yard fault\n") (ap (λ (e : Ending). e.text) e) rest grown))
+unopened_told n options s ending (inr (inr (inl (damage, silent, e)))) is rest grown =
+    Damaged (is ∙ ap (λ (e : Ending). e.status) e ∙ damage_status damage)
+    (DamagedAtOpening silent damage
+    (alone s ending.text (damage_text damage) (ap (λ (e : Ending). e.text) e ∙ damage_says damage) rest grown))
 unopened_told n options s ending (inr (inr (inr (number, past, e)))) is rest grown =
     Spent (is ∙ ap (λ (e : Ending). e.status) e)
     (SpentAtOpening ending.text (number, past, ap (λ (e : Ending). e.text) e) (rest, grown))
@@ -104,13 +110,14 @@ said_told n options s over input ending next is grown (Passes passes eleven) =
 stops_told : (n : ℕ) (options : Options) (s : Streams) (over : Over options s) (input : Input) (line : Line)
     (ending : Ending) → IsNext over input → says over.setup (run_over over).lines input ≡ Asks line → n ≡ ending.status
     → Prints over ending.text
-    → StopsAt (YardRose s) (node_setup over.setup.queues) (run_over over).node line ending → Told n options s
+    → StopsAt (Met s) (node_setup over.setup.queues) (run_over over).node line ending → Told n options s
 stops_told n options s over input (Crash image) ending next asks is grown (rose, same) =
     YardFault (is ∙ ap (λ (e : Ending). e.status) same)
     (AtCrash rose over image (input, next, asks) (subst (Prints over) (ap (λ (e : Ending). e.text) same) grown))
-stops_told n options s over input Restart ending next asks is grown (inl damage) =
-    let so = damage_of ending damage in
-    Damaged (is ∙ so.0) (DamagedAtRestart over ending.text so.1 (input, next, asks) grown)
+stops_told n options s over input Restart ending next asks is grown (inl (damage, met, e)) =
+    Damaged (is ∙ ap (λ (e : Ending). e.status) e ∙ damage_status damage)
+    (DamagedAtRestart over damage met (input, next, asks)
+    (subst (Prints over) (ap (λ (e : Ending). e.text) e ∙ damage_says damage) grown))
 stops_told n options s over input Restart ending next asks is grown (inr lost) =
     Lost (is ∙ lost.status_is)
     (record { over = over; text = ending.text; lost = lost.lost; asks = (input, next, asks); prints = grown })
@@ -119,7 +126,7 @@ stops_told n options s over input _ ending next asks is grown stops = absurd sto
 may_stop_told : (n : ℕ) (options : Options) (s : Streams) (over : Over options s) (input : Input) (line : Line)
     (ending : Ending) → IsNext over input → says over.setup (run_over over).lines input ≡ Asks line → n ≡ ending.status
     → Prints over ending.text
-    → MayStop (YardRose s) (node_setup over.setup.queues) (run_over over).node line ending → Told n options s
+    → MayStop (Met s) (node_setup over.setup.queues) (run_over over).node line ending → Told n options s
 may_stop_told n options s over input line ending next asks is grown (inl (number, past, same)) =
     Spent (is ∙ ap (λ (e : Ending). e.status) same)
     (SpentAtLine over line ending.text (number, past, ap (λ (e : Ending). e.text) same) (input, next, asks) grown)
@@ -128,7 +135,7 @@ may_stop_told n options s over input line ending next asks is grown (inr stops) 
 
 ends_told : (n : ℕ) (options : Options) (s : Streams) (over : Over options s) (input : Input) (ending : Ending)
     → IsNext over input → n ≡ ending.status → Prints over ending.text
-    → EndsRun (YardRose s) over.setup (run_over over) input ending → Told n options s
+    → EndsRun (Met s) over.setup (run_over over) input ending → Told n options s
 ends_told n options s over input ending next is grown (inl says') =
     said_told n options s over input ending next is grown
     (of_said over.setup (run_over over).lines input ending says')
@@ -140,7 +147,7 @@ ends_told n options s over input ending next is grown (inr stops) =
 stopped_told : (n : ℕ) (options : Options) (s : Streams) (setup : Setup) → IsSetup options setup → (stop : Stop)
     → n ≡ (ending_of stop).status
     → HasStopped stop setup (Some s.bytes) (Some s.rest) (Some s.old) (Some s.new) (SourceRose s) (SinkRose s)
-    (YardRose s) (ending_of stop).text
+    (Met s) (ending_of stop).text
     → Told n options s
 stopped_told n options s setup is_setup (stops.Ended ending) is (may, ends) =
     let over : Over options s = record { setup = setup; is_setup = is_setup; served = ends.served } in
@@ -161,13 +168,13 @@ stopped_told n options s setup is_setup stops.NoMemory is breaks =
 closes_told : (n : ℕ) (options : Options) (s : Streams) (setup : Setup) → IsSetup options setup → (stop : Stop)
     → Closes n (ending_of stop) (SinkRose s)
     (λ more. HasStopped stop setup (Some s.bytes) (Some s.rest) (Some s.old) (Some s.new) (SourceRose s) (SinkRose s)
-    (YardRose s) more)
+    (Met s) more)
     → Told n options s
 closes_told n options s setup is_setup stop (inl (is, stands)) = stopped_told n options s setup is_setup stop is stands
 closes_told n options s setup is_setup stop (inr (is, rose, (count, stands))) =
     WriteFault is rose (CutAtClosing setup is_setup stop count stands)
 
-unopened_closes : (n : ℕ) (options : Options) (s : Streams) (ending : Ending) → MayNotOpen ending → s.rest ≡ s.bytes
+unopened_closes : (n : ℕ) (options : Options) (s : Streams) (ending : Ending) → MayNotOpen (Met s) ending → s.rest ≡ s.bytes
     → Closes n ending (SinkRose s) (λ more. s.new ≡ s.old ++ more) → Told n options s
 unopened_closes n options s ending may rest (inl (is, grown)) = unopened_told n options s ending may is rest grown
 unopened_closes n options s ending may rest (inr (is, rose, (count, grown))) =
@@ -176,7 +183,7 @@ unopened_closes n options s ending may rest (inr (is, rose, (count, grown))) =
 -- ---- any run
 
 over_told : (n : ℕ) (options : Options) (s : Streams) (setup : Setup) → IsSetup options setup
-    → HasRun n setup (Some s.bytes) (Some s.rest) (Some s.old) (Some s.new) (SourceRose s) (SinkRose s) (YardRose s)
+    → HasRun n setup (Some s.bytes) (Some s.rest) (Some s.old) (Some s.new) (SourceRose s) (SinkRose s) (Met s)
     → Told n options s
 over_told n options s setup is_setup (inl unopened) =
     unopened_closes n options s unopened.ending unopened.may unopened.keeps unopened.closes

@@ -10,6 +10,7 @@ use Rattle.qq_program.specs.declared.stop.AskStop.TheVariants as asks
 use Rattle.qq_program.specs.Inputs.{Input, inputs_of}
 use Rattle.qq_program.specs.Serving.{Run, Serves, EndsRun, Goes}
 use Rattle.qq_program.specs.Service.{IsReached}
+use Rattle.qq_program.specs.Troubles.{Trouble}
 
 -- a line was served, and a text grows by what it prints
 pub record Answers (s : Setup) (run : Run) (input : Input) (Stands : Node → Type 0) (before later : List ℕ) : Type 0
@@ -22,9 +23,9 @@ pub record Answers (s : Setup) (run : Run) (input : Input) (Stands : Node → Ty
     pub says : later ≡ before ++ said
 
 -- why a line has no answer
-abbrev pub HasAnswerCause : Type 0 → Setup → Run → Input → AskStop → Type 0
-HasAnswerCause yard s run input (asks.Ended ending) = EndsRun yard s run input ending
-HasAnswerCause yard s run input asks.NoMemory = Unit {0}
+abbrev pub HasAnswerCause : (Trouble → Type 0) → Setup → Run → Input → AskStop → Type 0
+HasAnswerCause met s run input (asks.Ended ending) = EndsRun met s run input ending
+HasAnswerCause met s run input asks.NoMemory = Unit {0}
 
 -- all lines were served, and all that they print was written
 pub record IsServedToEnd (s : Setup) (Stands : Node → Type 0) (left rest old new : Option (List ℕ)) : Type 0 where

@@ -1,4 +1,5 @@
 pub mod Endings
+pub mod Troubles
 pub mod Inputs
 pub mod Reading
 pub mod Pieces

@@ -12,15 +12,16 @@ use Rattle.qq_program.specs.declared.stop.Stop.{Stop}
 use Rattle.qq_program.specs.declared.stop.Stop.TheVariants as stops
 use Rattle.qq_program.specs.Endings.{Ending, usage, read_fault, write_fault, yard_fault, no_memory}
 use Rattle.qq_program.specs.Inputs.{Input}
-use Rattle.qq_program.specs.Serving.{Run, IsDamaged, IsSpentEnd, EndsRun, NextEnds, run_behind, text_behind, audits_behind, Served, IsText}
+use Rattle.qq_program.specs.Serving.{Run, IsSpentEnd, EndsRun, NextEnds, run_behind, text_behind, audits_behind, Served, IsText}
+use Rattle.qq_program.specs.Troubles.{Damage, Trouble, YardFails, DiskFails, DiskIsSilent, EndsDamaged}
 
 -- ---- why a run stops, and what was written by then, and then `more`
 
 -- Some lines were served, and the next one ends the run so.
-pub record EndsBy (yard : Type 0) (ending : Ending) (s : Setup) (bytes : List ℕ) (rest old new : Option (List ℕ))
-    (more : List ℕ) : Type 0 where
+pub record EndsBy (met : Trouble → Type 0) (ending : Ending) (s : Setup) (bytes : List ℕ)
+    (rest old new : Option (List ℕ)) (more : List ℕ) : Type 0 where
   pub served : Served s bytes rest
-  pub next : NextEnds yard s (run_behind served.behind) served.left ending
+  pub next : NextEnds met s (run_behind served.behind) served.left ending
   pub written : Appends old new (text_behind served.behind ++ more)
 
 -- Each line that was read whole was served; what was read behind these lines is a piece of one.
@@ -40,20 +41,20 @@ pub record BreaksOff (s : Setup) (bytes : List ℕ) (rest old new : Option (List
   pub written : Appends old new (said ++ more)
 
 -- what a line of some run may end the run with
-abbrev pub MayEnd : Type 0 → Setup → Ending → Type 0
-MayEnd yard s ending = (run : Run) × (input : Input) × EndsRun yard s run input ending
+abbrev pub MayEnd : (Trouble → Type 0) → Setup → Ending → Type 0
+MayEnd met s ending = (run : Run) × (input : Input) × EndsRun met s run input ending
 
 -- `left` is what the source had, and `rest` what it has in the end, where it tells; `old` and `new` are what the
--- sink had and has; `source`, `sink` and `yard` say that their counts of faults rose.
-abbrev pub HasStopped : Stop → Setup → (left rest old new : Option (List ℕ)) → (source sink yard : Type 0)
-    → (more : List ℕ) → Type 0
-HasStopped (stops.Ended ending) s left rest old new source sink yard more =
-    MayEnd yard s ending × IfSome left (λ bytes. EndsBy yard ending s bytes rest old new more)
-HasStopped stops.ReadFault s left rest old new source sink yard more =
+-- sink had and has; `source` and `sink` say that their counts of faults rose, and `met` what went wrong below.
+abbrev pub HasStopped : Stop → Setup → (left rest old new : Option (List ℕ)) → (source sink : Type 0)
+    → (met : Trouble → Type 0) → (more : List ℕ) → Type 0
+HasStopped (stops.Ended ending) s left rest old new source sink met more =
+    MayEnd met s ending × IfSome left (λ bytes. EndsBy met ending s bytes rest old new more)
+HasStopped stops.ReadFault s left rest old new source sink met more =
     source × IfSome left (λ bytes. HasAnswers s bytes rest old new more)
-HasStopped stops.WriteFault s left rest old new source sink yard more =
+HasStopped stops.WriteFault s left rest old new source sink met more =
     sink × IfSome left (λ bytes. BreaksOff s bytes rest old new more)
-HasStopped stops.NoMemory s left rest old new source sink yard more =
+HasStopped stops.NoMemory s left rest old new source sink met more =
     IfSome left (λ bytes. BreaksOff s bytes rest old new more)
 
 -- why the run stops where a line asks for no call
@@ -92,43 +93,50 @@ pub record IsDone (status : ℕ) (s : Setup) (left rest old new : Option (List �
 abbrev pub IsSetup : Options → Setup → Type 0
 IsSetup options s = state_of s ≡ plain_setup 1 1 options.queues options.log_bytes
 
--- why a node can't be opened
-abbrev pub MayNotOpen : Ending → Type 0
-MayNotOpen ending =
-    (ending ≡ no_memory) ⊎ ((ending ≡ yard_fault) ⊎ (IsDamaged ending ⊎ IsSpentEnd ending))
+-- the yard has failed, or the disk has, or it doesn't tell what it holds
+abbrev pub HasNoDisk : (Trouble → Type 0) → Type 0
+HasNoDisk met = met YardFails ⊎ (met DiskFails ⊎ met DiskIsSilent)
+
+-- Why a node can't be opened. A disk that tells what it holds is never refused for that.
+abbrev pub MayNotOpen : (Trouble → Type 0) → Ending → Type 0
+MayNotOpen met ending =
+    (ending ≡ no_memory) ⊎ ((HasNoDisk met × (ending ≡ yard_fault))
+    ⊎ (EndsDamaged (λ (damage : Damage). met DiskIsSilent) ending ⊎ IsSpentEnd ending))
 
 -- nothing was read, and a closing line alone was written
-pub record IsUnopened (status : ℕ) (left rest old new : Option (List ℕ)) (sink : Type 0) : Type 0 where
+pub record IsUnopened (status : ℕ) (left rest old new : Option (List ℕ)) (sink : Type 0) (met : Trouble → Type 0)
+    : Type 0 where
   pub ending : Ending
-  pub may : MayNotOpen ending
+  pub may : MayNotOpen met ending
   pub keeps : Keeps left rest
   pub closes : Closes status ending sink (λ more. Appends old new more)
 
 -- the run stopped, and then wrote the closing line of its stop
-pub record IsStopped (status : ℕ) (s : Setup) (left rest old new : Option (List ℕ)) (source sink yard : Type 0)
-    : Type 0 where
+pub record IsStopped (status : ℕ) (s : Setup) (left rest old new : Option (List ℕ)) (source sink : Type 0)
+    (met : Trouble → Type 0) : Type 0 where
   pub stop : Stop
-  pub closes : Closes status (ending_of stop) sink (λ more. HasStopped stop s left rest old new source sink yard more)
+  pub closes : Closes status (ending_of stop) sink (λ more. HasStopped stop s left rest old new source sink met more)
 
 -- what a run over a setup has done: the node wasn't opened, or the script was served to its end, or the run stopped
-abbrev pub HasRun : (status : ℕ) → Setup → (left rest old new : Option (List ℕ)) → (source sink yard : Type 0) → Type 0
-HasRun status s left rest old new source sink yard =
-    IsUnopened status left rest old new sink
-    ⊎ (IsDone status s left rest old new ⊎ IsStopped status s left rest old new source sink yard)
+abbrev pub HasRun : (status : ℕ) → Setup → (left rest old new : Option (List ℕ)) → (source sink : Type 0)
+    → (met : Trouble → Type 0) → Type 0
+HasRun status s left rest old new source sink met =
+    IsUnopened status left rest old new sink met
+    ⊎ (IsDone status s left rest old new ⊎ IsStopped status s left rest old new source sink met)
 
 -- a run over a node of a setup with these options
 pub record IsRunOver (status : ℕ) (options : Options) (left rest old new : Option (List ℕ))
-    (source sink yard : Type 0) : Type 0 where
+    (source sink : Type 0) (met : Trouble → Type 0) : Type 0 where
   pub setup : Setup
   pub is_setup : IsSetup options setup
-  pub ends : HasRun status setup left rest old new source sink yard
+  pub ends : HasRun status setup left rest old new source sink met
 
 -- What a run has done that ends with this status, where the words are a script with these options, and where they
 -- are no command.
 abbrev pub RunEnds : (status : ℕ) → Option Options → (left rest old new : Option (List ℕ))
-    → (source sink yard : Type 0) → Type 0
-RunEnds status (Some options) left rest old new source sink yard =
-    IsUnopened status left rest old new sink
-    ⊎ IsRunOver status options left rest old new source sink yard
-RunEnds status None left rest old new source sink yard =
+    → (source sink : Type 0) → (met : Trouble → Type 0) → Type 0
+RunEnds status (Some options) left rest old new source sink met =
+    IsUnopened status left rest old new sink met
+    ⊎ IsRunOver status options left rest old new source sink met
+RunEnds status None left rest old new source sink met =
     Keeps left rest × Closes status usage sink (λ more. Appends old new more)

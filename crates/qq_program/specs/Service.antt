@@ -5,6 +5,7 @@ use Rattle.qq_world.specs.Rules.{Line, IsLine, IsOpening}
 use Rattle.qq_program.specs.declared.stop.AskStop.{AskStop}
 use Rattle.qq_program.specs.declared.stop.AskStop.TheVariants.{Ended, NoMemory}
 use Rattle.qq_program.specs.Serving.{MayStop}
+use Rattle.qq_program.specs.Troubles.{Trouble}
 
 -- a node that may be reached
 abbrev pub IsReached : Setup → Node → Type 0
@@ -26,6 +27,6 @@ pub record HasServed (setup : Setup) (n : Node) (line : Line) (Stands : Node →
     pub says : later ≡ before ++ text_of setup n events
 
 -- why a line isn't served
-abbrev pub HasServeCause : Type 0 → Setup → Node → Line → AskStop → Type 0
-HasServeCause yard setup n line (Ended ending) = MayStop yard setup n line ending
-HasServeCause yard setup n line NoMemory = Unit {0}
+abbrev pub HasServeCause : (Trouble → Type 0) → Setup → Node → Line → AskStop → Type 0
+HasServeCause met setup n line (Ended ending) = MayStop met setup n line ending
+HasServeCause met setup n line NoMemory = Unit {0}

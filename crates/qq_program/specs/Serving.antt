@@ -8,9 +8,10 @@ use Rattle.qq_world.specs.Endings.{IsLost}
 use Rattle.qq_world.specs.Node.{Setup as NodeSetup, Node, NodeEvent, new_node, node_after, text_of, audits_text}
 use Rattle.qq_world.specs.Rules.{Line, Crash, Restart, IsLine, IsRun}
 use Rattle.qq_program.specs.declared.status.TheConstants.{LOST}
-use Rattle.qq_program.specs.Endings.{Ending, yard_fault, damaged, other_version, spent}
+use Rattle.qq_program.specs.Endings.{Ending, yard_fault, spent}
 use Rattle.qq_program.specs.Inputs.{Input, inputs_of}
 use Rattle.qq_program.specs.Reading.{Asks, Ends, says, AskFor}
+use Rattle.qq_program.specs.Troubles.{Damage, Trouble, YardFails, FilesBreak, EndsDamaged}
 
 -- a run between two lines: how many were served, and the node
 pub record Run : Type 0 where
@@ -28,46 +29,43 @@ pub record Serves (s : Setup) (run : Run) (input : Input) (said : List ℕ) (nex
   pub next_is : next ≡ record { lines = run.lines + 1; node = node_after run.node events }
   pub said_is : said ≡ text_of (node_setup s.queues) run.node events
 
--- the log's files break the rules, or are of another version
-abbrev pub IsDamaged : Ending → Type 0
-IsDamaged ending =
-    ((file place : ℕ) × (ending ≡ damaged file place)) ⊎ ((file byte : ℕ) × (ending ≡ other_version file byte))
-
 -- recovery finds of a queue what its server may not take up
 pub record EndsLost (setup : NodeSetup) (n : Node) (ending : Ending) : Type 0 where
   pub status_is : ending.status ≡ LOST
   pub lost : IsLost setup n ending.text
 
 -- A call ends the run: at a crash the yard has failed, and a restart meets files that it can't go on from.
-abbrev pub StopsAt : Type 0 → NodeSetup → Node → Line → Ending → Type 0
-StopsAt yard setup n (Crash image) ending = yard × (ending ≡ yard_fault)
-StopsAt yard setup n Restart ending = IsDamaged ending ⊎ EndsLost setup n ending
-StopsAt yard setup n _ ending = ⊥
+abbrev pub StopsAt : (Trouble → Type 0) → NodeSetup → Node → Line → Ending → Type 0
+StopsAt met setup n (Crash image) ending = met YardFails × (ending ≡ yard_fault)
+StopsAt met setup n Restart ending =
+    EndsDamaged (λ (damage : Damage). met (FilesBreak setup damage)) ending ⊎ EndsLost setup n ending
+StopsAt met setup n _ ending = ⊥
 
 -- a number stands at its end, or past it
 abbrev pub IsSpentEnd : Ending → Type 0
 IsSpentEnd ending = (number : ℕ) × (NUMBER_END ≤ number) × (ending ≡ spent number)
 
 -- a call does, or a number stands at its end
-abbrev pub MayStop : Type 0 → NodeSetup → Node → Line → Ending → Type 0
-MayStop yard setup n line ending = IsSpentEnd ending ⊎ StopsAt yard setup n line ending
+abbrev pub MayStop : (Trouble → Type 0) → NodeSetup → Node → Line → Ending → Type 0
+MayStop met setup n line ending = IsSpentEnd ending ⊎ StopsAt met setup n line ending
 
 -- a line asks for a call, and that ends the run
-pub record Stops (yard : Type 0) (s : Setup) (run : Run) (input : Input) (ending : Ending) : Type 0 where
+pub record Stops (met : Trouble → Type 0) (s : Setup) (run : Run) (input : Input) (ending : Ending) : Type 0 where
   pub line : Line
   pub asks : says s run.lines input ≡ Asks line
-  pub stops : MayStop yard (node_setup s.queues) run.node line ending
+  pub stops : MayStop met (node_setup s.queues) run.node line ending
 
 -- a line ends the run by what it says, or by its call
-abbrev pub EndsRun : Type 0 → Setup → Run → Input → Ending → Type 0
-EndsRun yard s run input ending = (says s run.lines input ≡ Ends ending) ⊎ Stops yard s run input ending
+abbrev pub EndsRun : (Trouble → Type 0) → Setup → Run → Input → Ending → Type 0
+EndsRun met s run input ending = (says s run.lines input ≡ Ends ending) ⊎ Stops met s run input ending
 
 -- the next line does
-pub record NextEnds (yard : Type 0) (s : Setup) (run : Run) (left : List Input) (ending : Ending) : Type 0 where
-  pub input : Input
-  pub more : List Input
-  pub is : left ≡ input ∷ more
-  pub ends : EndsRun yard s run input ending
+pub record NextEnds (met : Trouble → Type 0) (s : Setup) (run : Run) (left : List Input) (ending : Ending) : Type 0
+  where
+    pub input : Input
+    pub more : List Input
+    pub is : left ≡ input ∷ more
+    pub ends : EndsRun met s run input ending
 
 -- ---- the first lines
 

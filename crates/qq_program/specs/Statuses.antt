@@ -1,5 +1,5 @@
 -- What an exit status tells of a run, where source and sink tell their bytes.
-use Rattle.std.specs.Prelude.{◌≡◌, ◌⊎◌, ℕ, ◌+◌, ◌^◌, ◌≤◌, List, [], ◌∷◌, ◌++◌, Some, None, Err, take, codes}
+use Rattle.std.specs.Prelude.{◌≡◌, ◌⊎◌, ℕ, ◌+◌, ◌^◌, ◌≤◌, Bool, false, List, [], ◌∷◌, ◌++◌, Some, None, Err, take, codes, Contains}
 use Rattle.std.specs.Fmt.{decimal}
 use Rattle.qq_base.specs.Causes.{Rose}
 use Rattle.qq_disk.specs.declared.image.Image.{Image}
@@ -9,7 +9,7 @@ use Rattle.qq_lines.specs.declared.fault.ScriptFault.TheVariants.{Body}
 use Rattle.qq_options.specs.declared.options.Options.{Options}
 use Rattle.qq_ports.specs.Lines.{HasNoFeed}
 use Rattle.qq_calls.specs.Queues.{node_setup}
-use Rattle.qq_world.specs.Endings.{damaged_text, version_text, IsLost}
+use Rattle.qq_world.specs.Endings.{IsLost}
 use Rattle.qq_world.specs.Rules.{Line, Crash, Restart}
 use Rattle.qq_program.specs.declared.stop.Stop.{Stop}
 use Rattle.qq_program.specs.Endings.{Ending, fault_text}
@@ -17,8 +17,11 @@ use Rattle.qq_program.specs.Inputs.{Input}
 use Rattle.qq_program.specs.Reading.{Asks, read_input, says}
 use Rattle.qq_program.specs.Serving.{Run, run_behind, text_behind, audits_behind, Served}
 use Rattle.qq_program.specs.Runs.{BreaksOff, HasStopped, ending_of, IsSetup, MayNotOpen, RunEnds}
+use Rattle.qq_program.specs.Troubles.{Damage, damage_text, Trouble, YardFails, DiskFails, DiskIsSilent, FilesBreak}
 
--- what the source had and has, what the sink had and has, and their counts of faults and the yard's before and after
+-- What the source had and has, what the sink had and has, and their counts of faults and the yard's before and after. Of
+-- the node's disk: its count before and after the opening, whether it tells what it holds, and where its files were found
+-- to break the rules.
 pub record Streams : Type 0 where
   pub bytes : List ℕ
   pub rest : List ℕ
@@ -30,6 +33,10 @@ pub record Streams : Type 0 where
   pub sink_after : ℕ
   pub yard_before : ℕ
   pub yard_after : ℕ
+  pub disk_before : ℕ
+  pub disk_after : ℕ
+  pub disk_tells : Bool
+  pub damages : List Damage
 
 abbrev pub SourceRose : Streams → Type 0
 SourceRose s = Rose s.source_before s.source_after
@@ -40,16 +47,25 @@ SinkRose s = Rose s.sink_before s.sink_after
 abbrev pub YardRose : Streams → Type 0
 YardRose s = Rose s.yard_before s.yard_after
 
+abbrev pub DiskRose : Streams → Type 0
+DiskRose s = Rose s.disk_before s.disk_after
+
+abbrev pub Met : Streams → Trouble → Type 0
+Met s YardFails = YardRose s
+Met s DiskFails = DiskRose s
+Met s DiskIsSilent = s.disk_tells ≡ false
+Met s (FilesBreak setup damage) = Contains s.damages damage
+
 -- a script with these options has ended with this status
 abbrev pub HasEnded : ℕ → Options → Streams → Type 0
 HasEnded status options s =
     RunEnds status (Some options) (Some s.bytes) (Some s.rest) (Some s.old) (Some s.new) (SourceRose s) (SinkRose s)
-    (YardRose s)
+    (Met s)
 
 -- words that are no command have ended with this status
 abbrev pub HasEndedAtWords : ℕ → Streams → Type 0
 HasEndedAtWords status s =
-    RunEnds status None (Some s.bytes) (Some s.rest) (Some s.old) (Some s.new) (SourceRose s) (SinkRose s) (YardRose s)
+    RunEnds status None (Some s.bytes) (Some s.rest) (Some s.old) (Some s.new) (SourceRose s) (SinkRose s) (Met s)
 
 -- ---- some lines were served, and more was printed
 
@@ -109,26 +125,21 @@ pub data IsCutOff (options : Options) (s : Streams) : Type 0 where
       → BreaksOff setup s.bytes (Some s.rest) (Some s.old) (Some s.new) [] → IsCutOff options s
   CutAtClosing : (setup : Setup) → IsSetup options setup → (stop : Stop) (count : ℕ)
       → HasStopped stop setup (Some s.bytes) (Some s.rest) (Some s.old) (Some s.new) (SourceRose s) (SinkRose s)
-      (YardRose s) (take count (ending_of stop).text) → IsCutOff options s
-  CutAtOpening : (ending : Ending) → MayNotOpen ending → (count : ℕ) → PrintsAlone s (take count ending.text)
+      (Met s) (take count (ending_of stop).text) → IsCutOff options s
+  CutAtOpening : (ending : Ending) → MayNotOpen (Met s) ending → (count : ℕ) → PrintsAlone s (take count ending.text)
       → IsCutOff options s
 
--- 7: the node's disk couldn't be had when the node was opened, or the yard has failed at a crash.
+-- 7: when the node was opened the yard has failed, or the disk has, or it held something; or the yard has failed at a crash.
 pub data IsYardFault (options : Options) (s : Streams) : Type 0 where
-  NoDisk : PrintsAlone s (codes "yard fault\n") → IsYardFault options s
+  NoDisk : YardRose s ⊎ (DiskRose s ⊎ (s.disk_tells ≡ false)) → PrintsAlone s (codes "yard fault\n") → IsYardFault options s
   AtCrash : YardRose s → (over : Over options s) (image : Image) → NextAsks over (Crash image)
       → Prints over (codes "yard fault\n") → IsYardFault options s
 
--- the first place of a log file at which it breaks the rules, or a log file of another version
-abbrev pub IsDamage : List ℕ → Type 0
-IsDamage text = ((file place : ℕ) × (text ≡ damaged_text file place))
-    ⊎ ((file byte : ℕ) × (text ≡ version_text file byte))
-
--- 8: the node's log files break the rules, when it is opened or restarted.
+-- 8: the node's log files break the rules there. When it is opened they do so only on a disk that doesn't tell what it holds.
 pub data MeetsDamage (options : Options) (s : Streams) : Type 0 where
-  DamagedAtOpening : (text : List ℕ) → IsDamage text → PrintsAlone s text → MeetsDamage options s
-  DamagedAtRestart : (over : Over options s) (text : List ℕ) → IsDamage text → NextAsks over Restart → Prints over text
-      → MeetsDamage options s
+  DamagedAtOpening : s.disk_tells ≡ false → (damage : Damage) → PrintsAlone s (damage_text damage) → MeetsDamage options s
+  DamagedAtRestart : (over : Over options s) (damage : Damage) → Contains s.damages damage → NextAsks over Restart
+      → Prints over (damage_text damage) → MeetsDamage options s
 
 -- 9: a restart finds of a queue what its server may not take up.
 pub record HasLost (options : Options) (s : Streams) : Type 0 where

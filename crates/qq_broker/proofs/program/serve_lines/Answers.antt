@@ -9,7 +9,8 @@ use Rattle.qq_program.proofs.Ahead.{waiting_breaks, going_too_long, going_reads,
 use Rattle.qq_program.proofs.Answering.{answer_stops}
 use Rattle.qq_program.proofs.Closings.{Rose_earlier}
 use Rattle.qq_program.proofs.Looping.{loops_start, loops_written, loops_line, loops_end, run_at}
-use Rattle.qq_broker.specs.Nodes.{IsNodeOf}
+use Rattle.qq_broker.specs.Nodes.{IsNodeOf, Meets}
+use Rattle.qq_broker.proofs.Served.{meets-earlier}
 use Rattle.qq_broker.proofs.program.serve_lines.Goals as goal
 
 pub lines-init : goal.lines-init
@@ -65,9 +66,10 @@ returns-in-Err-TooLong-clause-cause g c =
     let start = g.I.Source.left c.args.input.now in
     let now = ahead c.lines.lines (g.I.Source.left c.lines.input) in
     let so = c.lines.invariant.going in
-    let faults = g.Y.Yard.faults in
+    let yards = g.Y.Yard.faults in
+    let disk = g.Y.Disk.NodeDisk in
     let long = rw c.in-Err-TooLong.field-0-is at c.in-Err-TooLong.ensures.cause in
-    going_too_long (Rose (faults c.args.yard.now) (faults c.lines.yard)) s start now
+    going_too_long (Meets disk.tells disk.past disk.faults (yards c.args.yard.now) (yards c.lines.yard)) s start now
     (g.I.Source.left c.next_line.new.input) c.refuse_long_line.result (run_at c.lines.served so.node)
     (g.O.Sink.written c.args.output.now) (g.O.Sink.written c.write_all.new.out) c.lines_law.ensures
     (loops_written s stands start now (g.O.Sink.written c.args.output.now) (g.O.Sink.written c.lines.output)
@@ -103,14 +105,15 @@ returns-in-Err-answer-clause-cause g c =
     let after = g.O.Sink.written c.write_all.new.out in
     let source = Rose (g.I.Source.faults c.args.input.now) (g.I.Source.faults c.next_line.new.input) in
     let sink = Rose (g.O.Sink.faults c.args.output.now) (g.O.Sink.faults c.write_all.new.out) in
-    let faults = g.Y.Yard.faults in
-    let yard = Rose (faults c.args.yard.now) (faults c.answer.new.yard) in
+    let yards = g.Y.Yard.faults in
+    let disk = g.Y.Disk.NodeDisk in
+    let met = Meets disk.tells disk.past disk.faults (yards c.args.yard.now) (yards c.answer.new.yard) in
     let so = c.lines.invariant.going in
     let takes : TakesLine now next c.as_slice.result.now = subst (TakesLine now next) (sym c.as_slice.ensures)
     (rw c.in-Ok-Some.field-0-is at c.in-Ok-Some.ensures.line) in
-    subst (λ (x : Stop). HasStopped x s start rest before after source sink yard []) (sym c.from.ensures)
-    (answer_stops (Rose (faults c.lines.yard) (faults c.answer.new.yard)) yard source sink
-    (Rose_earlier (faults c.args.yard.now) (faults c.lines.yard) (faults c.answer.new.yard)
+    subst (λ (x : Stop). HasStopped x s start rest before after source sink met []) (sym c.from.ensures)
+    (answer_stops (Meets disk.tells disk.past disk.faults (yards c.lines.yard) (yards c.answer.new.yard)) met source sink
+    (meets-earlier disk.tells disk.past disk.faults (yards c.lines.yard) (yards c.answer.new.yard) (yards c.args.yard.now)
     c.lines.invariant.yard_later) c.in-Err-answer.stop s start now next rest (run_at c.lines.served so.node)
     c.as_slice.result.now before after c.lines_law.ensures
     (loops_written s stands start now before (g.O.Sink.written c.lines.output) after c.lines.served c.lines.text.items

@@ -4,6 +4,7 @@ use Rattle.qq_base.specs.declared.ids.QueueId.{QueueId}
 use Rattle.qq_disk.specs.Disk.{now}
 use Rattle.qq_disk.proofs.Stored.{still_tells}
 use Rattle.qq_wal.specs.Running.{Stays, StillHolds}
+use Rattle.qq_node.proofs.Appends.{stays-then}
 use Rattle.qq_node.proofs.log.sync_log.Goals as goal
 
 pub returns-in-Ok-true-clause-come : goal.returns-in-Ok-true-clause-come
@@ -46,3 +47,33 @@ returns-in-Ok-true-clause-whole g c = λ told none.
 pub returns-in-Ok-false-clause-whole : goal.returns-in-Ok-false-clause-whole
 returns-in-Ok-false-clause-whole g c = λ told none.
     c.begin_next.ensures.whole (still_tells c.sync_batch.ensures.told told) (c.sync_batch.ensures.whole told none)
+
+pub returns-in-Ok-true-clause-stays : goal.returns-in-Ok-true-clause-stays
+returns-in-Ok-true-clause-stays g c =
+    λ told.
+    (let past = g.D.NodeDisk.past in
+    let same = ap (λ (q : Vec QueueId). q.items) c.sync_batch.ensures.file.queues in
+    stays-then c.args.wal.now.queues.items (past c.args.wal.now.disk) (past c.sync_batch.new.self.disk)
+    (past c.begin_next.new.wal.disk) (c.sync_batch.ensures.stays told)
+    (subst (λ (l : List QueueId). Stays l (past c.sync_batch.new.self.disk) (past c.begin_next.new.wal.disk))
+    same (c.begin_next.ensures.stays (still_tells c.sync_batch.ensures.told told))))
+
+pub returns-in-Ok-false-clause-stays : goal.returns-in-Ok-false-clause-stays
+returns-in-Ok-false-clause-stays g c =
+    λ told.
+    (let past = g.D.NodeDisk.past in
+    let same = ap (λ (q : Vec QueueId). q.items) c.sync_batch.ensures.file.queues in
+    stays-then c.args.wal.now.queues.items (past c.args.wal.now.disk) (past c.sync_batch.new.self.disk)
+    (past c.begin_next.new.wal.disk) (c.sync_batch.ensures.stays told)
+    (subst (λ (l : List QueueId). Stays l (past c.sync_batch.new.self.disk) (past c.begin_next.new.wal.disk))
+    same (c.begin_next.ensures.stays (still_tells c.sync_batch.ensures.told told))))
+
+pub returns-in-Err-clause-stays : goal.returns-in-Err-clause-stays
+returns-in-Err-clause-stays g c =
+    λ told.
+    (let past = g.D.NodeDisk.past in
+    let same = ap (λ (q : Vec QueueId). q.items) c.sync_batch.ensures.file.queues in
+    stays-then c.args.wal.now.queues.items (past c.args.wal.now.disk) (past c.sync_batch.new.self.disk)
+    (past c.begin_next.new.wal.disk) (c.sync_batch.ensures.stays told)
+    (subst (λ (l : List QueueId). Stays l (past c.sync_batch.new.self.disk) (past c.begin_next.new.wal.disk))
+    same (c.begin_next.ensures.stays (still_tells c.sync_batch.ensures.told told))))

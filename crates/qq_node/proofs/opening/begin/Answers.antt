@@ -18,10 +18,11 @@ pub returns-in-Err-clause-cause : goal.returns-in-Err-clause-cause
 returns-in-Err-clause-cause g c =
     let tells = g.D.NodeDisk.tells in
     let past = g.D.NodeDisk.past in
-    subst (IsOpenCaused (tells c.args.disk)) (sym c.fault_at_opening.ensures)
-    (open-caused tells past g.D.NodeDisk.faults c.requires.set.0 c.args.queues.items c.args.desks c.args.disk
-    c.in-Err.field-0-1 c.in-Err.fault c.requires.set.1 c.requires.fresh
-    (λ tell. subst (λ (ids : List QueueId). FailsLinked ids (past c.args.disk) (past c.in-Err.field-0-1) c.in-Err.fault)
+    let faults = g.D.NodeDisk.faults in
+    subst (IsOpenCaused (tells c.args.disk) (faults c.args.disk) (faults c.in-Err.disk)) (sym c.fault_at_opening.ensures)
+    (open-caused tells past faults c.requires.set.0 c.args.queues.items c.args.desks c.args.disk
+    c.in-Err.disk c.in-Err.fault c.requires.set.1 c.requires.fresh
+    (λ tell. subst (λ (ids : List QueueId). FailsLinked ids (past c.args.disk) (past c.in-Err.disk) c.in-Err.fault)
     c.deref.ensures.value (c.in-Err.ensures.fails tell)) c.in-Err.ensures.cause)
 
 pub returns-then-not-are_none-clause-cause : goal.returns-then-not-are_none-clause-cause

@@ -1,8 +1,9 @@
-use Rattle.std.proofs.Common.{sym, ◌∙◌}
+use Rattle.std.proofs.Common.{refl, sym, ◌∙◌}
 use Rattle.qq_world.specs.Rules.{WhereUp}
 use Rattle.qq_node.specs.Desks.{asked}
 use Rattle.qq_node.specs.Node.{IsAt}
 use Rattle.qq_node.proofs.Lines.{found-below, served-other, served-queue, where-down, where-up}
+use Rattle.qq_node.proofs.Stands.{gave_up-same}
 use Rattle.qq_node.proofs.node.Node.ask_where_up.Goals as goal
 
 pub returns-in-None-clause-ok : goal.returns-in-None-clause-ok
@@ -35,3 +36,7 @@ returns-clause-ok g c =
     (where-up g.D.NodeDisk.tells g.D.NodeDisk.past g.D.NodeDisk.faults (asked c.args.ask) c.in-Some.at c.args.self.now
     c.ask.new.self c.args.text.now.items c.ask.new.text.items
     (λ setup n st. sym c.if-not-up.false ∙ c.is_up-up.ensures setup n st) c.in_default-ask.ensures.ok)
+
+pub returns-in-Err-clause-err : goal.returns-in-Err-clause-err
+returns-in-Err-clause-err g c =
+    gave_up-same g.D.NodeDisk.tells g.D.NodeDisk.past g.D.NodeDisk.faults c.args.self.now c.args.self.now refl

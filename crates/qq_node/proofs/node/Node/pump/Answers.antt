@@ -1,8 +1,9 @@
-use Rattle.std.proofs.Common.{◌≡◌, ◌-◌, ℕ, suc, sym, ◌∙◌, subst, arith}
+use Rattle.std.proofs.Common.{◌≡◌, ◌-◌, ℕ, suc, refl, sym, ◌∙◌, subst, arith}
 use Rattle.qq_world.specs.Rules.{most_rounds}
 use Rattle.qq_node.specs.Node.{Served}
 use Rattle.qq_node.proofs.Lines.{PumpLeads, pump-busy, pump-idle, pump-more, pump-start}
 use Rattle.qq_node.proofs.Stands.{can-after}
+use Rattle.qq_node.proofs.Stands.{gave_up-behind, gave_up-same}
 use Rattle.qq_node.proofs.node.Node.pump.Goals as goal
 
 pub rounds-init : goal.rounds-init
@@ -49,3 +50,14 @@ returns-clause-ok g c =
     (subst (λ (k : ℕ). Served g.D.NodeDisk.tells g.D.NodeDisk.past g.D.NodeDisk.faults (PumpLeads k) c.args.self.now
     c.rounds.self c.args.text.now.items c.rounds.text.items) none c.rounds.invariant)
     (λ setup n st. sym c.if-is_idle-2.false ∙ c.is_idle-2.ensures setup n st) c.in_default-say_busy.ensures.ok
+
+pub returns-in-Err-clause-err : goal.returns-in-Err-clause-err
+returns-in-Err-clause-err g c =
+    gave_up-behind g.D.NodeDisk.tells g.D.NodeDisk.past g.D.NodeDisk.faults (PumpLeads c.rounds.left) c.args.self.now
+    c.rounds.self c.round.new.self c.args.text.now.items c.rounds.text.items c.rounds.invariant c.in-Err.ensures.err
+
+pub returns-in-Err-say_busy-clause-err : goal.returns-in-Err-say_busy-clause-err
+returns-in-Err-say_busy-clause-err g c =
+    gave_up-behind g.D.NodeDisk.tells g.D.NodeDisk.past g.D.NodeDisk.faults (PumpLeads c.rounds.left) c.args.self.now
+    c.rounds.self c.rounds.self c.args.text.now.items c.rounds.text.items c.rounds.invariant
+    (gave_up-same g.D.NodeDisk.tells g.D.NodeDisk.past g.D.NodeDisk.faults c.rounds.self c.rounds.self refl)

@@ -3,6 +3,7 @@ use Rattle.qq_world.specs.World.{Resends}
 use Rattle.qq_node.specs.Node.{IsAt, LeadsFrom}
 use Rattle.qq_node.proofs.Places.{each-end, each-more, each-start, still-many}
 use Rattle.qq_node.proofs.Stands.{can-after}
+use Rattle.qq_node.proofs.Stands.{gave_up-behind}
 use Rattle.qq_node.proofs.node.Node.resend_each.Goals as goal
 
 pub places-init : goal.places-init
@@ -33,3 +34,9 @@ pub returns-clause-ok : goal.returns-clause-ok
 returns-clause-ok g c =
     each-end g.D.NodeDisk.tells g.D.NodeDisk.past g.D.NodeDisk.faults (IsAt (Resends c.args.session)) c.places.at c.args.self.now c.places.self
     c.args.text.now.items c.places.text.items c.places.invariant (omega (arith, c.len-count.ensures))
+
+pub returns-in-Err-clause-err : goal.returns-in-Err-clause-err
+returns-in-Err-clause-err g c =
+    gave_up-behind g.D.NodeDisk.tells g.D.NodeDisk.past g.D.NodeDisk.faults (LeadsFrom c.places.at (IsAt (Resends c.args.session)))
+    c.args.self.now c.places.self c.ask.new.self c.args.text.now.items c.places.text.items c.places.invariant
+    c.in-Err.ensures.err

@@ -3,6 +3,7 @@ use Rattle.qq_world.specs.World.{Submits}
 use Rattle.qq_node.specs.Node.{AtIndex, IsAt}
 use Rattle.qq_node.proofs.Lines.{at-pumped, found-below, served-other, served-queue}
 use Rattle.qq_node.proofs.Stands.{can-after}
+use Rattle.qq_node.proofs.Stands.{gave_up-behind}
 use Rattle.qq_node.proofs.node.Node.send.Goals as goal
 
 pub returns-in-None-clause-ok : goal.returns-in-None-clause-ok
@@ -30,3 +31,9 @@ returns-clause-ok g c =
     (at-pumped g.D.NodeDisk.tells g.D.NodeDisk.past g.D.NodeDisk.faults (Submits c.args.session c.args.body)
     c.in-Some.at c.args.self.now c.ask.new.self c.pumped.new.self c.args.text.now.items c.ask.new.text.items
     c.pumped.new.text.items c.in_default.ensures.ok c.in_default-pumped.ensures.ok)
+
+pub returns-in-Err-pumped-clause-err : goal.returns-in-Err-pumped-clause-err
+returns-in-Err-pumped-clause-err g c =
+    gave_up-behind g.D.NodeDisk.tells g.D.NodeDisk.past g.D.NodeDisk.faults
+    (AtIndex c.in-Some.at (IsAt (Submits c.args.session c.args.body))) c.args.self.now c.ask.new.self c.pumped.new.self
+    c.args.text.now.items c.ask.new.text.items c.in_default.ensures.ok c.in-Err-pumped.ensures.err

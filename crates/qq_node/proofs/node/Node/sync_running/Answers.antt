@@ -1,5 +1,6 @@
 use Rattle.std.proofs.Common.{refl}
 use Rattle.qq_node.proofs.Logs.{may-sync, served-sync}
+use Rattle.qq_node.proofs.Logs.{gave_up-sync, syncs-break}
 use Rattle.qq_node.proofs.node.Node.sync_running.Goals as goal
 
 pub sync_in-requires : goal.sync_in-requires
@@ -13,3 +14,15 @@ returns-clause-ok g c =
     c.args.self.now (record c.args.self.now { desks = c.settle.new.self; log = c.sync_in.new.log })
     c.args.text.now.items c.settle.new.out.items c.requires.up c.requires.some c.some_waits_synced-waits.ensures refl
     refl c.in-Ok.ensures.ok c.in_default.ensures.ok
+
+pub returns-in-Err-clause-err : goal.returns-in-Err-clause-err
+returns-in-Err-clause-err g c =
+    gave_up-sync g.D.NodeDisk.tells g.D.NodeDisk.past g.D.NodeDisk.faults c.args.self.now
+    (record c.args.self.now { log = c.sync_in.new.log }) c.requires.up c.requires.some c.in-Err.ensures.err
+
+pub returns-in-Err-settle-clause-err : goal.returns-in-Err-settle-clause-err
+returns-in-Err-settle-clause-err g c =
+    gave_up-sync g.D.NodeDisk.tells g.D.NodeDisk.past g.D.NodeDisk.faults c.args.self.now
+    (record c.args.self.now { desks = c.settle.new.self; log = c.sync_in.new.log }) c.requires.up c.requires.some
+    (syncs-break g.D.NodeDisk.tells g.D.NodeDisk.past g.D.NodeDisk.faults c.in-Ok.outcome c.args.self.now.log c.sync_in.new.log
+    c.in-Ok.ensures.ok)
