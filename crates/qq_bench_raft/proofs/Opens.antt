@@ -9,9 +9,10 @@ use Rattle.qq_base.specs.declared.ids.QueueId.{QueueId}
 use Rattle.qq_base.specs.declared.ids.Term.{Term}
 use Rattle.qq_entry.specs.declared.command.Entry.{Entry}
 use Rattle.qq_log.specs.Log.{LogState}
-use Rattle.qq_log.specs.Stable.{Stable, apply_op, change, known_entries, new_state, stable, then_apply}
+use Rattle.qq_log.specs.Stable.{Stable, apply_op, change, new_state, stable, then_apply}
 use Rattle.qq_log.specs.declared.op.Op.{Op}
 use Rattle.qq_log.specs.declared.op.Op.TheVariants.{Change}
+use Rattle.qq_raft_step.specs.Handing.{plain_state}
 use Rattle.qq_group_model.specs.Group.{Group, Seat, empty_seat, happens, has_node, may_restart, restart_by}
 use Rattle.qq_group_model.specs.Group.Event.{Restart}
 use Rattle.qq_group.specs.Group.{Represents}
@@ -74,25 +75,15 @@ by-length (suc m) l =
     let is : length (idle m) ≡ m = idle-length m in
     omega (arith, more, is)
 
-by-op : (n : ℕ) (l : LogState) → (state_by n l).op ≡ n
-by-op zero l = refl
-by-op (suc m) l = refl
-
-by-term : (n : ℕ) (l : LogState) → (n ≡ 0 → IsUnused l) → (state_by n l).term ≡ l.term
-by-term zero l unused = sym (unused refl).term
-by-term (suc m) l unused = refl
-
-by-vote : (n : ℕ) (l : LogState) → (n ≡ 0 → IsUnused l) → (state_by n l).vote ≡ l.vote
-by-vote zero l unused = sym (unused refl).vote
-by-vote (suc m) l unused = refl
-
-all-known : (entries : List Entry) → known_entries (map Some entries) ≡ entries
-all-known [] = refl
-all-known (e ∷ entries) = ap (λ (es : List Entry). e ∷ es) (all-known entries)
-
-by-entries : (n : ℕ) (l : LogState) → (n ≡ 0 → IsUnused l) → known_entries (state_by n l).log ≡ l.entries
-by-entries zero l unused = sym (unused refl).entries
-by-entries (suc m) l unused = all-known l.entries
+by-plain : (n : ℕ) (l : LogState) → (n ≡ 0 → IsUnused l)
+    → state_by n l ≡ plain_state n l.term l.vote l.entries
+by-plain zero l unused =
+    let u = unused refl in
+    let term : record { 0 = 0 } ≡ l.term = sym u.term in
+    let vote : None ≡ l.vote = sym u.vote in
+    let entries : [] ≡ l.entries = sym u.entries in
+    λ i. plain_state 0 (term i) (vote i) (entries i)
+by-plain (suc m) l unused = refl
 
 -- the seat of a member that is down, with ops that lead to a log
 abbrev left : LogState → Seat
@@ -107,14 +98,10 @@ is-found g k l may is =
     record {
       noticed = omega (arith, noticed);
       handed = omega (arith, here);
-      state = state_by l.op l;
       is =
           ap stable (take_all l.op (g.seat k).ops (omega (arith, here)) ∙ ops)
-          ∙ by-stable l.op l;
-      op = by-op l.op l;
-      term = by-term l.op l may.unused;
-      vote = by-vote l.op l may.unused;
-      entries = by-entries l.op l may.unused;
+          ∙ by-stable l.op l
+          ∙ ap (λ (state : Stable). Some state) (by-plain l.op l may.unused);
     }
 
 -- ---- what a restart leaves
@@ -172,7 +159,7 @@ opens-next nodes at old new l opened may restarts seats down =
     let is : h.state.seat k ≡ left l = h.above k (omega arith) ∙ put-same k (left l) seats in
     record {
       state = happens (Restart k l.op) h.state;
-      stands = restarts h.state h.stands (is-found h.state k l may is);
+      stands = restarts h.state h.stands (λ _. is-found h.state k l may is);
       nodes_are = restart-nodes k l.op h.state ∙ h.nodes_are;
       above = λ q lt.
           restart-seat k l.op q h.state (λ eq. omega (arith, eq, lt))

@@ -98,10 +98,10 @@ impl Members {
     }
 
     /// The next op of a member for its disk.
-    pub fn hand(&mut self, node: NodeId) -> Option<Op>
-        ensures { IfSome result MayWrite }
+    pub fn hand(&mut self, alloc: Global, node: NodeId) -> Result<Option<Op>, Memory>
+        ensures { IfOk result (λ next. IfSome next MayWrite) }
     {
-        self.group.waiting(node)
+        self.group.waiting(alloc, node)
     }
 
     /// The entries that were committed.

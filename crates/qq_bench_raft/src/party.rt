@@ -94,7 +94,7 @@ impl Party {
 
     /// The next op of a member is written to its disk. Whether there was one.
     pub fn write(&mut self, alloc: Global, node: u8) -> Result<bool> {
-        let Some(op) = self.members.hand(NodeId(node)) else {
+        let Some(op) = self.members.hand(alloc, NodeId(node))? else {
             return Ok(false);
         };
         let disk = self

@@ -4,6 +4,8 @@ mod Copies
 mod Following
 mod Idle
 mod Inputs
+mod Intact
+mod Noticed
 mod Notices
 mod Opening
 mod Promises

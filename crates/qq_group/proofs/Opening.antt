@@ -1,5 +1,6 @@
 -- New groups, and what a restart makes of the states that a group stands for.
-use Rattle.std.proofs.Common.{◌≡◌, ℕ, ◌&&◌, Bool, true, false, leb, List, [], length, take, Option, Some, None, refl, sym, ap, subst, ◌∙◌, arith, inl, inr}
+use Rattle.std.proofs.Common.{◌≡◌, ℕ, ◌≤◌, ◌&&◌, Bool, true, false, leb, List, [], length, take, Option, Some, None, refl, sym, ap, subst, ◌∙◌, arith, inl, inr}
+use Rattle.std.specs.Bool.{Decides}
 use Rattle.std.specs.Prelude.{slice_get}
 use Rattle.std.proofs.lemmas.Bool.{cond-true, false≢true, le-leb}
 use Rattle.std.proofs.lemmas.List.{length-take}
@@ -10,8 +11,10 @@ use Rattle.qq_base.specs.declared.ids.QueueId.{QueueId}
 use Rattle.qq_base.specs.declared.ids.Term.{Term}
 use Rattle.qq_entry.specs.declared.command.Entry.{Entry}
 use Rattle.qq_log.specs.Log.{LogState}
-use Rattle.qq_log.specs.Stable.{Stable, known_entries, stable}
+use Rattle.qq_log.specs.Stable.{Stable, stable}
 use Rattle.qq_raft.specs.Raft.{server_of, lane_of}
+use Rattle.qq_raft_step.proofs.Handing.{known-all}
+use Rattle.qq_raft_step.specs.Handing.{plain_state}
 use Rattle.qq_raft_step.specs.Server.{restart}
 use Rattle.qq_raft_step.specs.State.{Server as Raft}
 use Rattle.qq_server.specs.declared.server.Server.{Server}
@@ -20,11 +23,13 @@ use Rattle.qq_group_model.specs.Group.Event.{Restart}
 use Rattle.qq_server.specs.Stands.{StandsFor}
 use Rattle.qq_server.specs.Step.{new_state}
 use Rattle.qq_group.specs.Follows.{OthersStay}
-use Rattle.qq_group.specs.Group.{IsSeat, IsSeatBy, IsServed, HasReturned, IsReturned, Represents, server_at, server_by}
-use Rattle.qq_group.specs.Restarts.{AreEmpty, HasStarted, IsAllDown, IsEmpty, IsOpened, IsStarted, Restarts}
+use Rattle.qq_group.specs.Group.{IsSeat, IsSeatBy, IsServed, HasReturned, IsReturned, KnowsLog, Represents, server_at, server_by}
+use Rattle.qq_group.specs.Restarts.{AreEmpty, Finds, HasStarted, IsAllDown, IsEmpty, IsFound, IsIntactAt, IsLost, IsOpened, IsStarted, Restarts, disk_of, is_known, started_seat}
 use Rattle.qq_group.specs.Step.{ChangesSeat}
 use Rattle.qq_group.specs.declared.group.Group.{Group}
+use Rattle.qq_history.specs.declared.state.DiskState.{DiskState}
 use Rattle.qq_group.specs.declared.seat.Seat.{Seat}
+use Rattle.qq_history.proofs.Histories.{history-at, history-empty, history-new}
 use Rattle.qq_group.proofs.Stepped.{changed-other, changed-own, is-down, represents-put}
 
 -- ---- new groups
@@ -59,6 +64,7 @@ empty-numbers log known state s e down zeros =
           record {
             noticed = (zeros (sym e.known_is ∙ is)).0 ∙ sym e.noticed;
             handed = (zeros (sym e.known_is ∙ is)).1 ∙ sym e.handed;
+            history = history-empty state.ops state.noticed s.history (zeros (sym e.known_is ∙ is)).1 e.start e.ops;
           },
     )
 
@@ -94,69 +100,130 @@ restart-with : NodeId → List NodeId → QueueId → ℕ → Term → Option No
 restart-with node nodes queue op term vote entries l =
     restart node nodes (record (lane_of queue l) { op = op; term = term; vote = vote; entries = entries })
 
-restarted : (node : NodeId) (g : GroupState) (l : LogState) (state : Stable) → state.op ≡ l.op → state.term ≡ l.term
-    → state.vote ≡ l.vote → known_entries state.log ≡ l.entries
-    → restart node g.nodes (lane_with g.queue state) ≡ restart node g.nodes (lane_of g.queue l)
+restarted : (node : NodeId) (g : GroupState) (l : LogState)
+    → restart node g.nodes (lane_with g.queue (plain_state l.op l.term l.vote l.entries))
+    ≡ restart node g.nodes (lane_of g.queue l)
 unfolding restart-with
-restarted node g l state op term vote entries =
-    ap (λ n. restart-with node g.nodes g.queue n state.term state.vote (known_entries state.log) l) op
-    ∙ ap (λ t. restart-with node g.nodes g.queue l.op t state.vote (known_entries state.log) l) term
-    ∙ ap (λ v. restart-with node g.nodes g.queue l.op l.term v (known_entries state.log) l) vote
-    ∙ ap (λ es. restart-with node g.nodes g.queue l.op l.term l.vote es l) entries
+restarted node g l =
+    ap (λ es. restart-with node g.nodes g.queue l.op l.term l.vote es l) (known-all l.entries)
 
 and-true : (a b : Bool) → a ≡ true → b ≡ true → (a && b) ≡ true
 and-true true b p q = q
 and-true false b p q = absurd (false≢true p)
 
+-- what is known of the log of a member that is down
+known-log : {Q L : Type 0} (log : L → LogState) (state : SeatState) (seat : Seat Q L) → IsSeatBy log state seat seat.server
+    → seat.server ≡ None → seat.known ≡ true → KnowsLog state seat
+known-log log state seat is down known = (subst (IsSeatBy log state seat) down is).1 known
+
+intact-by : {Q L : Type 0} (log : L → LogState) (g : GroupState) (k : ℕ) (l : LogState) (o : Option (Seat Q L))
+    → IsSeat log (g.seat k) o → server_by o ≡ None → IsIntactAt o (disk_of l) → is_known o ≡ true → IsFound g k l
+intact-by log g k l None is down intact known = absurd (false≢true known)
+intact-by log g k l (Some seat) is down intact known =
+    let knows = known-log log (g.seat k) seat is down known in
+    let i = intact known in
+    let le : (g.seat k).noticed ≤ l.op = omega (arith, knows.noticed, i.0) in
+    record {
+      noticed = le;
+      handed = omega (arith, knows.handed, i.1);
+      is = history-at (g.seat k).ops (g.seat k).noticed seat.history l.op knows.history le ∙ i.2;
+    }
+
+-- a log that is intact is found
+pub finds : {Q L : Type 0} (log : L → LogState) (k : ℕ) (l : LogState) (old : Group Q L)
+    → IsIntactAt (slice_get old.seats.items k) (disk_of l) → server_at k old ≡ None → Finds log k l old
+finds log k l old intact down = λ g r known.
+    intact-by log g k l (slice_get old.seats.items k) (r.seats k) down intact known
+
+found-by : {Q L : Type 0} (log : L → LogState) (g : GroupState) (k : ℕ) (l : LogState) (o : Option (Seat Q L))
+    → IsSeat log (g.seat k) o → server_by o ≡ None → IsFound g k l → IsIntactAt o (disk_of l)
+found-by log g k l None is down f = tt
+found-by log g k l (Some seat) is down f = λ known.
+    let knows = known-log log (g.seat k) seat is down known in
+    let noticed = f.noticed in
+    let handed = f.handed in
+    (
+      omega (arith, knows.noticed, noticed),
+      omega (arith, knows.handed, handed),
+      sym (history-at (g.seat k).ops (g.seat k).noticed seat.history l.op knows.history f.noticed) ∙ f.is,
+    )
+
+unknown-intact : {Q L : Type 0} (o : Option (Seat Q L)) (d : DiskState) → is_known o ≡ false → IsIntactAt o d
+unknown-intact None d unknown = tt
+unknown-intact (Some seat) d unknown = λ known. absurd (false≢true (sym unknown ∙ known))
+
+known-cases : (b : Bool) → (b ≡ false → ⊥) → b ≡ true
+known-cases true other = refl
+known-cases false other = absurd (other refl)
+
+-- and one that isn't intact is lost
+pub loses : {Q L : Type 0} (log : L → LogState) (k : ℕ) (l : LogState) (old : Group Q L) (intact : Bool)
+    → Decides intact (IsIntactAt (slice_get old.seats.items k) (disk_of l)) → intact ≡ false
+    → server_at k old ≡ None → IsLost log k l old
+loses log k l old intact decides not_intact down =
+    let seat = slice_get old.seats.items k in
+    record {
+      known = known-cases (is_known seat) (λ unknown.
+          false≢true (sym not_intact ∙ decides.1 (unknown-intact seat (disk_of l) unknown)));
+      other = λ g r f.
+          false≢true (sym not_intact ∙ decides.1 (found-by log g k l seat (r.seats k) down f));
+    }
+
+found-or : {Q L : Type 0} (log : L → LogState) (g : GroupState) (k : ℕ) (l : LogState) (old : Group Q L) (b : Bool)
+    → is_known (slice_get old.seats.items k) ≡ b → Represents log g old → Finds log k l old
+    → (is_known (slice_get old.seats.items k) ≡ false → IsFound g k l) → IsFound g k l
+found-or log g k l old true known r finds_it unknown = finds_it g r known
+found-or log g k l old false known r finds_it unknown = unknown known
+
 pub restarts : {Q L : Type 0} (log : L → LogState) (node : NodeId) (l : LogState) (s : Server Q L)
-    (was : Seat Q L) (old new : Group Q L) → has_node node.0 old.nodes.items ≡ true
-    → server_at node.0 old ≡ None
-    → server_of log s.raft ≡ restart node old.nodes.items (lane_of old.queue l)
-    → ChangesSeat node.0 was (record { server = Some s; known = true; noticed = l.op; handed = l.op; returned = None }) old new
-    → new.bag ≡ old.bag → new.audit ≡ old.audit → Restarts log node.0 l old new
-restarts {Q = Q} {L = L} log node l s was old new member down made c bag audit = λ g r f.
+    (old new : Group Q L) → has_node node.0 old.nodes.items ≡ true → server_at node.0 old ≡ None
+    → Finds log node.0 l old → server_of log s.raft ≡ restart node old.nodes.items (lane_of old.queue l)
+    → IsStarted node.0 (disk_of l) s old new → Restarts log node.0 l old new
+restarts {Q = Q} {L = L} log node l s old new member down finds_it made t = λ g r unknown.
     let k = node.0 in
+    let f : IsFound g k l =
+    found-or log g k l old (is_known (slice_get old.seats.items k)) refl r finds_it unknown in
     let may : may_restart k l.op g ≡ true =
     and-true (is_down (g.seat k).server) _ (ap is_down (is-down log g k old r down))
     (and-true (has_node k g.nodes) _ (ap (has_node k) r.nodes ∙ member)
     (and-true (leb (g.seat k).noticed l.op) _ (le-leb (g.seat k).noticed l.op f.noticed)
     (le-leb l.op (length (g.seat k).ops) f.handed))) in
+    let found : Stable = plain_state l.op l.term l.vote l.entries in
     let state : SeatState = record {
-      server = Some (restart (record { 0 = k }) g.nodes (lane_with g.queue f.state));
+      server = Some (restart (record { 0 = k }) g.nodes (lane_with g.queue found));
       ops = take l.op (g.seat k).ops;
       noticed = l.op;
     } in
-    let now : Seat Q L = record { server = Some s; known = true; noticed = l.op; handed = l.op; returned = None } in
-    let same : happens (Restart k l.op) g ≡ restart_by k l.op (Some f.state) g =
+    let now : Seat Q L = started_seat (disk_of l) t.history s in
+    let same : happens (Restart k l.op) g ≡ restart_by k l.op (Some found) g =
     cond-true (may_restart k l.op g) (restart_by k l.op (stable (take l.op (g.seat k).ops)) g) g may
     ∙ ap (λ o. restart_by k l.op o g) f.is in
-    let server : restart node g.nodes (lane_with g.queue f.state) ≡ server_of log s.raft =
-    restarted node g l f.state f.op f.term f.vote f.entries
+    let server : restart node g.nodes (lane_with g.queue found) ≡ server_of log s.raft =
+    restarted node g l
     ∙ ap (λ q. restart node g.nodes (lane_of q l)) r.queue
     ∙ ap (λ ns. restart node ns (lane_of old.queue l)) r.nodes ∙ sym made in
     subst (λ h. Represents log h new) (sym same)
-    (represents-put log g k state was now g.bag g.audit old new r c
-    (ap Some server, record { noticed = refl; handed = omega (arith, length-take l.op (g.seat k).ops, f.handed) })
-    (r.bag ∙ sym bag) (r.audit ∙ ap (λ a. a.items) (sym audit)))
+    (represents-put log g k state t.was now g.bag g.audit old new r t.changes
+    (
+      ap Some server,
+      record {
+        noticed = refl;
+        handed = omega (arith, length-take l.op (g.seat k).ops, f.handed);
+        history = history-new (g.seat k).ops (disk_of l) t.history f.handed f.is t.start t.none;
+      },
+      sym (ap (λ (x : Raft). x.noticed) made),
+    )
+    (r.bag ∙ sym t.bag) (r.audit ∙ ap (λ a. a.items) (sym t.audit)))
 
--- the server that starts is put into its seat
-pub started-restarts : {Q L : Type 0} (log : L → LogState) (node : NodeId) (l : LogState) (op : ℕ) (s : Server Q L)
-    (old new : Group Q L) → op ≡ l.op → has_node node.0 old.nodes.items ≡ true → server_at node.0 old ≡ None
-    → server_of log s.raft ≡ restart node old.nodes.items (lane_of old.queue l) → IsStarted node.0 op s old new
-    → Restarts log node.0 l old new
-started-restarts log node l op s old new same member down made started =
-    let t = subst (λ n. IsStarted node.0 n s old new) same started in
-    restarts log node l s t.was old new member down made t.changes t.bag t.audit
-
-pub started-others : {Q L : Type 0} (k op : ℕ) (s : Server Q L) (old new : Group Q L) → IsStarted k op s old new
-    → OthersStay k old new
-started-others k op s old new t = λ q other. changed-other k q t.was _ old new t.changes other
+pub started-others : {Q L : Type 0} (k : ℕ) (d : DiskState) (s : Server Q L) (old new : Group Q L)
+    → IsStarted k d s old new → OthersStay k old new
+started-others k d s old new t = λ q other. changed-other k q t.was _ old new t.changes other
 
 pub has-started : {P Q L : Type 0} (stands : P → Q → Type 0) (log : L → LogState) (raft : Raft) (machine : Q)
-    (k op : ℕ) (s : Server Q L) (old new : Group Q L) → IsStarted k op s old new
+    (k : ℕ) (d : DiskState) (s : Server Q L) (old new : Group Q L) → IsStarted k d s old new
     → ((queue : P) → stands queue machine → StandsFor stands log (new_state raft queue) s)
     → HasStarted stands machine (server_at k new)
-has-started {Q = Q} {L = L} stands log raft machine k op s old new t made =
+has-started {Q = Q} {L = L} stands log raft machine k d s old new t made =
     subst (λ (o : Option (Server Q L)). HasStarted stands machine o)
     (sym (ap server_by (changed-own k t.was _ old new t.changes)))
     (λ queue stood. ((made queue stood).queue, (made queue stood).applied, (made queue stood).rows))

@@ -9,7 +9,7 @@ use Rattle.qq_log.specs.declared.op.Op.{Op}
 use Rattle.qq_raft.specs.Raft.{server_of}
 use Rattle.qq_server.specs.declared.server.Server.{Server}
 use Rattle.qq_group.specs.Group.{IsReturned, server_by}
-use Rattle.qq_group.specs.Handing.{given_back, has_returned, next_by, reseated, returned_at, with_returned, IsReseated, KeepsReturned, Refills}
+use Rattle.qq_group.specs.Handing.{given_back, handed_seat, has_returned, next_by, reseated, returned_at, with_returned, IsHandedOver, IsReseated, KeepsReturned, Refills, StaysAt}
 use Rattle.qq_group.specs.Step.{ChangesSeat, IsSettled, IsTaken, IsUndone, emptied, seated}
 use Rattle.qq_group.specs.declared.group.Group.{Group}
 use Rattle.qq_group.specs.declared.seat.Seat.{Seat}
@@ -83,11 +83,28 @@ pub undone-returned : {Q L : Type 0} (k : ℕ) (s : Server Q L) (old mid new : G
 undone-returned k s old mid new taken u = λ q.
     ap (λ v. returned_at (slice_get v.items q)) u.seats ∙ taken-returned k s old mid taken q
 
-pub reseated-returned : {Q L : Type 0} (k count : ℕ) (s t : Server Q L) (old mid new : Group Q L)
-    → IsTaken k s old mid → IsReseated k count t mid new → KeepsReturned old new
-reseated-returned k count s t old mid new taken put = λ q.
-    changes-returned k put.seat (reseated count t put.seat) mid new put.changes refl q
+pub reseated-returned : {Q L : Type 0} (k : ℕ) (s t : Server Q L) (old mid new : Group Q L) → IsTaken k s old mid
+    → IsReseated k t mid new → KeepsReturned old new
+reseated-returned k s t old mid new taken put = λ q.
+    changes-returned k put.seat (reseated t put.seat) mid new put.changes refl q
     ∙ taken-returned k s old mid taken q
+
+pub handed-returned : {Q L : Type 0} (k : ℕ) (s t : Server Q L) (op : Op) (old mid new : Group Q L)
+    → IsTaken k s old mid → IsHandedOver k t op mid new → KeepsReturned old new
+handed-returned k s t op old mid new taken put = λ q.
+    changes-returned k put.seat (handed_seat t put.history put.seat) mid new put.changes refl q
+    ∙ taken-returned k s old mid taken q
+
+pub stays-returned : {Q L : Type 0} (k : ℕ) (old mid new : Group Q L) → KeepsReturned old mid → StaysAt k mid new
+    → KeepsReturned old new
+stays-returned {Q = Q} {L = L} k old mid new keep s = λ q. by q (cases_eq q k) ∙ keep q
+  where
+    by : (q : ℕ) → (q ≡ k) ⊎ (q ≡ k → ⊥)
+        → returned_at (slice_get new.seats.items q) ≡ returned_at (slice_get mid.seats.items q)
+    by q (inl is) =
+        subst (λ (j : ℕ). returned_at (slice_get new.seats.items j) ≡ returned_at (slice_get mid.seats.items j))
+        (sym is) (ap returned_at s.seat)
+    by q (inr other) = ap returned_at (s.only.others q other)
 
 -- ---- and what takes it
 

@@ -1,5 +1,5 @@
 -- What each piece of a step makes of the states that a group stands for.
-use Rattle.std.proofs.Common.{◌≡◌, ℕ, ◌+◌, ◌<◌, inr, List, [], ◌++◌, length, Option, Some, None, refl, sym, ap, subst, ◌∙◌, arith}
+use Rattle.std.proofs.Common.{◌≡◌, ℕ, ◌+◌, ◌<◌, ◌≤◌, inr, List, [], ◌++◌, length, Option, Some, None, refl, sym, ap, subst, ◌∙◌, arith}
 use Rattle.std.specs.Prelude.{slice_get}
 use Rattle.std.proofs.lemmas.Option.{slice_get_within}
 use Rattle.qq_base.specs.Fronts.{IsFront, put}
@@ -24,10 +24,14 @@ use Rattle.qq_group_model.specs.Group.Event.{Crash}
 use Rattle.qq_group.specs.Follows.{Feeds, HasShown, HasShownBy, Makes, OthersStay}
 use Rattle.qq_group.specs.Group.{IsReached, IsSeat, IsSeatBy, Represents, server_at, server_by}
 use Rattle.qq_group.specs.Step.{ChangesSeat, IsSettled, IsTaken, IsUndone, emptied, extended, known_by, seated}
+use Rattle.qq_history.specs.History.{IsHistory}
 use Rattle.qq_group.specs.Input.{IsFeedCaused, input_of}
 use Rattle.qq_group.specs.declared.group.Group.{Group}
+use Rattle.qq_history.specs.declared.history.History.{History}
 use Rattle.qq_group.specs.declared.input.Input.{Input}
 use Rattle.qq_group.specs.declared.seat.Seat.{Seat}
+use Rattle.qq_history.proofs.Histories.{history-later}
+use Rattle.qq_group.proofs.Noticed.{noticed-rises}
 use Rattle.qq_group.proofs.Reached.{KnownLaw, extended-is, known-front}
 use Rattle.qq_group.proofs.Seats.{set-other, set-own}
 
@@ -100,6 +104,7 @@ taken-crashes log k s old new t = λ g r.
       λ _. record {
         noticed = (is-up log g k t.seat s old r t.changes.there t.up).1.noticed;
         handed = (is-up log g k t.seat s old r t.changes.there t.up).1.handed;
+        history = (is-up log g k t.seat s old r t.changes.there t.up).1.history;
       },
     )
     (r.bag ∙ sym t.bag) (r.audit ∙ ap (λ a. a.items) (sym t.audit))
@@ -144,6 +149,12 @@ stepped log law k input s t old mid new taken made settled = λ g r reached grow
     (sym settled.changes.there ∙ changed-own k taken.seat (emptied taken.seat) old mid taken.changes) in
     let state : SeatState = record { server = Some (record view { out = [] }); ops = (g.seat k).ops; noticed = view.noticed } in
     let now = seated view.noticed settled.left settled.seat in
+    let rises = noticed-rises (server_of log s.raft) input in
+    let told : view.noticed ≡ (step (server_of log s.raft) input).noticed = ap (λ (x : Raft). x.noticed) made in
+    let le : (g.seat k).noticed ≤ view.noticed = omega (arith, up.1.noticed, up.2, rises, told) in
+    let history : IsHistory (g.seat k).ops view.noticed settled.seat.history =
+    subst (λ (h : History). IsHistory (g.seat k).ops view.noticed h) (sym (ap (λ (x : Seat _ _). x.history) seat_is))
+    (history-later (g.seat k).ops (g.seat k).noticed view.noticed taken.seat.history up.1.history le) in
     subst (λ h. Represents log h new) (sym same)
     (represents-with log g k state settled.seat now (g.bag ++ view.out) (after_step k view g).audit mid new crashed.queue
     crashed.nodes
@@ -152,7 +163,12 @@ stepped log law k input s t old mid new taken made settled = λ g r reached grow
     (r.seats i))
     settled.changes (
       ap Some (sym settled.drained.raft),
-      record { noticed = refl; handed = up.1.handed ∙ ap (λ (x : Seat _ _). x.handed) (sym seat_is) },
+      record {
+        noticed = refl;
+        handed = up.1.handed ∙ ap (λ (x : Seat _ _). x.handed) (sym seat_is);
+        history = history;
+      },
+      sym (ap (λ (x : Raft). x.noticed) settled.drained.raft),
     )
     (ap (λ l. l ++ view.out) crashed.bag ∙ sym settled.bag)
     (after-audit law k view g mid.audit.items (sym crashed.audit) (subst IsReached same reached)

@@ -16,10 +16,13 @@ use Rattle.qq_group_model.specs.Group.Event.{Take}
 use Rattle.qq_group_model.specs.Promises.{AreDistinct, IsUp}
 use Rattle.qq_group.specs.Follows.{Follows, Makes, OthersStay}
 use Rattle.qq_group.specs.Group.{IsReached, IsSeat, IsSeatBy, Represents, server_at, server_by}
-use Rattle.qq_group.specs.Handing.{hands, has_returned, next_at, next_by, returned_at, with_returned, IsReseated, Refills, reseated}
+use Rattle.qq_group.specs.Handing.{handed_seat, hands, has_returned, next_at, next_by, returned_at, with_returned, IsHandedOver, IsReseated, Refills, StaysAt, reseated}
+use Rattle.qq_history.specs.History.{ops_of, IsHistory}
 use Rattle.qq_group.specs.Step.{IsTaken, emptied}
 use Rattle.qq_group.specs.declared.group.Group.{Group}
+use Rattle.qq_history.specs.declared.history.History.{History}
 use Rattle.qq_group.specs.declared.seat.Seat.{Seat}
+use Rattle.qq_history.proofs.Histories.{history-more}
 use Rattle.qq_group.proofs.Stepped.{changed-other, changed-own, is-down, is-up, represents-with, taken-crashes}
 
 -- `a_log_was_handed_the_changes_of_its_server` of `qq_group_model`
@@ -72,12 +75,27 @@ no-ops : (ops : List Op) → None ≡ slice_get ops 0 → ops ≡ []
 no-ops [] is = refl
 no-ops (x ∷ ops) is = absurd (none-some x is)
 
+-- nothing has changed
+stays-again : {Q L : Type 0} (log : L → LogState) (g : GroupState) (k : ℕ) (old new : Group Q L) → Represents log g old
+    → StaysAt k old new → Represents log g new
+stays-again log g k old new r s =
+    again log g k old new r (subst (IsSeat log (g.seat k)) (sym s.seat) (r.seats k)) s.only.others s.only.queue
+    s.only.nodes s.only.bag s.only.audit
+
+pub stays-makes : {Q L : Type 0} (log : L → LogState) (f : GroupState → GroupState) (k : ℕ) (old mid new : Group Q L)
+    → Makes log f old mid → StaysAt k mid new → Makes log f old new
+stays-makes log f k old mid new makes s = λ g r. stays-again log (f g) k mid new (makes g r) s
+
+pub stays-others : {Q L : Type 0} (k : ℕ) (old mid new : Group Q L) → OthersStay k old mid → StaysAt k mid new
+    → OthersStay k old new
+stays-others k old mid new stay s = λ q other. s.only.others q other ∙ stay q other
+
 -- the next op is handed to the log
 pub handed-one : {Q L : Type 0} (log : L → LogState) → CountLaw → (k : ℕ) (s t : Server Q L) (op : Op)
     (old mid new : Group Q L) → IsTaken k s old mid → (server_of log s.raft).op ≤ NUMBER_END
     → Some op ≡ slice_get (server_of log s.raft).ops 0
     → server_of log t.raft ≡ record (server_of log s.raft) { ops = drop 1 (server_of log s.raft).ops }
-    → IsReseated k 1 t mid new → Follows log (happens (Take k)) old new
+    → IsHandedOver k t op mid new → Follows log (happens (Take k)) old new
 handed-one log law k s t op old mid new taken within next rest put = λ g reached r.
     let view = server_of log s.raft in
     let up = is-up log g k taken.seat s old r taken.changes.there taken.up in
@@ -96,7 +114,8 @@ handed-one log law k s t op old mid new taken within next rest put = λ g reache
       noticed = (g.seat k).noticed;
     } in
     subst (λ h. Represents log h new) (sym same)
-    (represents-with log g k state put.seat (reseated 1 t put.seat) g.bag g.audit mid new crashed.queue crashed.nodes
+    (represents-with log g k state put.seat (handed_seat t put.history put.seat) g.bag g.audit mid new crashed.queue
+    crashed.nodes
     (λ i other.
     subst (IsSeat log (g.seat i)) (sym (changed-other k i taken.seat (emptied taken.seat) old mid taken.changes other))
     (r.seats i))
@@ -112,22 +131,24 @@ handed-one log law k s t op old mid new taken within next rest put = λ g reache
           count,
           within,
         );
+        history = history-more (g.seat k).ops op (g.seat k).noticed taken.seat.history put.history
+            up.1.history (put.start ∙ ap (λ (x : Seat _ _). x.history.start) seat_is)
+            (put.more ∙ ap (λ (x : Seat _ _). ops_of x.history ++ op ∷ []) seat_is);
       },
+      noticed_is ∙ up.2 ∙ sym (ap (λ (x : Raft). x.noticed) rest),
     )
     (crashed.bag ∙ sym put.bag) (crashed.audit ∙ ap (λ a. a.items) (sym put.audit)))
 
 -- there is none
-pub handed-none : {Q L : Type 0} (log : L → LogState) → CountLaw → (k : ℕ) (s t : Server Q L)
-    (old mid new : Group Q L) → IsTaken k s old mid → (server_of log s.raft).op ≤ NUMBER_END
-    → None ≡ slice_get (server_of log s.raft).ops 0
+pub handed-none : {Q L : Type 0} (log : L → LogState) (k : ℕ) (s t : Server Q L) (old mid new : Group Q L)
+    → IsTaken k s old mid → None ≡ slice_get (server_of log s.raft).ops 0
     → server_of log t.raft ≡ record (server_of log s.raft) { ops = drop 1 (server_of log s.raft).ops }
-    → IsReseated k 0 t mid new → Follows log (happens (Take k)) old new
-handed-none log law k s t old mid new taken within next rest put = λ g reached r.
+    → IsReseated k t mid new → Follows log (happens (Take k)) old new
+handed-none log k s t old mid new taken next rest put = λ g reached r.
     let view = server_of log s.raft in
     let up = is-up log g k taken.seat s old r taken.changes.there taken.up in
     let none : view.ops ≡ [] = no-ops view.ops next in
     let same = none-taken k view g up.0 none in
-    let count = handed-count law g k view reached up.0 in
     let unchanged : server_of log t.raft ≡ view =
     rest ∙ ap (λ ops. record view { ops = drop 1 ops }) none ∙ ap (λ ops. record view { ops = ops }) (sym none) in
     let seat_is : put.seat ≡ emptied taken.seat =
@@ -137,15 +158,18 @@ handed-none log law k s t old mid new taken within next rest put = λ g reached 
     let noticed_is : put.seat.noticed ≡ taken.seat.noticed = ap (λ (x : Seat _ _). x.noticed) seat_is in
     subst (λ h. Represents log h new) (sym same)
     (again log g k old new r
-    (subst (IsSeat log (g.seat k)) (sym (changed-own k put.seat (reseated 0 t put.seat) mid new put.changes)) (
+    (subst (IsSeat log (g.seat k)) (sym (changed-own k put.seat (reseated t put.seat) mid new put.changes)) (
       up.0 ∙ ap Some (sym unchanged),
       record {
         noticed = up.1.noticed ∙ sym noticed_is;
-        handed = omega (arith, up.1.handed, handed_is, count, within);
+        handed = up.1.handed ∙ sym handed_is;
+        history = subst (λ (h : History). IsHistory (g.seat k).ops (g.seat k).noticed h)
+            (sym (ap (λ (x : Seat _ _). x.history) seat_is)) up.1.history;
       },
+      noticed_is ∙ up.2 ∙ sym (ap (λ (x : Raft). x.noticed) rest),
     ))
     (λ i other.
-    changed-other k i put.seat (reseated 0 t put.seat) mid new put.changes other
+    changed-other k i put.seat (reseated t put.seat) mid new put.changes other
     ∙ changed-other k i taken.seat (emptied taken.seat) old mid taken.changes other)
     (put.changes.queue ∙ taken.changes.queue) (put.changes.nodes ∙ taken.changes.nodes) (put.bag ∙ taken.bag)
     (put.audit ∙ taken.audit))
@@ -157,10 +181,16 @@ down-hands log k old new same down = λ g reached r.
     subst (λ h. Represents log h new) (sym (ap (λ o. take_op k o g) (is-down log g k old r down)))
     (subst (Represents log g) (sym same) r)
 
-pub reseated-others : {Q L : Type 0} (k count : ℕ) (s t : Server Q L) (old mid new : Group Q L)
-    → IsTaken k s old mid → IsReseated k count t mid new → OthersStay k old new
-reseated-others k count s t old mid new taken put = λ q other.
-    changed-other k q put.seat (reseated count t put.seat) mid new put.changes other
+pub reseated-others : {Q L : Type 0} (k : ℕ) (s t : Server Q L) (old mid new : Group Q L)
+    → IsTaken k s old mid → IsReseated k t mid new → OthersStay k old new
+reseated-others k s t old mid new taken put = λ q other.
+    changed-other k q put.seat (reseated t put.seat) mid new put.changes other
+    ∙ changed-other k q taken.seat (emptied taken.seat) old mid taken.changes other
+
+pub handed-others : {Q L : Type 0} (k : ℕ) (s t : Server Q L) (op : Op) (old mid new : Group Q L)
+    → IsTaken k s old mid → IsHandedOver k t op mid new → OthersStay k old new
+handed-others k s t op old mid new taken put = λ q other.
+    changed-other k q put.seat (handed_seat t put.history put.seat) mid new put.changes other
     ∙ changed-other k q taken.seat (emptied taken.seat) old mid taken.changes other
 
 -- ---- what was given back
@@ -168,8 +198,17 @@ reseated-others k count s t old mid new taken put = λ q other.
 seat-by : {Q L : Type 0} (log : L → LogState) (state : SeatState) (seat : Seat Q L) (returned : Option Op)
     (o : Option (Server Q L)) → IsSeatBy log state seat o → IsSeatBy log state (record seat { returned = returned }) o
 seat-by log state seat returned None is =
-    (is.0, λ known. record { noticed = (is.1 known).noticed; handed = (is.1 known).handed })
-seat-by log state seat returned (Some s) is = (is.0, record { noticed = is.1.noticed; handed = is.1.handed })
+    (
+      is.0,
+      λ known.
+          record {
+            noticed = (is.1 known).noticed;
+            handed = (is.1 known).handed;
+            history = (is.1 known).history;
+          },
+    )
+seat-by log state seat returned (Some s) is =
+    (is.0, record { noticed = is.1.noticed; handed = is.1.handed; history = is.1.history }, is.2)
 
 seat-with : {Q L : Type 0} (log : L → LogState) (state : SeatState) (returned : Option Op) (o : Option (Seat Q L))
     → IsSeat log state o → IsSeat log state (with_returned returned o)

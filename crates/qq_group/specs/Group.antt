@@ -12,6 +12,7 @@ use Rattle.qq_server.specs.Stands.{IsSound as IsSoundServer}
 use Rattle.qq_server.specs.declared.server.Server.{Server}
 use Rattle.qq_group_model.specs.Group.{Event, Group as GroupState, Seat as SeatState, from_new}
 use Rattle.qq_group_model.specs.Promises.{AreDistinct}
+use Rattle.qq_history.specs.History.{IsHistory}
 use Rattle.qq_group.specs.declared.group.Group.{Group}
 use Rattle.qq_group.specs.declared.seat.Seat.{Seat}
 
@@ -25,15 +26,17 @@ server_by (Some seat) = seat.server
 abbrev pub server_at : {Q L : Type 0} → ℕ → Group Q L → Option (Server Q L)
 server_at k group = server_by (slice_get group.seats.items k)
 
--- the numbers of a member's log
-pub record HasNumbers {Q L : Type 0} (state : SeatState) (seat : Seat Q L) : Type 0 where
+-- what a member's log was handed, and how much of that was noticed
+pub record KnowsLog {Q L : Type 0} (state : SeatState) (seat : Seat Q L) : Type 0 where
   pub noticed : state.noticed ≡ seat.noticed
   pub handed : length state.ops ≡ seat.handed
+  pub history : IsHistory state.ops state.noticed seat.history
 
--- of a member that is down the numbers may be unknown
+-- of a member that is down it may be unknown
 abbrev pub IsSeatBy : {Q L : Type 0} → (L → LogState) → SeatState → Seat Q L → Option (Server Q L) → Type 0
-IsSeatBy log state seat None = (state.server ≡ None) × (seat.known ≡ true → HasNumbers state seat)
-IsSeatBy log state seat (Some s) = (state.server ≡ Some (server_of log s.raft)) × HasNumbers state seat
+IsSeatBy log state seat None = (state.server ≡ None) × (seat.known ≡ true → KnowsLog state seat)
+IsSeatBy log state seat (Some s) =
+    (state.server ≡ Some (server_of log s.raft)) × KnowsLog state seat × (seat.noticed ≡ s.raft.noticed)
 
 abbrev pub IsSeat : {Q L : Type 0} → (L → LogState) → SeatState → Option (Seat Q L) → Type 0
 IsSeat log state None = state.server ≡ None
@@ -41,7 +44,7 @@ IsSeat log state (Some seat) = IsSeatBy log state seat seat.server
 
 -- ---- groups
 
--- A group stands for a state of the definition. What the logs were handed it knows by its length alone.
+-- A group stands for a state of the definition. Of what the logs were handed first it may know only what that comes to.
 pub record Represents {Q L : Type 0} (log : L → LogState) (g : GroupState) (group : Group Q L) : Type 0 where
   pub queue : g.queue ≡ group.queue
   pub nodes : g.nodes ≡ group.nodes.items

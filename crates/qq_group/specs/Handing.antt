@@ -1,25 +1,41 @@
 -- How ops leave a group for the members' logs.
-use Rattle.std.specs.Prelude.{◌≡◌, ◌+◌, ◌-◌, ◌^◌, ◌&&◌, ℕ, Bool, true, false, Option, Some, None, is_none, is_some, min, if◌then◌else◌, slice_get}
+use Rattle.std.specs.Prelude.{◌≡◌, ◌+◌, ◌-◌, ◌^◌, ◌&&◌, ◌++◌, ◌∷◌, [], ℕ, Bool, true, false, Option, Some, None, is_none, is_some, min, if◌then◌else◌, slice_get}
 use Rattle.qq_log.specs.Log.{LogState}
 use Rattle.qq_log.specs.declared.op.Op.{Op}
 use Rattle.qq_raft.specs.Raft.{server_of}
 use Rattle.qq_server.specs.declared.server.Server.{Server}
 use Rattle.qq_group_model.specs.Group.{Group as GroupState, happens}
 use Rattle.qq_group_model.specs.Group.Event.{Take}
+use Rattle.qq_history.specs.History.{last_op, ops_of}
 use Rattle.qq_group.specs.Step.{ChangesSeat}
 use Rattle.qq_group.specs.declared.group.Group.{Group}
+use Rattle.qq_history.specs.declared.history.History.{History}
 use Rattle.qq_group.specs.declared.seat.Seat.{Seat}
 
-abbrev pub reseated : {Q L : Type 0} → ℕ → Server Q L → Seat Q L → Seat Q L
-reseated count server seat =
-    record seat { server = Some server; handed = min (seat.handed + count) (2 ^ 64 - 1) }
+abbrev pub reseated : {Q L : Type 0} → Server Q L → Seat Q L → Seat Q L
+reseated server seat = record seat { server = Some server }
 
--- a server that has handed out so many ops is put back into its seat
-pub record IsReseated {Q L : Type 0} (k count : ℕ) (server : Server Q L) (old new : Group Q L) : Type 0 where
+-- a server is put back into its seat
+pub record IsReseated {Q L : Type 0} (k : ℕ) (server : Server Q L) (old new : Group Q L) : Type 0 where
   pub seat : Seat Q L
-  pub changes : ChangesSeat k seat (reseated count server seat) old new
+  pub changes : ChangesSeat k seat (reseated server seat) old new
   pub bag : new.bag ≡ old.bag
   pub audit : new.audit ≡ old.audit
+
+abbrev pub handed_seat : {Q L : Type 0} → Server Q L → History → Seat Q L → Seat Q L
+handed_seat server history seat =
+    record seat { server = Some server; handed = min (seat.handed + 1) (2 ^ 64 - 1); history = history }
+
+-- a server that has handed out an op is put back into its seat, which keeps a copy of the op
+pub record IsHandedOver {Q L : Type 0} (k : ℕ) (server : Server Q L) (op : Op) (old new : Group Q L) : Type 0
+  where
+    pub seat : Seat Q L
+    pub history : History
+    pub start : history.start ≡ seat.history.start
+    pub more : ops_of history ≡ ops_of seat.history ++ op ∷ []
+    pub changes : ChangesSeat k seat (handed_seat server history seat) old new
+    pub bag : new.bag ≡ old.bag
+    pub audit : new.audit ≡ old.audit
 
 -- ---- ops that are given back
 
@@ -50,6 +66,11 @@ abbrev pub given_back : {Q L : Type 0} → Bool → Op → Option (Seat Q L) →
 given_back true op seat = with_returned (Some op) seat
 given_back false op seat = seat
 
+-- the op that a log was handed last, since its member started
+abbrev pub IsLastOf : {Q L : Type 0} → Op → Option (Seat Q L) → Type 0
+IsLastOf op None = ⊥
+IsLastOf op (Some seat) = last_op seat.history ≡ Some op
+
 -- all but one seat, and all but the seats, is as it was
 pub record ChangesOnly {Q L : Type 0} (k : ℕ) (old new : Group Q L) : Type 0 where
   pub others : (q : ℕ) → (q ≡ k → ⊥) → slice_get new.seats.items q ≡ slice_get old.seats.items q
@@ -57,6 +78,11 @@ pub record ChangesOnly {Q L : Type 0} (k : ℕ) (old new : Group Q L) : Type 0 w
   pub nodes : new.nodes ≡ old.nodes
   pub bag : new.bag ≡ old.bag
   pub audit : new.audit ≡ old.audit
+
+-- nothing that can be told has changed
+pub record StaysAt {Q L : Type 0} (k : ℕ) (old new : Group Q L) : Type 0 where
+  pub seat : slice_get new.seats.items k ≡ slice_get old.seats.items k
+  pub only : ChangesOnly k old new
 
 -- what the members were given back stays
 abbrev pub KeepsReturned : {Q L : Type 0} → Group Q L → Group Q L → Type 0

@@ -80,6 +80,11 @@ latest log group nodes =
 abbrev pub leader_of : {Q L : Type 0} → (L → LogState) → Group Q L → Option NodeId
 leader_of log group = node_of (latest log group group.nodes.items)
 
+-- the queue of a node
+abbrev pub machine_of : {Q L : Type 0} → Option NodeId → Group Q L → Option Q
+machine_of None group = None
+machine_of (Some node) group = machine_at (server_at node.0 group)
+
 -- ---- entries
 
 -- those from one index to another, None where the log lacks one of them

@@ -1,18 +1,22 @@
 -- New groups, and members that restart.
-use Rattle.std.specs.Prelude.{◌≡◌, ◌+◌, ◌≤◌, ℕ, Bool, true, false, ◌&&◌, ◌||◌, nat_lt, List, [], length, take, All, Option, Some, None}
+use Rattle.std.specs.Prelude.{◌≡◌, ◌+◌, ◌≤◌, ⊤, ℕ, Bool, true, false, List, [], length, take, All, Option, Some, None, slice_get}
 use Rattle.qq_base.specs.declared.ids.NodeId.{NodeId}
 use Rattle.qq_base.specs.declared.ids.QueueId.{QueueId}
 use Rattle.qq_base.specs.declared.memory.Memory.TheVariants.{Want}
 use Rattle.qq_entry.specs.declared.command.Entry.{Entry}
 use Rattle.qq_log.specs.Log.{LogState}
-use Rattle.qq_log.specs.Stable.{Stable, known_entries, stable}
+use Rattle.qq_log.specs.Stable.{new_state, stable}
 use Rattle.qq_log.specs.declared.limits.TheConstants.{NODE_LIMIT}
+use Rattle.qq_raft_step.specs.Handing.{plain_state}
 use Rattle.qq_server.specs.declared.server.Server.{Server}
 use Rattle.qq_group_model.specs.Group.{Group as GroupState, happens}
 use Rattle.qq_group_model.specs.Group.Event.{Restart}
 use Rattle.qq_group.specs.Group.{Represents}
+use Rattle.qq_history.specs.History.{ops_of, stable_of, state_at}
 use Rattle.qq_group.specs.Step.{ChangesSeat}
 use Rattle.qq_group.specs.declared.group.Group.{Group}
+use Rattle.qq_history.specs.declared.state.DiskState.{DiskState}
+use Rattle.qq_history.specs.declared.history.History.{History}
 use Rattle.qq_group.specs.declared.restart.RestartFault.{RestartFault}
 use Rattle.qq_group.specs.declared.restart.RestartFault.TheVariants.{Lost, Memory}
 use Rattle.qq_group.specs.declared.seat.Seat.{Seat}
@@ -24,6 +28,8 @@ pub record IsEmpty {Q L : Type 0} (known : Bool) (seat : Seat Q L) : Type 0 wher
   pub known_is : seat.known ≡ known
   pub noticed : seat.noticed ≡ 0
   pub handed : seat.handed ≡ 0
+  pub start : stable_of seat.history.start ≡ new_state
+  pub ops : ops_of seat.history ≡ []
   pub returned : seat.returned ≡ None
 
 pub record AreEmpty {Q L : Type 0} (known : Bool) (seats : List (Seat Q L)) : Type 0 where
@@ -52,38 +58,72 @@ pub record IsAllDown (queue : QueueId) (nodes : List NodeId) (audit : List Entry
 pub record IsFound (g : GroupState) (k : ℕ) (l : LogState) : Type 0 where
   pub noticed : (g.seat k).noticed ≤ l.op
   pub handed : l.op ≤ length (g.seat k).ops
-  pub state : Stable
-  pub is : stable (take l.op (g.seat k).ops) ≡ Some state
-  pub op : state.op ≡ l.op
-  pub term : state.term ≡ l.term
-  pub vote : state.vote ≡ l.vote
-  pub entries : known_entries state.log ≡ l.entries
+  pub is : stable (take l.op (g.seat k).ops) ≡ Some (plain_state l.op l.term l.vote l.entries)
 
--- whichever state the group stood for, it stands for what a restart with this log makes of it
+-- whether it is known what a member's log was handed
+abbrev pub is_known : {Q L : Type 0} → Option (Seat Q L) → Bool
+is_known None = false
+is_known (Some seat) = seat.known
+
+-- Whichever state the group stood for, it stands for what a restart with this log makes of it. Where it isn't known
+-- what the log was handed, the log is taken to be what that comes to.
 abbrev pub Restarts : {Q L : Type 0} → (L → LogState) → ℕ → LogState → Group Q L → Group Q L → Type 0
 Restarts log k l old new =
-    (g : GroupState) → Represents log g old → IsFound g k l → Represents log (happens (Restart k l.op) g) new
+    (g : GroupState) → Represents log g old → (is_known (slice_get old.seats.items k) ≡ false → IsFound g k l)
+    → Represents log (happens (Restart k l.op) g) new
 
--- a log that has lost an op that was noticed, or has one that it wasn't handed
-abbrev pub is_lost : {Q L : Type 0} → Option (Seat Q L) → ℕ → Bool
-is_lost None found = false
-is_lost (Some seat) found = seat.known && (nat_lt found seat.noticed || nat_lt seat.handed found)
+-- what a server that restarts with a log works on
+abbrev pub disk_of : LogState → DiskState
+disk_of l = record { op = l.op; term = l.term; vote = l.vote; entries = l.entries }
+
+-- what was found is what the ops of a member's log come to, as far as these are known
+abbrev pub IsIntact : {Q L : Type 0} → Seat Q L → DiskState → Type 0
+IsIntact seat d =
+    (seat.noticed ≤ d.op) × (d.op ≤ seat.handed) × (state_at d.op seat.history ≡ Some (stable_of d))
+
+abbrev pub IsIntactAt : {Q L : Type 0} → Option (Seat Q L) → DiskState → Type 0
+IsIntactAt None d = ⊤
+IsIntactAt (Some seat) d = seat.known ≡ true → IsIntact seat d
+
+-- whichever state the group stands for, where it is known what the log was handed, this is what that comes to
+abbrev pub Finds : {Q L : Type 0} → (L → LogState) → ℕ → LogState → Group Q L → Type 0
+Finds log k l group =
+    (g : GroupState) → Represents log g group → is_known (slice_get group.seats.items k) ≡ true → IsFound g k l
+
+-- it is known what the log was handed, and this isn't what that comes to
+pub record IsLost {Q L : Type 0} (log : L → LogState) (k : ℕ) (l : LogState) (group : Group Q L) : Type 0 where
+  pub known : is_known (slice_get group.seats.items k) ≡ true
+  pub other : (g : GroupState) → Represents log g group → IsFound g k l → ⊥
 
 abbrev pub noticed_at : {Q L : Type 0} → Option (Seat Q L) → ℕ
 noticed_at None = 0
 noticed_at (Some seat) = seat.noticed
 
-abbrev pub IsRestartCaused : {Q L : Type 0} → Option (Seat Q L) → ℕ → RestartFault → Type 0
-IsRestartCaused seat op (Lost noticed found) =
-    (is_lost seat op ≡ true) × (noticed ≡ noticed_at seat) × (found ≡ op)
-IsRestartCaused seat op (Memory e) = (is_lost seat op ≡ false) × (e ≡ Want)
+abbrev pub IsRestartCaused :
+    {Q L : Type 0} → (L → LogState) → ℕ → LogState → Group Q L → RestartFault → Type 0
+IsRestartCaused log k l old (Lost noticed found) =
+    IsLost log k l old × (noticed ≡ noticed_at (slice_get old.seats.items k)) × (found ≡ l.op)
+IsRestartCaused log k l old (Memory e) = e ≡ Want
 
--- a server is put into its seat, which knows its log's numbers
-pub record IsStarted {Q L : Type 0} (k op : ℕ) (server : Server Q L) (old new : Group Q L) : Type 0 where
+-- the seat of a member that has started
+abbrev pub started_seat : {Q L : Type 0} → DiskState → History → Server Q L → Seat Q L
+started_seat d history server =
+    record {
+      server = Some server;
+      known = true;
+      noticed = d.op;
+      handed = d.op;
+      history = history;
+      returned = None;
+    }
+
+-- a server is put into its seat, whose history begins with what its log holds
+pub record IsStarted {Q L : Type 0} (k : ℕ) (d : DiskState) (server : Server Q L) (old new : Group Q L) : Type 0 where
   pub was : Seat Q L
-  pub changes :
-      ChangesSeat k was (record { server = Some server; known = true; noticed = op; handed = op; returned = None }) old
-      new
+  pub history : History
+  pub start : history.start ≡ d
+  pub none : ops_of history ≡ []
+  pub changes : ChangesSeat k was (started_seat d history server) old new
   pub bag : new.bag ≡ old.bag
   pub audit : new.audit ≡ old.audit
 

@@ -14,7 +14,7 @@ use qq_server::Server;
 use std::alloc::Global;
 
 /// Copies of a log's entries behind one index, up to another.
-fn copy_behind<L: LogView>(
+pub(crate) fn copy_behind<L: LogView>(
     alloc: Global,
     log: &L,
     first: u64,

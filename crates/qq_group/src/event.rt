@@ -68,6 +68,7 @@ impl<Q: Queue, L: LogView> Group<Q, L> {
         requires event { MayHappen event }
 
         ensures sound { IsSound Q.stands L.log Q.applied self.new }
+        ensures nodes { self.new.nodes ≡ self.old.nodes }
         ensures ok { OnOk result (Follows L.log (made_by event self.old) self.old self.new) }
         ensures err { OnErr result (Makes L.log (refused_by event) self.old self.new) }
         ensures outcome { IfOk result (λ shown. shown.outcome ≡ outcome_by L.log event self.old) }

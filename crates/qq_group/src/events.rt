@@ -25,6 +25,7 @@ impl<Q: Queue, L: LogView> Group<Q, L> {
         requires { IsSound Q.stands L.log Q.applied self.old }
 
         ensures sound { IsSound Q.stands L.log Q.applied self.new }
+        ensures nodes { self.new.nodes ≡ self.old.nodes }
         ensures ok { OnOk result (Follows L.log (happens (GroupEvent.Tick node.0))
             self.old self.new) }
         ensures err { OnErr result (Makes L.log (happens (GroupEvent.Crash node.0))
@@ -55,6 +56,7 @@ impl<Q: Queue, L: LogView> Group<Q, L> {
         requires command { IsCommand command × HasContent command }
 
         ensures sound { IsSound Q.stands L.log Q.applied self.new }
+        ensures nodes { self.new.nodes ≡ self.old.nodes }
         ensures ok { OnOk result (Follows L.log (happens (GroupEvent.Submit node.0 time command))
             self.old self.new) }
         ensures err { OnErr result (Makes L.log (happens (GroupEvent.Crash node.0))

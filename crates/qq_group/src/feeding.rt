@@ -28,6 +28,7 @@ impl<Q: Queue, L: LogView> Group<Q, L> {
         requires input { MayReach L.log input (server_at node.0 self.old) }
 
         ensures sound { IsSound Q.stands L.log Q.applied self.new }
+        ensures nodes { self.new.nodes ≡ self.old.nodes }
         ensures ok { OnOk result (Feeds L.log node.0 (input_of input) self.old self.new) }
         ensures err { OnErr result (Makes L.log (happens (Crash node.0)) self.old self.new) }
         ensures outcome { IfOk result (λ shown.

@@ -1,7 +1,8 @@
 //! Which member leads.
 ghost use Rattle.std.specs.Prelude.{◌≡◌};
+ghost use Rattle.std.specs.Option.{option_copied};
 ghost use Rattle.qq_group.specs.Group.{IsSound, server_at};
-ghost use Rattle.qq_group.specs.Reads.{later, leader_of, leading_at};
+ghost use Rattle.qq_group.specs.Reads.{later, leader_of, leading_at, machine_of};
 
 use crate::group::Group;
 use qq_base::{NodeId, Term};
@@ -66,6 +67,19 @@ impl<Q: Queue, L: LogView> Group<Q, L> {
         match best {
             None => None,
             Some(leading) => Some(leading.node),
+        }
+    }
+
+    /// The queue of the member that leads and may take commands, whose counts are the group's. None where
+    /// there is no such member.
+    pub fn leading_machine(&self) -> Option<&Q>
+        requires { IsSound Q.stands L.log Q.applied self.now }
+
+        ensures { option_copied result ≡ machine_of (leader_of L.log self.now) self.now }
+    {
+        match self.leader() {
+            None => None,
+            Some(node) => self.machine(node),
         }
     }
 }

@@ -45,6 +45,7 @@ impl<Q: Queue, L: LogView> Group<Q, L> {
         requires { IsSound Q.stands L.log Q.applied self.old }
 
         ensures sound { IsSound Q.stands L.log Q.applied self.new }
+        ensures nodes { self.new.nodes ≡ self.old.nodes }
         ensures ok { OnOk result (Follows L.log (notices node.0 op (lacks_op node.0 op self.old))
             self.old self.new) }
         ensures err { OnErr result (Makes L.log (happens (GroupEvent.Crash node.0))
@@ -74,6 +75,7 @@ impl<Q: Queue, L: LogView> Group<Q, L> {
         requires { IsSound Q.stands L.log Q.applied self.old }
 
         ensures sound { IsSound Q.stands L.log Q.applied self.new }
+        ensures nodes { self.new.nodes ≡ self.old.nodes }
         ensures made { Makes L.log (happens (GroupEvent.Crash node.0)) self.old self.new }
         ensures outcome { result ≡ crash_outcome (server_at node.0 self.old) }
         ensures down { server_at node.0 self.new ≡ None }

@@ -90,6 +90,7 @@ impl<Q: Queue, L: LogView> Group<Q, L> {
         requires rpc { IsWritable rpc }
 
         ensures sound { IsSound Q.stands L.log Q.applied self.new }
+        ensures nodes { self.new.nodes ≡ self.old.nodes }
         ensures ok { OnOk result (OneOf
             (takes_at L.log rpc (server_at (envelope rpc).to.0 self.old))
             (Feeds L.log (envelope rpc).to.0 (GroupInput.Receive rpc) self.old self.new)
@@ -122,6 +123,7 @@ impl<Q: Queue, L: LogView> Group<Q, L> {
         requires { IsSound Q.stands L.log Q.applied self.old }
 
         ensures sound { IsSound Q.stands L.log Q.applied self.new }
+        ensures nodes { self.new.nodes ≡ self.old.nodes }
         ensures ok { OnOk result (Follows L.log (delivers place) self.old self.new) }
         ensures err { OnErr result (Makes L.log (refuses place) self.old self.new) }
         ensures outcome { IfOk result (λ shown.

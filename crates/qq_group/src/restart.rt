@@ -1,17 +1,21 @@
 //! New groups, and members that restart.
-ghost use Rattle.std.specs.Prelude.{◌≡◌, ◌<◌, ◌^◌, All, None, length, true, IfOk, false, IfErr, IfSome, IfNone, OnOk, OnErr, IsOkUnless, slice_get};
+ghost use Rattle.std.specs.Prelude.{◌≡◌, ◌<◌, ◌^◌, All, None, length, true, IfOk, IfErr, OnOk, OnErr, IsOkUnless, slice_get};
+ghost use Rattle.std.specs.Bool.{Decides};
 ghost use Rattle.qq_log.specs.Stable.{no_snapshot};
 ghost use Rattle.qq_raft.specs.Raft.{IsWithinEnds};
 ghost use Rattle.qq_raft_msg.specs.Rpc.{IsNode};
 ghost use Rattle.qq_group_model.specs.Group.{has_node, new_group, Group as GroupState};
 ghost use Rattle.qq_group.specs.Follows.{OthersStay};
 ghost use Rattle.qq_group.specs.Group.{HasState, IsServing, IsSound, Represents, server_at};
-ghost use Rattle.qq_group.specs.Restarts.{AreEmpty, HasStarted, IsAllDown, IsStarted, is_lost, noticed_at, IsOpened, IsRestartCaused, Restarts};
+ghost use Rattle.qq_group.specs.Restarts.{AreEmpty, disk_of, Finds, HasStarted, IsAllDown, IsIntactAt, IsStarted, noticed_at, IsOpened, IsRestartCaused, Restarts};
+ghost use Rattle.qq_group.specs.declared.restart.RestartFault.TheVariants.{Lost};
 
 use crate::group::Group;
+use crate::entries::copy_behind;
 use crate::seat::Seat;
 use qq_base::{Memory, NodeId, QueueId};
 use qq_entry::{Entries, Entry};
+use qq_history::{DiskState, History};
 use qq_log::NODE_LIMIT;
 use qq_raft_msg::{Bag, LogView, Queue};
 use qq_server::Server;
@@ -21,7 +25,7 @@ use thiserror::Error;
 /// Why a member didn't restart.
 #[derive(Clone, Copy, Debug, PartialEq, Eq, Error)]
 pub enum RestartFault {
-    /// Its log lost an op that it was noticed of, or has one that it wasn't handed.
+    /// Its log isn't what the ops that it was handed come to, up to one that isn't older than what was noticed.
     #[error("noticed {noticed} found {found}")]
     Lost {
         /// The greatest op that it was noticed of.
@@ -44,6 +48,23 @@ impl From<Memory> for RestartFault {
     }
 }
 
+/// What a log holds that a server restarts with.
+fn state_of<L: LogView>(alloc: Global, log: &L) -> Result<DiskState, Memory>
+    requires { (L.log log.now).base ≡ no_snapshot }
+
+    ensures ok { IfOk result (λ state. state ≡ disk_of (L.log log.now)) }
+    ensures want { IsOkUnless result Memory.Want }
+{
+    let (op, term, vote) = log.start();
+    let entries = Entries::from_vec(copy_behind(alloc, log, 0, log.last().0)?);
+    Ok(DiskState {
+        op,
+        term,
+        vote,
+        entries,
+    })
+}
+
 /// A seat for each number of a node, all of them empty.
 fn empty_seats<Q: Queue, L: LogView>(alloc: Global, known: bool) -> Result<Vec<Seat<Q, L>>, Memory>
     ensures empty { IfOk result (λ seats. AreEmpty known seats.items) }
@@ -56,6 +77,7 @@ fn empty_seats<Q: Queue, L: LogView>(alloc: Global, known: bool) -> Result<Vec<S
             known,
             noticed: 0,
             handed: 0,
+            history: History::from_state(alloc, DiskState::new(alloc)),
             returned: None,
         })?;
     }
@@ -121,15 +143,18 @@ impl<Q: Queue, L: LogView> Group<Q, L> {
         Group::open(alloc, queue, nodes, audit.into_vec(), false)
     }
 
-    /// Puts a server that starts into its seat.
-    fn start(&mut self, node: NodeId, op: u64, server: Server<Q, L>)
+    /// Puts a server that starts with what its log holds into its seat.
+    fn start(&mut self, alloc: Global, node: NodeId, found: DiskState, server: Server<Q, L>)
         requires sound { IsSound Q.stands L.log Q.applied self.old }
         requires server { IsServing Q.stands L.log Q.applied server }
         requires there { node.0 < length self.old.seats.items }
 
         ensures sound { IsSound Q.stands L.log Q.applied self.new }
-        ensures started { IsStarted node.0 op server self.old self.new }
+        ensures nodes { self.new.nodes ≡ self.old.nodes }
+        ensures started { IsStarted node.0 found server self.old self.new }
     {
+        let op = found.op;
+        let history = History::from_state(alloc, found);
         let Some(seat) = self.seats.get_mut(node.0 as usize) else {
             unreachable!()
         };
@@ -137,12 +162,14 @@ impl<Q: Queue, L: LogView> Group<Q, L> {
         seat.known = true;
         seat.noticed = op;
         seat.handed = op;
+        seat.history = history;
         seat.returned = None;
     }
 
     /// A member that is down restarts with a machine that has applied nothing and the log that its disk
-    /// holds. `Lost` comes exactly where the log lost an op that was noticed, or has one that it wasn't
-    /// handed, as far as that is known. After an error the member stays down, and nothing has changed.
+    /// holds. `Lost` comes exactly where it is known what the log was handed, and the log isn't what these ops
+    /// come to, up to one that isn't older than what was noticed. After an error the member stays down, and
+    /// nothing has changed.
     pub fn restart(
         &mut self,
         alloc: Global,
@@ -160,18 +187,22 @@ impl<Q: Queue, L: LogView> Group<Q, L> {
         requires state { HasState Q.stands machine }
 
         ensures sound { IsSound Q.stands L.log Q.applied self.new }
+        ensures nodes { self.new.nodes ≡ self.old.nodes }
         ensures ok { OnOk result (Restarts L.log node.0 (L.log log) self.old self.new) }
         ensures started { OnOk result (HasStarted Q.stands machine (server_at node.0 self.new)) }
         ensures others { OthersStay node.0 self.old self.new }
-        ensures found { OnOk result
-            (is_lost (slice_get self.old.seats.items node.0) (L.log log).op ≡ false) }
+        ensures found { OnOk result (Finds L.log node.0 (L.log log) self.old) }
         ensures err { OnErr result (self.new ≡ self.old) }
-        ensures cause { IfErr result (IsRestartCaused (slice_get self.old.seats.items node.0)
-            (L.log log).op) }
+        ensures cause { IfErr result (IsRestartCaused L.log node.0 (L.log log) self.old) }
     {
-        let (op, _, _) = log.start();
-        if let Some(noticed) = self.lost(node, op) {
-            return Err(RestartFault::Lost { noticed, found: op });
+        let found = match state_of(alloc, &log) {
+            Ok(found) => found,
+            Err(cause) => return Err(RestartFault::Memory(cause)),
+        };
+        match self.is_intact(alloc, node, &found) {
+            Err(cause) => return Err(RestartFault::Memory(cause)),
+            Ok(false) => return Err(self.lost(node, &found)),
+            Ok(true) => {}
         }
         let server = match Server::new(
             alloc,
@@ -184,26 +215,38 @@ impl<Q: Queue, L: LogView> Group<Q, L> {
             Ok(server) => server,
             Err(cause) => return Err(RestartFault::Memory(cause)),
         };
-        self.start(node, op, server);
+        self.start(alloc, node, found, server);
         Ok(())
     }
 
-    /// The op that a member was noticed of, where a log with this last op lost it, or has one that the
-    /// member's log wasn't handed. None exactly where neither is so.
-    fn lost(&self, node: NodeId, op: u64) -> Option<u64>
-        ensures some { IfSome result (λ noticed.
-            (is_lost (slice_get self.now.seats.items node.0) op ≡ true)
-            × (noticed ≡ noticed_at (slice_get self.now.seats.items node.0))) }
-        ensures none { IfNone result (is_lost (slice_get self.now.seats.items node.0) op ≡ false) }
+    /// Whether a log was found to hold what a member's ops come to, as far as these are known.
+    fn is_intact(&self, alloc: Global, node: NodeId, found: &DiskState) -> Result<bool, Memory>
+        ensures ok { IfOk result (λ intact.
+            Decides intact (IsIntactAt (slice_get self.now.seats.items node.0) found.now)) }
+        ensures want { IsOkUnless result Memory.Want }
+    {
+        let Some(seat) = self.seat(node) else {
+            return Ok(true);
+        };
+        if !seat.known {
+            return Ok(true);
+        }
+        seat.is_intact(alloc, found)
+    }
+
+    /// What is told of a log that lost something.
+    fn lost(&self, node: NodeId, found: &DiskState) -> RestartFault
+        ensures { result ≡ Lost (noticed_at (slice_get self.now.seats.items node.0)) found.now.op }
     {
         match self.seat(node) {
-            None => None,
-            Some(seat) => {
-                if seat.is_lost(op) {
-                    return Some(seat.noticed);
-                }
-                None
-            }
+            None => RestartFault::Lost {
+                noticed: 0,
+                found: found.op,
+            },
+            Some(seat) => RestartFault::Lost {
+                noticed: seat.noticed,
+                found: found.op,
+            },
         }
     }
 }

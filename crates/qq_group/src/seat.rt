@@ -1,23 +1,30 @@
-ghost use Rattle.std.specs.Prelude.{◌≡◌, ◌&&◌, ◌||◌, is_none, is_some, nat_lt, if◌then◌else◌};
+ghost use Rattle.std.specs.Prelude.{◌≡◌, ◌&&◌, is_none, is_some, nat_lt, if◌then◌else◌, IfOk, IsOkUnless};
+ghost use Rattle.std.specs.Bool.{Decides};
 ghost use Rattle.qq_group.specs.Handing.{held};
 ghost use Rattle.qq_group.specs.Reads.{has_settled};
+ghost use Rattle.qq_group.specs.Restarts.{IsIntact};
 
+use qq_base::Memory;
+use qq_history::{DiskState, History};
 use qq_log::Op;
 use qq_raft_msg::{LogView, Queue};
 use qq_server::Server;
+use std::alloc::Global;
 
 /// A member of a group.
 #[derive(Drop)]
 pub(crate) struct Seat<Q: Drop, L: LogView> {
     /// Its server, none while it is down.
     pub(crate) server: Option<Server<Q, L>>,
-    /// Whether the next two numbers are known: a group that goes on over old disks doesn't know them until
-    /// the member's first restart.
+    /// Whether the following are known: a group that goes on over old disks doesn't know them until the
+    /// member's first restart.
     pub(crate) known: bool,
     /// The op up to which the server was told that its log is durable.
     pub(crate) noticed: u64,
     /// How many ops the log was handed, from the first on.
     pub(crate) handed: u64,
+    /// What it was handed.
+    pub(crate) history: History,
     /// The last of these, where it was given back.
     pub(crate) returned: Option<Op>,
 }
@@ -54,12 +61,19 @@ impl<Q: Drop, L: LogView> Seat<Q, L> {
         self.server.is_some() && self.returned.is_none()
     }
 
-    /// Whether a log with this last op lost an op that was noticed, or has one that it wasn't handed.
-    pub(crate) fn is_lost(&self, found: u64) -> bool
-        ensures { result ≡ self.now.known
-            && (nat_lt found self.now.noticed || nat_lt self.now.handed found) }
+    /// Whether what a log was found to hold is what its ops come to, up to one that isn't older than what
+    /// was noticed.
+    pub(crate) fn is_intact(&self, alloc: Global, found: &DiskState) -> Result<bool, Memory>
+        ensures ok { IfOk result (λ intact. Decides intact (IsIntact self.now found.now)) }
+        ensures want { IsOkUnless result Memory.Want }
     {
-        self.known && (found < self.noticed || self.handed < found)
+        if found.op < self.noticed || self.handed < found.op {
+            return Ok(false);
+        }
+        match self.history.state_at(alloc, found.op)? {
+            None => Ok(false),
+            Some(state) => Ok(state.is_same(found)),
+        }
     }
 
     /// How many ops its log was handed, 0 while it is down.

@@ -19,7 +19,7 @@ impl<Q: Queue, L: LogView> Group<Q, L> {
     pub(crate) fn server(&self, node: NodeId) -> Option<&Server<Q, L>>
         ensures { option_copied result ≡ server_at node.0 self.now }
     {
-        match self.seats.get(node.0 as usize) {
+        match self.seat(node) {
             None => None,
             Some(seat) => seat.server.as_ref(),
         }
@@ -36,6 +36,7 @@ impl<Q: Queue, L: LogView> Group<Q, L> {
         requires { IsSound Q.stands L.log Q.applied self.old }
 
         ensures sound { IsSound Q.stands L.log Q.applied self.new }
+        ensures nodes { self.new.nodes ≡ self.old.nodes }
         ensures serving { IfSome result (IsServing Q.stands L.log Q.applied) }
         ensures taken { IfSome result (λ server. IsTaken node.0 server self.old self.new) }
         ensures none { IfNone result ((self.new ≡ self.old) × (server_at node.0 self.old ≡ None)) }
@@ -78,6 +79,7 @@ impl<Q: Queue, L: LogView> Group<Q, L> {
         requires there { node.0 < length self.old.seats.items }
 
         ensures sound { IsSound Q.stands L.log Q.applied self.new }
+        ensures nodes { self.new.nodes ≡ self.old.nodes }
         ensures put { IsPut L.log node.0 server self.old self.new }
     {
         let noticed = server.noticed();
@@ -101,6 +103,7 @@ impl<Q: Queue, L: LogView> Group<Q, L> {
         requires there { node.0 < length self.old.seats.items }
 
         ensures sound { IsSound Q.stands L.log Q.applied self.new }
+        ensures nodes { self.new.nodes ≡ self.old.nodes }
         ensures rows { IfOk result (λ rows. rows.items ≡ server.rows.items) }
         ensures ok { OnOk result (IsSettled L.log node.0 server self.old self.new) }
         ensures err { OnErr result (IsUndone self.old self.new) }

@@ -13,8 +13,11 @@ pub returns-clause-made : goal.returns-clause-made
 returns-clause-made g c =
     refilled g.L.LogView.log c.args.node.0 (Some c.args.op) c.args.self.now c.refill.new.self c.refill.ensures.refills
 
-pub returns-clause-seat : goal.returns-clause-seat
-returns-clause-seat g c =
+pub returns-clause-last : goal.returns-clause-last
+returns-clause-last g c = λ last.
     let seat = slice_get c.args.self.now.seats.items c.args.node.0 in
     c.refill.ensures.refills.seat
     ∙ given (takes_back seat) c.args.op seat (sym c.if-not-takes_back.ensures)
+
+pub returns-clause-other : goal.returns-clause-other
+returns-clause-other g c = λ other. absurd (other (c.if-not-was_last.ensures.0 refl))

@@ -1,5 +1,5 @@
-use Rattle.std.proofs.Common.{◌≡◌, ℕ, length, Some, refl, ap, ◌∙◌}
-use Rattle.std.specs.Prelude.{slice_get, slice_set}
+use Rattle.std.proofs.Common.{◌≡◌, length, Some, refl, ◌∙◌}
+use Rattle.std.specs.Prelude.{slice_get}
 use Rattle.std.proofs.lemmas.List.{length-set}
 use Rattle.std.proofs.lemmas.Option.{slice_get_read}
 use Rattle.qq_group.specs.declared.seat.Seat.{Seat}
@@ -12,8 +12,7 @@ returns-clause-put g c = record {
   changes = record {
     there = slice_get_read c.args.self.now.seats.items (length c.args.self.now.seats.items) c.args.node.0
         c.in-Some.seat.now refl c.requires.there c.in-Some.ensures.value;
-    seats = ap (λ (n : ℕ). slice_set c.args.self.now.seats.items c.args.node.0
-        (record c.in-Some.seat.now { server = Some c.args.server; handed = n })) c.saturating_add-seat.ensures;
+    seats = refl;
     queue = refl;
     nodes = refl;
   };
@@ -26,7 +25,7 @@ returns-clause-sound g c =
     let seats = c.args.self.now.seats.items in
     let k = c.args.node.0 in
     let seat : Seat g.row.Q.Denot g.row.L.Denot =
-    record c.in-Some.seat.now { server = Some c.args.server; handed = c.saturating_add-seat.result } in
+    record c.in-Some.seat.now { server = Some c.args.server } in
     let there : slice_get seats k ≡ Some c.in-Some.seat.now =
     slice_get_read seats (length seats) k c.in-Some.seat.now refl c.requires.there c.in-Some.ensures.value in
     record {

@@ -1,7 +1,9 @@
-use Rattle.std.proofs.Common.{◌≡◌, None, ap, refl, sym, ◌∙◌}
-use Rattle.std.specs.Prelude.{slice_get}
+use Rattle.std.proofs.Common.{◌≡◌, None, Option, ap, refl, sym, ◌∙◌}
+use Rattle.std.specs.Prelude.{IfSome, slice_get}
+use Rattle.std.proofs.lemmas.Result.{IfOk-weaker, on_ok_weaker}
+use Rattle.qq_log.specs.declared.op.Op.{Op}
 use Rattle.qq_group.specs.Group.{server_by}
-use Rattle.qq_group.specs.Handing.{has_returned, next_by, returned_at}
+use Rattle.qq_group.specs.Handing.{has_returned, next_at, next_by, returned_at}
 use Rattle.qq_group.proofs.Returning.{any-some, left-after, left-none, none-returned, there-of}
 use Rattle.qq_group.proofs.Taking.{again-handed, first-handed, returned-next, server-next}
 use Rattle.qq_group.proofs.group.Group.waiting.Goals as goal
@@ -21,16 +23,6 @@ returns-then-has_returned-clause-made g c =
     again-handed g.L.LogView.log c.args.node.0 (has_returned (slice_get c.args.self.now.seats.items c.args.node.0)) None
     c.args.self.now c.refill.new.self (sym c.if-has_returned.ensures) c.refill.ensures.refills
 
-pub returns-clause-value : goal.returns-clause-value
-returns-clause-value g c =
-    c.next_change.ensures.value
-    ∙ server-next g.L.LogView.log (slice_get c.args.self.now.seats.items c.args.node.0) (sym c.if-has_returned.ensures)
-
-pub returns-clause-made : goal.returns-clause-made
-returns-clause-made g c =
-    first-handed g.L.LogView.log c.args.node.0 (has_returned (slice_get c.args.self.now.seats.items c.args.node.0))
-    c.args.self.now c.next_change.new.self (sym c.if-has_returned.ensures) c.next_change.ensures.made
-
 pub returns-then-has_returned-clause-left : goal.returns-then-has_returned-clause-left
 returns-then-has_returned-clause-left g c =
     let seat = slice_get c.args.self.now.seats.items c.args.node.0 in
@@ -39,9 +31,27 @@ returns-then-has_returned-clause-left g c =
     left-after c.refill.result c.refill.result None
     (returned_at (slice_get c.refill.new.self.seats.items c.args.node.0)) refl none (any-some c.refill.result)
 
+pub returns-clause-value : goal.returns-clause-value
+returns-clause-value g c =
+    let log = g.L.LogView.log in
+    let seat = slice_get c.args.self.now.seats.items c.args.node.0 in
+    IfOk-weaker c.next_change.result (λ (next : Option Op). next ≡ next_by log None (server_by seat))
+    (λ (next : Option Op). next ≡ next_at log seat)
+    (λ next is. is ∙ server-next log seat (sym c.if-has_returned.ensures)) c.next_change.ensures.value
+
+pub returns-clause-made : goal.returns-clause-made
+returns-clause-made g c =
+    on_ok_weaker c.next_change.result
+    (first-handed g.L.LogView.log c.args.node.0 (has_returned (slice_get c.args.self.now.seats.items c.args.node.0))
+    c.args.self.now c.next_change.new.self (sym c.if-has_returned.ensures)) c.next_change.ensures.made
+
 pub returns-clause-left : goal.returns-clause-left
 returns-clause-left g c =
+    let log = g.L.LogView.log in
     let seat = slice_get c.args.self.now.seats.items c.args.node.0 in
-    left-after c.next_change.result (next_by g.L.LogView.log None (server_by seat)) (returned_at seat)
-    (returned_at (slice_get c.next_change.new.self.seats.items c.args.node.0)) c.next_change.ensures.value
-    (c.next_change.ensures.returned c.args.node.0) (left-none g.L.LogView.log seat (sym c.if-has_returned.ensures))
+    let after = returned_at (slice_get c.next_change.new.self.seats.items c.args.node.0) in
+    IfOk-weaker c.next_change.result (λ (next : Option Op). next ≡ next_by log None (server_by seat))
+    (λ (next : Option Op). IfSome next (λ _. after ≡ None))
+    (λ next is. left-after next (next_by log None (server_by seat)) (returned_at seat) after is
+    (c.next_change.ensures.returned c.args.node.0) (left-none log seat (sym c.if-has_returned.ensures)))
+    c.next_change.ensures.value
