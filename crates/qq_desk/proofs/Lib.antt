@@ -1,7 +1,6 @@
 mod Audits
 mod ShortOps
 mod Ranges
-mod Equalities
 mod TakenUp
 mod KnownClients
 mod Sending

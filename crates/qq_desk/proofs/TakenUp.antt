@@ -17,7 +17,7 @@ use Rattle.qq_world.specs.Promise.{MayTakeUp, state_of, vote_of}
 use Rattle.qq_world.specs.Server.{Server, log_of, may_restart, term_of}
 use Rattle.qq_desk.specs.Server.{AreSound}
 use Rattle.qq_desk.specs.Taking.{come_to, told}
-use Rattle.qq_desk.proofs.Equalities.{entries_decide}
+use Rattle.qq_same.proofs.Equalities.{entries_decide}
 
 -- ---- parts of a lane
 

@@ -2,7 +2,6 @@ pub mod Clients
 pub mod Audited
 pub mod Range
 pub mod Taking
-pub mod Same
 pub mod Roles
 pub mod Server
 pub mod Text

@@ -8,7 +8,7 @@ use Rattle.qq_log.specs.Same.{same_head, same_vote}
 use Rattle.qq_log.specs.Stable.{Stable, new_state, no_snapshot}
 use Rattle.qq_world.specs.Promise.{vote_of}
 use Rattle.qq_world.specs.Server.{log_of, term_of}
-use Rattle.qq_desk.specs.Same.{same_entry}
+use Rattle.qq_same.specs.Same.{same_entry}
 
 -- A lane tells the state of a queue that has no snapshot, with all of its entries. A queue without ops has no lane.
 abbrev pub told : Option Lane → Stable

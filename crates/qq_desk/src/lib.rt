@@ -8,7 +8,6 @@ mod delivering;
 mod desk;
 mod laws;
 mod role;
-mod same;
 mod server;
 mod taking;
 mod text;

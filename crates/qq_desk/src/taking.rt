@@ -7,14 +7,14 @@ ghost use Rattle.qq_log.specs.Stable.{no_snapshot};
 ghost use Rattle.qq_world.specs.Promise.{vote_after, vote_of};
 ghost use Rattle.qq_world.specs.Server.{log_of, term_after, term_of};
 ghost use Rattle.qq_desk.specs.Audited.{AreShort};
-ghost use Rattle.qq_desk.specs.Same.{same_entry};
+ghost use Rattle.qq_same.specs.Same.{same_entry};
 ghost use Rattle.qq_desk.specs.Taking.{come_to};
 
 use crate::audit::entry_in;
-use crate::same::same_entry;
 use qq_base::{NodeId, Term};
 use qq_entry::Entry;
 use qq_log::{Lane, Op, SnapshotHead, Span};
+use qq_same::same_entry;
 
 // The term once an op counts.
 fn term_after(before: Term, op: &Op) -> Term

@@ -1,7 +1,7 @@
 use Rattle.std.proofs.Common.{◌≡◌, ◌≤◌, drop, length}
 use Rattle.std.specs.Cmp.Lexicographic.{pointwise}
 use Rattle.qq_world.specs.Server.{log_of}
-use Rattle.qq_desk.specs.Same.{same_entry}
+use Rattle.qq_same.specs.Same.{same_entry}
 use Rattle.qq_desk.proofs.taking.add_entries.Given as goal
 
 -- the entries that are left compare as all do
