@@ -1,5 +1,5 @@
 -- The calls of the consumers: a cancel, a credit, the end of a session.
-use Rattle.std.proofs.Common.{◌≡◌, ◌⊎◌, ◌+◌, ◌<◌, ◌≤◌, ℕ, zero, suc, Bool, true, false, not, ◌&&◌, cond, List, Option, Some, None, IfSome, is_some, length, refl, sym, ap, ◌∙◌, subst, inl, inr, arith}
+use Rattle.std.proofs.Common.{◌≡◌, ◌⊎◌, ◌+◌, ◌<◌, ℕ, zero, suc, Bool, true, false, not, ◌&&◌, List, Option, Some, None, IfSome, length, refl, sym, ap, ◌∙◌, subst, inl, inr, arith}
 use Rattle.std.specs.Prelude.{nat_eq, nat_lt, filter, find}
 use Rattle.std.specs.List.{AllByRecursion}
 use Rattle.std.specs.Option.{option_map}
@@ -7,19 +7,16 @@ use Rattle.std.proofs.lemmas.Bool.{false≢true, cases_Bool, cond-false, and_par
 use Rattle.std.proofs.lemmas.List.{length-map}
 use Rattle.qq_base.specs.declared.ids.ConsumerId.{ConsumerId}
 use Rattle.qq_base.specs.declared.ids.SessionId.{SessionId}
-use Rattle.qq_base.specs.Ids.{same_consumer}
 use Rattle.qq_base.proofs.Lists.{find-in, AllByRecursion-in}
 use Rattle.qq_entry.specs.declared.command.Mode.TheVariants.{Link}
 use Rattle.qq_model.specs.declared.consumer.Consumer.{Consumer}
-use Rattle.qq_model.proofs.OneConsumer.{same_consumer-true}
 use Rattle.qq_gone.specs.Reduced.{Item}
 use Rattle.qq_parts.specs.Parts.{Served, AreApart, consumer_at}
 use Rattle.qq_parts.specs.Consumers.{needed_one}
 use Rattle.qq_consumer.specs.declared.row.ConsumerRow.{ConsumerRow}
-use Rattle.qq_consumer.specs.Roster.{roster_of, served_of, out_item, is_one, one_of, is_there, put_one, remove_one, is_one_of, cancel, cancel_by, drop_finished, credited, drained, set_credit}
+use Rattle.qq_consumer.specs.Roster.{roster_of, served_of, out_item, is_one, one_of, put_one, remove_one, is_one_of, cancel, cancel_by, drop_finished, credited, drained, set_credit}
 use Rattle.qq_consumer.specs.Turns.{waiting_turn, Waiting, IsKept, leave, enter}
 use Rattle.qq_consumer.proofs.Keeping.{IsNeeded}
-use Rattle.qq_consumer.proofs.Ones.{own-removed}
 use Rattle.qq_consumer.proofs.NextOne.{found-in}
 use Rattle.qq_consumer.proofs.Changing.{IsThere, with_consumer, found-id, changed-needed, filter-all, filter-finished, link-turn, link-none, cancelled-none, current-needed, credit-draws, credit-stays, drawn-kept, ended-kept, turn-kept}
 
@@ -91,19 +88,6 @@ busy-kept id one ones turns ws apart kept found busy =
     (found-id id ones one (sym found))
     (ended-kept one (over one.consumer) ones turns ws apart kept (is-there id ones one found) refl
     (cancelled-none (with_consumer (over one.consumer) one) refl) (ap not busy))
-
--- the room of those that are left
-pub left-rooms : (id other : ConsumerId) (ones left : List Served) (before after : ℕ) → left ≡ remove_one id ones
-    → after ≡ cond (same_consumer id other) 0 before → is_there other left ≡ true → before ≤ after
-left-rooms id other ones left before after is room there = by (cases_Bool (same_consumer id other))
-  where
-    by : (same_consumer id other ≡ true) ⊎ (same_consumer id other ≡ false) → before ≤ after
-    by (inl own) =
-        absurd (false≢true (sym (ap (λ (s : List Served). is_there other s) is
-        ∙ ap (λ (i : ConsumerId). is_there i (remove_one id ones)) (sym (same_consumer-true id other own))
-        ∙ ap (λ (o : Option Served). is_some o) (own-removed id ones)) ∙ there))
-    by (inr no_one) =
-        let e : after ≡ before = room ∙ cond-false (same_consumer id other) 0 before no_one in omega (arith, e)
 
 -- ---- the end of a session
 

@@ -1,27 +1,31 @@
 -- The consumers of rows under their ids: what is found, changed, removed and added.
-use Rattle.std.proofs.Common.{◌≡◌, ◌⊎◌, ◌<◌, ◌≤◌, ◌-◌, ◌+◌, Bool, true, false, not, cond, ◌&&◌, ℕ, zero, suc, List, [], ◌∷◌, ◌++◌, Option, Some, None, map, refl, sym, ap, ◌∙◌, subst, inl, inr, arith}
-use Rattle.std.specs.Prelude.{filter, nat_eq, is_some, unwrap_or, remove, if◌then◌else◌}
+use Rattle.std.proofs.Common.{◌≡◌, ◌⊎◌, ◌<◌, ◌≤◌, ◌-◌, Bool, true, false, not, ◌&&◌, ℕ, List, [], ◌∷◌, ◌++◌, Option, Some, None, map, refl, sym, ap, ◌∙◌, subst, inl, inr, arith}
+use Rattle.std.specs.Prelude.{filter, length, nat_eq, is_some, if◌then◌else◌}
 use Rattle.std.specs.List.{AllByRecursion, IsDistinct}
 use Rattle.std.specs.Option.{option_map}
 use Rattle.std.specs.Map.{keys_of, lookup, set_value, remove_entry}
-use Rattle.indexmap.specs.IndexMap.{IndexMap, get, WritesThrough}
+use Rattle.indexmap.specs.IndexMap.{IndexMap, get, spare, WritesThrough}
 use Rattle.std.specs.Cmp.{nat_eq_equiv}
 use Rattle.std.proofs.lemmas.Bool.{false≢true, cases_Bool, cond-true, cond-false, cond_both, not_from_true, not_from_false}
 use Rattle.qq_base.specs.declared.ids.SessionId.{SessionId}
 use Rattle.qq_base.specs.declared.ids.ConsumerId.{ConsumerId}
 use Rattle.qq_base.specs.Ids.{same_session, same_consumer}
 use Rattle.qq_entry.specs.declared.message.ReadyRow.{ReadyRow}
-use Rattle.qq_base.proofs.Lists.{AllByRecursion-map}
+use Rattle.qq_base.proofs.Lists.{AllByRecursion-map, AllByRecursion-weaker}
+use Rattle.qq_model.specs.declared.consumer.Consumer.{Consumer}
 use Rattle.qq_model.specs.declared.place.Place.TheVariants.{Out}
-use Rattle.qq_model.proofs.OneConsumer.{same_consumer-true, same_consumer-refl}
+use Rattle.qq_model.proofs.OneConsumer.{same_consumer-true}
 use Rattle.qq_gone.specs.Reduced.{Item}
 use Rattle.qq_parts.specs.Parts.{Served, HasOut, NumbersRise, IsPlaced, item_number, AreTwo, AreApart}
 use Rattle.qq_parts.specs.Outs.{hand_to, serve_one}
 use Rattle.qq_consumer.specs.declared.rising.Numbered.{Numbered}
 use Rattle.qq_consumer.specs.declared.row.ConsumerRow.{ConsumerRow}
-use Rattle.qq_consumer.specs.Numbers.{Rises}
-use Rattle.qq_consumer.specs.Roster.{served_of, out_item, is_one, one_of, is_there, room_at}
-use Rattle.qq_consumer.specs.Joined.{Entry, ones_of, HasOwnId, IsGiven, HoldsOut, AreJoined, rooms_of}
+use Rattle.qq_consumer.specs.declared.seat.Seat.{Seat}
+use Rattle.qq_consumer.specs.declared.step.Step.{Step}
+use Rattle.qq_consumer.specs.Numbers.{Rises, without}
+use Rattle.qq_consumer.proofs.Places.{rises-without, each-without}
+use Rattle.qq_consumer.specs.Roster.{served_of, out_item, is_one, one_of, is_there}
+use Rattle.qq_consumer.specs.Joined.{Entry, seat_one, base_one, seen, ones_of, bases_of, HasOwnId, IsGiven, AreGiven, HoldsOut, HoldsBase, IsTracked, CanUndo, base_id, AreJoined, CanGoBack}
 
 -- ---- ids
 
@@ -37,24 +41,24 @@ same_consumer-symm a b =
     ∙ ap (λ (t : Bool). same_session b.session a.session && t) (nat_eq_equiv.symm a.tag b.tag)
 
 -- the test of a row's id, as the parts and the map ask it
-asked : (id : ConsumerId) (e : Entry) → HasOwnId e → same_consumer e.1.consumer.id id ≡ same_consumer id e.0
-asked id e own = same_consumer-symm e.1.consumer.id id ∙ ap (same_consumer id) (sym own)
+asked : (id : ConsumerId) (e : Entry) → HasOwnId e → same_consumer e.1.row.consumer.id id ≡ same_consumer id e.0
+asked id e own = same_consumer-symm e.1.row.consumer.id id ∙ ap (same_consumer id) (sym own)
 
 -- ---- what is found
 
 pub one_of-lookup : (id : ConsumerId) (es : List Entry) → AllByRecursion HasOwnId es
-    → option_map served_of (lookup (same_consumer id) es) ≡ one_of id (ones_of es)
+    → option_map seat_one (lookup (same_consumer id) es) ≡ one_of id (ones_of es)
 one_of-lookup id [] own = refl
 one_of-lookup id (e ∷ es) own =
     elim (cases_Bool (same_consumer id e.0)) [
       | inl here ↦
-          ap (option_map served_of) (cond-true (same_consumer id e.0) (Some e.1) (lookup (same_consumer id) es) here)
-          ∙ sym (cond-true (same_consumer e.1.consumer.id id) (Some (served_of e.1)) (one_of id (ones_of es))
+          ap (option_map seat_one) (cond-true (same_consumer id e.0) (Some e.1) (lookup (same_consumer id) es) here)
+          ∙ sym (cond-true (same_consumer e.1.row.consumer.id id) (Some (seat_one e.1)) (one_of id (ones_of es))
           (asked id e own.0 ∙ here))
       | inr other ↦
-          ap (option_map served_of) (cond-false (same_consumer id e.0) (Some e.1) (lookup (same_consumer id) es) other)
+          ap (option_map seat_one) (cond-false (same_consumer id e.0) (Some e.1) (lookup (same_consumer id) es) other)
           ∙ one_of-lookup id es own.1
-          ∙ sym (cond-false (same_consumer e.1.consumer.id id) (Some (served_of e.1)) (one_of id (ones_of es))
+          ∙ sym (cond-false (same_consumer e.1.row.consumer.id id) (Some (seat_one e.1)) (one_of id (ones_of es))
           (asked id e own.0 ∙ other))
     ]
 
@@ -65,7 +69,7 @@ is_some-map f (Some x) = refl
 pub is_there-lookup : (id : ConsumerId) (es : List Entry) → AllByRecursion HasOwnId es
     → is_there id (ones_of es) ≡ is_some (lookup (same_consumer id) es)
 is_there-lookup id es own =
-    sym (ap is_some (one_of-lookup id es own)) ∙ is_some-map served_of (lookup (same_consumer id) es)
+    sym (ap is_some (one_of-lookup id es own)) ∙ is_some-map seat_one (lookup (same_consumer id) es)
 
 none-is : {A : Type 0} (o : Option A) → is_some o ≡ false → o ≡ None
 none-is None e = refl
@@ -75,73 +79,6 @@ pub absent-free : (id : ConsumerId) (es : List Entry) → AllByRecursion HasOwnI
     → is_there id (ones_of es) ≡ false → lookup (same_consumer id) es ≡ None
 absent-free id es own free =
     none-is (lookup (same_consumer id) es) (sym (is_there-lookup id es own) ∙ free)
-
--- the room of a row
-abbrev pub room_by : Option ConsumerRow → ℕ
-room_by None = 0
-room_by (Some row) = row.out.room
-
-pub rooms-lookup : (id : ConsumerId) (es : List Entry) → room_at id (rooms_of es) ≡ room_by
-    (lookup (same_consumer id) es)
-rooms-lookup id [] = refl
-rooms-lookup id (e ∷ es) = by (same_consumer id e.0) (rooms-lookup id es)
-  where
-    by : (b : Bool) → room_at id (rooms_of es) ≡ room_by (lookup (same_consumer id) es)
-        → unwrap_or (cond b (Some e.1.out.room) (lookup (same_consumer id) (rooms_of es))) 0
-        ≡ room_by (cond b (Some e.1) (lookup (same_consumer id) es))
-    by true rest = refl
-    by false rest = rest
-
-pub room-taken : (id other : ConsumerId) (es fs : List Entry)
-    → lookup (same_consumer other) fs ≡ cond (same_consumer id other) None (lookup (same_consumer other) es)
-    → room_at other (rooms_of fs) ≡ cond (same_consumer id other) 0 (room_at other (rooms_of es))
-room-taken id other es fs found =
-    rooms-lookup other fs ∙ ap room_by found ∙ by (same_consumer id other) (sym (rooms-lookup other es))
-  where
-    by : (b : Bool) → room_by (lookup (same_consumer other) es) ≡ room_at other (rooms_of es)
-        → room_by (cond b None (lookup (same_consumer other) es)) ≡ cond b 0 (room_at other (rooms_of es))
-    by true same = refl
-    by false same = same
-
-pub room-put : (id other : ConsumerId) (w : ConsumerRow) (es fs : List Entry)
-    → lookup (same_consumer other) fs ≡ cond (same_consumer id other) (Some w) (lookup (same_consumer other) es)
-    → room_at other (rooms_of fs) ≡ cond (same_consumer id other) w.out.room (room_at other (rooms_of es))
-room-put id other w es fs found =
-    rooms-lookup other fs ∙ ap room_by found ∙ by (same_consumer id other) (sym (rooms-lookup other es))
-  where
-    by : (b : Bool) → room_by (lookup (same_consumer other) es) ≡ room_at other (rooms_of es)
-        → room_by (cond b (Some w) (lookup (same_consumer other) es)) ≡ cond b w.out.room (room_at other (rooms_of es))
-    by true same = refl
-    by false same = same
-
--- a consumer that isn't there has no room
-pub no-room : (id : ConsumerId) (es : List Entry) → lookup (same_consumer id) es ≡ None → room_at id (rooms_of es) ≡ 0
-no-room id es none = rooms-lookup id es ∙ ap room_by none
-
--- who joins has the row's room, and the others what they had
-pub room-joins : (id other : ConsumerId) (w : ConsumerRow) (es fs : List Entry) → lookup (same_consumer id) es ≡ None
-    → lookup (same_consumer other) fs ≡ cond (same_consumer id other) (Some w) (lookup (same_consumer other) es)
-    → room_at other (rooms_of es) ≤ room_at other (rooms_of fs)
-room-joins id other w es fs none found =
-    by (cases_Bool (same_consumer id other))
-  where
-    by : (same_consumer id other ≡ true) ⊎ (same_consumer id other ≡ false)
-        → room_at other (rooms_of es) ≤ room_at other (rooms_of fs)
-    by (inl is) =
-        let before : room_at other (rooms_of es) ≡ 0 =
-        ap (λ (i : ConsumerId). room_at i (rooms_of es)) (sym (same_consumer-true id other is)) ∙ no-room id es none in
-        omega (arith, before)
-    by (inr no_one) =
-        let after : room_at other (rooms_of fs) ≡ room_at other (rooms_of es) =
-        room-put id other w es fs found
-        ∙ cond-false (same_consumer id other) w.out.room (room_at other (rooms_of es)) no_one in
-        omega (arith, after)
-
--- there is room only for a consumer that is there
-pub room-found : (id : ConsumerId) (es : List Entry) → lookup (same_consumer id) es ≡ None
-    → 0 < room_at id (rooms_of es) → ⊥
-room-found id es none room =
-    let no_room : room_at id (rooms_of es) ≡ 0 = rooms-lookup id es ∙ ap room_by none in absurd (omega arith)
 
 -- ---- changes
 
@@ -161,8 +98,8 @@ unchanged id f (e ∷ es) own none =
           absurd cc
       | inr other ↦
           ap (λ (one : Served). one ∷ change_by id f (ones_of es))
-          (cond-false (same_consumer e.1.consumer.id id) (f (served_of e.1)) (served_of e.1) (asked id e own.0 ∙ other))
-          ∙ ap (λ (ones : List Served). served_of e.1 ∷ ones) (unchanged id f es own.1
+          (cond-false (same_consumer e.1.row.consumer.id id) (f (seat_one e.1)) (seat_one e.1) (asked id e own.0 ∙ other))
+          ∙ ap (λ (ones : List Served). seat_one e.1 ∷ ones) (unchanged id f es own.1
           (sym (cond-false (same_consumer id e.0) (Some e.1) (lookup (same_consumer id) es) other) ∙ none))
     ]
 
@@ -180,8 +117,8 @@ absent-later id e es distinct here = by es distinct.0
         (ap (λ (i : ConsumerId). same_consumer i f.0) (same_consumer-true id e.0 here) ∙ apart.0)
         ∙ by fs apart.1
 
-changed : (id : ConsumerId) (f : Served → Served) (es : List Entry) (row w : ConsumerRow) → AllByRecursion HasOwnId es
-    → IsDistinct same_consumer (keys_of es) → lookup (same_consumer id) es ≡ Some row → served_of w ≡ f (served_of row)
+changed : (id : ConsumerId) (f : Served → Served) (es : List Entry) (row w : Seat) → AllByRecursion HasOwnId es
+    → IsDistinct same_consumer (keys_of es) → lookup (same_consumer id) es ≡ Some row → seat_one w ≡ f (seat_one row)
     → ones_of (set_value (same_consumer id) es w) ≡ change_by id f (ones_of es)
 unfolding IsDistinct
 changed id f [] row w own distinct found made = absurd cc
@@ -192,24 +129,24 @@ changed id f (e ∷ es) row w own distinct found made =
           sym (cond-true (same_consumer id e.0) (Some e.1) (lookup (same_consumer id) es) here) ∙ found in
           let same : e.1 ≡ row = cc in
           ap ones_of (cond-true (same_consumer id e.0) ((e.0, w) ∷ es) (e ∷ set_value (same_consumer id) es w) here)
-          ∙ ap (λ (one : Served). one ∷ ones_of es) (made ∙ ap (λ (r : ConsumerRow). f (served_of r)) (sym same))
+          ∙ ap (λ (one : Served). one ∷ ones_of es) (made ∙ ap (λ (r : Seat). f (seat_one r)) (sym same))
           ∙ sym (ap (λ (one : Served). one ∷ change_by id f (ones_of es))
-          (cond-true (same_consumer e.1.consumer.id id) (f (served_of e.1)) (served_of e.1) (asked id e own.0 ∙ here))
-          ∙ ap (λ (ones : List Served). f (served_of e.1) ∷ ones)
+          (cond-true (same_consumer e.1.row.consumer.id id) (f (seat_one e.1)) (seat_one e.1) (asked id e own.0 ∙ here))
+          ∙ ap (λ (ones : List Served). f (seat_one e.1) ∷ ones)
           (unchanged id f es own.1 (absent-later id e es distinct here)))
       | inr other ↦
           ap ones_of (cond-false (same_consumer id e.0) ((e.0, w) ∷ es) (e ∷ set_value (same_consumer id) es w) other)
-          ∙ ap (λ (ones : List Served). served_of e.1 ∷ ones)
+          ∙ ap (λ (ones : List Served). seat_one e.1 ∷ ones)
           (changed id f es row w own.1 distinct.1
           (sym (cond-false (same_consumer id e.0) (Some e.1) (lookup (same_consumer id) es) other) ∙ found) made)
           ∙ sym (ap (λ (one : Served). one ∷ change_by id f (ones_of es))
-          (cond-false (same_consumer e.1.consumer.id id) (f (served_of e.1)) (served_of e.1)
+          (cond-false (same_consumer e.1.row.consumer.id id) (f (seat_one e.1)) (seat_one e.1)
           (asked id e own.0 ∙ other)))
     ]
 
 -- a delivery is made to the consumer of an id
-handed : (turn : ℕ) (x : Item) (id : ConsumerId) (es : List Entry) (row w : ConsumerRow) → AllByRecursion HasOwnId es
-    → lookup (same_consumer id) es ≡ Some row → served_of w ≡ serve_one turn x (served_of row)
+handed : (turn : ℕ) (x : Item) (id : ConsumerId) (es : List Entry) (row w : Seat) → AllByRecursion HasOwnId es
+    → lookup (same_consumer id) es ≡ Some row → seat_one w ≡ serve_one turn x (seat_one row)
     → ones_of (set_value (same_consumer id) es w) ≡ hand_to turn x id (ones_of es)
 handed turn x id [] row w own found made = absurd cc
 handed turn x id (e ∷ es) row w own found made =
@@ -220,30 +157,36 @@ handed turn x id (e ∷ es) row w own found made =
           let same : e.1 ≡ row = cc in
           ap ones_of (cond-true (same_consumer id e.0) ((e.0, w) ∷ es) (e ∷ set_value (same_consumer id) es w) here)
           ∙ ap (λ (one : Served). one ∷ ones_of es)
-          (made ∙ ap (λ (r : ConsumerRow). serve_one turn x (served_of r)) (sym same))
-          ∙ sym (cond-true (same_consumer e.1.consumer.id id) (serve_one turn x (served_of e.1) ∷ ones_of es)
-          (served_of e.1 ∷ hand_to turn x id (ones_of es)) (asked id e own.0 ∙ here))
+          (made ∙ ap (λ (r : Seat). serve_one turn x (seat_one r)) (sym same))
+          ∙ sym (cond-true (same_consumer e.1.row.consumer.id id) (serve_one turn x (seat_one e.1) ∷ ones_of es)
+          (seat_one e.1 ∷ hand_to turn x id (ones_of es)) (asked id e own.0 ∙ here))
       | inr other ↦
           ap ones_of (cond-false (same_consumer id e.0) ((e.0, w) ∷ es) (e ∷ set_value (same_consumer id) es w) other)
-          ∙ ap (λ (ones : List Served). served_of e.1 ∷ ones) (handed turn x id es row w own.1
+          ∙ ap (λ (ones : List Served). seat_one e.1 ∷ ones) (handed turn x id es row w own.1
           (sym (cond-false (same_consumer id e.0) (Some e.1) (lookup (same_consumer id) es) other) ∙ found) made)
-          ∙ sym (cond-false (same_consumer e.1.consumer.id id) (serve_one turn x (served_of e.1) ∷ ones_of es)
-          (served_of e.1 ∷ hand_to turn x id (ones_of es)) (asked id e own.0 ∙ other))
+          ∙ sym (cond-false (same_consumer e.1.row.consumer.id id) (serve_one turn x (seat_one e.1) ∷ ones_of es)
+          (seat_one e.1 ∷ hand_to turn x id (ones_of es)) (asked id e own.0 ∙ other))
     ]
 
--- a change that changes nothing
-pub change-none : (id : ConsumerId) (ones : List Served) → change_by id (λ one. one) ones ≡ ones
-change-none id [] = refl
-change-none id (one ∷ ones) =
-    ap (λ (o : Served). o ∷ change_by id (λ x. x) ones) (by (is_one id one))
-    ∙ ap (λ (os : List Served). one ∷ os) (change-none id ones)
-  where
-    by : (b : Bool) → cond b one one ≡ one
-    by true = refl
-    by false = refl
+-- or to nobody, where no row has the id
+absent-handed : (turn : ℕ) (x : Item) (id : ConsumerId) (es : List Entry) → AllByRecursion HasOwnId es
+    → lookup (same_consumer id) es ≡ None → hand_to turn x id (ones_of es) ≡ ones_of es
+absent-handed turn x id [] own none = refl
+absent-handed turn x id (e ∷ es) own none =
+    elim (cases_Bool (same_consumer id e.0)) [
+      | inl here ↦
+          let is : Some e.1 ≡ None =
+          sym (cond-true (same_consumer id e.0) (Some e.1) (lookup (same_consumer id) es) here) ∙ none in
+          absurd cc
+      | inr other ↦
+          cond-false (same_consumer e.1.row.consumer.id id) (serve_one turn x (seat_one e.1) ∷ ones_of es)
+          (seat_one e.1 ∷ hand_to turn x id (ones_of es)) (asked id e own.0 ∙ other)
+          ∙ ap (λ (ones : List Served). seat_one e.1 ∷ ones) (absent-handed turn x id es own.1
+          (sym (cond-false (same_consumer id e.0) (Some e.1) (lookup (same_consumer id) es) other) ∙ none))
+    ]
 
 -- what holds of each row, and of the one that is written, holds of each
-kept-set_value : (P : Entry → Type 0) (id : ConsumerId) (es : List Entry) (w : ConsumerRow) → AllByRecursion P es
+kept-set_value : (P : Entry → Type 0) (id : ConsumerId) (es : List Entry) (w : Seat) → AllByRecursion P es
     → ((e : Entry) → P e → same_consumer id e.0 ≡ true → P (e.0, w)) → AllByRecursion P
     (set_value (same_consumer id) es w)
 kept-set_value P id [] w each new = tt
@@ -260,8 +203,8 @@ kept-set_value P id (e ∷ es) w each new =
     ]
 
 -- the row of an id has it
-pub found-own : (id : ConsumerId) (es : List Entry) (row : ConsumerRow) → AllByRecursion HasOwnId es
-    → lookup (same_consumer id) es ≡ Some row → row.consumer.id ≡ id
+pub found-own : (id : ConsumerId) (es : List Entry) (row : Seat) → AllByRecursion HasOwnId es
+    → lookup (same_consumer id) es ≡ Some row → row.row.consumer.id ≡ id
 found-own id [] row own found = absurd cc
 found-own id (e ∷ es) row own found =
     elim (cases_Bool (same_consumer id e.0)) [
@@ -269,14 +212,14 @@ found-own id (e ∷ es) row own found =
           let is : Some e.1 ≡ Some row =
           sym (cond-true (same_consumer id e.0) (Some e.1) (lookup (same_consumer id) es) here) ∙ found in
           let same : e.1 ≡ row = cc in
-          ap (λ (r : ConsumerRow). r.consumer.id) (sym same) ∙ sym own.0 ∙ sym (same_consumer-true id e.0 here)
+          ap (λ (r : Seat). r.row.consumer.id) (sym same) ∙ sym own.0 ∙ sym (same_consumer-true id e.0 here)
       | inr other ↦
           found-own id es row own.1
           (sym (cond-false (same_consumer id e.0) (Some e.1) (lookup (same_consumer id) es) other) ∙ found)
     ]
 
-pub found-given : (id : ConsumerId) (es : List Entry) (row : ConsumerRow) → AllByRecursion HoldsOut es
-    → lookup (same_consumer id) es ≡ Some row → IsGiven row
+pub found-given : (id : ConsumerId) (es : List Entry) (row : Seat) → AllByRecursion HoldsOut es
+    → lookup (same_consumer id) es ≡ Some row → IsGiven row.row
 found-given id [] row out found = absurd cc
 found-given id (e ∷ es) row out found =
     elim (cases_Bool (same_consumer id e.0)) [
@@ -284,7 +227,7 @@ found-given id (e ∷ es) row out found =
           let is : Some e.1 ≡ Some row =
           sym (cond-true (same_consumer id e.0) (Some e.1) (lookup (same_consumer id) es) here) ∙ found in
           let same : e.1 ≡ row = cc in
-          subst IsGiven same out.0
+          subst (λ (r : Seat). IsGiven r.row) same out.0
       | inr other ↦
           found-given id es row out.1
           (sym (cond-false (same_consumer id e.0) (Some e.1) (lookup (same_consumer id) es) other) ∙ found)
@@ -303,9 +246,9 @@ absent-stays id (e ∷ es) own none =
           absurd cc
       | inr other ↦
           let stays : Served → Bool = λ one. not (is_one id one) in
-          cond-true (stays (served_of e.1)) (served_of e.1 ∷ filter stays (ones_of es)) (filter stays (ones_of es))
-          (not_from_false (same_consumer e.1.consumer.id id) (asked id e own.0 ∙ other))
-          ∙ ap (λ (ones : List Served). served_of e.1 ∷ ones) (absent-stays id es own.1
+          cond-true (stays (seat_one e.1)) (seat_one e.1 ∷ filter stays (ones_of es)) (filter stays (ones_of es))
+          (not_from_false (same_consumer e.1.row.consumer.id id) (asked id e own.0 ∙ other))
+          ∙ ap (λ (ones : List Served). seat_one e.1 ∷ ones) (absent-stays id es own.1
           (sym (cond-false (same_consumer id e.0) (Some e.1) (lookup (same_consumer id) es) other) ∙ none))
     ]
 
@@ -318,16 +261,16 @@ removed id (e ∷ es) own distinct =
     elim (cases_Bool (same_consumer id e.0)) [
       | inl here ↦
           ap ones_of (cond-true (same_consumer id e.0) es (e ∷ remove_entry (same_consumer id) es) here)
-          ∙ sym (cond-false (stays (served_of e.1)) (served_of e.1 ∷ filter stays (ones_of es))
+          ∙ sym (cond-false (stays (seat_one e.1)) (seat_one e.1 ∷ filter stays (ones_of es))
           (filter stays (ones_of es))
-          (not_from_true (same_consumer e.1.consumer.id id) (asked id e own.0 ∙ here))
+          (not_from_true (same_consumer e.1.row.consumer.id id) (asked id e own.0 ∙ here))
           ∙ absent-stays id es own.1 (absent-later id e es distinct here))
       | inr other ↦
           ap ones_of (cond-false (same_consumer id e.0) es (e ∷ remove_entry (same_consumer id) es) other)
-          ∙ ap (λ (ones : List Served). served_of e.1 ∷ ones) (removed id es own.1 distinct.1)
-          ∙ sym (cond-true (stays (served_of e.1)) (served_of e.1 ∷ filter stays (ones_of es))
+          ∙ ap (λ (ones : List Served). seat_one e.1 ∷ ones) (removed id es own.1 distinct.1)
+          ∙ sym (cond-true (stays (seat_one e.1)) (seat_one e.1 ∷ filter stays (ones_of es))
           (filter stays (ones_of es))
-          (not_from_false (same_consumer e.1.consumer.id id) (asked id e own.0 ∙ other)))
+          (not_from_false (same_consumer e.1.row.consumer.id id) (asked id e own.0 ∙ other)))
     ]
 
 pub kept-remove_entry : (P : Entry → Type 0) (id : ConsumerId) (es : List Entry) → AllByRecursion P es
@@ -337,18 +280,11 @@ kept-remove_entry P id (e ∷ es) each =
     cond_both (same_consumer id e.0) es (e ∷ remove_entry (same_consumer id) es) (AllByRecursion P) (λ _. each.1)
     (λ _. (each.0, kept-remove_entry P id es each.1))
 
-pub kept-remove : {A : Type 0} (P : A → Type 0) (xs : List A) (place : ℕ) → AllByRecursion P xs
-    → AllByRecursion P (remove xs place)
-kept-remove P [] zero each = tt
-kept-remove P [] (suc place) each = tt
-kept-remove P (x ∷ xs) zero each = each.1
-kept-remove P (x ∷ xs) (suc place) each = (each.0, kept-remove P xs place each.1)
-
 -- ---- one joins
 
-pub pushed : (es : List Entry) (e : Entry) → ones_of (es ++ e ∷ []) ≡ ones_of es ++ served_of e.1 ∷ []
+pub pushed : (es : List Entry) (e : Entry) → ones_of (es ++ e ∷ []) ≡ ones_of es ++ seat_one e.1 ∷ []
 pushed [] e = refl
-pushed (x ∷ es) e = ap (λ (ones : List Served). served_of x.1 ∷ ones) (pushed es e)
+pushed (x ∷ es) e = ap (λ (ones : List Served). seat_one x.1 ∷ ones) (pushed es e)
 
 -- ---- what holds of all
 
@@ -359,13 +295,24 @@ apart-distinct [] own distinct = tt
 apart-distinct (e ∷ es) own distinct = (by es own.1 distinct.0, apart-distinct es own.1 distinct.1)
   where
     by : (fs : List Entry) → AllByRecursion HasOwnId fs → AllByRecursion (λ k. same_consumer e.0 k ≡ false) (keys_of fs)
-        → AllByRecursion (AreTwo (served_of e.1)) (ones_of fs)
+        → AllByRecursion (AreTwo (seat_one e.1)) (ones_of fs)
     by [] own' apart = tt
     by (f ∷ fs) own' apart =
-        let first : same_consumer e.1.consumer.id f.1.consumer.id ≡ false =
-        ap (same_consumer e.1.consumer.id) (sym own'.0) ∙ ap (λ (i : ConsumerId). same_consumer i f.0) (sym own.0)
+        let first : same_consumer e.1.row.consumer.id f.1.row.consumer.id ≡ false =
+        ap (same_consumer e.1.row.consumer.id) (sym own'.0) ∙ ap (λ (i : ConsumerId). same_consumer i f.0) (sym own.0)
         ∙ apart.0 in
-        ((first, same_consumer-symm f.1.consumer.id e.1.consumer.id ∙ first), by fs own'.1 apart.1)
+        ((first, same_consumer-symm f.1.row.consumer.id e.1.row.consumer.id ∙ first), by fs own'.1 apart.1)
+
+-- what is out may have one less
+pub given-still : (id : ℕ) (consumer : Consumer) (xs ys : List (Numbered ReadyRow)) → (ys ≡ without id xs) ⊎ (ys ≡ xs)
+    → AreGiven consumer xs → AreGiven consumer ys
+given-still id consumer xs ys (inr same) given = subst (AreGiven consumer) (sym same) given
+given-still id consumer xs ys (inl is) given =
+    subst (AreGiven consumer) (sym is) (record {
+      rising = rises-without id xs given.rising;
+      below = each-without (λ (x : Numbered ReadyRow). x.number < consumer.next_id) id xs given.below;
+      first = given.first;
+    })
 
 numbers-rise : (id : ConsumerId) (xs : List (Numbered ReadyRow)) → Rises xs → NumbersRise (map (out_item id) xs)
 numbers-rise id [] rising = tt
@@ -389,40 +336,83 @@ given-out row given = (
 
 pub all-out : (es : List Entry) → AllByRecursion HoldsOut es → AllByRecursion HasOut (ones_of es)
 all-out [] out = tt
-all-out (e ∷ es) out = (given-out e.1 out.0, all-out es out.1)
+all-out (e ∷ es) out = (given-out e.1.row out.0, all-out es out.1)
+
+-- ---- what it was at the last commit
+
+pub found-base : (id : ConsumerId) (es : List Entry) (row : Seat) → AllByRecursion HoldsBase es
+    → lookup (same_consumer id) es ≡ Some row → HoldsBase (id, row)
+found-base id [] row base found = absurd cc
+found-base id (e ∷ es) row base found =
+    elim (cases_Bool (same_consumer id e.0)) [
+      | inl here ↦
+          let is : Some e.1 ≡ Some row =
+          sym (cond-true (same_consumer id e.0) (Some e.1) (lookup (same_consumer id) es) here) ∙ found in
+          let same : e.1 ≡ row = cc in
+          subst (λ (r : Seat). HoldsBase (id, r)) same
+          (subst (λ (k : ConsumerId). HoldsBase (k, e.1)) (sym (same_consumer-true id e.0 here)) base.0)
+      | inr other ↦
+          found-base id es row base.1
+          (sym (cond-false (same_consumer id e.0) (Some e.1) (lookup (same_consumer id) es) other) ∙ found)
+    ]
+
+-- a write that leaves what is seen of a seat
+pub seen-set : {A : Type 0} (see : Seat → A) (id : ConsumerId) (es : List Entry) (row w : Seat)
+    → lookup (same_consumer id) es ≡ Some row → see w ≡ see row
+    → seen see (set_value (same_consumer id) es w) ≡ seen see es
+seen-set see id [] row w found same = absurd cc
+seen-set {A = A} see id (e ∷ es) row w found same =
+    elim (cases_Bool (same_consumer id e.0)) [
+      | inl here ↦
+          let is : Some e.1 ≡ Some row =
+          sym (cond-true (same_consumer id e.0) (Some e.1) (lookup (same_consumer id) es) here) ∙ found in
+          let is' : e.1 ≡ row = cc in
+          ap (seen see) (cond-true (same_consumer id e.0) ((e.0, w) ∷ es) (e ∷ set_value (same_consumer id) es w) here)
+          ∙ ap (λ (x : A). x ∷ seen see es) (same ∙ ap see (sym is'))
+      | inr other ↦
+          ap (seen see) (cond-false (same_consumer id e.0) ((e.0, w) ∷ es) (e ∷ set_value (same_consumer id) es w) other)
+          ∙ ap (λ (xs : List A). see e.1 ∷ xs) (seen-set see id es row w
+          (sym (cond-false (same_consumer id e.0) (Some e.1) (lookup (same_consumer id) es) other) ∙ found) same)
+    ]
+
+-- one more that changed
+pub more-tracked : (id : ConsumerId) (touched : List ConsumerId) (es : List Entry)
+    → AllByRecursion (IsTracked touched) es → AllByRecursion (IsTracked (id ∷ touched)) es
+more-tracked id touched es each =
+    AllByRecursion-weaker (IsTracked touched) (IsTracked (id ∷ touched)) (λ e is. by e is) es each
+  where
+    by : (e : Entry) → IsTracked touched e → IsTracked (id ∷ touched) e
+    by e (inl same) = inl same
+    by e (inr among) = inr (inr among)
 
 -- ---- a row is written through the map
 
-module _ {S : Type 0} (id : ConsumerId) (m n : IndexMap ConsumerId ConsumerRow S) (are : AreJoined m.entries) where
+module _ {S : Type 0} (id : ConsumerId) (m n : IndexMap ConsumerId Seat S) (are : AreJoined m.entries) where
   -- there is no row, and the map stays
-  pub absent-joined : n ≡ m → AreJoined n.entries
-  absent-joined same = subst (λ (x : IndexMap ConsumerId ConsumerRow S). AreJoined x.entries) (sym same) are
-
   pub absent-changes : (f : Served → Served) → n ≡ m → None ≡ get same_consumer m id
       → ones_of n.entries ≡ change_by id f (ones_of m.entries)
   absent-changes f same none =
-      ap (λ (x : IndexMap ConsumerId ConsumerRow S). ones_of x.entries) same
+      ap (λ (x : IndexMap ConsumerId Seat S). ones_of x.entries) same
       ∙ sym (unchanged id f m.entries are.ids (sym none))
 
-  pub absent-room : n ≡ m → (other : ConsumerId) → room_at other (rooms_of n.entries) ≡ room_at other
-      (rooms_of m.entries)
-  absent-room same other = ap (λ (x : IndexMap ConsumerId ConsumerRow S). room_at other (rooms_of x.entries)) same
+  pub absent-hands : (turn : ℕ) (x : Item) → n ≡ m → None ≡ get same_consumer m id
+      → ones_of n.entries ≡ hand_to turn x id (ones_of m.entries)
+  absent-hands turn x same none =
+      ap (λ (y : IndexMap ConsumerId Seat S). ones_of y.entries) same
+      ∙ sym (absent-handed turn x id m.entries are.ids (sym none))
 
-  pub found-one : (row : ConsumerRow) → Some row ≡ get same_consumer m id
-      → one_of id (ones_of m.entries) ≡ Some (served_of row)
-  found-one row found = sym (one_of-lookup id m.entries are.ids) ∙ ap (option_map served_of) (sym found)
-
-  pub found-room : (row : ConsumerRow) → Some row ≡ get same_consumer m id
-      → room_at id (rooms_of m.entries) ≡ row.out.room
-  found-room row found = rooms-lookup id m.entries ∙ ap room_by (sym found)
+  pub found-one : (row : Seat) → Some row ≡ get same_consumer m id
+      → one_of id (ones_of m.entries) ≡ Some (seat_one row)
+  found-one row found = sym (one_of-lookup id m.entries are.ids) ∙ ap (option_map seat_one) (sym found)
 
   pub none-there : None ≡ get same_consumer m id → is_there id (ones_of m.entries) ≡ false
   none-there none = is_there-lookup id m.entries are.ids ∙ ap is_some (sym none)
 
-  module _ (row w : ConsumerRow) (found : Some row ≡ get same_consumer m id)
+  module _ (row w : Seat) (found : Some row ≡ get same_consumer m id)
       (wrote : WritesThrough same_consumer (same_consumer id) m w n) where
-    pub write-joined : w.consumer.id ≡ row.consumer.id → (IsGiven row → IsGiven w) → AreJoined n.entries
-    write-joined same given = record {
+    pub write-joined : w.row.consumer.id ≡ row.row.consumer.id → (IsGiven row.row → IsGiven w.row)
+        → (HoldsBase (id, row) → HoldsBase (id, w)) → AreJoined n.entries
+    write-joined same given based = record {
       ids =
           subst (AllByRecursion HasOwnId) (sym wrote.0)
           (kept-set_value HasOwnId id m.entries w are.ids
@@ -433,85 +423,44 @@ module _ {S : Type 0} (id : ConsumerId) (m n : IndexMap ConsumerId ConsumerRow S
           subst (AllByRecursion HoldsOut) (sym wrote.0)
           (kept-set_value HoldsOut id m.entries w are.out
           (λ e own here. given (found-given id m.entries row are.out (sym found))));
+      base =
+          subst (AllByRecursion HoldsBase) (sym wrote.0)
+          (kept-set_value HoldsBase id m.entries w are.base
+          (λ e own here. subst (λ (k : ConsumerId). HoldsBase (k, w)) (same_consumer-true id e.0 here)
+          (based (found-base id m.entries row are.base (sym found)))));
     }
 
-    pub write-changes : (f : Served → Served) → served_of w ≡ f (served_of row)
+    pub write-changes : (f : Served → Served) → seat_one w ≡ f (seat_one row)
         → ones_of n.entries ≡ change_by id f (ones_of m.entries)
     write-changes f made =
         ap ones_of wrote.0 ∙ changed id f m.entries row w are.ids are.unique (sym found) made
 
-    pub write-hands : (turn : ℕ) (x : Item) → served_of w ≡ serve_one turn x (served_of row)
+    pub write-hands : (turn : ℕ) (x : Item) → seat_one w ≡ serve_one turn x (seat_one row)
         → ones_of n.entries ≡ hand_to turn x id (ones_of m.entries)
     write-hands turn x made = ap ones_of wrote.0 ∙ handed turn x id m.entries row w are.ids (sym found) made
 
-    -- what is found after a write
-    pub write-found : (other : ConsumerId)
-        → lookup (same_consumer other) n.entries
-        ≡ cond (same_consumer id other) (Some w) (lookup (same_consumer other) m.entries)
-    write-found other = (wrote.3 (ap is_some (sym found))).0 other
+    pub write-same : seat_one w ≡ seat_one row → ones_of n.entries ≡ ones_of m.entries
+    write-same made = ap ones_of wrote.0 ∙ seen-set seat_one id m.entries row w (sym found) made
 
-    pub write-same : served_of w ≡ served_of row → ones_of n.entries ≡ ones_of m.entries
-    write-same made = write-changes (λ one. one) made ∙ change-none id (ones_of m.entries)
+    pub write-bases : base_one w ≡ base_one row → bases_of n.entries ≡ bases_of m.entries
+    write-bases made = ap bases_of wrote.0 ∙ seen-set base_one id m.entries row w (sym found) made
 
-    -- its room, and that of the others
-    pub write-room : (other : ConsumerId)
-        → room_at other (rooms_of n.entries)
-        ≡ cond (same_consumer id other) w.out.room (room_at other (rooms_of m.entries))
-    write-room other = room-put id other w m.entries n.entries (write-found other)
-
-    pub write-own : room_at id (rooms_of n.entries) ≡ w.out.room
-    write-own =
-        write-room id
-        ∙ cond-true (same_consumer id id) w.out.room (room_at id (rooms_of m.entries)) (same_consumer-refl id)
-
-    by-room : (P : ℕ → ℕ → Type 0) → P row.out.room w.out.room → ((k : ℕ) → P k k) → (other : ConsumerId)
-        → P (room_at other (rooms_of m.entries)) (room_at other (rooms_of n.entries))
-    by-room P own same other = by (cases_Bool (same_consumer id other))
-      where
-        by : (same_consumer id other ≡ true) ⊎ (same_consumer id other ≡ false)
-            → P (room_at other (rooms_of m.entries)) (room_at other (rooms_of n.entries))
-        by (inl is) =
-            let before : room_at other (rooms_of m.entries) ≡ row.out.room =
-            ap (λ (i : ConsumerId). room_at i (rooms_of m.entries)) (sym (same_consumer-true id other is))
-            ∙ found-room row found in
-            let after : room_at other (rooms_of n.entries) ≡ w.out.room =
-            write-room other
-            ∙ cond-true (same_consumer id other) w.out.room (room_at other (rooms_of m.entries)) is in
-            subst (λ k. P k (room_at other (rooms_of n.entries))) (sym before) (subst (P row.out.room) (sym after) own)
-        by (inr no_one) =
-            let after : room_at other (rooms_of n.entries) ≡ room_at other (rooms_of m.entries) =
-            write-room other
-            ∙ cond-false (same_consumer id other) w.out.room (room_at other (rooms_of m.entries)) no_one in
-            subst (P (room_at other (rooms_of m.entries))) (sym after) (same (room_at other (rooms_of m.entries)))
-
-    pub room-same : w.out.room ≡ row.out.room → (other : ConsumerId)
-        → room_at other (rooms_of n.entries) ≡ room_at other (rooms_of m.entries)
-    room-same is other = by-room (λ before after. after ≡ before) is (λ k. refl) other
-
-    pub room-more : row.out.room ≤ w.out.room → (other : ConsumerId)
-        → room_at other (rooms_of m.entries) ≤ room_at other (rooms_of n.entries)
-    room-more more other = by-room (λ before after. before ≤ after) more (λ k. omega arith) other
-
-    pub room-less : w.out.room + 1 ≡ row.out.room → (other : ConsumerId)
-        → room_at other (rooms_of n.entries) + cond (same_consumer id other) 1 0 ≡ room_at other (rooms_of m.entries)
-    room-less less other = by (cases_Bool (same_consumer id other))
-      where
-        by : (same_consumer id other ≡ true) ⊎ (same_consumer id other ≡ false)
-            → room_at other (rooms_of n.entries) + cond (same_consumer id other) 1 0 ≡ room_at other
-            (rooms_of m.entries)
-        by (inl is) =
-            let before : room_at other (rooms_of m.entries) ≡ row.out.room =
-            ap (λ (i : ConsumerId). room_at i (rooms_of m.entries)) (sym (same_consumer-true id other is))
-            ∙ found-room row found in
-            let after : room_at other (rooms_of n.entries) ≡ w.out.room =
-            write-room other
-            ∙ cond-true (same_consumer id other) w.out.room (room_at other (rooms_of m.entries)) is in
-            let one : ◌≡◌ {A = ℕ} (cond (same_consumer id other) 1 0) 1 = cond-true (same_consumer id other) 1 0 is in
-            omega (arith, before, after, one, less)
-        by (inr no_one) =
-            let after : room_at other (rooms_of n.entries) ≡ room_at other (rooms_of m.entries) =
-            write-room other
-            ∙ cond-false (same_consumer id other) w.out.room (room_at other (rooms_of m.entries)) no_one in
-            let one : ◌≡◌ {A = ℕ} (cond (same_consumer id other) 1 0) 0 = cond-false
-            (same_consumer id other) 1 0 no_one in
-            omega (arith, after, one)
+    -- a write that leaves what the consumer was
+    pub write-back : (journal : List Step) (touched : List ConsumerId) → CanGoBack m.entries journal touched (spare m)
+        → w.row.consumer.id ≡ row.row.consumer.id → (IsGiven row.row → IsGiven w.row) → w.base ≡ row.base
+        → w.row.out.base ≡ row.row.out.base → CanGoBack n.entries journal (id ∷ touched) (spare n)
+    write-back journal touched can same given base out = record {
+      joined =
+          write-joined same given
+          (λ was. subst (λ (items : List (Numbered ReadyRow)). (id ≡ w.base.id) × AreGiven w.base items) (sym out)
+          (subst (λ (k : Consumer). (id ≡ k.id) × AreGiven k row.row.out.base) (sym base) was));
+      steps =
+          subst (CanUndo journal)
+          (sym (ap (seen base_id) wrote.0 ∙ seen-set base_id id m.entries row w (sym found)
+          (ap (λ (k : Consumer). k.id) base))) can.steps;
+      tracked =
+          subst (AllByRecursion (IsTracked (id ∷ touched))) (sym wrote.0)
+          (kept-set_value (IsTracked (id ∷ touched)) id m.entries w (more-tracked id touched m.entries can.tracked)
+          (λ e was here. inr (inl (sym (same_consumer-true id e.0 here)))));
+      room = subst (λ k. length journal ≤ k) (sym wrote.6) can.room;
+    }

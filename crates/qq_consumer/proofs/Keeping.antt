@@ -19,12 +19,12 @@ use Rattle.qq_parts.specs.Parts.{Served}
 use Rattle.qq_parts.specs.Outs.{hand_to, serve_one}
 use Rattle.qq_parts.specs.Turns.{may_serve}
 use Rattle.qq_parts.specs.Consumers.{needed_one}
-use Rattle.qq_consumer.specs.Numbers.{AreBelow, item_by}
+use Rattle.qq_consumer.specs.Numbers.{AreBelow}
 use Rattle.qq_consumer.specs.declared.row.ConsumerRow.{ConsumerRow}
 use Rattle.qq_consumer.specs.Roster.{is_one, one_of, is_there, served_of}
 use Rattle.qq_consumer.specs.Turns.{turn_of, waiting_turn, Waiting, IsQueue, IsKept, leave, enter}
 use Rattle.qq_consumer.proofs.Ones.{other-handed, own-handed, other-joined, own-joined}
-use Rattle.qq_consumer.proofs.Queueing.{stays-queue, leave-queue, enter-queue, below-last, found-turn}
+use Rattle.qq_consumer.proofs.Queueing.{stays-queue, leave-queue, enter-queue, below-last}
 
 -- ---- the queue
 
@@ -81,17 +81,6 @@ entered-below id old new last later ws queue less (inl none) =
 entered-below id old new last later ws queue less (inr drawn) =
     subst (λ (o : Option ℕ). IfSome o (λ n. AreBelow n (leave (waiting_turn old id) ws))) (sym drawn)
     (below-last last later (leave (waiting_turn old id) ws) (left-queue id old last ws queue).drawn less)
-
--- the one that leaves makes room
-pub left-room : (id : ConsumerId) (old : List Served) (last : ℕ) (ws : Waiting) (before after : ℕ)
-    → IsQueue (waiting_turn old) last ws → is_some (waiting_turn old id) ≡ true
-    → IfSome (waiting_turn old id) (λ n. is_some (item_by n ws) ≡ true → before + 1 ≤ after) → before + 1 ≤ after
-left-room id old last ws before after queue there freed = by (waiting_turn old id) refl there freed
-  where
-    by : (o : Option ℕ) → waiting_turn old id ≡ o → is_some o ≡ true
-        → IfSome o (λ n. is_some (item_by n ws) ≡ true → before + 1 ≤ after) → before + 1 ≤ after
-    by None is some room = absurd (false≢true some)
-    by (Some n) is some room = room (found-turn n id ws (queue.all id n is))
 
 -- a consumer's turn is its own, if it may be served
 pub drawn-turn : (one : Served) (turn : ℕ) → one.consumer.turn ≡ turn → (turn_of one ≡ None) ⊎ (turn_of one ≡ Some turn)

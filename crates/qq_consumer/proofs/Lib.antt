@@ -1,7 +1,9 @@
+mod Back
 mod Calls
 mod Changing
 mod Copying
 mod Cutting
+mod GoingBack
 mod JoinedRows
 mod Keeping
 mod NextOne

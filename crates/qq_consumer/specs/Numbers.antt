@@ -4,15 +4,20 @@ use Rattle.std.specs.List.{AllByRecursion}
 use Rattle.std.specs.Option.{option_map, option_map_or}
 use Rattle.qq_consumer.specs.declared.rising.Numbered.{Numbered}
 
--- a rising list, and for how many more items there is memory
+-- a rising list, and what it was at the last commit
 pub record RisingList (T : Type 0) : Type 0 where
   pub items : List (Numbered T)
-  pub room : ℕ
+  pub base : List (Numbered T)
 
 -- each number is below those behind it
 abbrev pub Rises : {T : Type 0} → List (Numbered T) → Type 0
 Rises [] = Unit {0}
 Rises {T = T} (one ∷ rest) = AllByRecursion (λ (other : Numbered T). one.number < other.number) rest × Rises rest
+
+-- the items rise, and those at the last commit
+pub record AreRising {T : Type 0} (items base : List (Numbered T)) : Type 0 where
+  pub now : Rises items
+  pub before : Rises base
 
 -- all numbers are below this one
 abbrev pub AreBelow : {T : Type 0} → ℕ → List (Numbered T) → Type 0

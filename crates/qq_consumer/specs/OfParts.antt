@@ -1,5 +1,5 @@
 -- The consumers of a queue are those of its parts, and what the calls make of them the parts' own changes.
-use Rattle.std.specs.Prelude.{◌≡◌, ℕ, ◌≤◌, true, Option, Some, None}
+use Rattle.std.specs.Prelude.{◌≡◌, Option, Some, None}
 use Rattle.qq_base.specs.declared.ids.ConsumerId.{ConsumerId}
 use Rattle.qq_entry.specs.declared.answer.Cause.{Cause}
 use Rattle.qq_entry.specs.declared.answer.Cause.TheVariants.{NumberSpent, ConsumersFull}
@@ -9,7 +9,7 @@ use Rattle.qq_gone.specs.Reduced.{Item}
 use Rattle.qq_parts.specs.Parts.{Parts}
 use Rattle.qq_parts.specs.Outs.{hand_over, joined}
 use Rattle.qq_parts.specs.Consumers.{changed, keep_ones, needed_one}
-use Rattle.qq_consumer.specs.Roster.{Roster, ConsumersState, roster_of, check_out, join, put_one, drop_finished, IsRefusal, KeepsRoom, is_there, room_at}
+use Rattle.qq_consumer.specs.Roster.{Roster, roster_of, check_out, join, put_one, drop_finished, IsRefusal}
 use Rattle.qq_consumer.specs.declared.fault.SubscribeFault.TheVariants as fault
 
 -- the consumers of parts, and the turns that they have drawn
@@ -28,9 +28,3 @@ pub record TellsRule (refusal : Option Cause) : Type 0 where
   pub spent : IsRefusal fault.NumberSpent refusal → refusal ≡ Some NumberSpent
   pub full : IsRefusal fault.ConsumersFull refusal → refusal ≡ Some ConsumersFull
   pub memory : IsRefusal fault.Memory refusal → refusal ≡ None
-
--- a consumer that is still there has the room that was made for it
-abbrev pub HasRoomStill : ConsumersState → ConsumersState → Type 0
-HasRoomStill old new =
-    (id : ConsumerId) (n : ℕ) → KeepsRoom old new → is_there id new.roster.served ≡ true
-    → n ≤ room_at id old.room.out → n ≤ room_at id new.room.out

@@ -1,7 +1,6 @@
 -- What each call makes of the consumers of a queue and of what is out with them, as the parts of a queue have them.
-use Rattle.std.specs.Prelude.{◌≡◌, ℕ, ◌+◌, ◌-◌, ◌<◌, ◌≤◌, ◌^◌, List, [], ◌∷◌, ◌++◌, Option, Some, None, Bool, true, false, not, ◌&&◌, ◌||◌, nat_eq, nat_lt, nat_le, map, filter, find, length, is_some, unwrap_or, IfSome, if◌then◌else◌}
+use Rattle.std.specs.Prelude.{◌≡◌, ◌⊎◌, ℕ, ◌+◌, ◌-◌, ◌<◌, ◌^◌, List, [], ◌∷◌, ◌++◌, Option, Some, None, Bool, true, false, not, ◌&&◌, ◌||◌, nat_eq, nat_lt, nat_le, map, filter, find, length, is_some, IfSome, if◌then◌else◌}
 use Rattle.std.specs.Option.{option_map_or}
-use Rattle.std.specs.Map.{lookup}
 use Rattle.qq_base.specs.declared.ids.SessionId.{SessionId}
 use Rattle.qq_base.specs.declared.ids.ConsumerId.{ConsumerId}
 use Rattle.qq_base.specs.Ids.{same_consumer}
@@ -25,28 +24,18 @@ use Rattle.qq_consumer.specs.declared.rising.Numbered.{Numbered}
 use Rattle.qq_consumer.specs.declared.row.ConsumerRow.{ConsumerRow}
 use Rattle.qq_consumer.specs.declared.fault.SubscribeFault.{SubscribeFault}
 use Rattle.qq_consumer.specs.declared.fault.SubscribeFault.TheVariants as fault
+use Rattle.qq_consumer.specs.declared.fault.CreditFault.{CreditFault}
+use Rattle.qq_consumer.specs.declared.fault.CreditFault.TheVariants as uncredited
 
 -- the consumers in the order of joining, each with what is out with it, and how many turns were drawn
 pub record Roster : Type 0 where
   pub served : List Served
   pub turns : ℕ
 
--- for how many more deliveries to each consumer there is memory
-abbrev pub Rooms : Type 0
-Rooms = List (ConsumerId × ℕ)
-
--- to the consumer of an id, 0 where it isn't there
-abbrev pub room_at : ConsumerId → Rooms → ℕ
-room_at id rooms = unwrap_or (lookup (same_consumer id) rooms) 0
-
--- and for how many more consumers that begin to wait
-pub record Room : Type 0 where
-  pub waits : ℕ
-  pub out : Rooms
-
+-- the consumers, and those at the last commit
 pub record ConsumersState : Type 0 where
   pub roster : Roster
-  pub room : Room
+  pub base : Roster
 
 abbrev pub roster_of : List Served → ℕ → Roster
 roster_of served turns = record { served = served; turns = turns }
@@ -303,9 +292,23 @@ end_by (Some one) r = record r { served = remove_one one.consumer.id r.served }
 abbrev pub end : SessionId → Roster → Roster
 end session r = end_by (first_of session r.served) r
 
--- Room ------------------------------------------------------------------------------------------------
+-- Errors ----------------------------------------------------------------------------------------------
 
--- consumers that are still there have no less room for deliveries
-abbrev pub KeepsRoom : ConsumersState → ConsumersState → Type 0
-KeepsRoom old new =
-    (id : ConsumerId) → is_there id new.roster.served ≡ true → room_at id old.room.out ≤ room_at id new.room.out
+-- the consumers are as before, or as at the last commit
+abbrev pub IsBack : ConsumersState → ConsumersState → Type 0
+IsBack old new = (new.roster ≡ old.roster) ⊎ (new.roster ≡ old.base)
+
+-- a subscribe that a rule refuses changes nothing
+abbrev pub StaysUnsubscribed : SubscribeFault → ConsumersState → ConsumersState → Type 0
+StaysUnsubscribed (fault.Memory) old new = IsBack old new
+StaysUnsubscribed _ old new = new.roster ≡ old.roster
+
+-- a refusal is the rule's, and out of memory comes only where nothing is refused
+abbrev pub IsCreditFault : CreditFault → Option Cause → Type 0
+IsCreditFault (uncredited.Refused cause) refusal = refusal ≡ Some cause
+IsCreditFault (uncredited.Memory) refusal = refusal ≡ None
+
+-- a credit that a rule refuses changes nothing
+abbrev pub StaysUncredited : CreditFault → ConsumersState → ConsumersState → Type 0
+StaysUncredited (uncredited.Refused cause) old new = new.roster ≡ old.roster
+StaysUncredited (uncredited.Memory) old new = IsBack old new

@@ -7,7 +7,7 @@ use Rattle.qq_parts.specs.Parts.{Served}
 use Rattle.qq_parts.specs.Turns.{may_serve}
 use Rattle.qq_parts.specs.Consumers.{needed_one}
 use Rattle.qq_consumer.specs.declared.rising.Numbered.{Numbered}
-use Rattle.qq_consumer.specs.Numbers.{Rises, with_item, without}
+use Rattle.qq_consumer.specs.Numbers.{RisingList, Rises, with_item, without}
 use Rattle.qq_consumer.specs.Roster.{Roster, one_of}
 
 -- the turn of a consumer that may be served
@@ -53,6 +53,11 @@ place_in id (Some turn) waiting = with_item (waiter turn id) waiting
 pub record IsKept (waiting : Waiting) (r : Roster) : Type 0 where
   pub queue : IsQueue (waiting_turn r.served) r.turns waiting
   pub needed : AllByRecursion (λ (one : Served). needed_one one ≡ true) r.served
+
+-- so it is now, and was at the last commit
+pub record AreKept (waiting : RisingList ConsumerId) (now before : Roster) : Type 0 where
+  pub now_kept : IsKept waiting.items now
+  pub before_kept : IsKept waiting.base before
 
 -- one that may be served has a turn that was drawn
 abbrev pub HasDrawn : ℕ → Served → Type 0

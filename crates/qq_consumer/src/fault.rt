@@ -1,3 +1,4 @@
+use qq_entry::Cause;
 use thiserror::Error;
 
 /// Why a consumer doesn't join.
@@ -9,6 +10,17 @@ pub enum SubscribeFault {
     /// The queue has as many consumers as it may have.
     #[error("the queue has as many consumers as it may have")]
     ConsumersFull,
+    /// Out of memory.
+    #[error("out of memory")]
+    Memory,
+}
+
+/// Why a consumer gets no credit.
+#[derive(Clone, Copy, Debug, Error)]
+pub enum CreditFault {
+    /// A rule refuses it.
+    #[error("refused")]
+    Refused(Cause),
     /// Out of memory.
     #[error("out of memory")]
     Memory,

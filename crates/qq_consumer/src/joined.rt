@@ -1,18 +1,19 @@
-ghost use Rattle.std.specs.Prelude.{◌≡◌, ◌+◌, ◌<◌, ◌≤◌, ◌++◌, ◌∷◌, [], false, true, not, filter, map, length, slice_get, is_some, nat_lt, IfSome, Some, None, IfOk, OnOk, OnErr, IsOkUnless, if◌then◌else◌};
+ghost use Rattle.std.specs.Prelude.{◌≡◌, ◌<◌, ◌++◌, ◌∷◌, [], false, map, length, slice_get, IfSome, Some, None, IfOk, OnOk, OnErr, IsOkUnless, if◌then◌else◌};
 ghost use Rattle.std.specs.List.{AllByRecursion};
 ghost use Rattle.std.specs.Option.{option_copied, option_map};
-ghost use Rattle.std.specs.VecDeque.{deque_len, deque_capacity};
-ghost use Rattle.qq_base.specs.Ids.{same_consumer};
 ghost use Rattle.qq_model.specs.declared.place.Place.{Place};
 ghost use Rattle.qq_parts.specs.Parts.{HasOut, AreApart};
 ghost use Rattle.qq_parts.specs.Outs.{hand_to};
-ghost use Rattle.qq_consumer.specs.Roster.{served_of, item_at, one_of, is_one, is_there, put_one, put_rest, taken_rows, CanCount, room_at, remove_one, first_of, is_one_of};
+ghost use Rattle.qq_consumer.specs.Roster.{served_of, item_at, one_of, is_there, put_one, put_rest, taken_rows, CanCount, remove_one, first_of, is_one_of};
 ghost use Rattle.qq_consumer.specs.Joined.{IsGiven};
 ghost use Rattle.qq_consumer.specs.Turns.{waiting_turn};
 ghost use Rattle.qq_consumer.specs.Next.{IsNextOf};
 
 use crate::next::Next;
 use crate::row::{ConsumerRow, copy_row, next_of, serve_one, take_ids, turn_of};
+use crate::seat::Seat;
+use crate::seats::{Rows, commit_seats, make_room, undo_seats, undo_steps};
+use crate::step::Step;
 use indexmap::IndexMap;
 use qq_base::{ConsumerId, Memory, SessionId};
 use qq_entry::ReadyRow;
@@ -22,31 +23,42 @@ use std::collections::VecDeque;
 use std::marker::Model;
 
 /// The consumers under their ids, in the order of joining.
+///
+/// Contracts see them and their base: the consumers at the last commit. A consumer that changed is
+/// touched, and knows what it was. Who joined and who left since is in the journal, the newest step
+/// first. The rows have spare memory for each step, so that whoever left can come back.
 #[derive(Debug, Drop)]
 pub struct Joined {
-    rows: IndexMap<ConsumerId, ConsumerRow>,
+    rows: Rows,
+    journal: VecDeque<Step>,
+    touched: VecDeque<ConsumerId>,
 }
 
 impl Model for Joined {
-    ghost use Rattle.qq_consumer.specs.Joined.{JoinedState, AreJoined, ones_of, rooms_of};
+    ghost use Rattle.indexmap.specs.IndexMap.{spare};
+    ghost use Rattle.qq_consumer.specs.Joined.{JoinedState, CanGoBack, ones_of, bases_of, base_one, undone};
 
     ghost Value = { JoinedState };
 
     ghost view = { λ j. record {
       served = ones_of j.rows.entries;
-      rooms = rooms_of j.rows.entries;
+      base = undone base_one j.journal.items (bases_of j.rows.entries);
     } };
 
-    ghost invariant = { λ j. AreJoined j.rows.entries };
+    ghost invariant = { λ j.
+        CanGoBack j.rows.entries j.journal.items j.touched.items (spare j.rows) };
 }
 
 impl Joined {
     /// No consumers. It takes no memory.
     pub fn new(alloc: Global) -> Self
-        ensures { result.served ≡ [] }
+        ensures served { result.served ≡ [] }
+        ensures base { result.base ≡ [] }
     {
         Joined {
             rows: IndexMap::new(alloc),
+            journal: VecDeque::new(alloc),
+            touched: VecDeque::new(alloc),
         }
     }
 
@@ -66,7 +78,7 @@ impl Joined {
     {
         match self.rows.get_index(place) {
             None => None,
-            Some((_, row)) => Some(row),
+            Some((_, seat)) => Some(&seat.row),
         }
     }
 
@@ -87,7 +99,10 @@ impl Joined {
         ensures value { option_map served_of (option_copied result) ≡ one_of id self.now.served }
         ensures apart { AreApart self.now.served }
     {
-        self.rows.get(&id)
+        match self.rows.get(&id) {
+            None => None,
+            Some(seat) => Some(&seat.row),
+        }
     }
 
     /// What follows for a consumer, whose free credit was this before.
@@ -111,91 +126,114 @@ impl Joined {
     }
 
     /// A consumer joins at the end. Nobody may have its id.
-    pub fn push(&mut self, row: ConsumerRow) -> Result<(), Memory>
+    pub fn push(&mut self, mut row: ConsumerRow) -> Result<(), Memory>
         requires free { is_there row.consumer.id self.old.served ≡ false }
         requires given { IsGiven row }
 
         ensures ok { OnOk result (self.new.served ≡ self.old.served ++ served_of row ∷ []) }
-        ensures room { OnOk result (room_at row.consumer.id self.new.rooms ≡ row.out.room) }
-        ensures rooms { (id : ConsumerId) →
-            OnOk result (room_at id self.old.rooms ≤ room_at id self.new.rooms) }
-        ensures err { OnErr result (self.new ≡ self.old) }
+        ensures err { OnErr result (self.new.served ≡ self.old.served) }
+        ensures base { self.new.base ≡ self.old.base }
         ensures want { IsOkUnless result Memory.Want }
     {
-        self.rows.insert(row.consumer.id, row)?;
+        row.out.commit();
+        let seat = Seat {
+            base: row.consumer,
+            row,
+        };
+        make_room(&mut self.rows, &mut self.journal, 2)?;
+        self.rows.insert(seat.base.id, seat)?;
+        self.journal.push_front_reserved(Step::Joined);
         Ok(())
     }
 
-    /// Makes room for `n` more deliveries to a consumer, if it is there.
-    pub fn reserve(&mut self, id: ConsumerId, n: usize) -> Result<(), Memory>
-        ensures served { self.new.served ≡ self.old.served }
-        ensures room { (other : ConsumerId) → room_at other self.old.rooms
-            ≤ room_at other self.new.rooms }
-        ensures ok { is_there id self.old.served ≡ true → OnOk result (n
-            ≤ room_at id self.new.rooms) }
-        ensures want { IsOkUnless result Memory.Want }
-    {
-        let Some(row) = self.rows.get_mut(&id) else {
-            return Ok(());
-        };
-        row.out.reserve(n)
-    }
-
-    /// A message goes to a consumer, for which there has to be room. It gets this turn.
-    pub fn hand_to(&mut self, turn: u64, message: ReadyRow, id: ConsumerId)
-        requires room { 0 < room_at id self.old.rooms }
+    /// A message goes to a consumer, which gets this turn.
+    pub fn hand_to(&mut self, turn: u64, message: ReadyRow, id: ConsumerId) -> Result<(), Memory>
         requires counts { IfSome (one_of id self.old.served) (λ one. CanCount one.consumer) }
 
-        ensures served { (place : Place) →
-            self.new.served ≡ hand_to turn (item_at place message) id self.old.served }
-        ensures room { (other : ConsumerId) → room_at other self.new.rooms
-            + (if same_consumer id other then 1 else 0) ≡ room_at other self.old.rooms }
+        ensures served { OnOk result ((place : Place) →
+            self.new.served ≡ hand_to turn (item_at place message) id self.old.served) }
+        ensures err { OnErr result (self.new.served ≡ self.old.served) }
+        ensures base { self.new.base ≡ self.old.base }
+        ensures want { IsOkUnless result Memory.Want }
     {
-        let Some(row) = self.rows.get_mut(&id) else {
-            return;
+        self.touched.push_front(id)?;
+        let Some(seat) = self.rows.get_mut(&id) else {
+            return Ok(());
         };
-        serve_one(row, turn, message);
+        serve_one(&mut seat.row, turn, message)
     }
 
     /// The consumer of an id is this one. The id of its next delivery stays.
-    pub fn put(&mut self, new: Consumer)
+    pub fn put(&mut self, new: Consumer) -> Result<(), Memory>
         requires { IfSome (one_of new.id self.old.served) (λ one. new.next_id
             ≡ one.consumer.next_id) }
 
-        ensures served { self.new.served ≡ put_one new self.old.served }
-        ensures room { (id : ConsumerId) → room_at id self.new.rooms ≡ room_at id self.old.rooms }
+        ensures served { OnOk result (self.new.served ≡ put_one new self.old.served) }
+        ensures err { OnErr result (self.new.served ≡ self.old.served) }
+        ensures base { self.new.base ≡ self.old.base }
+        ensures want { IsOkUnless result Memory.Want }
     {
-        let Some(row) = self.rows.get_mut(&new.id) else {
-            return;
+        self.touched.push_front(new.id)?;
+        let Some(seat) = self.rows.get_mut(&new.id) else {
+            return Ok(());
         };
-        row.consumer = new;
+        seat.row.consumer = new;
+        Ok(())
     }
 
     /// Those of the ids that are out with a consumer are taken out, in the given order, and put
-    /// behind these messages.
-    pub fn take_ids(&mut self, id: ConsumerId, ids: &[u64], rows: &mut VecDeque<ReadyRow>)
-        requires { deque_len rows.old + length ids.now ≤ deque_capacity rows.old }
-
-        ensures rows { IfSome (one_of id self.old.served) (λ one.
-            rows.new.items ≡ rows.old.items ++ taken_rows ids.now one) }
-        ensures served { self.new.served ≡ put_rest id ids.now self.old.served }
-        ensures room { (other : ConsumerId) → room_at other self.old.rooms
-            ≤ room_at other self.new.rooms }
+    /// behind these messages. After an error some may have been taken out.
+    pub fn take_ids(
+        &mut self,
+        id: ConsumerId,
+        ids: &[u64],
+        rows: &mut VecDeque<ReadyRow>,
+    ) -> Result<(), Memory>
+        ensures rows { OnOk result (IfSome (one_of id self.old.served) (λ one.
+            rows.new.items ≡ rows.old.items ++ taken_rows ids.now one)) }
+        ensures served { OnOk result (self.new.served ≡ put_rest id ids.now self.old.served) }
+        ensures base { self.new.base ≡ self.old.base }
+        ensures want { IsOkUnless result Memory.Want }
     {
-        let Some(row) = self.rows.get_mut(&id) else {
-            return;
+        self.touched.push_front(id)?;
+        let Some(seat) = self.rows.get_mut(&id) else {
+            return Ok(());
         };
-        take_ids(row, ids, rows);
+        take_ids(&mut seat.row, ids, rows)
     }
 
-    /// Takes out a consumer, with what is out with it.
-    pub fn take(&mut self, id: ConsumerId) -> Option<ConsumerRow>
-        ensures value { option_map served_of result ≡ one_of id self.old.served }
-        ensures served { self.new.served ≡ remove_one id self.old.served }
-        ensures room { (other : ConsumerId) → room_at other self.new.rooms
-            ≡ (if same_consumer id other then 0 else room_at other self.old.rooms) }
+    /// A consumer leaves, with what is out with it.
+    pub fn leave(&mut self, id: ConsumerId) -> Result<(), Memory>
+        ensures served { OnOk result (self.new.served ≡ remove_one id self.old.served) }
+        ensures err { OnErr result (self.new.served ≡ self.old.served) }
+        ensures base { self.new.base ≡ self.old.base }
+        ensures want { IsOkUnless result Memory.Want }
     {
-        self.rows.shift_remove(&id)
+        make_room(&mut self.rows, &mut self.journal, 1)?;
+        let Some((place, _, seat)) = self.rows.shift_remove_full(&id) else {
+            return Ok(());
+        };
+        self.journal.push_front_reserved(Step::Left(place, seat));
+        Ok(())
+    }
+
+    /// Makes these consumers the base. It takes no memory, and time for the changes since the last
+    /// commit.
+    pub fn commit(&mut self)
+        ensures served { self.new.served ≡ self.old.served }
+        ensures base { self.new.base ≡ self.old.served }
+    {
+        commit_seats(&mut self.rows, &mut self.touched);
+        self.journal.clear();
+    }
+
+    /// Makes the base the consumers again. It takes no memory.
+    pub fn undo(&mut self)
+        ensures served { self.new.served ≡ self.old.base }
+        ensures base { self.new.base ≡ self.old.base }
+    {
+        undo_steps(&mut self.rows, &mut self.journal);
+        undo_seats(&mut self.rows, &mut self.touched);
     }
 
     fn is_at(&self, session: SessionId, place: usize) -> Option<ConsumerId>
@@ -228,17 +266,17 @@ impl Joined {
         None
     }
 
-    /// The same consumers, with copies of what is out with them. Room isn't copied.
+    /// The same consumers, with copies of what is out with them.
     pub fn copy(&self, alloc: Global) -> Result<Self, Memory>
         ensures ok { IfOk result (λ twin. twin.served ≡ self.now.served) }
+        ensures base { IfOk result (λ twin. twin.base ≡ self.now.served) }
         ensures want { IsOkUnless result Memory.Want }
     {
         let mut twin = Joined::new(alloc);
-        let len = self.len();
-        twin.rows.reserve(len)?;
-        'rows: for place in 0..len {
+        'rows: for place in 0..self.len() {
             twin.push(copy_row(alloc, self.row(place))?)?;
         }
+        twin.commit();
         Ok(twin)
     }
 }

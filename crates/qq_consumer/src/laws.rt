@@ -1,8 +1,7 @@
 ghost use Rattle.std.specs.Prelude.{Option};
 ghost use Rattle.qq_entry.specs.declared.answer.Cause.{Cause};
 ghost use Rattle.qq_parts.specs.Parts.{Parts};
-ghost use Rattle.qq_consumer.specs.Roster.{ConsumersState};
-ghost use Rattle.qq_consumer.specs.OfParts.{AreOfParts, TellsRule, HasRoomStill};
+ghost use Rattle.qq_consumer.specs.OfParts.{AreOfParts, TellsRule};
 
 /// A law: the consumers that contracts see are those of the parts of a queue, and a delivery, a consumer
 /// that joins, one that changes, and those that leave are the changes that `qq_parts` proves of them.
@@ -13,9 +12,4 @@ pub fn these_are_the_consumers_of_parts()
 /// A law: a refused subscribe tells which rule refused it, and out of memory that none did.
 pub fn a_refusal_tells_its_rule()
     ensures { (refusal : Option Cause) → TellsRule refusal }
-{}
-
-/// A law: where a call keeps room, a consumer that is still there has as much as was made for it.
-pub fn room_that_was_made_is_there()
-    ensures { (old new : ConsumersState) → HasRoomStill old new }
 {}

@@ -9,12 +9,13 @@ mod laws;
 mod next;
 mod rising;
 mod row;
+mod seat;
+mod seats;
+mod step;
 
 pub use consumers::Consumers;
-pub use fault::SubscribeFault;
-pub use laws::{
-    a_refusal_tells_its_rule, room_that_was_made_is_there, these_are_the_consumers_of_parts,
-};
+pub use fault::{CreditFault, SubscribeFault};
+pub use laws::{a_refusal_tells_its_rule, these_are_the_consumers_of_parts};
 pub use qq_base::{ConsumerId, Memory, SessionId};
 pub use qq_entry::{Cause, Mode, ReadyRow};
 pub use qq_model::Consumer;

@@ -1,9 +1,10 @@
-ghost use Rattle.std.specs.Prelude.{◌≡◌, ◌+◌, ◌<◌, ◌≤◌, ◌++◌, ◌∷◌, [], true, length, slice_get, insert, remove, is_some, nat_eq, Some, IfOk, IsOkUnless, OnOk};
+ghost use Rattle.std.specs.Prelude.{◌≡◌, ◌<◌, ◌≤◌, ◌++◌, ◌∷◌, [], true, length, slice_get, insert, remove, nat_eq, Some, IfOk, IsOkUnless, OnOk, OnErr};
 ghost use Rattle.std.specs.Option.{option_copied, option_map};
-ghost use Rattle.std.specs.VecDeque.{deque_len, deque_capacity};
 ghost use Rattle.qq_consumer.specs.Numbers.{Rises, AreBelow, IsFree, item_by, with_item, without, without_first, place_of, is_at};
 
-use qq_base::{Duplicate, Memory};
+use qq_base::{ConsumerId, Duplicate, Memory};
+use qq_entry::ReadyRow;
+use qq_undo::UndoDeque;
 use std::alloc::Global;
 use std::collections::VecDeque;
 use std::marker::Model;
@@ -16,24 +17,25 @@ pub struct Numbered<T> {
 }
 
 /// A list whose numbers rise. A number is found by binary search.
+///
+/// Contracts see its items and its base: the items at the last commit. `undo` makes these the items
+/// again, and takes no memory.
 #[derive(Debug, Drop)]
 pub struct Rising<T> {
-    rows: VecDeque<Numbered<T>>,
+    rows: UndoDeque<Numbered<T>>,
 }
 
 impl<T> Model for Rising<T> {
-    ghost use Rattle.std.specs.Prelude.{◌-◌};
-    ghost use Rattle.std.specs.VecDeque.{deque_len, deque_capacity};
-    ghost use Rattle.qq_consumer.specs.Numbers.{RisingList, Rises};
+    ghost use Rattle.qq_consumer.specs.Numbers.{RisingList, AreRising};
 
     ghost Value = { RisingList T };
 
     ghost view = { λ r. record {
       items = r.rows.items;
-      room = deque_capacity r.rows - deque_len r.rows;
+      base = r.rows.base;
     } };
 
-    ghost invariant = { λ r. Rises r.rows.items };
+    ghost invariant = { λ r. AreRising r.rows.items r.rows.base };
 }
 
 // The first place at which the number isn't below this one.
@@ -45,7 +47,15 @@ fn place_of<T>(number: u64, rows: &VecDeque<Numbered<T>>) -> usize
     rows.partition_point(|row| row.number < number)
 }
 
-fn is_at<T>(number: u64, place: usize, rows: &VecDeque<Numbered<T>>) -> bool
+fn place_in<T>(number: u64, rows: &UndoDeque<Numbered<T>>) -> usize
+    requires { Rises rows.now.items }
+
+    ensures { result ≡ place_of number rows.now.items }
+{
+    place_of(number, rows.as_deque())
+}
+
+fn is_at<T>(number: u64, place: usize, rows: &UndoDeque<Numbered<T>>) -> bool
     ensures { result ≡ is_at number place rows.now.items }
 {
     match rows.get(place) {
@@ -54,32 +64,7 @@ fn is_at<T>(number: u64, place: usize, rows: &VecDeque<Numbered<T>>) -> bool
     }
 }
 
-fn take_at<T: Drop>(rows: &mut VecDeque<Numbered<T>>, place: usize) -> Numbered<T>
-    requires { place < length rows.old.items }
-
-    ensures value { slice_get rows.old.items place ≡ Some result }
-    ensures items { rows.new.items ≡ remove rows.old.items place }
-    ensures len { deque_len rows.new + 1 ≡ deque_len rows.old }
-    ensures capacity { deque_capacity rows.new ≡ deque_capacity rows.old }
-{
-    rows.remove(place).unwrap()
-}
-
-fn insert_at<T: Drop>(rows: &mut VecDeque<Numbered<T>>, place: usize, one: Numbered<T>)
-    requires room { deque_len rows.old < deque_capacity rows.old }
-    requires place { place ≤ deque_len rows.old }
-
-    ensures items { rows.new.items ≡ insert rows.old.items place one }
-    ensures len { deque_len rows.new ≡ deque_len rows.old + 1 }
-    ensures capacity { deque_capacity rows.old ≤ deque_capacity rows.new }
-{
-    match rows.insert(place, one) {
-        Ok(()) => {}
-        Err(_) => unreachable!(),
-    }
-}
-
-impl<T: Duplicate> Duplicate for Numbered<T> {
+impl Duplicate for Numbered<ReadyRow> {
     fn copy(&self, alloc: Global) -> Result<Self, Memory> {
         Ok(Numbered {
             number: self.number,
@@ -88,10 +73,16 @@ impl<T: Duplicate> Duplicate for Numbered<T> {
     }
 }
 
-fn copy_rows<T: Duplicate>(
-    alloc: Global,
-    rows: &VecDeque<Numbered<T>>,
-) -> Result<VecDeque<Numbered<T>>, Memory>
+impl Duplicate for Numbered<ConsumerId> {
+    fn copy(&self, _alloc: Global) -> Result<Self, Memory> {
+        Ok(Numbered {
+            number: self.number,
+            item: self.item,
+        })
+    }
+}
+
+fn copy_rows<R: Duplicate>(alloc: Global, rows: &VecDeque<R>) -> Result<VecDeque<R>, Memory>
     ensures ok { IfOk result (λ twin. twin.items ≡ rows.now.items) }
     ensures want { IsOkUnless result Memory.Want }
 {
@@ -102,31 +93,14 @@ fn copy_rows<T: Duplicate>(
     Ok(twin)
 }
 
-fn copy_plain_rows<T: Copy>(
-    alloc: Global,
-    rows: &VecDeque<Numbered<T>>,
-) -> Result<VecDeque<Numbered<T>>, Memory>
-    ensures ok { IfOk result (λ twin. twin.items ≡ rows.now.items) }
-    ensures want { IsOkUnless result Memory.Want }
-{
-    let mut twin = VecDeque::with_capacity(alloc, rows.len())?;
-    'rows: for place in 0..rows.len() {
-        let row = &rows[place];
-        twin.push_back(Numbered {
-            number: row.number,
-            item: row.item,
-        })?;
-    }
-    Ok(twin)
-}
-
 impl<T> Rising<T> {
     /// No items. It takes no memory.
     pub fn new(alloc: Global) -> Self
-        ensures { result.items ≡ [] }
+        ensures items { result.items ≡ [] }
+        ensures base { result.base ≡ [] }
     {
         Rising {
-            rows: VecDeque::new(alloc),
+            rows: UndoDeque::new(alloc),
         }
     }
 
@@ -134,10 +108,11 @@ impl<T> Rising<T> {
     pub fn from_parts(rows: Vec<Numbered<T>>) -> Self
         requires { Rises rows.items }
 
-        ensures { result.items ≡ rows.items }
+        ensures items { result.items ≡ rows.items }
+        ensures base { result.base ≡ rows.items }
     {
         Rising {
-            rows: VecDeque::from_vec(rows),
+            rows: UndoDeque::from_vec(rows),
         }
     }
 
@@ -164,90 +139,96 @@ impl<T> Rising<T> {
 }
 
 impl<T: Drop> Rising<T> {
-    /// Makes room for `n` more.
-    pub fn reserve(&mut self, n: usize) -> Result<(), Memory>
-        ensures items { self.new.items ≡ self.old.items }
-        ensures ok { OnOk result (n ≤ self.new.room) }
-        ensures room { self.old.room ≤ self.new.room }
+    /// Adds an item behind all others.
+    pub fn push(&mut self, number: u64, item: T) -> Result<(), Memory>
+        requires below { AreBelow number self.old.items }
+
+        ensures items { OnOk result (self.new.items
+            ≡ self.old.items ++ record { number = number; item = item } ∷ []) }
+        ensures err { OnErr result (self.new.items ≡ self.old.items) }
+        ensures base { self.new.base ≡ self.old.base }
         ensures want { IsOkUnless result Memory.Want }
     {
-        self.rows.reserve(n)?;
+        self.rows.push_back(Numbered { number, item })?;
         Ok(())
     }
 
-    /// Adds an item behind all others. There has to be room.
-    pub fn push(&mut self, number: u64, item: T)
-        requires room { 0 < self.old.room }
-        requires below { AreBelow number self.old.items }
-
-        ensures items { self.new.items
-            ≡ self.old.items ++ record { number = number; item = item } ∷ [] }
-        ensures room { self.new.room + 1 ≡ self.old.room }
-    {
-        self.rows.push_back_reserved(Numbered { number, item });
-    }
-
-    /// Adds an item at the place of its number, which no item may have. There has to be room.
-    pub fn insert(&mut self, number: u64, item: T)
-        requires room { 0 < self.old.room }
+    /// Adds an item at the place of its number, which no item may have.
+    pub fn insert(&mut self, number: u64, item: T) -> Result<(), Memory>
         requires free { IsFree number self.old.items }
 
-        ensures items { self.new.items
-            ≡ with_item (record { number = number; item = item }) self.old.items }
-        ensures room { self.old.room ≤ self.new.room + 1 }
+        ensures items { OnOk result (self.new.items
+            ≡ with_item (record { number = number; item = item }) self.old.items) }
+        ensures err { OnErr result (self.new.items ≡ self.old.items) }
+        ensures base { self.new.base ≡ self.old.base }
+        ensures want { IsOkUnless result Memory.Want }
     {
-        let place = place_of(number, &self.rows);
-        insert_at(&mut self.rows, place, Numbered { number, item });
+        let place = place_in(number, &self.rows);
+        self.rows.insert(place, Numbered { number, item })?;
+        Ok(())
     }
 
-    /// Takes out the item of a number. None exactly where there is none.
-    pub fn take(&mut self, number: u64) -> Option<T>
-        ensures value { result ≡ item_by number self.old.items }
-        ensures items { self.new.items ≡ without number self.old.items }
-        ensures room { self.old.room ≤ self.new.room }
-        ensures freed { is_some result ≡ true → self.old.room + 1 ≤ self.new.room }
+    /// Makes the items the base. It takes no memory, and time for the changes since the last commit.
+    pub fn commit(&mut self)
+        ensures items { self.new.items ≡ self.old.items }
+        ensures base { self.new.base ≡ self.old.items }
     {
-        let place = place_of(number, &self.rows);
+        self.rows.commit();
+    }
+
+    /// Makes the base the items again. It takes no memory, and time for the changes since the last
+    /// commit.
+    pub fn undo(&mut self)
+        ensures items { self.new.items ≡ self.old.base }
+        ensures base { self.new.base ≡ self.old.base }
+    {
+        self.rows.undo();
+    }
+}
+
+impl<T: Drop> Rising<T>
+where
+    Numbered<T>: Duplicate,
+{
+    /// Takes out the item of a number. None exactly where there is none.
+    pub fn take(&mut self, number: u64) -> Result<Option<T>, Memory>
+        ensures value { IfOk result (λ item. item ≡ item_by number self.old.items) }
+        ensures items { OnOk result (self.new.items ≡ without number self.old.items) }
+        ensures err { OnErr result (self.new.items ≡ self.old.items) }
+        ensures base { self.new.base ≡ self.old.base }
+        ensures want { IsOkUnless result Memory.Want }
+    {
+        let place = place_in(number, &self.rows);
         if !is_at(number, place, &self.rows) {
-            return None;
+            return Ok(None);
         }
-        let one = take_at(&mut self.rows, place);
-        Some(one.item)
+        let one = self.rows.remove(place)?;
+        Ok(Some(one.item))
     }
 
     /// Takes out the first item. None exactly where there is none.
-    pub fn take_first(&mut self) -> Option<T>
-        ensures value { result ≡ option_map (λ one. one.item) (slice_get self.old.items 0) }
-        ensures items { self.new.items ≡ without_first self.old.items }
-        ensures room { self.old.room ≤ self.new.room }
+    pub fn take_first(&mut self) -> Result<Option<T>, Memory>
+        ensures value { IfOk result (λ item. item
+            ≡ option_map (λ one. one.item) (slice_get self.old.items 0)) }
+        ensures items { OnOk result (self.new.items ≡ without_first self.old.items) }
+        ensures err { OnErr result (self.new.items ≡ self.old.items) }
+        ensures base { self.new.base ≡ self.old.base }
+        ensures want { IsOkUnless result Memory.Want }
     {
-        match self.rows.pop_front() {
-            None => None,
-            Some(one) => Some(one.item),
+        match self.rows.pop_front()? {
+            None => Ok(None),
+            Some(one) => Ok(Some(one.item)),
         }
     }
-}
 
-impl<T: Duplicate> Rising<T> {
     /// The same items, in memory of their own.
-    pub fn duplicate(&self, alloc: Global) -> Result<Self, Memory>
-        ensures ok { IfOk result (λ twin. twin.items ≡ self.now.items) }
-        ensures want { IsOkUnless result Memory.Want }
-    {
-        Ok(Rising {
-            rows: copy_rows(alloc, &self.rows)?,
-        })
-    }
-}
-
-impl<T: Copy> Rising<T> {
-    /// The same items.
     pub fn copy(&self, alloc: Global) -> Result<Self, Memory>
         ensures ok { IfOk result (λ twin. twin.items ≡ self.now.items) }
+        ensures base { IfOk result (λ twin. twin.base ≡ self.now.items) }
         ensures want { IsOkUnless result Memory.Want }
     {
         Ok(Rising {
-            rows: copy_plain_rows(alloc, &self.rows)?,
+            rows: UndoDeque::from_deque(copy_rows(alloc, self.rows.as_deque())?),
         })
     }
 }

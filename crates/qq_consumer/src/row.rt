@@ -1,5 +1,5 @@
-ghost use Rattle.std.specs.Prelude.{◌≡◌, ◌+◌, ◌<◌, ◌≤◌, ◌^◌, ◌++◌, ◌∷◌, [], map, length, slice_get, nat_eq, nat_lt, ◌&&◌, Some, IfOk, IsOkUnless};
-ghost use Rattle.std.specs.VecDeque.{deque_len, deque_capacity};
+ghost use Rattle.std.specs.Prelude.{◌≡◌, ◌⊎◌, ◌+◌, ◌<◌, ◌^◌, ◌++◌, ◌∷◌, [], map, length, slice_get, nat_eq, nat_lt, ◌&&◌, Some, IfOk, IsOkUnless, OnOk, OnErr};
+ghost use Rattle.std.specs.Option.{option_to_list};
 ghost use Rattle.qq_model.specs.declared.place.Place.{Place};
 ghost use Rattle.qq_model.specs.Choice.{prefetch_limit, credit_left};
 ghost use Rattle.qq_model.specs.Commands.{new_consumer};
@@ -118,39 +118,51 @@ fn serve(turn: u64, consumer: Consumer) -> Consumer
     })
 }
 
-/// A message goes to a consumer, which gets this turn.
-pub fn serve_one(row: &mut ConsumerRow, turn: u64, message: ReadyRow)
-    requires room { 0 < row.old.out.room }
+/// A message goes to a consumer, which gets this turn. After an error it is as before.
+pub fn serve_one(row: &mut ConsumerRow, turn: u64, message: ReadyRow) -> Result<(), Memory>
     requires counts { CanCount row.old.consumer }
     requires given { IsGiven row.old }
 
-    ensures one { (place : Place) →
-        served_of row.new ≡ serve_one turn (item_at place message) (served_of row.old) }
+    ensures one { OnOk result ((place : Place) →
+        served_of row.new ≡ serve_one turn (item_at place message) (served_of row.old)) }
     ensures id { row.new.consumer.id ≡ row.old.consumer.id }
     ensures given { IsGiven row.new }
-    ensures room { row.new.out.room + 1 ≡ row.old.out.room }
+    ensures err { OnErr result (served_of row.new ≡ served_of row.old) }
+    ensures base { row.new.out.base ≡ row.old.out.base }
+    ensures want { IsOkUnless result Memory.Want }
 {
-    row.out.push(row.consumer.next_id, message);
+    row.out.push(row.consumer.next_id, message)?;
     row.consumer = serve(turn, row.consumer);
+    Ok(())
 }
 
-fn take_id(out: &mut Rising<ReadyRow>, id: u64, rows: &mut VecDeque<ReadyRow>)
-    requires room { deque_len rows.old < deque_capacity rows.old }
-
-    ensures rows { (consumer : ConsumerId) → rows.new.items
-        ≡ rows.old.items
-        ++ map row_of (cut_ids (id ∷ []) (map (out_item consumer) out.old.items)).items }
-    ensures out { (consumer : ConsumerId) → map (out_item consumer) out.new.items
-        ≡ (cut_ids (id ∷ []) (map (out_item consumer) out.old.items)).rest }
-    ensures items { out.new.items ≡ without id out.old.items }
-    ensures len { deque_len rows.new ≤ deque_len rows.old + 1 }
-    ensures capacity { deque_capacity rows.new ≡ deque_capacity rows.old }
-    ensures room { out.old.room ≤ out.new.room }
+fn put_behind(row: Option<ReadyRow>, rows: &mut VecDeque<ReadyRow>) -> Result<(), Memory>
+    ensures rows { OnOk result (rows.new.items ≡ rows.old.items ++ option_to_list row) }
+    ensures want { IsOkUnless result Memory.Want }
 {
-    match out.take(id) {
-        None => {}
-        Some(row) => rows.push_back_reserved(row),
+    match row {
+        None => Ok(()),
+        Some(row) => {
+            rows.push_back(row)?;
+            Ok(())
+        }
     }
+}
+
+fn take_id(out: &mut Rising<ReadyRow>, id: u64, rows: &mut VecDeque<ReadyRow>) -> Result<(), Memory>
+    ensures rows { OnOk result ((consumer : ConsumerId) → rows.new.items
+        ≡ rows.old.items
+        ++ map row_of (cut_ids (id ∷ []) (map (out_item consumer) out.old.items)).items) }
+    ensures out { OnOk result ((consumer : ConsumerId) → map (out_item consumer) out.new.items
+        ≡ (cut_ids (id ∷ []) (map (out_item consumer) out.old.items)).rest) }
+    ensures items { (out.new.items ≡ without id out.old.items)
+        ⊎ (out.new.items ≡ out.old.items) }
+    ensures base { out.new.base ≡ out.old.base }
+    ensures want { IsOkUnless result Memory.Want }
+{
+    let taken = out.take(id)?;
+    put_behind(taken, rows)?;
+    Ok(())
 }
 
 fn id_at(ids: &[u64], place: usize) -> u64
@@ -162,23 +174,30 @@ fn id_at(ids: &[u64], place: usize) -> u64
 }
 
 /// Those of the ids that are out are taken out, in the given order, and put behind these messages.
-pub fn take_ids(row: &mut ConsumerRow, ids: &[u64], rows: &mut VecDeque<ReadyRow>)
-    requires room { deque_len rows.old + length ids.now ≤ deque_capacity rows.old }
+/// After an error some may have been taken out.
+pub fn take_ids(
+    row: &mut ConsumerRow,
+    ids: &[u64],
+    rows: &mut VecDeque<ReadyRow>,
+) -> Result<(), Memory>
     requires given { IsGiven row.old }
 
-    ensures rows { rows.new.items ≡ rows.old.items
-        ++ map row_of (cut_ids ids.now (served_of row.old).out).items }
-    ensures one { served_of row.new ≡ record {
+    ensures rows { OnOk result (rows.new.items ≡ rows.old.items
+        ++ map row_of (cut_ids ids.now (served_of row.old).out).items) }
+    ensures one { OnOk result (served_of row.new ≡ record {
       consumer = row.old.consumer;
       out = (cut_ids ids.now (served_of row.old).out).rest;
-    } }
+    }) }
+    ensures consumer { row.new.consumer ≡ row.old.consumer }
     ensures given { IsGiven row.new }
-    ensures room { row.old.out.room ≤ row.new.out.room }
+    ensures base { row.new.out.base ≡ row.old.out.base }
+    ensures want { IsOkUnless result Memory.Want }
 {
     'ids: for place in 0..ids.len() {
         let id = id_at(ids, place);
-        take_id(&mut row.out, id, rows);
+        take_id(&mut row.out, id, rows)?;
     }
+    Ok(())
 }
 
 /// Whether a consumer draws a turn, by its free credit before and now.
@@ -226,6 +245,6 @@ pub fn copy_row(alloc: Global, row: &ConsumerRow) -> Result<ConsumerRow, Memory>
 {
     Ok(ConsumerRow {
         consumer: row.consumer,
-        out: row.out.duplicate(alloc)?,
+        out: row.out.copy(alloc)?,
     })
 }

@@ -68,7 +68,7 @@ fn a_copy_goes_its_own_way(rt: HostRuntime) -> Result<(), Fail> {
         session: SessionId::client(1),
         tag: 2,
     };
-    assert!(rt; twin.cancel(gone));
+    assert!(rt; twin.cancel(gone)?);
     assert_eq!(rt; next(&twin), 1);
     assert_eq!(rt; next(&consumers), 2);
     Ok(())

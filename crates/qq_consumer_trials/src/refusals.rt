@@ -1,5 +1,5 @@
 use qq_base::{ConsumerId, SessionId};
-use qq_consumer::{Consumers, SubscribeFault};
+use qq_consumer::{Consumers, CreditFault, SubscribeFault};
 use qq_entry::{Cause, Mode};
 use std::alloc::Global;
 use std::test::Fail;
@@ -16,7 +16,7 @@ fn subscribe(alloc: Global, consumers: &mut Consumers, mode: Mode, tag: u32, gre
     if consumers.turns() == u64::MAX {
         return 9;
     }
-    match consumers.subscribe(alloc, id(tag), mode, greatest, 4) {
+    match consumers.subscribe(alloc, id(tag), mode, greatest) {
         Ok(()) => 0,
         Err(SubscribeFault::NumberSpent) => 1,
         Err(SubscribeFault::ConsumersFull) => 2,
@@ -26,17 +26,13 @@ fn subscribe(alloc: Global, consumers: &mut Consumers, mode: Mode, tag: u32, gre
 
 // The status of credit: 0 where it was given, 1 for no such consumer, 2 for the other mode.
 fn credit(consumers: &mut Consumers, tag: u32, count: u32, credit: u32) -> u8 {
-    match consumers.reserve(id(tag), 0) {
-        Ok(()) => {}
-        Err(_) => return 9,
-    }
     if consumers.turns() == u64::MAX {
         return 9;
     }
     match consumers.credit(id(tag), count, credit) {
         Ok(()) => 0,
-        Err(Cause::NoConsumer) => 1,
-        Err(Cause::WrongMode) => 2,
+        Err(CreditFault::Refused(Cause::NoConsumer)) => 1,
+        Err(CreditFault::Refused(Cause::WrongMode)) => 2,
         Err(_) => 3,
     }
 }
@@ -89,9 +85,9 @@ fn credit_is_given_to_links(rt: HostRuntime) -> Result<(), Fail> {
     assert_eq!(rt; next(&consumers), 2);
     assert_eq!(rt; credit(&mut consumers, 1, 0, 5), 0);
     assert_eq!(rt; next(&consumers), 2);
-    assert!(rt; consumers.cancel(id(2)));
+    assert!(rt; consumers.cancel(id(2))?);
     assert_eq!(rt; next(&consumers), 1);
-    assert!(rt; !consumers.cancel(id(2)));
+    assert!(rt; !consumers.cancel(id(2))?);
     assert_eq!(rt; credit(&mut consumers, 2, 0, 5), 1);
     Ok(())
 }

@@ -1,12 +1,10 @@
 -- Where a number stands among numbers that rise, and what the worker was given of them.
 use Rattle.std.proofs.Common.{◌≡◌, ℕ, zero, suc, ◌+◌, ◌-◌, ◌<◌, ◌≤◌, ◌⊎◌, Bool, true, false, not, ◌&&◌, cond, List, [], ◌∷◌, ◌++◌, Option, Some, None, length, get_or, refl, sym, ap, ◌∙◌, subst, inl, inr, arith}
-use Rattle.std.specs.Prelude.{nat_eq, nat_lt, nat_le, filter, find, count_by, slice_get, remove}
+use Rattle.std.specs.Prelude.{nat_eq, nat_lt, nat_le, filter, find, slice_get, remove}
 use Rattle.std.specs.List.{AllByRecursion}
 use Rattle.std.specs.List.Sorted.{IsNonDecreasingBy}
-use Rattle.std.specs.Option.{option_map_or}
 use Rattle.std.proofs.lemmas.Bool.{false≢true, cases_Bool, cond-true, cond-false, cond_both, lt-ltb, le-ltb, ltb-true, ltb-false, le-leb, lt-leb, leb-true, leb-false, ne_eqb, and_parts}
 use Rattle.std.proofs.lemmas.List.Sums.{sum_by-cons}
-use Rattle.std.proofs.lemmas.Option.{slice_get_within}
 use Rattle.qq_base.proofs.Lists.{AllByRecursion-append, AllByRecursion-filter, AllByRecursion-weaker}
 use Rattle.qq_dead.specs.declared.row.DeadRow.{DeadRow}
 use Rattle.qq_entry.specs.declared.message.Reason.{Reason}
@@ -312,6 +310,12 @@ rises-nondecreasing (one ∷ rows) rising (suc i) (suc j) d le within =
 abbrev pub IsKept : ℕ → Letters → Type 0
 IsKept n d = AreNumbered d × SplitsAt d.given n d.rows
 
+-- the same rows
+pub kept-rows : (n : ℕ) (rows rows' : List DeadRow) (deads given attached : ℕ) → rows' ≡ rows
+    → IsKept n (letters_of rows deads given attached) → IsKept n (letters_of rows' deads given attached)
+kept-rows n rows rows' deads given attached same kept =
+    subst (λ (xs : List DeadRow). IsKept n (letters_of xs deads given attached)) (sym same) kept
+
 pub kept-add : (n : ℕ) (row : ReadyRow) (reason : Reason) (d : Letters) (after : List DeadRow) → IsKept n d
     → after ≡ d.rows ++ record { number = d.deads + 1; reason = reason; row = row } ∷ []
     → IsKept n (letters_of after (d.deads + 1) d.given d.attached)
@@ -421,6 +425,14 @@ at-within number place [] there = absurd (false≢true there)
 at-within number zero (one ∷ rows) there = omega arith
 at-within number (suc place) (one ∷ rows) there = let rest = at-within number place rows there in omega arith
 
-pub given-within : (n : ℕ) (d : Letters) (one : DeadRow) → IsKept n d → next_offer d ≡ Some one → n < length d.rows
-given-within n d one kept is =
-    slice_get_within d.rows n one (sym (splits-next d.given n d.rows kept.1) ∙ offer-next d one is)
+-- the worker has fewer under way than it may have
+pub offer-few : (n : ℕ) (d : Letters) (one : DeadRow) → IsKept n d → next_offer d ≡ Some one → n < MOST_GIVEN
+offer-few n d one kept is =
+    let few : given_count d.given d.rows < MOST_GIVEN =
+    ltb-true (given_count d.given d.rows) MOST_GIVEN
+    (and_parts (nat_lt 0 d.attached) (nat_lt (given_count d.given d.rows) MOST_GIVEN) (by (may_give d) is)).1 in
+    subst (λ k. k < MOST_GIVEN) (splits-count d.given n d.rows kept.1) few
+  where
+    by : (b : Bool) → cond b (next_dead d.given d.rows) None ≡ Some one → b ≡ true
+    by true is = refl
+    by false is = absurd cc

@@ -15,10 +15,10 @@ pub record Letters : Type 0 where
   pub given : ℕ
   pub attached : ℕ
 
--- these, and for how many more there is memory
+-- these, and what they were at the last commit
 pub record DeadState : Type 0 where
   pub letters : Letters
-  pub room : ℕ
+  pub base : Letters
 
 abbrev pub no_letters : Letters
 no_letters = record { rows = []; deads = 0; given = 0; attached = 0 }

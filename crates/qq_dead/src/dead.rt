@@ -1,23 +1,19 @@
-ghost use Rattle.std.specs.Prelude.{◌≡◌, ◌+◌, ◌<◌, ◌≤◌, ◌^◌, Some, nat_lt, remove, length, slice_get, IfNone, IfSome, IfOk, IsOkUnless, OnOk};
+ghost use Rattle.std.specs.Prelude.{◌≡◌, ◌+◌, ◌<◌, ◌^◌, nat_lt, length, slice_get, IfNone, IfSome, IfOk, IsOkUnless, OnOk, OnErr};
 ghost use Rattle.std.specs.Option.{option_copied, option_map};
-ghost use Rattle.std.specs.VecDeque.{deque_len, deque_capacity};
 ghost use Rattle.qq_dead.specs.Letters.{no_letters, add, attach, may_give, next_dead, next_offer, give, settled, settle, letters_of, AreNumbered, Rises, place_of, is_at, IsSettledAt, SettlesNothing};
 
 use crate::row::DeadRow;
 use qq_base::{Duplicate, Memory, Term};
 use qq_entry::{ReadyRow, Reason};
 use qq_model::MOST_GIVEN;
+use qq_undo::UndoDeque;
 use std::alloc::Global;
 use std::collections::VecDeque;
 use std::marker::Model;
 
-/// The dead messages of a queue by rising number, and the dead-letter worker that is given them.
-///
-/// What the worker was given is a front of the list, so giving and counting need no scan. A number is
-/// found by binary search.
-#[derive(Debug, Drop)]
-pub struct Dead {
-    rows: VecDeque<DeadRow>,
+/// How many numbers were drawn, and what the dead-letter worker was given.
+#[derive(Clone, Copy, Debug)]
+struct Counts {
     deads: u64,
     given: u64,
     attached: u64,
@@ -25,20 +21,33 @@ pub struct Dead {
     under_way: usize,
 }
 
+/// The dead messages of a queue by rising number, and the dead-letter worker that is given them.
+///
+/// What the worker was given is a front of the list, so giving and counting need no scan. A number is
+/// found by binary search. Contracts see both as they are, and as they were at the last `commit`, which
+/// `undo` leads back to.
+#[derive(Debug, Drop)]
+pub struct Dead {
+    rows: UndoDeque<DeadRow>,
+    counts: Counts,
+    base: Counts,
+}
+
 impl Model for Dead {
-    ghost use Rattle.std.specs.Prelude.{◌-◌};
-    ghost use Rattle.std.specs.VecDeque.{deque_len, deque_capacity};
     ghost use Rattle.qq_dead.specs.Letters.{DeadState, letters_of, AreNumbered, SplitsAt};
 
     ghost Value = { DeadState };
 
     ghost view = { λ d. record {
-      letters = letters_of d.rows.items d.deads d.given d.attached;
-      room = deque_capacity d.rows - deque_len d.rows;
+      letters = letters_of d.rows.items d.counts.deads d.counts.given d.counts.attached;
+      base = letters_of d.rows.base d.base.deads d.base.given d.base.attached;
     } };
 
-    ghost invariant = { λ d. AreNumbered (letters_of d.rows.items d.deads d.given d.attached)
-        × SplitsAt d.given d.under_way d.rows.items };
+    ghost invariant = { λ d.
+        (AreNumbered (letters_of d.rows.items d.counts.deads d.counts.given d.counts.attached)
+        × SplitsAt d.counts.given d.counts.under_way d.rows.items)
+        × (AreNumbered (letters_of d.rows.base d.base.deads d.base.given d.base.attached)
+        × SplitsAt d.base.given d.base.under_way d.rows.base) };
 }
 
 fn copy_rows(alloc: Global, rows: &VecDeque<DeadRow>) -> Result<VecDeque<DeadRow>, Memory>
@@ -70,75 +79,66 @@ fn is_at(number: u64, place: usize, rows: &VecDeque<DeadRow>) -> bool
     }
 }
 
-fn take_at(rows: &mut VecDeque<DeadRow>, place: usize) -> DeadRow
-    requires { place < length rows.old.items }
-
-    ensures value { slice_get rows.old.items place ≡ Some result }
-    ensures items { rows.new.items ≡ remove rows.old.items place }
-    ensures len { deque_len rows.new ≤ deque_len rows.old }
-    ensures capacity { deque_capacity rows.new ≡ deque_capacity rows.old }
-{
-    rows.remove(place).unwrap()
-}
-
 impl Dead {
     /// No messages, and no worker. It takes no memory.
     pub fn new(alloc: Global) -> Self
-        ensures { result.letters ≡ no_letters }
+        ensures letters { result.letters ≡ no_letters }
+        ensures base { result.base ≡ no_letters }
     {
-        Dead {
-            rows: VecDeque::new(alloc),
+        let counts = Counts {
             deads: 0,
             given: 0,
             attached: 0,
             under_way: 0,
+        };
+        Dead {
+            rows: UndoDeque::new(alloc),
+            counts,
+            base: counts,
         }
     }
 
     /// These messages by rising number, of so many numbers that were drawn, with the greatest number that
-    /// the worker of this term was given. It takes no memory.
+    /// the worker of this term was given. They are committed. It takes no memory.
     pub fn from_parts(rows: Vec<DeadRow>, deads: u64, given: u64, attached: Term) -> Self
         requires { AreNumbered (letters_of rows.items deads given attached.0) }
 
-        ensures { result.letters ≡ letters_of rows.items deads given attached.0 }
+        ensures letters { result.letters ≡ letters_of rows.items deads given attached.0 }
+        ensures base { result.base ≡ result.letters }
     {
         let under_way = rows.as_slice().partition_point(|row| row.number <= given);
-        Dead {
-            rows: VecDeque::from_vec(rows),
+        let counts = Counts {
             deads,
             given,
             attached: attached.0,
             under_way,
+        };
+        Dead {
+            rows: UndoDeque::from_vec(rows),
+            counts,
+            base: counts,
         }
     }
 
-    /// Makes room for `n` more.
-    pub fn reserve(&mut self, n: usize) -> Result<(), Memory>
-        ensures same { self.new.letters ≡ self.old.letters }
-        ensures ok { OnOk result (n ≤ self.new.room) }
-        ensures want { IsOkUnless result Memory.Want }
-    {
-        self.rows.reserve(n)?;
-        Ok(())
-    }
-
-    /// Keeps a message that has died, and answers its number. There has to be room, and a number.
-    pub fn add(&mut self, row: ReadyRow, reason: Reason) -> u64
-        requires room { 0 < self.old.room }
+    /// Keeps a message that has died, and answers its number. There has to be a number. After an error all
+    /// is as before.
+    pub fn add(&mut self, row: ReadyRow, reason: Reason) -> Result<u64, Memory>
         requires counts { self.old.letters.deads + 1 < 2 ^ 64 }
 
-        ensures number { result ≡ self.old.letters.deads + 1 }
-        ensures letters { self.new.letters ≡ add row reason self.old.letters }
-        ensures room { self.new.room + 1 ≡ self.old.room }
+        ensures number { IfOk result (λ number. number ≡ self.old.letters.deads + 1) }
+        ensures letters { OnOk result (self.new.letters ≡ add row reason self.old.letters) }
+        ensures err { OnErr result (self.new.letters ≡ self.old.letters) }
+        ensures base { self.new.base ≡ self.old.base }
+        ensures want { IsOkUnless result Memory.Want }
     {
-        let number = self.deads + 1;
-        self.deads = number;
-        self.rows.push_back_reserved(DeadRow {
+        let number = self.counts.deads + 1;
+        self.rows.push_back(DeadRow {
             number,
             reason,
             row,
-        });
-        number
+        })?;
+        self.counts.deads = number;
+        Ok(number)
     }
 
     /// The worker of a term takes over, and begins anew. False exactly where the term isn't greater than
@@ -146,28 +146,28 @@ impl Dead {
     pub fn attach(&mut self, term: Term) -> bool
         ensures value { result ≡ nat_lt self.old.letters.attached term.0 }
         ensures letters { self.new.letters ≡ attach term.0 self.old.letters }
-        ensures room { self.new.room ≡ self.old.room }
+        ensures base { self.new.base ≡ self.old.base }
     {
-        if term.0 <= self.attached {
+        if term.0 <= self.counts.attached {
             return false;
         }
-        self.attached = term.0;
-        self.given = 0;
-        self.under_way = 0;
+        self.counts.attached = term.0;
+        self.counts.given = 0;
+        self.counts.under_way = 0;
         true
     }
 
     fn may_give(&self) -> bool
         ensures { result ≡ may_give self.now.letters }
     {
-        0 < self.attached && (self.under_way as u64) < MOST_GIVEN
+        0 < self.counts.attached && (self.counts.under_way as u64) < MOST_GIVEN
     }
 
     fn next_dead(&self) -> Option<&DeadRow>
         ensures { option_copied result
             ≡ next_dead self.now.letters.given self.now.letters.rows }
     {
-        self.row_at(self.under_way)
+        self.row_at(self.counts.under_way)
     }
 
     /// The next message for the worker. None exactly where no worker is attached, it has `MOST_GIVEN` under
@@ -185,25 +185,26 @@ impl Dead {
     /// The worker is given the next message, if there is one for it.
     pub fn give(&mut self)
         ensures letters { self.new.letters ≡ give self.old.letters }
-        ensures room { self.new.room ≡ self.old.room }
+        ensures base { self.new.base ≡ self.old.base }
     {
         let number = match self.next_offer() {
             None => return,
             Some(row) => row.number,
         };
-        self.given = number;
-        self.under_way += 1;
+        self.counts.given = number;
+        self.counts.under_way += 1;
     }
 
     fn settled_place(&self, term: Term, number: u64) -> Option<usize>
         ensures some { IfSome result (IsSettledAt term.0 number self.now.letters) }
         ensures none { IfNone result (SettlesNothing term.0 number self.now.letters) }
     {
-        if term.0 != self.attached || self.given < number {
+        if term.0 != self.counts.attached || self.counts.given < number {
             return None;
         }
-        let place = place_of(number, &self.rows);
-        if is_at(number, place, &self.rows) {
+        let rows = self.rows.as_deque();
+        let place = place_of(number, rows);
+        if is_at(number, place, rows) {
             Some(place)
         } else {
             None
@@ -212,19 +213,39 @@ impl Dead {
 
     /// Takes out a message whose targets have confirmed it. None exactly where the term isn't that of the
     /// worker attached, or the number isn't that of a dead message that the worker was given; then nothing
-    /// changes.
-    pub fn settle(&mut self, term: Term, number: u64) -> Option<ReadyRow>
-        ensures value { result
-            ≡ option_map (λ one. one.row) (settled term.0 number self.old.letters) }
-        ensures letters { self.new.letters ≡ settle term.0 number self.old.letters }
-        ensures room { self.old.room ≤ self.new.room }
+    /// changes. After an error all is as before.
+    pub fn settle(&mut self, term: Term, number: u64) -> Result<Option<ReadyRow>, Memory>
+        ensures value { IfOk result (λ taken.
+            taken ≡ option_map (λ one. one.row) (settled term.0 number self.old.letters)) }
+        ensures letters { OnOk result (self.new.letters ≡ settle term.0 number self.old.letters) }
+        ensures err { OnErr result (self.new.letters ≡ self.old.letters) }
+        ensures base { self.new.base ≡ self.old.base }
+        ensures want { IsOkUnless result Memory.Want }
     {
         let Some(place) = self.settled_place(term, number) else {
-            return None;
+            return Ok(None);
         };
-        self.under_way -= 1;
-        let one = take_at(&mut self.rows, place);
-        Some(one.row)
+        let one = self.rows.remove(place)?;
+        self.counts.under_way -= 1;
+        Ok(Some(one.row))
+    }
+
+    /// Makes the messages and the worker as they are what `undo` leads back to. It takes no memory.
+    pub fn commit(&mut self)
+        ensures letters { self.new.letters ≡ self.old.letters }
+        ensures base { self.new.base ≡ self.old.letters }
+    {
+        self.rows.commit();
+        self.base = self.counts;
+    }
+
+    /// Takes back what was changed since the last commit. It takes no memory.
+    pub fn undo(&mut self)
+        ensures letters { self.new.letters ≡ self.old.base }
+        ensures base { self.new.base ≡ self.old.base }
+    {
+        self.rows.undo();
+        self.counts = self.base;
     }
 
     /// A message by its place in the order of numbers. None exactly where there is none.
@@ -249,20 +270,23 @@ impl Dead {
         ensures given { result.1 ≡ self.now.letters.given }
         ensures attached { result.2.0 ≡ self.now.letters.attached }
     {
-        (self.deads, self.given, Term(self.attached))
+        (
+            self.counts.deads,
+            self.counts.given,
+            Term(self.counts.attached),
+        )
     }
 
-    /// The same messages and worker, in memory of their own.
+    /// The same messages and worker, committed, in memory of their own.
     pub fn copy(&self, alloc: Global) -> Result<Self, Memory>
         ensures ok { IfOk result (λ twin. twin.letters ≡ self.now.letters) }
+        ensures base { IfOk result (λ twin. twin.base ≡ self.now.letters) }
         ensures want { IsOkUnless result Memory.Want }
     {
         Ok(Dead {
-            rows: copy_rows(alloc, &self.rows)?,
-            deads: self.deads,
-            given: self.given,
-            attached: self.attached,
-            under_way: self.under_way,
+            rows: UndoDeque::from_deque(copy_rows(alloc, self.rows.as_deque())?),
+            counts: self.counts,
+            base: self.counts,
         })
     }
 }

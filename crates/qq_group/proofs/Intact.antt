@@ -47,8 +47,7 @@ pub by-state : {Q L : Type 0} (seat : Seat Q L) (d : DiskState) (found : Option 
     (r : Bool) → found ≡ Some state → option_map stable_of found ≡ state_at d.op seat.history
     → seat.noticed ≤ d.op → d.op ≤ seat.handed → Decides r (state ≡ d) → Decides r (IsIntact seat d)
 by-state seat d found state r is at noticed handed dec =
-    let here : Some (stable_of state) ≡ state_at d.op seat.history = sym (ap (option_map stable_of) is) ∙ at in
-    (
+    let here : Some (stable_of state) ≡ state_at d.op seat.history = sym (ap (option_map stable_of) is) ∙ at in (
       λ t. (noticed, handed, sym here ∙ ap (λ (x : DiskState). Some (stable_of x)) (dec.0 t)),
       λ i. dec.1 (same-state state d (some-is (stable_of state) (stable_of d) (here ∙ i.2))),
     )

@@ -60,16 +60,15 @@ notice-lacks log k op lacks old new is same = λ g reached r.
 
 crashed-by : {Q L : Type 0} (log : L → LogState) (state : SeatState) (seat : Seat Q L)
     → IsSeatBy log state seat None → IsSeatBy log (record state { server = None }) seat None
-crashed-by log state seat is =
-    (
-      refl,
-      λ known.
-          record {
-            noticed = (is.1 known).noticed;
-            handed = (is.1 known).handed;
-            history = (is.1 known).history;
-          },
-    )
+crashed-by log state seat is = (
+  refl,
+  λ known.
+      record {
+        noticed = (is.1 known).noticed;
+        handed = (is.1 known).handed;
+        history = (is.1 known).history;
+      },
+)
 
 crashed-seat : {Q L : Type 0} (log : L → LogState) (state : SeatState) (o : Option (Seat Q L)) → IsSeat log state o
     → server_by o ≡ None → IsSeat log (record state { server = None }) o

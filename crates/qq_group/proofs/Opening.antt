@@ -141,8 +141,7 @@ found-by log g k l None is down f = tt
 found-by log g k l (Some seat) is down f = λ known.
     let knows = known-log log (g.seat k) seat is down known in
     let noticed = f.noticed in
-    let handed = f.handed in
-    (
+    let handed = f.handed in (
       omega (arith, knows.noticed, noticed),
       omega (arith, knows.handed, handed),
       sym (history-at (g.seat k).ops (g.seat k).noticed seat.history l.op knows.history f.noticed) ∙ f.is,
@@ -203,8 +202,7 @@ restarts {Q = Q} {L = L} log node l s old new member down finds_it made t = λ g
     ∙ ap (λ q. restart node g.nodes (lane_of q l)) r.queue
     ∙ ap (λ ns. restart node ns (lane_of old.queue l)) r.nodes ∙ sym made in
     subst (λ h. Represents log h new) (sym same)
-    (represents-put log g k state t.was now g.bag g.audit old new r t.changes
-    (
+    (represents-put log g k state t.was now g.bag g.audit old new r t.changes (
       ap Some server,
       record {
         noticed = refl;

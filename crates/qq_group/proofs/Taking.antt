@@ -197,16 +197,15 @@ handed-others k s t op old mid new taken put = λ q other.
 
 seat-by : {Q L : Type 0} (log : L → LogState) (state : SeatState) (seat : Seat Q L) (returned : Option Op)
     (o : Option (Server Q L)) → IsSeatBy log state seat o → IsSeatBy log state (record seat { returned = returned }) o
-seat-by log state seat returned None is =
-    (
-      is.0,
-      λ known.
-          record {
-            noticed = (is.1 known).noticed;
-            handed = (is.1 known).handed;
-            history = (is.1 known).history;
-          },
-    )
+seat-by log state seat returned None is = (
+  is.0,
+  λ known.
+      record {
+        noticed = (is.1 known).noticed;
+        handed = (is.1 known).handed;
+        history = (is.1 known).history;
+      },
+)
 seat-by log state seat returned (Some s) is =
     (is.0, record { noticed = is.1.noticed; handed = is.1.handed; history = is.1.history }, is.2)
 

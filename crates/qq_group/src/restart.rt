@@ -10,8 +10,8 @@ ghost use Rattle.qq_group.specs.Group.{HasState, IsServing, IsSound, Represents,
 ghost use Rattle.qq_group.specs.Restarts.{AreEmpty, disk_of, Finds, HasStarted, IsAllDown, IsIntactAt, IsStarted, noticed_at, IsOpened, IsRestartCaused, Restarts};
 ghost use Rattle.qq_group.specs.declared.restart.RestartFault.TheVariants.{Lost};
 
-use crate::group::Group;
 use crate::entries::copy_behind;
+use crate::group::Group;
 use crate::seat::Seat;
 use qq_base::{Memory, NodeId, QueueId};
 use qq_entry::{Entries, Entry};

@@ -1,5 +1,5 @@
 -- The dead letters of a queue are those of its parts.
-use Rattle.std.proofs.Common.{◌≡◌, ℕ, ◌+◌, ◌<◌, Bool, true, false, not, ◌&&◌, cond, List, [], ◌∷◌, ◌++◌, Option, Some, None, map, nat_eq, nat_lt, refl, sym, ap, ◌∙◌, subst, inl, inr, arith, if◌then◌else◌}
+use Rattle.std.proofs.Common.{◌≡◌, ℕ, ◌+◌, ◌<◌, Bool, true, false, not, ◌&&◌, List, [], ◌∷◌, ◌++◌, Option, Some, None, map, nat_eq, nat_lt, refl, sym, ap, ◌∙◌, subst, inl, inr, arith, if◌then◌else◌}
 use Rattle.std.specs.Prelude.{nat_le, find, filter, is_some}
 use Rattle.std.specs.List.{AllByRecursion}
 use Rattle.std.specs.Option.{option_map}
@@ -12,13 +12,13 @@ use Rattle.qq_model.specs.declared.TheConstants.{MOST_GIVEN}
 use Rattle.qq_gone.specs.Reduced.{Item}
 use Rattle.qq_parts.specs.Parts.{Parts, item_number}
 use Rattle.qq_parts.specs.Outs.{Cut, cut_id, behind_item}
-use Rattle.qq_parts.specs.Letters.{first_above, given_of, dead_of, take_dead}
+use Rattle.qq_parts.specs.Letters.{first_above, dead_of, take_dead}
 use Rattle.qq_parts_step.specs.Commands.{DeadSettled, take_given, parts_settle_dead_by}
 use Rattle.qq_entry.specs.declared.message.ReadyRow.{ReadyRow}
 use Rattle.qq_parts_step.specs.Work.{Work}
-use Rattle.qq_parts_step.specs.Follows.{may_give, parts_offer_by, parts_give_dead, given_up_to}
+use Rattle.qq_parts_step.specs.Follows.{may_give, parts_offer_by, parts_give_dead}
 use Rattle.qq_dead.specs.declared.row.DeadRow.{DeadRow}
-use Rattle.qq_dead.specs.Letters.{Letters, Rises, has_number, next_dead, next_offer, give, give_by, given_count, is_given, settled, settle, may_settle}
+use Rattle.qq_dead.specs.Letters.{Letters, Rises, has_number, next_dead, next_offer, give, give_by, settled, settle, may_settle}
 use Rattle.qq_dead.specs.Letters.{may_give as may_offer}
 use Rattle.qq_machine.specs.Views.{dead_item, work_of, parts_of}
 use Rattle.qq_machine.specs.declared.queue.Queue.{Queue}

@@ -1,5 +1,5 @@
 -- A message that was taken out is delivered to the next consumer.
-use Rattle.std.proofs.Common.{◌≡◌, ℕ, ◌+◌, List, [], ◌∷◌, ◌++◌, Option, Some, None, refl, sym, ap, ◌∙◌, subst}
+use Rattle.std.proofs.Common.{◌≡◌, ℕ, List, [], ◌∷◌, ◌++◌, Option, Some, None, refl, sym, ap, ◌∙◌}
 use Rattle.std.specs.Option.{option_map_or}
 use Rattle.qq_base.specs.declared.ids.ConsumerId.{ConsumerId}
 use Rattle.qq_base.specs.Ids.{same_consumer}
@@ -7,13 +7,12 @@ use Rattle.qq_base.proofs.Lists.{find-in}
 use Rattle.qq_model.proofs.OneConsumer.{same_consumer-true}
 use Rattle.qq_entry.specs.declared.audit.Effect.{Effect}
 use Rattle.qq_entry.specs.declared.audit.Effect.TheVariants.{Deliver}
-use Rattle.qq_entry.specs.declared.answer.Delivery.{Delivery}
 use Rattle.qq_entry.specs.declared.message.Message.{Message}
 use Rattle.qq_entry.specs.declared.message.ReadyRow.{ReadyRow}
 use Rattle.qq_entry.specs.declared.queue.QueueArgs.{QueueArgs}
 use Rattle.qq_model.specs.declared.place.Place.{Place}
 use Rattle.qq_gone.specs.Reduced.{Item}
-use Rattle.qq_parts.specs.Parts.{Served, Parts}
+use Rattle.qq_parts.specs.Parts.{Served}
 use Rattle.qq_parts.specs.Changes.{Taken}
 use Rattle.qq_parts_step.specs.Work.{Work}
 use Rattle.qq_parts_step.specs.Follows.{parts_deliver, parts_deliver_by}

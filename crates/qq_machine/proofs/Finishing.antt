@@ -1,8 +1,7 @@
 -- Deliveries are taken out of a table at once, and end behind it.
-use Rattle.std.proofs.Common.{◌≡◌, ℕ, ◌+◌, Bool, true, false, List, [], ◌∷◌, ◌++◌, Option, Some, None, map, fold, nat_eq, refl, sym, ap, ◌∙◌, subst, if◌then◌else◌}
+use Rattle.std.proofs.Common.{◌≡◌, ℕ, Bool, true, false, List, [], ◌∷◌, ◌++◌, Option, Some, None, map, nat_eq, refl, sym, ap, ◌∙◌, subst, if◌then◌else◌}
 use Rattle.std.specs.List.{AllByRecursion}
 use Rattle.std.specs.Option.{option_map, option_map_or}
-use Rattle.qq_base.proofs.Lists.{AllByRecursion-map}
 use Rattle.qq_base.specs.declared.ids.ConsumerId.{ConsumerId}
 use Rattle.qq_base.specs.Ids.{same_consumer}
 use Rattle.qq_entry.specs.declared.answer.Answer.TheVariants as answer
@@ -11,7 +10,6 @@ use Rattle.qq_entry.specs.declared.message.Reason.{Reason}
 use Rattle.qq_entry.specs.declared.message.Reason.TheVariants.{DeliveryLimit, Rejected}
 use Rattle.qq_entry.specs.declared.queue.Strategy.{Strategy}
 use Rattle.qq_entry.specs.declared.queue.Strategy.TheVariants.{Absent, AtMostOnce, AtLeastOnce}
-use Rattle.qq_model.specs.declared.consumer.Consumer.{Consumer}
 use Rattle.qq_model.specs.declared.consumer.Outcome.{Outcome}
 use Rattle.qq_model.specs.declared.consumer.Outcome.TheVariants.{Settled, Returned, Discarded}
 use Rattle.qq_model.specs.declared.place.Place.{Place}
@@ -29,7 +27,7 @@ use Rattle.qq_consumer.specs.declared.row.ConsumerRow.{ConsumerRow}
 use Rattle.qq_consumer.specs.declared.rising.Numbered.{Numbered}
 use Rattle.qq_consumer.specs.Roster.{item_at, row_of, out_item, served_of, with_out, cut_rest, put_rest, Roster, take_out, take_out_by, taken_rows, begin_to_wait, drop_finished}
 use Rattle.qq_consumer.specs.Roster.{Cuts as TableCuts, first_cut as table_first, cut_ids as table_cut}
-use Rattle.qq_machine.specs.Views.{end_rows, end_taken, return_counted}
+use Rattle.qq_machine.specs.Views.{end_rows, end_taken}
 use Rattle.qq_machine.proofs.Ending.{return-is}
 use Rattle.qq_machine.proofs.Delivering.{with_roster}
 use Rattle.qq_machine.proofs.Changing.{roster_in, begins}

@@ -1,8 +1,6 @@
 -- The consumers of a session leave a table one by one, and give back what they have.
-use Rattle.std.proofs.Common.{◌≡◌, ℕ, Bool, true, false, not, List, [], ◌∷◌, Option, Some, None, map, fold, refl, sym, ap, ◌∙◌, subst, inl, inr, if◌then◌else◌}
-use Rattle.std.specs.Prelude.{filter}
+use Rattle.std.proofs.Common.{◌≡◌, not, List, [], ◌∷◌, Option, Some, None, map, fold, refl, sym, ap, ◌∙◌, inl, inr}
 use Rattle.std.specs.List.{AllByRecursion}
-use Rattle.std.specs.Option.{option_map}
 use Rattle.std.proofs.lemmas.Bool.{cases_Bool, cond-true, cond-false}
 use Rattle.qq_base.specs.declared.ids.SessionId.{SessionId}
 use Rattle.qq_base.specs.declared.ids.ConsumerId.{ConsumerId}
@@ -14,12 +12,12 @@ use Rattle.qq_model.specs.declared.place.Place.TheVariants.{Out}
 use Rattle.qq_model.specs.Commands.{is_of_session}
 use Rattle.qq_model.proofs.OneConsumer.{same_consumer-refl}
 use Rattle.qq_gone.specs.Reduced.{Item}
-use Rattle.qq_parts.specs.Parts.{Served, Parts, AreTwo, AreApart}
+use Rattle.qq_parts.specs.Parts.{Served, AreTwo, AreApart}
 use Rattle.qq_parts_step.specs.Work.{Work, with_parts}
 use Rattle.qq_parts_step.specs.Ends.{parts_return}
 use Rattle.qq_parts_step.specs.Commands.{parts_return_session}
-use Rattle.qq_parts_step.specs.AtOnce.{first_of_session, without_first, return_first_of}
-use Rattle.qq_parts_step.proofs.AtOnce.{goes_first, nobody_goes}
+use Rattle.qq_parts_step.specs.AtOnce.{first_of_session, without_first}
+use Rattle.qq_parts_step.proofs.AtOnce.{goes_first}
 use Rattle.qq_consumer.specs.declared.row.ConsumerRow.{ConsumerRow}
 use Rattle.qq_consumer.specs.declared.rising.Numbered.{Numbered}
 use Rattle.qq_consumer.specs.Roster.{Roster, item_at, out_item, served_of, remove_one, end, end_by}

@@ -8,3 +8,6 @@ mod Changing
 mod Whole
 mod Finishing
 mod Leaving
+mod Gating
+mod Committing
+mod Reading

@@ -1,12 +1,11 @@
 -- What is counted and found of a mapped list, and the while loop of so many rounds.
-use Rattle.std.proofs.Common.{◌≡◌, ℕ, zero, suc, ◌+◌, ◌-◌, ◌<◌, Bool, true, false, cond, List, [], ◌∷◌, ◌++◌, Option, Some, None, map, take, fold, length, refl, sym, ap, ◌∙◌, arith, if◌then◌else◌}
-use Rattle.std.specs.Prelude.{find, count_by, sum_by, slice_get}
-use Rattle.std.specs.Option.{option_map, option_map_or, option_and_then}
+use Rattle.std.proofs.Common.{◌≡◌, ℕ, zero, suc, ◌+◌, ◌-◌, ◌<◌, Bool, true, false, cond, List, [], ◌∷◌, ◌++◌, Option, Some, None, map, take, fold, length, refl, sym, ap, ◌∙◌, arith, subst, if◌then◌else◌}
+use Rattle.std.specs.Prelude.{find, count_by, sum_by, slice_get, IfNone, IfSome}
+use Rattle.std.specs.Option.{option_map, option_map_or}
 use Rattle.std.proofs.lemmas.List.{length-append}
 use Rattle.std.proofs.lemmas.List.Sums.{sum_by-cons}
 use Rattle.qq_model.specs.Choice.{is_lesser, lesser, least_by}
 use Rattle.qq_model.specs.Changes.{while_next}
-use Rattle.qq_gone.specs.Reduced.{Item}
 use Rattle.qq_parts.specs.Parts.{Served, outs}
 
 pub find-over : {A B : Type 0} (test : B → Bool) (f : A → B) (xs : List A)
@@ -94,3 +93,12 @@ pub while_next-over : {A : Type 0} (n : ℕ) (next : A → Option A) (a b whole 
 while_next-over {A = A} n next a b whole did made went so_far still =
     sym so_far
     ∙ while_next-none n next a (made ∙ ap (λ (d : Bool). if d then Some b else None) went) ∙ sym still
+
+-- what a choice says of the one that is there
+pub if-none : {A P : Type 0} (o : Option A) → o ≡ None → IfNone o P → P
+if-none None is p = p
+if-none (Some x) is p = absurd cc
+
+pub if-some : {A : Type 0} (P : A → Type 0) (o : Option A) (x : A) → o ≡ Some x → IfSome o P → P x
+if-some P None x is p = absurd cc
+if-some P (Some y) x is p = let same : y ≡ x = cc in subst P same p

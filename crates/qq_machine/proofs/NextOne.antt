@@ -1,5 +1,5 @@
 -- The next consumer by the standings of a table is the next one of its rows, and may be served.
-use Rattle.std.proofs.Common.{◌≡◌, ◌⊎◌, ℕ, Bool, true, false, cond, not, ◌&&◌, List, [], ◌∷◌, Option, Some, None, map, nat_lt, refl, sym, ap, ◌∙◌, subst, inl, inr, if◌then◌else◌}
+use Rattle.std.proofs.Common.{◌≡◌, Bool, true, false, List, [], ◌∷◌, Option, Some, None, map, nat_lt, refl, sym, ap, ◌∙◌, subst, inl, inr, if◌then◌else◌}
 use Rattle.std.specs.Prelude.{find, is_some}
 use Rattle.std.specs.Option.{option_map, option_and_then}
 use Rattle.std.proofs.lemmas.Bool.{cond-true, cond-false}
@@ -14,7 +14,7 @@ use Rattle.qq_parts.specs.Turns.{may_serve, servable_one, is_current, active_one
 use Rattle.qq_parts_step.specs.Follows.{servable_turn, longest_one, next_one}
 use Rattle.qq_parts_step.specs.Commands.{one_of}
 use Rattle.qq_parts_step.proofs.Choosing.{next-in}
-use Rattle.qq_service.specs.Next.{next, active_servable, servable_by, is_active}
+use Rattle.qq_service.specs.Next.{next, servable_by, is_active}
 use Rattle.qq_service.specs.Next.{servable_turn as standing_turn}
 use Rattle.qq_consumer.specs.Roster.{standing_one}
 use Rattle.qq_consumer.specs.Turns.{waiting_turn, turn_of}

@@ -1,14 +1,14 @@
 -- The parts of a queue in memory are whole.
-use Rattle.std.proofs.Common.{◌≡◌, ℕ, ◌<◌, ◌≤◌, List, [], ◌∷◌, map, refl, sym, ap, ◌∙◌, arith}
+use Rattle.std.proofs.Common.{◌≡◌, ℕ, ◌<◌, List, [], ◌∷◌, map, refl, sym, ap, ◌∙◌, arith}
 use Rattle.std.specs.List.{AllByRecursion}
-use Rattle.qq_base.proofs.Lists.{AllByRecursion-map, AllByRecursion-weaker}
+use Rattle.qq_base.proofs.Lists.{AllByRecursion-map}
 use Rattle.qq_entry.specs.declared.queue.QueueArgs.{QueueArgs}
 use Rattle.qq_model.specs.declared.place.Key.{Key}
 use Rattle.qq_model.specs.declared.place.Key.TheVariants.{Front, Back}
 use Rattle.qq_model.specs.declared.place.Place.{Place}
 use Rattle.qq_model.specs.declared.place.Place.TheVariants.{Ready}
 use Rattle.qq_gone.specs.Reduced.{Item}
-use Rattle.qq_parts.specs.Parts.{place_number, item_number, NumbersRise, IsPlaced, ArePlaced, IsDead, AreDead, HasOut, AreApart, IsWhole}
+use Rattle.qq_parts.specs.Parts.{place_number, item_number, NumbersRise, IsPlaced, ArePlaced, IsDead, HasOut, AreApart, IsWhole}
 use Rattle.qq_ready.specs.declared.row.KeyedRow.{KeyedRow}
 use Rattle.qq_ready.specs.Queue.{number, IsKey, AreKeyed, IsInOrder}
 use Rattle.qq_ready.specs.Queue.{Rises as KeysRise}

@@ -1,1 +1,3 @@
+pub mod Gated
+pub mod Reads
 pub mod Views

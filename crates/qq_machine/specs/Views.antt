@@ -1,5 +1,5 @@
 -- A queue in memory as the parts of a queue.
-use Rattle.std.specs.Prelude.{◌≡◌, true, List, [], map, fold, Option, Some, None, Bool, if◌then◌else◌}
+use Rattle.std.specs.Prelude.{◌≡◌, ℕ, true, List, [], map, fold, Option, Some, None, Bool, if◌then◌else◌}
 use Rattle.qq_entry.specs.declared.queue.QueueArgs.{QueueArgs}
 use Rattle.qq_entry.specs.declared.answer.Answer.{Answer}
 use Rattle.qq_entry.specs.declared.message.Reason.TheVariants.{DeliveryLimit}
@@ -7,7 +7,13 @@ use Rattle.qq_model.specs.declared.consumer.Outcome.{Outcome}
 use Rattle.qq_model.specs.declared.place.Place.{Place}
 use Rattle.qq_model.specs.declared.place.Place.TheVariants.{Ready, Dead}
 use Rattle.qq_model.specs.declared.place.Key.{Key}
-use Rattle.qq_model.specs.State.{State}
+use Rattle.qq_model.specs.State.{State, Sessions}
+use Rattle.qq_entry.specs.declared.command.Stamp.{Stamp}
+use Rattle.qq_ready.specs.Queue.{Queue as Keyed}
+use Rattle.qq_dead.specs.Letters.{Letters}
+use Rattle.qq_machine.specs.declared.pending.Pending.{Pending}
+use Rattle.qq_machine.specs.declared.pending.Pending.TheVariants.{Nothing}
+use Rattle.qq_machine.specs.Gated.{passed_by}
 use Rattle.qq_entry.specs.declared.message.ReadyRow.{ReadyRow}
 use Rattle.qq_gone.specs.Reduced.{Item}
 use Rattle.qq_parts.specs.Parts.{Served, Parts}
@@ -23,7 +29,7 @@ use Rattle.qq_parts_step.specs.Step.{PartsStep}
 use Rattle.qq_ready.specs.declared.row.KeyedRow.{KeyedRow}
 use Rattle.qq_dead.specs.declared.row.DeadRow.{DeadRow}
 use Rattle.qq_consumer.specs.declared.rising.Numbered.{Numbered}
-use Rattle.qq_consumer.specs.Roster.{item_at}
+use Rattle.qq_consumer.specs.Roster.{Roster, item_at}
 use Rattle.qq_machine.specs.declared.queue.Queue.{Queue}
 use Rattle.qq_machine.specs.declared.queue.Draft.{Draft}
 use Rattle.qq_machine.specs.declared.queue.Made.{Made}
@@ -64,18 +70,107 @@ parts_of args q =
       dead = map dead_item q.dead.letters.rows;
     }
 
+-- What is kept for an undo ------------------------------------------------------------------------------
+
+-- the contents of a queue, in memory
+pub record Content : Type 0 where
+  pub applied : ℕ
+  pub arrivals : ℕ
+  pub sessions : Sessions
+  pub ready : Keyed
+  pub roster : Roster
+  pub letters : Letters
+
+abbrev pub content_of : Queue → Content
+content_of q =
+    record {
+      applied = q.applied;
+      arrivals = q.arrivals;
+      sessions = q.sessions.known;
+      ready = q.ready.queue;
+      roster = q.consumers.roster;
+      letters = q.dead.letters;
+    }
+
+-- the parts of a queue with these contents
+abbrev pub parts_in : QueueArgs → Content → Parts
+parts_in args k =
+    record {
+      rest =
+          record {
+            args = args;
+            applied = k.applied;
+            arrivals = k.arrivals;
+            orders = k.ready.orders;
+            returns = k.ready.returns;
+            deads = k.letters.deads;
+            turns = k.roster.turns;
+            given = k.letters.given;
+            attached = k.letters.attached;
+            rows = [];
+            messages = [];
+            consumers = [];
+            sessions = k.sessions;
+          };
+      fronts = map keyed_item k.ready.fronts;
+      backs = map keyed_item k.ready.backs;
+      served = k.roster.served;
+      dead = map dead_item k.letters.rows;
+    }
+
+-- what they were at the last commit
+abbrev pub base_of : Queue → Content
+base_of q =
+    record {
+      applied = q.saved.applied;
+      arrivals = q.saved.arrivals;
+      sessions = q.sessions.base;
+      ready = q.ready.base;
+      roster = q.consumers.base;
+      letters = q.dead.base;
+    }
+
+-- these, and what there is to do to the sessions
+pub record Kept : Type 0 where
+  pub base : Content
+  pub pending : Pending
+
+abbrev pub kept_of : Queue → Kept
+kept_of q = record { base = base_of q; pending = q.sessions.pending }
+
+abbrev pub KeepsBase : Queue → Queue → Type 0
+KeepsBase old new = kept_of new ≡ kept_of old
+
+-- these, and the stamp of the command under way
+pub record Stamped : Type 0 where
+  pub base : Content
+  pub passed : Option Stamp
+
+abbrev pub stamped_of : Queue → Stamped
+stamped_of q = record { base = base_of q; passed = passed_by q.sessions.pending }
+
+abbrev pub KeepsStamp : Queue → Queue → Type 0
+KeepsStamp old new = stamped_of new ≡ stamped_of old
+
+-- nothing was changed since the last commit
+pub record IsCommitted (q : Queue) : Type 0 where
+  pub content : content_of q ≡ base_of q
+  pub pending : q.sessions.pending ≡ Nothing
+
+-- Steps under way --------------------------------------------------------------------------------------
+
 -- a step under way
 abbrev pub work_of : QueueArgs → Draft → Work
 work_of args draft = record { parts = parts_of args draft.queue; effects = draft.effects.items }
 
 -- a step that was made
-abbrev pub step_of : QueueArgs → Made → PartsStep
-step_of args made =
+abbrev pub step_of : QueueArgs → Draft → Made → PartsStep
+step_of args draft made =
     record {
-      parts = parts_of args made.draft.queue;
+      parts = parts_of args draft.queue;
       fresh = made.fresh;
       answer = made.answer;
-      effects = made.draft.effects.items;
+      effects = draft.effects.items;
     }
 
 -- the parts of a queue become what this says, whatever its arguments
@@ -142,8 +237,8 @@ CarriesOut act args old new answer =
     act (parts_of args old.queue) ≡ record { work = work_of args new; answer = answer }
 
 -- a step is the one that this says, of a queue
-abbrev pub Makes : (Parts → PartsStep) → QueueArgs → Draft → Made → Type 0
-Makes step args old made = step (parts_of args old.queue) ≡ step_of args made
+abbrev pub Makes : (Parts → PartsStep) → QueueArgs → Draft → Draft → Made → Type 0
+Makes step args old new made = step (parts_of args old.queue) ≡ step_of args new made
 
 -- messages in memory go back, one after the other
 abbrev pub return_rows : Place → List (Numbered ReadyRow) → Work → Work

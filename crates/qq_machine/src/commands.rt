@@ -5,14 +5,18 @@ ghost use Rattle.std.specs.Option.{option_map_or};
 ghost use Rattle.qq_parts.specs.Parts.{items_of, outs};
 ghost use Rattle.qq_parts_step.specs.Commands.{parts_enqueue, parts_get, parts_subscribe, parts_cancel, parts_give_credit, parts_purge, parts_dead_attach, parts_settle_dead, parts_settle_dead_by, take_given, parts_dead_settle, full_by};
 ghost use Rattle.qq_model.specs.Commands.{is_at_least_once};
-ghost use Rattle.qq_machine.specs.Views.{work_of, parts_of, Becomes, Changes, Replies};
+ghost use Rattle.qq_machine.specs.Views.{work_of, parts_of, Becomes, Changes, Replies, KeepsBase, KeepsStamp};
+ghost use Rattle.qq_machine.specs.Gated.{begun};
+ghost use Rattle.qq_entry.specs.Command.{consumer_id};
+ghost use Rattle.std.specs.Prelude.{Some};
 
 use crate::queue::{Draft, Queue, next_number};
 use qq_base::{ConsumerId, Index, Memory, Term};
-use qq_consumer::Consumers;
-use qq_entry::{Answer, Cause, DeadDone, Delivery, Full, Message, Mode, QueueArgs, Strategy};
+use qq_consumer::{Consumers, CreditFault};
+use qq_entry::{
+    Answer, Cause, DeadDone, Delivery, Full, Message, Mode, QueueArgs, Stamp, Strategy,
+};
 use qq_model::MOST_CONSUMERS;
-use qq_ready::Ready;
 use qq_rules::refuses;
 use std::alloc::Global;
 
@@ -98,6 +102,7 @@ impl Draft {
     ) -> Result<Answer, Memory>
         ensures ok { IfOk result (Replies (parts_enqueue index message.now)
             args.now self.old self.new) }
+        ensures base { KeepsBase self.old.queue self.new.queue }
         ensures want { IsOkUnless result Memory.Want }
     {
         let full = self.queue.full_by(args)?;
@@ -112,28 +117,32 @@ impl Draft {
 
     /// Takes the next message, settled at once.
     #[tactic(auto, unfolding(qq_parts_step::specs::Commands::parts_get))]
-    pub fn get(&mut self, args: &QueueArgs) -> Answer
-        ensures { Replies parts_get args.now self.old self.new result }
+    pub fn get(&mut self, args: &QueueArgs) -> Result<Answer, Memory>
+        ensures ok { IfOk result (Replies parts_get args.now self.old self.new) }
+        ensures base { KeepsBase self.old.queue self.new.queue }
+        ensures want { IsOkUnless result Memory.Want }
     {
         if args.single_active {
-            return Answer::Refused(Cause::SingleActive);
+            return Ok(Answer::Refused(Cause::SingleActive));
         }
-        match self.queue.take_first() {
-            None => Answer::Empty,
-            Some(row) => Answer::Got(Delivery {
+        let taken = self.queue.take_first()?;
+        match taken {
+            None => Ok(Answer::Empty),
+            Some(row) => Ok(Answer::Got(Delivery {
                 index: row.index,
                 arrival: row.arrival,
                 id: 0,
                 count: row.count,
                 message: row.message,
-            }),
+            })),
         }
     }
 
     /// Attaches the dead-letter worker of a term.
     #[tactic(auto, unfolding(qq_parts_step::specs::Commands::parts_dead_attach))]
     pub fn dead_attach(&mut self, args: &QueueArgs, term: Term) -> Answer
-        ensures { Replies (parts_dead_attach term) args.now self.old self.new result }
+        ensures value { Replies (parts_dead_attach term) args.now self.old self.new result }
+        ensures base { KeepsBase self.old.queue self.new.queue }
     {
         if !is_at_least_once(args.strategy) {
             return Answer::Stale;
@@ -151,37 +160,45 @@ impl Draft {
         &mut self,
         alloc: Global,
         args: &QueueArgs,
-        id: ConsumerId,
+        stamp: Stamp,
+        tag: u32,
         mode: Mode,
     ) -> Result<Answer, Memory>
-        ensures ok { IfOk result (Replies (parts_subscribe id mode) args.now self.old self.new) }
+        requires { self.old.queue.sessions.pending ≡ begun (Some stamp) }
+
+        ensures ok { IfOk result (Replies (parts_subscribe (consumer_id stamp tag) mode)
+            args.now self.old self.new) }
+        ensures base { KeepsStamp self.old.queue self.new.queue }
         ensures want { IsOkUnless result Memory.Want }
     {
-        let greatest = self.queue.sessions.greatest_tag(id.session);
-        if id.tag <= greatest {
+        let greatest = self.queue.sessions.greatest_tag(&stamp);
+        if tag <= greatest {
             return Ok(Answer::Refused(Cause::NumberSpent));
         }
         if MOST_CONSUMERS <= self.queue.consumers.len() as u64 {
             return Ok(Answer::Refused(Cause::ConsumersFull));
         }
         next_number(self.queue.consumers.turns())?;
-        match self.queue.consumers.subscribe(alloc, id, mode, greatest, 0) {
+        let id = stamp.consumer_id(tag);
+        match self.queue.consumers.subscribe(alloc, id, mode, greatest) {
             Ok(()) => {}
             Err(_) => return Err(Memory::Want),
         }
-        self.queue.sessions.take_tag(id.session, id.tag);
+        self.queue.sessions.take_tag(stamp, tag);
         Ok(Answer::Subscribed)
     }
 
     /// Cancels a consumer.
     #[tactic(auto, unfolding(qq_parts_step::specs::Commands::parts_cancel))]
-    pub fn cancel(&mut self, args: &QueueArgs, id: ConsumerId) -> Answer
-        ensures { Replies (parts_cancel id) args.now self.old self.new result }
+    pub fn cancel(&mut self, args: &QueueArgs, id: ConsumerId) -> Result<Answer, Memory>
+        ensures ok { IfOk result (Replies (parts_cancel id) args.now self.old self.new) }
+        ensures base { KeepsBase self.old.queue self.new.queue }
+        ensures want { IsOkUnless result Memory.Want }
     {
-        if self.queue.consumers.cancel(id) {
-            Answer::Done
+        if self.queue.consumers.cancel(id)? {
+            Ok(Answer::Done)
         } else {
-            Answer::Refused(Cause::NoConsumer)
+            Ok(Answer::Refused(Cause::NoConsumer))
         }
     }
 
@@ -196,25 +213,27 @@ impl Draft {
     ) -> Result<Answer, Memory>
         ensures ok { IfOk result (Replies (parts_give_credit id (count + credit))
             args.now self.old self.new) }
+        ensures base { KeepsBase self.old.queue self.new.queue }
         ensures want { IsOkUnless result Memory.Want }
     {
         next_number(self.queue.consumers.turns())?;
-        self.queue.consumers.reserve(id, 0)?;
         match self.queue.consumers.credit(id, count, credit) {
             Ok(()) => Ok(Answer::Credited { drained: 0 }),
-            Err(cause) => Ok(Answer::Refused(cause)),
+            Err(CreditFault::Refused(cause)) => Ok(Answer::Refused(cause)),
+            Err(CreditFault::Memory) => Err(Memory::Want),
         }
     }
 
     /// Removes all ready messages.
     #[tactic(auto, unfolding(qq_parts_step::specs::Commands::parts_purge))]
-    pub fn purge(&mut self, alloc: Global, args: &QueueArgs) -> Answer
-        ensures { Replies parts_purge args.now self.old self.new result }
+    pub fn purge(&mut self, args: &QueueArgs) -> Result<Answer, Memory>
+        ensures ok { IfOk result (Replies parts_purge args.now self.old self.new) }
+        ensures base { KeepsBase self.old.queue self.new.queue }
+        ensures want { IsOkUnless result Memory.Want }
     {
         let count = self.queue.ready.count();
-        let (orders, returns) = self.queue.ready.counters();
-        self.queue.ready = Ready::from_parts(Vec::new(alloc), Vec::new(alloc), orders, returns);
-        Answer::Purged { count }
+        self.queue.ready.clear()?;
+        Ok(Answer::Purged { count })
     }
 
     #[tactic(auto, using(crate::proofs::Dead::attached_stays))]
@@ -233,11 +252,13 @@ impl Draft {
             ≡ record { work = work_of args.now self.new; count = after }) }
         ensures attached { self.new.queue.dead.letters.attached
             ≡ self.old.queue.dead.letters.attached }
+        ensures base { KeepsBase self.old.queue self.new.queue }
         ensures want { IsOkUnless result Memory.Want }
     {
         self.queue.dead.counters();
-        let settled = self.queue.dead.settle(term, number).is_some();
-        let after = count_if(settled, count)?;
+        let settled = self.queue.dead.settle(term, number)?;
+        let did = settled.is_some();
+        let after = count_if(did, count)?;
         Ok(after)
     }
 
@@ -251,6 +272,7 @@ impl Draft {
 
         ensures ok { IfOk result (λ count. parts_settle_dead done.now (work_of args.now self.old)
             ≡ record { work = work_of args.now self.new; count = count }) }
+        ensures base { KeepsBase self.old.queue self.new.queue }
         ensures want { IsOkUnless result Memory.Want }
     {
         let mut count = 0;
@@ -270,6 +292,7 @@ impl Draft {
     ) -> Result<Answer, Memory>
         ensures ok { IfOk result (Replies (parts_dead_settle term done.now)
             args.now self.old self.new) }
+        ensures base { KeepsBase self.old.queue self.new.queue }
         ensures want { IsOkUnless result Memory.Want }
     {
         let (_, _, attached) = self.queue.dead.counters();

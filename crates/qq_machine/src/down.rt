@@ -2,7 +2,8 @@
 ghost use Rattle.std.specs.Prelude.{◌≡◌, false, IfOk, IsOkUnless, OnOk};
 ghost use Rattle.qq_model.specs.declared.place.Place.{Place};
 ghost use Rattle.qq_parts_step.specs.Commands.{parts_return_session, parts_down};
-ghost use Rattle.qq_machine.specs.Views.{work_of, Changes, Replies, return_rows};
+ghost use Rattle.qq_machine.specs.Views.{work_of, Changes, Replies, return_rows, KeepsBase, KeepsStamp};
+ghost use Rattle.qq_machine.specs.declared.pending.Pending.TheVariants.{Nothing};
 
 use crate::queue::Draft;
 use qq_base::{Memory, SessionId};
@@ -14,10 +15,11 @@ impl Draft {
     fn return_rows(&mut self, args: &QueueArgs, mut rows: Rising<ReadyRow>) -> Result<(), Memory>
         ensures ok { OnOk result ((place : Place) → Changes
             (return_rows place rows.items) args.now self.old self.new) }
+        ensures base { KeepsBase self.old.queue self.new.queue }
         ensures want { IsOkUnless result Memory.Want }
     {
         'rows: for _round in 0..rows.len() {
-            let Some(row) = rows.take_first() else {
+            let Some(row) = rows.take_first()? else {
                 return Err(Memory::Want);
             };
             self.return_row(args, row)?;
@@ -27,28 +29,42 @@ impl Draft {
 
     // The longest joined consumer of a session leaves, and what is out with it goes back. False where
     // there is none.
-    fn return_first(&mut self, args: &QueueArgs, session: SessionId) -> Result<bool, Memory>
+    fn return_first(
+        &mut self,
+        alloc: Global,
+        args: &QueueArgs,
+        session: SessionId,
+    ) -> Result<bool, Memory>
         ensures ok { IfOk result (λ did. parts_return_session session (work_of args.now self.old)
             ≡ parts_return_session session (work_of args.now self.new)) }
         ensures over { IfOk result (λ did. did ≡ false →
             parts_return_session session (work_of args.now self.new) ≡ work_of args.now self.new) }
+        ensures base { KeepsBase self.old.queue self.new.queue }
         ensures want { IsOkUnless result Memory.Want }
     {
         self.queue.consumers.len();
-        let Some(row) = self.queue.consumers.end(session) else {
-            return Ok(false);
+        let ended = self.queue.consumers.end(alloc, session)?;
+        let row = match ended {
+            None => return Ok(false),
+            Some(row) => row,
         };
         self.return_rows(args, row.out)?;
         Ok(true)
     }
 
-    fn return_session(&mut self, args: &QueueArgs, session: SessionId) -> Result<(), Memory>
+    fn return_session(
+        &mut self,
+        alloc: Global,
+        args: &QueueArgs,
+        session: SessionId,
+    ) -> Result<(), Memory>
         ensures ok { OnOk result (Changes (parts_return_session session)
             args.now self.old self.new) }
+        ensures base { KeepsBase self.old.queue self.new.queue }
         ensures want { IsOkUnless result Memory.Want }
     {
         'rounds: for _round in 0..u64::MAX {
-            if !self.return_first(args, session)? {
+            if !self.return_first(alloc, args, session)? {
                 return Ok(());
             }
         }
@@ -63,12 +79,14 @@ impl Draft {
         args: &QueueArgs,
         session: SessionId,
     ) -> Result<Answer, Memory>
+        requires { self.old.queue.sessions.pending ≡ Nothing }
+
         ensures ok { IfOk result (Replies (parts_down session) args.now self.old self.new) }
+        ensures base { KeepsStamp self.old.queue self.new.queue }
         ensures want { IsOkUnless result Memory.Want }
     {
-        self.return_session(args, session)?;
-        self.queue.sessions.reserve(alloc, session)?;
-        self.queue.sessions.end(session);
+        self.return_session(alloc, args, session)?;
+        self.queue.sessions.end(alloc, session)?;
         Ok(Answer::Down)
     }
 }

@@ -5,7 +5,7 @@ ghost use Rattle.qq_parts.specs.Changes.{put_back};
 ghost use Rattle.qq_parts_step.specs.Work.{Work};
 ghost use Rattle.qq_parts_step.specs.Ends.{parts_die, parts_return, parts_end};
 ghost use Rattle.qq_consumer.specs.Roster.{item_at};
-ghost use Rattle.qq_machine.specs.Views.{work_of, Becomes, Changes, return_counted, end_rows};
+ghost use Rattle.qq_machine.specs.Views.{work_of, Becomes, Changes, return_counted, end_rows, KeepsBase};
 
 use crate::queue::{Draft, Queue, next_number};
 use qq_base::Memory;
@@ -19,6 +19,7 @@ impl Queue {
     fn put_back(&mut self, limit: Option<u64>, row: ReadyRow) -> Result<(), Memory>
         ensures ok { OnOk result
             ((place : Place) → Becomes (put_back limit (item_at place row)) self.old self.new) }
+        ensures base { KeepsBase self.old self.new }
         ensures want { IsOkUnless result Memory.Want }
     {
         match limit {
@@ -39,6 +40,7 @@ impl Draft {
     pub fn die(&mut self, args: &QueueArgs, reason: Reason, row: ReadyRow) -> Result<(), Memory>
         ensures ok { OnOk result ((place : Place) → Changes
             (parts_die reason (item_at place row)) args.now self.old self.new) }
+        ensures base { KeepsBase self.old.queue self.new.queue }
         ensures want { IsOkUnless result Memory.Want }
     {
         match args.strategy {
@@ -58,6 +60,7 @@ impl Draft {
     fn return_counted(&mut self, args: &QueueArgs, row: ReadyRow) -> Result<(), Memory>
         ensures ok { OnOk result ((place : Place) → Changes
             (return_counted (item_at place row)) args.now self.old self.new) }
+        ensures base { KeepsBase self.old.queue self.new.queue }
         ensures want { IsOkUnless result Memory.Want }
     {
         if dies(args, row.count) {
@@ -72,6 +75,7 @@ impl Draft {
     pub fn return_row(&mut self, args: &QueueArgs, row: ReadyRow) -> Result<(), Memory>
         ensures ok { OnOk result ((place : Place) → Changes
             (parts_return (item_at place row)) args.now self.old self.new) }
+        ensures base { KeepsBase self.old.queue self.new.queue }
         ensures want { IsOkUnless result Memory.Want }
     {
         let count = next_number(row.count)?;
@@ -82,6 +86,7 @@ impl Draft {
     fn end_row(&mut self, args: &QueueArgs, outcome: Outcome, row: ReadyRow) -> Result<(), Memory>
         ensures ok { OnOk result ((place : Place) → Changes
             (parts_end outcome (item_at place row)) args.now self.old self.new) }
+        ensures base { KeepsBase self.old.queue self.new.queue }
         ensures want { IsOkUnless result Memory.Want }
     {
         match outcome {
@@ -106,6 +111,7 @@ impl Draft {
     ) -> Result<(), Memory>
         ensures ok { OnOk result ((place : Place) → Changes
             (end_rows outcome place rows.items) args.now self.old self.new) }
+        ensures base { KeepsBase self.old.queue self.new.queue }
         ensures want { IsOkUnless result Memory.Want }
     {
         'rows: for _round in 0..rows.len() {

@@ -5,7 +5,7 @@ ghost use Rattle.qq_model.specs.declared.place.Place.{Place};
 ghost use Rattle.qq_entry.specs.declared.queue.QueueArgs.{QueueArgs};
 ghost use Rattle.qq_parts.specs.Parts.{IsWhole};
 ghost use Rattle.qq_parts_step.specs.Commands.{parts_finish};
-ghost use Rattle.qq_machine.specs.Views.{parts_of, work_of, Changes, Replies, end_taken};
+ghost use Rattle.qq_machine.specs.Views.{parts_of, work_of, Changes, Replies, end_taken, KeepsBase};
 
 use crate::queue::{Draft, Queue, next_number};
 use qq_base::{ConsumerId, Memory};
@@ -35,6 +35,7 @@ impl Draft {
     ) -> Result<(), Memory>
         ensures ok { OnOk result ((place : Place) → Changes
             (end_taken outcome place (option_map (λ r. r.items) rows)) args.now self.old self.new) }
+        ensures base { KeepsBase self.old.queue self.new.queue }
         ensures want { IsOkUnless result Memory.Want }
     {
         match rows {
@@ -58,6 +59,7 @@ impl Draft {
     ) -> Result<Answer, Memory>
         ensures ok { IfOk result (Replies (parts_finish outcome consumer ids.now)
             args.now self.old self.new) }
+        ensures base { KeepsBase self.old.queue self.new.queue }
         ensures want { IsOkUnless result Memory.Want }
     {
         self.queue.sizes();

@@ -1,4 +1,4 @@
-ghost use Rattle.std.specs.Prelude.{◌≡◌, ◌+◌, IfOk, IsOkUnless, OnErr};
+ghost use Rattle.std.specs.Prelude.{◌≡◌, ◌+◌, [], length, count_by, IfOk, IsOkUnless, OnErr};
 ghost use Rattle.qq_entry.specs.Range.{IsInRange};
 ghost use Rattle.qq_model.specs.State.{State};
 ghost use Rattle.qq_model.specs.Sound.{IsSound};
@@ -6,17 +6,23 @@ ghost use Rattle.qq_model.specs.Audit.{next_step};
 ghost use Rattle.qq_entry.specs.declared.queue.QueueArgs.{QueueArgs};
 ghost use Rattle.qq_parts.specs.Parts.{Stands, IsWhole};
 ghost use Rattle.qq_parts_step.specs.Step.{new_parts, parts_step, StepsFor};
-ghost use Rattle.qq_machine.specs.Views.{parts_of};
+ghost use Rattle.qq_machine.specs.Views.{parts_of, parts_in, content_of, base_of, IsCommitted};
+ghost use Rattle.qq_machine.specs.Reads.{is_current, fetched};
+ghost use Rattle.qq_parts.specs.Reads.{ready_items};
+ghost use Rattle.qq_consumer.specs.Roster.{one_of};
 
-use crate::queue::{Draft, Made, Queue};
-use qq_base::{Duplicate, Index, Memory};
+use crate::gated::Gated;
+use crate::queue::{Draft, Queue, Saved};
+use crate::reads::current_count;
+use qq_base::{ConsumerId, Duplicate, Index, Memory};
 use qq_consumer::Consumers;
 use qq_dead::Dead;
-use qq_entry::{Answer, Effect, Entry, QueueArgs};
+use qq_entry::{Answer, Delivery, Effect, Entry, QueueArgs};
 use qq_ready::Ready;
 use qq_sessions::Sessions;
 use std::alloc::Global;
 use std::marker::Model;
+use std::mem;
 
 /// A queue that keeps lists of its live messages alone.
 ///
@@ -24,23 +30,75 @@ use std::marker::Model;
 #[derive(Debug, Drop)]
 pub struct Machine {
     args: QueueArgs,
-    queue: Queue,
+    draft: Draft,
 }
 
 impl Model for Machine {
+    ghost use Rattle.std.specs.Prelude.{◌≡◌, []};
     ghost use Rattle.qq_parts.specs.Parts.{Parts};
-    ghost use Rattle.qq_machine.specs.Views.{parts_of};
+    ghost use Rattle.qq_machine.specs.Views.{parts_of, IsCommitted};
 
     ghost Value = { Parts };
 
-    ghost view = { λ m. parts_of m.args m.queue };
+    ghost view = { λ m. parts_of m.args m.draft.queue };
+
+    ghost invariant = { λ m. IsCommitted m.draft.queue × (m.draft.effects.items ≡ []) };
 }
 
 impl Queue {
-    /// The same queue.
+    fn new(alloc: Global) -> Self
+        ensures parts { (args : QueueArgs) → parts_of args result ≡ new_parts args }
+        ensures committed { IsCommitted result }
+    {
+        Queue {
+            applied: 0,
+            arrivals: 0,
+            saved: Saved {
+                applied: 0,
+                arrivals: 0,
+            },
+            sessions: Gated::new(alloc),
+            ready: Ready::new(alloc),
+            consumers: Consumers::new(alloc),
+            dead: Dead::new(alloc),
+        }
+    }
+
+    /// What was changed since the last commit stays. It takes no memory, and costs what was changed.
+    fn commit(&mut self)
+        ensures content { content_of self.new ≡ content_of self.old }
+        ensures committed { IsCommitted self.new }
+    {
+        self.saved = Saved {
+            applied: self.applied,
+            arrivals: self.arrivals,
+        };
+        self.sessions.commit();
+        self.ready.commit();
+        self.consumers.commit();
+        self.dead.commit();
+    }
+
+    /// The queue is as it was at the last commit. It takes no memory, and costs what was changed.
+    fn undo(&mut self)
+        ensures content { content_of self.new ≡ base_of self.old }
+        ensures committed { IsCommitted self.new }
+    {
+        self.applied = self.saved.applied;
+        self.arrivals = self.saved.arrivals;
+        self.sessions.undo();
+        self.ready.undo();
+        self.consumers.undo();
+        self.dead.undo();
+    }
+
+    /// The same queue, as it was at the last commit.
     fn copy(&self, alloc: Global) -> Result<Queue, Memory>
+        requires { IsCommitted self.now }
+
         ensures ok { IfOk result (λ twin. (args : QueueArgs) →
             parts_of args twin ≡ parts_of args self.now) }
+        ensures committed { IfOk result (λ twin. IsCommitted twin) }
         ensures want { IsOkUnless result Memory.Want }
     {
         let Ok(sessions) = self.sessions.copy(alloc) else {
@@ -58,6 +116,7 @@ impl Queue {
         Ok(Queue {
             applied: self.applied,
             arrivals: self.arrivals,
+            saved: self.saved,
             sessions,
             ready,
             consumers,
@@ -66,21 +125,37 @@ impl Queue {
     }
 }
 
+impl Draft {
+    fn commit(&mut self, alloc: Global) -> Vec<Effect>
+        ensures effects { result.items ≡ self.old.effects.items }
+        ensures content { content_of self.new.queue ≡ content_of self.old.queue }
+        ensures committed { IsCommitted self.new.queue }
+        ensures none { self.new.effects.items ≡ [] }
+    {
+        self.queue.commit();
+        mem::replace(&mut self.effects, Vec::new(alloc))
+    }
+
+    fn undo(&mut self, alloc: Global)
+        ensures content { content_of self.new.queue ≡ base_of self.old.queue }
+        ensures committed { IsCommitted self.new.queue }
+        ensures none { self.new.effects.items ≡ [] }
+    {
+        self.queue.undo();
+        self.effects = Vec::new(alloc);
+    }
+}
+
 impl Machine {
     /// The queue to which no entry was applied. It takes no memory.
     pub fn new(alloc: Global, args: QueueArgs) -> Self
         ensures { result ≡ new_parts args }
     {
+        let queue = Queue::new(alloc);
+        let effects = Vec::new(alloc);
         Machine {
             args,
-            queue: Queue {
-                applied: 0,
-                arrivals: 0,
-                sessions: Sessions::new(alloc),
-                ready: Ready::new(alloc),
-                consumers: Consumers::new(alloc),
-                dead: Dead::new(alloc),
-            },
+            draft: Draft { queue, effects },
         }
     }
 
@@ -89,8 +164,8 @@ impl Machine {
         ensures value { result.0 ≡ self.now.rest.applied }
         ensures whole { IsWhole self.now }
     {
-        self.queue.sizes();
-        Index(self.queue.applied)
+        self.draft.queue.sizes();
+        Index(self.draft.queue.applied)
     }
 
     /// The queue's arguments.
@@ -100,6 +175,96 @@ impl Machine {
         &self.args
     }
 
+    /// How many messages have arrived.
+    pub fn arrivals(&self) -> u64
+        ensures { result ≡ self.now.rest.arrivals }
+    {
+        self.draft.queue.arrivals
+    }
+
+    /// The queue of these parts, which were read of a queue of these arguments. It takes no memory.
+    pub fn from_parts(
+        alloc: Global,
+        args: QueueArgs,
+        applied: Index,
+        arrivals: u64,
+        sessions: Sessions,
+        ready: Ready,
+        consumers: Consumers,
+        dead: Dead,
+    ) -> Self
+        ensures { result ≡ parts_in args (record {
+          applied = applied.0;
+          arrivals = arrivals;
+          sessions = sessions.known;
+          ready = ready.queue;
+          roster = consumers.roster;
+          letters = dead.letters;
+        }) }
+    {
+        let mut queue = Queue {
+            applied: applied.0,
+            arrivals,
+            saved: Saved {
+                applied: 0,
+                arrivals: 0,
+            },
+            sessions: Gated::from_sessions(sessions),
+            ready,
+            consumers,
+            dead,
+        };
+        queue.commit();
+        let effects = Vec::new(alloc);
+        Machine {
+            args,
+            draft: Draft { queue, effects },
+        }
+    }
+
+    /// The sessions, the ready messages, the consumers and the dead messages.
+    pub fn parts(&self) -> (&Sessions, &Ready, &Consumers, &Dead)
+        ensures { parts_in self.now.rest.args (record {
+          applied = self.now.rest.applied;
+          arrivals = self.now.rest.arrivals;
+          sessions = result.0.now.known;
+          ready = result.1.now.queue;
+          roster = result.2.now.roster;
+          letters = result.3.now.letters;
+        }) ≡ self.now }
+    {
+        let queue = &self.draft.queue;
+        (
+            queue.sessions.sessions(),
+            &queue.ready,
+            &queue.consumers,
+            &queue.dead,
+        )
+    }
+
+    /// How many messages are ready, and how many consumers weren't cancelled.
+    pub fn counts(&self) -> (u64, u64)
+        ensures ready { result.0 ≡ length (ready_items self.now) }
+        ensures consumers { result.1 ≡ count_by is_current self.now.served }
+    {
+        let queue = &self.draft.queue;
+        (queue.ready.count(), current_count(&queue.consumers))
+    }
+
+    /// What is out with a consumer, from an id on, by rising id.
+    pub fn fetch(
+        &self,
+        alloc: Global,
+        consumer: ConsumerId,
+        from: u64,
+    ) -> Result<Vec<Delivery>, Memory>
+        ensures ok { IfOk result (λ found.
+            found.items ≡ fetched from (one_of consumer self.now.served)) }
+        ensures want { IsOkUnless result Memory.Want }
+    {
+        self.draft.queue.fetch(alloc, consumer, from)
+    }
+
     /// The same queue.
     pub fn copy(&self, alloc: Global) -> Result<Self, Memory>
         ensures ok { IfOk result (λ twin. twin ≡ self.now) }
@@ -107,13 +272,15 @@ impl Machine {
     {
         Ok(Machine {
             args: self.args.copy(alloc)?,
-            queue: self.queue.copy(alloc)?,
+            draft: Draft {
+                queue: self.draft.queue.copy(alloc)?,
+                effects: Vec::new(alloc),
+            },
         })
     }
 
     /// Applies the next entry: whether its command counted as fresh, its answer, and its effects in
-    /// order. After an error the queue is as before. It copies the live messages first, and so costs
-    /// what they do.
+    /// order. After an error the queue is as before.
     pub fn apply(
         &mut self,
         alloc: Global,
@@ -139,18 +306,16 @@ impl Machine {
         ensures err { OnErr result (self.new ≡ self.old) }
         ensures want { IsOkUnless result Memory.Want }
     {
-        self.queue.sizes();
-        let draft = Draft {
-            queue: self.queue.copy(alloc)?,
-            effects: Vec::new(alloc),
-        };
-        let made = draft.step(alloc, &self.args, index, entry)?;
-        let Made {
-            draft,
-            fresh,
-            answer,
-        } = made;
-        self.queue = draft.queue;
-        Ok((fresh, answer, draft.effects))
+        self.draft.queue.sizes();
+        match self.draft.step(alloc, &self.args, index, entry) {
+            Err(cause) => {
+                self.draft.undo(alloc);
+                Err(cause)
+            }
+            Ok(made) => {
+                let effects = self.draft.commit(alloc);
+                Ok((made.fresh, made.answer, effects))
+            }
+        }
     }
 }

@@ -4,7 +4,7 @@ ghost use Rattle.qq_model.specs.declared.place.Place.{Place};
 ghost use Rattle.qq_entry.specs.declared.queue.QueueArgs.{QueueArgs};
 ghost use Rattle.qq_parts.specs.Changes.{take_first, push_back, push_front, push_dead, arrive};
 ghost use Rattle.qq_consumer.specs.Roster.{item_at};
-ghost use Rattle.qq_machine.specs.Views.{parts_of, Becomes, IsFirst};
+ghost use Rattle.qq_machine.specs.Views.{parts_of, Becomes, IsFirst, KeepsBase};
 
 use crate::queue::{Queue, next_number};
 use qq_base::{Duplicate, Index, Memory};
@@ -13,27 +13,31 @@ use std::alloc::Global;
 
 impl Queue {
     /// Takes out the next message.
-    pub fn take_first(&mut self) -> Option<ReadyRow>
-        ensures some { IfSome result (λ row. IsFirst row self.old self.new) }
-        ensures none { IfNone result
-            ((args : QueueArgs) → take_first (parts_of args self.old) ≡ None) }
+    pub fn take_first(&mut self) -> Result<Option<ReadyRow>, Memory>
+        ensures some { IfOk result (λ taken. IfSome taken (λ row.
+            IsFirst row self.old self.new)) }
+        ensures none { IfOk result (λ taken. IfNone taken
+            ((args : QueueArgs) → take_first (parts_of args self.old) ≡ None)) }
         ensures consumers { self.new.consumers ≡ self.old.consumers }
-        ensures still { IfNone result
-            ((args : QueueArgs) → parts_of args self.new ≡ parts_of args self.old) }
+        ensures still { IfOk result (λ taken. IfNone taken
+            ((args : QueueArgs) → parts_of args self.new ≡ parts_of args self.old)) }
+        ensures base { KeepsBase self.old self.new }
+        ensures want { IsOkUnless result Memory.Want }
     {
-        self.ready.pop_next()
+        let taken = self.ready.pop_next()?;
+        Ok(taken)
     }
 
     /// Puts a message at the back.
     pub fn push_back(&mut self, row: ReadyRow) -> Result<(), Memory>
         ensures ok { OnOk result
             ((place : Place) → Becomes (push_back (item_at place row)) self.old self.new) }
+        ensures base { KeepsBase self.old self.new }
         ensures want { IsOkUnless result Memory.Want }
     {
         let (orders, _) = self.ready.counters();
         next_number(orders)?;
-        self.ready.reserve(1)?;
-        self.ready.push_back(row);
+        self.ready.push_back(row)?;
         Ok(())
     }
 
@@ -41,12 +45,12 @@ impl Queue {
     pub fn push_front(&mut self, row: ReadyRow) -> Result<(), Memory>
         ensures ok { OnOk result
             ((place : Place) → Becomes (push_front (item_at place row)) self.old self.new) }
+        ensures base { KeepsBase self.old self.new }
         ensures want { IsOkUnless result Memory.Want }
     {
         let (_, returns) = self.ready.counters();
         next_number(returns)?;
-        self.ready.reserve(1)?;
-        self.ready.push_returned(row);
+        self.ready.push_returned(row)?;
         Ok(())
     }
 
@@ -54,18 +58,19 @@ impl Queue {
     pub fn push_dead(&mut self, reason: Reason, row: ReadyRow) -> Result<(), Memory>
         ensures ok { OnOk result
             ((place : Place) → Becomes (push_dead reason (item_at place row)) self.old self.new) }
+        ensures base { KeepsBase self.old self.new }
         ensures want { IsOkUnless result Memory.Want }
     {
         let (deads, _, _) = self.dead.counters();
         next_number(deads)?;
-        self.dead.reserve(1)?;
-        self.dead.add(row, reason);
+        self.dead.add(row, reason)?;
         Ok(())
     }
 
     /// Puts a new message at the back.
     pub fn arrive(&mut self, alloc: Global, index: Index, message: &Message) -> Result<(), Memory>
         ensures ok { OnOk result (Becomes (arrive index message.now) self.old self.new) }
+        ensures base { KeepsBase self.old self.new }
         ensures want { IsOkUnless result Memory.Want }
     {
         let arrival = next_number(self.arrivals)?;

@@ -1,18 +1,27 @@
 ghost use Rattle.std.specs.Prelude.{◌≡◌, ◌+◌, ◌<◌, ◌≤◌, ◌^◌, IfOk, IsOkUnless, OnOk};
 
+use crate::gated::Gated;
 use qq_base::Memory;
 use qq_consumer::Consumers;
 use qq_dead::Dead;
 use qq_entry::{Answer, Effect};
 use qq_ready::Ready;
-use qq_sessions::Sessions;
 
-/// A queue but for its arguments, which a step never copies.
+/// The numbers of a queue at the last commit.
+#[derive(Clone, Copy, Debug)]
+pub struct Saved {
+    pub applied: u64,
+    pub arrivals: u64,
+}
+
+/// A queue but for its arguments, which a step never copies. Each part of it tells what it was at the last
+/// commit, and can be that again.
 #[derive(Debug, Drop)]
 pub struct Queue {
     pub applied: u64,
     pub arrivals: u64,
-    pub sessions: Sessions,
+    pub saved: Saved,
+    pub sessions: Gated,
     pub ready: Ready,
     pub consumers: Consumers,
     pub dead: Dead,
@@ -25,10 +34,9 @@ pub struct Draft {
     pub effects: Vec<Effect>,
 }
 
-/// A queue as an entry leaves it, whether the entry's command counted as fresh, and its answer.
+/// Whether an entry's command counted as fresh, and its answer.
 #[derive(Debug, Drop)]
 pub struct Made {
-    pub draft: Draft,
     pub fresh: bool,
     pub answer: Answer,
 }

@@ -4,7 +4,7 @@ ghost use Rattle.qq_entry.specs.declared.queue.QueueArgs.{QueueArgs};
 ghost use Rattle.qq_model.specs.Serving.{is_credited};
 ghost use Rattle.qq_parts_step.specs.Follows.{parts_check_out, parts_check_out_all, parts_drop_head, parts_keep_limits, parts_give_dead, parts_give_all_dead, is_over};
 ghost use Rattle.qq_parts_step.specs.Commands.{parts_drain, parts_drain_after};
-ghost use Rattle.qq_machine.specs.Views.{work_of, parts_of, Becomes, Changes, Replies, GoesOn, IsNextIn, Delivers};
+ghost use Rattle.qq_machine.specs.Views.{work_of, parts_of, Becomes, Changes, Replies, GoesOn, IsNextIn, Delivers, KeepsBase};
 ghost use Rattle.qq_consumer.specs.Roster.{item_at, HoldsAt, CanCount};
 ghost use Rattle.qq_consumer.specs.Turns.{waiting_turn};
 ghost use Rattle.qq_model.specs.declared.place.Place.{Place};
@@ -59,13 +59,13 @@ impl Draft {
 
         ensures ok { OnOk result
             ((place : Place) → Delivers id (item_at place row) self.old self.new) }
+        ensures base { KeepsBase self.old.queue self.new.queue }
         ensures want { IsOkUnless result Memory.Want }
     {
         self.queue.can_deliver(id)?;
-        self.queue.consumers.reserve(id, 1)?;
         let message = row.message.copy(alloc)?;
         let (index, arrival, count) = (row.index, row.arrival, row.count);
-        let number = self.queue.consumers.check_out(id, row);
+        let number = self.queue.consumers.check_out(id, row)?;
         self.effects.push(Effect::Deliver(
             id,
             Delivery {
@@ -84,13 +84,16 @@ impl Draft {
         ensures ok { IfOk result (GoesOn parts_check_out args.now self.old self.new) }
         ensures still { IfOk result
             (λ did. did ≡ false → work_of args.now self.new ≡ work_of args.now self.old) }
+        ensures base { KeepsBase self.old.queue self.new.queue }
         ensures want { IsOkUnless result Memory.Want }
     {
         let Some(id) = self.queue.next_one(args.single_active) else {
             return Ok(false);
         };
-        let Some(row) = self.queue.take_first() else {
-            return Ok(false);
+        let taken = self.queue.take_first()?;
+        let row = match taken {
+            None => return Ok(false),
+            Some(row) => row,
         };
         self.deliver(alloc, id, row)?;
         Ok(true)
@@ -100,6 +103,7 @@ impl Draft {
     #[tactic(auto, unfolding(qq_parts_step::specs::Follows::parts_check_out_all))]
     pub fn check_out_all(&mut self, alloc: Global, args: &QueueArgs) -> Result<(), Memory>
         ensures ok { OnOk result (Changes parts_check_out_all args.now self.old self.new) }
+        ensures base { KeepsBase self.old.queue self.new.queue }
         ensures want { IsOkUnless result Memory.Want }
     {
         let ready = self.queue.ready.count();
@@ -121,6 +125,7 @@ impl Draft {
         ensures ok { IfOk result (Replies
             (λ t. parts_drain id wanted (record { work = t; answer = answer }))
             args.now self.old self.new) }
+        ensures base { KeepsBase self.old.queue self.new.queue }
         ensures want { IsOkUnless result Memory.Want }
     {
         if !wanted || !is_credited(&answer) {
@@ -141,7 +146,7 @@ impl Draft {
         {
             return Err(Memory::Want);
         }
-        let drained = self.queue.consumers.drain(id);
+        let drained = self.queue.consumers.drain(id)?;
         Ok(Answer::Credited { drained })
     }
 
@@ -156,6 +161,7 @@ impl Draft {
         ensures ok { IfOk result (Replies
             (λ t. parts_drain_after command.now (record { work = t; answer = answer }))
             args.now self.old self.new) }
+        ensures base { KeepsBase self.old.queue self.new.queue }
         ensures want { IsOkUnless result Memory.Want }
     {
         match command {
@@ -174,13 +180,16 @@ impl Draft {
         ensures ok { IfOk result (GoesOn parts_drop_head args.now self.old self.new) }
         ensures still { IfOk result
             (λ did. did ≡ false → work_of args.now self.new ≡ work_of args.now self.old) }
+        ensures base { KeepsBase self.old.queue self.new.queue }
         ensures want { IsOkUnless result Memory.Want }
     {
         if !over(args, self.queue.ready.count(), self.queue.ready.bytes()) {
             return Ok(false);
         }
-        let Some(row) = self.queue.take_first() else {
-            return Ok(false);
+        let taken = self.queue.take_first()?;
+        let row = match taken {
+            None => return Ok(false),
+            Some(row) => row,
         };
         self.die(args, Reason::MaxLen, row)?;
         Ok(true)
@@ -190,6 +199,7 @@ impl Draft {
     #[tactic(auto, unfolding(qq_parts_step::specs::Follows::parts_keep_limits))]
     pub fn keep_limits(&mut self, args: &QueueArgs) -> Result<(), Memory>
         ensures ok { OnOk result (Changes parts_keep_limits args.now self.old self.new) }
+        ensures base { KeepsBase self.old.queue self.new.queue }
         ensures want { IsOkUnless result Memory.Want }
     {
         let ready = self.queue.ready.count();
@@ -206,6 +216,7 @@ impl Draft {
         ensures ok { IfOk result (GoesOn parts_give_dead args.now self.old self.new) }
         ensures still { IfOk result
             (λ did. did ≡ false → work_of args.now self.new ≡ work_of args.now self.old) }
+        ensures base { KeepsBase self.old.queue self.new.queue }
         ensures want { IsOkUnless result Memory.Want }
     {
         let Some(one) = self.queue.dead.next_offer() else {
@@ -225,6 +236,7 @@ impl Draft {
     #[tactic(auto, unfolding(qq_parts_step::specs::Follows::parts_give_all_dead))]
     pub fn give_all_dead(&mut self, alloc: Global, args: &QueueArgs) -> Result<(), Memory>
         ensures ok { OnOk result (Changes parts_give_all_dead args.now self.old self.new) }
+        ensures base { KeepsBase self.old.queue self.new.queue }
         ensures want { IsOkUnless result Memory.Want }
     {
         let dead = self.queue.dead.len();

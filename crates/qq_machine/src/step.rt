@@ -1,7 +1,11 @@
-//! One entry, on a queue that may be given up.
-ghost use Rattle.std.specs.Prelude.{◌≡◌, [], IfOk, IsOkUnless};
+//! One entry, on a queue that is as before where it can't be applied.
+ghost use Rattle.std.specs.Prelude.{◌≡◌, [], Some, None, IfOk, IsOkUnless};
+ghost use Rattle.qq_entry.specs.Command.{stamp};
+ghost use Rattle.qq_model.specs.Gate.{gate};
+ghost use Rattle.qq_machine.specs.declared.pending.Pending.TheVariants.{Nothing};
+ghost use Rattle.qq_machine.specs.Gated.{begun};
 ghost use Rattle.qq_parts_step.specs.Step.{parts_carry_out, parts_pass_gate, parts_pass_ungated, parts_reject, parts_go_through, parts_step_by, parts_step};
-ghost use Rattle.qq_machine.specs.Views.{parts_of, work_of, step_of, CarriesOut, Makes};
+ghost use Rattle.qq_machine.specs.Views.{parts_of, work_of, base_of, CarriesOut, Makes, KeepsStamp};
 
 use crate::queue::{Draft, Made};
 use qq_base::{Duplicate, Index, Memory};
@@ -19,10 +23,12 @@ impl Draft {
         index: Index,
         command: &Command,
     ) -> Result<Answer, Memory>
-        requires { self.old.effects.items ≡ [] }
+        requires effects { self.old.effects.items ≡ [] }
+        requires pending { self.old.queue.sessions.pending ≡ begun (stamp command.now) }
 
         ensures ok { IfOk result (CarriesOut (parts_carry_out index command.now)
             args.now self.old self.new) }
+        ensures base { KeepsStamp self.old.queue self.new.queue }
         ensures want { IsOkUnless result Memory.Want }
     {
         let answer = self.act(alloc, args, index, command)?;
@@ -34,129 +40,144 @@ impl Draft {
     }
 
     fn pass_ungated(
-        mut self,
+        &mut self,
         alloc: Global,
         args: &QueueArgs,
         index: Index,
         command: &Command,
     ) -> Result<Made, Memory>
-        requires { self.effects.items ≡ [] }
+        requires effects { self.old.effects.items ≡ [] }
+        requires pending { self.old.queue.sessions.pending ≡ Nothing }
+        requires ungated { stamp command.now ≡ None }
 
         ensures ok { IfOk result (Makes
-            (λ m. parts_pass_ungated index (parts_carry_out index command.now m)) args.now self) }
+            (λ m. parts_pass_ungated index (parts_carry_out index command.now m))
+            args.now self.old self.new) }
+        ensures base { base_of self.new.queue ≡ base_of self.old.queue }
         ensures want { IsOkUnless result Memory.Want }
     {
         let answer = self.carry_out(alloc, args, index, command)?;
         self.queue.applied = index.0;
         Ok(Made {
-            draft: self,
             fresh: true,
             answer,
         })
     }
 
     fn pass_gate(
-        mut self,
+        &mut self,
         alloc: Global,
         args: &QueueArgs,
         index: Index,
-        stamp: Stamp,
+        by: Stamp,
         command: &Command,
     ) -> Result<Made, Memory>
-        requires { self.effects.items ≡ [] }
+        requires effects { self.old.effects.items ≡ [] }
+        requires pending { self.old.queue.sessions.pending ≡ Nothing }
+        requires stamped { stamp command.now ≡ Some by }
 
         ensures ok { IfOk result (Makes
-            (parts_go_through Gate.Fresh index stamp command.now) args.now self) }
+            (parts_go_through Gate.Fresh index by command.now) args.now self.old self.new) }
+        ensures base { base_of self.new.queue ≡ base_of self.old.queue }
         ensures want { IsOkUnless result Memory.Want }
     {
-        self.queue.sessions.reserve(alloc, stamp.session)?;
-        self.queue.sessions.admit(&stamp);
+        self.queue.sessions.admit(alloc, by)?;
         let answer = self.carry_out(alloc, args, index, command)?;
-        self.queue.sessions.reserve(alloc, stamp.session)?;
-        self.queue.sessions.keep(&stamp, answer.copy(alloc)?);
+        self.queue.sessions.keep(by, answer.copy(alloc)?);
         self.queue.applied = index.0;
         Ok(Made {
-            draft: self,
             fresh: true,
             answer,
         })
     }
 
-    fn reject(mut self, args: &QueueArgs, index: Index, stamp: Stamp, answer: Answer) -> Made
-        requires { self.effects.items ≡ [] }
+    fn reject(&mut self, args: &QueueArgs, index: Index, by: Stamp, answer: Answer) -> Made
+        requires effects { self.old.effects.items ≡ [] }
+        requires pending { self.old.queue.sessions.pending ≡ Nothing }
 
-        ensures { Makes (parts_reject index stamp answer) args.now self result }
+        ensures value { Makes (parts_reject index by answer) args.now self.old self.new result }
+        ensures base { base_of self.new.queue ≡ base_of self.old.queue }
     {
-        self.queue.sessions.advance(&stamp);
+        self.queue.sessions.turn_away(by);
         self.queue.applied = index.0;
         Made {
-            draft: self,
             fresh: false,
             answer,
         }
     }
 
     fn go_through(
-        self,
+        &mut self,
         alloc: Global,
         args: &QueueArgs,
         gate: Gate,
         index: Index,
-        stamp: Stamp,
+        by: Stamp,
         command: &Command,
     ) -> Result<Made, Memory>
-        requires { self.effects.items ≡ [] }
+        requires effects { self.old.effects.items ≡ [] }
+        requires pending { self.old.queue.sessions.pending ≡ Nothing }
+        requires stamped { stamp command.now ≡ Some by }
 
         ensures ok { IfOk result (Makes
-            (parts_go_through gate index stamp command.now) args.now self) }
+            (parts_go_through gate index by command.now) args.now self.old self.new) }
+        ensures base { base_of self.new.queue ≡ base_of self.old.queue }
         ensures want { IsOkUnless result Memory.Want }
     {
         match gate {
-            Gate::Fresh => self.pass_gate(alloc, args, index, stamp, command),
-            Gate::Again(answer) => Ok(self.reject(args, index, stamp, answer)),
-            Gate::Gap { next } => Ok(self.reject(args, index, stamp, Answer::Gap { next })),
-            Gate::Forgotten => Ok(self.reject(args, index, stamp, Answer::Forgotten)),
-            Gate::Ended => Ok(self.reject(args, index, stamp, Answer::Ended)),
-            Gate::WindowFull => Ok(self.reject(args, index, stamp, Answer::WindowFull)),
-            Gate::SessionsFull => Ok(self.reject(args, index, stamp, Answer::SessionsFull)),
+            Gate::Fresh => self.pass_gate(alloc, args, index, by, command),
+            Gate::Again(answer) => Ok(self.reject(args, index, by, answer)),
+            Gate::Gap { next } => Ok(self.reject(args, index, by, Answer::Gap { next })),
+            Gate::Forgotten => Ok(self.reject(args, index, by, Answer::Forgotten)),
+            Gate::Ended => Ok(self.reject(args, index, by, Answer::Ended)),
+            Gate::WindowFull => Ok(self.reject(args, index, by, Answer::WindowFull)),
+            Gate::SessionsFull => Ok(self.reject(args, index, by, Answer::SessionsFull)),
         }
     }
 
     fn step_by(
-        self,
+        &mut self,
         alloc: Global,
         args: &QueueArgs,
-        stamp: Option<Stamp>,
+        by: Option<Stamp>,
         index: Index,
         command: &Command,
     ) -> Result<Made, Memory>
-        requires { self.effects.items ≡ [] }
+        requires effects { self.old.effects.items ≡ [] }
+        requires pending { self.old.queue.sessions.pending ≡ Nothing }
+        requires base { self.old.queue.sessions.known ≡ self.old.queue.sessions.base }
+        requires stamped { stamp command.now ≡ by }
 
         ensures ok { IfOk result (Makes
-            (parts_step_by stamp index command.now) args.now self) }
+            (parts_step_by by index command.now) args.now self.old self.new) }
+        ensures base { base_of self.new.queue ≡ base_of self.old.queue }
         ensures want { IsOkUnless result Memory.Want }
     {
-        match stamp {
+        match by {
             None => self.pass_ungated(alloc, args, index, command),
-            Some(stamp) => {
-                let gate = self.queue.sessions.check(alloc, &stamp)?;
-                self.go_through(alloc, args, gate, index, stamp, command)
+            Some(by) => {
+                let gate = self.queue.sessions.check(alloc, &by)?;
+                self.go_through(alloc, args, gate, index, by, command)
             }
         }
     }
 
-    /// Applies the next entry, without effects so far. After an error the queue is given up.
+    /// Applies the next entry to a queue as it was at the last commit, without effects so far.
     #[tactic(auto, unfolding(qq_parts_step::specs::Step::parts_step))]
     pub fn step(
-        self,
+        &mut self,
         alloc: Global,
         args: &QueueArgs,
         index: Index,
         entry: &Entry,
     ) -> Result<Made, Memory>
-        requires { self.effects.items ≡ [] }
+        requires effects { self.old.effects.items ≡ [] }
+        requires pending { self.old.queue.sessions.pending ≡ Nothing }
+        requires base { self.old.queue.sessions.known ≡ self.old.queue.sessions.base }
 
-        ensures ok { IfOk result (Makes (λ m. parts_step m index entry.now) args.now self) }
+        ensures ok { IfOk result (Makes (λ m. parts_step m index entry.now)
+            args.now self.old self.new) }
+        ensures base { base_of self.new.queue ≡ base_of self.old.queue }
         ensures want { IsOkUnless result Memory.Want }
     {
         self.step_by(alloc, args, entry.command.stamp(), index, &entry.command)

@@ -1,7 +1,9 @@
 //! The table of the commands.
 ghost use Rattle.std.specs.Prelude.{◌≡◌, IfOk, IsOkUnless};
 ghost use Rattle.qq_parts_step.specs.Commands.{parts_act};
-ghost use Rattle.qq_machine.specs.Views.{work_of, Replies};
+ghost use Rattle.qq_machine.specs.Views.{work_of, Replies, KeepsStamp};
+ghost use Rattle.qq_machine.specs.Gated.{begun};
+ghost use Rattle.qq_entry.specs.Command.{stamp};
 
 use crate::queue::Draft;
 use qq_base::{Index, Memory};
@@ -19,21 +21,23 @@ impl Draft {
         index: Index,
         command: &Command,
     ) -> Result<Answer, Memory>
+        requires { self.old.queue.sessions.pending ≡ begun (stamp command.now) }
+
         ensures ok { IfOk result (Replies (parts_act index command.now)
             args.now self.old self.new) }
+        ensures base { KeepsStamp self.old.queue self.new.queue }
         ensures want { IsOkUnless result Memory.Want }
     {
         match command {
             Command::Noop { .. } => Ok(Answer::Lead),
             Command::Enqueue { message, .. } => self.enqueue(alloc, args, index, message),
-            Command::Get { .. } => Ok(self.get(args)),
+            Command::Get { .. } => self.get(args),
             Command::Subscribe { stamp, tag, mode } => {
-                let id = stamp.consumer_id(*tag);
-                self.subscribe(alloc, args, id, *mode)
+                self.subscribe(alloc, args, *stamp, *tag, *mode)
             }
             Command::Cancel { stamp, tag } => {
                 let id = stamp.consumer_id(*tag);
-                Ok(self.cancel(args, id))
+                self.cancel(args, id)
             }
             Command::Credit {
                 stamp,
@@ -57,7 +61,7 @@ impl Draft {
                 let id = stamp.consumer_id(*tag);
                 self.finish(alloc, args, Outcome::Discarded, id, ids.as_slice())
             }
-            Command::Purge { .. } => Ok(self.purge(alloc, args)),
+            Command::Purge { .. } => self.purge(args),
             Command::Down { session } => self.down(alloc, args, *session),
             Command::DeadAttach { term } => Ok(self.dead_attach(args, *term)),
             Command::DeadSettle { term, done } => self.dead_settle(args, *term, done.as_slice()),

@@ -19,8 +19,7 @@ fn row(arrival: u64) -> ReadyRow {
 fn dead(rt: &HostRuntime, count: u64) -> Result<Dead, Fail> {
     let mut dead = Dead::new(rt.alloc());
     for arrival in 0..count {
-        dead.reserve(1)?;
-        dead.add(row(arrival + 1), Reason::Rejected);
+        dead.add(row(arrival + 1), Reason::Rejected)?;
     }
     Ok(dead)
 }
@@ -44,7 +43,7 @@ fn the_thirty_third_message_waits(rt: HostRuntime) -> Result<(), Fail> {
         assert_eq!(rt; give(&mut dead), number);
     }
     assert_eq!(rt; give(&mut dead), 0);
-    assert!(rt; dead.settle(Term(1), 5).is_some());
+    assert!(rt; dead.settle(Term(1), 5)?.is_some());
     assert_eq!(rt; give(&mut dead), 33);
     assert_eq!(rt; give(&mut dead), 0);
     assert_eq!(rt; dead.len(), 33);
@@ -56,14 +55,30 @@ fn only_what_the_worker_was_given_is_settled(rt: HostRuntime) -> Result<(), Fail
     let mut dead = dead(&rt, 2)?;
     assert!(rt; dead.attach(Term(2)));
     assert_eq!(rt; give(&mut dead), 1);
-    assert!(rt; dead.settle(Term(1), 1).is_none());
-    assert!(rt; dead.settle(Term(2), 2).is_none());
+    assert!(rt; dead.settle(Term(1), 1)?.is_none());
+    assert!(rt; dead.settle(Term(2), 2)?.is_none());
     let twin = dead.copy(rt.alloc())?;
-    assert!(rt; dead.settle(Term(2), 1).is_some());
-    assert!(rt; dead.settle(Term(2), 1).is_none());
+    assert!(rt; dead.settle(Term(2), 1)?.is_some());
+    assert!(rt; dead.settle(Term(2), 1)?.is_none());
     assert_eq!(rt; twin.len(), 2);
     assert!(rt; !dead.attach(Term(2)));
     assert!(rt; dead.attach(Term(3)));
     assert_eq!(rt; give(&mut dead), 2);
+    Ok(())
+}
+
+#[test]
+fn what_was_not_committed_is_taken_back(rt: HostRuntime) -> Result<(), Fail> {
+    let mut dead = dead(&rt, 2)?;
+    assert!(rt; dead.attach(Term(1)));
+    assert_eq!(rt; give(&mut dead), 1);
+    dead.commit();
+    assert!(rt; dead.settle(Term(1), 1)?.is_some());
+    assert_eq!(rt; give(&mut dead), 2);
+    assert!(rt; dead.attach(Term(2)));
+    dead.undo();
+    assert_eq!(rt; dead.len(), 2);
+    assert!(rt; dead.settle(Term(1), 2)?.is_none());
+    assert!(rt; dead.settle(Term(1), 1)?.is_some());
     Ok(())
 }

@@ -15,3 +15,5 @@ mod replays;
 mod service;
 #[cfg(test)]
 mod sessions;
+#[cfg(test)]
+mod undo;

@@ -1,12 +1,12 @@
 -- Keys that rise, and the bytes of messages, as a queue gains and loses one.
-use Rattle.std.proofs.Common.{◌≡◌, ℕ, ◌+◌, ◌-◌, ◌*◌, ◌^◌, ◌<◌, ◌≤◌, List, [], ◌∷◌, ◌++◌, length, refl, sym, ap, ◌∙◌, subst, arith}
+use Rattle.std.proofs.Common.{◌≡◌, ℕ, zero, suc, ◌+◌, ◌-◌, ◌*◌, ◌^◌, ◌<◌, ◌≤◌, List, [], ◌∷◌, ◌++◌, length, slice_get, refl, sym, ap, ◌∙◌, subst, arith}
 use Rattle.std.specs.List.{AllByRecursion}
 use Rattle.std.proofs.lemmas.List.Sums.{sum_by-append, sum_by-cons}
 use Rattle.qq_base.proofs.Lists.{AllByRecursion-append, AllByRecursion-weaker}
 use Rattle.qq_model.specs.declared.place.Key.{Key}
 use Rattle.qq_model.specs.declared.place.Key.TheVariants.{Front, Back}
 use Rattle.qq_ready.specs.declared.row.KeyedRow.{KeyedRow}
-use Rattle.qq_ready.specs.Queue.{Queue, bytes_of, number, Rises, IsKey, AreKeyed, IsInOrder, CountsBytes, queue_of}
+use Rattle.qq_ready.specs.Queue.{bytes_of, number, Rises, IsKey, AreKeyed, IsInOrder, CountsBytes, queue_of}
 
 pub bytes-push : (rows : List KeyedRow) (one : KeyedRow)
     → bytes_of (rows ++ one ∷ []) ≡ bytes_of rows + one.row.message.size
@@ -135,3 +135,27 @@ kept-parts fronts backs fronts' backs' orders returns a b first second same same
         fits = omega arith;
       },
     )
+
+-- what a queue keeps is of its parts alone
+abbrev pub IsKept : List KeyedRow → List KeyedRow → ℕ → ℕ → ℕ → Type 0
+IsKept fronts backs orders returns bytes =
+    IsInOrder (queue_of fronts backs orders returns) × CountsBytes bytes (queue_of fronts backs orders returns)
+
+pub kept-same : (fronts backs fronts' backs' : List KeyedRow) (orders returns bytes : ℕ) → fronts' ≡ fronts
+    → backs' ≡ backs → IsKept fronts backs orders returns bytes → IsKept fronts' backs' orders returns bytes
+kept-same fronts backs fronts' backs' orders returns bytes same same' kept =
+    subst (λ (rows : List KeyedRow). IsKept rows backs' orders returns bytes) (sym same)
+    (subst (λ (rows : List KeyedRow). IsKept fronts rows orders returns bytes) (sym same') kept)
+
+-- a message by its place
+pub get-left : (xs ys : List KeyedRow) (i : ℕ) → i < length xs → slice_get (xs ++ ys) i ≡ slice_get xs i
+get-left [] ys i lt = absurd (omega arith)
+get-left (x ∷ xs) ys zero lt = refl
+get-left (x ∷ xs) ys (suc i) lt = get-left xs ys i (omega arith)
+
+pub get-right : (xs ys : List KeyedRow) (i : ℕ) → length xs ≤ i → slice_get (xs ++ ys) i ≡ slice_get ys (i - length xs)
+get-right [] ys i le = let same : i ≡ i - 0 = omega arith in ap (slice_get ys) same
+get-right (x ∷ xs) ys zero le = absurd (omega arith)
+get-right (x ∷ xs) ys (suc i) le =
+    let same : i - length xs ≡ suc i - suc (length xs) = omega arith in
+    get-right xs ys i (omega arith) ∙ ap (slice_get ys) same

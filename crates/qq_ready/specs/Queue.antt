@@ -13,14 +13,10 @@ pub record Queue : Type 0 where
   pub orders : ℕ
   pub returns : ℕ
 
--- for how many more there is memory
-pub record Room : Type 0 where
-  pub fronts : ℕ
-  pub backs : ℕ
-
+-- the queue, and what it was at the last commit
 pub record ReadyState : Type 0 where
   pub queue : Queue
-  pub room : Room
+  pub base : Queue
 
 abbrev pub no_messages : Queue
 no_messages = record { fronts = []; backs = []; orders = 0; returns = 0 }
@@ -41,6 +37,10 @@ without_next_by (row ∷ rows) q = record q { fronts = rows }
 -- without the next message
 abbrev pub without_next : Queue → Queue
 without_next q = without_next_by q.fronts q
+
+-- without all messages
+abbrev pub emptied : Queue → Queue
+emptied q = record q { fronts = []; backs = [] }
 
 -- a message at the back, with the next key there
 abbrev pub push_back : ReadyRow → Queue → Queue

@@ -1,47 +1,55 @@
-ghost use Rattle.std.specs.Prelude.{◌≡◌, ◌+◌, ◌*◌, ◌<◌, ◌≤◌, ◌^◌, length, slice_get, IfOk, IsOkUnless, OnOk};
+ghost use Rattle.std.specs.Prelude.{◌≡◌, ◌+◌, ◌*◌, ◌<◌, ◌≤◌, ◌^◌, [], length, slice_get, IfOk, IsOkUnless, OnOk, OnErr};
 ghost use Rattle.std.specs.Option.{option_copied, option_map};
 ghost use Rattle.qq_model.specs.declared.place.Key.TheVariants.{Front, Back};
-ghost use Rattle.qq_ready.specs.Queue.{no_messages, in_order, head, without_next, push_back, push_returned, bytes_of, AreKeyed, IsInOrder};
+ghost use Rattle.qq_ready.specs.Queue.{no_messages, in_order, head, without_next, emptied, push_back, push_returned, bytes_of, AreKeyed, IsInOrder};
 
 use crate::row::KeyedRow;
 use qq_base::{Duplicate, Memory};
 use qq_entry::ReadyRow;
 use qq_model::Key;
+use qq_undo::UndoDeque;
 use std::alloc::Global;
 use std::collections::VecDeque;
 use std::marker::Model;
 
-/// The ready messages of a queue, the next first.
-///
-/// What was returned under a delivery limit comes before all else, in the order of the returns. Contracts
-/// see two lists, the counters from which places are drawn, and for how many more there is memory. No call
-/// goes through the messages, but `copy` and `from_parts`.
-#[derive(Debug, Drop)]
-pub struct Ready {
-    fronts: VecDeque<KeyedRow>,
-    backs: VecDeque<KeyedRow>,
+/// How many keys of each kind were drawn, and how many bytes there are.
+#[derive(Clone, Copy, Debug)]
+struct Counts {
     orders: u64,
     returns: u64,
     bytes: u128,
 }
 
+/// The ready messages of a queue, the next first.
+///
+/// What was returned under a delivery limit comes before all else, in the order of the returns. Contracts
+/// see two lists and the counters from which places are drawn, and the same as they were at the last
+/// `commit`, which `undo` leads back to. No call goes through the messages, but `copy` and `from_parts`.
+#[derive(Debug, Drop)]
+pub struct Ready {
+    fronts: UndoDeque<KeyedRow>,
+    backs: UndoDeque<KeyedRow>,
+    counts: Counts,
+    base: Counts,
+}
+
 impl Model for Ready {
-    ghost use Rattle.std.specs.Prelude.{◌-◌};
-    ghost use Rattle.std.specs.VecDeque.{deque_len, deque_capacity};
     ghost use Rattle.qq_ready.specs.Queue.{ReadyState, IsInOrder, CountsBytes, queue_of};
 
     ghost Value = { ReadyState };
 
     ghost view = { λ r. record {
-      queue = queue_of r.fronts.items r.backs.items r.orders r.returns;
-      room = record {
-        fronts = deque_capacity r.fronts - deque_len r.fronts;
-        backs = deque_capacity r.backs - deque_len r.backs;
-      };
+      queue = queue_of r.fronts.items r.backs.items r.counts.orders r.counts.returns;
+      base = queue_of r.fronts.base r.backs.base r.base.orders r.base.returns;
     } };
 
-    ghost invariant = { λ r. IsInOrder (queue_of r.fronts.items r.backs.items r.orders r.returns)
-        × CountsBytes r.bytes (queue_of r.fronts.items r.backs.items r.orders r.returns) };
+    ghost invariant = { λ r.
+        (IsInOrder (queue_of r.fronts.items r.backs.items r.counts.orders r.counts.returns)
+        × CountsBytes r.counts.bytes
+        (queue_of r.fronts.items r.backs.items r.counts.orders r.counts.returns))
+        × (IsInOrder (queue_of r.fronts.base r.backs.base r.base.orders r.base.returns)
+        × CountsBytes r.base.bytes
+        (queue_of r.fronts.base r.backs.base r.base.orders r.base.returns)) };
 }
 
 // The bytes of a message's body.
@@ -74,22 +82,50 @@ fn copy_rows(alloc: Global, rows: &VecDeque<KeyedRow>) -> Result<VecDeque<KeyedR
     Ok(twin)
 }
 
+// Takes all out. After an error both are as at the last commit.
+fn clear_both(
+    fronts: &mut UndoDeque<KeyedRow>,
+    backs: &mut UndoDeque<KeyedRow>,
+) -> Result<(), Memory>
+    ensures fronts { OnOk result (fronts.new.items ≡ []) }
+    ensures backs { OnOk result (backs.new.items ≡ []) }
+    ensures no_fronts { OnErr result (fronts.new.items ≡ fronts.old.base) }
+    ensures no_backs { OnErr result (backs.new.items ≡ backs.old.base) }
+    ensures fronts_base { fronts.new.base ≡ fronts.old.base }
+    ensures backs_base { backs.new.base ≡ backs.old.base }
+    ensures want { IsOkUnless result Memory.Want }
+{
+    let cleared = fronts.clear().is_ok();
+    let both = cleared && backs.clear().is_ok();
+    if both {
+        return Ok(());
+    }
+    fronts.undo();
+    backs.undo();
+    Err(Memory::Want)
+}
+
 impl Ready {
     /// No messages. It takes no memory.
     pub fn new(alloc: Global) -> Self
-        ensures { result.queue ≡ no_messages }
+        ensures queue { result.queue ≡ no_messages }
+        ensures base { result.base ≡ no_messages }
     {
-        Ready {
-            fronts: VecDeque::new(alloc),
-            backs: VecDeque::new(alloc),
+        let counts = Counts {
             orders: 0,
             returns: 0,
             bytes: 0,
+        };
+        Ready {
+            fronts: UndoDeque::new(alloc),
+            backs: UndoDeque::new(alloc),
+            counts,
+            base: counts,
         }
     }
 
     /// The messages at the front and those behind them, each the next first, with their keys, and how many
-    /// keys of each kind were drawn. It takes no memory.
+    /// keys of each kind were drawn. They are committed. It takes no memory.
     pub fn from_parts(
         fronts: Vec<KeyedRow>,
         backs: Vec<KeyedRow>,
@@ -99,99 +135,135 @@ impl Ready {
         requires fronts { AreKeyed Front returns fronts.items }
         requires backs { AreKeyed Back orders backs.items }
 
-        ensures { result.queue ≡ record {
+        ensures queue { result.queue ≡ record {
           fronts = fronts.items;
           backs = backs.items;
           orders = orders;
           returns = returns;
         } }
+        ensures base { result.base ≡ result.queue }
     {
         let bytes = bytes_of(fronts.as_slice()) + bytes_of(backs.as_slice());
-        Ready {
-            fronts: VecDeque::from_vec(fronts),
-            backs: VecDeque::from_vec(backs),
+        let counts = Counts {
             orders,
             returns,
             bytes,
+        };
+        Ready {
+            fronts: UndoDeque::from_vec(fronts),
+            backs: UndoDeque::from_vec(backs),
+            counts,
+            base: counts,
         }
     }
 
-    /// Makes room for `n` more at each end.
-    pub fn reserve(&mut self, n: usize) -> Result<(), Memory>
-        ensures same { self.new.queue ≡ self.old.queue }
-        ensures fronts { OnOk result (n ≤ self.new.room.fronts) }
-        ensures backs { OnOk result (n ≤ self.new.room.backs) }
-        ensures want { IsOkUnless result Memory.Want }
-    {
-        self.fronts.reserve(n)?;
-        self.backs.reserve(n)?;
-        Ok(())
-    }
-
-    /// Puts a new message at the back, with the next key there. There has to be room, and a key.
-    pub fn push_new(&mut self, row: ReadyRow)
-        requires room { 0 < self.old.room.backs }
+    /// Puts a new message at the back, with the next key there. There has to be a key. After an error all
+    /// is as before.
+    pub fn push_new(&mut self, row: ReadyRow) -> Result<(), Memory>
         requires counts { self.old.queue.orders + 1 < 2 ^ 64 }
 
-        ensures queue { self.new.queue ≡ push_back row self.old.queue }
-        ensures fronts { self.new.room.fronts ≡ self.old.room.fronts }
-        ensures backs { self.new.room.backs + 1 ≡ self.old.room.backs }
+        ensures queue { OnOk result (self.new.queue ≡ push_back row self.old.queue) }
+        ensures err { OnErr result (self.new.queue ≡ self.old.queue) }
+        ensures base { self.new.base ≡ self.old.base }
+        ensures want { IsOkUnless result Memory.Want }
     {
-        self.push_back(row);
+        self.push_back(row)
     }
 
     /// Puts a message that was returned without a delivery limit at the back, with the next key there.
-    /// There has to be room, and a key.
-    pub fn push_back(&mut self, row: ReadyRow)
-        requires room { 0 < self.old.room.backs }
+    /// There has to be a key. After an error all is as before.
+    pub fn push_back(&mut self, row: ReadyRow) -> Result<(), Memory>
         requires counts { self.old.queue.orders + 1 < 2 ^ 64 }
 
-        ensures queue { self.new.queue ≡ push_back row self.old.queue }
-        ensures fronts { self.new.room.fronts ≡ self.old.room.fronts }
-        ensures backs { self.new.room.backs + 1 ≡ self.old.room.backs }
+        ensures queue { OnOk result (self.new.queue ≡ push_back row self.old.queue) }
+        ensures err { OnErr result (self.new.queue ≡ self.old.queue) }
+        ensures base { self.new.base ≡ self.old.base }
+        ensures want { IsOkUnless result Memory.Want }
     {
-        let key = Key::Back(self.orders + 1);
+        let key = Key::Back(self.counts.orders + 1);
         let one = KeyedRow { key, row };
-        self.bytes += size(&one);
-        self.orders += 1;
-        self.backs.push_back_reserved(one);
+        let more = size(&one);
+        self.backs.push_back(one)?;
+        self.counts.bytes += more;
+        self.counts.orders += 1;
+        Ok(())
     }
 
     /// Puts a message that was returned under a delivery limit before all but those that were returned
-    /// before it, with the next key there. There has to be room, and a key.
-    pub fn push_returned(&mut self, row: ReadyRow)
-        requires room { 0 < self.old.room.fronts }
+    /// before it, with the next key there. There has to be a key. After an error all is as before.
+    pub fn push_returned(&mut self, row: ReadyRow) -> Result<(), Memory>
         requires counts { self.old.queue.returns + 1 < 2 ^ 64 }
 
-        ensures queue { self.new.queue ≡ push_returned row self.old.queue }
-        ensures fronts { self.new.room.fronts + 1 ≡ self.old.room.fronts }
-        ensures backs { self.new.room.backs ≡ self.old.room.backs }
+        ensures queue { OnOk result (self.new.queue ≡ push_returned row self.old.queue) }
+        ensures err { OnErr result (self.new.queue ≡ self.old.queue) }
+        ensures base { self.new.base ≡ self.old.base }
+        ensures want { IsOkUnless result Memory.Want }
     {
-        let key = Key::Front(self.returns + 1);
+        let key = Key::Front(self.counts.returns + 1);
         let one = KeyedRow { key, row };
-        self.bytes += size(&one);
-        self.returns += 1;
-        self.fronts.push_back_reserved(one);
+        let more = size(&one);
+        self.fronts.push_back(one)?;
+        self.counts.bytes += more;
+        self.counts.returns += 1;
+        Ok(())
     }
 
-    /// Takes the next message. None exactly where nothing is ready.
-    pub fn pop_next(&mut self) -> Option<ReadyRow>
-        ensures next { result ≡ option_map (λ one. one.row) (head (in_order self.old.queue)) }
-        ensures queue { self.new.queue ≡ without_next self.old.queue }
-        ensures fronts { self.old.room.fronts ≤ self.new.room.fronts }
-        ensures backs { self.old.room.backs ≤ self.new.room.backs }
+    /// Takes the next message. None exactly where nothing is ready. After an error all is as before.
+    pub fn pop_next(&mut self) -> Result<Option<ReadyRow>, Memory>
+        ensures next { IfOk result (λ next.
+            next ≡ option_map (λ one. one.row) (head (in_order self.old.queue))) }
+        ensures queue { OnOk result (self.new.queue ≡ without_next self.old.queue) }
+        ensures err { OnErr result (self.new.queue ≡ self.old.queue) }
+        ensures base { self.new.base ≡ self.old.base }
+        ensures want { IsOkUnless result Memory.Want }
     {
-        if let Some(one) = self.fronts.pop_front() {
-            self.bytes -= size(&one);
-            return Some(one.row);
+        if let Some(one) = self.fronts.pop_front()? {
+            self.counts.bytes -= size(&one);
+            return Ok(Some(one.row));
         }
-        match self.backs.pop_front() {
-            None => None,
+        match self.backs.pop_front()? {
+            None => Ok(None),
             Some(one) => {
-                self.bytes -= size(&one);
-                Some(one.row)
+                self.counts.bytes -= size(&one);
+                Ok(Some(one.row))
             }
         }
+    }
+
+    /// Takes all messages out, in time that doesn't depend on how many there are. After an error all is
+    /// as at the last commit.
+    pub fn clear(&mut self) -> Result<(), Memory>
+        ensures queue { OnOk result (self.new.queue ≡ emptied self.old.queue) }
+        ensures err { OnErr result (self.new.queue ≡ self.old.base) }
+        ensures base { self.new.base ≡ self.old.base }
+        ensures want { IsOkUnless result Memory.Want }
+    {
+        if let Err(cause) = clear_both(&mut self.fronts, &mut self.backs) {
+            self.counts = self.base;
+            return Err(cause);
+        }
+        self.counts.bytes = 0;
+        Ok(())
+    }
+
+    /// Makes the queue as it is what `undo` leads back to. It takes no memory.
+    pub fn commit(&mut self)
+        ensures queue { self.new.queue ≡ self.old.queue }
+        ensures base { self.new.base ≡ self.old.queue }
+    {
+        self.fronts.commit();
+        self.backs.commit();
+        self.base = self.counts;
+    }
+
+    /// Takes back what was changed since the last commit. It takes no memory.
+    pub fn undo(&mut self)
+        ensures queue { self.new.queue ≡ self.old.base }
+        ensures base { self.new.base ≡ self.old.base }
+    {
+        self.fronts.undo();
+        self.backs.undo();
+        self.counts = self.base;
     }
 
     /// A message by its place, counted from the next one on. None exactly where there is none.
@@ -212,7 +284,7 @@ impl Ready {
         ensures orders { result.0 ≡ self.now.queue.orders }
         ensures returns { result.1 ≡ self.now.queue.returns }
     {
-        (self.orders, self.returns)
+        (self.counts.orders, self.counts.returns)
     }
 
     /// How many messages are ready.
@@ -226,20 +298,20 @@ impl Ready {
     pub fn bytes(&self) -> u128
         ensures { result ≡ bytes_of (in_order self.now.queue) }
     {
-        self.bytes
+        self.counts.bytes
     }
 
-    /// The same messages, in memory of their own.
+    /// The same messages, committed, in memory of their own.
     pub fn copy(&self, alloc: Global) -> Result<Self, Memory>
         ensures ok { IfOk result (λ twin. twin.queue ≡ self.now.queue) }
+        ensures base { IfOk result (λ twin. twin.base ≡ self.now.queue) }
         ensures want { IsOkUnless result Memory.Want }
     {
         Ok(Ready {
-            fronts: copy_rows(alloc, &self.fronts)?,
-            backs: copy_rows(alloc, &self.backs)?,
-            orders: self.orders,
-            returns: self.returns,
-            bytes: self.bytes,
+            fronts: UndoDeque::from_deque(copy_rows(alloc, self.fronts.as_deque())?),
+            backs: UndoDeque::from_deque(copy_rows(alloc, self.backs.as_deque())?),
+            counts: self.counts,
+            base: self.counts,
         })
     }
 }

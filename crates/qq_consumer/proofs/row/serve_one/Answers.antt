@@ -14,10 +14,10 @@ returns-clause-given c =
     let less : next < c.serve-row.result.next_id = omega (arith, c.serve-row.ensures.next) in
     record {
       rising =
-          subst (λ (xs : List (Numbered ReadyRow)). Rises xs) (sym c.push.ensures.items)
+          subst (λ (xs : List (Numbered ReadyRow)). Rises xs) (sym c.in_ok-push.ensures.items)
           (rises-push items one c.requires.given.rising c.requires.given.below);
       below =
-          subst (λ (xs : List (Numbered ReadyRow)). AreBelow c.serve-row.result.next_id xs) (sym c.push.ensures.items)
+          subst (λ (xs : List (Numbered ReadyRow)). AreBelow c.serve-row.result.next_id xs) (sym c.in_ok-push.ensures.items)
           (AllByRecursion-append (λ (x : Numbered ReadyRow). x.number < c.serve-row.result.next_id) items (one ∷ [])
           (AllByRecursion-weaker (λ (x : Numbered ReadyRow). x.number < next)
           (λ (x : Numbered ReadyRow). x.number < c.serve-row.result.next_id) (λ x below. omega arith) items

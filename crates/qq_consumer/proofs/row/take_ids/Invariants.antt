@@ -1,5 +1,4 @@
-use Rattle.std.proofs.Common.{◌≡◌, ◌+◌, ◌-◌, ◌≤◌, ◌++◌, map, drop, length}
-use Rattle.std.specs.VecDeque.{deque_len, deque_capacity}
+use Rattle.std.proofs.Common.{◌≡◌, ◌++◌, map, drop}
 use Rattle.qq_consumer.specs.Roster.{out_item, row_of, cut_ids}
 use Rattle.qq_consumer.specs.Joined.{IsGiven}
 use Rattle.qq_consumer.proofs.row.take_ids.Given as goal
@@ -11,5 +10,4 @@ invariant-ids l =
     let left = cut_ids (drop l.place l.ids) (map (out_item l.fn.row.consumer.id) l.row.out.items) in
     (l.row.consumer ≡ l.fn.row.consumer) ×
     (l.rows.items ++ map row_of left.items ≡ l.fn.rows.items ++ map row_of all.items)
-    × (left.rest ≡ all.rest) × IsGiven l.row
-    × (deque_len l.rows + (length l.ids - l.place) ≤ deque_capacity l.rows) × (l.fn.row.out.room ≤ l.row.out.room)
+    × (left.rest ≡ all.rest) × IsGiven l.row × (l.row.out.base ≡ l.fn.row.out.base)

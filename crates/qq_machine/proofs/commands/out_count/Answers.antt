@@ -1,4 +1,4 @@
-use Rattle.std.proofs.Common.{◌≡◌, ℕ, ◌+◌, take, length, ap, sym, ◌∙◌, arith}
+use Rattle.std.proofs.Common.{ℕ, ◌+◌, take, length, ap, sym, ◌∙◌, arith}
 use Rattle.qq_parts.specs.Parts.{outs}
 use Rattle.qq_machine.proofs.Lists.{outs-more}
 use Rattle.qq_machine.proofs.commands.out_count.Goals as goal

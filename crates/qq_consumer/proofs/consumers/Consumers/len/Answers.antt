@@ -8,4 +8,4 @@ pub returns-clause-turns : goal.returns-clause-turns
 returns-clause-turns c =
     subst HaveTurns (ap (λ (s : ConsumersState). s.roster) c.self.view_is)
     (kept-turns c.self.inside.joined.served c.self.inside.turns c.self.inside.waiting.items c.len.ensures.apart
-    c.self.invariant)
+    c.self.invariant.now_kept)

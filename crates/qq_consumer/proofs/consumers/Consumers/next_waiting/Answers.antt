@@ -11,12 +11,12 @@ pub returns-in-None : goal.returns-in-None
 returns-in-None c =
     ap (option_map (λ (w : Numbered ConsumerId). w.item)) c.in-None.ensures
     ∙ next-is c.self.inside.joined.served c.self.inside.turns c.self.inside.waiting.items c.len.ensures.apart
-    c.self.invariant.queue
+    c.self.invariant.now_kept.queue
     ∙ ap (λ (s : ConsumersState). next false (map standing_one s.roster.served)) c.self.view_is
 
 pub returns-in-Some : goal.returns-in-Some
 returns-in-Some c =
     ap (option_map (λ (w : Numbered ConsumerId). w.item)) c.in-Some.ensures
     ∙ next-is c.self.inside.joined.served c.self.inside.turns c.self.inside.waiting.items c.len.ensures.apart
-    c.self.invariant.queue
+    c.self.invariant.now_kept.queue
     ∙ ap (λ (s : ConsumersState). next false (map standing_one s.roster.served)) c.self.view_is

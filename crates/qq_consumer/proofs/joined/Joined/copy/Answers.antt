@@ -11,13 +11,13 @@ push-requires-clause-free c =
     ap (λ (id : ConsumerId). is_there id c.rows.twin.served)
     (ap (λ (o : Served). o.consumer.id) c.in_ok-copy_row.ensures.ok)
     ∙ ap (is_there one.consumer.id) c.rows.invariant
-    ∙ free-before c.args.self.now.served c.rows.place one c.len-len.ensures.apart c.row.ensures
+    ∙ free-before c.args.self.now.served c.rows.place one c.len-place-end.ensures.apart c.row.ensures
 
 pub push-requires-clause-given : goal.push-requires-clause-given
 push-requires-clause-given c =
     given-row c.in_ok-copy_row.field-0
     (subst HasOut (sym c.in_ok-copy_row.ensures.ok)
-    (each-at HasOut c.args.self.now.served c.rows.place (served_of c.row.result.now) c.len-len.ensures.out c.row.ensures))
+    (each-at HasOut c.args.self.now.served c.rows.place (served_of c.row.result.now) c.len-place-end.ensures.out c.row.ensures))
 
 pub rows-preserved : goal.rows-preserved
 rows-preserved c =

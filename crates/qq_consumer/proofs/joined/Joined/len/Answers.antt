@@ -8,9 +8,9 @@ use Rattle.qq_consumer.proofs.joined.Joined.len.Goals as goal
 pub returns-clause-apart : goal.returns-clause-apart
 returns-clause-apart c =
     subst AreApart (ap (λ (j : JoinedState). j.served) c.self.view_is)
-    (apart-distinct c.self.inside.rows.entries c.self.invariant.ids c.self.invariant.unique)
+    (apart-distinct c.self.inside.rows.entries c.self.invariant.joined.ids c.self.invariant.joined.unique)
 
 pub returns-clause-out : goal.returns-clause-out
 returns-clause-out c =
     subst (AllByRecursion HasOut) (ap (λ (j : JoinedState). j.served) c.self.view_is)
-    (all-out c.self.inside.rows.entries c.self.invariant.out)
+    (all-out c.self.inside.rows.entries c.self.invariant.joined.out)

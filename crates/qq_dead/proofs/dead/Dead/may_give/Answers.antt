@@ -9,7 +9,7 @@ use Rattle.qq_dead.proofs.dead.Dead.may_give.Goals as goal
 pub returns-then-self-gt0 : goal.returns-then-self-gt0
 returns-then-self-gt0 c =
     let s = c.self.inside in
-    let d : Letters = letters_of s.rows.items s.deads s.given s.attached in
+    let d : Letters = letters_of s.rows.items s.counts.deads s.counts.given s.counts.attached in
     let seen : d ≡ c.args.self.now.letters = ap (λ (k : DeadState). k.letters) c.self.view_is in
-    sym (ap (λ (b : Bool). b && nat_lt s.under_way MOST_GIVEN) (lt-ltb 0 s.attached c.if-self-gt0.true))
-    ∙ may_give-is s.under_way d c.self.invariant ∙ ap may_give seen
+    sym (ap (λ (b : Bool). b && nat_lt s.counts.under_way MOST_GIVEN) (lt-ltb 0 s.counts.attached c.if-self-gt0.true))
+    ∙ may_give-is s.counts.under_way d c.self.invariant.0 ∙ ap may_give seen

@@ -17,8 +17,8 @@ returns-in-Ok-false-clause-cause g c =
     let seat = slice_get old.seats.items c.args.node.0 in
     subst (IsRestartCaused log c.args.node.0 l old) (sym c.lost.ensures) (
       loses log c.args.node.0 l old c.in-Ok-false.field-0
-      (subst (λ (d : DiskState). Decides c.in-Ok-false.field-0 (IsIntactAt seat d)) c.in-Ok.ensures.ok
-      c.in-Ok-false.ensures.ok) c.in-Ok-false.field-0-test c.requires.down,
+          (subst (λ (d : DiskState). Decides c.in-Ok-false.field-0 (IsIntactAt seat d)) c.in-Ok.ensures.ok
+          c.in-Ok-false.ensures.ok) c.in-Ok-false.field-0-test c.requires.down,
       refl,
       ap (λ (d : DiskState). d.op) c.in-Ok.ensures.ok,
     )

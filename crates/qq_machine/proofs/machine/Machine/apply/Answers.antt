@@ -1,25 +1,32 @@
-use Rattle.std.proofs.Common.{◌≡◌, ℕ, ◌+◌, ap, sym, ◌∙◌, subst}
+use Rattle.std.proofs.Common.{ℕ, ap, sym, ◌∙◌, subst}
 use Rattle.qq_base.specs.declared.ids.Index.{Index}
 use Rattle.qq_model.specs.Audit.{next_step}
 use Rattle.qq_parts.specs.Parts.{Parts, IsWhole}
 use Rattle.qq_parts_step.specs.Step.{PartsStep, parts_step, StepsFor}
 use Rattle.qq_parts_step.proofs.Stepping.{steps}
+use Rattle.qq_machine.proofs.Committing.{commits, undoes}
 use Rattle.qq_machine.proofs.machine.Machine.apply.Goals as goal
 
-pub returns-clause-ok : goal.returns-clause-ok
-returns-clause-ok c =
-    ap (λ (m : Parts). parts_step m c.args.index c.args.entry.now)
-    (sym (c.in_ok-copy.ensures.ok c.self.inside.args ∙ c.self.view_is))
-    ∙ c.in_ok-made.ensures.ok
+pub returns-in-Ok-clause-ok : goal.returns-in-Ok-clause-ok
+returns-in-Ok-clause-ok c =
+    ap (λ (m : Parts). parts_step m c.args.index c.args.entry.now) (sym c.self.view_is)
+    ∙ commits c.self.inside.args _ c.args.index c.args.entry.now c.step.new.self.queue c.commit-effects.new.self.queue _ _ _ _
+    c.in-Ok.ensures.ok c.commit-effects.ensures.content c.commit-effects.ensures.effects
 
-pub returns-clause-queue : goal.returns-clause-queue
-returns-clause-queue c s sound stands =
+pub returns-in-Err-clause-err : goal.returns-in-Err-clause-err
+returns-in-Err-clause-err c =
+    undoes c.self.inside.args c.self.inside.draft.queue c.step.new.self.queue c.undo.new.self.queue
+    c.undo.ensures.content c.step.ensures.base c.self.invariant.0.content
+    ∙ c.self.view_is
+
+pub returns-in-Ok-clause-queue : goal.returns-in-Ok-clause-queue
+returns-in-Ok-clause-queue c s sound stands =
     let whole : IsWhole c.args.self.now = subst IsWhole c.self.view_is (c.sizes.ensures c.self.inside.args) in
     let same =
     ap (λ (n : ℕ). let i : Index = record { 0 = n } in parts_step c.args.self.now i c.args.entry.now)
     (sym c.requires.next)
-    ∙ ap (λ (m : Parts). parts_step m c.args.index c.args.entry.now)
-    (sym (c.in_ok-copy.ensures.ok c.self.inside.args ∙ c.self.view_is))
-    ∙ c.in_ok-made.ensures.ok in
+    ∙ ap (λ (m : Parts). parts_step m c.args.index c.args.entry.now) (sym c.self.view_is)
+    ∙ commits c.self.inside.args _ c.args.index c.args.entry.now c.step.new.self.queue c.commit-effects.new.self.queue _ _ _ _
+    c.in-Ok.ensures.ok c.commit-effects.ensures.content c.commit-effects.ensures.effects in
     subst (λ (made : PartsStep). StepsFor made (next_step s c.args.entry.now)) same
     (steps c.args.self.now s c.args.entry.now sound stands whole c.requires.range)

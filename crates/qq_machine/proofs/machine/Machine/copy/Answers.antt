@@ -1,4 +1,4 @@
-use Rattle.std.proofs.Common.{◌≡◌, ap, ◌∙◌}
+use Rattle.std.proofs.Common.{ap, ◌∙◌}
 use Rattle.qq_entry.specs.declared.queue.QueueArgs.{QueueArgs}
 use Rattle.qq_machine.specs.Views.{parts_of}
 use Rattle.qq_machine.proofs.machine.Machine.copy.Goals as goal
@@ -6,4 +6,4 @@ use Rattle.qq_machine.proofs.machine.Machine.copy.Goals as goal
 pub returns-clause-ok : goal.returns-clause-ok
 returns-clause-ok c =
     c.in_ok-copy-2.ensures.ok c.in_ok-copy.field-0
-    ∙ ap (λ (a : QueueArgs). parts_of a c.self.inside.queue) c.in_ok-copy.ensures.ok ∙ c.self.view_is
+    ∙ ap (λ (a : QueueArgs). parts_of a c.self.inside.draft.queue) c.in_ok-copy.ensures.ok ∙ c.self.view_is

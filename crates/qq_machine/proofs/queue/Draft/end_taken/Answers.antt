@@ -1,4 +1,3 @@
-use Rattle.std.proofs.Common.{◌≡◌}
 use Rattle.qq_machine.proofs.queue.Draft.end_taken.Goals as goal
 
 pub returns-in_ok-end_rows-in-Some-clause-ok : goal.returns-in_ok-end_rows-in-Some-clause-ok

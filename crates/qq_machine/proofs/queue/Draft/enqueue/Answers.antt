@@ -1,4 +1,4 @@
-use Rattle.std.proofs.Common.{◌≡◌, Option, ap, sym, ◌∙◌}
+use Rattle.std.proofs.Common.{Option, ap, sym, ◌∙◌}
 use Rattle.qq_entry.specs.declared.answer.Answer.TheVariants as answer
 use Rattle.qq_entry.specs.declared.answer.Full.{Full}
 use Rattle.qq_parts.specs.Parts.{Parts}

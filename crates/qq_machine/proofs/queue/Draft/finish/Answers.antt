@@ -1,4 +1,4 @@
-use Rattle.std.proofs.Common.{◌≡◌, refl, sym}
+use Rattle.std.proofs.Common.{refl, sym}
 use Rattle.qq_model.specs.declared.place.Key.TheVariants.{Back}
 use Rattle.qq_model.specs.declared.place.Place.{Place}
 use Rattle.qq_model.specs.declared.place.Place.TheVariants.{Ready}

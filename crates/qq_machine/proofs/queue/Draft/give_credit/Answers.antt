@@ -1,7 +1,6 @@
-use Rattle.std.proofs.Common.{◌≡◌, ◌+◌, refl, sym, ap, ◌∙◌}
+use Rattle.std.proofs.Common.{◌+◌, refl}
 use Rattle.qq_parts_step.specs.Work.{Work}
 use Rattle.qq_parts_step.specs.Commands.{one_of, parts_give_credit}
-use Rattle.qq_consumer.specs.Roster.{Roster, credit_fault, give_credit}
 use Rattle.qq_machine.specs.Views.{work_of}
 use Rattle.qq_machine.proofs.Changing.{credits}
 use Rattle.qq_machine.proofs.queue.Draft.give_credit.Goals as goal
@@ -11,6 +10,4 @@ unfolding parts_give_credit
 returns-in-Ok-clause-ok c =
     let t : Work = work_of c.args.args.now c.args.self.now in
     credits (one_of c.args.id t.parts.served) c.args.id (c.args.count + c.args.credit) t c.credit.new.self.roster refl
-    (ap (λ (r : Roster). credit_fault c.args.id r) (sym c.reserve.ensures.roster) ∙ c.in-Ok.ensures.fits)
-    (c.in-Ok.ensures.ok
-    ∙ ap (λ (r : Roster). give_credit c.args.id (c.args.count + c.args.credit) r) c.reserve.ensures.roster)
+    c.in-Ok.ensures.fits c.in-Ok.ensures.ok

@@ -1,6 +1,5 @@
-use Rattle.std.proofs.Common.{◌≡◌, List, Option, Some, ap, sym, ◌∙◌}
+use Rattle.std.proofs.Common.{List, Some, ap, sym, ◌∙◌}
 use Rattle.qq_entry.specs.declared.audit.Effect.{Effect}
-use Rattle.qq_parts_step.specs.Work.{Work}
 use Rattle.qq_machine.specs.Views.{work_of}
 use Rattle.qq_machine.proofs.Dead.{with_letters, nothing-offered, offered}
 use Rattle.qq_machine.proofs.queue.Draft.give_dead.Goals as goal

@@ -1,11 +1,13 @@
 use Rattle.std.proofs.Common.{◌≡◌, ◌-◌}
 use Rattle.qq_model.specs.Changes.{while_next}
 use Rattle.qq_parts_step.specs.Follows.{parts_drop_head}
-use Rattle.qq_machine.specs.Views.{work_of}
+use Rattle.qq_machine.specs.Views.{KeepsBase, work_of}
 use Rattle.qq_machine.proofs.queue.Draft.keep_limits.Given as goal
 
--- the rounds that are left lead to where all lead
+-- the rounds that are left lead to where all lead, and the base stays
 abbrev pub invariant-rounds : goal.invariant-rounds
-invariant-rounds l =
-    while_next (l.ready - l._round) parts_drop_head (work_of l.args l.self) ≡ while_next l.ready parts_drop_head
-    (work_of l.args l.initial.self)
+invariant-rounds l = record {
+  same : while_next (l.ready - l._round) parts_drop_head (work_of l.args l.self) ≡ while_next l.ready parts_drop_head
+      (work_of l.args l.initial.self);
+  base : KeepsBase l.initial.self.queue l.self.queue;
+}

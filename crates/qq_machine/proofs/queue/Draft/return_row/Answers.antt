@@ -1,4 +1,4 @@
-use Rattle.std.proofs.Common.{◌≡◌, ℕ, ap, sym, ◌∙◌}
+use Rattle.std.proofs.Common.{ℕ, ap, sym, ◌∙◌}
 use Rattle.qq_consumer.specs.Roster.{item_at}
 use Rattle.qq_machine.specs.Views.{work_of, return_counted}
 use Rattle.qq_machine.proofs.Ending.{return-is}

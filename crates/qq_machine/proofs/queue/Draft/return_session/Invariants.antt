@@ -1,10 +1,12 @@
 use Rattle.std.proofs.Common.{◌≡◌}
 use Rattle.qq_parts_step.specs.Commands.{parts_return_session}
-use Rattle.qq_machine.specs.Views.{work_of}
+use Rattle.qq_machine.specs.Views.{KeepsBase, work_of}
 use Rattle.qq_machine.proofs.queue.Draft.return_session.Given as goal
 
 -- the consumers that are left lead to where all lead
 abbrev pub invariant-rounds : goal.invariant-rounds
-invariant-rounds l =
-    parts_return_session l.session (work_of l.args l.initial.self) ≡ parts_return_session l.session
-    (work_of l.args l.self)
+invariant-rounds l = record {
+  same : parts_return_session l.session (work_of l.args l.initial.self) ≡ parts_return_session l.session
+      (work_of l.args l.self);
+  base : KeepsBase l.initial.self.queue l.self.queue;
+}

@@ -1,7 +1,7 @@
 use Rattle.std.proofs.Common.{◌≡◌, drop, fold}
 use Rattle.qq_entry.specs.declared.command.DeadDone.{DeadDone}
 use Rattle.qq_parts_step.specs.Commands.{DeadSettled, parts_settle_dead_by, take_given, parts_settle_dead}
-use Rattle.qq_machine.specs.Views.{work_of}
+use Rattle.qq_machine.specs.Views.{KeepsBase, work_of}
 use Rattle.qq_machine.proofs.queue.Draft.settle_dead.Given as goal
 
 -- the rest leads to where all lead, and the worker stays
@@ -11,4 +11,5 @@ invariant-loop-one l = record {
       (record { work = work_of l.args l.self; count = l.count }) (drop l.one-index l.done)
       ≡ parts_settle_dead l.done (work_of l.args l.initial.self);
   attached : l.term.0 ≡ l.self.queue.dead.letters.attached;
+  base : KeepsBase l.initial.self.queue l.self.queue;
 }

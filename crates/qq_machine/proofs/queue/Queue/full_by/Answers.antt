@@ -1,4 +1,4 @@
-use Rattle.std.proofs.Common.{◌≡◌, ℕ, length, ap, sym, ◌∙◌}
+use Rattle.std.proofs.Common.{ℕ, length, ap, sym, ◌∙◌}
 use Rattle.qq_parts.specs.Reads.{ready_items, size_of}
 use Rattle.qq_rules.specs.Decisions.{refuses}
 use Rattle.qq_machine.specs.Views.{parts_of}

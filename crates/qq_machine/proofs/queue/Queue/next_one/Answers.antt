@@ -1,4 +1,4 @@
-use Rattle.std.proofs.Common.{◌≡◌, Bool, true, false, sym, subst}
+use Rattle.std.proofs.Common.{Bool, true, false, sym, subst}
 use Rattle.qq_machine.specs.Views.{IsNextIn}
 use Rattle.qq_machine.proofs.NextOne.{next-is}
 use Rattle.qq_machine.proofs.queue.Queue.next_one.Goals as goal

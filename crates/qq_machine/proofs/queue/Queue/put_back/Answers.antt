@@ -1,4 +1,4 @@
-use Rattle.std.proofs.Common.{◌≡◌, ℕ, Option, ap, ◌∙◌}
+use Rattle.std.proofs.Common.{ℕ, Option, ap, ◌∙◌}
 use Rattle.qq_parts.specs.Changes.{put_back}
 use Rattle.qq_consumer.specs.Roster.{item_at}
 use Rattle.qq_machine.specs.Views.{parts_of}
