@@ -1,8 +1,8 @@
 -- What a disk holds at the moments of a call.
-use Rattle.std.proofs.Common.{◌≡◌, ◌⊎◌, ℕ, Bool, true, false, cond, List, [], ◌++◌, length, take, Option, Some, None, refl, sym, ap, subst, ◌∙◌, inl, inr, append-nil, append_assoc, unwrap_or, option_map}
+use Rattle.std.proofs.Common.{◌≡◌, ◌⊎◌, ℕ, Bool, true, false, cond, List, [], ◌++◌, take, Option, Some, None, refl, sym, ap, subst, ◌∙◌, inl, inr, append-nil, append_assoc, unwrap_or, option_map}
 use Rattle.qq_disk.specs.declared.name.FileName.{FileName}
 use Rattle.qq_disk.specs.Name.{same_name}
-use Rattle.qq_disk.specs.Disk.{Disk, FileState, file_content, append_target, new_file, grow, keep, mark_removed, whole, contents, content, append, sync, remove}
+use Rattle.qq_disk.specs.Disk.{Disk, FileState, file_content, append_target, new_file, grow, keep, mark_removed, whole, contents, content, append}
 use Rattle.qq_disk.specs.Moments.{IsAppending, IsSyncing, IsRemoving}
 use Rattle.qq_disk.specs.Crash.{Remains, IsImage}
 use Rattle.qq_disk.proofs.Names.{same_name-true, set-at, set-other}

@@ -4,7 +4,7 @@ use Rattle.qq_disk.specs.declared.name.FileName.{FileName}
 use Rattle.qq_disk.specs.Name.{same_name}
 use Rattle.qq_disk.specs.Disk.{Disk, FileState, set, file_content, append_target, new_file, grow, keep, mark_removed, whole, content, append, sync, remove, IsListed}
 use Rattle.qq_disk.specs.Crash.{Remains, MayLeave, IsImage}
-use Rattle.qq_disk.proofs.Names.{same_name-true, set-at, set-other}
+use Rattle.qq_disk.proofs.Names.{same_name-true, set-at}
 use Rattle.qq_disk.proofs.Stored.{no_bytes, whole_left}
 use Rattle.qq_disk_laws.specs.Images.{with, is_removed, BeginsWithKept}
 

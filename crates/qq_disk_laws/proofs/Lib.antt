@@ -4,3 +4,4 @@ mod Held
 mod Runs
 mod Buffers
 mod Worn
+mod Fresh

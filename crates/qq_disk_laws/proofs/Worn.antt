@@ -1,5 +1,5 @@
 -- The moments of an append that adds half.
-use Rattle.std.proofs.Common.{◌≡◌, ◌/◌, ◌∷◌, ℕ, List, length, take, inr, sym, ap, subst, refl}
+use Rattle.std.proofs.Common.{◌≡◌, ◌/◌, ◌∷◌, ℕ, List, length, inr, sym, ap, subst, refl}
 use Rattle.qq_disk.specs.declared.name.FileName.{FileName}
 use Rattle.qq_disk.specs.Disk.{Disk, now, append}
 use Rattle.qq_disk.specs.Moments.{Adds, IsAppending}

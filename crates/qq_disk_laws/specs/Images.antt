@@ -2,7 +2,7 @@
 use Rattle.std.specs.Prelude.{◌≡◌, ◌≤◌, ℕ, Bool, false, List, ◌++◌, length, take, Option, Some, None, if◌then◌else◌}
 use Rattle.qq_disk.specs.declared.name.FileName.{FileName}
 use Rattle.qq_disk.specs.Name.{same_name}
-use Rattle.qq_disk.specs.Disk.{Disk, FileState, contents, content}
+use Rattle.qq_disk.specs.Disk.{Disk, FileState, content}
 use Rattle.qq_disk.specs.Crash.{Remains}
 
 -- what is left, but for this of one file

@@ -2,11 +2,15 @@
 //! memory whose calls fail halfway.
 #![tactic(auto)]
 
+mod crashes;
 mod images;
 mod moments;
 mod readings;
 mod worn_disk;
 
+pub use crashes::{
+    a_crash_in_memory_leaves_the_named_image, a_new_disk_in_memory_counts_from_nothing,
+};
 pub use images::{
     a_named_image_keeps_what_it_names, a_removed_file_may_be_back_or_gone,
     a_synced_file_is_left_whole, images_of_a_file, the_newest_log_is_one,

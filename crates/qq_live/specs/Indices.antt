@@ -3,10 +3,11 @@ use Rattle.std.specs.Prelude.{ℕ, ◌<◌, Bool, not, List, [], ◌∷◌, Opti
 use Rattle.std.specs.List.{AllByRecursion, list_any}
 use Rattle.qq_base.specs.declared.ids.Index.{Index}
 
--- these, and for how many more there is memory
+-- these, for how many more there is memory, and how many slots these and some that are gone have
 pub record LiveState : Type 0 where
   pub indices : List Index
   pub room : ℕ
+  pub slots : ℕ
 
 -- each index is below those behind it
 abbrev pub Rises : List Index → Type 0

@@ -33,6 +33,7 @@ impl Model for Live {
     ghost view = { λ l. record {
       indices = live_of l.slots.items;
       room = deque_capacity l.slots - deque_len l.slots;
+      slots = deque_len l.slots;
     } };
 
     ghost invariant = { λ l. AreSlots l.count l.slots.items };
@@ -150,7 +151,8 @@ impl Live {
 
     /// How many slots there are, of live messages and of some that are gone.
     pub fn slots(&self) -> usize
-        ensures { result ≤ 2 * length self.now.indices }
+        ensures value { result ≡ self.now.slots }
+        ensures most { result ≤ 2 * length self.now.indices }
     {
         self.slots.len()
     }

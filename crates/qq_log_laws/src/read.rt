@@ -58,8 +58,9 @@ pub fn a_readable_disk_gives_what_was_promised()
 /// Whatever a crash leaves, under the premise on what stands behind what was synced, gives each queue what so
 /// many of its first ops come to, no fewer than it was noticed of and no more than were given.
 pub fn each_image_gives_what_was_promised()
-    ensures { (queues : List QueueId) (bound : ℕ) (noticed given : List Op) (d : Disk) (i : Remains) →
-        IsRecoverable queues bound noticed given d → IsImage d i → IsHonestImage queues d i →
+    ensures { (queues : List QueueId) (bound : ℕ) (noticed given : List Op) (d : Disk)
+        (i : Remains) → IsRecoverable queues bound noticed given d → IsImage d i →
+        IsHonestImage queues d i →
         (lanes : Lanes) × (lanes_left queues bound i ≡ Some lanes) × ((id : ℕ) → (count : ℕ)
         × (length (of_queue id noticed) ≤ count) × (count ≤ length (of_queue id given))
         × (stable (take count (of_queue id given)) ≡ Some (unwrap_or (lanes id) new_state))) }
