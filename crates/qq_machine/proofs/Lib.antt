@@ -11,3 +11,6 @@ mod Leaving
 mod Gating
 mod Committing
 mod Reading
+mod Totals
+mod Draining
+mod NumberEnds

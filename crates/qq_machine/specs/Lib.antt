@@ -1,3 +1,5 @@
+pub mod Counted
 pub mod Gated
 pub mod Reads
 pub mod Views
+pub mod Within

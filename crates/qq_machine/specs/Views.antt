@@ -1,5 +1,10 @@
 -- A queue in memory as the parts of a queue.
-use Rattle.std.specs.Prelude.{◌≡◌, ℕ, true, List, [], map, fold, Option, Some, None, Bool, if◌then◌else◌}
+use Rattle.std.specs.Prelude.{◌≡◌, ℕ, true, List, [], map, fold, Option, Some, None, Bool, IfSome, if◌then◌else◌}
+use Rattle.qq_entry.specs.Command.{consumer_id}
+use Rattle.qq_entry.specs.declared.command.Command.{Command}
+use Rattle.qq_entry.specs.declared.command.Command.TheVariants.{Credit}
+use Rattle.qq_entry.specs.declared.command.Mode.TheVariants.{Link}
+use Rattle.qq_model.specs.Serving.{is_credited}
 use Rattle.qq_entry.specs.declared.queue.QueueArgs.{QueueArgs}
 use Rattle.qq_entry.specs.declared.answer.Answer.{Answer}
 use Rattle.qq_entry.specs.declared.message.Reason.TheVariants.{DeliveryLimit}
@@ -228,6 +233,18 @@ abbrev pub Delivers : ConsumerId → Item → Draft → Draft → Type 0
 Delivers id x old new =
     (args : QueueArgs) (one : Served) → one_of id old.queue.consumers.roster.served ≡ Some one
     → parts_deliver (record { item = x; left = parts_of args old.queue }) one (work_of args old) ≡ work_of args new
+
+-- Drains ------------------------------------------------------------------------------------------------
+
+-- the consumer of an id, if it is there, is in link mode
+abbrev pub IsLinkAt : ConsumerId → List Served → Type 0
+IsLinkAt id served = IfSome (one_of id served) (λ one. one.consumer.mode ≡ Link)
+
+-- so is that of a Credit which was carried out
+abbrev pub HasLinkFor : Command → Answer → List Served → Type 0
+HasLinkFor (Credit stamp tag count credit drain) answer served =
+    is_credited answer ≡ true → IsLinkAt (consumer_id stamp tag) served
+HasLinkFor _ answer served = Unit {0}
 
 -- Whole steps ------------------------------------------------------------------------------------------
 

@@ -12,7 +12,7 @@ ghost use Rattle.std.specs.Prelude.{Some};
 
 use crate::queue::{Draft, Queue, next_number};
 use qq_base::{ConsumerId, Index, Memory, Term};
-use qq_consumer::{Consumers, CreditFault};
+use qq_consumer::CreditFault;
 use qq_entry::{
     Answer, Cause, DeadDone, Delivery, Full, Message, Mode, QueueArgs, Stamp, Strategy,
 };
@@ -21,7 +21,7 @@ use qq_rules::refuses;
 use std::alloc::Global;
 
 // A sum that fits. Lists in memory are never so long that theirs doesn't.
-fn add(a: u64, b: u64) -> Result<u64, Memory>
+pub fn add(a: u64, b: u64) -> Result<u64, Memory>
     ensures ok { IfOk result (λ sum. sum ≡ a + b) }
     ensures want { IsOkUnless result Memory.Want }
 {
@@ -29,29 +29,6 @@ fn add(a: u64, b: u64) -> Result<u64, Memory>
         Some(sum) => Ok(sum),
         None => Err(Memory::Want),
     }
-}
-
-fn out_at(consumers: &Consumers, place: usize) -> u64
-    ensures { option_map_or (λ one. length one.out) (slice_get consumers.now.roster.served place) 0
-        ≡ result }
-{
-    match consumers.row_at(place) {
-        None => 0,
-        Some(row) => row.out.len() as u64,
-    }
-}
-
-// How many messages are out with all consumers.
-fn out_count(consumers: &Consumers) -> Result<u64, Memory>
-    ensures ok { IfOk result (λ count. count ≡ length (outs consumers.now.roster.served)) }
-    ensures want { IsOkUnless result Memory.Want }
-{
-    let mut count: u64 = 0;
-    'consumers: for place in 0..consumers.len() {
-        let more = add(count, out_at(consumers, place))?;
-        count = more;
-    }
-    Ok(count)
 }
 
 fn count_if(more: bool, count: u64) -> Result<u64, Memory>
@@ -75,8 +52,7 @@ impl Queue {
             count ≡ length (items_of (parts_of args self.now))) }
         ensures want { IsOkUnless result Memory.Want }
     {
-        let out = out_count(&self.consumers)?;
-        let kept = add(out, self.dead.len() as u64)?;
+        let kept = add(self.consumers.out_count(), self.dead.len() as u64)?;
         let live = add(self.ready.count(), kept)?;
         Ok(live)
     }

@@ -1,5 +1,5 @@
 //! The end of a session.
-ghost use Rattle.std.specs.Prelude.{◌≡◌, false, IfOk, IsOkUnless, OnOk};
+ghost use Rattle.std.specs.Prelude.{◌≡◌, ◌<◌, true, false, length, IfOk, IsOkUnless, OnOk};
 ghost use Rattle.qq_model.specs.declared.place.Place.{Place};
 ghost use Rattle.qq_parts_step.specs.Commands.{parts_return_session, parts_down};
 ghost use Rattle.qq_machine.specs.Views.{work_of, Changes, Replies, return_rows, KeepsBase, KeepsStamp};
@@ -18,10 +18,7 @@ impl Draft {
         ensures base { KeepsBase self.old.queue self.new.queue }
         ensures want { IsOkUnless result Memory.Want }
     {
-        'rows: for _round in 0..rows.len() {
-            let Some(row) = rows.take_first()? else {
-                return Err(Memory::Want);
-            };
+        'rows: while let Some(row) = rows.take_first()? {
             self.return_row(args, row)?;
         }
         Ok(())
@@ -39,6 +36,9 @@ impl Draft {
             ≡ parts_return_session session (work_of args.now self.new)) }
         ensures over { IfOk result (λ did. did ≡ false →
             parts_return_session session (work_of args.now self.new) ≡ work_of args.now self.new) }
+        ensures fewer { IfOk result (λ did. did ≡ true →
+            length self.new.queue.consumers.roster.served
+            < length self.old.queue.consumers.roster.served) }
         ensures base { KeepsBase self.old.queue self.new.queue }
         ensures want { IsOkUnless result Memory.Want }
     {
@@ -63,12 +63,8 @@ impl Draft {
         ensures base { KeepsBase self.old.queue self.new.queue }
         ensures want { IsOkUnless result Memory.Want }
     {
-        'rounds: for _round in 0..u64::MAX {
-            if !self.return_first(alloc, args, session)? {
-                return Ok(());
-            }
-        }
-        Err(Memory::Want)
+        'rounds: while self.return_first(alloc, args, session)? {}
+        Ok(())
     }
 
     /// Ends a session.

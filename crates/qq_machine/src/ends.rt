@@ -114,10 +114,7 @@ impl Draft {
         ensures base { KeepsBase self.old.queue self.new.queue }
         ensures want { IsOkUnless result Memory.Want }
     {
-        'rows: for _round in 0..rows.len() {
-            let Some(row) = rows.pop_front() else {
-                return Err(Memory::Want);
-            };
+        'rows: while let Some(row) = rows.pop_front() {
             self.end_row(args, outcome, row)?;
         }
         Ok(())

@@ -1,11 +1,13 @@
 ghost use Rattle.std.specs.Prelude.{◌≡◌, ◌<◌, Some, None, IfOk, IsOkUnless, OnOk};
 ghost use Rattle.qq_model.specs.Gate.{gate, admit, turn_away, keep_answer, take_tag, end_session, greatest_tag};
+ghost use Rattle.std.specs.List.{list_all};
+ghost use Rattle.qq_model.specs.State.{is_session_within};
 ghost use Rattle.qq_sessions.specs.Known.{no_sessions};
 ghost use Rattle.qq_machine.specs.declared.pending.Pending.TheVariants.{Nothing, Passed};
 ghost use Rattle.qq_machine.specs.Gated.{tagged, passed, begun, passed_by, HasPlaceFor, IsTagOf, done, CanBeDone};
 
 use crate::pending::Pending;
-use qq_base::{Memory, SessionId};
+use qq_base::{Duplicate, Memory, SessionId};
 use qq_entry::{Answer, Stamp};
 use qq_model::Gate;
 use qq_sessions::Sessions;
@@ -64,6 +66,21 @@ fn perform(sessions: &mut Sessions, pending: Pending)
             sessions.keep(&stamp, answer);
         }
         Pending::Ended(session) => sessions.end(session),
+    }
+}
+
+// Takes the memory for what is to be done.
+fn make_room(alloc: Global, sessions: &mut Sessions, pending: &Pending) -> Result<(), Memory>
+    ensures same { sessions.new.known ≡ sessions.old.known }
+    ensures ok { OnOk result (CanBeDone pending.now sessions.new) }
+    ensures want { IsOkUnless result Memory.Want }
+{
+    match pending {
+        Pending::Passed { stamp, .. } => sessions.reserve(alloc, stamp.session),
+        Pending::Answered { stamp, .. } => sessions.reserve(alloc, stamp.session),
+        Pending::Ended(session) => sessions.reserve(alloc, *session),
+        Pending::Nothing => Ok(()),
+        Pending::TurnedAway(_) => Ok(()),
     }
 }
 
@@ -198,6 +215,19 @@ impl Gated {
         self.sessions.reserve(alloc, session)?;
         self.pending = Pending::Ended(session);
         Ok(())
+    }
+
+    /// Whether no number of an open session has passed its end. It goes through a copy of the sessions.
+    pub fn are_within(&self, alloc: Global) -> Result<bool, Memory>
+        ensures ok { IfOk result (λ within.
+            within ≡ list_all is_session_within self.now.known.opened) }
+        ensures want { IsOkUnless result Memory.Want }
+    {
+        let mut twin = self.sessions.copy(alloc)?;
+        let pending = self.pending.copy(alloc)?;
+        make_room(alloc, &mut twin, &pending)?;
+        perform(&mut twin, pending);
+        Ok(twin.are_within())
     }
 
     /// What is to be done is done. It takes no memory.

@@ -3,6 +3,7 @@
 #![tactic(auto)]
 
 mod commands;
+mod counted;
 mod down;
 mod ends;
 mod finish;
@@ -15,7 +16,9 @@ mod reads;
 mod serving;
 mod step;
 mod table;
+mod within;
 
+pub use counted::Counted;
 pub use gated::Gated;
 pub use machine::Machine;
 pub use pending::Pending;

@@ -1,6 +1,9 @@
-ghost use Rattle.std.specs.Prelude.{◌≡◌, ◌+◌, [], length, count_by, IfOk, IsOkUnless, OnErr};
+ghost use Rattle.std.specs.Prelude.{◌≡◌, ◌+◌, ◌-◌, ◌^◌, [], min, false, length, count_by, IsTrue, IfOk, IfErr, IsOkUnless, OnOk, OnErr};
+ghost use Rattle.qq_base.specs.Causes.{SpentOnlyWhere};
+ghost use Rattle.qq_base.specs.declared.memory.TheConstants.{NUMBER_END};
+ghost use Rattle.qq_ends.specs.Far.{IsReached};
 ghost use Rattle.qq_entry.specs.Range.{IsInRange};
-ghost use Rattle.qq_model.specs.State.{State};
+ghost use Rattle.qq_model.specs.State.{State, is_within_ends};
 ghost use Rattle.qq_model.specs.Sound.{IsSound};
 ghost use Rattle.qq_model.specs.Audit.{next_step};
 ghost use Rattle.qq_entry.specs.declared.queue.QueueArgs.{QueueArgs};
@@ -11,9 +14,10 @@ ghost use Rattle.qq_machine.specs.Reads.{is_current, fetched};
 ghost use Rattle.qq_parts.specs.Reads.{ready_items};
 ghost use Rattle.qq_consumer.specs.Roster.{one_of};
 
+use crate::counted::Counted;
 use crate::gated::Gated;
 use crate::queue::{Draft, Queue, Saved};
-use crate::reads::current_count;
+use crate::reads::{current_count, to_u32};
 use qq_base::{ConsumerId, Duplicate, Index, Memory};
 use qq_consumer::Consumers;
 use qq_dead::Dead;
@@ -59,7 +63,7 @@ impl Queue {
             },
             sessions: Gated::new(alloc),
             ready: Ready::new(alloc),
-            consumers: Consumers::new(alloc),
+            consumers: Counted::new(alloc),
             dead: Dead::new(alloc),
         }
     }
@@ -182,7 +186,7 @@ impl Machine {
         self.draft.queue.arrivals
     }
 
-    /// The queue of these parts, which were read of a queue of these arguments. It takes no memory.
+    /// The queue of these parts, which were read of a queue of these arguments. A refusal gives the parts up.
     pub fn from_parts(
         alloc: Global,
         args: QueueArgs,
@@ -192,15 +196,16 @@ impl Machine {
         ready: Ready,
         consumers: Consumers,
         dead: Dead,
-    ) -> Self
-        ensures { result ≡ parts_in args (record {
+    ) -> Result<Self, Memory>
+        ensures ok { IfOk result (λ machine. machine ≡ parts_in args (record {
           applied = applied.0;
           arrivals = arrivals;
           sessions = sessions.known;
           ready = ready.queue;
           roster = consumers.roster;
           letters = dead.letters;
-        }) }
+        })) }
+        ensures want { IsOkUnless result Memory.Want }
     {
         let mut queue = Queue {
             applied: applied.0,
@@ -211,15 +216,15 @@ impl Machine {
             },
             sessions: Gated::from_sessions(sessions),
             ready,
-            consumers,
+            consumers: Counted::from_consumers(consumers)?,
             dead,
         };
         queue.commit();
         let effects = Vec::new(alloc);
-        Machine {
+        Ok(Machine {
             args,
             draft: Draft { queue, effects },
-        }
+        })
     }
 
     /// The sessions, the ready messages, the consumers and the dead messages.
@@ -237,18 +242,20 @@ impl Machine {
         (
             queue.sessions.sessions(),
             &queue.ready,
-            &queue.consumers,
+            queue.consumers.table(),
             &queue.dead,
         )
     }
 
-    /// How many messages are ready, and how many consumers weren't cancelled.
-    pub fn counts(&self) -> (u64, u64)
+    /// How many messages are ready, and how many consumers weren't cancelled, as far as 32 bits count. A
+    /// sound queue has at most 1,024.
+    pub fn counts(&self) -> (u64, u32)
         ensures ready { result.0 ≡ length (ready_items self.now) }
-        ensures consumers { result.1 ≡ count_by is_current self.now.served }
+        ensures consumers { result.1 ≡ min (count_by is_current self.now.served) (2 ^ 32 - 1) }
     {
         let queue = &self.draft.queue;
-        (queue.ready.count(), current_count(&queue.consumers))
+        let current = current_count(queue.consumers.table());
+        (queue.ready.count(), to_u32(current))
     }
 
     /// What is out with a consumer, from an id on, by rising id.
@@ -280,7 +287,7 @@ impl Machine {
     }
 
     /// Applies the next entry: whether its command counted as fresh, its answer, and its effects in
-    /// order. After an error the queue is as before.
+    /// order. `Spent` comes where a number would pass its end. After an error the queue is as before.
     pub fn apply(
         &mut self,
         alloc: Global,
@@ -303,11 +310,15 @@ impl Machine {
               answer = made.1;
               effects = made.2.items;
             }) (next_step s entry.now)) }
+        ensures within { (s : State) → IsSound s → IsReached s → Stands self.old s →
+            OnOk result (IsTrue (is_within_ends (next_step s entry.now).state)) }
         ensures err { OnErr result (self.new ≡ self.old) }
-        ensures want { IsOkUnless result Memory.Want }
+        ensures cause { IfErr result (λ e. SpentOnlyWhere e NUMBER_END
+            ((s : State) → IsSound s → Stands self.old s →
+            is_within_ends (next_step s entry.now).state ≡ false)) }
     {
         self.draft.queue.sizes();
-        match self.draft.step(alloc, &self.args, index, entry) {
+        match self.draft.step_within(alloc, &self.args, index, entry) {
             Err(cause) => {
                 self.draft.undo(alloc);
                 Err(cause)

@@ -1,5 +1,8 @@
-use qq_base::SessionId;
+ghost use Rattle.std.specs.Prelude.{◌≡◌, IfOk, IsOkUnless};
+
+use qq_base::{Duplicate, Memory, SessionId};
 use qq_entry::{Answer, Stamp};
+use std::alloc::Global;
 
 /// What a step does to the sessions, which is done once the step is whole.
 #[derive(Debug, Drop)]
@@ -26,4 +29,27 @@ pub enum Pending {
     },
     /// A session ends.
     Ended(SessionId),
+}
+
+impl Pending {
+    /// The same.
+    pub fn copy(&self, alloc: Global) -> Result<Self, Memory>
+        ensures ok { IfOk result (λ twin. twin ≡ self.now) }
+        ensures want { IsOkUnless result Memory.Want }
+    {
+        match self {
+            Pending::Nothing => Ok(Pending::Nothing),
+            Pending::TurnedAway(stamp) => Ok(Pending::TurnedAway(*stamp)),
+            Pending::Passed { stamp, tag } => Ok(Pending::Passed {
+                stamp: *stamp,
+                tag: *tag,
+            }),
+            Pending::Answered { stamp, tag, answer } => Ok(Pending::Answered {
+                stamp: *stamp,
+                tag: *tag,
+                answer: answer.copy(alloc)?,
+            }),
+            Pending::Ended(session) => Ok(Pending::Ended(*session)),
+        }
+    }
 }

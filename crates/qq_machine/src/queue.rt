@@ -1,8 +1,8 @@
 ghost use Rattle.std.specs.Prelude.{◌≡◌, ◌+◌, ◌<◌, ◌≤◌, ◌^◌, IfOk, IsOkUnless, OnOk};
 
+use crate::counted::Counted;
 use crate::gated::Gated;
 use qq_base::Memory;
-use qq_consumer::Consumers;
 use qq_dead::Dead;
 use qq_entry::{Answer, Effect};
 use qq_ready::Ready;
@@ -23,7 +23,7 @@ pub struct Queue {
     pub saved: Saved,
     pub sessions: Gated,
     pub ready: Ready,
-    pub consumers: Consumers,
+    pub consumers: Counted,
     pub dead: Dead,
 }
 

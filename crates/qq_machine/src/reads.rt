@@ -1,5 +1,5 @@
 //! What is read of a queue.
-ghost use Rattle.std.specs.Prelude.{◌≡◌, ◌+◌, ◌<◌, ◌^◌, ◌++◌, ◌∷◌, [], count_by, slice_get, false, if◌then◌else◌, IfOk, IsOkUnless, OnOk};
+ghost use Rattle.std.specs.Prelude.{◌≡◌, ◌+◌, ◌-◌, ◌<◌, ◌^◌, ◌++◌, ◌∷◌, [], count_by, min, slice_get, false, if◌then◌else◌, IfOk, IsOkUnless, OnOk};
 ghost use Rattle.std.specs.Option.{option_map_or};
 ghost use Rattle.qq_consumer.specs.Roster.{one_of};
 ghost use Rattle.qq_machine.specs.Reads.{is_current, fetched, fetched_rows};
@@ -38,6 +38,13 @@ pub fn current_count(consumers: &Consumers) -> u64
         count = count_after(more, count);
     }
     count
+}
+
+/// A number, as far as 32 bits count.
+pub fn to_u32(number: u64) -> u32
+    ensures { result ≡ min number (2 ^ 32 - 1) }
+{
+    number.min(u64::from(u32::MAX)) as u32
 }
 
 fn push_delivery(

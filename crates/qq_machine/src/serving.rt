@@ -4,7 +4,7 @@ ghost use Rattle.qq_entry.specs.declared.queue.QueueArgs.{QueueArgs};
 ghost use Rattle.qq_model.specs.Serving.{is_credited};
 ghost use Rattle.qq_parts_step.specs.Follows.{parts_check_out, parts_check_out_all, parts_drop_head, parts_keep_limits, parts_give_dead, parts_give_all_dead, is_over};
 ghost use Rattle.qq_parts_step.specs.Commands.{parts_drain, parts_drain_after};
-ghost use Rattle.qq_machine.specs.Views.{work_of, parts_of, Becomes, Changes, Replies, GoesOn, IsNextIn, Delivers, KeepsBase};
+ghost use Rattle.qq_machine.specs.Views.{work_of, parts_of, Becomes, Changes, Replies, GoesOn, IsNextIn, IsLinkAt, HasLinkFor, Delivers, KeepsBase};
 ghost use Rattle.qq_consumer.specs.Roster.{item_at, HoldsAt, CanCount};
 ghost use Rattle.qq_consumer.specs.Turns.{waiting_turn};
 ghost use Rattle.qq_model.specs.declared.place.Place.{Place};
@@ -31,7 +31,7 @@ impl Queue {
             return None;
         }
         if single {
-            next(&self.consumers, true)
+            next(self.consumers.table(), true)
         } else {
             self.consumers.next_waiting()
         }
@@ -122,6 +122,8 @@ impl Draft {
         wanted: bool,
         answer: Answer,
     ) -> Result<Answer, Memory>
+        requires { is_credited answer ≡ true → IsLinkAt id self.old.queue.consumers.roster.served }
+
         ensures ok { IfOk result (Replies
             (λ t. parts_drain id wanted (record { work = t; answer = answer }))
             args.now self.old self.new) }
@@ -136,7 +138,7 @@ impl Draft {
         };
         // A consumer with a prefetch is never answered `Credited`.
         let Mode::Link = row.consumer.mode else {
-            return Err(Memory::Want);
+            unreachable!()
         };
         if row
             .consumer
@@ -158,6 +160,8 @@ impl Draft {
         command: &Command,
         answer: Answer,
     ) -> Result<Answer, Memory>
+        requires { HasLinkFor command.now answer self.old.queue.consumers.roster.served }
+
         ensures ok { IfOk result (Replies
             (λ t. parts_drain_after command.now (record { work = t; answer = answer }))
             args.now self.old self.new) }

@@ -1,5 +1,8 @@
 //! One entry, on a queue that is as before where it can't be applied.
-ghost use Rattle.std.specs.Prelude.{◌≡◌, [], Some, None, IfOk, IsOkUnless};
+ghost use Rattle.std.specs.Prelude.{◌≡◌, [], Some, None, false, IfOk, IfErr, IsOkUnless, OnOk};
+ghost use Rattle.qq_base.specs.Causes.{SpentOnlyWhere};
+ghost use Rattle.qq_base.specs.declared.memory.TheConstants.{NUMBER_END};
+ghost use Rattle.qq_machine.specs.Within.{are_within, AreTold};
 ghost use Rattle.qq_entry.specs.Command.{stamp};
 ghost use Rattle.qq_model.specs.Gate.{gate};
 ghost use Rattle.qq_machine.specs.declared.pending.Pending.TheVariants.{Nothing};
@@ -181,5 +184,35 @@ impl Draft {
         ensures want { IsOkUnless result Memory.Want }
     {
         self.step_by(alloc, args, entry.command.stamp(), index, &entry.command)
+    }
+
+    /// Applies the next entry, where no number passes its end.
+    pub fn step_within(
+        &mut self,
+        alloc: Global,
+        args: &QueueArgs,
+        index: Index,
+        entry: &Entry,
+    ) -> Result<Made, Memory>
+        requires effects { self.old.effects.items ≡ [] }
+        requires pending { self.old.queue.sessions.pending ≡ Nothing }
+        requires base { self.old.queue.sessions.known ≡ self.old.queue.sessions.base }
+
+        ensures ok { IfOk result (Makes (λ m. parts_step m index entry.now)
+            args.now self.old self.new) }
+        ensures told { OnOk result (AreTold (parts_of args.now self.new.queue)) }
+        ensures base { base_of self.new.queue ≡ base_of self.old.queue }
+        ensures cause { IfErr result (λ e. SpentOnlyWhere e NUMBER_END
+            (are_within (parts_step (parts_of args.now self.old.queue) index entry.now).parts
+            ≡ false)) }
+    {
+        let made = match self.step(alloc, args, index, entry) {
+            Ok(made) => made,
+            Err(cause) => return Err(cause),
+        };
+        match self.queue.check_ends(alloc) {
+            Ok(()) => Ok(made),
+            Err(cause) => Err(cause),
+        }
     }
 }

@@ -1,4 +1,4 @@
-use Rattle.std.proofs.Common.{◌≡◌}
+use Rattle.std.proofs.Common.{◌≡◌, length}
 use Rattle.qq_parts_step.specs.Commands.{parts_return_session}
 use Rattle.qq_machine.specs.Views.{KeepsBase, work_of}
 use Rattle.qq_machine.proofs.queue.Draft.return_session.Given as goal
@@ -10,3 +10,6 @@ invariant-rounds l = record {
       (work_of l.args l.self);
   base : KeepsBase l.initial.self.queue l.self.queue;
 }
+
+abbrev pub decreases-rounds : goal.decreases-rounds
+decreases-rounds l = length l.self.queue.consumers.roster.served

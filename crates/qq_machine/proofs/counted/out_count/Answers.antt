@@ -1,7 +1,7 @@
 use Rattle.std.proofs.Common.{ℕ, ◌+◌, take, length, ap, sym, ◌∙◌, arith}
 use Rattle.qq_parts.specs.Parts.{outs}
 use Rattle.qq_machine.proofs.Lists.{outs-more}
-use Rattle.qq_machine.proofs.commands.out_count.Goals as goal
+use Rattle.qq_machine.proofs.counted.out_count.Goals as goal
 
 pub consumers-preserved : goal.consumers-preserved
 consumers-preserved c =

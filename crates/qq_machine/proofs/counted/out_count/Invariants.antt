@@ -1,6 +1,6 @@
 use Rattle.std.proofs.Common.{◌≡◌, take, length}
 use Rattle.qq_parts.specs.Parts.{outs}
-use Rattle.qq_machine.proofs.commands.out_count.Given as goal
+use Rattle.qq_machine.proofs.counted.out_count.Given as goal
 
 -- the consumers so far have so much out
 abbrev pub invariant-consumers : goal.invariant-consumers

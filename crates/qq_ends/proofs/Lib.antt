@@ -1,0 +1,4 @@
+pub mod Drawn
+pub mod Counts
+pub mod Numbers
+pub mod Within

@@ -1,0 +1,18 @@
+use Rattle.std.proofs.Common.{◌≡◌, ◌+◌, List, ap, sym, ◌∙◌}
+use Rattle.qq_consumer.specs.Roster.{Roster}
+use Rattle.qq_machine.specs.Counted.{total}
+use Rattle.qq_machine.proofs.Totals.{left-by, counts-on, counts-back}
+use Rattle.qq_machine.proofs.counted.Counted.end.Goals as goal
+
+pub invariant_of-self : goal.invariant_of-self
+invariant_of-self c =
+    counts-on c.self.inside.consumers c.end.new.self _ _ _ c.self.invariant
+    (left-by c.args.session c.in-Ok.ended c.self.inside.consumers.roster _ _ c.len.ensures.apart
+    c.in-Ok.ensures.value c.self.invariant.now_out c.left_by-self-inside.ensures
+    ∙ sym (ap (λ (r : Roster). total r.served) c.in-Ok.ensures.ok))
+    c.end.ensures.base
+
+pub invariant_of-self-in-Err : goal.invariant_of-self-in-Err
+invariant_of-self-in-Err c =
+    counts-back c.self.inside.consumers c.end.new.self c.undo.new.self _ _ c.self.invariant c.end.ensures.base
+    c.undo.ensures.roster c.undo.ensures.base

@@ -1,0 +1,358 @@
+ghost use Rattle.std.specs.Prelude.{◌≡◌, ◌+◌, ◌-◌, ◌<◌, ◌^◌, true, length, slice_get, is_some, IfOk, IfErr, IsOkUnless, OnOk, None};
+ghost use Rattle.std.specs.Option.{option_copied, option_map, option_map_or};
+ghost use Rattle.std.specs.List.{AllByRecursion};
+ghost use Rattle.qq_model.specs.declared.place.Place.{Place};
+ghost use Rattle.qq_parts.specs.Parts.{HasOut, AreApart, outs};
+ghost use Rattle.qq_service.specs.Next.{next};
+ghost use Rattle.std.specs.Prelude.{false, map};
+ghost use Rattle.qq_consumer.specs.Roster.{served_of, item_at, one_of, standing_one, no_consumers, join, subscribe_refusal, IsRefusal, check_out, next_id_at, CanCount, CanDrain, HoldsAt, give_credit, credit_fault, IsCreditFault, drain, link_credit_at, cancel, is_current_at, end, first_of, take_out, taken_rows};
+ghost use Rattle.qq_consumer.specs.Turns.{waiting_turn};
+ghost use Rattle.qq_machine.specs.Counted.{StaysIfRefused};
+
+use crate::commands::add;
+use crate::queue::next_number;
+use qq_base::{ConsumerId, Memory, SessionId};
+use qq_consumer::{ConsumerRow, Consumers, CreditFault, SubscribeFault};
+use qq_entry::{Mode, ReadyRow};
+use std::alloc::Global;
+use std::collections::VecDeque;
+use std::marker::Model;
+
+/// The consumers of a queue, and how many messages are out with all of them.
+///
+/// Contracts see the consumers alone. After an error they may be as they were at the last commit.
+#[derive(Debug, Drop)]
+pub struct Counted {
+    consumers: Consumers,
+    out: u64,
+    base_out: u64,
+}
+
+impl Model for Counted {
+    ghost use Rattle.qq_consumer.specs.Roster.{ConsumersState};
+    ghost use Rattle.qq_machine.specs.Counted.{AreCounted};
+
+    ghost Value = { ConsumersState };
+
+    ghost view = { λ c. c.consumers };
+
+    ghost invariant = { λ c. AreCounted c.consumers c.out c.base_out };
+}
+
+fn out_at(consumers: &Consumers, place: usize) -> u64
+    ensures { option_map_or (λ one. length one.out) (slice_get consumers.now.roster.served place) 0
+        ≡ result }
+{
+    match consumers.row_at(place) {
+        None => 0,
+        Some(row) => row.out.len() as u64,
+    }
+}
+
+// How many messages are out with all consumers.
+fn out_count(consumers: &Consumers) -> Result<u64, Memory>
+    ensures ok { IfOk result (λ count. count ≡ length (outs consumers.now.roster.served)) }
+    ensures want { IsOkUnless result Memory.Want }
+{
+    let mut count: u64 = 0;
+    'consumers: for place in 0..consumers.len() {
+        let more = add(count, out_at(consumers, place))?;
+        count = more;
+    }
+    Ok(count)
+}
+
+// What is out with the others, once a consumer has left.
+fn left_by(out: u64, ended: &Option<ConsumerRow>) -> u64
+    ensures { result ≡ out - option_map_or (λ row. length row.out.items) ended.now 0 }
+{
+    match ended {
+        None => out,
+        Some(row) => out.saturating_sub(row.out.len() as u64),
+    }
+}
+
+// What is still out, once these were taken out.
+fn left_without(out: u64, taken: &Option<VecDeque<ReadyRow>>) -> u64
+    ensures { result ≡ out - option_map_or (λ rows. length rows.items) taken.now 0 }
+{
+    match taken {
+        None => out,
+        Some(rows) => out.saturating_sub(rows.len() as u64),
+    }
+}
+
+impl Counted {
+    /// No consumers. It takes no memory.
+    pub fn new(alloc: Global) -> Self
+        ensures roster { result.roster ≡ no_consumers }
+        ensures base { result.base ≡ no_consumers }
+    {
+        Counted {
+            consumers: Consumers::new(alloc),
+            out: 0,
+            base_out: 0,
+        }
+    }
+
+    /// These consumers, as they are. It goes through all of them.
+    pub fn from_consumers(consumers: Consumers) -> Result<Self, Memory>
+        ensures roster { IfOk result (λ counted. counted.roster ≡ consumers.roster) }
+        ensures want { IsOkUnless result Memory.Want }
+    {
+        let mut consumers = consumers;
+        consumers.commit();
+        let out = out_count(&consumers)?;
+        Ok(Counted {
+            consumers,
+            out,
+            base_out: out,
+        })
+    }
+
+    /// The consumers.
+    pub fn table(&self) -> &Consumers
+        ensures { result.now ≡ self.now }
+    {
+        &self.consumers
+    }
+
+    /// How many messages are out with all consumers.
+    pub fn out_count(&self) -> u64
+        ensures { result ≡ length (outs self.now.roster.served) }
+    {
+        self.out
+    }
+
+    /// How many consumers there are. They have ids of their own, and what is out with each has ids that
+    /// it was given.
+    pub fn len(&self) -> usize
+        ensures len { result ≡ length self.now.roster.served }
+        ensures apart { AreApart self.now.roster.served }
+        ensures out { AllByRecursion HasOut self.now.roster.served }
+    {
+        self.consumers.len()
+    }
+
+    /// How many turns were drawn.
+    pub fn turns(&self) -> u64
+        ensures { result ≡ self.now.roster.turns }
+    {
+        self.consumers.turns()
+    }
+
+    /// The consumer of an id. None exactly where it isn't there.
+    pub fn row_of(&self, id: ConsumerId) -> Option<&ConsumerRow>
+        ensures { option_map served_of (option_copied result)
+            ≡ one_of id self.now.roster.served }
+    {
+        self.consumers.row_of(id)
+    }
+
+    /// The next consumer of a queue without a single active one. None exactly where nobody may be served.
+    pub fn next_waiting(&self) -> Option<ConsumerId>
+        ensures { result ≡ next false (map standing_one self.now.roster.served) }
+    {
+        self.consumers.next_waiting()
+    }
+
+    /// What was changed since the last commit stays. It takes no memory.
+    pub fn commit(&mut self)
+        ensures roster { self.new.roster ≡ self.old.roster }
+        ensures base { self.new.base ≡ self.old.roster }
+    {
+        self.consumers.commit();
+        self.base_out = self.out;
+    }
+
+    /// The consumers are as they were at the last commit. It takes no memory.
+    pub fn undo(&mut self)
+        ensures roster { self.new.roster ≡ self.old.base }
+        ensures base { self.new.base ≡ self.old.base }
+    {
+        self.consumers.undo();
+        self.out = self.base_out;
+    }
+
+    /// A consumer joins at the end, and draws a turn. `greatest` is the greatest tag that its session
+    /// used. There has to be a turn.
+    pub fn subscribe(
+        &mut self,
+        alloc: Global,
+        id: ConsumerId,
+        mode: Mode,
+        greatest: u32,
+    ) -> Result<(), SubscribeFault>
+        requires { self.old.roster.turns + 1 < 2 ^ 64 }
+
+        ensures fits { OnOk result (subscribe_refusal id greatest self.old.roster ≡ None) }
+        ensures ok { OnOk result (self.new.roster ≡ join id mode self.old.roster) }
+        ensures cause { IfErr result (λ fault.
+            IsRefusal fault (subscribe_refusal id greatest self.old.roster)) }
+        ensures base { self.new.base ≡ self.old.base }
+    {
+        match self.consumers.subscribe(alloc, id, mode, greatest) {
+            Ok(()) => Ok(()),
+            Err(fault) => {
+                self.consumers.undo();
+                self.out = self.base_out;
+                Err(fault)
+            }
+        }
+    }
+
+    /// A message goes to a consumer that may be served, which uses a credit and draws a turn. Answers
+    /// the id of the delivery. There have to be numbers.
+    pub fn check_out(&mut self, id: ConsumerId, row: ReadyRow) -> Result<u64, Memory>
+        requires may { is_some (waiting_turn self.old.roster.served id) ≡ true }
+        requires counts { HoldsAt CanCount id self.old.roster }
+        requires turns { self.old.roster.turns + 1 < 2 ^ 64 }
+
+        ensures id { IfOk result (λ number. number ≡ next_id_at id self.old.roster) }
+        ensures ok { OnOk result ((place : Place) →
+            self.new.roster ≡ check_out id (item_at place row) self.old.roster) }
+        ensures base { self.new.base ≡ self.old.base }
+        ensures want { IsOkUnless result Memory.Want }
+    {
+        let out = next_number(self.out)?;
+        match self.consumers.check_out(id, row) {
+            Ok(number) => {
+                self.out = out;
+                Ok(number)
+            }
+            Err(cause) => {
+                self.consumers.undo();
+                self.out = self.base_out;
+                Err(cause)
+            }
+        }
+    }
+
+    /// A consumer's link credit becomes what its receiver counted, and gives, less what was delivered.
+    /// There has to be a turn.
+    pub fn credit(&mut self, id: ConsumerId, count: u32, credit: u32) -> Result<(), CreditFault>
+        requires turns { self.old.roster.turns + 1 < 2 ^ 64 }
+
+        ensures fits { OnOk result (credit_fault id self.old.roster ≡ None) }
+        ensures ok { OnOk result (self.new.roster
+            ≡ give_credit id (count + credit) self.old.roster) }
+        ensures refused { IfErr result (λ fault.
+            StaysIfRefused fault self.old.roster self.new.roster) }
+        ensures cause { IfErr result (λ fault.
+            IsCreditFault fault (credit_fault id self.old.roster)) }
+        ensures base { self.new.base ≡ self.old.base }
+    {
+        match self.consumers.credit(id, count, credit) {
+            Ok(()) => Ok(()),
+            Err(CreditFault::Refused(cause)) => Err(CreditFault::Refused(cause)),
+            Err(CreditFault::Memory) => {
+                self.consumers.undo();
+                self.out = self.base_out;
+                Err(CreditFault::Memory)
+            }
+        }
+    }
+
+    /// The link credit that is left counts as delivered, and is answered. The count has to fit 64 bits.
+    pub fn drain(&mut self, id: ConsumerId) -> Result<u64, Memory>
+        requires { HoldsAt CanDrain id self.old.roster }
+
+        ensures value { IfOk result (λ credit. credit ≡ link_credit_at id self.old.roster) }
+        ensures ok { OnOk result (self.new.roster ≡ drain id self.old.roster) }
+        ensures base { self.new.base ≡ self.old.base }
+        ensures want { IsOkUnless result Memory.Want }
+    {
+        match self.consumers.drain(id) {
+            Ok(credit) => Ok(credit),
+            Err(cause) => {
+                self.consumers.undo();
+                self.out = self.base_out;
+                Err(cause)
+            }
+        }
+    }
+
+    /// A consumer gets no more, and leaves where nothing is out with it. False exactly where it isn't
+    /// there, or was cancelled before.
+    pub fn cancel(&mut self, id: ConsumerId) -> Result<bool, Memory>
+        ensures value { IfOk result (λ did. did ≡ is_current_at id self.old.roster) }
+        ensures ok { OnOk result (self.new.roster ≡ cancel id self.old.roster) }
+        ensures base { self.new.base ≡ self.old.base }
+        ensures want { IsOkUnless result Memory.Want }
+    {
+        match self.consumers.cancel(id) {
+            Ok(did) => Ok(did),
+            Err(cause) => {
+                self.consumers.undo();
+                self.out = self.base_out;
+                Err(cause)
+            }
+        }
+    }
+
+    /// The longest joined consumer of a session leaves, with what is out with it. None exactly where the
+    /// session has none.
+    pub fn end(&mut self, alloc: Global, session: SessionId) -> Result<Option<ConsumerRow>, Memory>
+        ensures value { IfOk result (λ row. option_map served_of row
+            ≡ first_of session self.old.roster.served) }
+        ensures ok { OnOk result (self.new.roster ≡ end session self.old.roster) }
+        ensures base { self.new.base ≡ self.old.base }
+        ensures want { IsOkUnless result Memory.Want }
+    {
+        self.consumers.len();
+        match self.consumers.end(alloc, session) {
+            Ok(ended) => {
+                self.out = left_by(self.out, &ended);
+                Ok(ended)
+            }
+            Err(cause) => {
+                self.consumers.undo();
+                self.out = self.base_out;
+                Err(cause)
+            }
+        }
+    }
+
+    /// Takes out those of the ids that are out with a consumer, in the given order. None exactly where
+    /// the consumer isn't there. There has to be a turn.
+    pub fn take_out(
+        &mut self,
+        alloc: Global,
+        id: ConsumerId,
+        ids: &[u64],
+    ) -> Result<Option<VecDeque<ReadyRow>>, Memory>
+        requires { self.old.roster.turns + 1 < 2 ^ 64 }
+
+        ensures rows { IfOk result (λ rows. option_map (λ r. r.items) rows
+            ≡ option_map (taken_rows ids.now) (one_of id self.old.roster.served)) }
+        ensures roster { OnOk result (self.new.roster ≡ take_out id ids.now self.old.roster) }
+        ensures base { self.new.base ≡ self.old.base }
+        ensures want { IsOkUnless result Memory.Want }
+    {
+        self.consumers.len();
+        match self.consumers.take_out(alloc, id, ids) {
+            Ok(taken) => {
+                self.out = left_without(self.out, &taken);
+                Ok(taken)
+            }
+            Err(cause) => {
+                self.consumers.undo();
+                self.out = self.base_out;
+                Err(cause)
+            }
+        }
+    }
+
+    /// The same consumers, with copies of what is out, committed.
+    pub fn copy(&self, alloc: Global) -> Result<Self, Memory>
+        ensures ok { IfOk result (λ twin. twin.roster ≡ self.now.roster) }
+        ensures base { IfOk result (λ twin. twin.base ≡ self.now.roster) }
+        ensures want { IsOkUnless result Memory.Want }
+    {
+        Ok(Counted {
+            consumers: self.consumers.copy(alloc)?,
+            out: self.out,
+            base_out: self.out,
+        })
+    }
+}
