@@ -1,0 +1,56 @@
+//! Times the machines of a queue, for `bench/machine`.
+//!
+//! The words are `MACHINE READY CONSUMERS ENTRIES`: MACHINE is `parts` or `plain`, READY messages with bodies
+//! of 100 bytes are ready, and CONSUMERS consumers have no credit. Then ENTRIES entries of each of four kinds
+//! are applied, the session gate and the answer included: gets, enqueues, credits that deliver one message
+//! each, and settles of these. The program prints how many entries of each kind they were, how many nanoseconds
+//! each kind took, and by how many KiB the process grew with the messages. Without words it says how it is
+//! called.
+#![tactic(auto)]
+
+mod kinds;
+mod load;
+mod made;
+mod memory;
+mod queue;
+mod ranged;
+mod timing;
+
+use crate::load::Load;
+use crate::queue::{AnyQueue, new_parts, new_plain};
+use anyhow::{Context, Result};
+use std::env;
+
+fn number(words: &[String], place: usize) -> Result<u64> {
+    let word = words.get(place).context("a number is missing")?;
+    word.parse().context("a number is wanted")
+}
+
+fn read_load(words: &[String]) -> Result<Load> {
+    Ok(Load {
+        ready: number(words, 1)?,
+        consumers: number(words, 2)?,
+        entries: number(words, 3)?,
+    })
+}
+
+fn queue_of(rt: &HostRuntime, word: &str) -> Result<AnyQueue> {
+    match word {
+        "parts" => Ok(new_parts(rt.alloc())),
+        "plain" => Ok(new_plain(rt.alloc())),
+        _ => anyhow::bail!("a machine is `parts` or `plain`"),
+    }
+}
+
+fn main(rt: HostRuntime) -> Result<()> {
+    let mut words = Vec::new(rt.alloc());
+    for word in env::args(&rt)?.skip(1) {
+        words.push(word)?;
+    }
+    let Some(machine) = words.first() else {
+        println!(rt; "usage: qq_bench_machine parts|plain READY CONSUMERS ENTRIES")?;
+        return Ok(());
+    };
+    let queue = queue_of(&rt, machine.as_str())?;
+    timing::run(rt, queue, read_load(&words)?)
+}
