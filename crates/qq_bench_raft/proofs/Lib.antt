@@ -1,1 +1,1 @@
-mod Opens
+mod Starts

@@ -1,5 +1,5 @@
 -- What a member's disk holds.
-use Rattle.std.specs.Prelude.{◌≡◌, ◌≤◌, ℕ, List, [], length, All, Option, None}
+use Rattle.std.specs.Prelude.{◌≡◌, ◌≤◌, ℕ, List, length, All, Option}
 use Rattle.qq_base.specs.declared.ids.NodeId.{NodeId}
 use Rattle.qq_base.specs.declared.ids.Term.{Term}
 use Rattle.qq_base.specs.declared.memory.TheConstants.{NUMBER_END}
@@ -8,6 +8,7 @@ use Rattle.qq_log.specs.Log.{LogState}
 use Rattle.qq_log.specs.Stable.{no_snapshot}
 use Rattle.qq_log.specs.Writable.{IsVote}
 use Rattle.qq_raft.specs.Raft.{IsInLog, IsWithinEnds}
+use Rattle.qq_group.specs.Opening.{MayBeFound}
 
 -- none of its numbers is past its end, and its entries have bytes
 pub record IsDisk (op : ℕ) (term : Term) (vote : Option NodeId) (entries : List Entry) : Type 0 where
@@ -17,14 +18,8 @@ pub record IsDisk (op : ℕ) (term : Term) (vote : Option NodeId) (entries : Lis
   pub last_within : length entries ≤ NUMBER_END
   pub each : All IsInLog entries
 
--- a log without ops is empty
-pub record IsUnused (l : LogState) : Type 0 where
-  pub term : l.term ≡ record { 0 = 0 }
-  pub vote : l.vote ≡ None
-  pub entries : l.entries ≡ []
-
 -- a whole log that ops lead to, and that a server takes
 pub record MayStart (l : LogState) : Type 0 where
   pub whole : l.base ≡ no_snapshot
   pub ends : IsWithinEnds l
-  pub unused : l.op ≡ 0 → IsUnused l
+  pub unused : MayBeFound l

@@ -55,6 +55,18 @@ impl Disk {
         }
     }
 
+    /// The same disk once more.
+    pub fn copy(&self, alloc: Global) -> Result<Disk, Memory>
+        ensures { IfOk result (λ twin. twin ≡ self.now) }
+    {
+        Ok(Disk {
+            op: self.op,
+            term: self.term,
+            vote: self.vote,
+            entries: self.entries.copy(alloc)?,
+        })
+    }
+
     /// The number of the last op that was written.
     pub fn op(&self) -> u64 {
         self.op

@@ -7,14 +7,34 @@
 //!
 //! With the words `schedule SEED STEPS` a group of 3 and one of 5 go through STEPS random events: time
 //! passes, commands are submitted, messages are delivered in any order, lost and copied, ops are written,
-//! members are told of them or not, and crash, and all start again over their disks as they stand. At each
-//! step no member knows more to be committed than the audit has, each row that is shown is of the audit's
-//! entry at its index, the audit hasn't become shorter, and one member leads a term at most.
+//! members are told of them or not, crash, and start again over their disks as they stand, one of them or
+//! all. At each step the last entries that a member knows to be committed are the audit's, each row that is
+//! shown is of the audit's entry at its index, the audit hasn't become shorter, and one member leads a term
+//! at most.
 //!
 //! With the word `terms` a member leads term 3 with entries of term 1 in its log. That a majority has these
 //! commits nothing, and that it has the entry of term 3 commits all.
+//!
+//! With the word `cases` it reads cases from its input and prints them again with the true answers, so that a
+//! file of cases is its own wanted output. A line that begins with `#` or is empty is a comment, and one that
+//! begins with two blanks is an answer of an earlier run, which is passed over. Members are numbered from 1,
+//! and so are the messages that are on their way. The lines are
+//!
+//! - `group COUNT`: from here on a new group of so many members over new disks, all of them up;
+//! - `tick N`, `crash N`: time passes at a member, or it crashes;
+//! - `publish N [COUNT [SIZE]]`: so many commands reach a member, each with a body of so many bytes;
+//! - `deliver PLACE`, `lose PLACE`, `copy PLACE`: what becomes of a message; `to N`: all messages that are on
+//!   their way to a member reach it; `drop`: all messages are lost;
+//! - `write N`: all ops of a member that wait are written to its disk; `notice N [OP]`: it is told of what its
+//!   disk holds, or of an op;
+//! - `restart N OP`: a member that is down restarts over what its disk held when an op was the last on it;
+//! - `settle`: messages are delivered, ops written and members told, until nothing is left;
+//! - `state`, `audit`, `bag`: each member, the terms of the committed entries, and whom messages are for.
+//!
+//! An answer says that the event didn't happen, and why, or which entries a leader answers by it.
 #![tactic(auto)]
 
+mod cases;
 mod counting;
 mod disk;
 mod made;
@@ -22,6 +42,7 @@ mod members;
 mod party;
 mod random;
 mod schedule;
+mod stage;
 mod terms;
 mod timing;
 mod watch;
@@ -51,12 +72,13 @@ fn main(rt: HostRuntime) -> Result<()> {
     }
     match words.first() {
         None => println!(rt;
-            "usage: qq_bench_raft MEMBERS WINDOW ENTRIES BODY | schedule SEED STEPS | terms"
+            "usage: qq_bench_raft MEMBERS WINDOW ENTRIES BODY | schedule SEED STEPS | terms | cases"
         )?,
         Some(word) if word.as_str() == "schedule" => {
             schedule::run(rt, number(&words, 1)?, number(&words, 2)?)?
         }
         Some(word) if word.as_str() == "terms" => terms::run(rt)?,
+        Some(word) if word.as_str() == "cases" => cases::run(rt)?,
         Some(_) => timing::run(rt, read_load(&words)?)?,
     }
     Ok(())

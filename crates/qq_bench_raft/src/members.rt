@@ -1,30 +1,33 @@
 ghost use Rattle.std.specs.Prelude.{◌≡◌, ◌+◌, ◌<◌, ◌^◌, All, length, IfOk, IfSome};
+ghost use Rattle.std.specs.List.{AllByRecursion};
 ghost use Rattle.qq_raft_msg.specs.Rpc.{IsNode};
 ghost use Rattle.qq_group_model.specs.Group.{has_node};
+ghost use Rattle.qq_group.specs.Opening.{AreApart};
 ghost use Rattle.qq_group.specs.Steps.{MayHappen};
 ghost use Rattle.qq_log.specs.Writable.{MayWrite};
 ghost use Rattle.qq_bench_raft.specs.Disk.{MayStart};
-ghost use Rattle.qq_bench_raft.specs.Opening.{IsOpened, IsSound};
+ghost use Rattle.qq_bench_raft.specs.Opening.{IsSound, IsStart};
 
 use crate::counting::Counting;
 use crate::disk::{Disk, QUEUE};
 use anyhow::{Result, ensure};
-use qq_base::{Memory, NodeId};
+use qq_base::{Index, Memory, NodeId};
 use qq_entry::{Entries, Entry};
-use qq_group::{Event, Group, Shown};
+use qq_group::{Event, Group, RestartFault, Shown};
 use qq_log::{Log, NODE_LIMIT, Op};
 use qq_raft_msg::MemberState;
 use std::alloc::Global;
 use std::marker::Model;
 
-/// A group of members with counting machines.
+/// A group of members.
 #[derive(Drop)]
 pub struct Members {
     group: Group<Counting, Log>,
+    nodes: Vec<NodeId>,
 }
 
 impl Model for Members {
-    ghost use Rattle.std.specs.Prelude.{List};
+    ghost use Rattle.std.specs.Prelude.{◌≡◌, List};
     ghost use Rattle.qq_entry.specs.declared.command.Entry.{Entry};
     ghost use Rattle.qq_bench_raft.specs.Opening.{IsSound};
 
@@ -32,7 +35,7 @@ impl Model for Members {
 
     ghost view = { λ m. m.group.audit.items };
 
-    ghost invariant = { λ m. IsSound m.group };
+    ghost invariant = { λ m. IsSound m.group × (m.group.nodes.items ≡ m.nodes.items) };
 }
 
 fn is_member(number: u8, nodes: &[NodeId]) -> bool
@@ -46,32 +49,46 @@ fn is_member(number: u8, nodes: &[NodeId]) -> bool
     false
 }
 
-/// Starts the next member over its log.
-fn start(
+/// What the next member starts with.
+fn start_of(
     alloc: Global,
-    group: Group<Counting, Log>,
     nodes: &[NodeId],
     at: u8,
-    log: Log,
-) -> Result<Group<Counting, Log>>
-    requires sound { IsSound group }
-    requires opened { IsOpened nodes.now at group }
-    requires log { MayStart log }
-
-    ensures sound { IfOk result IsSound }
-    ensures opened { IfOk result (IsOpened nodes.now (at + 1)) }
+    disk: &Disk,
+) -> Result<(NodeId, Option<(Counting, Log)>)>
+    ensures start { IfOk result (IsStart nodes.now) }
+    ensures number { IfOk result (λ start. start.0.0 ≡ at + 1) }
 {
-    ensure!(at < NODE_LIMIT, "more members than may be");
-    let node = NodeId(at + 1);
+    let within = at < NODE_LIMIT;
+    if !within {
+        anyhow::bail!("more members than may be");
+    }
     let member = is_member(at + 1, nodes);
     if !member {
         anyhow::bail!("no such member");
     }
-    let mut group = group;
-    let up = group.member(node).is_some();
-    ensure!(!up, "a member is up");
-    group.restart(alloc, node, Counting::new(), log)?;
-    Ok(group)
+    let log = disk.log(alloc)?;
+    Ok((NodeId(at + 1), Some((Counting::new(), log))))
+}
+
+/// What all members start with.
+fn starts_of(
+    alloc: Global,
+    nodes: &[NodeId],
+    disks: &[Disk],
+) -> Result<Vec<(NodeId, Option<(Counting, Log)>)>>
+    ensures each { IfOk result (λ starts. AllByRecursion (IsStart nodes.now) starts.items) }
+    ensures apart { IfOk result (λ starts. AreApart starts.items) }
+{
+    let mut starts = Vec::new(alloc);
+    'disks: for at in 0..NODE_LIMIT {
+        let Some(disk) = disks.get(usize::from(at)) else {
+            return Ok(starts);
+        };
+        let start = start_of(alloc, nodes, at, disk)?;
+        starts.push(start)?;
+    }
+    Ok(starts)
 }
 
 impl Members {
@@ -80,14 +97,10 @@ impl Members {
         requires nodes { All IsNode nodes.now }
         requires count { length nodes.now < 2 ^ 32 }
     {
-        let mut group = Group::resume(alloc, QUEUE, nodes, audit)?;
-        'members: for at in 0..NODE_LIMIT {
-            let Some(disk) = disks.get(usize::from(at)) else {
-                return Ok(Members { group });
-            };
-            group = start(alloc, group, nodes, at, disk.log(alloc)?)?;
-        }
-        Ok(Members { group })
+        let starts = starts_of(alloc, nodes, disks)?;
+        let group = Group::resume(alloc, QUEUE, nodes, audit, starts)?;
+        let nodes = Vec::from_slice(alloc, nodes)?;
+        Ok(Members { group, nodes })
     }
 
     /// An event happens.
@@ -95,6 +108,27 @@ impl Members {
         requires { MayHappen event }
     {
         self.group.step(alloc, event)
+    }
+
+    /// A member that is down restarts over a log. What was lost, where the group knows that more was durable:
+    /// the op that it was told of, and the one that was found.
+    pub fn restart(&mut self, alloc: Global, node: NodeId, log: Log) -> Result<Option<(u64, u64)>>
+        requires { MayStart log }
+    {
+        ensure!(node.0 > 0 && node.0 <= NODE_LIMIT, "no such node");
+        let member = is_member(node.0, self.nodes.as_slice());
+        if !member {
+            anyhow::bail!("no such member");
+        }
+        let up = self.group.member(node).is_some();
+        if up {
+            anyhow::bail!("the member is up");
+        }
+        match self.group.restart(alloc, node, Counting::new(), log) {
+            Ok(()) => Ok(None),
+            Err(RestartFault::Lost { noticed, found }) => Ok(Some((noticed, found))),
+            Err(fault) => Err(fault.into()),
+        }
     }
 
     /// The next op of a member for its disk.
@@ -122,5 +156,16 @@ impl Members {
     /// What a member tells of itself.
     pub fn member(&self, node: NodeId) -> Option<MemberState> {
         self.group.member(node)
+    }
+
+    /// Copies of a member's entries.
+    pub fn entries(
+        &self,
+        alloc: Global,
+        node: NodeId,
+        first: Index,
+        last: Index,
+    ) -> Result<Option<Entries>, Memory> {
+        self.group.entries(alloc, node, first, last)
     }
 }

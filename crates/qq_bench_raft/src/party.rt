@@ -3,8 +3,8 @@ ghost use Rattle.qq_group.specs.Steps.{MayHappen};
 use crate::disk::Disk;
 use crate::made::Publish;
 use crate::members::Members;
-use anyhow::{Context, Result};
-use qq_base::{Duplicate, NodeId};
+use anyhow::{Context, Result, ensure};
+use qq_base::{Duplicate, Index, NodeId};
 use qq_entry::{Entries, Entry};
 use qq_group::{Event, Shown};
 use qq_raft_msg::MemberState;
@@ -16,6 +16,16 @@ const ONE: [NodeId; 1] = [NodeId(1)];
 const THREE: [NodeId; 3] = [NodeId(1), NodeId(2), NodeId(3)];
 
 const FIVE: [NodeId; 5] = [NodeId(1), NodeId(2), NodeId(3), NodeId(4), NodeId(5)];
+
+const SEVEN: [NodeId; 7] = [
+    NodeId(1),
+    NodeId(2),
+    NodeId(3),
+    NodeId(4),
+    NodeId(5),
+    NodeId(6),
+    NodeId(7),
+];
 
 /// A group with the disks of its members, which are nodes 1 to `count`.
 #[derive(Drop)]
@@ -30,7 +40,8 @@ fn open(alloc: Global, count: u8, audit: Entries, disks: &[Disk]) -> Result<Memb
         1 => Members::open(alloc, &ONE, audit, disks),
         3 => Members::open(alloc, &THREE, audit, disks),
         5 => Members::open(alloc, &FIVE, audit, disks),
-        _ => anyhow::bail!("a group has 1, 3 or 5 members"),
+        7 => Members::open(alloc, &SEVEN, audit, disks),
+        _ => anyhow::bail!("a group has 1, 3, 5 or 7 members"),
     }
 }
 
@@ -43,7 +54,7 @@ fn copied(alloc: Global, entries: &[Entry]) -> Result<Entries> {
 }
 
 impl Party {
-    /// A group of 1, 3 or 5 members with new disks.
+    /// A group of 1, 3, 5 or 7 members with new disks.
     pub fn new(alloc: Global, count: u8) -> Result<Party> {
         let mut disks = Vec::new(alloc);
         for _ in 0..count {
@@ -62,6 +73,45 @@ impl Party {
         let audit = copied(alloc, self.members.audit())?;
         self.members = open(alloc, self.count, audit, &self.disks)?;
         Ok(())
+    }
+
+    /// A member that is down restarts over a disk, which is its own from here on. What was lost, where the
+    /// group knows that more was durable: the op that it was told of, and the one that was found.
+    pub fn restart(&mut self, alloc: Global, node: u8, disk: Disk) -> Result<Option<(u64, u64)>> {
+        let log = disk.log(alloc)?;
+        let lost = self.members.restart(alloc, NodeId(node), log)?;
+        if lost.is_some() {
+            return Ok(lost);
+        }
+        self.change_disk(node, disk)?;
+        Ok(lost)
+    }
+
+    /// A member starts again over its disk as it stands, if it is down.
+    pub fn start_again(&mut self, alloc: Global, node: u8) -> Result<()> {
+        if self.member(node).is_some() {
+            return Ok(());
+        }
+        let log = self.disk(node)?.log(alloc)?;
+        let lost = self.members.restart(alloc, NodeId(node), log)?;
+        ensure!(lost.is_none(), "a disk lost what was written to it");
+        Ok(())
+    }
+
+    fn change_disk(&mut self, node: u8, disk: Disk) -> Result<()> {
+        let held = self
+            .disks
+            .get_mut(usize::from(node).saturating_sub(1))
+            .context("no such disk")?;
+        *held = disk;
+        Ok(())
+    }
+
+    /// What a member's disk holds.
+    pub fn disk(&self, node: u8) -> Result<&Disk> {
+        self.disks
+            .get(usize::from(node).saturating_sub(1))
+            .context("no such disk")
     }
 
     /// An event happens.
@@ -176,6 +226,11 @@ impl Party {
         self.members.messages()
     }
 
+    /// Whom the message at a place, from 1, is for.
+    pub fn receiver(&self, place: u32) -> Option<NodeId> {
+        self.members.receiver(place)
+    }
+
     /// Whether the message at a place, from 1, is for a member.
     pub fn is_for(&self, place: u32, node: u8) -> bool {
         match self.members.receiver(place) {
@@ -187,5 +242,12 @@ impl Party {
     /// What a member tells of itself.
     pub fn member(&self, node: u8) -> Option<MemberState> {
         self.members.member(NodeId(node))
+    }
+
+    /// Copies of a member's entries from one index to another.
+    pub fn entries(&self, alloc: Global, node: u8, first: u64, last: u64) -> Result<Entries> {
+        self.members
+            .entries(alloc, NodeId(node), Index(first), Index(last))?
+            .context("a member lacks an entry that it knows to be committed")
     }
 }

@@ -47,6 +47,17 @@ fn disturb(alloc: Global, random: &mut Random, party: &mut Party) -> Result<Show
     }
 }
 
+// A member is told nothing new.
+fn notice_nothing(alloc: Global, party: &mut Party, node: u8) -> Result<Shown> {
+    party.step(
+        alloc,
+        Event::Notice {
+            node: NodeId(node),
+            op: 0,
+        },
+    )
+}
+
 // What happens next, at this time.
 fn happen(alloc: Global, random: &mut Random, party: &mut Party, time: u64) -> Result<Shown> {
     let node = node_of(random, party);
@@ -64,15 +75,13 @@ fn happen(alloc: Global, random: &mut Random, party: &mut Party, time: u64) -> R
             party.write(alloc, node)?;
             party.notice(alloc, node)
         }
-        210..240 => {
+        210..216 => {
+            party.start_again(alloc, node)?;
+            notice_nothing(alloc, party, node)
+        }
+        216..240 => {
             party.write(alloc, node)?;
-            party.step(
-                alloc,
-                Event::Notice {
-                    node: NodeId(node),
-                    op: 0,
-                },
-            )
+            notice_nothing(alloc, party, node)
         }
         _ => disturb(alloc, random, party),
     }
@@ -88,14 +97,14 @@ fn run_all(alloc: Global, seed: u64, steps: u64, members: u8) -> Result<Watch> {
         }
         let shown = happen(alloc, &mut random, &mut party, time)?;
         watch.look_at_rows(party.audit(), &shown)?;
-        watch.look_at_members(&party)?;
+        watch.look_at_members(alloc, &party)?;
     }
     Ok(watch)
 }
 
 /// Runs a random schedule of events over a group of 3 members and one of 5, and looks at each step whether
-/// the entries that each member has applied begin the audit. Fails where they don't, or where too little
-/// happened to tell.
+/// the entries that each member knows to be committed begin the audit. Fails where they don't, or where too
+/// little happened to tell.
 pub fn run(rt: HostRuntime, seed: u64, steps: u64) -> Result<()> {
     for members in [3u8, 5] {
         let watch = run_all(rt.alloc(), seed, steps, members)?;

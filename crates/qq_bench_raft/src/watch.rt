@@ -2,9 +2,13 @@ use crate::party::Party;
 use anyhow::{Context, Result, ensure};
 use qq_entry::{Answer, Entry};
 use qq_group::Shown;
-use qq_raft_msg::Role;
+use qq_raft_msg::{MemberState, Role};
+use qq_same::same_entries;
 use qq_server::AppliedRow;
 use std::alloc::Global;
+
+/// The last entries of each member that are compared at each step.
+const LAST: u64 = 8;
 
 /// What was seen of a group so far.
 #[derive(Drop)]
@@ -37,10 +41,8 @@ impl Watch {
     /// Looks at the rows that an event has shown: each is the audit's entry at its index.
     pub fn look_at_rows(&mut self, audit: &[Entry], shown: &Shown) -> Result<()> {
         for row in shown.rows.as_slice() {
-            let place = row.row.index.0.saturating_sub(1);
-            let entry = audit
-                .get(usize::try_from(place)?)
-                .context("a row is of no entry")?;
+            let place = usize::try_from(row.row.index.0.saturating_sub(1))?;
+            let entry = audit.get(place).context("a row is of no entry")?;
             ensure!(is_row_of(row, entry), "a row isn't that of its entry");
             self.rows = self.rows.saturating_add(1);
         }
@@ -58,9 +60,9 @@ impl Watch {
         Ok(())
     }
 
-    /// Looks at the members: none knows more to be committed than the audit has, which hasn't become shorter,
-    /// and one leads a term at most.
-    pub fn look_at_members(&mut self, party: &Party) -> Result<()> {
+    /// Looks at the members: what each knows to be committed is the audit's, which hasn't become shorter, and
+    /// one leads a term at most.
+    pub fn look_at_members(&mut self, alloc: Global, party: &Party) -> Result<()> {
         let audited = party.audit().len();
         ensure!(self.audited <= audited, "the audit has become shorter");
         self.audited = audited;
@@ -68,11 +70,27 @@ impl Watch {
             let Some(state) = party.member(node) else {
                 continue;
             };
-            ensure!(state.commit.0 <= audited as u64, "the audit lacks an entry");
+            look_at_entries(alloc, party, node, &state)?;
             if state.role == Role::Leader {
                 self.look_at_leader(state.term.0, node)?;
             }
         }
         Ok(())
     }
+}
+
+// Looks at the last entries that a member knows to be committed.
+fn look_at_entries(alloc: Global, party: &Party, node: u8, state: &MemberState) -> Result<()> {
+    let end = state.commit.0;
+    let first = end.saturating_sub(LAST);
+    let theirs = party.entries(alloc, node, first.saturating_add(1), end)?;
+    let ours = party
+        .audit()
+        .get(usize::try_from(first)?..usize::try_from(end)?)
+        .context("the audit lacks an entry")?;
+    ensure!(
+        same_entries(ours, theirs.as_slice()),
+        "a member's entry isn't the audit's"
+    );
+    Ok(())
 }

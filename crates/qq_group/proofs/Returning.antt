@@ -8,13 +8,14 @@ use Rattle.qq_log.specs.Writable.{MayWrite}
 use Rattle.qq_log.specs.declared.op.Op.{Op}
 use Rattle.qq_raft.specs.Raft.{server_of}
 use Rattle.qq_server.specs.declared.server.Server.{Server}
-use Rattle.qq_group.specs.Group.{IsReturned, server_by}
+use Rattle.qq_group.specs.Follows.{KeepsQueue}
+use Rattle.qq_group.specs.Group.{IsReturned, server_at, server_by}
 use Rattle.qq_group.specs.Handing.{given_back, handed_seat, has_returned, next_by, reseated, returned_at, with_returned, IsHandedOver, IsReseated, KeepsReturned, Refills, StaysAt}
 use Rattle.qq_group.specs.Step.{ChangesSeat, IsSettled, IsTaken, IsUndone, emptied, seated}
 use Rattle.qq_group.specs.declared.group.Group.{Group}
 use Rattle.qq_group.specs.declared.seat.Seat.{Seat}
 use Rattle.qq_group.proofs.Seats.{set-other, set-own}
-use Rattle.qq_group.proofs.Stepped.{changed-other, changed-own}
+use Rattle.qq_group.proofs.Stepped.{changed-other, changed-own, taken-at}
 
 -- what is true of a seat alone says that it is there
 pub there-of : {A : Type 0} (xs : List A) (k : ℕ) (f : Option A → Bool) → f None ≡ false
@@ -133,3 +134,45 @@ pub left-after : (result next : Option Op) (old new : Option Op) → result ≡ 
 left-after None next old new is same left = tt
 left-after (Some op) next old new is same left =
     same ∙ subst (λ (o : Option Op). IfSome o (λ _. old ≡ None)) (sym is) left
+
+-- ---- the queues of those that hand ops out
+
+keeps-same : {Q L : Type 0} (o : Option (Server Q L)) → KeepsQueue o o
+keeps-same None = refl
+keeps-same (Some s) = refl
+
+pub keeps-down : {Q L : Type 0} (k : ℕ) (old new : Group Q L) → new ≡ old → server_at k old ≡ None
+    → KeepsQueue (server_at k old) (server_at k new)
+keeps-down {Q = Q} {L = L} k old new same down =
+    subst (λ (o : Option (Server Q L)). KeepsQueue o (server_at k new)) (sym down)
+    (ap (λ (x : Group Q L). server_at k x) same ∙ down)
+
+keeps-up : {Q L : Type 0} (k : ℕ) (s t : Server Q L) (old new : Group Q L) → server_at k old ≡ Some s
+    → server_at k new ≡ Some t → t ≡ record s { raft = t.raft } → KeepsQueue (server_at k old) (server_at k new)
+keeps-up {Q = Q} {L = L} k s t old new was now same =
+    subst (λ (o : Option (Server Q L)). KeepsQueue o (server_at k new)) (sym was)
+    (subst (λ (o : Option (Server Q L)). KeepsQueue (Some s) o) (sym now) same)
+
+pub reseated-queue : {Q L : Type 0} (k : ℕ) (s t : Server Q L) (old mid new : Group Q L) → IsTaken k s old mid
+    → IsReseated k t mid new → t ≡ record s { raft = t.raft } → KeepsQueue (server_at k old) (server_at k new)
+reseated-queue k s t old mid new taken put same =
+    keeps-up k s t old new (taken-at k s old mid taken)
+    (ap server_by (changed-own k put.seat (reseated t put.seat) mid new put.changes)) same
+
+pub handed-queue : {Q L : Type 0} (k : ℕ) (s t : Server Q L) (op : Op) (old mid new : Group Q L)
+    → IsTaken k s old mid → IsHandedOver k t op mid new → t ≡ record s { raft = t.raft }
+    → KeepsQueue (server_at k old) (server_at k new)
+handed-queue k s t op old mid new taken put same =
+    keeps-up k s t old new (taken-at k s old mid taken)
+    (ap server_by (changed-own k put.seat (handed_seat t put.history put.seat) mid new put.changes)) same
+
+refilled-server : {Q L : Type 0} (returned : Option Op) (seat : Option (Seat Q L))
+    → server_by (with_returned returned seat) ≡ server_by seat
+refilled-server returned None = refl
+refilled-server returned (Some seat) = refl
+
+pub refilled-queue : {Q L : Type 0} (k : ℕ) (returned : Option Op) (old new : Group Q L) → Refills k returned old new
+    → KeepsQueue (server_at k old) (server_at k new)
+refilled-queue {Q = Q} {L = L} k returned old new r =
+    subst (λ (o : Option (Server Q L)). KeepsQueue (server_at k old) o)
+    (sym (ap server_by r.seat ∙ refilled-server returned (slice_get old.seats.items k))) (keeps-same (server_at k old))

@@ -189,7 +189,7 @@ pub taken-within : {Q L : Type 0} (k : ℕ) (s : Server Q L) (old mid : Group Q 
 taken-within k s old mid t =
     slice_get_within mid.seats.items k (emptied t.seat) (changed-own k t.seat (emptied t.seat) old mid t.changes)
 
-taken-at : {Q L : Type 0} (k : ℕ) (s : Server Q L) (old mid : Group Q L) → IsTaken k s old mid
+pub taken-at : {Q L : Type 0} (k : ℕ) (s : Server Q L) (old mid : Group Q L) → IsTaken k s old mid
     → server_at k old ≡ Some s
 taken-at k s old mid t = ap server_by t.changes.there ∙ t.up
 
@@ -220,9 +220,11 @@ shown {Q = Q} {L = L} stands log f k s t old mid new rows taken does settled is 
     (subst (λ (o : Option (Server Q L)). HasShown stands log f s o rows) (sym here)
     (λ queue stood.
     record {
+      raft = settled.drained.raft ∙ ap (λ (r : Raft). record r { out = [] }) (does queue stood).raft;
       queue = subst (stands (f (state_of log queue s)).queue) (sym settled.drained.machine) (does queue stood).queue;
       applied = settled.drained.applied ∙ (does queue stood).applied;
       rows_are = is ∙ (does queue stood).rows;
+      none = settled.drained.rows;
     }))
 
 -- a bag that would be full

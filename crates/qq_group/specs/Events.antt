@@ -15,7 +15,7 @@ use Rattle.qq_server.specs.declared.row.AppliedRow.{AppliedRow}
 use Rattle.qq_server.specs.declared.server.Server.{Server}
 use Rattle.qq_group_model.specs.Group.{Group as GroupState, happens}
 use Rattle.qq_group_model.specs.Group.Event.{Deliver, Lose, Copy, Crash, Notice as Notify}
-use Rattle.qq_group.specs.Follows.{HasShownBy, OthersStay}
+use Rattle.qq_group.specs.Follows.{HasShownBy, OthersStay, ShowsNothing}
 use Rattle.qq_group.specs.Group.{server_at}
 use Rattle.qq_group.specs.Handing.{held}
 use Rattle.qq_group.specs.Input.{acts, IsFeedCaused}
@@ -101,7 +101,7 @@ abbrev pub OneOf : Bool → Type 0 → Type 0 → Type 0
 OneOf true A B = A
 OneOf false A B = B
 
--- the rows are those of the receiver's step; a message that isn't taken shows none
+-- the rows are those of the receiver's step; a message that isn't taken changes nothing there and shows none
 abbrev pub HasShownMessage :
     {P Q L : Type 0} → (P → Q → Type 0) → (P → Index → Entry → Applied P) → (L → LogState) → Option Rpc
     → Group Q L → Group Q L → List AppliedRow → Type 0
@@ -109,7 +109,8 @@ HasShownMessage stands step log None old new rows = rows ≡ []
 HasShownMessage stands step log (Some rpc) old new rows =
     let k = (envelope rpc).to.0 in
     OneOf (takes_at log rpc (server_at k old))
-    (HasShownBy stands log (acts step (Receive rpc)) (server_at k old) (server_at k new) rows) (rows ≡ [])
+    (HasShownBy stands log (acts step (Receive rpc)) (server_at k old) (server_at k new) rows)
+    (ShowsNothing (server_at k old) (server_at k new) rows)
 
 -- all members but the message's receiver are as they were
 abbrev pub ReachesOne : {Q L : Type 0} → Option Rpc → Group Q L → Group Q L → Type 0
@@ -127,9 +128,9 @@ abbrev pub notice_outcome : {Q L : Type 0} → Bool → Option (Server Q L) → 
 notice_outcome lacks None = Down
 notice_outcome lacks (Some s) = if lacks then NoSuch else Done
 
--- a notice that isn't taken shows no rows
+-- a notice that isn't taken changes nothing and shows no rows
 abbrev pub HasShownNotice :
     {P Q L : Type 0} → (P → Q → Type 0) → (P → Index → Entry → Applied P) → (L → LogState) → ℕ → Bool
     → Option (Server Q L) → Option (Server Q L) → List AppliedRow → Type 0
 HasShownNotice stands step log op lacks old new rows =
-    OneOf lacks (rows ≡ []) (HasShownBy stands log (acts step (Notice op)) old new rows)
+    OneOf lacks (ShowsNothing old new rows) (HasShownBy stands log (acts step (Notice op)) old new rows)

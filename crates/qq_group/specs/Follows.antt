@@ -3,6 +3,7 @@ use Rattle.std.specs.Prelude.{◌≡◌, ℕ, List, [], Option, Some, None, slic
 use Rattle.qq_base.specs.Fronts.{IsFront}
 use Rattle.qq_log.specs.Log.{LogState}
 use Rattle.qq_raft_step.specs.Server.{Input}
+use Rattle.qq_raft.specs.Raft.{server_of}
 use Rattle.qq_server.specs.Stands.{state_of}
 use Rattle.qq_server.specs.Step.{ServerState}
 use Rattle.qq_server.specs.declared.row.AppliedRow.{AppliedRow}
@@ -27,12 +28,14 @@ Feeds log k input old new =
 
 -- ---- the servers with their queues
 
--- a server behind a step, with its queue, and the rows that it has shown
-pub record Shows {P Q L : Type 0} (stands : P → Q → Type 0) (made : ServerState P) (server : Server Q L)
-    (rows : List AppliedRow) : Type 0 where
+-- a server behind a step, whose messages and rows were handed out, with its queue, and the rows that it has shown
+pub record Shows {P Q L : Type 0} (stands : P → Q → Type 0) (log : L → LogState) (made : ServerState P)
+    (server : Server Q L) (rows : List AppliedRow) : Type 0 where
+  pub raft : server_of log server.raft ≡ record made.raft { out = [] }
   pub queue : stands made.queue server.machine
   pub applied : server.applied ≡ made.applied
   pub rows_are : rows ≡ made.rows
+  pub none : server.rows.items ≡ []
 
 -- a server has made this step, and shown the rows of it, whichever state of the queue its machine stood for
 abbrev pub HasShown :
@@ -40,14 +43,24 @@ abbrev pub HasShown :
     → Option (Server Q L) → List AppliedRow → Type 0
 HasShown stands log f old None rows = ⊥
 HasShown {P} stands log f old (Some new) rows =
-    (queue : P) → stands queue old.machine → Shows stands (f (state_of log queue old)) new rows
+    (queue : P) → stands queue old.machine → Shows stands log (f (state_of log queue old)) new rows
 
--- where a member is down nothing is shown
+-- a member is as it was, and shows nothing
+abbrev pub ShowsNothing : {Q L : Type 0} → Option (Server Q L) → Option (Server Q L) → List AppliedRow → Type 0
+ShowsNothing old new rows = (new ≡ old) × (rows ≡ [])
+
+-- a member that is down shows nothing
 abbrev pub HasShownBy :
     {P Q L : Type 0} → (P → Q → Type 0) → (L → LogState) → (ServerState P → ServerState P) → Option (Server Q L)
     → Option (Server Q L) → List AppliedRow → Type 0
-HasShownBy stands log f None new rows = rows ≡ []
+HasShownBy stands log f None new rows = ShowsNothing None new rows
 HasShownBy stands log f (Some old) new rows = HasShown stands log f old new rows
+
+-- an op that leaves a server leaves its queue as it was, and nothing was applied
+abbrev pub KeepsQueue : {Q L : Type 0} → Option (Server Q L) → Option (Server Q L) → Type 0
+KeepsQueue None new = new ≡ None
+KeepsQueue (Some old) None = ⊥
+KeepsQueue (Some old) (Some new) = new ≡ record old { raft = new.raft }
 
 -- all members but one are as they were
 abbrev pub OthersStay : {Q L : Type 0} → ℕ → Group Q L → Group Q L → Type 0

@@ -3,6 +3,7 @@ pub mod Follows
 pub mod Group
 pub mod Handing
 pub mod Input
+pub mod Opening
 pub mod Reads
 pub mod Restarts
 pub mod Step

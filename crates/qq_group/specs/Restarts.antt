@@ -1,4 +1,4 @@
--- New groups, and members that restart.
+-- Members that restart.
 use Rattle.std.specs.Prelude.{◌≡◌, ◌+◌, ◌≤◌, ⊤, ℕ, Bool, true, false, List, [], length, take, All, Option, Some, None, slice_get}
 use Rattle.qq_base.specs.declared.ids.NodeId.{NodeId}
 use Rattle.qq_base.specs.declared.ids.QueueId.{QueueId}
@@ -20,39 +20,6 @@ use Rattle.qq_history.specs.declared.history.History.{History}
 use Rattle.qq_group.specs.declared.restart.RestartFault.{RestartFault}
 use Rattle.qq_group.specs.declared.restart.RestartFault.TheVariants.{Lost, Memory}
 use Rattle.qq_group.specs.declared.seat.Seat.{Seat}
-
--- ---- new groups
-
-pub record IsEmpty {Q L : Type 0} (known : Bool) (seat : Seat Q L) : Type 0 where
-  pub server : seat.server ≡ None
-  pub known_is : seat.known ≡ known
-  pub noticed : seat.noticed ≡ 0
-  pub handed : seat.handed ≡ 0
-  pub start : stable_of seat.history.start ≡ new_state
-  pub ops : ops_of seat.history ≡ []
-  pub returned : seat.returned ≡ None
-
-pub record AreEmpty {Q L : Type 0} (known : Bool) (seats : List (Seat Q L)) : Type 0 where
-  pub each : All (IsEmpty known) seats
-  pub count : length seats ≡ NODE_LIMIT + 1
-
-pub record IsOpened {Q L : Type 0} (queue : QueueId) (nodes : List NodeId) (audit : List Entry) (known : Bool)
-    (group : Group Q L) : Type 0 where
-  pub queue_is : group.queue ≡ queue
-  pub nodes_is : group.nodes.items ≡ nodes
-  pub seats : AreEmpty known group.seats.items
-  pub bag : group.bag ≡ []
-  pub audit_is : group.audit.items ≡ audit
-
--- all members are down, and nothing is on its way
-pub record IsAllDown (queue : QueueId) (nodes : List NodeId) (audit : List Entry) (g : GroupState) : Type 0 where
-  pub queue_is : g.queue ≡ queue
-  pub nodes_is : g.nodes ≡ nodes
-  pub seats : (k : ℕ) → (g.seat k).server ≡ None
-  pub bag : g.bag ≡ []
-  pub audit_is : g.audit ≡ audit
-
--- ---- restarts
 
 -- what the ops of a member's log come to up to one that isn't older than what was noticed
 pub record IsFound (g : GroupState) (k : ℕ) (l : LogState) : Type 0 where

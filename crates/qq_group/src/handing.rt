@@ -3,7 +3,7 @@ ghost use Rattle.std.specs.Prelude.{◌≡◌, ◌<◌, None, Some, length, slic
 ghost use Rattle.std.specs.Bool.{Decides};
 ghost use Rattle.qq_log.specs.Writable.{MayWrite};
 ghost use Rattle.qq_group_model.specs.Group.{happens, Event as GroupEvent};
-ghost use Rattle.qq_group.specs.Follows.{Follows, Makes, OthersStay};
+ghost use Rattle.qq_group.specs.Follows.{Follows, KeepsQueue, Makes, OthersStay};
 ghost use Rattle.qq_group.specs.Group.{IsReturned, IsServing, IsSound, server_at};
 ghost use Rattle.qq_group.specs.Handing.{given_back, hands, has_returned, next_at, next_by, returned_at, takes_back, ChangesOnly, IsHandedOver, IsLastOf, IsReseated, KeepsReturned, Refills, StaysAt};
 
@@ -118,12 +118,16 @@ impl<Q: Queue, L: LogView> Group<Q, L> {
         ensures sound { IsSound Q.stands L.log Q.applied self.new }
         ensures nodes { self.new.nodes ≡ self.old.nodes }
         ensures may { IfOk result (λ next. IfSome next MayWrite) }
-        ensures value { IfOk result (λ next. next ≡ next_by L.log None (server_at node.0 self.old)) }
+        ensures value { IfOk result (λ next.
+            next ≡ next_by L.log None (server_at node.0 self.old)) }
         ensures made { OnOk result (Follows L.log (happens (GroupEvent.Take node.0))
             self.old self.new) }
         ensures err { OnErr result (Makes L.log (happens (GroupEvent.Crash node.0))
             self.old self.new) }
         ensures want { IsOkUnless result Memory.Want }
+        ensures queue { OnOk result (KeepsQueue (server_at node.0 self.old)
+            (server_at node.0 self.new)) }
+        ensures audit { self.new.audit ≡ self.old.audit }
         ensures others { OthersStay node.0 self.old self.new }
         ensures returned { KeepsReturned self.old self.new }
     {
@@ -160,6 +164,9 @@ impl<Q: Queue, L: LogView> Group<Q, L> {
         ensures err { OnErr result (Makes L.log (happens (GroupEvent.Crash node.0))
             self.old self.new) }
         ensures want { IsOkUnless result Memory.Want }
+        ensures queue { OnOk result (KeepsQueue (server_at node.0 self.old)
+            (server_at node.0 self.new)) }
+        ensures audit { self.new.audit ≡ self.old.audit }
         ensures others { OthersStay node.0 self.old self.new }
         ensures left { IfOk result (λ next. IfSome next (λ _.
             returned_at (slice_get self.new.seats.items node.0) ≡ None)) }

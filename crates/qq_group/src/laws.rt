@@ -4,6 +4,8 @@ ghost use Rattle.qq_base.specs.Fronts.{IsFront};
 ghost use Rattle.qq_base.specs.declared.ids.NodeId.{NodeId};
 ghost use Rattle.qq_base.specs.declared.ids.QueueId.{QueueId};
 ghost use Rattle.qq_entry.specs.declared.command.Command.{Command};
+ghost use Rattle.qq_entry.specs.declared.command.Entry.{Entry};
+ghost use Rattle.std.specs.List.{AllByRecursion};
 ghost use Rattle.qq_raft.specs.Raft.{server_of};
 ghost use Rattle.qq_raft_step.specs.Server.{is_ready};
 ghost use Rattle.qq_raft_step.specs.State.{last};
@@ -14,6 +16,7 @@ ghost use Rattle.qq_server.specs.declared.server.Server.{Server};
 ghost use Rattle.qq_group_model.specs.Group.{Event, Group as GroupState, group_after, happens, new_group};
 ghost use Rattle.qq_group_model.specs.Promises.{AreDistinct, IsLeft, members_of};
 ghost use Rattle.qq_group.specs.Group.{IsReached, Represents, server_at};
+ghost use Rattle.qq_group.specs.Opening.{AreApart, AreFound, IsAllDown, MayBeFoundBy, Start};
 ghost use Rattle.qq_group.specs.Reads.{is_idle, IsIdle};
 ghost use Rattle.qq_group.specs.declared.group.Group.{Group};
 
@@ -99,3 +102,12 @@ pub fn an_idle_group_has_nothing_open<Q: Queue, L: LogView>()
 {
     a_log_was_handed_the_changes_of_its_server();
 }
+
+/// A law: whatever logs the members of a group start with, there are ops that come to them, so that a group
+/// that is opened over them stands for a state.
+pub fn logs_may_be_found<Q: Queue, L: LogView>()
+    ensures { (queue : QueueId) (nodes : List NodeId) (audit : List Entry)
+        (starts : List (Start Q L)) → AreApart starts →
+        AllByRecursion (λ (s : Start Q L). MayBeFoundBy L.log s.1) starts →
+        (g : GroupState) × IsAllDown queue nodes audit g × AreFound L.log g starts }
+{}

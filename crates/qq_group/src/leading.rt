@@ -1,5 +1,5 @@
 //! Which member leads.
-ghost use Rattle.std.specs.Prelude.{◌≡◌};
+ghost use Rattle.std.specs.Prelude.{◌≡◌, is_none};
 ghost use Rattle.std.specs.Option.{option_copied};
 ghost use Rattle.qq_group.specs.Group.{IsSound, server_at};
 ghost use Rattle.qq_group.specs.Reads.{later, leader_of, leading_at, machine_of};
@@ -70,12 +70,13 @@ impl<Q: Queue, L: LogView> Group<Q, L> {
         }
     }
 
-    /// The queue of the member that leads and may take commands, whose counts are the group's. None where
-    /// there is no such member.
+    /// The queue of the member that leads and may take commands, whose counts are the group's. None exactly
+    /// where `leader` is.
     pub fn leading_machine(&self) -> Option<&Q>
         requires { IsSound Q.stands L.log Q.applied self.now }
 
-        ensures { option_copied result ≡ machine_of (leader_of L.log self.now) self.now }
+        ensures value { option_copied result ≡ machine_of (leader_of L.log self.now) self.now }
+        ensures none { is_none result ≡ is_none (leader_of L.log self.now) }
     {
         match self.leader() {
             None => None,

@@ -1,23 +1,22 @@
-//! New groups, and members that restart.
+//! Members that restart.
 ghost use Rattle.std.specs.Prelude.{◌≡◌, ◌<◌, ◌^◌, All, None, length, true, IfOk, IfErr, OnOk, OnErr, IsOkUnless, slice_get};
 ghost use Rattle.std.specs.Bool.{Decides};
 ghost use Rattle.qq_log.specs.Stable.{no_snapshot};
 ghost use Rattle.qq_raft.specs.Raft.{IsWithinEnds};
 ghost use Rattle.qq_raft_msg.specs.Rpc.{IsNode};
-ghost use Rattle.qq_group_model.specs.Group.{has_node, new_group, Group as GroupState};
+ghost use Rattle.qq_group_model.specs.Group.{has_node};
 ghost use Rattle.qq_group.specs.Follows.{OthersStay};
-ghost use Rattle.qq_group.specs.Group.{HasState, IsServing, IsSound, Represents, server_at};
-ghost use Rattle.qq_group.specs.Restarts.{AreEmpty, disk_of, Finds, HasStarted, IsAllDown, IsIntactAt, IsStarted, noticed_at, IsOpened, IsRestartCaused, Restarts};
+ghost use Rattle.qq_group.specs.Group.{HasState, IsServing, IsSound, server_at};
+ghost use Rattle.qq_group.specs.Restarts.{disk_of, Finds, HasStarted, IsIntactAt, IsStarted, noticed_at, IsRestartCaused, Restarts};
 ghost use Rattle.qq_group.specs.declared.restart.RestartFault.TheVariants.{Lost};
 
 use crate::entries::copy_behind;
 use crate::group::Group;
 use crate::seat::Seat;
-use qq_base::{Memory, NodeId, QueueId};
-use qq_entry::{Entries, Entry};
+use qq_base::{Memory, NodeId};
+use qq_entry::Entries;
 use qq_history::{DiskState, History};
-use qq_log::NODE_LIMIT;
-use qq_raft_msg::{Bag, LogView, Queue};
+use qq_raft_msg::{LogView, Queue};
 use qq_server::Server;
 use std::alloc::Global;
 use thiserror::Error;
@@ -65,84 +64,7 @@ fn state_of<L: LogView>(alloc: Global, log: &L) -> Result<DiskState, Memory>
     })
 }
 
-/// A seat for each number of a node, all of them empty.
-fn empty_seats<Q: Queue, L: LogView>(alloc: Global, known: bool) -> Result<Vec<Seat<Q, L>>, Memory>
-    ensures empty { IfOk result (λ seats. AreEmpty known seats.items) }
-    ensures want { IsOkUnless result Memory.Want }
-{
-    let mut seats = Vec::new(alloc);
-    'seats: for _ in 0..NODE_LIMIT + 1 {
-        seats.push(Seat {
-            server: None,
-            known,
-            noticed: 0,
-            handed: 0,
-            history: History::from_state(alloc, DiskState::new(alloc)),
-            returned: None,
-        })?;
-    }
-    Ok(seats)
-}
-
 impl<Q: Queue, L: LogView> Group<Q, L> {
-    fn open(
-        alloc: Global,
-        queue: QueueId,
-        nodes: &[NodeId],
-        audit: Vec<Entry>,
-        known: bool,
-    ) -> Result<Self, Memory>
-        requires nodes { All IsNode nodes.now }
-        requires count { length nodes.now < 2 ^ 32 }
-
-        ensures sound { IfOk result (IsSound Q.stands L.log Q.applied) }
-        ensures ok { IfOk result (IsOpened queue nodes.now audit.items known) }
-        ensures want { IsOkUnless result Memory.Want }
-    {
-        let nodes = Vec::from_slice(alloc, nodes)?;
-        let seats = empty_seats(alloc, known)?;
-        Ok(Group {
-            queue,
-            nodes,
-            seats,
-            bag: Bag::new(alloc),
-            audit,
-        })
-    }
-
-    /// A group over new disks: all members are down, and nothing is on its way or committed. The only error
-    /// is `Memory::Want`, out of memory.
-    pub fn new(alloc: Global, queue: QueueId, nodes: &[NodeId]) -> Result<Self, Memory>
-        requires nodes { All IsNode nodes.now }
-        requires count { length nodes.now < 2 ^ 32 }
-
-        ensures sound { IfOk result (IsSound Q.stands L.log Q.applied) }
-        ensures ok { IfOk result (Represents L.log (new_group queue nodes.now)) }
-        ensures want { IsOkUnless result Memory.Want }
-    {
-        Group::open(alloc, queue, nodes, Vec::new(alloc), true)
-    }
-
-    /// A group goes on over old disks with the audit that it had: all members are down, nothing is on its
-    /// way, and what their logs hold is taken as found at the first restart of each. The only error is
-    /// `Memory::Want`, out of memory.
-    pub fn resume(
-        alloc: Global,
-        queue: QueueId,
-        nodes: &[NodeId],
-        audit: Entries,
-    ) -> Result<Self, Memory>
-        requires nodes { All IsNode nodes.now }
-        requires count { length nodes.now < 2 ^ 32 }
-
-        ensures sound { IfOk result (IsSound Q.stands L.log Q.applied) }
-        ensures ok { IfOk result (λ group. (g : GroupState) → IsAllDown queue nodes.now audit g →
-            Represents L.log g group) }
-        ensures want { IsOkUnless result Memory.Want }
-    {
-        Group::open(alloc, queue, nodes, audit.into_vec(), false)
-    }
-
     /// Puts a server that starts with what its log holds into its seat.
     fn start(&mut self, alloc: Global, node: NodeId, found: DiskState, server: Server<Q, L>)
         requires sound { IsSound Q.stands L.log Q.applied self.old }
@@ -190,6 +112,7 @@ impl<Q: Queue, L: LogView> Group<Q, L> {
         ensures nodes { self.new.nodes ≡ self.old.nodes }
         ensures ok { OnOk result (Restarts L.log node.0 (L.log log) self.old self.new) }
         ensures started { OnOk result (HasStarted Q.stands machine (server_at node.0 self.new)) }
+        ensures audit { self.new.audit ≡ self.old.audit }
         ensures others { OthersStay node.0 self.old self.new }
         ensures found { OnOk result (Finds L.log node.0 (L.log log) self.old) }
         ensures err { OnErr result (self.new ≡ self.old) }

@@ -67,7 +67,12 @@ impl<Q: Drop, L: LogView> Seat<Q, L> {
         ensures ok { IfOk result (λ intact. Decides intact (IsIntact self.now found.now)) }
         ensures want { IsOkUnless result Memory.Want }
     {
-        if found.op < self.noticed || self.handed < found.op {
+        let lacks_noticed = found.op < self.noticed;
+        if lacks_noticed {
+            return Ok(false);
+        }
+        let passes_handed = self.handed < found.op;
+        if passes_handed {
             return Ok(false);
         }
         match self.history.state_at(alloc, found.op)? {

@@ -1,4 +1,6 @@
-use Rattle.qq_group.proofs.Returning.{handed-returned, reseated-returned, stays-returned, taken-returned}
+use Rattle.std.proofs.Common.{ap, ◌∙◌}
+use Rattle.qq_group.specs.declared.group.Group.{Group}
+use Rattle.qq_group.proofs.Returning.{handed-queue, handed-returned, keeps-down, reseated-queue, reseated-returned, stays-returned, taken-returned}
 use Rattle.qq_group.proofs.Stepped.{taken-crashes, taken-others}
 use Rattle.qq_group.proofs.Taking.{down-hands, handed-none, handed-one, handed-others, reseated-others, stays-makes, stays-others}
 use Rattle.qq_group.proofs.group.Group.next_change.Goals as goal
@@ -58,3 +60,31 @@ returns-in-Err-clause-returned g c =
     stays-returned c.args.node.0 c.args.self.now c.take_server.new.self c.hand_over.new.self
     (taken-returned c.args.node.0 c.in-Some.server c.args.self.now c.take_server.new.self c.in-Some.ensures.taken)
     c.in-Err.ensures.err
+
+pub returns-in_default-clause-queue : goal.returns-in_default-clause-queue
+returns-in_default-clause-queue g c =
+    keeps-down c.args.node.0 c.args.self.now c.take_server.new.self c.in_default.ensures.none.0
+    c.in_default.ensures.none.1
+
+pub returns-in-None-clause-queue : goal.returns-in-None-clause-queue
+returns-in-None-clause-queue g c =
+    reseated-queue c.args.node.0 c.in-Some.server c.next_op.new.self c.args.self.now c.take_server.new.self
+    c.reseat.new.self c.in-Some.ensures.taken c.reseat.ensures.put c.in-None.ensures.same
+
+pub returns-in-Ok-clause-queue : goal.returns-in-Ok-clause-queue
+returns-in-Ok-clause-queue g c =
+    handed-queue c.args.node.0 c.in-Some.server c.next_op.new.self c.in-Some-next_op.op c.args.self.now
+    c.take_server.new.self c.hand_over.new.self c.in-Some.ensures.taken c.in-Ok.ensures.ok
+    c.in-Some-next_op.ensures.same
+
+pub returns-in_default-clause-audit : goal.returns-in_default-clause-audit
+returns-in_default-clause-audit g c = ap (λ (x : Group _ _). x.audit) c.in_default.ensures.none.0
+
+pub returns-in-None-clause-audit : goal.returns-in-None-clause-audit
+returns-in-None-clause-audit g c = c.reseat.ensures.put.audit ∙ c.in-Some.ensures.taken.audit
+
+pub returns-in-Ok-clause-audit : goal.returns-in-Ok-clause-audit
+returns-in-Ok-clause-audit g c = c.in-Ok.ensures.ok.audit ∙ c.in-Some.ensures.taken.audit
+
+pub returns-in-Err-clause-audit : goal.returns-in-Err-clause-audit
+returns-in-Err-clause-audit g c = c.in-Err.ensures.err.only.audit ∙ c.in-Some.ensures.taken.audit

@@ -6,7 +6,7 @@ use Rattle.qq_history.specs.declared.state.DiskState.{DiskState}
 use Rattle.qq_raft.specs.Raft.{lane_of}
 use Rattle.qq_raft_step.specs.Server.{restart}
 use Rattle.qq_group.specs.Restarts.{IsIntactAt, IsRestartCaused, IsStarted}
-use Rattle.qq_group.proofs.Opening.{finds, has-started, loses, restarts, started-others}
+use Rattle.qq_group.proofs.Restarting.{finds, has-started, loses, restarts, started-others}
 use Rattle.qq_group.proofs.group.Group.restart.Goals as goal
 
 pub returns-in-Ok-false-clause-cause : goal.returns-in-Ok-false-clause-cause

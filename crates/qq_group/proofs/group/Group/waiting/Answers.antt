@@ -4,7 +4,7 @@ use Rattle.std.proofs.lemmas.Result.{IfOk-weaker, on_ok_weaker}
 use Rattle.qq_log.specs.declared.op.Op.{Op}
 use Rattle.qq_group.specs.Group.{server_by}
 use Rattle.qq_group.specs.Handing.{has_returned, next_at, next_by, returned_at}
-use Rattle.qq_group.proofs.Returning.{any-some, left-after, left-none, none-returned, there-of}
+use Rattle.qq_group.proofs.Returning.{any-some, left-after, left-none, none-returned, refilled-queue, there-of}
 use Rattle.qq_group.proofs.Taking.{again-handed, first-handed, returned-next, server-next}
 use Rattle.qq_group.proofs.group.Group.waiting.Goals as goal
 
@@ -55,3 +55,10 @@ returns-clause-left g c =
     (λ next is. left-after next (next_by log None (server_by seat)) (returned_at seat) after is
     (c.next_change.ensures.returned c.args.node.0) (left-none log seat (sym c.if-has_returned.ensures)))
     c.next_change.ensures.value
+
+pub returns-then-has_returned-clause-queue : goal.returns-then-has_returned-clause-queue
+returns-then-has_returned-clause-queue g c =
+    refilled-queue c.args.node.0 None c.args.self.now c.refill.new.self c.refill.ensures.refills
+
+pub returns-then-has_returned-clause-audit : goal.returns-then-has_returned-clause-audit
+returns-then-has_returned-clause-audit g c = c.refill.ensures.refills.only.audit

@@ -1,4 +1,4 @@
--- New groups, and what a restart makes of the states that a group stands for.
+-- What a restart makes of the states that a group stands for, and groups without servers.
 use Rattle.std.proofs.Common.{◌≡◌, ℕ, ◌≤◌, ◌&&◌, Bool, true, false, leb, List, [], length, take, Option, Some, None, refl, sym, ap, subst, ◌∙◌, arith, inl, inr}
 use Rattle.std.specs.Bool.{Decides}
 use Rattle.std.specs.Prelude.{slice_get}
@@ -18,80 +18,71 @@ use Rattle.qq_raft_step.specs.Handing.{plain_state}
 use Rattle.qq_raft_step.specs.Server.{restart}
 use Rattle.qq_raft_step.specs.State.{Server as Raft}
 use Rattle.qq_server.specs.declared.server.Server.{Server}
-use Rattle.qq_group_model.specs.Group.{Group as GroupState, Seat as SeatState, happens, has_node, is_down, lane_with, may_restart, new_group, restart_by}
+use Rattle.qq_group_model.specs.Group.{Group as GroupState, Seat as SeatState, happens, has_node, is_down, lane_with, may_restart, restart_by}
 use Rattle.qq_group_model.specs.Group.Event.{Restart}
 use Rattle.qq_server.specs.Stands.{StandsFor}
 use Rattle.qq_server.specs.Step.{new_state}
 use Rattle.qq_group.specs.Follows.{OthersStay}
 use Rattle.qq_group.specs.Group.{IsSeat, IsSeatBy, IsServed, HasReturned, IsReturned, KnowsLog, Represents, server_at, server_by}
-use Rattle.qq_group.specs.Restarts.{AreEmpty, Finds, HasStarted, IsAllDown, IsEmpty, IsFound, IsIntactAt, IsLost, IsOpened, IsStarted, Restarts, disk_of, is_known, started_seat}
+use Rattle.qq_group.specs.Opening.{AreEmpty, IsAllDown, IsEmpty, IsFresh, IsOpened, OpensOver, Start, Starts}
+use Rattle.qq_group.specs.Restarts.{Finds, HasStarted, IsFound, IsIntactAt, IsLost, IsStarted, Restarts, disk_of, is_known, started_seat}
 use Rattle.qq_group.specs.Step.{ChangesSeat}
 use Rattle.qq_group.specs.declared.group.Group.{Group}
 use Rattle.qq_history.specs.declared.state.DiskState.{DiskState}
 use Rattle.qq_group.specs.declared.seat.Seat.{Seat}
-use Rattle.qq_history.proofs.Histories.{history-at, history-empty, history-new}
+use Rattle.qq_history.proofs.Histories.{history-at, history-new}
 use Rattle.qq_group.proofs.Stepped.{changed-other, changed-own, is-down, represents-put}
 
--- ---- new groups
+-- ---- groups without servers
 
-pub each-seat : {Q L : Type 0} (known : Bool) (xs : List (Seat Q L)) (P : Option (Seat Q L) → Type 0)
-    → AreEmpty known xs → P None → ((s : Seat Q L) → IsEmpty known s → P (Some s)) → (k : ℕ) → P (slice_get xs k)
-each-seat {Q = Q} {L = L} known xs P all none some k =
+each-seat : {Q L : Type 0} (xs : List (Seat Q L)) (P : Option (Seat Q L) → Type 0) → AreEmpty xs → P None
+    → ((s : Seat Q L) → IsEmpty s → P (Some s)) → (k : ℕ) → P (slice_get xs k)
+each-seat {Q = Q} {L = L} xs P all none some k =
     elim (slice_get_cases xs k).1 [
       | inl found ↦ subst P (sym found.2)
-          (some found.0 (subst (IsEmpty known) found.3 (All-get_or (IsEmpty known) xs k found.0 found.1 all.each)))
+          (some found.0 (subst IsEmpty found.3 (All-get_or IsEmpty xs k found.0 found.1 all.each)))
       | inr beyond ↦ subst P (sym beyond.1) none
     ]
 
-pub empty-served : {P Q L : Type 0} (stands : P → Q → Type 0) (log : L → LogState) (index_of : Q → ℕ) (known : Bool)
-    (xs : List (Seat Q L)) → AreEmpty known xs → (k : ℕ) → IsServed stands log index_of (server_by (slice_get xs k))
-empty-served stands log index_of known xs all =
-    each-seat known xs (λ o. IsServed stands log index_of (server_by o)) all tt
+pub empty-served : {P Q L : Type 0} (stands : P → Q → Type 0) (log : L → LogState) (index_of : Q → ℕ)
+    (xs : List (Seat Q L)) → AreEmpty xs → (k : ℕ) → IsServed stands log index_of (server_by (slice_get xs k))
+empty-served stands log index_of xs all =
+    each-seat xs (λ o. IsServed stands log index_of (server_by o)) all tt
     (λ s e. subst (IsServed stands log index_of) (sym e.server) tt)
 
-pub empty-returned : {Q L : Type 0} (known : Bool) (xs : List (Seat Q L)) → AreEmpty known xs → (k : ℕ)
-    → HasReturned (slice_get xs k)
-empty-returned known xs all =
-    each-seat known xs (λ o. HasReturned o) all tt (λ s e. subst IsReturned (sym e.returned) tt)
+pub empty-returned : {Q L : Type 0} (xs : List (Seat Q L)) → AreEmpty xs → (k : ℕ) → HasReturned (slice_get xs k)
+empty-returned xs all =
+    each-seat xs (λ o. HasReturned o) all tt (λ s e. subst IsReturned (sym e.returned) tt)
 
-empty-numbers : {Q L : Type 0} (log : L → LogState) (known : Bool) (state : SeatState) (s : Seat Q L)
-    → IsEmpty known s → state.server ≡ None → (known ≡ true → (state.noticed ≡ 0) × (length state.ops ≡ 0))
-    → IsSeatBy log state s s.server
-empty-numbers log known state s e down zeros =
-    subst (IsSeatBy log state s) (sym e.server) (
-      down,
-      λ is.
-          record {
-            noticed = (zeros (sym e.known_is ∙ is)).0 ∙ sym e.noticed;
-            handed = (zeros (sym e.known_is ∙ is)).1 ∙ sym e.handed;
-            history = history-empty state.ops state.noticed s.history (zeros (sym e.known_is ∙ is)).1 e.start e.ops;
-          },
-    )
+empty-seat : {Q L : Type 0} (log : L → LogState) (state : SeatState) (s : Seat Q L) → IsEmpty s
+    → state.server ≡ None → IsSeatBy log state s s.server
+empty-seat log state s e down =
+    subst (IsSeatBy log state s) (sym e.server) (down, λ known. absurd (false≢true (sym e.unknown ∙ known)))
 
-pub opened : {Q L : Type 0} (log : L → LogState) (queue : QueueId) (nodes : List NodeId) (audit : List Entry)
-    (known : Bool) (g : GroupState) (group : Group Q L) → IsOpened queue nodes audit known group
-    → IsAllDown queue nodes audit g
-    → ((k : ℕ) → known ≡ true → ((g.seat k).noticed ≡ 0) × (length (g.seat k).ops ≡ 0)) → Represents log g group
-opened log queue nodes audit known g group o down zeros = record {
+opened : {Q L : Type 0} (log : L → LogState) (queue : QueueId) (nodes : List NodeId) (audit : List Entry)
+    (g : GroupState) (group : Group Q L) → IsOpened queue nodes audit group → IsAllDown queue nodes audit g
+    → Represents log g group
+opened log queue nodes audit g group o down = record {
   queue = down.queue_is ∙ sym o.queue_is;
   nodes = down.nodes_is ∙ sym o.nodes_is;
   bag = down.bag ∙ sym o.bag;
   audit = down.audit_is ∙ sym o.audit_is;
-  seats = λ k. each-seat known group.seats.items (IsSeat log (g.seat k)) o.seats (down.seats k)
-      (λ s e. empty-numbers log known (g.seat k) s e (down.seats k) (zeros k)) k;
+  seats = λ k. each-seat group.seats.items (IsSeat log (g.seat k)) o.seats (down.seats k)
+      (λ s e. empty-seat log (g.seat k) s e (down.seats k)) k;
 }
 
-pub opened-new : {Q L : Type 0} (log : L → LogState) (queue : QueueId) (nodes : List NodeId) (group : Group Q L)
-    → IsOpened queue nodes [] true group → Represents log (new_group queue nodes) group
-opened-new log queue nodes group o =
-    opened log queue nodes [] true (new_group queue nodes) group o
-    (record { queue_is = refl; nodes_is = refl; seats = λ k. refl; bag = refl; audit_is = refl }) (λ k is. (refl, refl))
+pub opened-fresh : {Q L : Type 0} (queue : QueueId) (nodes : List NodeId) (audit : List Entry) (group : Group Q L)
+    → IsOpened queue nodes audit group → (k : ℕ) → IsFresh group k
+opened-fresh queue nodes audit group o k = (
+  each-seat group.seats.items (λ seat. server_by seat ≡ None) o.seats refl (λ s e. e.server) k,
+  each-seat group.seats.items (λ seat. is_known seat ≡ false) o.seats refl (λ s e. e.unknown) k,
+)
 
-pub opened-old : {Q L : Type 0} (log : L → LogState) (queue : QueueId) (nodes : List NodeId) (audit : List Entry)
-    (group : Group Q L) → IsOpened queue nodes audit false group → (g : GroupState)
-    → IsAllDown queue nodes audit g → Represents log g group
-opened-old log queue nodes audit group o g down =
-    opened log queue nodes audit false g group o down (λ k is. absurd (false≢true is))
+pub opens-over : {Q L : Type 0} (log : L → LogState) (queue : QueueId) (nodes : List NodeId) (audit : List Entry)
+    (starts : List (Start Q L)) (first group : Group Q L) → IsOpened queue nodes audit first
+    → Starts log starts first group → OpensOver log queue nodes audit starts group
+opens-over log queue nodes audit starts first group o made = λ g down found.
+    made g (opened log queue nodes audit g first o down) found
 
 -- ---- restarts
 
