@@ -24,6 +24,7 @@ use Rattle.qq_node_laws.specs.Serves.{Seen, Serves}
 use Rattle.qq_program.specs.declared.stop.AskStop.{AskStop}
 use Rattle.qq_program.specs.declared.stop.AskStop.TheVariants.{Ended, NoMemory}
 use Rattle.qq_program.specs.Answers.{IsPlain}
+use Rattle.qq_program.specs.Endings.{lost}
 use Rattle.qq_program.specs.Runs.{MayNotOpen}
 use Rattle.qq_program.specs.Service.{HasOpened, HasServed, HasServeCause}
 use Rattle.qq_program.specs.Troubles.{Trouble, YardFails, DiskFails, DiskIsSilent, FilesBreak, AtPlace, OfVersion}
@@ -55,21 +56,30 @@ module _ {D : Type 0} (tells : D → Bool) (past : D → List Disk) (faults : D 
   meets-earlier first le DiskIsSilent met = met
   meets-earlier first le (FilesBreak setup damage) met = met
 
-  pub may-not-open : (disk left : D) (fault : OpenFault) → (IsTrue (tells disk) → IsNew (past disk))
-      → tells left ≡ tells disk → IsOpenCaused (tells disk) (faults disk) (faults left) fault
-      → MayNotOpen (Meets tells past faults before after) (open_ending fault)
-  may-not-open disk left open_fault.Disk fresh told cause =
-      inr (inl (
-        inr (inl (record { disk = disk; left = left; fresh = fresh; told = told; rose = cause })),
-        refl,
-      ))
-  may-not-open disk left (open_fault.Damaged file place) fresh told cause =
+  pub may-not-open : (s : Setup) (disk left : D) (fault : OpenFault) → (IsTrue (tells disk) → IsNew (past disk))
+      → tells left ≡ tells disk
+      → IsOpenCaused (node_setup s.queues) (tells disk) (faults disk) (faults left) fault
+      → MayNotOpen (Meets tells past faults before after) s (open_ending fault)
+  may-not-open s disk left open_fault.Disk fresh told cause =
+      inr (inl (inr (record { disk = disk; left = left; fresh = fresh; told = told; rose = cause }), refl))
+  may-not-open s disk left (open_fault.Damaged file place) fresh told cause =
       inr (inr (inl (AtPlace file.number place, record { disk = disk; is = cause }, refl)))
-  may-not-open disk left (open_fault.Version file byte) fresh told cause =
+  may-not-open s disk left (open_fault.Version file byte) fresh told cause =
       inr (inr (inl (OfVersion file.number byte, record { disk = disk; is = cause }, refl)))
-  may-not-open disk left open_fault.NotEmpty fresh told cause = inr (inl (inr (inr (record { disk = disk; is = cause })), refl))
-  may-not-open disk left (open_fault.Memory Want) fresh told cause = inl refl
-  may-not-open disk left (open_fault.Memory (Spent number)) fresh told cause = inr (inr (inr (number, cause, refl)))
+  may-not-open s disk left (open_fault.Lost name noticed found) fresh told (silent, so) =
+      inr (inr (inr (inl (
+        record { disk = disk; is = silent },
+        record {
+          place = so.place;
+          among = so.among;
+          found = found;
+          is = ap (λ (l : List ℕ). lost l noticed found) so.name_is
+              ∙ ap (λ (k : ℕ). lost ((node_setup s.queues).name so.place) k found) so.noticed_is;
+        },
+      ))))
+  may-not-open s disk left (open_fault.Memory Want) fresh told cause = inl refl
+  may-not-open s disk left (open_fault.Memory (Spent number)) fresh told cause =
+      inr (inr (inr (inr (number, cause, refl))))
 
   pub restart-stops : (setup : NodeSetup) (n : Node) (node : Held D) (fault : RestartFault)
       → Stands tells past setup node n → IsRestartCaused setup n fault
@@ -104,6 +114,7 @@ module _ {D : Type 0} (tells : D → Bool) (past : D → List Disk) (faults : D 
         status_is = refl;
         lost = record {
           place = cause.place;
+          among = cause.among;
           lane = cause.lane;
           stopped = cause.stopped;
           lost = cause.lost;

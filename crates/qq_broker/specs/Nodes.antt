@@ -76,9 +76,9 @@ Meets tells past faults before after (FilesBreak setup damage) = IsBroken tells 
 -- whose node isn't opened
 abbrev pub open_ending : OpenFault → Ending
 open_ending open_fault.Disk = yard_fault
-open_ending open_fault.NotEmpty = yard_fault
 open_ending (open_fault.Damaged file place) = damaged file.number place
 open_ending (open_fault.Version file byte) = other_version file.number byte
+open_ending (open_fault.Lost name noticed found) = lost name noticed found
 open_ending (open_fault.Memory Want) = no_memory
 open_ending (open_fault.Memory (Spent number)) = spent number
 

@@ -37,6 +37,7 @@ pub fn ask<D: NodeDisk>(
             body,
         } => node.send(alloc, queue, session, body, text),
         Call::Resend { session } => node.resend(alloc, session, text),
+        Call::End { session } => node.end(alloc, session, text),
         Call::Mute { session, muted } => node.mute(alloc, session, muted),
         Call::Auto { auto } => {
             node.set_auto(auto);

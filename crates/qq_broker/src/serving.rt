@@ -39,15 +39,19 @@ fn memory_stop(memory: Memory) -> AskStop
     }
 }
 
-// How a run ends whose node isn't opened. A disk that isn't empty isn't what the yard should give.
+// How a run ends whose node isn't opened.
 fn open_ending(fault: OpenFault) -> Ending
     ensures { result ≡ open_ending fault }
 {
     match fault {
         OpenFault::Disk => Ending::yard_fault(),
-        OpenFault::NotEmpty => Ending::yard_fault(),
         OpenFault::Damaged { file, place } => Ending::damaged(file.number, place),
         OpenFault::Version { file, byte } => Ending::other_version(file.number, u64::from(byte)),
+        OpenFault::Lost {
+            name,
+            noticed,
+            found,
+        } => Ending::lost(name, noticed, found),
         OpenFault::Memory(Memory::Want) => Ending::no_memory(),
         OpenFault::Memory(Memory::Spent { number }) => Ending::spent(number),
     }
@@ -56,9 +60,8 @@ fn open_ending(fault: OpenFault) -> Ending
 /// Opens a node with the queues of a setup over a disk of the yard, and adds what that prints to `text`.
 ///
 /// - `ok`: it is opened, each queue's clock has ticked once, and a pump has followed.
-/// - `cause`: the yard has failed or the disk has, or the disk doesn't tell what it holds and isn't empty or
-///   its files break the rules; or there was no memory, or a number stands at its end. A disk that isn't empty
-///   counts as one that couldn't be had.
+/// - `cause`: the yard has failed or the disk has, or the disk doesn't tell what it holds, and its files break the
+///   rules or hold ops of a queue; or there was no memory, or a number stands at its end.
 pub fn open<Y: Yard>(
     alloc: Global,
     setup: &Setup,
@@ -70,7 +73,7 @@ pub fn open<Y: Yard>(
         (IsNodeOf Y.Disk.tells Y.Disk.past (node_setup setup.now.queues) node)
         text.old.items text.new.items) }
     ensures cause { IfErr result (MayNotOpen (Meets Y.Disk.tells Y.Disk.past Y.Disk.faults
-        (Y.faults yard.old) (Y.faults yard.new))) }
+        (Y.faults yard.old) (Y.faults yard.new)) setup.now) }
     ensures later { Y.faults yard.old ≤ Y.faults yard.new }
 {
     runs_have_queues_of_their_own();

@@ -8,12 +8,12 @@ use Rattle.qq_entry.specs.declared.command.Mode.TheVariants.{Prefetch, Link}
 use Rattle.qq_entry.specs.declared.command.Unstamped.TheVariants.{Get, Subscribe, Cancel, Credit, Settle, Return, Discard, Purge}
 use Rattle.qq_route.specs.declared.routes.Routes.{Routes}
 use Rattle.qq_defs.specs.Setup.{plain_row}
-use Rattle.qq_lines.specs.declared.fault.ScriptFault.TheVariants.{Unknown, Words, NoSuch}
+use Rattle.qq_lines.specs.declared.fault.ScriptFault.TheVariants.{Words, NoSuch}
 use Rattle.qq_lines.specs.Kinds.{kind_of}
 use Rattle.qq_lines.specs.Calls.{alone, one_session, one_queue, one_node, some_nodes, one_member, session_at, consumer_at, get, subscribe, credit, deliveries, crash, send}
 use Rattle.qq_lines.specs.Images.{image_of}
 use Rattle.qq_lines.specs.Lines.{read_plain, read}
-use Rattle.qq_world.specs.Rules.{Send, Mute, Auto, Notice, Crash}
+use Rattle.qq_world.specs.Rules.{Send, End, Mute, Auto, Notice, Crash}
 use Rattle.qq_calls.specs.Lines.{publish_to, line_of, read_line}
 use Rattle.qq_calls.specs.Examples.{two_queues}
 
@@ -93,6 +93,6 @@ pub is_purge : (routes : Routes) → read_line (two_queues routes) 1 (codes "pur
 unfolding is_utf8 chars encode_utf8 digits read_line line_of read read_plain kind_of one_session session_at consumer_at subscribe credit deliveries
 is_purge routes = refl
 
-pub is_end : (routes : Routes) → read_line (two_queues routes) 1 (codes "end 3") ≡ Err Unknown
+pub is_end : (routes : Routes) → read_line (two_queues routes) 1 (codes "end 3") ≡ Ok (End 3)
 unfolding is_utf8 chars encode_utf8 digits read_line line_of read read_plain kind_of one_session session_at consumer_at subscribe credit deliveries
 is_end routes = refl

@@ -41,7 +41,7 @@ use Rattle.qq_lines.specs.Lines.{is_nothing, publish_text, may_stand, text_in, p
 use Rattle.qq_lines.specs.Names.{named, numbered, behind_hash, row_of, row_at, node_of, is_member}
 use Rattle.qq_lines.specs.Numbers.{number_in, number_of, session_of, tag_of, consumer_of, id_of, with_first, all_ids, is_comma, ids_of, within, is_within}
 use Rattle.qq_lines.specs.Words.{◌>>=◌, or_fault, text_of, behind_four, words_of}
-use Rattle.qq_world.specs.Rules.{Line, Nothing, Send, Resend, Mute, Auto, Pump, Write, Sync, Notice, Tick, Crash, Restart, Show}
+use Rattle.qq_world.specs.Rules.{Line, Nothing, Send, Resend, End, Mute, Auto, Pump, Write, Sync, Notice, Tick, Crash, Restart, Show}
 use Rattle.qq_calls.specs.Named.{IsBody, IsNamed, HaveNames}
 use Rattle.qq_calls.specs.Lines.{of_consumer, line_of, publish_to, send_to, publish, send, send_by_name, at_line, read_line, ask_by, is_there, target_of}
 use Rattle.qq_calls.specs.Queues.{place_of}
@@ -298,6 +298,7 @@ Says s (lines.Return by at ids) = IsConsumerAt s by at × AreIds ids
 Says s (lines.Discard by at ids) = IsConsumerAt s by at × AreIds ids
 Says s (lines.Cancel by at) = IsConsumerAt s by at
 Says s (lines.Purge by at) = IsPlaceOf s.queues at.0 × (0 < by.number)
+Says s (lines.End by) = 0 < by.number
 Says s (lines.Mute by) = 0 < by.number
 Says s (lines.Unmute by) = 0 < by.number
 Says s (lines.Notice node at) = IsPlaceOf s.queues at.0
@@ -460,7 +461,8 @@ read_plain-said s plains.Purge words said is =
     bound _ (session_at s words) _ said is
     (λ p one last. plain-said s (lines.Purge p.0 p.1) said last (session-at-said s words p one))
 read_plain-said s plains.End words said is =
-    bound _ (one_session words) _ said is (λ by one last. plain-said s (lines.End by) said last tt)
+    bound _ (one_session words) _ said is
+    (λ by one last. plain-said s (lines.End by) said last (one-session-said words by one))
 read_plain-said s plains.Resend words said is =
     bound _ (one_session words) _ said is (λ by one last. plain-said s (lines.Resend by) said last tt)
 read_plain-said s plains.Mute words said is =
@@ -647,7 +649,7 @@ line-named s (lines.Cancel by at) asked names says is =
     consumed s by at (bodies.Cancel by.tag) asked says says.1.1 is
 line-named s (lines.Purge by at) asked names says is =
     same-line s.queues (Send at.0 by.number bodies.Purge) asked is (says.0, says.1, tt)
-line-named s (lines.End by) asked names says is = absurd (refused Unknown asked is)
+line-named s (lines.End by) asked names says is = same-line s.queues (End by.number) asked is says
 
 ask-named : (s : Setup) (line : List ℕ) (read' : Result ScriptLine ScriptFault) (asked : Line) → HaveNames s.queues
     → ((said : ScriptLine) → read' ≡ Ok said → Says s said) → ask_by s line read' ≡ Ok asked

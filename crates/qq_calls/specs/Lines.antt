@@ -12,7 +12,7 @@ use Rattle.qq_entry.specs.Message.{new_message}
 use Rattle.qq_defs.specs.declared.members.QueueRow.{QueueRow}
 use Rattle.qq_defs.specs.declared.setup.Setup.{Setup}
 use Rattle.qq_lines.specs.declared.fault.ScriptFault.{ScriptFault}
-use Rattle.qq_lines.specs.declared.fault.ScriptFault.TheVariants.{Unknown, NoSuch, Body}
+use Rattle.qq_lines.specs.declared.fault.ScriptFault.TheVariants.{NoSuch, Body}
 use Rattle.qq_lines.specs.declared.line.Place.{Place}
 use Rattle.qq_lines.specs.declared.line.ScriptLine.{ScriptLine}
 use Rattle.qq_lines.specs.declared.line.ScriptLine.TheVariants as lines
@@ -20,7 +20,7 @@ use Rattle.qq_lines.specs.Bodies.{limited}
 use Rattle.qq_lines.specs.Lines.{text_in, parse_line}
 use Rattle.qq_lines.specs.Names.{named}
 use Rattle.qq_lines.specs.Words.{◌>>=◌, or_fault, text_of, words_of}
-use Rattle.qq_world.specs.Rules.{Line, Nothing, Send, Resend, Mute, Auto, Pump, Write, Sync, Notice, Tick, Crash, Restart, Show}
+use Rattle.qq_world.specs.Rules.{Line, Nothing, Send, Resend, End, Mute, Auto, Pump, Write, Sync, Notice, Tick, Crash, Restart, Show}
 use Rattle.qq_calls.specs.Queues.{place_of}
 
 -- ---- messages
@@ -52,7 +52,7 @@ send rows session exchange key body =
 abbrev pub of_consumer : ConsumerId → QueueId → Unstamped → Line
 of_consumer by at body = Send at.0 by.session.number body
 
--- What a line asks of a node. That a session ends is unknown to it yet.
+-- what a line asks of a node
 unfoldable pub line_of : List QueueRow → ScriptLine → Result Line ScriptFault
 line_of rows lines.Nothing = Ok Nothing
 line_of rows (lines.Publish body) = publish rows body
@@ -79,7 +79,7 @@ line_of rows (lines.Return by at ids) = Ok (of_consumer by at (bodies.Return by.
 line_of rows (lines.Discard by at ids) = Ok (of_consumer by at (bodies.Discard by.tag ids))
 line_of rows (lines.Cancel by at) = Ok (of_consumer by at (bodies.Cancel by.tag))
 line_of rows (lines.Purge by at) = Ok (Send at.0 by.number bodies.Purge)
-line_of rows (lines.End by) = Err Unknown
+line_of rows (lines.End by) = Ok (End by.number)
 
 -- ---- bytes
 

@@ -7,7 +7,7 @@ use Rattle.qq_entry.specs.declared.command.Unstamped.TheVariants as bodies
 use Rattle.qq_entry.specs.declared.limits.TheConstants.{KEY_LIMIT}
 use Rattle.qq_entry.specs.Range.{IsContent, IsWhole, IsPositive, IsMode, AreIds}
 use Rattle.qq_defs.specs.declared.members.QueueRow.{QueueRow}
-use Rattle.qq_world.specs.Rules.{Line, Send, Mute, Notice, Tick, Show}
+use Rattle.qq_world.specs.Rules.{Line, Send, End, Mute, Notice, Tick, Show}
 
 -- a command in range: a message with its content, tags and ids from 1, and no number too great
 abbrev pub IsBody : Unstamped → Type 0
@@ -25,6 +25,7 @@ IsBody bodies.Purge = Unit {0}
 -- these places, sessions from 1, and bodies in range
 abbrev pub IsNamed : List ℕ → Line → Type 0
 IsNamed places (Send place session body) = Contains places place × (0 < session) × IsBody body
+IsNamed places (End session) = 0 < session
 IsNamed places (Mute session muted) = 0 < session
 IsNamed places (Notice place) = Contains places place
 IsNamed places (Tick place) = Contains places place

@@ -17,6 +17,10 @@ pub enum Call {
     Resend {
         session: u64,
     },
+    /// A session ends at every queue.
+    End {
+        session: u64,
+    },
     /// Answers to a session are lost from here on, or come again.
     Mute {
         session: u64,

@@ -9,8 +9,8 @@ ghost use Rattle.qq_entry.specs.Queue.{default_args};
 ghost use Rattle.qq_route.specs.declared.routes.Routes.{Routes};
 ghost use Rattle.qq_defs.specs.declared.setup.Setup.{Setup};
 ghost use Rattle.qq_defs.specs.Setup.{plain_row, plain_rows};
-ghost use Rattle.qq_lines.specs.declared.fault.ScriptFault.TheVariants.{Unknown, Words, Number, NoSuch, Body};
-ghost use Rattle.qq_world.specs.Rules.{Line, Send, Mute, Auto, Notice, Crash};
+ghost use Rattle.qq_lines.specs.declared.fault.ScriptFault.TheVariants.{Words, Number, NoSuch, Body};
+ghost use Rattle.qq_world.specs.Rules.{Line, Send, End, Mute, Auto, Notice, Crash};
 ghost use Rattle.qq_calls.specs.Queues.{node_setup};
 ghost use Rattle.qq_calls.specs.Lines.{publish_to, read_line};
 ghost use Rattle.qq_calls.specs.Named.{HaveNames, IsNamed};
@@ -76,7 +76,7 @@ pub fn lines_ask_for_their_rules()
     ensures purge { (routes : Routes) →
         read_line (two_queues routes) 1 (codes "purge 3 #2") ≡ Ok (Send 2 3 Purge) }
     ensures ends { (routes : Routes) →
-        read_line (two_queues routes) 1 (codes "end 3") ≡ Err Unknown }
+        read_line (two_queues routes) 1 (codes "end 3") ≡ Ok (End 3) }
 {}
 
 /// A law: the whole of a line that sends a message is looked at for its words, then for its number, then for the

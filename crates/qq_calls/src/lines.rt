@@ -102,8 +102,8 @@ fn of_consumer(consumer: ConsumerId, queue: QueueId, body: Unstamped) -> Call
 /// What a line asks of a node of these queues.
 ///
 /// - `ok`: it is the line's call.
-/// - `cause`: `NoSuch` comes where a message goes to an exchange, or to a queue that isn't there, `Body` where
-///   it is too long, and `Unknown` where a session is to end. `Memory(Memory::Want)` may come at any time.
+/// - `cause`: `NoSuch` comes where a message goes to an exchange, or to a queue that isn't there, and `Body`
+///   where it is too long. `Memory(Memory::Want)` may come at any time.
 #[tactic(auto, unfolding(crate::specs::Lines::line_of))]
 pub fn call_of(alloc: Global, rows: &[QueueRow], said: ScriptLine) -> Result<Call, ScriptFault>
     ensures ok { IfOk result (λ call. line_of rows.now said ≡ Ok (rule_of call)) }
@@ -208,7 +208,9 @@ pub fn call_of(alloc: Global, rows: &[QueueRow], said: ScriptLine) -> Result<Cal
             session: session.number,
             body: Unstamped::Purge,
         }),
-        ScriptLine::End { .. } => Err(ScriptFault::Unknown),
+        ScriptLine::End { session } => Ok(Call::End {
+            session: session.number,
+        }),
     }
 }
 

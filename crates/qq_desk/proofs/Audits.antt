@@ -1,5 +1,5 @@
 -- The machine and the rows behind one op more.
-use Rattle.std.proofs.Common.{◌≡◌, ◌≤◌, ◌<◌, ◌+◌, ℕ, suc, Bool, true, false, ◌&&◌, List, [], ◌∷◌, ◌++◌, length, take, refl, sym, ap, ◌∙◌, append-nil, length-append, arith, inl, inr}
+use Rattle.std.proofs.Common.{◌≡◌, ◌≤◌, ◌<◌, ◌+◌, ℕ, suc, Bool, true, false, ◌&&◌, List, [], ◌∷◌, ◌++◌, length, take, refl, sym, ap, subst, ◌∙◌, append-nil, length-append, arith, inl, inr}
 use Rattle.std.specs.Prelude.{nat_lt, get_or, max}
 use Rattle.std.proofs.Math.Seq.{take-suc}
 use Rattle.std.proofs.lemmas.Bool.{cases_lt, cond-true, cond-false, lt-ltb, le-ltb}
@@ -17,7 +17,7 @@ use Rattle.qq_model.specs.Audit.{next_step, next_index, row_of, audit_of, state_
 use Rattle.qq_replay.specs.Replay.{stays_within}
 use Rattle.qq_world.specs.Server.{entries_in, log_of}
 use Rattle.qq_desk.specs.declared.audit.Audit.{Audit}
-use Rattle.qq_desk.specs.Audited.{IsAuditOf, Applies, IsSameAudit}
+use Rattle.qq_desk.specs.Audited.{IsMachineOf, IsAuditOf, Adds, Applies, IsSameAudit}
 
 -- ---- entries behind entries
 
@@ -82,62 +82,73 @@ state-more s ops n d machine lt is =
     ∙ sym (after-append s (log_of (take n ops)) (entries_in (get_or ops n d)))
     ∙ ap (state_after s) (sym (log-more ops n d lt))
 
+-- what the first ops make of a queue
+abbrev at : State → List Op → ℕ → State
+at s ops n = state_after s (log_of (take n ops))
+
 -- the entries of the next op were applied, and it is counted
 pub sound-more : (s : State) (ops : List Op) (d : Op) (a b c : Audit) → IsAuditOf s ops a → a.applied < length ops
-    → Applies (entries_in (get_or ops a.applied d)) a b
-    → c.machine ≡ b.machine → c.rows.items ≡ b.rows.items → c.applied ≡ b.applied + 1
+    → Applies (at s ops a.applied) (entries_in (get_or ops a.applied d)) a b
+    → Adds a b → c.machine ≡ b.machine → c.rows.items ≡ b.rows.items → c.applied ≡ b.applied + 1
     → c.audited ≡ max b.audited (b.applied + 1) → IsAuditOf s ops c
-sound-more s ops d a b c sound lt applies machine rows applied audited =
+sound-more s ops d a b c sound lt applies adds machine rows applied audited =
     elim (cases_lt a.applied a.audited) [
       | inl before ↦ record {
         machine_is = machine_is;
         within = within;
         rows_are = rows ∙ applies.rows_are
             ∙ cond-true (nat_lt a.applied a.audited) a.rows.items
-            (a.rows.items ++ audit_of a.machine (entries_in (get_or ops a.applied d)))
+            (a.rows.items ++ audit_of before_it entries)
             (lt-ltb a.applied a.audited before)
             ∙ sound.rows_are
             ∙ ap (λ (k : ℕ). audit_of s (log_of (take k ops)))
-            (omega (arith, audited, applies.applied_is, applies.audited_is, before));
-        behind = omega (arith, applied, audited, applies.applied_is);
-        most = omega (arith, audited, applies.applied_is, applies.audited_is, before, sound.most);
+            (omega (arith, audited, adds.applied_is, adds.audited_is, before));
+        behind = omega (arith, applied, audited, adds.applied_is);
+        most = omega (arith, audited, adds.applied_is, adds.audited_is, before, sound.most);
       }
       | inr same ↦ record {
         machine_is = machine_is;
         within = within;
         rows_are = rows ∙ applies.rows_are
             ∙ cond-false (nat_lt a.applied a.audited) a.rows.items
-            (a.rows.items ++ audit_of a.machine (entries_in (get_or ops a.applied d)))
+            (a.rows.items ++ audit_of before_it entries)
             (le-ltb a.applied a.audited same)
-            ∙ rows-more s ops a.applied d a.machine a.rows.items lt sound.machine_is
+            ∙ rows-more s ops a.applied d before_it a.rows.items lt refl
             (sound.rows_are ∙ ap (λ (k : ℕ). audit_of s (log_of (take k ops)))
             (omega (arith, same, sound.behind)))
             ∙ ap (λ (k : ℕ). audit_of s (log_of (take k ops)))
-            (omega (arith, audited, applies.applied_is, applies.audited_is, same, sound.behind));
-        behind = omega (arith, applied, audited, applies.applied_is);
-        most = omega (arith, audited, applies.applied_is, applies.audited_is, lt, same);
+            (omega (arith, audited, adds.applied_is, adds.audited_is, same, sound.behind));
+        behind = omega (arith, applied, audited, adds.applied_is);
+        most = omega (arith, audited, adds.applied_is, adds.audited_is, lt, same);
       }
     ]
   where
-    next : a.applied + 1 ≡ c.applied
-    next = omega (arith, applied, applies.applied_is)
+    before_it : State
+    before_it = at s ops a.applied
 
-    machine_is : c.machine ≡ state_after s (log_of (take c.applied ops))
+    entries : List Entry
+    entries = entries_in (get_or ops a.applied d)
+
+    next : a.applied + 1 ≡ c.applied
+    next = omega (arith, applied, adds.applied_is)
+
+    machine_is : IsMachineOf (at s ops c.applied) c.machine
     machine_is =
-        machine ∙ applies.machine_is ∙ state-more s ops a.applied d a.machine lt sound.machine_is
-        ∙ ap (λ (k : ℕ). state_after s (log_of (take k ops))) next
+        subst (λ (k : ℕ). IsMachineOf (at s ops k) c.machine) next
+        (subst (λ (t : State). IsMachineOf t c.machine) (state-more s ops a.applied d before_it lt refl)
+        (subst (IsMachineOf (state_after before_it entries)) (sym machine) applies.machine_is))
 
     within : stays_within s (log_of (take c.applied ops)) ≡ true
     within =
         ap (λ (k : ℕ). stays_within s (log_of (take k ops))) (sym next)
-        ∙ more-within s ops a.applied d a.machine lt sound.machine_is sound.within
+        ∙ more-within s ops a.applied d before_it lt refl sound.within
         ∙ applies.within
 
 -- nothing was applied
 pub sound-same : (s : State) (ops : List Op) (a b : Audit) → IsAuditOf s ops a → IsSameAudit a b → IsAuditOf s ops b
 sound-same s ops a b sound same = record {
-  machine_is = same.machine_is ∙ sound.machine_is
-      ∙ ap (λ (k : ℕ). state_after s (log_of (take k ops))) (sym same.applied_is);
+  machine_is = subst (λ (k : ℕ). IsMachineOf (at s ops k) b.machine) (sym same.applied_is)
+      (subst (IsMachineOf (at s ops a.applied)) (sym same.machine_is) sound.machine_is);
   within = ap (λ (k : ℕ). stays_within s (log_of (take k ops))) same.applied_is ∙ sound.within;
   rows_are = same.rows_are ∙ sound.rows_are
       ∙ ap (λ (k : ℕ). audit_of s (log_of (take k ops))) (sym same.audited_is);
@@ -149,7 +160,8 @@ sound-same s ops a b sound same = record {
 pub sound-ops : (s : State) (ops more : List Op) (a : Audit) → IsAuditOf s ops a → a.audited ≤ length more
     → take a.applied more ≡ take a.applied ops → take a.audited more ≡ take a.audited ops → IsAuditOf s more a
 sound-ops s ops more a sound most applied audited = record {
-  machine_is = sound.machine_is ∙ ap (λ (l : List Op). state_after s (log_of l)) (sym applied);
+  machine_is = subst (λ (l : List Op). IsMachineOf (state_after s (log_of l)) a.machine) (sym applied)
+      sound.machine_is;
   within = ap (λ (l : List Op). stays_within s (log_of l)) applied ∙ sound.within;
   rows_are = sound.rows_are ∙ ap (λ (l : List Op). audit_of s (log_of l)) (sym audited);
   behind = sound.behind;
@@ -170,11 +182,11 @@ spent-more s ops k n le spent =
 
 -- the entries of the next op don't stay within their ends
 pub spent-next : (s : State) (ops : List Op) (d : Op) (a : Audit) (n : ℕ) → IsAuditOf s ops a → a.applied < n
-    → n ≤ length ops → stays_within a.machine (entries_in (get_or ops a.applied d)) ≡ false
+    → n ≤ length ops → stays_within (at s ops a.applied) (entries_in (get_or ops a.applied d)) ≡ false
     → stays_within s (log_of (take n ops)) ≡ false
 spent-next s ops d a n sound lt within spent =
     spent-more s ops (a.applied + 1) n (omega (arith, lt))
-    (more-within s ops a.applied d a.machine (omega (arith, lt, within)) sound.machine_is sound.within ∙ spent)
+    (more-within s ops a.applied d (at s ops a.applied) (omega (arith, lt, within)) refl sound.within ∙ spent)
 
 -- ---- causes
 
@@ -183,21 +195,5 @@ spent-weaker Want end P Q f cause = tt
 spent-weaker (Spent number) end P Q f cause = (cause.0, f cause.1)
 
 -- no row goes
-pub rows-longer : (entries : List Entry) (a b : Audit) → Applies entries a b
-    → length a.rows.items ≤ length b.rows.items
-rows-longer entries a b applies = by (nat_lt a.applied a.audited) refl
-  where
-    by : (t : Bool) → nat_lt a.applied a.audited ≡ t → length a.rows.items ≤ length b.rows.items
-    by true is =
-        omega (
-          arith,
-          ap length (applies.rows_are ∙ cond-true (nat_lt a.applied a.audited) a.rows.items
-              (a.rows.items ++ audit_of a.machine entries) is),
-        )
-    by false is =
-        omega (
-          arith,
-          ap length (applies.rows_are ∙ cond-false (nat_lt a.applied a.audited) a.rows.items
-              (a.rows.items ++ audit_of a.machine entries) is),
-          length-append a.rows.items (audit_of a.machine entries),
-        )
+pub rows-longer : (a b : Audit) → Adds a b → length a.rows.items ≤ length b.rows.items
+rows-longer a b adds = omega (arith, ap length adds.front.is, length-append a.rows.items adds.front.rest)

@@ -1,3 +1,4 @@
+mod Machines
 mod Audits
 mod ShortOps
 mod Ranges

@@ -12,6 +12,7 @@ use Rattle.qq_base.specs.declared.ids.Term.{Term}
 use Rattle.qq_base.specs.declared.memory.TheConstants.{NUMBER_END}
 use Rattle.qq_base.proofs.Lists.{AllByRecursion-append, AllByRecursion-filter}
 use Rattle.qq_entry.specs.declared.answer.Answer.{Answer}
+use Rattle.qq_entry.specs.declared.command.Command.TheVariants.{Down}
 use Rattle.qq_entry.specs.declared.command.Entry.{Entry}
 use Rattle.qq_entry.specs.declared.command.Unstamped.{Unstamped}
 use Rattle.qq_entry.specs.declared.queue.QueueArgs.{QueueArgs}
@@ -27,7 +28,7 @@ use Rattle.qq_replay.specs.Replay.{stays_within}
 use Rattle.qq_world.specs.Server.{log_of, node, term_after, term_of}
 use Rattle.qq_world.proofs.Ops.{log-more, sound-more, sound-front}
 use Rattle.qq_desk.specs.declared.audit.Audit.{Audit}
-use Rattle.qq_desk.specs.Audited.{IsAuditOf, IsShort}
+use Rattle.qq_desk.specs.Audited.{IsMachineOf, IsAuditOf, IsShort}
 use Rattle.qq_desk.specs.Range.{HasBytes, IsEntryOf, IsClient, MayWait}
 use Rattle.qq_desk.specs.Server.{AreSound, IsServer}
 use Rattle.qq_desk.proofs.Audits.{sound-ops}
@@ -43,6 +44,10 @@ client-session number positive within = record {
   owner = omega arith;
   number = (positive, within);
 }
+
+-- that a client's session has ended
+pub down-bytes : (session : ℕ) → 0 < session → session < 2 ^ 64 → HasBytes (Down (client session))
+down-bytes session positive within = ((client-session session positive within, omega arith), tt)
 
 pub below-next : (mark : ℕ) (n : Numbers) → mark ≡ low_mark n → IsLowMark mark n → low_mark n < n.next
 below-next mark n is greatest = omega (arith, is, greatest.below)
@@ -220,10 +225,11 @@ server-more args term ops last noticed audit entry entries more own each are is 
 
 -- its machine runs anew, over its first ops
 audit-restarted : (s : State) (ops : List Op) (count : ℕ) (a b : Audit) → IsAuditOf s ops a → b.rows ≡ a.rows
-    → b.audited ≡ a.audited → b.applied ≡ 0 → b.machine ≡ s → a.audited ≤ count → count ≤ length ops
+    → b.audited ≡ a.audited → b.applied ≡ 0 → IsMachineOf s b.machine → a.audited ≤ count → count ≤ length ops
     → IsAuditOf s (take count ops) b
 audit-restarted s ops count a b own rows audited applied machine most within = record {
-  machine_is = machine ∙ ap (λ (k : ℕ). state_after s (log_of (take k (take count ops)))) (sym applied);
+  machine_is = subst (λ (k : ℕ). IsMachineOf (state_after s (log_of (take k (take count ops)))) b.machine)
+      (sym applied) machine;
   within = ap (λ (k : ℕ). stays_within s (log_of (take k (take count ops)))) applied;
   rows_are = ap (λ (v : _). v.items) rows ∙ own.rows_are
       ∙ ap (λ (l : List Op). audit_of s (log_of l)) (sym (take-within a.audited count ops most))
@@ -236,7 +242,7 @@ audit-restarted s ops count a b own rows audited applied machine most within = r
 pub server-restarted : (args : QueueArgs) (term : Term) (ops : List Op) (last noticed : ℕ) (audit : Audit)
     (count : ℕ) (next : Audit) → IsServer args term ops last noticed audit → noticed ≤ count → count ≤ length ops
     → next.rows ≡ audit.rows → next.audited ≡ audit.audited → next.applied ≡ 0
-    → next.machine ≡ empty_queue args
+    → IsMachineOf (empty_queue args) next.machine
     → IsServer args (term_of (take count ops)) (take count ops) (length (log_of (take count ops))) count next
 server-restarted args term ops last noticed audit count next own more most rows audited applied machine = record {
   audit_is = audit-restarted (empty_queue args) ops count audit next own.audit_is rows audited applied machine

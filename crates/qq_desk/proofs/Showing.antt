@@ -1,13 +1,11 @@
 -- What rows that are added have done, and its text.
-use Rattle.std.proofs.Common.{◌≡◌, ◌≤◌, ◌+◌, ℕ, Bool, true, false, cond, List, [], ◌∷◌, ◌++◌, length, take, drop, refl, sym, ap, ◌∙◌, subst, append_assoc, append-nil, arith, inl, inr}
+use Rattle.std.proofs.Common.{◌≡◌, ℕ, Bool, true, false, cond, List, [], ◌∷◌, ◌++◌, length, take, drop, refl, sym, ap, ◌∙◌, subst, append_assoc, append-nil, arith, inl, inr}
 use Rattle.std.specs.Prelude.{nat_eq, nat_lt}
 use Rattle.std.specs.List.{flat_map}
 use Rattle.std.proofs.Math.Seq.{drop-append_seam, drop-length}
 use Rattle.std.proofs.lemmas.Bool.{cases_lt, cond-true, cond-false, lt-ltb, le-ltb}
 use Rattle.std.proofs.lemmas.Grind.{flat_map-append}
-use Rattle.std.proofs.lemmas.List.{drop_more}
 use Rattle.qq_base.specs.Fronts.{IsFront}
-use Rattle.qq_base.proofs.Fronts.{front-refl, front-more}
 use Rattle.qq_base.specs.declared.ids.Term.{Term}
 use Rattle.qq_entry.specs.declared.audit.AuditRow.{AuditRow}
 use Rattle.qq_entry.specs.declared.audit.Effect.{Effect}
@@ -16,7 +14,7 @@ use Rattle.qq_log.specs.declared.op.Op.{Op}
 use Rattle.qq_model.specs.State.{State}
 use Rattle.qq_model.specs.Audit.{next_step, audit_of, state_after, entries_of}
 use Rattle.qq_world.specs.Server.{log_of}
-use Rattle.qq_world.specs.World.{Clients, Shown, delivered, effects_of_term, effects_behind}
+use Rattle.qq_world.specs.World.{Clients, delivered, effects_of_term, effects_behind}
 use Rattle.qq_world.proofs.Made.{entries-append}
 use Rattle.qq_desk.specs.declared.audit.Audit.{Audit}
 use Rattle.qq_desk.specs.Audited.{IsAuditOf, Applies, all_effects, effects_next}
@@ -72,43 +70,31 @@ behind-more term s first rows more machine front =
     ≡ effects_behind term s first (r ++ audit_of machine more)) (sym front.is)
     (behind-rest term s first front.rest more machine)
 
--- rows only come behind
-pub rows-front : (entries : List Entry) (a b : Audit) → Applies entries a b → IsFront a.rows.items b.rows.items
-rows-front entries a b applies = by (nat_lt a.applied a.audited) refl
-  where
-    by : (t : Bool) → nat_lt a.applied a.audited ≡ t → IsFront a.rows.items b.rows.items
-    by true is =
-        subst (IsFront a.rows.items) (sym (applies.rows_are
-        ∙ cond-true (nat_lt a.applied a.audited) a.rows.items (a.rows.items ++ audit_of a.machine entries) is))
-        (front-refl a.rows.items)
-    by false is =
-        subst (IsFront a.rows.items) (sym (applies.rows_are
-        ∙ cond-false (nat_lt a.applied a.audited) a.rows.items (a.rows.items ++ audit_of a.machine entries) is))
-        (front-more a.rows.items (audit_of a.machine entries))
-
 -- the entries of the next op were applied: what they show
 pub shows-next : (term : Term) (s : State) (ops : List Op) (first : List AuditRow) (entries : List Entry) (a b : Audit)
-    → IsAuditOf s ops a → Applies entries a b → IsFront first a.rows.items
-    → effects_behind term s first a.rows.items ++ effects_next term entries a
+    → IsAuditOf s ops a → Applies (state_after s (log_of (take a.applied ops))) entries a b
+    → IsFront first a.rows.items
+    → effects_behind term s first a.rows.items
+    ++ effects_next term (state_after s (log_of (take a.applied ops))) entries a
     ≡ effects_behind term s first b.rows.items
 shows-next term s ops first entries a b sound applies front =
+    let at : State = state_after s (log_of (take a.applied ops)) in
     elim (cases_lt a.applied a.audited) [
       | inl before ↦ ap (λ (l : List Effect). effects_behind term s first a.rows.items ++ l)
-          (cond-true (nat_lt a.applied a.audited) [] (effects_of_term term a.machine entries)
+          (cond-true (nat_lt a.applied a.audited) [] (effects_of_term term at entries)
           (lt-ltb a.applied a.audited before))
           ∙ append-nil (effects_behind term s first a.rows.items)
           ∙ ap (effects_behind term s first) (sym (applies.rows_are
-          ∙ cond-true (nat_lt a.applied a.audited) a.rows.items (a.rows.items ++ audit_of a.machine entries)
+          ∙ cond-true (nat_lt a.applied a.audited) a.rows.items (a.rows.items ++ audit_of at entries)
           (lt-ltb a.applied a.audited before)))
       | inr behind ↦ ap (λ (l : List Effect). effects_behind term s first a.rows.items ++ l)
-          (cond-false (nat_lt a.applied a.audited) [] (effects_of_term term a.machine entries)
+          (cond-false (nat_lt a.applied a.audited) [] (effects_of_term term at entries)
           (le-ltb a.applied a.audited behind))
-          ∙ behind-more term s first a.rows.items entries a.machine front
-          (sound.machine_is
-          ∙ ap (λ (k : ℕ). state_after s (log_of (take k ops))) (omega (arith, behind, sound.behind))
+          ∙ behind-more term s first a.rows.items entries at front
+          (ap (λ (k : ℕ). state_after s (log_of (take k ops))) (omega (arith, behind, sound.behind))
           ∙ ap (state_after s) (sym (ap entries_of sound.rows_are ∙ entries-of s (log_of (take a.audited ops)))))
           ∙ ap (effects_behind term s first) (sym (applies.rows_are
-          ∙ cond-false (nat_lt a.applied a.audited) a.rows.items (a.rows.items ++ audit_of a.machine entries)
+          ∙ cond-false (nat_lt a.applied a.audited) a.rows.items (a.rows.items ++ audit_of at entries)
           (le-ltb a.applied a.audited behind)))
     ]
 
@@ -116,8 +102,10 @@ abbrev no-effects : List Effect
 no-effects = []
 
 -- an op without an entry shows nothing
-pub none_next : (term : Term) (entries : List Entry) (a : Audit) → entries ≡ [] → effects_next term entries a ≡ []
-none_next term entries a none = ap (λ (l : List Entry). effects_next term l a) none ∙ by (nat_lt a.applied a.audited)
+pub none_next : (term : Term) (s : State) (entries : List Entry) (a : Audit) → entries ≡ []
+    → effects_next term s entries a ≡ []
+none_next term s entries a none =
+    ap (λ (l : List Entry). effects_next term s l a) none ∙ by (nat_lt a.applied a.audited)
   where
     by : (b : Bool) → cond b no-effects no-effects ≡ no-effects
     by true = refl

@@ -6,7 +6,7 @@ use Rattle.qq_entry.specs.declared.audit.Effect.{Effect}
 use Rattle.qq_script.specs.Text.{line_prefix, answer_text, delivery_text}
 use Rattle.qq_world.specs.Node.{role_text, state_words}
 use Rattle.qq_world.specs.Server.{Server}
-use Rattle.qq_world.specs.World.{Clients, Shown, Answered, Delivered, NoLeader, WindowFull, delivered}
+use Rattle.qq_world.specs.World.{Clients, Shown, Answered, Delivered, NoLeader, WindowFull, HasEnded, delivered}
 
 -- a line is about session 1 and the first queue, or says whom it is about
 abbrev pub prefix_as : Bool → List ℕ → ℕ → List ℕ
@@ -19,6 +19,7 @@ shown_text_as first name (Delivered consumer delivery) = delivery_text first nam
 shown_text_as first name (NoLeader session) =
     prefix_as first name session ++ codes "no leader " ++ name ++ codes "\n"
 shown_text_as first name (WindowFull session) = prefix_as first name session ++ codes "window full\n"
+shown_text_as first name (HasEnded session) = prefix_as first name session ++ codes "ended\n"
 
 -- what an effect shows
 abbrev pub effect_text : Bool → List ℕ → Clients → Effect → List ℕ

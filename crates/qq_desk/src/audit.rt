@@ -1,25 +1,29 @@
 //! The queue's machine and its audit: what is durable is applied, op by op.
 ghost use Rattle.std.specs.Prelude.{◌≡◌, ◌<◌, ◌≤◌, ◌∷◌, ◌++◌, [], List, false, length, nat_eq, take, option_to_list, if◌then◌else◌, IfErr, OnOk, OnErr};
+ghost use Rattle.std.specs.List.{AllByRecursion};
 ghost use Rattle.std.specs.Option.{option_copied};
 ghost use Rattle.qq_base.specs.Causes.{SpentOnlyWhere};
+ghost use Rattle.qq_entry.specs.Range.{IsInRange};
 ghost use Rattle.qq_log.specs.declared.op.Op.{Op};
+ghost use Rattle.qq_log.specs.Writable.{MayGather};
 ghost use Rattle.qq_model.specs.State.{State, empty_queue};
 ghost use Rattle.qq_replay.specs.Replay.{stays_within};
 ghost use Rattle.qq_world.specs.Server.{entries_in, log_of};
 ghost use Rattle.qq_world.specs.World.{effects_behind, effects_of_term};
-ghost use Rattle.qq_desk.specs.Audited.{IsShort, AreShort, IsAuditOf, Applies, IsSameAudit, all_effects, effects_next};
+ghost use Rattle.qq_desk.specs.Audited.{IsShort, AreShort, IsMachineOf, IsAuditOf, Adds, Applies, IsSameAudit, all_effects, effects_next};
 
-use qq_base::{Duplicate, Index, Memory, NUMBER_END, Term};
+use crate::machine::{Made, apply_next};
+use qq_base::{Duplicate, Memory, NUMBER_END, Term};
 use qq_entry::{AuditRow, Effect, Effects, Entry, QueueArgs};
 use qq_log::Op;
-use qq_serial::Serial;
+use qq_machine::Machine;
 use std::alloc::Global;
 
 /// The machine and the audit of a queue.
 #[derive(Debug, Drop)]
 pub struct Audit {
     /// What the first ops make of a new queue.
-    pub machine: Serial,
+    pub machine: Machine,
     /// A row for each entry of the first ops, in order. They stay where the machine runs anew.
     pub rows: Vec<AuditRow>,
     /// Of how many ops the machine has applied the entries.
@@ -63,8 +67,9 @@ impl Audit {
         ensures rows { result.rows.items ≡ [] }
         ensures audited { result.audited ≡ 0 }
     {
+        let machine = Machine::new(alloc, args);
         Audit {
-            machine: Serial::new(alloc, args),
+            machine,
             rows: Vec::new(alloc),
             applied: 0,
             audited: 0,
@@ -76,23 +81,25 @@ impl Audit {
         ensures rows { self.new.rows ≡ self.old.rows }
         ensures audited { self.new.audited ≡ self.old.audited }
         ensures applied { self.new.applied ≡ 0 }
-        ensures machine { self.new.machine ≡ empty_queue args }
+        ensures machine { IsMachineOf (empty_queue args) self.new.machine }
     {
-        self.machine = Serial::new(alloc, args);
+        self.machine = Machine::new(alloc, args);
         self.applied = 0;
     }
 
     // Applies an entry whose row is there.
     fn repeat_entry(&mut self, alloc: Global, entry: &Entry) -> Result<(), Memory>
-        requires { self.old.applied < self.old.audited }
+        requires there { self.old.applied < self.old.audited }
+        requires range { IsInRange entry.now }
 
-        ensures ok { OnOk result (Applies (entry.now ∷ []) self.old self.new) }
+        ensures ok { OnOk result ((s : State) → IsMachineOf s self.old.machine →
+            Applies s (entry.now ∷ []) self.old self.new) }
+        ensures adds { OnOk result (Adds self.old self.new) }
         ensures err { OnErr result (IsSameAudit self.old self.new) }
-        ensures cause { IfErr result (λ e. SpentOnlyWhere e NUMBER_END
-            (stays_within self.old.machine (entry.now ∷ []) ≡ false)) }
+        ensures cause { IfErr result (λ e. (s : State) → IsMachineOf s self.old.machine →
+            SpentOnlyWhere e NUMBER_END (stays_within s (entry.now ∷ []) ≡ false)) }
     {
-        let index = Index(self.machine.applied() + 1);
-        match self.machine.step(alloc, index, entry) {
+        match apply_next(alloc, &mut self.machine, entry) {
             Ok(_) => Ok(()),
             Err(cause) => Err(cause),
         }
@@ -106,16 +113,19 @@ impl Audit {
         term: Term,
         effects: &mut Vec<Effects>,
     ) -> Result<(), Memory>
-        requires { self.old.audited ≤ self.old.applied }
+        requires new { self.old.audited ≤ self.old.applied }
+        requires range { IsInRange entry.now }
 
-        ensures ok { OnOk result (Applies (entry.now ∷ []) self.old self.new) }
-        ensures shown { OnOk result (all_effects effects.new.items ≡ all_effects effects.old.items
-            ++ effects_of_term term self.old.machine (entry.now ∷ [])) }
+        ensures ok { OnOk result ((s : State) → IsMachineOf s self.old.machine →
+            Applies s (entry.now ∷ []) self.old self.new) }
+        ensures adds { OnOk result (Adds self.old self.new) }
+        ensures shown { OnOk result ((s : State) → IsMachineOf s self.old.machine →
+            all_effects effects.new.items ≡ all_effects effects.old.items
+            ++ effects_of_term term s (entry.now ∷ [])) }
         ensures err { OnErr result (IsSameAudit self.old self.new) }
-        ensures cause { IfErr result (λ e. SpentOnlyWhere e NUMBER_END
-            (stays_within self.old.machine (entry.now ∷ []) ≡ false)) }
+        ensures cause { IfErr result (λ e. (s : State) → IsMachineOf s self.old.machine →
+            SpentOnlyWhere e NUMBER_END (stays_within s (entry.now ∷ []) ≡ false)) }
     {
-        let index = Index(self.machine.applied() + 1);
         if let Err(_) = self.rows.reserve(1) {
             return Err(Memory::Want);
         }
@@ -127,9 +137,15 @@ impl Audit {
             Ok(kept) => kept,
             Err(_) => return Err(Memory::Want),
         };
-        match self.machine.step(alloc, index, entry) {
-            Ok((fresh, answer, made)) => {
-                effects.push_reserved(shown(alloc, own, made));
+        match apply_next(alloc, &mut self.machine, entry) {
+            Ok(made) => {
+                let Made {
+                    index,
+                    fresh,
+                    answer,
+                    effects: made_effects,
+                } = made;
+                effects.push_reserved(shown(alloc, own, made_effects));
                 self.rows.push_reserved(AuditRow {
                     index,
                     entry: kept,
@@ -150,14 +166,18 @@ impl Audit {
         term: Term,
         effects: &mut Vec<Effects>,
     ) -> Result<(), Memory>
-        requires { IsShort op.now }
+        requires short { IsShort op.now }
+        requires range { MayGather op.now }
 
-        ensures ok { OnOk result (Applies (entries_in op.now) self.old self.new) }
-        ensures shown { OnOk result (all_effects effects.new.items ≡ all_effects effects.old.items
-            ++ effects_next term (entries_in op.now) self.old) }
+        ensures ok { OnOk result ((s : State) → IsMachineOf s self.old.machine →
+            Applies s (entries_in op.now) self.old self.new) }
+        ensures adds { OnOk result (Adds self.old self.new) }
+        ensures shown { OnOk result ((s : State) → IsMachineOf s self.old.machine →
+            all_effects effects.new.items ≡ all_effects effects.old.items
+            ++ effects_next term s (entries_in op.now) self.old) }
         ensures err { OnErr result (IsSameAudit self.old self.new) }
-        ensures cause { IfErr result (λ e. SpentOnlyWhere e NUMBER_END
-            (stays_within self.old.machine (entries_in op.now) ≡ false)) }
+        ensures cause { IfErr result (λ e. (s : State) → IsMachineOf s self.old.machine →
+            SpentOnlyWhere e NUMBER_END (stays_within s (entries_in op.now) ≡ false)) }
     {
         let Some(entry) = entry_in(op) else {
             return Ok(());
@@ -179,6 +199,7 @@ impl Audit {
         effects: &mut Vec<Effects>,
     ) -> Result<(), Memory>
         requires short { AreShort ops.now }
+        requires range { AllByRecursion MayGather ops.now }
         requires behind { self.old.applied ≤ self.old.audited }
         requires more { self.old.audited ≤ count }
         requires most { count ≤ length ops.now }

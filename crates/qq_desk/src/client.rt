@@ -5,8 +5,8 @@ ghost use Rattle.qq_base.specs.Ids.{client};
 ghost use Rattle.qq_base.specs.declared.memory.TheConstants.{NUMBER_END};
 ghost use Rattle.qq_model.specs.declared.TheConstants.{WINDOW};
 ghost use Rattle.qq_session.specs.Publishing.{next_command, hand, open_commands, HasHandCause};
-ghost use Rattle.qq_world.specs.World.{sender_by, sender, take_answer, is_printed_to, may_hand};
-ghost use Rattle.qq_desk.specs.Clients.{new_client, set_muted, set_numbers};
+ghost use Rattle.qq_world.specs.World.{sender_by, sender, ended_by, take_answer, is_printed_to, is_used, may_hand};
+ghost use Rattle.qq_desk.specs.Clients.{new_client, set_ended, set_muted, set_numbers};
 ghost use Rattle.qq_desk.specs.Range.{HasBytes, MayStamp};
 
 use qq_base::{Memory, QueueId, SessionId};
@@ -17,11 +17,12 @@ use qq_session::{HandFault, Publishing};
 use std::alloc::Global;
 use std::marker::Model;
 
-/// The numbers of a client's session at the queue, and whether answers to it are lost.
+/// The numbers of a client's session at the queue, whether answers to it are lost, and whether it has ended.
 #[derive(Debug, Drop)]
 pub struct Client {
     numbers: Publishing,
     muted: bool,
+    ended: bool,
 }
 
 impl Model for Client {
@@ -30,7 +31,7 @@ impl Model for Client {
 
     ghost Value = { world.Client };
 
-    ghost view = { λ c. record { numbers = c.numbers; muted = c.muted } };
+    ghost view = { λ c. record { numbers = c.numbers; muted = c.muted; ended = c.ended } };
 
     ghost invariant = { λ c. IsClient c.numbers };
 }
@@ -45,6 +46,7 @@ impl Client {
         Client {
             numbers: Publishing::new(alloc, SessionId::client(session), queue),
             muted: false,
+            ended: false,
         }
     }
 
@@ -53,6 +55,27 @@ impl Client {
         ensures { self.new ≡ set_muted muted self.old }
     {
         self.muted = muted;
+    }
+
+    /// From here on it gives no more commands.
+    pub fn end(&mut self)
+        ensures { self.new ≡ set_ended self.old }
+    {
+        self.ended = true;
+    }
+
+    /// Whether it has ended.
+    pub fn is_ended(&self) -> bool
+        ensures { result ≡ self.now.ended }
+    {
+        self.ended
+    }
+
+    /// Whether it has given a command.
+    pub fn is_used(&self) -> bool
+        ensures { result ≡ is_used self.now.numbers }
+    {
+        self.numbers.next() > 1
     }
 
     /// Whether what comes to it is lost.
@@ -131,6 +154,21 @@ fn sender_by(stamp: Option<Stamp>) -> Option<u64>
             }
             None
         }
+    }
+}
+
+/// The number of the client's session that a command ends, None where it ends none.
+pub fn ended_by(command: &Command) -> Option<u64>
+    ensures { result ≡ ended_by command.now }
+{
+    match command {
+        Command::Down { session } => {
+            if *session == SessionId::client(session.number) {
+                return Some(session.number);
+            }
+            None
+        }
+        _ => None,
     }
 }
 

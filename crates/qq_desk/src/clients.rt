@@ -8,11 +8,11 @@ ghost use Rattle.qq_base.specs.Fronts.{put};
 ghost use Rattle.qq_base.specs.declared.memory.TheConstants.{NUMBER_END};
 ghost use Rattle.qq_model.specs.declared.TheConstants.{WINDOW};
 ghost use Rattle.qq_session.specs.Publishing.{next_command, hand, open_commands, HasHandCause};
-ghost use Rattle.qq_world.specs.World.{hear, is_delivered_to, is_printed, may_hand, take_answer};
+ghost use Rattle.qq_world.specs.World.{hear, is_delivered_to, is_printed, is_printed_by, is_used, may_hand, sender, ended_by, take_answer, tells_end};
 ghost use Rattle.qq_desk.specs.Range.{HasBytes, MayStamp};
-ghost use Rattle.qq_desk.specs.Clients.{clients_of, is_known, set_muted, set_numbers};
+ghost use Rattle.qq_desk.specs.Clients.{clients_of, is_known, set_ended, set_muted, set_numbers};
 
-use crate::client::{Client, sender};
+use crate::client::{Client, ended_by, sender};
 use indexmap::IndexMap;
 use qq_base::{Memory, QueueId, SessionId};
 use qq_entry::{AuditRow, Command, Unstamped};
@@ -84,6 +84,42 @@ impl Clients {
         Ok(())
     }
 
+    /// A session ends: from here on it gives no more commands.
+    pub fn end(&mut self, alloc: Global, session: u64) -> Result<(), Memory>
+        requires { 0 < session }
+
+        ensures ok { OnOk result (clients_of self.new
+            ≡ put session (set_ended (clients_of self.old session)) (clients_of self.old)) }
+        ensures want { IsOkUnless result Memory.Want }
+    {
+        self.open(alloc, session)?;
+        let Some(client) = self.rows.get_mut(&session) else {
+            unreachable!()
+        };
+        client.end();
+        Ok(())
+    }
+
+    /// Whether a session has ended.
+    pub fn is_ended(&self, session: u64) -> bool
+        ensures { result ≡ (clients_of self.now session).ended }
+    {
+        match self.client(session) {
+            None => false,
+            Some(client) => client.is_ended(),
+        }
+    }
+
+    /// Whether a session has given a command.
+    pub fn is_used(&self, session: u64) -> bool
+        ensures { result ≡ is_used (clients_of self.now session).numbers }
+    {
+        match self.client(session) {
+            None => false,
+            Some(client) => client.is_used(),
+        }
+    }
+
     /// Gives a command of a session the next number.
     pub fn hand(
         &mut self,
@@ -130,9 +166,36 @@ impl Clients {
         }
     }
 
+    // Whether what comes to a session is lost.
+    fn is_muted(&self, session: u64) -> bool
+        ensures { result ≡ (clients_of self.now session).muted }
+    {
+        match self.client(session) {
+            None => false,
+            Some(client) => client.is_muted(),
+        }
+    }
+
+    // Whether the answer to the end of a session is printed.
+    fn tells_end(&self, row: &AuditRow) -> bool
+        ensures { result ≡ tells_end (ended_by row.now.entry.command) (clients_of self.now) }
+    {
+        let Some(session) = ended_by(&row.entry.command) else {
+            return false;
+        };
+        !self.is_muted(session)
+    }
+
     /// Whether the answer of a row is printed.
     pub fn is_printed(&self, row: &AuditRow) -> bool
         ensures { result ≡ is_printed (clients_of self.now) row.now }
+    {
+        self.is_answer(row) || self.tells_end(row)
+    }
+
+    // Whether it is printed as the answer to an open number.
+    fn is_answer(&self, row: &AuditRow) -> bool
+        ensures { result ≡ is_printed_by (sender row.now) (clients_of self.now) row.now }
     {
         let Some(session) = sender(row) else {
             return false;
@@ -150,10 +213,7 @@ impl Clients {
         if session != SessionId::client(session.number) {
             return false;
         }
-        match self.client(session.number) {
-            None => true,
-            Some(client) => !client.is_muted(),
-        }
+        !self.is_muted(session.number)
     }
 
     /// The answer of a row comes to its session, unless that is lost.

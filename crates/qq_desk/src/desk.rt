@@ -5,12 +5,12 @@ ghost use Rattle.qq_base.specs.Fronts.{IsFront};
 ghost use Rattle.qq_base.specs.declared.memory.TheConstants.{NUMBER_END};
 ghost use Rattle.qq_world.specs.Node.{commit_of};
 ghost use Rattle.qq_world.specs.Promise.{MayTakeUp};
-ghost use Rattle.qq_world.specs.Rules.{waits_written, waits_synced, waits_noticed, is_settled};
+ghost use Rattle.qq_world.specs.Rules.{is_ended, waits_written, waits_synced, waits_noticed, is_settled};
 ghost use Rattle.qq_world.specs.Server.{is_ready, log_of, may_restart};
 ghost use Rattle.std.specs.Bool.{Decides};
 ghost use Rattle.std.specs.List.{AllByRecursion, flat_map};
 ghost use Rattle.std.specs.Option.{option_copied};
-ghost use Rattle.qq_world.specs.World.{Mutes, Ticks, Submits, Resends, Writes, Syncs, Notices, Stops, Finds, Answered, happens, hear_all, is_up, new_world, offer, printed, said_of};
+ghost use Rattle.qq_world.specs.World.{Mutes, Ends, Ticks, Submits, TellsEnded, Resends, Downs, Writes, Syncs, Notices, Stops, Finds, Answered, happens, hear_all, is_up, new_world, offer, printed, said_of};
 ghost use Rattle.qq_desk.specs.Clients.{clients_of};
 ghost use Rattle.qq_desk.specs.Desk.{AreCounts, Does, IsSameQueue, is_of_term, is_spent, world_of};
 ghost use Rattle.qq_desk.specs.Range.{HasBytes, MayStamp, MayWait};
@@ -23,7 +23,7 @@ use crate::delivering::deliver_all;
 use crate::role::Role;
 use crate::server::Server;
 use crate::text::Label;
-use qq_base::{Memory, Term, Text};
+use qq_base::{Memory, SessionId, Term, Text};
 use qq_entry::{AuditRow, Command, QueueArgs, Unstamped};
 use qq_log::{Lane, Op};
 use qq_session::HandFault;
@@ -152,6 +152,25 @@ impl Desk {
         self.clients.mute(alloc, session, muted)
     }
 
+    /// A session, numbered from 1, ends: it gives no more commands. The only error is `Memory::Want`, out of
+    /// memory.
+    pub fn end(&mut self, alloc: Global, session: u64) -> Result<(), Memory>
+        requires { 0 < session }
+
+        ensures ok { OnOk result (world_of self.new ≡ happens (world_of self.old) (Ends session)) }
+        ensures same { IsSameQueue self.old self.new }
+        ensures want { IsOkUnless result Memory.Want }
+    {
+        self.clients.end(alloc, session)
+    }
+
+    /// Whether a session has ended.
+    pub fn is_ended(&self, session: u64) -> bool
+        ensures { result ≡ is_ended session (world_of self.now) }
+    {
+        self.clients.is_ended(session)
+    }
+
     /// The server's clock ticks: where there is no leader it stands. `Spent` comes exactly where a term
     /// would rise past its end.
     pub fn tick(&mut self, alloc: Global) -> Result<(), Memory>
@@ -216,6 +235,45 @@ impl Desk {
         }
     }
 
+    /// A session that has ended is to give a command, and `out` grows by that. The only error is
+    /// `Memory::Want`, out of memory, after which `out` begins with what it had.
+    pub fn tell_ended(
+        &mut self,
+        alloc: Global,
+        session: u64,
+        out: &mut Vec<u8>,
+    ) -> Result<(), Memory>
+        ensures ok { OnOk result
+            (Does (TellsEnded session) self.old self.new out.old.items out.new.items) }
+        ensures same { IsSameQueue self.old self.new }
+        ensures err { OnErr result (IsFront out.old.items out.new.items) }
+        ensures want { IsOkUnless result Memory.Want }
+    {
+        self.label.has_ended(alloc, session, out)
+    }
+
+    /// The queue is told that a session, numbered from 1, has ended, where it has given commands, and `out`
+    /// grows by what becomes of that. The only error is `Memory::Want`, out of memory, after which `out` begins
+    /// with what it had.
+    pub fn down(&mut self, alloc: Global, session: u64, out: &mut Vec<u8>) -> Result<(), Memory>
+        requires { 0 < session }
+
+        ensures ok { OnOk result
+            (Does (Downs session) self.old self.new out.old.items out.new.items) }
+        ensures same { IsSameQueue self.old self.new }
+        ensures err { OnErr result (IsFront out.old.items out.new.items) }
+        ensures want { IsOkUnless result Memory.Want }
+    {
+        let used = self.clients.is_used(session);
+        if !used {
+            return Ok(());
+        }
+        let command = Command::Down {
+            session: SessionId::client(session),
+        };
+        self.offer(alloc, session, command, out)
+    }
+
     /// A client sends its open commands again, and `out` grows by what it is told. The only error is
     /// `Memory::Want`, out of memory, after which `out` begins with what it had.
     pub fn resend(&mut self, alloc: Global, session: u64, out: &mut Vec<u8>) -> Result<(), Memory>
@@ -256,8 +314,8 @@ impl Desk {
 
     /// The server notices what is synced, and `out` grows by the answers and then the deliveries that come to
     /// its clients.
-    /// `Spent` comes exactly where a number of the queue would be past its end. After an error `out` begins
-    /// with what it had.
+    /// `Spent` comes only where a number of the queue would be past its end, and no call is Ok there. After an
+    /// error `out` begins with what it had.
     pub fn notice(&mut self, alloc: Global, out: &mut Vec<u8>) -> Result<(), Memory>
         ensures ok { OnOk result (Does Notices self.old self.new out.old.items out.new.items) }
         ensures within { OnOk result (is_spent (world_of self.old) Notices ≡ false) }

@@ -9,7 +9,8 @@ ghost use Rattle.qq_desk.specs.Text.{shown_text_as, state_text_as};
 /// knows whether it is the node's first one.
 pub fn lines_are_those_of_the_node()
     ensures shown { (setup : Setup) (place : ℕ) (shown : Shown) →
-        shown_text_as (is_first setup place) (setup.name place) shown ≡ shown_text setup place shown }
+        shown_text_as (is_first setup place) (setup.name place) shown
+        ≡ shown_text setup place shown }
     ensures state { (setup : Setup) (place : ℕ) (server : Server) →
         state_text_as (setup.name place) server ≡ printed_text setup (State place server) }
 {}

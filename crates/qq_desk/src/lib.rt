@@ -7,6 +7,7 @@ mod clients;
 mod delivering;
 mod desk;
 mod laws;
+mod machine;
 mod role;
 mod server;
 mod taking;

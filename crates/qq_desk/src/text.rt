@@ -2,7 +2,7 @@
 ghost use Rattle.std.specs.Prelude.{◌≡◌, ◌++◌, codes, IfOk, OnOk, OnErr, IsOkUnless};
 ghost use Rattle.std.specs.Fmt.{decimal};
 ghost use Rattle.qq_world.specs.Node.{role_text, state_words, commit_of};
-ghost use Rattle.qq_world.specs.World.{Answered, Delivered, NoLeader, WindowFull};
+ghost use Rattle.qq_world.specs.World.{Answered, Delivered, HasEnded, NoLeader, WindowFull};
 ghost use Rattle.qq_desk.specs.Roles.{role_of};
 ghost use Rattle.qq_desk.specs.Text.{shown_text_as, state_text_as};
 
@@ -76,6 +76,17 @@ impl Label {
     {
         let session = SessionId::client(session);
         session_line(alloc, self.first, session, &self.name, "window full", out)
+    }
+
+    /// Adds that a session has ended.
+    pub fn has_ended(&self, alloc: Global, session: u64, out: &mut Vec<u8>) -> Result<(), Memory>
+        ensures ok { OnOk result (out.new.items ≡ out.old.items
+            ++ shown_text_as self.now.first self.now.name (HasEnded session)) }
+        ensures err { OnErr result (out.new.items ≡ out.old.items) }
+        ensures want { IsOkUnless result Memory.Want }
+    {
+        let session = SessionId::client(session);
+        session_line(alloc, self.first, session, &self.name, "ended", out)
     }
 
     /// Adds the state of the queue's server.

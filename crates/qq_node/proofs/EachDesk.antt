@@ -6,7 +6,7 @@ use Rattle.qq_base.proofs.InPlace.{mapped_rest}
 use Rattle.qq_desk.specs.Desk.{DeskState, Does, IsSameQueue, world_of}
 use Rattle.qq_desk.specs.Text.{shown_text_as}
 use Rattle.qq_world.specs.Node.{Setup, Node, At, Of, is_first, printed_text, shown_text, text_of}
-use Rattle.qq_world.specs.World.{World, Event, Shown, Answered, Delivered, NoLeader, WindowFull, happens, said}
+use Rattle.qq_world.specs.World.{World, Event, Shown, Answered, Delivered, NoLeader, WindowFull, HasEnded, happens, said}
 use Rattle.qq_node_laws.specs.Reads.{queue_at}
 use Rattle.qq_node_laws.specs.Waiting.{AreApart}
 use Rattle.qq_node.specs.Desks.{AllDo, DoesAt}
@@ -221,6 +221,7 @@ shown-as setup place (Answered row) = refl
 shown-as setup place (Delivered consumer delivery) = refl
 shown-as setup place (NoLeader session) = refl
 shown-as setup place (WindowFull session) = refl
+shown-as setup place (HasEnded session) = refl
 
 shown-all : (setup : Setup) (place : ℕ) (all : List Shown)
     → flat_map (shown_text_as (is_first setup place) (setup.name place)) all

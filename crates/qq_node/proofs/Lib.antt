@@ -11,6 +11,7 @@ pub mod Places
 pub mod Logs
 pub mod Lines
 pub mod EachGathers
+pub mod NoneFound
 pub mod Restarts
 pub mod Taken
 pub mod TakenUp

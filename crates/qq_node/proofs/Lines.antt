@@ -3,10 +3,11 @@ use Rattle.std.specs.Prelude.{Contains}
 use Rattle.std.proofs.Common.{◌≡◌, ◌<◌, ◌+◌, ℕ, zero, suc, Bool, true, false, ◌&&◌, List, [], ◌∷◌, ◌++◌, length, drop, map, refl, sym, ap, ◌∙◌, subst, inl, arith, append-nil}
 use Rattle.qq_base.specs.declared.ids.QueueId.{QueueId}
 use Rattle.qq_disk.specs.Disk.{Disk}
-use Rattle.qq_world.specs.Node.{Setup, Node, NodeEvent, Alike, At, SaysBusy, SaysDown, node_after}
-use Rattle.qq_world.specs.Rules.{Is, IsNotice, IsPump, IsPumped, IsRound, IsSync, IsSynced, IsWrite, MayRoll, OrFails, Pumps, Then, WhereUp, if_so, is_idle, is_node_up, most_rounds, some_queue, waits_noticed, waits_synced, waits_written}
+use Rattle.qq_world.specs.Node.{Setup, Node, NodeEvent, Alike, At, SaysBusy, SaysDown, SaysEnded, node_after}
+use Rattle.qq_world.specs.Rules.{ForEach, Is, IsSend, IsResend, is_ended, IsNotice, IsPump, IsPumped, IsRound, IsSync, IsSynced, IsWrite, MayRoll, OrFails, Pumps, Then, WhereUp, if_so, is_idle, is_node_up, most_rounds, some_queue, waits_noticed, waits_synced, waits_written}
 use Rattle.std.specs.List.{list_all, list_any}
-use Rattle.qq_world.specs.World.{Event, Notices, Writes, is_up}
+use Rattle.qq_entry.specs.declared.command.Unstamped.{Unstamped}
+use Rattle.qq_world.specs.World.{Event, Submits, TellsEnded, Resends, Notices, Writes, is_up}
 use Rattle.qq_node_laws.specs.Reads.{queue_at}
 use Rattle.qq_node_laws.specs.Serves.{Leads}
 use Rattle.qq_node_laws.proofs.Serves.{leads-more, leads-start}
@@ -129,18 +130,77 @@ module _ {D : Type 0} (tells : D → Bool) (past : D → List Disk) (faults : D 
       (λ setup n events r st allowed.
       (allowed.0, allowed.1, more setup n allowed.0 events st allowed.2))
 
-  -- a pump behind it
-  pub at-pumped : (event : Event) (at : ℕ) (old mid new : Held D) (before middle later : List ℕ)
-      → Served tells past faults (AtIndex at (IsAt event)) old mid before middle
+  -- a rule for the place, and a pump behind it
+  pub rule-pumped : (Rule : Setup → ℕ → Node → List NodeEvent → Type 0) (at : ℕ) (old mid new : Held D)
+      (before middle later : List ℕ) → Served tells past faults (AtIndex at Rule) old mid before middle
       → Served tells past faults IsPumped mid new middle later
-      → Served tells past faults (AtIndex at (λ setup place. Then (Is (At place event)) (IsPumped setup))) old new before
-      later
-  at-pumped event at old mid new before middle later first second =
-      served-both tells past faults (AtIndex at (IsAt event)) IsPumped
-      (AtIndex at (λ setup place. Then (Is (At place event)) (IsPumped setup))) old mid new before middle later first
-      second
+      → Served tells past faults (AtIndex at (λ setup place. Then (Rule setup place) (IsPumped setup))) old new before later
+  rule-pumped Rule at old mid new before middle later first second =
+      served-both tells past faults (AtIndex at Rule) IsPumped
+      (AtIndex at (λ setup place. Then (Rule setup place) (IsPumped setup))) old mid new before middle later first second
       (λ setup n events others one other.
       (one.0, one.1, record { early = events; late = others; is = refl; first = one.2; second = other }))
+
+  -- ---- a session that has ended, or not
+
+  ended-is : (setup : Setup) (n : Node) (at place session : ℕ) (node : Held D) (d : DeskState) (ended : Bool)
+      → Stands tells past setup node n → HasPlace setup at place → drop at node.desks ≡ d ∷ drop (at + 1) node.desks
+      → ended ≡ is_ended session (world_of d) → is_ended session (n.queue place) ≡ ended
+  ended-is setup n at place session node d ended st here there is =
+      sym (is ∙ ap (is_ended session)
+      (desk-at setup n setup.places node.desks at place d (drop (at + 1) setup.places) (drop (at + 1) node.desks) st.desks
+      here there).world_is)
+
+  pub tells-ended : (at session : ℕ) (body : Unstamped) (old new : Held D) (before later : List ℕ) (d : DeskState)
+      → drop at old.desks ≡ d ∷ drop (at + 1) old.desks → true ≡ is_ended session (world_of d)
+      → Served tells past faults (AtIndex at (IsAt (TellsEnded session))) old new before later
+      → Served tells past faults (AtIndex at (λ setup place. IsSend place session body)) old new before later
+  tells-ended at session body old new before later d there is served =
+      served-weaker tells past faults (AtIndex at (IsAt (TellsEnded session)))
+      (AtIndex at (λ setup place. IsSend place session body)) old new before later served
+      (λ setup n events r st allowed. (
+        allowed.0,
+        allowed.1,
+        rule-if (is_ended session (n.queue allowed.0)) (Is (At allowed.0 (TellsEnded session)))
+            (Is (At allowed.0 (Submits session body))) n events
+            (ended-is setup n at allowed.0 session old d true st allowed.1 there is) allowed.2,
+      ))
+
+  pub submits : (at session : ℕ) (body : Unstamped) (old new : Held D) (before later : List ℕ) (d : DeskState)
+      → drop at old.desks ≡ d ∷ drop (at + 1) old.desks → false ≡ is_ended session (world_of d)
+      → Served tells past faults (AtIndex at (IsAt (Submits session body))) old new before later
+      → Served tells past faults (AtIndex at (λ setup place. IsSend place session body)) old new before later
+  submits at session body old new before later d there is served =
+      served-weaker tells past faults (AtIndex at (IsAt (Submits session body)))
+      (AtIndex at (λ setup place. IsSend place session body)) old new before later served
+      (λ setup n events r st allowed. (
+        allowed.0,
+        allowed.1,
+        rule-else (is_ended session (n.queue allowed.0)) (Is (At allowed.0 (TellsEnded session)))
+            (Is (At allowed.0 (Submits session body))) n events
+            (ended-is setup n at allowed.0 session old d false st allowed.1 there is) allowed.2,
+      ))
+
+  pub resends-none : (session : ℕ) (old new : Held D) (before later : List ℕ)
+      → ((setup : Setup) (n : Node) → Stands tells past setup old n → true ≡ some_queue setup (is_ended session) n)
+      → Served tells past faults (λ setup. Is SaysEnded) old new before later
+      → Served tells past faults (λ setup. IsResend setup session) old new before later
+  resends-none session old new before later is served =
+      served-weaker tells past faults (λ setup. Is SaysEnded) (λ setup. IsResend setup session) old new before later served
+      (λ setup n events r st allowed.
+      rule-if (some_queue setup (is_ended session) n) (Is SaysEnded)
+      (ForEach setup.places (λ place. Is (At place (Resends session)))) n events (sym (is setup n st)) allowed)
+
+  pub resends : (session : ℕ) (old new : Held D) (before later : List ℕ)
+      → ((setup : Setup) (n : Node) → Stands tells past setup old n → false ≡ some_queue setup (is_ended session) n)
+      → Served tells past faults (λ setup. ForEach setup.places (IsAt (Resends session) setup)) old new before later
+      → Served tells past faults (λ setup. IsResend setup session) old new before later
+  resends session old new before later is served =
+      served-weaker tells past faults (λ setup. ForEach setup.places (IsAt (Resends session) setup))
+      (λ setup. IsResend setup session) old new before later served
+      (λ setup n events r st allowed.
+      rule-else (some_queue setup (is_ended session) n) (Is SaysEnded)
+      (ForEach setup.places (λ place. Is (At place (Resends session)))) n events (sym (is setup n st)) allowed)
 
   -- where the node is up
   pub where-up : (event : Event) (at : ℕ) (old new : Held D) (before later : List ℕ)

@@ -1,8 +1,7 @@
 -- A node that is crashed, opened or restarted.
-use Rattle.std.proofs.Common.{◌≡◌, ◌≤◌, ℕ, Bool, true, false, not, List, [], ◌∷◌, Option, Some, None, refl, sym, ap, ◌∙◌, subst, arith, append-nil}
+use Rattle.std.proofs.Common.{◌≡◌, ◌≤◌, ℕ, Bool, true, false, List, [], ◌∷◌, Option, Some, None, refl, sym, ap, ◌∙◌, subst, arith, append-nil}
 use Rattle.std.specs.Global.{Vec}
-use Rattle.std.specs.Prelude.{IsTrue, is_some}
-use Rattle.std.specs.List.{AllByRecursion, list_all}
+use Rattle.std.specs.Prelude.{IsTrue}
 use Rattle.std.proofs.lemmas.Bool.{false≢true}
 use Rattle.qq_base.specs.declared.ids.QueueId.{QueueId}
 use Rattle.qq_desk.specs.Desk.{DeskState}
@@ -12,11 +11,11 @@ use Rattle.qq_log.specs.declared.lane.Lane.{Lane}
 use Rattle.qq_log.specs.Stable.{Stable}
 use Rattle.qq_recover.specs.declared.fault.RecoverFault.{RecoverFault}
 use Rattle.qq_recover.specs.declared.fault.RecoverFault.TheVariants as recover_fault
-use Rattle.qq_recover.specs.Recovered.{IsLaneFor, IsNoRefusal, IsRecoverCaused}
+use Rattle.qq_recover.specs.Recovered.{IsAtEnd, IsLaneFor, IsNoRefusal, IsRecoverCaused}
 use Rattle.qq_wal.specs.Running.{StaysWhole}
 use Rattle.qq_world.specs.Node.{Setup, Node, NodeEvent, Crashes, Fails, new_node, node_happens}
 use Rattle.qq_world.specs.Rules.{Then, some_queue}
-use Rattle.qq_world.specs.World.{Stops, is_up}
+use Rattle.qq_world.specs.World.{World, Stops, is_up}
 use Rattle.qq_node_laws.specs.Reads.{IsReached}
 use Rattle.qq_node_laws.specs.Serves.{Serves, seen_of}
 use Rattle.qq_node_laws.specs.Traced.{LeavesImage, IsTraced}
@@ -27,16 +26,19 @@ use Rattle.qq_yards.specs.Yard.{IsNew}
 use Rattle.qq_node.specs.declared.node.Node.{Node as Held}
 use Rattle.qq_node.specs.declared.node.NodeLog.{NodeLog}
 use Rattle.qq_node.specs.declared.node.NodeLog.TheVariants.{Open, Closed}
+use Rattle.qq_node.specs.declared.opening.OpenFault.{OpenFault}
+use Rattle.qq_node.specs.declared.opening.OpenFault.TheVariants as open_fault
 use Rattle.qq_node.specs.declared.recovering.Found.{Found}
 use Rattle.qq_node.specs.Desks.{AllDo}
 use Rattle.qq_node.specs.Found.{AreDistinct, AreLanes, FailsLinked, HasFound}
 use Rattle.qq_node.specs.Log.{IsWhole}
 use Rattle.qq_node.specs.Node.{GaveUp, IsLogAt, IsRunning, Served, Stands, disk_in, seen}
-use Rattle.qq_node.specs.Restarting.{HasBegun, HasCrashed, IsOpenCaused, IsSetFor, opening_fault}
+use Rattle.qq_node.specs.Restarting.{HasBegun, HasCrashed, IsOpenCaused, IsSetFor, TellsFirstFound, opening_fault}
 use Rattle.qq_node.proofs.Carried.{apart-distinct}
 use Rattle.qq_node.proofs.EachDesk.{all-done}
 use Rattle.qq_node.proofs.Finding.{new-promised, new-whole, none-found}
 use Rattle.qq_node.proofs.Moments.{crashed-traced}
+use Rattle.qq_node.proofs.NoneFound.{AreNone, FoundAt, found-at}
 
 module _ {D : Type 0} (tells : D → Bool) (past : D → List Disk) (faults : D → ℕ) where
   -- ---- crashes
@@ -79,17 +81,10 @@ module _ {D : Type 0} (tells : D → Bool) (past : D → List Disk) (faults : D 
   may-begin setup queues desks set =
       subst AreDistinct (sym set.queues_are) (apart-distinct setup setup.places set.apart)
 
-  all-none : (lanes : List (Option Lane)) → list_all (λ (lane : Option Lane). not (is_some lane)) lanes ≡ true
-      → AllByRecursion (λ (lane : Option Lane). lane ≡ None) lanes
-  all-none [] none = tt
-  all-none (None ∷ lanes) none = (refl, all-none lanes none)
-  all-none (Some lane ∷ lanes) none = absurd (false≢true none)
-
   -- the node behind recovery
   pub begun : (setup : Setup) (queues : List QueueId) (log_bytes : ℕ) (disk : D) (f : Found D) (new : Held D)
       → IsSetFor setup queues new.desks → (IsTrue (tells disk) → IsNew (past disk))
-      → HasFound tells past queues log_bytes disk f
-      → list_all (λ (lane : Option Lane). not (is_some lane)) f.lanes.items ≡ true
+      → HasFound tells past queues log_bytes disk f → AreNone f.lanes.items
       → (IsTrue (tells disk) → StaysWhole (past disk) (past f.wal.disk)) → tells f.wal.disk ≡ tells disk
       → faults disk ≤ faults f.wal.disk → new.queues.items ≡ queues → new.auto ≡ true → new.log ≡ Open f.wal
       → HasBegun tells past faults setup disk new
@@ -101,7 +96,7 @@ module _ {D : Type 0} (tells : D → Bool) (past : D → List Disk) (faults : D 
         waiting = found.waiting;
         going = found.going;
         carries = found.goes_on_new setup set.queues_are
-            (none-found queues found.lanes f.lanes.items found.each (all-none f.lanes.items none));
+            (none-found queues found.lanes f.lanes.items found.each none);
       } in
       let still : IsWhole tells past f.wal.disk =
       λ tell. (let before : IsTrue (tells disk) = subst (λ (b : Bool). IsTrue b) told tell in
@@ -128,29 +123,51 @@ module _ {D : Type 0} (tells : D → Bool) (past : D → List Disk) (faults : D 
   silent false never = refl
 
   -- on a new disk no queue has ops
-  pub never-used : (setup : Setup) (queues : List QueueId) (desks : List DeskState) (log_bytes : ℕ) (disk : D) (f : Found D)
+  new-none : (setup : Setup) (queues : List QueueId) (desks : List DeskState) (log_bytes : ℕ) (disk : D) (f : Found D)
       → IsSetFor setup queues desks → (IsTrue (tells disk) → IsNew (past disk))
-      → HasFound tells past queues log_bytes disk f
-      → list_all (λ (lane : Option Lane). not (is_some lane)) f.lanes.items ≡ false → tells disk ≡ false
-  never-used setup queues desks log_bytes disk f set fresh found used =
-      silent (tells disk) (λ tell. false≢true (sym used ∙ by tell queues f.lanes.items found.each))
+      → HasFound tells past queues log_bytes disk f → IsTrue (tells disk) → AreNone f.lanes.items
+  new-none setup queues desks log_bytes disk f set fresh found tell = by queues f.lanes.items found.each
     where
-      by : IsTrue (tells disk) → (ids : List QueueId) (lanes : List (Option Lane)) → AreLanes ids found.lanes lanes
-          → list_all (λ (lane : Option Lane). not (is_some lane)) lanes ≡ true
-      by tell [] [] are = refl
-      by tell [] (lane ∷ lanes) are = absurd are
-      by tell (id ∷ ids) [] are = absurd are
-      by tell (id ∷ ids) (None ∷ lanes) are = by tell ids lanes are.1
-      by tell (id ∷ ids) (Some lane ∷ lanes) are =
+      by : (ids : List QueueId) (lanes : List (Option Lane)) → AreLanes ids found.lanes lanes → AreNone lanes
+      by [] [] are = tt
+      by [] (lane ∷ lanes) are = absurd are
+      by (id ∷ ids) [] are = absurd are
+      by (id ∷ ids) (None ∷ lanes) are = (refl, by ids lanes are.1)
+      by (id ∷ ids) (Some lane ∷ lanes) are =
           absurd (subst (λ (o : Option Stable). IsLaneFor id o (Some lane))
           ((found.begins tell setup set.queues_are (fresh tell)).none id.0) are.0)
+
+  -- so what is found of one is on a disk that tells nothing
+  pub found-caused : (setup : Setup) (queues : List QueueId) (desks : List DeskState) (log_bytes : ℕ) (disk : D)
+      (f : Found D) (before later : ℕ) (fault : OpenFault) → IsSetFor setup queues desks
+      → (IsTrue (tells disk) → IsNew (past disk)) → HasFound tells past queues log_bytes disk f
+      → TellsFirstFound desks f.lanes.items fault → IsOpenCaused setup (tells disk) before later fault
+  found-caused setup queues desks log_bytes disk f before later fault set fresh found first =
+      by fault (found-at setup setup.places desks f.lanes.items fault set.desks_are first)
+    where
+      by : (fault : OpenFault) → FoundAt setup setup.places f.lanes.items fault
+          → IsOpenCaused setup (tells disk) before later fault
+      by open_fault.Disk at = absurd at.tells
+      by (open_fault.Damaged file place) at = absurd at.tells
+      by (open_fault.Version file byte) at = absurd at.tells
+      by (open_fault.Lost name noticed op) at = (
+        silent (tells disk)
+            (λ tell. at.some (new-none setup queues desks log_bytes disk f set fresh found tell)),
+        record {
+          place = at.place;
+          among = at.among;
+          name_is = at.tells.0 ∙ at.is_desk.name_is;
+          noticed_is = at.tells.1 ∙ ap (λ (w : World). w.server.noticed) at.is_desk.world_is;
+        },
+      )
+      by (open_fault.Memory memory) at = subst IsAtEnd (sym at.tells) tt
 
   -- nor is one refused
   pub open-caused : (setup : Setup) (queues : List QueueId) (desks : List DeskState) (disk given : D)
       (fault : RecoverFault) → IsSetFor setup queues desks → (IsTrue (tells disk) → IsNew (past disk))
       → (IsTrue (tells disk) → FailsLinked queues (past disk) (past given) fault)
       → IsRecoverCaused (faults disk) (faults given) fault
-      → IsOpenCaused (tells disk) (faults disk) (faults given) (opening_fault fault)
+      → IsOpenCaused setup (tells disk) (faults disk) (faults given) (opening_fault fault)
   open-caused setup queues desks disk given fault set fresh fails cause = by fault fails cause
     where
       refused : (fault : RecoverFault) → (IsTrue (tells disk) → FailsLinked queues (past disk) (past given) fault)
@@ -162,7 +179,7 @@ module _ {D : Type 0} (tells : D → Bool) (past : D → List Disk) (faults : D 
 
       by : (fault : RecoverFault) → (IsTrue (tells disk) → FailsLinked queues (past disk) (past given) fault)
           → IsRecoverCaused (faults disk) (faults given) fault
-          → IsOpenCaused (tells disk) (faults disk) (faults given) (opening_fault fault)
+          → IsOpenCaused setup (tells disk) (faults disk) (faults given) (opening_fault fault)
       by recover_fault.Disk fails cause = cause
       by (recover_fault.Damaged file place) fails cause =
           silent (tells disk) (refused (recover_fault.Damaged file place) fails)

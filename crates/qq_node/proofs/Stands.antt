@@ -6,10 +6,10 @@ use Rattle.std.specs.List.{list_any, list_all}
 use Rattle.qq_base.specs.declared.ids.QueueId.{QueueId}
 use Rattle.qq_disk.specs.Disk.{Disk}
 use Rattle.qq_desk.specs.Desk.{DeskState, world_of}
-use Rattle.qq_world.specs.Node.{Setup, Node, NodeEvent, Sets, Alike, At, Fails, Crashes, FindsEach, Shows, SaysDown, SaysBusy, auto_after, node_happens, node_after, text_of}
-use Rattle.qq_world.specs.Rules.{Is, Then, some_queue, is_node_up, is_idle, is_settled}
+use Rattle.qq_world.specs.Node.{Setup, Node, NodeEvent, Alike, At, Shows, auto_after, node_happens, node_after, text_of}
+use Rattle.qq_world.specs.Rules.{Is, Then, is_node_up, is_idle, is_settled}
 use Rattle.qq_wal.specs.Wal.{carries_ahead}
-use Rattle.qq_world.specs.World.{World, Event, Mutes, Ticks, Submits, Resends, Writes, Syncs, Notices, Stops, Finds, is_up, after, happens}
+use Rattle.qq_world.specs.World.{World, Event, is_up, after, happens}
 use Rattle.qq_node_laws.specs.Quiet.{IsQuiet, IsUnseen}
 use Rattle.qq_node_laws.specs.Reads.{IsReached}
 use Rattle.qq_node_laws.specs.Serves.{GivesUp, Seen, Serves}
@@ -17,7 +17,7 @@ use Rattle.qq_node_laws.proofs.Promises.{reached-after}
 use Rattle.qq_node_laws.proofs.Quiet.{still-up}
 use Rattle.qq_node_laws.proofs.Serves.{gives_up-behind, gives_up-same, serves-both, serves-nothing, serves-quiet, serves-weaker}
 use Rattle.qq_node.specs.declared.desks.Ask.{Ask}
-use Rattle.qq_node.specs.declared.desks.Ask.TheVariants.{Submit, Resend, Tick, Notice}
+use Rattle.qq_node.specs.declared.desks.Ask.TheVariants.{Submit, TellEnded, Resend, Down, Tick, Notice}
 use Rattle.qq_desk.specs.Text.{state_text_as}
 use Rattle.qq_node.specs.declared.node.Node.{Node as Held}
 use Rattle.qq_node.specs.declared.node.NodeLog.{NodeLog}
@@ -52,7 +52,9 @@ place-at setup n desks at are lt = (
 
 pub asked-unseen : (ask : Ask) → IsUnseen (asked ask)
 asked-unseen (Submit session body) = tt
+asked-unseen (TellEnded session) = tt
 asked-unseen (Resend session) = tt
+asked-unseen (Down session) = tt
 asked-unseen Tick = tt
 asked-unseen Notice = tt
 

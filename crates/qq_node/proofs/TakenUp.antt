@@ -1,6 +1,6 @@
 -- A stopped node is restarted: its queues take up what was found of them.
-use Rattle.std.proofs.Common.{◌≡◌, ◌≤◌, ◌⊎◌, ℕ, Bool, true, false, ◌&&◌, List, [], ◌∷◌, Option, length, map, refl, sym, ap, ◌∙◌, subst, inl, inr, append-nil}
-use Rattle.std.specs.Prelude.{IsTrue, nat_le}
+use Rattle.std.proofs.Common.{◌≡◌, ◌≤◌, ◌⊎◌, ℕ, suc, Bool, true, false, ◌&&◌, List, [], ◌∷◌, Option, length, map, refl, sym, ap, ◌∙◌, subst, inl, inr, append-nil, arith}
+use Rattle.std.specs.Prelude.{Contains, IsTrue, nat_le}
 use Rattle.std.specs.List.{AllByRecursion}
 use Rattle.std.proofs.lemmas.Bool.{false≢true}
 use Rattle.std.proofs.lemmas.List.{length-map}
@@ -96,18 +96,21 @@ module _ {D : Type 0} (tells : D → Bool) (past : D → List Disk) (faults : D 
       first true b c is = refl
       first false b c is = absurd (false≢true is)
 
-  -- some queue may not, and so the queue at its place
+  -- some queue may not, and so the queue at its place, which is one of the node's
   pub lost-place : (setup : Setup) (n : Node) (places : List ℕ) (desks : List DeskState) (found : List (Option Lane))
-      (name : List ℕ) (noticed op : ℕ) → is_node_up setup n ≡ false → AreDesks setup n places desks
-      → SomeIsLost desks found name noticed op → IsLostOf setup n name noticed op
-  lost-place setup n [] [] found name noticed op down are lost = absurd lost
-  lost-place setup n [] (d ∷ desks) found name noticed op down are lost = absurd are
-  lost-place setup n (p ∷ places) [] found name noticed op down are lost = absurd are
-  lost-place setup n (p ∷ places) (d ∷ desks) [] name noticed op down are lost = absurd lost
-  lost-place setup n (p ∷ places) (d ∷ desks) (l ∷ found) name noticed op down are (inr lost) =
-      lost-place setup n places desks found name noticed op down are.1 lost
-  lost-place setup n (p ∷ places) (d ∷ desks) (l ∷ found) name noticed op down are (inl lost) = record {
+      (name : List ℕ) (noticed op : ℕ) → ((q : ℕ) → Contains places q → Contains setup.places q)
+      → is_node_up setup n ≡ false → AreDesks setup n places desks → SomeIsLost desks found name noticed op
+      → IsLostOf setup n name noticed op
+  lost-place setup n [] [] found name noticed op own down are lost = absurd lost
+  lost-place setup n [] (d ∷ desks) found name noticed op own down are lost = absurd are
+  lost-place setup n (p ∷ places) [] found name noticed op own down are lost = absurd are
+  lost-place setup n (p ∷ places) (d ∷ desks) [] name noticed op own down are lost = absurd lost
+  lost-place setup n (p ∷ places) (d ∷ desks) (l ∷ found) name noticed op own down are (inr lost) =
+      lost-place setup n places desks found name noticed op
+      (λ q there. own q (suc there.0, omega (arith, there.1), there.2)) down are.1 lost
+  lost-place setup n (p ∷ places) (d ∷ desks) (l ∷ found) name noticed op own down are (inl lost) = record {
     place = p;
+    among = own p (0, omega arith, refl);
     lane = told l;
     stopped = down;
     lost = λ may. lost.lost (subst (λ (w : World). MayTakeUp w.server (told l)) (sym are.0.world_is) may);
@@ -122,7 +125,7 @@ module _ {D : Type 0} (tells : D → Bool) (past : D → List Disk) (faults : D 
   restart-caused setup n desks found (restart_fault.Damaged file place) down are cause = tt
   restart-caused setup n desks found (restart_fault.Version file byte) down are cause = tt
   restart-caused setup n desks found (restart_fault.Lost name noticed op) down are cause =
-      lost-place setup n setup.places desks found name noticed op down are cause
+      lost-place setup n setup.places desks found name noticed op (λ q there. there) down are cause
   restart-caused setup n desks found (restart_fault.Memory memory) down are cause =
       subst IsAtEnd (sym cause) tt
 

@@ -5,9 +5,9 @@ use Rattle.qq_log.specs.declared.op.Op.{Op}
 use Rattle.qq_node_laws.specs.Waiting.{ops_waiting}
 use Rattle.qq_desk.specs.Desk.{DeskState, Does, IsSameQueue, world_of}
 use Rattle.qq_desk.specs.Range.{MayStamp}
-use Rattle.qq_world.specs.World.{Event, Submits, Resends, Ticks, Notices, Writes, Syncs, Stops, happens}
+use Rattle.qq_world.specs.World.{Event, Submits, TellsEnded, Resends, Downs, Ticks, Notices, Writes, Syncs, Stops, happens}
 use Rattle.qq_node.specs.declared.desks.Ask.{Ask}
-use Rattle.qq_node.specs.declared.desks.Ask.TheVariants.{Submit, Resend, Tick, Notice}
+use Rattle.qq_node.specs.declared.desks.Ask.TheVariants.{Submit, TellEnded, Resend, Down, Tick, Notice}
 use Rattle.qq_node.specs.declared.log.SyncOutcome.{SyncOutcome}
 use Rattle.qq_node.specs.declared.log.SyncOutcome.TheVariants.{Whole, NoFile, Nothing}
 use Rattle.qq_node.specs.declared.desks.LogStep.{LogStep}
@@ -22,13 +22,16 @@ event_of step.Stops = Stops
 -- what is asked of a queue is this event
 abbrev pub asked : Ask → Event
 asked (Submit session body) = Submits session body
+asked (TellEnded session) = TellsEnded session
 asked (Resend session) = Resends session
+asked (Down session) = Downs session
 asked Tick = Ticks
 asked Notice = Notices
 
 -- a command that a queue is handed is a client's, and has bytes
 abbrev pub MayAsk : Ask → Type 0
 MayAsk (Submit session body) = (0 < session) × MayStamp body
+MayAsk (Down session) = 0 < session
 MayAsk _ = Unit {0}
 
 -- an event has happened to each queue

@@ -1,5 +1,5 @@
 -- How a node is opened, crashed and restarted.
-use Rattle.std.specs.Prelude.{◌≡◌, ◌≤◌, ◌⊎◌, ℕ, Bool, false, List, [], ◌∷◌, ◌++◌, Option, Err, IsTrue, codes}
+use Rattle.std.specs.Prelude.{◌≡◌, ◌≤◌, ◌⊎◌, ℕ, Bool, false, List, [], ◌∷◌, ◌++◌, Option, Some, None, Err, IsTrue, codes, Contains}
 use Rattle.std.specs.Global.{Vec}
 use Rattle.qq_base.specs.Causes.{Rose}
 use Rattle.qq_base.specs.declared.ids.QueueId.{QueueId}
@@ -70,14 +70,35 @@ pub record HasBegun {D : Type 0} (tells : D → Bool) (past : D → List Disk) (
   pub rises : faults disk ≤ faults (disk_in new.log)
   pub moments : IsTrue (tells disk) → IsTraced setup (new_node setup) [] (past disk) (past (disk_in new.log))
 
+-- what an opening tells where this was found of a new queue, or there is no memory for its name
+abbrev pub TellsFound : DeskState → Lane → OpenFault → Type 0
+TellsFound d lane (open_fault.Lost name noticed found) =
+    (name ≡ d.name) × (noticed ≡ d.server.noticed) × (found ≡ lane.op)
+TellsFound d lane (open_fault.Memory memory) = memory ≡ Want
+TellsFound d lane _ = ⊥
+
+-- and so of the first queue that has a lane
+abbrev pub TellsFirstFound : List DeskState → List (Option Lane) → OpenFault → Type 0
+TellsFirstFound (d ∷ desks) (Some lane ∷ lanes) fault = TellsFound d lane fault
+TellsFirstFound (d ∷ desks) (None ∷ lanes) fault = TellsFirstFound desks lanes fault
+TellsFirstFound _ _ fault = ⊥
+
+-- it is a queue of a new node, of which nothing was noticed
+pub record IsFoundOfNew (setup : Setup) (name : List ℕ) (noticed : ℕ) : Type 0 where
+  pub place : ℕ
+  pub among : Contains setup.places place
+  pub name_is : name ≡ setup.name place
+  pub noticed_is : noticed ≡ 0
+
 -- Why a node isn't opened: the disk's count of faults rose, or it holds something, or there was no memory, or a number is at
 -- its end. A disk that tells its contents, on which nothing ever was, is never refused for what it holds.
-abbrev pub IsOpenCaused : Bool → ℕ → ℕ → OpenFault → Type 0
-IsOpenCaused tells before now open_fault.Disk = Rose before now
-IsOpenCaused tells before now (open_fault.Damaged file place) = tells ≡ false
-IsOpenCaused tells before now (open_fault.Version file byte) = tells ≡ false
-IsOpenCaused tells before now open_fault.NotEmpty = tells ≡ false
-IsOpenCaused tells before now (open_fault.Memory memory) = IsAtEnd memory
+abbrev pub IsOpenCaused : Setup → Bool → ℕ → ℕ → OpenFault → Type 0
+IsOpenCaused setup tells before now open_fault.Disk = Rose before now
+IsOpenCaused setup tells before now (open_fault.Damaged file place) = tells ≡ false
+IsOpenCaused setup tells before now (open_fault.Version file byte) = tells ≡ false
+IsOpenCaused setup tells before now (open_fault.Lost name noticed found) =
+    (tells ≡ false) × IsFoundOfNew setup name noticed
+IsOpenCaused setup tells before now (open_fault.Memory memory) = IsAtEnd memory
 
 -- ---- a restart
 
@@ -122,6 +143,7 @@ IsTakeAllCaused desks lanes (restart_fault.Memory memory) = memory ≡ Want
 -- recovery finds of the queue at a place of a stopped node what its server may not take up
 pub record IsLostOf (setup : Setup) (n : Node) (name : List ℕ) (noticed found : ℕ) : Type 0 where
   pub place : ℕ
+  pub among : Contains setup.places place
   pub lane : Stable
   pub stopped : is_node_up setup n ≡ false
   pub lost : MayTakeUp (n.queue place).server lane → ⊥

@@ -3,7 +3,7 @@ ghost use Rattle.std.specs.Prelude.{◌≡◌, ◌<◌, IfErr, IsOkUnless, OnErr
 ghost use Rattle.qq_desk.specs.Range.{MayStamp};
 ghost use Rattle.qq_recover.specs.Recovered.{IsAtEnd};
 ghost use Rattle.qq_world.specs.Node.{Setup};
-ghost use Rattle.qq_world.specs.Rules.{IsLine, Notice, Resend, Send, Show, Sync, Tick, WhereUp, Write};
+ghost use Rattle.qq_world.specs.Rules.{End, IsLine, Notice, Resend, Send, Show, Sync, Tick, WhereUp, Write};
 ghost use Rattle.qq_node.specs.Desks.{MayAsk, asked};
 ghost use Rattle.qq_node.specs.Node.{AtQueue, CanServe, GaveUp, IsAt, Served};
 
@@ -38,7 +38,7 @@ impl<D: NodeDisk> Node<D> {
             Some(at) => at,
             None => return Ok(()),
         };
-        if let Err(cause) = self.ask(alloc, at, Ask::Submit { session, body }, text) {
+        if let Err(cause) = self.submit_at(alloc, at, session, body, text) {
             return Err(cause);
         }
         if let Err(cause) = self.pumped(alloc, text) {
@@ -57,7 +57,30 @@ impl<D: NodeDisk> Node<D> {
         ensures err { OnErr result (GaveUp D.tells D.past D.faults self.old self.new) }
         ensures cause { IfErr result IsAtEnd }
     {
-        if let Err(cause) = self.resend_each(alloc, session, text) {
+        if let Err(cause) = self.resend_all(alloc, session, text) {
+            return Err(cause);
+        }
+        if let Err(cause) = self.pumped(alloc, text) {
+            return Err(cause);
+        }
+        Ok(())
+    }
+
+    /// A session ends at each queue: it gives no more commands, and each queue that had one is told so. A pump
+    /// follows where one is to. `Spent` comes only where a number stands at its end.
+    pub fn end(&mut self, alloc: Global, session: u64, text: &mut Vec<u8>) -> Result<(), Memory>
+        requires serve { CanServe D.tells D.past self.old }
+        requires session { 0 < session }
+        ensures ok { OnOk result (Served D.tells D.past D.faults
+            (λ (setup : Setup). IsLine setup (End session))
+            self.old self.new text.old.items text.new.items) }
+        ensures err { OnErr result (GaveUp D.tells D.past D.faults self.old self.new) }
+        ensures cause { IfErr result IsAtEnd }
+    {
+        if let Err(cause) = self.mark_ended(alloc, session) {
+            return Err(cause);
+        }
+        if let Err(cause) = self.down_each(alloc, session, text) {
             return Err(cause);
         }
         if let Err(cause) = self.pumped(alloc, text) {

@@ -3,8 +3,8 @@ ghost use Rattle.std.specs.Prelude.{◌≡◌, ◌<◌, ◌+◌, ◌++◌, ◌�
 ghost use Rattle.std.specs.List.{list_all, list_any};
 ghost use Rattle.qq_desk.specs.Desk.{DeskState, Does, IsSameQueue, world_of};
 ghost use Rattle.qq_recover.specs.Recovered.{IsAtEnd};
-ghost use Rattle.qq_world.specs.Rules.{is_settled, waits_synced, waits_written};
-ghost use Rattle.qq_world.specs.World.{Mutes, Stops, happens, is_up};
+ghost use Rattle.qq_world.specs.Rules.{is_ended, is_settled, waits_synced, waits_written};
+ghost use Rattle.qq_world.specs.World.{Ends, Mutes, Stops, happens, is_up};
 ghost use Rattle.qq_node.specs.Restarting.{AllTake, IsTakeAllCaused};
 ghost use Rattle.qq_node.specs.Desks.{AllDo, DoesAt, HasSettled, MayAsk, asked, event_of};
 
@@ -34,8 +34,12 @@ pub(crate) enum LogStep {
 pub(crate) enum Ask {
     /// A client gives a command the next number and sends it.
     Submit { session: u64, body: Unstamped },
+    /// A session that has ended is to give a command.
+    TellEnded { session: u64 },
     /// A client sends its open commands again.
     Resend { session: u64 },
+    /// The queue is told that a session has ended.
+    Down { session: u64 },
     /// The server's clock ticks.
     Tick,
     /// The server notices what is synced.
@@ -91,6 +95,19 @@ fn mute_each(alloc: Global, session: u64, muted: bool, desks: &mut [Desk]) -> Re
     Ok(())
 }
 
+fn end_each(alloc: Global, session: u64, desks: &mut [Desk]) -> Result<(), Memory>
+    requires { 0 < session }
+    ensures ok { OnOk result (AllDo (Ends session) desks.old desks.new) }
+    ensures want { IsOkUnless result Memory.Want }
+{
+    'desks: for desk in desks.iter_mut() {
+        if let Err(cause) = desk.end(alloc, session) {
+            return Err(cause);
+        }
+    }
+    Ok(())
+}
+
 fn ask_desk(desk: &mut Desk, alloc: Global, ask: Ask, out: &mut Vec<u8>) -> Result<(), Memory>
     requires { MayAsk ask }
     ensures ok { OnOk result (Does (asked ask) desk.old desk.new out.old.items out.new.items) }
@@ -99,7 +116,9 @@ fn ask_desk(desk: &mut Desk, alloc: Global, ask: Ask, out: &mut Vec<u8>) -> Resu
 {
     match ask {
         Ask::Submit { session, body } => desk.submit(alloc, session, body, out),
+        Ask::TellEnded { session } => desk.tell_ended(alloc, session, out),
         Ask::Resend { session } => desk.resend(alloc, session, out),
+        Ask::Down { session } => desk.down(alloc, session, out),
         Ask::Tick => desk.tick(alloc),
         Ask::Notice => desk.notice(alloc, out),
     }
@@ -150,6 +169,15 @@ impl Desks {
         ensures want { IsOkUnless result Memory.Want }
     {
         mute_each(alloc, session, muted, &mut self.rows)
+    }
+
+    /// A session ends at each queue.
+    pub(crate) fn end(&mut self, alloc: Global, session: u64) -> Result<(), Memory>
+        requires { 0 < session }
+        ensures ok { OnOk result (AllDo (Ends session) self.old self.new) }
+        ensures want { IsOkUnless result Memory.Want }
+    {
+        end_each(alloc, session, &mut self.rows)
     }
 
     /// The queue at a place does what is asked of it. `Spent` comes only where a number stands at its end.
@@ -218,6 +246,13 @@ impl Desks {
         ensures { result ≡ list_all (λ (d : DeskState). is_up (world_of d)) self.now }
     {
         self.rows.iter().all(|desk| desk.is_up())
+    }
+
+    /// Whether a session has ended at some queue.
+    pub(crate) fn some_ended(&self, session: u64) -> bool
+        ensures { result ≡ list_any (λ (d : DeskState). is_ended session (world_of d)) self.now }
+    {
+        self.rows.iter().any(|desk| desk.is_ended(session))
     }
 
     /// Whether an op of some queue waits to be written.

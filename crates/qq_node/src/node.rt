@@ -1,9 +1,9 @@
 //! A node: its queues over one log.
 ghost use Rattle.std.specs.Prelude.{◌≡◌, ◌<◌, ◌++◌, ◌∷◌, [], not, ◌&&◌, ℕ, List, Contains, codes, drop, length, IfOk, IfErr, IfNone, IfSome, IsOkUnless, OnErr, OnOk};
 ghost use Rattle.qq_recover.specs.Recovered.{IsAtEnd};
-ghost use Rattle.qq_world.specs.Node.{Setup, Node as World, Alike, SaysBusy, SaysDown, Sets, Shows};
-ghost use Rattle.qq_world.specs.Rules.{Is, is_idle, is_node_up};
-ghost use Rattle.qq_world.specs.World.{Mutes};
+ghost use Rattle.qq_world.specs.Node.{Setup, Node as World, Alike, SaysBusy, SaysDown, SaysEnded, Sets, Shows};
+ghost use Rattle.qq_world.specs.Rules.{Is, is_ended, is_idle, is_node_up, some_queue};
+ghost use Rattle.qq_world.specs.World.{Ends, Mutes};
 ghost use Rattle.qq_node_laws.specs.Reads.{queue_at};
 ghost use Rattle.qq_node.specs.Desks.{MayAsk, asked};
 ghost use Rattle.qq_node.specs.Node.{AtIndex, CanServe, GaveUp, IsAt, IsQueueAt, Served, Stands};
@@ -129,6 +129,26 @@ impl<D: NodeDisk> Node<D> {
         self.desks.mute(alloc, session, muted)
     }
 
+    // A session ends at each queue.
+    pub(crate) fn mark_ended(&mut self, alloc: Global, session: u64) -> Result<(), Memory>
+        requires serve { CanServe D.tells D.past self.old }
+        requires session { 0 < session }
+        ensures ok { OnOk result ((text : List ℕ) → Served D.tells D.past D.faults
+            (λ setup. Is (Alike (Ends session))) self.old self.new text text) }
+        ensures err { OnErr result (GaveUp D.tells D.past D.faults self.old self.new) }
+        ensures want { IsOkUnless result Memory.Want }
+    {
+        self.desks.end(alloc, session)
+    }
+
+    // Whether a session has ended at some queue.
+    pub(crate) fn is_ended(&self, session: u64) -> bool
+        ensures { (setup : Setup) (n : World) → Stands D.tells D.past setup self.now n →
+            result ≡ some_queue setup (is_ended session) n }
+    {
+        self.desks.some_ended(session)
+    }
+
     /// Whether a pump follows each line of a client from here on.
     pub fn set_auto(&mut self, auto: bool)
         requires { CanServe D.tells D.past self.old }
@@ -156,6 +176,16 @@ impl<D: NodeDisk> Node<D> {
         ensures want { IsOkUnless result Memory.Want }
     {
         push_text(text, "busy\n")
+    }
+
+    // The commands of a session that has ended are to be sent again.
+    pub(crate) fn say_ended(&self, text: &mut Vec<u8>) -> Result<(), Memory>
+        requires { CanServe D.tells D.past self.now }
+        ensures ok { OnOk result (Served D.tells D.past D.faults (λ setup. Is SaysEnded)
+            self.now self.now text.old.items text.new.items) }
+        ensures want { IsOkUnless result Memory.Want }
+    {
+        push_text(text, "ended\n")
     }
 
     // Adds the state of a queue's server.

@@ -1,19 +1,19 @@
 //! A node is opened.
-ghost use Rattle.std.specs.Prelude.{◌≡◌, ◌≤◌, IsTrue, IfOk, IfErr, Option, is_some, not};
-ghost use Rattle.std.specs.List.{list_all};
+ghost use Rattle.std.specs.Prelude.{◌≡◌, ◌≤◌, IsTrue, IfOk, IfErr, OnOk, None, Option, length};
+ghost use Rattle.std.specs.List.{AllByRecursion};
 ghost use Rattle.qq_log.specs.declared.lane.Lane.{Lane as LaneOf};
 ghost use Rattle.qq_world.specs.Node.{Setup, new_node};
 ghost use Rattle.qq_world.specs.Rules.{IsOpening};
 ghost use Rattle.qq_node_laws.specs.Serves.{Serves, seen_of};
 ghost use Rattle.qq_yards.specs.Yard.{IsNew};
 ghost use Rattle.qq_node.specs.Node.{Stands, disk_in, seen};
-ghost use Rattle.qq_node.specs.Restarting.{HasBegun, IsOpenCaused, IsSetFor, opening_fault};
+ghost use Rattle.qq_node.specs.Restarting.{HasBegun, IsOpenCaused, IsSetFor, TellsFirstFound, TellsFound, opening_fault};
 
 use crate::crashing::into_disk;
 use crate::desks::Desks;
 use crate::node::{Node, NodeLog};
 use crate::recovering::{Found, recover_log};
-use qq_base::{Memory, QueueId};
+use qq_base::{Duplicate, Memory, QueueId, Text};
 use qq_desk::Desk;
 use qq_disk::{FileName, NodeDisk};
 use qq_log::Lane;
@@ -22,7 +22,7 @@ use std::alloc::Global;
 use thiserror::Error;
 
 /// Why a node isn't opened.
-#[derive(Clone, Copy, Debug, PartialEq, Eq, Error)]
+#[derive(Debug, Drop, Error)]
 pub enum OpenFault {
     /// The disk failed.
     #[error("the disk failed")]
@@ -43,9 +43,16 @@ pub enum OpenFault {
         /// The version.
         byte: u8,
     },
-    /// The disk holds ops of a node before.
-    #[error("the disk isn't empty")]
-    NotEmpty,
+    /// The disk holds ops of a queue, which begins with none: somebody else wrote them.
+    #[error("ops of another run were found")]
+    Lost {
+        /// The first such queue's name.
+        name: Text,
+        /// How many of its ops were noticed as synced: 0.
+        noticed: u64,
+        /// The number of the last op that was found.
+        found: u64,
+    },
     /// There was no memory, or a number is at its end.
     #[error("out of memory or numbers")]
     Memory(Memory),
@@ -62,10 +69,33 @@ fn fault_at_opening(fault: RecoverFault) -> OpenFault
     }
 }
 
-fn are_none(lanes: &[Option<Lane>]) -> bool
-    ensures { result ≡ list_all (λ (lane : Option LaneOf). not (is_some lane)) lanes.now }
+fn found_of(desk: &Desk, alloc: Global, lane: &Lane) -> OpenFault
+    ensures { TellsFound desk.now lane.now result }
 {
-    lanes.iter().all(|lane| !lane.is_some())
+    let noticed = desk.noticed() as u64;
+    match desk.name().copy(alloc) {
+        Ok(name) => OpenFault::Lost {
+            name,
+            noticed,
+            found: lane.op,
+        },
+        Err(memory) => OpenFault::Memory(memory),
+    }
+}
+
+// A new queue begins with nothing, so one of which something was found isn't what its files say.
+fn find_none(desks: &Desks, alloc: Global, lanes: &[Option<Lane>]) -> Result<(), OpenFault>
+    requires { length lanes.now ≡ length desks.now }
+    ensures ok { OnOk result
+        (AllByRecursion (λ (lane : Option LaneOf). lane ≡ None) lanes.now) }
+    ensures cause { IfErr result (TellsFirstFound desks.now lanes.now) }
+{
+    'lanes: for at in 0..lanes.len() {
+        if let Some(lane) = &lanes[at] {
+            return Err(found_of(desks.at(at), alloc, lane));
+        }
+    }
+    Ok(())
 }
 
 fn disk_of<D: NodeDisk>(node: Node<D>) -> D
@@ -88,15 +118,15 @@ fn begin<D: NodeDisk>(
         IfOk result (HasBegun D.tells D.past D.faults setup disk) }
     ensures told { IfErr result (λ e. D.tells e.1 ≡ D.tells disk) }
     ensures later { IfErr result (λ e. D.faults disk ≤ D.faults e.1) }
-    ensures cause { IfErr result (λ e.
-        IsOpenCaused (D.tells disk) (D.faults disk) (D.faults e.1) e.0) }
+    ensures cause { (setup : Setup) → IsSetFor setup queues.items desks → IfErr result (λ e.
+        IsOpenCaused setup (D.tells disk) (D.faults disk) (D.faults e.1) e.0) }
 {
     let Found { wal, lanes } = match recover_log(disk, alloc, &queues, log_bytes) {
         Ok(found) => found,
         Err((fault, disk)) => return Err((fault_at_opening(fault), disk)),
     };
-    if !are_none(&lanes) {
-        return Err((OpenFault::NotEmpty, wal.into_disk()));
+    if let Err(fault) = find_none(&desks, alloc, &lanes) {
+        return Err((fault, wal.into_disk()));
     }
     Ok(Node {
         desks,
@@ -110,8 +140,9 @@ fn begin<D: NodeDisk>(
 /// Opens a node with these new queues, of which the ids are given in the same order: each queue's clock ticks
 /// once, and a pump follows. The disk is a new one where it tells its contents. An error hands the disk back.
 ///
-/// `Disk` comes only where the disk's count of faults rose, `Damaged`, `Version` and `NotEmpty` only where it
-/// doesn't tell its contents and isn't a new one. `Spent` comes only where a number stands at its end.
+/// `Disk` comes only where the disk's count of faults rose, `Damaged`, `Version` and `Lost` only where it
+/// doesn't tell its contents and isn't a new one. `Lost` tells the first queue in order of which ops were found.
+/// `Spent` comes only where a number stands at its end.
 pub fn open_node<D: NodeDisk>(
     disk: D,
     alloc: Global,
@@ -128,8 +159,8 @@ pub fn open_node<D: NodeDisk>(
         (seen D.tells D.past D.faults node) text.old.items text.new.items) }
     ensures told { IfErr result (λ e. D.tells e.1 ≡ D.tells disk) }
     ensures later { IfErr result (λ e. D.faults disk ≤ D.faults e.1) }
-    ensures cause { IfErr result (λ e.
-        IsOpenCaused (D.tells disk) (D.faults disk) (D.faults e.1) e.0) }
+    ensures cause { (setup : Setup) → IsSetFor setup queues.items desks.items → IfErr result (λ e.
+        IsOpenCaused setup (D.tells disk) (D.faults disk) (D.faults e.1) e.0) }
 {
     let mut node = match begin(disk, alloc, queues, Desks::new(desks), log_bytes) {
         Ok(node) => node,

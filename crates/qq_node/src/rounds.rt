@@ -2,14 +2,16 @@
 ghost use Rattle.std.specs.Prelude.{◌≡◌, ◌<◌, length, IfErr, OnErr, OnOk};
 ghost use Rattle.qq_recover.specs.Recovered.{IsAtEnd};
 ghost use Rattle.qq_world.specs.Node.{Setup};
-ghost use Rattle.qq_world.specs.Rules.{ForEach, IsNotice, IsPump, IsPumped, IsRound};
-ghost use Rattle.qq_world.specs.World.{Resends, Ticks};
+ghost use Rattle.qq_world.specs.Rules.{ForEach, IsNotice, IsPump, IsPumped, IsResend, IsRound, IsSend};
+ghost use Rattle.qq_desk.specs.Range.{MayStamp};
+ghost use Rattle.qq_world.specs.World.{Downs, Resends, Ticks};
 ghost use Rattle.qq_node.specs.Node.{AtIndex, CanServe, GaveUp, IsAt, Served};
 
 use crate::desks::Ask;
 use crate::node::Node;
 use qq_base::Memory;
 use qq_disk::NodeDisk;
+use qq_entry::Unstamped;
 use std::alloc::Global;
 
 /// How many rounds a pump makes at most.
@@ -48,6 +50,83 @@ impl<D: NodeDisk> Node<D> {
         let count = self.desks.len();
         'places: for at in 0..count {
             if let Err(cause) = self.notice_at(alloc, at, text) {
+                return Err(cause);
+            }
+        }
+        Ok(())
+    }
+
+    // A session gives a command at a queue, or is told that it has ended.
+    pub(crate) fn submit_at(
+        &mut self,
+        alloc: Global,
+        at: usize,
+        session: u64,
+        body: Unstamped,
+        text: &mut Vec<u8>,
+    ) -> Result<(), Memory>
+        requires serve { CanServe D.tells D.past self.old }
+        requires place { at < length self.old.desks }
+        requires session { 0 < session }
+        requires range { MayStamp body }
+        ensures ok { OnOk result (Served D.tells D.past D.faults
+            (AtIndex at (λ (setup : Setup) place. IsSend place session body))
+            self.old self.new text.old.items text.new.items) }
+        ensures err { OnErr result (GaveUp D.tells D.past D.faults self.old self.new) }
+        ensures cause { IfErr result IsAtEnd }
+    {
+        let ended = self.desks.at(at).is_ended(session);
+        if ended {
+            return self.ask(alloc, at, Ask::TellEnded { session }, text);
+        }
+        self.ask(alloc, at, Ask::Submit { session, body }, text)
+    }
+
+    // A session sends its open commands again, or it has ended.
+    pub(crate) fn resend_all(
+        &mut self,
+        alloc: Global,
+        session: u64,
+        text: &mut Vec<u8>,
+    ) -> Result<(), Memory>
+        requires { CanServe D.tells D.past self.old }
+        ensures ok { OnOk result (Served D.tells D.past D.faults
+            (λ (setup : Setup). IsResend setup session)
+            self.old self.new text.old.items text.new.items) }
+        ensures err { OnErr result (GaveUp D.tells D.past D.faults self.old self.new) }
+        ensures cause { IfErr result IsAtEnd }
+    {
+        let ended = self.is_ended(session);
+        if ended {
+            if let Err(cause) = self.say_ended(text) {
+                return Err(cause);
+            }
+            return Ok(());
+        }
+        if let Err(cause) = self.resend_each(alloc, session, text) {
+            return Err(cause);
+        }
+        Ok(())
+    }
+
+    // Each queue is told that a session has ended.
+    pub(crate) fn down_each(
+        &mut self,
+        alloc: Global,
+        session: u64,
+        text: &mut Vec<u8>,
+    ) -> Result<(), Memory>
+        requires serve { CanServe D.tells D.past self.old }
+        requires session { 0 < session }
+        ensures ok { OnOk result (Served D.tells D.past D.faults
+            (λ (setup : Setup). ForEach setup.places (IsAt (Downs session) setup))
+            self.old self.new text.old.items text.new.items) }
+        ensures err { OnErr result (GaveUp D.tells D.past D.faults self.old self.new) }
+        ensures cause { IfErr result IsAtEnd }
+    {
+        let count = self.desks.len();
+        'places: for at in 0..count {
+            if let Err(cause) = self.ask(alloc, at, Ask::Down { session }, text) {
                 return Err(cause);
             }
         }

@@ -7,9 +7,9 @@ use Rattle.qq_entry.specs.declared.audit.AuditRow.{AuditRow}
 use Rattle.qq_log.specs.Stable.{Stable}
 use Rattle.qq_model.specs.Audit.{entries_of}
 use Rattle.qq_model.proofs.Soundness.{Contains-in, in_contains}
-use Rattle.qq_world.specs.Node.{Setup, NodeEvent, Printed, Of, Stopped, IsDown, Busy, State, new_node, node_after, all_prints}
+use Rattle.qq_world.specs.Node.{Setup, NodeEvent, Printed, Of, Stopped, IsDown, Busy, Ended, State, new_node, node_after, all_prints}
 use Rattle.qq_world.specs.Promise.{HoldsAudit}
-use Rattle.qq_world.specs.World.{Answered, Delivered, NoLeader, WindowFull}
+use Rattle.qq_world.specs.World.{Answered, Delivered, NoLeader, WindowFull, HasEnded}
 use Rattle.qq_world.proofs.EachQueue.{IsOwn, all-own}
 use Rattle.qq_world.proofs.Worlds.{sound-world}
 use Rattle.qq_node_laws.specs.Answers.{HasEntry, IsKept, KeepsAnswers}
@@ -52,7 +52,9 @@ keeps-answers setup events d linked =
     one (Of place (Delivered consumer delivery)) own = tt
     one (Of place (NoLeader session)) own = tt
     one (Of place (WindowFull session)) own = tt
+    one (Of place (HasEnded session)) own = tt
     one Stopped own = tt
     one IsDown own = tt
     one Busy own = tt
+    one Ended own = tt
     one (State place server) own = tt

@@ -5,7 +5,9 @@ use Rattle.std.specs.List.{AllByRecursion}
 use Rattle.std.proofs.lemmas.Bool.{cond_both}
 use Rattle.qq_base.proofs.Fronts.{all-front, front-take}
 use Rattle.qq_base.proofs.Lists.{AllByRecursion-append}
+use Rattle.qq_base.specs.Ids.{client}
 use Rattle.qq_entry.specs.declared.command.Command.{Command}
+use Rattle.qq_entry.specs.declared.command.Command.TheVariants as commands
 use Rattle.qq_entry.specs.declared.command.Command.TheVariants.{Noop}
 use Rattle.qq_entry.specs.declared.command.Entry.{Entry}
 use Rattle.qq_entry.specs.declared.queue.QueueArgs.{QueueArgs}
@@ -13,7 +15,7 @@ use Rattle.qq_session.specs.Publishing.{Numbers, next_command, hand, open_comman
 use Rattle.qq_world.specs.Laws.{world_after}
 use Rattle.qq_world.specs.Node.{Setup, Node, parts_of}
 use Rattle.qq_world.specs.Server.{Server, Role, Down, Follower, Candidate, Leader, is_ready, tick_by, entry_of, go_on, hand_out, next_op, submit, may_restart}
-use Rattle.qq_world.specs.World.{World, Event, Mutes, Ticks, Submits, Resends, Writes, Syncs, Notices, Stops, Finds, new_world, is_up, may_hand, offer, offer_all, set_numbers, tell, find, happens, after}
+use Rattle.qq_world.specs.World.{World, Event, Mutes, Ends, Ticks, Submits, TellsEnded, Resends, Downs, Writes, Syncs, Notices, Stops, Finds, new_world, is_up, may_hand, is_used, offer, offer_all, set_numbers, tell, find, happens, after}
 use Rattle.qq_world.proofs.EachQueue.{has-queues}
 use Rattle.qq_world.proofs.Worlds.{reached}
 use Rattle.qq_node_laws.specs.Reads.{IsReached, queue_at}
@@ -65,6 +67,11 @@ taken op s own =
 
 own-happens : (w : World) (event : Event) → OwnWorld w → OwnWorld (happens w event)
 own-happens w (Mutes session muted) own = own
+own-happens w (Ends session) own = own
+own-happens w (TellsEnded session) own = own
+own-happens w (Downs session) own =
+    cond_both (is_used (w.clients session).numbers) (offer (commands.Down (client session)) w) w OwnWorld
+    (λ _. offered (commands.Down (client session)) w own) (λ _. own)
 own-happens w Ticks own = ticked w.server.role w.server own
 own-happens w (Submits session body) own =
     let n : Numbers = (w.clients session).numbers in

@@ -7,15 +7,17 @@ use Rattle.qq_base.proofs.Fronts.{front-more, front-refl, front-trans}
 use Rattle.qq_base.proofs.Lists.{AllByRecursion-weaker}
 use Rattle.qq_disk.specs.Disk.{Disk}
 use Rattle.qq_disk.proofs.Moments.{adds-none}
+use Rattle.qq_base.specs.Ids.{client}
 use Rattle.qq_entry.specs.declared.command.Command.{Command}
+use Rattle.qq_entry.specs.declared.command.Command.TheVariants as commands
 use Rattle.qq_entry.specs.declared.command.Command.TheVariants.{Noop}
 use Rattle.qq_entry.specs.declared.command.Entry.{Entry}
 use Rattle.qq_log.specs.declared.op.Op.{Op}
 use Rattle.qq_session.specs.Publishing.{Numbers, next_command, hand, open_commands}
-use Rattle.qq_world.specs.Node.{Setup, Node, NodeEvent, Sets, Alike, At, Fails, Crashes, FindsEach, Shows, SaysDown, SaysBusy, node_happens}
+use Rattle.qq_world.specs.Node.{Setup, Node, NodeEvent, Sets, Alike, At, Fails, Crashes, FindsEach, Shows, SaysDown, SaysBusy, SaysEnded, node_happens}
 use Rattle.qq_world.specs.Rules.{some_queue}
 use Rattle.qq_world.specs.Server.{Server, Role, Down, Follower, Candidate, Leader, is_ready, tick_by, entry_of, go_on, hand_out, next_op, submit}
-use Rattle.qq_world.specs.World.{World, Event, Mutes, Ticks, Submits, Resends, Writes, Syncs, Notices, Stops, Finds, is_up, may_hand, offer, offer_all, set_numbers, tell, happens, after}
+use Rattle.qq_world.specs.World.{World, Event, Mutes, Ends, Ticks, Submits, TellsEnded, Resends, Downs, Writes, Syncs, Notices, Stops, Finds, is_up, may_hand, is_used, offer, offer_all, set_numbers, tell, happens, after}
 use Rattle.qq_world.proofs.Lawful.{take-front}
 use Rattle.qq_world.proofs.Serving.{IsCalm, calm-part}
 use Rattle.qq_world.proofs.Worlds.{SoundWorld}
@@ -81,6 +83,11 @@ offer_all-extends (command ∷ commands) w =
 
 extends : (w : World) (event : Event) → IsUnseen event → Extends w (happens w event)
 extends w (Mutes session muted) unseen = record { ops = front-refl w.server.ops; written = refl; synced = refl }
+extends w (Ends session) unseen = record { ops = front-refl w.server.ops; written = refl; synced = refl }
+extends w (TellsEnded session) unseen = same w
+extends w (Downs session) unseen =
+    cond_both (is_used (w.clients session).numbers) (offer (commands.Down (client session)) w) w (Extends w)
+    (λ _. offer-extends (commands.Down (client session)) w) (λ _. same w)
 extends w Ticks unseen = record { ops = tick-extends w.server.role w.server; written = refl; synced = refl }
 extends w (Submits session body) unseen =
     let n : Numbers = (w.clients session).numbers in
@@ -116,6 +123,7 @@ part-extends n (FindsEach ops) place quiet = absurd quiet
 part-extends n (Shows own) place quiet = same (n.queue place)
 part-extends n SaysDown place quiet = same (n.queue place)
 part-extends n SaysBusy place quiet = same (n.queue place)
+part-extends n SaysEnded place quiet = same (n.queue place)
 
 still-promised : (w v : World) (noticed given : List Op) → Extends w v → IsPromised w noticed given
     → IsPromised v noticed given
@@ -140,6 +148,9 @@ calm (Alike event) quiet = by event quiet
   where
     by : (event : Event) → IsUnseen event → IsCalm (Alike event)
     by (Mutes session muted) unseen = tt
+    by (Ends session) unseen = tt
+    by (TellsEnded session) unseen = tt
+    by (Downs session) unseen = tt
     by Ticks unseen = tt
     by (Submits session body) unseen = tt
     by (Resends session) unseen = tt
@@ -152,6 +163,9 @@ calm (At place event) quiet = by event quiet
   where
     by : (event : Event) → IsUnseen event → IsCalm (Alike event)
     by (Mutes session muted) unseen = tt
+    by (Ends session) unseen = tt
+    by (TellsEnded session) unseen = tt
+    by (Downs session) unseen = tt
     by Ticks unseen = tt
     by (Submits session body) unseen = tt
     by (Resends session) unseen = tt
@@ -166,6 +180,7 @@ calm (FindsEach ops) quiet = absurd quiet
 calm (Shows place) quiet = tt
 calm SaysDown quiet = tt
 calm SaysBusy quiet = tt
+calm SaysEnded quiet = tt
 
 -- as many queues are up
 pub still-up : (setup : Setup) (n : Node) (event : NodeEvent) → IsQuiet event
@@ -218,3 +233,4 @@ quiet-keeps setup n (FindsEach ops) past quiet = absurd quiet
 quiet-keeps setup n (Shows place) past quiet = adds-none (HasAudits setup n) past
 quiet-keeps setup n SaysDown past quiet = adds-none (HasAudits setup n) past
 quiet-keeps setup n SaysBusy past quiet = adds-none (HasAudits setup n) past
+quiet-keeps setup n SaysEnded past quiet = adds-none (HasAudits setup n) past

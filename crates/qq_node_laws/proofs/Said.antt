@@ -9,7 +9,7 @@ use Rattle.qq_entry.specs.declared.audit.AuditRow.{AuditRow}
 use Rattle.qq_entry.specs.declared.command.Entry.{Entry}
 use Rattle.qq_log.specs.Stable.{Stable}
 use Rattle.qq_model.specs.Audit.{entries_of}
-use Rattle.qq_world.specs.Node.{Setup, Node, NodeEvent, Sets, Alike, At, Fails, Crashes, FindsEach, Shows, SaysDown, SaysBusy, node_happens, node_after, part_of}
+use Rattle.qq_world.specs.Node.{Setup, Node, NodeEvent, Sets, Alike, At, Fails, Crashes, FindsEach, Shows, SaysDown, SaysBusy, SaysEnded, node_happens, node_after, part_of}
 use Rattle.qq_world.specs.Promise.{HoldsAudit}
 use Rattle.qq_world.proofs.Worlds.{follows-all}
 use Rattle.qq_node_laws.specs.Linked.{IsLinked}
@@ -62,6 +62,7 @@ calm-moments setup n (FindsEach ops) old new no_crash keeps = keeps.1
 calm-moments setup n (Shows place) old new no_crash keeps = keeps
 calm-moments setup n SaysDown old new no_crash keeps = keeps
 calm-moments setup n SaysBusy old new no_crash keeps = keeps
+calm-moments setup n SaysEnded old new no_crash keeps = keeps
 
 calm-fair : (setup : Setup) (event : NodeEvent) (d : Disk) → IsNoCrash event → IsFair setup event d
 calm-fair setup (Sets auto) d no_crash = tt
@@ -73,6 +74,7 @@ calm-fair setup (FindsEach ops) d no_crash = tt
 calm-fair setup (Shows place) d no_crash = tt
 calm-fair setup SaysDown d no_crash = tt
 calm-fair setup SaysBusy d no_crash = tt
+calm-fair setup SaysEnded d no_crash = tt
 
 -- at each moment each queue has the audit that it had at first
 pub trace-moments : (setup : Setup) (n : Node) (events : List NodeEvent) (old new : List Disk) → IsReached setup n

@@ -8,7 +8,7 @@ use Rattle.std.proofs.lemmas.List.Folds.{list_any-append}
 use Rattle.qq_base.specs.Causes.{Rose}
 use Rattle.qq_disk.specs.Disk.{now}
 use Rattle.qq_disk.proofs.Moments.{adds-none}
-use Rattle.qq_world.specs.Node.{Setup, Node, NodeEvent, Sets, Alike, At, Fails, Crashes, FindsEach, Shows, SaysDown, SaysBusy, Printed, node_happens, node_after, prints, all_prints, printed_text, text_of}
+use Rattle.qq_world.specs.Node.{Setup, Node, NodeEvent, Sets, Alike, At, Fails, Crashes, FindsEach, Shows, SaysDown, SaysBusy, SaysEnded, Printed, node_happens, node_after, prints, all_prints, printed_text, text_of}
 use Rattle.qq_world.specs.NodeLaws.{is_failure, has_failure}
 use Rattle.qq_world.specs.Rules.{Then}
 use Rattle.qq_world.proofs.Serving.{after-both}
@@ -176,6 +176,7 @@ serves-quiet setup n event Allowed Stands a before later r quiet allowed stands 
     no_failure (Shows place) quiet failed = false≢true failed
     no_failure SaysDown quiet failed = false≢true failed
     no_failure SaysBusy quiet failed = false≢true failed
+    no_failure SaysEnded quiet failed = false≢true failed
 
     no_crash : (event : NodeEvent) → IsQuiet event → IsNoCrash event
     no_crash (Sets auto) quiet = tt
@@ -187,6 +188,7 @@ serves-quiet setup n event Allowed Stands a before later r quiet allowed stands 
     no_crash (Shows place) quiet = tt
     no_crash SaysDown quiet = tt
     no_crash SaysBusy quiet = tt
+    no_crash SaysEnded quiet = tt
 
 -- ---- loops
 

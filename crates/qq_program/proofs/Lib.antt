@@ -12,3 +12,6 @@ pub mod Endings
 pub mod Closings
 pub mod Named
 pub mod Looping
+pub mod Worked
+pub mod PrintedOnce
+pub mod Serial

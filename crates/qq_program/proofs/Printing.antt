@@ -1,5 +1,5 @@
 -- What runs print, and which statuses are left where all lines are served.
-use Rattle.std.proofs.Common.{◌≡◌, ℕ, ◌+◌, suc, List, [], ◌∷◌, ◌++◌, length, Err, inl, inr, refl, sym, ap, subst, ◌∙◌, append-nil, zero-add, arith}
+use Rattle.std.proofs.Common.{◌≡◌, ◌⊎◌, ℕ, ◌+◌, suc, false, List, [], ◌∷◌, ◌++◌, length, Err, inl, inr, refl, sym, ap, subst, ◌∙◌, append-nil, zero-add, arith}
 use Rattle.std.proofs.lemmas.Bool.{cases_lt}
 use Rattle.qq_lines.specs.declared.fault.ScriptFault.{ScriptFault}
 use Rattle.qq_lines.specs.declared.fault.ScriptFault.TheVariants as faults
@@ -7,7 +7,7 @@ use Rattle.qq_defs.specs.declared.setup.Setup.{Setup}
 use Rattle.qq_options.specs.declared.options.Options.{Options}
 use Rattle.qq_calls.specs.Queues.{node_setup}
 use Rattle.qq_world.specs.Node.{Setup as NodeSetup, new_node}
-use Rattle.qq_world.specs.NodeLaws.{LeavesNoChoice}
+use Rattle.qq_world.specs.NodeLaws.{LeavesNoChoice, has_failure, findings}
 use Rattle.qq_world.specs.Rules.{Line, IsRun}
 use Rattle.qq_program.specs.declared.ending.TheConstants.{LINES_LIMIT}
 use Rattle.qq_program.specs.Endings.{limit_lines}
@@ -15,13 +15,19 @@ use Rattle.qq_program.specs.Inputs.{Input, inputs_of}
 use Rattle.qq_program.specs.Reading.{Asks, Ends, read_input, says_by, says, AskFor}
 use Rattle.qq_program.specs.Serving.{Behind}
 use Rattle.qq_program.specs.Statuses.{Streams, HasEnded, Over, run_over, IsNext, PassesLimit, Told, Done, Refused, ReadFault, WriteFault, YardFault, Damaged, Lost, Limited, NoMemory, Spent}
-use Rattle.qq_program.specs.Printing.{GoAlike, HasNoFault, IsServedStatus}
+use Rattle.qq_program.specs.Printing.{HasNoFault}
 use Rattle.qq_program.proofs.Says.{says_within, says_past}
 use Rattle.qq_program.proofs.Statuses.{told}
 
 -- ---- two runs over the same lines
 
-asked-once : (s : Setup) (before : ℕ) (inputs : List Input) (lines others : List Line) → AskFor s before inputs lines
+-- where no call of the disk failed and restarts found the same, they went alike
+abbrev GoAlike : {s : Setup} {all : List Input} → Behind s all [] → Behind s all [] → Type 0
+GoAlike b c =
+    has_failure b.events ≡ false → has_failure c.events ≡ false → findings b.events ≡ findings c.events
+    → b.events ≡ c.events
+
+pub asked-once : (s : Setup) (before : ℕ) (inputs : List Input) (lines others : List Line) → AskFor s before inputs lines
     → AskFor s before inputs others → lines ≡ others
 asked-once s before [] [] [] asked also = refl
 asked-once s before [] [] (other ∷ others) asked also = absurd also
@@ -47,6 +53,10 @@ go_alike settle s all b c fine also same =
     c.allowed) fine also same
 
 -- ---- a line that asks for a call doesn't end the script
+
+-- all is served, the disk or its files stop the run, there is no memory, or a number stands at its end
+abbrev IsServedStatus : ℕ → Type 0
+IsServedStatus n = (n ≡ 0) ⊎ ((n ≡ 7) ⊎ ((n ≡ 8) ⊎ ((n ≡ 9) ⊎ ((n ≡ 12) ⊎ (n ≡ 20)))))
 
 record AsksFor (s : Setup) (lines : ℕ) (input : Input) : Type 0 where
   line : Line

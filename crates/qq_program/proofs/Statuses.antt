@@ -1,5 +1,5 @@
 -- What an exit status tells of a run.
-use Rattle.std.proofs.Common.{◌≡◌, ℕ, ◌+◌, Result, Ok, Err, List, ◌++◌, Some, inl, inr, refl, sym, ap, subst, ◌∙◌, codes, arith}
+use Rattle.std.proofs.Common.{◌≡◌, ℕ, ◌+◌, take, Result, Ok, Err, List, ◌++◌, Some, inl, inr, refl, sym, ap, subst, ◌∙◌, codes, arith}
 use Rattle.std.proofs.lemmas.Bool.{cases_lt}
 use Rattle.qq_lines.specs.declared.fault.ScriptFault.{ScriptFault}
 use Rattle.qq_lines.specs.declared.fault.ScriptFault.TheVariants as faults
@@ -10,14 +10,14 @@ use Rattle.qq_world.specs.Rules.{Line, Crash, Restart}
 use Rattle.qq_program.specs.declared.ending.TheConstants.{LINES_LIMIT}
 use Rattle.qq_program.specs.declared.stop.Stop.{Stop}
 use Rattle.qq_program.specs.declared.stop.Stop.TheVariants as stops
-use Rattle.qq_program.specs.Endings.{Ending, usage, refusal, limit_body, limit_lines}
+use Rattle.qq_program.specs.Endings.{Ending, usage, refusal, limit_body, limit_lines, no_memory}
 use Rattle.qq_program.specs.Inputs.{Input}
 use Rattle.qq_program.specs.Reading.{Asks, Ends, read_input, says_by, says}
 use Rattle.qq_program.specs.Serving.{StopsAt, MayStop, EndsRun}
 use Rattle.qq_program.specs.Runs.{HasStopped, ending_of, IsSetup, MayNotOpen, Closes, HasRun}
 use Rattle.qq_program.proofs.Says.{says_within, says_past}
 use Rattle.qq_program.specs.Troubles.{Damage, AtPlace, OfVersion, damage_ending, damage_text}
-use Rattle.qq_program.specs.Statuses.{Streams, SourceRose, SinkRose, HasEnded, HasEndedAtWords, Over, run_over, Prints, IsNext, Met, PrintsAlone, CutWithin, CutAtClosing, CutAtOpening, NoDisk, AtCrash, DamagedAtOpening, DamagedAtRestart, PassesLimit, NoneAtOpening, NoneWithin, SpentAtOpening, SpentAtLine, Told, Done, Refused, ReadFault, WriteFault, YardFault, Damaged, Lost, Limited, NoMemory, Spent}
+use Rattle.qq_program.specs.Statuses.{Streams, SourceRose, SinkRose, HasEnded, HasEndedAtWords, Over, run_over, Prints, IsNext, Met, PrintsAlone, CutWithin, CutAtClosing, CutAtOpening, CutBeforeSetup, NoDisk, AtCrash, DamagedAtOpening, DamagedAtRestart, LostAtOpening, LostAtRestart, PassesLimit, NoneAtOpening, NoneWithin, SpentAtOpening, SpentAtLine, Told, Done, Refused, ReadFault, WriteFault, YardFault, Damaged, Lost, Limited, NoMemory, Spent}
 
 -- ---- before a line is read
 
@@ -32,19 +32,29 @@ damage_says : (damage : Damage) → (damage_ending damage).text ≡ damage_text 
 damage_says (AtPlace file place) = refl
 damage_says (OfVersion file byte) = refl
 
-unopened_told : (n : ℕ) (options : Options) (s : Streams) (ending : Ending) → MayNotOpen (Met s) ending → n ≡ ending.status
+-- there is no memory
+none_told : (n : ℕ) (options : Options) (s : Streams) (ending : Ending) → ending ≡ no_memory → n ≡ ending.status
     → s.rest ≡ s.bytes → s.new ≡ s.old ++ ending.text → Told n options s
-unopened_told n options s ending (inl e) is rest grown =
+none_told n options s ending e is rest grown =
     NoMemory (is ∙ ap (λ (e : Ending). e.status) e)
     (NoneAtOpening (alone s ending.text (codes "memory\n") (ap (λ (e : Ending). e.text) e) rest grown))
-unopened_told n options s ending (inr (inl (cause, e))) is rest grown =
+
+unopened_told : (n : ℕ) (options : Options) (s : Streams) (setup : Setup) → IsSetup options setup → (ending : Ending)
+    → MayNotOpen (Met s) setup ending → n ≡ ending.status → s.rest ≡ s.bytes → s.new ≡ s.old ++ ending.text
+    → Told n options s
+unopened_told n options s setup is_setup ending (inl e) is rest grown = none_told n options s ending e is rest grown
+unopened_told n options s setup is_setup ending (inr (inl (cause, e))) is rest grown =
     YardFault (is ∙ ap (λ (e : Ending). e.status) e)
     (NoDisk cause (alone s ending.text (codes "yard fault\n") (ap (λ (e : Ending). e.text) e) rest grown))
-unopened_told n options s ending (inr (inr (inl (damage, silent, e)))) is rest grown =
+unopened_told n options s setup is_setup ending (inr (inr (inl (damage, silent, e)))) is rest grown =
     Damaged (is ∙ ap (λ (e : Ending). e.status) e ∙ damage_status damage)
     (DamagedAtOpening silent damage
     (alone s ending.text (damage_text damage) (ap (λ (e : Ending). e.text) e ∙ damage_says damage) rest grown))
-unopened_told n options s ending (inr (inr (inr (number, past, e)))) is rest grown =
+unopened_told n options s setup is_setup ending (inr (inr (inr (inl (silent, so))))) is rest grown =
+    Lost (is ∙ ap (λ (e : Ending). e.status) so.is)
+    (LostAtOpening silent setup is_setup so.place so.among so.found
+    (rest, grown ∙ ap (λ (e : Ending). s.old ++ e.text) so.is))
+unopened_told n options s setup is_setup ending (inr (inr (inr (inr (number, past, e))))) is rest grown =
     Spent (is ∙ ap (λ (e : Ending). e.status) e)
     (SpentAtOpening ending.text (number, past, ap (λ (e : Ending). e.text) e) (rest, grown))
 
@@ -119,8 +129,7 @@ stops_told n options s over input Restart ending next asks is grown (inl (damage
     (DamagedAtRestart over damage met (input, next, asks)
     (subst (Prints over) (ap (λ (e : Ending). e.text) e ∙ damage_says damage) grown))
 stops_told n options s over input Restart ending next asks is grown (inr lost) =
-    Lost (is ∙ lost.status_is)
-    (record { over = over; text = ending.text; lost = lost.lost; asks = (input, next, asks); prints = grown })
+    Lost (is ∙ lost.status_is) (LostAtRestart over ending.text lost.lost (input, next, asks) grown)
 stops_told n options s over input _ ending next asks is grown stops = absurd stops
 
 may_stop_told : (n : ℕ) (options : Options) (s : Streams) (over : Over options s) (input : Input) (line : Line)
@@ -174,11 +183,20 @@ closes_told n options s setup is_setup stop (inl (is, stands)) = stopped_told n 
 closes_told n options s setup is_setup stop (inr (is, rose, (count, stands))) =
     WriteFault is rose (CutAtClosing setup is_setup stop count stands)
 
-unopened_closes : (n : ℕ) (options : Options) (s : Streams) (ending : Ending) → MayNotOpen (Met s) ending → s.rest ≡ s.bytes
+unopened_closes : (n : ℕ) (options : Options) (s : Streams) (setup : Setup) → IsSetup options setup → (ending : Ending)
+    → MayNotOpen (Met s) setup ending → s.rest ≡ s.bytes
     → Closes n ending (SinkRose s) (λ more. s.new ≡ s.old ++ more) → Told n options s
-unopened_closes n options s ending may rest (inl (is, grown)) = unopened_told n options s ending may is rest grown
-unopened_closes n options s ending may rest (inr (is, rose, (count, grown))) =
-    WriteFault is rose (CutAtOpening ending may count (rest, grown))
+unopened_closes n options s setup is_setup ending may rest (inl (is, grown)) =
+    unopened_told n options s setup is_setup ending may is rest grown
+unopened_closes n options s setup is_setup ending may rest (inr (is, rose, (count, grown))) =
+    WriteFault is rose (CutAtOpening setup is_setup ending may count (rest, grown))
+
+none_closes : (n : ℕ) (options : Options) (s : Streams) (ending : Ending) → ending ≡ no_memory → s.rest ≡ s.bytes
+    → Closes n ending (SinkRose s) (λ more. s.new ≡ s.old ++ more) → Told n options s
+none_closes n options s ending e rest (inl (is, grown)) = none_told n options s ending e is rest grown
+none_closes n options s ending e rest (inr (is, rose, (count, grown))) =
+    WriteFault is rose
+    (CutBeforeSetup count (rest, grown ∙ ap (λ (e : Ending). s.old ++ take count e.text) e))
 
 -- ---- any run
 
@@ -186,7 +204,7 @@ over_told : (n : ℕ) (options : Options) (s : Streams) (setup : Setup) → IsSe
     → HasRun n setup (Some s.bytes) (Some s.rest) (Some s.old) (Some s.new) (SourceRose s) (SinkRose s) (Met s)
     → Told n options s
 over_told n options s setup is_setup (inl unopened) =
-    unopened_closes n options s unopened.ending unopened.may unopened.keeps unopened.closes
+    unopened_closes n options s setup is_setup unopened.ending unopened.may unopened.keeps unopened.closes
 over_told n options s setup is_setup (inr (inl done)) =
     Done done.status_is
     (record {
@@ -200,7 +218,7 @@ over_told n options s setup is_setup (inr (inr stopped)) =
 
 pub told : (n : ℕ) (options : Options) (s : Streams) → HasEnded n options s → Told n options s
 told n options s (inl unopened) =
-    unopened_closes n options s unopened.ending unopened.may unopened.keeps unopened.closes
+    none_closes n options s unopened.ending unopened.may unopened.keeps unopened.closes
 told n options s (inr over) = over_told n options s over.setup over.is_setup over.ends
 
 -- ---- words that are no command

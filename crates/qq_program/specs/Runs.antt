@@ -1,8 +1,9 @@
 -- How a run ends, and what it has written by then.
-use Rattle.std.specs.Prelude.{◌≡◌, ◌⊎◌, ℕ, List, [], ◌++◌, Option, Some, None, IfSome, take}
+use Rattle.std.specs.Prelude.{◌≡◌, ◌⊎◌, ℕ, List, [], ◌++◌, Option, Some, None, IfSome, take, Contains}
 use Rattle.std.specs.Io.KnownBytes.{Appends, Keeps, IsAtEnd}
 use Rattle.qq_defs.specs.declared.setup.Setup.{Setup}
 use Rattle.qq_defs.specs.Setup.{state_of, plain_setup}
+use Rattle.qq_calls.specs.Queues.{node_setup}
 use Rattle.qq_options.specs.declared.options.Options.{Options}
 use Rattle.qq_ports.specs.Lines.{HasNoFeed}
 use Rattle.qq_program.specs.declared.status.TheConstants.{DONE, WRITE_FAULT}
@@ -10,10 +11,11 @@ use Rattle.qq_program.specs.declared.stop.AskStop.{AskStop}
 use Rattle.qq_program.specs.declared.stop.AskStop.TheVariants as asks
 use Rattle.qq_program.specs.declared.stop.Stop.{Stop}
 use Rattle.qq_program.specs.declared.stop.Stop.TheVariants as stops
-use Rattle.qq_program.specs.Endings.{Ending, usage, read_fault, write_fault, yard_fault, no_memory}
+use Rattle.qq_program.specs.Endings.{Ending, usage, read_fault, write_fault, yard_fault, lost, no_memory}
 use Rattle.qq_program.specs.Inputs.{Input}
 use Rattle.qq_program.specs.Serving.{Run, IsSpentEnd, EndsRun, NextEnds, run_behind, text_behind, audits_behind, Served, IsText}
 use Rattle.qq_program.specs.Troubles.{Damage, Trouble, YardFails, DiskFails, DiskIsSilent, EndsDamaged}
+use Rattle.qq_world.specs.Node.{Setup as NodeSetup}
 
 -- ---- why a run stops, and what was written by then, and then `more`
 
@@ -93,21 +95,29 @@ pub record IsDone (status : ℕ) (s : Setup) (left rest old new : Option (List �
 abbrev pub IsSetup : Options → Setup → Type 0
 IsSetup options s = state_of s ≡ plain_setup 1 1 options.queues options.log_bytes
 
--- the yard has failed, or the disk has, or it doesn't tell what it holds
+-- the yard has failed, or the disk has
 abbrev pub HasNoDisk : (Trouble → Type 0) → Type 0
-HasNoDisk met = met YardFails ⊎ (met DiskFails ⊎ met DiskIsSilent)
+HasNoDisk met = met YardFails ⊎ met DiskFails
 
--- Why a node can't be opened. A disk that tells what it holds is never refused for that.
-abbrev pub MayNotOpen : (Trouble → Type 0) → Ending → Type 0
-MayNotOpen met ending =
+-- so many ops were found of a queue, which begins with none
+pub record EndsFound (setup : NodeSetup) (ending : Ending) : Type 0 where
+  pub place : ℕ
+  pub among : Contains setup.places place
+  pub found : ℕ
+  pub is : ending ≡ lost (setup.name place) 0 found
+
+-- Why a node of a setup can't be opened. A disk that tells what it holds is never refused for that.
+abbrev pub MayNotOpen : (Trouble → Type 0) → Setup → Ending → Type 0
+MayNotOpen met s ending =
     (ending ≡ no_memory) ⊎ ((HasNoDisk met × (ending ≡ yard_fault))
-    ⊎ (EndsDamaged (λ (damage : Damage). met DiskIsSilent) ending ⊎ IsSpentEnd ending))
+    ⊎ (EndsDamaged (λ (damage : Damage). met DiskIsSilent) ending
+    ⊎ ((met DiskIsSilent × EndsFound (node_setup s.queues) ending) ⊎ IsSpentEnd ending)))
 
--- nothing was read, and a closing line alone was written
-pub record IsUnopened (status : ℕ) (left rest old new : Option (List ℕ)) (sink : Type 0) (met : Trouble → Type 0)
+-- nothing was read, and a closing line alone was written, of an ending that may come
+pub record IsUnopened (status : ℕ) (left rest old new : Option (List ℕ)) (sink : Type 0) (May : Ending → Type 0)
     : Type 0 where
   pub ending : Ending
-  pub may : MayNotOpen met ending
+  pub may : May ending
   pub keeps : Keeps left rest
   pub closes : Closes status ending sink (λ more. Appends old new more)
 
@@ -121,7 +131,7 @@ pub record IsStopped (status : ℕ) (s : Setup) (left rest old new : Option (Lis
 abbrev pub HasRun : (status : ℕ) → Setup → (left rest old new : Option (List ℕ)) → (source sink : Type 0)
     → (met : Trouble → Type 0) → Type 0
 HasRun status s left rest old new source sink met =
-    IsUnopened status left rest old new sink met
+    IsUnopened status left rest old new sink (MayNotOpen met s)
     ⊎ (IsDone status s left rest old new ⊎ IsStopped status s left rest old new source sink met)
 
 -- a run over a node of a setup with these options
@@ -131,12 +141,12 @@ pub record IsRunOver (status : ℕ) (options : Options) (left rest old new : Opt
   pub is_setup : IsSetup options setup
   pub ends : HasRun status setup left rest old new source sink met
 
--- What a run has done that ends with this status, where the words are a script with these options, and where they
--- are no command.
+-- What a run has done that ends with this status, where the words are a script with these options, of which there may be
+-- no memory for the queues, and where they are no command.
 abbrev pub RunEnds : (status : ℕ) → Option Options → (left rest old new : Option (List ℕ))
     → (source sink : Type 0) → (met : Trouble → Type 0) → Type 0
 RunEnds status (Some options) left rest old new source sink met =
-    IsUnopened status left rest old new sink met
+    IsUnopened status left rest old new sink (λ ending. ending ≡ no_memory)
     ⊎ IsRunOver status options left rest old new source sink met
 RunEnds status None left rest old new source sink met =
     Keeps left rest × Closes status usage sink (λ more. Appends old new more)

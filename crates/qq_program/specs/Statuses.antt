@@ -9,10 +9,10 @@ use Rattle.qq_lines.specs.declared.fault.ScriptFault.TheVariants.{Body}
 use Rattle.qq_options.specs.declared.options.Options.{Options}
 use Rattle.qq_ports.specs.Lines.{HasNoFeed}
 use Rattle.qq_calls.specs.Queues.{node_setup}
-use Rattle.qq_world.specs.Endings.{IsLost}
+use Rattle.qq_world.specs.Endings.{IsLost, lost_text}
 use Rattle.qq_world.specs.Rules.{Line, Crash, Restart}
 use Rattle.qq_program.specs.declared.stop.Stop.{Stop}
-use Rattle.qq_program.specs.Endings.{Ending, fault_text}
+use Rattle.qq_program.specs.Endings.{Ending, fault_text, no_memory}
 use Rattle.qq_program.specs.Inputs.{Input}
 use Rattle.qq_program.specs.Reading.{Asks, read_input, says}
 use Rattle.qq_program.specs.Serving.{Run, run_behind, text_behind, audits_behind, Served}
@@ -126,12 +126,13 @@ pub data IsCutOff (options : Options) (s : Streams) : Type 0 where
   CutAtClosing : (setup : Setup) → IsSetup options setup → (stop : Stop) (count : ℕ)
       → HasStopped stop setup (Some s.bytes) (Some s.rest) (Some s.old) (Some s.new) (SourceRose s) (SinkRose s)
       (Met s) (take count (ending_of stop).text) → IsCutOff options s
-  CutAtOpening : (ending : Ending) → MayNotOpen (Met s) ending → (count : ℕ) → PrintsAlone s (take count ending.text)
-      → IsCutOff options s
+  CutAtOpening : (setup : Setup) → IsSetup options setup → (ending : Ending) → MayNotOpen (Met s) setup ending
+      → (count : ℕ) → PrintsAlone s (take count ending.text) → IsCutOff options s
+  CutBeforeSetup : (count : ℕ) → PrintsAlone s (take count no_memory.text) → IsCutOff options s
 
--- 7: when the node was opened the yard has failed, or the disk has, or it held something; or the yard has failed at a crash.
+-- 7: when the node was opened the yard has failed, or the disk has; or the yard has failed at a crash.
 pub data IsYardFault (options : Options) (s : Streams) : Type 0 where
-  NoDisk : YardRose s ⊎ (DiskRose s ⊎ (s.disk_tells ≡ false)) → PrintsAlone s (codes "yard fault\n") → IsYardFault options s
+  NoDisk : YardRose s ⊎ DiskRose s → PrintsAlone s (codes "yard fault\n") → IsYardFault options s
   AtCrash : YardRose s → (over : Over options s) (image : Image) → NextAsks over (Crash image)
       → Prints over (codes "yard fault\n") → IsYardFault options s
 
@@ -141,13 +142,15 @@ pub data MeetsDamage (options : Options) (s : Streams) : Type 0 where
   DamagedAtRestart : (over : Over options s) (damage : Damage) → Contains s.damages damage → NextAsks over Restart
       → Prints over (damage_text damage) → MeetsDamage options s
 
--- 9: a restart finds of a queue what its server may not take up.
-pub record HasLost (options : Options) (s : Streams) : Type 0 where
-  pub over : Over options s
-  pub text : List ℕ
-  pub lost : IsLost (node_setup over.setup.queues) (run_over over).node text
-  pub asks : NextAsks over Restart
-  pub prints : Prints over text
+-- 9: a restart finds of a queue what its server may not take up; or when the node is opened ops are found of a queue, which
+-- begins with none, and they are so only on a disk that doesn't tell what it holds.
+pub data HasLost (options : Options) (s : Streams) : Type 0 where
+  LostAtOpening : s.disk_tells ≡ false → (setup : Setup) → IsSetup options setup → (place : ℕ)
+      → Contains (node_setup setup.queues).places place → (found : ℕ)
+      → PrintsAlone s (lost_text ((node_setup setup.queues).name place) 0 found) → HasLost options s
+  LostAtRestart : (over : Over options s) (text : List ℕ)
+      → IsLost (node_setup over.setup.queues) (run_over over).node text → NextAsks over Restart → Prints over text
+      → HasLost options s
 
 -- what is printed of a limit that a line passes: it is behind the 10,000,000th, or its body is too long
 abbrev pub PassesLimit : Setup → ℕ → Input → List ℕ → Type 0

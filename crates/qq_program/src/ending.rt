@@ -126,7 +126,7 @@ impl Ending {
         Ending::plain(WRITE_FAULT, "")
     }
 
-    /// The node's disk can't be had.
+    /// The yard has failed, or the disk has as the node was opened.
     pub fn yard_fault() -> Self
         ensures { result ≡ yard_fault }
     {

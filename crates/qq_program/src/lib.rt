@@ -4,15 +4,21 @@
 mod asking;
 mod audit;
 mod ending;
+mod examples;
 mod laws;
+mod queues;
+mod serving;
 pub mod status;
 mod stop;
 
 pub use asking::{ask, refuse_long_line};
 pub use audit::add_audit;
 pub use ending::{Ending, LINES_LIMIT};
+pub use examples::worked_scripts_print;
 pub use laws::{
     a_script_has_ten_million_lines, a_status_tells_what_was_done, runs_settle, scripts_are_served,
     what_was_printed_is_true,
 };
+pub use queues::{audits_are_serial, what_was_printed_is_there_once};
+pub use serving::{idle_lines_print_that, lines_may_be_served};
 pub use stop::{AskStop, PrintFault, Stop};

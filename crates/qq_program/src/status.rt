@@ -10,7 +10,7 @@ pub const REFUSED: u8 = 4;
 pub const READ_FAULT: u8 = 5;
 /// The sink failed.
 pub const WRITE_FAULT: u8 = 6;
-/// The node's disk couldn't be had.
+/// The yard failed, or the disk did as the node was opened.
 pub const YARD_FAULT: u8 = 7;
 /// The files of the node's log break their rules.
 pub const DAMAGED: u8 = 8;

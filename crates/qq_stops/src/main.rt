@@ -4,8 +4,8 @@
 //! A run is stopped in the first disk, before the first crash, or in the second one, inside the restart and
 //! behind it. Crashes leave nothing, all or 20 bytes of what waits for a sync. In each run, each message that was
 //! confirmed has to come by a `get` behind the last restart, and has to stand, with its body, in the lane that
-//! recovery reads on the disk. And where the sync of a message's batch fails, the message isn't answered. With no
-//! run that isn't so the program prints one line.
+//! recovery reads on the disk. And where the sync of a message's batch fails, the message isn't answered. Over a
+//! disk with ops of another run no node is opened. With no run that isn't so the program prints one line.
 #![tactic(auto)]
 
 mod found;
@@ -13,11 +13,13 @@ mod run;
 mod stop;
 mod texts;
 mod untold;
+mod used;
 mod yard;
 
 use anyhow::Result;
 use run::{Images, check_run, count_unsynced};
 use stop::Stop;
+use used::check_used;
 use yard::Stops;
 
 /// No run makes so many calls of a disk.
@@ -66,6 +68,7 @@ fn main(rt: HostRuntime) -> Result<()> {
         unsynced == 1,
         "a message whose sync has failed isn't told so"
     );
+    check_used(rt)?;
     println!(rt; "each confirmed message is there after a stop at each call of the disk")?;
     Ok(())
 }

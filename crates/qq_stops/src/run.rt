@@ -5,6 +5,7 @@ use crate::yard::{StoppingYard, Stops};
 use anyhow::{Result, ensure};
 use qq_broker::run;
 use qq_ports::{MemSink, MemSource};
+use qq_yards::Yard;
 use std::alloc::Global;
 
 /// What crashes leave of what waits for a sync.
@@ -70,8 +71,8 @@ fn check_whole(alloc: Global, printed: &str) -> Result<()> {
     Ok(())
 }
 
-// Runs a script, and answers the status and what was printed.
-fn serve(rt: HostRuntime, yard: &mut StoppingYard, text: String) -> Result<(u8, MemSink)> {
+/// Runs a script, and answers the status and what was printed.
+pub fn serve<Y: Yard>(rt: HostRuntime, yard: &mut Y, text: String) -> Result<(u8, MemSink)> {
     let alloc = rt.alloc();
     let mut source = MemSource::new(text.into_bytes(), Vec::new(alloc));
     let mut sink = MemSink::new(alloc, ROOM, Vec::new(alloc))?;

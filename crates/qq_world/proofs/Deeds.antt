@@ -3,7 +3,9 @@ use Rattle.std.proofs.Common.{◌≡◌, ◌≢◌, ◌⊎◌, ℕ, Bool, true, 
 use Rattle.std.specs.Prelude.{filter, nat_eq}
 use Rattle.std.proofs.lemmas.Bool.{false≢true, cond_both, cond-true, cond-false, eq-eqb, ne_eqb, cases_eq}
 use Rattle.qq_entry.specs.declared.audit.AuditRow.{AuditRow}
+use Rattle.qq_base.specs.Ids.{client}
 use Rattle.qq_entry.specs.declared.command.Command.{Command}
+use Rattle.qq_entry.specs.declared.command.Command.TheVariants as commands
 use Rattle.qq_entry.specs.declared.command.Unstamped.{Unstamped}
 use Rattle.qq_entry.specs.declared.queue.QueueArgs.{QueueArgs}
 use Rattle.qq_script.specs.Text.{seq_of}
@@ -11,7 +13,7 @@ use Rattle.qq_session.specs.Arriving.{Deed, Hands, after_deed}
 use Rattle.qq_session.specs.Publishing.{Numbers, next_command, hand, answer, open_commands}
 use Rattle.qq_world.specs.Laws.{take_of, is_sent_by, takes_of, deeds_at, deeds, after_deeds, CountsDeeds}
 use Rattle.qq_world.specs.Server.{is_ready, notice, submit, may_restart}
-use Rattle.qq_world.specs.World.{World, Client, Clients, Event, Mutes, Ticks, Submits, Resends, Writes, Syncs, Notices, Stops, Finds, new_world, is_up, may_hand, sender, take_answer, hear_by, hear, hear_all, offer, offer_all, set_numbers, send, own_rows, tell, find, happens, after}
+use Rattle.qq_world.specs.World.{World, Client, Clients, Event, Mutes, Ends, Ticks, Submits, TellsEnded, Resends, Downs, Writes, Syncs, Notices, Stops, Finds, new_world, is_up, may_hand, is_used, sender, take_answer, hear_by, hear, hear_all, offer, offer_all, set_numbers, send, own_rows, tell, find, happens, after}
 use Rattle.qq_base.proofs.Puts.{put-each}
 
 pub deeds-append : (first second : List Deed) (n : Numbers)
@@ -26,7 +28,7 @@ offer-clients command w =
     cond_both (is_ready w.server) (record w { server = submit command w.server }) w
     (λ (v : World). v.clients ≡ w.clients) (λ _. refl) (λ _. refl)
 
-offer_all-clients : (commands : List Command) (w : World) → (offer_all commands w).clients ≡ w.clients
+pub offer_all-clients : (commands : List Command) (w : World) → (offer_all commands w).clients ≡ w.clients
 offer_all-clients [] w = refl
 offer_all-clients (command ∷ commands) w =
     offer_all-clients commands (offer command w) ∙ offer-clients command w
@@ -62,7 +64,7 @@ send-numbers own session body w = by (may_hand (w.clients own).numbers) refl
         (offer-clients (next_command body (w.clients own).numbers)
         (set_numbers own (hand body (w.clients own).numbers) w))
         ∙ put-each (λ (i : ℕ) (c : Client). c.numbers ≡ handed_at own i body (w.clients i).numbers) own
-        (record { numbers = hand body (w.clients own).numbers; muted = (w.clients own).muted }) w.clients
+        (record (w.clients own) { numbers = hand body (w.clients own).numbers }) w.clients
         (same true is) kept session
     by false is = whole session
       where
@@ -163,7 +165,15 @@ pub event-numbers : (session : ℕ) (w : World) (event : Event)
     ≡ after_deeds (deeds_at session w event) (w.clients session).numbers
 event-numbers session w (Mutes own muted) =
     put-each (λ (i : ℕ) (c : Client). c.numbers ≡ (w.clients i).numbers) own
-    (record { numbers = (w.clients own).numbers; muted = muted }) w.clients refl (λ i other. refl) session
+    (record (w.clients own) { muted = muted }) w.clients refl (λ i other. refl) session
+event-numbers session w (Ends own) =
+    put-each (λ (i : ℕ) (c : Client). c.numbers ≡ (w.clients i).numbers) own
+    (record (w.clients own) { ended = true }) w.clients refl (λ i other. refl) session
+event-numbers session w (TellsEnded own) = refl
+event-numbers session w (Downs own) =
+    cond_both (is_used (w.clients own).numbers) (offer (commands.Down (client own)) w) w
+    (λ (v : World). (v.clients session).numbers ≡ (w.clients session).numbers)
+    (λ _. ap (λ (c : Clients). (c session).numbers) (offer-clients (commands.Down (client own)) w)) (λ _. refl)
 event-numbers session w Ticks = refl
 event-numbers session w (Submits own body) = send-numbers own session body w
 event-numbers session w (Resends own) =

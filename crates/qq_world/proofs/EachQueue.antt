@@ -14,7 +14,7 @@ use Rattle.qq_model.specs.Gate.{IsNumbered}
 use Rattle.qq_session.specs.Answered.{IsAnswered}
 use Rattle.qq_world.specs.Laws.{IsAudited, IsConfirmedOnce, IsMade}
 use Rattle.qq_world.specs.Server.{Server}
-use Rattle.qq_world.specs.Node.{Setup, Node, NodeEvent, Sets, Alike, At, Fails, Crashes, FindsEach, Shows, SaysDown, SaysBusy, Printed, Of, Stopped, IsDown, Busy, State, new_node, node_happens, node_after, part_of, parts_of, prints, all_prints}
+use Rattle.qq_world.specs.Node.{Setup, Node, NodeEvent, Sets, Alike, At, Fails, Crashes, FindsEach, Shows, SaysDown, SaysBusy, SaysEnded, Printed, Of, Stopped, IsDown, Busy, Ended, State, new_node, node_happens, node_after, part_of, parts_of, prints, all_prints}
 use Rattle.qq_world.specs.NodeLaws.{HasItsQueues, IsTrueOf, PrintsWhatIsTrue}
 use Rattle.qq_world.specs.World.{World, Event, Shown, said, after, all_said, happens}
 use Rattle.qq_world.proofs.Handed.{all-front}
@@ -75,6 +75,7 @@ one-own n (FindsEach ops) events sound = tt
 one-own n (Shows place) events sound = (tt, tt)
 one-own n SaysDown events sound = (tt, tt)
 one-own n SaysBusy events sound = (tt, tt)
+one-own n SaysEnded events sound = (tt, tt)
 
 pub all-own : (n : Node) (events : List NodeEvent) → ((place : ℕ) → SoundWorld (n.queue place))
     → AllByRecursion (IsOwn (node_after n events)) (all_prints n events)
@@ -117,4 +118,5 @@ prints-true counts answered setup events =
     one Stopped own = tt
     one IsDown own = tt
     one Busy own = tt
+    one Ended own = tt
     one (State place server) own = tt

@@ -12,6 +12,7 @@ use Rattle.qq_base.specs.declared.ids.SessionId.{SessionId}
 use Rattle.qq_base.specs.declared.ids.Term.{Term}
 use Rattle.qq_base.specs.Ids.{client}
 use Rattle.qq_entry.specs.declared.command.Command.{Command}
+use Rattle.qq_entry.specs.declared.command.Command.TheVariants as commands
 use Rattle.qq_entry.specs.declared.command.Command.TheVariants.{Noop}
 use Rattle.qq_entry.specs.declared.command.Entry.{Entry}
 use Rattle.qq_entry.specs.declared.command.Stamp.{Stamp}
@@ -27,7 +28,7 @@ use Rattle.qq_session.proofs.AuditRows.{Contains-middle}
 use Rattle.qq_session.proofs.NumberingLemmas.{stamped-stamp}
 use Rattle.qq_world.specs.Laws.{deeds_at, deeds, after_deeds, commands_of, CarriesOutInOrder, world_after}
 use Rattle.qq_world.specs.Server.{Server, Role, Down, Follower, Candidate, Leader, entries_in, log_of, next_op, stand, tick_by, tick, entry_of, lead, go_on, notice, submit, is_ready, may_restart}
-use Rattle.qq_world.specs.World.{World, Event, Mutes, Ticks, Submits, Resends, Writes, Syncs, Notices, Stops, Finds, new_world, is_up, may_hand, offer, offer_all, set_numbers, send, tell, find, happens, after}
+use Rattle.qq_world.specs.World.{World, Event, Mutes, Ends, Ticks, Submits, TellsEnded, Resends, Downs, Writes, Syncs, Notices, Stops, Finds, new_world, is_up, may_hand, is_used, offer, offer_all, set_numbers, send, tell, find, happens, after}
 use Rattle.qq_world.proofs.Deeds.{deeds-append, event-numbers}
 use Rattle.qq_world.proofs.Lawful.{good-reached}
 use Rattle.qq_world.proofs.Moves.{Good}
@@ -253,6 +254,11 @@ handed-event queue so_far w event before = record {
         (entry_of term (Noop 1))
     noop i term given is session = absurd (let e : None ≡ Some given = is in cc)
 
+    down : (i own : ℕ) (term : Term)
+        → WasHanded (client i) (handed (first_numbers queue i) (so_far i ++ deeds_at i w event))
+        (entry_of term (commands.Down (client own)))
+    down i own term given is session = absurd (let e : None ≡ Some given = is in cc)
+
     submits : (i own : ℕ) (body : Unstamped) → event ≡ Submits own body
         → Each (WasHanded (client i) (handed (first_numbers queue i) (so_far i ++ deeds_at i w event)))
         (send own body w).server.ops
@@ -302,6 +308,14 @@ handed-event queue so_far w event before = record {
         → Each (WasHanded (client i) (handed (first_numbers queue i) (so_far i ++ deeds_at i w event)))
         (happens w e).server.ops
     entries i (Mutes session muted) is = kept i
+    entries i (Ends session) is = kept i
+    entries i (TellsEnded session) is = kept i
+    entries i (Downs own) is =
+        cond_both (is_used (w.clients own).numbers) (offer (commands.Down (client own)) w) w
+        (λ (v : World). Each (WasHanded (client i)
+        (handed (first_numbers queue i) (so_far i ++ deeds_at i w event))) v.server.ops)
+        (λ _. each-offer (WasHanded (client i) (handed (first_numbers queue i) (so_far i ++ deeds_at i w event)))
+        (commands.Down (client own)) (down i own) w (kept i)) (λ _. kept i)
     entries i Ticks is =
         each-tick (WasHanded (client i) (handed (first_numbers queue i) (so_far i ++ deeds_at i w event))) w.server
         (kept i)

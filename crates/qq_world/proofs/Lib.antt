@@ -17,3 +17,4 @@ pub mod Serving
 mod Worked
 mod Stopping
 mod PrintedOnce
+mod Ends

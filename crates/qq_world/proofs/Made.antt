@@ -1,5 +1,5 @@
 -- What is printed as a delivery is an effect of an entry of the audit.
-use Rattle.std.proofs.Common.{◌≡◌, ℕ, Bool, true, false, cond, List, [], ◌∷◌, ◌++◌, length, map, drop, refl, sym, ap, ◌∙◌, subst, append_assoc}
+use Rattle.std.proofs.Common.{◌≡◌, ℕ, Bool, true, false, cond, List, [], ◌∷◌, ◌++◌, map, refl, sym, ap, ◌∙◌, subst, append_assoc}
 use Rattle.std.specs.Prelude.{nat_eq, Contains}
 use Rattle.std.specs.List.{AllByRecursion, flat_map}
 use Rattle.std.proofs.lemmas.Bool.{cond_both}
@@ -11,7 +11,9 @@ use Rattle.qq_base.specs.declared.ids.Term.{Term}
 use Rattle.qq_entry.specs.declared.audit.AuditRow.{AuditRow}
 use Rattle.qq_entry.specs.declared.audit.Effect.{Effect}
 use Rattle.qq_entry.specs.declared.audit.Effect.TheVariants.{Deliver, DeadOnce, Offer}
+use Rattle.qq_base.specs.Ids.{client}
 use Rattle.qq_entry.specs.declared.command.Command.{Command}
+use Rattle.qq_entry.specs.declared.command.Command.TheVariants as commands
 use Rattle.qq_entry.specs.declared.command.Entry.{Entry}
 use Rattle.qq_entry.specs.declared.queue.QueueArgs.{QueueArgs}
 use Rattle.qq_model.specs.Audit.{next_step, state_after, effects_of, entries_of}
@@ -19,7 +21,7 @@ use Rattle.qq_model.specs.State.{State, empty_queue}
 use Rattle.qq_session.specs.Publishing.{Numbers, next_command, open_commands}
 use Rattle.qq_world.specs.Laws.{IsMade, HasMadeDeliveries}
 use Rattle.qq_world.specs.Server.{Server, is_ready, notice}
-use Rattle.qq_world.specs.World.{World, Clients, Event, Mutes, Ticks, Submits, Resends, Writes, Syncs, Notices, Stops, Finds, Shown, Answered, Delivered, NoLeader, WindowFull, new_world, is_up, may_hand, printed, own_rows, effects_of_term, effects_behind, own_effects, is_delivered_to, delivered, tell, told, happens, said_of, said, after, all_said}
+use Rattle.qq_world.specs.World.{World, Clients, Event, Mutes, Ends, Ticks, Submits, TellsEnded, Resends, Downs, Writes, Syncs, Notices, Stops, Finds, Shown, Answered, Delivered, NoLeader, WindowFull, HasEnded, new_world, is_up, may_hand, is_used, printed, own_rows, effects_of_term, effects_behind, own_effects, is_delivered_to, delivered, tell, told, happens, said_of, said, after, all_said}
 use Rattle.qq_world.proofs.Printed.{each-contained}
 use Rattle.qq_world.proofs.Worlds.{SoundWorld, Follows, follows, follows-all, sound-world}
 
@@ -111,6 +113,13 @@ offered-made s false session (command ∷ commands) = (tt, offered-made s false 
 said-made : (w : World) (event : Event) → Follows w (happens w event)
     → AllByRecursion (IsMade (happens w event).server) (said w event)
 said-made w (Mutes session muted) goes = tt
+said-made w (Ends session) goes = tt
+said-made w (TellsEnded session) goes = (tt, tt)
+said-made w (Downs session) goes =
+    let s : Server = (happens w (Downs session)).server in
+    cond_both (is_used (w.clients session).numbers)
+    (said_of (is_ready w.server) session (commands.Down (client session) ∷ [])) [] (AllByRecursion (IsMade s))
+    (λ _. offered-made s (is_ready w.server) session (commands.Down (client session) ∷ [])) (λ _. tt)
 said-made w Ticks goes = tt
 said-made w (Submits session body) goes =
     let numbers : Numbers = (w.clients session).numbers in
@@ -147,6 +156,7 @@ later-made s t same front (Delivered consumer delivery) is =
     (has-later s.args s.audit t.audit (Deliver consumer delivery) front is)
 later-made s t same front (NoLeader session) is = tt
 later-made s t same front (WindowFull session) is = tt
+later-made s t same front (HasEnded session) is = tt
 
 pub all-made : (w : World) (events : List Event) → SoundWorld w → HasMadeDeliveries w events
 all-made w [] sound = tt

@@ -9,6 +9,7 @@ use Rattle.qq_base.specs.Ids.{client, same_session}
 use Rattle.qq_entry.specs.declared.answer.Answer.TheVariants.{Confirmed}
 use Rattle.qq_entry.specs.declared.audit.AuditRow.{AuditRow}
 use Rattle.qq_entry.specs.declared.command.Command.{Command}
+use Rattle.qq_entry.specs.declared.command.Command.TheVariants as commands
 use Rattle.qq_entry.specs.declared.command.Command.TheVariants.{Enqueue}
 use Rattle.qq_entry.specs.declared.command.Entry.{Entry}
 use Rattle.qq_entry.specs.declared.command.Stamp.{Stamp}
@@ -27,7 +28,7 @@ use Rattle.qq_session.proofs.AnsweredLemmas.{FreshRow, fresh_row}
 use Rattle.qq_session.proofs.AuditRows.{RowAt, row_at, filter_map-append}
 use Rattle.qq_world.specs.ExactlyOne.{ExactlyOne}
 use Rattle.qq_world.specs.Laws.{IsAnswer, IsAudited, IsConfirmedPublish, IsConfirmedOnce}
-use Rattle.qq_world.specs.World.{Shown, Answered, Delivered, NoLeader, WindowFull, sender, sender_by}
+use Rattle.qq_world.specs.World.{Shown, Answered, Delivered, NoLeader, WindowFull, HasEnded, sender, sender_by, ended_by}
 use Rattle.qq_world.proofs.Confirming.{IsEnqueue, confirmed-enqueue}
 
 -- ---- places in a list
@@ -177,6 +178,17 @@ sent-client row given session is sent =
     same_session-true given.session (client own) same ∙ ap client number))
     (λ _ e. absurd (let n : None ≡ Some session = e in cc)) e
 
+-- a command with a stamp ends no session
+stamped-lives : (command : Command) (given : Stamp) (session : ℕ) → stamp command ≡ Some given
+    → ended_by command ≡ Some session → ⊥
+stamped-lives (commands.Down id) given session is ends = absurd (let e : None ≡ Some given = is in cc)
+stamped-lives _ given session is ends = absurd (let e : None ≡ Some session = ends in cc)
+
+client-of : (row : AuditRow) (given : Stamp) (session : ℕ) → stamp row.entry.command ≡ Some given
+    → (sender row ≡ Some session) ⊎ (ended_by row.entry.command ≡ Some session) → given.session ≡ client session
+client-of row given session is (inl sent) = sent-client row given session is sent
+client-of row given session is (inr ends) = absurd (stamped-lives row.entry.command given session is ends)
+
 answer-once : (args : QueueArgs) (entries : List Entry) → CountsCommands args entries
     → ((session : SessionId) → IsNumbered session → IsAnswered session (queue_audit args entries))
     → (row : AuditRow) → IsAnswer (queue_audit args entries) row → (given : Stamp)
@@ -186,7 +198,7 @@ answer-once args entries counts answered row audited given is confirmed =
     carried-once args entries given.session given.seq counts numbered (by row.fresh refl)
   where
     session_is : given.session ≡ client audited.session
-    session_is = sent-client row given audited.session is audited.sender_is
+    session_is = client-of row given audited.session is audited.sender_is
 
     numbered : IsNumbered given.session
     numbered = subst IsNumbered (sym session_is) (inl refl)
@@ -229,5 +241,6 @@ pub confirmed-once : (args : QueueArgs) (entries : List Entry) → CountsCommand
 confirmed-once args entries counts answered (Delivered consumer delivery) audited = tt
 confirmed-once args entries counts answered (NoLeader session) audited = tt
 confirmed-once args entries counts answered (WindowFull session) audited = tt
+confirmed-once args entries counts answered (HasEnded session) audited = tt
 confirmed-once args entries counts answered (Answered row) audited =
     λ given is confirmed. answer-once args entries counts answered row audited given is confirmed

@@ -1,21 +1,23 @@
 -- What is printed as an answer is a row of the audit.
-use Rattle.std.proofs.Common.{◌≡◌, ℕ, zero, suc, Bool, true, false, cond, List, [], ◌∷◌, ◌++◌, Option, Some, None, length, map, drop, refl, sym, subst}
+use Rattle.std.proofs.Common.{◌≡◌, ℕ, zero, suc, Bool, true, false, cond, List, [], ◌∷◌, Option, Some, None, length, map, drop, refl, sym, subst, inl, inr}
 use Rattle.std.specs.Prelude.{nat_eq, Contains}
 use Rattle.std.specs.List.{AllByRecursion, flat_map}
-use Rattle.std.proofs.lemmas.Bool.{false≢true, cond_both}
+use Rattle.std.proofs.lemmas.Bool.{false≢true, cond_both, or_cases}
 use Rattle.std.proofs.lemmas.List.Elements.{Contains-append_left, Contains-append_right}
 use Rattle.qq_base.proofs.Lists.{AllByRecursion-append, AllByRecursion-filter, AllByRecursion-map, AllByRecursion-weaker}
 use Rattle.qq_entry.specs.declared.audit.AuditRow.{AuditRow}
 use Rattle.qq_entry.specs.declared.audit.Effect.{Effect}
 use Rattle.qq_entry.specs.declared.audit.Effect.TheVariants.{Deliver, DeadOnce, Offer}
+use Rattle.qq_base.specs.Ids.{client}
 use Rattle.qq_entry.specs.declared.command.Command.{Command}
+use Rattle.qq_entry.specs.declared.command.Command.TheVariants as commands
 use Rattle.qq_entry.specs.declared.queue.QueueArgs.{QueueArgs}
 use Rattle.qq_session.proofs.AuditRows.{Contains-middle}
 use Rattle.qq_session.specs.Publishing.{Numbers, next_command, open_commands}
 use Rattle.qq_base.specs.Fronts.{IsFront}
 use Rattle.qq_world.specs.Laws.{IsAnswer, IsAudited, HasAuditedAnswers}
 use Rattle.qq_world.specs.Server.{Server, is_ready, notice}
-use Rattle.qq_world.specs.World.{World, Clients, Event, Mutes, Ticks, Submits, Resends, Writes, Syncs, Notices, Stops, Finds, Shown, Answered, Delivered, NoLeader, WindowFull, new_world, is_up, may_hand, sender, hear, is_printed_by, is_printed, printed, own_rows, own_effects, is_delivered_to, delivered, tell, told, happens, said_of, said, after, all_said}
+use Rattle.qq_world.specs.World.{World, Clients, Event, Mutes, Ends, Ticks, Submits, TellsEnded, Resends, Downs, Writes, Syncs, Notices, Stops, Finds, Shown, Answered, Delivered, NoLeader, WindowFull, HasEnded, new_world, is_up, may_hand, is_used, sender, ended_by, tells_end, hear, is_printed_by, is_printed, printed, own_rows, own_effects, is_delivered_to, delivered, tell, told, happens, said_of, said, after, all_said}
 use Rattle.qq_world.proofs.Worlds.{SoundWorld, follows, follows-all, sound-world}
 
 pub each-contained : {A : Type 0} (xs : List A) → AllByRecursion (Contains xs) xs
@@ -40,7 +42,22 @@ sent : (audit : List AuditRow) (clients : Clients) (row : AuditRow) (o : Option 
     → Contains audit row → is_printed_by o clients row ≡ true → IsAnswer audit row
 sent audit clients row None is is_in printed' = absurd (false≢true printed')
 sent audit clients row (Some session) is is_in printed' =
-    record { is_in = is_in; session = session; sender_is = is }
+    record { is_in = is_in; session = session; sender_is = inl is }
+
+-- or it answers the end of a client's session
+told-end : (audit : List AuditRow) (clients : Clients) (row : AuditRow) (o : Option ℕ)
+    → ended_by row.entry.command ≡ o → Contains audit row → tells_end o clients ≡ true → IsAnswer audit row
+told-end audit clients row None is is_in printed' = absurd (false≢true printed')
+told-end audit clients row (Some session) is is_in printed' =
+    record { is_in = is_in; session = session; sender_is = inr is }
+
+answers : (audit : List AuditRow) (clients : Clients) (row : AuditRow) → Contains audit row
+    → is_printed clients row ≡ true → IsAnswer audit row
+answers audit clients row is_in printed' =
+    elim (or_cases (is_printed_by (sender row) clients row) (tells_end (ended_by row.entry.command) clients) printed') [
+      | inl first ↦ sent audit clients row (sender row) refl is_in first
+      | inr second ↦ told-end audit clients row (ended_by row.entry.command) refl is_in second
+    ]
 
 printed-are : (audit rows : List AuditRow) (clients : Clients) → AllByRecursion (Contains audit) rows
     → AllByRecursion (IsAnswer audit) (printed rows clients)
@@ -49,7 +66,7 @@ printed-are audit (row ∷ rows) clients each =
     AllByRecursion-append (IsAnswer audit) (cond (is_printed clients row) (row ∷ []) [])
     (printed rows (hear row clients))
     (cond_both (is_printed clients row) (row ∷ []) [] (AllByRecursion (IsAnswer audit))
-    (λ is. (sent audit clients row (sender row) refl each.0 is, tt)) (λ _. tt))
+    (λ is. (answers audit clients row each.0 is, tt)) (λ _. tt))
     (printed-are audit rows (hear row clients) each.1)
 
 own-contained : (before now : Server) → AllByRecursion (Contains now.audit) (own_rows before now)
@@ -78,6 +95,13 @@ delivered-audited audit clients (Offer number reason message ∷ effects) = deli
 
 said-audited : (w : World) (event : Event) → AllByRecursion (IsAudited (happens w event).server.audit) (said w event)
 said-audited w (Mutes session muted) = tt
+said-audited w (Ends session) = tt
+said-audited w (TellsEnded session) = (tt, tt)
+said-audited w (Downs session) =
+    let audit : List AuditRow = (happens w (Downs session)).server.audit in
+    cond_both (is_used (w.clients session).numbers)
+    (said_of (is_ready w.server) session (commands.Down (client session) ∷ [])) [] (AllByRecursion (IsAudited audit))
+    (λ _. offered-audited audit (is_ready w.server) session (commands.Down (client session) ∷ [])) (λ _. tt)
 said-audited w Ticks = tt
 said-audited w (Submits session body) =
     let numbers : Numbers = (w.clients session).numbers in
@@ -112,6 +136,7 @@ later-audited a b front (Answered row) is =
 later-audited a b front (Delivered consumer delivery) is = tt
 later-audited a b front (NoLeader session) is = tt
 later-audited a b front (WindowFull session) is = tt
+later-audited a b front (HasEnded session) is = tt
 
 pub all-audited : (w : World) (events : List Event) → SoundWorld w → HasAuditedAnswers w events
 all-audited w [] sound = tt

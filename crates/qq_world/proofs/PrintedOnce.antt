@@ -1,15 +1,18 @@
 -- The answer that closes a number is printed once.
-use Rattle.std.proofs.Common.{◌≡◌, ◌≢◌, ◌<◌, ◌+◌, ℕ, Bool, true, false, cond, not, ◌&&◌, ◌||◌, List, [], ◌∷◌, ◌++◌, Option, Some, None, map, refl, sym, ap, ◌∙◌, subst, append-nil, arith}
+use Rattle.std.proofs.Common.{◌≡◌, ◌≢◌, ◌<◌, ◌+◌, ℕ, Bool, true, false, cond, not, ◌&&◌, ◌||◌, List, [], ◌∷◌, ◌++◌, Option, Some, None, map, refl, sym, ap, ◌∙◌, subst, inl, inr, append-nil, arith}
 use Rattle.std.specs.Prelude.{filter_map, nat_eq, nat_lt, length}
 use Rattle.std.specs.List.{AllByRecursion, cons_option, flat_map}
-use Rattle.std.proofs.lemmas.Bool.{false≢true, cond_both, cond-true, and_parts, eqb-true, ne_eqb}
+use Rattle.std.proofs.lemmas.Bool.{false≢true, cond_both, cond-true, and_parts, eqb-true, ne_eqb, or_cases}
 use Rattle.std.proofs.lemmas.List.Folds.{list_any-append}
 use Rattle.qq_base.proofs.Lists.{AllByRecursion-append, AllByRecursion-filter, AllByRecursion-weaker, list_any-filter}
 use Rattle.qq_entry.specs.declared.answer.Answer.{Answer}
 use Rattle.qq_entry.specs.declared.audit.AuditRow.{AuditRow}
 use Rattle.qq_entry.specs.declared.audit.Effect.{Effect}
 use Rattle.qq_entry.specs.declared.audit.Effect.TheVariants.{Deliver, DeadOnce, Offer}
+use Rattle.qq_base.specs.Ids.{client}
+use Rattle.qq_entry.specs.Command.{stamp}
 use Rattle.qq_entry.specs.declared.command.Command.{Command}
+use Rattle.qq_entry.specs.declared.command.Command.TheVariants as commands
 use Rattle.qq_entry.specs.declared.command.Unstamped.{Unstamped}
 use Rattle.qq_entry.specs.declared.queue.QueueArgs.{QueueArgs}
 use Rattle.qq_model.specs.declared.TheConstants.{WINDOW}
@@ -19,7 +22,7 @@ use Rattle.qq_session.specs.Publishing.{OpenCommand, Numbers, next_command, hand
 use Rattle.qq_session.proofs.AuditRows.{filter_map-append}
 use Rattle.qq_world.specs.Laws.{is_sent_by, takes_of, after_deeds, deeds_at, closed_number, Distinct, ClosesOnce}
 use Rattle.qq_world.specs.Server.{is_ready, notice}
-use Rattle.qq_world.specs.World.{World, Clients, Event, Mutes, Ticks, Submits, Resends, Writes, Syncs, Notices, Stops, Finds, Shown, Answered, Delivered, WindowFull, new_world, is_up, may_hand, sender, hear, hear_all, is_printed_by, is_printed, printed, own_rows, own_effects, is_delivered_to, delivered, said_of, said, tell, told, happens, all_said}
+use Rattle.qq_world.specs.World.{World, Clients, Event, Mutes, Ends, Ticks, Submits, TellsEnded, Resends, Downs, Writes, Syncs, Notices, Stops, Finds, Shown, Answered, Delivered, WindowFull, new_world, is_up, may_hand, is_used, sender, sender_by, ended_by, tells_end, hear, hear_all, is_printed_by, is_printed, printed, own_rows, own_effects, is_delivered_to, delivered, said_of, said, tell, told, happens, all_said}
 use Rattle.qq_world.proofs.Deeds.{heard, heard-numbers, event-numbers}
 
 -- a number was given and is closed
@@ -143,6 +146,20 @@ shows session row clients (Some own) sent is =
     (let parts = and_parts (not (clients own).muted) (is_open (seq_of row.entry.command) (clients own).numbers) is in
     record { hears = not-true (clients own).muted parts.0; opened = parts.1 })
 
+-- a row that ends a session has no number
+none-sent : (command : Command) (session : ℕ) (clients : Clients) → tells_end (ended_by command) clients ≡ true
+    → is_sent_by session (sender_by (stamp command)) ≡ true → ⊥
+none-sent (commands.Down id) session clients tells sent = false≢true sent
+none-sent _ session clients tells sent = false≢true tells
+
+shows-row : (session : ℕ) (row : AuditRow) (clients : Clients) → is_sent_by session (sender row) ≡ true
+    → is_printed clients row ≡ true → Shows session row clients
+shows-row session row clients sent is =
+    elim (or_cases (is_printed_by (sender row) clients row) (tells_end (ended_by row.entry.command) clients) is) [
+      | inl first ↦ shows session row clients (sender row) sent first
+      | inr second ↦ absurd (none-sent row.entry.command session clients second sent)
+    ]
+
 closed-hear : (seq session : ℕ) (row : AuditRow) (clients : Clients) → IsClosed seq (clients session).numbers
     → IsClosed seq (hear row clients session).numbers
 closed-hear seq session row clients is = by (clients session).muted refl
@@ -164,7 +181,7 @@ printed-closes session row clients below is closes' =
     let seq : ℕ = seq_of row.entry.command in
     let n : Numbers = (clients session).numbers in
     let parts = and_parts (is_sent_by session (sender row)) (closes row.answer) closes' in
-    let to : Shows session row clients = shows session row clients (sender row) parts.0 is in
+    let to : Shows session row clients = shows-row session row clients parts.0 is in
     let taken : (hear row clients session).numbers ≡ answer seq row.answer n =
     (heard row clients session).taken to.hears
     ∙ cond-true (is_sent_by session (sender row)) (answer seq row.answer n) n parts.0 in
@@ -186,7 +203,7 @@ never-printed seq session (row ∷ rows) clients is =
     row-numbers session row rows clients (AllByRecursion (λ (m : ℕ). m ≢ seq))
     (λ shown closes'. (
       (λ same. (let parts = and_parts (is_sent_by session (sender row)) (closes row.answer) closes' in
-          let to : Shows session row clients = shows session row clients (sender row) parts.0 shown in
+          let to : Shows session row clients = shows-row session row clients parts.0 shown in
           false≢true (sym is.0 ∙ (ap (λ (k : ℕ). is_open k (clients session).numbers) (sym same) ∙ to.opened)))),
       rest,
     )) rest
@@ -257,6 +274,14 @@ event-shows : (session : ℕ) (w : World) (event : Event) (P : World → List �
     (printed_numbers session (own_rows w.server (notice w.synced w.server)) w.clients))
     → P (happens w event) (numbers_in session (said w event))
 event-shows session w (Mutes own muted) P nothing notices = nothing (happens w (Mutes own muted))
+event-shows session w (Ends own) P nothing notices = nothing (happens w (Ends own))
+event-shows session w (TellsEnded own) P nothing notices = nothing w
+event-shows session w (Downs own) P nothing notices =
+    let v : World = happens w (Downs own) in
+    let down : Command = commands.Down (client own) in
+    cond_both (is_used (w.clients own).numbers) (said_of (is_ready w.server) own (down ∷ [])) []
+    (λ (shown : List Shown). P v (numbers_in session shown))
+    (λ _. subst (P v) (sym (offered-none session own (is_ready w.server) (down ∷ []))) (nothing v)) (λ _. nothing v)
 event-shows session w Ticks P nothing notices = nothing (happens w Ticks)
 event-shows session w (Submits own body) P nothing notices =
     let n : Numbers = (w.clients own).numbers in

@@ -6,13 +6,16 @@ use Rattle.std.proofs.lemmas.Bool.{false≢true, cond_both, and_from, le-leb}
 use Rattle.std.proofs.lemmas.List.Folds.{list_any-append}
 use Rattle.qq_base.proofs.Lists.{AllByRecursion-weaker}
 use Rattle.qq_disk.specs.declared.image.Image.{Image}
+use Rattle.qq_base.specs.Ids.{client}
 use Rattle.qq_entry.specs.declared.command.Command.{Command}
+use Rattle.qq_entry.specs.declared.command.Command.TheVariants as commands
+use Rattle.qq_entry.specs.declared.command.Unstamped.{Unstamped}
 use Rattle.qq_session.specs.Publishing.{Numbers, next_command, hand, open_commands}
-use Rattle.qq_world.specs.Node.{Setup, Node, NodeEvent, Sets, Alike, At, Fails, Crashes, FindsEach, Shows, SaysDown, SaysBusy, new_node, node_happens, node_after, part_of}
+use Rattle.qq_world.specs.Node.{Setup, Node, NodeEvent, Sets, Alike, At, Fails, Crashes, FindsEach, Shows, SaysDown, SaysBusy, SaysEnded, new_node, node_happens, node_after, part_of}
 use Rattle.qq_world.specs.NodeLaws.{is_failure, has_failure, MayBeServed}
-use Rattle.qq_world.specs.Rules.{IsNothing, Is, Then, if_so, ForEach, OrFails, is_node_up, waits_written, waits_synced, waits_noticed, some_queue, IsWrite, MayRoll, IsSynced, IsSync, IsNotice, IsRound, is_idle, Pumps, most_rounds, IsPump, IsPumped, Line, Nothing, Send, Resend, Mute, Auto, Pump, Write, Sync, Notice, Tick, Crash, Restart, Show, WhereUp, FindsLanes, IsRestart, IsLine, IsOpening, IsScript, IsRun}
+use Rattle.qq_world.specs.Rules.{IsNothing, Is, Then, if_so, ForEach, OrFails, is_node_up, waits_written, waits_synced, waits_noticed, some_queue, IsWrite, MayRoll, IsSynced, IsSync, IsNotice, IsRound, is_idle, Pumps, most_rounds, IsPump, IsPumped, Line, Nothing, Send, Resend, End, is_ended, IsSend, IsResend, IsEnd, Mute, Auto, Pump, Write, Sync, Notice, Tick, Crash, Restart, Show, WhereUp, FindsLanes, IsRestart, IsLine, IsOpening, IsScript, IsRun}
 use Rattle.qq_world.specs.Server.{Server, Role, Down, Follower, Candidate, Leader, is_down_in, is_down, is_ready, tick_by, tick, go_on, notice, submit, may_restart}
-use Rattle.qq_world.specs.World.{World, Event, Mutes, Ticks, Submits, Resends, Writes, Syncs, Notices, Stops, Finds, is_up, may_hand, offer, offer_all, set_numbers, tell, find, happens, after}
+use Rattle.qq_world.specs.World.{World, Event, Mutes, Ends, Ticks, Submits, TellsEnded, Resends, Downs, Writes, Syncs, Notices, Stops, Finds, is_up, may_hand, is_used, offer, offer_all, set_numbers, tell, find, happens, after}
 use Rattle.qq_world.proofs.Worlds.{SoundWorld, follows-all, sound-world}
 
 -- ---- a node stays up, or down
@@ -58,6 +61,11 @@ same-offer_all (command ∷ commands) w = same-offer_all commands (offer command
 
 pub same-event : (w : World) (event : Event) → IsQuiet event → Same w (happens w event)
 same-event w (Mutes session muted) quiet = refl
+same-event w (Ends session) quiet = refl
+same-event w (TellsEnded session) quiet = refl
+same-event w (Downs session) quiet =
+    cond_both (is_used (w.clients session).numbers) (offer (commands.Down (client session)) w) w (Same w)
+    (λ _. same-offer (commands.Down (client session)) w) (λ _. refl)
 same-event w Ticks quiet = same-tick w.server
 same-event w (Submits session body) quiet =
     let n : Numbers = (w.clients session).numbers in
@@ -107,6 +115,7 @@ calm-part n (FindsEach ops) place calm = absurd calm
 calm-part n (Shows own) place calm = refl
 calm-part n SaysDown place calm = refl
 calm-part n SaysBusy place calm = refl
+calm-part n SaysEnded place calm = refl
 
 still-sound : (n : Node) (event : NodeEvent) → ((place : ℕ) → SoundWorld (n.queue place)) → (place : ℕ)
     → SoundWorld ((node_happens n event).queue place)
@@ -323,15 +332,39 @@ serve-up setup Up n steady up =
     serve-if setup (is_node_up setup n) Up (Is SaysDown) n (λ _. up)
     (λ _. serve-calm setup SaysDown n tt refl steady)
 
+serve-send : (setup : Setup) (place session : ℕ) (body : Unstamped) (n : Node) → Steady setup n
+    → Served setup (IsSend place session body) n
+serve-send setup place session body n steady =
+    serve-if setup (is_ended session (n.queue place)) (Is (At place (TellsEnded session)))
+    (Is (At place (Submits session body))) n
+    (λ _. serve-calm setup (At place (TellsEnded session)) n tt refl steady)
+    (λ _. serve-calm setup (At place (Submits session body)) n tt refl steady)
+
+serve-resend : (setup : Setup) (session : ℕ) (n : Node) → Steady setup n → Served setup (IsResend setup session) n
+serve-resend setup session n steady =
+    serve-if setup (some_queue setup (is_ended session) n) (Is SaysEnded)
+    (ForEach setup.places (λ place. Is (At place (Resends session)))) n
+    (λ _. serve-calm setup SaysEnded n tt refl steady)
+    (λ _. serve-each setup setup.places (λ place. Is (At place (Resends session)))
+    (λ place m steady. serve-calm setup (At place (Resends session)) m tt refl steady) n steady)
+
+serve-end : (setup : Setup) (session : ℕ) (n : Node) → Steady setup n → Served setup (IsEnd setup session) n
+serve-end setup session n steady =
+    serve-then setup (Is (Alike (Ends session))) (ForEach setup.places (λ place. Is (At place (Downs session)))) n
+    (serve-calm setup (Alike (Ends session)) n tt refl steady)
+    (λ m steady. serve-each setup setup.places (λ place. Is (At place (Downs session)))
+    (λ place k steady. serve-calm setup (At place (Downs session)) k tt refl steady) m steady)
+
 serve-line : (setup : Setup) (line : Line) (n : Node) → Steady setup n → Served setup (IsLine setup line) n
 serve-line setup Nothing n steady = serve-nothing setup n steady
 serve-line setup (Send place session body) n steady =
-    serve-then setup (Is (At place (Submits session body))) (IsPumped setup) n
-    (serve-calm setup (At place (Submits session body)) n tt refl steady) (serve-pumped setup)
+    serve-then setup (IsSend place session body) (IsPumped setup) n (serve-send setup place session body n steady)
+    (serve-pumped setup)
 serve-line setup (Resend session) n steady =
-    serve-then setup (ForEach setup.places (λ place. Is (At place (Resends session)))) (IsPumped setup) n
-    (serve-each setup setup.places (λ place. Is (At place (Resends session)))
-    (λ place m steady. serve-calm setup (At place (Resends session)) m tt refl steady) n steady) (serve-pumped setup)
+    serve-then setup (IsResend setup session) (IsPumped setup) n (serve-resend setup session n steady)
+    (serve-pumped setup)
+serve-line setup (End session) n steady =
+    serve-then setup (IsEnd setup session) (IsPumped setup) n (serve-end setup session n steady) (serve-pumped setup)
 serve-line setup (Mute session muted) n steady = serve-calm setup (Alike (Mutes session muted)) n tt refl steady
 serve-line setup (Auto auto) n steady = serve-calm setup (Sets auto) n tt refl steady
 serve-line setup Pump n steady = serve-pumps most_rounds setup n steady

@@ -3,10 +3,10 @@ use Rattle.std.proofs.Common.{◌≡◌, ◌⊎◌, ℕ, zero, suc, Bool, true, 
 use Rattle.std.proofs.lemmas.Bool.{false≢true, or_parts}
 use Rattle.std.proofs.lemmas.Grind.{flat_map-append}
 use Rattle.std.proofs.lemmas.List.Folds.{list_any-append}
-use Rattle.qq_world.specs.Node.{Setup, Node, NodeEvent, Sets, Alike, At, Fails, Crashes, FindsEach, Shows, SaysDown, SaysBusy, new_node, node_after}
+use Rattle.qq_world.specs.Node.{Setup, Node, NodeEvent, Sets, Alike, At, Fails, Crashes, FindsEach, Shows, SaysDown, SaysBusy, SaysEnded, new_node, node_after}
 use Rattle.qq_world.specs.NodeLaws.{is_failure, has_failure, finding, findings, LeavesNoChoice}
-use Rattle.qq_world.specs.Rules.{IsNothing, Is, Then, if_so, ForEach, OrFails, is_node_up, waits_written, waits_synced, waits_noticed, some_queue, IsWrite, MayRoll, IsSynced, IsSync, IsNotice, IsRound, is_idle, Pumps, most_rounds, IsPump, IsPumped, Line, Nothing, Send, Resend, Mute, Auto, Pump, Write, Sync, Notice, Tick, Crash, Restart, Show, WhereUp, FindsLanes, IsRestart, IsLine, IsOpening, IsScript, IsRun}
-use Rattle.qq_world.specs.World.{Mutes, Ticks, Submits, Resends, Writes, Syncs, Notices}
+use Rattle.qq_world.specs.Rules.{IsNothing, Is, Then, if_so, ForEach, OrFails, is_node_up, waits_written, waits_synced, waits_noticed, some_queue, IsWrite, MayRoll, IsSynced, IsSync, IsNotice, IsRound, is_idle, Pumps, most_rounds, IsPump, IsPumped, Line, Nothing, Send, Resend, End, is_ended, IsSend, IsResend, IsEnd, Mute, Auto, Pump, Write, Sync, Notice, Tick, Crash, Restart, Show, WhereUp, FindsLanes, IsRestart, IsLine, IsOpening, IsScript, IsRun}
+use Rattle.qq_world.specs.World.{Mutes, Ends, Ticks, Submits, TellsEnded, Resends, Downs, Writes, Syncs, Notices}
 
 -- whatever is found behind them
 abbrev Settles : (Node → List NodeEvent → Type 0) → Node → Type 0
@@ -153,12 +153,22 @@ settles-restart setup n =
 settles-line : (setup : Setup) (line : Line) (n : Node) → Settles (IsLine setup line) n
 settles-line setup Nothing n = settles-nothing n
 settles-line setup (Send place session body) n =
-    settles-then (Is (At place (Submits session body))) (IsPumped setup) n
-    (settles-is (At place (Submits session body)) n) (settles-pumped setup)
+    settles-then (IsSend place session body) (IsPumped setup) n
+    (settles-if (is_ended session (n.queue place)) (Is (At place (TellsEnded session)))
+    (Is (At place (Submits session body))) n (settles-is (At place (TellsEnded session)) n)
+    (settles-is (At place (Submits session body)) n)) (settles-pumped setup)
 settles-line setup (Resend session) n =
-    settles-then (ForEach setup.places (λ place. Is (At place (Resends session)))) (IsPumped setup) n
+    settles-then (IsResend setup session) (IsPumped setup) n
+    (settles-if (some_queue setup (is_ended session) n) (Is SaysEnded)
+    (ForEach setup.places (λ place. Is (At place (Resends session)))) n (settles-is SaysEnded n)
     (settles-each setup.places (λ place. Is (At place (Resends session)))
-    (λ place m. settles-is (At place (Resends session)) m) n) (settles-pumped setup)
+    (λ place m. settles-is (At place (Resends session)) m) n)) (settles-pumped setup)
+settles-line setup (End session) n =
+    settles-then (IsEnd setup session) (IsPumped setup) n
+    (settles-then (Is (Alike (Ends session))) (ForEach setup.places (λ place. Is (At place (Downs session)))) n
+    (settles-is (Alike (Ends session)) n)
+    (λ m. settles-each setup.places (λ place. Is (At place (Downs session)))
+    (λ place k. settles-is (At place (Downs session)) k) m)) (settles-pumped setup)
 settles-line setup (Mute session muted) n = settles-is (Alike (Mutes session muted)) n
 settles-line setup (Auto auto) n = settles-is (Sets auto) n
 settles-line setup Pump n = settles-pumps most_rounds setup n

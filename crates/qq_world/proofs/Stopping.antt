@@ -6,7 +6,7 @@ use Rattle.qq_world.specs.Rules.{IsNothing, Is, Then, if_so, is_node_up, IsWrite
 use Rattle.qq_world.specs.World.{Ticks, Notices}
 
 -- the first of two rules where a test is true, the second where it is false
-first-is : (b : Bool) (First Second : Node → List NodeEvent → Type 0) (n : Node) (events : List NodeEvent) → b ≡ true
+pub first-is : (b : Bool) (First Second : Node → List NodeEvent → Type 0) (n : Node) (events : List NodeEvent) → b ≡ true
     → if_so b First Second n events → First n events
 first-is true First Second n events is allowed = allowed
 first-is false First Second n events is allowed = absurd (let e : false ≡ true = is in cc)

@@ -4,12 +4,12 @@ use Rattle.std.specs.Fmt.{digits}
 use Rattle.std.specs.Prelude.{codes}
 use Rattle.qq_entry.specs.declared.command.Unstamped.TheVariants.{Get}
 use Rattle.qq_model.specs.Changes.{return_row, die}
-use Rattle.qq_model.specs.Commands.{act, enqueue, finish, get, subscribe}
-use Rattle.qq_model.specs.Gate.{gate, admit, keep_answer, take_tag, turn_away}
+use Rattle.qq_model.specs.Commands.{act, down, enqueue, finish, get, return_all, subscribe}
+use Rattle.qq_model.specs.Gate.{gate, admit, end_session, keep_answer, take_tag, turn_away}
 use Rattle.qq_model.specs.Serving.{check_out, check_out_all, drain_after, drop_head, keep_limits, give_dead, give_all_dead}
 use Rattle.qq_model.specs.Step.{carry_out, step}
 use Rattle.qq_base.specs.Fronts.{put}
-use Rattle.qq_world.specs.Example.{one_queue, publish_a, one_round, opening, lines_by_hand, lines_with_a_fault, by_hand, behind_a_crash, while_muted, with_a_fault, with_consumers, two_queues, sent_again, output}
+use Rattle.qq_world.specs.Example.{one_queue, publish_a, one_round, opening, lines_by_hand, lines_with_a_fault, by_hand, behind_a_crash, while_muted, with_a_fault, with_consumers, with_an_end, two_queues, sent_again, output}
 use Rattle.qq_world.specs.Node.{Sets, Alike, At, Fails, new_node}
 use Rattle.qq_world.specs.Rules.{most_rounds, IsOpening, IsRun}
 use Rattle.qq_world.specs.World.{Ticks, Submits, Writes, Syncs, Notices}
@@ -39,6 +39,15 @@ pub consumers-printed : output one_queue with_consumers
     ++ codes "6 1 return 1 4 1 1 done\n"
 unfolding digits put step carry_out act gate admit keep_answer take_tag turn_away enqueue get subscribe finish return_row die check_out check_out_all drain_after drop_head keep_limits give_dead give_all_dead
 consumers-printed = refl
+
+pub end-printed : output one_queue with_an_end
+    ≡ codes "2 q1: subscribed 1\nconfirmed 1\n2 q1: deliver 1 1 1 a\n2 q1: down\n"
+    ++ codes "2 q1: ended\nended\nmessage 1/1 a\n2 q1: down\naudit q1 0 6\n"
+    ++ codes "1 1 noop 1 lead\n2 1 subscribe 2 1 1 subscribed 1\n"
+    ++ codes "3 1 enqueue 1 1 1 confirmed 1\n4 1 down 2 down\n"
+    ++ codes "5 1 get 1 2 message 1/1\n6 1 down 2 down\n"
+unfolding digits put step carry_out act gate admit end_session keep_answer take_tag turn_away enqueue get subscribe down return_all return_row die check_out check_out_all drain_after drop_head keep_limits give_dead give_all_dead
+end-printed = refl
 
 pub both-printed : output two_queues sent_again
     ≡ codes "confirmed 1\n1 q2: confirmed 1\naudit q1 0 3\n1 1 noop 1 lead\n2 2 noop 1 lead\n"

@@ -1,15 +1,17 @@
 -- What each event keeps.
-use Rattle.std.proofs.Common.{◌≡◌, ◌≤◌, ℕ, List, [], ◌∷◌, ◌++◌, ◌&&◌, length, refl, ◌∙◌, arith}
+use Rattle.std.proofs.Common.{◌≡◌, ◌≤◌, ℕ, true, List, [], ◌∷◌, ◌++◌, ◌&&◌, length, refl, ◌∙◌, arith}
 use Rattle.std.specs.Prelude.{nat_le}
 use Rattle.std.proofs.lemmas.Bool.{cond_both, and_parts, leb-true}
 use Rattle.std.proofs.lemmas.List.{length-take-le}
+use Rattle.qq_base.specs.Ids.{client}
 use Rattle.qq_entry.specs.declared.command.Command.{Command}
+use Rattle.qq_entry.specs.declared.command.Command.TheVariants as commands
 use Rattle.qq_entry.specs.declared.queue.QueueArgs.{QueueArgs}
 use Rattle.qq_session.specs.Publishing.{Numbers, next_command, hand, open_commands}
 use Rattle.qq_base.specs.Fronts.{IsFront, put}
 use Rattle.qq_world.specs.Laws.{CountsRise, world_after}
 use Rattle.qq_world.specs.Server.{Server, is_down, is_ready, tick, notice, submit, stop, may_restart}
-use Rattle.qq_world.specs.World.{World, Clients, Event, Mutes, Ticks, Submits, Resends, Writes, Syncs, Notices, Stops, Finds, new_world, is_up, may_hand, offer, offer_all, set_numbers, tell, find, happens, after}
+use Rattle.qq_world.specs.World.{World, Clients, Event, Mutes, Ends, Ticks, Submits, TellsEnded, Resends, Downs, Writes, Syncs, Notices, Stops, Finds, new_world, is_up, may_hand, is_used, offer, offer_all, set_numbers, tell, find, happens, after}
 use Rattle.qq_base.proofs.Fronts.{front-refl, front-trans}
 use Rattle.qq_world.proofs.Moves.{Sound, Moves, moves-stop, moves-tick, moves-submit, moves-notice, sound-restart, sound-new}
 
@@ -92,7 +94,9 @@ follows-find op w sound more within = record {
 
 pub follows : (w : World) (event : Event) → SoundWorld w → Follows w (happens w event)
 follows w (Mutes session muted) sound =
-    follows-clients w (put session (record { numbers = (w.clients session).numbers; muted = muted }) w.clients) sound
+    follows-clients w (put session (record (w.clients session) { muted = muted }) w.clients) sound
+follows w (Ends session) sound =
+    follows-clients w (put session (record (w.clients session) { ended = true }) w.clients) sound
 follows w Ticks sound =
     follows-move w (tick w.server) w.clients sound
     (moves-tick w.synced w.server sound.server sound.counts.noticed)
@@ -100,11 +104,14 @@ follows w (Submits session body) sound =
     let numbers : Numbers = (w.clients session).numbers in
     let handed : World = set_numbers session (hand body numbers) w in
     let first : Follows w handed =
-    follows-clients w (put session (record { numbers = hand body numbers; muted = (w.clients session).muted })
-    w.clients) sound in
+    follows-clients w (put session (record (w.clients session) { numbers = hand body numbers }) w.clients) sound in
     cond_both (may_hand numbers) (offer (next_command body numbers) handed) w (Follows w)
     (λ _. follows-then w handed (offer (next_command body numbers) handed) first
     (follows-offer (next_command body numbers) handed first.sound)) (λ _. follows-same w sound)
+follows w (TellsEnded session) sound = follows-same w sound
+follows w (Downs session) sound =
+    cond_both (is_used (w.clients session).numbers) (offer (commands.Down (client session)) w) w (Follows w)
+    (λ _. follows-offer (commands.Down (client session)) w sound) (λ _. follows-same w sound)
 follows w (Resends session) sound = follows-offer_all (open_commands (w.clients session).numbers) w sound
 follows w Writes sound =
     cond_both (is_up w) (record w { written = length w.server.ops }) w (Follows w)

@@ -1,5 +1,5 @@
 -- How a run ends that recovery stops, and what it prints then.
-use Rattle.std.specs.Prelude.{◌≡◌, ℕ, false, List, ◌++◌, codes}
+use Rattle.std.specs.Prelude.{◌≡◌, ℕ, false, List, ◌++◌, Contains, codes}
 use Rattle.std.specs.Fmt.{decimal}
 use Rattle.qq_log.specs.Stable.{Stable}
 use Rattle.qq_world.specs.Node.{Setup, Node}
@@ -37,6 +37,7 @@ lost_text name noticed found =
 -- a restart finds of a queue what it may not take up, and a run ends with this text
 pub record IsLost (setup : Setup) (n : Node) (text : List ℕ) : Type 0 where
   pub place : ℕ
+  pub among : Contains setup.places place
   pub lane : Stable
   pub stopped : is_node_up setup n ≡ false
   pub lost : MayTakeUp (n.queue place).server lane → ⊥

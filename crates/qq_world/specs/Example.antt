@@ -1,4 +1,5 @@
--- Worked runs of one queue: a restart behind a crash, a muted session, a disk that fails, and two consumers.
+-- Worked runs of one queue: a restart behind a crash, a muted session, a disk that fails, two consumers, and the end of
+-- a session.
 use Rattle.std.specs.Prelude.{ℕ, List, [], ◌∷◌, ◌++◌, true, false, None, codes}
 use Rattle.std.specs.Fmt.{decimal}
 use Rattle.qq_disk.specs.declared.image.Image.{Image}
@@ -8,9 +9,9 @@ use Rattle.qq_entry.specs.declared.command.Mode.TheVariants.{Prefetch}
 use Rattle.qq_entry.specs.declared.command.Unstamped.TheVariants.{Enqueue, Get, Subscribe, Return}
 use Rattle.qq_entry.specs.Message.{new_message}
 use Rattle.qq_entry.specs.Queue.{default_args}
-use Rattle.qq_world.specs.Node.{Setup, NodeEvent, Sets, Alike, At, Fails, Crashes, FindsEach, Shows, SaysDown, new_node, node_after, text_of, audits_text}
+use Rattle.qq_world.specs.Node.{Setup, NodeEvent, Sets, Alike, At, Fails, Crashes, FindsEach, Shows, SaysDown, SaysEnded, new_node, node_after, text_of, audits_text}
 use Rattle.qq_world.specs.Rules.{Line, Send, Auto, Write, Sync, Notice}
-use Rattle.qq_world.specs.World.{Mutes, Ticks, Submits, Resends, Writes, Syncs, Notices}
+use Rattle.qq_world.specs.World.{Mutes, Ends, Ticks, Submits, TellsEnded, Resends, Downs, Writes, Syncs, Notices}
 
 -- one queue, of a group of one
 abbrev pub one_queue : Setup
@@ -70,6 +71,14 @@ with_consumers =
     opening ++ At 1 (Submits 1 (Subscribe 1 (Prefetch 1))) ∷ one_round ++ Alike (Mutes 2 true)
     ∷ At 1 (Submits 2 (Subscribe 1 (Prefetch 1))) ∷ one_round ++ At 1 (Submits 1 publish_a) ∷ one_round
     ++ At 1 (Submits 1 publish_a) ∷ one_round ++ At 1 (Submits 1 (Return 1 (1 ∷ []))) ∷ one_round
+
+-- A session has a consumer, which gets a message, and ends. It is to publish and to send again, which it does no more.
+-- Another session gets the message, once returned; then the first one ends once more.
+abbrev pub with_an_end : List NodeEvent
+with_an_end =
+    opening ++ At 1 (Submits 2 (Subscribe 1 (Prefetch 1))) ∷ one_round ++ At 1 (Submits 1 publish_a) ∷ one_round
+    ++ Alike (Ends 2) ∷ At 1 (Downs 2) ∷ one_round ++ At 1 (TellsEnded 2) ∷ SaysEnded ∷ At 1 (Submits 1 Get) ∷ one_round
+    ++ Alike (Ends 2) ∷ At 1 (Downs 2) ∷ one_round
 
 -- two queues
 abbrev pub two_queues : Setup

@@ -1,5 +1,5 @@
 -- What holds of a queue's world, whatever happens.
-use Rattle.std.specs.Prelude.{◌≡◌, ◌&&◌, ◌≢◌, ◌≤◌, ◌<◌, ℕ, List, [], ◌∷◌, ◌++◌, Bool, true, false, Option, Some, None, length, map, filter, filter_map, take, nat_eq, Contains, if◌then◌else◌}
+use Rattle.std.specs.Prelude.{◌≡◌, ◌⊎◌, ◌&&◌, ◌≢◌, ◌≤◌, ◌<◌, ℕ, List, [], ◌∷◌, ◌++◌, Bool, true, false, Option, Some, None, length, map, filter, filter_map, take, nat_eq, Contains, if◌then◌else◌}
 use Rattle.std.specs.List.{AllByRecursion}
 use Rattle.qq_base.specs.Ids.{client}
 use Rattle.qq_base.specs.declared.ids.SessionId.{SessionId}
@@ -26,7 +26,7 @@ use Rattle.qq_world.specs.ExactlyOne.{ExactlyOne}
 use Rattle.qq_base.specs.Fronts.{IsFront}
 use Rattle.qq_world.specs.Promise.{HoldsAudit, IsPromised, MayTakeUp, state_of}
 use Rattle.qq_world.specs.Server.{Server, is_down, is_ready, log_of, submit}
-use Rattle.qq_world.specs.World.{World, Clients, Event, Submits, Resends, Notices, Shown, Answered, Delivered, NoLeader, WindowFull, new_world, is_up, sender, own_rows, after_notice, happens, said, after, all_said}
+use Rattle.qq_world.specs.World.{World, Clients, Event, Submits, Resends, Notices, Shown, Answered, Delivered, NoLeader, WindowFull, new_world, is_up, sender, ended_by, own_rows, after_notice, happens, said, after, all_said}
 
 -- a world that may be reached
 abbrev pub world_after : QueueArgs → List Event → World
@@ -42,11 +42,11 @@ HasSerialAudit args w = IsSerial (empty_queue args) w.server.audit
 abbrev pub KeepsAudit : World → List Event → Type 0
 KeepsAudit w events = IsFront w.server.audit (after w events).server.audit
 
--- a row of an audit that answers a command of a client
+-- a row of an audit that answers a command of a client, or the end of its session
 pub record IsAnswer (audit : List AuditRow) (row : AuditRow) : Type 0 where
   pub is_in : Contains audit row
   pub session : ℕ
-  pub sender_is : sender row ≡ Some session
+  pub sender_is : (sender row ≡ Some session) ⊎ (ended_by row.entry.command ≡ Some session)
 
 -- what is printed as an answer is one of an audit
 abbrev pub IsAudited : List AuditRow → Shown → Type 0

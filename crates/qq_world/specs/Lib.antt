@@ -8,3 +8,4 @@ pub mod Rules
 pub mod NodeLaws
 pub mod Endings
 pub mod Example
+pub mod Ended

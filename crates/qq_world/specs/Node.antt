@@ -8,7 +8,7 @@ use Rattle.qq_entry.specs.declared.queue.QueueArgs.{QueueArgs}
 use Rattle.qq_script.specs.Audit.{audit_text}
 use Rattle.qq_script.specs.Text.{line_prefix, answer_text, delivery_text}
 use Rattle.qq_world.specs.Server.{Server, Role, Down, Follower, Candidate, Leader, is_down_in, is_ready, log_of}
-use Rattle.qq_world.specs.World.{World, Event, Stops, Finds, Shown, Answered, Delivered, NoLeader, WindowFull, new_world, said, after}
+use Rattle.qq_world.specs.World.{World, Event, Stops, Finds, Shown, Answered, Delivered, NoLeader, WindowFull, HasEnded, new_world, said, after}
 
 -- ---- the queues of a node
 
@@ -45,6 +45,8 @@ pub data NodeEvent : Type 0 where
   SaysDown : NodeEvent
   -- a pump has done all its rounds, and work is left
   SaysBusy : NodeEvent
+  -- the commands of a session that has ended are to be sent again
+  SaysEnded : NodeEvent
 
 -- what an event is to one queue
 abbrev pub part_of : ℕ → NodeEvent → List Event
@@ -80,6 +82,8 @@ pub data Printed : Type 0 where
   -- it is down already
   IsDown : Printed
   Busy : Printed
+  -- a session has ended
+  Ended : Printed
   -- the state of a server
   State : (place : ℕ) (server : Server) → Printed
 
@@ -89,6 +93,7 @@ prints n Fails = Stopped ∷ []
 prints n (Shows place) = State place (n.queue place).server ∷ []
 prints n SaysDown = IsDown ∷ []
 prints n SaysBusy = Busy ∷ []
+prints n SaysEnded = Ended ∷ []
 prints n _ = []
 
 abbrev pub all_prints : Node → List NodeEvent → List Printed
@@ -112,6 +117,7 @@ shown_text setup place (Delivered consumer delivery) =
 shown_text setup place (NoLeader session) =
     prefix_of setup place session ++ codes "no leader " ++ setup.name place ++ codes "\n"
 shown_text setup place (WindowFull session) = prefix_of setup place session ++ codes "window full\n"
+shown_text setup place (HasEnded session) = prefix_of setup place session ++ codes "ended\n"
 
 -- the index up to which a server knows its log to be committed
 abbrev pub commit_of : Server → ℕ
@@ -135,6 +141,7 @@ printed_text setup (Of place shown) = shown_text setup place shown
 printed_text setup Stopped = codes "node 1 stopped\n"
 printed_text setup IsDown = codes "down 1\n"
 printed_text setup Busy = codes "busy\n"
+printed_text setup Ended = codes "ended\n"
 printed_text setup (State place server) =
     setup.name place ++ codes " 1 " ++ role_text server.role ++ state_words server ++ codes "\n"
 

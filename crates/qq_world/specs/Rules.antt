@@ -5,8 +5,8 @@ use Rattle.std.specs.List.{list_all, list_any}
 use Rattle.qq_disk.specs.declared.image.Image.{Image}
 use Rattle.qq_entry.specs.declared.command.Unstamped.{Unstamped}
 use Rattle.qq_world.specs.Server.{may_restart}
-use Rattle.qq_world.specs.World.{World, Mutes, Ticks, Submits, Resends, Writes, Syncs, Notices, is_up}
-use Rattle.qq_world.specs.Node.{Setup, Node, NodeEvent, Sets, Alike, At, Fails, Crashes, FindsEach, Shows, SaysDown, SaysBusy, node_after}
+use Rattle.qq_world.specs.World.{World, Mutes, Ends, Ticks, Submits, TellsEnded, Resends, Downs, Writes, Syncs, Notices, is_up}
+use Rattle.qq_world.specs.Node.{Setup, Node, NodeEvent, Sets, Alike, At, Fails, Crashes, FindsEach, Shows, SaysDown, SaysBusy, SaysEnded, node_after}
 
 -- ---- how rules are put together
 
@@ -114,6 +114,7 @@ pub data Line : Type 0 where
   Nothing : Line
   Send : (place session : ℕ) (body : Unstamped) → Line
   Resend : (session : ℕ) → Line
+  End : (session : ℕ) → Line
   Mute : (session : ℕ) (muted : Bool) → Line
   Auto : (auto : Bool) → Line
   Pump : Line
@@ -140,11 +141,30 @@ abbrev pub IsRestart : Setup → Node → List NodeEvent → Type 0
 IsRestart setup n events =
     if_so (is_node_up setup n) IsNothing (λ m es. FindsLanes setup m es ⊎ (es ≡ Fails ∷ [])) n events
 
+abbrev pub is_ended : ℕ → World → Bool
+is_ended session w = (w.clients session).ended
+
+-- a session gives a command, or is told that it has ended
+abbrev pub IsSend : ℕ → ℕ → Unstamped → Node → List NodeEvent → Type 0
+IsSend place session body n events =
+    if_so (is_ended session (n.queue place)) (Is (At place (TellsEnded session))) (Is (At place (Submits session body)))
+    n events
+
+abbrev pub IsResend : Setup → ℕ → Node → List NodeEvent → Type 0
+IsResend setup session n events =
+    if_so (some_queue setup (is_ended session) n) (Is SaysEnded)
+    (ForEach setup.places (λ place. Is (At place (Resends session)))) n events
+
+-- a session ends at every queue, and each that had a command of it is told so
+abbrev pub IsEnd : Setup → ℕ → Node → List NodeEvent → Type 0
+IsEnd setup session =
+    Then (Is (Alike (Ends session))) (ForEach setup.places (λ place. Is (At place (Downs session))))
+
 abbrev pub IsLine : Setup → Line → Node → List NodeEvent → Type 0
 IsLine setup Nothing = IsNothing
-IsLine setup (Send place session body) = Then (Is (At place (Submits session body))) (IsPumped setup)
-IsLine setup (Resend session) =
-    Then (ForEach setup.places (λ place. Is (At place (Resends session)))) (IsPumped setup)
+IsLine setup (Send place session body) = Then (IsSend place session body) (IsPumped setup)
+IsLine setup (Resend session) = Then (IsResend setup session) (IsPumped setup)
+IsLine setup (End session) = Then (IsEnd setup session) (IsPumped setup)
 IsLine setup (Mute session muted) = Is (Alike (Mutes session muted))
 IsLine setup (Auto auto) = Is (Sets auto)
 IsLine setup Pump = IsPump setup

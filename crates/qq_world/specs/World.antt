@@ -1,8 +1,9 @@
 -- One queue on one node, with the sessions of its clients and the part of the node's log that is its own: what may
 -- happen, and what is shown of it.
-use Rattle.std.specs.Prelude.{ℕ, List, [], ◌∷◌, ◌++◌, Bool, true, false, not, ◌&&◌, Option, Some, None, length, drop, filter, map, flat_map, nat_eq, nat_lt, if◌then◌else◌}
+use Rattle.std.specs.Prelude.{ℕ, List, [], ◌∷◌, ◌++◌, Bool, true, false, not, ◌&&◌, ◌||◌, Option, Some, None, length, drop, filter, map, flat_map, nat_eq, nat_lt, if◌then◌else◌}
 use Rattle.qq_base.specs.Ids.{client, same_session}
 use Rattle.qq_base.specs.declared.ids.ConsumerId.{ConsumerId}
+use Rattle.qq_base.specs.declared.ids.QueueId.{QueueId}
 use Rattle.qq_base.specs.declared.ids.SessionId.{SessionId}
 use Rattle.qq_base.specs.declared.ids.Term.{Term}
 use Rattle.qq_entry.specs.declared.answer.Delivery.{Delivery}
@@ -11,6 +12,7 @@ use Rattle.qq_entry.specs.declared.audit.Effect.TheVariants.{Deliver}
 use Rattle.qq_entry.specs.declared.command.Entry.{Entry}
 use Rattle.qq_entry.specs.declared.command.Stamp.{Stamp}
 use Rattle.qq_entry.specs.declared.command.Command.{Command}
+use Rattle.qq_entry.specs.declared.command.Command.TheVariants as commands
 use Rattle.qq_entry.specs.declared.command.Unstamped.{Unstamped}
 use Rattle.qq_entry.specs.declared.audit.AuditRow.{AuditRow}
 use Rattle.qq_entry.specs.declared.queue.QueueArgs.{QueueArgs}
@@ -25,17 +27,21 @@ use Rattle.qq_world.specs.Server.{Server, new_server, is_down, is_ready, tick, n
 
 -- ---- the clients
 
--- a session of a client: its numbers at this queue, and whether answers to it are lost
+-- a session of a client: its numbers at this queue, whether answers to it are lost, and whether it has ended
 pub record Client : Type 0 where
   pub numbers : Numbers
   pub muted : Bool
+  pub ended : Bool
 
 -- the clients' sessions by their numbers
 abbrev pub Clients : Type 0
 Clients = ℕ → Client
 
+abbrev pub new_client : SessionId → QueueId → Client
+new_client session queue = record { numbers = new_numbers session queue; muted = false; ended = false }
+
 abbrev pub new_clients : QueueArgs → Clients
-new_clients args = λ session. record { numbers = new_numbers (client session) args.queue; muted = false }
+new_clients args = λ session. new_client (client session) args.queue
 
 -- which client's session a command is of, None where it is of none
 abbrev pub sender_by : Option Stamp → Option ℕ
@@ -45,6 +51,12 @@ sender_by (Some given) =
 
 abbrev pub sender : AuditRow → Option ℕ
 sender row = sender_by (stamp row.entry.command)
+
+-- which client's session a command ends, None where it ends none
+abbrev pub ended_by : Command → Option ℕ
+ended_by (commands.Down session) =
+    if same_session session (client session.number) then Some session.number else None
+ended_by _ = None
 
 -- ---- answers come to clients
 
@@ -72,8 +84,14 @@ abbrev pub is_printed_by : Option ℕ → Clients → AuditRow → Bool
 is_printed_by None clients row = false
 is_printed_by (Some session) clients row = is_printed_to (clients session) row
 
+-- the end of a session has no number: each answer to it is printed where it isn't lost
+abbrev pub tells_end : Option ℕ → Clients → Bool
+tells_end None clients = false
+tells_end (Some session) clients = not (clients session).muted
+
 abbrev pub is_printed : Clients → AuditRow → Bool
-is_printed clients row = is_printed_by (sender row) clients row
+is_printed clients row =
+    is_printed_by (sender row) clients row || tells_end (ended_by row.entry.command) clients
 
 -- the rows whose answers are printed, each heard before the next
 abbrev pub printed : List AuditRow → Clients → List AuditRow
@@ -94,12 +112,18 @@ new_world args = record { clients = new_clients args; server = new_server args; 
 pub data Event : Type 0 where
   -- from here on answers to a session are lost, or come again
   Mutes : (session : ℕ) (muted : Bool) → Event
+  -- a client's session ends: it gives no more commands
+  Ends : (session : ℕ) → Event
   -- the server's clock ticks
   Ticks : Event
   -- a client gives a command a number and sends it
   Submits : (session : ℕ) (body : Unstamped) → Event
+  -- a session that has ended is to give a command
+  TellsEnded : (session : ℕ) → Event
   -- a client sends all its open commands again
   Resends : (session : ℕ) → Event
+  -- the queue is told that a session has ended
+  Downs : (session : ℕ) → Event
   -- all that the server handed out is appended to the log
   Writes : Event
   -- all that was appended is synced
@@ -130,7 +154,11 @@ offer_all (command ∷ commands) w = offer_all commands (offer command w)
 
 abbrev pub set_numbers : ℕ → Numbers → World → World
 set_numbers session numbers w =
-    record w { clients = put session (record { numbers = numbers; muted = (w.clients session).muted }) w.clients }
+    record w { clients = put session (record (w.clients session) { numbers = numbers }) w.clients }
+
+-- a session has given a command
+abbrev pub is_used : Numbers → Bool
+is_used n = nat_lt 1 n.next
 
 abbrev pub send : ℕ → Unstamped → World → World
 send session body w =
@@ -176,10 +204,15 @@ find op w = record w { server = restart op w.server; written = op; synced = op }
 
 abbrev pub happens : World → Event → World
 happens w (Mutes session muted) =
-    record w { clients = put session (record { numbers = (w.clients session).numbers; muted = muted }) w.clients }
+    record w { clients = put session (record (w.clients session) { muted = muted }) w.clients }
+happens w (Ends session) =
+    record w { clients = put session (record (w.clients session) { ended = true }) w.clients }
 happens w Ticks = record w { server = tick w.server }
 happens w (Submits session body) = send session body w
+happens w (TellsEnded session) = w
 happens w (Resends session) = offer_all (open_commands (w.clients session).numbers) w
+happens w (Downs session) =
+    if is_used (w.clients session).numbers then offer (commands.Down (client session)) w else w
 happens w Writes = if is_up w then record w { written = length w.server.ops } else w
 happens w Syncs = if is_up w then record w { synced = w.written } else w
 happens w Notices = if is_up w then tell w else w
@@ -197,6 +230,8 @@ pub data Shown : Type 0 where
   NoLeader : (session : ℕ) → Shown
   -- as many of a session's numbers are open as may be
   WindowFull : (session : ℕ) → Shown
+  -- a session has ended, and gives no more commands
+  HasEnded : (session : ℕ) → Shown
 
 -- a client's session gets its deliveries, unless what comes to it is lost
 abbrev pub is_delivered_to : Clients → SessionId → Bool
@@ -225,7 +260,11 @@ said w (Submits session body) =
     let numbers = (w.clients session).numbers in
     if may_hand numbers then said_of (is_ready w.server) session (next_command body numbers ∷ [])
     else WindowFull session ∷ []
+said w (TellsEnded session) = HasEnded session ∷ []
 said w (Resends session) = said_of (is_ready w.server) session (open_commands (w.clients session).numbers)
+said w (Downs session) =
+    if is_used (w.clients session).numbers
+    then said_of (is_ready w.server) session (commands.Down (client session) ∷ []) else []
 said w Notices = if is_up w then told w else []
 said w _ = []
 

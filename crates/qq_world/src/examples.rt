@@ -1,6 +1,6 @@
 //! Worked runs: what they print, letter by letter.
 ghost use Rattle.std.specs.Prelude.{◌≡◌, ◌++◌, codes};
-ghost use Rattle.qq_world.specs.Example.{one_queue, lines_by_hand, lines_with_a_fault, by_hand, behind_a_crash, while_muted, with_a_fault, with_consumers, two_queues, sent_again, output};
+ghost use Rattle.qq_world.specs.Example.{one_queue, lines_by_hand, lines_with_a_fault, by_hand, behind_a_crash, while_muted, with_a_fault, with_consumers, with_an_end, two_queues, sent_again, output};
 ghost use Rattle.qq_world.specs.Node.{new_node};
 ghost use Rattle.qq_world.specs.Rules.{IsRun};
 
@@ -14,6 +14,8 @@ ghost use Rattle.qq_world.specs.Rules.{IsRun};
 ///   printed once.
 /// - `consumers`: two consumers get a message each, the second one's is lost since it is muted. The
 ///   first returns its message and gets it again, with a number of its own, once returned.
+/// - `ended`: a session with a consumer ends, and what that had is returned. The session gives no more
+///   commands; to end it again is answered again.
 /// - `lost`: a message to each of two queues is appended, and lost by a crash. Sent again, it is
 ///   confirmed.
 /// - `hand_run`, `fault_run`: these events are what the lines of their scripts ask for.
@@ -33,6 +35,12 @@ pub fn worked_runs_print()
         ++ codes "2 1 subscribe 1 1 1 subscribed 1\n3 1 subscribe 2 1 1 subscribed 1\n"
         ++ codes "4 1 enqueue 1 2 1 confirmed 2\n5 1 enqueue 1 3 1 confirmed 3\n"
         ++ codes "6 1 return 1 4 1 1 done\n" }
+    ensures ended { output one_queue with_an_end
+        ≡ codes "2 q1: subscribed 1\nconfirmed 1\n2 q1: deliver 1 1 1 a\n2 q1: down\n"
+        ++ codes "2 q1: ended\nended\nmessage 1/1 a\n2 q1: down\naudit q1 0 6\n"
+        ++ codes "1 1 noop 1 lead\n2 1 subscribe 2 1 1 subscribed 1\n"
+        ++ codes "3 1 enqueue 1 1 1 confirmed 1\n4 1 down 2 down\n"
+        ++ codes "5 1 get 1 2 message 1/1\n6 1 down 2 down\n" }
     ensures lost { output two_queues sent_again
         ≡ codes "confirmed 1\n1 q2: confirmed 1\naudit q1 0 3\n1 1 noop 1 lead\n2 2 noop 1 lead\n"
         ++ codes "3 2 enqueue 1 1 2 confirmed 1\naudit q2 0 3\n1 1 noop 1 lead\n2 2 noop 1 lead\n"

@@ -2,12 +2,14 @@
 //! happens. It has no code.
 #![tactic(auto)]
 
+mod ended;
 mod examples;
 mod laws;
 mod nodes;
 mod sessions;
 mod texts;
 
+pub use ended::{an_ended_session_gives_no_commands, ends_go_to_a_ready_leader};
 pub use examples::worked_runs_print;
 pub use laws::{
     a_ready_leader_has_applied, an_audit_is_serial, commands_go_to_a_ready_leader,

@@ -1,6 +1,6 @@
 use Rattle.std.proofs.Common.{ℕ}
 use Rattle.std.proofs.lemmas.Result.{on_ok_weaker}
-use Rattle.qq_world.specs.Rules.{Send, Resend, Mute, Auto, Notice, Tick, Show}
+use Rattle.qq_world.specs.Rules.{Send, Resend, End, Mute, Auto, Notice, Tick, Show}
 use Rattle.qq_broker.proofs.Asked.{has-served, has-served-at}
 use Rattle.qq_broker.proofs.asking.ask.Goals as goal
 
@@ -16,6 +16,12 @@ returns-in-Resend-clause-ok g c =
     rw c.in-Resend.is (λ setup n reached stands named. on_ok_weaker c.resend.result
     (λ served. has-served g.D.NodeDisk.tells g.D.NodeDisk.past setup n (Resend c.in-Resend.session) c.resend.new.self _ _
     c.args.text.now.items c.resend.new.text.items stands.1 (served setup n reached stands.0)) c.resend.ensures.ok)
+
+pub returns-in-End-clause-ok : goal.returns-in-End-clause-ok
+returns-in-End-clause-ok g c =
+    rw c.in-End.is (λ setup n reached stands named. on_ok_weaker c.end.result
+    (λ served. has-served g.D.NodeDisk.tells g.D.NodeDisk.past setup n (End c.in-End.session) c.end.new.self _ _
+    c.args.text.now.items c.end.new.text.items stands.1 (served setup n reached stands.0)) c.end.ensures.ok)
 
 pub returns-in-Mute-clause-ok : goal.returns-in-Mute-clause-ok
 returns-in-Mute-clause-ok g c =

@@ -38,6 +38,13 @@ returns-clause-cause g c =
     let faults = g.Y.Disk.NodeDisk.faults in
     let before = g.Y.Yard.faults c.args.yard.now in
     let after = g.Y.Yard.faults c.disk.new.self in
-    subst (MayNotOpen (Meets tells past faults before after)) (sym c.open_ending.ensures)
-    (may-not-open tells past faults before after c.in-Ok-disk.disk c.in-Err-open_node.field-0-1 c.in-Err-open_node.fault
-    (λ tell. c.in-Ok-disk.ensures.empty tell) c.in-Err-open_node.ensures.told c.in-Err-open_node.ensures.cause)
+    let s = c.args.setup.now in
+    let set : IsSetFor (node_setup s.queues) c.in-Ok.queues.items c.in-Ok-new_desks.desks.items =
+    set-for s c.in-Ok.queues.items c.in-Ok-new_desks.desks.items c.requires
+    (c.in-Ok.ensures.ok ∙ ap (map queue_of) c.as_slice-rows.ensures)
+    (subst (λ (rows : List QueueRow). AreNewDesks true rows c.in-Ok-new_desks.desks.items)
+    c.as_slice-rows.ensures c.in-Ok-new_desks.ensures.ok) in
+    subst (MayNotOpen (Meets tells past faults before after) s) (sym c.open_ending.ensures)
+    (may-not-open tells past faults before after s c.in-Ok-disk.disk c.in-Err-open_node.field-0-1
+    c.in-Err-open_node.fault (λ tell. c.in-Ok-disk.ensures.empty tell) c.in-Err-open_node.ensures.told
+    (c.in-Err-open_node.ensures.cause (node_setup s.queues) set))

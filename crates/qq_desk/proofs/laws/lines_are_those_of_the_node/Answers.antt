@@ -1,6 +1,6 @@
 use Rattle.std.proofs.Common.{◌≡◌, ℕ, refl}
 use Rattle.qq_world.specs.Node.{Setup, is_first, shown_text}
-use Rattle.qq_world.specs.World.{Shown, Answered, Delivered, NoLeader, WindowFull}
+use Rattle.qq_world.specs.World.{Shown, Answered, Delivered, NoLeader, WindowFull, HasEnded}
 use Rattle.qq_desk.specs.Text.{shown_text_as}
 use Rattle.qq_desk.proofs.laws.lines_are_those_of_the_node.Goals as goal
 
@@ -10,6 +10,7 @@ same-text setup place (Answered row) = refl
 same-text setup place (Delivered consumer delivery) = refl
 same-text setup place (NoLeader session) = refl
 same-text setup place (WindowFull session) = refl
+same-text setup place (HasEnded session) = refl
 
 pub returns-clause-shown : goal.returns-clause-shown
 returns-clause-shown c = λ setup place shown. same-text setup place shown

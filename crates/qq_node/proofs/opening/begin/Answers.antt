@@ -1,11 +1,12 @@
-use Rattle.std.proofs.Common.{List, Option, not, refl, sym, ap, ◌∙◌, subst}
-use Rattle.std.specs.Prelude.{is_some}
-use Rattle.std.specs.List.{list_all}
+use Rattle.std.proofs.Common.{List, Option, length, sym, ap, ◌∙◌, subst, refl}
 use Rattle.qq_base.specs.declared.ids.QueueId.{QueueId}
 use Rattle.qq_log.specs.declared.lane.Lane.{Lane}
+use Rattle.qq_world.specs.Node.{new_node}
 use Rattle.qq_node.specs.Found.{AreDistinct, FailsLinked, HasFound}
-use Rattle.qq_node.specs.Restarting.{IsOpenCaused}
-use Rattle.qq_node.proofs.Restarts.{begun, may-begin, never-used, open-caused}
+use Rattle.qq_node.specs.Restarting.{IsOpenCaused, TellsFirstFound}
+use Rattle.qq_node.proofs.NoneFound.{AreNone}
+use Rattle.qq_node.proofs.Restarts.{begun, found-caused, may-begin, open-caused}
+use Rattle.qq_node.proofs.TakenUp.{lanes-many}
 use Rattle.qq_node.proofs.opening.begin.Goals as goal
 
 pub recover_log-requires-clause-apart : goal.recover_log-requires-clause-apart
@@ -15,26 +16,37 @@ recover_log-requires-clause-apart g c =
     c.requires.set.1)
 
 pub returns-in-Err-clause-cause : goal.returns-in-Err-clause-cause
-returns-in-Err-clause-cause g c =
-    let tells = g.D.NodeDisk.tells in
+returns-in-Err-clause-cause g c = λ setup set.
+    (let tells = g.D.NodeDisk.tells in
     let past = g.D.NodeDisk.past in
     let faults = g.D.NodeDisk.faults in
-    subst (IsOpenCaused (tells c.args.disk) (faults c.args.disk) (faults c.in-Err.disk)) (sym c.fault_at_opening.ensures)
-    (open-caused tells past faults c.requires.set.0 c.args.queues.items c.args.desks c.args.disk
-    c.in-Err.disk c.in-Err.fault c.requires.set.1 c.requires.fresh
+    subst (IsOpenCaused setup (tells c.args.disk) (faults c.args.disk) (faults c.in-Err.disk))
+    (sym c.fault_at_opening.ensures)
+    (open-caused tells past faults setup c.args.queues.items c.args.desks c.args.disk
+    c.in-Err.disk c.in-Err.fault set c.requires.fresh
     (λ tell. subst (λ (ids : List QueueId). FailsLinked ids (past c.args.disk) (past c.in-Err.disk) c.in-Err.fault)
-    c.deref.ensures.value (c.in-Err.ensures.fails tell)) c.in-Err.ensures.cause)
+    c.deref.ensures.value (c.in-Err.ensures.fails tell)) c.in-Err.ensures.cause))
 
-pub returns-then-not-are_none-clause-cause : goal.returns-then-not-are_none-clause-cause
-returns-then-not-are_none-clause-cause g c =
-    let tells = g.D.NodeDisk.tells in
+pub find_none-requires : goal.find_none-requires
+find_none-requires g c =
+    let setup = c.requires.set.0 in
+    let set = c.requires.set.1 in
+    ap length c.deref-2.ensures.value
+    ∙ lanes-many g.D.NodeDisk.tells g.D.NodeDisk.past g.D.NodeDisk.faults setup (new_node setup) c.deref.result.now
+    c.args.desks c.in-Ok.ensures.ok.lanes c.in-Ok.found.lanes.items (c.deref.ensures.value ∙ set.queues_are)
+    set.desks_are c.in-Ok.ensures.ok.each
+
+pub returns-in-Err-find_none-clause-cause : goal.returns-in-Err-find_none-clause-cause
+returns-in-Err-find_none-clause-cause g c = λ setup set.
+    (let tells = g.D.NodeDisk.tells in
     let past = g.D.NodeDisk.past in
-    never-used tells past g.D.NodeDisk.faults c.requires.set.0 c.args.queues.items c.args.desks c.args.log_bytes
-    c.args.disk c.in-Ok.found c.requires.set.1 c.requires.fresh
+    let fault = c.in-Err-find_none.fault in
+    found-caused tells past g.D.NodeDisk.faults setup c.args.queues.items c.args.desks c.args.log_bytes c.args.disk
+    c.in-Ok.found _ _ fault set c.requires.fresh
     (subst (λ (ids : List QueueId). HasFound tells past ids c.args.log_bytes c.args.disk c.in-Ok.found)
     c.deref.ensures.value c.in-Ok.ensures.ok)
-    (sym (c.are_none.ensures ∙ ap (list_all (λ (lane : Option Lane). not (is_some lane))) c.deref-2.ensures.value)
-    ∙ c.if-not-are_none.true)
+    (subst (λ (lanes : List (Option Lane)). TellsFirstFound c.args.desks lanes fault) c.deref-2.ensures.value
+    c.in-Err-find_none.ensures.cause))
 
 pub returns-clause-ok : goal.returns-clause-ok
 returns-clause-ok g c = λ setup set.
@@ -44,6 +56,5 @@ returns-clause-ok g c = λ setup set.
     c.requires.fresh
     (subst (λ (ids : List QueueId). HasFound tells past ids c.args.log_bytes c.args.disk c.in-Ok.found)
     c.deref.ensures.value c.in-Ok.ensures.ok)
-    (sym (c.are_none.ensures ∙ ap (list_all (λ (lane : Option Lane). not (is_some lane))) c.deref-2.ensures.value)
-    ∙ c.if-not-are_none.false) (λ tell. c.in-Ok.ensures.whole tell) c.in-Ok.ensures.told
-    c.in-Ok.ensures.later refl refl refl)
+    (subst AreNone c.deref-2.ensures.value c.in_default.ensures.ok) (λ tell. c.in-Ok.ensures.whole tell)
+    c.in-Ok.ensures.told c.in-Ok.ensures.later refl refl refl)

@@ -1,8 +1,10 @@
 use Rattle.std.proofs.Common.{◌≡◌, ℕ, List, length, take, sym, ap, subst, ◌∙◌, arith}
 use Rattle.qq_base.specs.declared.ids.Term.{Term}
+use Rattle.qq_entry.specs.declared.queue.QueueArgs.{QueueArgs}
 use Rattle.qq_log.specs.declared.op.Op.{Op}
 use Rattle.qq_model.specs.State.{empty_queue}
 use Rattle.qq_world.specs.Server.{Server, log_of, term_of}
+use Rattle.qq_desk.specs.Audited.{IsMachineOf}
 use Rattle.qq_desk.specs.Server.{IsServer}
 use Rattle.qq_desk.proofs.Ranges.{server-restarted}
 use Rattle.qq_desk.proofs.server.Server.restart.Goals as goal
@@ -28,4 +30,5 @@ invariant_of-self c =
     (omega (arith, c.requires.more, ap (λ (s : Server). s.noticed) c.self.view_is))
     (omega (arith, c.requires.most, ap (λ (s : Server). length s.ops) c.self.view_is))
     c.restart.ensures.rows c.restart.ensures.audited c.restart.ensures.applied
-    (c.restart.ensures.machine ∙ ap empty_queue c.in_ok-args.ensures.ok))))
+    (subst (λ (args : QueueArgs). IsMachineOf (empty_queue args) c.restart.new.self.machine) c.in_ok-args.ensures.ok
+    c.restart.ensures.machine))))
