@@ -16,15 +16,16 @@ use qq_world::{a_node_prints_what_is_true, lines_settle};
 
 /// What an exit status tells of a run, where source and sink tell their bytes.
 ///
-/// - `told`: 0, all lines were served, and behind their text stand the audits. 4, some lines were served, and
-///   the next one is refused by its number and its fault. 5, the source has failed, and all lines that were
-///   read whole were served. 6, the sink has failed, and what it has is a first part of what is printed. 7, the
-///   yard has failed at the opening or at a crash, or the disk has at the opening. 8, the log's files were found
-///   to break the rules at the printed place, when the node is restarted; or when it is opened, over a disk that
-///   doesn't tell what it holds. 9, a restart finds of a queue what its server may not take up; or over such a
-///   disk the opening finds ops of the printed queue, which begins with none. 11, the next line is behind the
-///   10,000,000th, or its body is too long. 12, there was no memory, and what was written is a first part of what
-///   is printed, and then `memory`. 20, a number stands at its end, 2^63. There is no other status.
+/// - `told`: 0, all lines were served, and behind their text stand the audits. 4, some lines were served,
+///   and the next one is refused by its number and its fault. 5, the source has failed, and lines that
+///   were read, from the first on, were served. 6, the sink has failed, and what it has is a first part
+///   of what is printed. 7, the yard has failed at the opening or at a crash, or the disk has at the
+///   opening. 8, the log's files were found to break the rules at the printed place, when the node is
+///   restarted; or when it is opened, over a disk that doesn't tell what it holds. 9, a restart finds of
+///   a queue what its server may not take up; or over such a disk the opening finds ops of the printed
+///   queue, which begins with none. 11, the next line is behind the 10,000,000th, or its body is too
+///   long. 12, there was no memory, and what was written is a first part of what is printed, and then
+///   `memory`. 20, a number stands at its end, 2^63. There is no other status.
 /// - `usage`: nothing was read, and the usage was printed.
 pub fn a_status_tells_what_was_done()
     ensures told { (status : ℕ) (options : Options) (s : Streams) → HasEnded status options s
