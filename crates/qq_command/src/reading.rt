@@ -1,8 +1,11 @@
 //! Reading an entry from a prefix of bytes.
-ghost use Rattle.std.specs.Prelude.{◌≡◌, ◌≤◌, List, ℕ, length, IfOk, Ok, Err};
+ghost use Rattle.std.specs.Prelude.{◌≡◌, ◌≤◌, ◌++◌, List, ℕ, length, IfOk, Ok, Err};
+ghost use Rattle.qq_base.specs.Fields.{AreBytes};
 ghost use Rattle.qq_base.specs.declared.memory.Memory.{Memory};
 ghost use Rattle.qq_entry.specs.declared.command.Entry.{Entry};
-ghost use Rattle.qq_command.specs.Laws.{ReadsEntryPrefix, IsReadAgain, HasOneEncoding, HasShortEncoding, IsAlone};
+ghost use Rattle.qq_entry.specs.Range.{IsWritable};
+ghost use Rattle.qq_command.specs.Encoding.{encoding};
+ghost use Rattle.qq_command.specs.Laws.{HasShortEncoding};
 ghost use Rattle.qq_command.specs.Reading.{Gives, IsEntryPrefix, noop_at, enqueue_at, get_at, subscribe_at, cancel_at, credit_at, settle_at, return_at, discard_at, purge_at, down_at, dead_attach_at, dead_settle_at, fields_at, payload_at, entry_at};
 
 use crate::fields::{
@@ -232,7 +235,8 @@ pub fn decode(alloc: Global, bytes: &[u8]) -> Result<(Entry, usize), Refusal>
     // What is read is in range and has its content, and its encoding is a prefix of the bytes.
     ensures found { IfOk result (λ x. IsEntryPrefix bytes.now x) }
     // An entry in range whose encoding is a prefix of the bytes is read, whatever follows it.
-    ensures only { ReadsEntryPrefix bytes.now result }
+    ensures only { (e : Entry) (rest : List ℕ) → IsWritable e → bytes.now ≡ encoding e ++ rest →
+        Gives (λ x. x) result (Ok (e, length (encoding e))) }
     ensures within { IfOk result (λ x. x.1 ≤ length bytes.now) }
     // Which refusal it is.
     ensures exact { Gives (λ x. x) result (entry_at bytes.now) }
@@ -244,12 +248,15 @@ pub fn decode(alloc: Global, bytes: &[u8]) -> Result<(Entry, usize), Refusal>
 /// A law: an entry's encoding is read again whatever follows it, what is read has that encoding and no
 /// other, and no encoding is longer than its limit.
 pub fn entries_read_back()
-    ensures again { (e : Entry) (rest : List ℕ) → IsReadAgain e rest }
-    ensures alone { (bytes : List ℕ) (x : Entry × ℕ) → HasOneEncoding bytes x }
+    ensures again { (e : Entry) (rest : List ℕ) → IsWritable e →
+        entry_at (encoding e ++ rest) ≡ Ok (e, length (encoding e)) }
+    ensures alone { (bytes : List ℕ) (x : Entry × ℕ) → AreBytes bytes → entry_at bytes ≡ Ok x →
+        IsEntryPrefix bytes x }
     ensures short { (e : Entry) → HasShortEncoding e }
 {}
 
 /// A law: no entry's encoding begins another's, so what was written is read again whatever follows it.
 pub fn no_encoding_begins_another()
-    ensures { (a b : Entry) (x y : List ℕ) → IsAlone a b x y }
+    ensures { (a b : Entry) (x y : List ℕ) → IsWritable a → IsWritable b →
+        encoding a ++ x ≡ encoding b ++ y → (a ≡ b) × (x ≡ y) }
 {}

@@ -1,12 +1,12 @@
 -- Words that write numbers.
-use Rattle.std.proofs.Common.{◌≡◌, ◌∙◌, ℕ, zero, suc, ◌<◌, ◌≤◌, ◌^◌, ◌&&◌, Bool, true, false, not, List, [], ◌∷◌, length, fold, Some, None, Ok, Err, refl, sym, ap, arith, rules, nat_le, nat_eq, slice_index, if◌then◌else◌, ◌⊎◌, inl, inr}
+use Rattle.std.proofs.Common.{◌↔◌, ◌≡◌, ◌∙◌, ℕ, zero, suc, ◌<◌, ◌≤◌, ◌^◌, ◌&&◌, Bool, true, false, not, List, [], ◌∷◌, length, fold, Some, None, Ok, Err, refl, sym, ap, arith, rules, nat_le, nat_eq, slice_index, if◌then◌else◌, ◌⊎◌, inl, inr}
 use Rattle.std.specs.List.{list_all}
 use Rattle.std.specs.Fmt.{decimal}
 use Rattle.std.specs.Str.Parse.{ParsesUnsigned}
 use Rattle.std.proofs.lemmas.Bool.{le-leb, lt-leb, cases_lt, ne_eqb}
 use Rattle.std.proofs.lemmas.Fmt.{decimal_digit, digits_decimal, digits_value-decimal, decimal_nonempty, first_decimal, decimal-digits_value}
 use Rattle.std.proofs.lemmas.Str.Parse.{IsNumeralModel, numerals_by_fold, parse_digits}
-use Rattle.qq_lines.specs.Numbers.{is_digit, push_digit, value_of, is_empty, has_leading_zero, is_number, number_of, within, number_in, IsDecimalText}
+use Rattle.qq_lines.specs.Numbers.{is_digit, push_digit, value_of, is_empty, has_leading_zero, is_number, number_of, within, number_in}
 
 -- digits and their value are those of `parse`
 pub own : IsNumeralModel (λ ds. list_all is_digit ds ≡ true) (λ ds. fold push_digit 0 ds)
@@ -107,5 +107,5 @@ number_of_decimal n small =
     number_test [] some plain digits = absurd (omega (arith, some))
     number_test (b ∷ rest) some plain digits = rw (plain, digits) refl
 
-pub decimal_text : (word : List ℕ) (n : ℕ) → n < 2 ^ 64 → IsDecimalText word n
+pub decimal_text : (word : List ℕ) (n : ℕ) → n < 2 ^ 64 → (number_of word ≡ Some n) ↔ (word ≡ decimal n)
 decimal_text word n small = (decimal_of word n small, λ is. rw is (number_of_decimal n small))

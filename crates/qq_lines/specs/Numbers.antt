@@ -1,8 +1,7 @@
 -- The numbers in a line: decimal, without leading zeros.
-use Rattle.std.specs.Prelude.{◌≡◌, ℕ, ◌+◌, ◌-◌, ◌*◌, ◌^◌, ◌==◌, ◌&&◌, ◌↔◌, nat_le, Bool, true, false, not, List, [], ◌∷◌, length, fold, Option, Some, None, if◌then◌else◌}
+use Rattle.std.specs.Prelude.{ℕ, ◌+◌, ◌-◌, ◌*◌, ◌^◌, ◌==◌, ◌&&◌, nat_le, Bool, true, false, not, List, [], ◌∷◌, length, fold, Option, Some, None, if◌then◌else◌}
 use Rattle.std.specs.List.{list_all, slice_split}
 use Rattle.std.specs.Option.{option_map, option_and_then}
-use Rattle.std.specs.Fmt.{decimal}
 use Rattle.qq_base.specs.declared.ids.SessionId.{SessionId}
 use Rattle.qq_base.specs.declared.ids.ConsumerId.{ConsumerId}
 use Rattle.qq_base.specs.Ids.{client}
@@ -77,7 +76,3 @@ abbrev pub ids_of : List ℕ → Option (List ℕ)
 ids_of word =
     let parts = slice_split is_comma word in
     if nat_le (length parts) IDS_LIMIT then all_ids parts else None
-
--- a number below 2^64 has one writing, its decimal text
-abbrev pub IsDecimalText : List ℕ → ℕ → Type 0
-IsDecimalText word n = (number_of word ≡ Some n) ↔ (word ≡ decimal n)
