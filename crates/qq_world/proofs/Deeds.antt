@@ -10,8 +10,8 @@ use Rattle.qq_entry.specs.declared.command.Unstamped.{Unstamped}
 use Rattle.qq_entry.specs.declared.queue.QueueArgs.{QueueArgs}
 use Rattle.qq_script.specs.Text.{seq_of}
 use Rattle.qq_session.specs.Arriving.{Deed, Hands, after_deed}
-use Rattle.qq_session.specs.Publishing.{Numbers, next_command, hand, answer, open_commands}
-use Rattle.qq_world.specs.Laws.{take_of, is_sent_by, takes_of, deeds_at, deeds, after_deeds, CountsDeeds}
+use Rattle.qq_session.specs.Publishing.{Numbers, new_numbers, next_command, hand, answer, open_commands}
+use Rattle.qq_world.specs.Laws.{take_of, is_sent_by, takes_of, deeds_at, deeds, after_deeds}
 use Rattle.qq_world.specs.Server.{is_ready, notice, submit, may_restart}
 use Rattle.qq_world.specs.World.{World, Client, Clients, Event, Mutes, Ends, Ticks, Submits, TellsEnded, Resends, Downs, Writes, Syncs, Notices, Stops, Finds, new_world, is_up, may_hand, is_used, sender, take_answer, hear_by, hear, hear_all, offer, offer_all, set_numbers, send, own_rows, tell, find, happens, after}
 use Rattle.qq_base.proofs.Puts.{put-each}
@@ -205,5 +205,8 @@ deeds-numbers session w (event ∷ events) =
     ∙ sym (deeds-append (deeds_at session w event) (deeds session (happens w event) events)
     (w.clients session).numbers)
 
-pub counts-deeds : (args : QueueArgs) (session : ℕ) (events : List Event) → CountsDeeds args session events
+-- a session's numbers are what it has made of them
+pub counts-deeds : (args : QueueArgs) (session : ℕ) (events : List Event)
+    → ((after (new_world args) events).clients session).numbers
+    ≡ after_deeds (deeds session (new_world args) events) (new_numbers (client session) args.queue)
 counts-deeds args session events = deeds-numbers session (new_world args) events

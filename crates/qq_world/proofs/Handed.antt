@@ -26,7 +26,7 @@ use Rattle.qq_session.specs.Arriving.{Deed, Hands, Takes, after_deed, handed_by,
 use Rattle.qq_session.specs.Publishing.{OpenCommand, Numbers, new_numbers, next_stamp, next_command, hand, closes, without, open_commands}
 use Rattle.qq_session.proofs.AuditRows.{Contains-middle}
 use Rattle.qq_session.proofs.NumberingLemmas.{stamped-stamp}
-use Rattle.qq_world.specs.Laws.{deeds_at, deeds, after_deeds, commands_of, CarriesOutInOrder, world_after}
+use Rattle.qq_world.specs.Laws.{deeds_at, deeds, after_deeds, commands_of, world_after}
 use Rattle.qq_world.specs.Server.{Server, Role, Down, Follower, Candidate, Leader, entries_in, log_of, next_op, stand, tick_by, tick, entry_of, lead, go_on, notice, submit, is_ready, may_restart}
 use Rattle.qq_world.specs.World.{World, Event, Mutes, Ends, Ticks, Submits, TellsEnded, Resends, Downs, Writes, Syncs, Notices, Stops, Finds, new_world, is_up, may_hand, is_used, offer, offer_all, set_numbers, send, tell, find, happens, after}
 use Rattle.qq_world.proofs.Deeds.{deeds-append, event-numbers}
@@ -368,7 +368,8 @@ entries-handed args session events =
 
 pub carried-in_order : ((args : QueueArgs) (session : SessionId) (queue : QueueId) (deeds : List Deed)
     (entries : List Entry) → ArriveInOrder args session queue deeds entries)
-    → (args : QueueArgs) (session : ℕ) (events : List Event) → CarriesOutInOrder args session events
+    → (args : QueueArgs) (session : ℕ) (events : List Event) → (n : ℕ) × (filter_map (fresh_command (client session)) (world_after args events).server.audit
+    ≡ take n (commands_of args session events))
 carried-in_order arrive args session events =
     let w : World = world_after args events in
     let P : Entry → Type 0 = WasHanded (client session) (commands_of args session events) in

@@ -1,5 +1,5 @@
 -- Who takes commands.
-use Rattle.std.proofs.Common.{◌≡◌, ◌≤◌, ◌<◌, ℕ, Bool, true, false, cond, List, [], ◌∷◌, length, refl, ap, ◌∙◌}
+use Rattle.std.proofs.Common.{◌≡◌, ◌≤◌, ◌<◌, ℕ, Bool, true, false, cond, List, [], ◌∷◌, length, map, refl, ap, ◌∙◌}
 use Rattle.std.specs.Prelude.{nat_lt}
 use Rattle.std.proofs.lemmas.Bool.{cond-true, cond-false, lt-ltb, le-ltb, eq-eqb}
 use Rattle.qq_entry.specs.declared.command.Command.{Command}
@@ -7,9 +7,9 @@ use Rattle.qq_entry.specs.declared.command.Unstamped.{Unstamped}
 use Rattle.qq_model.specs.declared.TheConstants.{WINDOW}
 use Rattle.qq_session.specs.Arriving.{Hands}
 use Rattle.qq_session.specs.Publishing.{Numbers, next_command, hand, open_commands}
-use Rattle.qq_world.specs.Laws.{after_deeds, ReachesLeader, FindsFullWindow, SendsToLeader, ResendsToLeader}
+use Rattle.qq_world.specs.Laws.{after_deeds}
 use Rattle.qq_world.specs.Server.{is_ready, submit}
-use Rattle.qq_world.specs.World.{World, Submits, WindowFull, may_hand, offer, offer_all, set_numbers, said_of, said, happens}
+use Rattle.qq_world.specs.World.{World, Submits, Resends, NoLeader, WindowFull, may_hand, offer, offer_all, set_numbers, said_of, said, happens}
 use Rattle.qq_world.proofs.Deeds.{event-numbers}
 
 offer-lost : (command : Command) (w : World) → is_ready w.server ≡ false → offer command w ≡ w
@@ -22,7 +22,18 @@ offer_all-lost (command ∷ commands) w none' =
 
 -- ---- a command with a new number
 
-reaches : (session : ℕ) (body : Unstamped) (w : World) → length (w.clients session).numbers.opened < WINDOW
+-- a command that gets a number goes to a leader that is ready, as the last of its ops; without one it is told so
+pub record ReachesLeader (session : ℕ) (body : Unstamped) (w : World) : Type 0 where
+  pub opened : ((happens w (Submits session body)).clients session).numbers
+      ≡ hand body (w.clients session).numbers
+  pub ready : is_ready w.server ≡ true
+      → (happens w (Submits session body)).server
+      ≡ submit (next_command body (w.clients session).numbers) w.server
+  pub silent : is_ready w.server ≡ true → said w (Submits session body) ≡ []
+  pub lost : is_ready w.server ≡ false → (happens w (Submits session body)).server ≡ w.server
+  pub told : is_ready w.server ≡ false → said w (Submits session body) ≡ NoLeader session ∷ []
+
+pub reaches : (session : ℕ) (body : Unstamped) (w : World) → length (w.clients session).numbers.opened < WINDOW
     → ReachesLeader session body w
 reaches session body w room = record {
   opened = event-numbers session w (Submits session body)
@@ -61,26 +72,23 @@ reaches session body w room = record {
         (said_of (is_ready w.server) session (next_command body (w.clients session).numbers ∷ []))
         (WindowFull session ∷ []) may
 
-full : (session : ℕ) (body : Unstamped) (w : World) → WINDOW ≤ length (w.clients session).numbers.opened
-    → FindsFullWindow session body w
+pub full : (session : ℕ) (body : Unstamped) (w : World) → WINDOW ≤ length (w.clients session).numbers.opened
+    → (happens w (Submits session body) ≡ w) × (said w (Submits session body) ≡ WindowFull session ∷ [])
 full session body w most =
     let n : Numbers = (w.clients session).numbers in
-    let none' : may_hand n ≡ false = le-ltb (length n.opened) WINDOW most in
-    record {
-      same = cond-false (may_hand n) (offer (next_command body n) (set_numbers session (hand body n) w)) w none';
-      told = cond-false (may_hand n) (said_of (is_ready w.server) session (next_command body n ∷ []))
-          (WindowFull session ∷ []) none';
-    }
-
-pub sends-to_leader : (session : ℕ) (body : Unstamped) (w : World) → SendsToLeader session body w
-sends-to_leader session body w = (reaches session body w, full session body w)
-
-pub resends-to_leader : (session : ℕ) (w : World) → ResendsToLeader session w
-resends-to_leader session w =
-    let commands : List Command = open_commands (w.clients session).numbers in (
-      (λ none'. record {
-        same = offer_all-lost commands w none';
-        told = ap (λ (b : Bool). said_of b session commands) none';
-      }),
-      (λ is. ap (λ (b : Bool). said_of b session commands) is),
+    let none' : may_hand n ≡ false = le-ltb (length n.opened) WINDOW most in (
+      cond-false (may_hand n) (offer (next_command body n) (set_numbers session (hand body n) w)) w none',
+      cond-false (may_hand n) (said_of (is_ready w.server) session (next_command body n ∷ []))
+          (WindowFull session ∷ []) none',
     )
+
+-- ---- commands that are sent again
+
+pub finds-no_leader : (session : ℕ) (w : World) → is_ready w.server ≡ false → (happens w (Resends session) ≡ w)
+    × (said w (Resends session) ≡ map (λ (c : Command). NoLeader session) (open_commands (w.clients session).numbers))
+finds-no_leader session w none' =
+    let commands : List Command = open_commands (w.clients session).numbers in
+    (offer_all-lost commands w none', ap (λ (b : Bool). said_of b session commands) none')
+
+pub resends-silent : (session : ℕ) (w : World) → is_ready w.server ≡ true → said w (Resends session) ≡ []
+resends-silent session w is = ap (λ (b : Bool). said_of b session (open_commands (w.clients session).numbers)) is

@@ -19,7 +19,7 @@ use Rattle.qq_entry.specs.declared.queue.QueueArgs.{QueueArgs}
 use Rattle.qq_model.specs.Audit.{next_step, state_after, effects_of, entries_of}
 use Rattle.qq_model.specs.State.{State, empty_queue}
 use Rattle.qq_session.specs.Publishing.{Numbers, next_command, open_commands}
-use Rattle.qq_world.specs.Laws.{IsMade, HasMadeDeliveries}
+use Rattle.qq_world.specs.Laws.{IsMade}
 use Rattle.qq_world.specs.Server.{Server, is_ready, notice}
 use Rattle.qq_world.specs.World.{World, Clients, Event, Mutes, Ends, Ticks, Submits, TellsEnded, Resends, Downs, Writes, Syncs, Notices, Stops, Finds, Shown, Answered, Delivered, NoLeader, WindowFull, HasEnded, new_world, is_up, may_hand, is_used, printed, own_rows, effects_of_term, effects_behind, own_effects, is_delivered_to, delivered, tell, told, happens, said_of, said, after, all_said}
 use Rattle.qq_world.proofs.Printed.{each-contained}
@@ -157,6 +157,9 @@ later-made s t same front (Delivered consumer delivery) is =
 later-made s t same front (NoLeader session) is = tt
 later-made s t same front (WindowFull session) is = tt
 later-made s t same front (HasEnded session) is = tt
+
+abbrev pub HasMadeDeliveries : World → List Event → Type 0
+HasMadeDeliveries w events = AllByRecursion (IsMade (after w events).server) (all_said w events)
 
 pub all-made : (w : World) (events : List Event) → SoundWorld w → HasMadeDeliveries w events
 all-made w [] sound = tt

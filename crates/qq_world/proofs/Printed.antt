@@ -15,7 +15,7 @@ use Rattle.qq_entry.specs.declared.queue.QueueArgs.{QueueArgs}
 use Rattle.qq_session.proofs.AuditRows.{Contains-middle}
 use Rattle.qq_session.specs.Publishing.{Numbers, next_command, open_commands}
 use Rattle.qq_base.specs.Fronts.{IsFront}
-use Rattle.qq_world.specs.Laws.{IsAnswer, IsAudited, HasAuditedAnswers}
+use Rattle.qq_world.specs.Laws.{IsAnswer, IsAudited}
 use Rattle.qq_world.specs.Server.{Server, is_ready, notice}
 use Rattle.qq_world.specs.World.{World, Clients, Event, Mutes, Ends, Ticks, Submits, TellsEnded, Resends, Downs, Writes, Syncs, Notices, Stops, Finds, Shown, Answered, Delivered, NoLeader, WindowFull, HasEnded, new_world, is_up, may_hand, is_used, sender, ended_by, tells_end, hear, is_printed_by, is_printed, printed, own_rows, own_effects, is_delivered_to, delivered, tell, told, happens, said_of, said, after, all_said}
 use Rattle.qq_world.proofs.Worlds.{SoundWorld, follows, follows-all, sound-world}
@@ -137,6 +137,9 @@ later-audited a b front (Delivered consumer delivery) is = tt
 later-audited a b front (NoLeader session) is = tt
 later-audited a b front (WindowFull session) is = tt
 later-audited a b front (HasEnded session) is = tt
+
+abbrev pub HasAuditedAnswers : World → List Event → Type 0
+HasAuditedAnswers w events = AllByRecursion (IsAudited (after w events).server.audit) (all_said w events)
 
 pub all-audited : (w : World) (events : List Event) → SoundWorld w → HasAuditedAnswers w events
 all-audited w [] sound = tt

@@ -1,9 +1,11 @@
 -- The answer that closes a number is printed once.
 use Rattle.std.proofs.Common.{◌≡◌, ◌≢◌, ◌<◌, ◌+◌, ℕ, Bool, true, false, cond, not, ◌&&◌, ◌||◌, List, [], ◌∷◌, ◌++◌, Option, Some, None, map, refl, sym, ap, ◌∙◌, subst, inl, inr, append-nil, arith}
-use Rattle.std.specs.Prelude.{filter_map, nat_eq, nat_lt, length}
+use Rattle.std.specs.Prelude.{filter_map, nat_eq, nat_lt, length, AllPairs}
 use Rattle.std.specs.List.{AllByRecursion, cons_option, flat_map}
 use Rattle.std.proofs.lemmas.Bool.{false≢true, cond_both, cond-true, and_parts, eqb-true, ne_eqb, or_cases}
+use Rattle.std.proofs.lemmas.List.Elements.{All-from_recursion}
 use Rattle.std.proofs.lemmas.List.Folds.{list_any-append}
+use Rattle.std.proofs.lemmas.List.Kept.{AllPairs-cons}
 use Rattle.qq_base.proofs.Lists.{AllByRecursion-append, AllByRecursion-filter, AllByRecursion-weaker, list_any-filter}
 use Rattle.qq_entry.specs.declared.answer.Answer.{Answer}
 use Rattle.qq_entry.specs.declared.audit.AuditRow.{AuditRow}
@@ -20,7 +22,7 @@ use Rattle.qq_script.specs.Text.{seq_of}
 use Rattle.qq_session.specs.Arriving.{Deed, Hands, Takes, after_deed}
 use Rattle.qq_session.specs.Publishing.{OpenCommand, Numbers, next_command, hand, is_open, is_open_in, closes, answer, without, open_commands}
 use Rattle.qq_session.proofs.AuditRows.{filter_map-append}
-use Rattle.qq_world.specs.Laws.{is_sent_by, takes_of, after_deeds, deeds_at, closed_number, Distinct, ClosesOnce}
+use Rattle.qq_world.specs.Laws.{is_sent_by, takes_of, after_deeds, deeds_at, closed_number}
 use Rattle.qq_world.specs.Server.{is_ready, notice}
 use Rattle.qq_world.specs.World.{World, Clients, Event, Mutes, Ends, Ticks, Submits, TellsEnded, Resends, Downs, Writes, Syncs, Notices, Stops, Finds, Shown, Answered, Delivered, WindowFull, new_world, is_up, may_hand, is_used, sender, sender_by, ended_by, tells_end, hear, hear_all, is_printed_by, is_printed, printed, own_rows, own_effects, is_delivered_to, delivered, said_of, said, tell, told, happens, all_said}
 use Rattle.qq_world.proofs.Deeds.{heard, heard-numbers, event-numbers}
@@ -228,6 +230,19 @@ printed-closed session (row ∷ rows) clients below =
       rest,
     )) rest
 
+-- no number stands twice
+abbrev Distinct : List ℕ → Type 0
+Distinct [] = Unit {0}
+Distinct (n ∷ ns) = AllByRecursion (λ (m : ℕ). m ≢ n) ns × Distinct ns
+
+pairs-distinct : (ns : List ℕ) → Distinct ns → AllPairs (λ (m n : ℕ). m ≢ n) ns
+pairs-distinct [] apart = λ i j d before within. absurd (omega (arith, within))
+pairs-distinct (n ∷ ns) apart =
+    AllPairs-cons (λ (m n : ℕ). m ≢ n) n ns
+    (All-from_recursion (λ (m : ℕ). n ≢ m) ns
+    (AllByRecursion-weaker (λ (m : ℕ). m ≢ n) (λ (m : ℕ). n ≢ m) (λ m other same. other (sym same)) ns apart.0))
+    (pairs-distinct ns apart.1)
+
 printed-distinct : (session : ℕ) (rows : List AuditRow) (clients : Clients) → OpenBelow (clients session).numbers
     → Distinct (printed_numbers session rows clients)
 printed-distinct session [] clients below = tt
@@ -360,5 +375,7 @@ closes-distinct session w (event ∷ events) below =
     (λ x is. never-again x session next events is) (numbers_in session (said w event)) closed))
 
 pub closes-once : (args : QueueArgs) (session : ℕ) (events : List Event)
-    → ClosesOnce session (new_world args) events
-closes-once args session events = closes-distinct session (new_world args) events tt
+    → AllPairs (λ (m n : ℕ). m ≢ n) (filter_map (closed_number session) (all_said (new_world args) events))
+closes-once args session events =
+    pairs-distinct (numbers_in session (all_said (new_world args) events))
+    (closes-distinct session (new_world args) events tt)

@@ -1,5 +1,6 @@
 -- The laws of sessions, of the audit of a reached world.
 use Rattle.std.proofs.Common.{ℕ, List, sym, subst, inl, refl}
+use Rattle.std.specs.List.{AllByRecursion}
 use Rattle.qq_base.proofs.Lists.{AllByRecursion-weaker}
 use Rattle.qq_base.specs.declared.ids.SessionId.{SessionId}
 use Rattle.qq_base.specs.Ids.{client}
@@ -11,7 +12,7 @@ use Rattle.qq_laws.specs.Numbers.{CountsCommands}
 use Rattle.qq_model.specs.Audit.{entries_of}
 use Rattle.qq_model.specs.Gate.{IsNumbered}
 use Rattle.qq_session.specs.Answered.{IsAnswered}
-use Rattle.qq_world.specs.Laws.{IsAudited, IsConfirmedOnce, ConfirmsOnce, world_after}
+use Rattle.qq_world.specs.Laws.{IsAudited, IsConfirmedOnce, world_after}
 use Rattle.qq_world.specs.World.{Event, new_world, all_said}
 use Rattle.qq_world.proofs.Lawful.{good-reached}
 use Rattle.qq_world.proofs.Once.{confirmed-once}
@@ -29,7 +30,8 @@ session-answered answered args session events =
 pub confirms-once : ((args : QueueArgs) (entries : List Entry) → CountsCommands args entries)
     → ((args : QueueArgs) (entries : List Entry) (session : SessionId) → IsNumbered session
     → IsAnswered session (queue_audit args entries))
-    → (args : QueueArgs) (events : List Event) → ConfirmsOnce (new_world args) events
+    → (args : QueueArgs) (events : List Event)
+    → AllByRecursion (IsConfirmedOnce (world_after args events).server.audit) (all_said (new_world args) events)
 confirms-once counts answered args events =
     let audit : List AuditRow = (world_after args events).server.audit in
     let entries : List Entry = entries_of audit in

@@ -1,6 +1,5 @@
 -- What holds of a queue's world, whatever happens.
-use Rattle.std.specs.Prelude.{◌≡◌, ◌⊎◌, ◌&&◌, ◌≢◌, ◌≤◌, ◌<◌, ℕ, List, [], ◌∷◌, ◌++◌, Bool, true, false, Option, Some, None, length, map, filter, filter_map, take, nat_eq, Contains, if◌then◌else◌}
-use Rattle.std.specs.List.{AllByRecursion}
+use Rattle.std.specs.Prelude.{◌≡◌, ◌⊎◌, ◌&&◌, ◌≤◌, ℕ, List, [], ◌∷◌, ◌++◌, Bool, true, false, Option, Some, None, length, map, filter, take, nat_eq, Contains, if◌then◌else◌}
 use Rattle.qq_base.specs.Ids.{client}
 use Rattle.qq_base.specs.declared.ids.SessionId.{SessionId}
 use Rattle.qq_entry.specs.declared.answer.Answer.TheVariants.{Confirmed}
@@ -9,24 +8,22 @@ use Rattle.qq_entry.specs.declared.audit.Effect.TheVariants.{Deliver}
 use Rattle.qq_entry.specs.declared.command.Command.{Command}
 use Rattle.qq_entry.specs.declared.command.Command.TheVariants.{Enqueue}
 use Rattle.qq_entry.specs.declared.command.Stamp.{Stamp}
-use Rattle.qq_entry.specs.declared.command.Unstamped.{Unstamped}
 use Rattle.qq_entry.specs.declared.message.Message.{Message}
 use Rattle.qq_entry.specs.declared.message.Origin.{Origin}
 use Rattle.qq_entry.specs.declared.queue.QueueArgs.{QueueArgs}
 use Rattle.qq_entry.specs.Command.{stamp}
 use Rattle.qq_laws.specs.Always.{queue_audit}
 use Rattle.qq_log.specs.Stable.{Stable, stable}
-use Rattle.qq_model.specs.declared.TheConstants.{WINDOW}
 use Rattle.qq_model.specs.Audit.{IsSerial, effects_of, entries_of}
 use Rattle.qq_model.specs.State.{empty_queue}
 use Rattle.qq_script.specs.Text.{seq_of}
-use Rattle.qq_session.specs.Arriving.{Deed, Hands, Takes, after_deed, handed, fresh_command}
-use Rattle.qq_session.specs.Publishing.{Numbers, new_numbers, next_command, hand, closes, open_commands}
+use Rattle.qq_session.specs.Arriving.{Deed, Hands, Takes, after_deed, handed}
+use Rattle.qq_session.specs.Publishing.{Numbers, new_numbers, closes}
 use Rattle.qq_world.specs.ExactlyOne.{ExactlyOne}
 use Rattle.qq_base.specs.Fronts.{IsFront}
 use Rattle.qq_world.specs.Promise.{HoldsAudit, IsPromised, MayTakeUp, state_of}
-use Rattle.qq_world.specs.Server.{Server, is_down, is_ready, log_of, submit}
-use Rattle.qq_world.specs.World.{World, Clients, Event, Submits, Resends, Notices, Shown, Answered, Delivered, NoLeader, WindowFull, new_world, is_up, sender, ended_by, own_rows, after_notice, happens, said, after, all_said}
+use Rattle.qq_world.specs.Server.{Server, is_down, is_ready, log_of}
+use Rattle.qq_world.specs.World.{World, Clients, Event, Submits, Notices, Shown, Answered, Delivered, new_world, is_up, sender, ended_by, own_rows, after_notice, happens, after}
 
 -- a world that may be reached
 abbrev pub world_after : QueueArgs → List Event → World
@@ -53,17 +50,11 @@ abbrev pub IsAudited : List AuditRow → Shown → Type 0
 IsAudited audit (Answered row) = IsAnswer audit row
 IsAudited audit _ = Unit {0}
 
-abbrev pub HasAuditedAnswers : World → List Event → Type 0
-HasAuditedAnswers w events = AllByRecursion (IsAudited (after w events).server.audit) (all_said w events)
-
 -- what is printed as a delivery is an effect of an entry of the audit
 abbrev pub IsMade : Server → Shown → Type 0
 IsMade s (Delivered consumer delivery) =
     Contains (effects_of (empty_queue s.args) (entries_of s.audit)) (Deliver consumer delivery)
 IsMade s _ = Unit {0}
-
-abbrev pub HasMadeDeliveries : World → List Event → Type 0
-HasMadeDeliveries w events = AllByRecursion (IsMade (after w events).server) (all_said w events)
 
 -- ---- a session's commands
 
@@ -84,9 +75,6 @@ IsConfirmedOnce audit (Answered row) =
     (given : Stamp) → stamp row.entry.command ≡ Some given → row.answer ≡ Confirmed
     → ExactlyOne (IsConfirmedPublish given.session given.seq) audit
 IsConfirmedOnce audit _ = Unit {0}
-
-abbrev pub ConfirmsOnce : World → List Event → Type 0
-ConfirmsOnce w events = AllByRecursion (IsConfirmedOnce (after w events).server.audit) (all_said w events)
 
 -- what a session does at an event: it gives a command a number, or takes answers that aren't lost
 abbrev pub take_of : AuditRow → Deed
@@ -120,18 +108,6 @@ abbrev pub commands_of : QueueArgs → ℕ → List Event → List Command
 commands_of args session events =
     handed (new_numbers (client session) args.queue) (deeds session (new_world args) events)
 
--- a session's numbers are what it has made of them
-abbrev pub CountsDeeds : QueueArgs → ℕ → List Event → Type 0
-CountsDeeds args session events =
-    ((world_after args events).clients session).numbers
-    ≡ after_deeds (deeds session (new_world args) events) (new_numbers (client session) args.queue)
-
--- the commands of a session that were carried out are the first ones that it gave numbers, in their order
-abbrev pub CarriesOutInOrder : QueueArgs → ℕ → List Event → Type 0
-CarriesOutInOrder args session events =
-    (n : ℕ) × (filter_map (fresh_command (client session)) (world_after args events).server.audit
-    ≡ take n (commands_of args session events))
-
 -- ---- the log
 
 -- nothing is noticed that isn't synced, synced that isn't written, or written that wasn't handed out
@@ -160,50 +136,10 @@ abbrev pub TakesUpWhatIsPromised : World → Type 0
 TakesUpWhatIsPromised w =
     (lane : Stable) → is_down w.server ≡ true → IsPromised w.server (Some lane) → MayTakeUp w.server lane
 
--- ---- who takes commands
-
--- a command that gets a number goes to a leader that is ready, as the last of its ops; without one it is told so
-pub record ReachesLeader (session : ℕ) (body : Unstamped) (w : World) : Type 0 where
-  pub opened : ((happens w (Submits session body)).clients session).numbers
-      ≡ hand body (w.clients session).numbers
-  pub ready : is_ready w.server ≡ true
-      → (happens w (Submits session body)).server
-      ≡ submit (next_command body (w.clients session).numbers) w.server
-  pub silent : is_ready w.server ≡ true → said w (Submits session body) ≡ []
-  pub lost : is_ready w.server ≡ false → (happens w (Submits session body)).server ≡ w.server
-  pub told : is_ready w.server ≡ false → said w (Submits session body) ≡ NoLeader session ∷ []
-
--- a session whose window is full gets no number
-pub record FindsFullWindow (session : ℕ) (body : Unstamped) (w : World) : Type 0 where
-  pub same : happens w (Submits session body) ≡ w
-  pub told : said w (Submits session body) ≡ WindowFull session ∷ []
-
-abbrev pub SendsToLeader : ℕ → Unstamped → World → Type 0
-SendsToLeader session body w =
-    ((length (w.clients session).numbers.opened < WINDOW) → ReachesLeader session body w)
-    × ((WINDOW ≤ length (w.clients session).numbers.opened) → FindsFullWindow session body w)
-
--- where no leader is ready each command that is sent again is told so, and nothing else happens
-pub record FindsNoLeader (session : ℕ) (w : World) : Type 0 where
-  pub same : happens w (Resends session) ≡ w
-  pub told : said w (Resends session)
-      ≡ map (λ (c : Command). NoLeader session) (open_commands (w.clients session).numbers)
-
-abbrev pub ResendsToLeader : ℕ → World → Type 0
-ResendsToLeader session w =
-    (is_ready w.server ≡ false → FindsNoLeader session w)
-    × (is_ready w.server ≡ true → said w (Resends session) ≡ [])
+-- ---- what is printed of a session
 
 -- the number of a session that a printed answer closes
 abbrev pub closed_number : ℕ → Shown → Option ℕ
 closed_number session (Answered row) =
     if is_sent_by session (sender row) && closes row.answer then Some (seq_of row.entry.command) else None
 closed_number session _ = None
-
-abbrev pub Distinct : List ℕ → Type 0
-Distinct [] = Unit {0}
-Distinct (n ∷ ns) = AllByRecursion (λ (m : ℕ). m ≢ n) ns × Distinct ns
-
--- the answer that closes a number is printed once
-abbrev pub ClosesOnce : ℕ → World → List Event → Type 0
-ClosesOnce session w events = Distinct (filter_map (closed_number session) (all_said w events))
