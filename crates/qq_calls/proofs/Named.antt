@@ -2,7 +2,7 @@
 use Rattle.std.proofs.Common.{◌≡◌, ◌≤◌, ◌<◌, ◌^◌, ◌-◌, ℕ, zero, suc, Bool, true, false, cond, List, [], ◌∷◌, Option, Some, None, Result, Ok, Err, length, map, refl, sym, ap, subst, ◌∙◌, inl, inr, arith}
 use Rattle.std.specs.Prelude.{nat_eq, nat_le, nat_lt, slice_get, Contains, codes}
 use Rattle.std.specs.List.{AllByRecursion, find, slice_split}
-use Rattle.std.specs.Option.{option_and_then, option_map}
+use Rattle.std.specs.Option.{option_and_then}
 use Rattle.std.specs.Str.{IsUtf8, bytes_eq}
 use Rattle.std.proofs.lemmas.Bool.{and_parts, false≢true, leb-true, ltb-false}
 use Rattle.std.proofs.lemmas.List.Elements.{All-nil, All-from_recursion}
@@ -39,7 +39,7 @@ use Rattle.qq_lines.specs.Images.{image_of}
 use Rattle.qq_lines.specs.Kinds.{kind_of}
 use Rattle.qq_lines.specs.Lines.{is_nothing, publish_text, may_stand, text_in, parse_line, read_plain, read, in_place, read_as, read_words, read_text, read_bytes}
 use Rattle.qq_lines.specs.Names.{named, numbered, behind_hash, row_of, row_at, node_of, is_member}
-use Rattle.qq_lines.specs.Numbers.{number_in, number_of, session_of, tag_of, consumer_of, id_of, with_first, all_ids, is_comma, ids_of, within, is_within}
+use Rattle.qq_lines.specs.Numbers.{number_in, number_of, session_of, tag_of, consumer_of, id_of, all_ids, is_comma, ids_of, within, is_within}
 use Rattle.qq_lines.specs.Words.{◌>>=◌, or_fault, text_of, behind_four, words_of}
 use Rattle.qq_world.specs.Rules.{Line, Nothing, Send, Resend, End, Mute, Auto, Pump, Write, Sync, Notice, Tick, Crash, Restart, Show}
 use Rattle.qq_calls.specs.Named.{IsBody, IsNamed, HaveNames}

@@ -1,5 +1,5 @@
 -- The first fault of a line that sends a message.
-use Rattle.std.proofs.Common.{◌≡◌, List, Ok, Err, codes, replicate, refl}
+use Rattle.std.proofs.Common.{◌≡◌, Ok, Err, codes, replicate, refl}
 use Rattle.std.specs.Fmt.{digits}
 use Rattle.std.specs.Char.{encode_utf8}
 use Rattle.std.specs.Str.{chars, is_utf8}
