@@ -11,12 +11,12 @@ use Rattle.qq_ports.specs.Lines.{first_line, TakesLine, BeginsTooLong, LosesSome
 use Rattle.qq_world.specs.Node.{Node, NodeEvent, new_node, node_after, text_of}
 use Rattle.qq_world.specs.Rules.{IsOpening}
 use Rattle.qq_program.specs.Endings.{Ending}
-use Rattle.qq_program.specs.Inputs.{Input, inputs_of}
+use Rattle.qq_program.specs.Inputs.{Input, inputs_of, EndsWith}
 use Rattle.qq_program.specs.Reading.{Ends, says}
 use Rattle.qq_program.specs.Serving.{Run, Serves, EndsRun, Behind, run_behind, text_behind, audits_behind, Goes, Served}
 use Rattle.qq_program.specs.Runs.{EndsBy, HasAnswers, BreaksOff, MayEnd, IsDoneOver}
 use Rattle.qq_program.specs.Troubles.{Trouble}
-use Rattle.qq_program.proofs.InputLines.{takes_input, BeginsLong, long_begins}
+use Rattle.qq_program.proofs.InputLines.{takes_input, takes_ends, BeginsLong, long_begins}
 use Rattle.qq_program.proofs.Going.{more}
 
 without_nil : (a b : Option (List ℕ)) (xs : List ℕ) → Appends a b (xs ++ []) → Appends a b xs
@@ -61,21 +61,34 @@ parted : (now : List ℕ) (rest : Option (List ℕ)) (read : List ℕ) → Consu
 parted now None read lost = absurd lost
 parted now (Some unread) read lost = lost
 
+ends_whole : (bytes : List ℕ) → EndsWith bytes []
+ends_whole bytes = (bytes, sym (append-nil bytes))
+
+ends_later : (bytes now next : List ℕ) → EndsWith bytes now → EndsWith now next → EndsWith bytes next
+ends_later bytes now next (front, is) (line, also) =
+    (front ++ line, is ∙ ap (λ (l : List ℕ). front ++ l) also ∙ sym (append_assoc front line next))
+
 -- what was served, where these bytes are ahead
 abbrev served : (s : Setup) (bytes now : List ℕ) (rest : Option (List ℕ)) (read : List ℕ) (left : List Input)
-    → Behind s (inputs_of bytes) left → left ≡ inputs_of now → IsParted now rest read → Served s bytes rest
-served s bytes now rest read left b is parts = record {
+    → Behind s (inputs_of bytes) left → left ≡ inputs_of now → EndsWith bytes now → IsParted now rest read
+    → Served s bytes rest
+served s bytes now rest read left b is ends parts = record {
   left = left;
   behind = b;
   piece = read;
   unread = IfSome_then rest parts (λ unread e. is ∙ ap inputs_of e);
+  ends = IfSome_then rest parts (λ unread e. (ends.0, ends.1 ∙ ap (λ (l : List ℕ). ends.0 ++ l) e));
 }
 
--- the run so far over the bytes that a source had
+-- the run so far over the bytes that a source had, which end with those that are ahead
+pub record GoesOver (s : Setup) (bytes rest : List ℕ) (run : Run) (a b : Option (List ℕ)) : Type 0 where
+  pub goes : Goes s (inputs_of bytes) run (inputs_of rest) a b
+  pub ends : EndsWith bytes rest
+
 abbrev pub Going : Setup → (start now : Option (List ℕ)) → Run → (a b : Option (List ℕ)) → Type 0
 Going s None now run a b = Unit {0}
 Going s (Some bytes) None run a b = ⊥
-Going s (Some bytes) (Some rest) run a b = Goes s (inputs_of bytes) run (inputs_of rest) a b
+Going s (Some bytes) (Some rest) run a b = GoesOver s bytes rest run a b
 
 -- the same while what was printed last isn't written yet
 pub record Waits (s : Setup) (all : List Input) (run : Run) (left : List Input) (a b : Option (List ℕ)) (pending : List ℕ)
@@ -86,10 +99,15 @@ pub record Waits (s : Setup) (all : List Input) (run : Run) (left : List Input) 
   pub parts : text_behind behind ≡ first ++ pending
   pub written : Appends a b first
 
+pub record WaitsOver (s : Setup) (bytes rest : List ℕ) (run : Run) (a b : Option (List ℕ)) (pending : List ℕ) : Type 0
+  where
+    pub waits : Waits s (inputs_of bytes) run (inputs_of rest) a b pending
+    pub ends : EndsWith bytes rest
+
 abbrev pub Waiting : Setup → (start now : Option (List ℕ)) → Run → (a b : Option (List ℕ)) → List ℕ → Type 0
 Waiting s None now run a b pending = Unit {0}
 Waiting s (Some bytes) None run a b pending = ⊥
-Waiting s (Some bytes) (Some rest) run a b pending = Waits s (inputs_of bytes) run (inputs_of rest) a b pending
+Waiting s (Some bytes) (Some rest) run a b pending = WaitsOver s bytes rest run a b pending
 
 pub waiting_start : (s : Setup) (left : Option (List ℕ)) (events : List NodeEvent) (a : Option (List ℕ))
     (pending : List ℕ) → IsOpening (node_setup s.queues) (new_node (node_setup s.queues)) events
@@ -99,16 +117,29 @@ pub waiting_start : (s : Setup) (left : Option (List ℕ)) (events : List NodeEv
 waiting_start s None events a pending allowed is = tt
 waiting_start s (Some bytes) events a pending allowed is =
     let o = opened s (inputs_of bytes) events allowed in
-    record { behind = o.behind; run_is = o.run_is; first = []; parts = o.text_is ∙ sym is; written = Appends-nil a }
+    record {
+      waits = record {
+        behind = o.behind;
+        run_is = o.run_is;
+        first = [];
+        parts = o.text_is ∙ sym is;
+        written = Appends-nil a;
+      };
+      ends = ([], refl);
+    }
 
 pub waiting_written : (s : Setup) (start now : Option (List ℕ)) (run : Run) (a b c : Option (List ℕ))
     (pending : List ℕ) → Waiting s start now run a b pending → Appends b c pending → Going s start now run a c
 waiting_written s None now run a b c pending so grown = tt
 waiting_written s (Some bytes) None run a b c pending so grown = absurd so
 waiting_written s (Some bytes) (Some rest) run a b c pending so grown = record {
-  behind = so.behind;
-  run_is = so.run_is;
-  written = subst (Appends a c) (sym so.parts) (Appends-trans a b c so.first pending so.written grown);
+  goes = record {
+    behind = so.waits.behind;
+    run_is = so.waits.run_is;
+    written = subst (Appends a c) (sym so.waits.parts)
+        (Appends-trans a b c so.waits.first pending so.waits.written grown);
+  };
+  ends = so.ends;
 }
 
 waits_line : (s : Setup) (all : List Input) (run next : Run) (input : Input) (left : List Input) (said : List ℕ)
@@ -131,27 +162,29 @@ pub waiting_line : (s : Setup) (start now next : Option (List ℕ)) (run run' : 
 waiting_line s None now next run run' line said a b law so takes serves = tt
 waiting_line s (Some bytes) None next run run' line said a b law so takes serves = absurd so
 waiting_line s (Some bytes) (Some rest) None run run' line said a b law so takes serves = absurd takes
-waiting_line s (Some bytes) (Some rest) (Some ahead) run run' line said a b law so takes serves =
-    waits_line s (inputs_of bytes) run run' (Some line) (inputs_of ahead) said a b
-    (subst (λ (l : List Input). Goes s (inputs_of bytes) run l a b) (takes_input rest line ahead law takes) so)
-    serves
+waiting_line s (Some bytes) (Some rest) (Some ahead) run run' line said a b law so takes serves = record {
+  waits = waits_line s (inputs_of bytes) run run' (Some line) (inputs_of ahead) said a b
+      (subst (λ (l : List Input). Goes s (inputs_of bytes) run l a b) (takes_input rest line ahead law takes) so.goes)
+      serves;
+  ends = ends_later bytes rest ahead so.ends (takes_ends rest line ahead takes);
+}
 
 -- ---- how it ends
 
 -- a line ends the run
 ends_at : (met : Trouble → Type 0) (s : Setup) (bytes now : List ℕ) (rest : Option (List ℕ)) (read : List ℕ) (run : Run)
     (input : Input) (ahead : List Input) (ending : Ending) (a b : Option (List ℕ))
-    → Goes s (inputs_of bytes) run (inputs_of now) a b → IsParted now rest read → inputs_of now ≡ input ∷ ahead
+    → GoesOver s bytes now run a b → IsParted now rest read → inputs_of now ≡ input ∷ ahead
     → EndsRun met s run input ending → EndsBy met ending s bytes rest a b []
 ends_at met s bytes now rest read run input ahead ending a b so parts is ends = record {
-  served = served s bytes now rest read (inputs_of now) so.behind refl parts;
+  served = served s bytes now rest read (inputs_of now) so.goes.behind refl so.ends parts;
   next = record {
     input = input;
     more = ahead;
     is = is;
-    ends = subst (λ (r : Run). EndsRun met s r input ending) so.run_is ends;
+    ends = subst (λ (r : Run). EndsRun met s r input ending) so.goes.run_is ends;
   };
-  written = with_nil a b (text_behind so.behind) so.written;
+  written = with_nil a b (text_behind so.goes.behind) so.goes.written;
 }
 
 pub going_ends : (met : Trouble → Type 0) (s : Setup) (start now next rest : Option (List ℕ)) (ending : Ending) (run : Run)
@@ -189,9 +222,9 @@ pub going_reads : (s : Setup) (start now rest : Option (List ℕ)) (run : Run) (
 going_reads s None now rest run a b so lost = tt
 going_reads s (Some bytes) None rest run a b so lost = absurd so
 going_reads s (Some bytes) (Some xs) rest run a b so lost = record {
-  served = served s bytes xs rest lost.0 (inputs_of xs) so.behind refl (parted xs rest lost.0 lost.2);
+  served = served s bytes xs rest lost.0 (inputs_of xs) so.goes.behind refl so.ends (parted xs rest lost.0 lost.2);
   is_piece = lost.1;
-  written = with_nil a b (text_behind so.behind) so.written;
+  written = with_nil a b (text_behind so.goes.behind) so.goes.written;
 }
 
 -- there is no memory
@@ -200,13 +233,13 @@ pub going_stops : (s : Setup) (start now rest : Option (List ℕ)) (run : Run) (
 going_stops s None now rest run a b so lost = tt
 going_stops s (Some bytes) None rest run a b so lost = absurd so
 going_stops s (Some bytes) (Some xs) rest run a b so lost = record {
-  served = served s bytes xs rest lost.0 (inputs_of xs) so.behind refl (parted xs rest lost.0 lost.1);
-  text = text_behind so.behind;
+  served = served s bytes xs rest lost.0 (inputs_of xs) so.goes.behind refl so.ends (parted xs rest lost.0 lost.1);
+  text = text_behind so.goes.behind;
   is = inl refl;
-  said = text_behind so.behind;
+  said = text_behind so.goes.behind;
   unsaid = [];
-  parts = sym (append-nil (text_behind so.behind));
-  written = with_nil a b (text_behind so.behind) so.written;
+  parts = sym (append-nil (text_behind so.goes.behind));
+  written = with_nil a b (text_behind so.goes.behind) so.goes.written;
 }
 
 own_parts : (own : List ℕ) (rest : Option (List ℕ)) (ahead : List ℕ) → prepend_known own rest ≡ Some ahead
@@ -217,18 +250,20 @@ own_parts own (Some unread) ahead is = let same : own ++ unread ≡ ahead = cc i
 -- the sink fails in what was printed last
 waits_break : (s : Setup) (bytes now : List ℕ) (own : List ℕ) (rest : Option (List ℕ)) (run : Run)
     (a b c : Option (List ℕ)) (pending : List ℕ) → prepend_known own rest ≡ Some now
-    → Waits s (inputs_of bytes) run (inputs_of now) a b pending → AppendsPrefix b c pending
-    → BreaksOff s bytes rest a c []
-waits_break s bytes now own rest run a b c pending is so (n, le, grown) = record {
-  served = served s bytes now rest own (inputs_of now) so.behind refl (own_parts own rest now is);
-  text = text_behind so.behind;
-  is = inl refl;
-  said = so.first ++ take n pending;
-  unsaid = drop n pending;
-  parts = so.parts ∙ ap (λ (l : List ℕ). so.first ++ l) (sym (take-append-drop n pending))
-      ∙ sym (append_assoc so.first (take n pending) (drop n pending));
-  written = with_nil a c (so.first ++ take n pending) (Appends-trans a b c so.first (take n pending) so.written grown);
-}
+    → WaitsOver s bytes now run a b pending → AppendsPrefix b c pending → BreaksOff s bytes rest a c []
+waits_break s bytes now own rest run a b c pending is so (n, le, grown) =
+    let w = so.waits in
+    record {
+      served = served s bytes now rest own (inputs_of now) w.behind refl so.ends (own_parts own rest now is);
+      text = text_behind w.behind;
+      is = inl refl;
+      said = w.first ++ take n pending;
+      unsaid = drop n pending;
+      parts = w.parts ∙ ap (λ (l : List ℕ). w.first ++ l) (sym (take-append-drop n pending))
+          ∙ sym (append_assoc w.first (take n pending) (drop n pending));
+      written = with_nil a c (w.first ++ take n pending)
+          (Appends-trans a b c w.first (take n pending) w.written grown);
+    }
 
 breaks_by : (s : Setup) (start now : Option (List ℕ)) (own : List ℕ) (rest : Option (List ℕ)) (run : Run)
     (a b c : Option (List ℕ)) (pending : List ℕ) → prepend_known own rest ≡ now → Waiting s start now run a b pending
@@ -251,7 +286,7 @@ pub going_done : (s : Setup) (start now : Option (List ℕ)) (run : Run) (a b : 
 going_done s None now run a b so end = tt
 going_done s (Some bytes) None run a b so end = absurd so
 going_done s (Some bytes) (Some rest) run a b so end =
-    subst (λ (l : List ℕ). Goes s (inputs_of bytes) run (inputs_of l) a b) end so
+    subst (λ (l : List ℕ). Goes s (inputs_of bytes) run (inputs_of l) a b) end so.goes
 
 -- nothing is ahead, so nothing is left
 pub ahead_ends : (pending : List ℕ) (left : Option (List ℕ)) → IsAtEnd (prepend_known pending left) → IsAtEnd left
@@ -268,7 +303,7 @@ pub done_over : (s : Setup) (bytes : List ℕ) (run : Run) (rest a b c : Option 
     → (so : Goes s (inputs_of bytes) run [] a b) → IsAtEnd rest
     → Appends b c (audits_behind so.behind) → IsDoneOver s bytes rest a c
 done_over s bytes run rest a b c so end grown = record {
-  served = served s bytes [] rest [] [] so.behind refl (at_end rest end);
+  served = served s bytes [] rest [] [] so.behind refl (ends_whole bytes) (at_end rest end);
   all = refl;
   written = Appends-trans a b c (text_behind so.behind) (audits_behind so.behind) so.written grown;
 }
@@ -280,7 +315,7 @@ pub done_breaks : (s : Setup) (bytes : List ℕ) (run : Run) (rest a b c : Optio
 done_breaks s bytes run rest a b c said unsaid so end parts grown =
     let first : List ℕ = text_behind so.behind in
     record {
-      served = served s bytes [] rest [] [] so.behind refl (at_end rest end);
+      served = served s bytes [] rest [] [] so.behind refl (ends_whole bytes) (at_end rest end);
       text = first ++ audits_behind so.behind;
       is = inr (refl, refl);
       said = first ++ said;

@@ -1,10 +1,10 @@
 -- The first line of an input, and those behind it.
-use Rattle.std.proofs.Common.{◌≡◌, ℕ, ◌==◌, false, List, [], ◌∷◌, Option, Some, None, length, refl, inl, inr, sym, ap, subst, ◌∙◌}
+use Rattle.std.proofs.Common.{◌≡◌, ℕ, ◌==◌, false, List, [], ◌∷◌, Option, Some, None, length, refl, inl, inr, sym, ap, subst, ◌∙◌, append-nil}
 use Rattle.std.specs.Prelude.{nat_le}
 use Rattle.std.proofs.lemmas.Bool.{cases_Bool, cond-true, cond-false, le-leb, lt-leb}
 use Rattle.qq_ports.specs.declared.fault.TheConstants.{LINE_LIMIT}
 use Rattle.qq_ports.specs.Lines.{FirstLine, onto_prefix, cut_at_feed, line_by_cut, first_line, onto_first, lines_of, IsFirst, IsLong, FirstLineLeads}
-use Rattle.qq_program.specs.Inputs.{Input, raw_lines_of, input_of, inputs_by, inputs_of}
+use Rattle.qq_program.specs.Inputs.{Input, raw_lines_of, input_of, inputs_by, inputs_of, EndsWith}
 
 -- ---- lines with their carriage returns
 
@@ -41,6 +41,50 @@ raw_by_cut : (b : ℕ) (bs : List ℕ) (o : Option (List ℕ × List ℕ)) → L
 unfolding LeadsRaw last_raw
 raw_by_cut b bs None leads = leads
 raw_by_cut b bs (Some parts) leads = leads
+
+-- ---- what a line leaves
+
+-- what a cut leaves is what the bytes end with
+CutEnds : List ℕ → Option (List ℕ × List ℕ) → Type 0
+CutEnds bytes None = Unit {0}
+CutEnds bytes (Some parts) = EndsWith bytes parts.1
+
+onto_ends : (b : ℕ) (bs : List ℕ) (o : Option (List ℕ × List ℕ)) → CutEnds bs o → CutEnds (b ∷ bs) (onto_prefix b o)
+unfolding CutEnds
+onto_ends b bs None ends = tt
+onto_ends b bs (Some parts) (front, is) = (b ∷ front, ap (λ (l : List ℕ). b ∷ l) is)
+
+cut_ends : (bytes : List ℕ) → CutEnds bytes (cut_at_feed bytes)
+unfolding CutEnds
+cut_ends [] = tt
+cut_ends (b ∷ bs) = elim (cases_Bool (b == 10)) [
+  | inl feed ↦
+      subst (CutEnds (b ∷ bs)) (sym (cond-true (b == 10) (Some ([], bs)) (onto_prefix b (cut_at_feed bs)) feed))
+      (b ∷ [], refl)
+  | inr other ↦
+      subst (CutEnds (b ∷ bs))
+      (sym (cond-false (b == 10) (Some ([], bs)) (onto_prefix b (cut_at_feed bs)) other))
+      (onto_ends b bs (cut_at_feed bs) (cut_ends bs))
+]
+
+LineEnds : List ℕ → Option FirstLine → Type 0
+LineEnds bytes None = Unit {0}
+LineEnds bytes (Some first) = EndsWith bytes first.rest
+
+line_ends_by : (bytes : List ℕ) (o : Option (List ℕ × List ℕ)) → CutEnds bytes o
+    → EndsWith bytes (line_by_cut bytes o).rest
+unfolding CutEnds
+line_ends_by bytes None ends = (bytes, sym (append-nil bytes))
+line_ends_by bytes (Some parts) ends = ends
+
+line_ends : (bytes : List ℕ) → LineEnds bytes (first_line bytes)
+unfolding LineEnds
+line_ends [] = tt
+line_ends (b ∷ bs) = line_ends_by (b ∷ bs) (cut_at_feed (b ∷ bs)) (cut_ends (b ∷ bs))
+
+pub takes_ends : (bytes line rest : List ℕ) → IsFirst bytes line rest → EndsWith bytes rest
+unfolding LineEnds
+takes_ends bytes line rest takes = subst (LineEnds bytes) takes.is (line_ends bytes)
 
 -- ---- the law of an input's lines
 

@@ -4,6 +4,7 @@ pub mod Says
 pub mod Statuses
 pub mod Printing
 pub mod InputLines
+pub mod Feeds
 pub mod Going
 pub mod Ahead
 pub mod Answering
@@ -13,5 +14,6 @@ pub mod Closings
 pub mod Named
 pub mod Looping
 pub mod Worked
+pub mod FaultsTold
 pub mod PrintedOnce
 pub mod Serial

@@ -1,5 +1,5 @@
 -- What was printed stands in the audits, and what was confirmed stands there once.
-use Rattle.std.proofs.Common.{◌≡◌, ℕ, ◌&&◌, Bool, true, List, [], ◌∷◌, ◌++◌, length, filter, Some, inl, inr, refl, ap, ◌∙◌}
+use Rattle.std.proofs.Common.{◌≡◌, ◌⊎◌, ℕ, ◌&&◌, Bool, true, List, [], ◌∷◌, ◌++◌, length, filter, Some, inl, inr, refl, ap, ◌∙◌}
 use Rattle.std.specs.Prelude.{nat_eq, Contains}
 use Rattle.std.proofs.lemmas.Bool.{cases_Bool, cond-true, cond-false, and_parts, and_from, eqb-true, eq-eqb, false≢true}
 use Rattle.qq_base.specs.Ids.{same_session}
@@ -26,7 +26,7 @@ use Rattle.qq_world.specs.ExactlyOne.{ExactlyOne}
 use Rattle.qq_world.specs.Laws.{IsConfirmedPublish}
 use Rattle.qq_world.specs.Node.{Setup as NodeSetup, NodeEvent, Of}
 use Rattle.qq_world.specs.NodeLaws.{IsTrueOf, PrintsWhatIsTrue}
-use Rattle.qq_world.specs.World.{Shown, Answered, Delivered}
+use Rattle.qq_world.specs.World.{Shown, Answered, Delivered, sender, ended_by}
 use Rattle.qq_program.specs.Inputs.{Input}
 use Rattle.qq_program.specs.Printing.{printed_behind, server_behind, is_publish_of, is_confirmed_publish}
 use Rattle.qq_program.specs.Serving.{Behind, run_behind}
@@ -120,6 +120,12 @@ true-of law s all left b place shown there =
 pub answer-there : IsTrue' → (s : Setup) (all left : List Input) (b : Behind s all left) (place : ℕ) (row : AuditRow)
     → Contains (printed_behind b) (Of place (Answered row)) → Contains (server_behind b place).audit row
 answer-there law s all left b place row there = (true-of law s all left b place (Answered row) there).0.is_in
+
+pub answer-sent : IsTrue' → (s : Setup) (all left : List Input) (b : Behind s all left) (place : ℕ) (row : AuditRow)
+    → Contains (printed_behind b) (Of place (Answered row))
+    → (session : ℕ) × ((sender row ≡ Some session) ⊎ (ended_by row.entry.command ≡ Some session))
+answer-sent law s all left b place row there =
+    let so = true-of law s all left b place (Answered row) there in (so.0.session, so.0.sender_is)
 
 pub confirmed-once : IsTrue' → (s : Setup) (all left : List Input) (b : Behind s all left) (place : ℕ) (row : AuditRow)
     (by : Stamp) → Contains (printed_behind b) (Of place (Answered row)) → stamp row.entry.command ≡ Some by

@@ -16,6 +16,7 @@ use Rattle.qq_program.specs.Reading.{Asks, Ends, read_input, says_by, says}
 use Rattle.qq_program.specs.Serving.{StopsAt, MayStop, EndsRun}
 use Rattle.qq_program.specs.Runs.{HasStopped, ending_of, IsSetup, MayNotOpen, Closes, HasRun}
 use Rattle.qq_program.proofs.Says.{says_within, says_past}
+use Rattle.qq_program.proofs.Feeds.{all-served}
 use Rattle.qq_program.specs.Troubles.{Damage, AtPlace, OfVersion, damage_ending, damage_text}
 use Rattle.qq_program.specs.Statuses.{Streams, SourceRose, SinkRose, HasEnded, HasEndedAtWords, Over, run_over, Prints, IsNext, Met, PrintsAlone, CutWithin, CutAtClosing, CutAtOpening, CutBeforeSetup, NoDisk, AtCrash, DamagedAtOpening, DamagedAtRestart, LostAtOpening, LostAtRestart, PassesLimit, NoneAtOpening, NoneWithin, SpentAtOpening, SpentAtLine, Told, Done, Refused, ReadFault, WriteFault, YardFault, Damaged, Lost, Limited, NoMemory, Spent}
 
@@ -167,6 +168,8 @@ stopped_told n options s setup is_setup stops.ReadFault is (rose, answers) =
       rose = rose;
       over = record { setup = setup; is_setup = is_setup; served = answers.served };
       piece = answers.is_piece;
+      all = λ read is. all-served s.bytes s.rest read answers.served.piece answers.served.behind.read
+          answers.served.left answers.served.behind.is answers.served.unread answers.is_piece answers.served.ends is;
       prints = answers.written;
     })
 stopped_told n options s setup is_setup stops.WriteFault is (rose, breaks) =

@@ -1,5 +1,5 @@
 -- What worked scripts over one queue print.
-use Rattle.std.proofs.Common.{◌≡◌, ℕ, ◌+◌, List, [], ◌∷◌, ◌++◌, length, Option, Some, Ok, Err, inl, inr, refl, sym, ap, subst, ◌∙◌, append-nil, append_assoc, codes, arith}
+use Rattle.std.proofs.Common.{◌≡◌, ◌≤◌, ℕ, ◌+◌, List, [], ◌∷◌, ◌++◌, length, Option, Some, Ok, Err, inl, inr, refl, sym, ap, subst, ◌∙◌, append-nil, append_assoc, codes, arith}
 use Rattle.std.specs.Fmt.{decimal, digits}
 use Rattle.std.specs.Char.{encode_utf8}
 use Rattle.std.specs.Str.{chars, is_utf8}
@@ -25,7 +25,7 @@ use Rattle.qq_world.specs.NodeLaws.{LeavesNoChoice}
 use Rattle.qq_world.specs.Rules.{Line, Send, most_rounds, IsOpening, IsRun}
 use Rattle.qq_world.specs.World.{Ticks, Submits, Writes, Syncs, Notices}
 use Rattle.qq_program.specs.Endings.{fault_text, refusal}
-use Rattle.qq_program.specs.Inputs.{Input, raw_lines_of, input_of, inputs_by, inputs_of}
+use Rattle.qq_program.specs.Inputs.{Input, raw_lines_of, input_of, inputs_by, inputs_of, feed_count}
 use Rattle.qq_program.specs.Reading.{Asks, Ends, read_input, says_by, says, AskFor}
 use Rattle.qq_program.specs.Serving.{Behind, text_behind, audits_behind, Served, IsText}
 use Rattle.qq_program.specs.Printing.{IsQuiet}
@@ -39,17 +39,17 @@ use Rattle.qq_program.proofs.Printing.{asked-once}
 abbrev of_one : NodeSetup
 of_one = node_setup (plain_rows 1 1 1)
 
-rows_of : (options : Options) (setup : Setup) → IsSetup options setup → options.queues ≡ 1
+pub rows_of : (options : Options) (setup : Setup) → IsSetup options setup → options.queues ≡ 1
     → setup.queues ≡ plain_rows 1 1 1
 rows_of options setup is one =
     ap (λ (v : SetupState). v.queues) is ∙ ap (λ (n : ℕ). plain_rows 1 1 n) one
 
 -- ---- the lines
 
-abbrev publish : Input
+abbrev pub publish : Input
 publish = Some (codes "publish a")
 
-abbrev sends : Line
+abbrev pub sends : Line
 sends = Send 1 1 (publish_to (plain_row 1 1 0) (codes "a"))
 
 abbrev with_rows : Setup → List QueueRow → Setup
@@ -61,7 +61,7 @@ unfolding is_utf8 chars encode_utf8 digits read_line line_of read read_plain kin
 reads-publish s rows =
     subst (λ (r : List QueueRow). read_line (with_rows s r) 1 (codes "publish a") ≡ Ok sends) (sym rows) refl
 
-asks-publish : (s : Setup) → s.queues ≡ plain_rows 1 1 1 → says s 0 publish ≡ Asks sends
+pub asks-publish : (s : Setup) → s.queues ≡ plain_rows 1 1 1 → says s 0 publish ≡ Asks sends
 asks-publish s rows = asks_for s 0 (codes "publish a") sends (omega arith) (reads-publish s rows)
 
 reads-bare : (s : Setup) → read_line s 2 (codes "publish") ≡ Err Words
@@ -507,6 +507,29 @@ text-front settle s rows bytes rest served quiet text (inr (none, is)) (ReadOne 
     let same : text ≡ whole =
     is ∙ both-one settle s rows (inputs_of bytes) served.left served.behind quiet read in
     record { rest = []; is = sym same ∙ sym (append-nil text) }
+
+-- the source fails behind the first line, which was read whole
+
+reads-one : (read left : List Input) → Reads read left → 1 ≤ length read → read ≡ publish ∷ []
+reads-one read left (ReadNone none input more is) some =
+    let empty : length read ≡ 0 = ap length none in absurd (omega (arith, empty, some))
+reads-one read left (ReadOne is) some = is
+
+pub whole-fault-prints : Settles → (options : Options) (s : Streams) (so : IsReadFault options s) → options.queues ≡ 1
+    → s.bytes ≡ codes "publish a\n" → s.rest ≡ [] → IsQuiet so.over.served.behind
+    → s.new ≡ s.old ++ codes "confirmed 1\nread fault\n"
+whole-fault-prints settle options s so one bytes rest quiet =
+    let served = so.over.served in
+    let rows = rows_of options so.over.setup so.over.is_setup one in
+    let read : s.bytes ≡ s.bytes ++ s.rest =
+    sym (append-nil s.bytes) ∙ ap (λ (l : List ℕ). s.bytes ++ l) (sym rest) in
+    let feeds : feed_count s.bytes ≡ 1 = ap feed_count bytes in
+    let some : 1 ≤ length served.behind.read = subst (λ (n : ℕ). n ≤ length served.behind.read) feeds (so.all s.bytes read) in
+    let parts : publish ∷ [] ≡ served.behind.read ++ served.left = sym (ap inputs_of bytes) ∙ served.behind.is in
+    so.prints ∙ ap (λ (l : List ℕ). s.old ++ l)
+    (ap (λ (l : List ℕ). l ++ codes "read fault\n")
+    (text-one settle so.over.setup rows (inputs_of s.bytes) served.left served.behind quiet
+    (reads-one served.behind.read served.left (reads-of served.behind.read served.left parts) some)))
 
 pub cut-prints : Settles → (options : Options) (s : Streams) (setup : Setup) → IsSetup options setup
     → (more : List ℕ) (so : BreaksOff setup s.bytes (Some s.rest) (Some s.old) (Some s.new) more)

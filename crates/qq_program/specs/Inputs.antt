@@ -1,5 +1,5 @@
 -- The lines of an input as they are read.
-use Rattle.std.specs.Prelude.{ℕ, List, [], ◌∷◌, ◌==◌, Option, Some, None, length, nat_le, if◌then◌else◌}
+use Rattle.std.specs.Prelude.{◌≡◌, ℕ, List, [], ◌∷◌, ◌++◌, ◌==◌, Option, Some, None, length, filter, nat_le, if◌then◌else◌}
 use Rattle.qq_ports.specs.declared.fault.TheConstants.{LINE_LIMIT}
 use Rattle.qq_ports.specs.Lines.{lines_of, onto_first}
 
@@ -22,3 +22,11 @@ inputs_by (raw ∷ raws) (line ∷ lines) = input_of raw line ∷ inputs_by raws
 
 abbrev pub inputs_of : List ℕ → List Input
 inputs_of bytes = inputs_by (raw_lines_of bytes) (lines_of bytes)
+
+-- bytes end with others
+abbrev pub EndsWith : List ℕ → List ℕ → Type 0
+EndsWith bytes last = (front : List ℕ) × (bytes ≡ front ++ last)
+
+-- how many lines of bytes end within them, at a line feed
+abbrev pub feed_count : List ℕ → ℕ
+feed_count bytes = length (filter (λ (b : ℕ). b == 10) bytes)

@@ -9,7 +9,7 @@ use Rattle.qq_world.specs.Node.{Setup as NodeSetup, Node, NodeEvent, new_node, n
 use Rattle.qq_world.specs.Rules.{Line, Crash, Restart, IsLine, IsRun}
 use Rattle.qq_program.specs.declared.status.TheConstants.{LOST}
 use Rattle.qq_program.specs.Endings.{Ending, yard_fault, spent}
-use Rattle.qq_program.specs.Inputs.{Input, inputs_of}
+use Rattle.qq_program.specs.Inputs.{Input, inputs_of, EndsWith}
 use Rattle.qq_program.specs.Reading.{Asks, Ends, says, AskFor}
 use Rattle.qq_program.specs.Troubles.{Damage, Trouble, YardFails, FilesBreak, EndsDamaged}
 
@@ -95,12 +95,14 @@ pub record Goes (s : Setup) (all : List Input) (run : Run) (left : List Input) (
     pub run_is : run ≡ run_behind behind
     pub written : Appends old new (text_behind behind)
 
--- the first lines of bytes were served, of what stands behind them a piece was read, and the rest is unread
+-- The first lines of bytes were served, of what stands behind them a piece was read, and the rest is unread: it is what
+-- the bytes end with.
 pub record Served (s : Setup) (bytes : List ℕ) (rest : Option (List ℕ)) : Type 0 where
   pub left : List Input
   pub behind : Behind s (inputs_of bytes) left
   pub piece : List ℕ
   pub unread : IfSome rest (λ unread. left ≡ inputs_of (piece ++ unread))
+  pub ends : IfSome rest (λ unread. EndsWith bytes (piece ++ unread))
 
 -- what the lines that were served print, and behind the last line the audits
 abbrev pub IsText : {s : Setup} {bytes : List ℕ} {rest : Option (List ℕ)} → Served s bytes rest → List ℕ → Type 0

@@ -13,7 +13,7 @@ use Rattle.qq_world.specs.Endings.{IsLost, lost_text}
 use Rattle.qq_world.specs.Rules.{Line, Crash, Restart}
 use Rattle.qq_program.specs.declared.stop.Stop.{Stop}
 use Rattle.qq_program.specs.Endings.{Ending, fault_text, no_memory}
-use Rattle.qq_program.specs.Inputs.{Input}
+use Rattle.qq_program.specs.Inputs.{Input, feed_count}
 use Rattle.qq_program.specs.Reading.{Asks, read_input, says}
 use Rattle.qq_program.specs.Serving.{Run, run_behind, text_behind, audits_behind, Served}
 use Rattle.qq_program.specs.Runs.{BreaksOff, HasStopped, ending_of, IsSetup, MayNotOpen, RunEnds}
@@ -112,11 +112,12 @@ pub record IsRefused (options : Options) (s : Streams) : Type 0 where
   pub prints : Prints over
       (codes "line " ++ decimal ((run_over over).lines + 1) ++ codes ": " ++ fault_text fault ++ codes "\n")
 
--- 5: the source has failed. All lines that were read whole were served.
+-- 5: the source has failed. All lines that were read whole were served: as many as end within what was read.
 pub record IsReadFault (options : Options) (s : Streams) : Type 0 where
   pub rose : SourceRose s
   pub over : Over options s
   pub piece : HasNoFeed over.served.piece
+  pub all : (read : List ℕ) → s.bytes ≡ read ++ s.rest → feed_count read ≤ (run_over over).lines
   pub prints : Prints over (codes "read fault\n")
 
 -- 6: the sink has failed, in what the lines and audits print, or in a closing line.

@@ -14,7 +14,8 @@ use qq_world::lines_settle;
 /// - `served`, `read`: all lines were served, so the answers stand there, and then the audit. Nothing is
 ///   unread.
 /// - `refused`, `limited`: the second line ends the script, behind the first one's answer.
-/// - `read_fault`: the source fails behind a piece of the second line. The first one is answered.
+/// - `read_fault`, `read_whole`: the source fails behind a piece of the second line, or behind the first line's
+///   line feed. The first one is answered.
 /// - `cut`: of a run that breaks off, a first part of what it prints in all.
 pub fn worked_scripts_print()
     ensures served { (options : Options) (s : Streams) (done : IsServed options s) →
@@ -32,6 +33,9 @@ pub fn worked_scripts_print()
         s.new ≡ s.old ++ codes "confirmed 1\nlimit body 65537\n" }
     ensures read_fault { (options : Options) (s : Streams) (so : IsReadFault options s) →
         options.queues ≡ 1 → s.bytes ≡ codes "publish a\npublish" → s.rest ≡ [] →
+        IsQuiet so.over.served.behind → s.new ≡ s.old ++ codes "confirmed 1\nread fault\n" }
+    ensures read_whole { (options : Options) (s : Streams) (so : IsReadFault options s) →
+        options.queues ≡ 1 → s.bytes ≡ codes "publish a\n" → s.rest ≡ [] →
         IsQuiet so.over.served.behind → s.new ≡ s.old ++ codes "confirmed 1\nread fault\n" }
     ensures cut { (options : Options) (s : Streams) (setup : Setup) → IsSetup options setup →
         (more : List ℕ)

@@ -17,8 +17,8 @@ use qq_world::{a_node_prints_what_is_true, lines_settle};
 /// What an exit status tells of a run, where source and sink tell their bytes.
 ///
 /// - `told`: 0, all lines were served, and behind their text stand the audits. 4, some lines were served,
-///   and the next one is refused by its number and its fault. 5, the source has failed, and lines that
-///   were read, from the first on, were served. 6, the sink has failed, and what it has is a first part
+///   and the next one is refused by its number and its fault. 5, the source has failed, and all lines
+///   that end within what was read were served. 6, the sink has failed, and what it has is a first part
 ///   of what is printed. 7, the yard has failed at the opening or at a crash, or the disk has at the
 ///   opening. 8, the log's files were found to break the rules at the printed place, when the node is
 ///   restarted; or when it is opened, over a disk that doesn't tell what it holds. 9, a restart finds of

@@ -5,6 +5,7 @@ mod asking;
 mod audit;
 mod ending;
 mod examples;
+mod faults;
 mod laws;
 mod queues;
 mod serving;
@@ -15,6 +16,7 @@ pub use asking::{ask, refuse_long_line};
 pub use audit::add_audit;
 pub use ending::{Ending, LINES_LIMIT};
 pub use examples::worked_scripts_print;
+pub use faults::{faults_are_told, faults_come_where_they_are_asked_for, lost_queues_are_told};
 pub use laws::{
     a_script_has_ten_million_lines, a_status_tells_what_was_done, runs_settle, scripts_are_served,
     what_was_printed_is_true,

@@ -1,6 +1,6 @@
 //! What holds of each queue of a run, whatever failed and was restarted, as laws: the functions do nothing,
 //! and their contracts are the laws.
-ghost use Rattle.std.specs.Prelude.{◌≡◌, ◌≤◌, ◌++◌, ℕ, List, Some, true, Contains, filter, length, take};
+ghost use Rattle.std.specs.Prelude.{◌≡◌, ◌⊎◌, ◌≤◌, ◌++◌, ℕ, List, Some, true, Contains, filter, length, take};
 ghost use Rattle.qq_base.specs.Fronts.{IsFront};
 ghost use Rattle.qq_defs.specs.declared.setup.Setup.{Setup};
 ghost use Rattle.qq_entry.specs.declared.answer.Answer.TheVariants.{Confirmed};
@@ -12,7 +12,7 @@ ghost use Rattle.qq_entry.specs.Command.{stamp};
 ghost use Rattle.qq_base.specs.declared.ids.ConsumerId.{ConsumerId};
 ghost use Rattle.qq_model.specs.Audit.{audit_of, effects_of, entries_of};
 ghost use Rattle.qq_model.specs.State.{empty_queue};
-ghost use Rattle.qq_world.specs.World.{Answered, Delivered};
+ghost use Rattle.qq_world.specs.World.{Answered, Delivered, sender, ended_by};
 ghost use Rattle.qq_world.specs.Node.{NodeEvent, Of};
 ghost use Rattle.qq_log.specs.Stable.{stable};
 ghost use Rattle.qq_world.specs.Promise.{state_of};
@@ -29,7 +29,8 @@ use qq_world::{
 
 /// A law: of whatever was printed at a queue.
 ///
-/// - `answer`: it is the answer of a row of the queue's audit.
+/// - `answer`, `client`: it is the answer of a row of the queue's audit, to a command of a client's session, or
+///   to the end of one.
 /// - `confirmed`: of what was printed as `confirmed` the audit has one row in which a publish of that session
 ///   and number was carried out and confirmed, and no second one.
 /// - `delivery`: it is what an entry of the audit delivered.
@@ -37,6 +38,10 @@ pub fn what_was_printed_is_there_once()
     ensures answer { (s : Setup) (all left : List Input) (b : Behind s all left) (place : ℕ)
         (row : AuditRow) → Contains (printed_behind b) (Of place (Answered row)) →
         Contains (server_behind b place).audit row }
+    ensures client { (s : Setup) (all left : List Input) (b : Behind s all left) (place : ℕ)
+        (row : AuditRow) → Contains (printed_behind b) (Of place (Answered row)) →
+        (session : ℕ) × ((sender row ≡ Some session)
+        ⊎ (ended_by row.entry.command ≡ Some session)) }
     ensures confirmed { (s : Setup) (all left : List Input) (b : Behind s all left) (place : ℕ)
         (row : AuditRow) (by : Stamp) → Contains (printed_behind b) (Of place (Answered row)) →
         stamp row.entry.command ≡ Some by → row.answer ≡ Confirmed →

@@ -1,4 +1,4 @@
-use Rattle.qq_program.proofs.Worked.{served-prints, refused-prints, limited-prints, fault-prints, cut-prints}
+use Rattle.qq_program.proofs.Worked.{served-prints, refused-prints, limited-prints, fault-prints, whole-fault-prints, cut-prints}
 use Rattle.qq_program.proofs.examples.worked_scripts_print.Goals as goal
 
 pub returns-clause-served : goal.returns-clause-served
@@ -15,6 +15,9 @@ returns-clause-limited c = limited-prints c.lines_settle.ensures.run
 
 pub returns-clause-read_fault : goal.returns-clause-read_fault
 returns-clause-read_fault c = fault-prints c.lines_settle.ensures.run
+
+pub returns-clause-read_whole : goal.returns-clause-read_whole
+returns-clause-read_whole c = whole-fault-prints c.lines_settle.ensures.run
 
 pub returns-clause-cut : goal.returns-clause-cut
 returns-clause-cut c = cut-prints c.lines_settle.ensures.run
