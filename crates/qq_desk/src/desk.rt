@@ -1,5 +1,5 @@
 //! A queue's part of a node: a method for each event.
-ghost use Rattle.std.specs.Prelude.{◌≡◌, ◌<◌, ◌++◌, ◌∷◌, [], false, true, drop, filter, length, map, IfOk, IfErr, IsOkUnless, OnOk, OnErr};
+ghost use Rattle.std.specs.Prelude.{◌≡◌, ◌≤◌, ◌<◌, ◌++◌, ◌∷◌, [], false, true, drop, filter, length, map, IfOk, IfErr, IsOkUnless, OnOk, OnErr};
 ghost use Rattle.qq_base.specs.Causes.{SpentOnlyWhere};
 ghost use Rattle.qq_base.specs.Fronts.{IsFront};
 ghost use Rattle.qq_base.specs.declared.memory.TheConstants.{NUMBER_END};
@@ -12,7 +12,7 @@ ghost use Rattle.std.specs.List.{AllByRecursion, flat_map};
 ghost use Rattle.std.specs.Option.{option_copied};
 ghost use Rattle.qq_world.specs.World.{Mutes, Ends, Ticks, Submits, TellsEnded, Resends, Downs, Writes, Syncs, Notices, Stops, Finds, Answered, happens, hear_all, is_up, new_world, offer, printed, said_of};
 ghost use Rattle.qq_desk.specs.Clients.{clients_of};
-ghost use Rattle.qq_desk.specs.Desk.{AreCounts, Does, IsSameQueue, is_of_term, is_spent, world_of};
+ghost use Rattle.qq_desk.specs.Desk.{Does, IsSameQueue, is_of_term, is_spent, world_of};
 ghost use Rattle.qq_desk.specs.Range.{HasBytes, MayStamp, MayWait};
 ghost use Rattle.qq_desk.specs.Roles.{role_of};
 ghost use Rattle.qq_desk.specs.Taking.{told};
@@ -431,8 +431,9 @@ impl Desk {
     /// than are written, nor of those than were handed out.
     pub fn noticed(&self) -> usize
         ensures value { result ≡ self.now.server.noticed }
-        ensures counts { AreCounts self.now.server.noticed self.now.synced self.now.written
-            (length self.now.server.ops) }
+        ensures counts { (self.now.server.noticed ≤ self.now.synced)
+            × (self.now.synced ≤ self.now.written)
+            × (self.now.written ≤ length self.now.server.ops) }
     {
         self.server.noticed()
     }

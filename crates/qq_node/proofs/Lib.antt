@@ -15,3 +15,4 @@ pub mod NoneFound
 pub mod Restarts
 pub mod Taken
 pub mod TakenUp
+mod RestartFaults

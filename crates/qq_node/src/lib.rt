@@ -6,6 +6,7 @@ mod crash;
 mod crashing;
 mod desks;
 mod gather;
+mod laws;
 mod log;
 mod node;
 mod opening;
@@ -18,6 +19,9 @@ pub use crash::crash_disk;
 pub use crashing::crash_node;
 pub use desks::Desks;
 pub use gather::gather_all;
+pub use laws::{
+    a_crash_leaves_the_named_image, a_restart_fails_for_memory, a_whole_sync_keeps_the_log,
+};
 pub use log::{SyncOutcome, begin_next, sync_log, write_log};
 pub use node::{Node, NodeLog};
 pub use opening::{OpenFault, open_node};

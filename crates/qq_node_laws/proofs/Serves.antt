@@ -16,10 +16,10 @@ use Rattle.qq_node_laws.specs.Linked.{IsLinked}
 use Rattle.qq_node_laws.specs.Quiet.{IsQuiet}
 use Rattle.qq_node_laws.specs.Reads.{IsReached, HasAudits}
 use Rattle.qq_node_laws.specs.Serves.{GivesUp, Leads, Seen, Serves}
-use Rattle.qq_node_laws.specs.Traced.{HasNoCrash, IsNoCrash, IsTraced}
+use Rattle.qq_node_laws.specs.Traced.{HasNoCrash, IsNoCrash, KeepsAudits, IsTraced}
 use Rattle.qq_node_laws.proofs.Promises.{reached-after}
 use Rattle.qq_node_laws.proofs.Quiet.{quiet-keeps, quiet-linked}
-use Rattle.qq_node_laws.proofs.Said.{trace-behind, trace-linked}
+use Rattle.qq_node_laws.proofs.Said.{trace-behind, trace-linked, trace-moments}
 use Rattle.qq_node_laws.proofs.Traces.{traced-none, traced-one, traced-then}
 
 -- ---- texts and failures of lists of events
@@ -231,3 +231,37 @@ gives_up-behind setup n First Mid a m b before mid r s t = record {
       (t.moments (subst (λ (b : Bool). IsTrue b) (sym s.told) tells)
       (trace-linked setup n s.events a.past m.past s.no_crash traced)));
 }
+
+-- ---- what a call has done, in the words of its events
+
+abbrev ByEvents : Setup → Node → Node → List NodeEvent → Seen → Seen → List ℕ → List ℕ → Type 0
+ByEvents setup n last done a b before later =
+    Serves setup n (λ (events : List NodeEvent). events ≡ done) (λ (k : Node). k ≡ last) a b before later
+
+pub served-text : (setup : Setup) (n last : Node) (done : List NodeEvent) (a b : Seen) (before later : List ℕ)
+    → ByEvents setup n last done a b before later
+    → (last ≡ node_after n done) × (later ≡ before ++ text_of setup n done)
+served-text setup n last done a b before later s = (
+  sym s.stands ∙ ap (node_after n) s.means,
+  s.says ∙ ap (λ (l : List NodeEvent). before ++ text_of setup n l) s.means,
+)
+
+pub served-disk : (setup : Setup) (n last : Node) (done : List NodeEvent) (a b : Seen) (before later : List ℕ)
+    → ByEvents setup n last done a b before later
+    → (b.tells ≡ a.tells) × (a.faults ≤ b.faults) × (has_failure done ≡ true → Rose a.faults b.faults)
+served-disk setup n last done a b before later s =
+    (s.told, s.rises, λ failed. s.cause (ap has_failure s.means ∙ failed))
+
+pub served-moments : (setup : Setup) (n last : Node) (done : List NodeEvent) (a b : Seen) (before later : List ℕ)
+    → IsReached setup n → ByEvents setup n last done a b before later
+    → HasNoCrash done × (IsTrue a.tells → IsLinked setup n (now a.past)
+    → KeepsAudits setup n a.past b.past × IsLinked setup last (now b.past))
+served-moments setup n last done a b before later r s = (
+  subst HasNoCrash s.means s.no_crash,
+  λ tells linked.
+      let traced : IsTraced setup n s.events a.past b.past = s.moments tells linked in (
+        trace-moments setup n s.events a.past b.past r s.no_crash traced,
+        subst (λ (k : Node). IsLinked setup k (now b.past)) s.stands
+            (trace-linked setup n s.events a.past b.past s.no_crash traced),
+      ),
+)

@@ -1,6 +1,7 @@
 //! What the log keeps of a node's queues, event by event: the functions do nothing, and their
 //! contracts are the laws.
-ghost use Rattle.std.specs.Prelude.{◌≡◌, ◌++◌, [], ◌∷◌, true, ℕ, List};
+ghost use Rattle.std.specs.Prelude.{◌≡◌, ◌≤◌, ◌++◌, [], ◌∷◌, true, ℕ, List, IsTrue};
+ghost use Rattle.qq_base.specs.Causes.{Rose};
 ghost use Rattle.qq_base.specs.Fronts.{IsFront};
 ghost use Rattle.qq_disk.specs.declared.image.Image.{Image};
 ghost use Rattle.qq_disk.specs.Disk.{Disk, now};
@@ -8,13 +9,15 @@ ghost use Rattle.qq_chain.specs.Lanes.{Lanes};
 ghost use Rattle.qq_log.specs.declared.op.Op.{Op};
 ghost use Rattle.qq_recover.specs.Recovery.{SettlesLanes};
 ghost use Rattle.qq_wal.specs.Running.{HoldsAlso, MayNotice, StaysGiving, StillHolds, Stays};
-ghost use Rattle.qq_world.specs.Node.{Setup, Node, NodeEvent, Alike, Crashes, Fails, FindsEach, new_node, node_after, node_happens};
+ghost use Rattle.qq_world.specs.Node.{Setup, Node, NodeEvent, Alike, Crashes, Fails, FindsEach, new_node, node_after, node_happens, text_of};
+ghost use Rattle.qq_world.specs.NodeLaws.{has_failure};
 ghost use Rattle.qq_world.specs.Rules.{is_node_up};
 ghost use Rattle.qq_world.specs.World.{Writes, Syncs};
 ghost use Rattle.qq_node_laws.specs.Answers.{KeepsAnswers};
 ghost use Rattle.qq_node_laws.specs.Linked.{LacksRest, IsLinked, KeepsPromised, IsTied, AllPromised, AllWait};
 ghost use Rattle.qq_node_laws.specs.Quiet.{IsQuiet};
 ghost use Rattle.qq_node_laws.specs.Reads.{IsReached, HasAudits, AllTakeUp, AreDown, ops_found, queues_of};
+ghost use Rattle.qq_node_laws.specs.Serves.{Seen, Serves, GivesUp};
 ghost use Rattle.qq_node_laws.specs.Traced.{HasHonestImage, HasNoCrash, KeepsAudits, LeavesImage, IsTraced};
 ghost use Rattle.qq_node_laws.specs.Waiting.{AreApart, GoesOnBehind, OwnsOps, waiting};
 
@@ -130,4 +133,37 @@ pub fn a_trace_tells_of_the_disk()
         (old mid new : List Disk) → IsReached setup n → HasNoCrash events →
         IsTraced setup n events old mid → KeepsAudits setup (node_after n events) mid new →
         KeepsAudits setup n old new }
+{}
+
+/// A law: of a call that did these events, so that this node stands.
+///
+/// - `text`: the node is as they leave it, and what they print was added to the text.
+/// - `disk`: the disk tells what it told, and its count of faults doesn't fall; where a call of it failed the
+///   count rose.
+/// - `moments`: none of them is a crash. Over a disk that tells, where the log was linked, whatever a crash leaves
+///   at any moment has each queue's audit as it stood before, and the log is linked to the node that stands now.
+pub fn what_was_served_is_on_the_disk()
+    ensures text { (setup : Setup) (n last : Node) (done : List NodeEvent) (a b : Seen)
+        (before later : List ℕ) →
+        Serves setup n (λ events. events ≡ done) (λ k. k ≡ last) a b before later →
+        (last ≡ node_after n done) × (later ≡ before ++ text_of setup n done) }
+    ensures disk { (setup : Setup) (n last : Node) (done : List NodeEvent) (a b : Seen)
+        (before later : List ℕ) →
+        Serves setup n (λ events. events ≡ done) (λ k. k ≡ last) a b before later →
+        (b.tells ≡ a.tells) × (a.faults ≤ b.faults)
+        × (has_failure done ≡ true → Rose a.faults b.faults) }
+    ensures moments { (setup : Setup) (n last : Node) (done : List NodeEvent) (a b : Seen)
+        (before later : List ℕ) → IsReached setup n →
+        Serves setup n (λ events. events ≡ done) (λ k. k ≡ last) a b before later →
+        HasNoCrash done × (IsTrue a.tells → IsLinked setup n (now a.past) →
+        KeepsAudits setup n a.past b.past × IsLinked setup last (now b.past)) }
+{}
+
+/// A law: a call that is given up leaves a disk that tells what it told, whose count of faults doesn't fall.
+/// Where the log was linked, whatever a crash leaves at any moment has each queue's audit as it stood.
+pub fn what_was_given_up_keeps_the_audits()
+    ensures disk { (setup : Setup) (n : Node) (a b : Seen) → GivesUp setup n a b →
+        (b.tells ≡ a.tells) × (a.faults ≤ b.faults) }
+    ensures moments { (setup : Setup) (n : Node) (a b : Seen) → GivesUp setup n a b →
+        IsTrue a.tells → IsLinked setup n (now a.past) → KeepsAudits setup n a.past b.past }
 {}
