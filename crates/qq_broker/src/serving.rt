@@ -160,7 +160,7 @@ fn restart<D: NodeDisk>(
 {
     match restart_node(node, alloc, text) {
         Ok(next) => Ok(next),
-        Err(fault) => Err(restart_stop(fault)),
+        Err((fault, _)) => Err(restart_stop(fault)),
     }
 }
 

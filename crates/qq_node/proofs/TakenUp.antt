@@ -25,7 +25,9 @@ use Rattle.qq_world.specs.Server.{is_down}
 use Rattle.qq_world.specs.World.{World, Finds, Stops, happens, is_up}
 use Rattle.qq_node_laws.specs.Linked.{IsLinked}
 use Rattle.qq_node_laws.specs.Reads.{IsReached, AreDown, ops_found, queue_at, queues_of, state_in}
+use Rattle.qq_node_laws.specs.Traced.{KeepsAudits}
 use Rattle.qq_node_laws.proofs.Both.{none-any}
+use Rattle.qq_node_laws.proofs.Said.{trace-moments}
 use Rattle.qq_node.specs.declared.node.Node.{Node as Held}
 use Rattle.qq_node.specs.declared.node.NodeLog.TheVariants.{Open, Closed}
 use Rattle.qq_node.specs.declared.recovering.Found.{Found}
@@ -33,7 +35,8 @@ use Rattle.qq_node.specs.declared.restarting.RestartFault.{RestartFault}
 use Rattle.qq_node.specs.declared.restarting.RestartFault.TheVariants as restart_fault
 use Rattle.qq_node.specs.Found.{AllTakeUpTold, AreLanes, FailsLinked, HasFound, as_told}
 use Rattle.qq_node.specs.Node.{AreDesks, Served, Stands, disk_in}
-use Rattle.qq_node.specs.Restarting.{AllTake, GoesOnWith, IsLinkedTo, IsLostOf, IsOfMemory, IsRefusedBy, IsRestartCaused, IsTakeAllCaused, SomeIsLost, StopsWith, TakesUp}
+use Rattle.qq_node.specs.Log.{IsWhole}
+use Rattle.qq_node.specs.Restarting.{AllTake, GoesOnWith, HandsBack, IsLinkedTo, IsLostOf, IsOfMemory, IsRefusedBy, IsRestartCaused, IsTakeAllCaused, SomeIsLost, StopsWith, TakesUp}
 use Rattle.qq_node.proofs.Carried.{may_restart-all}
 use Rattle.qq_node.proofs.EachDesk.{all-done, as-many}
 use Rattle.qq_node.proofs.Finding.{lane-told}
@@ -245,6 +248,63 @@ module _ {D : Type 0} (tells : D → Bool) (past : D → List Disk) (faults : D 
       stops old new left fault before later down
       (subst (FailsWith old.queues.items left fault) disk
       (subst (λ (l : List QueueId). FailsWith l left fault given) ids f)) s
+
+  -- ---- an error hands the disk back
+
+  hands-over : (old : Held D) (left : D) → IsWhole tells past (disk_in old.log)
+      → (IsTrue (tells (disk_in old.log)) → StaysWhole (past (disk_in old.log)) (past left))
+      → tells left ≡ tells (disk_in old.log) → faults (disk_in old.log) ≤ faults left
+      → ((setup : Setup) (n : Node) → IsReached setup n → Stands tells past setup old n → AreDown setup n
+      → IsLinkedTo tells past setup n old → KeepsAudits setup n (past (disk_in old.log)) (past left))
+      → HandsBack tells past faults old left
+  hands-over old left was stays same later moments = record {
+    whole = λ tell. (let before : IsTrue (tells (disk_in old.log)) = subst (λ (b : Bool). IsTrue b) same tell in
+        stays before (was before));
+    given_up = λ setup n r st down. record {
+      told = same;
+      rises = later;
+      moments = λ tell linked. moments setup n r st down (tell, linked);
+    };
+  }
+
+  -- what recovery has done with a disk that it refuses
+  abbrev pub Refuses : List QueueId → D → RecoverFault → D → Type 0
+  Refuses queues left fault disk =
+      (IsTrue (tells disk) → FailsLinked queues (past disk) (past left) fault)
+      × (IsTrue (tells disk) → StaysWhole (past disk) (past left)) × (tells left ≡ tells disk)
+      × (faults disk ≤ faults left)
+
+  back-refused : (old : Held D) (left : D) (fault : RecoverFault) → IsWhole tells past (disk_in old.log)
+      → Refuses old.queues.items left fault (disk_in old.log) → HandsBack tells past faults old left
+  back-refused old left fault was h =
+      hands-over old left was h.1 h.2 h.3 (λ setup n r st down linked.
+      trace-moments setup n (Fails ∷ []) (past (disk_in old.log)) (past left) r (tt, tt)
+      (h.0 linked.0 setup n st.queues r linked.1).traced)
+
+  pub refused-back : (old : Held D) (given left : D) (fault : RecoverFault) (queues : List QueueId)
+      → given ≡ disk_in old.log → queues ≡ old.queues.items → IsWhole tells past (disk_in old.log)
+      → Refuses queues left fault given → HandsBack tells past faults old left
+  refused-back old given left fault queues disk ids was h =
+      back-refused old left fault was
+      (subst (Refuses old.queues.items left fault) disk
+      (subst (λ (l : List QueueId). Refuses l left fault given) ids h))
+
+  back-found : (old : Held D) (f : Found D) (log_bytes : ℕ) → IsWhole tells past (disk_in old.log)
+      → Recovers old.queues.items log_bytes f (disk_in old.log) → HandsBack tells past faults old f.wal.disk
+  back-found old f log_bytes was rec =
+      hands-over old f.wal.disk was rec.1 rec.2 rec.3 (λ setup n r st down linked.
+      (let found : HasFound tells past old.queues.items log_bytes (disk_in old.log) f = rec.0 in
+      trace-moments setup n (FindsEach (ops_found setup found.lanes) ∷ []) (past (disk_in old.log))
+      (past f.wal.disk) r (tt, tt) (found.finds linked.0 setup n st.queues r down linked.1).traced))
+
+  pub found-back : (old : Held D) (given left : D) (f : Found D) (queues : List QueueId) (log_bytes : ℕ)
+      → given ≡ disk_in old.log → queues ≡ old.queues.items → IsWhole tells past (disk_in old.log)
+      → Recovers queues log_bytes f given → left ≡ f.wal.disk → HandsBack tells past faults old left
+  found-back old given left f queues log_bytes disk ids was rec same =
+      subst (HandsBack tells past faults old) (sym same)
+      (back-found old f log_bytes was
+      (subst (Recovers old.queues.items log_bytes f) disk
+      (subst (λ (l : List QueueId). Recovers l log_bytes f given) ids rec)))
 
   -- ---- a disk that is linked
 

@@ -21,7 +21,8 @@ use Rattle.qq_world.specs.Promise.{MayTakeUp}
 use Rattle.qq_world.specs.Rules.{is_node_up}
 use Rattle.qq_world.specs.World.{Finds, Stops, happens}
 use Rattle.qq_node_laws.specs.Linked.{IsLinked}
-use Rattle.qq_node_laws.specs.Reads.{queues_of}
+use Rattle.qq_node_laws.specs.Reads.{AreDown, IsReached, queues_of}
+use Rattle.qq_node_laws.specs.Serves.{GivesUp, seen_of}
 use Rattle.qq_node_laws.specs.Traced.{LeavesImage, IsTraced}
 use Rattle.qq_node_laws.specs.Waiting.{AreApart}
 use Rattle.qq_node.specs.declared.node.Node.{Node as Held}
@@ -32,7 +33,8 @@ use Rattle.qq_node.specs.declared.opening.OpenFault.TheVariants as open_fault
 use Rattle.qq_node.specs.declared.restarting.RestartFault.{RestartFault}
 use Rattle.qq_node.specs.declared.restarting.RestartFault.TheVariants as restart_fault
 use Rattle.qq_node.specs.Desks.{AllDo}
-use Rattle.qq_node.specs.Node.{AreDesks, Stands, disk_in}
+use Rattle.qq_node.specs.Log.{IsWhole}
+use Rattle.qq_node.specs.Node.{AreDesks, Stands, disk_in, seen}
 
 -- ---- a crash
 
@@ -180,6 +182,13 @@ lanes_in past node = lanes_read node.queues.items (shown (now (past (disk_in nod
 abbrev pub IsLinkedTo : {D : Type 0} → (D → Bool) → (D → List Disk) → Setup → Node → Held D → Type 0
 IsLinkedTo tells past setup n node =
     IsTrue (tells (disk_in node.log)) × IsLinked setup n (now (past (disk_in node.log)))
+
+-- A restart that is given up hands the disk back, which may be recovered again.
+pub record HandsBack {D : Type 0} (tells : D → Bool) (past : D → List Disk) (faults : D → ℕ) (old : Held D) (new : D)
+    : Type 0 where
+  pub whole : IsWhole tells past new
+  pub given_up : (setup : Setup) (n : Node) → IsReached setup n → Stands tells past setup old n → AreDown setup n
+      → GivesUp setup n (seen tells past faults old) (seen_of tells past faults new)
 
 -- the queues have taken up what was found, and the log is the one that goes on behind it
 pub record GoesOnWith {D : Type 0} (found : Found D) (desks : List DeskState) (queues : Vec QueueId) (auto : Bool)

@@ -7,8 +7,10 @@ ghost use Rattle.qq_world.specs.Node.{Setup, Node as World};
 ghost use Rattle.qq_world.specs.Rules.{IsRestart, is_node_up};
 ghost use Rattle.qq_world.specs.World.{is_up};
 ghost use Rattle.qq_node_laws.specs.Reads.{IsReached, AreDown};
-ghost use Rattle.qq_node.specs.Node.{CanServe, Served, Stands, disk_in};
-ghost use Rattle.qq_node.specs.Restarting.{AllTake, IsLinkedTo, IsOfMemory, IsRefusedBy, IsRestartCaused, IsTakeAllCaused, IsTakeCaused, GoesOnWith, StopsWith, TakesUp, lanes_in};
+ghost use Rattle.qq_node_laws.specs.Serves.{GivesUp, seen_of};
+ghost use Rattle.qq_node.specs.Log.{IsWhole};
+ghost use Rattle.qq_node.specs.Node.{CanServe, Served, Stands, disk_in, seen};
+ghost use Rattle.qq_node.specs.Restarting.{AllTake, IsLinkedTo, IsOfMemory, IsRefusedBy, IsRestartCaused, IsTakeAllCaused, IsTakeCaused, GoesOnWith, HandsBack, StopsWith, TakesUp, lanes_in};
 
 use crate::crashing::into_disk;
 use crate::desks::Desks;
@@ -125,15 +127,16 @@ fn go_on<D: NodeDisk>(
     found: Found<D>,
     log_bytes: u64,
     auto: bool,
-) -> Result<Node<D>, RestartFault>
+) -> Result<Node<D>, (RestartFault, D)>
     requires { length found.lanes.items ≡ length desks }
     ensures ok { IfOk result (GoesOnWith found desks queues auto) }
-    ensures cause { IfErr result (IsTakeAllCaused desks found.lanes.items) }
+    ensures cause { IfErr result (λ e. IsTakeAllCaused desks found.lanes.items e.0) }
+    ensures disk { IfErr result (λ e. e.1 ≡ found.wal.disk) }
 {
     let mut desks = desks;
     let Found { wal, lanes } = found;
     if let Err(fault) = desks.take_up(alloc, &lanes) {
-        return Err(fault);
+        return Err((fault, wal.into_disk()));
     }
     Ok(Node {
         desks,
@@ -152,13 +155,14 @@ fn stop<D: NodeDisk>(
     log_bytes: u64,
     auto: bool,
     text: &mut Vec<u8>,
-) -> Result<Node<D>, RestartFault>
+) -> Result<Node<D>, (RestartFault, D)>
     ensures ok { IfOk result (StopsWith disk desks queues auto text.old.items text.new.items) }
-    ensures cause { IfErr result (λ fault. fault ≡ RestartFault.Memory Memory.Want) }
+    ensures cause { IfErr result (λ e. e.0 ≡ RestartFault.Memory Memory.Want) }
+    ensures disk { IfErr result (λ e. e.1 ≡ disk) }
 {
     let mut desks = desks;
     if let Err(memory) = desks.stop(text) {
-        return Err(RestartFault::Memory(memory));
+        return Err((RestartFault::Memory(memory), disk));
     }
     Ok(Node {
         desks,
@@ -174,19 +178,20 @@ fn recover_node<D: NodeDisk>(
     node: Node<D>,
     alloc: Global,
     text: &mut Vec<u8>,
-) -> Result<Node<D>, RestartFault>
+) -> Result<Node<D>, (RestartFault, D)>
     requires serve { CanServe D.tells D.past node }
     requires down { (setup : Setup) (n : World) → Stands D.tells D.past setup node n →
         is_node_up setup n ≡ false }
     ensures ok { IfOk result (λ next. Served D.tells D.past D.faults IsRestart node next
         text.old.items text.new.items) }
     ensures cause { (setup : Setup) (n : World) → IsReached setup n →
-        Stands D.tells D.past setup node n → IfErr result (IsRestartCaused setup n) }
+        Stands D.tells D.past setup node n → IfErr result (λ e. IsRestartCaused setup n e.0) }
     ensures never { (setup : Setup) (n : World) → IsReached setup n →
         Stands D.tells D.past setup node n → IsLinkedTo D.tells D.past setup n node →
-        AreDown setup n → IfErr result IsOfMemory }
+        AreDown setup n → IfErr result (λ e. IsOfMemory e.0) }
     ensures refused { IsTrue (D.tells (disk_in node.log)) →
-        IfErr result (IsRefusedBy (lanes_in D.past node)) }
+        IfErr result (λ e. IsRefusedBy (lanes_in D.past node) e.0) }
+    ensures back { IfErr result (λ e. HandsBack D.tells D.past D.faults node e.1) }
 {
     let Node {
         desks,
@@ -198,38 +203,45 @@ fn recover_node<D: NodeDisk>(
     match recover_log(into_disk(log), alloc, &queues, log_bytes) {
         Ok(found) => go_on(desks, alloc, queues, found, log_bytes, auto),
         Err((RecoverFault::Disk, disk)) => stop(desks, queues, disk, log_bytes, auto, text),
-        Err((RecoverFault::Damaged { file, place }, _)) => {
-            Err(RestartFault::Damaged { file, place })
+        Err((RecoverFault::Damaged { file, place }, disk)) => {
+            Err((RestartFault::Damaged { file, place }, disk))
         }
-        Err((RecoverFault::Version { file, byte }, _)) => {
-            Err(RestartFault::Version { file, byte })
+        Err((RecoverFault::Version { file, byte }, disk)) => {
+            Err((RestartFault::Version { file, byte }, disk))
         }
-        Err((RecoverFault::Memory(memory), _)) => Err(RestartFault::Memory(memory)),
+        Err((RecoverFault::Memory(memory), disk)) => Err((RestartFault::Memory(memory), disk)),
     }
 }
 
 /// Restarts a node: its log is recovered, and each queue takes up what was found of it. If the disk fails,
-/// the node stays stopped and says so. A node that is up stays as it is. After an error it is given up.
+/// the node stays stopped and says so. A node that is up stays as it is. An error hands the disk back, which may be
+/// recovered again (`whole`), and at each moment of the call whatever a crash leaves has each queue's audit, where
+/// the queues were stopped together (`given_up`).
 ///
-/// `Damaged` and `Version` come where the log's files break its rules, at the first place, `Lost` where a queue may not take up
-/// what was found of it, with that queue's name. `Spent` comes only where a number of a log file stands at
-/// its end. Where the disk tells its contents and is linked to the node, whose queues are stopped together,
-/// no error comes but that one and want of memory (`never`).
+/// `Damaged` and `Version` come where the log's files break its rules, at the first place, `Lost` where a queue
+/// may not take up what was found of it, with that queue's name. `Spent` comes only where a number of a log file
+/// stands at its end. Where the disk tells its contents and is linked to the node, whose queues are stopped
+/// together, no error comes but that one and want of memory (`never`).
 pub fn restart_node<D: NodeDisk>(
     node: Node<D>,
     alloc: Global,
     text: &mut Vec<u8>,
-) -> Result<Node<D>, RestartFault>
+) -> Result<Node<D>, (RestartFault, D)>
     requires { CanServe D.tells D.past node }
     ensures ok { IfOk result (λ next. Served D.tells D.past D.faults IsRestart node next
         text.old.items text.new.items) }
     ensures cause { (setup : Setup) (n : World) → IsReached setup n →
-        Stands D.tells D.past setup node n → IfErr result (IsRestartCaused setup n) }
+        Stands D.tells D.past setup node n → IfErr result (λ e. IsRestartCaused setup n e.0) }
     ensures never { (setup : Setup) (n : World) → IsReached setup n →
         Stands D.tells D.past setup node n → IsLinkedTo D.tells D.past setup n node →
-        (is_node_up setup n ≡ false → AreDown setup n) → IfErr result IsOfMemory }
+        (is_node_up setup n ≡ false → AreDown setup n) → IfErr result (λ e. IsOfMemory e.0) }
     ensures refused { IsTrue (D.tells (disk_in node.log)) →
-        IfErr result (IsRefusedBy (lanes_in D.past node)) }
+        IfErr result (λ e. IsRefusedBy (lanes_in D.past node) e.0) }
+    ensures whole { IfErr result (λ e. IsWhole D.tells D.past e.1) }
+    ensures given_up { (setup : Setup) (n : World) → IsReached setup n →
+        Stands D.tells D.past setup node n → (is_node_up setup n ≡ false → AreDown setup n) →
+        IfErr result (λ e. GivesUp setup n (seen D.tells D.past D.faults node)
+        (seen_of D.tells D.past D.faults e.1)) }
 {
     if node.is_up() {
         return Ok(node);

@@ -11,8 +11,8 @@ returns-in-Ok-clause-ok g c = λ setup n reached stands.
     has-served g.D.NodeDisk.tells g.D.NodeDisk.past setup n Restart c.in-Ok.next _ _ c.args.text.now.items
     c.restart_node.new.text.items stands.1 (c.in-Ok.ensures.ok setup n reached stands.0)
 
-pub returns-in-Err-clause-cause : goal.returns-in-Err-clause-cause
-returns-in-Err-clause-cause g c = λ setup n before after reached stands.
+pub returns-clause-cause : goal.returns-clause-cause
+returns-clause-cause g c = λ setup n before after reached stands.
     (let tells = g.D.NodeDisk.tells in
     let past = g.D.NodeDisk.past in
     let faults = g.D.NodeDisk.faults in

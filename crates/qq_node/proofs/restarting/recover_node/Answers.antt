@@ -2,9 +2,9 @@ use Rattle.std.proofs.Common.{◌∙◌, sym, subst}
 use Rattle.std.proofs.lemmas.Result.{IfErr-weaker, IfOk-weaker}
 use Rattle.qq_recover.specs.Recovered.{IsRecoverCaused}
 use Rattle.qq_node.specs.Found.{AreDistinct}
-use Rattle.qq_node.specs.Restarting.{lanes_in}
+use Rattle.qq_node.specs.Restarting.{HandsBack, lanes_in}
 use Rattle.qq_node.proofs.Carried.{apart-distinct}
-use Rattle.qq_node.proofs.TakenUp.{lanes-many, restart-caused, restarted, stopped, takes-never, takes-refused}
+use Rattle.qq_node.proofs.TakenUp.{found-back, lanes-many, refused-back, restart-caused, restarted, stopped, takes-never, takes-refused}
 use Rattle.qq_node.proofs.restarting.recover_node.Goals as goal
 
 pub recover_log-requires-clause-apart : goal.recover_log-requires-clause-apart
@@ -34,9 +34,9 @@ returns-in-Ok-clause-ok g c =
 
 pub returns-in-Ok-clause-cause : goal.returns-in-Ok-clause-cause
 returns-in-Ok-clause-cause g c = λ setup n r st.
-    IfErr-weaker c.go_on.result _ _ (λ fault cause.
+    IfErr-weaker c.go_on.result _ _ (λ e cause.
     restart-caused g.D.NodeDisk.tells g.D.NodeDisk.past g.D.NodeDisk.faults setup n c.args.node.desks
-    c.in-Ok.found.lanes.items fault (c.requires.down setup n st) st.desks cause) c.go_on.ensures.cause
+    c.in-Ok.found.lanes.items e.0 (c.requires.down setup n st) st.desks cause) c.go_on.ensures.cause
 
 pub returns-in-Err-Disk-default-clause-ok : goal.returns-in-Err-Disk-default-clause-ok
 returns-in-Err-Disk-default-clause-ok g c =
@@ -55,13 +55,52 @@ returns-in-Err-Disk-default-clause-ok g c =
 
 pub returns-in-Ok-clause-never : goal.returns-in-Ok-clause-never
 returns-in-Ok-clause-never g c = λ setup n r st linked down.
-    IfErr-weaker c.go_on.result _ _ (λ fault cause.
+    IfErr-weaker c.go_on.result _ _ (λ e cause.
     takes-never g.D.NodeDisk.tells g.D.NodeDisk.past g.D.NodeDisk.faults setup n c.args.node c.into_disk.result
-    c.in-Ok.found c.deref.result.now c.args.node.log_bytes fault c.into_disk.ensures c.deref.ensures.value r st linked
+    c.in-Ok.found c.deref.result.now c.args.node.log_bytes e.0 c.into_disk.ensures c.deref.ensures.value r st linked
     down c.in-Ok.ensures.ok cause) c.go_on.ensures.cause
 
 pub returns-in-Ok-clause-refused : goal.returns-in-Ok-clause-refused
 returns-in-Ok-clause-refused g c = λ tell.
-    IfErr-weaker c.go_on.result _ _ (λ fault cause.
-    takes-refused (lanes_in g.D.NodeDisk.past c.args.node) c.args.node.desks c.in-Ok.found.lanes.items fault cause)
+    IfErr-weaker c.go_on.result _ _ (λ e cause.
+    takes-refused (lanes_in g.D.NodeDisk.past c.args.node) c.args.node.desks c.in-Ok.found.lanes.items e.0 cause)
     c.go_on.ensures.cause
+
+pub returns-in-Ok-clause-back : goal.returns-in-Ok-clause-back
+returns-in-Ok-clause-back g c =
+    IfErr-weaker c.go_on.result _ _ (λ e same.
+    found-back g.D.NodeDisk.tells g.D.NodeDisk.past g.D.NodeDisk.faults c.args.node c.into_disk.result e.1
+    c.in-Ok.found c.deref.result.now c.args.node.log_bytes c.into_disk.ensures
+    (c.deref.ensures.value) c.requires.serve.3.whole (
+      c.in-Ok.ensures.ok,
+      (λ told. c.in-Ok.ensures.whole told),
+      c.in-Ok.ensures.told,
+      c.in-Ok.ensures.later,
+    ) same) c.go_on.ensures.disk
+
+pub returns-in-Err-Disk-default-clause-back : goal.returns-in-Err-Disk-default-clause-back
+returns-in-Err-Disk-default-clause-back g c =
+    let tells = g.D.NodeDisk.tells in
+    let past = g.D.NodeDisk.past in
+    let faults = g.D.NodeDisk.faults in
+    IfErr-weaker c.stop.result _ _ (λ e same.
+    subst (HandsBack tells past faults c.args.node) (sym same)
+    (refused-back tells past faults c.args.node c.into_disk.result c.in-Err-Disk-default.disk
+    c.in-Err-Disk-default.field-0-0 c.deref.result.now c.into_disk.ensures c.deref.ensures.value
+    c.requires.serve.3.whole (
+      (λ told. c.in-Err-Disk-default.ensures.fails told),
+      (λ told. c.in-Err-Disk-default.ensures.whole told),
+      c.in-Err-Disk-default.ensures.told,
+      c.in-Err-Disk-default.ensures.later,
+    ))) c.stop.ensures.disk
+
+pub returns-in-Err-Memory-default-clause-back : goal.returns-in-Err-Memory-default-clause-back
+returns-in-Err-Memory-default-clause-back g c =
+    refused-back g.D.NodeDisk.tells g.D.NodeDisk.past g.D.NodeDisk.faults c.args.node c.into_disk.result
+    c.in-Err-Memory-default.disk c.in-Err-Memory-default.field-0-0 c.deref.result.now c.into_disk.ensures
+    c.deref.ensures.value c.requires.serve.3.whole (
+      (λ told. c.in-Err-Memory-default.ensures.fails told),
+      (λ told. c.in-Err-Memory-default.ensures.whole told),
+      c.in-Err-Memory-default.ensures.told,
+      c.in-Err-Memory-default.ensures.later,
+    )
