@@ -1,5 +1,5 @@
 -- The member that leads is up, so its queue is there.
-use Rattle.std.proofs.Common.{◌≡◌, Bool, true, false, List, [], ◌∷◌, Option, Some, None, Bor, refl, sym, ap, ◌∙◌}
+use Rattle.std.proofs.Common.{◌≡◌, true, false, List, [], ◌∷◌, Option, Some, None, Bor, refl, ap}
 use Rattle.std.specs.Prelude.{⊤, is_none, is_some}
 use Rattle.std.specs.List.{fold}
 use Rattle.std.specs.Option.{option_copied}

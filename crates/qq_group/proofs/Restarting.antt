@@ -1,5 +1,5 @@
 -- What a restart makes of the states that a group stands for, and groups without servers.
-use Rattle.std.proofs.Common.{◌≡◌, ℕ, ◌≤◌, ◌&&◌, Bool, true, false, leb, List, [], length, take, Option, Some, None, refl, sym, ap, subst, ◌∙◌, arith, inl, inr}
+use Rattle.std.proofs.Common.{◌≡◌, ℕ, ◌≤◌, ◌&&◌, Bool, true, false, leb, List, length, take, Option, Some, None, refl, sym, ap, subst, ◌∙◌, arith, inl, inr}
 use Rattle.std.specs.Bool.{Decides}
 use Rattle.std.specs.Prelude.{slice_get}
 use Rattle.std.proofs.lemmas.Bool.{cond-true, false≢true, le-leb}
@@ -26,7 +26,6 @@ use Rattle.qq_group.specs.Follows.{OthersStay}
 use Rattle.qq_group.specs.Group.{IsSeat, IsSeatBy, IsServed, HasReturned, IsReturned, KnowsLog, Represents, server_at, server_by}
 use Rattle.qq_group.specs.Opening.{AreEmpty, IsAllDown, IsEmpty, IsFresh, IsOpened, OpensOver, Start, Starts}
 use Rattle.qq_group.specs.Restarts.{Finds, HasStarted, IsFound, IsIntactAt, IsLost, IsStarted, Restarts, disk_of, is_known, started_seat}
-use Rattle.qq_group.specs.Step.{ChangesSeat}
 use Rattle.qq_group.specs.declared.group.Group.{Group}
 use Rattle.qq_history.specs.declared.state.DiskState.{DiskState}
 use Rattle.qq_group.specs.declared.seat.Seat.{Seat}

@@ -1,12 +1,8 @@
 -- Members that restart.
-use Rattle.std.specs.Prelude.{◌≡◌, ◌+◌, ◌≤◌, ⊤, ℕ, Bool, true, false, List, [], length, take, All, Option, Some, None, slice_get}
-use Rattle.qq_base.specs.declared.ids.NodeId.{NodeId}
-use Rattle.qq_base.specs.declared.ids.QueueId.{QueueId}
+use Rattle.std.specs.Prelude.{◌≡◌, ◌≤◌, ⊤, ℕ, Bool, true, false, [], length, take, Option, Some, None, slice_get}
 use Rattle.qq_base.specs.declared.memory.Memory.TheVariants.{Want}
-use Rattle.qq_entry.specs.declared.command.Entry.{Entry}
 use Rattle.qq_log.specs.Log.{LogState}
-use Rattle.qq_log.specs.Stable.{new_state, stable}
-use Rattle.qq_log.specs.declared.limits.TheConstants.{NODE_LIMIT}
+use Rattle.qq_log.specs.Stable.{stable}
 use Rattle.qq_raft_step.specs.Handing.{plain_state}
 use Rattle.qq_server.specs.declared.server.Server.{Server}
 use Rattle.qq_group_model.specs.Group.{Group as GroupState, happens}

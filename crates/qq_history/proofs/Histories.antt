@@ -1,7 +1,7 @@
 -- What a log was handed, change by change.
-use Rattle.std.proofs.Common.{◌≡◌, ℕ, ◌+◌, ◌-◌, ◌<◌, ◌≤◌, Bool, true, false, cond, ◌&&◌, eqb, leb, List, [], ◌∷◌, ◌++◌, length, take, drop, map, get_or, take_all, Option, Some, None, refl, sym, ap, subst, ◌∙◌, length-append, arith}
+use Rattle.std.proofs.Common.{◌≡◌, ℕ, ◌+◌, ◌-◌, ◌<◌, ◌≤◌, Bool, true, false, cond, ◌&&◌, eqb, leb, List, [], ◌∷◌, ◌++◌, length, take, drop, map, get_or, Option, Some, None, refl, sym, ap, subst, ◌∙◌, length-append, arith}
 use Rattle.std.proofs.Math.Seq.{take-add}
-use Rattle.std.proofs.lemmas.Bool.{and_parts, and_from, cond-true, eq-eqb, eqb-true, le-leb, leb-true}
+use Rattle.std.proofs.lemmas.Bool.{and_parts, and_from, cond-true, le-leb}
 use Rattle.std.proofs.lemmas.Grind.{fold-append}
 use Rattle.std.proofs.lemmas.List.{drop-append-le, drop_all, length-map, length-take, map-append, take-append-le, take-map, take-take, take_more}
 use Rattle.std.specs.List.{fold}
@@ -193,17 +193,3 @@ history-new ops d h le is start none =
           none
           ∙ sym (drop_all h.start.op (take d.op ops) (omega (arith, count, le, at)));
     }
-
--- of a log without ops
-pub history-empty : (ops : List Op) (noticed : ℕ) (h : History) → length ops ≡ 0 → stable_of h.start ≡ new_state
-    → ops_of h ≡ [] → IsHistory ops noticed h
-history-empty [] noticed h count start none =
-    let at : h.start.op ≡ 0 = ap (λ (x : Stable). x.op) start in
-    record {
-      within = omega (arith, at);
-      begun = omega (arith, at);
-      start =
-          ap (λ (n : ℕ). stable (take n [])) at ∙ ap (λ (x : Stable). Some x) (sym start);
-      ops_are = none ∙ ap (λ (n : ℕ). drop n []) (sym at);
-    }
-history-empty (op ∷ ops) noticed h count start none = absurd cc

@@ -1,6 +1,6 @@
 use Rattle.std.proofs.Common.{◌≡◌, List, ap, arith, subst, ◌∙◌}
 use Rattle.qq_entry.specs.declared.command.Entry.{Entry}
-use Rattle.qq_group.specs.Opening.{IsOpened, Start, missing}
+use Rattle.qq_group.specs.Opening.{IsOpened, missing}
 use Rattle.qq_group.proofs.Restarting.{opened-fresh, opens-over}
 use Rattle.qq_group.proofs.group.Group.resume.Goals as goal
 

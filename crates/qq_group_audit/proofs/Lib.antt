@@ -1,0 +1,6 @@
+mod Applying
+mod EventLaws
+mod Events
+mod Refused
+mod Rows
+mod Servers
