@@ -1,2 +1,3 @@
-mod Ends
 mod Places
+pub mod Sums
+mod Changes

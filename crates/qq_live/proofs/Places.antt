@@ -1,14 +1,13 @@
--- Where an index stands among slots that rise, and what is live once it is gone.
-use Rattle.std.proofs.Common.{◌≡◌, ℕ, zero, suc, ◌<◌, ◌≤◌, ◌⊎◌, Bool, true, false, not, ◌&&◌, ◌||◌, List, [], ◌∷◌, length, map, get_or, refl, sym, ap, ◌∙◌, subst, inl, inr, arith}
-use Rattle.std.specs.Prelude.{nat_lt, filter}
+-- Where an index stands among slots that rise.
+use Rattle.std.proofs.Common.{◌≡◌, ℕ, zero, suc, ◌+◌, ◌<◌, ◌≤◌, ◌⊎◌, Bool, true, false, List, [], ◌∷◌, ◌++◌, Option, Some, None, length, take, drop, get_or, refl, sym, ap, ◌∙◌, subst, inl, inr, arith, if◌then◌else◌}
+use Rattle.std.specs.Prelude.{nat_lt, nat_eq, slice_get, slice_set, insert}
 use Rattle.std.specs.List.{AllByRecursion}
 use Rattle.std.specs.List.Sorted.{IsNonDecreasingBy}
-use Rattle.std.proofs.lemmas.Bool.{false≢true, cases_Bool, cond-true, cond-false, ltb-true, ltb-false, ne_eqb, or_left, or_from}
+use Rattle.std.proofs.lemmas.Bool.{cases_Bool, cond-true, cond-false, ltb-true, ltb-false, eqb-true, eqb-false}
 use Rattle.qq_base.specs.declared.ids.Index.{Index}
 use Rattle.qq_base.proofs.Lists.{AllByRecursion-weaker}
 use Rattle.qq_live.specs.declared.slot.Slot.{Slot}
-use Rattle.qq_live.specs.Indices.{Rises, same_index, is_live, without}
-use Rattle.qq_live.specs.Slots.{has_life, index_of, live_of, SlotsRise, place_of, is_at, gone_at}
+use Rattle.qq_live.specs.Slots.{SlotsRise, place_of, holders_by, holders_at}
 
 -- ---- a search's answer
 
@@ -45,162 +44,144 @@ rises-nondecreasing (slot ∷ slots) rising (suc i) zero d le within = absurd (o
 rises-nondecreasing (slot ∷ slots) rising (suc i) (suc j) d le within =
     rises-nondecreasing slots rising.1 i j d (omega arith) (omega arith)
 
--- ---- the live ones
+-- ---- its place
 
-pub live-first : (slot : Slot) (slots : List Slot) → slot.is_live ≡ true → live_of (slot ∷ slots) ≡ slot.index ∷ live_of slots
-live-first slot slots life = ap (map index_of) (cond-true slot.is_live (slot ∷ filter has_life slots) (filter has_life slots) life)
-
-pub live-gone : (slot : Slot) (slots : List Slot) → slot.is_live ≡ false → live_of (slot ∷ slots) ≡ live_of slots
-live-gone slot slots gone = ap (map index_of) (cond-false slot.is_live (slot ∷ filter has_life slots) (filter has_life slots) gone)
-
--- what holds of all slots holds of the live ones
-each-live : (P : Index → Type 0) (slots : List Slot) → AllByRecursion (λ (slot : Slot). P slot.index) slots
-    → AllByRecursion P (live_of slots)
-each-live P [] each = tt
-each-live P (slot ∷ slots) each = by (cases_Bool slot.is_live) (each-live P slots each.1)
+pub place-most : (index : Index) (slots : List Slot) → place_of index slots ≤ length slots
+place-most index [] = omega arith
+place-most index (slot ∷ slots) = by (nat_lt slot.index.0 index.0) (place-most index slots)
   where
-    by : (slot.is_live ≡ true) ⊎ (slot.is_live ≡ false) → AllByRecursion P (live_of slots)
-        → AllByRecursion P (live_of (slot ∷ slots))
-    by (inl life) rest = subst (AllByRecursion P) (sym (live-first slot slots life)) (each.0, rest)
-    by (inr gone) rest = subst (AllByRecursion P) (sym (live-gone slot slots gone)) rest
+    by : (b : Bool) → place_of index slots ≤ length slots
+        → (if b then suc (place_of index slots) else 0) ≤ suc (length slots)
+    by true rest = omega (arith, rest)
+    by false rest = omega arith
 
-pub live-rises : (slots : List Slot) → SlotsRise slots → Rises (live_of slots)
-live-rises [] rising = tt
-live-rises (slot ∷ slots) rising = by (cases_Bool slot.is_live) (live-rises slots rising.1)
+-- the slot that stands at a place where holders are told
+pub record IsThere (index : Index) (place holders : ℕ) (slots : List Slot) : Type 0 where
+  pub slot : Slot
+  pub at : slice_get slots place ≡ Some slot
+  pub own : slot.index.0 ≡ index.0
+  pub many : slot.holders ≡ holders
+  pub within : place < length slots
+
+pub is-there : (index : Index) (place holders : ℕ) (slots : List Slot) → holders_at index place slots ≡ Some holders
+    → IsThere index place holders slots
+is-there index place holders [] told = absurd cc
+is-there index zero holders (slot ∷ slots) told = by (cases_Bool (nat_eq slot.index.0 index.0))
   where
-    by : (slot.is_live ≡ true) ⊎ (slot.is_live ≡ false) → Rises (live_of slots) → Rises (live_of (slot ∷ slots))
-    by (inl life) rest =
-        subst Rises (sym (live-first slot slots life))
-        (each-live (λ (other : Index). slot.index.0 < other.0) slots rising.0, rest)
-    by (inr gone) rest = subst Rises (sym (live-gone slot slots gone)) rest
-
--- an index below all of them isn't among them
-none-above : (index : Index) (indices : List Index) → AllByRecursion (λ (one : Index). index.0 < one.0) indices
-    → is_live index indices ≡ false
-none-above index [] each = refl
-none-above index (one ∷ indices) each =
-    or_from (same_index index one) (is_live index indices)
-    (ne_eqb one.0 index.0 (λ e. absurd (omega (arith, each.0)))) (none-above index indices each.1)
-
-all-above : (index : Index) (indices : List Index) → AllByRecursion (λ (one : Index). index.0 < one.0) indices
-    → without index indices ≡ indices
-all-above index [] each = refl
-all-above index (one ∷ indices) each =
-    cond-true (not (same_index index one)) (one ∷ without index indices) (without index indices)
-    (ap not (ne_eqb one.0 index.0 (λ e. absurd (omega (arith, each.0)))))
-    ∙ ap (λ (ones : List Index). one ∷ ones) (all-above index indices each.1)
-
--- ---- a place
-
--- what is known of an index by the place where it would stand
-pub record IsPlaced (index : Index) (place : ℕ) (slots : List Slot) : Type 0 where
-  pub value : is_at index place slots ≡ is_live index (live_of slots)
-  pub ended : is_at index place slots ≡ true → live_of (gone_at place slots) ≡ without index (live_of slots)
-  pub stays : is_at index place slots ≡ false → without index (live_of slots) ≡ live_of slots
-
-pub placed : (index : Index) (slots : List Slot) → SlotsRise slots → IsPlaced index (place_of index slots) slots
-placed index [] rising = record {
-  value = refl;
-  ended = λ there. refl;
-  stays = λ none. refl;
-}
-placed index (slot ∷ slots) rising = by (cases_Bool (nat_lt slot.index.0 index.0)) (placed index slots rising.1)
-  where
-    -- one that has another index
-    skips : (slots' : List Slot) → same_index index slot.index ≡ false → (slot.is_live ≡ true) ⊎ (slot.is_live ≡ false)
-        → (is_live index (live_of (slot ∷ slots')) ≡ is_live index (live_of slots'))
-        × ((more : List Slot) → live_of more ≡ without index (live_of slots')
-        → live_of (slot ∷ more) ≡ without index (live_of (slot ∷ slots')))
-    skips slots' other (inl life) = (
-      ap (is_live index) (live-first slot slots' life)
-          ∙ ap (λ (b : Bool). b || is_live index (live_of slots')) other,
-      λ more same.
-          live-first slot more life ∙ ap (λ (ones : List Index). slot.index ∷ ones) same
-          ∙ sym (ap (without index) (live-first slot slots' life)
-          ∙ cond-true (not (same_index index slot.index)) (slot.index ∷ without index (live_of slots'))
-          (without index (live_of slots')) (ap not other)),
-    )
-    skips slots' other (inr gone) = (
-      ap (is_live index) (live-gone slot slots' gone),
-      λ more same. live-gone slot more gone ∙ same ∙ sym (ap (without index) (live-gone slot slots' gone)),
-    )
-
-    later : slot.index.0 < index.0 → IsPlaced index (place_of index slots) slots
-        → IsPlaced index (suc (place_of index slots)) (slot ∷ slots)
-    later less rest =
-        let other : same_index index slot.index ≡ false = ne_eqb slot.index.0 index.0 (λ e. absurd (omega arith)) in
-        let skip = skips slots other (cases_Bool slot.is_live) in
+    by : (nat_eq slot.index.0 index.0 ≡ true) ⊎ (nat_eq slot.index.0 index.0 ≡ false)
+        → IsThere index zero holders (slot ∷ slots)
+    by (inl own) =
+        let is : Some slot.holders ≡ Some holders =
+        sym (cond-true (nat_eq slot.index.0 index.0) (Some slot.holders) None own) ∙ told in
         record {
-          value = rest.value ∙ sym skip.0;
-          ended = λ there. skip.1 (gone_at (place_of index slots) slots) (rest.ended there);
-          stays = λ none. sym (skip.1 slots (sym (rest.stays none)));
+          slot = slot;
+          at = refl;
+          own = eqb-true slot.index.0 index.0 own;
+          many = cc;
+          within = omega arith;
         }
+    by (inr other) =
+        let is : None ≡ Some holders =
+        sym (cond-false (nat_eq slot.index.0 index.0) (Some slot.holders) None other) ∙ told in
+        absurd cc
+is-there index (suc place) holders (slot ∷ slots) told =
+    let rest = is-there index place holders slots told in
+    record {
+      slot = rest.slot;
+      at = rest.at;
+      own = rest.own;
+      many = rest.many;
+      within = let within = rest.within in omega (arith, within);
+    }
 
-    here : index.0 ≤ slot.index.0 → IsPlaced index zero (slot ∷ slots)
-    here le = at (cases_Bool (same_index index slot.index)) (cases_Bool slot.is_live)
+-- ---- what still rises
+
+all-set : (P : Slot → Type 0) (slots : List Slot) (place : ℕ) (new : Slot) → AllByRecursion P slots → P new
+    → AllByRecursion P (slice_set slots place new)
+all-set P [] place new each own = tt
+all-set P (slot ∷ slots) zero new each own = (own, each.1)
+all-set P (slot ∷ slots) (suc place) new each own = (each.0, all-set P slots place new each.1 own)
+
+all-get : (P : Slot → Type 0) (slots : List Slot) (place : ℕ) (slot : Slot) → AllByRecursion P slots
+    → slice_get slots place ≡ Some slot → P slot
+all-get P [] place slot each at = absurd cc
+all-get P (first ∷ slots) zero slot each at = let same : first ≡ slot = cc in subst P same each.0
+all-get P (first ∷ slots) (suc place) slot each at = all-get P slots place slot each.1 at
+
+-- a slot of the same index in the place of one
+pub rises-set : (slots : List Slot) (place : ℕ) (old new : Slot) → SlotsRise slots → slice_get slots place ≡ Some old
+    → old.index.0 ≡ new.index.0 → SlotsRise (slice_set slots place new)
+rises-set [] place old new rising at same = tt
+rises-set (slot ∷ slots) zero old new rising at same =
+    let is : slot ≡ old = cc in
+    let own : slot.index.0 ≡ new.index.0 = ap (λ (s : Slot). s.index.0) is ∙ same in (
+      subst (λ (n : ℕ). AllByRecursion (λ (other : Slot). n < other.index.0) slots) own rising.0,
+      rising.1,
+    )
+rises-set (slot ∷ slots) (suc place) old new rising at same = (
+  all-set (λ (other : Slot). slot.index.0 < other.index.0) slots place new rising.0
+      (subst (λ (n : ℕ). slot.index.0 < n) same
+      (all-get (λ (other : Slot). slot.index.0 < other.index.0) slots place old rising.0 at)),
+  rises-set slots place old new rising.1 at same,
+)
+
+all-insert : (P : Slot → Type 0) (slots : List Slot) (place : ℕ) (new : Slot) → AllByRecursion P slots → P new
+    → AllByRecursion P (insert slots place new)
+all-insert P [] zero new each own = (own, tt)
+all-insert P [] (suc place) new each own = (own, tt)
+all-insert P (slot ∷ slots) zero new each own = (own, each)
+all-insert P (slot ∷ slots) (suc place) new each own = (each.0, all-insert P slots place new each.1 own)
+
+-- a slot more, of an index that none has
+pub rises-insert : (index : Index) (slots : List Slot) (new : Slot) → SlotsRise slots → new.index.0 ≡ index.0
+    → holders_at index (place_of index slots) slots ≡ None → SlotsRise (insert slots (place_of index slots) new)
+rises-insert index [] new rising own none = (tt, tt)
+rises-insert index (slot ∷ slots) new rising own none =
+    by (cases_Bool (nat_lt slot.index.0 index.0)) (rises-insert index slots new rising.1 own)
+  where
+    at : (k : ℕ) → place_of index (slot ∷ slots) ≡ k → holders_at index k (slot ∷ slots) ≡ None
+    at k is = ap (λ (j : ℕ). holders_at index j (slot ∷ slots)) (sym is) ∙ none
+
+    here : index.0 ≤ slot.index.0 → holders_by index slot ≡ None → SlotsRise (new ∷ slot ∷ slots)
+    here le other =
+        let less : new.index.0 < slot.index.0 = beyond (cases_Bool (nat_eq slot.index.0 index.0)) in (
+          (
+            less,
+            AllByRecursion-weaker (λ (s : Slot). slot.index.0 < s.index.0) (λ (s : Slot). new.index.0 < s.index.0)
+                (λ s more. omega (arith, less, more)) slots rising.0,
+          ),
+          rising,
+        )
       where
-        beyond : AllByRecursion (λ (other : Index). index.0 < other.0) (live_of slots)
-        beyond =
-            each-live (λ (other : Index). index.0 < other.0) slots
-            (AllByRecursion-weaker (λ (other : Slot). slot.index.0 < other.index.0)
-            (λ (other : Slot). index.0 < other.index.0) (λ other less. omega arith) slots rising.0)
-
-        gone : Slot
-        gone = record slot { is_live = false }
-
-        at : (same_index index slot.index ≡ true) ⊎ (same_index index slot.index ≡ false)
-            → (slot.is_live ≡ true) ⊎ (slot.is_live ≡ false) → IsPlaced index zero (slot ∷ slots)
-        at (inl same) (inl life) = record {
-          value =
-              ap (λ (b : Bool). b && slot.is_live) same ∙ life
-              ∙ sym (ap (is_live index) (live-first slot slots life)
-              ∙ or_left (same_index index slot.index) (is_live index (live_of slots)) same);
-          ended =
-              λ there.
-              sym (ap (without index) (live-first slot slots life)
-              ∙ cond-false (not (same_index index slot.index)) (slot.index ∷ without index (live_of slots))
-              (without index (live_of slots)) (ap not same)
-              ∙ all-above index (live_of slots) beyond);
-          stays = λ none. absurd (false≢true (sym none ∙ ap (λ (b : Bool). b && slot.is_live) same ∙ life));
-        }
-        at (inl same) (inr dead) = record {
-          value =
-              ap (λ (b : Bool). b && slot.is_live) same ∙ dead
-              ∙ sym (ap (is_live index) (live-gone slot slots dead) ∙ none-above index (live_of slots) beyond);
-          ended =
-              λ there. absurd (false≢true (sym (ap (λ (b : Bool). b && slot.is_live) same ∙ dead) ∙ there));
-          stays =
-              λ none.
-              ap (without index) (live-gone slot slots dead) ∙ all-above index (live_of slots) beyond
-              ∙ sym (live-gone slot slots dead);
-        }
-        at (inr other) life =
-            let skip = skips slots other life in
-            record {
-              value =
-                  ap (λ (b : Bool). b && slot.is_live) other
-                  ∙ sym (skip.0 ∙ none-above index (live_of slots) beyond);
-              ended = λ there. absurd (false≢true (sym (ap (λ (b : Bool). b && slot.is_live) other) ∙ there));
-              stays = λ none. sym (skip.1 slots (sym (all-above index (live_of slots) beyond)));
-            }
+        beyond : (nat_eq slot.index.0 index.0 ≡ true) ⊎ (nat_eq slot.index.0 index.0 ≡ false)
+            → new.index.0 < slot.index.0
+        beyond (inl same) =
+            let is : Some slot.holders ≡ None =
+            sym (cond-true (nat_eq slot.index.0 index.0) (Some slot.holders) None same) ∙ other in
+            absurd cc
+        beyond (inr differs) = above (cases_Bool (nat_lt index.0 slot.index.0))
+          where
+            above : (nat_lt index.0 slot.index.0 ≡ true) ⊎ (nat_lt index.0 slot.index.0 ≡ false)
+                → new.index.0 < slot.index.0
+            above (inl less) = let l = ltb-true index.0 slot.index.0 less in omega (arith, own, l)
+            above (inr more) =
+                let m = ltb-false index.0 slot.index.0 more in
+                absurd (eqb-false slot.index.0 index.0 differs (omega (arith, le, m)))
 
     by : (nat_lt slot.index.0 index.0 ≡ true) ⊎ (nat_lt slot.index.0 index.0 ≡ false)
-        → IsPlaced index (place_of index slots) slots → IsPlaced index (place_of index (slot ∷ slots)) (slot ∷ slots)
+        → (holders_at index (place_of index slots) slots ≡ None → SlotsRise (insert slots (place_of index slots) new))
+        → SlotsRise (insert (slot ∷ slots) (place_of index (slot ∷ slots)) new)
     by (inl less) rest =
-        subst (λ n. IsPlaced index n (slot ∷ slots))
-        (sym (cond-true (nat_lt slot.index.0 index.0) (suc (place_of index slots)) 0 less))
-        (later (ltb-true slot.index.0 index.0 less) rest)
+        let is : place_of index (slot ∷ slots) ≡ suc (place_of index slots) =
+        cond-true (nat_lt slot.index.0 index.0) (suc (place_of index slots)) 0 less in
+        let lt : slot.index.0 < new.index.0 =
+        let l : slot.index.0 < index.0 = ltb-true slot.index.0 index.0 less in omega (arith, l, own) in
+        subst (λ (k : ℕ). SlotsRise (insert (slot ∷ slots) k new)) (sym is) (
+          all-insert (λ (other : Slot). slot.index.0 < other.index.0) slots (place_of index slots) new rising.0 lt,
+          rest (at (suc (place_of index slots)) is),
+        )
     by (inr more) rest =
-        subst (λ n. IsPlaced index n (slot ∷ slots))
-        (sym (cond-false (nat_lt slot.index.0 index.0) (suc (place_of index slots)) 0 more))
-        (here (ltb-false slot.index.0 index.0 more))
-
-pub at-within : (index : Index) (place : ℕ) (slots : List Slot) → is_at index place slots ≡ true → place < length slots
-at-within index place [] there = absurd (false≢true there)
-at-within index zero (slot ∷ slots) there = omega arith
-at-within index (suc place) (slot ∷ slots) there = let rest = at-within index place slots there in omega arith
-
--- an index at the place where a search found it
-pub at-own : (index : Index) (slots : List Slot) (place : ℕ) {b : Bool} → place ≡ place_of index slots
-    → is_at index place slots ≡ b → is_at index (place_of index slots) slots ≡ b
-at-own index slots place at is = ap (λ k. is_at index k slots) (sym at) ∙ is
+        let is : place_of index (slot ∷ slots) ≡ 0 =
+        cond-false (nat_lt slot.index.0 index.0) (suc (place_of index slots)) 0 more in
+        subst (λ (k : ℕ). SlotsRise (insert (slot ∷ slots) k new)) (sym is)
+        (here (ltb-false slot.index.0 index.0 more) (at 0 is))

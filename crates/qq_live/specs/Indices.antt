@@ -1,35 +1,39 @@
--- The indices of a queue's live messages.
-use Rattle.std.specs.Prelude.{ℕ, ◌<◌, Bool, not, List, [], ◌∷◌, Option, Some, None, nat_eq, filter}
-use Rattle.std.specs.List.{AllByRecursion, list_any}
+-- The indices that are held, each by so many holders.
+use Rattle.std.specs.Prelude.{◌≡◌, ℕ, ◌+◌, ◌-◌, ◌<◌, ◌≤◌, ◌^◌, Bool, List, [], ◌∷◌, Option, Some, None, nat_eq, nat_lt, count_by, length, if◌then◌else◌}
 use Rattle.qq_base.specs.declared.ids.Index.{Index}
 
--- these, for how many more there is memory, and how many slots these and some that are gone have
+-- these, each as often as it is held, for how many more slots there is memory, and how many slots there are
 pub record LiveState : Type 0 where
   pub indices : List Index
   pub room : ℕ
   pub slots : ℕ
 
--- each index is below those behind it
-abbrev pub Rises : List Index → Type 0
-Rises [] = Unit {0}
-Rises (index ∷ rest) = AllByRecursion (λ (other : Index). index.0 < other.0) rest × Rises rest
+abbrev pub is_index : ℕ → Index → Bool
+is_index i index = nat_eq index.0 i
 
--- all are below this one
-abbrev pub AreBelow : Index → List Index → Type 0
-AreBelow index indices = AllByRecursion (λ (one : Index). one.0 < index.0) indices
+-- how often an index is among these
+abbrev pub occurrences : ℕ → List Index → ℕ
+occurrences i indices = count_by (is_index i) indices
 
-abbrev pub same_index : Index → Index → Bool
-same_index index one = nat_eq one.0 index.0
+-- the lesser of an index and one that may be there
+abbrev pub lesser : ℕ → Option ℕ → Option ℕ
+lesser i None = Some i
+lesser i (Some low) = Some (if nat_lt low i then low else i)
 
--- whether an index is among these
-abbrev pub is_live : Index → List Index → Bool
-is_live index indices = list_any (same_index index) indices
+-- the least of these
+abbrev pub least : List Index → Option ℕ
+least [] = None
+least (index ∷ rest) = lesser index.0 (least rest)
 
--- the others
-abbrev pub without : Index → List Index → List Index
-without index indices = filter (λ (one : Index). not (same_index index one)) indices
+-- these are so many more
+abbrev pub Adds : List Index → List Index → List Index → Type 0
+Adds more old new = (i : ℕ) → occurrences i new ≡ occurrences i old + occurrences i more
 
--- of those that rise, the least
-abbrev pub first : List Index → Option Index
-first [] = None
-first (index ∷ rest) = Some index
+-- these are so many fewer, as far as they were there
+abbrev pub Removes : List Index → List Index → List Index → Type 0
+Removes gone old new = (i : ℕ) → occurrences i new ≡ occurrences i old - occurrences i gone
+
+-- there is memory for so many more, and their count fits 64 bits
+pub record HasRoomFor (n : ℕ) (live : LiveState) : Type 0 where
+  pub places : n ≤ live.room
+  pub count : length live.indices + n < 2 ^ 64

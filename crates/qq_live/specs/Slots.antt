@@ -1,46 +1,51 @@
--- Slots in memory: the indices of messages that arrived, live or gone.
-use Rattle.std.specs.Prelude.{◌≡◌, ℕ, zero, suc, ◌-◌, ◌*◌, ◌<◌, ◌≤◌, Bool, not, ◌&&◌, false, List, [], ◌∷◌, filter, map, length, nat_lt, slice_get, if◌then◌else◌}
+-- Slots in memory: the indices that are held, and some that aren't any more.
+use Rattle.std.specs.Prelude.{◌≡◌, ℕ, suc, ◌+◌, ◌*◌, ◌<◌, ◌≤◌, Bool, not, false, List, [], ◌∷◌, ◌++◌, Option, Some, None, length, nat_eq, nat_lt, count_by, slice_get, replicate, if◌then◌else◌}
 use Rattle.std.specs.List.{AllByRecursion}
 use Rattle.std.specs.Option.{option_map_or}
 use Rattle.qq_base.specs.declared.ids.Index.{Index}
-use Rattle.qq_live.specs.Indices.{same_index}
+use Rattle.qq_live.specs.Indices.{Adds, Removes}
 use Rattle.qq_live.specs.declared.slot.Slot.{Slot}
 
-abbrev pub has_life : Slot → Bool
-has_life slot = slot.is_live
+abbrev pub is_held : Slot → Bool
+is_held slot = nat_lt 0 slot.holders
 
-abbrev pub index_of : Slot → Index
-index_of slot = slot.index
+abbrev pub is_free : Slot → Bool
+is_free slot = not (is_held slot)
 
--- the indices of the live ones
-abbrev pub live_of : List Slot → List Index
-live_of slots = map index_of (filter has_life slots)
+-- the indices, each as often as it is held
+abbrev pub held_of : List Slot → List Index
+held_of [] = []
+held_of (slot ∷ rest) = replicate slot.holders slot.index ++ held_of rest
 
 abbrev pub SlotsRise : List Slot → Type 0
 SlotsRise [] = Unit {0}
 SlotsRise (slot ∷ rest) = AllByRecursion (λ (other : Slot). slot.index.0 < other.index.0) rest × SlotsRise rest
 
-abbrev pub is_gone_slot : Slot → Bool
-is_gone_slot slot = not slot.is_live
+-- whether the first is free
+abbrev pub is_front_free : List Slot → Bool
+is_front_free [] = false
+is_front_free (slot ∷ rest) = is_free slot
 
--- whether one that is gone stands at a place
-abbrev pub is_gone : ℕ → List Slot → Bool
-is_gone place slots = option_map_or is_gone_slot (slice_get slots place) false
+-- how many slots are held
+abbrev pub held_count : List Slot → ℕ
+held_count slots = count_by is_held slots
 
--- so many are live, the first and the last among them
-pub record HaveLiveEnds (count : ℕ) (slots : List Slot) : Type 0 where
+-- slots that rise, the first of which is held
+pub record AreFronted (slots : List Slot) : Type 0 where
   pub rising : SlotsRise slots
-  pub front : is_gone 0 slots ≡ false
-  pub back : is_gone (length slots - 1) slots ≡ false
-  pub long : length (live_of slots) ≡ count
+  pub front : is_front_free slots ≡ false
 
--- and at most half are gone
-abbrev pub AreSlots : ℕ → List Slot → Type 0
-AreSlots count slots = HaveLiveEnds count slots × (length slots ≤ 2 * count)
+-- so many slots are held, by so many holders in all, and at most half are free
+pub record AreSlots (count total : ℕ) (slots : List Slot) : Type 0 where
+  pub fronted : AreFronted slots
+  pub long : held_count slots ≡ count
+  pub sum : length (held_of slots) ≡ total
+  pub half : length slots ≤ 2 * count
 
--- some that were gone are left out
+-- some that were free are left out
 pub record Trims (old new : List Slot) : Type 0 where
-  pub live : live_of new ≡ live_of old
+  pub held : held_of new ≡ held_of old
+  pub count : held_count new ≡ held_count old
   pub rising : SlotsRise old → SlotsRise new
 
 -- the first place at which an index isn't below this one
@@ -48,15 +53,26 @@ abbrev pub place_of : Index → List Slot → ℕ
 place_of index [] = 0
 place_of index (slot ∷ rest) = if nat_lt slot.index.0 index.0 then suc (place_of index rest) else 0
 
-abbrev pub is_live_at : Index → Slot → Bool
-is_live_at index slot = same_index index slot.index && slot.is_live
+abbrev pub holders_by : Index → Slot → Option ℕ
+holders_by index slot = if nat_eq slot.index.0 index.0 then Some slot.holders else None
 
--- whether a live one of an index stands at a place
-abbrev pub is_at : Index → ℕ → List Slot → Bool
-is_at index place slots = option_map_or (is_live_at index) (slice_get slots place) false
+-- how many hold the slot at a place, None where it isn't of this index
+abbrev pub holders_at : Index → ℕ → List Slot → Option ℕ
+holders_at index place slots = option_map_or (holders_by index) (slice_get slots place) None
 
--- the one at a place is gone
-abbrev pub gone_at : ℕ → List Slot → List Slot
-gone_at place [] = []
-gone_at zero (slot ∷ rest) = record slot { is_live = false } ∷ rest
-gone_at (suc place) (slot ∷ rest) = slot ∷ gone_at place rest
+-- an index has a holder more; whether its slot was free
+pub record Gains (index : Index) (old new : List Slot) (fresh : Bool) : Type 0 where
+  pub fronted : AreFronted new
+  pub held : Adds (index ∷ []) (held_of old) (held_of new)
+  pub total : length (held_of new) ≡ length (held_of old) + 1
+  pub count : held_count new ≡ held_count old + (if fresh then 1 else 0)
+  pub longer : length new ≤ length old + (if fresh then 1 else 0)
+
+-- an index has a holder less; whether its slot is free now
+pub record Loses (index : Index) (old new : List Slot) (last : Bool) : Type 0 where
+  pub rising : SlotsRise new
+  pub held : Removes (index ∷ []) (held_of old) (held_of new)
+  pub total : length (held_of new) + 1 ≡ length (held_of old)
+  pub count : held_count new + (if last then 1 else 0) ≡ held_count old
+  pub front : last ≡ false → is_front_free new ≡ false
+  pub long : length new ≡ length old

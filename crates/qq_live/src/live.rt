@@ -1,42 +1,49 @@
-ghost use Rattle.std.specs.Prelude.{◌≡◌, ◌+◌, ◌*◌, ◌<◌, ◌≤◌, ◌++◌, ◌∷◌, [], length, slice_get, Some, IfOk, IsOkUnless, OnOk};
+ghost use Rattle.std.specs.Prelude.{◌≡◌, ℕ, ◌+◌, ◌*◌, ◌<◌, ◌≤◌, ◌^◌, ◌∷◌, [], nat_eq, nat_lt, length, slice_get, Some, IfOk, IsOkUnless, OnOk};
+ghost use Rattle.std.specs.Option.{option_map};
 ghost use Rattle.std.specs.VecDeque.{deque_len, deque_capacity};
-ghost use Rattle.qq_live.specs.Indices.{Rises, AreBelow, is_live, without, first};
-ghost use Rattle.qq_live.specs.Slots.{live_of, HaveLiveEnds, AreSlots};
+ghost use Rattle.qq_live.specs.Indices.{occurrences, least, Adds, Removes, HasRoomFor};
+ghost use Rattle.qq_live.specs.Slots.{held_of, held_count, SlotsRise, AreFronted, AreSlots};
 
-use crate::slot::{Slot, compact, copy_slots, end_at, is_at, place_of, trim_back, trim_front};
+use crate::slot::{
+    Slot, add_holder, compact, copy_slots, first_index, holders_at, place_of, remove_holder,
+    trim_front,
+};
 use qq_base::{Index, Memory};
 use std::alloc::Global;
 use std::collections::VecDeque;
 use std::marker::Model;
 
-/// The indices of a queue's live messages, in the order of arrival, in which they rise.
+/// The indices of a queue's live messages, each with how many hold it: a message that moves is held
+/// twice for a while, and so is one that an answer names.
 ///
-/// A message that is gone is found by binary search. Between live ones it keeps its slot of 16
-/// bytes until more than half of the slots are of messages that are gone; then all these leave. So
-/// there are at most twice as many slots as live messages.
+/// An index is found by binary search. Between others that are held it keeps its slot of 16 bytes when
+/// nobody holds it any more, until more than half of the slots are free; then all these leave. So there
+/// are at most twice as many slots as indices that are held.
 #[derive(Debug, Drop)]
 pub struct Live {
-    // The first and the last are live.
+    // By rising index. The first is held.
     slots: VecDeque<Slot>,
-    // How many are live.
+    // How many are held.
     count: usize,
+    // By how many in all.
+    total: u64,
 }
 
 impl Model for Live {
     ghost use Rattle.std.specs.Prelude.{◌-◌};
     ghost use Rattle.std.specs.VecDeque.{deque_len, deque_capacity};
     ghost use Rattle.qq_live.specs.Indices.{LiveState};
-    ghost use Rattle.qq_live.specs.Slots.{live_of, AreSlots};
+    ghost use Rattle.qq_live.specs.Slots.{held_of, AreSlots};
 
     ghost Value = { LiveState };
 
     ghost view = { λ l. record {
-      indices = live_of l.slots.items;
+      indices = held_of l.slots.items;
       room = deque_capacity l.slots - deque_len l.slots;
       slots = deque_len l.slots;
     } };
 
-    ghost invariant = { λ l. AreSlots l.count l.slots.items };
+    ghost invariant = { λ l. AreSlots l.count l.total l.slots.items };
 }
 
 fn index_at(indices: &[Index], place: usize) -> Index
@@ -47,12 +54,21 @@ fn index_at(indices: &[Index], place: usize) -> Index
     indices[place]
 }
 
-// Where more than half of the slots are of messages that are gone, these leave.
-fn fit(slots: &mut VecDeque<Slot>, count: usize)
-    requires { HaveLiveEnds count slots.old.items }
+fn is_zero(number: u64) -> bool
+    ensures { result ≡ nat_eq number 0 }
+{
+    number == 0
+}
 
-    ensures live { live_of slots.new.items ≡ live_of slots.old.items }
-    ensures slots { AreSlots count slots.new.items }
+// Where more than half of the slots are free, these leave.
+fn fit(slots: &mut VecDeque<Slot>, count: usize)
+    requires slots { AreFronted slots.old.items }
+    requires count { held_count slots.old.items ≡ count }
+
+    ensures held { held_of slots.new.items ≡ held_of slots.old.items }
+    ensures fronted { AreFronted slots.new.items }
+    ensures count { held_count slots.new.items ≡ count }
+    ensures half { length slots.new.items ≤ 2 * count }
     ensures len { deque_len slots.new ≤ deque_len slots.old }
     ensures capacity { deque_capacity slots.new ≡ deque_capacity slots.old }
 {
@@ -62,94 +78,124 @@ fn fit(slots: &mut VecDeque<Slot>, count: usize)
 }
 
 impl Live {
-    /// No messages. It takes no memory.
+    /// No indices. It takes no memory.
     pub fn new(alloc: Global) -> Self
         ensures { result.indices ≡ [] }
     {
         Live {
             slots: VecDeque::new(alloc),
             count: 0,
+            total: 0,
         }
     }
 
-    /// The messages of these indices, which rise.
-    pub fn from_parts(alloc: Global, indices: Vec<Index>) -> Result<Self, Memory>
-        requires { Rises indices.items }
-
-        ensures ok { IfOk result (λ live. live.indices ≡ indices.items) }
-        ensures want { IsOkUnless result Memory.Want }
-    {
-        let mut live = Live::new(alloc);
-        live.reserve(indices.len())?;
-        'indices: for place in 0..indices.len() {
-            live.push(index_at(indices.as_slice(), place));
-        }
-        Ok(live)
-    }
-
-    /// Makes room for `n` more.
+    /// Makes room for `n` more. `Memory::Want` comes too where their count would pass 64 bits.
     pub fn reserve(&mut self, n: usize) -> Result<(), Memory>
         ensures same { self.new.indices ≡ self.old.indices }
-        ensures ok { OnOk result (n ≤ self.new.room) }
-        ensures room { self.old.room ≤ self.new.room }
+        ensures ok { OnOk result (HasRoomFor n self.new) }
         ensures want { IsOkUnless result Memory.Want }
     {
+        let fits = (n as u64) < u64::MAX - self.total;
+        if !fits {
+            return Err(Memory::Want);
+        }
         self.slots.reserve(n)?;
         Ok(())
     }
 
-    /// A message arrives, whose index is above all others. There has to be room.
-    pub fn push(&mut self, index: Index)
-        requires room { 0 < self.old.room }
-        requires last { AreBelow index self.old.indices }
+    /// An index has a holder more. There has to be room. Where nobody held it, and it isn't above all
+    /// others, slots move.
+    pub fn add(&mut self, index: Index)
+        requires { HasRoomFor 1 self.old }
 
-        ensures indices { self.new.indices ≡ self.old.indices ++ index ∷ [] }
-        ensures room { self.new.room + 1 ≡ self.old.room }
+        ensures indices { Adds (index ∷ []) self.old.indices self.new.indices }
+        ensures len { length self.new.indices ≡ length self.old.indices + 1 }
+        ensures room { self.old.room ≤ self.new.room + 1 }
     {
-        self.slots.push_back_reserved(Slot {
-            index,
-            is_live: true,
-        });
-        self.count += 1;
+        if add_holder(&mut self.slots, index) {
+            self.count += 1;
+        }
+        self.total += 1;
     }
 
-    /// The message of an index is gone. False exactly where it isn't live; then nothing changes.
+    /// An index has a holder less. False exactly where it had none; then nothing changes.
     pub fn remove(&mut self, index: Index) -> bool
-        ensures value { result ≡ is_live index self.old.indices }
-        ensures indices { self.new.indices ≡ without index self.old.indices }
+        ensures value { result ≡ nat_lt 0 (occurrences index.0 self.old.indices) }
+        ensures indices { Removes (index ∷ []) self.old.indices self.new.indices }
+        ensures len { length self.new.indices ≤ length self.old.indices }
         ensures room { self.old.room ≤ self.new.room }
     {
         let place = place_of(index, &self.slots);
-        if !is_at(index, place, &self.slots) {
+        let holders = match holders_at(index, place, &self.slots) {
+            None => return false,
+            Some(holders) => holders,
+        };
+        if is_zero(holders) {
             return false;
         }
-        end_at(&mut self.slots, place);
-        self.count -= 1;
-        trim_front(&mut self.slots);
-        trim_back(&mut self.slots);
-        fit(&mut self.slots, self.count);
+        let last = remove_holder(&mut self.slots, index, place, holders);
+        self.total -= 1;
+        if last {
+            self.count -= 1;
+            trim_front(&mut self.slots);
+            fit(&mut self.slots, self.count);
+        }
         true
     }
 
-    /// The least index. None exactly where no message is live.
-    pub fn low(&self) -> Option<Index>
-        ensures rising { Rises self.now.indices }
-        ensures value { result ≡ first self.now.indices }
+    /// Each of these has a holder more, once for each time it stands there. There has to be room.
+    pub fn add_all(&mut self, indices: &[Index])
+        requires { HasRoomFor (length indices.now) self.old }
+
+        ensures indices { Adds indices.now self.old.indices self.new.indices }
+        ensures len { length self.new.indices
+            ≡ length self.old.indices + length indices.now }
+        ensures room { self.old.room ≤ self.new.room + length indices.now }
     {
-        match self.slots.get(0) {
-            None => None,
-            Some(slot) => Some(slot.index),
+        'indices: for place in 0..indices.len() {
+            self.add(index_at(indices, place));
         }
     }
 
-    /// How many messages are live.
-    pub fn len(&self) -> usize
-        ensures { result ≡ length self.now.indices }
+    /// Each of these has a holder less, as far as it has any, once for each time it stands there.
+    pub fn remove_all(&mut self, indices: &[Index])
+        ensures indices { Removes indices.now self.old.indices self.new.indices }
     {
-        self.count
+        'indices: for place in 0..indices.len() {
+            self.remove(index_at(indices, place));
+        }
     }
 
-    /// How many slots there are, of live messages and of some that are gone.
+    /// These indices, each held as often as it stands there. It sorts them, so that each is put behind
+    /// all others.
+    pub fn from_indices(alloc: Global, indices: Vec<Index>) -> Result<Self, Memory>
+        ensures ok { IfOk result (λ live. (i : ℕ) →
+            occurrences i live.indices ≡ occurrences i indices.items) }
+        ensures want { IsOkUnless result Memory.Want }
+    {
+        let mut indices = indices;
+        indices.sort_unstable_by_key(|index| index.0);
+        let mut live = Live::new(alloc);
+        live.reserve(indices.len())?;
+        live.add_all(indices.as_slice());
+        Ok(live)
+    }
+
+    /// The least index. None exactly where none is held.
+    pub fn low(&self) -> Option<Index>
+        ensures { option_map (λ index. index.0) result ≡ least self.now.indices }
+    {
+        first_index(&self.slots)
+    }
+
+    /// How many holders there are, of all indices.
+    pub fn len(&self) -> u64
+        ensures { result ≡ length self.now.indices }
+    {
+        self.total
+    }
+
+    /// How many slots there are, of indices that are held and of some that aren't any more.
     pub fn slots(&self) -> usize
         ensures value { result ≡ self.now.slots }
         ensures most { result ≤ 2 * length self.now.indices }
@@ -157,7 +203,7 @@ impl Live {
         self.slots.len()
     }
 
-    /// The same messages.
+    /// The same indices.
     pub fn copy(&self, alloc: Global) -> Result<Self, Memory>
         ensures ok { IfOk result (λ twin. twin.indices ≡ self.now.indices) }
         ensures want { IsOkUnless result Memory.Want }
@@ -165,6 +211,7 @@ impl Live {
         Ok(Live {
             slots: copy_slots(alloc, &self.slots)?,
             count: self.count,
+            total: self.total,
         })
     }
 }

@@ -3,13 +3,19 @@ use qq_live::Live;
 use std::alloc::Global;
 use std::test::Fail;
 
+fn hold(live: &mut Live, index: Index) -> Result<(), Memory> {
+    live.reserve(1)?;
+    live.add(index);
+    Ok(())
+}
+
 fn four(alloc: Global) -> Result<Live, Memory> {
-    let mut indices = Vec::new(alloc);
-    indices.push(Index(3))?;
-    indices.push(Index(5))?;
-    indices.push(Index(8))?;
-    indices.push(Index(9))?;
-    Live::from_parts(alloc, indices)
+    let mut live = Live::new(alloc);
+    hold(&mut live, Index(5))?;
+    hold(&mut live, Index(9))?;
+    hold(&mut live, Index(3))?;
+    hold(&mut live, Index(8))?;
+    Ok(live)
 }
 
 // The least index, 0 where there is none.
@@ -32,6 +38,18 @@ fn the_least_index_is_at_hand(rt: HostRuntime) -> Result<(), Fail> {
     assert!(rt; live.remove(Index(9)));
     assert!(rt; live.remove(Index(8)));
     assert_eq!(rt; low(&live), 0);
+    Ok(())
+}
+
+#[test]
+fn what_two_hold_stays_until_both_let_go(rt: HostRuntime) -> Result<(), Fail> {
+    let mut live = four(rt.alloc())?;
+    hold(&mut live, Index(3))?;
+    assert_eq!(rt; live.slots(), 4);
+    assert!(rt; live.remove(Index(3)));
+    assert_eq!(rt; low(&live), 3);
+    assert!(rt; live.remove(Index(3)));
+    assert_eq!(rt; low(&live), 5);
     Ok(())
 }
 

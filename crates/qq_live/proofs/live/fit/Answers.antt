@@ -1,13 +1,19 @@
-use Rattle.std.proofs.Common.{sym, ap, ◌∙◌, subst}
-use Rattle.qq_live.specs.Slots.{live_of, AreSlots}
-use Rattle.qq_live.proofs.Ends.{live-filter, slots-filter}
+use Rattle.qq_live.proofs.Changes.{IsFit, fits}
 use Rattle.qq_live.proofs.live.fit.Goals as goal
 
-pub returns-then-count-saturating_sub-clause-live : goal.returns-then-count-saturating_sub-clause-live
-returns-then-count-saturating_sub-clause-live c =
-    ap live_of c.compact.ensures.items ∙ live-filter c.args.slots.now.items
+fit : (c : goal.After-compact) → IsFit c.args.count c.args.slots.now.items c.compact.new.slots.items
+fit c =
+    fits c.args.count c.args.slots.now.items c.compact.new.slots.items c.requires.slots c.requires.count
+    c.compact.ensures.items
 
-pub returns-then-count-saturating_sub-clause-slots : goal.returns-then-count-saturating_sub-clause-slots
-returns-then-count-saturating_sub-clause-slots c =
-    subst (AreSlots c.args.count) (sym c.compact.ensures.items)
-    (slots-filter c.args.count c.args.slots.now.items c.requires)
+pub returns-then-count-saturating_sub-clause-held : goal.returns-then-count-saturating_sub-clause-held
+returns-then-count-saturating_sub-clause-held c = (fit c).held
+
+pub returns-then-count-saturating_sub-clause-fronted : goal.returns-then-count-saturating_sub-clause-fronted
+returns-then-count-saturating_sub-clause-fronted c = (fit c).fronted
+
+pub returns-then-count-saturating_sub-clause-count : goal.returns-then-count-saturating_sub-clause-count
+returns-then-count-saturating_sub-clause-count c = (fit c).own
+
+pub returns-then-count-saturating_sub-clause-half : goal.returns-then-count-saturating_sub-clause-half
+returns-then-count-saturating_sub-clause-half c = (fit c).half

@@ -1,7 +1,7 @@
 use Rattle.std.proofs.Common.{sym, ap, subst, arith}
 use Rattle.std.specs.Prelude.{length}
 use Rattle.qq_live.specs.Slots.{Trims}
-use Rattle.qq_live.proofs.Ends.{front-trims, front-short}
+use Rattle.qq_live.proofs.Changes.{front-trims, front-short}
 use Rattle.qq_live.proofs.slot.drop_front.Goals as goal
 
 pub returns-clause-trims : goal.returns-clause-trims

@@ -1,56 +1,58 @@
-use Rattle.std.proofs.Common.{◌≡◌, ◌-◌, List, sym, ap, ◌∙◌, subst, arith}
-use Rattle.qq_live.specs.declared.slot.Slot.{Slot}
-use Rattle.qq_live.specs.Indices.{LiveState, is_live, without}
-use Rattle.qq_live.proofs.Places.{placed, at-own, at-within}
-use Rattle.qq_live.proofs.Ends.{HasEnded, has-ended, put-ended}
+use Rattle.std.proofs.Common.{ap, sym, ◌∙◌, arith}
+use Rattle.qq_live.specs.Indices.{LiveState}
+use Rattle.qq_live.proofs.Sums.{count_at}
+use Rattle.qq_live.proofs.Changes.{holders-told, none-held, some-held, none-removed, above-zero}
+use Rattle.std.proofs.lemmas.Bool.{eqb-true}
 use Rattle.qq_live.proofs.live.Live.remove.Goals as goal
 
-pub returns-then-not-is_at-clause-value : goal.returns-then-not-is_at-clause-value
-returns-then-not-is_at-clause-value c =
-    let slots : List Slot = c.self.inside.slots.items in
-    sym (at-own c.args.index slots c.place_of-place.result c.place_of-place.ensures
-    (sym c.is_at.ensures ∙ c.if-not-is_at.true))
-    ∙ (placed c.args.index slots c.self.invariant.0.rising).value
-    ∙ ap (λ (l : LiveState). is_live c.args.index l.indices) c.self.view_is
+pub returns-in-None-clause-value : goal.returns-in-None-clause-value
+returns-in-None-clause-value c =
+    let told =
+    holders-told c.args.index c.place_of-place.result c.self.inside.slots.items c.args.self.now.indices
+    c.self.invariant.fronted.rising c.place_of-place.ensures (ap (λ (l : LiveState). l.indices) c.self.view_is)
+    ∙ ap count_at (sym c.holders_at.ensures) in
+    none-held c.args.index c.args.self.now.indices (told ∙ ap count_at c.in-None.is)
 
-pub returns-then-not-is_at-clause-indices : goal.returns-then-not-is_at-clause-indices
-returns-then-not-is_at-clause-indices c =
-    let slots : List Slot = c.self.inside.slots.items in
-    subst (λ (l : LiveState). l.indices ≡ without c.args.index l.indices) c.self.view_is
-    (sym ((placed c.args.index slots c.self.invariant.0.rising).stays
-    (at-own c.args.index slots c.place_of-place.result c.place_of-place.ensures
-    (sym c.is_at.ensures ∙ c.if-not-is_at.true))))
+pub returns-in-None-clause-indices : goal.returns-in-None-clause-indices
+returns-in-None-clause-indices c =
+    let told =
+    holders-told c.args.index c.place_of-place.result c.self.inside.slots.items c.args.self.now.indices
+    c.self.invariant.fronted.rising c.place_of-place.ensures (ap (λ (l : LiveState). l.indices) c.self.view_is)
+    ∙ ap count_at (sym c.holders_at.ensures) in
+    none-removed c.args.index c.args.self.now.indices (told ∙ ap count_at c.in-None.is)
 
-pub end_at-requires : goal.end_at-requires
-end_at-requires c =
-    at-within c.args.index c.place_of-place.result c.self.inside.slots.items
-    (sym c.is_at.ensures ∙ c.if-not-is_at.false)
+pub returns-then-is_zero-clause-value : goal.returns-then-is_zero-clause-value
+returns-then-is_zero-clause-value c =
+    let told =
+    holders-told c.args.index c.place_of-place.result c.self.inside.slots.items c.args.self.now.indices
+    c.self.invariant.fronted.rising c.place_of-place.ensures (ap (λ (l : LiveState). l.indices) c.self.view_is)
+    ∙ ap count_at (sym c.holders_at.ensures) in
+    none-held c.args.index c.args.self.now.indices
+    (told ∙ ap count_at c.in-Some.is ∙ eqb-true c.in-Some.holders 0 (sym c.is_zero.ensures ∙ c.if-is_zero.true))
 
-pub fit-requires : goal.fit-requires
-fit-requires c =
-    let ended : HasEnded c.args.index c.self.inside.count c.self.inside.slots.items c.trim_back.new.slots.items =
-    has-ended c.args.index c.place_of-place.result c.self.inside.count c.self.inside.slots.items
-    c.end_at.new.slots.items c.trim_front.new.slots.items c.trim_back.new.slots.items c.self.invariant.0
-    c.place_of-place.ensures (sym c.is_at.ensures ∙ c.if-not-is_at.false) c.end_at.ensures.items
-    c.trim_front.ensures.trims c.trim_back.ensures.trims in
-    put-ended c.args.index c.self.inside.count (c.self.inside.count - 1) c.self.inside.slots.items
-    c.trim_back.new.slots.items ended (let fewer = ended.fewer in omega (arith, fewer)) c.trim_back.ensures.front
-    c.trim_back.ensures.back
+pub returns-then-is_zero-clause-indices : goal.returns-then-is_zero-clause-indices
+returns-then-is_zero-clause-indices c =
+    let told =
+    holders-told c.args.index c.place_of-place.result c.self.inside.slots.items c.args.self.now.indices
+    c.self.invariant.fronted.rising c.place_of-place.ensures (ap (λ (l : LiveState). l.indices) c.self.view_is)
+    ∙ ap count_at (sym c.holders_at.ensures) in
+    none-removed c.args.index c.args.self.now.indices
+    (told ∙ ap count_at c.in-Some.is ∙ eqb-true c.in-Some.holders 0 (sym c.is_zero.ensures ∙ c.if-is_zero.true))
 
-pub returns-clause-value : goal.returns-clause-value
-returns-clause-value c =
-    let ended : HasEnded c.args.index c.self.inside.count c.self.inside.slots.items c.trim_back.new.slots.items =
-    has-ended c.args.index c.place_of-place.result c.self.inside.count c.self.inside.slots.items
-    c.end_at.new.slots.items c.trim_front.new.slots.items c.trim_back.new.slots.items c.self.invariant.0
-    c.place_of-place.ensures (sym c.is_at.ensures ∙ c.if-not-is_at.false) c.end_at.ensures.items
-    c.trim_front.ensures.trims c.trim_back.ensures.trims in
-    sym ended.value ∙ ap (λ (l : LiveState). is_live c.args.index l.indices) c.self.view_is
+pub returns-then-last-clause-value : goal.returns-then-last-clause-value
+returns-then-last-clause-value c =
+    let told =
+    holders-told c.args.index c.place_of-place.result c.self.inside.slots.items c.args.self.now.indices
+    c.self.invariant.fronted.rising c.place_of-place.ensures (ap (λ (l : LiveState). l.indices) c.self.view_is)
+    ∙ ap count_at (sym c.holders_at.ensures) in
+    some-held c.args.index c.args.self.now.indices c.in-Some.holders (told ∙ ap count_at c.in-Some.is)
+    (above-zero c.in-Some.holders (sym c.is_zero.ensures ∙ c.if-is_zero.false))
 
-pub returns-clause-indices : goal.returns-clause-indices
-returns-clause-indices c =
-    let ended : HasEnded c.args.index c.self.inside.count c.self.inside.slots.items c.trim_back.new.slots.items =
-    has-ended c.args.index c.place_of-place.result c.self.inside.count c.self.inside.slots.items
-    c.end_at.new.slots.items c.trim_front.new.slots.items c.trim_back.new.slots.items c.self.invariant.0
-    c.place_of-place.ensures (sym c.is_at.ensures ∙ c.if-not-is_at.false) c.end_at.ensures.items
-    c.trim_front.ensures.trims c.trim_back.ensures.trims in
-    c.fit.ensures.live ∙ ended.live ∙ ap (λ (l : LiveState). without c.args.index l.indices) c.self.view_is
+pub returns-else-last-clause-value : goal.returns-else-last-clause-value
+returns-else-last-clause-value c =
+    let told =
+    holders-told c.args.index c.place_of-place.result c.self.inside.slots.items c.args.self.now.indices
+    c.self.invariant.fronted.rising c.place_of-place.ensures (ap (λ (l : LiveState). l.indices) c.self.view_is)
+    ∙ ap count_at (sym c.holders_at.ensures) in
+    some-held c.args.index c.args.self.now.indices c.in-Some.holders (told ∙ ap count_at c.in-Some.is)
+    (above-zero c.in-Some.holders (sym c.is_zero.ensures ∙ c.if-is_zero.false))
