@@ -1,0 +1,4 @@
+pub mod Balance
+pub mod Low
+mod Parts
+mod Pushing

@@ -1,0 +1,19 @@
+use Rattle.std.proofs.Common.{◌≡◌, ℕ, ◌+◌, List, [], ◌∷◌, sym, ap, ◌∙◌, refl, subst}
+use Rattle.qq_base.specs.declared.ids.Index.{Index}
+use Rattle.qq_live.specs.Indices.{occurrences, Adds, Removes}
+use Rattle.qq_dead.specs.Letters.{Letters}
+use Rattle.qq_ledger.specs.Ledger.{DeadTracked, dead_indices, Balances}
+use Rattle.qq_ledger.proofs.Balance.{balance-same, balance-more, balance-less}
+use Rattle.qq_ledger.proofs.Parts.{dead-more, attach-same, give-same, settle-less, settle-none}
+use Rattle.qq_ledger.proofs.dead.TrackedDead.attach.Goals as goal
+
+pub invariant_of-self : goal.invariant_of-self
+invariant_of-self c =
+    balance-same (dead_indices c.self.inside.dead.base) (dead_indices c.attach.new.self.base)
+    (dead_indices c.self.inside.dead.letters) (dead_indices c.attach.new.self.letters)
+    c.self.inside.ledger.came.items c.self.inside.ledger.gone.items
+    c.self.inside.ledger.came.items c.self.inside.ledger.gone.items
+    c.self.invariant
+    (ap dead_indices c.attach.ensures.base)
+    (λ i. ap (λ (d : Letters). occurrences i (dead_indices d)) c.attach.ensures.letters ∙ attach-same c.args.term.0 c.self.inside.dead.letters i)
+    refl refl

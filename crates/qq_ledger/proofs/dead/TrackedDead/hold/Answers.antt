@@ -1,0 +1,18 @@
+use Rattle.std.proofs.Common.{◌≡◌, ℕ, ◌+◌, List, [], ◌∷◌, sym, ap, ◌∙◌, refl, subst}
+use Rattle.qq_base.specs.declared.ids.Index.{Index}
+use Rattle.qq_live.specs.Indices.{occurrences, Adds, Removes}
+use Rattle.qq_dead.specs.Letters.{Letters}
+use Rattle.qq_ledger.specs.Ledger.{DeadTracked, dead_indices, Balances}
+use Rattle.qq_ledger.proofs.Balance.{balance-same, balance-more, balance-less}
+use Rattle.qq_ledger.proofs.Parts.{dead-more, attach-same, give-same, settle-less, settle-none}
+use Rattle.qq_ledger.proofs.dead.TrackedDead.hold.Goals as goal
+
+pub returns-clause-indices : goal.returns-clause-indices
+returns-clause-indices c =
+    subst (λ (xs : List Index). Adds xs c.args.live.now.indices c.add_all.new.self.indices)
+    (c.as_slice.ensures.value ∙ ap (λ (t : DeadTracked). t.came) c.self.view_is) c.add_all.ensures.indices
+
+pub returns-clause-balance : goal.returns-clause-balance
+returns-clause-balance c =
+    subst (λ (t : DeadTracked). Balances (dead_indices t.base) (dead_indices t.letters) t.came t.gone) c.self.view_is
+    c.self.invariant

@@ -1,0 +1,21 @@
+use Rattle.std.proofs.Common.{◌≡◌, ℕ, ◌+◌, List, [], ◌∷◌, sym, ap, ◌∙◌, refl, subst}
+use Rattle.qq_base.specs.declared.ids.Index.{Index}
+use Rattle.qq_live.specs.Indices.{occurrences, Adds, Removes}
+use Rattle.qq_ready.specs.Queue.{Queue}
+use Rattle.qq_ledger.specs.Ledger.{ReadyTracked, ready_indices, Balances}
+use Rattle.qq_ledger.proofs.Balance.{balance-same, balance-more, balance-less}
+use Rattle.qq_ledger.proofs.Parts.{back-more, front-more, next-less, next-none, all-less}
+use Rattle.qq_ledger.proofs.ready.TrackedReady.clear.Goals as goal
+
+pub invariant_of-self-in-Ok : goal.invariant_of-self-in-Ok
+invariant_of-self-in-Ok c =
+    balance-less (ready_indices c.self.inside.ready.base) (ready_indices c.clear-2.new.self.base)
+    (ready_indices c.self.inside.ready.queue) (ready_indices c.clear-2.new.self.queue)
+    c.self.inside.ledger.came.items c.self.inside.ledger.gone.items
+    c.self.inside.ledger.came.items c.push_ready.new.indices.items
+    (ready_indices c.self.inside.ready.queue) c.self.invariant
+    (ap ready_indices c.clear-2.ensures.base)
+    (λ i. all-less c.self.inside.ready.queue i
+    ∙ ap (λ (q : Queue). occurrences i (ready_indices q) + occurrences i (ready_indices c.self.inside.ready.queue))
+    (sym c.in-Ok.ensures.queue))
+    refl c.in_default.ensures.ok
