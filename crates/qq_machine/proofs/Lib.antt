@@ -8,6 +8,7 @@ mod Changing
 mod Whole
 mod Finishing
 mod Leaving
+mod Lows
 mod Gating
 mod Committing
 mod Reading

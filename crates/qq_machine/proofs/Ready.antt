@@ -15,7 +15,8 @@ use Rattle.qq_parts.specs.Parts.{Parts, outs, items_of}
 use Rattle.qq_parts.specs.Reads.{ready_items, size_of}
 use Rattle.qq_parts.specs.Changes.{take_first, push_back, arrive}
 use Rattle.qq_ready.specs.declared.row.KeyedRow.{KeyedRow}
-use Rattle.qq_ready.specs.Queue.{ReadyState, in_order, head, without_next, queue_of, bytes_of}
+use Rattle.qq_ledger.specs.Ledger.{ReadyTracked}
+use Rattle.qq_ready.specs.Queue.{in_order, head, without_next, queue_of, bytes_of}
 use Rattle.qq_ready.specs.Queue.{Queue as Keyed}
 use Rattle.qq_consumer.specs.Roster.{item_at}
 use Rattle.qq_machine.specs.declared.queue.Queue.{Queue}
@@ -56,7 +57,7 @@ none-by [] [] orders returns is = (refl, λ m. refl)
 none-by [] (one ∷ backs) orders returns is = absurd cc
 none-by (one ∷ fronts) backs orders returns is = absurd cc
 
-pub first-is : (o : Option ReadyRow) (old : Queue) (ready : ReadyState)
+pub first-is : (o : Option ReadyRow) (old : Queue) (ready : ReadyTracked)
     → o ≡ option_map row_in (head (in_order old.ready.queue)) → ready.queue ≡ without_next old.ready.queue
     → IfSome o (λ row. IsFirst row old (record old { ready = ready }))
 first-is None old ready is left = tt
@@ -74,7 +75,7 @@ none-first None old is =
     let q : Keyed = old.ready.queue in
     λ args. (none-by q.fronts q.backs q.orders q.returns (sym is)).1 (parts_of args old)
 
-pub none-still : (o : Option ReadyRow) (old : Queue) (ready : ReadyState)
+pub none-still : (o : Option ReadyRow) (old : Queue) (ready : ReadyTracked)
     → o ≡ option_map row_in (head (in_order old.ready.queue)) → ready.queue ≡ without_next old.ready.queue
     → IfNone o ((args : QueueArgs) → parts_of args (record old { ready = ready }) ≡ parts_of args old)
 none-still (Some row) old ready is left = tt

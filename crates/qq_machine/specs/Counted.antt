@@ -1,7 +1,10 @@
--- How much is out with all consumers.
-use Rattle.std.specs.Prelude.{◌≡◌, ℕ, List, length}
+-- How much is out with all consumers, and what came and left since the last commit.
+use Rattle.std.specs.Prelude.{◌≡◌, ℕ, List, [], Option, Some, None, map, length}
 use Rattle.qq_parts.specs.Parts.{Served, outs}
+use Rattle.qq_base.specs.declared.ids.Index.{Index}
+use Rattle.qq_consumer.specs.declared.row.ConsumerRow.{ConsumerRow}
 use Rattle.qq_consumer.specs.Roster.{Roster, ConsumersState}
+use Rattle.qq_ledger.specs.Ledger.{numbered_index, out_indices, Balances}
 use Rattle.qq_consumer.specs.declared.fault.CreditFault.{CreditFault}
 use Rattle.qq_consumer.specs.declared.fault.CreditFault.TheVariants.{Refused, Memory}
 
@@ -17,3 +20,19 @@ pub record AreCounted (consumers : ConsumersState) (out base : ℕ) : Type 0 whe
 abbrev pub StaysIfRefused : CreditFault → Roster → Roster → Type 0
 StaysIfRefused (Refused cause) old new = new ≡ old
 StaysIfRefused Memory old new = Unit {0}
+
+-- the consumers, and those at the last commit, with the indices of what came and left between
+pub record RosterTracked : Type 0 where
+  pub roster : Roster
+  pub base : Roster
+  pub came : List Index
+  pub gone : List Index
+
+pub record IsTracked (consumers : ConsumersState) (out base : ℕ) (came gone : List Index) : Type 0 where
+  pub counted : AreCounted consumers out base
+  pub balance : Balances (out_indices consumers.base.served) (out_indices consumers.roster.served) came gone
+
+-- the indices of what was out with a consumer that left
+abbrev pub ended_indices : Option ConsumerRow → List Index
+ended_indices None = []
+ended_indices (Some row) = map numbered_index row.out.items

@@ -226,8 +226,8 @@ impl Draft {
             (take_given number (parts_of args.now self.old.queue))
             (record { work = work_of args.now self.old; count = count })
             ≡ record { work = work_of args.now self.new; count = after }) }
-        ensures attached { self.new.queue.dead.letters.attached
-            ≡ self.old.queue.dead.letters.attached }
+        ensures attached { OnOk result (self.new.queue.dead.letters.attached
+            ≡ self.old.queue.dead.letters.attached) }
         ensures base { KeepsBase self.old.queue self.new.queue }
         ensures want { IsOkUnless result Memory.Want }
     {

@@ -1,4 +1,4 @@
-ghost use Rattle.std.specs.Prelude.{◌≡◌, ◌+◌, ◌-◌, ◌<◌, ◌^◌, true, length, slice_get, is_some, IfOk, IfErr, IsOkUnless, OnOk, None};
+ghost use Rattle.std.specs.Prelude.{◌≡◌, ◌+◌, ◌-◌, ◌<◌, ◌≤◌, ◌^◌, ◌++◌, [], true, length, slice_get, is_some, IfOk, IfErr, IsOkUnless, OnOk, None};
 ghost use Rattle.std.specs.Option.{option_copied, option_map, option_map_or};
 ghost use Rattle.std.specs.List.{AllByRecursion};
 ghost use Rattle.qq_model.specs.declared.place.Place.{Place};
@@ -7,36 +7,47 @@ ghost use Rattle.qq_service.specs.Next.{next};
 ghost use Rattle.std.specs.Prelude.{false, map};
 ghost use Rattle.qq_consumer.specs.Roster.{served_of, item_at, one_of, standing_one, no_consumers, join, subscribe_refusal, IsRefusal, check_out, next_id_at, CanCount, CanDrain, HoldsAt, give_credit, credit_fault, IsCreditFault, drain, link_credit_at, cancel, is_current_at, end, first_of, take_out, taken_rows};
 ghost use Rattle.qq_consumer.specs.Turns.{waiting_turn};
-ghost use Rattle.qq_machine.specs.Counted.{StaysIfRefused};
+ghost use Rattle.qq_live.specs.Indices.{Adds, Removes, HasRoomFor};
+ghost use Rattle.qq_ledger.specs.Ledger.{message_index, out_indices, Balances};
+ghost use Rattle.qq_machine.specs.Counted.{StaysIfRefused, ended_indices};
 
 use crate::commands::add;
 use crate::queue::next_number;
-use qq_base::{ConsumerId, Memory, SessionId};
+use qq_base::{ConsumerId, Index, Memory, SessionId};
 use qq_consumer::{ConsumerRow, Consumers, CreditFault, SubscribeFault};
 use qq_entry::{Mode, ReadyRow};
+use qq_ledger::{Ledger, push_all, push_out};
+use qq_live::Live;
 use std::alloc::Global;
 use std::collections::VecDeque;
 use std::marker::Model;
 
-/// The consumers of a queue, and how many messages are out with all of them.
+/// The consumers of a queue, how many messages are out with all of them, and a ledger of which came and
+/// left since the last commit.
 ///
-/// Contracts see the consumers alone. After an error they may be as they were at the last commit.
+/// After an error they may be as they were at the last commit.
 #[derive(Debug, Drop)]
 pub struct Counted {
     consumers: Consumers,
     out: u64,
     base_out: u64,
+    ledger: Ledger,
 }
 
 impl Model for Counted {
-    ghost use Rattle.qq_consumer.specs.Roster.{ConsumersState};
-    ghost use Rattle.qq_machine.specs.Counted.{AreCounted};
+    ghost use Rattle.qq_machine.specs.Counted.{RosterTracked, IsTracked};
 
-    ghost Value = { ConsumersState };
+    ghost Value = { RosterTracked };
 
-    ghost view = { λ c. c.consumers };
+    ghost view = { λ c. record {
+      roster = c.consumers.roster;
+      base = c.consumers.base;
+      came = c.ledger.came.items;
+      gone = c.ledger.gone.items;
+    } };
 
-    ghost invariant = { λ c. AreCounted c.consumers c.out c.base_out };
+    ghost invariant = { λ c. IsTracked c.consumers c.out c.base_out
+        c.ledger.came.items c.ledger.gone.items };
 }
 
 fn out_at(consumers: &Consumers, place: usize) -> u64
@@ -82,6 +93,30 @@ fn left_without(out: u64, taken: &Option<VecDeque<ReadyRow>>) -> u64
     }
 }
 
+// The indices of what was out with a consumer that has left, put behind others.
+fn push_ended(ended: &Option<ConsumerRow>, indices: &mut Vec<Index>) -> Result<(), Memory>
+    ensures ok { OnOk result (indices.new.items
+        ≡ indices.old.items ++ ended_indices ended.now) }
+    ensures want { IsOkUnless result Memory.Want }
+{
+    match ended {
+        None => Ok(()),
+        Some(row) => push_out(&row.out, indices),
+    }
+}
+
+// Those of what was taken out, put behind others.
+fn push_taken(taken: &Option<VecDeque<ReadyRow>>, indices: &mut Vec<Index>) -> Result<(), Memory>
+    ensures ok { OnOk result (indices.new.items ≡ indices.old.items
+        ++ option_map_or (λ rows. map message_index rows.items) taken.now []) }
+    ensures want { IsOkUnless result Memory.Want }
+{
+    match taken {
+        None => Ok(()),
+        Some(rows) => push_all(rows, indices),
+    }
+}
+
 impl Counted {
     /// No consumers. It takes no memory.
     pub fn new(alloc: Global) -> Self
@@ -92,11 +127,12 @@ impl Counted {
             consumers: Consumers::new(alloc),
             out: 0,
             base_out: 0,
+            ledger: Ledger::new(alloc),
         }
     }
 
     /// These consumers, as they are. It goes through all of them.
-    pub fn from_consumers(consumers: Consumers) -> Result<Self, Memory>
+    pub fn from_consumers(alloc: Global, consumers: Consumers) -> Result<Self, Memory>
         ensures roster { IfOk result (λ counted. counted.roster ≡ consumers.roster) }
         ensures want { IsOkUnless result Memory.Want }
     {
@@ -107,12 +143,13 @@ impl Counted {
             consumers,
             out,
             base_out: out,
+            ledger: Ledger::new(alloc),
         })
     }
 
     /// The consumers.
     pub fn table(&self) -> &Consumers
-        ensures { result.now ≡ self.now }
+        ensures { result.now.roster ≡ self.now.roster }
     {
         &self.consumers
     }
@@ -163,6 +200,7 @@ impl Counted {
     {
         self.consumers.commit();
         self.base_out = self.out;
+        self.ledger.clear();
     }
 
     /// The consumers are as they were at the last commit. It takes no memory.
@@ -172,6 +210,7 @@ impl Counted {
     {
         self.consumers.undo();
         self.out = self.base_out;
+        self.ledger.clear();
     }
 
     /// A consumer joins at the end, and draws a turn. `greatest` is the greatest tag that its session
@@ -196,6 +235,7 @@ impl Counted {
             Err(fault) => {
                 self.consumers.undo();
                 self.out = self.base_out;
+                self.ledger.clear();
                 Err(fault)
             }
         }
@@ -215,6 +255,12 @@ impl Counted {
         ensures want { IsOkUnless result Memory.Want }
     {
         let out = next_number(self.out)?;
+        if let Err(cause) = self.ledger.take_in(row.index) {
+            self.consumers.undo();
+            self.out = self.base_out;
+            self.ledger.clear();
+            return Err(cause);
+        }
         match self.consumers.check_out(id, row) {
             Ok(number) => {
                 self.out = out;
@@ -223,6 +269,7 @@ impl Counted {
             Err(cause) => {
                 self.consumers.undo();
                 self.out = self.base_out;
+                self.ledger.clear();
                 Err(cause)
             }
         }
@@ -248,6 +295,7 @@ impl Counted {
             Err(CreditFault::Memory) => {
                 self.consumers.undo();
                 self.out = self.base_out;
+                self.ledger.clear();
                 Err(CreditFault::Memory)
             }
         }
@@ -267,6 +315,7 @@ impl Counted {
             Err(cause) => {
                 self.consumers.undo();
                 self.out = self.base_out;
+                self.ledger.clear();
                 Err(cause)
             }
         }
@@ -285,6 +334,7 @@ impl Counted {
             Err(cause) => {
                 self.consumers.undo();
                 self.out = self.base_out;
+                self.ledger.clear();
                 Err(cause)
             }
         }
@@ -302,12 +352,19 @@ impl Counted {
         self.consumers.len();
         match self.consumers.end(alloc, session) {
             Ok(ended) => {
+                if let Err(cause) = push_ended(&ended, &mut self.ledger.gone) {
+                    self.consumers.undo();
+                    self.out = self.base_out;
+                    self.ledger.clear();
+                    return Err(cause);
+                }
                 self.out = left_by(self.out, &ended);
                 Ok(ended)
             }
             Err(cause) => {
                 self.consumers.undo();
                 self.out = self.base_out;
+                self.ledger.clear();
                 Err(cause)
             }
         }
@@ -332,15 +389,50 @@ impl Counted {
         self.consumers.len();
         match self.consumers.take_out(alloc, id, ids) {
             Ok(taken) => {
+                if let Err(cause) = push_taken(&taken, &mut self.ledger.gone) {
+                    self.consumers.undo();
+                    self.out = self.base_out;
+                    self.ledger.clear();
+                    return Err(cause);
+                }
                 self.out = left_without(self.out, &taken);
                 Ok(taken)
             }
             Err(cause) => {
                 self.consumers.undo();
                 self.out = self.base_out;
+                self.ledger.clear();
                 Err(cause)
             }
         }
+    }
+
+    /// How many messages came since the last commit.
+    pub fn came(&self) -> usize
+        ensures { result ≡ length self.now.came }
+    {
+        self.ledger.came.len()
+    }
+
+    /// Each message that came since the last commit is held. There has to be room.
+    pub fn hold(&self, live: &mut Live)
+        requires { HasRoomFor (length self.now.came) live.old }
+
+        ensures indices { Adds self.now.came live.old.indices live.new.indices }
+        ensures len { length live.new.indices
+            ≡ length live.old.indices + length self.now.came }
+        ensures room { live.old.room ≤ live.new.room + length self.now.came }
+        ensures balance { Balances (out_indices self.now.base.served)
+            (out_indices self.now.roster.served) self.now.came self.now.gone }
+    {
+        live.add_all(self.ledger.came.as_slice());
+    }
+
+    /// Each message that left since the last commit is let go.
+    pub fn release(&self, live: &mut Live)
+        ensures indices { Removes self.now.gone live.old.indices live.new.indices }
+    {
+        live.remove_all(self.ledger.gone.as_slice());
     }
 
     /// The same consumers, with copies of what is out, committed.
@@ -353,6 +445,7 @@ impl Counted {
             consumers: self.consumers.copy(alloc)?,
             out: self.out,
             base_out: self.out,
+            ledger: Ledger::new(alloc),
         })
     }
 }

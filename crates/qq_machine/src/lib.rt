@@ -8,6 +8,7 @@ mod down;
 mod ends;
 mod finish;
 mod gated;
+mod least;
 mod machine;
 mod moves;
 mod pending;

@@ -1,4 +1,4 @@
-ghost use Rattle.std.specs.Prelude.{◌≡◌, ◌+◌, ◌-◌, ◌^◌, [], min, false, length, count_by, IsTrue, IfOk, IfErr, IsOkUnless, OnOk, OnErr};
+ghost use Rattle.std.specs.Prelude.{◌≡◌, ◌+◌, ◌-◌, ◌<◌, ◌^◌, [], min, false, length, count_by, IsTrue, IfOk, IfErr, IsOkUnless, OnOk, OnErr};
 ghost use Rattle.qq_base.specs.Causes.{SpentOnlyWhere};
 ghost use Rattle.qq_base.specs.declared.memory.TheConstants.{NUMBER_END};
 ghost use Rattle.qq_ends.specs.Far.{IsReached};
@@ -10,18 +10,22 @@ ghost use Rattle.qq_entry.specs.declared.queue.QueueArgs.{QueueArgs};
 ghost use Rattle.qq_parts.specs.Parts.{Stands, IsWhole};
 ghost use Rattle.qq_parts_step.specs.Step.{new_parts, parts_step, StepsFor};
 ghost use Rattle.qq_machine.specs.Views.{parts_of, parts_in, content_of, base_of, IsCommitted};
+ghost use Rattle.qq_ledger.specs.Low.{low, parts_low};
 ghost use Rattle.qq_machine.specs.Reads.{is_current, fetched};
 ghost use Rattle.qq_parts.specs.Reads.{ready_items};
 ghost use Rattle.qq_consumer.specs.Roster.{one_of};
 
 use crate::counted::Counted;
 use crate::gated::Gated;
+use crate::least::least_index;
 use crate::queue::{Draft, Queue, Saved};
 use crate::reads::{current_count, to_u32};
 use qq_base::{ConsumerId, Duplicate, Index, Memory};
 use qq_consumer::Consumers;
 use qq_dead::Dead;
 use qq_entry::{Answer, Delivery, Effect, Entry, QueueArgs};
+use qq_ledger::{TrackedDead, TrackedReady};
+use qq_live::Live;
 use qq_ready::Ready;
 use qq_sessions::Sessions;
 use std::alloc::Global;
@@ -35,18 +39,29 @@ use std::mem;
 pub struct Machine {
     args: QueueArgs,
     draft: Draft,
+    // The indices of the messages of the queue as it was at the last commit.
+    live: Live,
 }
 
 impl Model for Machine {
     ghost use Rattle.std.specs.Prelude.{◌≡◌, []};
     ghost use Rattle.qq_parts.specs.Parts.{Parts};
-    ghost use Rattle.qq_machine.specs.Views.{parts_of, IsCommitted};
+    ghost use Rattle.qq_machine.specs.Views.{parts_of, content_of, IsCommitted};
+    ghost use Rattle.qq_machine.specs.Least.{HoldsAll};
 
     ghost Value = { Parts };
 
     ghost view = { λ m. parts_of m.args m.draft.queue };
 
-    ghost invariant = { λ m. IsCommitted m.draft.queue × (m.draft.effects.items ≡ []) };
+    ghost invariant = { λ m. IsCommitted m.draft.queue × (m.draft.effects.items ≡ [])
+        × HoldsAll m.live.indices (content_of m.draft.queue) };
+}
+
+fn copy_live(alloc: Global, live: &Live) -> Result<Live, Memory>
+    ensures ok { IfOk result (λ twin. twin.indices ≡ live.now.indices) }
+    ensures want { IsOkUnless result Memory.Want }
+{
+    live.copy(alloc)
 }
 
 impl Queue {
@@ -62,9 +77,9 @@ impl Queue {
                 arrivals: 0,
             },
             sessions: Gated::new(alloc),
-            ready: Ready::new(alloc),
+            ready: TrackedReady::new(alloc),
             consumers: Counted::new(alloc),
-            dead: Dead::new(alloc),
+            dead: TrackedDead::new(alloc),
         }
     }
 
@@ -160,6 +175,7 @@ impl Machine {
         Machine {
             args,
             draft: Draft { queue, effects },
+            live: Live::new(alloc),
         }
     }
 
@@ -215,15 +231,19 @@ impl Machine {
                 arrivals: 0,
             },
             sessions: Gated::from_sessions(sessions),
-            ready,
-            consumers: Counted::from_consumers(consumers)?,
-            dead,
+            ready: TrackedReady::from_ready(alloc, ready),
+            consumers: Counted::from_consumers(alloc, consumers)?,
+            dead: TrackedDead::from_dead(alloc, dead),
         };
         queue.commit();
+        let Ok(live) = queue.live_messages(alloc) else {
+            return Err(Memory::Want);
+        };
         let effects = Vec::new(alloc);
         Ok(Machine {
             args,
             draft: Draft { queue, effects },
+            live,
         })
     }
 
@@ -241,9 +261,9 @@ impl Machine {
         let queue = &self.draft.queue;
         (
             queue.sessions.sessions(),
-            &queue.ready,
+            queue.ready.ready(),
             queue.consumers.table(),
-            &queue.dead,
+            queue.dead.dead(),
         )
     }
 
@@ -272,17 +292,33 @@ impl Machine {
         self.draft.queue.fetch(alloc, consumer, from)
     }
 
+    /// The least index that the queue still needs: of its messages, ready, out or dead, and of those that
+    /// kept answers name. Where there are none, the next index, which has to be there.
+    pub fn low(&self) -> Index
+        requires { self.now.rest.applied + 1 < 2 ^ 64 }
+
+        ensures value { result.0 ≡ parts_low self.now }
+        ensures queue { (s : State) → Stands self.now s → result.0 ≡ low s }
+    {
+        let kept = self.draft.queue.sessions.sessions().kept_low();
+        least_index(self.live.low(), kept, self.draft.queue.applied)
+    }
+
     /// The same queue.
     pub fn copy(&self, alloc: Global) -> Result<Self, Memory>
         ensures ok { IfOk result (λ twin. twin ≡ self.now) }
         ensures want { IsOkUnless result Memory.Want }
     {
+        let Ok(live) = copy_live(alloc, &self.live) else {
+            return Err(Memory::Want);
+        };
         Ok(Machine {
             args: self.args.copy(alloc)?,
             draft: Draft {
                 queue: self.draft.queue.copy(alloc)?,
                 effects: Vec::new(alloc),
             },
+            live,
         })
     }
 
@@ -324,6 +360,11 @@ impl Machine {
                 Err(cause)
             }
             Ok(made) => {
+                if let Err(cause) = self.draft.queue.make_room(&mut self.live) {
+                    self.draft.undo(alloc);
+                    return Err(cause);
+                }
+                self.draft.queue.tell(&mut self.live);
                 let effects = self.draft.commit(alloc);
                 Ok((made.fresh, made.answer, effects))
             }

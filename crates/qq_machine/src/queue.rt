@@ -3,9 +3,8 @@ ghost use Rattle.std.specs.Prelude.{◌≡◌, ◌+◌, ◌<◌, ◌≤◌, ◌^
 use crate::counted::Counted;
 use crate::gated::Gated;
 use qq_base::Memory;
-use qq_dead::Dead;
 use qq_entry::{Answer, Effect};
-use qq_ready::Ready;
+use qq_ledger::{TrackedDead, TrackedReady};
 
 /// The numbers of a queue at the last commit.
 #[derive(Clone, Copy, Debug)]
@@ -22,9 +21,9 @@ pub struct Queue {
     pub arrivals: u64,
     pub saved: Saved,
     pub sessions: Gated,
-    pub ready: Ready,
+    pub ready: TrackedReady,
     pub consumers: Counted,
-    pub dead: Dead,
+    pub dead: TrackedDead,
 }
 
 /// A queue while an entry is applied, and the effects so far.

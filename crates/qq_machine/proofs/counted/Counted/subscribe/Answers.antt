@@ -1,15 +1,18 @@
-use Rattle.std.proofs.Common.{◌≡◌, ◌+◌, List, ap, sym, ◌∙◌}
+use Rattle.std.proofs.Common.{◌≡◌, ℕ, ◌+◌, List, ◌∷◌, [], refl, ap, sym, ◌∙◌}
 use Rattle.qq_consumer.specs.Roster.{Roster}
 use Rattle.qq_machine.specs.Counted.{total}
-use Rattle.qq_machine.proofs.Totals.{total-subscribe, counts-same, counts-back}
+use Rattle.qq_machine.proofs.Totals.{total_by, total-subscribe, keeps-same, keeps-back}
 use Rattle.qq_machine.proofs.counted.Counted.subscribe.Goals as goal
 
 pub invariant_of-self : goal.invariant_of-self
 invariant_of-self c =
-    counts-same c.self.inside.consumers c.subscribe.new.self _ _ c.self.invariant
-    (ap (λ (r : Roster). total r.served) c.in-Ok.ensures.ok ∙ total-subscribe c.args.id c.args.mode c.self.inside.consumers.roster) c.subscribe.ensures.base
+    keeps-same c.self.inside.consumers c.subscribe.new.self _ _ c.self.inside.ledger.came.items c.self.inside.ledger.gone.items c.self.invariant
+    (λ g. ap (λ (r : Roster). total_by g r.served) c.in-Ok.ensures.ok
+    ∙ total-subscribe g c.args.id c.args.mode c.self.inside.consumers.roster)
+    c.subscribe.ensures.base
 
 pub invariant_of-self-in-Err : goal.invariant_of-self-in-Err
 invariant_of-self-in-Err c =
-    counts-back c.self.inside.consumers c.subscribe.new.self c.undo.new.self _ _ c.self.invariant c.subscribe.ensures.base
-    c.undo.ensures.roster c.undo.ensures.base
+    keeps-back c.self.inside.consumers c.subscribe.new.self c.undo.new.self _ _ c.self.inside.ledger.came.items c.self.inside.ledger.gone.items
+    c.clear.new.self.came.items c.clear.new.self.gone.items c.self.invariant c.subscribe.ensures.base c.undo.ensures.roster c.undo.ensures.base c.clear.ensures.came
+    c.clear.ensures.gone

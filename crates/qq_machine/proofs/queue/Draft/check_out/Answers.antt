@@ -6,7 +6,8 @@ use Rattle.qq_parts.specs.Changes.{take_first}
 use Rattle.qq_parts_step.specs.Work.{Work, with_parts}
 use Rattle.qq_parts_step.specs.Follows.{next_one, parts_check_out}
 use Rattle.qq_parts_step.specs.Commands.{one_of}
-use Rattle.qq_consumer.specs.Roster.{ConsumersState, item_at}
+use Rattle.qq_consumer.specs.Roster.{item_at}
+use Rattle.qq_machine.specs.Counted.{RosterTracked}
 use Rattle.qq_consumer.specs.Turns.{waiting_turn}
 use Rattle.qq_machine.specs.Views.{parts_of, work_of, IsFirst, IsNextOne}
 use Rattle.qq_entry.specs.declared.message.ReadyRow.{ReadyRow}
@@ -22,7 +23,7 @@ returns-in-None-clause-still c no_step =
 
 pub deliver-requires : goal.deliver-requires
 deliver-requires c =
-    ap (λ (q : ConsumersState). is_some (waiting_turn q.roster.served c.in-Some.id)) c.take_first.ensures.consumers
+    ap (λ (q : RosterTracked). is_some (waiting_turn q.roster.served c.in-Some.id)) c.take_first.ensures.consumers
     ∙ waits c.args.args.now.single_active c.args.self.now.queue.consumers.roster.served c.in-Some.id c.in-Some.ensures
 
 pub returns-clause-ok : goal.returns-clause-ok
@@ -35,7 +36,7 @@ returns-clause-ok c =
     let one : IsNextOne args.single_active c.args.self.now.queue.consumers.roster.served c.in-Some.id =
     c.in-Some.ensures in
     let found =
-    ap (λ (q : ConsumersState). one_of c.in-Some.id q.roster.served) c.take_first.ensures.consumers ∙ one.found in
+    ap (λ (q : RosterTracked). one_of c.in-Some.id q.roster.served) c.take_first.ensures.consumers ∙ one.found in
     delivered (take_first t.parts) (next_one args.single_active t.parts.served)
     (record {
       item = item_at (Ready first.0) c.in-Some-taken.row;
