@@ -1,39 +1,19 @@
-//! Why a replay ends early.
+//! Why a line isn't replayed.
+use qq_audit_lines::LineFault;
 use qq_base::Memory;
-use std::alloc::{AllocError, AllocFailed};
-use std::io;
+use qq_pair::PairFault;
+use thiserror::Error;
 
-/// Why a replay ends early.
-#[derive(Debug, Drop)]
+/// Why a line isn't replayed.
+#[derive(Clone, Copy, Debug, PartialEq, Eq, Error)]
 pub enum Fault {
-    /// A line has none of the forms of an audit's.
-    Unread,
-    /// Out of memory, or a number would pass its end.
+    /// It isn't read.
+    #[error("{0}")]
+    Line(LineFault),
+    /// The machines don't apply its entry alike.
+    #[error("{0}")]
+    Pair(PairFault),
+    /// Out of memory.
+    #[error("{0}")]
     Memory(Memory),
-    /// The input can't be read, or the output can't be written.
-    Stream(io::Error),
-}
-
-impl From<Memory> for Fault {
-    fn from(stop: Memory) -> Self {
-        Fault::Memory(stop)
-    }
-}
-
-impl From<io::Error> for Fault {
-    fn from(error: io::Error) -> Self {
-        Fault::Stream(error)
-    }
-}
-
-impl From<AllocError> for Fault {
-    fn from(_: AllocError) -> Self {
-        Fault::Memory(Memory::Want)
-    }
-}
-
-impl<T: Drop> From<AllocFailed<T>> for Fault {
-    fn from(_: AllocFailed<T>) -> Self {
-        Fault::Memory(Memory::Want)
-    }
 }

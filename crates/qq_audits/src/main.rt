@@ -1,4 +1,5 @@
-//! Replays audits that are written as text, and prints them again with what the plain machine gives.
+//! Replays audits that are written as text, and prints them again with what the plain machine and the machine
+//! of parts give, which has to be the same.
 //!
 //! A line that begins with `#` is a remark, and an empty one parts audits; both are printed as they
 //! are. A line `queue ..` begins an audit of a new queue. It names the arguments that differ from
@@ -38,37 +39,26 @@
 #![tactic(auto)]
 
 mod fault;
-mod message;
-mod reader;
 mod replay;
-mod text;
 
-use crate::fault::Fault;
 use crate::replay::Replay;
+use anyhow::{Result, bail};
 use std::io::{self, Write};
-use std::process::ExitCode;
 
-fn run(rt: &HostRuntime) -> Result<(), Fault> {
+fn replay_lines(rt: &HostRuntime, replay: &mut Replay) -> Result<()> {
     let alloc = rt.alloc();
-    let mut replay = Replay::new(alloc);
     let mut output = io::writer(rt);
     for line in rt.lines(alloc) {
         let line = line?;
         match replay.line_text(alloc, line.as_str()) {
             Ok(text) => output.write_all(&text)?,
-            Err(Fault::Unread) => {
-                println!(rt; "can't read: {line}")?;
-                return Err(Fault::Unread);
-            }
-            Err(fault) => return Err(fault),
+            Err(fault) => bail!("{fault}: {line}"),
         }
     }
     Ok(())
 }
 
-fn main(rt: HostRuntime) -> ExitCode {
-    match run(&rt) {
-        Ok(()) => ExitCode::SUCCESS,
-        Err(_) => ExitCode::FAILURE,
-    }
+fn main(rt: HostRuntime) -> Result<()> {
+    let mut replay = Replay::new(rt.alloc())?;
+    replay_lines(&rt, &mut replay)
 }

@@ -1,59 +1,76 @@
 //! An audit under way.
 use crate::fault::Fault;
-use crate::reader::{Line, read_line};
-use crate::text::{push_effect, push_got};
-use qq_base::{Index, QueueId};
+use qq_audit_lines::{Line, entry_text, line_text, read_line};
+use qq_base::QueueId;
 use qq_entry::{AuditRow, Entry, QueueArgs};
-use qq_script::row_text;
-use qq_serial::Serial;
+use qq_pair::{Made, Pair};
 use std::alloc::Global;
 
-/// A queue, and the entries that were applied to it.
+/// A queue on both machines, and the entries that were applied to it.
 #[derive(Debug, Drop)]
 pub struct Replay {
-    serial: Serial,
+    pair: Pair,
 }
 
 impl Replay {
     /// A queue of no arguments, to which nothing was applied.
-    pub fn new(alloc: Global) -> Self {
-        Replay {
-            serial: Serial::new(alloc, QueueArgs::new(alloc, QueueId(1), 1)),
+    pub fn new(alloc: Global) -> Result<Self, Fault> {
+        match Pair::new(alloc, QueueArgs::new(alloc, QueueId(1), 1)) {
+            Ok(pair) => Ok(Replay { pair }),
+            Err(stop) => Err(Fault::Memory(stop)),
         }
     }
 
     /// What is printed of a line.
     pub fn line_text(&mut self, alloc: Global, line: &str) -> Result<Vec<u8>, Fault> {
-        let mut text = Vec::new(alloc);
-        let read = read_line(alloc, line)?;
-        if let Line::Output = read {
-            return Ok(text);
+        match read_line(alloc, line) {
+            Err(fault) => Err(Fault::Line(fault)),
+            Ok(Line::Output) => Ok(Vec::new(alloc)),
+            Ok(Line::Remark) => plain_text(alloc, line),
+            Ok(Line::Queue(args)) => self.queue_text(alloc, line, args),
+            Ok(Line::Entry(entry)) => self.entry_text(alloc, line, entry),
         }
-        text.extend_from_slice(line.as_bytes())?;
-        text.push(b'\n')?;
-        match read {
-            Line::Remark | Line::Output => {}
-            Line::Queue(args) => self.serial = Serial::new(alloc, args),
-            Line::Entry(entry) => self.apply(alloc, entry, &mut text)?,
-        }
-        Ok(text)
     }
 
-    fn apply(&mut self, alloc: Global, entry: Entry, text: &mut Vec<u8>) -> Result<(), Fault> {
-        let index = Index(self.serial.applied() + 1);
-        let (fresh, answer, effects) = self.serial.step(alloc, index, &entry)?;
-        let row = AuditRow {
-            index,
-            entry,
-            fresh,
-            answer,
-        };
-        text.extend_from_slice(b"  ")?;
-        row_text(alloc, &row, text)?;
-        push_got(alloc, text, &row.answer)?;
-        for effect in &effects {
-            push_effect(alloc, text, effect)?;
+    // An audit of a queue of these arguments begins.
+    fn queue_text(&mut self, alloc: Global, line: &str, args: QueueArgs) -> Result<Vec<u8>, Fault> {
+        match Pair::new(alloc, args) {
+            Ok(pair) => self.pair = pair,
+            Err(stop) => return Err(Fault::Memory(stop)),
         }
-        Ok(())
+        plain_text(alloc, line)
+    }
+
+    fn entry_text(&mut self, alloc: Global, line: &str, entry: Entry) -> Result<Vec<u8>, Fault> {
+        match self.pair.apply(alloc, &entry) {
+            Ok(made) => made_text(alloc, line, entry, made),
+            Err(fault) => Err(Fault::Pair(fault)),
+        }
+    }
+}
+
+fn plain_text(alloc: Global, line: &str) -> Result<Vec<u8>, Fault> {
+    match line_text(alloc, line) {
+        Ok(text) => Ok(text),
+        Err(fault) => Err(Fault::Line(fault)),
+    }
+}
+
+fn made_text(alloc: Global, line: &str, entry: Entry, made: Made) -> Result<Vec<u8>, Fault> {
+    let Made {
+        index,
+        fresh,
+        answer,
+        effects,
+    } = made;
+    let row = AuditRow {
+        index,
+        entry,
+        fresh,
+        answer,
+    };
+    match entry_text(alloc, line, &row, &effects) {
+        Ok(text) => Ok(text),
+        Err(fault) => Err(Fault::Line(fault)),
     }
 }

@@ -1,7 +1,8 @@
 //! What an entry shows beside its row.
-use crate::fault::Fault;
+use crate::fault::LineFault;
 use qq_base::SessionId;
-use qq_entry::{Answer, Delivery, Effect, Message, Reason};
+use qq_entry::{Answer, AuditRow, Delivery, Effect, Message, Reason};
+use qq_script::row_text;
 use std::alloc::Global;
 
 fn reason_word(reason: Reason) -> &'static str {
@@ -13,7 +14,7 @@ fn reason_word(reason: Reason) -> &'static str {
     }
 }
 
-fn session_text(alloc: Global, session: SessionId) -> Result<String, Fault> {
+fn session_text(alloc: Global, session: SessionId) -> Result<String, LineFault> {
     let owner = session.owner;
     let number = session.number;
     Ok(match session.class {
@@ -23,13 +24,13 @@ fn session_text(alloc: Global, session: SessionId) -> Result<String, Fault> {
     })
 }
 
-fn push_str(text: &mut Vec<u8>, words: &str) -> Result<(), Fault> {
+fn push_str(text: &mut Vec<u8>, words: &str) -> Result<(), LineFault> {
     text.extend_from_slice(words.as_bytes())?;
     Ok(())
 }
 
 /// Adds a message in the words that an enqueue is written in, and ends the line.
-fn push_message(alloc: Global, text: &mut Vec<u8>, message: &Message) -> Result<(), Fault> {
+fn push_message(alloc: Global, text: &mut Vec<u8>, message: &Message) -> Result<(), LineFault> {
     let Some(content) = &message.content else {
         let size = message.size;
         let words = format!(in alloc; "of {size} bytes\n")?;
@@ -52,7 +53,7 @@ fn push_message(alloc: Global, text: &mut Vec<u8>, message: &Message) -> Result<
 }
 
 /// A message's arrival, and how often it was returned and counted where that isn't 0.
-fn mark_text(alloc: Global, delivery: &Delivery) -> Result<String, Fault> {
+fn mark_text(alloc: Global, delivery: &Delivery) -> Result<String, LineFault> {
     let arrival = delivery.arrival;
     let count = delivery.count;
     if count == 0 {
@@ -61,8 +62,8 @@ fn mark_text(alloc: Global, delivery: &Delivery) -> Result<String, Fault> {
     Ok(format!(in alloc; "{arrival}/{count}")?)
 }
 
-/// Adds the message of a get.
-pub fn push_got(alloc: Global, text: &mut Vec<u8>, answer: &Answer) -> Result<(), Fault> {
+// Adds the message of a get.
+fn push_got(alloc: Global, text: &mut Vec<u8>, answer: &Answer) -> Result<(), LineFault> {
     let Answer::Got(delivery) = answer else {
         return Ok(());
     };
@@ -72,8 +73,8 @@ pub fn push_got(alloc: Global, text: &mut Vec<u8>, answer: &Answer) -> Result<()
     push_message(alloc, text, &delivery.message)
 }
 
-/// Adds an effect.
-pub fn push_effect(alloc: Global, text: &mut Vec<u8>, effect: &Effect) -> Result<(), Fault> {
+// Adds an effect.
+fn push_effect(alloc: Global, text: &mut Vec<u8>, effect: &Effect) -> Result<(), LineFault> {
     match effect {
         Effect::Deliver(consumer, delivery) => {
             let session = session_text(alloc, consumer.session)?;
@@ -101,4 +102,34 @@ pub fn push_effect(alloc: Global, text: &mut Vec<u8>, effect: &Effect) -> Result
             push_message(alloc, text, message)
         }
     }
+}
+
+fn push_effects(alloc: Global, text: &mut Vec<u8>, effects: &[Effect]) -> Result<(), LineFault> {
+    for effect in effects {
+        push_effect(alloc, text, effect)?;
+    }
+    Ok(())
+}
+
+/// A line as it is printed again.
+pub fn line_text(alloc: Global, line: &str) -> Result<Vec<u8>, LineFault> {
+    let mut text = Vec::new(alloc);
+    text.extend_from_slice(line.as_bytes())?;
+    text.push(b'\n')?;
+    Ok(text)
+}
+
+/// An entry's line, and below it its row, the message of a get, and its effects in order.
+pub fn entry_text(
+    alloc: Global,
+    line: &str,
+    row: &AuditRow,
+    effects: &[Effect],
+) -> Result<Vec<u8>, LineFault> {
+    let mut text = line_text(alloc, line)?;
+    text.extend_from_slice(b"  ")?;
+    row_text(alloc, row, &mut text)?;
+    push_got(alloc, &mut text, &row.answer)?;
+    push_effects(alloc, &mut text, effects)?;
+    Ok(text)
 }

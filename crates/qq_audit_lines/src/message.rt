@@ -1,6 +1,6 @@
 //! The message of an enqueue as it is read.
-use crate::fault::Fault;
-use crate::reader::{read_number, read_pair};
+use crate::fault::LineFault;
+use crate::number::{read_pair, read_u32, read_u64};
 use qq_base::{Bytes, QueueId, Text};
 use qq_entry::{BODY_LIMIT, Content, Death, Deaths, Message, Origin, Reason, Shared};
 use std::alloc::Global;
@@ -10,7 +10,7 @@ pub fn read_message(
     alloc: Global,
     body: &str,
     parts: &[&str],
-) -> Result<(Option<Origin>, Message), Fault> {
+) -> Result<(Option<Origin>, Message), LineFault> {
     let mut origin = None;
     let mut content = Content {
         body: Bytes::from_vec(read_body(alloc, body)?),
@@ -26,7 +26,7 @@ pub fn read_message(
         }
     }
     let Ok(size) = u32::try_from(content.body.len()) else {
-        return Err(Fault::Unread);
+        return Err(LineFault::Unread);
     };
     let message = Message {
         size,
@@ -35,23 +35,28 @@ pub fn read_message(
     Ok((origin, message))
 }
 
-fn set_part(alloc: Global, content: &mut Content, name: &str, value: &str) -> Result<(), Fault> {
-    match name.as_bytes() {
-        b"key" => content.key = Text::from_str(alloc, value)?,
-        b"died" => content.deaths.push(read_death(value)?)?,
-        _ => return Err(Fault::Unread),
+fn set_part(
+    alloc: Global,
+    content: &mut Content,
+    name: &str,
+    value: &str,
+) -> Result<(), LineFault> {
+    match name {
+        "key" => content.key = Text::from_str(alloc, value)?,
+        "died" => content.deaths.push(read_death(value)?)?,
+        _ => return Err(LineFault::Unread),
     }
     Ok(())
 }
 
 /// A body as it is written, or so many times a text, as `x*9`.
-fn read_body(alloc: Global, word: &str) -> Result<Vec<u8>, Fault> {
+fn read_body(alloc: Global, word: &str) -> Result<Vec<u8>, LineFault> {
     let Some((text, count)) = word.split_once('*') else {
         return Ok(Vec::from_slice(alloc, word.as_bytes())?);
     };
-    let count: usize = read_number(count)?;
-    if BODY_LIMIT < count {
-        return Err(Fault::Unread);
+    let count = read_u32(count)?;
+    if BODY_LIMIT < count as usize {
+        return Err(LineFault::Unread);
     }
     let mut body = Vec::new(alloc);
     for _ in 0..count {
@@ -60,28 +65,28 @@ fn read_body(alloc: Global, word: &str) -> Result<Vec<u8>, Fault> {
     Ok(body)
 }
 
-fn read_origin(word: &str) -> Result<Origin, Fault> {
+fn read_origin(word: &str) -> Result<Origin, LineFault> {
     let (source, number) = read_pair(word, ',')?;
     Ok(Origin {
-        source: QueueId(read_number(source)?),
-        number: read_number(number)?,
+        source: QueueId(read_u32(source)?),
+        number: read_u64(number)?,
     })
 }
 
-fn read_death(word: &str) -> Result<Death, Fault> {
+fn read_death(word: &str) -> Result<Death, LineFault> {
     let (queue, reason) = read_pair(word, ',')?;
     Ok(Death {
-        queue: QueueId(read_number(queue)?),
+        queue: QueueId(read_u32(queue)?),
         reason: read_reason(reason)?,
     })
 }
 
-fn read_reason(word: &str) -> Result<Reason, Fault> {
-    match word.as_bytes() {
-        b"rejected" => Ok(Reason::Rejected),
-        b"expired" => Ok(Reason::Expired),
-        b"maxlen" => Ok(Reason::MaxLen),
-        b"delivery_limit" => Ok(Reason::DeliveryLimit),
-        _ => Err(Fault::Unread),
+fn read_reason(word: &str) -> Result<Reason, LineFault> {
+    match word {
+        "rejected" => Ok(Reason::Rejected),
+        "expired" => Ok(Reason::Expired),
+        "maxlen" => Ok(Reason::MaxLen),
+        "delivery_limit" => Ok(Reason::DeliveryLimit),
+        _ => Err(LineFault::Unread),
     }
 }
