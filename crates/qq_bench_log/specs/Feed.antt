@@ -9,7 +9,7 @@ use Rattle.qq_wal.specs.Marks.{Carries, carry_or_new}
 use Rattle.qq_wal.specs.Wal.{IsSound, carries_ahead}
 use Rattle.qq_wal.specs.declared.wal.Wal.{Wal}
 use Rattle.qq_bench_log.specs.declared.feed.Line.{Line}
-use Rattle.qq_bench_log.specs.declared.hiding.Hiding.{Hiding}
+use Rattle.qq_hiding.specs.declared.hiding.Hiding.{Hiding}
 
 abbrev pub tells : Hiding → Bool
 tells disk = false

@@ -3,10 +3,10 @@ ghost use Rattle.qq_base.specs.declared.memory.TheConstants.{NUMBER_END};
 ghost use Rattle.qq_bench_log.specs.Feed.{Stands, IsElsewhere, IsFed, both, first_line};
 ghost use Rattle.qq_bench_log.specs.declared.feed.Line.{Line};
 
-use crate::hiding::Hiding;
 use crate::made::Made;
 use qq_base::{Index, Memory, NUMBER_END, NodeId, QueueId, Term};
 use qq_disk::{DiskFault, FileKind, FileName, NodeDisk};
+use qq_hiding::Hiding;
 use qq_log::Op;
 use qq_mem_disk::MemDisk;
 use qq_wal::{FileRanges, Notice, Wal, WalFault};

@@ -18,7 +18,6 @@
 
 mod cases;
 mod feed;
-mod hiding;
 mod made;
 mod timing;
 

@@ -1,4 +1,5 @@
-use qq_disk::{DiskFault, FileKind, FileName, Image, NodeDisk, Tail, store_two};
+use qq_disk::{FileKind, FileName, Image, NodeDisk, Tail, store_two};
+use qq_hiding::Hiding;
 use qq_mem_disk::MemDisk;
 use std::alloc::Global;
 use std::test::Fail;
@@ -7,53 +8,6 @@ const LOG: FileName = FileName {
     kind: FileKind::Log,
     number: 1,
 };
-
-/// A disk that tells nothing of what it holds.
-#[derive(Drop)]
-struct Hiding {
-    disk: MemDisk,
-}
-
-impl NodeDisk for Hiding {
-    ghost use Rattle.std.specs.Prelude.{false, []};
-    ghost use Rattle.qq_mem_disk.specs.MemDisk.{counter_of};
-
-    ghost tells = { λ _. false };
-
-    ghost past = { λ _. [] };
-
-    ghost faults = { λ hiding. (counter_of hiding.disk).faults };
-
-    fn names(&mut self, alloc: Global) -> Result<Vec<FileName>, DiskFault> {
-        self.disk.names(alloc)
-    }
-
-    fn size(&mut self, alloc: Global, file: FileName) -> Result<u64, DiskFault> {
-        self.disk.size(alloc, file)
-    }
-
-    fn read(
-        &mut self,
-        alloc: Global,
-        file: FileName,
-        place: u64,
-        buf: &mut [u8],
-    ) -> Result<usize, DiskFault> {
-        self.disk.read(alloc, file, place, buf)
-    }
-
-    fn append(&mut self, alloc: Global, file: FileName, bytes: &[u8]) -> Result<(), DiskFault> {
-        self.disk.append(alloc, file, bytes)
-    }
-
-    fn sync(&mut self, alloc: Global, file: FileName) -> Result<(), DiskFault> {
-        self.disk.sync(alloc, file)
-    }
-
-    fn remove(&mut self, alloc: Global, file: FileName) -> Result<(), DiskFault> {
-        self.disk.remove(alloc, file)
-    }
-}
 
 // A disk that tells nothing meets the bound too: two records are stored, and the crash leaves both.
 #[test]

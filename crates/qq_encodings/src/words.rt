@@ -20,20 +20,12 @@ impl fmt::Display for Words<'_> {
     }
 }
 
-fn write_command<W: fmt::Write>(f: &mut fmt::Formatter<W>, command: &Command) -> fmt::Result {
+// A command of a consumer.
+fn write_consumer_command<W: fmt::Write>(
+    f: &mut fmt::Formatter<W>,
+    command: &Command,
+) -> fmt::Result {
     match command {
-        Command::Noop { version } => write!(f, "noop, version {version}"),
-        Command::Enqueue {
-            stamp,
-            origin,
-            message,
-        } => {
-            write_stamp(f, "enqueue", stamp)?;
-            write_origin(f, *origin)?;
-            write!(f, ", size {}", message.size)?;
-            write_content(f, &message.content)
-        }
-        Command::Get { stamp } => write_stamp(f, "get", stamp),
         Command::Subscribe { stamp, tag, mode } => {
             write_consumer(f, "subscribe", stamp, *tag)?;
             write_mode(f, *mode)
@@ -61,6 +53,24 @@ fn write_command<W: fmt::Write>(f: &mut fmt::Formatter<W>, command: &Command) ->
             write_consumer(f, "discard", stamp, *tag)?;
             write_ids(f, ids.as_slice())
         }
+        _ => Ok(()),
+    }
+}
+
+fn write_command<W: fmt::Write>(f: &mut fmt::Formatter<W>, command: &Command) -> fmt::Result {
+    match command {
+        Command::Noop { version } => write!(f, "noop, version {version}"),
+        Command::Enqueue {
+            stamp,
+            origin,
+            message,
+        } => {
+            write_stamp(f, "enqueue", stamp)?;
+            write_origin(f, *origin)?;
+            write!(f, ", size {}", message.size)?;
+            write_content(f, &message.content)
+        }
+        Command::Get { stamp } => write_stamp(f, "get", stamp),
         Command::Purge { stamp } => write_stamp(f, "purge", stamp),
         Command::Down { session } => {
             f.write_str("down")?;
@@ -71,6 +81,7 @@ fn write_command<W: fmt::Write>(f: &mut fmt::Formatter<W>, command: &Command) ->
             write!(f, "dead settle, term {}", term.0)?;
             write_dead_dones(f, done.as_slice())
         }
+        command => write_consumer_command(f, command),
     }
 }
 

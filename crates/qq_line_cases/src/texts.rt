@@ -91,32 +91,9 @@ fn image_text(alloc: Global, nodes: &Nodes, image: &Image) -> Result<String> {
     )?)
 }
 
-// A line about a consumer's deliveries, or the credit of one.
-fn consumer_text(alloc: Global, said: &ScriptLine) -> Result<String> {
+// What becomes of deliveries.
+fn settled_text(alloc: Global, said: &ScriptLine) -> Result<String> {
     Ok(match said {
-        ScriptLine::Subscribe {
-            consumer,
-            queue,
-            prefetch,
-        } => format!(in alloc;
-            "subscribe {} queue {} prefetch {prefetch}",
-            Consumer(consumer),
-            queue.0
-        )?,
-        ScriptLine::Link { consumer, queue } => {
-            format!(in alloc; "link {} queue {}", Consumer(consumer), queue.0)?
-        }
-        ScriptLine::Credit {
-            consumer,
-            queue,
-            count,
-            credit,
-            drain,
-        } => {
-            let how = if *drain { "drain" } else { "keep" };
-            let head = format!(in alloc; "credit {} queue {}", Consumer(consumer), queue.0)?;
-            format!(in alloc; "{head} count {count} credit {credit} {how}")?
-        }
         ScriptLine::Settle {
             consumer,
             queue,
@@ -147,10 +124,40 @@ fn consumer_text(alloc: Global, said: &ScriptLine) -> Result<String> {
             queue.0,
             List(ids)
         )?,
+        _ => String::from_str(alloc, "no text")?,
+    })
+}
+
+// A line about a consumer, or what becomes of its deliveries.
+fn consumer_text(alloc: Global, said: &ScriptLine) -> Result<String> {
+    Ok(match said {
+        ScriptLine::Subscribe {
+            consumer,
+            queue,
+            prefetch,
+        } => format!(in alloc;
+            "subscribe {} queue {} prefetch {prefetch}",
+            Consumer(consumer),
+            queue.0
+        )?,
+        ScriptLine::Link { consumer, queue } => {
+            format!(in alloc; "link {} queue {}", Consumer(consumer), queue.0)?
+        }
+        ScriptLine::Credit {
+            consumer,
+            queue,
+            count,
+            credit,
+            drain,
+        } => {
+            let how = if *drain { "drain" } else { "keep" };
+            let head = format!(in alloc; "credit {} queue {}", Consumer(consumer), queue.0)?;
+            format!(in alloc; "{head} count {count} credit {credit} {how}")?
+        }
         ScriptLine::Cancel { consumer, queue } => {
             format!(in alloc; "cancel {} queue {}", Consumer(consumer), queue.0)?
         }
-        _ => String::from_str(alloc, "no text")?,
+        said => settled_text(alloc, said)?,
     })
 }
 

@@ -1,16 +1,16 @@
 use crate::stops::{cuts_text, stops_text};
 use crate::text::{lanes_text, queues, recovered_text};
-use crate::untold::Untold;
-use crate::written::Written;
+use crate::written::{Written, empty_disk};
 use anyhow::{Context, Result};
 use qq_disk::{FileKind, FileName, NodeDisk};
+use qq_hiding::Hiding;
 use std::alloc::Global;
 use std::mem;
 
 /// A disk whose log files are given as text.
 #[derive(Drop)]
 pub struct Images {
-    disk: Untold,
+    disk: Hiding,
     written: Written,
 }
 
@@ -38,7 +38,7 @@ impl Images {
     /// An empty disk.
     pub fn new(alloc: Global) -> Self {
         Images {
-            disk: Untold::new(alloc),
+            disk: empty_disk(alloc),
             written: Written::new(alloc),
         }
     }
@@ -66,7 +66,7 @@ impl Images {
 
     fn recover(&mut self, alloc: Global, words: &str) -> Result<String> {
         let queues = queues(alloc, words)?;
-        let disk = mem::replace(&mut self.disk, Untold::new(alloc));
+        let disk = mem::replace(&mut self.disk, empty_disk(alloc));
         let (text, disk) = recovered_text(alloc, disk, &queues)?;
         self.disk = disk;
         Ok(text)

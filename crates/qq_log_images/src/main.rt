@@ -28,7 +28,6 @@
 mod images;
 mod stops;
 mod text;
-mod untold;
 mod written;
 
 use anyhow::Result;

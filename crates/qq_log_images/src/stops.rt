@@ -1,10 +1,10 @@
 //! What recovery gives where a crash cut what waits for a sync, and where the disk stops at each call.
 use crate::text::recovered_lanes;
-use crate::untold::Untold;
 use crate::written::Written;
 use anyhow::Result;
-use qq_base::{Bytes, QueueId};
-use qq_disk::Tail;
+use qq_base::{Bytes, Memory, QueueId};
+use qq_disk::{Image, Tail};
+use qq_hiding::Hiding;
 use qq_recover::{RecoverFault, recover};
 use std::alloc::Global;
 
@@ -29,10 +29,29 @@ fn tail(alloc: Global, choice: u64) -> Result<Tail> {
     junk(alloc)
 }
 
+/// So many calls more pass, and then one fails.
+fn fail_once(alloc: Global, hiding: &mut Hiding, calls: u64) -> Result<(), Memory> {
+    let failing = hiding.disk.calls().saturating_add(calls).saturating_add(1);
+    hiding.disk.fail_calls(vec![in alloc; failing; 1]?);
+    Ok(())
+}
+
+/// What a crash leaves, with this of what waits for a sync.
+fn crash(alloc: Global, hiding: Hiding, tail: Tail) -> Result<Hiding, Memory> {
+    let image = Image {
+        newest_log: tail,
+        others: Tail::Cut(0),
+        removed_back: false,
+    };
+    Ok(Hiding {
+        disk: hiding.disk.crash(alloc, &image)?,
+    })
+}
+
 /// The disk of a recovery that is stopped after so many calls. None where it came to its end.
-fn stopped(alloc: Global, disk: Untold, queues: &[QueueId], calls: u64) -> Option<Untold> {
+fn stopped(alloc: Global, disk: Hiding, queues: &[QueueId], calls: u64) -> Option<Hiding> {
     let mut disk = disk;
-    disk.fuse(calls);
+    disk.disk.fuse(calls);
     match recover(disk, alloc, queues, 1000) {
         Err((RecoverFault::Disk, disk)) => Some(disk),
         _ => None,
@@ -45,9 +64,9 @@ fn failed(
     written: &Written,
     queues: &[QueueId],
     calls: u64,
-) -> Result<Option<Untold>> {
+) -> Result<Option<Hiding>> {
     let mut disk = written.disk(alloc)?;
-    disk.fail_once(alloc, calls)?;
+    fail_once(alloc, &mut disk, calls)?;
     match recover(disk, alloc, queues, 1000) {
         Err((RecoverFault::Disk, disk)) => Ok(Some(disk)),
         _ => Ok(None),
@@ -61,14 +80,14 @@ fn crashed(
     queues: &[QueueId],
     calls: u64,
     choice: u64,
-) -> Result<Option<Untold>> {
+) -> Result<Option<Hiding>> {
     match stopped(alloc, written.disk(alloc)?, queues, calls) {
-        Some(disk) => Ok(Some(disk.crash(alloc, tail(alloc, choice)?)?)),
+        Some(disk) => Ok(Some(crash(alloc, disk, tail(alloc, choice)?)?)),
         None => Ok(None),
     }
 }
 
-fn want_lanes(alloc: Global, disk: Untold, queues: &[QueueId], wanted: &str) -> Result<()> {
+fn want_lanes(alloc: Global, disk: Hiding, queues: &[QueueId], wanted: &str) -> Result<()> {
     let lanes = recovered_lanes(alloc, disk, queues)?;
     if lanes.as_str() != wanted {
         anyhow::bail!("a recovery gives other lanes");
@@ -92,7 +111,7 @@ fn stop_again(
         let Some(disk) = stopped(alloc, disk, queues, more) else {
             return Ok(());
         };
-        want_lanes(alloc, disk.crash(alloc, Tail::Whole)?, queues, wanted)?;
+        want_lanes(alloc, crash(alloc, disk, Tail::Whole)?, queues, wanted)?;
     }
     anyhow::bail!("a recovery makes too many calls")
 }
@@ -144,14 +163,14 @@ pub fn cuts_text(alloc: Global, written: &Written, queues: &[QueueId]) -> Result
     let mut text = String::new(alloc);
     let mut before = String::new(alloc);
     for count in 0..=written.waiting() as u64 {
-        let disk = written.disk(alloc)?.crash(alloc, Tail::Cut(count))?;
+        let disk = crash(alloc, written.disk(alloc)?, Tail::Cut(count))?;
         let lanes = recovered_lanes(alloc, disk, queues)?;
         if lanes.as_str() != before.as_str() {
             text.push_str(format!(in alloc; "from {count} bytes on:\n{lanes}")?.as_str())?;
             before = lanes;
         }
     }
-    let disk = written.disk(alloc)?.crash(alloc, junk(alloc)?)?;
+    let disk = crash(alloc, written.disk(alloc)?, junk(alloc)?)?;
     let lanes = recovered_lanes(alloc, disk, queues)?;
     text.push_str(format!(in alloc; "other bytes:\n{lanes}")?.as_str())?;
     Ok(text)

@@ -1,7 +1,7 @@
-use crate::untold::Untold;
 use anyhow::{Context, Result};
 use qq_base::{Memory, QueueId};
 use qq_disk::{FileKind, FileName, NodeDisk};
+use qq_hiding::Hiding;
 use qq_log::Lane;
 use qq_recover::{RecoverFault, Recovered, inspect, recover};
 use qq_wal::Wal;
@@ -86,7 +86,7 @@ pub fn lanes_text<D: NodeDisk>(alloc: Global, disk: &mut D, queues: &[QueueId]) 
 /// The lanes that recovery hands out.
 fn taken(
     alloc: Global,
-    recovered: &mut Recovered<Untold>,
+    recovered: &mut Recovered<Hiding>,
     queues: &[QueueId],
 ) -> Result<Vec<Lane>> {
     let mut lanes = Vec::new(alloc);
@@ -99,7 +99,7 @@ fn taken(
 }
 
 /// The log file of greatest number.
-fn newest_log(alloc: Global, disk: &mut Untold) -> Result<FileName> {
+fn newest_log(alloc: Global, disk: &mut Hiding) -> Result<FileName> {
     let mut newest = FileName {
         kind: FileKind::Log,
         number: 0,
@@ -113,7 +113,7 @@ fn newest_log(alloc: Global, disk: &mut Untold) -> Result<FileName> {
 }
 
 /// The file that was begun: its length, and what its header names.
-fn begun_text(alloc: Global, disk: &mut Untold) -> Result<String> {
+fn begun_text(alloc: Global, disk: &mut Hiding) -> Result<String> {
     let file = newest_log(alloc, disk)?;
     let size = disk.size(alloc, file)?;
     let mut front = [0; 38];
@@ -128,7 +128,7 @@ fn begun_text(alloc: Global, disk: &mut Untold) -> Result<String> {
 }
 
 /// A line for each queue and log file that has entries of it.
-fn entries_text(alloc: Global, wal: &mut Wal<Untold>, queues: &[QueueId]) -> Result<String> {
+fn entries_text(alloc: Global, wal: &mut Wal<Hiding>, queues: &[QueueId]) -> Result<String> {
     let mut text = String::new(alloc);
     let names = wal.disk().names(alloc)?;
     for queue in queues {
@@ -150,7 +150,7 @@ fn entries_text(alloc: Global, wal: &mut Wal<Untold>, queues: &[QueueId]) -> Res
 
 /// A line for each lane that recovery gives, one for each log file that has entries of a queue, and one for the
 /// file that it begins; or one for why it gives none; and the disk.
-pub fn recovered_text(alloc: Global, disk: Untold, queues: &[QueueId]) -> Result<(String, Untold)> {
+pub fn recovered_text(alloc: Global, disk: Hiding, queues: &[QueueId]) -> Result<(String, Hiding)> {
     let mut recovered = match recover(disk, alloc, queues, 1000) {
         Ok(recovered) => recovered,
         Err((fault, disk)) => return Ok((fault_text(alloc, fault)?, disk)),
@@ -165,7 +165,7 @@ pub fn recovered_text(alloc: Global, disk: Untold, queues: &[QueueId]) -> Result
 }
 
 /// A line for each lane that recovery gives, or one for why it gives none.
-pub fn recovered_lanes(alloc: Global, disk: Untold, queues: &[QueueId]) -> Result<String> {
+pub fn recovered_lanes(alloc: Global, disk: Hiding, queues: &[QueueId]) -> Result<String> {
     match recover(disk, alloc, queues, 1000) {
         Ok(recovered) => {
             let mut recovered = recovered;

@@ -1,7 +1,15 @@
-use crate::untold::Untold;
 use anyhow::Result;
 use qq_disk::{FileName, NodeDisk};
+use qq_hiding::Hiding;
+use qq_mem_disk::MemDisk;
 use std::alloc::Global;
+
+/// A disk without files, which tells nothing of what it holds, so that recovery may be called on any.
+pub fn empty_disk(alloc: Global) -> Hiding {
+    Hiding {
+        disk: MemDisk::new(alloc),
+    }
+}
 
 /// Bytes that were added to a file.
 #[derive(Drop)]
@@ -47,8 +55,8 @@ impl Written {
     }
 
     /// A disk with all that was written.
-    pub fn disk(&self, alloc: Global) -> Result<Untold> {
-        let mut disk = Untold::new(alloc);
+    pub fn disk(&self, alloc: Global) -> Result<Hiding> {
+        let mut disk = empty_disk(alloc);
         for piece in &self.pieces {
             disk.append(alloc, piece.file, &piece.bytes)?;
             if piece.synced {

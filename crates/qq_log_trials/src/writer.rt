@@ -2,7 +2,8 @@ ghost use Rattle.std.specs.Prelude.{◌≡◌, ◌<◌, [], false, IfOk};
 ghost use Rattle.qq_wal.specs.Wal.{IsSound};
 
 use qq_base::{Memory, NUMBER_END, QueueId};
-use qq_disk::{DiskFault, FileKind, FileName, NodeDisk};
+use qq_disk::{FileKind, FileName, NodeDisk};
+use qq_hiding::Hiding;
 use qq_mem_disk::MemDisk;
 use qq_wal::{FileRanges, Wal, WalFault};
 use qq_wal_record::Header;
@@ -15,53 +16,6 @@ const FIRST: &str = "51514c4f470100000000000000010000000000000000000000000000000
 
 /// File 2 behind 38 bytes of file 1.
 const SECOND: &str = "51514c4f47010000000000000002000000000000000100000000000000264aaf92ff3f163126";
-
-/// A disk that tells nothing of what it holds.
-#[derive(Drop)]
-struct Hiding {
-    disk: MemDisk,
-}
-
-impl NodeDisk for Hiding {
-    ghost use Rattle.std.specs.Prelude.{false, []};
-    ghost use Rattle.qq_mem_disk.specs.MemDisk.{counter_of};
-
-    ghost tells = { λ _. false };
-
-    ghost past = { λ _. [] };
-
-    ghost faults = { λ hiding. (counter_of hiding.disk).faults };
-
-    fn names(&mut self, alloc: Global) -> Result<Vec<FileName>, DiskFault> {
-        self.disk.names(alloc)
-    }
-
-    fn size(&mut self, alloc: Global, file: FileName) -> Result<u64, DiskFault> {
-        self.disk.size(alloc, file)
-    }
-
-    fn read(
-        &mut self,
-        alloc: Global,
-        file: FileName,
-        place: u64,
-        buf: &mut [u8],
-    ) -> Result<usize, DiskFault> {
-        self.disk.read(alloc, file, place, buf)
-    }
-
-    fn append(&mut self, alloc: Global, file: FileName, bytes: &[u8]) -> Result<(), DiskFault> {
-        self.disk.append(alloc, file, bytes)
-    }
-
-    fn sync(&mut self, alloc: Global, file: FileName) -> Result<(), DiskFault> {
-        self.disk.sync(alloc, file)
-    }
-
-    fn remove(&mut self, alloc: Global, file: FileName) -> Result<(), DiskFault> {
-        self.disk.remove(alloc, file)
-    }
-}
 
 /// A log of queues 1 and 2 without ops, on a disk that fails at calls of these numbers. It is full with
 /// 39 bytes.

@@ -2,9 +2,10 @@ use qq_disk::{DiskFault, FileName, NodeDisk};
 use qq_mem_disk::MemDisk;
 use std::alloc::Global;
 
-/// A disk in memory that tells nothing of what it holds.
+/// A disk in memory that tells nothing of what it holds. Its faults are those of the disk.
 #[derive(Drop)]
 pub struct Hiding {
+    /// The disk that answers each call.
     pub disk: MemDisk,
 }
 
