@@ -15,7 +15,6 @@ use Rattle.qq_model.specs.Audit.{next_step}
 use Rattle.qq_model.specs.Sound.{IsSound}
 use Rattle.qq_model.specs.State.{State, empty_queue, is_consumer_within, is_row_within, is_session_within, is_within_ends}
 use Rattle.qq_model.proofs.Soundness.{is_sound}
-use Rattle.qq_parts.specs.Changes.{Holds}
 use Rattle.qq_parts.specs.Parts.{Parts, Stands}
 use Rattle.qq_parts_step.specs.Step.{StepsFor, new_parts}
 use Rattle.qq_parts_step.proofs.Stepping.{new-holds}

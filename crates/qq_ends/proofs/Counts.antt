@@ -1,8 +1,8 @@
 -- A link consumer's credit and count are bounded by what a command can give.
-use Rattle.std.proofs.Common.{◌≡◌, ℕ, ◌+◌, ◌<◌, ◌≤◌, ◌^◌, Bool, true, List, [], ◌∷◌, Option, Some, None, refl, sym, ap, ◌∙◌, subst, inl, inr, arith}
+use Rattle.std.proofs.Common.{◌≡◌, ℕ, ◌+◌, ◌<◌, ◌≤◌, ◌^◌, Bool, true, List, [], ◌∷◌, Option, Some, None, refl, sym, subst, inl, inr, arith}
 use Rattle.std.specs.List.{AllByRecursion}
 use Rattle.qq_base.specs.declared.ids.Index.{Index}
-use Rattle.qq_base.proofs.Lists.{In, In-append_cases}
+use Rattle.qq_base.proofs.Lists.{In-append_cases}
 use Rattle.qq_entry.specs.Command.{stamp}
 use Rattle.qq_entry.specs.Range.{IsCommand, IsInRange}
 use Rattle.qq_entry.specs.declared.command.Command.{Command}
@@ -25,7 +25,7 @@ use Rattle.qq_model.specs.Step.{carry_out, go_through, step_by, step}
 use Rattle.qq_model.proofs.CarryOut.{follow_on-keeps}
 use Rattle.qq_model.proofs.Holders.{In-filtered}
 use Rattle.qq_model.proofs.Ids.{consumer-found}
-use Rattle.qq_laws.proofs.ActConsumers.{Credits, KeepsConsumers, act-consumers}
+use Rattle.qq_laws.proofs.ActConsumers.{KeepsConsumers, act-consumers}
 use Rattle.qq_laws.proofs.EachConsumer.{EachOf, each-delivers, each-put, each-serves}
 use Rattle.qq_laws.proofs.LinkCreditLemmas.{has-credit, serve-link, serve-prefetch}
 

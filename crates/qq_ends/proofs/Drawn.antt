@@ -1,5 +1,5 @@
 -- A message is counted once for each place that was given, and a consumer has an id for each turn.
-use Rattle.std.proofs.Common.{◌≡◌, ℕ, ◌+◌, ◌≤◌, true, false, List, [], ◌∷◌, ◌++◌, refl, sym, ap, ◌∙◌, subst, inl, inr, arith}
+use Rattle.std.proofs.Common.{◌≡◌, ℕ, ◌+◌, ◌≤◌, true, List, refl, sym, ap, ◌∙◌, subst, inl, inr, arith}
 use Rattle.std.specs.Prelude.{nat_eq, if◌then◌else◌}
 use Rattle.std.specs.List.{AllByRecursion}
 use Rattle.std.proofs.lemmas.Bool.{cond_both, false≢true}
@@ -7,11 +7,9 @@ use Rattle.qq_base.specs.declared.ids.Index.{Index}
 use Rattle.qq_base.proofs.Lists.{In, AllByRecursion-in, AllByRecursion-append, AllByRecursion-map, AllByRecursion-weaker, In-append_cases}
 use Rattle.qq_entry.specs.declared.command.Command.{Command}
 use Rattle.qq_entry.specs.declared.command.Entry.{Entry}
-use Rattle.qq_entry.specs.declared.message.Message.{Message}
 use Rattle.qq_entry.specs.declared.message.Reason.{Reason}
 use Rattle.qq_model.specs.declared.consumer.Consumer.{Consumer}
 use Rattle.qq_model.specs.declared.place.GoneReason.TheVariants as gone
-use Rattle.qq_model.specs.declared.place.Key.{Key}
 use Rattle.qq_model.specs.declared.place.Key.TheVariants.{Front, Back}
 use Rattle.qq_model.specs.declared.place.Place.{Place}
 use Rattle.qq_model.specs.declared.place.Place.TheVariants.{Ready, Out, Dead, Gone}
@@ -19,7 +17,7 @@ use Rattle.qq_model.specs.declared.place.Row.{Row}
 use Rattle.qq_model.specs.Limits.{is_ready}
 use Rattle.qq_model.specs.Audit.{next_index, state_after}
 use Rattle.qq_model.specs.Changes.{Progress, put_row, is_needed}
-use Rattle.qq_model.specs.Commands.{append_message, is_of_session, new_consumer, purge_row}
+use Rattle.qq_model.specs.Commands.{purge_row}
 use Rattle.qq_model.specs.Serving.{serve}
 use Rattle.qq_model.specs.State.{State}
 use Rattle.qq_model.proofs.ActKeeps.{KeepsArrivals}

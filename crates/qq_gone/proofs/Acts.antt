@@ -1,7 +1,6 @@
 -- Each command does the same without what is gone.
-use Rattle.std.proofs.Common.{◌≡◌, ℕ, ◌+◌, ◌<◌, ◌≤◌, Bool, true, false, cond, not, ◌&&◌, List, [], ◌∷◌, ◌++◌, Option, Some, None, map, length, refl, sym, ap, ◌∙◌, subst, arith, if◌then◌else◌}
-use Rattle.std.specs.Prelude.{nat_eq, nat_lt, nat_le, filter, fold}
-use Rattle.std.proofs.lemmas.Bool.{false≢true}
+use Rattle.std.proofs.Common.{◌≡◌, ℕ, ◌+◌, ◌<◌, Bool, true, false, ◌&&◌, List, [], ◌∷◌, ◌++◌, Option, Some, None, map, length, refl, sym, ap, ◌∙◌, subst, arith, if◌then◌else◌}
+use Rattle.std.specs.Prelude.{nat_eq, nat_lt, nat_le, fold}
 use Rattle.qq_base.specs.declared.ids.Index.{Index}
 use Rattle.qq_base.specs.declared.ids.Term.{Term}
 use Rattle.qq_base.specs.declared.ids.SessionId.{SessionId}
@@ -25,7 +24,7 @@ use Rattle.qq_model.specs.declared.TheConstants.{MOST_CONSUMERS}
 use Rattle.qq_model.specs.declared.place.Key.TheVariants.{Back}
 use Rattle.qq_model.specs.declared.place.GoneReason.TheVariants as gone
 use Rattle.qq_model.specs.declared.place.Place.{Place}
-use Rattle.qq_model.specs.declared.place.Place.TheVariants.{Ready, Out, Dead, Gone}
+use Rattle.qq_model.specs.declared.place.Place.TheVariants.{Ready, Gone}
 use Rattle.qq_model.specs.declared.place.Row.{Row}
 use Rattle.qq_model.specs.declared.consumer.Consumer.{Consumer}
 use Rattle.qq_model.specs.declared.consumer.Outcome.{Outcome}
@@ -34,13 +33,12 @@ use Rattle.qq_model.specs.State.{State}
 use Rattle.qq_model.specs.Gate.{greatest_tag}
 use Rattle.qq_model.specs.Choice.{next_message, out_count}
 use Rattle.qq_model.specs.Limits.{publish_limit, is_live, is_reject_publish, has_reached, ready_count, ready_bytes, live_count}
-use Rattle.qq_model.specs.Changes.{Progress, put_row, put_consumer, consumer_of, delivery_of, message_of, return_row, drop_finished, credit_of, begin_to_wait}
-use Rattle.qq_model.specs.Commands.{Acted, reply, set_state, refuse, append_message, enqueue_by, enqueue, move_row, get_by, get, join, subscribe, cancel_by, cancel, set_credit, credit_by_mode, credit_by, give_credit, delivered_row, end_delivery, end_delivery_by, end_deliveries, leave_or_wait, finish_by, finish, purge_row, purge, first_delivery, return_by, return_first, return_all, is_of_session, return_session, leave, down, is_at_least_once, dead_attach, dead_row, given_row, Settling, settle_dead_by, settle_dead, dead_settle, act}
-use Rattle.qq_base.proofs.Lists.{In}
+use Rattle.qq_model.specs.Changes.{Progress, put_row, put_consumer, consumer_of, drop_finished, credit_of, begin_to_wait}
+use Rattle.qq_model.specs.Commands.{Acted, reply, set_state, refuse, enqueue_by, enqueue, move_row, get_by, get, join, subscribe, cancel_by, cancel, set_credit, credit_by_mode, credit_by, give_credit, delivered_row, end_delivery, end_delivery_by, end_deliveries, leave_or_wait, finish_by, finish, purge_row, purge, first_delivery, return_by, return_first, return_all, is_of_session, return_session, leave, down, is_at_least_once, dead_attach, dead_row, given_row, Settling, settle_dead_by, settle_dead, dead_settle, act}
 use Rattle.qq_model.proofs.Choices.{first_delivery-in}
-use Rattle.qq_model.proofs.Lookups.{delivered_row-in, dead_row-in, out-place}
+use Rattle.qq_model.proofs.Lookups.{delivered_row-in, dead_row-in}
 use Rattle.qq_model.proofs.SingleChanges.{IsIn-out}
-use Rattle.qq_gone.proofs.Live.{Alike, Scans, scans}
+use Rattle.qq_gone.proofs.Live.{Alike, scans}
 use Rattle.qq_gone.proofs.Puts.{Lives, put-alike, purge-alike, append-alike, message-alike}
 use Rattle.qq_gone.proofs.Same.{over_rows, with_rows, Same, SameActed, SameMaybe, Keeps, KeepsMaybe, KeepsActed, then_same, acted-later, cond-pair, same-as, fold-same, rounds-same, lives-at, die-same, return_row-same, credit_of-same, finished-same, waits-same}
 use Rattle.qq_gone.proofs.Follows.{lives-next}

@@ -1,5 +1,5 @@
 -- What follows on a command is the same without what is gone.
-use Rattle.std.proofs.Common.{◌≡◌, ℕ, ◌+◌, ◌<◌, ◌≤◌, Bool, true, false, cond, ◌&&◌, ◌||◌, List, [], ◌∷◌, ◌++◌, Option, Some, None, refl, sym, ap, ◌∙◌, subst, if◌then◌else◌}
+use Rattle.std.proofs.Common.{◌≡◌, ℕ, ◌+◌, Bool, true, ◌&&◌, ◌||◌, List, [], ◌∷◌, ◌++◌, Option, Some, None, refl, sym, ap, ◌∙◌, subst, if◌then◌else◌}
 use Rattle.std.specs.Prelude.{nat_lt}
 use Rattle.std.specs.Option.{is_some}
 use Rattle.std.proofs.lemmas.Bool.{false≢true}
@@ -13,21 +13,20 @@ use Rattle.qq_entry.specs.declared.audit.Effect.TheVariants.{Deliver, Offer}
 use Rattle.qq_entry.specs.Command.{consumer_id}
 use Rattle.qq_model.specs.declared.TheConstants.{MOST_GIVEN}
 use Rattle.qq_model.specs.declared.place.Place.{Place}
-use Rattle.qq_model.specs.declared.place.Place.TheVariants.{Ready, Out, Dead, Gone}
+use Rattle.qq_model.specs.declared.place.Place.TheVariants.{Out, Dead, Gone}
 use Rattle.qq_model.specs.declared.place.Row.{Row}
 use Rattle.qq_model.specs.declared.consumer.Consumer.{Consumer}
-use Rattle.qq_model.specs.State.{State}
 use Rattle.qq_model.specs.Choice.{next_message, next_consumer}
-use Rattle.qq_model.specs.Limits.{is_ready, is_live, ready_count, ready_bytes, dead_count, has_passed, is_drop_head, is_over_limit}
-use Rattle.qq_model.specs.Changes.{Progress, put_row, put_consumer, consumer_of, message_of, delivery_of}
-use Rattle.qq_model.specs.Commands.{Acted, set_state}
+use Rattle.qq_model.specs.Limits.{is_live, ready_count, ready_bytes, dead_count, has_passed, is_drop_head, is_over_limit}
+use Rattle.qq_model.specs.Changes.{Progress, put_row, put_consumer, consumer_of}
+use Rattle.qq_model.specs.Commands.{Acted}
 use Rattle.qq_model.specs.Serving.{serve, deliver, deliver_by, check_out, check_out_all, drain_by, is_credited, drain, drain_after, drop_head_by, drop_head, keep_limits, given_count, dead_number, next_dead, offer_at, offer_by, give_dead, give_all_dead}
-use Rattle.qq_model.specs.Step.{map_progress, carry_out}
+use Rattle.qq_model.specs.Step.{map_progress}
 use Rattle.qq_model.proofs.Choices.{next_message-in, next_dead-in}
 use Rattle.qq_model.proofs.SingleChanges.{IsIn-ready}
-use Rattle.qq_gone.proofs.Live.{Alike, Scans, scans}
+use Rattle.qq_gone.proofs.Live.{Alike, scans}
 use Rattle.qq_gone.proofs.Puts.{Lives, put-alike, message-alike}
-use Rattle.qq_gone.proofs.Same.{over_rows, Same, SameActed, SameMaybe, Keeps, KeepsMaybe, KeepsActed, then_same, cond-pair, same-as, rounds-same, lives-at, die-same, next_consumer-same}
+use Rattle.qq_gone.proofs.Same.{over_rows, Same, SameActed, SameMaybe, Keeps, KeepsMaybe, then_same, cond-pair, same-as, rounds-same, lives-at, die-same, next_consumer-same}
 
 -- the next message is live
 pub lives-next : (rows : List Row) (row : Row) → next_message rows ≡ Some row → Lives rows row

@@ -1,22 +1,21 @@
 -- What is read of rows, is read of the live ones alone.
-use Rattle.std.proofs.Common.{◌≡◌, ℕ, ◌+◌, ◌≤◌, Bool, true, false, cond, not, List, [], ◌∷◌, Option, Some, None, map, length, refl, sym, ap, ◌∙◌, subst, inl, inr, arith, if◌then◌else◌}
-use Rattle.std.specs.Prelude.{nat_eq, nat_lt, fold, find, filter, count_by, sum_by}
+use Rattle.std.proofs.Common.{◌≡◌, ℕ, ◌+◌, ◌≤◌, Bool, true, false, cond, List, [], ◌∷◌, Option, Some, None, length, refl, sym, ap, ◌∙◌, inl, inr, arith, if◌then◌else◌}
+use Rattle.std.specs.Prelude.{nat_lt, fold, find, count_by}
 use Rattle.std.specs.Option.{option_and_then, option_map}
 use Rattle.std.specs.List.{AllByRecursion}
 use Rattle.std.proofs.lemmas.Bool.{false≢true, cases_Bool, cond-true, cond-false}
 use Rattle.qq_base.specs.declared.ids.ConsumerId.{ConsumerId}
 use Rattle.qq_entry.specs.declared.message.Message.{Message}
-use Rattle.qq_entry.specs.declared.message.Reason.{Reason}
 use Rattle.qq_model.specs.declared.place.GoneReason.{GoneReason}
 use Rattle.qq_model.specs.declared.place.Place.{Place}
-use Rattle.qq_model.specs.declared.place.Place.TheVariants.{Ready, Out, Dead, Gone}
+use Rattle.qq_model.specs.declared.place.Place.TheVariants.{Gone}
 use Rattle.qq_model.specs.declared.place.Row.{Row}
 use Rattle.qq_model.specs.Choice.{is_lesser, lesser, key_less, ready_key, place_key, next_message, is_out_to, out_count}
 use Rattle.qq_model.specs.Limits.{is_ready, is_dead, is_live, ready_count, ready_bytes, dead_count, live_count}
 use Rattle.qq_model.specs.Commands.{is_delivery, delivered_row, delivery_id, first_delivery, is_dead_number, dead_row}
 use Rattle.qq_model.specs.Serving.{is_given, given_count, dead_number, next_dead}
 use Rattle.qq_model.proofs.Indices.{Rises, indices}
-use Rattle.qq_gone.specs.Reduced.{Item, item_row, items, is_live_item, live_items}
+use Rattle.qq_gone.specs.Reduced.{Item, item_row, live_items}
 
 -- rows in order up to an index, and a message for each
 pub record Fits (last : ℕ) (rows : List Row) (messages : List Message) : Type 0 where

@@ -3,13 +3,13 @@ use Rattle.std.proofs.Common.{◌≡◌, ℕ, zero, suc, ◌+◌, ◌<◌, ◌�
 use Rattle.std.specs.Prelude.{nat_eq, nat_lt, filter, slice_get, unwrap_or}
 use Rattle.std.specs.Option.{option_and_then}
 use Rattle.std.specs.List.{AllByRecursion, position_or_len}
-use Rattle.std.proofs.lemmas.Bool.{false≢true, cases_Bool, cond-true, cond-false, cond_both, eqb-true, eq-eqb, ne_eqb, lt-ltb}
+use Rattle.std.proofs.lemmas.Bool.{false≢true, cases_Bool, cond-true, cond-false, eqb-true, eq-eqb, ne_eqb, lt-ltb}
 use Rattle.std.proofs.lemmas.List.{map-append, length-map}
 use Rattle.std.proofs.lemmas.List.Sums.{position_or_len_is}
 use Rattle.qq_base.specs.declared.ids.Index.{Index}
 use Rattle.qq_entry.specs.declared.message.Message.{Message}
 use Rattle.qq_model.specs.declared.place.Place.{Place}
-use Rattle.qq_model.specs.declared.place.Place.TheVariants.{Ready, Out, Dead, Gone}
+use Rattle.qq_model.specs.declared.place.Place.TheVariants.{Gone}
 use Rattle.qq_model.specs.declared.place.Row.{Row}
 use Rattle.qq_model.specs.Limits.{is_ready, is_live}
 use Rattle.qq_model.specs.Changes.{put_row, message_of}
@@ -17,7 +17,7 @@ use Rattle.qq_model.specs.Commands.{purge_row}
 use Rattle.qq_base.proofs.Lists.{In, In-map, In-filter, AllByRecursion-in, AllByRecursion-append, AllByRecursion-weaker}
 use Rattle.qq_model.proofs.Indices.{Rises, indices, unique, rises-push}
 use Rattle.qq_model.proofs.InOrder.{indices-put, indices-purged, put-length}
-use Rattle.qq_gone.specs.Reduced.{Item, item_row, item_message, items, is_live_item, live_items}
+use Rattle.qq_gone.specs.Reduced.{Item, item_row, items, is_live_item, live_items}
 use Rattle.qq_gone.proofs.Live.{Fits, Alike}
 
 -- Items -----------------------------------------------------------------------------------------------

@@ -1,14 +1,11 @@
 -- Two steps under way that differ in what is gone alone, and the changes that keep them so.
-use Rattle.std.proofs.Common.{◌≡◌, ℕ, zero, suc, ◌+◌, ◌<◌, ◌≤◌, Bool, true, false, cond, not, ◌&&◌, ◌||◌, List, [], ◌∷◌, ◌++◌, Option, Some, None, map, length, refl, sym, ap, ◌∙◌, subst, inl, inr, arith, if◌then◌else◌}
-use Rattle.std.specs.Prelude.{nat_eq, nat_lt, nat_le, filter, find, fold}
+use Rattle.std.proofs.Common.{◌≡◌, ℕ, zero, suc, ◌+◌, ◌≤◌, Bool, true, false, cond, not, ◌&&◌, List, [], ◌∷◌, ◌++◌, Option, Some, None, refl, sym, ap, ◌∙◌, subst, if◌then◌else◌}
+use Rattle.std.specs.Prelude.{nat_eq, nat_lt, filter, find, fold}
 use Rattle.std.specs.Option.{option_map_or, option_and_then}
-use Rattle.std.specs.List.{AllByRecursion}
-use Rattle.std.proofs.lemmas.Bool.{false≢true}
 use Rattle.qq_base.specs.declared.ids.ConsumerId.{ConsumerId}
 use Rattle.qq_entry.specs.declared.message.Message.{Message}
 use Rattle.qq_entry.specs.declared.message.Reason.{Reason}
 use Rattle.qq_entry.specs.declared.audit.Effect.TheVariants.{DeadOnce}
-use Rattle.qq_entry.specs.declared.answer.Answer.{Answer}
 use Rattle.qq_entry.specs.declared.queue.Strategy.{Strategy}
 use Rattle.qq_entry.specs.declared.queue.Strategy.TheVariants.{Absent, AtMostOnce, AtLeastOnce}
 use Rattle.qq_entry.specs.declared.message.Reason.TheVariants as reason
@@ -19,10 +16,10 @@ use Rattle.qq_model.specs.declared.place.Place.TheVariants.{Ready, Dead, Gone}
 use Rattle.qq_model.specs.declared.place.Row.{Row}
 use Rattle.qq_model.specs.declared.consumer.Consumer.{Consumer}
 use Rattle.qq_model.specs.State.{State}
-use Rattle.qq_model.specs.Choice.{out_count, credit_left, free_credit, may_be_served, waiting_turn, longest_waiting, servable_consumer, active_consumer, next_consumer}
+use Rattle.qq_model.specs.Choice.{credit_left, free_credit, may_be_served, waiting_turn, longest_waiting, servable_consumer, next_consumer}
 use Rattle.qq_model.specs.Limits.{has_passed}
-use Rattle.qq_model.specs.Changes.{Progress, while_next, put_row, consumer_of, message_of, die_by, die, go_back, return_counted, return_row, is_needed, drop_finished, credit_of, take_turn, begin_to_wait}
-use Rattle.qq_model.specs.Commands.{Acted, reply, set_state}
+use Rattle.qq_model.specs.Changes.{Progress, while_next, put_row, consumer_of, die_by, die, go_back, return_row, is_needed, drop_finished, credit_of, take_turn, begin_to_wait}
+use Rattle.qq_model.specs.Commands.{Acted, set_state}
 use Rattle.qq_model.proofs.Least.{least_by-same_keys}
 use Rattle.qq_model.proofs.Lists.{AllByRecursion-from_in}
 use Rattle.qq_gone.proofs.Live.{Alike, Scans, scans}

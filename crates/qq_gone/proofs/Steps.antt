@@ -1,5 +1,5 @@
 -- A step is the same without what is gone, and so are all that follow on it.
-use Rattle.std.proofs.Common.{◌≡◌, ℕ, ◌+◌, ◌<◌, ◌≤◌, Bool, true, false, cond, List, [], ◌∷◌, ◌++◌, Option, Some, None, map, length, refl, sym, ap, ◌∙◌, subst, inl, inr, arith}
+use Rattle.std.proofs.Common.{◌≡◌, ℕ, ◌+◌, ◌<◌, ◌≤◌, Bool, true, List, [], ◌∷◌, ◌++◌, Option, Some, None, map, refl, sym, ap, ◌∙◌, subst, inl, inr, arith}
 use Rattle.std.specs.Prelude.{filter}
 use Rattle.std.specs.List.{AllByRecursion}
 use Rattle.std.proofs.lemmas.Bool.{cases_Bool, cond-true, cond-false, cond_both}
@@ -20,18 +20,18 @@ use Rattle.qq_model.specs.declared.session.Gate.{Gate}
 use Rattle.qq_model.specs.declared.session.Gate.TheVariants.{Fresh, Again, Gap, Forgotten, Ended, WindowFull, SessionsFull}
 use Rattle.qq_model.specs.Limits.{is_live}
 use Rattle.qq_model.specs.State.{State, Sessions, empty_queue}
-use Rattle.qq_model.specs.Gate.{gate, admit, turn_away, keep_answer}
+use Rattle.qq_model.specs.Gate.{gate, admit, keep_answer}
 use Rattle.qq_model.specs.Changes.{Progress}
 use Rattle.qq_model.specs.Commands.{Acted, act}
-use Rattle.qq_model.specs.Serving.{check_out_all, drain_after, keep_limits, give_all_dead}
-use Rattle.qq_model.specs.Step.{Step, map_progress, carry_out, apply, pass_gate, pass_ungated, reject, go_through, step_by, step}
+use Rattle.qq_model.specs.Serving.{check_out_all, keep_limits, give_all_dead}
+use Rattle.qq_model.specs.Step.{Step, carry_out, apply, reject, go_through, step_by, step}
 use Rattle.qq_model.specs.Audit.{next_index, next_step, row_of, audit_of, state_after, effects_of}
 use Rattle.qq_model.proofs.Indices.{Rises, indices}
 use Rattle.qq_model.proofs.Soundness.{rows_at}
-use Rattle.qq_gone.specs.Reduced.{Item, item_row, item_message, items, is_live_item, live_items, reduced, SameButGone, StepsAlike, GoesOnAlike}
+use Rattle.qq_gone.specs.Reduced.{Item, item_row, item_message, items, is_live_item, live_items, reduced, StepsAlike, GoesOnAlike}
 use Rattle.qq_gone.proofs.Live.{Fits, Alike}
 use Rattle.qq_gone.proofs.Puts.{alike-later}
-use Rattle.qq_gone.proofs.Same.{with_rows, over_rows, Twins, Same, SameActed, then_same, same-as}
+use Rattle.qq_gone.proofs.Same.{with_rows, Twins, SameActed}
 use Rattle.qq_gone.proofs.Acts.{act-same}
 use Rattle.qq_gone.proofs.Follows.{then_acted, check_out_all-same, drain_after-same, keep_limits-same, give_all_dead-same}
 

@@ -15,7 +15,6 @@ use Rattle.qq_entry.specs.declared.command.Entry.{Entry}
 use Rattle.qq_base.specs.declared.ids.Term.{Term}
 use Rattle.qq_entry.specs.declared.command.DeadDone.{DeadDone}
 use Rattle.qq_entry.specs.declared.answer.Answer.TheVariants as answer
-use Rattle.qq_entry.specs.declared.answer.Answer.TheVariants.{Got}
 use Rattle.qq_entry.specs.declared.answer.Cause.TheVariants.{NumberSpent, ConsumersFull}
 use Rattle.qq_entry.specs.declared.answer.Full.{Full}
 use Rattle.qq_model.specs.declared.place.Row.{Row}

@@ -1,10 +1,9 @@
 -- What becomes of slots where an index has a holder more or less, and where free ones leave.
-use Rattle.std.proofs.Common.{◌≡◌, ℕ, zero, suc, ◌+◌, ◌-◌, ◌*◌, ◌<◌, ◌≤◌, ◌⊎◌, Bool, true, false, not, List, [], ◌∷◌, ◌++◌, Option, Some, None, length, take, drop, refl, sym, ap, ◌∙◌, subst, inl, inr, arith, if◌then◌else◌}
-use Rattle.std.specs.Prelude.{nat_lt, nat_eq, slice_get, slice_set, insert, count_by, sum_by, filter, replicate}
-use Rattle.std.specs.List.{AllByRecursion}
+use Rattle.std.proofs.Common.{◌≡◌, ℕ, zero, suc, ◌+◌, ◌-◌, ◌*◌, ◌<◌, ◌≤◌, ◌⊎◌, Bool, true, false, not, List, [], ◌∷◌, ◌++◌, Some, None, length, take, drop, refl, sym, ap, ◌∙◌, subst, inl, inr, arith, if◌then◌else◌}
+use Rattle.std.specs.Prelude.{nat_lt, nat_eq, slice_get, slice_set, insert, sum_by, filter, replicate}
 use Rattle.std.specs.List.Sorted.{IsPermutation}
 use Rattle.std.proofs.lemmas.List.Sorted.{sum_by-IsPermutation}
-use Rattle.std.proofs.lemmas.Bool.{cases_Bool, cond-true, cond-false, cond_both, ltb-true, ltb-false, ne_eqb, eqb-true, eqb-false, not-true, not-false}
+use Rattle.std.proofs.lemmas.Bool.{cases_Bool, cond-true, cond-false, cond_both, ltb-false, ne_eqb, eqb-true, eqb-false, not-true}
 use Rattle.std.proofs.lemmas.List.{take_more}
 use Rattle.std.proofs.lemmas.Option.{slice_get_within, get_or_from_slice_get}
 use Rattle.std.proofs.lemmas.List.Sums.{sum_by-append, sum_by-cons, sum_by-insert, length-filter}
@@ -13,7 +12,7 @@ use Rattle.qq_base.specs.declared.ids.Index.{Index}
 use Rattle.qq_base.proofs.Lists.{AllByRecursion-filter}
 use Rattle.qq_live.specs.declared.slot.Slot.{Slot}
 use Rattle.qq_live.specs.Indices.{is_index, occurrences, Adds, Removes}
-use Rattle.qq_live.specs.Slots.{is_held, is_free, held_of, held_count, SlotsRise, is_front_free, AreFronted, AreSlots, Trims, Gains, Loses, place_of, holders_by, holders_at}
+use Rattle.qq_live.specs.Slots.{is_held, is_free, held_of, held_count, SlotsRise, is_front_free, AreFronted, AreSlots, Trims, Gains, Loses, place_of, holders_at}
 use Rattle.qq_live.proofs.Places.{IsThere, is-there, rises-set, rises-insert, place-most}
 use Rattle.qq_live.proofs.Sums.{holders_of, all_holders, one_if_held, held-sum, held-length, occurrences-cons, placed-sum, count_at}
 

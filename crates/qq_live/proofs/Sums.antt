@@ -1,8 +1,8 @@
 -- How often an index is held, as a sum over slots, and the least index that is.
-use Rattle.std.proofs.Common.{◌≡◌, ℕ, zero, suc, ◌+◌, ◌-◌, ◌*◌, ◌<◌, ◌≤◌, ◌⊎◌, Bool, true, false, not, List, [], ◌∷◌, ◌++◌, Option, Some, None, length, refl, sym, ap, ◌∙◌, subst, inl, inr, arith, if◌then◌else◌}
-use Rattle.std.specs.Prelude.{nat_lt, nat_eq, slice_get, count_by, sum_by, replicate}
+use Rattle.std.proofs.Common.{◌≡◌, ℕ, suc, ◌+◌, ◌-◌, ◌*◌, ◌<◌, ◌≤◌, ◌⊎◌, Bool, true, false, not, List, [], ◌∷◌, Option, Some, None, length, refl, sym, ap, ◌∙◌, subst, inl, inr, arith, if◌then◌else◌}
+use Rattle.std.specs.Prelude.{nat_lt, nat_eq, slice_get, sum_by, replicate}
 use Rattle.std.specs.List.{AllByRecursion}
-use Rattle.std.specs.Option.{option_map, option_map_or}
+use Rattle.std.specs.Option.{option_map}
 use Rattle.std.proofs.lemmas.Bool.{cases_Bool, cond-true, cond-false, ltb-true, ltb-false, ne_eqb, eqb-false}
 use Rattle.std.proofs.lemmas.List.{length-append, length-replicate}
 use Rattle.std.proofs.lemmas.List.Sums.{sum_by-append, sum_by-cons}
@@ -10,7 +10,7 @@ use Rattle.std.proofs.lemmas.List.Folds.{sum_by-replicate}
 use Rattle.qq_base.specs.declared.ids.Index.{Index}
 use Rattle.qq_live.specs.declared.slot.Slot.{Slot}
 use Rattle.qq_live.specs.Indices.{is_index, occurrences, lesser, least}
-use Rattle.qq_live.specs.Slots.{is_held, is_free, held_of, held_count, SlotsRise, is_front_free, place_of, holders_by, holders_at}
+use Rattle.qq_live.specs.Slots.{is_held, held_of, SlotsRise, is_front_free, place_of, holders_at}
 
 -- how many hold an index in a slot, and how many hold the slot
 abbrev pub holders_of : ℕ → Slot → ℕ

@@ -1,12 +1,11 @@
 -- The single active consumer.
-use Rattle.std.proofs.Common.{◌≡◌, Bool, true, false, not, cond, List, [], ◌∷◌, Option, Some, None, map, refl, sym, ap, ◌∙◌, if◌then◌else◌}
+use Rattle.std.proofs.Common.{◌≡◌, Bool, true, false, not, cond, List, [], ◌∷◌, Option, Some, None, map, refl, ap, ◌∙◌, if◌then◌else◌}
 use Rattle.std.specs.Prelude.{find}
 use Rattle.std.specs.Option.{option_and_then, option_map}
-use Rattle.qq_base.proofs.Lists.{In, find-in}
-use Rattle.qq_model.specs.declared.place.Row.{Row}
+use Rattle.qq_base.proofs.Lists.{find-in}
 use Rattle.qq_model.specs.declared.consumer.Consumer.{Consumer}
 use Rattle.qq_model.specs.State.{State}
-use Rattle.qq_model.specs.Choice.{may_be_served, servable_consumer, active_consumer, next_consumer}
+use Rattle.qq_model.specs.Choice.{servable_consumer, active_consumer, next_consumer}
 use Rattle.qq_parts.specs.Parts.{Served, consumer_at, Parts, Stands, IsWhole}
 use Rattle.qq_parts.specs.Turns.{may_serve, servable_one, is_current, active_one}
 use Rattle.qq_parts.proofs.Waiting.{may-is}

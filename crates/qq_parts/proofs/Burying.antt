@@ -1,31 +1,29 @@
 -- The dead letters of a queue are those of its parts.
-use Rattle.std.proofs.Common.{◌≡◌, ℕ, ◌+◌, ◌<◌, ◌≤◌, ◌⊎◌, Bool, true, false, cond, List, [], ◌∷◌, ◌++◌, append_assoc, Option, Some, None, map, length, refl, sym, ap, ◌∙◌, subst, inl, inr, arith, if◌then◌else◌}
-use Rattle.std.specs.Prelude.{nat_eq, nat_lt, nat_le, find, count_by, sum_by}
+use Rattle.std.proofs.Common.{◌≡◌, ℕ, ◌+◌, ◌<◌, ◌≤◌, ◌⊎◌, Bool, true, false, cond, List, [], ◌∷◌, ◌++◌, append_assoc, Option, Some, None, refl, sym, ap, ◌∙◌, subst, inl, inr, arith, if◌then◌else◌}
+use Rattle.std.specs.Prelude.{nat_eq, nat_lt, nat_le, sum_by}
 use Rattle.std.specs.Option.{option_map}
 use Rattle.std.specs.List.{AllByRecursion}
-use Rattle.std.proofs.lemmas.Bool.{false≢true, cases_Bool, cond-true, cond-false, lt-ltb, ltb-true, ltb-false, le-ltb, eq-eqb}
+use Rattle.std.proofs.lemmas.Bool.{cases_Bool, cond-true, cond-false, lt-ltb, ltb-true, ltb-false, le-ltb, eq-eqb}
 use Rattle.qq_base.proofs.Lists.{In, In-append_right, AllByRecursion-in, AllByRecursion-append, AllByRecursion-weaker}
 use Rattle.qq_base.specs.declared.ids.ConsumerId.{ConsumerId}
-use Rattle.qq_entry.specs.declared.message.Reason.{Reason}
 use Rattle.qq_model.specs.declared.place.Key.{Key}
 use Rattle.qq_model.specs.declared.place.Place.{Place}
-use Rattle.qq_model.specs.declared.place.Place.TheVariants.{Ready, Out, Dead, Gone}
+use Rattle.qq_model.specs.declared.place.Place.TheVariants.{Ready, Out}
 use Rattle.qq_model.specs.declared.place.Row.{Row}
 use Rattle.qq_model.specs.State.{State}
 use Rattle.qq_model.specs.Choice.{is_lesser}
-use Rattle.qq_model.specs.Limits.{is_live}
 use Rattle.qq_model.specs.Commands.{is_dead_number, dead_row}
 use Rattle.qq_model.specs.Serving.{is_given, given_count, dead_number, next_dead}
 use Rattle.qq_model.proofs.Least.{nat_lt-order, least_by-is, none-least_by}
 use Rattle.qq_gone.specs.Reduced.{Item, item_row, live_items}
 use Rattle.qq_gone.proofs.Live.{gone-is}
 use Rattle.qq_parts.specs.Perm.{Perm}
-use Rattle.qq_parts.specs.Perm.Perm.{done, skip, swap, join}
-use Rattle.qq_parts.specs.Parts.{Parts, outs, items_of, Stands, item_number, NumbersRise, IsDead, AreDead, IsWhole}
+use Rattle.qq_parts.specs.Perm.Perm.{join}
+use Rattle.qq_parts.specs.Parts.{Parts, outs, items_of, Stands, item_number, NumbersRise, IsDead, IsWhole}
 use Rattle.qq_parts.specs.Reads.{ready_items}
 use Rattle.qq_parts.specs.Changes.{Taken, IsTaken}
 use Rattle.qq_parts.specs.Outs.{Cut, cut_id, taken_row}
-use Rattle.qq_parts.specs.Letters.{dead_of, take_dead, first_above, given_of, TellsDead}
+use Rattle.qq_parts.specs.Letters.{dead_of, first_above, given_of, TellsDead}
 use Rattle.qq_parts.proofs.Perms.{perm-sym, perm-in, perm-each, perm-left, perm-middle}
 use Rattle.qq_parts.proofs.Turn.{item-row, each-row}
 use Rattle.qq_parts.proofs.Reading.{each-ready, each-out, sum-all, sum-none, sum-items, sum-parts}

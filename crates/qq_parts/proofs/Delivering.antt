@@ -1,8 +1,8 @@
 -- A delivery is made, a consumer joins, and all that is ready is purged.
-use Rattle.std.proofs.Common.{◌≡◌, ℕ, ◌+◌, ◌-◌, ◌<◌, ◌≤◌, ◌⊎◌, Bool, true, false, cond, List, [], ◌∷◌, ◌++◌, append_assoc, Option, Some, None, map, length, refl, sym, ap, ◌∙◌, subst, inl, inr, arith, if◌then◌else◌}
+use Rattle.std.proofs.Common.{◌≡◌, ℕ, ◌+◌, ◌-◌, ◌<◌, true, false, cond, List, [], ◌∷◌, ◌++◌, append_assoc, map, length, refl, sym, ap, ◌∙◌, subst, inl, inr, arith}
 use Rattle.std.specs.Prelude.{filter}
 use Rattle.std.specs.List.{AllByRecursion}
-use Rattle.std.proofs.lemmas.Bool.{false≢true, cases_Bool, cond-true, cond-false}
+use Rattle.std.proofs.lemmas.Bool.{cond-true, cond-false}
 use Rattle.std.proofs.lemmas.List.{map-append, length-map}
 use Rattle.qq_base.proofs.Lists.{In, AllByRecursion-append, AllByRecursion-weaker}
 use Rattle.qq_base.specs.declared.ids.ConsumerId.{ConsumerId}
@@ -10,33 +10,30 @@ use Rattle.qq_base.specs.Ids.{same_consumer}
 use Rattle.qq_entry.specs.declared.command.Mode.{Mode}
 use Rattle.qq_entry.specs.declared.command.Mode.TheVariants.{Prefetch, Link}
 use Rattle.qq_entry.specs.declared.message.Message.{Message}
-use Rattle.qq_entry.specs.declared.message.Reason.{Reason}
 use Rattle.qq_entry.specs.declared.audit.Effect.{Effect}
 use Rattle.qq_entry.specs.declared.audit.Effect.TheVariants.{Deliver}
-use Rattle.qq_model.specs.declared.place.Key.{Key}
-use Rattle.qq_model.specs.declared.place.Place.{Place}
-use Rattle.qq_model.specs.declared.place.Place.TheVariants.{Ready, Out, Dead, Gone}
+use Rattle.qq_model.specs.declared.place.Place.TheVariants.{Out, Gone}
 use Rattle.qq_model.specs.declared.place.GoneReason.TheVariants as gone
 use Rattle.qq_model.specs.declared.place.Row.{Row}
 use Rattle.qq_model.specs.declared.consumer.Consumer.{Consumer}
 use Rattle.qq_model.specs.State.{State}
 use Rattle.qq_model.specs.Limits.{is_ready, is_live}
-use Rattle.qq_model.specs.Changes.{Progress, put_row, put_consumer, message_of}
+use Rattle.qq_model.specs.Changes.{put_row, put_consumer}
 use Rattle.qq_model.specs.Commands.{new_consumer, join as join_state, purge_row}
 use Rattle.qq_model.specs.Serving.{use_credit, serve, deliver}
 use Rattle.qq_model.proofs.InOrder.{indices-purged}
-use Rattle.qq_model.proofs.Indices.{Rises, indices}
-use Rattle.qq_model.proofs.OneConsumer.{same_consumer-refl, same_consumer-true}
-use Rattle.qq_gone.specs.Reduced.{Item, items, is_live_item, live_items}
+use Rattle.qq_model.proofs.Indices.{Rises}
+use Rattle.qq_model.proofs.OneConsumer.{same_consumer-refl}
+use Rattle.qq_gone.specs.Reduced.{Item, is_live_item, live_items}
 use Rattle.qq_gone.proofs.Puts.{purge_item, live-purge, filter-append}
 use Rattle.qq_parts.specs.Perm.{Perm}
-use Rattle.qq_parts.specs.Perm.Perm.{done, skip, swap, join}
-use Rattle.qq_parts.specs.Parts.{Served, consumer_at, Parts, outs, items_of, frame, with_rows, AreRising, Stands, StandsWith, item_number, IsPlaced, ArePlaced, HasOut, AreTwo, AreApart, IsWhole}
+use Rattle.qq_parts.specs.Perm.Perm.{join}
+use Rattle.qq_parts.specs.Parts.{Served, consumer_at, Parts, outs, items_of, frame, with_rows, AreRising, Stands, StandsWith, ArePlaced, HasOut, AreTwo, AreApart, IsWhole}
 use Rattle.qq_parts.specs.Reads.{ready_items}
 use Rattle.qq_parts.specs.Changes.{moved, Holds, HoldsAfter}
-use Rattle.qq_parts.specs.Outs.{serve_one, hand_to, hand_over, delivery_to, MayDeliver, joined, IsFree, MayJoin, purged, MayPurge}
-use Rattle.qq_parts.proofs.Perms.{perm-refl, perm-sym, perm-left, perm-right, perm-middle, perm-map, perm-filter}
-use Rattle.qq_parts.proofs.Turn.{rising-indices, indices-rising, all-pass}
+use Rattle.qq_parts.specs.Outs.{serve_one, hand_to, hand_over, delivery_to, MayDeliver, joined, IsFree, MayJoin, MayPurge}
+use Rattle.qq_parts.proofs.Perms.{perm-sym, perm-left, perm-right, perm-middle, perm-map, perm-filter}
+use Rattle.qq_parts.proofs.Turn.{rising-indices, indices-rising}
 use Rattle.qq_parts.proofs.Reading.{each-ready, each-out, each-dead}
 use Rattle.qq_parts.proofs.Moving.{placed-push, Rows, rows-of, by-frame, stands-live, message-is}
 

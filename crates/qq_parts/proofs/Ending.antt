@@ -1,35 +1,30 @@
 -- A delivery ends: its message is taken out of the parts.
-use Rattle.std.proofs.Common.{◌≡◌, ℕ, ◌-◌, ◌<◌, ◌⊎◌, Bool, true, false, cond, ◌&&◌, List, [], ◌∷◌, ◌++◌, append_assoc, Option, Some, None, map, length, refl, sym, ap, ◌∙◌, subst, inl, inr, arith}
-use Rattle.std.specs.Prelude.{nat_eq, find, filter}
+use Rattle.std.proofs.Common.{◌≡◌, ℕ, ◌-◌, ◌<◌, ◌⊎◌, Bool, true, false, ◌&&◌, List, [], ◌∷◌, ◌++◌, Option, Some, None, map, refl, sym, ap, ◌∙◌, subst, inl, inr, arith}
+use Rattle.std.specs.Prelude.{nat_eq, find}
 use Rattle.std.specs.Option.{option_map}
-use Rattle.std.specs.List.{AllByRecursion, list_any}
+use Rattle.std.specs.List.{AllByRecursion}
 use Rattle.std.proofs.lemmas.Bool.{false≢true, cases_Bool, cond-true, cond-false, and_from, and_left, eq-eqb, eqb-true, ne_eqb}
 use Rattle.qq_base.proofs.Lists.{In, AllByRecursion-in, AllByRecursion-append, AllByRecursion-weaker, find-in, list_any-from_in}
 use Rattle.qq_base.specs.declared.ids.ConsumerId.{ConsumerId}
 use Rattle.qq_base.specs.Ids.{same_consumer}
-use Rattle.qq_entry.specs.declared.message.Reason.{Reason}
-use Rattle.qq_model.specs.declared.place.Key.{Key}
-use Rattle.qq_model.specs.declared.place.Key.TheVariants.{Front, Back}
-use Rattle.qq_model.specs.declared.place.Place.{Place}
-use Rattle.qq_model.specs.declared.place.Place.TheVariants.{Ready, Out, Dead, Gone}
+use Rattle.qq_model.specs.declared.place.Place.TheVariants.{Out}
 use Rattle.qq_model.specs.declared.place.Row.{Row}
 use Rattle.qq_model.specs.declared.consumer.Consumer.{Consumer}
 use Rattle.qq_model.specs.State.{State}
-use Rattle.qq_model.specs.Limits.{is_live}
 use Rattle.qq_model.specs.Commands.{is_delivery, delivered_row}
 use Rattle.qq_model.proofs.Lists.{find-none}
 use Rattle.qq_model.proofs.OneConsumer.{same_consumer-true}
-use Rattle.qq_gone.specs.Reduced.{Item, item_row, items, is_live_item, live_items}
+use Rattle.qq_gone.specs.Reduced.{Item, live_items}
 use Rattle.qq_gone.proofs.Live.{gone-is}
 use Rattle.qq_parts.specs.Perm.{Perm}
-use Rattle.qq_parts.specs.Perm.Perm.{done, skip, swap, join}
-use Rattle.qq_parts.specs.Parts.{Served, consumer_at, Parts, outs, items_of, frame, Stands, StandsWith, item_number, NumbersRise, IsPlaced, ArePlaced, HasOut, AreTwo, AreApart, IsWhole}
+use Rattle.qq_parts.specs.Perm.Perm.{skip, swap, join}
+use Rattle.qq_parts.specs.Parts.{Served, consumer_at, Parts, outs, items_of, frame, Stands, item_number, NumbersRise, IsPlaced, HasOut, AreTwo, AreApart, IsWhole}
 use Rattle.qq_parts.specs.Reads.{ready_items}
 use Rattle.qq_parts.specs.Changes.{Taken, IsTaken}
-use Rattle.qq_parts.specs.Outs.{Cut, behind_item, cut_id, CutOut, out_of, behind_one, cut_out, taken_of, take_out, taken_row, MayEnd}
+use Rattle.qq_parts.specs.Outs.{Cut, behind_item, cut_id, CutOut, out_of, behind_one, cut_out, taken_of, taken_row, MayEnd}
 use Rattle.qq_parts.proofs.Perms.{perm-refl, perm-sym, perm-in, perm-each, perm-left, perm-right, perm-middle}
 use Rattle.qq_parts.proofs.Turn.{item-row, each-row}
-use Rattle.qq_parts.proofs.Reading.{each-ready, each-out, each-dead}
+use Rattle.qq_parts.proofs.Reading.{each-ready, each-dead}
 
 -- One list --------------------------------------------------------------------------------------------
 

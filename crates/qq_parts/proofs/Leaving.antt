@@ -1,28 +1,25 @@
 -- Consumers change, and leave.
-use Rattle.std.proofs.Common.{◌≡◌, ℕ, ◌-◌, ◌<◌, ◌⊎◌, Bool, true, false, not, ◌&&◌, cond, List, [], ◌∷◌, ◌++◌, map, length, refl, sym, ap, ◌∙◌, subst, inl, inr, arith, if◌then◌else◌}
-use Rattle.std.specs.Prelude.{nat_eq, filter, Contains}
+use Rattle.std.proofs.Common.{◌≡◌, ◌-◌, ◌<◌, ◌⊎◌, Bool, true, false, not, ◌&&◌, cond, List, [], ◌∷◌, ◌++◌, map, length, refl, sym, ap, ◌∙◌, subst, inl, inr, arith, if◌then◌else◌}
+use Rattle.std.specs.Prelude.{nat_eq, filter}
 use Rattle.std.specs.List.{AllByRecursion}
 use Rattle.std.proofs.lemmas.Bool.{false≢true, cases_Bool, cond-true, cond-false, cond_both, and_parts, eqb-true}
-use Rattle.qq_base.proofs.Lists.{In, AllByRecursion-in, AllByRecursion-filter, AllByRecursion-map, AllByRecursion-weaker}
-use Rattle.qq_base.specs.declared.ids.SessionId.{SessionId}
+use Rattle.qq_base.proofs.Lists.{In, AllByRecursion-in, AllByRecursion-filter, AllByRecursion-map}
 use Rattle.qq_base.specs.declared.ids.ConsumerId.{ConsumerId}
 use Rattle.qq_base.specs.Ids.{same_consumer}
 use Rattle.qq_model.specs.declared.place.Place.TheVariants.{Out}
-use Rattle.qq_model.specs.declared.place.Row.{Row}
-use Rattle.qq_entry.specs.declared.message.Message.{Message}
 use Rattle.qq_model.specs.declared.consumer.Consumer.{Consumer}
 use Rattle.qq_model.specs.State.{State}
-use Rattle.qq_model.specs.Changes.{put_consumer, is_needed, drop_finished}
+use Rattle.qq_model.specs.Changes.{put_consumer, is_needed}
 use Rattle.qq_model.specs.Commands.{is_of_session}
 use Rattle.qq_model.proofs.Lists.{AllByRecursion-from_in}
 use Rattle.qq_model.proofs.OneConsumer.{same_consumer-true}
 use Rattle.qq_model.proofs.Soundness.{in_contains}
 use Rattle.qq_gone.specs.Reduced.{Item, live_items}
 use Rattle.qq_parts.specs.Perm.{Perm}
-use Rattle.qq_parts.specs.Parts.{Served, consumer_at, Parts, outs, items_of, frame, with_rows, Stands, ArePlaced, HasOut, AreTwo, AreApart, IsWhole}
+use Rattle.qq_parts.specs.Parts.{Served, consumer_at, Parts, outs, Stands, ArePlaced, HasOut, AreTwo, AreApart, IsWhole}
 use Rattle.qq_parts.specs.Reads.{ready_items}
 use Rattle.qq_parts.specs.Changes.{Holds}
-use Rattle.qq_parts.specs.Consumers.{change_one, changed, MayChange, keep_ones, needed_one, MayFinish, stays_one, MayGo, ConsumersChange}
+use Rattle.qq_parts.specs.Consumers.{change_one, MayChange, keep_ones, needed_one, MayFinish, stays_one, MayGo, ConsumersChange}
 use Rattle.qq_parts.proofs.Reading.{out-is}
 use Rattle.qq_parts.proofs.Waiting.{one-id}
 

@@ -1,11 +1,8 @@
 -- Messages leave the parts, and come back to others.
-use Rattle.std.proofs.Common.{◌≡◌, ℕ, ◌+◌, ◌<◌, ◌≤◌, Bool, true, false, cond, List, [], ◌∷◌, ◌++◌, append_assoc, Option, Some, None, map, length, refl, sym, ap, ◌∙◌, subst, inl, inr, arith, length-append, if◌then◌else◌}
-use Rattle.std.specs.Prelude.{filter}
+use Rattle.std.proofs.Common.{◌≡◌, ℕ, ◌+◌, ◌<◌, ◌≤◌, Bool, true, false, List, [], ◌∷◌, ◌++◌, append_assoc, Option, Some, None, length, refl, sym, ap, ◌∙◌, subst, inl, arith, length-append, if◌then◌else◌}
 use Rattle.std.specs.List.{AllByRecursion}
-use Rattle.std.proofs.lemmas.Bool.{false≢true}
-use Rattle.std.proofs.lemmas.List.{map-append}
 use Rattle.qq_base.specs.declared.ids.Index.{Index}
-use Rattle.qq_base.proofs.Lists.{In, AllByRecursion-append, AllByRecursion-weaker}
+use Rattle.qq_base.proofs.Lists.{AllByRecursion-append, AllByRecursion-weaker}
 use Rattle.qq_entry.specs.declared.message.Message.{Message}
 use Rattle.qq_entry.specs.declared.message.Reason.{Reason}
 use Rattle.qq_entry.specs.declared.message.Reason.TheVariants.{DeliveryLimit}
@@ -20,18 +17,17 @@ use Rattle.qq_model.specs.declared.place.Place.{Place}
 use Rattle.qq_model.specs.declared.place.Place.TheVariants.{Ready, Dead, Gone}
 use Rattle.qq_model.specs.declared.place.Row.{Row}
 use Rattle.qq_model.specs.State.{State}
-use Rattle.qq_model.specs.Limits.{is_live, has_passed}
+use Rattle.qq_model.specs.Limits.{is_live}
 use Rattle.qq_model.specs.Changes.{Progress, put_row, message_of, die_by, die, go_back, return_counted, return_row}
 use Rattle.qq_model.specs.Commands.{append_message, move_row}
 use Rattle.qq_model.proofs.InOrder.{put-length}
 use Rattle.qq_gone.specs.Reduced.{Item, items, is_live_item, live_items}
 use Rattle.qq_gone.proofs.Puts.{In-from_filter, message-at, live-append}
-use Rattle.qq_gone.proofs.Same.{cond-pair}
 use Rattle.qq_parts.specs.Perm.{Perm}
-use Rattle.qq_parts.specs.Perm.Perm.{done, skip, swap, join}
+use Rattle.qq_parts.specs.Perm.Perm.{skip, swap, join}
 use Rattle.qq_parts.specs.Parts.{Parts, outs, items_of, frame, with_rows, AreRising, Stands, StandsWith, item_number, NumbersRise, IsPlaced, ArePlaced, IsDead, AreDead, IsWhole}
 use Rattle.qq_parts.specs.Changes.{Taken, take_by, take_first, moved, push_back, push_front, push_dead, arrive, bury, dead_letter, put_back, recounted, is_spent, give_back, back_letter, Holds, HoldsAfter, MayLeave, MayArrive, IsTaken}
-use Rattle.qq_parts.proofs.Perms.{perm-refl, perm-same, perm-sym, perm-in, perm-left, perm-right, perm-middle}
+use Rattle.qq_parts.proofs.Perms.{perm-refl, perm-sym, perm-in, perm-right, perm-middle}
 use Rattle.qq_parts.proofs.Turn.{rising-indices, rising-put, turn-live, turn-gone}
 
 -- Where an item stands in all -------------------------------------------------------------------------

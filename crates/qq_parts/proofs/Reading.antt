@@ -1,9 +1,9 @@
 -- What is read of a queue is read of its parts.
-use Rattle.std.proofs.Common.{◌≡◌, ℕ, ◌+◌, ◌-◌, ◌<◌, ◌⊎◌, Bool, true, false, cond, List, [], ◌∷◌, ◌++◌, Option, Some, None, map, length, refl, sym, ap, ◌∙◌, subst, inl, inr, arith, if◌then◌else◌}
-use Rattle.std.specs.Prelude.{nat_lt, filter, count_by, sum_by}
+use Rattle.std.proofs.Common.{◌≡◌, ℕ, ◌+◌, ◌-◌, ◌<◌, ◌⊎◌, Bool, true, false, cond, List, [], ◌∷◌, ◌++◌, Some, None, length, refl, sym, ap, ◌∙◌, subst, inl, inr, arith, if◌then◌else◌}
+use Rattle.std.specs.Prelude.{nat_lt, sum_by}
 use Rattle.std.specs.Option.{option_map}
 use Rattle.std.specs.List.{AllByRecursion}
-use Rattle.std.proofs.lemmas.Bool.{false≢true, cond-true, cond-false, lt-ltb}
+use Rattle.std.proofs.lemmas.Bool.{lt-ltb}
 use Rattle.std.proofs.lemmas.List.Sums.{sum_by-append, sum_by-cons}
 use Rattle.qq_base.proofs.Lists.{In, AllByRecursion-in, AllByRecursion-append, AllByRecursion-weaker, In-append_left}
 use Rattle.qq_base.specs.declared.ids.ConsumerId.{ConsumerId}
@@ -12,7 +12,7 @@ use Rattle.qq_entry.specs.declared.message.Reason.{Reason}
 use Rattle.qq_model.specs.declared.place.Key.{Key}
 use Rattle.qq_model.specs.declared.place.Key.TheVariants.{Front, Back}
 use Rattle.qq_model.specs.declared.place.Place.{Place}
-use Rattle.qq_model.specs.declared.place.Place.TheVariants.{Ready, Out, Dead, Gone}
+use Rattle.qq_model.specs.declared.place.Place.TheVariants.{Ready, Out, Dead}
 use Rattle.qq_model.specs.declared.place.Row.{Row}
 use Rattle.qq_model.specs.State.{State}
 use Rattle.qq_model.specs.Choice.{is_lesser, key_less, place_key, ready_key, next_message, is_out_to, out_count}
@@ -21,14 +21,13 @@ use Rattle.qq_model.specs.Changes.{message_of}
 use Rattle.qq_model.proofs.Least.{key_less-order, least_by-is, none-least_by}
 use Rattle.qq_model.proofs.Lists.{AllByRecursion-from_in}
 use Rattle.qq_model.proofs.OneConsumer.{same_consumer-refl}
-use Rattle.qq_gone.specs.Reduced.{Item, item_row, items, is_live_item, live_items}
+use Rattle.qq_gone.specs.Reduced.{Item, item_row, items, is_live_item}
 use Rattle.qq_gone.proofs.Live.{gone-is, fold-live}
 use Rattle.qq_gone.proofs.Puts.{In-from_filter, message-at}
-use Rattle.qq_parts.specs.Perm.{Perm}
-use Rattle.qq_parts.specs.Parts.{Served, Parts, outs, items_of, Stands, item_number, NumbersRise, IsPlaced, ArePlaced, IsDead, AreDead, HasOut, AreTwo, AreApart, IsWhole}
+use Rattle.qq_parts.specs.Parts.{Served, Parts, outs, items_of, Stands, item_number, IsPlaced, ArePlaced, IsDead, HasOut, AreTwo, AreApart, IsWhole}
 use Rattle.qq_parts.specs.Reads.{first_of, ready_items, size_of, Reads}
 use Rattle.qq_parts.proofs.Perms.{perm-sym, perm-in, perm-sum}
-use Rattle.qq_parts.proofs.Turn.{rising-indices, passing, item-row, each-row}
+use Rattle.qq_parts.proofs.Turn.{rising-indices, item-row, each-row}
 
 -- The parts, one by one -------------------------------------------------------------------------------
 

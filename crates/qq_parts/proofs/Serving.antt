@@ -9,17 +9,16 @@ use Rattle.qq_entry.specs.declared.audit.Effect.TheVariants.{Deliver}
 use Rattle.qq_model.specs.declared.place.Row.{Row}
 use Rattle.qq_model.specs.declared.consumer.Consumer.{Consumer}
 use Rattle.qq_model.specs.State.{State}
-use Rattle.qq_model.specs.Choice.{next_message, next_consumer}
-use Rattle.qq_model.specs.Limits.{ready_count}
+use Rattle.qq_model.specs.Choice.{next_consumer}
 use Rattle.qq_model.specs.Changes.{Progress, while_next}
 use Rattle.qq_model.specs.Serving.{deliver, deliver_by, check_out, check_out_all}
 use Rattle.qq_model.proofs.Soundness.{in_contains}
 use Rattle.qq_gone.specs.Reduced.{Item, item_row}
-use Rattle.qq_parts.specs.Parts.{Served, consumer_at, Parts, Stands, StandsWith, IsWhole}
+use Rattle.qq_parts.specs.Parts.{Served, consumer_at, Parts}
 use Rattle.qq_parts.specs.Reads.{first_of, ready_items}
-use Rattle.qq_parts.specs.Changes.{Taken, take_by, take_first, IsTaken}
-use Rattle.qq_parts.specs.Outs.{serve_one, hand_over, delivery_to}
-use Rattle.qq_parts.specs.Turns.{may_serve, AreWaiting, first_one, behind}
+use Rattle.qq_parts.specs.Changes.{Taken, take_by, take_first}
+use Rattle.qq_parts.specs.Outs.{delivery_to}
+use Rattle.qq_parts.specs.Turns.{may_serve, AreWaiting, first_one}
 use Rattle.qq_parts.specs.Rounds.{Serving, serve_first, round_by, round, serve_all, IsServing}
 use Rattle.qq_parts.proofs.Reading.{next-is, ready-is}
 use Rattle.qq_parts.proofs.Moving.{first-taken}

@@ -1,18 +1,17 @@
 -- One row of a queue is another, and one item of its parts.
-use Rattle.std.proofs.Common.{◌≡◌, ℕ, ◌<◌, ◌⊎◌, Bool, true, false, cond, List, [], ◌∷◌, ◌++◌, Option, Some, None, map, length, refl, sym, ap, ◌∙◌, subst, inl, inr, arith, if◌then◌else◌}
+use Rattle.std.proofs.Common.{◌≡◌, ℕ, ◌<◌, Bool, true, false, List, [], ◌∷◌, map, refl, sym, ap, ◌∙◌, subst, inl, inr, arith}
 use Rattle.std.specs.Prelude.{nat_eq, filter}
 use Rattle.std.specs.List.{AllByRecursion}
-use Rattle.std.proofs.lemmas.Bool.{false≢true, cases_Bool, cond-true, cond-false, cond_both, ne_eqb, eq-eqb}
-use Rattle.std.proofs.lemmas.List.{length-map}
+use Rattle.std.proofs.lemmas.Bool.{cases_Bool, cond-true, cond-false, cond_both, ne_eqb, eq-eqb}
 use Rattle.qq_base.specs.declared.ids.Index.{Index}
-use Rattle.qq_base.proofs.Lists.{In, AllByRecursion-in, AllByRecursion-weaker, AllByRecursion-filter, In-filter}
+use Rattle.qq_base.proofs.Lists.{In, AllByRecursion-in, AllByRecursion-filter, In-filter}
 use Rattle.qq_entry.specs.declared.message.Message.{Message}
 use Rattle.qq_model.specs.declared.place.Row.{Row}
 use Rattle.qq_model.specs.Limits.{is_live}
 use Rattle.qq_model.specs.Changes.{put_row}
 use Rattle.qq_model.specs.State.{State}
 use Rattle.qq_model.proofs.Indices.{Rises, indices}
-use Rattle.qq_model.proofs.InOrder.{put-length, indices-put}
+use Rattle.qq_model.proofs.InOrder.{indices-put}
 use Rattle.qq_model.proofs.Lists.{AllByRecursion-from_in}
 use Rattle.qq_gone.specs.Reduced.{Item, items, is_live_item, live_items}
 use Rattle.qq_gone.proofs.Puts.{items-rows, item-of, In-from_filter, put_item, live-put}

@@ -1,5 +1,5 @@
 -- Those that wait to be served are a queue.
-use Rattle.std.proofs.Common.{◌≡◌, ℕ, ◌+◌, ◌-◌, ◌<◌, ◌≤◌, ◌⊎◌, Bool, true, false, not, ◌&&◌, cond, List, [], ◌∷◌, ◌++◌, Option, Some, None, map, length, refl, sym, ap, ◌∙◌, subst, inl, inr, arith, if◌then◌else◌}
+use Rattle.std.proofs.Common.{◌≡◌, ℕ, ◌+◌, ◌-◌, ◌<◌, ◌≤◌, ◌⊎◌, Bool, true, false, not, ◌&&◌, List, [], ◌∷◌, ◌++◌, Option, Some, None, map, refl, sym, ap, ◌∙◌, subst, inl, inr, arith, if◌then◌else◌}
 use Rattle.std.specs.Prelude.{nat_lt, Contains}
 use Rattle.std.specs.Option.{option_map}
 use Rattle.std.specs.List.{AllByRecursion}
@@ -12,16 +12,16 @@ use Rattle.qq_model.specs.declared.consumer.Consumer.{Consumer}
 use Rattle.qq_entry.specs.declared.command.Mode.{Mode}
 use Rattle.qq_entry.specs.declared.command.Mode.TheVariants.{Prefetch, Link}
 use Rattle.qq_model.specs.State.{State}
-use Rattle.qq_model.specs.Choice.{credit_left, free_credit, may_be_served, waiting_turn, longest_waiting, next_consumer, is_lesser}
-use Rattle.qq_model.specs.Serving.{use_credit, serve}
+use Rattle.qq_model.specs.Choice.{credit_left, may_be_served, waiting_turn, longest_waiting, next_consumer, is_lesser}
+use Rattle.qq_model.specs.Serving.{use_credit}
 use Rattle.qq_model.proofs.Least.{nat_lt-order, least_by-is, none-least_by}
 use Rattle.qq_model.proofs.Lists.{AllByRecursion-from_in}
 use Rattle.qq_model.proofs.OneConsumer.{same_consumer-refl}
 use Rattle.qq_model.proofs.Soundness.{Contains-in, in_contains}
 use Rattle.qq_gone.specs.Reduced.{Item}
-use Rattle.qq_parts.specs.Parts.{Served, consumer_at, Parts, outs, Stands, AreTwo, AreApart, IsWhole, HasOut}
+use Rattle.qq_parts.specs.Parts.{Served, consumer_at, Parts, Stands, AreTwo, AreApart, IsWhole}
 use Rattle.qq_parts.specs.Outs.{serve_one, hand_to, hand_over}
-use Rattle.qq_parts.specs.Turns.{credit_of_one, may_serve, AreByTurn, AreWaiting, first_one, behind, AreInTurn}
+use Rattle.qq_parts.specs.Turns.{may_serve, AreByTurn, AreWaiting, first_one, behind, AreInTurn}
 use Rattle.qq_parts.proofs.Reading.{out-is}
 
 -- The next one ----------------------------------------------------------------------------------------

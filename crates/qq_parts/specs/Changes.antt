@@ -1,5 +1,5 @@
 -- What commands make of the parts of a queue.
-use Rattle.std.specs.Prelude.{◌≡◌, ℕ, ◌+◌, ◌≤◌, ◌<◌, List, [], ◌∷◌, ◌++◌, Option, Some, None, Bool, false, if◌then◌else◌}
+use Rattle.std.specs.Prelude.{◌≡◌, ℕ, ◌+◌, ◌<◌, List, [], ◌∷◌, ◌++◌, Option, Some, None, Bool, if◌then◌else◌}
 use Rattle.std.specs.List.{AllByRecursion}
 use Rattle.qq_base.specs.declared.ids.Index.{Index}
 use Rattle.qq_entry.specs.declared.message.Message.{Message}
@@ -8,7 +8,7 @@ use Rattle.qq_entry.specs.declared.message.Reason.TheVariants.{DeliveryLimit}
 use Rattle.qq_entry.specs.declared.audit.Effect.{Effect}
 use Rattle.qq_entry.specs.declared.audit.Effect.TheVariants.{DeadOnce}
 use Rattle.qq_entry.specs.declared.queue.Strategy.{Strategy}
-use Rattle.qq_entry.specs.declared.queue.Strategy.TheVariants.{Absent, AtMostOnce, AtLeastOnce}
+use Rattle.qq_entry.specs.declared.queue.Strategy.TheVariants.{AtMostOnce, AtLeastOnce}
 use Rattle.qq_model.specs.declared.place.GoneReason.{GoneReason}
 use Rattle.qq_model.specs.declared.place.Key.TheVariants.{Front, Back}
 use Rattle.qq_model.specs.declared.place.Place.{Place}

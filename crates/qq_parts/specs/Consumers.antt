@@ -1,8 +1,8 @@
 -- Consumers change, and leave, in the parts of a queue.
-use Rattle.std.specs.Prelude.{◌≡◌, ◌⊎◌, ℕ, Bool, not, ◌&&◌, true, false, nat_eq, List, [], ◌∷◌, map, filter, Contains, length, if◌then◌else◌}
+use Rattle.std.specs.Prelude.{◌≡◌, ◌⊎◌, Bool, not, ◌&&◌, true, nat_eq, [], map, filter, Contains, length, if◌then◌else◌}
 use Rattle.std.specs.List.{AllByRecursion}
 use Rattle.qq_base.specs.declared.ids.SessionId.{SessionId}
-use Rattle.qq_base.specs.Ids.{same_session, same_consumer}
+use Rattle.qq_base.specs.Ids.{same_consumer}
 use Rattle.qq_model.specs.declared.consumer.Consumer.{Consumer}
 use Rattle.qq_model.specs.State.{State}
 use Rattle.qq_model.specs.Changes.{put_consumer, drop_finished}

@@ -1,5 +1,5 @@
 -- The dead letters in the parts of a queue.
-use Rattle.std.specs.Prelude.{◌≡◌, ℕ, List, Option, Some, Bool, nat_lt, nat_le, find, count_by}
+use Rattle.std.specs.Prelude.{◌≡◌, ℕ, List, Option, Some, nat_lt, nat_le, find, count_by}
 use Rattle.std.specs.Option.{option_map}
 use Rattle.qq_model.specs.State.{State}
 use Rattle.qq_model.specs.Commands.{dead_row}

@@ -1,5 +1,5 @@
 -- Deliveries in the parts of a queue: one is made, one ends, and consumers join.
-use Rattle.std.specs.Prelude.{◌≡◌, ℕ, ◌+◌, List, [], ◌∷◌, ◌++◌, Option, Some, None, Bool, false, nat_eq, map, if◌then◌else◌}
+use Rattle.std.specs.Prelude.{◌≡◌, ℕ, ◌+◌, List, [], ◌∷◌, ◌++◌, Option, Some, None, false, nat_eq, map, if◌then◌else◌}
 use Rattle.std.specs.Option.{option_map}
 use Rattle.std.specs.List.{AllByRecursion}
 use Rattle.qq_base.specs.declared.ids.ConsumerId.{ConsumerId}
@@ -13,11 +13,10 @@ use Rattle.qq_model.specs.declared.place.Row.{Row}
 use Rattle.qq_model.specs.declared.consumer.Consumer.{Consumer}
 use Rattle.qq_model.specs.State.{State}
 use Rattle.qq_model.specs.Gate.{take_tag}
-use Rattle.qq_model.specs.Changes.{Progress}
 use Rattle.qq_model.specs.Commands.{new_consumer, join, delivered_row, purge_row}
 use Rattle.qq_model.specs.Serving.{serve, deliver}
-use Rattle.qq_gone.specs.Reduced.{Item, item_row}
-use Rattle.qq_parts.specs.Parts.{Served, Parts, item_number, StandsWith, IsWhole}
+use Rattle.qq_gone.specs.Reduced.{Item}
+use Rattle.qq_parts.specs.Parts.{Served, Parts, item_number}
 use Rattle.qq_parts.specs.Changes.{Taken, moved, Holds, HoldsAfter, IsTaken}
 
 -- A delivery ends -------------------------------------------------------------------------------------

@@ -1,9 +1,8 @@
 -- The checkouts after a command, in the parts of a queue.
-use Rattle.std.specs.Prelude.{◌≡◌, ℕ, ◌+◌, Bool, false, List, [], ◌∷◌, ◌++◌, Option, Some, None, length}
+use Rattle.std.specs.Prelude.{◌≡◌, ◌+◌, false, List, [], ◌∷◌, ◌++◌, Option, Some, None, length}
 use Rattle.qq_entry.specs.declared.audit.Effect.{Effect}
 use Rattle.qq_entry.specs.declared.audit.Effect.TheVariants.{Deliver}
 use Rattle.qq_model.specs.Changes.{Progress, while_next}
-use Rattle.qq_model.specs.Serving.{check_out_all}
 use Rattle.qq_parts.specs.Parts.{Served, Parts, Stands, IsWhole}
 use Rattle.qq_parts.specs.Reads.{ready_items}
 use Rattle.qq_parts.specs.Changes.{Taken, take_first}

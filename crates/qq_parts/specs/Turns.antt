@@ -1,8 +1,7 @@
 -- Consumers are served in turn: those that wait to be served are a queue.
-use Rattle.std.specs.Prelude.{◌≡◌, ◌⊎◌, ℕ, ◌+◌, ◌<◌, ◌≤◌, Bool, not, ◌&&◌, true, false, nat_lt, List, [], ◌∷◌, ◌++◌, Option, Some, None, Contains, find, length, map, if◌then◌else◌}
+use Rattle.std.specs.Prelude.{◌≡◌, ◌⊎◌, ℕ, ◌+◌, ◌<◌, ◌≤◌, Bool, not, ◌&&◌, true, false, nat_lt, List, [], ◌∷◌, ◌++◌, Option, Some, None, Contains, find, length, if◌then◌else◌}
 use Rattle.std.specs.Option.{option_and_then, option_map}
 use Rattle.std.specs.List.{AllByRecursion}
-use Rattle.qq_model.specs.declared.consumer.Consumer.{Consumer}
 use Rattle.qq_model.specs.State.{State}
 use Rattle.qq_model.specs.Choice.{credit_left, next_consumer}
 use Rattle.qq_gone.specs.Reduced.{Item}

@@ -1,5 +1,5 @@
 -- What the counts of a port in memory come to.
-use Rattle.std.proofs.Common.{◌≡◌, ℕ, List, Bool, Result, true, false, cond, refl, ap, ◌∙◌}
+use Rattle.std.proofs.Common.{◌≡◌, ℕ, List, Bool, Result, true, false, cond, ap, ◌∙◌}
 use Rattle.qq_ports.specs.declared.source.Failed.{Failed}
 use Rattle.qq_ports.specs.declared.mem_shelf.MemShelf.{MemShelf}
 use Rattle.qq_ports.specs.declared.shelf.ShelfFault.{ShelfFault}

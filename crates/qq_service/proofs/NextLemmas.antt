@@ -2,12 +2,11 @@
 use Rattle.std.proofs.Common.{◌≡◌, ℕ, zero, suc, ◌+◌, Bool, true, false, not, cond, List, [], ◌∷◌, Option, Some, None, map, drop, refl, sym, ap, ◌∙◌, arith, if◌then◌else◌}
 use Rattle.std.specs.Prelude.{nat_lt, find, fold, slice_get}
 use Rattle.std.specs.Option.{option_and_then, option_map}
-use Rattle.std.proofs.lemmas.Bool.{cases_Bool, cond-true, cond-false}
 use Rattle.qq_entry.specs.declared.table.Standing.{Standing}
 use Rattle.qq_model.specs.declared.place.Row.{Row}
 use Rattle.qq_model.specs.declared.consumer.Consumer.{Consumer}
-use Rattle.qq_model.specs.Choice.{is_lesser, lesser, may_be_served, waiting_turn, longest_waiting, servable_consumer, active_consumer, next_consumer}
-use Rattle.qq_service.specs.Next.{is_servable, servable_turn, servable_by, longest_servable, is_active, active_servable, next, standing_of}
+use Rattle.qq_model.specs.Choice.{is_lesser, lesser, may_be_served, waiting_turn, longest_waiting, servable_consumer, next_consumer}
+use Rattle.qq_service.specs.Next.{servable_turn, servable_by, is_active, next, standing_of}
 
 pub drop-at : {A : Type 0} (xs : List A) (k : ℕ) (x : A) → slice_get xs k ≡ Some x → drop k xs ≡ x ∷ drop (k + 1) xs
 drop-at [] k x found = absurd cc

@@ -5,7 +5,7 @@ use Rattle.qq_base.specs.declared.ids.ConsumerId.{ConsumerId}
 use Rattle.qq_entry.specs.declared.table.Standing.{Standing}
 use Rattle.qq_model.specs.declared.place.Row.{Row}
 use Rattle.qq_model.specs.declared.consumer.Consumer.{Consumer}
-use Rattle.qq_model.specs.Choice.{free_credit, is_lesser, lesser, least_by}
+use Rattle.qq_model.specs.Choice.{free_credit, least_by}
 
 -- one that isn't cancelled and has credit may be served
 abbrev pub is_servable : Standing → Bool

@@ -1,16 +1,13 @@
 -- A session's commands are carried out once, in the order of their numbers, and a repeat has its first answer.
-use Rattle.std.proofs.Common.{◌≡◌, ℕ, zero, suc, ◌+◌, ◌-◌, ◌<◌, ◌≤◌, ◌⊎◌, Bool, true, false, cond, List, [], ◌∷◌, ◌++◌, length, Option, Some, None, refl, sym, ap, ◌∙◌, subst, inl, inr, arith}
+use Rattle.std.proofs.Common.{◌≡◌, ℕ, suc, ◌+◌, ◌-◌, ◌<◌, ◌⊎◌, Bool, true, false, cond, List, [], ◌∷◌, ◌++◌, length, Option, Some, None, refl, sym, ap, ◌∙◌, subst, inl, inr, arith}
 use Rattle.std.specs.Prelude.{filter_map, slice_get, Contains, All}
 use Rattle.std.specs.List.{cons_option}
 use Rattle.std.proofs.lemmas.Bool.{false≢true, cases_Bool, cond-true, cond-false}
-use Rattle.std.proofs.lemmas.Option.{slice_get_within}
-use Rattle.std.proofs.lemmas.List.Elements.{All-contains}
 use Rattle.qq_base.specs.declared.ids.SessionId.{SessionId}
 use Rattle.qq_base.specs.Ids.{same_session}
 use Rattle.qq_base.proofs.Lists.{In, find-in}
 use Rattle.qq_entry.specs.declared.queue.QueueArgs.{QueueArgs}
 use Rattle.qq_entry.specs.declared.command.Stamp.{Stamp}
-use Rattle.qq_entry.specs.declared.command.Command.{Command}
 use Rattle.qq_entry.specs.declared.command.Command.TheVariants.{Get}
 use Rattle.qq_entry.specs.declared.command.Entry.{Entry}
 use Rattle.qq_entry.specs.declared.answer.Answer.{Answer}
@@ -18,12 +15,11 @@ use Rattle.qq_entry.specs.declared.answer.Answer.TheVariants as answers
 use Rattle.qq_entry.specs.declared.audit.AuditRow.{AuditRow}
 use Rattle.qq_entry.specs.Command.{stamp}
 use Rattle.qq_model.specs.declared.session.Gate.{Gate}
-use Rattle.qq_model.specs.declared.session.Gate.TheVariants.{Fresh, Again, Gap, Forgotten, Ended, WindowFull, SessionsFull}
+use Rattle.qq_model.specs.declared.session.Gate.TheVariants.{Fresh, Again}
 use Rattle.qq_model.specs.declared.session.OpenSession.{OpenSession}
-use Rattle.qq_model.specs.State.{State, Sessions, empty_queue}
+use Rattle.qq_model.specs.State.{State, empty_queue}
 use Rattle.qq_model.specs.Gate.{IsNumbered, is_dead_letter, is_ended, session_of, gate, gate_answer}
-use Rattle.qq_model.specs.Step.{Step}
-use Rattle.qq_model.specs.Audit.{next_index, next_step, row_of, audit_of, state_after}
+use Rattle.qq_model.specs.Audit.{next_index, next_step, row_of, state_after}
 use Rattle.qq_model.specs.Sound.{IsSound, KeepsAnswers}
 use Rattle.qq_model.proofs.Current.{numbered-plain}
 use Rattle.qq_model.proofs.SessionLemmas.{same_session-true, same_session-refl}
@@ -32,7 +28,7 @@ use Rattle.qq_laws.specs.Numbers.{AnswersAsFirst, CountsCommands, fresh_number, 
 use Rattle.qq_laws.specs.Once.{is_fresh, is_let_in, IsFreshWhereLetIn, TurnsAway, IsOpenRepeat}
 use Rattle.qq_entry.specs.Answer.{comes_from_gate}
 use Rattle.qq_session.specs.Answered.{WasAnswered, IsAnswered}
-use Rattle.qq_session.proofs.AuditRows.{RowAt, row_at, PickedAt, picked_at, filter_map-append, get-last, get-within, Contains-middle, state-append, rows-append}
+use Rattle.qq_session.proofs.AuditRows.{RowAt, row_at, picked_at, filter_map-append, get-last, get-within, Contains-middle, state-append, rows-append}
 use Rattle.qq_session.proofs.GateRepeats.{again-repeats, probe, probe-fresh}
 
 -- the laws of the queue that these rest on

@@ -1,6 +1,6 @@
 -- The commands that a queue carries out are the first ones that were handed out.
-use Rattle.std.proofs.Common.{◌≡◌, ℕ, zero, suc, ◌+◌, ◌<◌, Bool, true, false, cond, List, [], ◌∷◌, ◌++◌, length, take, Option, Some, None, refl, sym, ap, ◌∙◌, subst, arith}
-use Rattle.std.specs.Prelude.{filter_map, slice_get, nat_lt, Contains, All}
+use Rattle.std.proofs.Common.{◌≡◌, ℕ, zero, suc, ◌+◌, Bool, true, false, cond, List, [], ◌∷◌, ◌++◌, length, take, Option, Some, None, refl, sym, ap, ◌∙◌, subst, arith}
+use Rattle.std.specs.Prelude.{filter_map, slice_get, nat_lt, Contains}
 use Rattle.std.specs.List.{cons_option}
 use Rattle.std.proofs.lemmas.Bool.{cond_both}
 use Rattle.std.proofs.lemmas.Option.{slice_get_read}
@@ -12,18 +12,15 @@ use Rattle.qq_entry.specs.declared.queue.QueueArgs.{QueueArgs}
 use Rattle.qq_entry.specs.declared.command.Stamp.{Stamp}
 use Rattle.qq_entry.specs.declared.command.Command.{Command}
 use Rattle.qq_entry.specs.declared.command.Entry.{Entry}
-use Rattle.qq_entry.specs.declared.command.Unstamped.{Unstamped}
-use Rattle.qq_entry.specs.declared.answer.Answer.{Answer}
 use Rattle.qq_entry.specs.declared.audit.AuditRow.{AuditRow}
 use Rattle.qq_entry.specs.Command.{stamp}
 use Rattle.qq_model.specs.declared.TheConstants.{WINDOW}
 use Rattle.qq_model.specs.State.{empty_queue}
-use Rattle.qq_model.specs.Gate.{IsNumbered}
 use Rattle.qq_model.proofs.SessionLemmas.{same_session-true}
 use Rattle.qq_laws.specs.Always.{queue_audit}
 use Rattle.qq_laws.specs.Numbers.{CountsCommands, fresh_number, number_of}
-use Rattle.qq_session.specs.Publishing.{OpenCommand, Numbers, new_numbers, next_stamp, next_command, hand, closes, answer, without}
-use Rattle.qq_session.specs.Arriving.{Deed, Hands, Takes, after_deed, handed_by, handed, WasHanded, of_session, fresh_command, ArriveInOrder}
+use Rattle.qq_session.specs.Publishing.{Numbers, new_numbers, next_stamp, next_command, hand, closes, without}
+use Rattle.qq_session.specs.Arriving.{Deed, Hands, Takes, handed, WasHanded, of_session, fresh_command, ArriveInOrder}
 use Rattle.qq_session.proofs.AuditRows.{RowAt, row_at, PickedAt, picked_at, Contains-middle}
 use Rattle.qq_session.proofs.NumberingLemmas.{stamped-stamp}
 

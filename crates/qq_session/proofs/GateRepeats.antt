@@ -1,7 +1,7 @@
 -- What a kept answer says of its session, and what the session's next number would be answered.
-use Rattle.std.proofs.Common.{◌≡◌, ℕ, ◌+◌, ◌-◌, ◌<◌, ◌≤◌, ◌⊎◌, Bool, true, false, cond, not, ◌||◌, Option, Some, None, refl, sym, ap, ◌∙◌, subst, inl, inr, length, arith}
+use Rattle.std.proofs.Common.{◌≡◌, ℕ, ◌-◌, ◌<◌, ◌≤◌, ◌⊎◌, Bool, true, false, cond, not, ◌||◌, Option, Some, None, refl, sym, ap, ◌∙◌, inl, inr, length, arith}
 use Rattle.std.specs.Prelude.{nat_eq, nat_le, nat_lt}
-use Rattle.std.proofs.lemmas.Bool.{cases_lt, cond-true, cond-false, cond_both, lt-ltb, le-ltb, le-leb, lt-leb}
+use Rattle.std.proofs.lemmas.Bool.{cases_lt, cond-true, cond-false, cond_both, le-ltb, le-leb, lt-leb}
 use Rattle.qq_base.specs.declared.ids.SessionId.{SessionId}
 use Rattle.qq_entry.specs.declared.command.Stamp.{Stamp}
 use Rattle.qq_entry.specs.declared.answer.Answer.{Answer}
@@ -11,7 +11,7 @@ use Rattle.qq_model.specs.declared.session.Gate.TheVariants.{Fresh, Again, Gap, 
 use Rattle.qq_model.specs.declared.session.OpenSession.{OpenSession}
 use Rattle.qq_model.specs.State.{Sessions}
 use Rattle.qq_model.specs.Gate.{is_dead_letter, is_ended, session_of, next_mark, repeat_by, kept_answer, gate_number, gate_unknown, gate_by, gate}
-use Rattle.qq_laws.specs.Once.{IsRepeat, IsOpenRepeat}
+use Rattle.qq_laws.specs.Once.{IsOpenRepeat}
 
 abbrev IsAgain : Answer → Gate → Type 0
 IsAgain before g = g ≡ Again before

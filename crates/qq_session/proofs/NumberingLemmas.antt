@@ -1,9 +1,9 @@
 -- What holds of a client's numbers at each time.
-use Rattle.std.proofs.Common.{◌≡◌, ℕ, suc, ◌+◌, ◌-◌, ◌<◌, ◌≤◌, ◌⊎◌, Bool, true, false, not, ◌||◌, cond, List, [], ◌∷◌, ◌++◌, length, Option, Some, None, is_some, refl, sym, ap, ◌∙◌, subst, inl, inr, arith}
-use Rattle.std.specs.Prelude.{nat_eq, filter}
-use Rattle.std.specs.List.{AllByRecursion, list_any}
+use Rattle.std.proofs.Common.{◌≡◌, ℕ, suc, ◌+◌, ◌-◌, ◌<◌, ◌≤◌, Bool, false, not, ◌||◌, List, [], ◌∷◌, ◌++◌, length, Some, None, is_some, refl, sym, ap, ◌∙◌, subst, inl, inr, arith}
+use Rattle.std.specs.Prelude.{nat_eq}
+use Rattle.std.specs.List.{AllByRecursion}
 use Rattle.std.specs.Map.{lookup, remove_entry}
-use Rattle.std.proofs.lemmas.Bool.{false≢true, cases_Bool, cases_eq, cond-true, cond-false, cond_both, eq-eqb, ne_eqb, eqb-true, eqb-false, not_from_true, not_from_false, or_from}
+use Rattle.std.proofs.lemmas.Bool.{cases_eq, cond-true, cond-false, cond_both, eq-eqb, ne_eqb, not_from_true, not_from_false, or_from}
 use Rattle.std.proofs.lemmas.List.{length-append}
 use Rattle.qq_base.specs.declared.ids.SessionId.{SessionId}
 use Rattle.qq_base.specs.declared.memory.TheConstants.{NUMBER_END}
@@ -14,7 +14,7 @@ use Rattle.qq_entry.specs.declared.command.Unstamped.{Unstamped}
 use Rattle.qq_entry.specs.declared.command.Unstamped.TheVariants as bodies
 use Rattle.qq_entry.specs.Command.{stamp}
 use Rattle.qq_model.specs.declared.TheConstants.{WINDOW}
-use Rattle.qq_session.specs.Publishing.{OpenCommand, Numbers, mark_before, low_mark, next_stamp, next_command, stamped, is_open, is_open_in, without}
+use Rattle.qq_session.specs.Publishing.{OpenCommand, Numbers, mark_before, low_mark, next_stamp, next_command, stamped, is_open_in, without}
 use Rattle.qq_session.specs.Numbering.{HasNumber, IsOpenBelow, Rise, IsNumbering, IsLowMark}
 
 -- ---- one number in the list

@@ -1,6 +1,6 @@
 -- Each command of a session is carried out once, and a repeat has its first answer (Ongaro's dissertation,
 -- section 6.3).
-use Rattle.std.specs.Prelude.{◌≡◌, ◌⊎◌, ℕ, ◌+◌, List, ◌∷◌, ◌++◌, Bool, true, false, Some, slice_get, filter_map, Contains}
+use Rattle.std.specs.Prelude.{◌≡◌, ◌⊎◌, ℕ, ◌+◌, List, ◌∷◌, ◌++◌, true, false, Some, slice_get, filter_map, Contains}
 use Rattle.qq_base.specs.declared.ids.SessionId.{SessionId}
 use Rattle.qq_entry.specs.declared.command.Stamp.{Stamp}
 use Rattle.qq_entry.specs.declared.answer.Answer.{Answer}

@@ -1,7 +1,7 @@
 -- Fields and their encodings.
-use Rattle.std.proofs.Common.{◌≡◌, ℕ, zero, suc, ◌+◌, ◌^◌, ◌<◌, ◌≤◌, Bool, true, false, cond, ltb, eqb, List, [], ◌∷◌, ◌++◌, length, take, drop, Option, Some, None, Result, Ok, Err, refl, sym, ap, subst, ◌∙◌, append_assoc, arith, lit<, inl, inr}
+use Rattle.std.proofs.Common.{◌≡◌, ℕ, zero, suc, ◌+◌, ◌^◌, ◌<◌, ◌≤◌, Bool, true, false, cond, ltb, eqb, List, ◌++◌, length, drop, Option, Some, None, Result, Ok, Err, refl, sym, ap, subst, ◌∙◌, arith, inl, inr}
 use Rattle.std.specs.Prelude.{All, IfSome}
-use Rattle.std.specs.List.{flat_map, AllByRecursion}
+use Rattle.std.specs.List.{flat_map}
 use Rattle.std.specs.Int.{w8, w32, w64}
 use Rattle.std.proofs.lemmas.Bool.{cases_Bool, ltb-false, le-ltb, eqb-true}
 use Rattle.std.proofs.lemmas.List.{drop_at, take-append-drop}
@@ -14,8 +14,6 @@ use Rattle.qq_command.specs.declared.refusal.Refusal.{Refusal}
 use Rattle.qq_command.specs.Encoding.{u8, u32, u64, encoding}
 use Rattle.qq_command.specs.Reading.{entry_at, IsEntryPrefix}
 use Rattle.qq_log.specs.declared.limits.TheConstants.{NODE_LIMIT}
-use Rattle.qq_log.specs.declared.head.SnapshotHead.{SnapshotHead}
-use Rattle.qq_log.specs.declared.head.Span.{Span}
 use Rattle.qq_log.specs.Writable.{IsVote, IsHead, IsSegment}
 use Rattle.qq_wal_record.specs.declared.record.NoRecord.TheVariants.{Field}
 use Rattle.qq_wal_record.specs.Encoding.{vote_number, vote, head, segment, entries, segments}

@@ -1,11 +1,11 @@
 -- How long encodings are.
-use Rattle.std.proofs.Common.{◌≡◌, ℕ, ◌+◌, ◌*◌, ◌^◌, ◌<◌, ◌≤◌, List, [], ◌∷◌, ◌++◌, length, refl, sym, ap, ◌∙◌, arith}
+use Rattle.std.proofs.Common.{◌≡◌, ℕ, ◌+◌, ◌*◌, ◌^◌, ◌<◌, ◌≤◌, List, [], ◌∷◌, ◌++◌, length, refl, ap, arith}
 use Rattle.std.specs.List.{flat_map}
 use Rattle.std.proofs.lemmas.List.{length-append, length-take}
 use Rattle.std.proofs.lemmas.List.Concat.{flat_map-cons}
 use Rattle.sha2.specs.Sha256.{sha256, digest_bytes, final_hash, initial_hash_256}
 use Rattle.qq_entry.specs.declared.command.Entry.{Entry}
-use Rattle.qq_command.specs.Encoding.{encoding, payload as entry_inside, u32, u64}
+use Rattle.qq_command.specs.Encoding.{encoding, u32, u64}
 use Rattle.qq_log.specs.declared.head.SnapshotHead.{SnapshotHead}
 use Rattle.qq_log.specs.declared.head.Span.{Span}
 use Rattle.qq_log.specs.declared.lane.Carry.{Carry as QueueCarry}
@@ -15,7 +15,7 @@ use Rattle.qq_log.specs.Writable.{payload_length as op_length, carry_length}
 use Rattle.qq_wal_record.specs.declared.record.LogRecord.{LogRecord}
 use Rattle.qq_wal_record.specs.declared.record.LogRecord.TheVariants.{Op, Carry}
 use Rattle.qq_wal_record.specs.declared.header.Header.{Header}
-use Rattle.qq_wal_record.specs.Encoding.{vote, head, segment, entries, segments, change_payload, op_payload, carry_payload, payload, inside, body, record_mark, record_encoding, header_body, header_encoding}
+use Rattle.qq_wal_record.specs.Encoding.{head, segment, entries, segments, change_payload, op_payload, carry_payload, payload, inside, body, record_mark, record_encoding, header_body, header_encoding}
 use Rattle.qq_wal_record.specs.Mark.{mark}
 use Rattle.qq_wal_record.specs.Record.{payload_length, IsWritable}
 

@@ -1,30 +1,26 @@
 -- Records and their encodings.
-use Rattle.std.proofs.Common.{◌≡◌, ℕ, ◌+◌, ◌*◌, ◌^◌, ◌<◌, ◌≤◌, Bool, true, false, cond, ltb, eqb, List, [], ◌++◌, length, take, drop, Result, Ok, Err, refl, sym, ap, subst, ◌∙◌, append_assoc, arith, lit<, inl, inr}
+use Rattle.std.proofs.Common.{◌≡◌, ℕ, ◌+◌, ◌^◌, ◌<◌, ◌≤◌, Bool, true, false, cond, ltb, eqb, List, [], ◌++◌, length, take, drop, Result, Ok, Err, refl, sym, ap, subst, ◌∙◌, append_assoc, arith, lit<}
 use Rattle.std.specs.Prelude.{All, IfOk}
-use Rattle.std.specs.List.{flat_map}
 use Rattle.std.specs.Int.{w8, w32, w64}
 use Rattle.std.specs.Cmp.Lexicographic.{bytes_decides}
 use Rattle.std.proofs.lemmas.Bool.{ltb-false, le-ltb, eqb-true}
-use Rattle.std.proofs.lemmas.List.{append-nil, nil_from_length, take-append-drop, take_at, drop_at, length-append, length-take, length-drop}
+use Rattle.std.proofs.lemmas.List.{append-nil, nil_from_length, take-append-drop, take_at, drop_at, length-append, length-take}
 use Rattle.qq_base.specs.Fields.{AreBytes}
 use Rattle.qq_base.proofs.Numbers.{AreBytes-take}
 use Rattle.qq_base.specs.declared.ids.QueueId.{QueueId}
-use Rattle.qq_command.specs.Encoding.{u8, u32, u64, encoding}
-use Rattle.qq_log.specs.declared.limits.TheConstants.{PAYLOAD_LIMIT}
+use Rattle.qq_command.specs.Encoding.{u8, u32, u64}
 use Rattle.qq_log.specs.declared.lane.Carry.{Carry as QueueCarry}
 use Rattle.qq_log.specs.declared.op.Op.TheVariants.{Change, SnapshotMade, SegmentMade}
 use Rattle.qq_log.specs.Writable.{IsLong, IsQueue, IsVote, IsHead, IsSegment, HasFields}
-use Rattle.qq_wal_record.specs.declared.mark.TheConstants.{MARK_LEN}
-use Rattle.qq_wal_record.specs.declared.record.TheConstants.{CARRY, HEAD_LEN}
 use Rattle.qq_wal_record.specs.declared.record.LogRecord.{LogRecord}
 use Rattle.qq_wal_record.specs.declared.record.LogRecord.TheVariants.{Op, Carry}
 use Rattle.qq_wal_record.specs.declared.record.NoRecord.{NoRecord}
 use Rattle.qq_wal_record.specs.declared.record.NoRecord.TheVariants.{Short, Mark, Kind, Field}
-use Rattle.qq_wal_record.specs.Encoding.{vote, head, segment, entries, segments, change_payload, op_payload, carry_payload, payload, inside, body, record_mark, record_encoding}
+use Rattle.qq_wal_record.specs.Encoding.{vote, head, segment, entries, segments, change_payload, carry_payload, payload, inside, body, record_mark, record_encoding}
 use Rattle.qq_wal_record.specs.Mark.{same_bytes}
 use Rattle.qq_wal_record.specs.Reading.{Gives, Taken, number_at, vote_at, head_at, segment_at, entries_at, segments_at, change_at, snapshot_made_at, segment_made_at, carry_at, payload_at, whole_payload_at, is_too_long, inside_at, marked_at, record_at, IsRecordAt}
-use Rattle.qq_wal_record.specs.Record.{kind, queue, number, payload_length, IsWritable}
-use Rattle.qq_wal_record.proofs.Steps.{Takes, Takes-then, Holds, Holds-map, here, known, then_ok, then_known, where_true, where_false, in_turn, AreBytes-drop, u8-reads, u32-reads, u64-reads}
+use Rattle.qq_wal_record.specs.Record.{kind, queue, number, IsWritable}
+use Rattle.qq_wal_record.proofs.Steps.{Takes, Takes-then, Holds, Holds-map, here, known, then_ok, then_known, where_true, where_false, in_turn, u8-reads, u32-reads, u64-reads}
 use Rattle.qq_wal_record.proofs.FieldLaws.{EntryLaws, vote-reads, head-reads, segment-reads, segments-reads, entries-reads}
 use Rattle.qq_wal_record.proofs.Lengths.{entries_count, payload_len, payload_fits, inside_len, body_len, record_len, record_mark_len}
 

@@ -1,7 +1,6 @@
 -- The parts of a record, and which records may be written.
 use Rattle.std.specs.Prelude.{ℕ}
 use Rattle.qq_base.specs.declared.ids.QueueId.{QueueId}
-use Rattle.qq_log.specs.declared.op.Op.{Op as QueueOp}
 use Rattle.qq_log.specs.declared.op.Op.TheVariants.{Change, SnapshotMade, SegmentMade}
 use Rattle.qq_log.specs.Op.{queue as op_queue, number as op_number}
 use Rattle.qq_log.specs.Writable.{IsWritable as IsWritableOp, IsWritableCarry, payload_length as op_length, carry_length}

@@ -1,6 +1,5 @@
-use Rattle.std.proofs.Common.{ℕ, ◌≤◌, Option, Some, None, sym, ap, ◌∙◌, subst, arith}
-use Rattle.std.specs.Prelude.{length}
-use Rattle.qq_live.specs.Slots.{holders_at, held_of, place_of}
+use Rattle.std.proofs.Common.{sym, ◌∙◌, arith}
+use Rattle.qq_live.specs.Slots.{holders_at}
 use Rattle.qq_live.proofs.Places.{is-there, place-most}
 use Rattle.qq_live.proofs.Changes.{gains-set, gains-insert, there-most}
 use Rattle.qq_live.proofs.slot.add_holder.Goals as goal

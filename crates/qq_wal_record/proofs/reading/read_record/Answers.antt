@@ -1,8 +1,4 @@
-use Rattle.std.proofs.Common.{◌≡◌, ◌≤◌, ℕ, List, Result, Ok, length, arith}
-use Rattle.std.specs.Prelude.{IfOk}
-use Rattle.qq_base.specs.Fields.{AreBytes}
-use Rattle.qq_wal_record.specs.Reading.{IsRecordAt}
-use Rattle.qq_wal_record.proofs.FieldLaws.{EntryLaws}
+use Rattle.std.proofs.Common.{arith}
 use Rattle.qq_wal_record.proofs.RecordLaws.{is_found, is_within, record_again, is_read}
 use Rattle.qq_wal_record.proofs.reading.read_record.Goals as goal
 

@@ -1,4 +1,4 @@
-use Rattle.std.proofs.Common.{◌≡◌, ◌+◌, length, arith}
+use Rattle.std.proofs.Common.{length, arith}
 use Rattle.qq_wal_record.specs.Encoding.{payload, inside, body}
 use Rattle.qq_wal_record.proofs.Appends.{set_front}
 use Rattle.qq_wal_record.proofs.Lengths.{body_between, payload_fits}

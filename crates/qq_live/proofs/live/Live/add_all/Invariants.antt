@@ -1,5 +1,5 @@
 use Rattle.std.proofs.Common.{◌≡◌, ◌≤◌, ◌+◌, take, length}
-use Rattle.qq_live.specs.Indices.{Adds, HasRoomFor}
+use Rattle.qq_live.specs.Indices.{Adds}
 use Rattle.qq_live.proofs.live.Live.add_all.Given as goal
 
 -- those so far are added

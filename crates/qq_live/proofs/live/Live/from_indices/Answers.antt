@@ -1,6 +1,6 @@
-use Rattle.std.proofs.Common.{List, ap, sym, ◌∙◌, subst}
+use Rattle.std.proofs.Common.{List, ◌∙◌, subst}
 use Rattle.qq_base.specs.declared.ids.Index.{Index}
-use Rattle.qq_live.specs.Indices.{LiveState, Adds}
+use Rattle.qq_live.specs.Indices.{Adds}
 use Rattle.qq_live.proofs.Changes.{from-sorted}
 use Rattle.qq_live.proofs.live.Live.from_indices.Goals as goal
 

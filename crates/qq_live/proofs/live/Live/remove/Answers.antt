@@ -1,4 +1,4 @@
-use Rattle.std.proofs.Common.{ap, sym, ◌∙◌, arith}
+use Rattle.std.proofs.Common.{ap, sym, ◌∙◌}
 use Rattle.qq_live.specs.Indices.{LiveState}
 use Rattle.qq_live.proofs.Sums.{count_at}
 use Rattle.qq_live.proofs.Changes.{holders-told, none-held, some-held, none-removed, above-zero}
