@@ -6,8 +6,9 @@ use Rattle.qq_log.specs.Log.{LogState}
 use Rattle.qq_log.specs.Writable.{MayWrite}
 use Rattle.qq_log.specs.declared.limits.TheConstants.{NODE_LIMIT}
 use Rattle.qq_log.specs.declared.op.Op.{Op}
+use Rattle.qq_raft.specs.Ends.{IsSendable}
 use Rattle.qq_raft.specs.Raft.{server_of}
-use Rattle.qq_raft_msg.specs.Rpc.{IsNode, IsWritable}
+use Rattle.qq_raft_msg.specs.Rpc.{IsNode}
 use Rattle.qq_server.specs.Stands.{IsSound as IsSoundServer}
 use Rattle.qq_server.specs.declared.server.Server.{Server}
 use Rattle.qq_group_model.specs.Group.{Event, Group as GroupState, Seat as SeatState, from_new}
@@ -85,12 +86,12 @@ abbrev pub HasReturned : {Q L : Type 0} → Option (Seat Q L) → Type 0
 HasReturned None = ⊤
 HasReturned (Some seat) = IsReturned seat.returned
 
--- its servers are sound, what is on its way has bytes, and there is a seat for each node
+-- its servers are sound, what is on its way may be sent, and there is a seat for each node
 pub record IsSound {P Q L : Type 0} (stands : P → Q → Type 0) (log : L → LogState) (index_of : Q → ℕ)
     (group : Group Q L) : Type 0 where
   pub servers : (k : ℕ) → IsServed stands log index_of (server_at k group)
   pub returned : (k : ℕ) → HasReturned (slice_get group.seats.items k)
-  pub bag : All IsWritable group.bag
+  pub bag : All IsSendable group.bag
   pub nodes : All IsNode group.nodes.items
   pub count : length group.nodes.items < 2 ^ 32
   pub seats : length group.seats.items ≡ NODE_LIMIT + 1

@@ -3,8 +3,8 @@ ghost use Rattle.std.specs.Prelude.{◌≡◌, ◌+◌, ◌<◌, ◌++◌, ◌�
 ghost use Rattle.qq_base.specs.Causes.{SpentOnlyWhere};
 ghost use Rattle.qq_base.specs.Fronts.{IsFront};
 ghost use Rattle.qq_log.specs.Stable.{no_snapshot};
+ghost use Rattle.qq_raft.specs.Ends.{IsSendable};
 ghost use Rattle.qq_raft.specs.Raft.{server_of};
-ghost use Rattle.qq_raft_msg.specs.Rpc.{IsWritable};
 ghost use Rattle.qq_raft_msg.specs.declared.bag.TheConstants.{BAG_LIMIT};
 ghost use Rattle.qq_server.specs.Stands.{IsSound as IsSoundServer};
 ghost use Rattle.qq_group.specs.Group.{IsServing, IsSound, server_at};
@@ -77,14 +77,14 @@ pub(crate) fn send_all<Q: Queue, L: LogView>(
     server: &mut Server<Q, L>,
 ) -> Result<(), Memory>
     requires server { IsSoundServer L.log Q.applied server.old }
-    requires bag { All IsWritable bag.old }
+    requires bag { All IsSendable bag.old }
     ensures ok { OnOk result (bag.new ≡ bag.old ++ (server_of L.log server.old.raft).out) }
     ensures none { OnOk result (server_of L.log server.new.raft
         ≡ record (server_of L.log server.old.raft) { out = [] }) }
     ensures sound { IsSoundServer L.log Q.applied server.new }
     ensures same { server.new ≡ record server.old { raft = server.new.raft } }
     ensures err { IsFront bag.old bag.new }
-    ensures bag { All IsWritable bag.new }
+    ensures bag { All IsSendable bag.new }
     ensures cause { IfErr result (λ e. SpentOnlyWhere e BAG_LIMIT
         (BAG_LIMIT < length bag.old + length (server_of L.log server.old.raft).out)) }
 {

@@ -1,6 +1,7 @@
 //! The messages that are on their way.
 ghost use Rattle.std.specs.Prelude.{◌≡◌, None, Some, length, IfOk, IfErr, IfSome, IfNone, OnOk, OnErr, IsSome};
 ghost use Rattle.qq_base.specs.Causes.{SpentOnlyWhere};
+ghost use Rattle.qq_raft.specs.Ends.{IsSendable};
 ghost use Rattle.qq_raft_msg.specs.Bag.{at_place, without};
 ghost use Rattle.qq_raft_msg.specs.Rpc.{IsWritable, envelope};
 ghost use Rattle.qq_raft_msg.specs.declared.bag.TheConstants.{BAG_LIMIT};
@@ -26,7 +27,7 @@ impl<Q: Queue, L: LogView> Group<Q, L> {
 
         ensures sound { IsSound Q.stands L.log Q.applied self.new }
         ensures some { IfSome result (λ rpc. at_place place self.old.bag ≡ Some rpc) }
-        ensures writable { IfSome result IsWritable }
+        ensures sendable { IfSome result IsSendable }
         ensures none { IfNone result (at_place place self.old.bag ≡ None) }
         ensures rest { self.new ≡ record self.old { bag = without place self.old.bag } }
     {

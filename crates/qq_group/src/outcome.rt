@@ -16,7 +16,8 @@ pub enum Outcome {
         hint: Option<NodeId>,
     },
     /// The server doesn't take the message, which is lost: a number of it is past its end, it has more than
-    /// one change of a log may have, or its sender isn't another member.
+    /// one change of a log may have, or its sender isn't another member. In a group that stands for a reached
+    /// state no message is (`a_message_always_fits` of `qq_group_fits`).
     Unfit,
 }
 

@@ -68,8 +68,7 @@ impl<Q: Queue, L: LogView> Group<Q, L> {
     }
 
     /// The greatest op that a member may be told to be durable, which is how many ops its log was handed, but
-    /// for one that was given back. 0
-    /// where the member is down.
+    /// for one that was given back. 0 where the member is down.
     pub fn handed(&self, node: NodeId) -> u64
         ensures { result ≡ handed_at (slice_get self.now.seats.items node.0) }
     {

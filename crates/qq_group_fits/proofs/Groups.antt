@@ -244,7 +244,7 @@ from-events queue nodes events =
 
 -- ---- who gets a message
 
-all-in : {A : Type 0} (P : A → Type 0) (x : A) (xs : List A) → AllByRecursion P xs → In x xs → P x
+pub all-in : {A : Type 0} (P : A → Type 0) (x : A) (xs : List A) → AllByRecursion P xs → In x xs → P x
 all-in P x [] all here = absurd here
 all-in P x (y ∷ xs) all (inl same) = subst P (sym same) all.0
 all-in P x (y ∷ xs) all (inr later) = all-in P x xs all.1 later

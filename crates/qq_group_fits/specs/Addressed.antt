@@ -1,7 +1,6 @@
 -- Who the messages of a group are from and for.
-use Rattle.std.specs.Prelude.{◌≡◌, ℕ, Bool, true, List, filter, nat_eq, not, ◌&&◌}
+use Rattle.std.specs.Prelude.{◌≡◌, ℕ, true, List, filter, nat_eq, not}
 use Rattle.qq_base.specs.declared.ids.NodeId.{NodeId}
-use Rattle.qq_raft.specs.Fits.{is_within, has_indices, has_size}
 use Rattle.qq_raft_model.specs.Facts.{In}
 use Rattle.qq_raft_msg.specs.Rpc.{envelope}
 use Rattle.qq_raft_msg.specs.declared.rpc.Rpc.{Rpc}
@@ -15,7 +14,3 @@ others k nodes = filter (λ (q : NodeId). not (nat_eq q.0 k)) nodes
 pub record IsBetween (nodes : List NodeId) (rpc : Rpc) : Type 0 where
   pub from : has_node (envelope rpc).from.0 nodes ≡ true
   pub to : In (envelope rpc).to (others (envelope rpc).from.0 nodes)
-
--- its numbers are within their ends, and its entries no more than one change may have
-abbrev pub has_ends : Rpc → Bool
-has_ends rpc = is_within (envelope rpc).term.0 && has_indices rpc && has_size rpc

@@ -1,5 +1,5 @@
 //! The messages that are on their way in a group.
-ghost use Rattle.std.specs.Prelude.{◌≡◌, List, Some};
+ghost use Rattle.std.specs.Prelude.{◌≡◌, List, Some, true};
 ghost use Rattle.qq_base.specs.declared.ids.NodeId.{NodeId};
 ghost use Rattle.qq_base.specs.declared.ids.QueueId.{QueueId};
 ghost use Rattle.qq_raft.specs.Fits.{fits};
@@ -9,9 +9,9 @@ ghost use Rattle.qq_raft_msg.specs.Rpc.{envelope};
 ghost use Rattle.qq_raft_msg.specs.declared.rpc.Rpc.{Rpc};
 ghost use Rattle.qq_server.specs.declared.server.Server.{Server};
 ghost use Rattle.qq_group_model.specs.Group.{Event, from_new, Group as GroupState};
-ghost use Rattle.qq_group.specs.Group.{IsReached, Represents, server_at};
+ghost use Rattle.qq_group.specs.Group.{IsReached, IsSound, Represents, server_at};
 ghost use Rattle.qq_group.specs.declared.group.Group.{Group};
-ghost use Rattle.qq_group_fits.specs.Addressed.{has_ends, IsBetween};
+ghost use Rattle.qq_group_fits.specs.Addressed.{IsBetween};
 
 use qq_raft_msg::{LogView, Queue};
 
@@ -21,11 +21,11 @@ pub fn a_message_is_from_one_member_to_another()
         In rpc (from_new queue nodes events).bag → IsBetween nodes rpc }
 {}
 
-/// A law: a message that is on its way is for the server that it reaches, and from one of its peers. So
-/// whether it fits is a matter of its numbers and of the size of its entries alone.
-pub fn a_message_fits_by_its_numbers<Q: Queue, L: LogView>()
+/// A law: a message that is on its way fits the server that it reaches: it is for that server, from one of
+/// its peers, its terms and indices are within their ends, and its entries no more than one change may have.
+/// So what is delivered is never lost but where its receiver is down.
+pub fn a_message_always_fits<Q: Queue, L: LogView>()
     ensures { (g : GroupState) (group : Group Q L) (rpc : Rpc) (s : Server Q L) → IsReached g →
-        Represents L.log g group → In rpc group.bag →
-        server_at (envelope rpc).to.0 group ≡ Some s →
-        fits (server_of L.log s.raft) rpc ≡ has_ends rpc }
+        Represents L.log g group → IsSound Q.stands L.log Q.applied group → In rpc group.bag →
+        server_at (envelope rpc).to.0 group ≡ Some s → fits (server_of L.log s.raft) rpc ≡ true }
 {}

@@ -1,6 +1,5 @@
 -- A message that a server takes has its numbers within their ends, and entries that may be written in one change.
 use Rattle.std.proofs.Common.{◌≡◌, ◌≤◌, ℕ, true, List, [], ◌∷◌}
-use Rattle.std.specs.Prelude.{All}
 use Rattle.std.specs.List.{AllByRecursion, list_all}
 use Rattle.std.proofs.lemmas.Bool.{and_parts, leb-true}
 use Rattle.std.proofs.lemmas.List.Elements.{All-from_recursion, recursion_from_All}
@@ -11,7 +10,8 @@ use Rattle.qq_raft_msg.specs.Rpc.{IsWritable}
 use Rattle.qq_raft_msg.specs.declared.rpc.Rpc.{Rpc}
 use Rattle.qq_raft_msg.specs.declared.rpc.Rpc.TheVariants.{Vote, Voted, Append, Appended, Install, Installed}
 use Rattle.qq_raft_step.specs.State.{Server}
-use Rattle.qq_raft.specs.Fits.{is_within, has_term, has_indices, has_size, fits, HasIndices, IsWithin}
+use Rattle.qq_raft.specs.Ends.{is_within, has_term, has_indices, has_size}
+use Rattle.qq_raft.specs.Fits.{fits, HasIndices, IsWithin}
 use Rattle.qq_raft.specs.Raft.{IsInLog}
 
 within : (n : ℕ) → is_within n ≡ true → n ≤ NUMBER_END

@@ -6,4 +6,5 @@ mod Members
 mod Pushes
 mod Ranges
 mod Said
+mod Sendable
 mod Waits

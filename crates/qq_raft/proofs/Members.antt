@@ -9,7 +9,7 @@ use Rattle.qq_raft_step.specs.Server.{new_peer}
 use Rattle.qq_raft.specs.Raft.{IsPeer}
 
 new-peer : (d : NodeId) → IsNode d → IsPeer (new_peer d)
-new-peer d f = (omega arith, f)
+new-peer d f = (omega arith, f, omega arith)
 
 pub new-each : (node : NodeId) (members : List NodeId) → All IsNode members
     → All IsPeer (map new_peer (filter (λ (q : NodeId). not (nat_eq q.0 node.0)) members))

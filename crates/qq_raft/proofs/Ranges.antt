@@ -1,9 +1,9 @@
 -- What a server holds and hands out is in range.
-use Rattle.std.proofs.Common.{◌≡◌, ◌<◌, ◌≤◌, ◌+◌, ◌-◌, ◌^◌, ℕ, suc, zero, Bool, true, false, List, [], ◌∷◌, ◌++◌, length, take, drop, get_or, Option, Some, None, ◌⊎◌, inl, inr, sym, ap, subst, ◌∙◌, arith}
+use Rattle.std.proofs.Common.{◌≡◌, ◌<◌, ◌≤◌, ◌+◌, ◌-◌, ◌^◌, ℕ, suc, zero, Bool, true, false, List, [], ◌∷◌, ◌++◌, length, take, drop, get_or, Option, Some, ◌⊎◌, inl, inr, sym, ap, subst, ◌∙◌, arith}
 use Rattle.std.specs.Prelude.{All, IfSome, nat_le, slice_get, if◌then◌else◌}
 use Rattle.std.specs.List.{flat_map, AllByRecursion}
-use Rattle.std.proofs.lemmas.Bool.{cases_lt, le-leb, lt-leb, leb-true}
-use Rattle.std.proofs.lemmas.List.{length-append, length-take-le, append-nil}
+use Rattle.std.proofs.lemmas.Bool.{cases_lt, le-leb, lt-leb}
+use Rattle.std.proofs.lemmas.List.{length-append, length-take-le}
 use Rattle.std.proofs.lemmas.List.Concat.{flat_map-cons}
 use Rattle.std.proofs.lemmas.List.Elements.{All-append, All-drop, All-get_or, All-from_recursion, All-nil, All-push, All-take, All-weaker, recursion_from_All}
 use Rattle.qq_base.specs.declared.ids.NodeId.{NodeId}
@@ -15,7 +15,6 @@ use Rattle.qq_command.specs.Laws.{HasShortEncoding}
 use Rattle.qq_entry.specs.Range.{HasContent, IsCommand, IsWritable as IsEntry}
 use Rattle.qq_entry.specs.declared.command.Command.{Command}
 use Rattle.qq_entry.specs.declared.command.Entry.{Entry}
-use Rattle.qq_log.specs.declared.limits.TheConstants.{RECORD_LIMIT}
 use Rattle.qq_log.specs.declared.op.Op.TheVariants.{Change}
 use Rattle.qq_log.specs.Writable.{IsQueue, IsVote, MayWrite}
 use Rattle.qq_raft_step.specs.declared.limits.TheConstants.{BATCH_BYTES, BATCH_ENTRIES}

@@ -1,43 +1,19 @@
 -- Which messages a server takes.
-use Rattle.std.specs.Prelude.{◌+◌, ◌≤◌, ⊤, ℕ, Bool, true, List, All, length, nat_eq, nat_le, ◌&&◌}
-use Rattle.std.specs.List.{flat_map, list_all, list_any}
+use Rattle.std.specs.Prelude.{◌+◌, ◌≤◌, ⊤, Bool, List, All, length, nat_eq, ◌&&◌}
+use Rattle.std.specs.List.{flat_map, list_any}
 use Rattle.qq_command.specs.Encoding.{encoding}
 use Rattle.qq_entry.specs.declared.command.Entry.{Entry}
 use Rattle.qq_log.specs.declared.limits.TheConstants.{RECORD_LIMIT}
 use Rattle.qq_raft_msg.specs.Rpc.{IsNode}
+use Rattle.qq_raft.specs.Ends.{has_indices, has_size, is_within}
 use Rattle.qq_raft.specs.Raft.{IsInLog}
 use Rattle.qq_base.specs.declared.memory.TheConstants.{NUMBER_END}
 use Rattle.qq_raft_msg.specs.Rpc.{envelope}
 use Rattle.qq_raft_msg.specs.declared.rpc.AppendMsg.{AppendMsg}
 use Rattle.qq_raft_msg.specs.declared.rpc.Rpc.{Rpc}
-use Rattle.qq_raft_msg.specs.declared.rpc.Rpc.TheVariants.{Vote, Voted, Append, Appended, Install, Installed}
+use Rattle.qq_raft_msg.specs.declared.rpc.Rpc.TheVariants.{Append, Appended}
 use Rattle.qq_raft_step.specs.State.{Server}
 use Rattle.qq_raft_step.specs.Server.{is_peer}
-
--- an index or a term is within its end
-abbrev pub is_within : ℕ → Bool
-is_within n = nat_le n NUMBER_END
-
-abbrev pub has_term : Entry → Bool
-has_term e = is_within e.term.0
-
-abbrev pub has_indices : Rpc → Bool
-has_indices (Vote m) = is_within m.last_index.0 && is_within m.last_term.0
-has_indices (Voted m) = true
-has_indices (Append m) =
-    is_within m.prev_index.0 && is_within m.prev_term.0 && is_within m.commit.0
-    && is_within (m.prev_index.0 + length m.entries) && list_all has_term m.entries
-has_indices (Appended m) = is_within m.index.0
-has_indices (Install m) = is_within m.index.0 && is_within m.last_term.0 && is_within m.through.0
-has_indices (Installed m) = is_within m.index.0
-
--- entries of one change, whose record the log writes
-abbrev pub is_short : List Entry → Bool
-is_short entries = nat_le (46 + length (flat_map encoding entries)) RECORD_LIMIT
-
-abbrev pub has_size : Rpc → Bool
-has_size (Append m) = is_short m.entries
-has_size _ = true
 
 -- a message for this server from another member, whose terms and indices are within their ends, and whose entries are
 -- no more than one change may have

@@ -1,5 +1,5 @@
 -- What becomes of each of the other members, and who is sent to.
-use Rattle.std.specs.Prelude.{◌-◌, ◌≤◌, ℕ, Bool, List, [], ◌∷◌, length, if◌then◌else◌}
+use Rattle.std.specs.Prelude.{◌+◌, ◌-◌, ◌≤◌, ℕ, Bool, List, [], ◌∷◌, length, if◌then◌else◌}
 use Rattle.qq_base.specs.declared.ids.NodeId.{NodeId}
 use Rattle.qq_base.specs.declared.ids.Term.{Term}
 use Rattle.qq_base.specs.declared.memory.TheConstants.{NUMBER_END}
@@ -43,8 +43,9 @@ append_from node term commit log peer =
       entries = batch_from peer.next log;
     })
 
--- the index that a message told is within the end of indices
+-- an index is within the end of indices, and the one behind it at most
 abbrev pub IsCounted : PeerChange → Type 0
+IsCounted (Started next) = next ≤ NUMBER_END + 1
 IsCounted (Matched node index) = index ≤ NUMBER_END
 IsCounted (Behind node index) = index ≤ NUMBER_END
 IsCounted _ = Unit {0}

@@ -1,20 +1,23 @@
 -- What a server holds, as Raft's definition has it.
-use Rattle.std.specs.Prelude.{◌≡◌, ◌⊎◌, ◌<◌, ◌≤◌, ◌^◌, [], All, length}
+use Rattle.std.specs.Prelude.{◌≡◌, ◌+◌, ◌⊎◌, ◌<◌, ◌≤◌, ◌^◌, ℕ, [], All, length}
 use Rattle.qq_entry.specs.Range.{IsWritable as IsEntry}
 use Rattle.qq_entry.specs.declared.command.Entry.{Entry}
 use Rattle.qq_log.specs.Writable.{IsQueue, IsVote, MayWrite}
-use Rattle.qq_raft_msg.specs.Rpc.{IsNode, IsWritable}
+use Rattle.qq_raft_msg.specs.Rpc.{IsNode}
 use Rattle.qq_raft_step.specs.declared.peer.Waiting.{Waiting}
 use Rattle.qq_base.specs.Causes.{SpentOnlyWhere}
 use Rattle.qq_base.specs.declared.memory.Memory.{Memory}
 use Rattle.qq_base.specs.declared.memory.TheConstants.{NUMBER_END}
+use Rattle.qq_base.specs.declared.ids.NodeId.{NodeId}
 use Rattle.qq_base.specs.declared.ids.QueueId.{QueueId}
+use Rattle.qq_base.specs.declared.ids.Term.{Term}
 use Rattle.qq_log.specs.declared.lane.Lane.{Lane}
 use Rattle.qq_log.specs.Log.{LogState}
 use Rattle.qq_log.specs.Stable.{no_snapshot}
 use Rattle.qq_raft_msg.specs.declared.state.MemberState.{MemberState}
 use Rattle.qq_raft_step.specs.declared.peer.Peer.{Peer}
 use Rattle.qq_raft_step.specs.State.{Server, last}
+use Rattle.qq_raft.specs.Ends.{IsSendable}
 use Rattle.qq_raft.specs.declared.raft.Raft.{Raft}
 
 abbrev pub server_of : {L : Type 0} → (L → LogState) → Raft L → Server
@@ -38,14 +41,20 @@ server_of log r =
 
 -- what is known of another member is within the end of indices
 abbrev pub IsPeer : Peer → Type 0
-IsPeer p = (p.matched ≤ NUMBER_END) × IsNode p.node
+IsPeer p = (p.matched ≤ NUMBER_END) × IsNode p.node × (p.next ≤ NUMBER_END + 1)
 
 -- an entry with bytes, of a term within its end
 abbrev pub IsInLog : Entry → Type 0
 IsInLog e = IsEntry e × (e.term.0 ≤ NUMBER_END)
 
+-- a node whose term and commit are within their ends
+pub record IsSender (node : NodeId) (term : Term) (commit : ℕ) : Type 0 where
+  pub node_is : IsNode node
+  pub term_within : term.0 ≤ NUMBER_END
+  pub commit_within : commit ≤ NUMBER_END
+
 abbrev pub IsWaiting : Waiting → Type 0
-IsWaiting w = IsWritable w.rpc
+IsWaiting w = IsSendable w.rpc
 
 -- the log is whole, no number is past its end, and what is handed out may be written
 pub record IsSound {L : Type 0} (log : L → LogState) (r : Raft L) : Type 0 where
@@ -60,7 +69,8 @@ pub record IsSound {L : Type 0} (log : L → LogState) (r : Raft L) : Type 0 whe
   pub queue : IsQueue r.queue
   pub node : IsNode r.node
   pub ops : All MayWrite r.ops.items
-  pub out : All IsWritable r.out.items
+  pub commit : r.commit ≤ NUMBER_END
+  pub out : All IsSendable r.out.items
   pub waiting : All IsWaiting r.waiting.items
 
 -- a number of the server stands at its end

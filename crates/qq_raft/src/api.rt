@@ -1,11 +1,12 @@
 //! What the layer above calls.
-ghost use Rattle.std.specs.Prelude.{◌≡◌, ◌<◌, ◌^◌, Ok, true, false, not, All, drop, filter, map, length, nat_eq, slice_get, IfOk, IfErr, IfSome, OnOk, OnErr, IsOkUnless};
+ghost use Rattle.std.specs.Prelude.{◌≡◌, ◌<◌, ◌^◌, [], Ok, true, false, not, All, drop, filter, map, length, nat_eq, slice_get, IfOk, IfErr, IfSome, OnOk, OnErr, IsOkUnless};
 ghost use Rattle.qq_log.specs.Stable.{no_snapshot};
 ghost use Rattle.qq_raft_step.specs.State.{last};
 ghost use Rattle.qq_raft_step.specs.Server.{new_peer, restart, tick, receive, is_ready, submit, notice};
 ghost use Rattle.qq_entry.specs.Range.{IsCommand, HasContent};
 ghost use Rattle.qq_log.specs.Writable.{MayWrite};
 ghost use Rattle.qq_raft_msg.specs.Rpc.{IsNode, IsWritable};
+ghost use Rattle.qq_raft.specs.Ends.{IsSendable};
 ghost use Rattle.qq_raft.specs.Fits.{fits};
 ghost use Rattle.qq_raft.specs.Raft.{server_of, lane_of, IsSound, IsCaused, IsWithinEnds, HandsNothingOut, state_of};
 
@@ -171,9 +172,14 @@ impl<L: LogView> Raft<L> {
         Ok(())
     }
 
-    /// It gives up what it would hand out, as after a refused call.
+    /// It gives up what it would hand out, as after a refused call. All else stays.
     pub fn clear(&mut self)
-        ensures { HandsNothingOut (server_of L.log self.new) }
+        ensures none { HandsNothingOut (server_of L.log self.new) }
+        ensures rest { server_of L.log self.new ≡ record (server_of L.log self.old) {
+          waiting = [];
+          ops = [];
+          out = [];
+        } }
     {
         self.waiting.clear();
         self.ops.clear();
@@ -195,12 +201,13 @@ impl<L: LogView> Raft<L> {
         self.ops.pop_front()
     }
 
-    /// The next message that may leave, which has bytes. None exactly where there is none.
+    /// The next message that may leave: it has bytes, and fits whoever gets it by its numbers. None exactly
+    /// where there is none.
     #[tactic(auto, using(crate::proofs::Ranges::all_rest, crate::proofs::Ranges::all_front))]
     pub fn next_rpc(&mut self) -> Option<Rpc>
         requires { IsSound L.log self.old }
 
-        ensures rpc { IfSome result IsWritable }
+        ensures rpc { IfSome result IsSendable }
         ensures sound { IsSound L.log self.new }
         ensures value { result ≡ slice_get (server_of L.log self.old).out 0 }
         ensures rest { server_of L.log self.new ≡ record (server_of L.log self.old) {

@@ -1,5 +1,6 @@
 //! How a leader learns that entries are committed.
 ghost use Rattle.std.specs.Prelude.{◌≡◌, ◌+◌, ◌-◌, ◌<◌, ◌≤◌, ℕ, true, false};
+ghost use Rattle.qq_base.specs.declared.memory.TheConstants.{NUMBER_END};
 ghost use Rattle.qq_raft_step.specs.State.{last};
 ghost use Rattle.qq_raft_step.specs.Leading.{durable, may_commit, commit_within, advance};
 ghost use Rattle.qq_raft.specs.Held.{is_held};
@@ -82,7 +83,8 @@ impl<L: LogView> Raft<L> {
     fn commit_within(&self, above: u64) -> u64
         requires sound { IsSound L.log self.now }
         requires above { above ≡ last (server_of L.log self.now) - self.now.commit }
-        ensures { result ≡ commit_within (server_of L.log self.now) above }
+        ensures value { result ≡ commit_within (server_of L.log self.now) above }
+        ensures end { result ≤ NUMBER_END }
     {
         let held = self.held();
         let start = above.min(held.saturating_sub(self.commit));

@@ -5,6 +5,7 @@ ghost use Rattle.qq_raft_msg.specs.declared.rpc.Rpc.TheVariants.{Vote};
 ghost use Rattle.qq_raft_step.specs.State.{last, say_all};
 ghost use Rattle.qq_raft_step.specs.Leading.{is_majority, ask, stand, lead, noop, is_elected, lead_if_elected};
 ghost use Rattle.qq_raft_msg.specs.Rpc.{IsWritable};
+ghost use Rattle.qq_raft.specs.Ends.{HasEnds};
 ghost use Rattle.qq_raft.specs.Raft.{server_of, IsSound, IsPeer, IsInLog, IsCaused};
 
 use crate::batch::term_at;
@@ -17,11 +18,13 @@ use qq_raft_step::Peer;
 use std::alloc::Global;
 
 impl<L: LogView> Raft<L> {
+    #[tactic(auto, using(crate::proofs::Sendable::asked))]
     fn ask(&self, peer: &Peer) -> VoteMsg
         requires sound { IsSound L.log self.now }
         requires peer { IsPeer peer.now }
         ensures value { Vote result ≡ ask (server_of L.log self.now) peer.now }
         ensures rpc { IsWritable (Vote result) }
+        ensures ends { HasEnds (Vote result) }
     {
         let last = self.last();
         VoteMsg {

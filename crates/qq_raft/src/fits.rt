@@ -4,7 +4,7 @@ ghost use Rattle.std.specs.List.{list_all, list_any};
 ghost use Rattle.qq_entry.specs.Range.{IsWritable as IsEntry};
 ghost use Rattle.qq_raft_msg.specs.Rpc.{IsWritable};
 ghost use Rattle.qq_raft_step.specs.Server.{is_peer};
-ghost use Rattle.qq_raft.specs.Fits.{is_within, has_term, has_indices, is_short, has_size};
+ghost use Rattle.qq_raft.specs.Ends.{is_within, has_term, has_indices, is_short, has_size};
 
 use qq_base::{NUMBER_END, NodeId};
 use qq_command::encoded_len;

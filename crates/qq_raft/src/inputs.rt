@@ -3,7 +3,7 @@ ghost use Rattle.std.specs.Prelude.{◌≡◌, ◌++◌, All, false, nat_le, sli
 ghost use Rattle.std.specs.Option.{option_map_or};
 ghost use Rattle.qq_raft_step.specs.Server.{tick, is_ready, submit, free, still_waiting, notice};
 ghost use Rattle.qq_entry.specs.Range.{IsCommand, HasContent};
-ghost use Rattle.qq_raft_msg.specs.Rpc.{IsWritable};
+ghost use Rattle.qq_raft.specs.Ends.{IsSendable};
 ghost use Rattle.qq_raft.specs.Raft.{server_of, IsSound, IsInLog, IsWaiting, IsCaused};
 
 use crate::batch::term_at;
@@ -29,10 +29,10 @@ fn is_free(op: u64, waiting: &VecDeque<Waiting>) -> bool
 #[tactic(auto, using(crate::proofs::Ranges::all_rest))]
 fn free(op: u64, waiting: &mut VecDeque<Waiting>, out: &mut VecDeque<Rpc>) -> Result<(), Memory>
     requires waiting { All IsWaiting waiting.old.items }
-    requires out { All IsWritable out.old.items }
+    requires out { All IsSendable out.old.items }
     ensures out { OnOk result (out.new.items ≡ out.old.items ++ free op waiting.old.items) }
     ensures waiting { OnOk result (waiting.new.items ≡ still_waiting op waiting.old.items) }
-    ensures kept { OnOk result (All IsWaiting waiting.new.items × All IsWritable out.new.items) }
+    ensures kept { OnOk result (All IsWaiting waiting.new.items × All IsSendable out.new.items) }
     ensures want { IsOkUnless result Memory.Want }
 {
     'free: for _ in 0..waiting.len() {

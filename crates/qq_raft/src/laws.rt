@@ -3,7 +3,7 @@ ghost use Rattle.std.specs.Prelude.{◌≡◌, List, All, true};
 ghost use Rattle.qq_entry.specs.Range.{IsWritable};
 ghost use Rattle.qq_entry.specs.declared.command.Entry.{Entry};
 ghost use Rattle.qq_raft_step.specs.Leading.{batch};
-ghost use Rattle.qq_raft.specs.Fits.{is_short};
+ghost use Rattle.qq_raft.specs.Ends.{is_short};
 
 use qq_command::entries_read_back;
 

@@ -1,5 +1,5 @@
 //! The other members, as a server sees them.
-ghost use Rattle.std.specs.Prelude.{◌≡◌, ◌+◌, ◌*◌, ◌≤◌, ◌<◌, ◌^◌, All, map, count_by, nat_le, nat_lt};
+ghost use Rattle.std.specs.Prelude.{ℕ, ◌≡◌, ◌+◌, ◌*◌, ◌≤◌, ◌<◌, ◌^◌, All, map, count_by, nat_le, nat_lt};
 ghost use Rattle.qq_base.specs.declared.memory.TheConstants.{NUMBER_END};
 ghost use Rattle.qq_raft_step.specs.declared.peer.Peer.{Peer};
 ghost use Rattle.qq_raft_step.specs.Leading.{one_if};
@@ -51,25 +51,30 @@ impl Target {
 }
 
 pub(crate) fn greater(a: u64, b: u64) -> u64
-    ensures { result ≡ greater a b }
+    ensures value { result ≡ greater a b }
+    ensures end { (n : ℕ) → a ≤ n → b ≤ n → result ≤ n }
 {
     if a < b { b } else { a }
 }
 
 fn match_peer(peer: &mut Peer, index: u64)
-    requires matched { peer.old.matched ≤ NUMBER_END }
+    requires peer { IsPeer peer.old }
     requires index { index ≤ NUMBER_END }
-    ensures { peer.new ≡ match_peer index peer.old }
+    ensures value { peer.new ≡ match_peer index peer.old }
+    ensures matched { peer.new.matched ≤ NUMBER_END }
+    ensures next { peer.new.next ≤ NUMBER_END + 1 }
 {
     let matched = greater(peer.matched, index);
     peer.next = greater(peer.next, matched + 1);
     peer.matched = matched;
 }
 
+#[tactic(auto, using(crate::proofs::Sendable::min_end))]
 fn back_peer(peer: &mut Peer, index: u64)
-    requires matched { peer.old.matched ≤ NUMBER_END }
+    requires peer { IsPeer peer.old }
     requires index { index ≤ NUMBER_END }
-    ensures { peer.new ≡ back_peer index peer.old }
+    ensures value { peer.new ≡ back_peer index peer.old }
+    ensures next { peer.new.next ≤ NUMBER_END + 1 }
 {
     let back = peer.next.saturating_sub(1).min(index + 1);
     peer.next = greater(peer.matched + 1, back);

@@ -5,7 +5,7 @@ ghost use Rattle.qq_log.specs.Stable.{no_snapshot};
 ghost use Rattle.qq_raft_step.specs.State.{last, change, enter, wait, say};
 ghost use Rattle.qq_log.specs.Writable.{IsQueue, IsVote, MayWrite};
 ghost use Rattle.qq_log.specs.declared.op.Op.TheVariants.{Change};
-ghost use Rattle.qq_raft_msg.specs.Rpc.{IsWritable};
+ghost use Rattle.qq_raft.specs.Ends.{IsSendable};
 ghost use Rattle.qq_raft.specs.Fits.{IsShort};
 ghost use Rattle.qq_raft.specs.Raft.{server_of, IsSound, IsInLog, IsWaiting, IsCaused};
 ghost use Rattle.qq_base.specs.Causes.{SpentOnlyWhere};
@@ -132,10 +132,10 @@ fn push_op(ops: &mut VecDeque<Op>, op: Op) -> Result<(), Memory>
 /// Adds a message that may leave.
 #[tactic(auto, using(crate::proofs::Ranges::all_more))]
 pub(crate) fn push_rpc(out: &mut VecDeque<Rpc>, rpc: Rpc) -> Result<(), Memory>
-    requires out { All IsWritable out.old.items }
-    requires rpc { IsWritable rpc }
+    requires out { All IsSendable out.old.items }
+    requires rpc { IsSendable rpc }
     ensures ok { OnOk result (out.new.items ≡ out.old.items ++ rpc ∷ []) }
-    ensures out { OnOk result (All IsWritable out.new.items) }
+    ensures out { OnOk result (All IsSendable out.new.items) }
     ensures want { IsOkUnless result Memory.Want }
 {
     out.push_back(rpc)?;
@@ -144,7 +144,7 @@ pub(crate) fn push_rpc(out: &mut VecDeque<Rpc>, rpc: Rpc) -> Result<(), Memory>
 
 fn push_waiting(waiting: &mut VecDeque<Waiting>, op: u64, rpc: Rpc) -> Result<(), Memory>
     requires waiting { All IsWaiting waiting.old.items }
-    requires rpc { IsWritable rpc }
+    requires rpc { IsSendable rpc }
     ensures ok { OnOk result (waiting.new.items ≡ waiting.old.items ++ wait op rpc ∷ []) }
     ensures waiting { OnOk result (All IsWaiting waiting.new.items) }
     ensures want { IsOkUnless result Memory.Want }
@@ -231,7 +231,7 @@ impl<L: LogView> Raft<L> {
     #[tactic(auto, unfolding(qq_raft_step::specs::State::say_all))]
     pub(crate) fn say(&mut self, rpc: Rpc) -> Result<(), Memory>
         requires sound { IsSound L.log self.old }
-        requires rpc { IsWritable rpc }
+        requires rpc { IsSendable rpc }
         ensures sound { OnOk result (IsSound L.log self.new) }
         ensures ok { OnOk result (server_of L.log self.new
             ≡ say rpc (server_of L.log self.old)) }

@@ -7,6 +7,7 @@ ghost use Rattle.qq_raft_msg.specs.declared.rpc.Rpc.TheVariants.{Voted, Appended
 ghost use Rattle.qq_raft_step.specs.State.{last, vote_in, leader_in};
 ghost use Rattle.qq_raft_step.specs.Server.{voted, appended, installed, refuse, is_current, is_free, may_grant, give_vote, receive_vote, receive_voted, is_match, agreed, has_agreed, write, end, take_entries, refuse_entries, receive_append, take_ack, step_back, receive_appended, accept, receive};
 ghost use Rattle.qq_raft_msg.specs.Rpc.{IsNode, IsWritable, envelope};
+ghost use Rattle.qq_raft.specs.Ends.{HasEnds};
 ghost use Rattle.qq_log.specs.Writable.{IsVote};
 ghost use Rattle.qq_raft.specs.Raft.{server_of, IsSound, IsInLog, IsCaused};
 ghost use Rattle.qq_raft.specs.Fits.{IsShort, IsWithin, AppendFits};
@@ -20,11 +21,13 @@ use qq_raft_msg::{AppendMsg, AppendedMsg, InstalledMsg, LogView, Role, Rpc, Vote
 use std::alloc::Global;
 
 impl<L: LogView> Raft<L> {
+    #[tactic(auto, using(crate::proofs::Sendable::voted))]
     fn voted(&self, to: NodeId, granted: bool) -> VotedMsg
         requires sound { IsSound L.log self.now }
         requires to { IsNode to }
         ensures value { Voted result ≡ voted to granted (server_of L.log self.now) }
         ensures rpc { IsWritable (Voted result) }
+        ensures ends { HasEnds (Voted result) }
     {
         VotedMsg {
             from: self.node,
@@ -34,11 +37,14 @@ impl<L: LogView> Raft<L> {
         }
     }
 
+    #[tactic(auto, using(crate::proofs::Sendable::appended))]
     fn appended(&self, to: NodeId, ok: bool, index: u64) -> AppendedMsg
         requires sound { IsSound L.log self.now }
         requires to { IsNode to }
+        requires index { index ≤ NUMBER_END }
         ensures value { Appended result ≡ appended to ok index (server_of L.log self.now) }
         ensures rpc { IsWritable (Appended result) }
+        ensures ends { HasEnds (Appended result) }
     {
         AppendedMsg {
             from: self.node,
@@ -49,11 +55,14 @@ impl<L: LogView> Raft<L> {
         }
     }
 
+    #[tactic(auto, using(crate::proofs::Sendable::installed))]
     fn installed(&self, to: NodeId, index: u64) -> InstalledMsg
         requires sound { IsSound L.log self.now }
         requires to { IsNode to }
+        requires index { index ≤ NUMBER_END }
         ensures value { Installed result ≡ installed to index (server_of L.log self.now) }
         ensures rpc { IsWritable (Installed result) }
+        ensures ends { HasEnds (Installed result) }
     {
         InstalledMsg {
             from: self.node,
@@ -222,7 +231,7 @@ impl<L: LogView> Raft<L> {
         self.change(alloc, term, vote, keep, missing)
     }
 
-    #[tactic(auto, unfolding(qq_raft_step::specs::Server::take_entries))]
+    #[tactic(auto, unfolding(qq_raft_step::specs::Server::take_entries), using(crate::proofs::Sendable::min_end))]
     fn take_entries(&mut self, alloc: Global, m: AppendMsg) -> Result<(), Memory>
         requires sound { IsSound L.log self.old }
         requires from { IsNode m.from }
@@ -245,7 +254,7 @@ impl<L: LogView> Raft<L> {
         self.say(Rpc::Appended(answer))
     }
 
-    #[tactic(auto, unfolding(qq_raft_step::specs::Server::refuse_entries))]
+    #[tactic(auto, unfolding(qq_raft_step::specs::Server::refuse_entries), using(crate::proofs::Sendable::min_end))]
     fn refuse_entries(&mut self, alloc: Global, m: &AppendMsg) -> Result<(), Memory>
         requires sound { IsSound L.log self.old }
         requires from { IsNode m.now.from }

@@ -1,5 +1,5 @@
 //! What a leader sends to the others.
-ghost use Rattle.std.specs.Prelude.{◌≡◌, ◌≤◌, ◌++◌, ◌∷◌, [], All, length, map, filter, IfOk, IfErr, OnOk, IsOkUnless};
+ghost use Rattle.std.specs.Prelude.{◌≡◌, ◌+◌, ◌≤◌, ◌++◌, ◌∷◌, [], All, length, map, filter, IfOk, IfErr, OnOk, IsOkUnless};
 ghost use Rattle.qq_base.specs.declared.memory.TheConstants.{NUMBER_END};
 ghost use Rattle.qq_log.specs.Stable.{no_snapshot};
 ghost use Rattle.qq_raft_msg.specs.declared.rpc.Rpc.TheVariants.{Append};
@@ -8,7 +8,9 @@ ghost use Rattle.qq_raft_step.specs.State.{last, change};
 ghost use Rattle.qq_raft_step.specs.Leading.{send, add_entry};
 ghost use Rattle.qq_raft.specs.Fits.{IsShort};
 ghost use Rattle.qq_raft.specs.Peers.{picks, append_from, sent_to, passed};
-ghost use Rattle.qq_raft_msg.specs.Rpc.{IsNode, IsWritable};
+ghost use Rattle.qq_raft_msg.specs.Rpc.{IsWritable};
+ghost use Rattle.qq_raft.specs.Ends.{HasEnds, IsSendable};
+ghost use Rattle.qq_raft.specs.Raft.{IsSender};
 ghost use Rattle.qq_raft.specs.Raft.{server_of, IsSound, IsInLog, IsPeer, IsCaused};
 
 use crate::batch::{batch_from, term_at};
@@ -40,11 +42,13 @@ fn append_from<L: LogView>(
     requires whole { (L.log log.now).base ≡ no_snapshot }
     requires last { length (L.log log.now).entries ≤ NUMBER_END }
     requires entries { All IsInLog (L.log log.now).entries }
-    requires sender { IsNode sender.node }
+    requires sender { IsSender sender.node sender.term sender.commit }
     requires peer { IsPeer peer.now }
     ensures ok { IfOk result (λ m. Append m
         ≡ append_from sender.node sender.term sender.commit (L.log log.now).entries peer.now) }
     ensures rpc { IfOk result (λ m. IsWritable (Append m)) }
+    ensures ends { IfOk result (λ m. HasEnds (Append m)) }
+    ensures end { IfOk result (λ m. peer.now.next + length m.entries ≤ NUMBER_END + 1) }
     ensures want { IsOkUnless result Memory.Want }
 {
     let before = peer.next.saturating_sub(1);
@@ -71,14 +75,14 @@ fn send_to<L: LogView>(
     requires whole { (L.log log.now).base ≡ no_snapshot }
     requires last { length (L.log log.now).entries ≤ NUMBER_END }
     requires entries { All IsInLog (L.log log.now).entries }
-    requires sender { IsNode sender.node }
+    requires sender { IsSender sender.node sender.term sender.commit }
     requires peer { IsPeer peer.old }
-    requires out { All IsWritable out.old.items }
+    requires out { All IsSendable out.old.items }
     ensures ok { OnOk result (out.new.items ≡ out.old.items
         ++ sent_to target sender.node sender.term sender.commit (L.log log.now).entries peer.old) }
     ensures peer { OnOk result (peer.new ≡ passed target (L.log log.now).entries peer.old) }
     ensures peer_kept { IsPeer peer.new }
-    ensures out { OnOk result (All IsWritable out.new.items) }
+    ensures out { OnOk result (All IsSendable out.new.items) }
     ensures want { IsOkUnless result Memory.Want }
 {
     if !target.picks(log.last().0, peer) {
@@ -103,16 +107,16 @@ fn send_to_each<L: LogView>(
     requires whole { (L.log log.now).base ≡ no_snapshot }
     requires last { length (L.log log.now).entries ≤ NUMBER_END }
     requires entries { All IsInLog (L.log log.now).entries }
-    requires sender { IsNode sender.node }
+    requires sender { IsSender sender.node sender.term sender.commit }
     requires each { All IsPeer peers.old }
-    requires out { All IsWritable out.old.items }
+    requires out { All IsSendable out.old.items }
     ensures ok { OnOk result (out.new.items ≡ out.old.items
         ++ map (append_from sender.node sender.term sender.commit (L.log log.now).entries)
         (filter (picks target (length (L.log log.now).entries)) peers.old)) }
     ensures peers { OnOk result
         (peers.new ≡ map (passed target (L.log log.now).entries) peers.old) }
     ensures each { All IsPeer peers.new }
-    ensures out { OnOk result (All IsWritable out.new.items) }
+    ensures out { OnOk result (All IsSendable out.new.items) }
     ensures want { IsOkUnless result Memory.Want }
 {
     'peers: for peer in peers.iter_mut() {
@@ -132,16 +136,16 @@ fn send_to_all<L: LogView>(
     requires whole { (L.log log.now).base ≡ no_snapshot }
     requires last { length (L.log log.now).entries ≤ NUMBER_END }
     requires entries { All IsInLog (L.log log.now).entries }
-    requires sender { IsNode sender.node }
+    requires sender { IsSender sender.node sender.term sender.commit }
     requires each { All IsPeer peers.old.items }
-    requires out { All IsWritable out.old.items }
+    requires out { All IsSendable out.old.items }
     ensures ok { OnOk result (out.new.items ≡ out.old.items
         ++ map (append_from sender.node sender.term sender.commit (L.log log.now).entries)
         (filter (picks target (length (L.log log.now).entries)) peers.old.items)) }
     ensures peers { OnOk result
         (peers.new.items ≡ map (passed target (L.log log.now).entries) peers.old.items) }
     ensures each { All IsPeer peers.new.items }
-    ensures out { OnOk result (All IsWritable out.new.items) }
+    ensures out { OnOk result (All IsSendable out.new.items) }
     ensures want { IsOkUnless result Memory.Want }
 {
     send_to_each(alloc, sender, log, target, peers, out)

@@ -6,6 +6,7 @@ ghost use Rattle.qq_log.specs.Writable.{MayWrite};
 ghost use Rattle.qq_raft_msg.specs.Rpc.{IsNode, IsWritable};
 ghost use Rattle.qq_raft_step.specs.State.{last};
 ghost use Rattle.qq_raft_step.specs.Server.{is_ready, restart, tick as tick_raft, receive as receive_raft, notice as notice_raft};
+ghost use Rattle.qq_raft.specs.Ends.{IsSendable};
 ghost use Rattle.qq_raft.specs.Fits.{fits};
 ghost use Rattle.qq_raft.specs.Raft.{server_of, lane_of, state_of as member_state, IsCaused as IsRaftCaused, IsWithinEnds};
 ghost use Rattle.qq_server.specs.Step.{new_state, with_raft, tick, receive, submit, notice};
@@ -204,11 +205,12 @@ impl<Q: Queue, L: LogView> Server<Q, L> {
         self.raft.next_op()
     }
 
-    /// The next message that may leave, which has bytes. None exactly where there is none.
+    /// The next message that may leave: it has bytes, and fits whoever gets it by its numbers. None exactly
+    /// where there is none.
     pub fn next_rpc(&mut self) -> Option<Rpc>
         requires { IsSound L.log Q.applied self.old }
 
-        ensures rpc { IfSome result IsWritable }
+        ensures rpc { IfSome result IsSendable }
         ensures sound { IsSound L.log Q.applied self.new }
         ensures value { result ≡ slice_get (server_of L.log self.old.raft).out 0 }
         ensures rest { server_of L.log self.new.raft ≡ record (server_of L.log self.old.raft) {

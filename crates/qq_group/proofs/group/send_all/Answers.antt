@@ -1,5 +1,5 @@
 use Rattle.std.proofs.Common.{◌+◌, ◌++◌, length, sym, ap, ◌∙◌, length-append}
-use Rattle.qq_raft_msg.specs.Rpc.{IsWritable}
+use Rattle.qq_raft.specs.Ends.{IsSendable}
 use Rattle.qq_raft.specs.Raft.{server_of}
 use Rattle.qq_raft_step.specs.State.{Server as Raft}
 use Rattle.qq_group.proofs.Bags.{all-more, front-one, moved, only-out, only-raft, full-with}
@@ -16,7 +16,7 @@ messages-preserved g c =
           (server_of log c.next_rpc.new.self.raft).out
           (c.args.bag.now ++ (server_of log c.args.server.now.raft).out) c.in-Some.rpc
           c.in_default-put.ensures.ok sent.value rest inv.bag;
-      writable = all-more IsWritable c.messages.bag c.put.new.self c.in-Some.rpc c.in_default-put.ensures.ok inv.writable
+      sendable = all-more IsSendable c.messages.bag c.put.new.self c.in-Some.rpc c.in_default-put.ensures.ok inv.sendable
           sent.rpc;
       front = front-one c.args.bag.now c.messages.bag c.put.new.self c.in-Some.rpc inv.front c.in_default-put.ensures.ok;
       raft = only-out (server_of log c.args.server.now.raft) (server_of log c.messages.server.raft)

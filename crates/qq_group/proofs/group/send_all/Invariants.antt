@@ -1,6 +1,6 @@
 use Rattle.std.proofs.Common.{◌≡◌, ◌++◌, length}
 use Rattle.std.specs.Prelude.{All}
-use Rattle.qq_raft_msg.specs.Rpc.{IsWritable}
+use Rattle.qq_raft.specs.Ends.{IsSendable}
 use Rattle.qq_raft.specs.Raft.{server_of}
 use Rattle.qq_server.specs.Stands.{IsSound}
 use Rattle.qq_base.specs.Fronts.{IsFront}
@@ -12,7 +12,7 @@ invariant-messages g l =
     let log = g.L.LogView.log in
     record {
       bag : l.bag ++ (server_of log l.server.raft).out ≡ l.fn.bag ++ (server_of log l.fn.server.raft).out;
-      writable : All IsWritable l.bag;
+      sendable : All IsSendable l.bag;
       front : IsFront l.fn.bag l.bag;
       raft : server_of log l.server.raft
           ≡ record (server_of log l.fn.server.raft) { out = (server_of log l.server.raft).out };

@@ -4,7 +4,11 @@ use Rattle.std.proofs.lemmas.Option.{slice_get_within}
 use Rattle.qq_entry.specs.declared.command.Entry.{Entry}
 use Rattle.qq_raft_step.specs.declared.limits.TheConstants.{BATCH_BYTES, BATCH_ENTRIES}
 use Rattle.qq_raft_step.specs.Leading.{fit}
-use Rattle.qq_raft.proofs.Ranges.{all_at, batch_all, batch_count}
+use Rattle.qq_raft.proofs.Ranges.{all_at, batch_all, batch_count, batch_short, with_bytes}
+use Rattle.qq_raft.proofs.Sendable.{batch_end}
+use Rattle.std.proofs.lemmas.List.Elements.{All-drop}
+use Rattle.qq_raft.specs.Fits.{IsShort}
+use Rattle.qq_base.specs.declared.memory.TheConstants.{NUMBER_END}
 use Rattle.qq_raft.specs.Raft.{IsInLog}
 use Rattle.qq_raft.proofs.Entries.{batch-first, batch-none, entry-known}
 use Rattle.qq_raft.proofs.batch.batch_from.Goals as goal
@@ -68,3 +72,29 @@ add_fitting-requires-clause-within g c =
     let there = sym (entry-known log place c.requires.whole) ∙ c.in-Some.ensures.some in
     let lt = slice_get_within log.entries place c.in-Some.first.now there in
     omega (arith, lt, c.requires.last)
+
+pub returns-in_default-clause-short : goal.returns-in_default-clause-short
+returns-in_default-clause-short g c =
+    let log = (g.L.LogView.log c.args.log.now).entries in
+    let rest = drop (c.args.next - 1) log in
+    subst IsShort (sym (returns-in_default-clause-ok g c))
+    (batch_short c.entries_read_back.ensures.short rest (with_bytes rest (All-drop IsInLog (c.args.next - 1) log c.requires.entries)))
+
+pub returns-in_default-clause-end : goal.returns-in_default-clause-end
+returns-in_default-clause-end g c =
+    let log = (g.L.LogView.log c.args.log.now).entries in
+    subst (λ (es : List Entry). c.args.next - 1 + length es ≤ NUMBER_END) (sym (returns-in_default-clause-ok g c))
+    (batch_end c.args.next log c.requires.last c.requires.next)
+
+pub returns-clause-short : goal.returns-clause-short
+returns-clause-short g c =
+    let log = (g.L.LogView.log c.args.log.now).entries in
+    let rest = drop (c.args.next - 1) log in
+    subst IsShort (sym (returns-clause-ok g c))
+    (batch_short c.entries_read_back.ensures.short rest (with_bytes rest (All-drop IsInLog (c.args.next - 1) log c.requires.entries)))
+
+pub returns-clause-end : goal.returns-clause-end
+returns-clause-end g c =
+    let log = (g.L.LogView.log c.args.log.now).entries in
+    subst (λ (es : List Entry). c.args.next - 1 + length es ≤ NUMBER_END) (sym (returns-clause-ok g c))
+    (batch_end c.args.next log c.requires.last c.requires.next)

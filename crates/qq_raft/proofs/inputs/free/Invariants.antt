@@ -1,7 +1,7 @@
 use Rattle.std.proofs.Common.{◌≡◌, ◌+◌, ◌++◌, length}
 use Rattle.qq_raft_step.specs.Server.{free, still_waiting}
 use Rattle.std.specs.Prelude.{All}
-use Rattle.qq_raft_msg.specs.Rpc.{IsWritable}
+use Rattle.qq_raft.specs.Ends.{IsSendable}
 use Rattle.qq_raft.specs.Raft.{IsWaiting}
 use Rattle.qq_raft.proofs.inputs.free.Given as goal
 
@@ -12,5 +12,5 @@ invariant-free l = record {
   waiting : still_waiting l.op l.waiting.items ≡ still_waiting l.op l.fn.waiting.items;
   length : length l.waiting.items + l.counter ≡ length l.fn.waiting.items;
   kept : All IsWaiting l.waiting.items;
-  freed : All IsWritable l.out.items;
+  freed : All IsSendable l.out.items;
 }

@@ -1,4 +1,4 @@
-use Rattle.std.proofs.Common.{◌≤◌, arith}
+use Rattle.std.proofs.Common.{arith}
 use Rattle.std.proofs.lemmas.List.Elements.{All-set}
 use Rattle.qq_raft.specs.Raft.{IsPeer}
 use Rattle.qq_raft.specs.Peers.{change_peer}

@@ -1,4 +1,4 @@
-use Rattle.std.proofs.Common.{◌≡◌, ◌≤◌, take, drop, map}
+use Rattle.std.proofs.Common.{◌≡◌, take, drop, map}
 use Rattle.std.specs.Prelude.{All}
 use Rattle.qq_raft.specs.Raft.{IsPeer}
 use Rattle.qq_raft.specs.Peers.{change_peer}

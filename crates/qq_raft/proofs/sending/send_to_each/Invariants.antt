@@ -1,6 +1,6 @@
-use Rattle.std.proofs.Common.{◌≡◌, ◌≤◌, ◌++◌, length, take, drop, map}
+use Rattle.std.proofs.Common.{◌≡◌, ◌++◌, length, take, drop, map}
 use Rattle.std.specs.Prelude.{All, filter}
-use Rattle.qq_raft_msg.specs.Rpc.{IsWritable}
+use Rattle.qq_raft.specs.Ends.{IsSendable}
 use Rattle.qq_raft.specs.Raft.{IsPeer}
 use Rattle.qq_raft.specs.Peers.{picks, append_from, passed}
 use Rattle.qq_raft.proofs.sending.send_to_each.Given as goal
@@ -16,5 +16,5 @@ invariant-peers g l =
       front : take l.peer-index l.peers ≡ map (passed l.target log) (take l.peer-index l.fn.peers);
       rest : drop l.peer-index l.peers ≡ drop l.peer-index l.fn.peers;
       each : All IsPeer l.peers;
-      sent : All IsWritable l.out.items;
+      sent : All IsSendable l.out.items;
     }

@@ -1,7 +1,6 @@
-use Rattle.std.proofs.Common.{◌≡◌, ◌≤◌, true, take, sym, subst, ◌∙◌, arith}
+use Rattle.std.proofs.Common.{◌≡◌, ◌≤◌, true, subst, arith}
 use Rattle.std.proofs.lemmas.List.{take_all}
 use Rattle.std.proofs.lemmas.List.Elements.{All-nil}
-use Rattle.qq_raft_step.specs.Leading.{durable}
 use Rattle.qq_raft_step.specs.declared.peer.Peer.{Peer}
 use Rattle.qq_raft.specs.Held.{is_held}
 use Rattle.qq_raft.specs.Raft.{server_of}

@@ -1,8 +1,8 @@
-use Rattle.std.proofs.Common.{◌≤◌, ◌<◌, ◌^◌, length, sym, subst, arith}
+use Rattle.std.proofs.Common.{◌<◌, ◌^◌, length, sym, subst, arith}
 use Rattle.std.specs.Prelude.{All}
 use Rattle.qq_raft.proofs.Members.{new-each, new-count}
 use Rattle.qq_log.specs.Writable.{MayWrite}
-use Rattle.qq_raft_msg.specs.Rpc.{IsWritable}
+use Rattle.qq_raft.specs.Ends.{IsSendable}
 use Rattle.qq_raft.proofs.Ranges.{all_none}
 use Rattle.qq_raft.specs.Raft.{IsPeer, IsWaiting}
 use Rattle.qq_raft.proofs.raft.Raft.new.Goals as goal
@@ -22,7 +22,8 @@ returns-clause-sound g c =
       vote = rw c.start-op.ensures c.requires.ends.vote;
       queue = omega arith;
       node = c.requires.nodes.0;
+      commit = omega arith;
       ops = all_none MayWrite _ c.new-ops.ensures.items;
-      out = all_none IsWritable _ c.new-out.ensures.items;
+      out = all_none IsSendable _ c.new-out.ensures.items;
       waiting = all_none IsWaiting _ c.new-waiting.ensures.items;
     }

@@ -1,5 +1,0 @@
-use Rattle.qq_group_fits.proofs.Fitting.{message-fits}
-use Rattle.qq_group_fits.proofs.laws.a_message_fits_by_its_numbers.Goals as goal
-
-pub returns : goal.returns
-returns g c = λ h group rpc s reached r here up. message-fits g.L.LogView.log h group rpc s reached r here up
