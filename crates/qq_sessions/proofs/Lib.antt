@@ -1,3 +1,5 @@
+mod Holders
+mod Lows
 mod OpenRows
 mod Owners
 mod Places

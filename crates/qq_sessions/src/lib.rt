@@ -3,8 +3,9 @@
 //! does.
 #![tactic(auto)]
 
+mod answers;
 mod ended;
-mod kept_low;
+mod open_sessions;
 mod opened;
 mod row;
 mod sessions;

@@ -1,4 +1,4 @@
-ghost use Rattle.std.specs.Prelude.{◌≡◌, ◌+◌, ◌<◌, ◌≤◌, ◌^◌, ◌∷◌, ◌++◌, [], true, false, not, filter, map, length, fold, slice_get, is_some, IfSome, Some, None, IfOk, IsOkUnless, OnOk};
+ghost use Rattle.std.specs.Prelude.{◌≡◌, ◌+◌, ◌<◌, ◌≤◌, ◌^◌, ◌∷◌, ◌++◌, [], true, false, not, filter, map, length, slice_get, is_some, IfSome, Some, None, IfOk, IsOkUnless, OnOk};
 ghost use Rattle.std.specs.List.{list_all, AllByRecursion};
 ghost use Rattle.std.specs.Option.{option_copied, option_map};
 ghost use Rattle.indexmap.specs.IndexMap.{spare, IsUnique};
@@ -8,9 +8,7 @@ ghost use Rattle.qq_model.specs.Gate.{session_of, is_open, change_session, raise
 ghost use Rattle.qq_sessions.specs.Row.{open_of};
 ghost use Rattle.qq_sessions.specs.Opened.{AreApart, IsReady, sessions_of};
 ghost use Rattle.qq_sessions.specs.Known.{next_by};
-ghost use Rattle.qq_sessions.specs.KeptLow.{low_of_session};
 
-use crate::kept_low::low_of;
 use crate::row::{
     Kepts, SessionRow, add_answer, copy_row, new_session, raise_mark, reserve_slot, set_tag,
     use_number,
@@ -50,7 +48,8 @@ impl Model for Opened {
 impl Opened {
     /// No sessions. It takes no memory.
     pub fn new(alloc: Global) -> Self
-        ensures { result.rows ≡ [] }
+        ensures rows { result.rows ≡ [] }
+        ensures room { result.room ≡ None }
     {
         Opened {
             rows: IndexMap::new(alloc),
@@ -77,7 +76,8 @@ impl Opened {
         }
     }
 
-    fn row(&self, place: usize) -> &SessionRow
+    /// The row at a place, which has to be there.
+    pub fn row(&self, place: usize) -> &SessionRow
         requires { place < length self.now.rows }
 
         ensures { slice_get self.now.rows place ≡ Some (open_of result.now) }
@@ -90,7 +90,9 @@ impl Opened {
 
     /// The row of a session. None exactly where it isn't open.
     pub fn session_of(&self, session: SessionId) -> Option<&SessionRow>
-        ensures { option_map open_of (option_copied result) ≡ session_of session self.now.rows }
+        ensures one { option_map open_of (option_copied result)
+            ≡ session_of session self.now.rows }
+        ensures apart { AreApart self.now.rows }
     {
         self.rows.get(&session)
     }
@@ -119,6 +121,14 @@ impl Opened {
         reserve_slot(row)?;
         self.room = Some(session);
         Ok(())
+    }
+
+    /// From now on there is room for no session.
+    pub fn give_up_room(&mut self)
+        ensures rows { self.new.rows ≡ self.old.rows }
+        ensures room { self.new.room ≡ None }
+    {
+        self.room = None;
     }
 
     /// Takes over a stamp's low mark.
@@ -162,7 +172,8 @@ impl Opened {
     pub fn add_answer(&mut self, session: SessionId, answer: Answer)
         requires { self.old.room ≡ Some session }
 
-        ensures { self.new.rows ≡ change_session session (add_answer answer) self.old.rows }
+        ensures rows { self.new.rows ≡ change_session session (add_answer answer) self.old.rows }
+        ensures room { self.new.room ≡ None }
     {
         self.room = None;
         let Some(row) = self.rows.get_mut(&session) else {
@@ -191,8 +202,9 @@ impl Opened {
 
     /// Removes a session.
     pub fn remove(&mut self, session: SessionId)
-        ensures { self.new.rows
+        ensures rows { self.new.rows
             ≡ filter (λ one. not (same_session one.session session)) self.old.rows }
+        ensures room { self.new.room ≡ None }
     {
         self.room = None;
         self.rows.shift_remove(&session);
@@ -203,6 +215,7 @@ impl Opened {
         requires { is_open row.session self.old.rows ≡ false }
 
         ensures ok { OnOk result (self.new.rows ≡ self.old.rows ++ open_of row ∷ []) }
+        ensures room { self.new.room ≡ None }
         ensures want { IsOkUnless result Memory.Want }
     {
         self.room = None;
@@ -213,6 +226,7 @@ impl Opened {
     /// The same sessions.
     pub fn copy(&self, alloc: Global) -> Result<Opened, Memory>
         ensures ok { IfOk result (λ twin. twin.rows ≡ self.now.rows) }
+        ensures room { IfOk result (λ twin. twin.room ≡ None) }
         ensures want { IsOkUnless result Memory.Want }
     {
         let mut twin = Opened::new(alloc);
@@ -229,6 +243,7 @@ impl Opened {
         requires { AreApart (map open_of rows.items) }
 
         ensures ok { IfOk result (λ opened. opened.rows ≡ map open_of rows.items) }
+        ensures room { IfOk result (λ opened. opened.room ≡ None) }
         ensures want { IsOkUnless result Memory.Want }
     {
         let mut opened = Opened::new(alloc);
@@ -250,17 +265,6 @@ impl Opened {
         }
         true
     }
-
-    /// The least index of a message that a kept answer names.
-    pub fn kept_low(&self) -> Option<u64>
-        ensures { result ≡ fold low_of_session None self.now.rows }
-    {
-        let mut low = None;
-        'rows: for place in 0..self.len() {
-            low = low_of(low, &self.row(place).kept);
-        }
-        low
-    }
 }
 
 fn hold_ready(alloc: Global, at_hand: &mut Option<Kepts>) -> Result<(), Memory>
@@ -279,7 +283,8 @@ fn hold_ready(alloc: Global, at_hand: &mut Option<Kepts>) -> Result<(), Memory>
     Ok(())
 }
 
-fn is_giving_way(session: SessionId, row: &SessionRow) -> bool
+/// Whether a session gives way to another.
+pub fn is_giving_way(session: SessionId, row: &SessionRow) -> bool
     ensures { result ≡ is_giving_way session (open_of row.now) }
 {
     session.class == WORKER

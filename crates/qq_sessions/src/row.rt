@@ -50,6 +50,13 @@ fn next_mark(stamp: &Stamp, row: &SessionRow) -> u64
     row.mark.max(stamp.done.min(row.next.saturating_sub(1)))
 }
 
+/// How many answers a stamp's low mark forgets.
+pub fn done_count(stamp: &Stamp, row: &SessionRow) -> u64
+    ensures { result ≡ next_mark stamp.now (open_of row.now) - row.now.mark }
+{
+    next_mark(stamp, row).saturating_sub(row.mark)
+}
+
 fn repeat_kept(alloc: Global, seq: u64, row: &SessionRow) -> Result<Gate, Memory>
     ensures ok { IfOk result (λ gate. gate ≡ repeat_by (kept_answer seq (open_of row.now))) }
     ensures want { IsOkUnless result Memory.Want }

@@ -11,7 +11,7 @@ ghost use Rattle.qq_sessions.specs.Known.{no_sessions, HasRoomFor, CanCount, nex
 ghost use Rattle.qq_sessions.specs.KeptLow.{kept_low};
 
 use crate::ended::Ended;
-use crate::opened::Opened;
+use crate::open_sessions::OpenSessions;
 use crate::row::{SessionRow, gate_number};
 use crate::workers::Workers;
 use qq_base::{CLIENT, DEAD_LETTER, Index, Memory, SessionId, WORKER};
@@ -23,10 +23,10 @@ use std::marker::Model;
 /// What a queue knows of sessions.
 ///
 /// Contracts see the definition's `Sessions`, and for what there is memory. A check looks an id up by its
-/// hash, and an ended session by binary search.
+/// hash, and an ended session by binary search. The least index that a kept answer names costs no scan.
 #[derive(Debug, Drop)]
 pub struct Sessions {
-    opened: Opened,
+    opened: OpenSessions,
     ended: Ended,
     workers: Workers,
     seen: u64,
@@ -57,7 +57,7 @@ impl Sessions {
         ensures { result.known ≡ no_sessions }
     {
         Sessions {
-            opened: Opened::new(alloc),
+            opened: OpenSessions::new(alloc),
             ended: Ended::new(alloc),
             workers: Workers::new(alloc),
             seen: 0,
@@ -88,7 +88,7 @@ impl Sessions {
         ensures want { IsOkUnless result Memory.Want }
     {
         Ok(Sessions {
-            opened: Opened::from_rows(alloc, rows)?,
+            opened: OpenSessions::from_rows(alloc, rows)?,
             ended: Ended::from_vec(ended),
             workers: Workers::from_vec(workers),
             seen,
@@ -305,12 +305,11 @@ impl Sessions {
         }
     }
 
-    /// The least index of a message that a kept answer names. None exactly where none does. It goes
-    /// through all kept answers.
+    /// The least index of a message that a kept answer names. None exactly where none does.
     pub fn kept_low(&self) -> Option<Index>
         ensures { option_map (λ index. index.0) result ≡ kept_low self.now.known }
     {
-        self.opened.kept_low().map(Index)
+        self.opened.kept_low()
     }
 
     /// Whether no number of an open session has passed its end.

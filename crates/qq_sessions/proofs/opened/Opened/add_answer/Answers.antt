@@ -19,8 +19,8 @@ invariant_of-self c = (
   c.self.invariant.1,
 )
 
-pub returns-in_default : goal.returns-in_default
-returns-in_default c =
+pub returns-in_default-clause-rows : goal.returns-in_default-clause-rows
+returns-in_default-clause-rows c =
     absent-changes c.args.session c.self.inside.rows c.get_mut.follows.lender-at-none
     (is_some c.self.inside.at_hand) c.self.inside.room c.self.invariant.0 (add_answer c.args.answer)
     c.get_mut.follows.holds-at-none c.in_default.ensures.value
@@ -35,8 +35,8 @@ invariant_of-self-2 c =
       c.self.invariant.1,
     )
 
-pub returns : goal.returns
-returns c =
+pub returns-clause-rows : goal.returns-clause-rows
+returns-clause-rows c =
     write-changes c.args.session c.self.inside.rows (c.get_mut.follows.lender c.add_answer.new.row)
     (is_some c.self.inside.at_hand) c.self.inside.room c.self.invariant.0 c.in-Some.row.now c.add_answer.new.row
     c.in-Some.ensures.value (c.get_mut.follows.holds c.add_answer.new.row) (add_answer c.args.answer)

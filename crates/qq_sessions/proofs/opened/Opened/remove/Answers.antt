@@ -13,8 +13,8 @@ invariant_of-self c = (
   c.self.invariant.1,
 )
 
-pub returns : goal.returns
-returns c =
+pub returns-clause-rows : goal.returns-clause-rows
+returns-clause-rows c =
     let stays : OpenSession → Bool = λ one. not (same_session one.session c.args.session) in
     ap sessions_of c.shift_remove.ensures.entries
     ∙ removed c.args.session c.self.inside.rows.entries c.self.invariant.0.ids c.self.invariant.0.unique
