@@ -52,12 +52,21 @@ fn got(index: u64) -> Answer {
 }
 
 // Carries out the first command of a session.
-fn publish(alloc: Global, sessions: &mut Sessions, number: u64) -> Result<(), Fail> {
+fn answer_first(
+    alloc: Global,
+    sessions: &mut Sessions,
+    number: u64,
+    answer: Answer,
+) -> Result<(), Fail> {
     let first = first_stamp(number);
     sessions.reserve(alloc, first.session)?;
     sessions.admit(&first);
-    sessions.keep(&first, Answer::Confirmed);
+    sessions.keep(&first, answer);
     Ok(())
+}
+
+fn publish(alloc: Global, sessions: &mut Sessions, number: u64) -> Result<(), Fail> {
+    answer_first(alloc, sessions, number, Answer::Confirmed)
 }
 
 #[test]
@@ -112,6 +121,29 @@ fn sessions_without_a_kept_message_have_no_least_one(rt: HostRuntime) -> Result<
     publish(rt.alloc(), &mut sessions, 1)?;
     assert_eq!(rt; sessions.kept_low(), None);
     assert_eq!(rt; sessions.seen(), 1);
+    Ok(())
+}
+
+#[test]
+fn an_answer_holds_its_message_until_it_is_forgotten(rt: HostRuntime) -> Result<(), Fail> {
+    let alloc = rt.alloc();
+    let mut sessions = Sessions::new(alloc);
+    answer_first(alloc, &mut sessions, 1, got(9))?;
+    answer_first(alloc, &mut sessions, 2, got(4))?;
+    answer_first(alloc, &mut sessions, 3, got(4))?;
+    assert_eq!(rt; sessions.kept_low(), Some(Index(4)));
+    let second = first_stamp(2).session;
+    sessions.reserve(alloc, second)?;
+    sessions.end(second);
+    assert_eq!(rt; sessions.kept_low(), Some(Index(4)));
+    let done = Stamp {
+        session: THREE,
+        seq: 2,
+        done: 1,
+    };
+    sessions.advance(&done);
+    assert_eq!(rt; sessions.kept_low(), Some(Index(9)));
+    assert_eq!(rt; sessions.copy(alloc)?.kept_low(), Some(Index(9)));
     Ok(())
 }
 
