@@ -1,8 +1,9 @@
 -- What a node's disk keeps, in words.
-use Rattle.std.proofs.Common.{◌≡◌, ℕ, List, [], ◌∷◌, ◌++◌, Option, Some, refl, sym, ap, ◌∙◌, append_assoc}
+use Rattle.std.proofs.Common.{◌≡◌, ℕ, List, [], ◌∷◌, ◌++◌, Option, Some, map, refl, sym, ap, ◌∙◌, append_assoc}
 use Rattle.std.specs.Prelude.{Ok, Contains, take}
 use Rattle.std.specs.List.{AllByRecursion}
 use Rattle.qq_base.proofs.Lists.{AllByRecursion-in}
+use Rattle.qq_base.specs.Fronts.{IsFront}
 use Rattle.qq_chain.specs.Lanes.{Lanes}
 use Rattle.qq_chain.specs.Laws.{IsHonestImage}
 use Rattle.qq_disk.specs.declared.image.Image.{Image}
@@ -13,12 +14,14 @@ use Rattle.qq_disk.specs.Image.{IsNewestLog, image_of}
 use Rattle.qq_entry.specs.declared.audit.AuditRow.{AuditRow}
 use Rattle.qq_log.specs.Stable.{Stable, stable}
 use Rattle.qq_model.proofs.Soundness.{in_contains}
+use Rattle.qq_model.specs.Audit.{entries_of}
 use Rattle.qq_recover.specs.Reading.{lanes_read, shown}
 use Rattle.qq_world.specs.Node.{Setup, Node, NodeEvent, FindsEach, Of, all_prints, new_node, node_after}
+use Rattle.qq_world.specs.Promise.{HoldsAudit}
 use Rattle.qq_world.specs.World.{Answered}
 use Rattle.qq_node_laws.specs.Answers.{HasEntry, IsKept, KeepsAnswers}
-use Rattle.qq_node_laws.specs.Reads.{queue_at, queues_of, state_in, state_read}
-use Rattle.qq_node_laws.specs.Traced.{IsTraced, LeavesImage}
+use Rattle.qq_node_laws.specs.Reads.{HasAudit, HasAudits, queue_at, queues_of, state_in, state_read}
+use Rattle.qq_node_laws.specs.Traced.{IsTraced, KeepsAudits, LeavesImage}
 
 -- an answer's entry is in what recovery gives of an image
 pub entry-in_image : (setup : Setup) (events : List NodeEvent) (d : Disk) (place : ℕ) (row : AuditRow) (image : Remains)
@@ -34,6 +37,27 @@ entry-in_image setup events d place row image keeps printed within is honest =
     kept within (state_read (queues_of setup) (queue_at setup place) image)
     (record { image = image; is_image = is; honest = honest; is = refl }) in
     (entry.state, entry.is, entry.has)
+
+-- each queue has its audit in each image of each moment
+pub images-have : (setup : Setup) (n : Node) (old new : List Disk) → KeepsAudits setup n old new
+    → (more : List Disk) × (new ≡ more ++ old)
+    × ((d : Disk) (place : ℕ) (image : Remains) → Contains more d → Contains setup.places place → IsImage d image
+    → IsHonestImage (queues_of setup) d image
+    → (state : Stable) × (state_read (queues_of setup) (queue_at setup place) image ≡ Some state)
+    × IsFront (map Some (entries_of (n.queue place).server.audit)) state.log)
+images-have setup n old new keeps = (
+  keeps.more,
+  keeps.is,
+  λ d place image among within is honest.
+      (let audits : HasAudits setup n d =
+      AllByRecursion-in (HasAudits setup n) d keeps.more keeps.each (in_contains keeps.more d among) in
+      let holds : HoldsAudit (n.queue place).server.audit
+      (state_read (queues_of setup) (queue_at setup place) image) =
+      AllByRecursion-in (HasAudit setup n d) place setup.places audits (in_contains setup.places place within)
+      (state_read (queues_of setup) (queue_at setup place) image)
+      (record { image = image; is_image = is; honest = honest; is = refl }) in
+      (holds.state, holds.is, holds.front)),
+)
 
 -- what a restart finds is what the disk read at one of its moments
 pub finds-read : (setup : Setup) (n : Node) (ops : ℕ → ℕ) (old new : List Disk)

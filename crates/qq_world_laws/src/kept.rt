@@ -1,5 +1,6 @@
 //! Laws of what a node's disk keeps: the functions do nothing, and their contracts are the laws.
-ghost use Rattle.std.specs.Prelude.{◌≡◌, ◌∷◌, [], ◌++◌, ℕ, List, Option, Some, Ok, Contains, take};
+ghost use Rattle.std.specs.Prelude.{◌≡◌, ◌∷◌, [], ◌++◌, ℕ, List, Option, Some, Ok, Contains, map, take};
+ghost use Rattle.qq_base.specs.Fronts.{IsFront};
 ghost use Rattle.qq_chain.specs.Lanes.{Lanes};
 ghost use Rattle.qq_chain.specs.Laws.{IsHonestImage};
 ghost use Rattle.qq_disk.specs.declared.image.Image.{Image};
@@ -9,12 +10,13 @@ ghost use Rattle.qq_disk.specs.Disk.{Disk, now};
 ghost use Rattle.qq_disk.specs.Image.{IsNewestLog, image_of};
 ghost use Rattle.qq_entry.specs.declared.audit.AuditRow.{AuditRow};
 ghost use Rattle.qq_log.specs.Stable.{Stable, stable};
+ghost use Rattle.qq_model.specs.Audit.{entries_of};
 ghost use Rattle.qq_recover.specs.Reading.{lanes_read, shown};
 ghost use Rattle.qq_world.specs.Node.{Setup, Node, NodeEvent, FindsEach, Of, all_prints, new_node, node_after};
 ghost use Rattle.qq_world.specs.World.{Answered};
 ghost use Rattle.qq_node_laws.specs.Linked.{IsLinked};
 ghost use Rattle.qq_node_laws.specs.Reads.{queue_at, queues_of, state_in, state_read};
-ghost use Rattle.qq_node_laws.specs.Traced.{IsTraced, LeavesImage};
+ghost use Rattle.qq_node_laws.specs.Traced.{IsTraced, KeepsAudits, LeavesImage};
 
 use qq_node_laws::what_was_answered_is_kept;
 
@@ -31,6 +33,18 @@ pub fn an_answered_entry_is_in_each_image()
 {
     what_was_answered_is_kept();
 }
+
+/// A law: at each moment since, in whatever image a crash leaves that meets the log's premise, each queue has a log
+/// that begins with the entries of its audit.
+pub fn each_image_has_the_audits()
+    ensures { (setup : Setup) (n : Node) (old new : List Disk) → KeepsAudits setup n old new →
+        (more : List Disk) × (new ≡ more ++ old)
+        × ((d : Disk) (place : ℕ) (image : Remains) → Contains more d →
+        Contains setup.places place → IsImage d image → IsHonestImage (queues_of setup) d image →
+        (state : Stable)
+        × (state_read (queues_of setup) (queue_at setup place) image ≡ Some state)
+        × IsFront (map Some (entries_of (n.queue place).server.audit)) state.log) }
+{}
 
 /// A law: a restart finds of each queue what its disk read at some moment of the restart: so many of the queue's
 /// ops come to the state that was read.

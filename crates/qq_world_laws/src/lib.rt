@@ -9,6 +9,6 @@ mod rules;
 pub use ends::{an_answer_is_to_a_client, an_end_lasts, the_end_of_a_session_goes_to_its_leader};
 pub use kept::{
     a_crash_leaves_one_moment, a_restart_finds_what_the_disk_reads,
-    an_answered_entry_is_in_each_image,
+    an_answered_entry_is_in_each_image, each_image_has_the_audits,
 };
 pub use rules::{a_restart_finds_what_was_noticed, carried_out_commands_count_from_one};
