@@ -1,6 +1,6 @@
 -- A stopped node is restarted: its queues take up what was found of them.
 use Rattle.std.proofs.Common.{◌≡◌, ◌≤◌, ◌⊎◌, ℕ, suc, Bool, true, false, ◌&&◌, List, [], ◌∷◌, Option, length, map, refl, sym, ap, ◌∙◌, subst, inl, inr, append-nil, arith}
-use Rattle.std.specs.Prelude.{Contains, IsTrue, nat_le}
+use Rattle.std.specs.Prelude.{Contains, IsTrue, Ok, nat_le}
 use Rattle.std.specs.List.{AllByRecursion}
 use Rattle.std.proofs.lemmas.Bool.{false≢true}
 use Rattle.std.proofs.lemmas.List.{length-map}
@@ -16,6 +16,7 @@ use Rattle.qq_log.specs.declared.lane.Lane.{Lane}
 use Rattle.qq_log.specs.Stable.{Stable}
 use Rattle.qq_recover.specs.declared.fault.RecoverFault.{RecoverFault}
 use Rattle.qq_recover.specs.Answer.{Answer}
+use Rattle.qq_recover.specs.Reading.{lanes_read, shown}
 use Rattle.qq_recover.specs.Recovered.{IsAtEnd, IsLaneFor}
 use Rattle.qq_wal.specs.Running.{StaysWhole}
 use Rattle.qq_world.specs.Node.{Setup, Node, NodeEvent, Fails, FindsEach, node_happens}
@@ -36,7 +37,7 @@ use Rattle.qq_node.specs.declared.restarting.RestartFault.TheVariants as restart
 use Rattle.qq_node.specs.Found.{AllTakeUpTold, AreLanes, FailsLinked, HasFound, as_told}
 use Rattle.qq_node.specs.Node.{AreDesks, Served, Stands, disk_in}
 use Rattle.qq_node.specs.Log.{IsWhole}
-use Rattle.qq_node.specs.Restarting.{AllTake, GoesOnWith, HandsBack, IsLinkedTo, IsLostOf, IsOfMemory, IsRefusedBy, IsRestartCaused, IsTakeAllCaused, SomeIsLost, StopsWith, TakesUp}
+use Rattle.qq_node.specs.Restarting.{AllTake, GoesOnWith, HandsBack, IsLinkedTo, IsLostAsRead, IsLostIn, IsLostOf, IsOfMemory, IsRefusedBy, IsRestartCaused, IsTakeAllCaused, SomeIsLost, StopsWith, TakesUp, lanes_in}
 use Rattle.qq_node.proofs.Carried.{may_restart-all}
 use Rattle.qq_node.proofs.EachDesk.{all-done, as-many}
 use Rattle.qq_node.proofs.Finding.{lane-told}
@@ -350,6 +351,56 @@ module _ {D : Type 0} (tells : D → Bool) (past : D → List Disk) (faults : D 
           never-lost setup n found.lanes setup.places old.desks f.lanes.items name noticed op st.desks
           (subst (λ (l : List QueueId). AreLanes l found.lanes f.lanes.items) same found.each)
           (found.finds told_ setup n same r down link).taken_up cause
+      by (restart_fault.Memory memory) cause = tt
+
+  -- ---- a queue that may not take up what was found
+
+  lost-read : (setup : Setup) (n : Node) (read : Answer Lanes) (lanes : Lanes) (places : List ℕ) (desks : List DeskState)
+      (found : List (Option Lane)) (name : List ℕ) (noticed op : ℕ) → read ≡ Ok lanes
+      → ((q : ℕ) → Contains places q → Contains setup.places q) → AreDesks setup n places desks
+      → AreLanes (map (queue_at setup) places) lanes found → SomeIsLost desks found name noticed op
+      → IsLostIn setup n read name noticed op
+  lost-read setup n read lanes [] [] found name noticed op is own are zip lost = absurd lost
+  lost-read setup n read lanes [] (d ∷ desks) found name noticed op is own are zip lost = absurd are
+  lost-read setup n read lanes (p ∷ places) [] found name noticed op is own are zip lost = absurd are
+  lost-read setup n read lanes (p ∷ places) (d ∷ desks) [] name noticed op is own are zip lost = absurd zip
+  lost-read setup n read lanes (p ∷ places) (d ∷ desks) (l ∷ found) name noticed op is own are zip (inr lost) =
+      lost-read setup n read lanes places desks found name noticed op is
+      (λ q there. own q (suc there.0, omega (arith, there.1), there.2)) are.1 zip.1 lost
+  lost-read setup n read lanes (p ∷ places) (d ∷ desks) (l ∷ found) name noticed op is own are zip (inl lost) =
+      let id : QueueId = queue_at setup p in
+      let same : told l ≡ as_told (state_in lanes id) = lane-told id (lanes id.0) l zip.0 in
+      record {
+        place = p;
+        among = own p (0, omega arith, refl);
+        lanes = lanes;
+        read_is = is;
+        lost = λ may. lost.lost (subst (λ (w : World). MayTakeUp w.server (told l)) (sym are.0.world_is)
+            (subst (MayTakeUp (n.queue p).server) (sym same) may));
+        name_is = lost.name_is ∙ are.0.name_is;
+        noticed_is = lost.noticed_is ∙ ap (λ (w : World). w.server.noticed) are.0.world_is;
+        found_is = lost.found_is ∙ ap (λ (s : Stable). s.op) same;
+      }
+
+  pub takes-lost : (setup : Setup) (n : Node) (old : Held D) (given : D) (f : Found D) (queues : List QueueId)
+      (log_bytes : ℕ) (fault : RestartFault) → given ≡ disk_in old.log → queues ≡ old.queues.items
+      → Stands tells past setup old n → IsTrue (tells (disk_in old.log)) → HasFound tells past queues log_bytes given f
+      → IsTakeAllCaused old.desks f.lanes.items fault → IsLostAsRead setup n (lanes_in past old) fault
+  takes-lost setup n old given f queues log_bytes fault disk ids st tell found cause = by fault cause
+    where
+      read : lanes_in past old ≡ Ok found.lanes
+      read = sym (ap (λ (l : List QueueId). lanes_read l (shown (now (past (disk_in old.log))))) ids)
+          ∙ sym (ap (λ (d : D). lanes_read queues (shown (now (past d)))) disk)
+          ∙ found.read (subst (λ (d : D). IsTrue (tells d)) (sym disk) tell)
+
+      by : (fault : RestartFault) → IsTakeAllCaused old.desks f.lanes.items fault
+          → IsLostAsRead setup n (lanes_in past old) fault
+      by (restart_fault.Damaged file place) cause = tt
+      by (restart_fault.Version file byte) cause = tt
+      by (restart_fault.Lost name noticed op) cause =
+          lost-read setup n (lanes_in past old) found.lanes setup.places old.desks f.lanes.items name noticed op read
+          (λ q there. there) st.desks
+          (subst (λ (l : List QueueId). AreLanes l found.lanes f.lanes.items) (ids ∙ st.queues) found.each) cause
       by (restart_fault.Memory memory) cause = tt
 
 -- what queues may not take up, the files don't refuse

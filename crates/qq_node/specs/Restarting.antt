@@ -1,5 +1,5 @@
 -- How a node is opened, crashed and restarted.
-use Rattle.std.specs.Prelude.{◌≡◌, ◌≤◌, ◌⊎◌, ℕ, Bool, false, List, [], ◌∷◌, ◌++◌, Option, Some, None, Err, IsTrue, codes, Contains}
+use Rattle.std.specs.Prelude.{◌≡◌, ◌≤◌, ◌⊎◌, ℕ, Bool, false, List, [], ◌∷◌, ◌++◌, Option, Some, None, Ok, Err, IsTrue, codes, Contains}
 use Rattle.std.specs.Global.{Vec}
 use Rattle.qq_base.specs.Causes.{Rose}
 use Rattle.qq_base.specs.declared.ids.QueueId.{QueueId}
@@ -21,7 +21,7 @@ use Rattle.qq_world.specs.Promise.{MayTakeUp}
 use Rattle.qq_world.specs.Rules.{is_node_up}
 use Rattle.qq_world.specs.World.{Finds, Stops, happens}
 use Rattle.qq_node_laws.specs.Linked.{IsLinked}
-use Rattle.qq_node_laws.specs.Reads.{AreDown, IsReached, queues_of}
+use Rattle.qq_node_laws.specs.Reads.{AreDown, IsReached, queue_at, queues_of, state_in}
 use Rattle.qq_node_laws.specs.Serves.{GivesUp, seen_of}
 use Rattle.qq_node_laws.specs.Traced.{LeavesImage, IsTraced}
 use Rattle.qq_node_laws.specs.Waiting.{AreApart}
@@ -33,6 +33,7 @@ use Rattle.qq_node.specs.declared.opening.OpenFault.TheVariants as open_fault
 use Rattle.qq_node.specs.declared.restarting.RestartFault.{RestartFault}
 use Rattle.qq_node.specs.declared.restarting.RestartFault.TheVariants as restart_fault
 use Rattle.qq_node.specs.Desks.{AllDo}
+use Rattle.qq_node.specs.Found.{as_told}
 use Rattle.qq_node.specs.Log.{IsWhole}
 use Rattle.qq_node.specs.Node.{AreDesks, Stands, disk_in, seen}
 
@@ -152,6 +153,23 @@ pub record IsLostOf (setup : Setup) (n : Node) (name : List ℕ) (noticed found 
   pub name_is : name ≡ setup.name place
   pub noticed_is : noticed ≡ (n.queue place).server.noticed
   pub found_is : found ≡ lane.op
+
+-- and that is what recovery read of the queue, of a disk that tells what it holds
+pub record IsLostIn (setup : Setup) (n : Node) (read : Answer Lanes) (name : List ℕ) (noticed found : ℕ) : Type 0 where
+  pub place : ℕ
+  pub among : Contains setup.places place
+  pub lanes : Lanes
+  pub read_is : read ≡ Ok lanes
+  pub lost : MayTakeUp (n.queue place).server (as_told (state_in lanes (queue_at setup place))) → ⊥
+  pub name_is : name ≡ setup.name place
+  pub noticed_is : noticed ≡ (n.queue place).server.noticed
+  pub found_is : found ≡ (state_in lanes (queue_at setup place)).op
+
+abbrev pub IsLostAsRead : Setup → Node → Answer Lanes → RestartFault → Type 0
+IsLostAsRead setup n read (restart_fault.Damaged file place) = Unit {0}
+IsLostAsRead setup n read (restart_fault.Version file byte) = Unit {0}
+IsLostAsRead setup n read (restart_fault.Lost name noticed found) = IsLostIn setup n read name noticed found
+IsLostAsRead setup n read (restart_fault.Memory memory) = Unit {0}
 
 -- why a node isn't restarted
 abbrev pub IsRestartCaused : Setup → Node → RestartFault → Type 0

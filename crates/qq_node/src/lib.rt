@@ -20,7 +20,9 @@ pub use crashing::crash_node;
 pub use desks::Desks;
 pub use gather::gather_all;
 pub use laws::{
-    a_crash_leaves_the_named_image, a_restart_fails_for_memory, a_whole_sync_keeps_the_log,
+    a_crash_leaves_the_named_image, a_lost_queue_is_as_it_was_read, a_queue_stays_the_same,
+    a_queue_that_isnt_there_is_asked_nothing, a_restart_fails_for_memory,
+    a_whole_sync_keeps_the_log,
 };
 pub use log::{SyncOutcome, begin_next, sync_log, write_log};
 pub use node::{Node, NodeLog};

@@ -10,7 +10,7 @@ ghost use Rattle.qq_node_laws.specs.Reads.{IsReached, AreDown};
 ghost use Rattle.qq_node_laws.specs.Serves.{GivesUp, seen_of};
 ghost use Rattle.qq_node.specs.Log.{IsWhole};
 ghost use Rattle.qq_node.specs.Node.{CanServe, Served, Stands, disk_in, seen};
-ghost use Rattle.qq_node.specs.Restarting.{AllTake, IsLinkedTo, IsOfMemory, IsRefusedBy, IsRestartCaused, IsTakeAllCaused, IsTakeCaused, GoesOnWith, HandsBack, StopsWith, TakesUp, lanes_in};
+ghost use Rattle.qq_node.specs.Restarting.{AllTake, IsLinkedTo, IsLostAsRead, IsOfMemory, IsRefusedBy, IsRestartCaused, IsTakeAllCaused, IsTakeCaused, GoesOnWith, HandsBack, StopsWith, TakesUp, lanes_in};
 
 use crate::crashing::into_disk;
 use crate::desks::Desks;
@@ -191,6 +191,9 @@ fn recover_node<D: NodeDisk>(
         AreDown setup n → IfErr result (λ e. IsOfMemory e.0) }
     ensures refused { IsTrue (D.tells (disk_in node.log)) →
         IfErr result (λ e. IsRefusedBy (lanes_in D.past node) e.0) }
+    ensures lost { (setup : Setup) (n : World) → Stands D.tells D.past setup node n →
+        IsTrue (D.tells (disk_in node.log)) →
+        IfErr result (λ e. IsLostAsRead setup n (lanes_in D.past node) e.0) }
     ensures back { IfErr result (λ e. HandsBack D.tells D.past D.faults node e.1) }
 {
     let Node {
@@ -219,7 +222,8 @@ fn recover_node<D: NodeDisk>(
 /// the queues were stopped together (`given_up`).
 ///
 /// `Damaged` and `Version` come where the log's files break its rules, at the first place, `Lost` where a queue
-/// may not take up what was found of it, with that queue's name. `Spent` comes only where a number of a log file
+/// may not take up what was found of it, with that queue's name; over a disk that tells its contents that is what
+/// recovery reads of them (`lost`). `Spent` comes only where a number of a log file
 /// stands at its end. Where the disk tells its contents and is linked to the node, whose queues are stopped
 /// together, no error comes but that one and want of memory (`never`).
 pub fn restart_node<D: NodeDisk>(
@@ -237,6 +241,9 @@ pub fn restart_node<D: NodeDisk>(
         (is_node_up setup n ≡ false → AreDown setup n) → IfErr result (λ e. IsOfMemory e.0) }
     ensures refused { IsTrue (D.tells (disk_in node.log)) →
         IfErr result (λ e. IsRefusedBy (lanes_in D.past node) e.0) }
+    ensures lost { (setup : Setup) (n : World) → Stands D.tells D.past setup node n →
+        IsTrue (D.tells (disk_in node.log)) →
+        IfErr result (λ e. IsLostAsRead setup n (lanes_in D.past node) e.0) }
     ensures whole { IfErr result (λ e. IsWhole D.tells D.past e.1) }
     ensures given_up { (setup : Setup) (n : World) → IsReached setup n →
         Stands D.tells D.past setup node n → (is_node_up setup n ≡ false → AreDown setup n) →

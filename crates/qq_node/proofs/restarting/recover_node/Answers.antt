@@ -4,7 +4,7 @@ use Rattle.qq_recover.specs.Recovered.{IsRecoverCaused}
 use Rattle.qq_node.specs.Found.{AreDistinct}
 use Rattle.qq_node.specs.Restarting.{HandsBack, lanes_in}
 use Rattle.qq_node.proofs.Carried.{apart-distinct}
-use Rattle.qq_node.proofs.TakenUp.{found-back, lanes-many, refused-back, restart-caused, restarted, stopped, takes-never, takes-refused}
+use Rattle.qq_node.proofs.TakenUp.{found-back, lanes-many, refused-back, restart-caused, restarted, stopped, takes-lost, takes-never, takes-refused}
 use Rattle.qq_node.proofs.restarting.recover_node.Goals as goal
 
 pub recover_log-requires-clause-apart : goal.recover_log-requires-clause-apart
@@ -65,6 +65,13 @@ returns-in-Ok-clause-refused g c = λ tell.
     IfErr-weaker c.go_on.result _ _ (λ e cause.
     takes-refused (lanes_in g.D.NodeDisk.past c.args.node) c.args.node.desks c.in-Ok.found.lanes.items e.0 cause)
     c.go_on.ensures.cause
+
+pub returns-in-Ok-clause-lost : goal.returns-in-Ok-clause-lost
+returns-in-Ok-clause-lost g c = λ setup n st tell.
+    IfErr-weaker c.go_on.result _ _ (λ e cause.
+    takes-lost g.D.NodeDisk.tells g.D.NodeDisk.past g.D.NodeDisk.faults setup n c.args.node c.into_disk.result
+    c.in-Ok.found c.deref.result.now c.args.node.log_bytes e.0 c.into_disk.ensures c.deref.ensures.value st tell
+    c.in-Ok.ensures.ok cause) c.go_on.ensures.cause
 
 pub returns-in-Ok-clause-back : goal.returns-in-Ok-clause-back
 returns-in-Ok-clause-back g c =
