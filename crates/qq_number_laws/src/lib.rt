@@ -3,7 +3,9 @@
 #![tactic(auto)]
 
 mod client;
+mod moves;
 mod queue;
 
 pub use client::{a_client_has_one_low_mark, what_is_open_was_handed_out};
+pub use moves::entries_move_what_is_live;
 pub use queue::{consumers_have_turns, messages_have_numbers, sessions_have_numbers};
