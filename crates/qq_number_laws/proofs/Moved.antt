@@ -1,5 +1,5 @@
 -- How an entry moves one message.
-use Rattle.std.proofs.Common.{◌≡◌, ◌⊎◌, ◌≤◌, ◌++◌, ℕ, List, true, false, Some, inl, inr}
+use Rattle.std.proofs.Common.{◌≡◌, ◌⊎◌, ◌≤◌, ◌++◌, ℕ, true, false, Some, inl, inr}
 use Rattle.std.specs.Prelude.{slice_get}
 use Rattle.qq_entry.specs.declared.command.Entry.{Entry}
 use Rattle.qq_laws.specs.Published.{new_message}

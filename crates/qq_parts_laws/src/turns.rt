@@ -1,5 +1,5 @@
 //! Laws of whose turn it is: the functions do nothing, and their contracts are the laws.
-ghost use Rattle.std.specs.Prelude.{◌≡◌, ◌⊎◌, ◌+◌, ◌≤◌, ◌∷◌, ℕ, List, true, false, Contains};
+ghost use Rattle.std.specs.Prelude.{◌≡◌, ◌⊎◌, ◌+◌, ◌≤◌, ◌∷◌, List, true, false, Contains};
 ghost use Rattle.std.specs.Option.{option_map};
 ghost use Rattle.qq_gone.specs.Reduced.{Item};
 ghost use Rattle.qq_model.specs.Changes.{Progress};

@@ -1,7 +1,6 @@
 -- What a node's disk keeps, in words.
 use Rattle.std.proofs.Common.{◌≡◌, ℕ, List, [], ◌∷◌, ◌++◌, Option, Some, map, refl, sym, ap, ◌∙◌, append_assoc}
 use Rattle.std.specs.Prelude.{Ok, Contains, take}
-use Rattle.std.specs.List.{AllByRecursion}
 use Rattle.qq_base.proofs.Lists.{AllByRecursion-in}
 use Rattle.qq_base.specs.Fronts.{IsFront}
 use Rattle.qq_chain.specs.Lanes.{Lanes}
@@ -16,7 +15,7 @@ use Rattle.qq_log.specs.Stable.{Stable, stable}
 use Rattle.qq_model.proofs.Soundness.{in_contains}
 use Rattle.qq_model.specs.Audit.{entries_of}
 use Rattle.qq_recover.specs.Reading.{lanes_read, shown}
-use Rattle.qq_world.specs.Node.{Setup, Node, NodeEvent, FindsEach, Of, all_prints, new_node, node_after}
+use Rattle.qq_world.specs.Node.{Setup, Node, NodeEvent, FindsEach, Of, all_prints, new_node}
 use Rattle.qq_world.specs.Promise.{HoldsAudit}
 use Rattle.qq_world.specs.World.{Answered}
 use Rattle.qq_node_laws.specs.Answers.{HasEntry, IsKept, KeepsAnswers}

@@ -1,10 +1,9 @@
 use Rattle.std.proofs.Common.{◌≡◌, ◌⊎◌, ◌≤◌, ◌+◌, ◌∷◌, List, true, false, refl}
 use Rattle.std.specs.Prelude.{Contains}
 use Rattle.qq_base.proofs.Lists.{AllByRecursion-in}
-use Rattle.qq_gone.specs.Reduced.{Item}
 use Rattle.qq_model.proofs.Soundness.{in_contains}
 use Rattle.qq_parts.specs.Outs.{hand_over, serve_one}
-use Rattle.qq_parts.specs.Parts.{Parts, Served}
+use Rattle.qq_parts.specs.Parts.{Served}
 use Rattle.qq_parts.specs.Turns.{AreWaiting, behind, may_serve}
 use Rattle.qq_parts_laws.proofs.turns.the_first_that_waits_is_next.Goals as goal
 

@@ -1,4 +1,3 @@
-use Rattle.std.proofs.Common.{List}
 use Rattle.qq_base.proofs.Lists.{AllByRecursion-in}
 use Rattle.qq_model.proofs.Soundness.{in_contains}
 use Rattle.qq_world.specs.Laws.{IsAnswer, IsAudited, world_after}
