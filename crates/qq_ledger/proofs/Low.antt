@@ -1,5 +1,5 @@
 -- The least index of a queue is that of the parts that stand for it.
-use Rattle.std.proofs.Common.{◌≡◌, ℕ, zero, suc, ◌+◌, ◌⊎◌, Bool, true, false, List, [], ◌∷◌, ◌++◌, Option, map, length, refl, sym, ap, ◌∙◌, inl, inr, arith, if◌then◌else◌}
+use Rattle.std.proofs.Common.{◌≡◌, ℕ, ◌+◌, ◌⊎◌, true, false, List, [], ◌∷◌, ◌++◌, Option, map, length, refl, sym, ap, ◌∙◌, inl, inr, arith, if◌then◌else◌}
 use Rattle.std.specs.Prelude.{filter}
 use Rattle.std.specs.Option.{option_map_or}
 use Rattle.std.proofs.lemmas.Bool.{cases_Bool, cond-true, cond-false}
@@ -8,10 +8,10 @@ use Rattle.qq_base.specs.declared.ids.Index.{Index}
 use Rattle.qq_entry.specs.declared.message.Message.{Message}
 use Rattle.qq_model.specs.declared.place.Row.{Row}
 use Rattle.qq_model.specs.State.{State}
-use Rattle.qq_gone.specs.Reduced.{Item, items, is_live_item, live_items}
+use Rattle.qq_gone.specs.Reduced.{Item, is_live_item, live_items}
 use Rattle.qq_parts.specs.Parts.{Parts, Stands, items_of}
 use Rattle.qq_parts.proofs.Perms.{perm-map, perm-sum}
-use Rattle.qq_live.specs.Indices.{is_index, occurrences, least}
+use Rattle.qq_live.specs.Indices.{is_index, occurrences}
 use Rattle.qq_live.proofs.Sums.{least-same}
 use Rattle.qq_ledger.specs.Low.{row_index, is_live_row, live_indices, kept_indices, low_of, low, item_index, parts_low}
 

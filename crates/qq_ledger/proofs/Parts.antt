@@ -1,11 +1,10 @@
 -- What each change of the ready and the dead messages makes of their indices.
-use Rattle.std.proofs.Common.{◌≡◌, ℕ, zero, suc, ◌+◌, ◌<◌, ◌⊎◌, Bool, true, false, not, List, [], ◌∷◌, ◌++◌, Option, Some, None, map, length, drop, refl, sym, ap, ◌∙◌, subst, inl, inr, arith, if◌then◌else◌}
-use Rattle.std.specs.Prelude.{nat_eq, nat_lt, filter, find}
+use Rattle.std.proofs.Common.{◌≡◌, ℕ, ◌+◌, ◌<◌, ◌⊎◌, Bool, true, false, not, List, [], ◌∷◌, ◌++◌, Option, Some, None, map, drop, refl, sym, ap, ◌∙◌, subst, inl, inr, arith}
+use Rattle.std.specs.Prelude.{nat_lt, filter, find}
 use Rattle.std.specs.List.{AllByRecursion}
 use Rattle.std.specs.Option.{option_map}
 use Rattle.std.proofs.lemmas.Bool.{cases_Bool, cond-true, cond-false, cond_both, ne_eqb, eqb-true}
 use Rattle.std.proofs.lemmas.List.{map-append}
-use Rattle.std.proofs.lemmas.List.Sums.{sum_by-cons}
 use Rattle.qq_base.specs.declared.ids.Index.{Index}
 use Rattle.qq_entry.specs.declared.message.ReadyRow.{ReadyRow}
 use Rattle.qq_entry.specs.declared.message.Reason.{Reason}
@@ -14,7 +13,7 @@ use Rattle.qq_ready.specs.Queue.{Queue, in_order, head, without_next, emptied, p
 use Rattle.qq_dead.specs.declared.row.DeadRow.{DeadRow}
 use Rattle.qq_dead.specs.Letters.{Letters, add, attach, give, give_by, next_offer, settled, settle, may_settle, has_number, AreNumbered, Rises}
 use Rattle.qq_model.specs.declared.place.Key.TheVariants.{Front, Back}
-use Rattle.qq_live.specs.Indices.{is_index, occurrences}
+use Rattle.qq_live.specs.Indices.{occurrences}
 use Rattle.qq_ledger.specs.Ledger.{keyed_index, dead_index, ready_indices, dead_indices}
 use Rattle.qq_ledger.proofs.Balance.{occurrences-append}
 

@@ -1,12 +1,11 @@
 -- The indices of the first of a list, and of one more.
-use Rattle.std.proofs.Common.{◌≡◌, ℕ, zero, suc, ◌+◌, ◌<◌, ◌≤◌, List, [], ◌∷◌, ◌++◌, Option, Some, None, map, take, length, refl, sym, ap, ◌∙◌, subst, arith}
+use Rattle.std.proofs.Common.{◌≡◌, ℕ, zero, suc, ◌+◌, ◌≤◌, List, [], ◌∷◌, ◌++◌, Some, map, take, length, refl, sym, ap, ◌∙◌, arith}
 use Rattle.std.specs.Prelude.{slice_get}
 use Rattle.std.specs.Option.{option_map_or}
 use Rattle.std.proofs.lemmas.List.{map-append, append_assoc, append-nil}
 use Rattle.qq_base.specs.declared.ids.Index.{Index}
 use Rattle.qq_entry.specs.declared.message.ReadyRow.{ReadyRow}
 use Rattle.qq_base.specs.declared.ids.ConsumerId.{ConsumerId}
-use Rattle.qq_gone.specs.Reduced.{Item}
 use Rattle.qq_parts.specs.Parts.{Served, outs}
 use Rattle.qq_consumer.specs.declared.rising.Numbered.{Numbered}
 use Rattle.qq_consumer.specs.Roster.{out_item}

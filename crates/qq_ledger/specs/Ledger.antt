@@ -1,5 +1,6 @@
 -- What came to a part of a queue, and what left it, since the last commit.
-use Rattle.std.specs.Prelude.{◌≡◌, ℕ, ◌+◌, List, map}
+use Rattle.std.specs.Prelude.{◌≡◌, ℕ, ◌+◌, ◌<◌, List, map, vec_len, vec_capacity}
+use Rattle.std.specs.Global.{Vec}
 use Rattle.qq_base.specs.declared.ids.Index.{Index}
 use Rattle.qq_entry.specs.declared.message.ReadyRow.{ReadyRow}
 use Rattle.qq_ready.specs.declared.row.KeyedRow.{KeyedRow}
@@ -37,6 +38,10 @@ out_indices served = map item_index (outs served)
 abbrev pub Balances : List Index → List Index → List Index → List Index → Type 0
 Balances base now came gone =
     (i : ℕ) → occurrences i now + occurrences i gone ≡ occurrences i base + occurrences i came
+
+-- one more may be written down
+abbrev pub HasRoom : Vec Index → Type 0
+HasRoom indices = vec_len indices < vec_capacity indices
 
 -- the ready messages, as they are and as they were at the last commit, with what came and left
 pub record ReadyTracked : Type 0 where

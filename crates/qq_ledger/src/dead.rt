@@ -1,4 +1,4 @@
-ghost use Rattle.std.specs.Prelude.{◌≡◌, ◌+◌, ◌<◌, ◌≤◌, ◌^◌, nat_lt, length, IfOk, IsOkUnless, OnOk};
+ghost use Rattle.std.specs.Prelude.{◌≡◌, ◌+◌, ◌<◌, ◌≤◌, ◌^◌, nat_lt, length, IfOk, IsOkUnless, OnOk, OnErr};
 ghost use Rattle.std.specs.Option.{option_copied, option_map};
 ghost use Rattle.qq_dead.specs.Letters.{no_letters, add, attach, next_offer, give, settled, settle, AreNumbered};
 ghost use Rattle.qq_live.specs.Indices.{Adds, Removes, HasRoomFor};
@@ -13,8 +13,6 @@ use std::alloc::Global;
 use std::marker::Model;
 
 /// The dead messages of a queue, with a ledger of which came and left since the last commit.
-///
-/// After an error they may be as they were at the last commit.
 #[derive(Debug, Drop)]
 pub struct TrackedDead {
     dead: Dead,
@@ -69,28 +67,22 @@ impl TrackedDead {
         &self.dead
     }
 
-    /// Keeps a message that has died, and answers its number. There has to be a number.
+    /// Keeps a message that has died, and answers its number. There has to be a number. After an error all
+    /// is as before.
     pub fn add(&mut self, row: ReadyRow, reason: Reason) -> Result<u64, Memory>
         requires counts { self.old.letters.deads + 1 < 2 ^ 64 }
 
         ensures number { IfOk result (λ number. number ≡ self.old.letters.deads + 1) }
         ensures letters { OnOk result (self.new.letters ≡ add row reason self.old.letters) }
+        ensures err { OnErr result (self.new ≡ self.old) }
         ensures base { self.new.base ≡ self.old.base }
         ensures want { IsOkUnless result Memory.Want }
     {
-        if let Err(cause) = self.ledger.take_in(row.index) {
-            self.dead.undo();
-            self.ledger.clear();
-            return Err(cause);
-        }
-        match self.dead.add(row, reason) {
-            Ok(number) => Ok(number),
-            Err(cause) => {
-                self.dead.undo();
-                self.ledger.clear();
-                Err(cause)
-            }
-        }
+        let index = row.index;
+        self.ledger.reserve()?;
+        let number = self.dead.add(row, reason)?;
+        self.ledger.take_in(index);
+        Ok(number)
     }
 
     /// The worker of a term takes over, and begins anew. False exactly where the term isn't greater than
@@ -121,26 +113,23 @@ impl TrackedDead {
 
     /// Takes out a message whose targets have confirmed it. None exactly where the term isn't that of the
     /// worker attached, or the number isn't that of a dead message that the worker was given; then nothing
-    /// changes.
+    /// changes. After an error all is as before.
     pub fn settle(&mut self, term: Term, number: u64) -> Result<Option<ReadyRow>, Memory>
         ensures value { IfOk result (λ taken.
             taken ≡ option_map (λ one. one.row) (settled term.0 number self.old.letters)) }
         ensures letters { OnOk result (self.new.letters ≡ settle term.0 number self.old.letters) }
+        ensures err { OnErr result (self.new ≡ self.old) }
         ensures base { self.new.base ≡ self.old.base }
         ensures want { IsOkUnless result Memory.Want }
     {
         self.dead.counters();
+        self.ledger.reserve()?;
         let taken = self.dead.settle(term, number)?;
-        let row = match taken {
-            None => return Ok(None),
-            Some(row) => row,
-        };
-        match self.ledger.let_go(row.index) {
-            Ok(()) => Ok(Some(row)),
-            Err(cause) => {
-                self.dead.undo();
-                self.ledger.clear();
-                Err(cause)
+        match taken {
+            None => Ok(None),
+            Some(row) => {
+                self.ledger.let_go(row.index);
+                Ok(Some(row))
             }
         }
     }

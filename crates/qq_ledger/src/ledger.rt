@@ -1,4 +1,5 @@
 ghost use Rattle.std.specs.Prelude.{◌≡◌, ◌++◌, ◌∷◌, [], IsOkUnless, OnOk};
+ghost use Rattle.qq_ledger.specs.Ledger.{HasRoom};
 
 use qq_base::{Index, Memory};
 use std::alloc::Global;
@@ -34,25 +35,36 @@ impl Ledger {
         self.gone.clear();
     }
 
-    /// A message comes. After an error nothing is said of what came.
-    pub fn take_in(&mut self, index: Index) -> Result<(), Memory>
-        ensures came { OnOk result (self.new.came.items
-            ≡ self.old.came.items ++ index ∷ []) }
+    /// Makes room for one that comes and one that leaves. Nothing else changes, after an error neither.
+    pub fn reserve(&mut self) -> Result<(), Memory>
+        ensures came { self.new.came.items ≡ self.old.came.items }
         ensures gone { self.new.gone.items ≡ self.old.gone.items }
+        ensures came_room { OnOk result (HasRoom self.new.came) }
+        ensures gone_room { OnOk result (HasRoom self.new.gone) }
         ensures want { IsOkUnless result Memory.Want }
     {
-        self.came.push(index)?;
+        self.came.reserve(1)?;
+        self.gone.reserve(1)?;
         Ok(())
     }
 
-    /// A message leaves. After an error nothing is said of what left.
-    pub fn let_go(&mut self, index: Index) -> Result<(), Memory>
-        ensures came { self.new.came.items ≡ self.old.came.items }
-        ensures gone { OnOk result (self.new.gone.items
-            ≡ self.old.gone.items ++ index ∷ []) }
-        ensures want { IsOkUnless result Memory.Want }
+    /// A message comes. There has to be room.
+    pub fn take_in(&mut self, index: Index)
+        requires { HasRoom self.old.came }
+
+        ensures came { self.new.came.items ≡ self.old.came.items ++ index ∷ [] }
+        ensures gone { self.new.gone.items ≡ self.old.gone.items }
     {
-        self.gone.push(index)?;
-        Ok(())
+        self.came.push_reserved(index);
+    }
+
+    /// A message leaves. There has to be room.
+    pub fn let_go(&mut self, index: Index)
+        requires { HasRoom self.old.gone }
+
+        ensures came { self.new.came.items ≡ self.old.came.items }
+        ensures gone { self.new.gone.items ≡ self.old.gone.items ++ index ∷ [] }
+    {
+        self.gone.push_reserved(index);
     }
 }

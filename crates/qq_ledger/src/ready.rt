@@ -1,4 +1,4 @@
-ghost use Rattle.std.specs.Prelude.{◌≡◌, ◌+◌, ◌<◌, ◌≤◌, ◌^◌, [], length, IfOk, IsOkUnless, OnOk};
+ghost use Rattle.std.specs.Prelude.{◌≡◌, ◌+◌, ◌<◌, ◌≤◌, ◌^◌, [], length, IfOk, IsOkUnless, OnOk, OnErr};
 ghost use Rattle.std.specs.Option.{option_map};
 ghost use Rattle.qq_ready.specs.Queue.{no_messages, in_order, head, without_next, emptied, push_back, push_returned, bytes_of, IsInOrder};
 ghost use Rattle.qq_live.specs.Indices.{Adds, Removes, HasRoomFor};
@@ -14,8 +14,6 @@ use std::alloc::Global;
 use std::marker::Model;
 
 /// The ready messages of a queue, with a ledger of which came and left since the last commit.
-///
-/// After an error they may be as they were at the last commit.
 #[derive(Debug, Drop)]
 pub struct TrackedReady {
     ready: Ready,
@@ -70,79 +68,64 @@ impl TrackedReady {
         &self.ready
     }
 
-    /// Puts a message at the back, with the next key there. There has to be a key.
+    /// Puts a message at the back, with the next key there. There has to be a key. After an error all is as
+    /// before.
     pub fn push_back(&mut self, row: ReadyRow) -> Result<(), Memory>
         requires counts { self.old.queue.orders + 1 < 2 ^ 64 }
 
         ensures queue { OnOk result (self.new.queue ≡ push_back row self.old.queue) }
+        ensures err { OnErr result (self.new ≡ self.old) }
         ensures base { self.new.base ≡ self.old.base }
         ensures want { IsOkUnless result Memory.Want }
     {
-        if let Err(cause) = self.ledger.take_in(row.index) {
-            self.ready.undo();
-            self.ledger.clear();
-            return Err(cause);
-        }
-        match self.ready.push_back(row) {
-            Ok(()) => Ok(()),
-            Err(cause) => {
-                self.ready.undo();
-                self.ledger.clear();
-                Err(cause)
-            }
-        }
+        let index = row.index;
+        self.ledger.reserve()?;
+        self.ready.push_back(row)?;
+        self.ledger.take_in(index);
+        Ok(())
     }
 
     /// Puts a message that was returned under a delivery limit before all but those that were returned
-    /// before it, with the next key there. There has to be a key.
+    /// before it, with the next key there. There has to be a key. After an error all is as before.
     pub fn push_returned(&mut self, row: ReadyRow) -> Result<(), Memory>
         requires counts { self.old.queue.returns + 1 < 2 ^ 64 }
 
         ensures queue { OnOk result (self.new.queue ≡ push_returned row self.old.queue) }
+        ensures err { OnErr result (self.new ≡ self.old) }
         ensures base { self.new.base ≡ self.old.base }
         ensures want { IsOkUnless result Memory.Want }
     {
-        if let Err(cause) = self.ledger.take_in(row.index) {
-            self.ready.undo();
-            self.ledger.clear();
-            return Err(cause);
-        }
-        match self.ready.push_returned(row) {
-            Ok(()) => Ok(()),
-            Err(cause) => {
-                self.ready.undo();
-                self.ledger.clear();
-                Err(cause)
-            }
-        }
+        let index = row.index;
+        self.ledger.reserve()?;
+        self.ready.push_returned(row)?;
+        self.ledger.take_in(index);
+        Ok(())
     }
 
-    /// Takes the next message. None exactly where nothing is ready.
+    /// Takes the next message. None exactly where nothing is ready. After an error all is as before.
     pub fn pop_next(&mut self) -> Result<Option<ReadyRow>, Memory>
         ensures next { IfOk result (λ next.
             next ≡ option_map (λ one. one.row) (head (in_order self.old.queue))) }
         ensures queue { OnOk result (self.new.queue ≡ without_next self.old.queue) }
+        ensures err { OnErr result (self.new ≡ self.old) }
         ensures base { self.new.base ≡ self.old.base }
         ensures want { IsOkUnless result Memory.Want }
     {
+        self.ledger.reserve()?;
         let taken = self.ready.pop_next()?;
-        let row = match taken {
-            None => return Ok(None),
-            Some(row) => row,
-        };
-        match self.ledger.let_go(row.index) {
-            Ok(()) => Ok(Some(row)),
-            Err(cause) => {
-                self.ready.undo();
-                self.ledger.clear();
-                Err(cause)
+        match taken {
+            None => Ok(None),
+            Some(row) => {
+                self.ledger.let_go(row.index);
+                Ok(Some(row))
             }
         }
     }
 
-    /// Takes all messages out. It goes through all of them.
+    /// Takes all messages out. It goes through all of them. After an error all is as at the last commit.
     pub fn clear(&mut self) -> Result<(), Memory>
         ensures queue { OnOk result (self.new.queue ≡ emptied self.old.queue) }
+        ensures err { OnErr result (self.new.queue ≡ self.old.base) }
         ensures base { self.new.base ≡ self.old.base }
         ensures want { IsOkUnless result Memory.Want }
     {

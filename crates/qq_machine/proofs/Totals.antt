@@ -1,6 +1,6 @@
 -- What each call makes of how much is out.
-use Rattle.std.proofs.Common.{◌≡◌, ℕ, zero, suc, ◌+◌, ◌-◌, Bool, true, false, not, ◌&&◌, List, [], ◌∷◌, ◌++◌, Option, Some, None, map, filter, length, refl, sym, ap, ◌∙◌, arith, inl, inr, if◌then◌else◌}
-use Rattle.std.specs.Prelude.{find, is_some, nat_eq, nat_lt, sum_by}
+use Rattle.std.proofs.Common.{◌≡◌, ℕ, ◌+◌, ◌-◌, Bool, true, false, not, ◌&&◌, List, [], ◌∷◌, ◌++◌, Option, Some, None, map, filter, length, refl, sym, ap, ◌∙◌, subst, arith, inl, inr, if◌then◌else◌}
+use Rattle.std.specs.Prelude.{is_some, nat_eq, nat_lt, sum_by}
 use Rattle.std.specs.List.{AllByRecursion}
 use Rattle.std.specs.Option.{option_map, option_map_or, option_and_then}
 use Rattle.qq_entry.specs.declared.message.ReadyRow.{ReadyRow}
@@ -509,6 +509,13 @@ keeps-same old new out base came gone tracked same still =
           (ap (λ (r : Roster). out_indices r.served) still)
           (named-same old.roster.served new.roster.served same) refl refl;
     }
+
+-- the same is written down
+pub keeps-named : (consumers : ConsumersState) (out base : ℕ) (came gone came' gone' : List Index)
+    → IsTracked consumers out base came gone → came' ≡ came → gone' ≡ gone → IsTracked consumers out base came' gone'
+keeps-named consumers out base came gone came' gone' tracked comes goes =
+    subst (λ (xs : List Index). IsTracked consumers out base xs gone') (sym comes)
+    (subst (λ (xs : List Index). IsTracked consumers out base came xs) (sym goes) tracked)
 
 -- one more is out
 pub keeps-more : (old new : ConsumersState) (out base after : ℕ) (came gone came' gone' : List Index) (index : Index)

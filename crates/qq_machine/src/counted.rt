@@ -255,14 +255,11 @@ impl Counted {
         ensures want { IsOkUnless result Memory.Want }
     {
         let out = next_number(self.out)?;
-        if let Err(cause) = self.ledger.take_in(row.index) {
-            self.consumers.undo();
-            self.out = self.base_out;
-            self.ledger.clear();
-            return Err(cause);
-        }
+        let index = row.index;
+        self.ledger.reserve()?;
         match self.consumers.check_out(id, row) {
             Ok(number) => {
+                self.ledger.take_in(index);
                 self.out = out;
                 Ok(number)
             }

@@ -1,4 +1,3 @@
-use Rattle.std.proofs.Common.{sym}
 use Rattle.qq_ledger.specs.Ledger.{dead_index}
 use Rattle.qq_ledger.proofs.Pushing.{pushed}
 use Rattle.qq_ledger.proofs.scans.push_dead.Goals as goal

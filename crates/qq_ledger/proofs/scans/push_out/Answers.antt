@@ -1,4 +1,3 @@
-use Rattle.std.proofs.Common.{sym}
 use Rattle.qq_ledger.specs.Ledger.{numbered_index}
 use Rattle.qq_ledger.proofs.Pushing.{pushed}
 use Rattle.qq_ledger.proofs.scans.push_out.Goals as goal

@@ -1,4 +1,3 @@
-use Rattle.std.proofs.Common.{sym}
 use Rattle.qq_ledger.specs.Ledger.{keyed_index}
 use Rattle.qq_ledger.proofs.Pushing.{pushed}
 use Rattle.qq_ready.specs.Queue.{in_order}

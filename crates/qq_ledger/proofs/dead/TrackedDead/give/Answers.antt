@@ -1,10 +1,9 @@
-use Rattle.std.proofs.Common.{◌≡◌, ℕ, ◌+◌, List, [], ◌∷◌, sym, ap, ◌∙◌, refl, subst}
-use Rattle.qq_base.specs.declared.ids.Index.{Index}
-use Rattle.qq_live.specs.Indices.{occurrences, Adds, Removes}
+use Rattle.std.proofs.Common.{ap, ◌∙◌, refl}
+use Rattle.qq_live.specs.Indices.{occurrences}
 use Rattle.qq_dead.specs.Letters.{Letters}
-use Rattle.qq_ledger.specs.Ledger.{DeadTracked, dead_indices, Balances}
-use Rattle.qq_ledger.proofs.Balance.{balance-same, balance-more, balance-less}
-use Rattle.qq_ledger.proofs.Parts.{dead-more, attach-same, give-same, settle-less, settle-none}
+use Rattle.qq_ledger.specs.Ledger.{dead_indices}
+use Rattle.qq_ledger.proofs.Balance.{balance-same}
+use Rattle.qq_ledger.proofs.Parts.{give-same}
 use Rattle.qq_ledger.proofs.dead.TrackedDead.give.Goals as goal
 
 pub invariant_of-self : goal.invariant_of-self

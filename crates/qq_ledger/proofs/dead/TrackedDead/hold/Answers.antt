@@ -1,10 +1,7 @@
-use Rattle.std.proofs.Common.{◌≡◌, ℕ, ◌+◌, List, [], ◌∷◌, sym, ap, ◌∙◌, refl, subst}
+use Rattle.std.proofs.Common.{List, ap, ◌∙◌, subst}
 use Rattle.qq_base.specs.declared.ids.Index.{Index}
-use Rattle.qq_live.specs.Indices.{occurrences, Adds, Removes}
-use Rattle.qq_dead.specs.Letters.{Letters}
+use Rattle.qq_live.specs.Indices.{Adds}
 use Rattle.qq_ledger.specs.Ledger.{DeadTracked, dead_indices, Balances}
-use Rattle.qq_ledger.proofs.Balance.{balance-same, balance-more, balance-less}
-use Rattle.qq_ledger.proofs.Parts.{dead-more, attach-same, give-same, settle-less, settle-none}
 use Rattle.qq_ledger.proofs.dead.TrackedDead.hold.Goals as goal
 
 pub returns-clause-indices : goal.returns-clause-indices

@@ -1,38 +1,45 @@
-use Rattle.std.proofs.Common.{◌≡◌, ℕ, ◌+◌, List, [], ◌∷◌, sym, ap, ◌∙◌, refl, subst}
+use Rattle.std.proofs.Common.{◌+◌, List, [], ◌∷◌, ◌++◌, sym, ap, ◌∙◌, refl}
 use Rattle.qq_base.specs.declared.ids.Index.{Index}
-use Rattle.qq_live.specs.Indices.{occurrences, Adds, Removes}
+use Rattle.qq_live.specs.Indices.{occurrences}
 use Rattle.qq_dead.specs.Letters.{Letters}
-use Rattle.qq_ledger.specs.Ledger.{DeadTracked, dead_indices, Balances}
-use Rattle.qq_ledger.proofs.Balance.{balance-same, balance-more, balance-less}
-use Rattle.qq_ledger.proofs.Parts.{dead-more, attach-same, give-same, settle-less, settle-none}
+use Rattle.qq_ledger.specs.Ledger.{dead_indices}
+use Rattle.qq_ledger.proofs.Balance.{balance-same, balance-less}
+use Rattle.qq_ledger.proofs.Parts.{settle-less, settle-none}
 use Rattle.qq_ledger.proofs.dead.TrackedDead.settle.Goals as goal
 
 pub invariant_of-self : goal.invariant_of-self
 invariant_of-self c =
+    balance-same (dead_indices c.self.inside.dead.base) (dead_indices c.self.inside.dead.base)
+    (dead_indices c.self.inside.dead.letters) (dead_indices c.self.inside.dead.letters)
+    c.self.inside.ledger.came.items c.self.inside.ledger.gone.items
+    c.reserve.new.self.came.items c.reserve.new.self.gone.items
+    c.self.invariant refl (λ i. refl) c.reserve.ensures.came c.reserve.ensures.gone
+
+pub invariant_of-self-in_err-taken : goal.invariant_of-self-in_err-taken
+invariant_of-self-in_err-taken c =
     balance-same (dead_indices c.self.inside.dead.base) (dead_indices c.settle.new.self.base)
     (dead_indices c.self.inside.dead.letters) (dead_indices c.settle.new.self.letters)
     c.self.inside.ledger.came.items c.self.inside.ledger.gone.items
-    c.self.inside.ledger.came.items c.self.inside.ledger.gone.items
-    c.self.invariant
-    (ap dead_indices c.settle.ensures.base)
-    (λ i. ap (λ (d : Letters). occurrences i (dead_indices d)) c.in_err-taken.ensures.err)
-    refl refl
+    c.reserve.new.self.came.items c.reserve.new.self.gone.items
+    c.self.invariant (ap dead_indices c.settle.ensures.base)
+    (λ i. ap (λ (q : Letters). occurrences i (dead_indices q)) c.in_err-taken.ensures.err)
+    c.reserve.ensures.came c.reserve.ensures.gone
 
 pub invariant_of-self-in-None : goal.invariant_of-self-in-None
 invariant_of-self-in-None c =
     balance-same (dead_indices c.self.inside.dead.base) (dead_indices c.settle.new.self.base)
     (dead_indices c.self.inside.dead.letters) (dead_indices c.settle.new.self.letters)
     c.self.inside.ledger.came.items c.self.inside.ledger.gone.items
-    c.self.inside.ledger.came.items c.self.inside.ledger.gone.items
+    c.reserve.new.self.came.items c.reserve.new.self.gone.items
     c.self.invariant
     (ap dead_indices c.settle.ensures.base)
     (λ i. ap (λ (d : Letters). occurrences i (dead_indices d)) c.in_ok-taken.ensures.letters
     ∙ settle-none c.args.term.0 c.args.number c.self.inside.dead.letters
     (sym c.in-None.is ∙ c.in_ok-taken.ensures.value) i)
-    refl refl
+    c.reserve.ensures.came c.reserve.ensures.gone
 
-pub invariant_of-self-in-Ok : goal.invariant_of-self-in-Ok
-invariant_of-self-in-Ok c =
+pub invariant_of-self-in-Some : goal.invariant_of-self-in-Some
+invariant_of-self-in-Some c =
     balance-less (dead_indices c.self.inside.dead.base) (dead_indices c.settle.new.self.base)
     (dead_indices c.self.inside.dead.letters) (dead_indices c.settle.new.self.letters)
     c.self.inside.ledger.came.items c.self.inside.ledger.gone.items
@@ -43,4 +50,5 @@ invariant_of-self-in-Ok c =
     c.counters.ensures.numbered (sym c.in-Some.is ∙ c.in_ok-taken.ensures.value) i
     ∙ ap (λ (d : Letters). occurrences i (dead_indices d) + occurrences i (c.in-Some.row.index ∷ []))
     (sym c.in_ok-taken.ensures.letters))
-    c.let_go.ensures.came c.in-Ok.ensures.gone
+    (c.let_go.ensures.came ∙ c.reserve.ensures.came)
+    (c.let_go.ensures.gone ∙ ap (λ (xs : List Index). xs ++ c.in-Some.row.index ∷ []) c.reserve.ensures.gone)

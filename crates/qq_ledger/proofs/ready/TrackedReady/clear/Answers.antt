@@ -1,10 +1,9 @@
-use Rattle.std.proofs.Common.{◌≡◌, ℕ, ◌+◌, List, [], ◌∷◌, sym, ap, ◌∙◌, refl, subst}
-use Rattle.qq_base.specs.declared.ids.Index.{Index}
-use Rattle.qq_live.specs.Indices.{occurrences, Adds, Removes}
+use Rattle.std.proofs.Common.{◌+◌, sym, ap, ◌∙◌, refl}
+use Rattle.qq_live.specs.Indices.{occurrences}
 use Rattle.qq_ready.specs.Queue.{Queue}
-use Rattle.qq_ledger.specs.Ledger.{ReadyTracked, ready_indices, Balances}
-use Rattle.qq_ledger.proofs.Balance.{balance-same, balance-more, balance-less}
-use Rattle.qq_ledger.proofs.Parts.{back-more, front-more, next-less, next-none, all-less}
+use Rattle.qq_ledger.specs.Ledger.{ready_indices}
+use Rattle.qq_ledger.proofs.Balance.{balance-less}
+use Rattle.qq_ledger.proofs.Parts.{all-less}
 use Rattle.qq_ledger.proofs.ready.TrackedReady.clear.Goals as goal
 
 pub invariant_of-self-in-Ok : goal.invariant_of-self-in-Ok

@@ -1,10 +1,7 @@
-use Rattle.std.proofs.Common.{◌≡◌, ℕ, ◌+◌, List, [], ◌∷◌, sym, ap, ◌∙◌, refl, subst}
+use Rattle.std.proofs.Common.{List, ap, ◌∙◌, subst}
 use Rattle.qq_base.specs.declared.ids.Index.{Index}
-use Rattle.qq_live.specs.Indices.{occurrences, Adds, Removes}
-use Rattle.qq_ready.specs.Queue.{Queue}
+use Rattle.qq_live.specs.Indices.{Adds}
 use Rattle.qq_ledger.specs.Ledger.{ReadyTracked, ready_indices, Balances}
-use Rattle.qq_ledger.proofs.Balance.{balance-same, balance-more, balance-less}
-use Rattle.qq_ledger.proofs.Parts.{back-more, front-more, next-less, next-none, all-less}
 use Rattle.qq_ledger.proofs.ready.TrackedReady.hold.Goals as goal
 
 pub returns-clause-indices : goal.returns-clause-indices

@@ -1,4 +1,5 @@
-use Rattle.std.proofs.Common.{◌≡◌, ℕ, ◌+◌, List, ◌∷◌, [], refl, ap, sym, ◌∙◌}
+use Rattle.std.proofs.Common.{ℕ, ◌+◌, List, ◌∷◌, ◌++◌, [], ap, sym, ◌∙◌}
+use Rattle.qq_base.specs.declared.ids.Index.{Index}
 use Rattle.qq_consumer.specs.Roster.{Roster}
 use Rattle.qq_machine.specs.Counted.{total}
 use Rattle.std.specs.Prelude.{is_some}
@@ -10,7 +11,7 @@ use Rattle.qq_ledger.specs.Ledger.{out_indices}
 use Rattle.qq_consumer.specs.Roster.{item_at}
 use Rattle.qq_consumer.specs.Turns.{waiting_turn}
 use Rattle.qq_machine.specs.Counted.{RosterTracked}
-use Rattle.qq_machine.proofs.Totals.{count-served, named-served, keeps-more, keeps-back}
+use Rattle.qq_machine.proofs.Totals.{count-served, named-served, keeps-named, keeps-more, keeps-back}
 use Rattle.qq_machine.proofs.counted.Counted.check_out.Goals as goal
 
 pub invariant_of-self-in-Ok : goal.invariant_of-self-in-Ok
@@ -26,10 +27,18 @@ invariant_of-self-in-Ok c =
     ∙ count-served turn (item_at place c.args.row) c.args.id c.self.inside.consumers.roster.served may))
     (λ i. ap (λ (r : Roster). occurrences i (out_indices r.served)) (c.in-Ok.ensures.ok place)
     ∙ named-served turn (item_at place c.args.row) c.args.id c.self.inside.consumers.roster.served may i)
-    c.check_out.ensures.base c.in_default.ensures.came c.take_in.ensures.gone
+    c.check_out.ensures.base
+    (c.take_in.ensures.came ∙ ap (λ (xs : List Index). xs ++ c.args.row.index ∷ []) c.reserve.ensures.came)
+    (c.take_in.ensures.gone ∙ c.reserve.ensures.gone)
 
-pub invariant_of-self-in-Err-check_out : goal.invariant_of-self-in-Err-check_out
-invariant_of-self-in-Err-check_out c =
-    keeps-back c.self.inside.consumers c.check_out.new.self c.undo-in-Err-check_out.new.self _ _ c.self.inside.ledger.came.items c.self.inside.ledger.gone.items
-    c.clear-in-Err-check_out.new.self.came.items c.clear-in-Err-check_out.new.self.gone.items c.self.invariant c.check_out.ensures.base c.undo-in-Err-check_out.ensures.roster c.undo-in-Err-check_out.ensures.base c.clear-in-Err-check_out.ensures.came
-    c.clear-in-Err-check_out.ensures.gone
+pub invariant_of-self-in-Err : goal.invariant_of-self-in-Err
+invariant_of-self-in-Err c =
+    keeps-back c.self.inside.consumers c.check_out.new.self c.undo.new.self _ _ c.self.inside.ledger.came.items
+    c.self.inside.ledger.gone.items c.clear.new.self.came.items c.clear.new.self.gone.items c.self.invariant
+    c.check_out.ensures.base c.undo.ensures.roster c.undo.ensures.base c.clear.ensures.came c.clear.ensures.gone
+
+pub invariant_of-self : goal.invariant_of-self
+invariant_of-self c =
+    keeps-named c.self.inside.consumers _ _ c.self.inside.ledger.came.items c.self.inside.ledger.gone.items
+    c.reserve.new.self.came.items c.reserve.new.self.gone.items c.self.invariant c.reserve.ensures.came
+    c.reserve.ensures.gone

@@ -1,7 +1,6 @@
-use Rattle.std.proofs.Common.{◌≡◌, ℕ, ◌+◌, List, ◌∷◌, [], refl, ap, sym, subst, ◌∙◌}
+use Rattle.std.proofs.Common.{◌≡◌, ◌+◌, ap, subst, ◌∙◌}
 use Rattle.qq_consumer.specs.Roster.{Roster, StaysUncredited}
 use Rattle.qq_consumer.specs.declared.fault.CreditFault.{CreditFault}
-use Rattle.qq_machine.specs.Counted.{total}
 use Rattle.qq_machine.proofs.Totals.{total_by, total-credit, keeps-same, keeps-back}
 use Rattle.qq_machine.proofs.counted.Counted.credit.Goals as goal
 

@@ -1,4 +1,4 @@
-use Rattle.std.proofs.Common.{◌≡◌, ℕ, ◌+◌, List, ◌∷◌, [], refl, ap, sym, ◌∙◌}
+use Rattle.std.proofs.Common.{◌+◌, refl, ap, sym, ◌∙◌}
 use Rattle.qq_consumer.specs.Roster.{Roster}
 use Rattle.qq_machine.specs.Counted.{total}
 use Rattle.qq_live.specs.Indices.{occurrences}

@@ -1,6 +1,5 @@
-use Rattle.std.proofs.Common.{◌≡◌, ℕ, ◌+◌, List, ◌∷◌, [], refl, ap, sym, ◌∙◌}
+use Rattle.std.proofs.Common.{ap, ◌∙◌}
 use Rattle.qq_consumer.specs.Roster.{Roster}
-use Rattle.qq_machine.specs.Counted.{total}
 use Rattle.qq_machine.proofs.Totals.{total_by, total-subscribe, keeps-same, keeps-back}
 use Rattle.qq_machine.proofs.counted.Counted.subscribe.Goals as goal
 
