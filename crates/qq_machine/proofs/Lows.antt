@@ -1,6 +1,6 @@
 -- The least index that a queue still needs, and what is held of it.
-use Rattle.std.proofs.Common.{◌≡◌, ℕ, zero, suc, ◌+◌, ◌-◌, ◌<◌, ◌≤◌, ◌⊎◌, Bool, true, false, List, [], ◌∷◌, ◌++◌, Option, Some, None, map, length, refl, sym, ap, ◌∙◌, subst, inl, inr, arith, if◌then◌else◌}
-use Rattle.std.specs.Prelude.{nat_lt, fold}
+use Rattle.std.proofs.Common.{◌≡◌, ℕ, ◌+◌, ◌-◌, ◌≤◌, ◌⊎◌, true, false, List, [], ◌∷◌, ◌++◌, Option, Some, None, map, refl, sym, ap, ◌∙◌, subst, inl, inr, arith, if◌then◌else◌}
+use Rattle.std.specs.Prelude.{nat_lt, fold, min, ◌^◌}
 use Rattle.std.specs.Option.{option_map_or}
 use Rattle.std.proofs.lemmas.Bool.{cases_Bool, cond-true, cond-false, ltb-true, ltb-false}
 use Rattle.std.proofs.lemmas.List.{map-append}
@@ -10,7 +10,7 @@ use Rattle.qq_entry.specs.declared.answer.Answer.{Answer}
 use Rattle.qq_entry.specs.declared.answer.Answer.TheVariants.{Got}
 use Rattle.qq_model.specs.declared.session.OpenSession.{OpenSession}
 use Rattle.qq_model.specs.State.{Sessions}
-use Rattle.qq_sessions.specs.KeptLow.{got_index, lesser_index, low_with, low_of, low_of_session, kept_low}
+use Rattle.qq_sessions.specs.KeptLow.{got_index, lesser_index, low_of, low_of_session, kept_low}
 use Rattle.qq_ready.specs.declared.row.KeyedRow.{KeyedRow}
 use Rattle.qq_dead.specs.declared.row.DeadRow.{DeadRow}
 use Rattle.qq_parts.specs.Parts.{Parts, items_of, outs}
@@ -183,17 +183,19 @@ index-is None (Some b) applied = refl
 index-is (Some a) (Some b) applied = refl
 
 pub low-is : (args : QueueArgs) (q : Queue) (live : List Index) (a b : Option ℕ) (n : ℕ) → HoldsAll live (content_of q)
-    → a ≡ least live → b ≡ kept_low q.sessions.known → n ≡ least_index a b q.applied
-    → n ≡ parts_low (parts_of args q)
+    → a ≡ least live → b ≡ kept_low q.sessions.known → n ≡ min (least_index a b q.applied) (2 ^ 64 - 1)
+    → n ≡ min (parts_low (parts_of args q)) (2 ^ 64 - 1)
 low-is args q live a b n holds first second is =
     let items = map item_index (items_of (parts_of args q)) in
     let kept = kept_indices q.sessions.known.opened in
-    is ∙ index-is a b q.applied
+    let same : least_index a b q.applied ≡ parts_low (parts_of args q) =
+    index-is a b q.applied
     ∙ ap (λ (o : Option ℕ). option_map_or (λ (index : ℕ). index) o (q.applied + 1))
     (ap (λ (o : Option ℕ). lesser_index o b)
     (first ∙ least-same live (indices_in (content_of q)) holds ∙ ap least (sym (indices-are args q)))
     ∙ ap (lesser_index (least items)) (second ∙ kept-is q.sessions.known)
-    ∙ sym (least-append items kept))
+    ∙ sym (least-append items kept)) in
+    is ∙ ap (λ (k : ℕ). min k (2 ^ 64 - 1)) same
 
 -- what was gathered of all parts is held
 pub gathered : (k : Content) (live a0 a1 a2 a3 : List Index) → a0 ≡ [] → a1 ≡ a0 ++ ready_indices k.ready

@@ -21,12 +21,12 @@ use Rattle.qq_ends.specs.Far.{IsReached, are_far}
 use Rattle.qq_ends.proofs.Drawn.{IsCounted, IsDrawn, drawn_after}
 use Rattle.qq_ends.proofs.Within.{is_within, next-reached}
 use Rattle.qq_model.specs.Sound.{IsSound}
-use Rattle.qq_parts.specs.Parts.{Served, Parts, Stands, IsWhole, frame, with_rows, consumer_at}
+use Rattle.qq_parts.specs.Parts.{Served, Parts, Stands, IsWhole, consumer_at}
 use Rattle.qq_parts_step.specs.Step.{PartsStep, parts_step, StepsFor}
 use Rattle.qq_parts_step.proofs.Stepping.{steps}
 use Rattle.qq_machine.specs.declared.queue.Queue.{Queue}
 use Rattle.qq_machine.specs.Views.{parts_of}
-use Rattle.qq_machine.specs.Within.{is_one_within, are_within, are_places_few, AreTold}
+use Rattle.qq_machine.specs.Within.{is_one_within, are_within, AreTold}
 
 -- the rest says now what all said at first
 pub all-more : {A : Type 0} (p : A → Bool) (xs : List A) (i : ℕ) → i < length xs

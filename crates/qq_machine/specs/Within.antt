@@ -1,5 +1,5 @@
 -- Where no number of the parts of a queue has passed its end.
-use Rattle.std.specs.Prelude.{◌≡◌, ◌⊎◌, ◌+◌, true, Bool, ◌&&◌, nat_le, map}
+use Rattle.std.specs.Prelude.{◌≡◌, ◌⊎◌, ◌+◌, true, Bool, ◌&&◌, nat_le}
 use Rattle.std.specs.List.{list_all}
 use Rattle.qq_base.specs.declared.memory.TheConstants.{NUMBER_END}
 use Rattle.qq_model.specs.State.{is_consumer_within, is_session_within}

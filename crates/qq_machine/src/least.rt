@@ -1,5 +1,5 @@
 //! The least index that a queue still needs.
-ghost use Rattle.std.specs.Prelude.{◌≡◌, ◌+◌, ◌<◌, ◌^◌, IfOk, IsOkUnless, OnOk};
+ghost use Rattle.std.specs.Prelude.{◌≡◌, ◌+◌, ◌-◌, ◌^◌, min, IfOk, IsOkUnless, OnOk};
 ghost use Rattle.std.specs.Option.{option_map};
 ghost use Rattle.qq_live.specs.Indices.{HasRoomFor};
 ghost use Rattle.qq_machine.specs.Views.{content_of, base_of};
@@ -11,15 +11,13 @@ use qq_ledger::{push_consumers, push_dead, push_ready};
 use qq_live::Live;
 use std::alloc::Global;
 
-/// The lesser of two indices that may be there, or else the next one.
+/// The lesser of two indices that may be there, or else the next one, or the greatest that there is.
 pub fn least_index(first: Option<Index>, second: Option<Index>, applied: u64) -> Index
-    requires { applied + 1 < 2 ^ 64 }
-
-    ensures { result.0 ≡ least_index (option_map (λ i. i.0) first)
-        (option_map (λ i. i.0) second) applied }
+    ensures { result.0 ≡ min (least_index (option_map (λ i. i.0) first)
+        (option_map (λ i. i.0) second) applied) (2 ^ 64 - 1) }
 {
     match (first, second) {
-        (None, None) => Index(applied + 1),
+        (None, None) => Index(applied.saturating_add(1)),
         (Some(first), None) => first,
         (None, Some(second)) => second,
         (Some(first), Some(second)) => { if second.0 < first.0 { second } else { first } }

@@ -293,12 +293,11 @@ impl Machine {
     }
 
     /// The least index that the queue still needs: of its messages, ready, out or dead, and of those that
-    /// kept answers name. Where there are none, the next index, which has to be there.
+    /// kept answers name. Where there are none, the next index. An index is at most 2^64 - 1, so behind
+    /// that one it is the answer.
     pub fn low(&self) -> Index
-        requires { self.now.rest.applied + 1 < 2 ^ 64 }
-
-        ensures value { result.0 ≡ parts_low self.now }
-        ensures queue { (s : State) → Stands self.now s → result.0 ≡ low s }
+        ensures value { result.0 ≡ min (parts_low self.now) (2 ^ 64 - 1) }
+        ensures queue { (s : State) → Stands self.now s → result.0 ≡ min (low s) (2 ^ 64 - 1) }
     {
         let kept = self.draft.queue.sessions.sessions().kept_low();
         least_index(self.live.low(), kept, self.draft.queue.applied)

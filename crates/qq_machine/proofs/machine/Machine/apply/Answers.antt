@@ -1,6 +1,4 @@
-use Rattle.std.proofs.Common.{ℕ, false, ◌≡◌, refl, ap, sym, ◌∙◌, subst}
-use Rattle.std.specs.Prelude.{IfErr}
-use Rattle.qq_base.specs.declared.memory.Memory.{Memory}
+use Rattle.std.proofs.Common.{ℕ, refl, ap, sym, ◌∙◌, subst}
 use Rattle.qq_base.specs.declared.ids.Index.{Index}
 use Rattle.qq_model.specs.Audit.{next_step}
 use Rattle.qq_parts.specs.Parts.{Parts, IsWhole}

@@ -1,5 +1,6 @@
-use Rattle.std.proofs.Common.{ap, sym, ◌∙◌}
-use Rattle.qq_model.specs.State.{Sessions}
+use Rattle.std.proofs.Common.{ℕ, ◌-◌, ap, sym, ◌∙◌}
+use Rattle.std.specs.Prelude.{min, ◌^◌}
+use Rattle.qq_parts.specs.Parts.{Parts}
 use Rattle.qq_sessions.specs.KeptLow.{kept_low}
 use Rattle.qq_ledger.specs.Low.{parts_low}
 use Rattle.qq_ledger.proofs.Low.{low-parts}
@@ -14,7 +15,7 @@ returns-clause-value c =
     (c.kept_low-kept.ensures ∙ ap kept_low (c.sessions.ensures
     ∙ sym (ap (λ (k : Content). k.sessions) c.self.invariant.0.content)))
     c.least_index.ensures
-    ∙ ap parts_low c.self.view_is
+    ∙ ap (λ (m : Parts). min (parts_low m) (2 ^ 64 - 1)) c.self.view_is
 
 pub returns-clause-queue : goal.returns-clause-queue
 returns-clause-queue c s stands =
@@ -23,4 +24,5 @@ returns-clause-queue c s stands =
     (c.kept_low-kept.ensures ∙ ap kept_low (c.sessions.ensures
     ∙ sym (ap (λ (k : Content). k.sessions) c.self.invariant.0.content)))
     c.least_index.ensures
-    ∙ ap parts_low c.self.view_is ∙ sym (low-parts c.args.self.now s stands)
+    ∙ ap (λ (m : Parts). min (parts_low m) (2 ^ 64 - 1)) c.self.view_is
+    ∙ sym (ap (λ (n : ℕ). min n (2 ^ 64 - 1)) (low-parts c.args.self.now s stands))

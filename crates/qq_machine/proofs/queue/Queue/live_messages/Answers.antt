@@ -1,5 +1,4 @@
-use Rattle.std.proofs.Common.{List, ◌++◌, ap, ◌∙◌}
-use Rattle.qq_base.specs.declared.ids.Index.{Index}
+use Rattle.std.proofs.Common.{◌++◌, ap, ◌∙◌}
 use Rattle.qq_ready.specs.Queue.{Queue as Keyed}
 use Rattle.qq_dead.specs.Letters.{Letters}
 use Rattle.qq_consumer.specs.Roster.{Roster}

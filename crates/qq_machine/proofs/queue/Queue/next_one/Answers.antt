@@ -1,4 +1,4 @@
-use Rattle.std.proofs.Common.{◌≡◌, Bool, true, false, map, ap, sym, ◌∙◌, subst}
+use Rattle.std.proofs.Common.{Bool, true, false, map, ap, sym, ◌∙◌, subst}
 use Rattle.qq_service.specs.Next.{next}
 use Rattle.qq_consumer.specs.Roster.{Roster, standing_one}
 use Rattle.qq_machine.specs.Views.{IsNextIn}
