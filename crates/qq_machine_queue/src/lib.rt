@@ -44,7 +44,8 @@ impl MachineQueue {
 }
 
 impl Queue for MachineQueue {
-    ghost use Rattle.std.specs.Prelude.{◌≡◌, false};
+    ghost use Rattle.std.specs.Prelude.{◌≡◌, ◌-◌, ◌^◌, false, min};
+    ghost use Rattle.qq_ledger.specs.Low.{low as queue_low};
     ghost use Rattle.qq_model.specs.State.{is_within_ends};
     ghost use Rattle.qq_model.specs.Step.{step as queue_step};
     ghost use Rattle.qq_serial_queue.specs.Applied.{applied_of};
@@ -56,8 +57,8 @@ impl Queue for MachineQueue {
 
     ghost passes_end = { λ s index entry. is_within_ends (queue_step s index entry).state ≡ false };
 
-    // It doesn't tell yet from which entry on its messages are.
-    ghost least = { λ s. 1 };
+    // An index is at most 2^64 - 1.
+    ghost least = { λ s. min (queue_low s) (2 ^ 64 - 1) };
 
     ghost applied = { λ q. q.machine.rest.applied };
 
@@ -76,6 +77,6 @@ impl Queue for MachineQueue {
     }
 
     fn low(&self) -> Index {
-        Index(1)
+        self.machine.low()
     }
 }
