@@ -223,6 +223,9 @@ impl Machine {
         })) }
         ensures want { IsOkUnless result Memory.Want }
     {
+        let Ok(consumers) = Counted::from_consumers(alloc, consumers) else {
+            return Err(Memory::Want);
+        };
         let mut queue = Queue {
             applied: applied.0,
             arrivals,
@@ -232,7 +235,7 @@ impl Machine {
             },
             sessions: Gated::from_sessions(sessions),
             ready: TrackedReady::from_ready(alloc, ready),
-            consumers: Counted::from_consumers(alloc, consumers)?,
+            consumers,
             dead: TrackedDead::from_dead(alloc, dead),
         };
         queue.commit();
