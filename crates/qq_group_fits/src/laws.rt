@@ -23,7 +23,7 @@ pub fn a_message_is_from_one_member_to_another()
 
 /// A law: a message that is on its way fits the server that it reaches: it is for that server, from one of
 /// its peers, its terms and indices are within their ends, and its entries no more than one change may have.
-/// So what is delivered is never lost but where its receiver is down.
+/// So none is lost because it doesn't fit.
 pub fn a_message_always_fits<Q: Queue, L: LogView>()
     ensures { (g : GroupState) (group : Group Q L) (rpc : Rpc) (s : Server Q L) → IsReached g →
         Represents L.log g group → IsSound Q.stands L.log Q.applied group → In rpc group.bag →
