@@ -1,12 +1,13 @@
 -- What is counted and found of a mapped list, and the while loop of so many rounds.
-use Rattle.std.proofs.Common.{◌≡◌, ℕ, zero, suc, ◌+◌, ◌-◌, ◌<◌, Bool, true, false, cond, List, [], ◌∷◌, ◌++◌, Option, Some, None, map, take, fold, length, refl, sym, ap, ◌∙◌, arith, subst, if◌then◌else◌}
+use Rattle.std.proofs.Common.{◌≡◌, ℕ, zero, suc, ◌+◌, ◌-◌, ◌<◌, Bool, true, false, cond, List, [], ◌∷◌, ◌++◌, Option, Some, None, map, take, length, refl, sym, ap, ◌∙◌, arith, subst, if◌then◌else◌}
 use Rattle.std.specs.Prelude.{find, count_by, sum_by, slice_get, IfNone, IfSome}
 use Rattle.std.specs.Option.{option_map, option_map_or}
 use Rattle.std.proofs.lemmas.List.{length-append}
 use Rattle.std.proofs.lemmas.List.Sums.{sum_by-cons}
-use Rattle.qq_model.specs.Choice.{is_lesser, lesser, least_by}
+use Rattle.qq_model.specs.Choice.{least_by}
 use Rattle.qq_model.specs.Changes.{while_next}
 use Rattle.qq_parts.specs.Parts.{Served, outs}
+use Rattle.qq_parts_step.proofs.Choosing.{fold-over}
 
 pub find-over : {A B : Type 0} (test : B → Bool) (f : A → B) (xs : List A)
     → find test (map f xs) ≡ option_map f (find (λ (x : A). test (f x)) xs)
@@ -28,27 +29,6 @@ sum-over {A = A} g f (x ∷ xs) =
 pub count-over : {A B : Type 0} (test : B → Bool) (f : A → B) (xs : List A)
     → count_by test (map f xs) ≡ count_by (λ (x : A). test (f x)) xs
 count-over test f xs = sum-over (λ y. if test y then 1 else 0) f xs
-
-lesser-over : {A B K : Type 0} (less : K → K → Bool) (key : B → Option K) (f : A → B) (best : Option A) (x : A)
-    → lesser less key (option_map f best) (f x) ≡ option_map f (lesser less (λ (y : A). key (f y)) best x)
-lesser-over {A = A} {B = B} less key f None x = by (is_lesser less (key (f x)) None)
-  where
-    by : (b : Bool) → cond b (Some (f x)) None ≡ option_map f (cond b (Some x) None)
-    by true = refl
-    by false = refl
-lesser-over {A = A} {B = B} less key f (Some y) x = by (is_lesser less (key (f x)) (key (f y)))
-  where
-    by : (b : Bool) → cond b (Some (f x)) (Some (f y)) ≡ option_map f (cond b (Some x) (Some y))
-    by true = refl
-    by false = refl
-
-fold-over : {A B K : Type 0} (less : K → K → Bool) (key : B → Option K) (f : A → B) (xs : List A) (best : Option A)
-    → fold (lesser less key) (option_map f best) (map f xs)
-    ≡ option_map f (fold (lesser less (λ (y : A). key (f y))) best xs)
-fold-over less key f [] best = refl
-fold-over {A = A} {B = B} less key f (x ∷ xs) best =
-    ap (λ (o : Option B). fold (lesser less key) o (map f xs)) (lesser-over less key f best x)
-    ∙ fold-over less key f xs (lesser less (λ (y : A). key (f y)) best x)
 
 pub least-over : {A B K : Type 0} (less : K → K → Bool) (key : B → Option K) (f : A → B) (xs : List A)
     → least_by less key (map f xs) ≡ option_map f (least_by less (λ (y : A). key (f y)) xs)

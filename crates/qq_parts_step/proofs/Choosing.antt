@@ -60,7 +60,7 @@ lesser-over {A = A} {B = B} less key f (Some y) x = by (is_lesser less (key (f x
     by true = refl
     by false = refl
 
-fold-over : {A B K : Type 0} (less : K → K → Bool) (key : B → Option K) (f : A → B) (xs : List A) (best : Option A)
+pub fold-over : {A B K : Type 0} (less : K → K → Bool) (key : B → Option K) (f : A → B) (xs : List A) (best : Option A)
     → fold (lesser less key) (option_map f best) (map f xs)
     ≡ option_map f (fold (lesser less (λ (y : A). key (f y))) best xs)
 fold-over less key f [] best = refl
