@@ -1,6 +1,5 @@
 pub mod Joined
 pub mod Next
 pub mod Numbers
-pub mod OfParts
 pub mod Roster
 pub mod Turns
