@@ -1,11 +1,13 @@
 //! Laws of what a crash may leave: the functions do nothing, and their contracts are the laws.
 ghost use Rattle.std.specs.Prelude.{◌≡◌, ◌≤◌, ◌⊎◌, ◌++◌, ℕ, Bool, true, false, List, length, take, Option, Some, None};
+ghost use Rattle.std.specs.List.{AllByRecursion};
 ghost use Rattle.qq_disk.specs.declared.name.FileName.{FileName};
 ghost use Rattle.qq_disk.specs.declared.image.Image.{Image};
 ghost use Rattle.qq_disk.specs.declared.image.Tail.TheVariants.{Cut, Junk, Whole};
 ghost use Rattle.qq_disk.specs.Disk.{Disk, FileState, append, sync, remove, whole, contents, content, IsListed};
-ghost use Rattle.qq_disk.specs.Crash.{Remains, IsImage};
+ghost use Rattle.qq_disk.specs.Crash.{Remains, IsImage, LeavesOnly};
 ghost use Rattle.qq_disk.specs.Image.{image_of, is_file, tail_of, IsNewestLog};
+ghost use Rattle.qq_disk.specs.Records.{Extends};
 ghost use Rattle.qq_disk_laws.specs.Images.{with, is_removed, BeginsWithKept};
 
 /// What no sync has kept may be lost.
@@ -93,4 +95,15 @@ pub fn a_named_image_keeps_what_it_names()
 pub fn the_newest_log_is_one()
     ensures { (d : Disk) (back : Bool) (a b : Option FileName) →
         IsNewestLog d back a → IsNewestLog d back b → a ≡ b }
+{}
+
+/// Where whatever a crash at any moment since leaves of a file extends its old bytes by no more than so many: the
+/// moments since are some more, and in each image of each of them the file has the old bytes, and then no more
+/// than so many others.
+pub fn a_crash_since_leaves_the_old_bytes()
+    ensures { (file : FileName) (kept : List ℕ) (most : ℕ) (old new : List Disk) →
+        LeavesOnly (λ (i : Remains). Extends kept most (i file)) old new →
+        (more : List Disk) × (new ≡ more ++ old) × AllByRecursion (λ (d : Disk).
+        (i : Remains) → IsImage d i → (tail : List ℕ) × (i file ≡ Some (kept ++ tail))
+        × (length tail ≤ most)) more }
 {}

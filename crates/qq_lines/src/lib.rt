@@ -14,7 +14,7 @@ mod parse;
 mod words;
 
 pub use fault::ScriptFault;
-pub use laws::numbers_are_decimal_texts;
+pub use laws::{faults_of_lines_have_causes, numbers_are_decimal_texts};
 pub use line::{LINE_LIMIT, Nodes, Place, ScriptLine};
 pub use numbers::number_in;
 pub use parse::{parse_line, text_in};
