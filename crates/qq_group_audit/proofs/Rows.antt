@@ -1,6 +1,7 @@
 -- Rows of a group of plain queues are of the serial audit.
 use Rattle.std.proofs.Common.{◌≡◌, ℕ, ◌+◌, true, List, [], ◌∷◌, Option, Some, map, refl, sym, ap, subst, ◌∙◌, inl, inr}
 use Rattle.std.specs.Prelude.{is_some}
+use Rattle.std.specs.List.{AllByRecursion}
 use Rattle.std.proofs.lemmas.Bool.{cond-true, cond_both}
 use Rattle.qq_answers.specs.Answers.{answer_after, is_answer}
 use Rattle.qq_base.proofs.Lists.{AllByRecursion-weaker}
@@ -14,7 +15,7 @@ use Rattle.qq_raft_model.specs.Facts.{In}
 use Rattle.qq_serial_queue.proofs.Steps.{step_applied}
 use Rattle.qq_server.specs.declared.row.AppliedRow.{AppliedRow}
 use Rattle.qq_group_audit.specs.Audited.{AreOfAudit, rows_after}
-use Rattle.qq_group_audit.specs.Plain.{AreSerial, plain_step}
+use Rattle.qq_group_audit.specs.Plain.{plain_step}
 
 plain-rows : (s : State) (es : List Entry)
     → map (λ (r : AppliedRow). r.row) (rows_after plain_step s s.applied es) ≡ audit_of s es
@@ -38,7 +39,8 @@ in-serial args audit row here =
     (in-map (λ (r : AppliedRow). r.row) row (rows_after plain_step (empty_queue args) 0 audit) here)
 
 pub serial : (args : QueueArgs) (audit : List Entry) (rows : List AppliedRow)
-    → AreOfAudit plain_step (empty_queue args) audit rows → AreSerial args audit rows
+    → AreOfAudit plain_step (empty_queue args) audit rows
+    → AllByRecursion (λ (row : AppliedRow). In row.row (audit_of (empty_queue args) audit)) rows
 serial args audit rows all =
     AllByRecursion-weaker (λ (row : AppliedRow). In row (rows_after plain_step (empty_queue args) 0 audit))
     (λ (row : AppliedRow). In row.row (audit_of (empty_queue args) audit)) (in-serial args audit) rows all

@@ -1,5 +1,6 @@
 //! A group whose members have the plain queue machine.
 ghost use Rattle.std.specs.Prelude.{◌≡◌, ℕ, List, true, is_some};
+ghost use Rattle.std.specs.List.{AllByRecursion};
 ghost use Rattle.qq_answers.specs.Answers.{answer_after, is_answer};
 ghost use Rattle.qq_entry.specs.declared.audit.AuditRow.{AuditRow};
 ghost use Rattle.qq_entry.specs.declared.command.Command.{Command};
@@ -16,7 +17,7 @@ ghost use Rattle.qq_group.specs.Steps.{HasShownEvent, made_by, ReachesAtMost};
 ghost use Rattle.qq_group.specs.declared.event.Event.{Event};
 ghost use Rattle.qq_group.specs.declared.group.Group.{Group};
 ghost use Rattle.qq_group_audit.specs.Audited.{AreAudited};
-ghost use Rattle.qq_group_audit.specs.Plain.{AreSerial, plain_stands, plain_step};
+ghost use Rattle.qq_group_audit.specs.Plain.{plain_stands, plain_step};
 
 use crate::laws::each_row_is_of_the_audit;
 use qq_raft_msg::LogView;
@@ -30,7 +31,8 @@ pub fn a_row_is_of_the_serial_audit<L: LogView>()
         Follows L.log (made_by event old) old new →
         HasShownEvent plain_stands plain_step L.log event old new rows →
         ReachesAtMost event old new → AreAudited plain_stands plain_step (empty_queue args) old →
-        AreSerial args new.audit.items rows }
+        AllByRecursion (λ (row : AppliedRow).
+        In row.row (audit_of (empty_queue args) new.audit.items)) rows }
 {
     each_row_is_of_the_audit::<Plain, L>();
 }

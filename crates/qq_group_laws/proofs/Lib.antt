@@ -1,0 +1,5 @@
+mod Causes
+mod Ends
+mod Restarting
+mod Opened
+mod Returned
