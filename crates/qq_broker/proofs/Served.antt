@@ -2,7 +2,7 @@
 use Rattle.std.proofs.Common.{◌≡◌, ◌≤◌, ◌<◌, ◌+◌, ℕ, zero, suc, Bool, true, false, List, [], ◌∷◌, map, refl, sym, ap, subst, ◌∙◌, inl, inr, append-nil, arith}
 use Rattle.std.specs.Prelude.{nat_eq, IsTrue}
 use Rattle.std.specs.List.{range_with_len}
-use Rattle.std.proofs.lemmas.Bool.{eqb-true, cases_Bool}
+use Rattle.std.proofs.lemmas.Bool.{eqb-true, cases_Bool, false≢true}
 use Rattle.qq_base.specs.declared.ids.QueueId.{QueueId}
 use Rattle.qq_base.specs.declared.memory.Memory.TheVariants.{Want, Spent}
 use Rattle.qq_calls.specs.Queues.{node_setup}
@@ -19,7 +19,9 @@ use Rattle.qq_node.specs.declared.opening.OpenFault.TheVariants as open_fault
 use Rattle.qq_node.specs.declared.restarting.RestartFault.{RestartFault}
 use Rattle.qq_node.specs.declared.restarting.RestartFault.TheVariants as restart_fault
 use Rattle.qq_node.specs.Node.{IsDesk, AreDesks, Stands, disk_in}
-use Rattle.qq_node.specs.Restarting.{HasCrashed, IsSetFor, IsOpenCaused, IsRefusedBy, IsRestartCaused, lanes_in}
+use Rattle.qq_node.specs.Found.{as_told}
+use Rattle.qq_node.specs.Restarting.{HasCrashed, IsLostAsRead, IsLostIn, IsLostOf, IsSetFor, IsOpenCaused, IsRefusedBy, IsRestartCaused, lanes_in}
+use Rattle.qq_node_laws.specs.Reads.{queue_at, state_in}
 use Rattle.qq_node_laws.specs.Serves.{Seen, Serves}
 use Rattle.qq_program.specs.declared.stop.AskStop.{AskStop}
 use Rattle.qq_program.specs.declared.stop.AskStop.TheVariants.{Ended, NoMemory}
@@ -27,7 +29,8 @@ use Rattle.qq_program.specs.Answers.{IsPlain}
 use Rattle.qq_program.specs.Endings.{lost}
 use Rattle.qq_program.specs.Runs.{MayNotOpen}
 use Rattle.qq_program.specs.Service.{HasOpened, HasServed, HasServeCause}
-use Rattle.qq_program.specs.Troubles.{Trouble, YardFails, DiskFails, DiskIsSilent, FilesBreak, AtPlace, OfVersion}
+use Rattle.qq_program.specs.Serving.{EndsLost}
+use Rattle.qq_program.specs.Troubles.{Trouble, YardFails, DiskFails, DiskIsSilent, FilesBreak, QueueIsFound, AtPlace, OfVersion}
 use Rattle.qq_program.proofs.Closings.{Rose_earlier}
 use Rattle.qq_recover.specs.declared.fault.RecoverFault.TheVariants as recover_fault
 use Rattle.qq_recover.specs.Reading.{lanes_read, shown}
@@ -55,6 +58,7 @@ module _ {D : Type 0} (tells : D → Bool) (past : D → List Disk) (faults : D 
   meets-earlier first le DiskFails met = met
   meets-earlier first le DiskIsSilent met = met
   meets-earlier first le (FilesBreak setup damage) met = met
+  meets-earlier first le (QueueIsFound setup place lane) met = met
 
   pub may-not-open : (s : Setup) (disk left : D) (fault : OpenFault) → (IsTrue (tells disk) → IsNew (past disk))
       → tells left ≡ tells disk
@@ -81,11 +85,59 @@ module _ {D : Type 0} (tells : D → Bool) (past : D → List Disk) (faults : D 
   may-not-open s disk left (open_fault.Memory (Spent number)) fresh told cause =
       inr (inr (inr (inr (number, cause, refl))))
 
+  -- what is printed of a queue that is lost
+  lost-texts : (setup : NodeSetup) (place k op : ℕ) (name : List ℕ) (noticed found : ℕ) → name ≡ setup.name place
+      → noticed ≡ k → found ≡ op → lost_text name noticed found ≡ lost_text (setup.name place) k op
+  lost-texts setup place k op name noticed found name_is noticed_is found_is =
+      ap (λ (l : List ℕ). lost_text l noticed found) name_is
+      ∙ ap (λ (m : ℕ). lost_text (setup.name place) m found) noticed_is ∙ ap (lost_text (setup.name place) k) found_is
+
+  -- where the disk tells what it holds, the queue is the one that recovery read so
+  restart-loses : (setup : NodeSetup) (n : Node) (node : Held D) (name : List ℕ) (noticed found : ℕ) (told : Bool)
+      → tells (disk_in node.log) ≡ told → Stands tells past setup node n → IsLostOf setup n name noticed found
+      → (IsTrue (tells (disk_in node.log)) → IsLostIn setup n (lanes_in past node) name noticed found)
+      → EndsLost (Meets tells past faults before after) setup n (lost name noticed found)
+  restart-loses setup n node name noticed found true is st cause reads =
+      let so = reads is in
+      record {
+        status_is = refl;
+        lost = record {
+          place = so.place;
+          among = so.among;
+          lane = as_told (state_in so.lanes (queue_at setup so.place));
+          stopped = cause.stopped;
+          lost = so.lost;
+          text_is = lost-texts setup so.place _ _ name noticed found so.name_is so.noticed_is so.found_is;
+        };
+        found = record {
+          disk = disk_in node.log;
+          reads = λ tell. (
+            so.lanes,
+            sym (ap (λ (ids : List QueueId). lanes_read ids (shown (now (past (disk_in node.log))))) st.queues)
+                ∙ so.read_is,
+            refl,
+          );
+        };
+      }
+  restart-loses setup n node name noticed found false is st cause reads = record {
+    status_is = refl;
+    lost = record {
+      place = cause.place;
+      among = cause.among;
+      lane = cause.lane;
+      stopped = cause.stopped;
+      lost = cause.lost;
+      text_is = lost-texts setup cause.place _ _ name noticed found cause.name_is cause.noticed_is cause.found_is;
+    };
+    found = record { disk = disk_in node.log; reads = λ tell. absurd (false≢true (sym is ∙ tell)) };
+  }
+
   pub restart-stops : (setup : NodeSetup) (n : Node) (node : Held D) (fault : RestartFault)
       → Stands tells past setup node n → IsRestartCaused setup n fault
       → (IsTrue (tells (disk_in node.log)) → IsRefusedBy (lanes_in past node) fault)
+      → (IsTrue (tells (disk_in node.log)) → IsLostAsRead setup n (lanes_in past node) fault)
       → HasServeCause (Meets tells past faults before after) setup n Restart (restart_stop fault)
-  restart-stops setup n node (restart_fault.Damaged file place) st cause refused =
+  restart-stops setup n node (restart_fault.Damaged file place) st cause refused reads =
       inr (inl (
         AtPlace file.number place,
         record {
@@ -97,7 +149,7 @@ module _ {D : Type 0} (tells : D → Bool) (past : D → List Disk) (faults : D 
         },
         refl,
       ))
-  restart-stops setup n node (restart_fault.Version file byte) st cause refused =
+  restart-stops setup n node (restart_fault.Version file byte) st cause refused reads =
       inr (inl (
         OfVersion file.number byte,
         record {
@@ -109,22 +161,10 @@ module _ {D : Type 0} (tells : D → Bool) (past : D → List Disk) (faults : D 
         },
         refl,
       ))
-  restart-stops setup n node (restart_fault.Lost name noticed found) st cause refused =
-      inr (inr (record {
-        status_is = refl;
-        lost = record {
-          place = cause.place;
-          among = cause.among;
-          lane = cause.lane;
-          stopped = cause.stopped;
-          lost = cause.lost;
-          text_is = ap (λ (l : List ℕ). lost_text l noticed found) cause.name_is
-              ∙ ap (λ (k : ℕ). lost_text (setup.name cause.place) k found) cause.noticed_is
-              ∙ ap (lost_text (setup.name cause.place) (n.queue cause.place).server.noticed) cause.found_is;
-        };
-      }))
-  restart-stops setup n node (restart_fault.Memory Want) st cause refused = tt
-  restart-stops setup n node (restart_fault.Memory (Spent number)) st cause refused = inl (number, cause, refl)
+  restart-stops setup n node (restart_fault.Lost name noticed found) st cause refused reads =
+      inr (inr (restart-loses setup n node name noticed found (tells (disk_in node.log)) refl st cause reads))
+  restart-stops setup n node (restart_fault.Memory Want) st cause refused reads = tt
+  restart-stops setup n node (restart_fault.Memory (Spent number)) st cause refused reads = inl (number, cause, refl)
 
 -- ---- what was done
 

@@ -1,22 +1,25 @@
 -- A node of a run.
-use Rattle.std.specs.Prelude.{◌≡◌, ℕ, Bool, false, List, Option, Some, None, Err, IsTrue, Contains}
+use Rattle.std.specs.Prelude.{◌≡◌, ℕ, Bool, false, List, Option, Some, None, Ok, Err, IsTrue, Contains}
 use Rattle.qq_base.specs.Causes.{Rose}
 use Rattle.qq_base.specs.declared.ids.QueueId.{QueueId}
 use Rattle.qq_base.specs.declared.memory.Memory.TheVariants.{Want, Spent}
+use Rattle.qq_chain.specs.Lanes.{Lanes}
 use Rattle.qq_disk.specs.Disk.{Disk, now}
+use Rattle.qq_log.specs.Stable.{Stable}
 use Rattle.qq_world.specs.Node.{Setup, Node}
-use Rattle.qq_node_laws.specs.Reads.{queue_at, queues_of}
+use Rattle.qq_node_laws.specs.Reads.{queue_at, queues_of, state_in}
 use Rattle.qq_node.specs.declared.node.Node.{Node as Held}
 use Rattle.qq_node.specs.declared.opening.OpenFault.{OpenFault}
 use Rattle.qq_node.specs.declared.opening.OpenFault.TheVariants as open_fault
 use Rattle.qq_node.specs.declared.restarting.RestartFault.{RestartFault}
 use Rattle.qq_node.specs.declared.restarting.RestartFault.TheVariants as restart_fault
+use Rattle.qq_node.specs.Found.{as_told}
 use Rattle.qq_node.specs.Node.{Stands}
 use Rattle.qq_program.specs.declared.stop.AskStop.{AskStop}
 use Rattle.qq_program.specs.declared.stop.AskStop.TheVariants.{Ended, NoMemory}
 use Rattle.qq_program.specs.Endings.{Ending, yard_fault, damaged, other_version, lost, no_memory, spent}
 use Rattle.qq_program.specs.Serving.{IsSpentEnd}
-use Rattle.qq_program.specs.Troubles.{Damage, AtPlace, OfVersion, Trouble, YardFails, DiskFails, DiskIsSilent, FilesBreak}
+use Rattle.qq_program.specs.Troubles.{Damage, AtPlace, OfVersion, Trouble, YardFails, DiskFails, DiskIsSilent, FilesBreak, QueueIsFound}
 use Rattle.qq_recover.specs.declared.fault.RecoverFault.{RecoverFault}
 use Rattle.qq_recover.specs.declared.fault.RecoverFault.TheVariants as recover_fault
 use Rattle.qq_recover.specs.Reading.{lanes_read, shown}
@@ -65,11 +68,20 @@ pub record IsBroken {D : Type 0} (tells : D → Bool) (past : D → List Disk) (
   pub is : damage_of fault ≡ Some damage
   pub reads : IsTrue (tells disk) → lanes_read queues (shown (now (past disk))) ≡ Err fault
 
+-- what recovery reads of a queue in it
+pub record HoldsQueue {D : Type 0} (tells : D → Bool) (past : D → List Disk) (setup : Setup) (place : ℕ) (lane : Stable)
+    : Type 0 where
+  pub disk : D
+  pub reads : IsTrue (tells disk) → (lanes : Lanes)
+      × (lanes_read (queues_of setup) (shown (now (past disk))) ≡ Ok lanes)
+      × (lane ≡ as_told (state_in lanes (queue_at setup place)))
+
 abbrev pub Meets : {D : Type 0} → (D → Bool) → (D → List Disk) → (D → ℕ) → (before after : ℕ) → Trouble → Type 0
 Meets tells past faults before after YardFails = Rose before after
 Meets tells past faults before after DiskFails = HasFailed tells past faults
 Meets tells past faults before after DiskIsSilent = IsSilent tells
 Meets tells past faults before after (FilesBreak setup damage) = IsBroken tells past (queues_of setup) damage
+Meets tells past faults before after (QueueIsFound setup place lane) = HoldsQueue tells past setup place lane
 
 -- ---- how a run ends
 

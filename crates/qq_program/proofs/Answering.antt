@@ -14,7 +14,7 @@ use Rattle.qq_program.specs.Inputs.{Input}
 use Rattle.qq_program.specs.Serving.{Run, StopsAt, MayStop, EndsRun}
 use Rattle.qq_program.specs.Runs.{HasStopped, stop_of}
 use Rattle.qq_program.specs.Service.{IsReached, HasServed, HasServeCause}
-use Rattle.qq_program.specs.Troubles.{Trouble, YardFails, FilesBreak}
+use Rattle.qq_program.specs.Troubles.{Trouble, YardFails, FilesBreak, QueueIsFound}
 use Rattle.qq_program.specs.Answers.{Answers, HasAnswerCause}
 use Rattle.qq_program.proofs.Going.{after-both}
 use Rattle.qq_program.proofs.Ahead.{Going, going_ends, going_stops}
@@ -70,7 +70,12 @@ met_earlier met met' f s run input ending (inr stops) =
         → StopsAt met' (node_setup s.queues) run.node line ending
     at (Crash image) (rose, is) = (f YardFails rose, is)
     at Restart (inl damage) = inl (damage.0, f (FilesBreak (node_setup s.queues) damage.0) damage.1, damage.2)
-    at Restart (inr lost) = inr lost
+    at Restart (inr lost) =
+        inr (record {
+          status_is = lost.status_is;
+          lost = lost.lost;
+          found = f (QueueIsFound (node_setup s.queues) lost.lost.place lost.lost.lane) lost.found;
+        })
     at _ cause = absurd cause
 
     by : (line : Line) → MayStop met (node_setup s.queues) run.node line ending

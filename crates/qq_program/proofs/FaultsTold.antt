@@ -134,7 +134,7 @@ abbrev AtRestart : Streams → Setup → ℕ → Type 0
 AtRestart s setup place =
     (left : List Input) × ((b : Behind setup (inputs_of s.bytes) left) × ((lane : Stable)
     × (is_node_up (node_setup setup.queues) (run_behind b).node ≡ false)
-    × (MayTakeUp ((run_behind b).node.queue place).server lane → ⊥)
+    × (MayTakeUp ((run_behind b).node.queue place).server lane → ⊥) × Contains s.found (place, lane)
     × (s.new ≡ s.old ++ (text_behind b ++ (codes "lost node 1 " ++ (node_setup setup.queues).name place
     ++ codes " noticed " ++ decimal ((run_behind b).node.queue place).server.noticed ++ codes " found "
     ++ decimal lane.op ++ codes "\n")))))
@@ -169,7 +169,7 @@ lost-told options s ended = by ((is-fault 9 options s (told 9 options s ended)).
     by (LostAtOpening silent setup is_setup place among found (rest, grown)) =
         let text = lost-found ((node_setup setup.queues).name place) found in
         (setup, is_setup, (place, among, inl (found, silent, rest, grown ∙ ap (λ (l : List ℕ). s.old ++ l) text)))
-    by (LostAtRestart over text lost asks grown) = (
+    by (LostAtRestart over text lost found asks grown) = (
       over.setup,
       over.is_setup,
       (
@@ -183,6 +183,7 @@ lost-told options s ended = by ((is-fault 9 options s (told 9 options s ended)).
               lost.lane,
               lost.stopped,
               lost.lost,
+              found,
               grown ∙ ap (λ (l : List ℕ). s.old ++ (text_behind over.served.behind ++ l)) lost.text_is,
             ),
           ),
@@ -271,7 +272,7 @@ lost-unopened options s ended one bytes = by ((is-fault 9 options s (told 9 opti
         ∙ ap (λ (l : List ℕ). codes "lost node 1 " ++ l ++ codes " noticed 0 found " ++ decimal found ++ codes "\n") name
         ∙ first-lost found in
         (silent, rest, (found, grown ∙ ap (λ (l : List ℕ). s.old ++ l) text))
-    by (LostAtRestart over text lost asks grown) =
+    by (LostAtRestart over text lost found asks grown) =
         absurd (let e = asks-that options s one bytes over _ asks in cc)
 
 pub spent-unopened : (options : Options) (s : Streams) → HasEnded 20 options s → s.bytes ≡ []

@@ -130,7 +130,7 @@ stops_told n options s over input Restart ending next asks is grown (inl (damage
     (DamagedAtRestart over damage met (input, next, asks)
     (subst (Prints over) (ap (λ (e : Ending). e.text) e ∙ damage_says damage) grown))
 stops_told n options s over input Restart ending next asks is grown (inr lost) =
-    Lost (is ∙ lost.status_is) (LostAtRestart over ending.text lost.lost (input, next, asks) grown)
+    Lost (is ∙ lost.status_is) (LostAtRestart over ending.text lost.lost lost.found (input, next, asks) grown)
 stops_told n options s over input _ ending next asks is grown stops = absurd stops
 
 may_stop_told : (n : ℕ) (options : Options) (s : Streams) (over : Over options s) (input : Input) (line : Line)

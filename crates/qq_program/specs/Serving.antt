@@ -11,7 +11,7 @@ use Rattle.qq_program.specs.declared.status.TheConstants.{LOST}
 use Rattle.qq_program.specs.Endings.{Ending, yard_fault, spent}
 use Rattle.qq_program.specs.Inputs.{Input, inputs_of, EndsWith}
 use Rattle.qq_program.specs.Reading.{Asks, Ends, says, AskFor}
-use Rattle.qq_program.specs.Troubles.{Damage, Trouble, YardFails, FilesBreak, EndsDamaged}
+use Rattle.qq_program.specs.Troubles.{Damage, Trouble, YardFails, FilesBreak, QueueIsFound, EndsDamaged}
 
 -- a run between two lines: how many were served, and the node
 pub record Run : Type 0 where
@@ -30,15 +30,16 @@ pub record Serves (s : Setup) (run : Run) (input : Input) (said : List ℕ) (nex
   pub said_is : said ≡ text_of (node_setup s.queues) run.node events
 
 -- recovery finds of a queue what its server may not take up
-pub record EndsLost (setup : NodeSetup) (n : Node) (ending : Ending) : Type 0 where
+pub record EndsLost (met : Trouble → Type 0) (setup : NodeSetup) (n : Node) (ending : Ending) : Type 0 where
   pub status_is : ending.status ≡ LOST
   pub lost : IsLost setup n ending.text
+  pub found : met (QueueIsFound setup lost.place lost.lane)
 
 -- A call ends the run: at a crash the yard has failed, and a restart meets files that it can't go on from.
 abbrev pub StopsAt : (Trouble → Type 0) → NodeSetup → Node → Line → Ending → Type 0
 StopsAt met setup n (Crash image) ending = met YardFails × (ending ≡ yard_fault)
 StopsAt met setup n Restart ending =
-    EndsDamaged (λ (damage : Damage). met (FilesBreak setup damage)) ending ⊎ EndsLost setup n ending
+    EndsDamaged (λ (damage : Damage). met (FilesBreak setup damage)) ending ⊎ EndsLost met setup n ending
 StopsAt met setup n _ ending = ⊥
 
 -- a number stands at its end, or past it

@@ -6,6 +6,7 @@ use Rattle.qq_disk.specs.declared.image.Image.{Image}
 use Rattle.qq_defs.specs.declared.setup.Setup.{Setup}
 use Rattle.qq_lines.specs.declared.fault.ScriptFault.{ScriptFault}
 use Rattle.qq_lines.specs.declared.fault.ScriptFault.TheVariants.{Body}
+use Rattle.qq_log.specs.Stable.{Stable}
 use Rattle.qq_options.specs.declared.options.Options.{Options}
 use Rattle.qq_ports.specs.Lines.{HasNoFeed}
 use Rattle.qq_calls.specs.Queues.{node_setup}
@@ -17,11 +18,11 @@ use Rattle.qq_program.specs.Inputs.{Input, feed_count}
 use Rattle.qq_program.specs.Reading.{Asks, read_input, says}
 use Rattle.qq_program.specs.Serving.{Run, run_behind, text_behind, audits_behind, Served}
 use Rattle.qq_program.specs.Runs.{BreaksOff, HasStopped, ending_of, IsSetup, MayNotOpen, RunEnds}
-use Rattle.qq_program.specs.Troubles.{Damage, damage_text, Trouble, YardFails, DiskFails, DiskIsSilent, FilesBreak}
+use Rattle.qq_program.specs.Troubles.{Damage, damage_text, Trouble, YardFails, DiskFails, DiskIsSilent, FilesBreak, QueueIsFound}
 
 -- What the source had and has, what the sink had and has, and their counts of faults and the yard's before and after. Of
--- the node's disk: its count before and after the opening, whether it tells what it holds, and where its files were found
--- to break the rules.
+-- the node's disk: its count before and after the opening, whether it tells what it holds, where its files were found
+-- to break the rules, and what recovery found of which queue in them.
 pub record Streams : Type 0 where
   pub bytes : List ℕ
   pub rest : List ℕ
@@ -37,6 +38,7 @@ pub record Streams : Type 0 where
   pub disk_after : ℕ
   pub disk_tells : Bool
   pub damages : List Damage
+  pub found : List (ℕ × Stable)
 
 abbrev pub SourceRose : Streams → Type 0
 SourceRose s = Rose s.source_before s.source_after
@@ -55,6 +57,7 @@ Met s YardFails = YardRose s
 Met s DiskFails = DiskRose s
 Met s DiskIsSilent = s.disk_tells ≡ false
 Met s (FilesBreak setup damage) = Contains s.damages damage
+Met s (QueueIsFound setup place lane) = Contains s.found (place, lane)
 
 -- a script with these options has ended with this status
 abbrev pub HasEnded : ℕ → Options → Streams → Type 0
@@ -150,8 +153,8 @@ pub data HasLost (options : Options) (s : Streams) : Type 0 where
       → Contains (node_setup setup.queues).places place → (found : ℕ)
       → PrintsAlone s (lost_text ((node_setup setup.queues).name place) 0 found) → HasLost options s
   LostAtRestart : (over : Over options s) (text : List ℕ)
-      → IsLost (node_setup over.setup.queues) (run_over over).node text → NextAsks over Restart → Prints over text
-      → HasLost options s
+      (lost : IsLost (node_setup over.setup.queues) (run_over over).node text)
+      → Contains s.found (lost.place, lost.lane) → NextAsks over Restart → Prints over text → HasLost options s
 
 -- what is printed of a limit that a line passes: it is behind the 10,000,000th, or its body is too long
 abbrev pub PassesLimit : Setup → ℕ → Input → List ℕ → Type 0

@@ -1,5 +1,6 @@
 -- What may go wrong below a run: in its yard, in a disk of a node, and in what such a disk holds.
 use Rattle.std.specs.Prelude.{◌≡◌, ℕ, List}
+use Rattle.qq_log.specs.Stable.{Stable}
 use Rattle.qq_world.specs.Endings.{damaged_text, version_text}
 use Rattle.qq_world.specs.Node.{Setup}
 use Rattle.qq_program.specs.Endings.{Ending, damaged, other_version}
@@ -19,12 +20,14 @@ damage_ending (AtPlace file place) = damaged file place
 damage_ending (OfVersion file byte) = other_version file byte
 
 -- The yard's count of faults rose; that of a disk did, since a node was opened over it; a disk doesn't tell what it holds;
--- the files of a disk of a node with these queues break the rules of the log so.
+-- the files of a disk of a node with these queues break the rules of the log so; recovery finds this of the queue at a
+-- place in them.
 pub data Trouble : Type 0 where
   YardFails : Trouble
   DiskFails : Trouble
   DiskIsSilent : Trouble
   FilesBreak : Setup → Damage → Trouble
+  QueueIsFound : Setup → (place : ℕ) → Stable → Trouble
 
 -- a run ends so since it meets damage
 abbrev pub EndsDamaged : (Damage → Type 0) → Ending → Type 0

@@ -42,8 +42,8 @@ pub fn faults_are_told()
 ///
 /// - `opened`: a disk doesn't tell what it holds, nothing was read, and ops were found of a queue that begins
 ///   with none; or else
-/// - `restarted`: the node was down, and its server has noticed what is printed, and may not take up what was
-///   found: so many ops.
+/// - `restarted`: the node was down, and the queue's server has noticed what is printed, and may not take up what
+///   recovery found of this queue: so many ops.
 pub fn lost_queues_are_told()
     ensures { (options : Options) (s : Streams) → HasEnded 9 options s →
         (setup : Setup) × IsSetup options setup × ((place : ℕ)
@@ -54,6 +54,7 @@ pub fn lost_queues_are_told()
         ⊎ ((left : List Input) × ((b : Behind setup (inputs_of s.bytes) left) × ((lane : Stable)
         × (is_node_up (node_setup setup.queues) (run_behind b).node ≡ false)
         × (MayTakeUp ((run_behind b).node.queue place).server lane → ⊥)
+        × Contains s.found (place, lane)
         × (s.new ≡ s.old ++ (text_behind b ++ (codes "lost node 1 "
         ++ (node_setup setup.queues).name place ++ codes " noticed "
         ++ decimal ((run_behind b).node.queue place).server.noticed ++ codes " found "

@@ -11,3 +11,6 @@ returns-clause-silent g c = λ before after met. (met.disk, met.is)
 
 pub returns-clause-broken : goal.returns-clause-broken
 returns-clause-broken g c = λ before after setup damage met. (met.disk, (met.fault, met.is, met.reads))
+
+pub returns-clause-found : goal.returns-clause-found
+returns-clause-found g c = λ before after setup place lane met. (met.disk, met.reads)

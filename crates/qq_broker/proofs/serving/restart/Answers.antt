@@ -18,4 +18,5 @@ returns-clause-cause g c = λ setup n before after reached stands.
     let faults = g.D.NodeDisk.faults in
     subst (HasServeCause (Meets tells past faults before after) setup n Restart) (sym c.restart_stop.ensures)
     (restart-stops tells past faults before after setup n c.args.node c.in-Err.fault stands.0
-    (c.in-Err.ensures.cause setup n reached stands.0) (λ tell. c.in-Err.ensures.refused tell)))
+    (c.in-Err.ensures.cause setup n reached stands.0) (λ tell. c.in-Err.ensures.refused tell)
+    (λ tell. c.in-Err.ensures.lost setup n stands.0 tell)))
