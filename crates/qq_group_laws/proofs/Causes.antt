@@ -29,10 +29,6 @@ use Rattle.qq_group.specs.declared.group.Group.{Group}
 
 -- ---- out of memory, or a number
 
-pub want-or : (e : Memory) (end : ℕ) (P : Type 0) → SpentOnlyWhere e end P → (e ≡ Want) ⊎ ((e ≡ Spent end) × P)
-want-or Want end P cause = inl refl
-want-or (Spent number) end P cause = inr (ap Spent cause.0, cause.1)
-
 abbrev IsTold : Memory → Type 0
 IsTold e = (e ≡ Want) ⊎ (e ≡ Spent (2 ^ 63)) ⊎ (e ≡ Spent (2 ^ 32 - 1))
 

@@ -11,9 +11,8 @@ mod spent;
 pub use handing::an_op_that_was_given_back_is_next;
 pub use openings::{a_member_that_isnt_named_is_told, an_opened_group_stands_for_a_state};
 pub use refusals::{
-    a_command_is_refused_for_want_or_a_number_at_its_end, a_copy_is_refused_for_want_or_a_full_bag,
-    a_loss_is_never_refused, a_refusal_tells_want_or_an_end,
-    an_event_of_a_member_that_is_down_is_never_refused,
+    a_copy_is_refused_for_want_or_a_full_bag, a_loss_is_never_refused,
+    a_refusal_tells_want_or_an_end, an_event_of_a_member_that_is_down_is_never_refused,
 };
 pub use restarts::{
     a_log_that_is_found_restarts, a_lost_log_is_told_as_it_was_found,

@@ -1,5 +1,5 @@
 //! Laws of what is refused, and of what a refusal tells: the functions do nothing, and their contracts are the laws.
-ghost use Rattle.std.specs.Prelude.{◌≡◌, ◌⊎◌, ◌-◌, ◌^◌, ℕ, None, Some, length, true};
+ghost use Rattle.std.specs.Prelude.{◌≡◌, ◌⊎◌, ◌-◌, ◌^◌, ℕ, None, Some, length};
 ghost use Rattle.qq_base.specs.declared.ids.NodeId.{NodeId};
 ghost use Rattle.qq_base.specs.declared.memory.Memory.{Memory};
 ghost use Rattle.qq_base.specs.declared.memory.Memory.TheVariants.{Spent, Want};
@@ -7,10 +7,6 @@ ghost use Rattle.qq_entry.specs.declared.command.Command.{Command};
 ghost use Rattle.qq_raft_msg.specs.Bag.{at_place};
 ghost use Rattle.qq_raft_msg.specs.Rpc.{envelope};
 ghost use Rattle.qq_raft_msg.specs.declared.rpc.Rpc.{Rpc};
-ghost use Rattle.qq_raft_step.specs.Server.{is_ready};
-ghost use Rattle.qq_raft_step.specs.State.{Server as Raft};
-ghost use Rattle.qq_server.specs.Stands.{IsRefused};
-ghost use Rattle.qq_server.specs.declared.fault.SubmitFault.TheVariants.{Memory as OfMemory};
 ghost use Rattle.qq_group.specs.Group.{IsSound, server_at};
 ghost use Rattle.qq_group.specs.Steps.{IsEventCaused};
 ghost use Rattle.qq_group.specs.declared.event.Event.{Event};
@@ -63,12 +59,4 @@ pub fn a_refusal_tells_want_or_an_end<Q: Queue, L: LogView>()
         IsSound Q.stands L.log Q.applied old →
         IsEventCaused Q.stands Q.step Q.passes_end L.log event old e →
         (e ≡ Want) ⊎ (e ≡ Spent (2 ^ 63)) ⊎ (e ≡ Spent (2 ^ 32 - 1)) }
-{}
-
-/// A law: a server that refuses a command for another cause than that it doesn't lead is a ready leader: there was no
-/// memory, or its op, its term or its last index stands at the end of numbers, which is told.
-pub fn a_command_is_refused_for_want_or_a_number_at_its_end()
-    ensures { (s : Raft) (e : Memory) → IsRefused s (OfMemory e) → (is_ready s ≡ true)
-        × ((e ≡ Want) ⊎ ((e ≡ Spent (2 ^ 63))
-        × ((s.op ≡ 2 ^ 63) ⊎ (s.term.0 ≡ 2 ^ 63) ⊎ (length s.log ≡ 2 ^ 63)))) }
 {}
