@@ -1,9 +1,5 @@
-//! Tests of the consumers of a queue: each refusal, who is served next, copies, and what is undone.
+//! Tests of the consumers of a queue, as far as no audit reaches: copies, and what is taken back.
 #![tactic(auto)]
 
 #[cfg(test)]
-mod copies;
-#[cfg(test)]
-mod refusals;
-#[cfg(test)]
-mod undone;
+mod consumers;

@@ -6,7 +6,7 @@ use crate::users::Users;
 use anyhow::Result;
 use qq_base::{QueueId, Term};
 use qq_entry::{Entry, Overflow, QueueArgs, Strategy};
-use qq_pair::Pair;
+use qq_pair::{Made, Pair};
 use std::alloc::Global;
 
 /// How many entries a queue has.
@@ -44,36 +44,50 @@ fn draw_args(alloc: Global, random: &mut Random) -> QueueArgs {
     args
 }
 
-fn step(
+// What an entry came to is what the users know.
+fn check(alloc: Global, pair: &Pair, users: &Users, made: &Made, ready: u64) -> Result<()> {
+    check_purge(made, ready)?;
+    let (_, consumers) = pair.counts();
+    check_consumers(consumers, users)?;
+    check_deliveries(alloc, pair, made)
+}
+
+fn apply(
+    alloc: Global,
+    entry: &Entry,
+    pair: &mut Pair,
+    users: &mut Users,
+    seen: &mut Seen,
+) -> Result<()> {
+    let (ready, _) = pair.counts();
+    let made = pair.apply(alloc, entry)?;
+    seen.add(&made);
+    users.learn(&entry.command, &made)?;
+    check(alloc, pair, users, &made, ready)
+}
+
+fn run_entries(
     alloc: Global,
     random: &mut Random,
     pair: &mut Pair,
     users: &mut Users,
     seen: &mut Seen,
 ) -> Result<()> {
-    let entry = Entry {
-        term: Term(random.below(3)),
-        time: random.below(9),
-        command: draw_command(alloc, random, users)?,
-    };
-    let (ready, _) = pair.counts();
-    let made = pair.apply(alloc, &entry)?;
-    users.learn(&entry.command, &made)?;
-    seen.add(&made);
-    check_purge(&made, ready)?;
-    let (_, consumers) = pair.counts();
-    check_consumers(consumers, users)?;
-    check_deliveries(alloc, pair, &made)
+    for _ in 0..QUEUE_ENTRIES {
+        let entry = Entry {
+            term: Term(random.below(3)),
+            time: random.below(9),
+            command: draw_command(alloc, random, users)?,
+        };
+        apply(alloc, &entry, pair, users, seen)?;
+    }
+    Ok(())
 }
 
 fn run_queue(alloc: Global, random: &mut Random, seen: &mut Seen) -> Result<()> {
-    let args = draw_args(alloc, random);
-    let mut pair = Pair::new(alloc, args)?;
     let mut users = Users::new(alloc)?;
-    for _ in 0..QUEUE_ENTRIES {
-        step(alloc, random, &mut pair, &mut users, seen)?;
-    }
-    Ok(())
+    let mut pair = Pair::new(alloc, draw_args(alloc, random))?;
+    run_entries(alloc, random, &mut pair, &mut users, seen)
 }
 
 /// Runs so many random entries, in queues of random arguments.

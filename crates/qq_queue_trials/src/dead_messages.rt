@@ -1,6 +1,7 @@
 use qq_base::{Index, Term};
 use qq_dead::Dead;
 use qq_entry::{Message, ReadyRow, Reason};
+use std::process::Abort;
 use std::test::Fail;
 
 fn row(arrival: u64) -> ReadyRow {
@@ -15,12 +16,11 @@ fn row(arrival: u64) -> ReadyRow {
     }
 }
 
-// So many dead messages.
-fn dead(rt: &HostRuntime, count: u64) -> Result<Dead, Fail> {
+// Two dead messages.
+fn two(rt: &HostRuntime) -> Result<Dead, Fail> {
     let mut dead = Dead::new(rt.alloc());
-    for arrival in 0..count {
-        dead.add(row(arrival + 1), Reason::Rejected)?;
-    }
+    dead.add(row(1), Reason::Rejected)?;
+    dead.add(row(2), Reason::Rejected)?;
     Ok(dead)
 }
 
@@ -34,51 +34,23 @@ fn give(dead: &mut Dead) -> u64 {
     number
 }
 
-#[test]
-fn the_thirty_third_message_waits(rt: HostRuntime) -> Result<(), Fail> {
-    let mut dead = dead(&rt, 34)?;
-    assert_eq!(rt; give(&mut dead), 0);
+// What was not committed is taken back: of two dead messages the first was given to a worker.
+fn settle_and_undo(rt: &impl Abort, dead: &mut Dead) -> Result<(), Fail> {
     assert!(rt; dead.attach(Term(1)));
-    for number in 1..33 {
-        assert_eq!(rt; give(&mut dead), number);
-    }
-    assert_eq!(rt; give(&mut dead), 0);
-    assert!(rt; dead.settle(Term(1), 5)?.is_some());
-    assert_eq!(rt; give(&mut dead), 33);
-    assert_eq!(rt; give(&mut dead), 0);
-    assert_eq!(rt; dead.len(), 33);
-    Ok(())
-}
-
-#[test]
-fn only_what_the_worker_was_given_is_settled(rt: HostRuntime) -> Result<(), Fail> {
-    let mut dead = dead(&rt, 2)?;
-    assert!(rt; dead.attach(Term(2)));
-    assert_eq!(rt; give(&mut dead), 1);
-    assert!(rt; dead.settle(Term(1), 1)?.is_none());
-    assert!(rt; dead.settle(Term(2), 2)?.is_none());
-    let twin = dead.copy(rt.alloc())?;
-    assert!(rt; dead.settle(Term(2), 1)?.is_some());
-    assert!(rt; dead.settle(Term(2), 1)?.is_none());
-    assert_eq!(rt; twin.len(), 2);
-    assert!(rt; !dead.attach(Term(2)));
-    assert!(rt; dead.attach(Term(3)));
-    assert_eq!(rt; give(&mut dead), 2);
-    Ok(())
-}
-
-#[test]
-fn what_was_not_committed_is_taken_back(rt: HostRuntime) -> Result<(), Fail> {
-    let mut dead = dead(&rt, 2)?;
-    assert!(rt; dead.attach(Term(1)));
-    assert_eq!(rt; give(&mut dead), 1);
+    assert_eq!(rt; give(dead), 1);
     dead.commit();
     assert!(rt; dead.settle(Term(1), 1)?.is_some());
-    assert_eq!(rt; give(&mut dead), 2);
+    assert_eq!(rt; give(dead), 2);
     assert!(rt; dead.attach(Term(2)));
     dead.undo();
     assert_eq!(rt; dead.len(), 2);
     assert!(rt; dead.settle(Term(1), 2)?.is_none());
     assert!(rt; dead.settle(Term(1), 1)?.is_some());
     Ok(())
+}
+
+#[test]
+fn what_was_not_committed_is_taken_back(rt: HostRuntime) -> Result<(), Fail> {
+    let mut dead = two(&rt)?;
+    settle_and_undo(&rt, &mut dead)
 }

@@ -3,6 +3,7 @@ ghost use Rattle.std.specs.Prelude.{◌≡◌, IfOk};
 use qq_base::Index;
 use qq_entry::{Message, ReadyRow};
 use qq_ready::Ready;
+use std::process::Abort;
 use std::test::Fail;
 
 fn row(arrival: u64) -> ReadyRow {
@@ -36,19 +37,23 @@ fn four(rt: &HostRuntime) -> Result<Ready, Fail>
     Ok(ready)
 }
 
-#[test]
-fn what_was_returned_under_a_limit_comes_first(rt: HostRuntime) -> Result<(), Fail> {
-    let mut ready = four(&rt)?;
-    assert_eq!(rt; ready.count(), 4);
-    assert_eq!(rt; ready.bytes(), 40);
-    let twin = ready.copy(rt.alloc())?;
-    assert_eq!(rt; pop(&mut ready)?, 2);
-    assert_eq!(rt; pop(&mut ready)?, 4);
-    assert_eq!(rt; pop(&mut ready)?, 1);
-    assert_eq!(rt; pop(&mut ready)?, 3);
-    assert_eq!(rt; pop(&mut ready)?, 0);
-    assert_eq!(rt; ready.bytes(), 0);
-    assert_eq!(rt; twin.count(), 4);
+// One comes and one goes, and then all.
+fn change(rt: &impl Abort, ready: &mut Ready) -> Result<(), Fail>
+    requires { ready.old.queue.orders ≡ 2 }
+{
+    ready.push_new(row(5))?;
+    assert_eq!(rt; pop(ready)?, 2);
+    ready.clear()?;
+    assert_eq!(rt; ready.count(), 0);
+    Ok(())
+}
+
+// All four come in order.
+fn come_in_order(rt: &impl Abort, ready: &mut Ready) -> Result<(), Fail> {
+    assert_eq!(rt; (ready.count(), ready.bytes()), (4, 40));
+    for arrival in [2, 4, 1, 3] {
+        assert_eq!(rt; pop(ready)?, arrival);
+    }
     Ok(())
 }
 
@@ -56,16 +61,7 @@ fn what_was_returned_under_a_limit_comes_first(rt: HostRuntime) -> Result<(), Fa
 fn what_was_not_committed_is_taken_back(rt: HostRuntime) -> Result<(), Fail> {
     let mut ready = four(&rt)?;
     ready.commit();
-    ready.push_new(row(5))?;
-    assert_eq!(rt; pop(&mut ready)?, 2);
-    ready.clear()?;
-    assert_eq!(rt; ready.count(), 0);
+    change(&rt, &mut ready)?;
     ready.undo();
-    assert_eq!(rt; ready.count(), 4);
-    assert_eq!(rt; ready.bytes(), 40);
-    assert_eq!(rt; pop(&mut ready)?, 2);
-    assert_eq!(rt; pop(&mut ready)?, 4);
-    assert_eq!(rt; pop(&mut ready)?, 1);
-    assert_eq!(rt; pop(&mut ready)?, 3);
-    Ok(())
+    come_in_order(&rt, &mut ready)
 }

@@ -1,7 +1,6 @@
-//! Tests of Raft servers, of the messages between them with their bytes, and of the bag.
+//! Tests of the messages between Raft servers with their bytes, and of the bag. `examples/raft` has what servers
+//! come to.
 #![tactic(auto)]
 
-#[cfg(test)]
-mod elections;
 #[cfg(test)]
 mod messages;

@@ -156,16 +156,23 @@ fn append_with(alloc: Global, count: usize) -> Result<Vec<u8>, Fail> {
     Ok(bytes)
 }
 
+/// 64 entries are read, and written again.
+fn are_read(rt: &impl Abort, alloc: Global, bytes: &[u8]) -> Result<(), Fail> {
+    let (rpc, taken) = decode(alloc, bytes)?;
+    assert_eq!(rt; taken, 1447);
+    assert!(rt; matches!(&rpc, Rpc::Append(_)));
+    assert_eq!(rt; encode(alloc, &rpc)?.as_slice(), bytes);
+    Ok(())
+}
+
 #[test]
 fn as_many_entries_are_read_as_are_said(rt: HostRuntime) -> Result<(), Fail> {
     let alloc = rt.alloc();
-    let bytes = append_with(alloc, 64)?;
-    let (rpc, taken) = decode(alloc, bytes.as_slice())?;
-    assert_eq!(rt; taken, 1447);
-    assert!(rt; matches!(&rpc, Rpc::Append(_)));
-    assert_eq!(rt; encode(alloc, &rpc)?.as_slice(), bytes.as_slice());
-    refuses(&rt, alloc, &append_with(alloc, 63)?, Refusal::Short)?;
-    refuses(&rt, alloc, bytes.split_at(1446).0, Refusal::Short)
+    let mut bytes = append_with(alloc, 64)?;
+    are_read(&rt, alloc, &bytes)?;
+    bytes.pop();
+    refuses(&rt, alloc, &bytes, Refusal::Short)?;
+    refuses(&rt, alloc, &append_with(alloc, 63)?, Refusal::Short)
 }
 
 #[test]
@@ -200,14 +207,19 @@ fn an_entry_is_refused_as_its_own_decoder_does(rt: HostRuntime) -> Result<(), Fa
     refuses(&rt, alloc, &unknown, Refusal::BadKind)
 }
 
-#[test]
-fn a_bag_is_a_list_by_places(rt: HostRuntime) -> Result<(), Fail> {
-    let alloc = rt.alloc();
-    let mut bag = Bag::new(alloc);
+fn holds_three(rt: &impl Abort, alloc: Global, bag: &mut Bag) -> Result<(), Fail> {
     bag.put(Rpc::Vote(ASKED))?;
     bag.put(Rpc::Voted(GRANTED))?;
     bag.copy(alloc, 1)?;
     assert_eq!(rt; bag.len(), 3);
+    Ok(())
+}
+
+#[test]
+fn a_bag_is_a_list_by_places(rt: HostRuntime) -> Result<(), Fail> {
+    let alloc = rt.alloc();
+    let mut bag = Bag::new(alloc);
+    holds_three(&rt, alloc, &mut bag)?;
     assert!(rt; matches!(bag.deliver(4), Err(NoSuch)));
     assert!(rt; matches!(bag.deliver(2), Ok(Rpc::Voted(_))));
     assert!(rt; matches!(bag.get(2), Some(Rpc::Vote(_))));

@@ -127,16 +127,20 @@ impl Line {
     }
 }
 
+// So many steps, and then all that is open.
+fn run(alloc: Global, line: &mut Line, seed: u64) -> Result<(), Memory> {
+    let mut draws = Draws { state: seed };
+    for _ in 0..300 {
+        line.step(alloc, &mut draws)?;
+    }
+    line.settle(alloc)
+}
+
 #[test]
 fn over_losses_and_repeats_each_command_acts_once(rt: HostRuntime) -> Result<(), Fail> {
-    let alloc = rt.alloc();
     for seed in 1u64..4 {
-        let mut draws = Draws { state: seed };
-        let mut line = Line::new(alloc);
-        for _ in 0..300 {
-            line.step(alloc, &mut draws)?;
-        }
-        line.settle(alloc)?;
+        let mut line = Line::new(rt.alloc());
+        run(rt.alloc(), &mut line, seed)?;
         let handed = line.client.next().saturating_sub(1);
         assert!(rt; handed > 50);
         assert_eq!(rt; (line.carried, line.closed), (handed, handed));

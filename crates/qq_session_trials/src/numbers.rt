@@ -1,6 +1,7 @@
 use crate::wire::{done_of, new_client, seq_of};
 use qq_entry::{Answer, Full};
-use qq_session::{HandFault, Publishing, Unstamped};
+use qq_session::{Publishing, Unstamped};
+use std::process::Abort;
 use std::test::Fail;
 
 // A client with so many open numbers.
@@ -11,35 +12,6 @@ fn with_open(rt: &HostRuntime, count: u64) -> Result<Publishing, Fail> {
         client.hand(alloc, Unstamped::Get)?;
     }
     Ok(client)
-}
-
-// The number and the low mark of each command that is sent again.
-fn sent_again(rt: &HostRuntime, client: &Publishing) -> Result<Vec<(u64, u64)>, Fail> {
-    let mut stamps = Vec::new(rt.alloc());
-    for command in &client.resend(rt.alloc())? {
-        stamps.push((seq_of(command), done_of(command)))?;
-    }
-    Ok(stamps)
-}
-
-#[test]
-fn a_257th_number_is_refused_until_one_is_answered(rt: HostRuntime) -> Result<(), Fail> {
-    let alloc = rt.alloc();
-    let mut client = with_open(&rt, 256)?;
-    assert_eq!(rt; (client.open_count(), client.next()), (256, 257));
-    let refused = client.hand(alloc, Unstamped::Get);
-    assert!(rt; matches!(refused, Err(HandFault::WindowFull)));
-    assert_eq!(rt; (client.open_count(), client.next()), (256, 257));
-    assert!(rt; client.answer(9, &Answer::Empty));
-    let command = client.hand(alloc, Unstamped::Get)?;
-    assert_eq!(rt; (seq_of(&command), done_of(&command)), (257, 0));
-    assert!(rt;
-        matches!(
-            client.hand(alloc, Unstamped::Get),
-            Err(HandFault::WindowFull)
-        )
-    );
-    Ok(())
 }
 
 #[test]
@@ -57,18 +29,34 @@ fn only_the_first_answer_that_closes_a_number_counts(rt: HostRuntime) -> Result<
     Ok(())
 }
 
-#[test]
-fn what_is_open_is_sent_again_with_its_old_stamps(rt: HostRuntime) -> Result<(), Fail> {
-    let alloc = rt.alloc();
-    let mut client = with_open(&rt, 3)?;
+// What is sent again has these numbers and low marks.
+fn sends_again(
+    rt: &(impl Abort + AllocGlobal),
+    client: &Publishing,
+    wanted: &[(u64, u64)],
+) -> Result<(), Fail> {
+    let mut stamps = Vec::new(rt.alloc());
+    for command in &client.resend(rt.alloc())? {
+        stamps.push((seq_of(command), done_of(command)))?;
+    }
+    assert_eq!(rt; stamps.as_slice(), wanted);
+    Ok(())
+}
+
+// Of numbers 1 to 4 the second and the fourth stay open for a while.
+fn answer_some(rt: &(impl Abort + AllocGlobal), client: &mut Publishing) -> Result<(), Fail> {
     assert!(rt; client.answer(1, &Answer::Empty));
-    client.hand(alloc, Unstamped::Purge)?;
+    client.hand(rt.alloc(), Unstamped::Purge)?;
     assert!(rt; client.answer(3, &Answer::Empty));
-    let wanted = [(2, 0), (4, 1)];
-    assert_eq!(rt; sent_again(&rt, &client)?.as_slice(), wanted.as_slice());
-    assert_eq!(rt; sent_again(&rt, &client)?.as_slice(), wanted.as_slice());
+    sends_again(rt, client, &[(2, 0), (4, 1)])?;
+    sends_again(rt, client, &[(2, 0), (4, 1)])?;
     assert!(rt; client.answer(2, &Answer::Empty));
     assert!(rt; client.answer(4, &Answer::Purged { count: 0 }));
-    assert!(rt; sent_again(&rt, &client)?.is_empty());
-    Ok(())
+    sends_again(rt, client, &[])
+}
+
+#[test]
+fn what_is_open_is_sent_again_with_its_old_stamps(rt: HostRuntime) -> Result<(), Fail> {
+    let mut client = with_open(&rt, 3)?;
+    answer_some(&rt, &mut client)
 }

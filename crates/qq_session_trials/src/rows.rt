@@ -1,40 +1,16 @@
-use qq_base::{Index, SessionId};
+use qq_base::{Index, Memory, SessionId};
 use qq_entry::{Answer, Delivery, Message, Stamp};
-use qq_model::{Gate, Worker};
-use qq_sessions::{SessionRow, Sessions};
+use qq_model::Gate;
+use qq_sessions::Sessions;
 use std::alloc::Global;
-use std::collections::VecDeque;
+use std::process::Abort;
 use std::test::Fail;
 
-const FIVE: SessionId = SessionId {
-    class: 1,
-    owner: 0,
-    number: 5,
-};
-
-const THREE: SessionId = SessionId {
-    class: 1,
-    owner: 0,
-    number: 3,
-};
-
-fn first_stamp(number: u64) -> Stamp {
+fn stamp(number: u64, seq: u64, done: u64) -> Stamp {
     Stamp {
-        session: SessionId {
-            class: 1,
-            owner: 0,
-            number,
-        },
-        seq: 1,
-        done: 0,
-    }
-}
-
-// The number and the greatest tag of the session at a place.
-fn session_at(sessions: &Sessions, place: usize) -> Option<(u64, u32)> {
-    match sessions.row_at(place) {
-        Some(row) => Some((row.session.number, row.tag)),
-        None => None,
+        session: SessionId::client(number),
+        seq,
+        done,
     }
 }
 
@@ -51,116 +27,57 @@ fn got(index: u64) -> Answer {
     })
 }
 
-// Carries out the first command of a session.
-fn answer_first(
+// The first command of a session is carried out: it gets a message.
+fn get_first(
     alloc: Global,
     sessions: &mut Sessions,
     number: u64,
-    answer: Answer,
-) -> Result<(), Fail> {
-    let first = first_stamp(number);
+    index: u64,
+) -> Result<(), Memory> {
+    let first = stamp(number, 1, 0);
     sessions.reserve(alloc, first.session)?;
     sessions.admit(&first);
-    sessions.keep(&first, answer);
+    sessions.keep(&first, got(index));
     Ok(())
 }
 
-fn publish(alloc: Global, sessions: &mut Sessions, number: u64) -> Result<(), Fail> {
-    answer_first(alloc, sessions, number, Answer::Confirmed)
-}
-
 #[test]
-fn what_sessions_are_made_of_is_read_by_place(rt: HostRuntime) -> Result<(), Fail> {
+fn a_queue_sees_a_million_sessions(rt: HostRuntime) -> Result<(), Fail> {
     let alloc = rt.alloc();
-    let mut kept = VecDeque::new(alloc);
-    kept.push_back(got(9))?;
-    kept.push_back(Answer::Confirmed)?;
-    kept.push_back(got(4))?;
-    let first = SessionRow {
-        session: FIVE,
-        next: 4,
-        mark: 0,
-        kept,
-        tag: 2,
-    };
-    let second = SessionRow {
-        session: THREE,
-        next: 1,
-        mark: 0,
-        kept: VecDeque::new(alloc),
-        tag: 0,
-    };
-    let rows = Vec::from_array(alloc, [first, second])?;
-    let ended = Vec::from_array(alloc, [2, 7])?;
-    let worker = Worker {
-        owner: 6,
-        number: 11,
-    };
-    let workers = Vec::from_array(alloc, [worker])?;
-    let sessions = Sessions::from_parts(alloc, rows, ended, workers, 8)?;
-    assert_eq!(rt; session_at(&sessions, 0), Some((5, 2)));
-    assert_eq!(rt; session_at(&sessions, 1), Some((3, 0)));
-    assert_eq!(rt; session_at(&sessions, 2), None);
-    assert_eq!(rt;
-        (sessions.ended_at(1), sessions.ended_at(2)),
-        (Some(7), None)
-    );
-    assert_eq!(rt;
-        (sessions.worker_at(0), sessions.worker_at(1)),
-        (Some(worker), None)
-    );
-    assert_eq!(rt; sessions.seen(), 8);
-    assert_eq!(rt; sessions.kept_low(), Some(Index(4)));
+    let nobody = Vec::new(alloc);
+    let full = Sessions::from_parts(alloc, nobody, Vec::new(alloc), Vec::new(alloc), 1_000_000)?;
+    assert!(rt; matches!(full.check(alloc, &stamp(1, 1, 0))?, Gate::SessionsFull));
     Ok(())
 }
 
-#[test]
-fn sessions_without_a_kept_message_have_no_least_one(rt: HostRuntime) -> Result<(), Fail> {
-    let mut sessions = Sessions::new(rt.alloc());
-    assert_eq!(rt; sessions.kept_low(), None);
-    publish(rt.alloc(), &mut sessions, 1)?;
-    assert_eq!(rt; sessions.kept_low(), None);
-    assert_eq!(rt; sessions.seen(), 1);
+// The messages of the entries 9, 4 and 4 are kept.
+fn three_get(alloc: Global, sessions: &mut Sessions) -> Result<(), Memory> {
+    get_first(alloc, sessions, 1, 9)?;
+    get_first(alloc, sessions, 2, 4)?;
+    get_first(alloc, sessions, 3, 4)
+}
+
+// The second session ends, and the third has its answer.
+fn two_are_done(rt: &(impl Abort + AllocGlobal), sessions: &mut Sessions) -> Result<(), Memory> {
+    assert_eq!(rt; sessions.kept_low(), Some(Index(4)));
+    let second = SessionId::client(2);
+    sessions.reserve(rt.alloc(), second)?;
+    sessions.end(second);
+    assert_eq!(rt;
+        (sessions.ended_at(0), sessions.ended_at(1)),
+        (Some(2), None)
+    );
+    assert_eq!(rt; sessions.kept_low(), Some(Index(4)));
+    sessions.advance(&stamp(3, 2, 1));
     Ok(())
 }
 
 #[test]
 fn an_answer_holds_its_message_until_it_is_forgotten(rt: HostRuntime) -> Result<(), Fail> {
-    let alloc = rt.alloc();
-    let mut sessions = Sessions::new(alloc);
-    answer_first(alloc, &mut sessions, 1, got(9))?;
-    answer_first(alloc, &mut sessions, 2, got(4))?;
-    answer_first(alloc, &mut sessions, 3, got(4))?;
-    assert_eq!(rt; sessions.kept_low(), Some(Index(4)));
-    let second = first_stamp(2).session;
-    sessions.reserve(alloc, second)?;
-    sessions.end(second);
-    assert_eq!(rt; sessions.kept_low(), Some(Index(4)));
-    let done = Stamp {
-        session: THREE,
-        seq: 2,
-        done: 1,
-    };
-    sessions.advance(&done);
+    let mut sessions = Sessions::new(rt.alloc());
+    three_get(rt.alloc(), &mut sessions)?;
+    two_are_done(&rt, &mut sessions)?;
     assert_eq!(rt; sessions.kept_low(), Some(Index(9)));
-    assert_eq!(rt; sessions.copy(alloc)?.kept_low(), Some(Index(9)));
-    Ok(())
-}
-
-#[test]
-fn of_4096_open_sessions_one_has_to_end_first(rt: HostRuntime) -> Result<(), Fail> {
-    let alloc = rt.alloc();
-    let mut sessions = Sessions::new(alloc);
-    for number in 1u64..4_097 {
-        publish(alloc, &mut sessions, number)?;
-    }
-    let full = sessions.check(alloc, &first_stamp(4_097))?;
-    assert!(rt; matches!(full, Gate::SessionsFull));
-    let open = first_stamp(100).session;
-    sessions.reserve(alloc, open)?;
-    sessions.end(open);
-    let fresh = sessions.check(alloc, &first_stamp(4_097))?;
-    assert!(rt; matches!(fresh, Gate::Fresh));
-    assert_eq!(rt; sessions.ended_at(0), Some(100));
+    assert_eq!(rt; sessions.copy(rt.alloc())?.kept_low(), Some(Index(9)));
     Ok(())
 }
