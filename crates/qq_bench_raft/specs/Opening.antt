@@ -1,5 +1,5 @@
 -- What a group over the disks of its members starts with.
-use Rattle.std.specs.Prelude.{◌≡◌, ℕ, List}
+use Rattle.std.specs.Prelude.{◌≡◌, List}
 use Rattle.qq_base.specs.declared.ids.NodeId.{NodeId}
 use Rattle.qq_log.specs.Log.{LogState}
 use Rattle.qq_group.specs.Group.{IsSound as IsSoundGroup}

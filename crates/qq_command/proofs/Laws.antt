@@ -94,7 +94,7 @@ checked-reads {A} {read} {write} {F} passes r = record {
 
 -- ---- numbers
 
-AreBytes-drop : (n : ℕ) (bytes : List ℕ) → AreBytes bytes → AreBytes (drop n bytes)
+pub AreBytes-drop : (n : ℕ) (bytes : List ℕ) → AreBytes bytes → AreBytes (drop n bytes)
 AreBytes-drop n bytes h i = rw get_or-drop (h (n + i))
 
 -- a number of so many bytes

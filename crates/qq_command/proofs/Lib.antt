@@ -1,5 +1,5 @@
-mod Loop
-mod Laws
+pub mod Loop
+pub mod Laws
 mod FieldLaws
 mod CommandLaws
 mod ShortEncodings

@@ -7,7 +7,6 @@ use Rattle.qq_base.specs.declared.ids.SessionId.{SessionId}
 use Rattle.qq_base.specs.declared.ids.ConsumerId.{ConsumerId}
 use Rattle.qq_entry.specs.Command.{consumer_id}
 use Rattle.qq_entry.specs.declared.message.Message.{Message}
-use Rattle.qq_entry.specs.declared.message.Reason.{Reason}
 use Rattle.qq_entry.specs.declared.message.Reason.TheVariants as reason
 use Rattle.qq_entry.specs.declared.command.Command.{Command}
 use Rattle.qq_entry.specs.declared.command.Command.TheVariants.{Noop, Enqueue, Get, Subscribe, Cancel, Credit, Settle, Return, Discard, Purge, Down, DeadAttach, DeadSettle}

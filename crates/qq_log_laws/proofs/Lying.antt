@@ -1,9 +1,7 @@
 -- Where entries lie behind a batch, and behind a new file.
-use Rattle.std.proofs.Common.{◌≡◌, ◌||◌, ℕ, Bool, true, false, cond, eqb, List, [], ◌∷◌, ◌++◌, length, take, replicate, Option, Some, None, refl, sym, ap, subst, ◌∙◌, inl, inr, ◌⊎◌, append-nil, arith}
+use Rattle.std.proofs.Common.{◌≡◌, ℕ, Bool, true, false, cond, eqb, List, [], ◌∷◌, ◌++◌, length, take, replicate, Option, Some, None, refl, sym, ap, subst, ◌∙◌, inl, inr, ◌⊎◌, append-nil}
 use Rattle.std.specs.List.{fold}
-use Rattle.std.specs.Ordering.{nat_cmp, is_eq}
-use Rattle.std.proofs.lemmas.Bool.{cases_eq, eq-eqb, eqb-true, ne_eqb}
-use Rattle.std.proofs.lemmas.Bool.Decides.{nat_tests}
+use Rattle.std.proofs.lemmas.Bool.{cases_eq, eq-eqb, eqb-true}
 use Rattle.qq_base.specs.declared.ids.QueueId.{QueueId}
 use Rattle.qq_log.specs.declared.head.Span.{Span}
 use Rattle.qq_log.specs.declared.op.Op.{Op}
@@ -13,32 +11,11 @@ use Rattle.qq_chain.specs.Lanes.{is_listed, of_queue}
 use Rattle.qq_chain.specs.Laws.{op_records}
 use Rattle.qq_wal.specs.declared.ranges.QueueRanges.{QueueRanges}
 use Rattle.qq_wal.specs.Entries.{LieAs}
-use Rattle.qq_wal.specs.Ranges.{AllRanges, as_indices, begin_file, begin_files, begin_queue, change_by, in_file, in_file_by, no_queues, places_of, put_ranges, write, write_op, write_record}
+use Rattle.qq_wal.specs.Ranges.{AllRanges, as_indices, begin_file, begin_files, begin_queue, change_by, in_file, in_file_by, no_queues, places_of, write, write_op, write_record}
 use Rattle.qq_wal.specs.Spans.{find_file, spans_to}
 use Rattle.qq_wal.proofs.Lying.{lie-written}
+use Rattle.qq_recover.proofs.Reread.{begun-ranges, change-away, change-here}
 use Rattle.qq_log_laws.specs.Batches.{AllKeepWithin, files_after}
-
--- ---- ranges by queue
-
-same-number : (n m : ℕ) → is_eq (nat_cmp n m) ≡ eqb n m
-same-number n m = grind (arith, nat_tests)
-
-put-here : (all : AllRanges) (id : ℕ) (q : QueueRanges) → put_ranges all id q id ≡ Some q
-put-here all id q =
-    ap (λ (t : Bool). cond t (Some q) (all id)) (same-number id id ∙ eq-eqb id id refl)
-
-put-away : (all : AllRanges) (own id : ℕ) (q : QueueRanges) → (own ≡ id → ⊥) → put_ranges all own q id ≡ all id
-put-away all own id q apart =
-    ap (λ (t : Bool). cond t (Some q) (all id)) (same-number own id ∙ ne_eqb own id apart)
-
-change-here : (f : QueueRanges → QueueRanges) (all : AllRanges) (id : ℕ) (o : Option QueueRanges) (q : QueueRanges)
-    → o ≡ Some q → change_by f all id o id ≡ Some (f q)
-change-here f all id o q is = ap (λ (o : Option QueueRanges). change_by f all id o id) is ∙ put-here all id (f q)
-
-change-away : (f : QueueRanges → QueueRanges) (all : AllRanges) (own id : ℕ) (o : Option QueueRanges)
-    → (own ≡ id → ⊥) → change_by f all own o id ≡ all id
-change-away f all own id None apart = refl
-change-away f all own id (Some q) apart = put-away all own id (f q) apart
 
 -- ---- a batch
 
@@ -102,30 +79,6 @@ all-spans [] = refl
 all-spans (s ∷ spans) = ap (λ (l : List Span). s ∷ l) (all-spans spans)
 
 module _ (file : ℕ) (old : AllRanges) (id : QueueId) where
-  begun-some : (q : QueueRanges) → old id.0 ≡ Some q → (queues : List QueueId) (new : AllRanges)
-      → (is_listed queues id ≡ true) ⊎ (new id.0 ≡ Some (begin_file file q))
-      → fold (begin_queue file old) new queues id.0 ≡ Some (begin_file file q)
-  begun-some q is [] new (inl listed) = absurd cc
-  begun-some q is [] new (inr has) = has
-  begun-some q is (other ∷ queues) new which =
-      by (cases_eq other.0 id.0) which (begun-some q is queues)
-    where
-      more : AllRanges
-      more = begin_queue file old new other
-
-      by : (other.0 ≡ id.0) ⊎ (other.0 ≡ id.0 → ⊥)
-          → (is_listed (other ∷ queues) id ≡ true) ⊎ (new id.0 ≡ Some (begin_file file q))
-          → ((l : AllRanges) → (is_listed queues id ≡ true) ⊎ (l id.0 ≡ Some (begin_file file q))
-          → fold (begin_queue file old) l queues id.0 ≡ Some (begin_file file q))
-          → fold (begin_queue file old) more queues id.0 ≡ Some (begin_file file q)
-      by (inl here) which later =
-          later more (inr (subst (λ (i : ℕ). change_by (begin_file file) new i (old i) id.0 ≡ Some (begin_file file q))
-          (sym here) (change-here (begin_file file) new id.0 (old id.0) q is)))
-      by (inr apart) (inl listed) later =
-          later more (inl (sym (ap (λ (t : Bool). t || is_listed queues id) (ne_eqb other.0 id.0 apart)) ∙ listed))
-      by (inr apart) (inr has) later =
-          later more (inr (change-away (begin_file file) new other.0 id.0 (old other.0) apart ∙ has))
-
   begun-none : old id.0 ≡ None → (queues : List QueueId) (new : AllRanges) → new id.0 ≡ None
       → fold (begin_queue file old) new queues id.0 ≡ None
   begun-none is [] new none = none
@@ -150,6 +103,6 @@ module _ (file : ℕ) (old : AllRanges) (id : QueueId) where
           → in_file_by n (begin_files file queues old id.0) ≡ in_file_by n o
       by None e = ap (in_file_by n) (begun-none e queues no_queues refl)
       by (Some q) e =
-          ap (in_file_by n) (begun-some q e queues no_queues (inl listed))
+          ap (in_file_by n) (begun-ranges queues file old id q e no_queues (inl listed))
           ∙ ap (λ (l : List Span). as_indices (find_file n l))
           (append-nil (spans_to None (places_of q)) ∙ all-spans (places_of q))

@@ -1,6 +1,6 @@
 -- Fields and their encodings.
-use Rattle.std.proofs.Common.{◌≡◌, ℕ, zero, suc, ◌^◌, ◌<◌, ◌≤◌, Bool, true, false, cond, ltb, List, ◌++◌, length, drop, Result, Ok, Err, refl, sym, ap, subst, ◌∙◌, arith, lit<}
-use Rattle.std.specs.Prelude.{All, nat_lt, nat_le, ◌==◌, ◌&&◌}
+use Rattle.std.proofs.Common.{◌≡◌, ℕ, zero, suc, ◌^◌, ◌<◌, ◌≤◌, Bool, true, false, List, ◌++◌, length, drop, Result, Ok, Err, refl, sym, ap, subst, ◌∙◌, arith, lit<}
+use Rattle.std.specs.Prelude.{All, nat_lt, ◌==◌}
 use Rattle.std.specs.List.{flat_map}
 use Rattle.std.specs.Int.{w8, w32, w64}
 use Rattle.std.proofs.lemmas.Bool.{ltb-true}
@@ -14,13 +14,13 @@ use Rattle.qq_entry.specs.Range.{IsWritable as IsEntry}
 use Rattle.qq_command.specs.declared.refusal.Refusal.{Refusal}
 use Rattle.qq_command.specs.declared.refusal.Refusal.TheVariants.{BadKind}
 use Rattle.qq_command.specs.Encoding.{u8, u32, u64, flag, encoding}
-use Rattle.qq_command.specs.Reading.{◌>>=◌, Field, checked, many, entry_at, IsEntryPrefix}
+use Rattle.qq_command.specs.Reading.{◌>>=◌, checked, many, entry_at, IsEntryPrefix}
 use Rattle.qq_log.specs.declared.limits.TheConstants.{NODE_LIMIT}
-use Rattle.qq_raft_msg.specs.declared.envelope.Envelope.{Envelope}
 use Rattle.qq_raft_msg.specs.Encoding.{way, entries, shadow}
 use Rattle.qq_raft_msg.specs.Reading.{number_at, bytes_at, is_kind, kind_at, is_node, node_at, flag_at, envelope_at, entry_field_at, entries_at, shadow_at}
 use Rattle.qq_raft_msg.specs.Rpc.{IsNode, IsEnvelope}
-use Rattle.qq_raft_msg.proofs.Steps.{Takes, Takes-then, Holds, Holds-map, Reads, here, then_ok, where_true, in_turn, checked-reads, AreBytes-drop, u8-reads, u32-reads, u64-reads, bytes-takes, bytes-again, many-takes, many-again}
+use Rattle.qq_command.proofs.Laws.{Takes, Takes-then, Holds, Holds-map, Reads, here, then_ok, where_true, in_turn, checked-reads, AreBytes-drop, many-takes, many-again}
+use Rattle.qq_raft_msg.proofs.Steps.{u8-reads, u32-reads, u64-reads, bytes-takes, bytes-again}
 
 -- ---- kinds, nodes and flags
 

@@ -1,5 +1,4 @@
 mod Appends
 mod FieldLaws
-mod Loop
 mod RpcLaws
 mod Steps

@@ -13,7 +13,8 @@ use Rattle.qq_raft_msg.specs.declared.rpc.Rpc.TheVariants.{Vote, Voted, Append, 
 use Rattle.qq_raft_msg.specs.Encoding.{way, entries, shadow, fields, encoding}
 use Rattle.qq_raft_msg.specs.Reading.{number_at, is_kind, kind_at, flag_at, envelope_at, entries_at, shadow_at, vote_at, voted_at, append_at, appended_at, install_at, installed_at, fields_at, rpc_at, message_at, IsRpcPrefix}
 use Rattle.qq_raft_msg.specs.Rpc.{kind, envelope, IsEnvelope, HasFields, IsWritable}
-use Rattle.qq_raft_msg.proofs.Steps.{Takes, Takes-then, Holds, Holds-map, Reads, here, known, then_ok, in_turn, u64-reads}
+use Rattle.qq_command.proofs.Laws.{Takes, Takes-then, Holds, Holds-map, Reads, here, known, then_ok, in_turn}
+use Rattle.qq_raft_msg.proofs.Steps.{u64-reads}
 use Rattle.qq_raft_msg.proofs.FieldLaws.{EntryLaws, kind_takes, kind_again, flag-reads, envelope-reads, entries-reads, shadow-reads}
 
 -- ---- what follows an envelope

@@ -1,5 +1,5 @@
 -- A bag of messages, whose places are counted from 1.
-use Rattle.std.specs.Prelude.{◌≡◌, ℕ, zero, suc, List, length, Option, Some, None, slice_get, IsSome}
+use Rattle.std.specs.Prelude.{◌≡◌, ℕ, zero, suc, List, length, Option, None, slice_get, IsSome}
 use Rattle.std.specs.List.{remove}
 use Rattle.qq_base.specs.Causes.{SpentOnlyWhere}
 use Rattle.qq_raft_msg.specs.declared.bag.TheConstants.{BAG_LIMIT}

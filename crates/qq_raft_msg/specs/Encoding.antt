@@ -1,5 +1,5 @@
 -- The one encoding of each message. Numbers have their high byte first.
-use Rattle.std.specs.Prelude.{ℕ, List, [], ◌++◌, length}
+use Rattle.std.specs.Prelude.{ℕ, List, ◌++◌, length}
 use Rattle.std.specs.List.{flat_map}
 use Rattle.qq_entry.specs.declared.command.Entry.{Entry}
 use Rattle.qq_command.specs.Encoding.{u8, u32, u64, flag, encoding as entry}

@@ -6,7 +6,7 @@ use Rattle.qq_base.specs.Fields as fields
 use Rattle.qq_base.specs.declared.ids.NodeId.{NodeId}
 use Rattle.qq_entry.specs.declared.command.Entry.{Entry}
 use Rattle.qq_command.specs.declared.refusal.Refusal.{Refusal}
-use Rattle.qq_command.specs.declared.refusal.Refusal.TheVariants.{Short, BadKind, BadField}
+use Rattle.qq_command.specs.declared.refusal.Refusal.TheVariants.{Short, BadKind}
 use Rattle.qq_command.specs.Reading.{◌>>=◌, Field, checked, many, entry_at}
 use Rattle.qq_log.specs.declared.limits.TheConstants.{NODE_LIMIT}
 use Rattle.qq_raft_msg.specs.declared.envelope.Envelope.{Envelope}

@@ -1,5 +1,5 @@
 -- The parts of a message, and which messages have bytes.
-use Rattle.std.specs.Prelude.{◌≡◌, ◌<◌, ◌≤◌, ◌^◌, ℕ, length, All, ⊤}
+use Rattle.std.specs.Prelude.{◌<◌, ◌≤◌, ◌^◌, ℕ, length, All, ⊤}
 use Rattle.qq_base.specs.declared.ids.NodeId.{NodeId}
 use Rattle.qq_entry.specs.Range.{IsWritable as IsEntry}
 use Rattle.qq_log.specs.declared.limits.TheConstants.{NODE_LIMIT}

@@ -53,7 +53,8 @@ pub trait Queue: Drop + Sized {
             SpentOnlyWhere e NUMBER_END (passes_end plain index entry.now)) };
 
     /// The least index that is still needed: of a message that isn't gone, or of one that a kept answer
-    /// names. One past the last applied where there is none.
+    /// names. One past the last applied where there is none; an index is at most 2^64 - 1, so behind that one
+    /// it is the answer.
     fn low(&self) -> Index
         ensures { (plain : Self.Plain) → stands plain self.now → result.0 ≡ least plain };
 }

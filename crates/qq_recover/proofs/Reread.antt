@@ -75,11 +75,11 @@ put-away : (all : AllRanges) (own id : ℕ) (q : QueueRanges) → (own ≡ id �
 put-away all own id q apart =
     ap (λ (t : Bool). cond t (Some q) (all id)) (same_number own id ∙ ne_eqb own id apart)
 
-change-here : (f : QueueRanges → QueueRanges) (all : AllRanges) (id : ℕ) (o : Option QueueRanges) (q : QueueRanges)
+pub change-here : (f : QueueRanges → QueueRanges) (all : AllRanges) (id : ℕ) (o : Option QueueRanges) (q : QueueRanges)
     → o ≡ Some q → change_by f all id o id ≡ Some (f q)
 change-here f all id o q is = ap (λ (o : Option QueueRanges). change_by f all id o id) is ∙ put-here all id (f q)
 
-change-away : (f : QueueRanges → QueueRanges) (all : AllRanges) (own id : ℕ) (o : Option QueueRanges)
+pub change-away : (f : QueueRanges → QueueRanges) (all : AllRanges) (own id : ℕ) (o : Option QueueRanges)
     → (own ≡ id → ⊥) → change_by f all own o id ≡ all id
 change-away f all own id None apart = refl
 change-away f all own id (Some q) apart = put-away all own id (f q) apart
@@ -463,7 +463,7 @@ module _ (queues : List QueueId) (logs : Logs) (files : List ChainFile) (lanes :
 
 -- ---- the log that goes on
 
-begun-ranges : (queues : List QueueId) (file : ℕ) (old : AllRanges) (id : QueueId) (q : QueueRanges)
+pub begun-ranges : (queues : List QueueId) (file : ℕ) (old : AllRanges) (id : QueueId) (q : QueueRanges)
     → old id.0 ≡ Some q → (new : AllRanges)
     → (is_listed queues id ≡ true) ⊎ (new id.0 ≡ Some (begin_file file q))
     → fold (begin_queue file old) new queues id.0 ≡ Some (begin_file file q)

@@ -20,7 +20,7 @@ use Rattle.qq_entry.specs.declared.command.DeadDone.{DeadDone}
 use Rattle.qq_entry.specs.declared.command.Command.{Command}
 use Rattle.qq_entry.specs.declared.command.Command.TheVariants.{Noop, Enqueue, Get, Subscribe, Cancel, Credit, Settle, Return, Discard, Purge, Down, DeadAttach, DeadSettle}
 use Rattle.qq_entry.specs.declared.command.Entry.{Entry}
-use Rattle.qq_same.specs.Same.{same_queue, reason_rank, same_death, same_content, same_contents, same_message, same_origin, same_stamp, same_mode, same_done, same_ids, same_publish, same_consumer, same_credit, same_settlement, same_inner, same_command, same_entry}
+use Rattle.qq_same.specs.Same.{same_queue, reason_rank, same_death, same_content, same_contents, same_message, same_origin, same_stamp, same_mode, same_done, same_ids, same_publish, same_consumer, same_credit, same_inner, same_command, same_entry}
 
 -- a test that holds of equals alone, and of each value and itself
 Tests : {A : Type 0} → (A → A → Bool) → Type 0

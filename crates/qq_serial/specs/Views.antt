@@ -36,13 +36,13 @@ abbrev pub progress_of : Store → Draft → Progress
 progress_of store draft = record { state = state_of store draft.queue; effects = draft.effects.items }
 
 -- a step that was made
-abbrev pub step_of : Store → Made → Step
-step_of store made =
+abbrev pub step_of : Store → Draft → Made → Step
+step_of store draft made =
     record {
-      state = state_of store made.draft.queue;
+      state = state_of store draft.queue;
       fresh = made.fresh;
       answer = made.answer;
-      effects = made.draft.effects.items;
+      effects = draft.effects.items;
     }
 
 -- a store gets messages behind those that it has, and nothing else
@@ -84,8 +84,8 @@ CarriesOut act store queue store_after new answer =
     act (state_of store queue) ≡ reply answer (progress_of store_after new)
 
 -- a step is the one that this says, of a queue
-abbrev pub Makes : (State → Step) → Store → Queue → Store → Made → Type 0
-Makes step store queue store_after made = step (state_of store queue) ≡ step_of store_after made
+abbrev pub Makes : (State → Step) → Store → Queue → Store → Draft → Made → Type 0
+Makes step store queue store_after new made = step (state_of store queue) ≡ step_of store_after new made
 
 -- a consumer's deliveries go back if it is one of a session
 abbrev pub return_if : SessionId → Consumer → Progress → Progress

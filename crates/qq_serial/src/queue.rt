@@ -40,10 +40,9 @@ pub struct Draft {
     pub effects: Vec<Effect>,
 }
 
-/// A queue as an entry leaves it, whether the entry's command counted as fresh, and its answer.
+/// Whether an entry's command counted as fresh, and its answer.
 #[derive(Debug, Drop)]
 pub struct Made {
-    pub draft: Draft,
     pub fresh: bool,
     pub answer: Answer,
 }

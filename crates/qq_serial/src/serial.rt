@@ -1,6 +1,6 @@
 ghost use Rattle.std.specs.Prelude.{◌≡◌, ◌+◌, ◌^◌, ◌≤◌, IsTrue, OnOk, OnErr, IfOk, IfErr, false};
 
-use crate::queue::{Draft, Made, Queue, Store};
+use crate::queue::{Draft, Queue, Store};
 use crate::step::step;
 use qq_base::{Index, Memory, NUMBER_END};
 use qq_entry::{Answer, Effect, Entry, QueueArgs};
@@ -92,19 +92,14 @@ impl Serial {
                 self.store.messages.truncate(before);
                 Err(stop)
             }
-            Ok(made) => {
-                let Made {
-                    draft,
-                    fresh,
-                    answer,
-                } = made;
+            Ok((draft, made)) => {
                 let Draft { queue, effects } = draft;
                 if !queue.is_within_ends() {
                     self.store.messages.truncate(before);
                     return Err(Memory::Spent { number: NUMBER_END });
                 }
                 self.queue = queue;
-                Ok((fresh, answer, effects))
+                Ok((made.fresh, made.answer, effects))
             }
         }
     }

@@ -4,6 +4,7 @@ ghost use Rattle.qq_model.specs.Commands.{Acted, reply};
 ghost use Rattle.qq_model.specs.State.{State};
 ghost use Rattle.qq_model.specs.Step.{carry_out, pass_gate, pass_ungated, reject, go_through, step_by, step};
 ghost use Rattle.qq_serial.specs.Views.{state_of, progress_of, step_of, CarriesOut, Makes, OnlyAddsMessages};
+ghost use Rattle.qq_serial.specs.declared.queue.Store.{Store};
 
 use crate::queue::{Draft, Made, Queue, Store};
 use qq_base::{Duplicate, Index, Memory};
@@ -37,40 +38,39 @@ impl Draft {
     }
 
     fn pass_ungated(
-        mut self,
+        &mut self,
         alloc: Global,
         store: &mut Store,
         index: Index,
         command: &Command,
     ) -> Result<Made, Memory>
-        requires { self.effects.items ≡ [] }
+        requires { self.old.effects.items ≡ [] }
 
         ensures ok { IfOk result (Makes (λ s. pass_ungated index (carry_out index command.now s))
-            store.old self.queue store.new) }
+            store.old self.old.queue store.new self.new) }
         ensures store { OnlyAddsMessages store.old store.new }
         ensures want { IsOkUnless result Memory.Want }
     {
         let answer = self.carry_out(alloc, store, index, command)?;
         self.queue.applied = index.0;
         Ok(Made {
-            draft: self,
             fresh: true,
             answer,
         })
     }
 
     fn pass_gate(
-        mut self,
+        &mut self,
         alloc: Global,
         store: &mut Store,
         index: Index,
         stamp: Stamp,
         command: &Command,
     ) -> Result<Made, Memory>
-        requires { self.effects.items ≡ [] }
+        requires { self.old.effects.items ≡ [] }
 
         ensures ok { IfOk result (Makes (go_through Gate.Fresh index stamp command.now)
-            store.old self.queue store.new) }
+            store.old self.old.queue store.new self.new) }
         ensures store { OnlyAddsMessages store.old store.new }
         ensures want { IsOkUnless result Memory.Want }
     {
@@ -81,37 +81,27 @@ impl Draft {
         self.queue.sessions.keep(&stamp, answer.copy(alloc)?);
         self.queue.applied = index.0;
         Ok(Made {
-            draft: self,
             fresh: true,
             answer,
         })
     }
 
-    fn reject(
-        mut self,
-        alloc: Global,
-        store: &Store,
-        index: Index,
-        stamp: Stamp,
-        answer: Answer,
-    ) -> Result<Made, Memory>
-        requires { self.effects.items ≡ [] }
+    fn reject(&mut self, index: Index, stamp: Stamp, answer: Answer) -> Made
+        requires { self.old.effects.items ≡ [] }
 
-        ensures ok { IfOk result (Makes (reject index stamp answer)
-            store.now self.queue store.now) }
-        ensures want { IsOkUnless result Memory.Want }
+        ensures { (store : Store) → Makes (reject index stamp answer)
+            store self.old.queue store self.new result }
     {
         self.queue.sessions.advance(&stamp);
         self.queue.applied = index.0;
-        Ok(Made {
-            draft: self,
+        Made {
             fresh: false,
             answer,
-        })
+        }
     }
 
     fn go_through(
-        self,
+        &mut self,
         alloc: Global,
         store: &mut Store,
         gate: Gate,
@@ -119,36 +109,36 @@ impl Draft {
         stamp: Stamp,
         command: &Command,
     ) -> Result<Made, Memory>
-        requires { self.effects.items ≡ [] }
+        requires { self.old.effects.items ≡ [] }
 
         ensures ok { IfOk result (Makes (go_through gate index stamp command.now)
-            store.old self.queue store.new) }
+            store.old self.old.queue store.new self.new) }
         ensures store { OnlyAddsMessages store.old store.new }
         ensures want { IsOkUnless result Memory.Want }
     {
         match gate {
             Gate::Fresh => self.pass_gate(alloc, store, index, stamp, command),
-            Gate::Again(answer) => self.reject(alloc, store, index, stamp, answer),
-            Gate::Gap { next } => self.reject(alloc, store, index, stamp, Answer::Gap { next }),
-            Gate::Forgotten => self.reject(alloc, store, index, stamp, Answer::Forgotten),
-            Gate::Ended => self.reject(alloc, store, index, stamp, Answer::Ended),
-            Gate::WindowFull => self.reject(alloc, store, index, stamp, Answer::WindowFull),
-            Gate::SessionsFull => self.reject(alloc, store, index, stamp, Answer::SessionsFull),
+            Gate::Again(answer) => Ok(self.reject(index, stamp, answer)),
+            Gate::Gap { next } => Ok(self.reject(index, stamp, Answer::Gap { next })),
+            Gate::Forgotten => Ok(self.reject(index, stamp, Answer::Forgotten)),
+            Gate::Ended => Ok(self.reject(index, stamp, Answer::Ended)),
+            Gate::WindowFull => Ok(self.reject(index, stamp, Answer::WindowFull)),
+            Gate::SessionsFull => Ok(self.reject(index, stamp, Answer::SessionsFull)),
         }
     }
 
     fn step_by(
-        self,
+        &mut self,
         alloc: Global,
         store: &mut Store,
         stamp: Option<Stamp>,
         index: Index,
         command: &Command,
     ) -> Result<Made, Memory>
-        requires { self.effects.items ≡ [] }
+        requires { self.old.effects.items ≡ [] }
 
         ensures ok { IfOk result (Makes (step_by stamp index command.now)
-            store.old self.queue store.new) }
+            store.old self.old.queue store.new self.new) }
         ensures store { OnlyAddsMessages store.old store.new }
         ensures want { IsOkUnless result Memory.Want }
     {
@@ -171,14 +161,16 @@ pub fn step(
     queue: &Queue,
     index: Index,
     entry: &Entry,
-) -> Result<Made, Memory>
-    ensures ok { IfOk result (Makes (λ s. step s index entry.now) store.old queue.now store.new) }
+) -> Result<(Draft, Made), Memory>
+    ensures ok { IfOk result (λ to. Makes (λ s. step s index entry.now)
+        store.old queue.now store.new to.0 to.1) }
     ensures store { OnlyAddsMessages store.old store.new }
     ensures want { IsOkUnless result Memory.Want }
 {
-    let draft = Draft {
+    let mut draft = Draft {
         queue: queue.copy(alloc)?,
         effects: Vec::new(alloc),
     };
-    draft.step_by(alloc, store, entry.command.stamp(), index, &entry.command)
+    let made = draft.step_by(alloc, store, entry.command.stamp(), index, &entry.command)?;
+    Ok((draft, made))
 }

@@ -1,5 +1,5 @@
 mod Holders
-mod Lows
+pub mod Lows
 mod OpenRows
 mod Owners
 mod Places

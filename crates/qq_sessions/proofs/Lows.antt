@@ -60,11 +60,11 @@ lesser-two a None (Some c) = refl
 lesser-two None (Some b) (Some c) = refl
 lesser-two (Some a) (Some b) (Some c) = ap (λ (n : ℕ). Some n) (less-two a b c)
 
-first-lesser : (n : ℕ) (o : Option ℕ) → lesser n o ≡ lesser_index (Some n) o
+pub first-lesser : (n : ℕ) (o : Option ℕ) → lesser n o ≡ lesser_index (Some n) o
 first-lesser n None = refl
 first-lesser n (Some m) = refl
 
-none-lesser : (o : Option ℕ) → lesser_index None o ≡ o
+pub none-lesser : (o : Option ℕ) → lesser_index None o ≡ o
 none-lesser None = refl
 none-lesser (Some n) = refl
 

@@ -1,7 +1,7 @@
 use Rattle.std.proofs.lemmas.Result.{err_from_is_err_and}
 use Rattle.qq_command.specs.Reading.{many}
 use Rattle.qq_raft_msg.specs.Reading.{entry_field_at}
-use Rattle.qq_raft_msg.proofs.Loop.{goes_on, ends, is_done}
+use Rattle.qq_command.proofs.Loop.{goes_on, ends, is_done}
 use Rattle.qq_raft_msg.proofs.fields.entries_of.Goals as goal
 
 pub returns-in_err-entry : goal.returns-in_err-entry
