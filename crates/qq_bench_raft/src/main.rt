@@ -40,7 +40,6 @@ mod disk;
 mod made;
 mod members;
 mod party;
-mod random;
 mod schedule;
 mod stage;
 mod terms;

@@ -1,10 +1,10 @@
 use crate::made::Publish;
 use crate::party::Party;
-use crate::random::Random;
 use crate::watch::Watch;
 use anyhow::{Result, ensure};
 use qq_base::NodeId;
 use qq_group::{Event, Shown};
+use qq_random::Random;
 use std::alloc::Global;
 
 /// The most messages that are on their way before a copy is made.

@@ -150,9 +150,10 @@ impl<'a> Disks<'a> {
 
     // Puts the disk in memory aside for the next yard.
     fn hold(&mut self, words: &mut Words) -> Result<()> {
+        let (root, node) = (words.next(), words.node()?);
         let disk = self.take_memory();
         self.folder = None;
-        self.yards.hold(words, disk)
+        self.yards.hold(root, node, disk)
     }
 
     // Has both yards give a disk.
@@ -181,13 +182,14 @@ impl<'a> Disks<'a> {
     ) -> Result<()> {
         let rt = self.system.rt;
         let text = self.take_of_memory(memory);
-        println!(rt; "  {text}")?;
         self.folder = None;
-        if let Some(folder) = folder {
-            let other = self.take_of_folders(folder);
-            if other != text {
-                println!(rt; "  in the folder: {other}")?;
-            }
+        let other = match folder {
+            Some(folder) => self.take_of_folders(folder),
+            None => text,
+        };
+        println!(rt; "  {text}")?;
+        if other != text {
+            println!(rt; "  in the folder: {other}")?;
         }
         Ok(())
     }
@@ -212,19 +214,29 @@ impl<'a> Disks<'a> {
         }
     }
 
+    // Makes a call of both, and prints it if they answer otherwise.
+    fn agree(&mut self, count: u64, line: &str) -> Result<bool> {
+        let rt = self.system.rt;
+        let text = answer(rt.alloc(), &mut self.memory, line)?;
+        let Some(folder) = &mut self.folder else {
+            return Ok(true);
+        };
+        let other = answer(rt.alloc(), folder, line)?;
+        if other != text {
+            println!(rt; "  after {count} calls: {line}: {text}; in the folder: {other}")?;
+            return Ok(false);
+        }
+        Ok(true)
+    }
+
     // Makes random calls of both, up to the first that they answer otherwise.
     fn random(&mut self, words: &mut Words) -> Result<()> {
         let rt = self.system.rt;
         let mut calls = Calls::new(words.number()?);
         for count in 0..words.number()? {
             let line = calls.next(rt.alloc())?;
-            let text = answer(rt.alloc(), &mut self.memory, line.as_str())?;
-            if let Some(folder) = &mut self.folder {
-                let other = answer(rt.alloc(), folder, line.as_str())?;
-                if other != text {
-                    println!(rt; "  after {count} calls: {line}: {text}; in the folder: {other}")?;
-                    return Ok(());
-                }
+            if !self.agree(count, line.as_str())? {
+                return Ok(());
             }
         }
         println!(rt; "  the same answers")?;

@@ -46,10 +46,12 @@ fn is_comment(line: &str) -> bool {
     line.is_empty() || line.starts_with('#')
 }
 
-fn main(rt: HostRuntime) -> anyhow::Result<()> {
-    let cases = io::read_to_string(rt.alloc(), rt.stdin())?;
-    let watch = Watch::new();
-    let mut disks = Disks::new(rt, &watch)?;
+fn run<'a>(
+    rt: HostRuntime,
+    watch: &'a Watch,
+    disks: &mut Disks<'a>,
+    cases: &str,
+) -> anyhow::Result<()> {
     for line in cases.lines() {
         if line.starts_with("  ") {
             continue;
@@ -60,10 +62,18 @@ fn main(rt: HostRuntime) -> anyhow::Result<()> {
         }
         if line == "disk" {
             watch.reset();
-            disks = Disks::new(rt, &watch)?;
+            *disks = Disks::new(rt, watch)?;
             continue;
         }
         disks.line(line)?;
     }
+    Ok(())
+}
+
+fn main(rt: HostRuntime) -> anyhow::Result<()> {
+    let cases = io::read_to_string(rt.alloc(), rt.stdin())?;
+    let watch = Watch::new();
+    let mut disks = Disks::new(rt, &watch)?;
+    run(rt, &watch, &mut disks, cases.as_str())?;
     clean(rt)
 }

@@ -44,10 +44,10 @@ impl<'a> Yards<'a> {
         }
     }
 
-    /// Puts a disk aside for the next yard in memory, under a line's root and node.
-    pub fn hold(&mut self, words: &mut Words, disk: MemDisk) -> Result<()> {
-        let root = String::from_str(self.system.rt.alloc(), words.next())?;
-        self.held.push((root, words.node()?, disk))?;
+    /// Puts a disk aside for the next yard in memory, under a root and a node.
+    pub fn hold(&mut self, root: &str, node: NodeId, disk: MemDisk) -> Result<()> {
+        let root = String::from_str(self.system.rt.alloc(), root)?;
+        self.held.push((root, node, disk))?;
         Ok(())
     }
 

@@ -1,5 +1,5 @@
 -- Which number stands at its end where a refusal tells one.
-use Rattle.std.proofs.Common.{◌≡◌, ◌⊎◌, ◌^◌, List, [], ◌∷◌, ◌++◌, length, refl, sym, ap, subst, inl, inr, arith}
+use Rattle.std.proofs.Common.{◌≡◌, ◌⊎◌, ◌^◌, List, ◌∷◌, ◌++◌, length, sym, subst, inl, inr, arith}
 use Rattle.qq_base.specs.declared.ids.Index.{Index}
 use Rattle.qq_base.specs.declared.memory.TheConstants.{NUMBER_END}
 use Rattle.qq_entry.specs.declared.command.Entry.{Entry}
@@ -7,7 +7,8 @@ use Rattle.qq_raft.specs.Raft.{IsAtEnd}
 use Rattle.qq_raft_msg.specs.Queue.{Applied}
 use Rattle.qq_raft_msg.specs.declared.bag.TheConstants.{BAG_LIMIT}
 use Rattle.qq_raft_step.specs.State.{Server as Raft}
-use Rattle.qq_server.specs.Step.{ServerState, PassesEnd, apply_all, apply_next, next_index, unapplied}
+use Rattle.qq_raft_laws.proofs.Causes.{found-past}
+use Rattle.qq_server.specs.Step.{ServerState, PassesEnd, apply_all, next_index, unapplied}
 
 end-apart : BAG_LIMIT ≡ NUMBER_END → ⊥
 end-apart is = omega (arith, is)
@@ -37,11 +38,8 @@ HasPassing step passes entries s =
 
 passing : {P : Type 0} (step : P → Index → Entry → Applied P) (passes : P → Index → Entry → Type 0)
     (entries : List Entry) (s : ServerState P) → PassesEnd step passes entries s → HasPassing step passes entries s
-passing step passes [] s passed = absurd passed
-passing step passes (e ∷ es) s (inl now) = ([], es, e, refl, now)
-passing step passes (e ∷ es) s (inr later) =
-    let found = passing step passes es (apply_next step e s) later in
-    (e ∷ found.0, found.1, found.2, ap (λ (xs : List Entry). e ∷ xs) found.3, found.4)
+passing step passes entries s passed =
+    let found = found-past step passes entries s passed in (found.0, found.2, found.1, found.3, found.4)
 
 pub end-or-passing : {P : Type 0} (step : P → Index → Entry → Applied P) (passes : P → Index → Entry → Type 0)
     (r : Raft) (s made : ServerState P) → made ≡ s → IsAtEnd r ⊎ PassesEnd step passes (unapplied s) s

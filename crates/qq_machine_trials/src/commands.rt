@@ -1,10 +1,10 @@
 use crate::messages::draw_message;
-use crate::random::Random;
 use crate::stamps::{dead_letter_stamp, draw_client, draw_place, draw_stamp};
 use crate::users::{Held, Users};
 use anyhow::Result;
 use qq_base::{ConsumerId, Ids, QueueId, QueueIds, Term};
 use qq_entry::{Command, DeadDone, DeadDones, MACHINE_VERSION, Mode, Origin, Stamp};
+use qq_random::Random;
 use std::alloc::Global;
 
 fn draw_enqueue(alloc: Global, random: &mut Random, users: &mut Users) -> Result<Command> {

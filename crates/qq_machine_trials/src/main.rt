@@ -13,7 +13,6 @@ mod checks;
 mod commands;
 mod messages;
 mod queues;
-mod random;
 mod seen;
 mod stamps;
 mod users;

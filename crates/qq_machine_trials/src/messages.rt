@@ -1,7 +1,7 @@
-use crate::random::Random;
 use anyhow::Result;
 use qq_base::{Bytes, QueueId, Text};
 use qq_entry::{Content, Death, Deaths, Message, Reason};
+use qq_random::Random;
 use std::alloc::Global;
 
 fn draw_deaths(alloc: Global, random: &mut Random) -> Result<Deaths> {

@@ -1,12 +1,12 @@
 use crate::checks::{check_consumers, check_deliveries, check_purge};
 use crate::commands::draw_command;
-use crate::random::Random;
 use crate::seen::Seen;
 use crate::users::Users;
 use anyhow::Result;
 use qq_base::{QueueId, Term};
 use qq_entry::{Entry, Overflow, QueueArgs, Strategy};
 use qq_pair::{Made, Pair};
+use qq_random::Random;
 use std::alloc::Global;
 
 /// How many entries a queue has.

@@ -1,7 +1,7 @@
-use crate::random::Random;
 use crate::users::{Client, Users};
 use qq_base::{DEAD_LETTER, SessionId};
 use qq_entry::Stamp;
+use qq_random::Random;
 
 /// A random place of so many, 0 where there is none.
 pub fn draw_place(random: &mut Random, count: usize) -> usize {

@@ -1,2 +1,2 @@
-mod Causes
+pub mod Causes
 mod Senders

@@ -1,25 +1,12 @@
 use crate::wire::{new_client, publish, send, seq_of};
 use qq_base::{Duplicate, Memory, QueueId};
 use qq_entry::{Command, QueueArgs, Unstamped};
+use qq_random::Random;
 use qq_serial::Serial;
 use qq_session::{HandFault, Publishing};
 use std::alloc::Global;
 use std::collections::VecDeque;
 use std::test::Fail;
-
-// Numbers that look random (Knuth's linear congruential generator).
-#[derive(Drop)]
-struct Draws {
-    state: u64,
-}
-
-impl Draws {
-    fn below(&mut self, end: u64) -> u64 {
-        let next = self.state.wrapping_mul(6_364_136_223_846_793_005);
-        self.state = next.wrapping_add(1_442_695_040_888_963_407);
-        (self.state >> 33).checked_rem(end).unwrap_or(0)
-    }
-}
 
 // A client and its queue, with what is on its way between them.
 #[derive(Drop)]
@@ -47,7 +34,7 @@ impl Line {
     }
 
     // A new command, which is lost on its way by every fourth draw.
-    fn hand(&mut self, alloc: Global, draws: &mut Draws) -> Result<(), Memory> {
+    fn hand(&mut self, alloc: Global, draws: &mut Random) -> Result<(), Memory> {
         let body = if draws.below(2) == 0 {
             publish(alloc, b'x')?
         } else {
@@ -92,7 +79,7 @@ impl Line {
     }
 
     // One command on its way comes, comes twice or falls behind the others.
-    fn pass(&mut self, alloc: Global, draws: &mut Draws) -> Result<(), Memory> {
+    fn pass(&mut self, alloc: Global, draws: &mut Random) -> Result<(), Memory> {
         let Some(command) = self.wire.pop_front() else {
             return Ok(());
         };
@@ -107,7 +94,7 @@ impl Line {
         self.apply(alloc, command, draws.below(3) != 0)
     }
 
-    fn step(&mut self, alloc: Global, draws: &mut Draws) -> Result<(), Memory> {
+    fn step(&mut self, alloc: Global, draws: &mut Random) -> Result<(), Memory> {
         match draws.below(8) {
             0 | 1 | 2 => self.hand(alloc, draws),
             3 => self.resend(alloc),
@@ -129,7 +116,7 @@ impl Line {
 
 // So many steps, and then all that is open.
 fn run(alloc: Global, line: &mut Line, seed: u64) -> Result<(), Memory> {
-    let mut draws = Draws { state: seed };
+    let mut draws = Random::new(seed);
     for _ in 0..300 {
         line.step(alloc, &mut draws)?;
     }
