@@ -36,7 +36,8 @@ pub fn sessions_go_on()
     ensures answered { (args : QueueArgs) (session : ℕ) (events : List Event) →
         IsAnswered (client session) (world_after args events).server.audit }
     ensures order { (args : QueueArgs) (session : ℕ) (events : List Event) →
-        (n : ℕ) × (filter_map (fresh_command (client session)) (world_after args events).server.audit
+        (n : ℕ) ×
+        (filter_map (fresh_command (client session)) (world_after args events).server.audit
         ≡ take n (commands_of args session events)) }
     ensures numbers { (args : QueueArgs) (session : ℕ) (events : List Event) →
         ((world_after args events).clients session).numbers
