@@ -4,7 +4,6 @@ ghost use Rattle.qq_model.specs.Commands.{Acted, reply};
 ghost use Rattle.qq_model.specs.State.{State};
 ghost use Rattle.qq_model.specs.Step.{carry_out, pass_gate, pass_ungated, reject, go_through, step_by, step};
 ghost use Rattle.qq_serial.specs.Views.{state_of, progress_of, step_of, CarriesOut, Makes, OnlyAddsMessages};
-ghost use Rattle.qq_serial.specs.declared.queue.Store.{Store};
 
 use crate::queue::{Draft, Made, Queue, Store};
 use qq_base::{Duplicate, Index, Memory};
@@ -86,11 +85,11 @@ impl Draft {
         })
     }
 
-    fn reject(&mut self, index: Index, stamp: Stamp, answer: Answer) -> Made
+    fn reject(&mut self, store: &Store, index: Index, stamp: Stamp, answer: Answer) -> Made
         requires { self.old.effects.items ≡ [] }
 
-        ensures { (store : Store) → Makes (reject index stamp answer)
-            store self.old.queue store self.new result }
+        ensures { Makes (reject index stamp answer)
+            store.now self.old.queue store.now self.new result }
     {
         self.queue.sessions.advance(&stamp);
         self.queue.applied = index.0;
@@ -118,12 +117,12 @@ impl Draft {
     {
         match gate {
             Gate::Fresh => self.pass_gate(alloc, store, index, stamp, command),
-            Gate::Again(answer) => Ok(self.reject(index, stamp, answer)),
-            Gate::Gap { next } => Ok(self.reject(index, stamp, Answer::Gap { next })),
-            Gate::Forgotten => Ok(self.reject(index, stamp, Answer::Forgotten)),
-            Gate::Ended => Ok(self.reject(index, stamp, Answer::Ended)),
-            Gate::WindowFull => Ok(self.reject(index, stamp, Answer::WindowFull)),
-            Gate::SessionsFull => Ok(self.reject(index, stamp, Answer::SessionsFull)),
+            Gate::Again(answer) => Ok(self.reject(store, index, stamp, answer)),
+            Gate::Gap { next } => Ok(self.reject(store, index, stamp, Answer::Gap { next })),
+            Gate::Forgotten => Ok(self.reject(store, index, stamp, Answer::Forgotten)),
+            Gate::Ended => Ok(self.reject(store, index, stamp, Answer::Ended)),
+            Gate::WindowFull => Ok(self.reject(store, index, stamp, Answer::WindowFull)),
+            Gate::SessionsFull => Ok(self.reject(store, index, stamp, Answer::SessionsFull)),
         }
     }
 

@@ -1,8 +1,7 @@
-use Rattle.std.proofs.Common.{◌≡◌, Option, IfOk, subst}
+use Rattle.std.proofs.Common.{◌≡◌, Option, subst}
 use Rattle.qq_entry.specs.declared.command.Stamp.{Stamp}
 use Rattle.qq_model.specs.State.{State}
 use Rattle.qq_model.specs.Step.{step_by, step}
-use Rattle.qq_serial.specs.declared.queue.Made.{Made}
 use Rattle.qq_serial.specs.Views.{state_of, step_of}
 use Rattle.qq_serial.proofs.step.step.Goals as goal
 
@@ -10,7 +9,8 @@ use Rattle.qq_serial.proofs.step.step.Goals as goal
 pub returns-clause-ok : goal.returns-clause-ok
 unfolding step
 returns-clause-ok c =
-    let made_at : Option Stamp → State → Type 0 = λ stamp s. IfOk c.step_by.result
-    (λ (made : Made). step_by stamp c.args.index c.args.entry.now.command s ≡ step_of c.step_by.new.store made) in
+    let made_at : Option Stamp → State → Type 0 = λ stamp s.
+    step_by stamp c.args.index c.args.entry.now.command s
+    ≡ step_of c.step_by.new.store c.step_by.new.self c.in_ok-made.made in
     subst (λ (stamp : Option Stamp). made_at stamp (state_of c.args.store.now c.args.queue.now)) c.stamp.ensures
-    (subst (λ (s : State). made_at c.stamp.result s) (c.in_ok-copy.ensures.ok c.args.store.now) c.step_by.ensures.ok)
+    (subst (λ (s : State). made_at c.stamp.result s) (c.in_ok-copy.ensures.ok c.args.store.now) c.in_ok-made.ensures.ok)
