@@ -6,6 +6,7 @@ use qq_ports::{
     write_all,
 };
 use std::alloc::Global;
+use std::process::Abort;
 use std::test::Fail;
 
 // A source of these bytes whose calls fail as listed.
@@ -16,17 +17,26 @@ fn source_of(alloc: Global, bytes: &[u8], fails: &[u64]) -> Result<MemSource, Me
 // A line is given up at its first byte too many.
 const TOO_LONG: LineFault = LineFault::TooLong { length: 70_001 };
 
+// How long the next line is, or why it isn't given.
+fn next_length(
+    alloc: Global,
+    input: &mut MemSource,
+    lines: &mut Lines,
+) -> Result<usize, LineFault> {
+    match next_line(alloc, input, lines) {
+        Ok(Some(line)) => Ok(line.len()),
+        Ok(None) => Ok(0),
+        Err(fault) => Err(fault),
+    }
+}
+
 // A line of so many letters and its ending: how long it is, or why it isn't given.
 fn length_of(alloc: Global, length: usize, ending: &[u8]) -> Result<usize, LineFault> {
     let mut bytes = vec![in alloc; b'x'; length]?;
     bytes.extend_from_slice(ending)?;
     let mut input = MemSource::new(bytes, Vec::new(alloc));
     let mut lines = Lines::new();
-    match next_line(alloc, &mut input, &mut lines) {
-        Ok(Some(line)) => Ok(line.len()),
-        Ok(None) => Ok(0),
-        Err(fault) => Err(fault),
-    }
+    next_length(alloc, &mut input, &mut lines)
 }
 
 #[test]
@@ -39,15 +49,32 @@ fn a_line_has_at_most_70_000_bytes(rt: HostRuntime) -> Result<(), Fail> {
     Ok(())
 }
 
+// The line of an `a` comes.
+fn gives_a(
+    rt: &(impl Abort + AllocGlobal),
+    input: &mut MemSource,
+    lines: &mut Lines,
+) -> Result<(), Fail> {
+    let first = next_line(rt.alloc(), input, lines)?.ok_or("a line")?;
+    assert_eq!(rt; first.as_slice(), b"a".as_slice());
+    Ok(())
+}
+
+fn gives_a_and_fails(
+    rt: &(impl Abort + AllocGlobal),
+    input: &mut MemSource,
+    lines: &mut Lines,
+) -> Result<(), Fail> {
+    gives_a(rt, input, lines)?;
+    assert!(rt; next_length(rt.alloc(), input, lines).is_err());
+    Ok(())
+}
+
 #[test]
 fn a_source_fails_in_mid_line(rt: HostRuntime) -> Result<(), Fail> {
-    let alloc = rt.alloc();
-    let mut input = source_of(alloc, b"a\nb", &[2])?;
+    let mut input = source_of(rt.alloc(), b"a\nb", &[2])?;
     let mut lines = Lines::new();
-    let first = next_line(alloc, &mut input, &mut lines)?.ok_or("a line")?;
-    assert_eq!(rt; first.as_slice(), b"a".as_slice());
-    assert!(rt; next_line(alloc, &mut input, &mut lines).is_err());
-    Ok(())
+    gives_a_and_fails(&rt, &mut input, &mut lines)
 }
 
 // Takes one byte at a time.
@@ -67,20 +94,26 @@ impl Sink for ByByte {
     }
 }
 
+// Of a text this is written, with such a result, where there is so much room and one call fails.
+fn writes(
+    rt: &(impl Abort + AllocGlobal),
+    room: usize,
+    fails: u64,
+    wanted: Result<(), Failed>,
+    written: &[u8],
+) -> Result<(), Fail> {
+    let sink = MemSink::new(rt.alloc(), room, [fails].to_vec(rt.alloc())?)?;
+    let mut out = ByByte { sink };
+    assert_eq!(rt; write_all(&mut out, b"orders"), wanted);
+    assert_eq!(rt; out.sink.bytes(), written);
+    Ok(())
+}
+
 #[test]
 fn a_text_is_written_in_pieces(rt: HostRuntime) -> Result<(), Fail> {
-    let alloc = rt.alloc();
-    for (room, fails, wanted, written) in [
-        (6, 9, Ok(()), b"orders".as_slice()),
-        (4, 9, Err(Failed), b"orde"),
-        (6, 1, Err(Failed), b""),
-    ] {
-        let sink = MemSink::new(alloc, room, [fails].to_vec(alloc)?)?;
-        let mut out = ByByte { sink };
-        assert_eq!(rt; write_all(&mut out, b"orders"), wanted);
-        assert_eq!(rt; out.sink.bytes(), written);
-    }
-    Ok(())
+    writes(&rt, 6, 9, Ok(()), b"orders")?;
+    writes(&rt, 4, 9, Err(Failed), b"orde")?;
+    writes(&rt, 6, 1, Err(Failed), b"")
 }
 
 #[test]

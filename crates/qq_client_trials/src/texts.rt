@@ -5,6 +5,7 @@ use qq_entry::{
 };
 use qq_script::{answer_text, row_text};
 use std::alloc::Global;
+use std::process::Abort;
 use std::test::Fail;
 
 const fn stamp(class: u8, owner: u32, number: u64, seq: u64) -> Stamp {
@@ -19,78 +20,102 @@ const fn stamp(class: u8, owner: u32, number: u64, seq: u64) -> Stamp {
     }
 }
 
-// The line of an answer to a command with tag 8.
-fn line(alloc: Global, stamp: Stamp, answer: &Answer) -> Result<Vec<u8>, Fail> {
+fn add_line(
+    alloc: Global,
+    command: &Command,
+    answer: &Answer,
+    out: &mut Vec<u8>,
+) -> Result<(), Fail> {
     let queue = Text::from_str(alloc, "orders")?;
-    let mut out = Vec::new(alloc);
-    answer_text(
-        alloc,
-        true,
-        &Command::Cancel { stamp, tag: 8 },
-        &queue,
-        answer,
-        &mut out,
-    )?;
-    Ok(out)
+    answer_text(alloc, true, command, &queue, answer, out)?;
+    Ok(())
+}
+
+// An answer to a command with tag 8 has this line.
+fn answer_prints(
+    rt: &(impl Abort + AllocGlobal),
+    stamp: Stamp,
+    answer: &Answer,
+    wanted: &str,
+) -> Result<(), Fail> {
+    let command = Command::Cancel { stamp, tag: 8 };
+    let mut out = Vec::new(rt.alloc());
+    add_line(rt.alloc(), &command, answer, &mut out)?;
+    assert_eq!(rt; out.as_slice(), wanted.as_bytes());
+    Ok(())
+}
+
+fn answer_reads(
+    rt: &(impl Abort + AllocGlobal),
+    stamp: Stamp,
+    answer: Answer,
+    wanted: &str,
+) -> Result<(), Fail> {
+    answer_prints(rt, stamp, &answer, wanted)
 }
 
 #[test]
 fn answers_read_as_printed(rt: HostRuntime) -> Result<(), Fail> {
     let first = stamp(1, 0, 1, 7);
-    for (stamp, answer, wanted) in [
-        (first, Answer::Rejected(Full::Live), "rejected 7 live\n"),
-        (
-            first,
-            Answer::Refused(Cause::NoConsumer),
-            "refused no-consumer\n",
-        ),
-        (first, Answer::Subscribed, "subscribed 8\n"),
-        (first, Answer::Credited { drained: 2 }, "credited 2\n"),
-        (first, Answer::Forgotten, "forgotten 7\n"),
-        (
-            stamp(1, 0, 4, 9),
-            Answer::Gap { next: 3 },
-            "4 orders: gap 3\n",
-        ),
-        (
-            stamp(2, 3, 5, 1),
-            Answer::Confirmed,
-            "d3.5 orders: confirmed 1\n",
-        ),
-    ] {
-        assert_eq!(rt;
-            line(rt.alloc(), stamp, &answer)?.as_slice(),
-            wanted.as_bytes()
-        );
-    }
-    Ok(())
+    answer_reads(
+        &rt,
+        first,
+        Answer::Rejected(Full::Live),
+        "rejected 7 live\n",
+    )?;
+    let refused = Answer::Refused(Cause::NoConsumer);
+    answer_reads(&rt, first, refused, "refused no-consumer\n")?;
+    answer_reads(&rt, first, Answer::Subscribed, "subscribed 8\n")?;
+    answer_reads(&rt, first, Answer::Credited { drained: 2 }, "credited 2\n")?;
+    answer_reads(&rt, first, Answer::Forgotten, "forgotten 7\n")?;
+    let other = stamp(1, 0, 4, 9);
+    answer_reads(&rt, other, Answer::Gap { next: 3 }, "4 orders: gap 3\n")?;
+    let dead = stamp(2, 3, 5, 1);
+    answer_reads(&rt, dead, Answer::Confirmed, "d3.5 orders: confirmed 1\n")
 }
 
-#[test]
-fn a_message_that_was_returned_says_how_often(rt: HostRuntime) -> Result<(), Fail> {
-    let alloc = rt.alloc();
+// A message with the body `ab`.
+fn ab(alloc: Global) -> Result<Message, Fail> {
     let content = Content {
         body: Bytes::from_vec(b"ab".to_vec(alloc)?),
         key: Text::new(alloc),
         deaths: Deaths::new(alloc),
     };
+    Ok(Message {
+        size: 2,
+        content: Some(Shared::new(alloc, content)?),
+    })
+}
+
+#[test]
+fn a_message_that_was_returned_says_how_often(rt: HostRuntime) -> Result<(), Fail> {
     let delivery = Delivery {
         index: Index(4),
         arrival: 2,
         id: 0,
         count: 3,
-        message: Message {
-            size: 2,
-            content: Some(Shared::new(alloc, content)?),
-        },
+        message: ab(rt.alloc())?,
     };
-    let text = line(alloc, stamp(1, 0, 1, 7), &Answer::Got(delivery))?;
-    assert_eq!(rt; text.as_slice(), b"message 2/3 ab\n".as_slice());
+    let first = stamp(1, 0, 1, 7);
+    answer_reads(&rt, first, Answer::Got(delivery), "message 2/3 ab\n")
+}
+
+// A row has this line.
+fn row_prints(rt: &(impl Abort + AllocGlobal), row: &AuditRow, wanted: &str) -> Result<(), Fail> {
+    let mut out = Vec::new(rt.alloc());
+    row_text(rt.alloc(), row, &mut out)?;
+    assert_eq!(rt; out.as_slice(), wanted.as_bytes());
     Ok(())
 }
 
-// The line of a row.
-fn row(alloc: Global, command: Command, fresh: bool, answer: Answer) -> Result<Vec<u8>, Fail> {
+// The row of entry 12 in term 3 has this line.
+fn row_reads(
+    rt: &(impl Abort + AllocGlobal),
+    command: Command,
+    fresh: bool,
+    answer: Answer,
+    wanted: &str,
+) -> Result<(), Fail> {
     let entry = Entry {
         term: Term(3),
         time: 0,
@@ -102,28 +127,33 @@ fn row(alloc: Global, command: Command, fresh: bool, answer: Answer) -> Result<V
         fresh,
         answer,
     };
-    let mut out = Vec::new(alloc);
-    row_text(alloc, &row, &mut out)?;
-    Ok(out)
+    row_prints(rt, &row, wanted)
 }
 
 #[test]
 fn rows_read_as_printed(rt: HostRuntime) -> Result<(), Fail> {
-    let alloc = rt.alloc();
-    let other = stamp(1, 0, 4, 9);
-    let again = row(alloc, Command::Get { stamp: other }, false, Answer::Empty)?;
-    assert_eq!(rt; again.as_slice(), b"12 3 get 4 9 empty again\n".as_slice());
-    let gap = row(alloc, Command::Get { stamp: other }, false, Answer::Ended)?;
-    assert_eq!(rt; gap.as_slice(), b"12 3 get 4 9 ended\n".as_slice());
+    let get = stamp(1, 0, 4, 9);
+    let again = "12 3 get 4 9 empty again\n";
+    row_reads(
+        &rt,
+        Command::Get { stamp: get },
+        false,
+        Answer::Empty,
+        again,
+    )?;
+    let ended = "12 3 get 4 9 ended\n";
+    row_reads(
+        &rt,
+        Command::Get { stamp: get },
+        false,
+        Answer::Ended,
+        ended,
+    )?;
     let settle = Command::Settle {
         stamp: stamp(2, 3, 5, 1),
         tag: 8,
-        ids: Ids::from_vec([5, 6].to_vec(alloc)?),
+        ids: Ids::from_vec([5, 6].to_vec(rt.alloc())?),
     };
-    let settled = row(alloc, settle, true, Answer::Done)?;
-    assert_eq!(rt;
-        settled.as_slice(),
-        b"12 3 settle d3.5 1 8 5,6 done\n".as_slice()
-    );
-    Ok(())
+    let settled = "12 3 settle d3.5 1 8 5,6 done\n";
+    row_reads(&rt, settle, true, Answer::Done, settled)
 }

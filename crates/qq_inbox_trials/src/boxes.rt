@@ -3,7 +3,7 @@ ghost use Rattle.qq_inbox.specs.HandOver.{last_number};
 ghost use Rattle.qq_inbox.specs.Inbox.{view, IsPassOf};
 ghost use Rattle.qq_inbox.specs.Numbered.{counted};
 
-use crate::change::entryless;
+use crate::change::{comes, entryless};
 use qq_inbox::{Inbox, InboxPass};
 use qq_log::Op;
 use std::alloc::Global;
@@ -46,12 +46,21 @@ fn an_inbox_for_two_hands_a_third_op_back(rt: HostRuntime) -> Result<(), Fail> {
     let Err(back) = offer_next(&rt, alloc, &inbox, &mut pass, 1, 2) else {
         panic!(rt; "room for three")
     };
-    assert_eq!(rt; back, entryless(alloc, 1, 3));
-    assert_eq!(rt; inbox.take(&rt, &mut pass), Some(entryless(alloc, 1, 1)));
+    comes(&rt, back, 1, 3);
+    let Some(first) = inbox.take(&rt, &mut pass) else {
+        panic!(rt; "nothing to take")
+    };
+    comes(&rt, first, 1, 1);
     assert!(rt; offer_next(&rt, alloc, &inbox, &mut pass, 1, 2).is_ok());
-    assert_eq!(rt; inbox.take(&rt, &mut pass), Some(entryless(alloc, 1, 2)));
-    assert_eq!(rt; inbox.take(&rt, &mut pass), Some(entryless(alloc, 1, 3)));
-    assert_eq!(rt; inbox.take(&rt, &mut pass), None);
+    let Some(second) = inbox.take(&rt, &mut pass) else {
+        panic!(rt; "nothing to take")
+    };
+    comes(&rt, second, 1, 2);
+    let Some(third) = inbox.take(&rt, &mut pass) else {
+        panic!(rt; "nothing to take")
+    };
+    comes(&rt, third, 1, 3);
+    assert!(rt; inbox.take(&rt, &mut pass).is_none());
     Ok(())
 }
 
@@ -59,18 +68,29 @@ fn an_inbox_for_two_hands_a_third_op_back(rt: HostRuntime) -> Result<(), Fail> {
 fn an_inbox_for_one_and_a_split_of_a_split(rt: HostRuntime) -> Result<(), Fail> {
     let alloc = rt.alloc();
     let (inbox, mut writer) = Inbox::new(alloc, 1)?;
-    let mut reader = inbox.split(&mut writer)?;
-    let idle = inbox.split(&mut writer)?;
-    let mut last = inbox.split(&mut reader)?;
+    let Ok(mut reader) = inbox.split(&mut writer) else {
+        panic!(rt; "no split")
+    };
+    let Ok(idle) = inbox.split(&mut writer) else {
+        panic!(rt; "no split")
+    };
+    let Ok(mut last) = inbox.split(&mut reader) else {
+        panic!(rt; "no split")
+    };
     let Ok(()) = offer_next(&rt, alloc, &inbox, &mut writer, 3, 0) else {
         panic!(rt; "no room for one")
     };
     assert!(rt; offer_next(&rt, alloc, &inbox, &mut writer, 3, 1).is_err());
-    assert_eq!(rt; inbox.take(&rt, &mut last), Some(entryless(alloc, 3, 1)));
+    let Some(first) = inbox.take(&rt, &mut last) else {
+        panic!(rt; "nothing to take")
+    };
+    comes(&rt, first, 3, 1);
     inbox.join(&mut reader, idle);
     inbox.join(&mut reader, last);
-    assert_eq!(rt; inbox.take(&rt, &mut reader), None);
+    let None = inbox.take(&rt, &mut reader) else {
+        panic!(rt; "an op too many")
+    };
     inbox.join(&mut writer, reader);
-    assert_eq!(rt; inbox.take(&rt, &mut writer), None);
+    assert!(rt; inbox.take(&rt, &mut writer).is_none());
     Ok(())
 }

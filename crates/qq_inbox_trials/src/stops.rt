@@ -22,8 +22,12 @@ fn look<R: Abort>(rt: &R, marks: &Marks, seat: &mut MarkSeat, stopped: bool)
 #[test]
 fn every_seat_sees_a_raise_and_a_stop(rt: HostRuntime) -> Result<(), Fail> {
     let (marks, mut writer) = new_marks(rt.alloc(), 3)?;
-    let mut first = marks.split(&mut writer)?;
-    let mut second = marks.split(&mut first)?;
+    let Ok(mut first) = marks.split(&mut writer) else {
+        panic!(rt; "no split")
+    };
+    let Ok(mut second) = marks.split(&mut first) else {
+        panic!(rt; "no split")
+    };
     let log = Kept {
         first: 4,
         second: 0,

@@ -222,10 +222,16 @@ fn ops_of_three_queues_come_in_order_and_are_marked(rt: HostRuntime) -> Result<(
     let count = ops.len();
     assert_eq!(rt; count, 100_000);
     let (made, mut offering) = Inbox::new(alloc, 512)?;
-    let taking = made.split(&mut offering)?;
     let (table, mut raising) = new_marks(alloc, 3)?;
-    let mut looking = table.split(&mut raising)?;
-    let watching = table.split(&mut looking)?;
+    let Ok(taking) = made.split(&mut offering) else {
+        panic!(rt; "no split")
+    };
+    let Ok(mut looking) = table.split(&mut raising) else {
+        panic!(rt; "no split")
+    };
+    let Ok(watching) = table.split(&mut looking) else {
+        panic!(rt; "no split")
+    };
     let (inbox, marks, host) = (&made, &table, &rt);
     let ((mut pass, reader, early), ((other, mut seat, kept, wrong), (watcher, fallen))) =
         thread::join(
@@ -257,17 +263,22 @@ fn ops_of_three_queues_come_in_order_and_are_marked(rt: HostRuntime) -> Result<(
     Ok(())
 }
 
+fn is_same(taken: &VecDeque<Op>, wanted: &VecDeque<Op>) -> bool {
+    *taken == *wanted
+}
+
 #[test]
 fn a_list_is_handed_over_whole(rt: HostRuntime) -> Result<(), Fail> {
     let alloc = rt.alloc();
+    let wanted = three_queues(alloc, 100)?;
     let relay = hand_over(&rt, alloc, 2, three_queues(alloc, 100)?)?;
     let Relay {
         taken,
         inbox,
         mut pass,
     } = relay;
-    assert!(rt; taken == three_queues(alloc, 100)?);
-    assert_eq!(rt; inbox.take(&rt, &mut pass), None);
+    assert!(rt; is_same(&taken, &wanted));
+    assert!(rt; inbox.take(&rt, &mut pass).is_none());
     Ok(())
 }
 

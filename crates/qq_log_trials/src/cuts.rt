@@ -11,6 +11,13 @@ fn noop(term: u64) -> Entry {
     }
 }
 
+fn is_noop(entry: Option<&Entry>, term: Term) -> bool {
+    let Some(entry) = entry else {
+        return false;
+    };
+    entry.term == term && entry.time == 0 && matches!(&entry.command, Command::Noop { version: 1 })
+}
+
 #[test]
 fn a_log_is_cut_at_both_ends(rt: HostRuntime) -> Result<(), Fail> {
     let alloc = rt.alloc();
@@ -30,7 +37,7 @@ fn a_log_is_cut_at_both_ends(rt: HostRuntime) -> Result<(), Fail> {
     });
     assert_eq!(rt; log.last(), Index(3));
     assert!(rt; log.entry(Index(1)).is_none());
-    assert!(rt; log.entry(Index(2)) == Some(&noop(1)));
+    assert!(rt; is_noop(log.entry(Index(2)), Term(1)));
     log.keep_to(Index(2));
     assert_eq!(rt; log.last(), Index(2));
     log.rebase(SnapshotHead {

@@ -1,5 +1,5 @@
 use qq_base::{Index, NodeId, QueueId, Term};
-use qq_command::{Entries, decode};
+use qq_command::{Entries, Entry, decode};
 use qq_log::{Carry, Op, Places, SnapshotHead, Span};
 use qq_wal_record::{
     Header, LogRecord, NoHeader, NoRecord, read_header, read_record, write_header, write_record,
@@ -54,34 +54,69 @@ const VOTE_EIGHT: &str =
 const VERSION_NINE: &str =
     "51514c4f47090000000000000003000000000000000100000000000000541bf754d5af7bf813";
 
-fn bytes_of(alloc: Global, text: &str) -> Result<Vec<u8>, Fail> {
-    let mut digits = Vec::new(alloc);
+fn add_digits(text: &str, digits: &mut Vec<u8>) -> Result<(), Fail> {
     for letter in text.bytes() {
         if letter != b' ' {
             digits.push(letter)?;
         }
     }
+    Ok(())
+}
+
+fn bytes_of(alloc: Global, text: &str) -> Result<Vec<u8>, Fail> {
+    let mut digits = Vec::new(alloc);
+    add_digits(text, &mut digits)?;
     Ok(hex::decode(alloc, digits.as_slice())?)
+}
+
+/// The bytes, and one more.
+fn longer_by_one(alloc: Global, text: &str) -> Result<Vec<u8>, Fail> {
+    let mut bytes = bytes_of(alloc, text)?;
+    bytes.push(7)?;
+    Ok(bytes)
+}
+
+fn is_same(record: &LogRecord, wanted: &LogRecord) -> bool {
+    *record == *wanted
+}
+
+/// The record at the front of longer bytes is this one, and it is written as these bytes.
+fn reads_and_writes(
+    rt: &(impl Abort + AllocGlobal),
+    file: u64,
+    bytes: &[u8],
+    longer: &[u8],
+    wanted: &LogRecord,
+    out: &mut Vec<u8>,
+) -> Result<(), Fail> {
+    let (record, taken) = read_record(rt.alloc(), file, longer)?;
+    assert_eq!(rt; taken, bytes.len());
+    assert!(rt; is_same(&record, wanted));
+    write_record(file, &record, out)?;
+    assert_eq!(rt; out.as_slice(), bytes);
+    Ok(())
+}
+
+fn stand_for_this(
+    rt: &(impl Abort + AllocGlobal),
+    file: u64,
+    text: &str,
+    wanted: &LogRecord,
+) -> Result<(), Fail> {
+    let bytes = bytes_of(rt.alloc(), text)?;
+    let longer = longer_by_one(rt.alloc(), text)?;
+    let mut out = Vec::new(rt.alloc());
+    reads_and_writes(rt, file, &bytes, &longer, wanted, &mut out)
 }
 
 /// The bytes are the record, whatever follows them, and it is written so.
 fn stand_for(
-    rt: &impl Abort,
-    alloc: Global,
+    rt: &(impl Abort + AllocGlobal),
     file: u64,
     text: &str,
     wanted: LogRecord,
 ) -> Result<(), Fail> {
-    let bytes = bytes_of(alloc, text)?;
-    let mut longer = bytes_of(alloc, text)?;
-    longer.push(7)?;
-    let (r, taken) = read_record(alloc, file, &longer)?;
-    assert_eq!(rt; taken, bytes.len());
-    assert!(rt; r == wanted);
-    let mut out = Vec::new(alloc);
-    write_record(file, &r, &mut out)?;
-    assert_eq!(rt; out.as_slice(), bytes.as_slice());
-    Ok(())
+    stand_for_this(rt, file, text, &wanted)
 }
 
 const HEAD: SnapshotHead = SnapshotHead {
@@ -90,26 +125,33 @@ const HEAD: SnapshotHead = SnapshotHead {
     through: Index(6),
 };
 
-#[test]
-fn a_change_has_its_bytes(rt: HostRuntime) -> Result<(), Fail> {
-    let alloc = rt.alloc();
-    let (entry, _) = decode(alloc, &bytes_of(alloc, ENTRY)?)?;
+fn entry(alloc: Global) -> Result<Entry, Fail> {
+    let bytes = bytes_of(alloc, ENTRY)?;
+    let (entry, _) = decode(alloc, &bytes)?;
+    Ok(entry)
+}
+
+fn entries(alloc: Global) -> Result<Entries, Fail> {
+    let entry = entry(alloc)?;
     let mut entries = Entries::new(alloc);
     entries.push(entry)?;
+    Ok(entries)
+}
+
+#[test]
+fn a_change_has_its_bytes(rt: HostRuntime) -> Result<(), Fail> {
     let change = Op::Change {
         queue: QueueId(1),
         op: 3,
         term: Term(1),
         vote: Some(NodeId(1)),
         keep: Index(1),
-        entries,
+        entries: entries(rt.alloc())?,
     };
-    stand_for(&rt, alloc, 1, CHANGE, LogRecord::Op(change))
+    stand_for(&rt, 1, CHANGE, LogRecord::Op(change))
 }
 
-#[test]
-fn a_carry_has_its_bytes(rt: HostRuntime) -> Result<(), Fail> {
-    let alloc = rt.alloc();
+fn segments(alloc: Global) -> Result<Places, Fail> {
     let mut segments = Places::new(alloc);
     segments.push(Span {
         file: 4,
@@ -117,6 +159,11 @@ fn a_carry_has_its_bytes(rt: HostRuntime) -> Result<(), Fail> {
         first: Index(2),
         last: Index(6),
     })?;
+    Ok(segments)
+}
+
+#[test]
+fn a_carry_has_its_bytes(rt: HostRuntime) -> Result<(), Fail> {
     let carry = Carry {
         queue: QueueId(3),
         op: 12,
@@ -128,22 +175,21 @@ fn a_carry_has_its_bytes(rt: HostRuntime) -> Result<(), Fail> {
             through: Index(5),
         },
         snapshot: 7,
-        segments,
+        segments: segments(rt.alloc())?,
         last: Index(9),
     };
-    stand_for(&rt, alloc, 2, CARRY, LogRecord::Carry(carry))
+    stand_for(&rt, 2, CARRY, LogRecord::Carry(carry))
 }
 
 #[test]
 fn a_snapshot_and_a_segment_have_their_bytes(rt: HostRuntime) -> Result<(), Fail> {
-    let alloc = rt.alloc();
     let snapshot = Op::SnapshotMade {
         queue: QueueId(3),
         op: 13,
         head: HEAD,
         file: 8,
     };
-    stand_for(&rt, alloc, 2, SNAPSHOT, LogRecord::Op(snapshot))?;
+    stand_for(&rt, 2, SNAPSHOT, LogRecord::Op(snapshot))?;
     let segment = Op::SegmentMade {
         queue: QueueId(3),
         op: 14,
@@ -151,73 +197,102 @@ fn a_snapshot_and_a_segment_have_their_bytes(rt: HostRuntime) -> Result<(), Fail
         first: Index(5),
         last: Index(6),
     };
-    stand_for(&rt, alloc, 2, SEGMENT, LogRecord::Op(segment))
+    stand_for(&rt, 2, SEGMENT, LogRecord::Op(segment))
+}
+
+/// Why no record stands at the front of bytes of such a file.
+fn refusal(alloc: Global, file: u64, bytes: &[u8]) -> Option<NoRecord> {
+    match read_record(alloc, file, bytes) {
+        Ok(_) => None,
+        Err(refused) => Some(refused),
+    }
+}
+
+/// Turns one bit of a byte.
+fn turn(bytes: &mut Vec<u8>, place: usize) {
+    if let Some(byte) = bytes.get_mut(place) {
+        *byte ^= 1;
+    }
 }
 
 /// One bit of each byte is turned: the length is one or two too long or short, or the mark differs.
 #[test]
 fn no_byte_of_a_change_may_differ(rt: HostRuntime) -> Result<(), Fail> {
-    let alloc = rt.alloc();
-    let mut bytes = bytes_of(alloc, CHANGE)?;
+    let mut bytes = bytes_of(rt.alloc(), CHANGE)?;
     for place in 0..bytes.len() {
-        if let Some(byte) = bytes.get_mut(place) {
-            *byte ^= 1;
-        }
+        turn(&mut bytes, place);
         let wanted = if place < 3 {
             NoRecord::Short
         } else {
             NoRecord::Mark
         };
-        assert!(rt; read_record(alloc, 1, &bytes) == Err(wanted));
-        if let Some(byte) = bytes.get_mut(place) {
-            *byte ^= 1;
-        }
+        assert_eq!(rt; refusal(rt.alloc(), 1, &bytes), Some(wanted));
+        turn(&mut bytes, place);
     }
+    Ok(())
+}
+
+/// The first bytes are refused so.
+fn refuses(
+    rt: &(impl Abort + AllocGlobal),
+    file: u64,
+    text: &str,
+    count: usize,
+    wanted: NoRecord,
+) -> Result<(), Fail> {
+    let mut bytes = bytes_of(rt.alloc(), text)?;
+    bytes.truncate(count);
+    assert_eq!(rt; refusal(rt.alloc(), file, &bytes), Some(wanted));
     Ok(())
 }
 
 #[test]
 fn each_refusal_has_its_place(rt: HostRuntime) -> Result<(), Fail> {
-    let alloc = rt.alloc();
-    let mut change = bytes_of(alloc, CHANGE)?;
-    assert!(rt; read_record(alloc, 2, &change) == Err(NoRecord::Mark));
-    change.truncate(107);
-    assert!(rt; read_record(alloc, 1, &change) == Err(NoRecord::Short));
-    let kind = bytes_of(alloc, KIND_FIVE)?;
-    assert!(rt; read_record(alloc, 1, &kind) == Err(NoRecord::Kind));
-    let vote = bytes_of(alloc, VOTE_EIGHT)?;
-    assert!(rt; read_record(alloc, 1, &vote) == Err(NoRecord::Field));
-    Ok(())
+    refuses(&rt, 2, CHANGE, usize::MAX, NoRecord::Mark)?;
+    refuses(&rt, 1, CHANGE, 107, NoRecord::Short)?;
+    refuses(&rt, 1, KIND_FIVE, usize::MAX, NoRecord::Kind)?;
+    refuses(&rt, 1, VOTE_EIGHT, usize::MAX, NoRecord::Field)
 }
 
-#[test]
-fn a_header_has_its_bytes(rt: HostRuntime) -> Result<(), Fail> {
-    let alloc = rt.alloc();
-    let mut bytes = bytes_of(alloc, HEADER)?;
+/// The bytes are the header, and it is written so.
+fn stands_for_header(rt: &(impl Abort + AllocGlobal), bytes: &[u8]) -> Result<(), Fail> {
     let header = Header {
         file: 3,
         previous: 1,
         good: 84,
     };
-    assert_eq!(rt; read_header(&bytes), Ok(header));
-    let mut out = Vec::new(alloc);
+    assert_eq!(rt; read_header(bytes), Ok(header));
+    let mut out = Vec::new(rt.alloc());
     write_header(&header, &mut out)?;
-    assert_eq!(rt; out.as_slice(), bytes.as_slice());
-    let later = bytes_of(alloc, VERSION_NINE)?;
-    assert_eq!(rt; read_header(&later), Err(NoHeader::Version { byte: 9 }));
+    assert_eq!(rt; out.as_slice(), bytes);
+    Ok(())
+}
+
+#[test]
+fn a_header_has_its_bytes(rt: HostRuntime) -> Result<(), Fail> {
+    let bytes = bytes_of(rt.alloc(), HEADER)?;
+    stands_for_header(&rt, &bytes)
+}
+
+#[test]
+fn a_header_of_another_version_is_refused(rt: HostRuntime) -> Result<(), Fail> {
+    let bytes = bytes_of(rt.alloc(), VERSION_NINE)?;
+    assert_eq!(rt; read_header(&bytes), Err(NoHeader::Version { byte: 9 }));
+    Ok(())
+}
+
+#[test]
+fn no_byte_of_a_header_may_differ(rt: HostRuntime) -> Result<(), Fail> {
+    let mut bytes = bytes_of(rt.alloc(), HEADER)?;
     for place in 0..bytes.len() {
-        if let Some(byte) = bytes.get_mut(place) {
-            *byte ^= 1;
-        }
+        turn(&mut bytes, place);
         let wanted = if place < 5 {
             NoHeader::Magic
         } else {
             NoHeader::Mark
         };
         assert_eq!(rt; read_header(&bytes), Err(wanted));
-        if let Some(byte) = bytes.get_mut(place) {
-            *byte ^= 1;
-        }
+        turn(&mut bytes, place);
     }
     bytes.truncate(37);
     assert_eq!(rt; read_header(&bytes), Err(NoHeader::Short));

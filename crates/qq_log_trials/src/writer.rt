@@ -17,6 +17,10 @@ const FIRST: &str = "51514c4f470100000000000000010000000000000000000000000000000
 /// File 2 behind 38 bytes of file 1.
 const SECOND: &str = "51514c4f47010000000000000002000000000000000100000000000000264aaf92ff3f163126";
 
+fn two_queues(alloc: Global) -> Result<Vec<QueueId>, Fail> {
+    Ok([QueueId(1), QueueId(2)].to_vec(alloc)?)
+}
+
 /// A log of queues 1 and 2 without ops, on a disk that fails at calls of these numbers. It is full with
 /// 39 bytes.
 fn started(alloc: Global, file: u64, fails: Vec<u64>) -> Result<Wal<Hiding>, Fail>
@@ -24,17 +28,15 @@ fn started(alloc: Global, file: u64, fails: Vec<u64>) -> Result<Wal<Hiding>, Fai
     ensures sound { IfOk result (λ w. IsSound (λ _. false) (λ _. []) w) }
     ensures clean { IfOk result (λ w. w.dirty ≡ false) }
 {
-    let mut disk = MemDisk::new(alloc);
-    disk.fail_calls(fails);
-    let mut queues = Vec::new(alloc);
-    queues.push(QueueId(1))?;
-    queues.push(QueueId(2))?;
+    let queues = two_queues(alloc)?;
+    let ranges = FileRanges::new(alloc, queues.as_slice())?;
     let header = Header {
         file,
         previous: 0,
         good: 0,
     };
-    let ranges = FileRanges::new(alloc, queues.as_slice())?;
+    let mut disk = MemDisk::new(alloc);
+    disk.fail_calls(fails);
     match Wal::begin(
         Hiding { disk },
         alloc,
@@ -69,6 +71,11 @@ fn shows(
     Ok(())
 }
 
+fn shows_both(rt: &impl Abort, alloc: Global, disk: &mut Hiding) -> Result<(), Fail> {
+    shows(rt, alloc, disk, 1, FIRST)?;
+    shows(rt, alloc, disk, 2, SECOND)
+}
+
 #[test]
 fn a_new_file_names_the_old_one(rt: HostRuntime) -> Result<(), Fail> {
     let alloc = rt.alloc();
@@ -76,9 +83,7 @@ fn a_new_file_names_the_old_one(rt: HostRuntime) -> Result<(), Fail> {
     assert!(rt; !wal.full());
     assert!(rt; wal.roll(alloc) == Ok(2));
     let mut disk = wal.into_disk();
-    shows(&rt, alloc, &mut disk, 1, FIRST)?;
-    shows(&rt, alloc, &mut disk, 2, SECOND)?;
-    Ok(())
+    shows_both(&rt, alloc, &mut disk)
 }
 
 #[test]

@@ -41,13 +41,19 @@ fn get_first(
     Ok(())
 }
 
+// No session is let in any more.
+fn lets_nobody_in(rt: &(impl Abort + AllocGlobal), sessions: &Sessions) -> Result<(), Fail> {
+    let gate = sessions.check(rt.alloc(), &stamp(1, 1, 0))?;
+    assert!(rt; matches!(gate, Gate::SessionsFull));
+    Ok(())
+}
+
 #[test]
 fn a_queue_sees_a_million_sessions(rt: HostRuntime) -> Result<(), Fail> {
     let alloc = rt.alloc();
     let nobody = Vec::new(alloc);
     let full = Sessions::from_parts(alloc, nobody, Vec::new(alloc), Vec::new(alloc), 1_000_000)?;
-    assert!(rt; matches!(full.check(alloc, &stamp(1, 1, 0))?, Gate::SessionsFull));
-    Ok(())
+    lets_nobody_in(&rt, &full)
 }
 
 // The messages of the entries 9, 4 and 4 are kept.
@@ -72,12 +78,18 @@ fn two_are_done(rt: &(impl Abort + AllocGlobal), sessions: &mut Sessions) -> Res
     Ok(())
 }
 
+// Of three answers that hold a message one does at the end.
+fn one_is_left(rt: &(impl Abort + AllocGlobal), sessions: &mut Sessions) -> Result<(), Fail> {
+    three_get(rt.alloc(), sessions)?;
+    two_are_done(rt, sessions)?;
+    assert_eq!(rt; sessions.kept_low(), Some(Index(9)));
+    let twin = sessions.copy(rt.alloc())?;
+    assert_eq!(rt; twin.kept_low(), Some(Index(9)));
+    Ok(())
+}
+
 #[test]
 fn an_answer_holds_its_message_until_it_is_forgotten(rt: HostRuntime) -> Result<(), Fail> {
     let mut sessions = Sessions::new(rt.alloc());
-    three_get(rt.alloc(), &mut sessions)?;
-    two_are_done(&rt, &mut sessions)?;
-    assert_eq!(rt; sessions.kept_low(), Some(Index(9)));
-    assert_eq!(rt; sessions.copy(rt.alloc())?.kept_low(), Some(Index(9)));
-    Ok(())
+    one_is_left(&rt, &mut sessions)
 }

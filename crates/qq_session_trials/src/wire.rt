@@ -41,18 +41,23 @@ pub(crate) fn done_of(command: &Command) -> u64 {
     }
 }
 
+// Applies the next entry.
+fn apply_next(queue: &mut Serial, alloc: Global, entry: &Entry) -> Result<(bool, Answer), Memory> {
+    let index = Index(queue.applied() + 1);
+    let (fresh, answer, _) = queue.step(alloc, index, entry)?;
+    Ok((fresh, answer))
+}
+
 /// Applies a command: whether it was carried out, and its answer.
 pub(crate) fn send(
     queue: &mut Serial,
     alloc: Global,
     command: Command,
 ) -> Result<(bool, Answer), Memory> {
-    let index = Index(queue.applied() + 1);
     let entry = Entry {
         term: Term(1),
         time: 0,
         command,
     };
-    let (fresh, answer, _) = queue.step(alloc, index, &entry)?;
-    Ok((fresh, answer))
+    apply_next(queue, alloc, &entry)
 }

@@ -28,26 +28,30 @@ const MOST_CALLS: u64 = 1_000;
 /// At least so many runs are stopped by each disk.
 const LEAST_CALLS: u64 = 10;
 
+// A stop of the first disk or of the second one, from a call on or at one call.
+fn stops_at(second: bool, once: bool, calls: u64) -> Stops {
+    let stop = if once {
+        Stop::Once(calls)
+    } else {
+        Stop::Behind(calls)
+    };
+    if second {
+        Stops {
+            first: Stop::Never,
+            second: stop,
+        }
+    } else {
+        Stops {
+            first: stop,
+            second: Stop::Never,
+        }
+    }
+}
+
 // Stops runs by calls of the first disk or the second one, until none is stopped any more.
 fn stop_each(rt: HostRuntime, second: bool, once: bool, images: Images) -> Result<()> {
     for calls in 0..MOST_CALLS {
-        let stop = if once {
-            Stop::Once(calls)
-        } else {
-            Stop::Behind(calls)
-        };
-        let stops = if second {
-            Stops {
-                first: Stop::Never,
-                second: stop,
-            }
-        } else {
-            Stops {
-                first: stop,
-                second: Stop::Never,
-            }
-        };
-        if !check_run(rt, stops, images)? {
+        if !check_run(rt, stops_at(second, once, calls), images)? {
             anyhow::ensure!(calls >= LEAST_CALLS, "too few runs were stopped");
             return Ok(());
         }
@@ -55,14 +59,18 @@ fn stop_each(rt: HostRuntime, second: bool, once: bool, images: Images) -> Resul
     anyhow::bail!("a run makes too many calls of its disk")
 }
 
+// Stops runs in each of the two disks, from a call on and at one call.
+fn stop_both(rt: HostRuntime, images: Images) -> Result<()> {
+    stop_each(rt, false, false, images)?;
+    stop_each(rt, false, true, images)?;
+    stop_each(rt, true, false, images)?;
+    stop_each(rt, true, true, images)
+}
+
 fn main(rt: HostRuntime) -> Result<()> {
-    for images in [Images::None, Images::Whole, Images::Cut] {
-        for second in [false, true] {
-            for once in [false, true] {
-                stop_each(rt, second, once, images)?;
-            }
-        }
-    }
+    stop_both(rt, Images::None)?;
+    stop_both(rt, Images::Whole)?;
+    stop_both(rt, Images::Cut)?;
     let unsynced = count_unsynced(rt, LEAST_CALLS.saturating_mul(4))?;
     anyhow::ensure!(
         unsynced == 1,

@@ -6,9 +6,8 @@ pub fn body_front(alloc: Global, queue: u32, number: u64) -> Result<String> {
     Ok(format!(in alloc; "q{queue}.{number}.")?)
 }
 
-fn add_line(text: &mut String, line: &str) -> Result<()> {
-    text.push_str(line)?;
-    text.push('\n')?;
+fn add(text: &mut String, part: String) -> Result<()> {
+    text.push_str(part.as_str())?;
     Ok(())
 }
 
@@ -20,46 +19,39 @@ fn add_send(
     number: u64,
     letters: usize,
 ) -> Result<()> {
-    let front = body_front(alloc, queue, number)?;
-    let line = format!(in alloc; "send 1 - q{queue} {front}")?;
-    text.push_str(line.as_str())?;
-    text.push_str("x".repeat(alloc, letters)?.as_str())?;
+    add(text, format!(in alloc; "send 1 - q{queue} ")?)?;
+    add(text, body_front(alloc, queue, number)?)?;
+    add(text, "x".repeat(alloc, letters)?)?;
     text.push('\n')?;
     Ok(())
 }
 
 // The node is crashed and restarted, and its queues get leaders.
-fn add_crash(alloc: Global, text: &mut String, image: &str) -> Result<()> {
-    add_line(text, format!(in alloc; "crash 1 {image}")?.as_str())?;
-    for line in ["restart 1", "tick 1 q1", "tick 1 q2", "pump"] {
-        add_line(text, line)?;
-    }
+fn add_crash(text: &mut String, image: &str) -> Result<()> {
+    text.push_str("crash 1 ")?;
+    text.push_str(image)?;
+    text.push_str("\nrestart 1\ntick 1 q1\ntick 1 q2\npump\n")?;
     Ok(())
 }
 
-fn add_gets(alloc: Global, text: &mut String) -> Result<()> {
-    for queue in 1..3 {
-        let line = format!(in alloc; "get 2 q{queue}")?;
-        for _ in 0..5 {
-            add_line(text, line.as_str())?;
-        }
-    }
-    Ok(())
+fn add_script(alloc: Global, text: &mut String, image: &str) -> Result<()> {
+    add_send(alloc, text, 1, 1, 0)?;
+    add_send(alloc, text, 2, 1, 40_000)?;
+    add_send(alloc, text, 1, 2, 40_000)?;
+    add_send(alloc, text, 2, 2, 0)?;
+    add_crash(text, image)?;
+    add_send(alloc, text, 1, 3, 0)?;
+    add_send(alloc, text, 2, 3, 0)?;
+    add_crash(text, image)?;
+    add(text, "get 2 q1\n".repeat(alloc, 5)?)?;
+    add(text, "get 2 q2\n".repeat(alloc, 5)?)
 }
 
 /// The script: messages to two queues, in more bytes than a log file has, a crash, more messages, another
 /// crash, and gets of all.
 pub fn script(alloc: Global, image: &str) -> Result<String> {
     let mut text = String::new(alloc);
-    for (queue, number, letters) in [(1, 1, 0), (2, 1, 40_000), (1, 2, 40_000), (2, 2, 0)] {
-        add_send(alloc, &mut text, queue, number, letters)?;
-    }
-    add_crash(alloc, &mut text, image)?;
-    for (queue, number, letters) in [(1, 3, 0), (2, 3, 0)] {
-        add_send(alloc, &mut text, queue, number, letters)?;
-    }
-    add_crash(alloc, &mut text, image)?;
-    add_gets(alloc, &mut text)?;
+    add_script(alloc, &mut text, image)?;
     Ok(text)
 }
 
@@ -71,29 +63,38 @@ fn confirmed_line(alloc: Global, queue: u32, number: u64) -> Result<String> {
     Ok(format!(in alloc; "1 q{queue}: confirmed {number}")?)
 }
 
+fn has_line(printed: &str, wanted: &str) -> bool {
+    for line in printed.lines() {
+        if line == wanted {
+            return true;
+        }
+    }
+    false
+}
+
 /// Whether session 1 heard that a message was confirmed.
 pub fn was_confirmed(alloc: Global, printed: &str, queue: u32, number: u64) -> Result<bool> {
     let wanted = confirmed_line(alloc, queue, number)?;
+    Ok(has_line(printed, wanted.as_str()))
+}
+
+// Whether a line has such a front, a number and a body that begins so.
+fn has_message(printed: &str, front: &str, body: &str) -> bool {
     for line in printed.lines() {
-        if line == wanted.as_str() {
-            return Ok(true);
+        let Some(message) = line.strip_prefix(front) else {
+            continue;
+        };
+        let (_, text) = message.split_once(' ').unwrap_or(("", ""));
+        if text.starts_with(body) {
+            return true;
         }
     }
-    Ok(false)
+    false
 }
 
 /// Whether session 2 got a message.
 pub fn was_got(alloc: Global, printed: &str, queue: u32, number: u64) -> Result<bool> {
     let front = format!(in alloc; "2 q{queue}: message ")?;
     let body = body_front(alloc, queue, number)?;
-    for line in printed.lines() {
-        let Some(message) = line.strip_prefix(front.as_str()) else {
-            continue;
-        };
-        let (_, text) = message.split_once(' ').unwrap_or(("", ""));
-        if text.starts_with(body.as_str()) {
-            return Ok(true);
-        }
-    }
-    Ok(false)
+    Ok(has_message(printed, front.as_str(), body.as_str()))
 }

@@ -3,11 +3,12 @@ ghost use Rattle.std.specs.Prelude.{IsOkUnless};
 ghost use Rattle.qq_base.specs.declared.memory.Memory.TheVariants.{Want};
 ghost use Rattle.qq_yards.specs.declared.fault.YardFault.TheVariants.{Memory as OfMemory};
 
-use crate::run::serve;
+use crate::run::{new_sink, serve};
 use crate::untold::Untold;
 use anyhow::{Result, ensure};
 use qq_base::{Memory, NodeId};
 use qq_disk::{FileKind, FileName, Image, NodeDisk};
+use qq_ports::MemSink;
 use qq_yards::{Yard, YardFault};
 use std::alloc::Global;
 
@@ -61,14 +62,19 @@ impl Yard for UsedYard {
     }
 }
 
-/// No node is opened over such a disk: the run tells the queue, and how many of its ops were found.
-pub fn check_used(rt: HostRuntime) -> Result<()> {
+fn check_lost(rt: HostRuntime, sink: &mut MemSink) -> Result<()> {
     let text = String::from_str(rt.alloc(), "publish a\n")?;
-    let (status, sink) = serve(rt, &mut UsedYard, text)?;
+    let status = serve(rt, &mut UsedYard, text, sink)?;
     ensure!(status == LOST, "a node is opened over ops of another run");
     ensure!(
         str::from_utf8(sink.bytes())? == "lost node 1 q1 noticed 0 found 1\n",
         "ops of another run aren't told"
     );
     Ok(())
+}
+
+/// No node is opened over such a disk: the run tells the queue, and how many of its ops were found.
+pub fn check_used(rt: HostRuntime) -> Result<()> {
+    let mut sink = new_sink(rt.alloc())?;
+    check_lost(rt, &mut sink)
 }
