@@ -5,12 +5,17 @@ use qq_command::BODY_LIMIT;
 use qq_wal::{Notice, WalFault};
 use std::alloc::Global;
 
-/// The words of a line behind its first one, which are numbers.
-fn numbers(alloc: Global, words: &str) -> Result<Vec<u64>> {
-    let mut numbers = Vec::new(alloc);
+fn add_numbers(words: &str, numbers: &mut Vec<u64>) -> Result<()> {
     for word in words.split_whitespace() {
         numbers.push(word.parse().context("a number is wanted")?)?;
     }
+    Ok(())
+}
+
+/// The words of a line behind its first one, which are numbers.
+fn numbers(alloc: Global, words: &str) -> Result<Vec<u64>> {
+    let mut numbers = Vec::new(alloc);
+    add_numbers(words, &mut numbers)?;
     Ok(numbers)
 }
 
@@ -19,19 +24,26 @@ fn number(numbers: &[u64], place: usize) -> Result<u64> {
     Ok(*number)
 }
 
-/// An op with so many entries whose bodies are as long as may be, and one with a body of so many bytes.
-fn op_of(alloc: Global, longest: u64, size: u64) -> Result<Made> {
-    let mut made = Made::new(alloc);
+fn add_longest(alloc: Global, made: &mut Made, longest: u64) -> Result<()> {
     for _ in 0..longest {
         made.push(alloc, BODY_LIMIT)?;
     }
-    made.push(alloc, usize::try_from(size)?)?;
+    Ok(())
+}
+
+/// An op with so many entries whose bodies are as long as may be, and one with a body of so many bytes.
+fn op_of(alloc: Global, longest: u64, size: u64) -> Result<Made> {
+    let size = usize::try_from(size)?;
+    let mut made = Made::new(alloc);
+    add_longest(alloc, &mut made, longest)?;
+    made.push(alloc, size)?;
     Ok(made)
 }
 
 fn gather(alloc: Global, fed: &mut Fed, numbers: &[u64]) -> Result<Result<(), WalFault>> {
+    let queue = number(numbers, 0)?;
     let made = op_of(alloc, number(numbers, 1)?, number(numbers, 2)?)?;
-    match number(numbers, 0)? {
+    match queue {
         1 => Ok(fed.feed_one(made)),
         _ => Ok(fed.feed_two(made)),
     }
@@ -47,85 +59,96 @@ fn gather_many(alloc: Global, fed: &mut Fed, count: u64) -> Result<Result<(), Wa
     Ok(Ok(()))
 }
 
-fn fault_text(alloc: Global, fault: WalFault) -> Result<String> {
-    Ok(format!(in alloc; "{fault}")?)
+fn print_fault(rt: HostRuntime, fault: WalFault) -> Result<()> {
+    println!(rt; "  {fault}")?;
+    Ok(())
 }
 
-fn gathered_text(alloc: Global, answer: Result<(), WalFault>) -> Result<String> {
+fn print_gathered(rt: HostRuntime, answer: Result<(), WalFault>) -> Result<()> {
     match answer {
-        Ok(()) => Ok(String::from_str(alloc, "gathered")?),
-        Err(fault) => fault_text(alloc, fault),
+        Ok(()) => println!(rt; "  gathered")?,
+        Err(fault) => print_fault(rt, fault)?,
     }
+    Ok(())
 }
 
-fn appended_text(alloc: Global, answer: Result<u64, WalFault>) -> Result<String> {
+fn print_appended(rt: HostRuntime, answer: Result<u64, WalFault>) -> Result<()> {
     match answer {
-        Ok(count) => Ok(format!(in alloc; "appended {count}")?),
-        Err(fault) => fault_text(alloc, fault),
+        Ok(count) => println!(rt; "  appended {count}")?,
+        Err(fault) => print_fault(rt, fault)?,
     }
+    Ok(())
 }
 
-fn notice_text(alloc: Global, notice: Notice) -> Result<String> {
-    Ok(format!(in alloc;
-        "queue {}: op {}, term {}, entries {} to {}\n",
+fn print_notice(rt: HostRuntime, notice: Notice) -> Result<()> {
+    println!(rt;
+        "  queue {}: op {}, term {}, entries {} to {}",
         notice.queue.0, notice.op, notice.term.0, notice.first.0, notice.last.0
-    )?)
+    )?;
+    Ok(())
 }
 
-fn notices_text(alloc: Global, notices: &[Notice]) -> Result<String> {
-    let mut text = String::new(alloc);
+fn print_notices(rt: HostRuntime, notices: &[Notice]) -> Result<()> {
     for notice in notices {
-        text.push_str(notice_text(alloc, *notice)?.as_str())?;
+        print_notice(rt, *notice)?;
     }
-    Ok(text)
+    Ok(())
 }
 
-fn synced_text(alloc: Global, answer: Result<Vec<Notice>, WalFault>) -> Result<String> {
+fn print_synced(rt: HostRuntime, answer: Result<Vec<Notice>, WalFault>) -> Result<()> {
     match answer {
-        Ok(notices) => notices_text(alloc, &notices),
-        Err(fault) => fault_text(alloc, fault),
+        Ok(notices) => print_notices(rt, &notices),
+        Err(fault) => print_fault(rt, fault),
     }
 }
 
-fn rolled_text(alloc: Global, answer: Result<u64, WalFault>) -> Result<String> {
+fn print_rolled(rt: HostRuntime, answer: Result<u64, WalFault>) -> Result<()> {
     match answer {
-        Ok(number) => Ok(format!(in alloc; "file {number}")?),
-        Err(fault) => fault_text(alloc, fault),
+        Ok(number) => println!(rt; "  file {number}")?,
+        Err(fault) => print_fault(rt, fault)?,
     }
+    Ok(())
 }
 
-fn size_text(alloc: Global, fed: &mut Fed, number: u64) -> Result<String> {
-    let size = fed.size(alloc, number)?;
-    Ok(format!(in alloc; "{size} bytes")?)
+fn print_size(rt: HostRuntime, fed: &mut Fed, number: u64) -> Result<()> {
+    let size = fed.size(rt.alloc(), number)?;
+    println!(rt; "  {size} bytes")?;
+    Ok(())
 }
 
-fn entries_text(alloc: Global, fed: &Fed, queue: u64, number: u64) -> Result<String> {
+fn print_entries(rt: HostRuntime, fed: &Fed, queue: u64, number: u64) -> Result<()> {
     match fed.in_file(u32::try_from(queue)?, number) {
-        Some((first, last)) => Ok(format!(in alloc; "entries {} to {}", first.0, last.0)?),
-        None => Ok(String::from_str(alloc, "no entries")?),
+        Some((first, last)) => println!(rt; "  entries {} to {}", first.0, last.0)?,
+        None => println!(rt; "  no entries")?,
     }
+    Ok(())
 }
 
-fn ask(alloc: Global, fed: &mut Fed, word: &str, numbers: &[u64]) -> Result<String> {
+fn ask(rt: HostRuntime, fed: &mut Fed, word: &str, numbers: &[u64]) -> Result<()> {
     match word {
-        "append" => appended_text(alloc, fed.append(alloc)),
-        "sync" => synced_text(alloc, fed.sync(alloc)),
-        "roll" => rolled_text(alloc, fed.roll(alloc)),
-        "size" => size_text(alloc, fed, number(numbers, 0)?),
-        "entries" => entries_text(alloc, fed, number(numbers, 0)?, number(numbers, 1)?),
+        "append" => print_appended(rt, fed.append(rt.alloc())),
+        "sync" => print_synced(rt, fed.sync(rt.alloc())),
+        "roll" => print_rolled(rt, fed.roll(rt.alloc())),
+        "size" => print_size(rt, fed, number(numbers, 0)?),
+        "entries" => print_entries(rt, fed, number(numbers, 0)?, number(numbers, 1)?),
         _ => anyhow::bail!("no such line"),
     }
 }
 
-/// What the log answers to a line.
-fn answer(alloc: Global, fed: &mut Fed, line: &str) -> Result<String> {
-    let (word, rest) = line.split_once(' ').unwrap_or((line, ""));
-    let numbers = numbers(alloc, rest)?;
+/// Prints what the log answers to a word and its numbers.
+fn answer(rt: HostRuntime, fed: &mut Fed, word: &str, numbers: &[u64]) -> Result<()> {
     match word {
-        "gather" => gathered_text(alloc, gather(alloc, fed, &numbers)?),
-        "many" => gathered_text(alloc, gather_many(alloc, fed, number(&numbers, 0)?)?),
-        _ => ask(alloc, fed, word, &numbers),
+        "gather" => print_gathered(rt, gather(rt.alloc(), fed, numbers)?),
+        "many" => print_gathered(rt, gather_many(rt.alloc(), fed, number(numbers, 0)?)?),
+        _ => ask(rt, fed, word, numbers),
     }
+}
+
+/// Prints what the log answers to a line.
+fn answer_line(rt: HostRuntime, fed: &mut Fed, line: &str) -> Result<()> {
+    let (word, rest) = line.split_once(' ').unwrap_or((line, ""));
+    let numbers = numbers(rt.alloc(), rest)?;
+    answer(rt, fed, word, &numbers)
 }
 
 /// A log without ops, on a disk that fails at calls of these numbers.
@@ -133,27 +156,32 @@ fn begin(alloc: Global, calls: &str) -> Result<Fed> {
     Ok(Fed::new(alloc, numbers(alloc, calls)?, u64::MAX)?)
 }
 
-/// Reads cases from the input, and prints them again with what the log answers.
-pub fn run(rt: HostRuntime) -> Result<()> {
-    let alloc = rt.alloc();
-    let mut fed = begin(alloc, "")?;
-    for line in rt.lines(alloc) {
+/// Prints a line, and what the log answers to it. There is a new log if the line is `log CALLS..`.
+fn read_line(rt: HostRuntime, fed: &mut Fed, line: &str) -> Result<()> {
+    if line.starts_with("  ") {
+        return Ok(());
+    }
+    println!(rt; "{line}")?;
+    if line.is_empty() || line.starts_with('#') {
+        return Ok(());
+    }
+    if let Some(calls) = line.strip_prefix("log") {
+        *fed = begin(rt.alloc(), calls)?;
+        return Ok(());
+    }
+    answer_line(rt, fed, line)
+}
+
+fn read_lines(rt: HostRuntime, fed: &mut Fed) -> Result<()> {
+    for line in rt.lines(rt.alloc()) {
         let line = line?;
-        if line.starts_with("  ") {
-            continue;
-        }
-        println!(rt; "{line}")?;
-        if line.is_empty() || line.starts_with('#') {
-            continue;
-        }
-        if let Some(calls) = line.strip_prefix("log") {
-            fed = begin(alloc, calls)?;
-            continue;
-        }
-        let answer = answer(alloc, &mut fed, line.as_str())?;
-        for text in answer.lines() {
-            println!(rt; "  {text}")?;
-        }
+        read_line(rt, fed, line.as_str())?;
     }
     Ok(())
+}
+
+/// Reads cases from the input, and prints them again with what the log answers.
+pub fn run(rt: HostRuntime) -> Result<()> {
+    let mut fed = begin(rt.alloc(), "")?;
+    read_lines(rt, &mut fed)
 }

@@ -6,7 +6,7 @@ use std::alloc::Global;
 use std::time::Instant;
 
 /// What is to be written.
-#[derive(Clone, Copy, Debug)]
+#[derive(Clone, Copy)]
 pub struct Load {
     /// The bytes of a message's body.
     pub body: usize,
@@ -16,7 +16,7 @@ pub struct Load {
 }
 
 /// Nanoseconds that the calls of all batches took.
-#[derive(Clone, Copy, Debug)]
+#[derive(Clone, Copy)]
 struct Times {
     gather: u128,
     append: u128,
@@ -27,21 +27,31 @@ struct Times {
 /// The bytes of a record beside its message's body.
 const BESIDE_BODY: usize = 104;
 
-fn ops_of(alloc: Global, load: Load) -> Result<Vec<Made>> {
-    let mut ops = Vec::new(alloc);
-    for _ in 0..load.records {
-        let mut made = Made::new(alloc);
-        made.push(alloc, load.body)?;
-        ops.push(made)?;
-    }
-    Ok(ops)
+fn op_of(alloc: Global, body: usize) -> Result<Made> {
+    let mut made = Made::new(alloc);
+    made.push(alloc, body)?;
+    Ok(made)
 }
 
-fn write_batch(rt: HostRuntime, fed: &mut Fed, ops: Vec<Made>, times: &mut Times) -> Result<()> {
-    let start = Instant::now(&rt)?;
+fn add_ops(alloc: Global, load: Load, ops: &mut Vec<Made>) -> Result<()> {
+    for _ in 0..load.records {
+        ops.push(op_of(alloc, load.body)?)?;
+    }
+    Ok(())
+}
+
+fn gather_all(fed: &mut Fed, ops: Vec<Made>) -> Result<()> {
     for made in ops {
         fed.feed_one(made)?;
     }
+    Ok(())
+}
+
+fn write_batch(rt: HostRuntime, fed: &mut Fed, load: Load, times: &mut Times) -> Result<()> {
+    let mut ops = Vec::new(rt.alloc());
+    add_ops(rt.alloc(), load, &mut ops)?;
+    let start = Instant::now(&rt)?;
+    gather_all(fed, ops)?;
     let gathered = start.elapsed(&rt)?.as_nanos();
     fed.append(rt.alloc())?;
     let appended = start.elapsed(&rt)?.as_nanos();
@@ -55,26 +65,27 @@ fn write_batch(rt: HostRuntime, fed: &mut Fed, ops: Vec<Made>, times: &mut Times
     Ok(())
 }
 
-// The digests of a batch's records, as their marks need them.
-fn hash_batch(rt: HostRuntime, load: Load, times: &mut Times) -> Result<()> {
-    let mut record = Vec::new(rt.alloc());
+// Nanoseconds of the digests of a batch's records, as their marks need them.
+fn time_hashes(rt: HostRuntime, load: Load, record: &mut Vec<u8>) -> Result<u128> {
     record.resize(load.body.saturating_add(BESIDE_BODY), b'x')?;
     let start = Instant::now(&rt)?;
     for number in 0..load.records {
         let mut hasher = Sha256::new();
         hasher.update(&number.to_be_bytes());
-        hasher.update(&record);
+        hasher.update(record.as_slice());
         if let Some(last) = record.last_mut() {
             *last = hasher.finalize()[0];
         }
     }
-    times.sha = times.sha.saturating_add(start.elapsed(&rt)?.as_nanos());
-    Ok(())
+    Ok(start.elapsed(&rt)?.as_nanos())
 }
 
-fn write_all(rt: HostRuntime, load: Load) -> Result<Times> {
-    let alloc = rt.alloc();
-    let mut fed = Fed::new(alloc, Vec::new(alloc), u64::MAX)?;
+fn hash_batch(rt: HostRuntime, load: Load) -> Result<u128> {
+    let mut record = Vec::new(rt.alloc());
+    time_hashes(rt, load, &mut record)
+}
+
+fn write_batches(rt: HostRuntime, fed: &mut Fed, load: Load) -> Result<Times> {
     let mut times = Times {
         gather: 0,
         append: 0,
@@ -82,11 +93,16 @@ fn write_all(rt: HostRuntime, load: Load) -> Result<Times> {
         sha: 0,
     };
     for _ in 0..load.batches {
-        let ops = ops_of(alloc, load)?;
-        write_batch(rt, &mut fed, ops, &mut times)?;
-        hash_batch(rt, load, &mut times)?;
+        write_batch(rt, fed, load, &mut times)?;
+        times.sha = times.sha.saturating_add(hash_batch(rt, load)?);
     }
     Ok(times)
+}
+
+fn write_all(rt: HostRuntime, load: Load) -> Result<Times> {
+    let alloc = rt.alloc();
+    let mut fed = Fed::new(alloc, Vec::new(alloc), u64::MAX)?;
+    write_batches(rt, &mut fed, load)
 }
 
 /// Writes a load, and prints how many ops of how many bytes it was, and how many nanoseconds gathering,

@@ -1,5 +1,5 @@
 /// What a queue holds, and what is done to it.
-#[derive(Clone, Copy, Debug)]
+#[derive(Clone, Copy)]
 pub struct Load {
     /// Messages that are ready, at least a batch.
     pub ready: u64,

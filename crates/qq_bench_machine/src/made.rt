@@ -7,7 +7,7 @@ use std::alloc::Global;
 const BODY: usize = 100;
 
 /// The one client's stamps: each command has the next number, and the answers of all before were had.
-#[derive(Debug, Drop)]
+#[derive(Drop)]
 pub struct Stamps {
     last: u64,
 }

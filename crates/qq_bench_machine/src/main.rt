@@ -17,7 +17,6 @@ mod ranged;
 mod timing;
 
 use crate::load::Load;
-use crate::queue::{AnyQueue, new_parts, new_plain};
 use anyhow::{Context, Result};
 use std::env;
 
@@ -34,23 +33,29 @@ fn read_load(words: &[String]) -> Result<Load> {
     })
 }
 
-fn queue_of(rt: &HostRuntime, word: &str) -> Result<AnyQueue> {
-    match word {
-        "parts" => Ok(new_parts(rt.alloc())),
-        "plain" => Ok(new_plain(rt.alloc())),
+// Whether a machine is the one of parts.
+fn is_parts(machine: &str) -> Result<bool> {
+    match machine {
+        "parts" => Ok(true),
+        "plain" => Ok(false),
         _ => anyhow::bail!("a machine is `parts` or `plain`"),
     }
 }
 
-fn main(rt: HostRuntime) -> Result<()> {
-    let mut words = Vec::new(rt.alloc());
-    for word in env::args(&rt)?.skip(1) {
-        words.push(word)?;
-    }
+fn run(rt: HostRuntime, words: &[String]) -> Result<()> {
     let Some(machine) = words.first() else {
         println!(rt; "usage: qq_bench_machine parts|plain READY CONSUMERS ENTRIES")?;
         return Ok(());
     };
-    let queue = queue_of(&rt, machine.as_str())?;
-    timing::run(rt, queue, read_load(&words)?)
+    let parts = is_parts(machine.as_str())?;
+    timing::run(rt, parts, read_load(words)?)
+}
+
+fn main(rt: HostRuntime) -> Result<()> {
+    let args = env::args(&rt)?.skip(1);
+    let mut words = Vec::new(rt.alloc());
+    for word in args {
+        words.push(word)?;
+    }
+    run(rt, &words)
 }

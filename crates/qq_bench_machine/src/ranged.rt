@@ -6,7 +6,7 @@ use qq_range::is_in_range;
 use std::marker::Model;
 
 /// An entry that the log of a queue may hold, tried before the time is taken.
-#[derive(Debug, Drop)]
+#[derive(Drop)]
 pub struct Ranged {
     entry: Entry,
 }

@@ -2,18 +2,20 @@ use crate::kinds::Kind;
 use crate::load::{BATCH, Load};
 use crate::made::{Stamps, credit, enqueue, get, settle, subscribe};
 use crate::memory::memory;
-use crate::queue::AnyQueue;
+use crate::queue::{AnyQueue, new_queue};
 use crate::ranged::Ranged;
 use anyhow::{Result, ensure};
 use std::alloc::Global;
 use std::time::Instant;
 
 /// A queue that is timed, with one client.
-#[derive(Debug, Drop)]
+#[derive(Drop)]
 struct Bench {
     queue: AnyQueue,
     stamps: Stamps,
     consumers: u64,
+    /// How many consumers have joined.
+    joined: u64,
     /// How many messages were delivered.
     delivered: u64,
     /// How many deliveries were settled.
@@ -21,7 +23,7 @@ struct Bench {
 }
 
 /// Nanoseconds that the entries of each kind took.
-#[derive(Clone, Copy, Debug)]
+#[derive(Clone, Copy)]
 struct Times {
     get: u128,
     enqueue: u128,
@@ -39,6 +41,11 @@ impl Bench {
 
     fn next_entry(&mut self, alloc: Global, kind: Kind) -> Result<Ranged> {
         let entry = match kind {
+            Kind::Subscribe => {
+                self.joined = self.joined.saturating_add(1);
+                let tag = u32::try_from(self.joined)?;
+                subscribe(&mut self.stamps, tag)
+            }
             Kind::Get => get(&mut self.stamps),
             Kind::Enqueue => enqueue(alloc, &mut self.stamps)?,
             Kind::Deliver => {
@@ -57,26 +64,38 @@ impl Bench {
     }
 
     fn apply(&mut self, alloc: Global, kind: Kind, entry: &Ranged) -> Result<()> {
-        let (answer, effects) = self.queue.apply(alloc, entry)?;
-        ensure!(
-            kind.is_done(&answer, &effects),
-            "an entry came to something else"
-        );
+        let done = self.queue.apply(alloc, kind, entry)?;
+        ensure!(done, "an entry came to something else");
         Ok(())
+    }
+
+    fn apply_next(&mut self, alloc: Global, kind: Kind) -> Result<()> {
+        let entry = self.next_entry(alloc, kind)?;
+        self.apply(alloc, kind, &entry)
+    }
+
+    fn add_batch(&mut self, alloc: Global, kind: Kind, entries: &mut Vec<Ranged>) -> Result<()> {
+        for _ in 0..BATCH {
+            entries.push(self.next_entry(alloc, kind)?)?;
+        }
+        Ok(())
+    }
+
+    // Nanoseconds of these entries of a kind.
+    fn time_entries(&mut self, rt: &HostRuntime, kind: Kind, entries: &[Ranged]) -> Result<u128> {
+        let alloc = rt.alloc();
+        let start = Instant::now(rt)?;
+        for entry in entries {
+            self.apply(alloc, kind, entry)?;
+        }
+        Ok(start.elapsed(rt)?.as_nanos())
     }
 
     // Nanoseconds of a batch of a kind.
     fn time(&mut self, rt: &HostRuntime, kind: Kind) -> Result<u128> {
-        let alloc = rt.alloc();
-        let mut entries = Vec::new(alloc);
-        for _ in 0..BATCH {
-            entries.push(self.next_entry(alloc, kind)?)?;
-        }
-        let start = Instant::now(rt)?;
-        for entry in &entries {
-            self.apply(alloc, kind, entry)?;
-        }
-        Ok(start.elapsed(rt)?.as_nanos())
+        let mut entries = Vec::new(rt.alloc());
+        self.add_batch(rt.alloc(), kind, &mut entries)?;
+        self.time_entries(rt, kind, &entries)
     }
 
     fn time_round(&mut self, rt: &HostRuntime, times: Times) -> Result<Times> {
@@ -95,17 +114,14 @@ impl Bench {
 
     fn fill(&mut self, alloc: Global, messages: u64) -> Result<()> {
         for _ in 0..messages {
-            let entry = self.next_entry(alloc, Kind::Enqueue)?;
-            self.apply(alloc, Kind::Enqueue, &entry)?;
+            self.apply_next(alloc, Kind::Enqueue)?;
         }
         Ok(())
     }
 
     fn join_all(&mut self, alloc: Global) -> Result<()> {
-        for at in 0..self.consumers {
-            let tag = u32::try_from(at.saturating_add(1))?;
-            let entry = Ranged::new(subscribe(&mut self.stamps, tag))?;
-            self.queue.apply(alloc, &entry)?;
+        for _ in 0..self.consumers {
+            self.apply_next(alloc, Kind::Subscribe)?;
         }
         Ok(())
     }
@@ -124,25 +140,13 @@ fn time_rounds(rt: &HostRuntime, bench: &mut Bench, rounds: u64) -> Result<Times
     Ok(times)
 }
 
-/// Applies a load to a new queue. Prints how many entries of each kind were timed, the nanoseconds that the
-/// gets, enqueues, deliveries and settles took, and how many KiB the process grew by with the ready messages.
-pub fn run(rt: HostRuntime, queue: AnyQueue, load: Load) -> Result<()> {
-    let alloc = rt.alloc();
-    ensure!(load.ready >= BATCH, "a batch has to be ready");
-    ensure!(load.consumers > 0, "a consumer has to be there");
-    let mut bench = Bench {
-        queue,
-        stamps: Stamps::new(),
-        consumers: load.consumers,
-        delivered: 0,
-        settled: 0,
-    };
-    bench.join_all(alloc)?;
-    let before = memory(&rt)?;
-    bench.fill(alloc, load.ready)?;
-    let grown = memory(&rt)?.saturating_sub(before);
+fn time_load(rt: &HostRuntime, bench: &mut Bench, load: Load) -> Result<()> {
+    bench.join_all(rt.alloc())?;
+    let before = memory(rt)?;
+    bench.fill(rt.alloc(), load.ready)?;
+    let grown = memory(rt)?.saturating_sub(before);
     let rounds = load.entries / BATCH;
-    let times = time_rounds(&rt, &mut bench, rounds)?;
+    let times = time_rounds(rt, bench, rounds)?;
     println!(rt;
         "{} {} {} {} {} {grown}",
         rounds.saturating_mul(BATCH),
@@ -152,4 +156,21 @@ pub fn run(rt: HostRuntime, queue: AnyQueue, load: Load) -> Result<()> {
         times.settle
     )?;
     Ok(())
+}
+
+/// Applies a load to a new queue of the machine of parts, or of the plain one. Prints how many entries of each
+/// kind were timed, the nanoseconds that the gets, enqueues, deliveries and settles took, and how many KiB the
+/// process grew by with the ready messages.
+pub fn run(rt: HostRuntime, parts: bool, load: Load) -> Result<()> {
+    ensure!(load.ready >= BATCH, "a batch has to be ready");
+    ensure!(load.consumers > 0, "a consumer has to be there");
+    let mut bench = Bench {
+        queue: new_queue(rt.alloc(), parts),
+        stamps: Stamps::new(),
+        consumers: load.consumers,
+        joined: 0,
+        delivered: 0,
+        settled: 0,
+    };
+    time_load(&rt, &mut bench, load)
 }

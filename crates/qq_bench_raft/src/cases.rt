@@ -6,13 +6,12 @@ use qq_group::{Event, Outcome, Shown};
 use qq_raft_msg::{MemberState, Role};
 use std::alloc::Global;
 
-/// The words of a line behind its first one, which are numbers.
-fn numbers(alloc: Global, words: &str) -> Result<Vec<u64>> {
-    let mut numbers = Vec::new(alloc);
+/// Adds the words of a line behind its first one, which are numbers.
+fn add_numbers(words: &str, numbers: &mut Vec<u64>) -> Result<()> {
     for word in words.split_whitespace() {
         numbers.push(word.parse().context("a number is wanted")?)?;
     }
-    Ok(numbers)
+    Ok(())
 }
 
 fn number(numbers: &[u64], place: usize) -> Result<u64> {
@@ -28,28 +27,37 @@ fn place(numbers: &[u64]) -> Result<u32> {
     Ok(u32::try_from(number(numbers, 0)?)?)
 }
 
-fn outcome_text(alloc: Global, outcome: Outcome) -> Result<String> {
+/// Why an event didn't happen.
+fn reason(outcome: Outcome) -> Option<&'static str> {
     match outcome {
-        Outcome::Done => Ok(String::new(alloc)),
-        Outcome::Down => Ok(String::from_str(alloc, "down\n")?),
-        Outcome::NoSuch => Ok(String::from_str(alloc, "no such\n")?),
-        Outcome::NotLeader { hint: None } => Ok(String::from_str(alloc, "not the leader\n")?),
-        Outcome::NotLeader { hint: Some(leader) } => {
-            Ok(format!(in alloc; "not the leader, which is {}\n", leader.0)?)
-        }
-        Outcome::Unfit => Ok(String::from_str(alloc, "unfit\n")?),
+        Outcome::Done => None,
+        Outcome::Down => Some("down"),
+        Outcome::NoSuch => Some("no such"),
+        Outcome::NotLeader { .. } => Some("not the leader"),
+        Outcome::Unfit => Some("unfit"),
     }
 }
 
+fn print_outcome(rt: HostRuntime, outcome: Outcome) -> Result<()> {
+    if let Outcome::NotLeader { hint: Some(leader) } = outcome {
+        println!(rt; "  not the leader, which is {}", leader.0)?;
+        return Ok(());
+    }
+    if let Some(reason) = reason(outcome) {
+        println!(rt; "  {reason}")?;
+    }
+    Ok(())
+}
+
 /// What an event came to, and the entries that are answered by it.
-fn shown_text(alloc: Global, shown: &Shown) -> Result<String> {
-    let mut text = outcome_text(alloc, shown.outcome)?;
+fn print_shown(rt: HostRuntime, shown: &Shown) -> Result<()> {
+    print_outcome(rt, shown.outcome)?;
     for applied in shown.rows.as_slice() {
         let row = &applied.row;
         let (index, term) = (row.index.0, row.entry.term.0);
-        text.push_str(format!(in alloc; "answers entry {index} of term {term}\n")?.as_str())?;
+        println!(rt; "  answers entry {index} of term {term}")?;
     }
-    Ok(text)
+    Ok(())
 }
 
 fn role_text(role: Role) -> &'static str {
@@ -60,52 +68,52 @@ fn role_text(role: Role) -> &'static str {
     }
 }
 
-fn member_text(alloc: Global, number: u8, state: Option<MemberState>) -> Result<String> {
+fn print_member(rt: HostRuntime, number: u8, state: Option<MemberState>) -> Result<()> {
     let Some(state) = state else {
-        return Ok(format!(in alloc; "{number} is down\n")?);
+        println!(rt; "  {number} is down")?;
+        return Ok(());
     };
     let (term, last, commit) = (state.term.0, state.last.0, state.commit.0);
     let role = role_text(state.role);
-    Ok(format!(in alloc; "{number} {role} in term {term}, last {last}, commit {commit}\n")?)
+    println!(rt; "  {number} {role} in term {term}, last {last}, commit {commit}")?;
+    Ok(())
 }
 
-fn state_text(alloc: Global, stage: &Stage) -> Result<String> {
-    let mut text = String::new(alloc);
+fn print_state(rt: HostRuntime, stage: &Stage) -> Result<()> {
     for number in 1..=stage.count() {
-        let line = member_text(alloc, number, stage.member(number))?;
-        text.push_str(line.as_str())?;
+        print_member(rt, number, stage.member(number))?;
     }
-    Ok(text)
+    Ok(())
 }
 
 /// The terms of the entries that were committed, in order.
-fn audit_text(alloc: Global, stage: &Stage) -> Result<String> {
-    let mut text = String::from_str(alloc, "terms")?;
+fn print_audit(rt: HostRuntime, stage: &Stage) -> Result<()> {
+    print!(rt; "  terms")?;
     for entry in stage.audit() {
-        text.push_str(format!(in alloc; " {}", entry.term.0)?.as_str())?;
+        print!(rt; " {}", entry.term.0)?;
     }
-    text.push_str("\n")?;
-    Ok(text)
+    println!(rt)?;
+    Ok(())
 }
 
-fn bag_text(alloc: Global, stage: &Stage) -> Result<String> {
-    let mut text = String::from_str(alloc, "for")?;
+fn print_bag(rt: HostRuntime, stage: &Stage) -> Result<()> {
+    print!(rt; "  for")?;
     for place in 1..=stage.messages() {
         if let Some(receiver) = stage.receiver(place) {
-            text.push_str(format!(in alloc; " {}", receiver.0)?.as_str())?;
+            print!(rt; " {}", receiver.0)?;
         }
     }
-    text.push_str("\n")?;
-    Ok(text)
+    println!(rt)?;
+    Ok(())
 }
 
-fn restarted_text(alloc: Global, lost: Option<(u64, u64)>) -> Result<String> {
-    match lost {
-        None => Ok(String::new(alloc)),
-        Some((noticed, found)) => Ok(format!(in alloc;
-            "lost: noticed {noticed}, found {found}\n"
-        )?),
+/// A member restarts, and what was lost is printed.
+fn restart(rt: HostRuntime, stage: &mut Stage, numbers: &[u64]) -> Result<()> {
+    let lost = stage.restart(rt.alloc(), node(numbers)?, number(numbers, 1)?)?;
+    if let Some((noticed, found)) = lost {
+        println!(rt; "  lost: noticed {noticed}, found {found}")?;
     }
+    Ok(())
 }
 
 /// One command reaches a member, or so many, with bodies of so many bytes. What the last one comes to.
@@ -134,34 +142,31 @@ fn notice(alloc: Global, stage: &mut Stage, numbers: &[u64]) -> Result<Shown> {
     }
 }
 
-/// What a line about one member or one message says.
-fn ask_one(alloc: Global, stage: &mut Stage, word: &str, numbers: &[u64]) -> Result<String> {
-    let shown = match word {
+/// What becomes of a message.
+fn move_message(alloc: Global, stage: &mut Stage, word: &str, place: u32) -> Result<Shown> {
+    match word {
+        "deliver" => stage.step(alloc, Event::Deliver { place }),
+        "lose" => stage.step(alloc, Event::Lose { place }),
+        _ => stage.step(alloc, Event::Copy { place }),
+    }
+}
+
+/// What a line about one member or one message comes to.
+fn ask_one(alloc: Global, stage: &mut Stage, word: &str, numbers: &[u64]) -> Result<Shown> {
+    match word {
         "tick" => {
             let node = NodeId(node(numbers)?);
-            stage.step(alloc, Event::Tick { node })?
+            stage.step(alloc, Event::Tick { node })
         }
-        "publish" => publish(alloc, stage, numbers)?,
-        "deliver" => {
-            let place = place(numbers)?;
-            stage.step(alloc, Event::Deliver { place })?
-        }
-        "lose" => {
-            let place = place(numbers)?;
-            stage.step(alloc, Event::Lose { place })?
-        }
-        "copy" => {
-            let place = place(numbers)?;
-            stage.step(alloc, Event::Copy { place })?
-        }
-        "notice" => notice(alloc, stage, numbers)?,
+        "publish" => publish(alloc, stage, numbers),
+        "deliver" | "lose" | "copy" => move_message(alloc, stage, word, place(numbers)?),
+        "notice" => notice(alloc, stage, numbers),
         "crash" => {
             let node = NodeId(node(numbers)?);
-            stage.step(alloc, Event::Crash { node })?
+            stage.step(alloc, Event::Crash { node })
         }
         _ => anyhow::bail!("no such line"),
-    };
-    shown_text(alloc, &shown)
+    }
 }
 
 /// Many events at once: what is said of them isn't shown.
@@ -177,59 +182,59 @@ fn do_many(alloc: Global, stage: &mut Stage, word: &str, numbers: &[u64]) -> Res
     }
 }
 
-/// What a group says to a line.
-fn answer(alloc: Global, stage: &mut Stage, line: &str) -> Result<String> {
-    let (word, rest) = line.split_once(' ').unwrap_or((line, ""));
-    let numbers = numbers(alloc, rest)?;
+/// Prints what a group says to a word and its numbers.
+fn answer(rt: HostRuntime, stage: &mut Stage, word: &str, numbers: &[u64]) -> Result<()> {
     match word {
-        "state" => state_text(alloc, stage),
-        "audit" => audit_text(alloc, stage),
-        "bag" => bag_text(alloc, stage),
-        "restart" => {
-            let lost = stage.restart(alloc, node(&numbers)?, number(&numbers, 1)?)?;
-            restarted_text(alloc, lost)
+        "state" => print_state(rt, stage),
+        "audit" => print_audit(rt, stage),
+        "bag" => print_bag(rt, stage),
+        "restart" => restart(rt, stage, numbers),
+        "write" | "to" | "drop" | "settle" => do_many(rt.alloc(), stage, word, numbers),
+        _ => {
+            let shown = ask_one(rt.alloc(), stage, word, numbers)?;
+            print_shown(rt, &shown)
         }
-        "write" | "to" | "drop" | "settle" => {
-            do_many(alloc, stage, word, &numbers)?;
-            Ok(String::new(alloc))
-        }
-        _ => ask_one(alloc, stage, word, &numbers),
     }
 }
 
-/// A group of so many members, if a line is `group COUNT`.
-fn new_group(alloc: Global, line: &str) -> Result<Option<Stage>> {
-    let Some(count) = line.strip_prefix("group ") else {
-        return Ok(None);
-    };
-    Ok(Some(Stage::new(alloc, count.parse().context("a number is wanted")?)?))
+/// Prints what a group says to a line.
+fn answer_line(rt: HostRuntime, stage: &mut Stage, line: &str) -> Result<()> {
+    let (word, rest) = line.split_once(' ').unwrap_or((line, ""));
+    let mut numbers = Vec::new(rt.alloc());
+    add_numbers(rest, &mut numbers)?;
+    answer(rt, stage, word, &numbers)
 }
 
 fn is_comment(line: &str) -> bool {
     line.is_empty() || line.starts_with('#')
 }
 
-/// Reads cases from the input, and prints them again with what the group says.
-pub fn run(rt: HostRuntime) -> Result<()> {
-    let alloc = rt.alloc();
-    let mut stage = Stage::new(alloc, 1)?;
-    for line in rt.lines(alloc) {
+/// Prints a line, and what the group says to it. There is a new group if the line is `group COUNT`.
+fn read_line(rt: HostRuntime, stage: &mut Stage, line: &str) -> Result<()> {
+    if line.starts_with("  ") {
+        return Ok(());
+    }
+    println!(rt; "{line}")?;
+    if is_comment(line) {
+        return Ok(());
+    }
+    if let Some(count) = line.strip_prefix("group ") {
+        *stage = Stage::new(rt.alloc(), count.parse().context("a number is wanted")?)?;
+        return Ok(());
+    }
+    answer_line(rt, stage, line)
+}
+
+fn read_lines(rt: HostRuntime, stage: &mut Stage) -> Result<()> {
+    for line in rt.lines(rt.alloc()) {
         let line = line?;
-        if line.starts_with("  ") {
-            continue;
-        }
-        println!(rt; "{line}")?;
-        if is_comment(line.as_str()) {
-            continue;
-        }
-        if let Some(group) = new_group(alloc, line.as_str())? {
-            stage = group;
-            continue;
-        }
-        let text = answer(alloc, &mut stage, line.as_str())?;
-        for said in text.lines() {
-            println!(rt; "  {said}")?;
-        }
+        read_line(rt, stage, line.as_str())?;
     }
     Ok(())
+}
+
+/// Reads cases from the input, and prints them again with what the group says.
+pub fn run(rt: HostRuntime) -> Result<()> {
+    let mut stage = Stage::new(rt.alloc(), 1)?;
+    read_lines(rt, &mut stage)
 }

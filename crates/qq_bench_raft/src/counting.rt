@@ -8,7 +8,7 @@ use std::alloc::Global;
 
 /// A machine that counts entries and the bytes of the messages that they publish. It answers each entry with
 /// the number of entries so far, as a purge of so many messages.
-#[derive(Debug, Drop)]
+#[derive(Drop)]
 pub struct Counting {
     /// The entries so far.
     pub entries: u64,

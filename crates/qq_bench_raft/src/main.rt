@@ -64,21 +64,26 @@ fn read_load(words: &[String]) -> Result<Load> {
     })
 }
 
+fn run(rt: HostRuntime, words: &[String]) -> Result<()> {
+    let Some(word) = words.first() else {
+        println!(rt;
+            "usage: qq_bench_raft MEMBERS WINDOW ENTRIES BODY | schedule SEED STEPS | terms | cases"
+        )?;
+        return Ok(());
+    };
+    match word.as_str() {
+        "schedule" => schedule::run(rt, number(words, 1)?, number(words, 2)?),
+        "terms" => terms::run(rt),
+        "cases" => cases::run(rt),
+        _ => timing::run(rt, read_load(words)?),
+    }
+}
+
 fn main(rt: HostRuntime) -> Result<()> {
+    let args = env::args(&rt)?.skip(1);
     let mut words = Vec::new(rt.alloc());
-    for word in env::args(&rt)?.skip(1) {
+    for word in args {
         words.push(word)?;
     }
-    match words.first() {
-        None => println!(rt;
-            "usage: qq_bench_raft MEMBERS WINDOW ENTRIES BODY | schedule SEED STEPS | terms | cases"
-        )?,
-        Some(word) if word.as_str() == "schedule" => {
-            schedule::run(rt, number(&words, 1)?, number(&words, 2)?)?
-        }
-        Some(word) if word.as_str() == "terms" => terms::run(rt)?,
-        Some(word) if word.as_str() == "cases" => cases::run(rt)?,
-        Some(_) => timing::run(rt, read_load(&words)?)?,
-    }
-    Ok(())
+    run(rt, &words)
 }

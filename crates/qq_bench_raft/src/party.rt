@@ -75,15 +75,15 @@ impl Party {
         Ok(())
     }
 
-    /// A member that is down restarts over a disk, which is its own from here on. What was lost, where the
-    /// group knows that more was durable: the op that it was told of, and the one that was found.
-    pub fn restart(&mut self, alloc: Global, node: u8, disk: Disk) -> Result<Option<(u64, u64)>> {
+    /// A member that is down restarts over a disk, and a copy of it is its own from here on. What was lost,
+    /// where the group knows that more was durable: the op that it was told of, and the one that was found.
+    pub fn restart(&mut self, alloc: Global, node: u8, disk: &Disk) -> Result<Option<(u64, u64)>> {
         let log = disk.log(alloc)?;
         let lost = self.members.restart(alloc, NodeId(node), log)?;
         if lost.is_some() {
             return Ok(lost);
         }
-        self.change_disk(node, disk)?;
+        self.change_disk(node, disk.copy(alloc)?)?;
         Ok(lost)
     }
 

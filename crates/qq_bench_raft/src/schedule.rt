@@ -87,19 +87,50 @@ fn happen(alloc: Global, random: &mut Random, party: &mut Party, time: u64) -> R
     }
 }
 
-fn run_all(alloc: Global, seed: u64, steps: u64, members: u8) -> Result<Watch> {
-    let mut random = Random::new(seed);
-    let mut party = Party::new(alloc, members)?;
-    let mut watch = Watch::new(alloc);
-    for time in 0..steps {
-        if random.below(1_024) == 0 {
-            party.reopen(alloc)?;
-        }
-        let shown = happen(alloc, &mut random, &mut party, time)?;
-        watch.look_at_rows(party.audit(), &shown)?;
-        watch.look_at_members(alloc, &party)?;
+// What happens at this time, and what is then seen of the group.
+fn step(
+    alloc: Global,
+    random: &mut Random,
+    party: &mut Party,
+    watch: &mut Watch,
+    time: u64,
+) -> Result<()> {
+    if random.below(1_024) == 0 {
+        party.reopen(alloc)?;
     }
-    Ok(watch)
+    let shown = happen(alloc, random, party, time)?;
+    watch.look_at(alloc, party, &shown)
+}
+
+// What was seen in so many steps is enough to tell.
+fn tell(rt: HostRuntime, watch: &Watch, members: u8, steps: u64) -> Result<()> {
+    ensure!(watch.rows >= steps / 200, "too few rows were shown");
+    ensure!(
+        watch.leaders.len() as u64 >= steps / 2_000,
+        "too few members led"
+    );
+    println!(rt; "{members} members: what each has applied begins the audit")?;
+    Ok(())
+}
+
+fn run_steps(
+    rt: HostRuntime,
+    random: &mut Random,
+    party: &mut Party,
+    watch: &mut Watch,
+    steps: u64,
+) -> Result<()> {
+    for time in 0..steps {
+        step(rt.alloc(), random, party, watch, time)?;
+    }
+    tell(rt, watch, party.count, steps)
+}
+
+fn run_group(rt: HostRuntime, seed: u64, steps: u64, members: u8) -> Result<()> {
+    let mut party = Party::new(rt.alloc(), members)?;
+    let mut watch = Watch::new(rt.alloc());
+    let mut random = Random::new(seed);
+    run_steps(rt, &mut random, &mut party, &mut watch, steps)
 }
 
 /// Runs a random schedule of events over a group of 3 members and one of 5, and looks at each step whether
@@ -107,13 +138,7 @@ fn run_all(alloc: Global, seed: u64, steps: u64, members: u8) -> Result<Watch> {
 /// little happened to tell.
 pub fn run(rt: HostRuntime, seed: u64, steps: u64) -> Result<()> {
     for members in [3u8, 5] {
-        let watch = run_all(rt.alloc(), seed, steps, members)?;
-        ensure!(watch.rows >= steps / 200, "too few rows were shown");
-        ensure!(
-            watch.leaders.len() as u64 >= steps / 2_000,
-            "too few members led"
-        );
-        println!(rt; "{members} members: what each has applied begins the audit")?;
+        run_group(rt, seed, steps, members)?;
     }
     Ok(())
 }

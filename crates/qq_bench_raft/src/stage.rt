@@ -14,11 +14,18 @@ use std::alloc::Global;
 /// The rounds after which nothing may be on its way.
 const ROUNDS: u32 = 1_000;
 
+/// What a member's disk held.
+#[derive(Drop)]
+struct Held {
+    node: u8,
+    disk: Disk,
+}
+
 /// A group, and what the disks of its members held at each op.
 #[derive(Drop)]
 pub struct Stage {
     party: Party,
-    older: Vec<(u8, Disk)>,
+    older: Vec<Held>,
     submitted: u64,
 }
 
@@ -51,8 +58,8 @@ impl Stage {
             if !self.party.write(alloc, node)? {
                 return Ok(written);
             }
-            let held = self.party.disk(node)?.copy(alloc)?;
-            self.older.push((node, held))?;
+            let disk = self.party.disk(node)?.copy(alloc)?;
+            self.older.push(Held { node, disk })?;
         }
         Ok(ROUNDS)
     }
@@ -64,8 +71,8 @@ impl Stage {
         }
         let mut found = None;
         for held in self.older.as_slice() {
-            if held.0 == node && held.1.op() == op {
-                found = Some(&held.1);
+            if held.node == node && held.disk.op() == op {
+                found = Some(&held.disk);
             }
         }
         Ok(
@@ -79,7 +86,7 @@ impl Stage {
     /// that more was durable: the op that the group was told of, and the one that was found.
     pub fn restart(&mut self, alloc: Global, node: u8, op: u64) -> Result<Option<(u64, u64)>> {
         let disk = self.disk_at(alloc, node, op)?;
-        self.party.restart(alloc, node, disk)
+        self.party.restart(alloc, node, &disk)
     }
 
     /// Messages reach their members, ops are written, and members are told of them, until nothing is left.

@@ -32,16 +32,14 @@ fn settle(alloc: Global, party: &mut Party) -> Result<()> {
 }
 
 // Member 1 has led term 1, and has entries of it that no other member has.
-fn lead_first_term(alloc: Global) -> Result<Party> {
-    let mut party = Party::new(alloc, 3)?;
-    stand(alloc, &mut party)?;
-    settle(alloc, &mut party)?;
+fn lead_first_term(alloc: Global, party: &mut Party) -> Result<()> {
+    stand(alloc, party)?;
+    settle(alloc, party)?;
     for time in 0..COMMANDS {
         party.submit(alloc, 1, time, Publish::new(alloc, 0)?)?;
     }
     party.write_all(alloc)?;
-    party.reopen(alloc)?;
-    Ok(party)
+    party.reopen(alloc)
 }
 
 fn commit_of(party: &Party) -> Result<u64> {
@@ -54,6 +52,18 @@ fn has_commands(party: &Party) -> Result<bool> {
     Ok(last > 1 && last < COMMANDS.saturating_add(2))
 }
 
+// The message in front reaches its member. Whether it tells the leader of entries of term 1 alone.
+fn take_first(alloc: Global, party: &mut Party, all: u64) -> Result<bool> {
+    let answers = party.is_for(1, 1) && has_commands(party)?;
+    party.deliver(alloc, 1)?;
+    let commit = commit_of(party)?;
+    ensure!(
+        commit == 0 || commit == all,
+        "an entry of an older term was committed by counting"
+    );
+    Ok(answers)
+}
+
 // Members take messages until all is committed; nothing is before the entry of term 3 is, though a majority
 // has told the leader of entries of term 1.
 fn commit_at_once(alloc: Global, party: &mut Party) -> Result<()> {
@@ -63,14 +73,8 @@ fn commit_at_once(alloc: Global, party: &mut Party) -> Result<()> {
         party.write_all(alloc)?;
         party.notice_all(alloc)?;
         for _ in 0..party.messages() {
-            let answers = party.is_for(1, 1) && has_commands(party)?;
-            party.deliver(alloc, 1)?;
-            let commit = commit_of(party)?;
+            let answers = take_first(alloc, party, all)?;
             told = told || answers;
-            ensure!(
-                commit == 0 || commit == all,
-                "an entry of an older term was committed by counting"
-            );
         }
     }
     ensure!(
@@ -81,31 +85,45 @@ fn commit_at_once(alloc: Global, party: &mut Party) -> Result<()> {
     Ok(())
 }
 
-/// A member that has entries of term 1 leads term 3 and adds one of that term. That a majority has those of
-/// term 1 commits nothing, and that it has the one of term 3 commits all (Ongaro's dissertation, section
-/// 3.6.2).
-pub fn run(rt: HostRuntime) -> Result<()> {
-    let alloc = rt.alloc();
-    let mut party = lead_first_term(alloc)?;
-    stand(alloc, &mut party)?;
-    party.lose_all(alloc)?;
-    stand(alloc, &mut party)?;
-    settle_votes(alloc, &mut party)?;
-    let state = party.member(1).context("member 1 is down")?;
-    ensure!(
-        state.role == Role::Leader && state.term.0 == 3,
-        "member 1 doesn't lead term 3"
-    );
-    commit_at_once(alloc, &mut party)?;
-    println!(rt; "an entry of an older term is committed by one of the leader's term alone")?;
-    Ok(())
-}
-
 // The votes for member 1 are asked for and given.
 fn settle_votes(alloc: Global, party: &mut Party) -> Result<()> {
     party.deliver_all(alloc)?;
     party.write_all(alloc)?;
     party.notice_all(alloc)?;
     party.deliver(alloc, 1)?;
+    Ok(())
+}
+
+// Member 1 leads term 3.
+fn lead_third_term(alloc: Global, party: &mut Party) -> Result<()> {
+    stand(alloc, party)?;
+    party.lose_all(alloc)?;
+    stand(alloc, party)?;
+    settle_votes(alloc, party)?;
+    let state = party.member(1).context("member 1 is down")?;
+    ensure!(
+        state.role == Role::Leader && state.term.0 == 3,
+        "member 1 doesn't lead term 3"
+    );
+    Ok(())
+}
+
+fn commit_older(alloc: Global, party: &mut Party) -> Result<()> {
+    lead_first_term(alloc, party)?;
+    lead_third_term(alloc, party)?;
+    commit_at_once(alloc, party)
+}
+
+fn run_group(alloc: Global) -> Result<()> {
+    let mut party = Party::new(alloc, 3)?;
+    commit_older(alloc, &mut party)
+}
+
+/// A member that has entries of term 1 leads term 3 and adds one of that term. That a majority has those of
+/// term 1 commits nothing, and that it has the one of term 3 commits all (Ongaro's dissertation, section
+/// 3.6.2).
+pub fn run(rt: HostRuntime) -> Result<()> {
+    run_group(rt.alloc())?;
+    println!(rt; "an entry of an older term is committed by one of the leader's term alone")?;
     Ok(())
 }

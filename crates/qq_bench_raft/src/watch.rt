@@ -10,13 +10,20 @@ use std::alloc::Global;
 /// The last entries of each member that are compared at each step.
 const LAST: u64 = 8;
 
+/// A member that led a term.
+#[derive(Clone, Copy)]
+pub struct Led {
+    term: u64,
+    node: u8,
+}
+
 /// What was seen of a group so far.
 #[derive(Drop)]
 pub struct Watch {
     /// The rows that were shown.
     pub rows: u64,
     /// Each term that had a leader, with the leader.
-    pub leaders: Vec<(u64, u8)>,
+    pub leaders: Vec<Led>,
     /// The length of the audit.
     audited: usize,
 }
@@ -38,8 +45,14 @@ impl Watch {
         }
     }
 
-    /// Looks at the rows that an event has shown: each is the audit's entry at its index.
-    pub fn look_at_rows(&mut self, audit: &[Entry], shown: &Shown) -> Result<()> {
+    /// Looks at the rows that an event has shown, and at the members.
+    pub fn look_at(&mut self, alloc: Global, party: &Party, shown: &Shown) -> Result<()> {
+        self.look_at_rows(party.audit(), shown)?;
+        self.look_at_members(alloc, party)
+    }
+
+    // Each row is the audit's entry at its index.
+    fn look_at_rows(&mut self, audit: &[Entry], shown: &Shown) -> Result<()> {
         for row in shown.rows.as_slice() {
             let place = usize::try_from(row.row.index.0.saturating_sub(1))?;
             let entry = audit.get(place).context("a row is of no entry")?;
@@ -50,19 +63,19 @@ impl Watch {
     }
 
     fn look_at_leader(&mut self, term: u64, node: u8) -> Result<()> {
-        for (led, leader) in self.leaders.as_slice() {
-            if *led == term {
-                ensure!(*leader == node, "two members lead a term");
+        for led in self.leaders.as_slice() {
+            if led.term == term {
+                ensure!(led.node == node, "two members lead a term");
                 return Ok(());
             }
         }
-        self.leaders.push((term, node))?;
+        self.leaders.push(Led { term, node })?;
         Ok(())
     }
 
-    /// Looks at the members: what each knows to be committed is the audit's, which hasn't become shorter, and
-    /// one leads a term at most.
-    pub fn look_at_members(&mut self, alloc: Global, party: &Party) -> Result<()> {
+    // What each member knows to be committed is the audit's, which hasn't become shorter, and one leads a term
+    // at most.
+    fn look_at_members(&mut self, alloc: Global, party: &Party) -> Result<()> {
         let audited = party.audit().len();
         ensure!(self.audited <= audited, "the audit has become shorter");
         self.audited = audited;
@@ -79,18 +92,22 @@ impl Watch {
     }
 }
 
+// Whether these are the audit's entries from one place to another.
+fn compare(audit: &[Entry], first: u64, end: u64, theirs: &[Entry]) -> Result<()> {
+    let ours = audit
+        .get(usize::try_from(first)?..usize::try_from(end)?)
+        .context("the audit lacks an entry")?;
+    ensure!(
+        same_entries(ours, theirs),
+        "a member's entry isn't the audit's"
+    );
+    Ok(())
+}
+
 // Looks at the last entries that a member knows to be committed.
 fn look_at_entries(alloc: Global, party: &Party, node: u8, state: &MemberState) -> Result<()> {
     let end = state.commit.0;
     let first = end.saturating_sub(LAST);
     let theirs = party.entries(alloc, node, first.saturating_add(1), end)?;
-    let ours = party
-        .audit()
-        .get(usize::try_from(first)?..usize::try_from(end)?)
-        .context("the audit lacks an entry")?;
-    ensure!(
-        same_entries(ours, theirs.as_slice()),
-        "a member's entry isn't the audit's"
-    );
-    Ok(())
+    compare(party.audit(), first, end, theirs.as_slice())
 }
