@@ -8,11 +8,16 @@ use std::alloc::Global;
 /// The arguments of these words.
 pub fn read_args(alloc: Global, words: &[&str]) -> Result<QueueArgs, LineFault> {
     let mut args = QueueArgs::new(alloc, QueueId(1), 1);
+    set_args(alloc, &mut args, words)?;
+    Ok(args)
+}
+
+fn set_args(alloc: Global, args: &mut QueueArgs, words: &[&str]) -> Result<(), LineFault> {
     for word in words {
         let (name, value) = read_pair(word, '=')?;
-        set_arg(alloc, &mut args, name, value)?;
+        set_arg(alloc, args, name, value)?;
     }
-    Ok(args)
+    Ok(())
 }
 
 fn set_arg(alloc: Global, args: &mut QueueArgs, name: &str, value: &str) -> Result<(), LineFault> {
@@ -24,10 +29,22 @@ fn set_arg(alloc: Global, args: &mut QueueArgs, name: &str, value: &str) -> Resu
         "overflow" => args.overflow = read_overflow(value)?,
         "delivery-limit" => args.delivery_limit = read_limit(value)?,
         "single-active" => args.single_active = value == "yes",
+        "live" => args.live = read_u64(value)?,
+        _ => return set_dead_letters(alloc, args, name, value),
+    }
+    Ok(())
+}
+
+fn set_dead_letters(
+    alloc: Global,
+    args: &mut QueueArgs,
+    name: &str,
+    value: &str,
+) -> Result<(), LineFault> {
+    match name {
         "dead-letter" => args.strategy = read_strategy(value)?,
         "dead-exchange" => args.dead_exchange = Text::from_str(alloc, value)?,
         "dead-key" => args.dead_key = Some(Text::from_str(alloc, value)?),
-        "live" => args.live = read_u64(value)?,
         _ => return Err(LineFault::Unread),
     }
     Ok(())

@@ -153,11 +153,15 @@ fn read_queues(alloc: Global, word: &str) -> Result<QueueIds, LineFault> {
 fn read_done(alloc: Global, words: &[&str]) -> Result<DeadDones, LineFault> {
     let mut done = DeadDones::new(alloc);
     for word in words {
-        let (number, targets) = read_pair(word, '=')?;
-        done.push(DeadDone {
-            number: read_u64(number)?,
-            targets: read_queues(alloc, targets)?,
-        })?;
+        done.push(read_dead_done(alloc, word)?)?;
     }
     Ok(done)
+}
+
+fn read_dead_done(alloc: Global, word: &str) -> Result<DeadDone, LineFault> {
+    let (number, targets) = read_pair(word, '=')?;
+    Ok(DeadDone {
+        number: read_u64(number)?,
+        targets: read_queues(alloc, targets)?,
+    })
 }

@@ -11,28 +11,41 @@ pub fn read_message(
     body: &str,
     parts: &[&str],
 ) -> Result<(Option<Origin>, Message), LineFault> {
-    let mut origin = None;
     let mut content = Content {
         body: Bytes::from_vec(read_body(alloc, body)?),
         key: Text::new(alloc),
         deaths: Deaths::new(alloc),
     };
+    let origin = set_parts(alloc, &mut content, parts)?;
+    Ok((origin, message_of(alloc, content)?))
+}
+
+fn message_of(alloc: Global, content: Content) -> Result<Message, LineFault> {
+    let Ok(size) = u32::try_from(content.body.len()) else {
+        return Err(LineFault::Unread);
+    };
+    Ok(Message {
+        size,
+        content: Some(Shared::new(alloc, content)?),
+    })
+}
+
+/// Sets the parts of a content, and answers where the message comes from.
+fn set_parts(
+    alloc: Global,
+    content: &mut Content,
+    parts: &[&str],
+) -> Result<Option<Origin>, LineFault> {
+    let mut origin = None;
     for part in parts {
         let (name, value) = read_pair(part, '=')?;
         if name == "from" {
             origin = Some(read_origin(value)?);
         } else {
-            set_part(alloc, &mut content, name, value)?;
+            set_part(alloc, content, name, value)?;
         }
     }
-    let Ok(size) = u32::try_from(content.body.len()) else {
-        return Err(LineFault::Unread);
-    };
-    let message = Message {
-        size,
-        content: Some(Shared::new(alloc, content)?),
-    };
-    Ok((origin, message))
+    Ok(origin)
 }
 
 fn set_part(

@@ -28,11 +28,20 @@ pub fn read_line(alloc: Global, line: &str) -> Result<Line, LineFault> {
     if line.starts_with("  ") {
         return Ok(Line::Output);
     }
+    let words = words_of(alloc, line)?;
+    read_words(alloc, words.as_slice())
+}
+
+fn words_of<'a>(alloc: Global, line: &'a str) -> Result<Vec<&'a str>, LineFault> {
     let mut words = Vec::new(alloc);
     for word in line.split_whitespace() {
         words.push(word)?;
     }
-    let [first, rest @ ..] = words.as_slice() else {
+    Ok(words)
+}
+
+fn read_words(alloc: Global, words: &[&str]) -> Result<Line, LineFault> {
+    let [first, rest @ ..] = words else {
         return Err(LineFault::Unread);
     };
     if *first == "queue" {

@@ -1,7 +1,7 @@
 //! What an entry shows beside its row.
 use crate::fault::LineFault;
-use qq_base::SessionId;
-use qq_entry::{Answer, AuditRow, Delivery, Effect, Message, Reason};
+use qq_base::{ConsumerId, SessionId};
+use qq_entry::{Answer, AuditRow, Content, Delivery, Effect, Message, Reason};
 use qq_script::row_text;
 use std::alloc::Global;
 
@@ -14,52 +14,57 @@ fn reason_word(reason: Reason) -> &'static str {
     }
 }
 
-fn session_text(alloc: Global, session: SessionId) -> Result<String, LineFault> {
-    let owner = session.owner;
-    let number = session.number;
-    Ok(match session.class {
-        1 => format!(in alloc; "{number}")?,
-        2 => format!(in alloc; "d{owner}.{number}")?,
-        _ => format!(in alloc; "o{owner}.{number}")?,
-    })
-}
-
 fn push_str(text: &mut Vec<u8>, words: &str) -> Result<(), LineFault> {
     text.extend_from_slice(words.as_bytes())?;
     Ok(())
+}
+
+fn push(text: &mut Vec<u8>, words: String) -> Result<(), LineFault> {
+    push_str(text, words.as_str())
+}
+
+fn push_session(alloc: Global, text: &mut Vec<u8>, session: SessionId) -> Result<(), LineFault> {
+    let owner = session.owner;
+    let number = session.number;
+    match session.class {
+        1 => push(text, format!(in alloc; "{number}")?),
+        2 => push(text, format!(in alloc; "d{owner}.{number}")?),
+        _ => push(text, format!(in alloc; "o{owner}.{number}")?),
+    }
 }
 
 /// Adds a message in the words that an enqueue is written in, and ends the line.
 fn push_message(alloc: Global, text: &mut Vec<u8>, message: &Message) -> Result<(), LineFault> {
     let Some(content) = &message.content else {
         let size = message.size;
-        let words = format!(in alloc; "of {size} bytes\n")?;
-        return push_str(text, words.as_str());
+        return push(text, format!(in alloc; "of {size} bytes\n")?);
     };
-    let content = content.get();
+    push_content(alloc, text, content.get())?;
+    push_str(text, "\n")
+}
+
+fn push_content(alloc: Global, text: &mut Vec<u8>, content: &Content) -> Result<(), LineFault> {
     text.extend_from_slice(content.body.as_slice())?;
     if content.key.len() != 0 {
         let key = content.key.as_str();
-        let words = format!(in alloc; " key={key}")?;
-        push_str(text, words.as_str())?;
+        push(text, format!(in alloc; " key={key}")?)?;
     }
     for death in content.deaths.as_slice() {
         let queue = death.queue.0;
         let reason = reason_word(death.reason);
-        let words = format!(in alloc; " died={queue},{reason}")?;
-        push_str(text, words.as_str())?;
+        push(text, format!(in alloc; " died={queue},{reason}")?)?;
     }
-    push_str(text, "\n")
+    Ok(())
 }
 
-/// A message's arrival, and how often it was returned and counted where that isn't 0.
-fn mark_text(alloc: Global, delivery: &Delivery) -> Result<String, LineFault> {
+/// Adds a message's arrival, and how often it was returned and counted where that isn't 0, and a blank.
+fn push_mark(alloc: Global, text: &mut Vec<u8>, delivery: &Delivery) -> Result<(), LineFault> {
     let arrival = delivery.arrival;
     let count = delivery.count;
     if count == 0 {
-        return Ok(format!(in alloc; "{arrival}")?);
+        return push(text, format!(in alloc; "{arrival} ")?);
     }
-    Ok(format!(in alloc; "{arrival}/{count}")?)
+    push(text, format!(in alloc; "{arrival}/{count} ")?)
 }
 
 // Adds the message of a get.
@@ -67,28 +72,34 @@ fn push_got(alloc: Global, text: &mut Vec<u8>, answer: &Answer) -> Result<(), Li
     let Answer::Got(delivery) = answer else {
         return Ok(());
     };
-    let mark = mark_text(alloc, delivery)?;
-    let words = format!(in alloc; "  message {mark} ")?;
-    push_str(text, words.as_str())?;
+    push_str(text, "  message ")?;
+    push_mark(alloc, text, delivery)?;
+    push_message(alloc, text, &delivery.message)
+}
+
+// Adds a delivery to a consumer.
+fn push_delivery(
+    alloc: Global,
+    text: &mut Vec<u8>,
+    consumer: &ConsumerId,
+    delivery: &Delivery,
+) -> Result<(), LineFault> {
+    let tag = consumer.tag;
+    let id = delivery.id;
+    push_str(text, "  deliver ")?;
+    push_session(alloc, text, consumer.session)?;
+    push(text, format!(in alloc; " {tag} {id} ")?)?;
+    push_mark(alloc, text, delivery)?;
     push_message(alloc, text, &delivery.message)
 }
 
 // Adds an effect.
 fn push_effect(alloc: Global, text: &mut Vec<u8>, effect: &Effect) -> Result<(), LineFault> {
     match effect {
-        Effect::Deliver(consumer, delivery) => {
-            let session = session_text(alloc, consumer.session)?;
-            let tag = consumer.tag;
-            let id = delivery.id;
-            let mark = mark_text(alloc, delivery)?;
-            let words = format!(in alloc; "  deliver {session} {tag} {id} {mark} ")?;
-            push_str(text, words.as_str())?;
-            push_message(alloc, text, &delivery.message)
-        }
+        Effect::Deliver(consumer, delivery) => push_delivery(alloc, text, consumer, delivery),
         Effect::DeadOnce { reason, message } => {
             let reason = reason_word(*reason);
-            let words = format!(in alloc; "  dead {reason} ")?;
-            push_str(text, words.as_str())?;
+            push(text, format!(in alloc; "  dead {reason} ")?)?;
             push_message(alloc, text, message)
         }
         Effect::Offer {
@@ -97,8 +108,7 @@ fn push_effect(alloc: Global, text: &mut Vec<u8>, effect: &Effect) -> Result<(),
             message,
         } => {
             let reason = reason_word(*reason);
-            let words = format!(in alloc; "  offer {number} {reason} ")?;
-            push_str(text, words.as_str())?;
+            push(text, format!(in alloc; "  offer {number} {reason} ")?)?;
             push_message(alloc, text, message)
         }
     }
@@ -119,6 +129,19 @@ pub fn line_text(alloc: Global, line: &str) -> Result<Vec<u8>, LineFault> {
     Ok(text)
 }
 
+// Adds an entry's row, the message of a get, and its effects in order.
+fn push_entry(
+    alloc: Global,
+    text: &mut Vec<u8>,
+    row: &AuditRow,
+    effects: &[Effect],
+) -> Result<(), LineFault> {
+    push_str(text, "  ")?;
+    row_text(alloc, row, text)?;
+    push_got(alloc, text, &row.answer)?;
+    push_effects(alloc, text, effects)
+}
+
 /// An entry's line, and below it its row, the message of a get, and its effects in order.
 pub fn entry_text(
     alloc: Global,
@@ -127,9 +150,6 @@ pub fn entry_text(
     effects: &[Effect],
 ) -> Result<Vec<u8>, LineFault> {
     let mut text = line_text(alloc, line)?;
-    text.extend_from_slice(b"  ")?;
-    row_text(alloc, row, &mut text)?;
-    push_got(alloc, &mut text, &row.answer)?;
-    push_effects(alloc, &mut text, effects)?;
+    push_entry(alloc, &mut text, row, effects)?;
     Ok(text)
 }

@@ -1,5 +1,5 @@
-use qq_base::SessionId;
-use qq_command::{Command, Content, DeadDone, Entry, Mode, Origin, Shared, Stamp};
+use qq_base::{Ids, SessionId, Term};
+use qq_command::{Command, Content, DeadDone, Death, Entry, Message, Mode, Origin, Stamp};
 use std::fmt;
 
 /// A body up to this length is shown in full.
@@ -39,20 +39,11 @@ fn write_consumer_command<W: fmt::Write>(
             drain,
         } => {
             write_consumer(f, "credit", stamp, *tag)?;
-            write!(f, ", count {count}, credit {credit}, drain {drain}")
+            write_credit(f, *count, *credit, *drain)
         }
-        Command::Settle { stamp, tag, ids } => {
-            write_consumer(f, "settle", stamp, *tag)?;
-            write_ids(f, ids.as_slice())
-        }
-        Command::Return { stamp, tag, ids } => {
-            write_consumer(f, "return", stamp, *tag)?;
-            write_ids(f, ids.as_slice())
-        }
-        Command::Discard { stamp, tag, ids } => {
-            write_consumer(f, "discard", stamp, *tag)?;
-            write_ids(f, ids.as_slice())
-        }
+        Command::Settle { stamp, tag, ids } => write_settled(f, "settle", stamp, *tag, ids),
+        Command::Return { stamp, tag, ids } => write_settled(f, "return", stamp, *tag, ids),
+        Command::Discard { stamp, tag, ids } => write_settled(f, "discard", stamp, *tag, ids),
         _ => Ok(()),
     }
 }
@@ -67,8 +58,7 @@ fn write_command<W: fmt::Write>(f: &mut fmt::Formatter<W>, command: &Command) ->
         } => {
             write_stamp(f, "enqueue", stamp)?;
             write_origin(f, *origin)?;
-            write!(f, ", size {}", message.size)?;
-            write_content(f, &message.content)
+            write_message(f, message)
         }
         Command::Get { stamp } => write_stamp(f, "get", stamp),
         Command::Purge { stamp } => write_stamp(f, "purge", stamp),
@@ -77,21 +67,15 @@ fn write_command<W: fmt::Write>(f: &mut fmt::Formatter<W>, command: &Command) ->
             write_session(f, session)
         }
         Command::DeadAttach { term } => write!(f, "dead attach, term {}", term.0),
-        Command::DeadSettle { term, done } => {
-            write!(f, "dead settle, term {}", term.0)?;
-            write_dead_dones(f, done.as_slice())
-        }
+        Command::DeadSettle { term, done } => write_dead_settle(f, *term, done.as_slice()),
         command => write_consumer_command(f, command),
     }
 }
 
 fn write_session<W: fmt::Write>(f: &mut fmt::Formatter<W>, session: &SessionId) -> fmt::Result {
-    let SessionId {
-        class,
-        owner,
-        number,
-    } = session;
-    write!(f, ", class {class}, owner {owner}, number {number}")
+    write!(f, ", class {}", session.class)?;
+    write!(f, ", owner {}", session.owner)?;
+    write!(f, ", number {}", session.number)
 }
 
 fn write_stamp<W: fmt::Write>(f: &mut fmt::Formatter<W>, name: &str, stamp: &Stamp) -> fmt::Result {
@@ -110,6 +94,29 @@ fn write_consumer<W: fmt::Write>(
     write!(f, ", tag {tag}")
 }
 
+fn write_credit<W: fmt::Write>(
+    f: &mut fmt::Formatter<W>,
+    count: u32,
+    credit: u32,
+    drain: bool,
+) -> fmt::Result {
+    write!(f, ", count {count}")?;
+    write!(f, ", credit {credit}")?;
+    write!(f, ", drain {drain}")
+}
+
+// A consumer's command about deliveries.
+fn write_settled<W: fmt::Write>(
+    f: &mut fmt::Formatter<W>,
+    name: &str,
+    stamp: &Stamp,
+    tag: u32,
+    ids: &Ids,
+) -> fmt::Result {
+    write_consumer(f, name, stamp, tag)?;
+    write_ids(f, ids.as_slice())
+}
+
 fn write_origin<W: fmt::Write>(f: &mut fmt::Formatter<W>, origin: Option<Origin>) -> fmt::Result {
     match origin {
         None => f.write_str(", no origin"),
@@ -117,23 +124,32 @@ fn write_origin<W: fmt::Write>(f: &mut fmt::Formatter<W>, origin: Option<Origin>
     }
 }
 
-fn write_content<W: fmt::Write>(
-    f: &mut fmt::Formatter<W>,
-    content: &Option<Shared<Content>>,
-) -> fmt::Result {
-    let Some(content) = content else {
-        return f.write_str(", no content");
-    };
-    let content = content.get();
+fn write_message<W: fmt::Write>(f: &mut fmt::Formatter<W>, message: &Message) -> fmt::Result {
+    write!(f, ", size {}", message.size)?;
+    match &message.content {
+        Some(content) => write_content(f, content.get()),
+        None => f.write_str(", no content"),
+    }
+}
+
+fn write_content<W: fmt::Write>(f: &mut fmt::Formatter<W>, content: &Content) -> fmt::Result {
+    write_body(f, content.body.as_slice())?;
+    write!(f, ", key {:?}", content.key.as_str())?;
+    write_deaths(f, content.deaths.as_slice())
+}
+
+fn write_body<W: fmt::Write>(f: &mut fmt::Formatter<W>, body: &[u8]) -> fmt::Result {
     f.write_str(", body ")?;
-    for byte in content.body.as_slice().iter().take(BODY_SHOWN) {
+    for byte in body.iter().take(BODY_SHOWN) {
         write!(f, "{byte:02x}")?;
     }
-    if content.body.len() > BODY_SHOWN {
+    if body.len() > BODY_SHOWN {
         f.write_str("..")?;
     }
-    write!(f, ", key {:?}", content.key.as_str())?;
-    let deaths = content.deaths.as_slice();
+    Ok(())
+}
+
+fn write_deaths<W: fmt::Write>(f: &mut fmt::Formatter<W>, deaths: &[Death]) -> fmt::Result {
     write!(f, ", {} deaths", deaths.len())?;
     for death in deaths.iter().take(ITEMS_SHOWN) {
         write!(f, " {}:{:?}", death.queue.0, death.reason)?;
@@ -156,14 +172,24 @@ fn write_ids<W: fmt::Write>(f: &mut fmt::Formatter<W>, ids: &[u64]) -> fmt::Resu
     Ok(())
 }
 
-fn write_dead_dones<W: fmt::Write>(f: &mut fmt::Formatter<W>, done: &[DeadDone]) -> fmt::Result {
+fn write_dead_done<W: fmt::Write>(f: &mut fmt::Formatter<W>, done: &DeadDone) -> fmt::Result {
+    let targets = done.targets.as_slice();
+    write!(f, ", number {} to {} targets", done.number, targets.len())?;
+    for target in targets.iter().take(ITEMS_SHOWN) {
+        write!(f, " {}", target.0)?;
+    }
+    Ok(())
+}
+
+fn write_dead_settle<W: fmt::Write>(
+    f: &mut fmt::Formatter<W>,
+    term: Term,
+    done: &[DeadDone],
+) -> fmt::Result {
+    write!(f, "dead settle, term {}", term.0)?;
     write!(f, ", {} dead letters", done.len())?;
     for one in done.iter().take(ITEMS_SHOWN) {
-        let targets = one.targets.as_slice();
-        write!(f, ", number {} to {} targets", one.number, targets.len())?;
-        for target in targets.iter().take(ITEMS_SHOWN) {
-            write!(f, " {}", target.0)?;
-        }
+        write_dead_done(f, one)?;
     }
     Ok(())
 }

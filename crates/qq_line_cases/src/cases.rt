@@ -59,17 +59,22 @@ impl Cases {
     fn carry_out(&mut self, alloc: Global, word: &str, rest: &str) -> Result<String> {
         match word {
             "setup" => self.set_up(alloc, rest)?,
-            "read" => match read(alloc, rest.as_bytes(), false, 3, LOG_BYTES) {
-                Ok(setup) => self.setup = setup,
-                Err(_) => anyhow::bail!("no setup"),
-            },
+            "read" => self.read(alloc, rest.as_bytes())?,
             "section" => self.place = place_in(Some(u32::from(number(rest, 0)?))),
             "script" => self.place = place_in(None),
             "line" => return self.parsed(alloc, rest.as_bytes()),
-            "bytes" => return self.parsed(alloc, &hex::decode(alloc, rest)?),
+            "bytes" => return self.parsed_digits(alloc, rest),
             _ => anyhow::bail!("no such line"),
         }
         Ok(String::new(alloc))
+    }
+
+    fn read(&mut self, alloc: Global, text: &[u8]) -> Result<()> {
+        match read(alloc, text, false, 3, LOG_BYTES) {
+            Ok(setup) => self.setup = setup,
+            Err(_) => anyhow::bail!("no setup"),
+        }
+        Ok(())
     }
 
     fn set_up(&mut self, alloc: Global, rest: &str) -> Result<()> {
@@ -78,6 +83,11 @@ impl Cases {
         let queues = u32::from(number(rest, 2)?);
         self.setup = Setup::plain(alloc, nodes, group, queues, LOG_BYTES)?;
         Ok(())
+    }
+
+    fn parsed_digits(&self, alloc: Global, digits: &str) -> Result<String> {
+        let line = hex::decode(alloc, digits)?;
+        self.parsed(alloc, &line)
     }
 
     fn parsed(&self, alloc: Global, line: &[u8]) -> Result<String> {

@@ -6,30 +6,43 @@ use std::mem;
 pub fn expand(alloc: Global, line: &str) -> Result<String> {
     let mut around = Vec::new(alloc);
     let mut text = String::new(alloc);
+    add_all(alloc, &mut around, &mut text, line)?;
+    Ok(text)
+}
+
+// Adds a line to a text, and leaves nothing around it.
+fn add_all(alloc: Global, around: &mut Vec<String>, text: &mut String, line: &str) -> Result<()> {
     for c in line.chars() {
         match c {
-            '<' => around.push(mem::replace(&mut text, String::new(alloc)))?,
-            '>' => {
-                let outer = around.pop().context("nothing was opened")?;
-                let inner = mem::replace(&mut text, outer);
-                text.push_str(copies(alloc, inner.as_str())?.as_str())?;
-            }
+            '<' => around.push(mem::replace(text, String::new(alloc)))?,
+            '>' => close(alloc, around, text)?,
             _ => text.push(c)?,
         }
     }
     if !around.is_empty() {
         anyhow::bail!("a bracket is open");
     }
-    Ok(text)
+    Ok(())
 }
 
-fn copies(alloc: Global, inner: &str) -> Result<String> {
-    let (count, text) = inner.split_once(' ').context("a count is wanted")?;
+// Ends an inner text: its copies are added to the one around it.
+fn close(alloc: Global, around: &mut Vec<String>, text: &mut String) -> Result<()> {
+    let outer = around.pop().context("nothing was opened")?;
+    let inner = mem::replace(text, outer);
+    add_copies(alloc, text, inner.as_str())
+}
+
+fn add_copies(alloc: Global, text: &mut String, inner: &str) -> Result<()> {
+    let (count, part) = inner.split_once(' ').context("a count is wanted")?;
     let count: u32 = count.parse().context("a count is wanted")?;
-    let mut all = String::new(alloc);
     for before in 0..count {
-        let number = format!(in alloc; "{}", u64::from(before) + 1)?;
-        all.push_str(text.replace(alloc, '%', number.as_str())?.as_str())?;
+        let copy = copy_of(alloc, part, u64::from(before) + 1)?;
+        text.push_str(copy.as_str())?;
     }
-    Ok(all)
+    Ok(())
+}
+
+fn copy_of(alloc: Global, part: &str, number: u64) -> Result<String> {
+    let number = format!(in alloc; "{number}")?;
+    Ok(part.replace(alloc, '%', number.as_str())?)
 }

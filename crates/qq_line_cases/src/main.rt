@@ -23,22 +23,34 @@ fn is_comment(line: &str) -> bool {
     line.is_empty() || line.starts_with('#')
 }
 
-fn main(rt: HostRuntime) -> Result<()> {
-    let alloc = rt.alloc();
-    let mut cases = Cases::new(alloc)?;
-    for line in rt.lines(alloc) {
-        let line = line?;
-        if line.starts_with("  ") {
-            continue;
-        }
-        println!(rt; "{line}")?;
-        if is_comment(line.as_str()) {
-            continue;
-        }
-        let answer = cases.answer(alloc, line.as_str())?;
-        for text in answer.lines() {
-            println!(rt; "  {text}")?;
-        }
+fn print_answer(rt: HostRuntime, answer: &str) -> Result<()> {
+    for text in answer.lines() {
+        println!(rt; "  {text}")?;
     }
     Ok(())
+}
+
+fn run_line(rt: HostRuntime, cases: &mut Cases, line: &str) -> Result<()> {
+    if line.starts_with("  ") {
+        return Ok(());
+    }
+    println!(rt; "{line}")?;
+    if is_comment(line) {
+        return Ok(());
+    }
+    let answer = cases.answer(rt.alloc(), line)?;
+    print_answer(rt, answer.as_str())
+}
+
+fn run(rt: HostRuntime, cases: &mut Cases) -> Result<()> {
+    for line in rt.lines(rt.alloc()) {
+        let line = line?;
+        run_line(rt, cases, line.as_str())?;
+    }
+    Ok(())
+}
+
+fn main(rt: HostRuntime) -> Result<()> {
+    let mut cases = Cases::new(rt.alloc())?;
+    run(rt, &mut cases)
 }

@@ -1,5 +1,5 @@
 use anyhow::Result;
-use qq_base::{Bytes, ConsumerId, Ids};
+use qq_base::{Bytes, ConsumerId, Ids, NodeId, QueueId, SessionId};
 use qq_disk::{Image, Tail};
 use qq_lines::{Nodes, ScriptLine};
 use std::alloc::Global;
@@ -81,68 +81,81 @@ impl fmt::Display for Left<'_> {
     }
 }
 
+fn text_of(alloc: Global, words: &str) -> Result<String> {
+    Ok(String::from_str(alloc, words)?)
+}
+
 fn image_text(alloc: Global, nodes: &Nodes, image: &Image) -> Result<String> {
+    let head = crash_text(alloc, nodes, &image.newest_log)?;
     let removed = if image.removed_back { "back" } else { "absent" };
     Ok(format!(in alloc;
-        "crash {}: {} of the newest log, {} of others, removed files {removed}",
-        Which(nodes),
-        Left(&image.newest_log),
+        "{head}, {} of others, removed files {removed}",
         Left(&image.others)
     )?)
 }
 
+fn crash_text(alloc: Global, nodes: &Nodes, newest: &Tail) -> Result<String> {
+    Ok(format!(in alloc;
+        "crash {}: {} of the newest log",
+        Which(nodes),
+        Left(newest)
+    )?)
+}
+
+// A line about a consumer of a queue.
+fn consumed_text(
+    alloc: Global,
+    word: &str,
+    consumer: &ConsumerId,
+    queue: QueueId,
+) -> Result<String> {
+    Ok(format!(in alloc; "{word} {} queue {}", Consumer(consumer), queue.0)?)
+}
+
 // What becomes of deliveries.
-fn settled_text(alloc: Global, said: &ScriptLine) -> Result<String> {
-    Ok(match said {
-        ScriptLine::Settle {
-            consumer,
-            queue,
-            ids,
-        } => format!(in alloc;
-            "settle {} queue {} {}",
-            Consumer(consumer),
-            queue.0,
-            List(ids)
-        )?,
-        ScriptLine::Return {
-            consumer,
-            queue,
-            ids,
-        } => format!(in alloc;
-            "return {} queue {} {}",
-            Consumer(consumer),
-            queue.0,
-            List(ids)
-        )?,
-        ScriptLine::Discard {
-            consumer,
-            queue,
-            ids,
-        } => format!(in alloc;
-            "discard {} queue {} {}",
-            Consumer(consumer),
-            queue.0,
-            List(ids)
-        )?,
-        _ => String::from_str(alloc, "no text")?,
-    })
+fn settled_text(
+    alloc: Global,
+    word: &str,
+    consumer: &ConsumerId,
+    queue: QueueId,
+    ids: &Ids,
+) -> Result<String> {
+    let head = consumed_text(alloc, word, consumer, queue)?;
+    Ok(format!(in alloc; "{head} {}", List(ids))?)
+}
+
+fn subscribed_text(
+    alloc: Global,
+    consumer: &ConsumerId,
+    queue: QueueId,
+    prefetch: u16,
+) -> Result<String> {
+    let head = consumed_text(alloc, "subscribe", consumer, queue)?;
+    Ok(format!(in alloc; "{head} prefetch {prefetch}")?)
+}
+
+// A consumer's count and credit, behind its line's head.
+fn credited_text(
+    alloc: Global,
+    head: &str,
+    count: u32,
+    credit: u32,
+    drain: bool,
+) -> Result<String> {
+    let how = if drain { "drain" } else { "keep" };
+    let counted = format!(in alloc; "{head} count {count}")?;
+    Ok(format!(in alloc; "{counted} credit {credit} {how}")?)
 }
 
 // A line about a consumer, or what becomes of its deliveries.
 fn consumer_text(alloc: Global, said: &ScriptLine) -> Result<String> {
-    Ok(match said {
+    match said {
         ScriptLine::Subscribe {
             consumer,
             queue,
             prefetch,
-        } => format!(in alloc;
-            "subscribe {} queue {} prefetch {prefetch}",
-            Consumer(consumer),
-            queue.0
-        )?,
-        ScriptLine::Link { consumer, queue } => {
-            format!(in alloc; "link {} queue {}", Consumer(consumer), queue.0)?
-        }
+        } => subscribed_text(alloc, consumer, *queue, *prefetch),
+        ScriptLine::Link { consumer, queue } => consumed_text(alloc, "link", consumer, *queue),
         ScriptLine::Credit {
             consumer,
             queue,
@@ -150,67 +163,96 @@ fn consumer_text(alloc: Global, said: &ScriptLine) -> Result<String> {
             credit,
             drain,
         } => {
-            let how = if *drain { "drain" } else { "keep" };
-            let head = format!(in alloc; "credit {} queue {}", Consumer(consumer), queue.0)?;
-            format!(in alloc; "{head} count {count} credit {credit} {how}")?
+            let head = consumed_text(alloc, "credit", consumer, *queue)?;
+            credited_text(alloc, head.as_str(), *count, *credit, *drain)
         }
-        ScriptLine::Cancel { consumer, queue } => {
-            format!(in alloc; "cancel {} queue {}", Consumer(consumer), queue.0)?
-        }
-        said => settled_text(alloc, said)?,
-    })
+        ScriptLine::Cancel { consumer, queue } => consumed_text(alloc, "cancel", consumer, *queue),
+        ScriptLine::Settle {
+            consumer,
+            queue,
+            ids,
+        } => settled_text(alloc, "settle", consumer, *queue, ids),
+        ScriptLine::Return {
+            consumer,
+            queue,
+            ids,
+        } => settled_text(alloc, "return", consumer, *queue, ids),
+        ScriptLine::Discard {
+            consumer,
+            queue,
+            ids,
+        } => settled_text(alloc, "discard", consumer, *queue, ids),
+        _ => text_of(alloc, "no text"),
+    }
+}
+
+fn at_node_text(alloc: Global, word: &str, node: NodeId) -> Result<String> {
+    Ok(format!(in alloc; "{word} node {}", node.0)?)
+}
+
+fn at_server_text(alloc: Global, word: &str, node: NodeId, queue: QueueId) -> Result<String> {
+    Ok(format!(in alloc; "{word} node {} queue {}", node.0, queue.0)?)
 }
 
 // A line about nodes, servers and rounds.
 fn node_text(alloc: Global, said: &ScriptLine) -> Result<String> {
-    Ok(match said {
-        ScriptLine::Manual => String::from_str(alloc, "manual")?,
-        ScriptLine::Auto => String::from_str(alloc, "auto")?,
-        ScriptLine::Pump => String::from_str(alloc, "pump")?,
-        ScriptLine::Write { node } => format!(in alloc; "write node {}", node.0)?,
-        ScriptLine::Sync { node } => format!(in alloc; "sync node {}", node.0)?,
-        ScriptLine::Notice { node, queue } => {
-            format!(in alloc; "notice node {} queue {}", node.0, queue.0)?
-        }
-        ScriptLine::Tick { node, queue } => {
-            format!(in alloc; "tick node {} queue {}", node.0, queue.0)?
-        }
-        ScriptLine::Crash { nodes, image } => image_text(alloc, nodes, image)?,
-        ScriptLine::Restart { nodes } => format!(in alloc; "restart {}", Which(nodes))?,
-        ScriptLine::Show { queue } => format!(in alloc; "show queue {}", queue.0)?,
-        said => consumer_text(alloc, said)?,
-    })
+    match said {
+        ScriptLine::Manual => text_of(alloc, "manual"),
+        ScriptLine::Auto => text_of(alloc, "auto"),
+        ScriptLine::Pump => text_of(alloc, "pump"),
+        ScriptLine::Write { node } => at_node_text(alloc, "write", *node),
+        ScriptLine::Sync { node } => at_node_text(alloc, "sync", *node),
+        ScriptLine::Notice { node, queue } => at_server_text(alloc, "notice", *node, *queue),
+        ScriptLine::Tick { node, queue } => at_server_text(alloc, "tick", *node, *queue),
+        ScriptLine::Crash { nodes, image } => image_text(alloc, nodes, image),
+        ScriptLine::Restart { nodes } => Ok(format!(in alloc; "restart {}", Which(nodes))?),
+        ScriptLine::Show { queue } => Ok(format!(in alloc; "show queue {}", queue.0)?),
+        said => consumer_text(alloc, said),
+    }
+}
+
+fn session_text(alloc: Global, word: &str, session: SessionId) -> Result<String> {
+    Ok(format!(in alloc; "{word} session {}", session.number)?)
+}
+
+// A session's request to a queue.
+fn asked_text(alloc: Global, word: &str, session: SessionId, queue: QueueId) -> Result<String> {
+    Ok(format!(in alloc; "{word} session {} queue {}", session.number, queue.0)?)
+}
+
+// Where a session's message goes.
+fn sent_to_text(alloc: Global, session: SessionId, exchange: &str) -> Result<String> {
+    Ok(format!(in alloc;
+        "send session {} exchange {}",
+        session.number,
+        Text(exchange)
+    )?)
+}
+
+fn sent_text(alloc: Global, to: &str, key: &str, body: &Bytes) -> Result<String> {
+    Ok(format!(in alloc; "{to} key {} body {}", Text(key), Body(body))?)
 }
 
 /// What a line says, in words.
 pub fn line_text(alloc: Global, said: &ScriptLine) -> Result<String> {
-    Ok(match said {
-        ScriptLine::Nothing => String::from_str(alloc, "nothing")?,
-        ScriptLine::Publish { body } => format!(in alloc; "publish {}", Body(body))?,
+    match said {
+        ScriptLine::Nothing => text_of(alloc, "nothing"),
+        ScriptLine::Publish { body } => Ok(format!(in alloc; "publish {}", Body(body))?),
         ScriptLine::Send {
             session,
             exchange,
             key,
             body,
         } => {
-            let head = format!(in alloc; "send session {}", session.number)?;
-            let to = format!(in alloc; "{head} exchange {}", Text(exchange.as_str()))?;
-            format!(in alloc; "{to} key {} body {}", Text(key.as_str()), Body(body))?
+            let to = sent_to_text(alloc, *session, exchange.as_str())?;
+            sent_text(alloc, to.as_str(), key.as_str(), body)
         }
-        ScriptLine::Get { session, queue } => {
-            format!(in alloc; "get session {} queue {}", session.number, queue.0)?
-        }
-        ScriptLine::Purge { session, queue } => {
-            format!(in alloc; "purge session {} queue {}", session.number, queue.0)?
-        }
-        ScriptLine::End { session } => format!(in alloc; "end session {}", session.number)?,
-        ScriptLine::Resend { session } => {
-            format!(in alloc; "resend session {}", session.number)?
-        }
-        ScriptLine::Mute { session } => format!(in alloc; "mute session {}", session.number)?,
-        ScriptLine::Unmute { session } => {
-            format!(in alloc; "unmute session {}", session.number)?
-        }
-        said => node_text(alloc, said)?,
-    })
+        ScriptLine::Get { session, queue } => asked_text(alloc, "get", *session, *queue),
+        ScriptLine::Purge { session, queue } => asked_text(alloc, "purge", *session, *queue),
+        ScriptLine::End { session } => session_text(alloc, "end", *session),
+        ScriptLine::Resend { session } => session_text(alloc, "resend", *session),
+        ScriptLine::Mute { session } => session_text(alloc, "mute", *session),
+        ScriptLine::Unmute { session } => session_text(alloc, "unmute", *session),
+        said => node_text(alloc, said),
+    }
 }

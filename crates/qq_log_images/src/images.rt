@@ -1,8 +1,8 @@
 use crate::stops::{cuts_text, stops_text};
 use crate::text::{lanes_text, queues, recovered_text};
-use crate::written::{Written, empty_disk};
+use crate::written::{Written, append, empty_disk};
 use anyhow::{Context, Result};
-use qq_disk::{FileKind, FileName, NodeDisk};
+use qq_disk::{FileKind, FileName};
 use qq_hiding::Hiding;
 use std::alloc::Global;
 use std::mem;
@@ -67,9 +67,9 @@ impl Images {
     fn recover(&mut self, alloc: Global, words: &str) -> Result<String> {
         let queues = queues(alloc, words)?;
         let disk = mem::replace(&mut self.disk, empty_disk(alloc));
-        let (text, disk) = recovered_text(alloc, disk, &queues)?;
+        let (text, disk) = recovered_text(alloc, disk, &queues);
         self.disk = disk;
-        Ok(text)
+        text
     }
 
     // Adds bytes to a log file.
@@ -77,10 +77,7 @@ impl Images {
         let (number, digits) = cut(words);
         let file = log(number)?;
         let bytes = bytes_of(alloc, digits)?;
-        self.disk.append(alloc, file, &bytes)?;
-        if synced {
-            self.disk.sync(alloc, file)?;
-        }
+        append(alloc, &mut self.disk, file, &bytes, synced)?;
         self.written.add(file, bytes, synced)
     }
 }

@@ -32,7 +32,9 @@ mod written;
 
 use anyhow::Result;
 use images::Images;
+use qq_base::QueueId;
 use qq_dir_disk::DirDisk;
+use std::alloc::Global;
 use std::{env, io};
 use text::lanes_text;
 
@@ -40,37 +42,73 @@ fn is_passed_over(line: &str) -> bool {
     line.is_empty() || line.starts_with('#')
 }
 
-fn run_cases(rt: HostRuntime) -> Result<()> {
-    let alloc = rt.alloc();
-    let cases = io::read_to_string(alloc, rt.stdin())?;
-    let mut images = Images::new(alloc);
-    for line in cases.lines() {
-        if line.starts_with("  ") {
-            continue;
-        }
-        println!(rt; "{line}")?;
-        if is_passed_over(line) {
-            continue;
-        }
-        let answer = images.line(alloc, line)?;
-        for row in answer.lines() {
-            println!(rt; "  {row}")?;
-        }
+fn print_answer(rt: HostRuntime, answer: &str) -> Result<()> {
+    for row in answer.lines() {
+        println!(rt; "  {row}")?;
     }
     Ok(())
 }
 
-fn main(rt: HostRuntime) -> Result<()> {
+fn run_line(rt: HostRuntime, images: &mut Images, line: &str) -> Result<()> {
+    if line.starts_with("  ") {
+        return Ok(());
+    }
+    println!(rt; "{line}")?;
+    if is_passed_over(line) {
+        return Ok(());
+    }
+    let answer = images.line(rt.alloc(), line)?;
+    print_answer(rt, answer.as_str())
+}
+
+fn run_lines(rt: HostRuntime, images: &mut Images, cases: &str) -> Result<()> {
+    for line in cases.lines() {
+        run_line(rt, images, line)?;
+    }
+    Ok(())
+}
+
+fn run_cases(rt: HostRuntime) -> Result<()> {
     let alloc = rt.alloc();
-    let mut words = env::args(&rt)?.skip(1);
-    let Some(folder) = words.next() else {
-        return run_cases(rt);
-    };
+    let cases = io::read_to_string(alloc, rt.stdin())?;
+    let mut images = Images::new(alloc);
+    run_lines(rt, &mut images, cases.as_str())
+}
+
+fn folder_text(rt: HostRuntime, folder: String, queues: &[QueueId]) -> Result<String> {
+    let alloc = rt.alloc();
+    let mut disk = DirDisk::new(rt, alloc, folder);
+    lanes_text(alloc, &mut disk, queues)
+}
+
+fn queues_of(alloc: Global, words: &[String]) -> Result<Vec<QueueId>> {
     let mut queues = Vec::new(alloc);
     for word in words {
         queues.push(text::queue(word.as_str())?)?;
     }
-    let mut disk = DirDisk::new(rt, alloc, folder);
-    print!(rt; "{}", lanes_text(alloc, &mut disk, &queues)?)?;
+    Ok(queues)
+}
+
+fn run_folder(rt: HostRuntime, folder: &str, words: &[String]) -> Result<()> {
+    let alloc = rt.alloc();
+    let queues = queues_of(alloc, words)?;
+    let text = folder_text(rt, String::from_str(alloc, folder)?, &queues)?;
+    print!(rt; "{text}")?;
     Ok(())
+}
+
+fn words_of(rt: HostRuntime) -> Result<Vec<String>> {
+    let mut words = Vec::new(rt.alloc());
+    for word in env::args(&rt)?.skip(1) {
+        words.push(word)?;
+    }
+    Ok(words)
+}
+
+fn main(rt: HostRuntime) -> Result<()> {
+    let words = words_of(rt)?;
+    match words.as_slice() {
+        [folder, queues @ ..] => run_folder(rt, folder.as_str(), queues),
+        [] => run_cases(rt),
+    }
 }

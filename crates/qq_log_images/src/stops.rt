@@ -1,5 +1,5 @@
 //! What recovery gives where a crash cut what waits for a sync, and where the disk stops at each call.
-use crate::text::recovered_lanes;
+use crate::text::{push, recovered_lanes};
 use crate::written::Written;
 use anyhow::Result;
 use qq_base::{Bytes, Memory, QueueId};
@@ -48,14 +48,19 @@ fn crash(alloc: Global, hiding: Hiding, tail: Tail) -> Result<Hiding, Memory> {
     })
 }
 
-/// The disk of a recovery that is stopped after so many calls. None where it came to its end.
-fn stopped(alloc: Global, disk: Hiding, queues: &[QueueId], calls: u64) -> Option<Hiding> {
-    let mut disk = disk;
-    disk.disk.fuse(calls);
+/// The disk, where it stops a recovery. None where the recovery comes to its end.
+fn stopping(alloc: Global, disk: Hiding, queues: &[QueueId]) -> Option<Hiding> {
     match recover(disk, alloc, queues, 1000) {
         Err((RecoverFault::Disk, disk)) => Some(disk),
         _ => None,
     }
+}
+
+/// The disk of a recovery that is stopped after so many calls. None where it came to its end.
+fn stopped(alloc: Global, disk: Hiding, queues: &[QueueId], calls: u64) -> Option<Hiding> {
+    let mut disk = disk;
+    disk.disk.fuse(calls);
+    stopping(alloc, disk, queues)
 }
 
 /// The disk of a recovery one call of which fails, after so many. None where it came to its end.
@@ -67,10 +72,7 @@ fn failed(
 ) -> Result<Option<Hiding>> {
     let mut disk = written.disk(alloc)?;
     fail_once(alloc, &mut disk, calls)?;
-    match recover(disk, alloc, queues, 1000) {
-        Err((RecoverFault::Disk, disk)) => Ok(Some(disk)),
-        _ => Ok(None),
-    }
+    Ok(stopping(alloc, disk, queues))
 }
 
 /// What a crash leaves behind a recovery that is stopped after so many calls.
@@ -81,8 +83,9 @@ fn crashed(
     calls: u64,
     choice: u64,
 ) -> Result<Option<Hiding>> {
+    let rest = tail(alloc, choice)?;
     match stopped(alloc, written.disk(alloc)?, queues, calls) {
-        Some(disk) => Ok(Some(crash(alloc, disk, tail(alloc, choice)?)?)),
+        Some(disk) => Ok(Some(crash(alloc, disk, rest)?)),
         None => Ok(None),
     }
 }
@@ -141,37 +144,78 @@ fn stops_after(
     Ok(true)
 }
 
+/// In how many calls the disk can stop a recovery, where these lanes come whatever follows.
+fn stops(alloc: Global, written: &Written, queues: &[QueueId], wanted: &str) -> Result<u64> {
+    for calls in 0..MOST_CALLS {
+        if !stops_after(alloc, written, queues, calls, wanted)? {
+            return Ok(calls);
+        }
+    }
+    anyhow::bail!("recovery makes too many calls")
+}
+
 /// In how many calls the disk can stop a recovery, where the same lanes come whatever follows.
 pub fn stops_text(alloc: Global, written: &Written, queues: &[QueueId]) -> Result<String> {
     if written.waiting() != 0 {
         anyhow::bail!("all has to be synced");
     }
     let wanted = recovered_lanes(alloc, written.disk(alloc)?, queues)?;
-    for calls in 0..MOST_CALLS {
-        if !stops_after(alloc, written, queues, calls, wanted.as_str())? {
-            return Ok(format!(in alloc;
-                "{calls} calls, and the same lanes after a stop at each\n"
-            )?);
-        }
+    let calls = stops(alloc, written, queues, wanted.as_str())?;
+    Ok(format!(in alloc; "{calls} calls, and the same lanes after a stop at each\n")?)
+}
+
+/// The lanes that recovery gives after a crash that leaves this of what waits for a sync.
+fn lanes_behind(
+    alloc: Global,
+    written: &Written,
+    queues: &[QueueId],
+    rest: Tail,
+) -> Result<String> {
+    let disk = crash(alloc, written.disk(alloc)?, rest)?;
+    recovered_lanes(alloc, disk, queues)
+}
+
+/// Adds the lanes of a cut of what waits for a sync, where they aren't those of the cut before.
+fn push_cut(
+    alloc: Global,
+    text: &mut String,
+    before: &mut String,
+    count: u64,
+    lanes: String,
+) -> Result<()> {
+    if lanes.as_str() == before.as_str() {
+        return Ok(());
     }
-    anyhow::bail!("recovery makes too many calls")
+    push(text, format!(in alloc; "from {count} bytes on:\n{lanes}")?)?;
+    *before = lanes;
+    Ok(())
+}
+
+fn push_cuts(
+    alloc: Global,
+    text: &mut String,
+    written: &Written,
+    queues: &[QueueId],
+) -> Result<()> {
+    let mut before = String::new(alloc);
+    for count in 0..=written.waiting() as u64 {
+        let lanes = lanes_behind(alloc, written, queues, Tail::Cut(count))?;
+        push_cut(alloc, text, &mut before, count, lanes)?;
+    }
+    Ok(())
+}
+
+/// The lanes that recovery gives where other bytes stand in the place of what waits for a sync.
+fn others_text(alloc: Global, written: &Written, queues: &[QueueId]) -> Result<String> {
+    let lanes = lanes_behind(alloc, written, queues, junk(alloc)?)?;
+    Ok(format!(in alloc; "other bytes:\n{lanes}")?)
 }
 
 /// The lanes of each cut of what waits for a sync, in runs of cuts that give the same, and then those where
 /// other bytes stand there.
 pub fn cuts_text(alloc: Global, written: &Written, queues: &[QueueId]) -> Result<String> {
     let mut text = String::new(alloc);
-    let mut before = String::new(alloc);
-    for count in 0..=written.waiting() as u64 {
-        let disk = crash(alloc, written.disk(alloc)?, Tail::Cut(count))?;
-        let lanes = recovered_lanes(alloc, disk, queues)?;
-        if lanes.as_str() != before.as_str() {
-            text.push_str(format!(in alloc; "from {count} bytes on:\n{lanes}")?.as_str())?;
-            before = lanes;
-        }
-    }
-    let disk = crash(alloc, written.disk(alloc)?, junk(alloc)?)?;
-    let lanes = recovered_lanes(alloc, disk, queues)?;
-    text.push_str(format!(in alloc; "other bytes:\n{lanes}")?.as_str())?;
+    push_cuts(alloc, &mut text, written, queues)?;
+    push(&mut text, others_text(alloc, written, queues)?)?;
     Ok(text)
 }

@@ -1,5 +1,5 @@
 use anyhow::{Context, Result};
-use qq_base::{Memory, QueueId};
+use qq_base::{Index, Memory, QueueId};
 use qq_disk::{FileKind, FileName, NodeDisk};
 use qq_hiding::Hiding;
 use qq_log::Lane;
@@ -22,29 +22,41 @@ pub fn queues(alloc: Global, words: &str) -> Result<Vec<QueueId>> {
     Ok(queues)
 }
 
-fn vote_text(alloc: Global, lane: &Lane) -> Result<String> {
+/// Adds words to a text.
+pub fn push(text: &mut String, words: String) -> Result<()> {
+    text.push_str(words.as_str())?;
+    Ok(())
+}
+
+fn push_vote(alloc: Global, text: &mut String, lane: &Lane) -> Result<()> {
     match lane.vote {
-        Some(node) => Ok(format!(in alloc; "vote {}", node.0)?),
-        None => Ok(String::from_str(alloc, "no vote")?),
+        Some(node) => push(text, format!(in alloc; "vote {}", node.0)?),
+        None => Ok(text.push_str("no vote")?),
     }
 }
 
-fn lane_text(alloc: Global, lane: &Lane) -> Result<String> {
-    let vote = vote_text(alloc, lane)?;
-    let mut text = format!(in alloc;
-        "queue {}: op {}, term {}, {vote}",
-        lane.queue.0, lane.op, lane.term.0
-    )?;
+fn push_terms(alloc: Global, text: &mut String, lane: &Lane) -> Result<()> {
     if lane.entries.is_empty() {
-        text.push_str(", no entries\n")?;
-        return Ok(text);
+        return Ok(text.push_str(", no entries")?);
     }
     text.push_str(", entries of terms")?;
     for entry in lane.entries.as_slice() {
-        text.push_str(format!(in alloc; " {}", entry.term.0)?.as_str())?;
+        push(text, format!(in alloc; " {}", entry.term.0)?)?;
     }
+    Ok(())
+}
+
+/// Adds a lane's line.
+fn push_lane(alloc: Global, text: &mut String, lane: &Lane) -> Result<()> {
+    push(
+        text,
+        format!(in alloc; "queue {}: op {}", lane.queue.0, lane.op)?,
+    )?;
+    push(text, format!(in alloc; ", term {}, ", lane.term.0)?)?;
+    push_vote(alloc, text, lane)?;
+    push_terms(alloc, text, lane)?;
     text.push('\n')?;
-    Ok(text)
+    Ok(())
 }
 
 fn fault_text(alloc: Global, fault: RecoverFault) -> Result<String> {
@@ -70,7 +82,7 @@ fn all_lanes_text(alloc: Global, lanes: &[Lane]) -> Result<String> {
     }
     let mut text = String::new(alloc);
     for lane in lanes {
-        text.push_str(lane_text(alloc, lane)?.as_str())?;
+        push_lane(alloc, &mut text, lane)?;
     }
     Ok(text)
 }
@@ -98,6 +110,16 @@ fn taken(
     Ok(lanes)
 }
 
+/// A line for each lane that recovery hands out, or that there is none.
+fn taken_text(
+    alloc: Global,
+    recovered: &mut Recovered<Hiding>,
+    queues: &[QueueId],
+) -> Result<String> {
+    let lanes = taken(alloc, recovered, queues)?;
+    all_lanes_text(alloc, &lanes)
+}
+
 /// The log file of greatest number.
 fn newest_log(alloc: Global, disk: &mut Hiding) -> Result<FileName> {
     let mut newest = FileName {
@@ -112,8 +134,8 @@ fn newest_log(alloc: Global, disk: &mut Hiding) -> Result<FileName> {
     Ok(newest)
 }
 
-/// The file that was begun: its length, and what its header names.
-fn begun_text(alloc: Global, disk: &mut Hiding) -> Result<String> {
+/// Adds the file that was begun: its length, and what its header names.
+fn push_begun(alloc: Global, text: &mut String, disk: &mut Hiding) -> Result<()> {
     let file = newest_log(alloc, disk)?;
     let size = disk.size(alloc, file)?;
     let mut front = [0; 38];
@@ -121,47 +143,94 @@ fn begun_text(alloc: Global, disk: &mut Hiding) -> Result<String> {
     let Ok(header) = read_header(&front) else {
         anyhow::bail!("the new file has no header");
     };
-    Ok(format!(in alloc;
-        "log {} of {size} bytes is begun, behind {} bytes of log {}\n",
-        header.file, header.good, header.previous
-    )?)
+    push(
+        text,
+        format!(in alloc; "log {} of {size} bytes", header.file)?,
+    )?;
+    push(
+        text,
+        format!(in alloc; " is begun, behind {} bytes", header.good)?,
+    )?;
+    push(text, format!(in alloc; " of log {}\n", header.previous)?)
 }
 
-/// A line for each queue and log file that has entries of it.
-fn entries_text(alloc: Global, wal: &mut Wal<Hiding>, queues: &[QueueId]) -> Result<String> {
-    let mut text = String::new(alloc);
-    let names = wal.disk().names(alloc)?;
-    for queue in queues {
-        for name in &names {
-            if name.kind != FileKind::Log {
-                continue;
-            }
-            if let Some((first, last)) = wal.in_file(*queue, name.number) {
-                text.push_str(format!(in alloc;
-                    "log {} has entries {} to {} of queue {}\n",
-                    name.number, first.0, last.0, queue.0
-                )?
-                .as_str())?;
-            }
+/// Adds a line for a log file that has these of a queue's entries.
+fn push_range(
+    alloc: Global,
+    text: &mut String,
+    queue: QueueId,
+    log: u64,
+    first: Index,
+    last: Index,
+) -> Result<()> {
+    push(
+        text,
+        format!(in alloc; "log {log} has entries {}", first.0)?,
+    )?;
+    push(
+        text,
+        format!(in alloc; " to {} of queue {}\n", last.0, queue.0)?,
+    )
+}
+
+/// Adds a line for each log file that has entries of a queue.
+fn push_entries(
+    alloc: Global,
+    text: &mut String,
+    wal: &mut Wal<Hiding>,
+    queue: QueueId,
+    names: &[FileName],
+) -> Result<()> {
+    for name in names {
+        if name.kind != FileKind::Log {
+            continue;
+        }
+        if let Some((first, last)) = wal.in_file(queue, name.number) {
+            push_range(alloc, text, queue, name.number, first, last)?;
         }
     }
+    Ok(())
+}
+
+/// Adds a line for each queue and log file that has entries of it, and one for the file that was begun.
+fn push_log(
+    alloc: Global,
+    text: &mut String,
+    wal: &mut Wal<Hiding>,
+    queues: &[QueueId],
+) -> Result<()> {
+    let names = wal.disk().names(alloc)?;
+    for queue in queues {
+        push_entries(alloc, text, wal, *queue, &names)?;
+    }
+    push_begun(alloc, text, wal.disk())
+}
+
+/// The lanes' lines, and those of the log behind them.
+fn with_log(
+    alloc: Global,
+    lanes: Result<String>,
+    wal: &mut Wal<Hiding>,
+    queues: &[QueueId],
+) -> Result<String> {
+    let mut text = lanes?;
+    push_log(alloc, &mut text, wal, queues)?;
     Ok(text)
 }
 
 /// A line for each lane that recovery gives, one for each log file that has entries of a queue, and one for the
 /// file that it begins; or one for why it gives none; and the disk.
-pub fn recovered_text(alloc: Global, disk: Hiding, queues: &[QueueId]) -> Result<(String, Hiding)> {
-    let mut recovered = match recover(disk, alloc, queues, 1000) {
-        Ok(recovered) => recovered,
-        Err((fault, disk)) => return Ok((fault_text(alloc, fault)?, disk)),
-    };
-    let lanes = taken(alloc, &mut recovered, queues)?;
-    let mut text = all_lanes_text(alloc, &lanes)?;
-    let mut wal = recovered.into_wal();
-    text.push_str(entries_text(alloc, &mut wal, queues)?.as_str())?;
-    let mut disk = wal.into_disk();
-    text.push_str(begun_text(alloc, &mut disk)?.as_str())?;
-    Ok((text, disk))
+pub fn recovered_text(alloc: Global, disk: Hiding, queues: &[QueueId]) -> (Result<String>, Hiding) {
+    match recover(disk, alloc, queues, 1000) {
+        Ok(recovered) => {
+            let mut recovered = recovered;
+            let lanes = taken_text(alloc, &mut recovered, queues);
+            let mut wal = recovered.into_wal();
+            let text = with_log(alloc, lanes, &mut wal, queues);
+            (text, wal.into_disk())
+        }
+        Err((fault, disk)) => (fault_text(alloc, fault), disk),
+    }
 }
 
 /// A line for each lane that recovery gives, or one for why it gives none.
@@ -169,7 +238,7 @@ pub fn recovered_lanes(alloc: Global, disk: Hiding, queues: &[QueueId]) -> Resul
     match recover(disk, alloc, queues, 1000) {
         Ok(recovered) => {
             let mut recovered = recovered;
-            all_lanes_text(alloc, &taken(alloc, &mut recovered, queues)?)
+            taken_text(alloc, &mut recovered, queues)
         }
         Err((fault, _)) => fault_text(alloc, fault),
     }

@@ -11,6 +11,21 @@ pub fn empty_disk(alloc: Global) -> Hiding {
     }
 }
 
+/// Adds bytes to a file of a disk, which are synced or wait for a sync.
+pub fn append(
+    alloc: Global,
+    disk: &mut Hiding,
+    file: FileName,
+    bytes: &[u8],
+    synced: bool,
+) -> Result<()> {
+    disk.append(alloc, file, bytes)?;
+    if synced {
+        disk.sync(alloc, file)?;
+    }
+    Ok(())
+}
+
 /// Bytes that were added to a file.
 #[derive(Drop)]
 struct Piece {
@@ -54,15 +69,17 @@ impl Written {
         count
     }
 
+    fn write(&self, alloc: Global, disk: &mut Hiding) -> Result<()> {
+        for piece in &self.pieces {
+            append(alloc, disk, piece.file, &piece.bytes, piece.synced)?;
+        }
+        Ok(())
+    }
+
     /// A disk with all that was written.
     pub fn disk(&self, alloc: Global) -> Result<Hiding> {
         let mut disk = empty_disk(alloc);
-        for piece in &self.pieces {
-            disk.append(alloc, piece.file, &piece.bytes)?;
-            if piece.synced {
-                disk.sync(alloc, piece.file)?;
-            }
-        }
+        self.write(alloc, &mut disk)?;
         Ok(disk)
     }
 }

@@ -43,7 +43,7 @@ pub fn fault_text(alloc: Global, fault: &DefsFault) -> Result<String> {
 /// A queue's arguments: its group, what it does when it is full, and its delivery limit; then each that isn't
 /// as in a queue with no arguments.
 #[derive(Clone, Copy)]
-pub struct Arguments<'a>(pub &'a QueueArgs);
+struct Arguments<'a>(&'a QueueArgs);
 
 impl fmt::Display for Arguments<'_> {
     fn fmt<W: fmt::Write>(&self, f: &mut fmt::Formatter<W>) -> fmt::Result {
@@ -95,20 +95,21 @@ fn write_dead_letters<W: fmt::Write>(f: &mut fmt::Formatter<W>, args: &QueueArgs
     }
 }
 
-fn row_text(alloc: Global, row: &QueueRow) -> Result<String> {
-    let mut nodes = String::new(alloc);
-    for node in row.members.as_slice() {
-        nodes.push_str(format!(in alloc; " {}", node.0)?.as_str())?;
-    }
-    let number = row.args.queue.0;
-    Ok(format!(in alloc;
-        "{number} {} on{nodes}: {}",
-        Shown(&row.name),
-        Arguments(&row.args)
-    )?)
+fn push(text: &mut String, words: String) -> Result<()> {
+    text.push_str(words.as_str())?;
+    Ok(())
 }
 
-fn made_text(alloc: Global, made: &Made) -> Result<String> {
+fn push_row(alloc: Global, text: &mut String, row: &QueueRow) -> Result<()> {
+    let number = row.args.queue.0;
+    push(text, format!(in alloc; "{number} {} on", Shown(&row.name))?)?;
+    for node in row.members.as_slice() {
+        push(text, format!(in alloc; " {}", node.0)?)?;
+    }
+    push(text, format!(in alloc; ": {}", Arguments(&row.args))?)
+}
+
+fn push_made(alloc: Global, text: &mut String, made: &Made) -> Result<()> {
     let Made {
         queues,
         exchanges,
@@ -117,30 +118,51 @@ fn made_text(alloc: Global, made: &Made) -> Result<String> {
         skipped_bindings,
         other_vhosts,
     } = made;
-    let mut text = format!(in alloc;
-        "made queues {queues} exchanges {exchanges} bindings {bindings}"
-    )?;
-    text.push_str(format!(in alloc; " skipped queues {skipped_queues}")?.as_str())?;
-    text.push_str(format!(in alloc; " bindings {skipped_bindings}")?.as_str())?;
-    text.push_str(format!(in alloc; " other-vhosts {other_vhosts}")?.as_str())?;
-    Ok(text)
+    push(text, format!(in alloc; "made queues {queues}")?)?;
+    push(text, format!(in alloc; " exchanges {exchanges}")?)?;
+    push(text, format!(in alloc; " bindings {bindings}")?)?;
+    push(text, format!(in alloc; " skipped queues {skipped_queues}")?)?;
+    push(text, format!(in alloc; " bindings {skipped_bindings}")?)?;
+    push(text, format!(in alloc; " other-vhosts {other_vhosts}")?)
+}
+
+fn push_rows(alloc: Global, text: &mut String, rows: &[QueueRow]) -> Result<()> {
+    for (place, row) in rows.iter().enumerate() {
+        if place < ROWS_SHOWN || place >= rows.len().saturating_sub(1) {
+            text.push('\n')?;
+            push_row(alloc, text, row)?;
+        }
+    }
+    Ok(())
+}
+
+fn push_setup(alloc: Global, text: &mut String, setup: &Setup) -> Result<()> {
+    match &setup.made {
+        Some(made) => push_made(alloc, text, made)?,
+        None => text.push_str("no definitions")?,
+    }
+    let line = format!(in alloc; "\nnodes {} log {}", setup.nodes, setup.log_bytes)?;
+    push(text, line)?;
+    push_rows(alloc, text, setup.queues.as_slice())
 }
 
 /// What was made of an export, in counts, and its queues.
 pub fn setup_text(alloc: Global, setup: &Setup) -> Result<String> {
-    let mut text = match &setup.made {
-        Some(made) => made_text(alloc, made)?,
-        None => String::from_str(alloc, "no definitions")?,
-    };
-    let rows = setup.queues.as_slice();
-    text.push_str(format!(in alloc; "\nnodes {} log {}", setup.nodes, setup.log_bytes)?.as_str())?;
-    for (place, row) in rows.iter().enumerate() {
-        if place < ROWS_SHOWN || place >= rows.len() - 1 {
-            text.push('\n')?;
-            text.push_str(row_text(alloc, row)?.as_str())?;
-        }
-    }
+    let mut text = String::new(alloc);
+    push_setup(alloc, &mut text, setup)?;
     Ok(text)
+}
+
+/// A queue's arguments in words.
+pub fn arguments_text(alloc: Global, args: &QueueArgs) -> Result<String> {
+    Ok(format!(in alloc; "{}", Arguments(args))?)
+}
+
+fn push_target(alloc: Global, text: &mut String, queue: QueueId) -> Result<()> {
+    if !text.is_empty() {
+        text.push(' ')?;
+    }
+    push(text, format!(in alloc; "{}", queue.0)?)
 }
 
 /// The numbers of queues.
@@ -150,10 +172,7 @@ pub fn targets_text(alloc: Global, queues: &[QueueId]) -> Result<String> {
     }
     let mut text = String::new(alloc);
     for queue in queues {
-        if !text.is_empty() {
-            text.push(' ')?;
-        }
-        text.push_str(format!(in alloc; "{}", queue.0)?.as_str())?;
+        push_target(alloc, &mut text, *queue)?;
     }
     Ok(text)
 }

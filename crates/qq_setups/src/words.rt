@@ -41,11 +41,15 @@ impl<'a> Words<'a> {
     }
 
     /// A name or a key.
-    pub fn text(&mut self, alloc: Global) -> Result<Text> {
-        let word = match self.next() {
+    pub fn name(&mut self) -> &'a str {
+        match self.next() {
             "-" => "",
             word => word,
-        };
-        Ok(Text::from_str(alloc, word)?)
+        }
+    }
+
+    /// A name or a key, as a text.
+    pub fn text(&mut self, alloc: Global) -> Result<Text> {
+        Ok(Text::from_str(alloc, self.name())?)
     }
 }

@@ -23,17 +23,31 @@ fn is_comment(line: &str) -> bool {
     line.is_empty() || line.starts_with('#')
 }
 
+fn run_line(rt: HostRuntime, shelves: &mut Shelves, line: &str) -> Result<()> {
+    if line.starts_with("  ") {
+        return Ok(());
+    }
+    println!(rt; "{line}")?;
+    if is_comment(line) {
+        return Ok(());
+    }
+    shelves.line(line)
+}
+
+fn run_lines(rt: HostRuntime, shelves: &mut Shelves, cases: &str) -> Result<()> {
+    for line in cases.lines() {
+        run_line(rt, shelves, line)?;
+    }
+    Ok(())
+}
+
+fn run(rt: HostRuntime, cases: &str) -> Result<()> {
+    let mut shelves = Shelves::new(rt)?;
+    run_lines(rt, &mut shelves, cases)
+}
+
 fn main(rt: HostRuntime) -> Result<()> {
     let cases = io::read_to_string(rt.alloc(), rt.stdin())?;
-    let mut shelves = Shelves::new(rt)?;
-    for line in cases.lines() {
-        if line.starts_with("  ") {
-            continue;
-        }
-        println!(rt; "{line}")?;
-        if !is_comment(line) {
-            shelves.line(line)?;
-        }
-    }
+    run(rt, cases.as_str())?;
     clean(rt)
 }

@@ -39,13 +39,35 @@ fn numbers(alloc: Global, words: &str) -> Result<Vec<u64>> {
     Ok(numbers)
 }
 
-fn fetch<S: Shelf>(alloc: Global, shelf: &mut S, name: &str, shows: Shows) -> Result<String> {
-    match (shelf.fetch(alloc, name), shows) {
-        (Ok(bytes), Shows::Text) => Ok(format!(in alloc; "`{}`", str::from_utf8(&bytes)?)?),
-        (Ok(bytes), Shows::Length) => Ok(format!(in alloc; "{}", bytes.len())?),
-        (Err(ShelfFault::Failed), _) => Ok(String::from_str(alloc, "failed")?),
-        (Err(ShelfFault::Memory(_)), _) => Ok(String::from_str(alloc, "memory")?),
+fn text_of(alloc: Global, bytes: &[u8], shows: Shows) -> Result<String> {
+    match shows {
+        Shows::Text => Ok(format!(in alloc; "`{}`", str::from_utf8(bytes)?)?),
+        Shows::Length => Ok(format!(in alloc; "{}", bytes.len())?),
     }
+}
+
+fn fault_text(alloc: Global, fault: ShelfFault) -> Result<String> {
+    let word = match fault {
+        ShelfFault::Failed => "failed",
+        ShelfFault::Memory(_) => "memory",
+    };
+    Ok(String::from_str(alloc, word)?)
+}
+
+fn fetch<S: Shelf>(alloc: Global, shelf: &mut S, name: &str, shows: Shows) -> Result<String> {
+    match shelf.fetch(alloc, name) {
+        Ok(bytes) => text_of(alloc, &bytes, shows),
+        Err(fault) => fault_text(alloc, fault),
+    }
+}
+
+// Prints what the shelf in memory answered; and what the one in a folder did where it is another.
+fn print_both(rt: HostRuntime, text: &str, other: &str) -> Result<()> {
+    println!(rt; "  {text}")?;
+    if other != text {
+        println!(rt; "  in the folder: {other}")?;
+    }
+    Ok(())
 }
 
 impl Shelves {
@@ -54,11 +76,12 @@ impl Shelves {
         clean(rt)?;
         fs::create_dir(&rt, SCRATCH)?;
         let alloc = rt.alloc();
+        let folder = FolderShelf::new(rt, String::from_str(alloc, SCRATCH)?);
         Ok(Shelves {
             rt,
             files: Vec::new(alloc),
             memory: MemShelf::new(Vec::new(alloc), Vec::new(alloc)),
-            folder: FolderShelf::new(rt, String::from_str(alloc, SCRATCH)?),
+            folder,
         })
     }
 
@@ -114,9 +137,11 @@ impl Shelves {
     // Makes the shelves of the files so far.
     fn shelf(&mut self, words: &str) -> Result<()> {
         let alloc = self.rt.alloc();
+        let failing = numbers(alloc, words)?;
+        let folder = String::from_str(alloc, SCRATCH)?;
         let files = std::mem::replace(&mut self.files, Vec::new(alloc));
-        self.memory = MemShelf::new(files, numbers(alloc, words)?);
-        self.folder = FolderShelf::new(self.rt, String::from_str(alloc, SCRATCH)?);
+        self.memory = MemShelf::new(files, failing);
+        self.folder = FolderShelf::new(self.rt, folder);
         Ok(())
     }
 
@@ -124,11 +149,7 @@ impl Shelves {
     fn fetch(&mut self, name: &str, shows: Shows) -> Result<()> {
         let alloc = self.rt.alloc();
         let text = fetch(alloc, &mut self.memory, name, shows)?;
-        println!(self.rt; "  {text}")?;
         let other = fetch(alloc, &mut self.folder, name, shows)?;
-        if other != text {
-            println!(self.rt; "  in the folder: {other}")?;
-        }
-        Ok(())
+        print_both(self.rt, text.as_str(), other.as_str())
     }
 }
