@@ -4,7 +4,7 @@ use Rattle.qq_base.specs.declared.ids.QueueId.{QueueId}
 use Rattle.qq_entry.specs.declared.command.Entry.{Entry}
 use Rattle.qq_entry.specs.Range.{IsWritable}
 use Rattle.qq_disk.specs.Disk.{Disk}
-use Rattle.qq_chain.specs.Lanes.{is_listed}
+use Rattle.qq_wal_chain.specs.Lanes.{is_listed}
 use Rattle.qq_wal.specs.Marks.{Carries, carry_or_new}
 use Rattle.qq_wal.specs.Wal.{IsSound, carries_ahead}
 use Rattle.qq_wal.specs.declared.wal.Wal.{Wal}

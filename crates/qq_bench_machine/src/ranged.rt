@@ -2,7 +2,7 @@ ghost use Rattle.qq_entry.specs.Range.{IsInRange};
 
 use anyhow::{Result, bail};
 use qq_entry::Entry;
-use qq_range::is_in_range;
+use qq_entry_checks::is_in_range;
 use std::marker::Model;
 
 /// An entry that the log of a queue may hold, tried before the time is taken.

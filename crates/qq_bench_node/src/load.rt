@@ -1,8 +1,7 @@
 use crate::memory::most_memory;
 use anyhow::{Result, ensure};
 use qq_broker::run;
-use qq_ports::{MemSink, MemSource};
-use qq_yards::MemYard;
+use qq_ports::{MemSink, MemSource, MemYard};
 use std::alloc::Global;
 use std::time::Instant;
 

@@ -5,7 +5,7 @@ use Rattle.qq_base.proofs.Lists.{AllByRecursion-append, AllByRecursion-weaker}
 use Rattle.qq_base.specs.declared.ids.NodeId.{NodeId}
 use Rattle.qq_log.specs.Log.{LogState}
 use Rattle.qq_log.specs.declared.limits.TheConstants.{NODE_LIMIT}
-use Rattle.qq_group_model.specs.Group.{has_node}
+use Rattle.qq_raft_model.specs.Group.{has_node}
 use Rattle.qq_group.specs.Group.{HasState}
 use Rattle.qq_bench_raft.specs.Disk.{MayStart}
 use Rattle.qq_bench_raft.specs.Opening.{IsStart}

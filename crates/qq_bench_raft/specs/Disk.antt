@@ -7,7 +7,7 @@ use Rattle.qq_entry.specs.declared.command.Entry.{Entry}
 use Rattle.qq_log.specs.Log.{LogState}
 use Rattle.qq_log.specs.Stable.{no_snapshot}
 use Rattle.qq_log.specs.Writable.{IsVote}
-use Rattle.qq_raft.specs.Raft.{IsInLog, IsWithinEnds}
+use Rattle.qq_raft_core.specs.Raft.{IsInLog, IsWithinEnds}
 use Rattle.qq_group.specs.Opening.{MayBeFound}
 
 -- none of its numbers is past its end, and its entries have bytes

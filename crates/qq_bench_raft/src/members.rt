@@ -1,7 +1,7 @@
 ghost use Rattle.std.specs.Prelude.{◌≡◌, ◌+◌, ◌<◌, ◌^◌, All, length, IfOk, IfSome};
 ghost use Rattle.std.specs.List.{AllByRecursion};
 ghost use Rattle.qq_raft_msg.specs.Rpc.{IsNode};
-ghost use Rattle.qq_group_model.specs.Group.{has_node};
+ghost use Rattle.qq_raft_model.specs.Group.{has_node};
 ghost use Rattle.qq_group.specs.Opening.{AreApart};
 ghost use Rattle.qq_group.specs.Steps.{MayHappen};
 ghost use Rattle.qq_log.specs.Writable.{MayWrite};

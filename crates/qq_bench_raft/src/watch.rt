@@ -1,10 +1,10 @@
 use crate::party::Party;
 use anyhow::{Context, Result, ensure};
 use qq_entry::{Answer, Entry};
+use qq_entry_checks::same_entries;
 use qq_group::Shown;
+use qq_raft::AppliedRow;
 use qq_raft_msg::{MemberState, Role};
-use qq_same::same_entries;
-use qq_server::AppliedRow;
 use std::alloc::Global;
 
 /// The last entries of each member that are compared at each step.

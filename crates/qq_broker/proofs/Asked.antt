@@ -3,14 +3,14 @@ use Rattle.std.proofs.Common.{ℕ, Bool, List, [], Some, None, refl, sym, append
 use Rattle.std.specs.Prelude.{Contains}
 use Rattle.qq_base.specs.declared.ids.QueueId.{QueueId}
 use Rattle.qq_calls.specs.Named.{IsBody}
-use Rattle.qq_desk.specs.Range.{MayStamp}
+use Rattle.qq_node_queue.specs.Range.{MayStamp}
 use Rattle.qq_disk.specs.Disk.{Disk}
 use Rattle.qq_entry.specs.declared.command.Unstamped.{Unstamped}
 use Rattle.qq_entry.specs.declared.command.Unstamped.TheVariants as bodies
 use Rattle.qq_node.specs.declared.node.Node.{Node as Held}
 use Rattle.qq_node.specs.Node.{AtQueue, Stands}
 use Rattle.qq_node_laws.specs.Serves.{Seen, Serves}
-use Rattle.qq_program.specs.Service.{HasServed}
+use Rattle.qq_broker_run.specs.Service.{HasServed}
 use Rattle.qq_world.specs.Node.{Setup, Node}
 use Rattle.qq_world.specs.Rules.{Line, Nothing, IsLine}
 use Rattle.qq_broker.specs.Nodes.{NumbersPlaces, IsNodeOf}

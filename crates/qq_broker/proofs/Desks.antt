@@ -2,7 +2,7 @@
 use Rattle.std.proofs.Common.{◌≡◌, Bool, true, false, ◌&&◌, ℕ, List, [], ◌∷◌, ◌++◌, ◌+◌, ◌<◌, length, take, get_or, refl, sym, ap, ◌∙◌, add-one}
 use Rattle.std.proofs.Math.Seq.{take-suc}
 use Rattle.qq_defs.specs.declared.members.QueueRow.{QueueRow}
-use Rattle.qq_desk.specs.Desk.{DeskState}
+use Rattle.qq_node_queue.specs.Desk.{DeskState}
 use Rattle.qq_broker.specs.Queues.{IsNewDesk, AreNewDesks}
 
 abbrev pub none_before : List DeskState → Bool

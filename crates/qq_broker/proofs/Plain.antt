@@ -11,7 +11,7 @@ use Rattle.qq_defs.specs.Setup.{plain_row, plain_rows}
 use Rattle.qq_entry.specs.declared.queue.QueueArgs.{QueueArgs}
 use Rattle.qq_node_laws.specs.Reads.{queue_at, queues_of}
 use Rattle.qq_node_laws.specs.Waiting.{AreApart}
-use Rattle.qq_program.specs.Answers.{IsPlain}
+use Rattle.qq_broker_run.specs.Answers.{IsPlain}
 use Rattle.qq_broker.specs.Queues.{queue_of}
 
 queue-is : (count before : ℕ) → before < count → queue_at (node_setup (plain_rows 1 1 count)) (before + 1) ≡ record { 0 = before + 1 }

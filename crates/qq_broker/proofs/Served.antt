@@ -10,7 +10,7 @@ use Rattle.qq_calls.proofs.Queues.{places, first_is, name_is, args_is}
 use Rattle.qq_defs.specs.declared.members.QueueRow.{QueueRow}
 use Rattle.qq_defs.specs.declared.setup.Setup.{Setup}
 use Rattle.qq_defs.specs.Setup.{plain_row, plain_rows}
-use Rattle.qq_desk.specs.Desk.{DeskState}
+use Rattle.qq_node_queue.specs.Desk.{DeskState}
 use Rattle.qq_disk.specs.declared.image.Image.{Image}
 use Rattle.qq_disk.specs.Disk.{Disk, now}
 use Rattle.qq_node.specs.declared.node.Node.{Node as Held}
@@ -23,15 +23,15 @@ use Rattle.qq_node.specs.Found.{as_told}
 use Rattle.qq_node.specs.Restarting.{HasCrashed, IsLostAsRead, IsLostIn, IsLostOf, IsSetFor, IsOpenCaused, IsRefusedBy, IsRestartCaused, lanes_in}
 use Rattle.qq_node_laws.specs.Reads.{queue_at, state_in}
 use Rattle.qq_node_laws.specs.Serves.{Seen, Serves}
-use Rattle.qq_program.specs.declared.stop.AskStop.{AskStop}
-use Rattle.qq_program.specs.declared.stop.AskStop.TheVariants.{Ended, NoMemory}
-use Rattle.qq_program.specs.Answers.{IsPlain}
-use Rattle.qq_program.specs.Endings.{lost}
-use Rattle.qq_program.specs.Runs.{MayNotOpen}
-use Rattle.qq_program.specs.Service.{HasOpened, HasServed, HasServeCause}
-use Rattle.qq_program.specs.Serving.{EndsLost}
-use Rattle.qq_program.specs.Troubles.{Trouble, YardFails, DiskFails, DiskIsSilent, FilesBreak, QueueIsFound, AtPlace, OfVersion}
-use Rattle.qq_program.proofs.Closings.{Rose_earlier}
+use Rattle.qq_broker_run.specs.declared.stop.AskStop.{AskStop}
+use Rattle.qq_broker_run.specs.declared.stop.AskStop.TheVariants.{Ended, NoMemory}
+use Rattle.qq_broker_run.specs.Answers.{IsPlain}
+use Rattle.qq_broker_run.specs.Endings.{lost}
+use Rattle.qq_broker_run.specs.Runs.{MayNotOpen}
+use Rattle.qq_broker_run.specs.Service.{HasOpened, HasServed, HasServeCause}
+use Rattle.qq_broker_run.specs.Serving.{EndsLost}
+use Rattle.qq_broker_run.specs.Troubles.{Trouble, YardFails, DiskFails, DiskIsSilent, FilesBreak, QueueIsFound, AtPlace, OfVersion}
+use Rattle.qq_broker_run.proofs.Closings.{Rose_earlier}
 use Rattle.qq_recover.specs.declared.fault.RecoverFault.TheVariants as recover_fault
 use Rattle.qq_recover.specs.Reading.{lanes_read, shown}
 use Rattle.qq_world.specs.Endings.{lost_text}
@@ -39,7 +39,7 @@ use Rattle.qq_world.specs.Node.{Setup as NodeSetup, Node, Crashes, new_node, is_
 use Rattle.qq_world.specs.Rules.{Line, Crash, Restart, IsOpening}
 use Rattle.qq_world.specs.World.{new_world}
 use Rattle.qq_broker.specs.Queues.{queue_of, IsNewDesk, AreNewDesks}
-use Rattle.qq_yards.specs.Yard.{IsNew}
+use Rattle.qq_ports.specs.Yard.{IsNew}
 use Rattle.qq_broker.specs.Nodes.{NumbersPlaces, IsNodeOf, IsMemoryStop, Meets, open_ending, restart_stop}
 use Rattle.qq_broker.proofs.Plain.{plain-apart, plain-queues}
 

@@ -3,7 +3,7 @@ use Rattle.std.specs.Prelude.{◌≡◌, ℕ, Bool, false, List, Option, Some, N
 use Rattle.qq_base.specs.Causes.{Rose}
 use Rattle.qq_base.specs.declared.ids.QueueId.{QueueId}
 use Rattle.qq_base.specs.declared.memory.Memory.TheVariants.{Want, Spent}
-use Rattle.qq_chain.specs.Lanes.{Lanes}
+use Rattle.qq_wal_chain.specs.Lanes.{Lanes}
 use Rattle.qq_disk.specs.Disk.{Disk, now}
 use Rattle.qq_log.specs.Stable.{Stable}
 use Rattle.qq_world.specs.Node.{Setup, Node}
@@ -15,15 +15,15 @@ use Rattle.qq_node.specs.declared.restarting.RestartFault.{RestartFault}
 use Rattle.qq_node.specs.declared.restarting.RestartFault.TheVariants as restart_fault
 use Rattle.qq_node.specs.Found.{as_told}
 use Rattle.qq_node.specs.Node.{Stands}
-use Rattle.qq_program.specs.declared.stop.AskStop.{AskStop}
-use Rattle.qq_program.specs.declared.stop.AskStop.TheVariants.{Ended, NoMemory}
-use Rattle.qq_program.specs.Endings.{Ending, yard_fault, damaged, other_version, lost, no_memory, spent}
-use Rattle.qq_program.specs.Serving.{IsSpentEnd}
-use Rattle.qq_program.specs.Troubles.{Damage, AtPlace, OfVersion, Trouble, YardFails, DiskFails, DiskIsSilent, FilesBreak, QueueIsFound}
+use Rattle.qq_broker_run.specs.declared.stop.AskStop.{AskStop}
+use Rattle.qq_broker_run.specs.declared.stop.AskStop.TheVariants.{Ended, NoMemory}
+use Rattle.qq_broker_run.specs.Endings.{Ending, yard_fault, damaged, other_version, lost, no_memory, spent}
+use Rattle.qq_broker_run.specs.Serving.{IsSpentEnd}
+use Rattle.qq_broker_run.specs.Troubles.{Damage, AtPlace, OfVersion, Trouble, YardFails, DiskFails, DiskIsSilent, FilesBreak, QueueIsFound}
 use Rattle.qq_recover.specs.declared.fault.RecoverFault.{RecoverFault}
 use Rattle.qq_recover.specs.declared.fault.RecoverFault.TheVariants as recover_fault
 use Rattle.qq_recover.specs.Reading.{lanes_read, shown}
-use Rattle.qq_yards.specs.Yard.{IsNew}
+use Rattle.qq_ports.specs.Yard.{IsNew}
 
 -- a queue's place is its number
 abbrev pub NumbersPlaces : Setup → Type 0

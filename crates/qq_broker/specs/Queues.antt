@@ -2,7 +2,7 @@
 use Rattle.std.specs.Prelude.{◌≡◌, Bool, false, List, [], ◌∷◌}
 use Rattle.qq_base.specs.declared.ids.QueueId.{QueueId}
 use Rattle.qq_defs.specs.declared.members.QueueRow.{QueueRow}
-use Rattle.qq_desk.specs.Desk.{DeskState, world_of}
+use Rattle.qq_node_queue.specs.Desk.{DeskState, world_of}
 use Rattle.qq_world.specs.World.{new_world}
 
 abbrev pub queue_of : QueueRow → QueueId

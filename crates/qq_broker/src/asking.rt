@@ -2,7 +2,7 @@
 ghost use Rattle.std.specs.Prelude.{◌≡◌, IfErr, OnOk};
 ghost use Rattle.qq_calls.specs.Calls.{rule_of};
 ghost use Rattle.qq_calls.specs.Named.{IsNamed};
-ghost use Rattle.qq_program.specs.Service.{IsReached, HasServed};
+ghost use Rattle.qq_broker_run.specs.Service.{IsReached, HasServed};
 ghost use Rattle.qq_recover.specs.Recovered.{IsAtEnd};
 ghost use Rattle.qq_world.specs.Node.{Setup, Node as World};
 ghost use Rattle.qq_broker.specs.Nodes.{IsNodeOf};

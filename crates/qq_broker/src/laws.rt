@@ -5,9 +5,9 @@ ghost use Rattle.qq_calls.specs.Queues.{node_setup};
 ghost use Rattle.qq_defs.specs.declared.setup.Setup.{Setup};
 ghost use Rattle.qq_node_laws.specs.Reads.{queue_at, queues_of};
 ghost use Rattle.qq_node_laws.specs.Waiting.{AreApart};
-ghost use Rattle.qq_program.specs.Answers.{IsPlain};
-ghost use Rattle.qq_program.specs.Inputs.{Input};
-ghost use Rattle.qq_program.specs.Serving.{Behind, run_behind};
+ghost use Rattle.qq_broker_run.specs.Answers.{IsPlain};
+ghost use Rattle.qq_broker_run.specs.Inputs.{Input};
+ghost use Rattle.qq_broker_run.specs.Serving.{Behind, run_behind};
 ghost use Rattle.qq_session.specs.Answered.{IsAnswered};
 ghost use Rattle.qq_broker.specs.Queues.{queue_of};
 

@@ -2,11 +2,11 @@
 //! contract is the law.
 ghost use Rattle.std.specs.Prelude.{◌≡◌, ◌∷◌, [], ℕ, false, None, Some, Ok, Err, IsTrue};
 ghost use Rattle.qq_base.specs.Causes.{Rose};
-ghost use Rattle.qq_chain.specs.Lanes.{Lanes};
+ghost use Rattle.qq_wal_chain.specs.Lanes.{Lanes};
 ghost use Rattle.qq_disk.specs.Disk.{now};
 ghost use Rattle.qq_log.specs.Stable.{Stable};
 ghost use Rattle.qq_node_laws.specs.Reads.{queue_at, queues_of, state_in};
-ghost use Rattle.qq_program.specs.Troubles.{Damage, YardFails, DiskFails, DiskIsSilent, FilesBreak, QueueIsFound};
+ghost use Rattle.qq_broker_run.specs.Troubles.{Damage, YardFails, DiskFails, DiskIsSilent, FilesBreak, QueueIsFound};
 ghost use Rattle.qq_recover.specs.declared.fault.RecoverFault.{RecoverFault};
 ghost use Rattle.qq_recover.specs.Reading.{lanes_read, shown};
 ghost use Rattle.qq_world.specs.Node.{Setup};

@@ -3,26 +3,25 @@ ghost use Rattle.std.specs.Io.KnownBytes.{Appends};
 ghost use Rattle.qq_base.specs.Causes.{Rose};
 ghost use Rattle.qq_calls.specs.Queues.{node_setup};
 ghost use Rattle.qq_world.specs.Node.{Node as World, audits_text};
-ghost use Rattle.qq_program.specs.Answers.{Answers, HasAnswerCause, IsServedToEnd, IsPlain};
-ghost use Rattle.qq_program.specs.Pieces.{HasSomePrefix, HasPrintCause};
-ghost use Rattle.qq_options.specs.Words.{read_options};
-ghost use Rattle.qq_program.specs.declared.status.TheConstants.{DONE};
-ghost use Rattle.qq_program.specs.Runs.{HasStopped, IsDone, Closes, HasRun, RunEnds};
+ghost use Rattle.qq_broker_run.specs.Answers.{Answers, HasAnswerCause, IsServedToEnd, IsPlain};
+ghost use Rattle.qq_broker_run.specs.Pieces.{HasSomePrefix, HasPrintCause};
+ghost use Rattle.qq_script_lines.specs.Options.{read_options};
+ghost use Rattle.qq_broker_run.specs.declared.status.TheConstants.{DONE};
+ghost use Rattle.qq_broker_run.specs.Runs.{HasStopped, IsDone, Closes, HasRun, RunEnds};
 ghost use Rattle.qq_broker.specs.Nodes.{IsNodeOf, Meets};
-ghost use Rattle.qq_program.specs.Service.{IsReached, HasOpened};
+ghost use Rattle.qq_broker_run.specs.Service.{IsReached, HasOpened};
 
 use crate::serving::{open, serve};
+use qq_broker_run::status::{DONE, WRITE_FAULT};
+use qq_broker_run::{
+    AskStop, Ending, LINES_LIMIT, PrintFault, Stop, add_audit, ask, refuse_long_line,
+};
 use qq_calls::a_line_names_what_is_there;
 use qq_defs::Setup;
 use qq_disk::NodeDisk;
 use qq_node::Node;
-use qq_options::{Options, read_options};
-use qq_ports::{LineFault, Lines, Sink, Source, lines_law, next_line, write_all};
-use qq_program::status::{DONE, WRITE_FAULT};
-use qq_program::{
-    AskStop, Ending, LINES_LIMIT, PrintFault, Stop, add_audit, ask, refuse_long_line,
-};
-use qq_yards::Yard;
+use qq_ports::{LineFault, Lines, Sink, Source, Yard, lines_law, next_line, write_all};
+use qq_script_lines::{Options, read_options};
 use std::alloc::Global;
 
 // Reads a line that has so many before it, and serves it.

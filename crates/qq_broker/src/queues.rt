@@ -3,7 +3,7 @@ ghost use Rattle.qq_broker.specs.Queues.{queue_of, IsNewDesk, AreNewDesks};
 
 use qq_base::{Duplicate, Memory, QueueId};
 use qq_defs::QueueRow;
-use qq_desk::Desk;
+use qq_node_queue::Desk;
 use std::alloc::Global;
 
 /// The numbers of queues, in order.

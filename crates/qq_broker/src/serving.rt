@@ -5,9 +5,9 @@ ghost use Rattle.qq_calls.specs.Named.{IsNamed};
 ghost use Rattle.qq_calls.specs.Queues.{node_setup};
 ghost use Rattle.qq_disk.specs.declared.image.Image.{Image as ImageOf};
 ghost use Rattle.qq_node.specs.Node.{CanServe};
-ghost use Rattle.qq_program.specs.Answers.{IsPlain};
-ghost use Rattle.qq_program.specs.Runs.{MayNotOpen};
-ghost use Rattle.qq_program.specs.Service.{IsReached, HasOpened, HasServed, HasServeCause};
+ghost use Rattle.qq_broker_run.specs.Answers.{IsPlain};
+ghost use Rattle.qq_broker_run.specs.Runs.{MayNotOpen};
+ghost use Rattle.qq_broker_run.specs.Service.{IsReached, HasOpened, HasServed, HasServeCause};
 ghost use Rattle.qq_recover.specs.Recovered.{IsAtEnd};
 ghost use Rattle.qq_world.specs.Node.{Setup as NodeSetup, Node as World};
 ghost use Rattle.qq_world.specs.Rules.{Crash, Restart};
@@ -17,12 +17,12 @@ use crate::asking::ask;
 use crate::laws::runs_have_queues_of_their_own;
 use crate::queues::{new_desks, queue_ids};
 use qq_base::{Memory, NodeId};
+use qq_broker_run::{AskStop, Ending};
 use qq_calls::Call;
 use qq_defs::Setup;
 use qq_disk::{Image, NodeDisk};
 use qq_node::{Node, OpenFault, RestartFault, crash_node, open_node, restart_node};
-use qq_program::{AskStop, Ending};
-use qq_yards::{Yard, YardFault};
+use qq_ports::{Yard, YardFault};
 use std::alloc::Global;
 
 /// The one node of a run.

@@ -8,11 +8,11 @@ use Rattle.qq_entry.specs.declared.command.Mode.TheVariants.{Prefetch, Link}
 use Rattle.qq_entry.specs.declared.command.Unstamped.TheVariants.{Get, Subscribe, Cancel, Credit, Settle, Return, Discard, Purge}
 use Rattle.qq_route.specs.declared.routes.Routes.{Routes}
 use Rattle.qq_defs.specs.Setup.{plain_row}
-use Rattle.qq_lines.specs.declared.fault.ScriptFault.TheVariants.{Words, NoSuch}
-use Rattle.qq_lines.specs.Kinds.{kind_of}
-use Rattle.qq_lines.specs.Calls.{alone, one_session, one_queue, one_node, some_nodes, one_member, session_at, consumer_at, get, subscribe, credit, deliveries, crash, send}
-use Rattle.qq_lines.specs.Images.{image_of}
-use Rattle.qq_lines.specs.Lines.{read_plain, read}
+use Rattle.qq_script_lines.specs.declared.fault.ScriptFault.TheVariants.{Words, NoSuch}
+use Rattle.qq_script_lines.specs.Kinds.{kind_of}
+use Rattle.qq_script_lines.specs.Calls.{alone, one_session, one_queue, one_node, some_nodes, one_member, session_at, consumer_at, get, subscribe, credit, deliveries, crash, send}
+use Rattle.qq_script_lines.specs.Images.{image_of}
+use Rattle.qq_script_lines.specs.Lines.{read_plain, read}
 use Rattle.qq_world.specs.Rules.{Send, End, Mute, Auto, Notice, Crash}
 use Rattle.qq_calls.specs.Lines.{publish_to, line_of, read_line}
 use Rattle.qq_calls.specs.Examples.{two_queues}

@@ -5,9 +5,9 @@ use Rattle.qq_base.specs.declared.ids.NodeId.{NodeId}
 use Rattle.qq_base.specs.declared.ids.QueueId.{QueueId}
 use Rattle.qq_base.specs.declared.ids.SessionId.{SessionId}
 use Rattle.qq_disk.specs.declared.image.Image.{Image}
-use Rattle.qq_lines.specs.declared.line.Nodes.{Nodes}
-use Rattle.qq_lines.specs.declared.line.ScriptLine.{ScriptLine}
-use Rattle.qq_lines.specs.declared.line.ScriptLine.TheVariants as lines
+use Rattle.qq_script_lines.specs.declared.line.Nodes.{Nodes}
+use Rattle.qq_script_lines.specs.declared.line.ScriptLine.{ScriptLine}
+use Rattle.qq_script_lines.specs.declared.line.ScriptLine.TheVariants as lines
 use Rattle.qq_calls.specs.Kinds.{IsOther, IsOfConsumer, IsOfDeliveries}
 
 pub is_other : (said : ScriptLine) → (said ≡ lines.Nothing → ⊥) → ((body : List ℕ) → said ≡ lines.Publish body → ⊥)

@@ -21,26 +21,26 @@ use Rattle.qq_entry.specs.declared.limits.TheConstants.{BODY_LIMIT, KEY_LIMIT, I
 use Rattle.qq_entry.specs.Range.{IsDeath, IsPositive, AreIds}
 use Rattle.qq_defs.specs.declared.members.QueueRow.{QueueRow}
 use Rattle.qq_defs.specs.declared.setup.Setup.{Setup}
-use Rattle.qq_lines.specs.declared.fault.ScriptFault.{ScriptFault}
-use Rattle.qq_lines.specs.declared.fault.ScriptFault.TheVariants.{Body, NoSuch, Number, Words, TooLong, Unknown, Session, Memory}
-use Rattle.qq_lines.specs.declared.kind.Kind.{Kind}
-use Rattle.qq_lines.specs.declared.kind.Kind.TheVariants as kinds
-use Rattle.qq_lines.specs.declared.kind.PlainKind.{PlainKind}
-use Rattle.qq_lines.specs.declared.kind.PlainKind.TheVariants as plains
-use Rattle.qq_lines.specs.declared.kind.Verdict.{Verdict}
-use Rattle.qq_lines.specs.declared.kind.Verdict.TheVariants as verdicts
-use Rattle.qq_lines.specs.declared.line.TheConstants.{LINE_LIMIT}
-use Rattle.qq_lines.specs.declared.line.Place.{Place}
-use Rattle.qq_lines.specs.declared.line.ScriptLine.{ScriptLine}
-use Rattle.qq_lines.specs.declared.line.ScriptLine.TheVariants as lines
-use Rattle.qq_lines.specs.Bodies.{limited, body_of}
-use Rattle.qq_lines.specs.Calls.{queue_of, first_queue, alone, one_session, one_queue, one_node, nodes_of, some_nodes, served_at, queue_at, one_member, session_at, consumer_at, get, subscribe, credit, deliveries, crash, key_of, is_drain, amount_of, verdict_on, send as read_send}
-use Rattle.qq_lines.specs.Images.{image_of}
-use Rattle.qq_lines.specs.Kinds.{kind_of}
-use Rattle.qq_lines.specs.Lines.{is_nothing, publish_text, may_stand, text_in, parse_line, read_plain, read, in_place, read_as, read_words, read_text, read_bytes}
-use Rattle.qq_lines.specs.Names.{named, numbered, behind_hash, row_of, row_at, node_of, is_member}
-use Rattle.qq_lines.specs.Numbers.{number_in, number_of, session_of, tag_of, consumer_of, id_of, all_ids, is_comma, ids_of, within, is_within}
-use Rattle.qq_lines.specs.Words.{◌>>=◌, or_fault, text_of, behind_four, words_of}
+use Rattle.qq_script_lines.specs.declared.fault.ScriptFault.{ScriptFault}
+use Rattle.qq_script_lines.specs.declared.fault.ScriptFault.TheVariants.{Body, NoSuch, Number, Words, TooLong, Unknown, Session, Memory}
+use Rattle.qq_script_lines.specs.declared.kind.Kind.{Kind}
+use Rattle.qq_script_lines.specs.declared.kind.Kind.TheVariants as kinds
+use Rattle.qq_script_lines.specs.declared.kind.PlainKind.{PlainKind}
+use Rattle.qq_script_lines.specs.declared.kind.PlainKind.TheVariants as plains
+use Rattle.qq_script_lines.specs.declared.kind.Verdict.{Verdict}
+use Rattle.qq_script_lines.specs.declared.kind.Verdict.TheVariants as verdicts
+use Rattle.qq_script_lines.specs.declared.line.TheConstants.{LINE_LIMIT}
+use Rattle.qq_script_lines.specs.declared.line.Place.{Place}
+use Rattle.qq_script_lines.specs.declared.line.ScriptLine.{ScriptLine}
+use Rattle.qq_script_lines.specs.declared.line.ScriptLine.TheVariants as lines
+use Rattle.qq_script_lines.specs.Bodies.{limited, body_of}
+use Rattle.qq_script_lines.specs.Calls.{queue_of, first_queue, alone, one_session, one_queue, one_node, nodes_of, some_nodes, served_at, queue_at, one_member, session_at, consumer_at, get, subscribe, credit, deliveries, crash, key_of, is_drain, amount_of, verdict_on, send as read_send}
+use Rattle.qq_script_lines.specs.Images.{image_of}
+use Rattle.qq_script_lines.specs.Kinds.{kind_of}
+use Rattle.qq_script_lines.specs.Lines.{is_nothing, publish_text, may_stand, text_in, parse_line, read_plain, read, in_place, read_as, read_words, read_text, read_bytes}
+use Rattle.qq_script_lines.specs.Names.{named, numbered, behind_hash, row_of, row_at, node_of, is_member}
+use Rattle.qq_script_lines.specs.Numbers.{number_in, number_of, session_of, tag_of, consumer_of, id_of, all_ids, is_comma, ids_of, within, is_within}
+use Rattle.qq_script_lines.specs.Words.{◌>>=◌, or_fault, text_of, behind_four, words_of}
 use Rattle.qq_world.specs.Rules.{Line, Nothing, Send, Resend, End, Mute, Auto, Pump, Write, Sync, Notice, Tick, Crash, Restart, Show}
 use Rattle.qq_calls.specs.Named.{IsBody, IsNamed, HaveNames}
 use Rattle.qq_calls.specs.Lines.{of_consumer, line_of, publish_to, send_to, publish, send, send_by_name, at_line, read_line, ask_by, is_there, target_of}

@@ -5,10 +5,10 @@ use Rattle.std.specs.Char.{encode_utf8}
 use Rattle.std.specs.Str.{chars, is_utf8}
 use Rattle.qq_route.specs.declared.routes.Routes.{Routes}
 use Rattle.qq_defs.specs.Setup.{plain_row}
-use Rattle.qq_lines.specs.declared.fault.ScriptFault.TheVariants.{Words, Number, NoSuch, Body}
-use Rattle.qq_lines.specs.Kinds.{kind_of}
-use Rattle.qq_lines.specs.Calls.{send}
-use Rattle.qq_lines.specs.Lines.{read}
+use Rattle.qq_script_lines.specs.declared.fault.ScriptFault.TheVariants.{Words, Number, NoSuch, Body}
+use Rattle.qq_script_lines.specs.Kinds.{kind_of}
+use Rattle.qq_script_lines.specs.Calls.{send}
+use Rattle.qq_script_lines.specs.Lines.{read}
 use Rattle.qq_world.specs.Rules.{Send}
 use Rattle.qq_calls.specs.Lines.{publish_to, line_of, read_line}
 use Rattle.qq_calls.specs.Examples.{no_queues, two_queues}

@@ -1,6 +1,6 @@
 -- Which kind of call a line asks for.
-use Rattle.qq_lines.specs.declared.line.ScriptLine.{ScriptLine}
-use Rattle.qq_lines.specs.declared.line.ScriptLine.TheVariants as lines
+use Rattle.qq_script_lines.specs.declared.line.ScriptLine.{ScriptLine}
+use Rattle.qq_script_lines.specs.declared.line.ScriptLine.TheVariants as lines
 
 -- a line that says neither a session nor a message
 abbrev pub IsOther : ScriptLine → Type 0

@@ -11,15 +11,15 @@ use Rattle.qq_entry.specs.declared.command.Unstamped.TheVariants as bodies
 use Rattle.qq_entry.specs.Message.{new_message}
 use Rattle.qq_defs.specs.declared.members.QueueRow.{QueueRow}
 use Rattle.qq_defs.specs.declared.setup.Setup.{Setup}
-use Rattle.qq_lines.specs.declared.fault.ScriptFault.{ScriptFault}
-use Rattle.qq_lines.specs.declared.fault.ScriptFault.TheVariants.{NoSuch, Body}
-use Rattle.qq_lines.specs.declared.line.Place.{Place}
-use Rattle.qq_lines.specs.declared.line.ScriptLine.{ScriptLine}
-use Rattle.qq_lines.specs.declared.line.ScriptLine.TheVariants as lines
-use Rattle.qq_lines.specs.Bodies.{limited}
-use Rattle.qq_lines.specs.Lines.{text_in, parse_line}
-use Rattle.qq_lines.specs.Names.{named}
-use Rattle.qq_lines.specs.Words.{◌>>=◌, or_fault, text_of, words_of}
+use Rattle.qq_script_lines.specs.declared.fault.ScriptFault.{ScriptFault}
+use Rattle.qq_script_lines.specs.declared.fault.ScriptFault.TheVariants.{NoSuch, Body}
+use Rattle.qq_script_lines.specs.declared.line.Place.{Place}
+use Rattle.qq_script_lines.specs.declared.line.ScriptLine.{ScriptLine}
+use Rattle.qq_script_lines.specs.declared.line.ScriptLine.TheVariants as lines
+use Rattle.qq_script_lines.specs.Bodies.{limited}
+use Rattle.qq_script_lines.specs.Lines.{text_in, parse_line}
+use Rattle.qq_script_lines.specs.Names.{named}
+use Rattle.qq_script_lines.specs.Words.{◌>>=◌, or_fault, text_of, words_of}
 use Rattle.qq_world.specs.Rules.{Line, Nothing, Send, Resend, End, Mute, Auto, Pump, Write, Sync, Notice, Tick, Crash, Restart, Show}
 use Rattle.qq_calls.specs.Queues.{place_of}
 

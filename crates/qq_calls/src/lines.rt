@@ -3,8 +3,8 @@ ghost use Rattle.std.specs.List.{find};
 ghost use Rattle.std.specs.Option.{option_copied, option_map};
 ghost use Rattle.qq_defs.specs.declared.members.QueueRow.{QueueRow};
 ghost use Rattle.qq_entry.specs.declared.command.Unstamped.TheVariants.{Subscribe};
-ghost use Rattle.qq_lines.specs.Names.{named};
-ghost use Rattle.qq_lines.specs.Lines.{HasScriptCause, text_in};
+ghost use Rattle.qq_script_lines.specs.Names.{named};
+ghost use Rattle.qq_script_lines.specs.Lines.{HasScriptCause, text_in};
 ghost use Rattle.qq_world.specs.Rules.{Send};
 ghost use Rattle.qq_calls.specs.Calls.{rule_of};
 ghost use Rattle.qq_calls.specs.Kinds.{IsOther, IsOfConsumer, IsOfDeliveries};
@@ -14,7 +14,7 @@ use crate::call::Call;
 use qq_base::{Bytes, ConsumerId, Duplicate, Memory, QueueId, SessionId, Text};
 use qq_defs::{QueueRow, Setup};
 use qq_entry::{BODY_LIMIT, Content, Deaths, Message, Mode, Unstamped};
-use qq_lines::{Place, ScriptFault, ScriptLine, parse_line, parts_of, text_in, text_of};
+use qq_script_lines::{Place, ScriptFault, ScriptLine, parse_line, parts_of, text_in, text_of};
 use std::alloc::Global;
 
 fn is_named(word: &str, row: &QueueRow) -> bool

@@ -1,6 +1,5 @@
 use qq_broker::run;
-use qq_ports::{MemSink, MemSource};
-use qq_yards::MemYard;
+use qq_ports::{MemSink, MemSource, MemYard};
 use std::alloc::Global;
 use std::process::Abort;
 use std::test::Fail;

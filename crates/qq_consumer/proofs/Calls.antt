@@ -10,7 +10,7 @@ use Rattle.qq_base.specs.declared.ids.SessionId.{SessionId}
 use Rattle.qq_base.proofs.Lists.{find-in, AllByRecursion-in}
 use Rattle.qq_entry.specs.declared.command.Mode.TheVariants.{Link}
 use Rattle.qq_model.specs.declared.consumer.Consumer.{Consumer}
-use Rattle.qq_gone.specs.Reduced.{Item}
+use Rattle.qq_parts.specs.Reduced.{Item}
 use Rattle.qq_parts.specs.Parts.{Served, AreApart, consumer_at}
 use Rattle.qq_parts.specs.Consumers.{needed_one}
 use Rattle.qq_consumer.specs.declared.row.ConsumerRow.{ConsumerRow}

@@ -8,7 +8,7 @@ use Rattle.std.proofs.lemmas.Option.{slice_get_within, get_or_from_slice_get}
 use Rattle.qq_base.specs.declared.ids.ConsumerId.{ConsumerId}
 use Rattle.qq_entry.specs.declared.message.ReadyRow.{ReadyRow}
 use Rattle.qq_model.specs.declared.place.Place.TheVariants.{Out}
-use Rattle.qq_gone.specs.Reduced.{Item}
+use Rattle.qq_parts.specs.Reduced.{Item}
 use Rattle.qq_parts.specs.Parts.{Served, HasOut, NumbersRise, IsPlaced, item_number, AreTwo, AreApart}
 use Rattle.qq_consumer.specs.declared.rising.Numbered.{Numbered}
 use Rattle.qq_consumer.specs.declared.row.ConsumerRow.{ConsumerRow}

@@ -15,7 +15,7 @@ use Rattle.qq_base.proofs.Lists.{AllByRecursion-map, AllByRecursion-weaker}
 use Rattle.qq_model.specs.declared.consumer.Consumer.{Consumer}
 use Rattle.qq_model.specs.declared.place.Place.TheVariants.{Out}
 use Rattle.qq_model.proofs.OneConsumer.{same_consumer-true}
-use Rattle.qq_gone.specs.Reduced.{Item}
+use Rattle.qq_parts.specs.Reduced.{Item}
 use Rattle.qq_parts.specs.Parts.{Served, HasOut, NumbersRise, IsPlaced, item_number, AreTwo, AreApart}
 use Rattle.qq_parts.specs.Outs.{hand_to, serve_one}
 use Rattle.qq_consumer.specs.declared.rising.Numbered.{Numbered}

@@ -14,7 +14,7 @@ use Rattle.qq_model.specs.declared.consumer.Consumer.{Consumer}
 use Rattle.qq_model.specs.Commands.{new_consumer}
 use Rattle.qq_model.specs.Serving.{use_credit, serve}
 use Rattle.qq_model.proofs.OneConsumer.{same_consumer-refl}
-use Rattle.qq_gone.specs.Reduced.{Item}
+use Rattle.qq_parts.specs.Reduced.{Item}
 use Rattle.qq_parts.specs.Parts.{Served}
 use Rattle.qq_parts.specs.Outs.{hand_to, serve_one}
 use Rattle.qq_parts.specs.Turns.{may_serve}

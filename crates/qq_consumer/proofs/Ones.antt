@@ -9,7 +9,7 @@ use Rattle.qq_entry.specs.declared.command.Mode.{Mode}
 use Rattle.qq_entry.specs.declared.command.Mode.TheVariants.{Prefetch, Link}
 use Rattle.qq_model.specs.declared.consumer.Consumer.{Consumer}
 use Rattle.qq_model.specs.Serving.{use_credit, serve}
-use Rattle.qq_gone.specs.Reduced.{Item}
+use Rattle.qq_parts.specs.Reduced.{Item}
 use Rattle.qq_parts.specs.Parts.{Served}
 use Rattle.qq_parts.specs.Outs.{hand_to, serve_one}
 use Rattle.qq_consumer.specs.Roster.{is_one, one_of}

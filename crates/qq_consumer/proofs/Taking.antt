@@ -9,7 +9,7 @@ use Rattle.qq_entry.specs.declared.command.Mode.{Mode}
 use Rattle.qq_entry.specs.declared.command.Mode.TheVariants.{Prefetch, Link}
 use Rattle.qq_model.specs.declared.consumer.Consumer.{Consumer}
 use Rattle.qq_model.specs.Choice.{credit_left, prefetch_limit}
-use Rattle.qq_gone.specs.Reduced.{Item}
+use Rattle.qq_parts.specs.Reduced.{Item}
 use Rattle.qq_parts.specs.Parts.{Served, AreApart, item_number}
 use Rattle.qq_parts.specs.Outs.{Cut, cut_id, behind_item}
 use Rattle.qq_parts.specs.Turns.{credit_of_one, may_serve}

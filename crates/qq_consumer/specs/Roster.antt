@@ -15,7 +15,7 @@ use Rattle.qq_model.specs.declared.place.Place.{Place}
 use Rattle.qq_model.specs.declared.place.Place.TheVariants.{Out}
 use Rattle.qq_model.specs.declared.consumer.Consumer.{Consumer}
 use Rattle.qq_model.specs.Commands.{new_consumer, is_of_session}
-use Rattle.qq_gone.specs.Reduced.{Item}
+use Rattle.qq_parts.specs.Reduced.{Item}
 use Rattle.qq_parts.specs.Parts.{Served}
 use Rattle.qq_parts.specs.Outs.{Cut, cut_id, hand_to}
 use Rattle.qq_parts.specs.Turns.{credit_of_one}

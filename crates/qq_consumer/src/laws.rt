@@ -4,7 +4,7 @@ ghost use Rattle.qq_base.specs.declared.ids.ConsumerId.{ConsumerId};
 ghost use Rattle.qq_entry.specs.declared.answer.Cause.{Cause};
 ghost use Rattle.qq_entry.specs.declared.answer.Cause.TheVariants.{NumberSpent, ConsumersFull};
 ghost use Rattle.qq_entry.specs.declared.command.Mode.{Mode};
-ghost use Rattle.qq_gone.specs.Reduced.{Item};
+ghost use Rattle.qq_parts.specs.Reduced.{Item};
 ghost use Rattle.qq_model.specs.declared.consumer.Consumer.{Consumer};
 ghost use Rattle.qq_parts.specs.Consumers.{changed, keep_ones, needed_one};
 ghost use Rattle.qq_parts.specs.Outs.{hand_over, joined};

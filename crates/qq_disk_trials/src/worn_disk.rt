@@ -1,5 +1,5 @@
 use qq_disk::{DiskFault, FileKind, FileName, NodeDisk};
-use qq_disk_laws::WornDisk;
+use qq_disk_pins::WornDisk;
 use qq_mem_disk::MemDisk;
 use std::alloc::Global;
 use std::test::Fail;

@@ -6,7 +6,7 @@ use qq_base::NodeId;
 use qq_dir_disk::DirDisk;
 use qq_disk::{EitherDisk, Image};
 use qq_mem_disk::MemDisk;
-use qq_yards::{FolderYard, MemYard, Yard, YardFault};
+use qq_ports::{FolderYard, MemYard, Yard, YardFault};
 
 /// A disk of a yard of folders.
 pub type FolderDisk<'a> = EitherDisk<MemDisk, DirDisk<Watched<'a>>>;

@@ -8,7 +8,7 @@ use Rattle.qq_base.specs.Fronts.{IsFront}
 use Rattle.qq_entry.specs.declared.command.Entry.{Entry}
 use Rattle.qq_log.specs.Log.{LogState, entry_at}
 use Rattle.qq_log.specs.Stable.{no_snapshot}
-use Rattle.qq_raft.proofs.Entries.{entry-known}
+use Rattle.qq_raft_core.proofs.Entries.{entry-known}
 use Rattle.qq_group.specs.Step.{extended}
 
 -- as many entries as the audit has add nothing

@@ -10,8 +10,8 @@ use Rattle.qq_base.specs.declared.memory.Memory.{Memory}
 use Rattle.qq_base.specs.declared.memory.Memory.TheVariants.{Want, Spent}
 use Rattle.qq_raft_msg.specs.declared.bag.TheConstants.{BAG_LIMIT}
 use Rattle.qq_raft_msg.specs.declared.rpc.Rpc.{Rpc}
-use Rattle.qq_raft_step.specs.State.{Server as Raft}
-use Rattle.qq_server.specs.declared.server.Server.{Server}
+use Rattle.qq_raft_model.specs.State.{Server as Raft}
+use Rattle.qq_raft.specs.declared.server.Server.{Server}
 
 pub all-more : {A : Type 0} (P : A → Type 0) (old new : List A) (x : A) → new ≡ old ++ x ∷ [] → All P old → P x
     → All P new

@@ -7,7 +7,7 @@ use Rattle.std.proofs.Math.ListN.{drop_of_length-le}
 use Rattle.qq_entry.specs.declared.command.Entry.{Entry}
 use Rattle.qq_log.specs.Log.{LogState, entry_at}
 use Rattle.qq_log.specs.Stable.{no_snapshot}
-use Rattle.qq_raft.proofs.Entries.{entry-known}
+use Rattle.qq_raft_core.proofs.Entries.{entry-known}
 
 pub copied-none : (first : ℕ) (log : List Entry) → [] ≡ drop first (take first log)
 copied-none first log = sym (drop_of_length-le (take first log) (omega (arith, length-take first log)))

@@ -13,8 +13,8 @@ use Rattle.qq_log.specs.Log.{LogState}
 use Rattle.qq_log.specs.Stable.{Stable, apply_op, change, new_state, stable, then_apply}
 use Rattle.qq_log.specs.declared.op.Op.{Op}
 use Rattle.qq_log.specs.declared.op.Op.TheVariants.{Change}
-use Rattle.qq_raft_step.specs.Handing.{plain_state}
-use Rattle.qq_group_model.specs.Group.{Group as GroupState, Seat as SeatState, empty_seat}
+use Rattle.qq_raft_model.specs.Handing.{plain_state}
+use Rattle.qq_raft_model.specs.Group.{Group as GroupState, Seat as SeatState, empty_seat}
 use Rattle.qq_group.specs.Opening.{AreApart, AreFound, IsAllDown, IsFoundBy, IsUnused, MayBeFound, MayBeFoundBy, Start}
 use Rattle.qq_group.specs.Restarts.{IsFound}
 use Rattle.qq_group.proofs.Starting.{by-still}

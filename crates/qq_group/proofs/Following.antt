@@ -2,8 +2,8 @@
 use Rattle.std.proofs.Common.{◌≡◌, ℕ, [], ◌∷◌, sym, subst}
 use Rattle.qq_base.specs.Fronts.{IsFront}
 use Rattle.qq_log.specs.Log.{LogState}
-use Rattle.qq_raft_step.specs.Server.{Input}
-use Rattle.qq_group_model.specs.Group.{Event, Group as GroupState, feed, happens}
+use Rattle.qq_raft_model.specs.Server.{Input}
+use Rattle.qq_raft_model.specs.Group.{Event, Group as GroupState, feed, happens}
 use Rattle.qq_group.specs.Follows.{Feeds, Follows}
 use Rattle.qq_group.specs.Group.{IsReached, Represents}
 use Rattle.qq_group.specs.declared.group.Group.{Group}

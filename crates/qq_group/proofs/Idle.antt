@@ -6,12 +6,12 @@ use Rattle.std.proofs.lemmas.Bool.{and_from, eqb-true, false≢true, le-leb, leb
 use Rattle.std.proofs.lemmas.Option.{none-some}
 use Rattle.qq_log.specs.Log.{LogState}
 use Rattle.qq_log.specs.declared.op.Op.{Op}
-use Rattle.qq_raft.specs.Raft.{server_of}
+use Rattle.qq_raft_core.specs.Raft.{server_of}
 use Rattle.qq_raft_msg.specs.declared.rpc.Rpc.{Rpc}
-use Rattle.qq_raft_step.specs.State.{Server as Raft}
-use Rattle.qq_server.specs.declared.server.Server.{Server}
-use Rattle.qq_group_model.specs.Group.{Group as GroupState}
-use Rattle.qq_group_model.specs.Promises.{IsUp}
+use Rattle.qq_raft_model.specs.State.{Server as Raft}
+use Rattle.qq_raft.specs.declared.server.Server.{Server}
+use Rattle.qq_raft_model.specs.Group.{Group as GroupState}
+use Rattle.qq_raft_model.specs.Promises.{IsUp}
 use Rattle.qq_group.specs.Group.{IsReached, IsSeat, IsSeatBy, Represents}
 use Rattle.qq_group.specs.Reads.{has_settled, is_idle, IsIdle}
 use Rattle.qq_group.specs.declared.group.Group.{Group}

@@ -5,12 +5,12 @@ use Rattle.qq_base.specs.declared.ids.Index.{Index}
 use Rattle.qq_entry.specs.declared.command.Command.{Command}
 use Rattle.qq_entry.specs.declared.command.Entry.{Entry}
 use Rattle.qq_log.specs.Log.{LogState}
-use Rattle.qq_raft.specs.Raft.{server_of}
+use Rattle.qq_raft_core.specs.Raft.{server_of}
 use Rattle.qq_raft_msg.specs.Queue.{Applied}
-use Rattle.qq_raft_step.specs.Server.{is_ready, receive as receive_raft, notice as notice_raft, step as step_raft, submit as submit_raft}
-use Rattle.qq_server.specs.Stands.{Does, StandsFor, state_of}
-use Rattle.qq_server.specs.Step.{ServerState, apply_all, apply_committed, apply_next, submit, unapplied, with_raft}
-use Rattle.qq_server.specs.declared.server.Server.{Server}
+use Rattle.qq_raft_model.specs.Server.{is_ready, receive as receive_raft, notice as notice_raft, step as step_raft, submit as submit_raft}
+use Rattle.qq_raft.specs.Stands.{Does, StandsFor, state_of}
+use Rattle.qq_raft.specs.Step.{ServerState, apply_all, apply_committed, apply_next, submit, unapplied, with_raft}
+use Rattle.qq_raft.specs.declared.server.Server.{Server}
 use Rattle.qq_group.specs.Group.{HasState}
 use Rattle.qq_group.specs.Input.{acts, input_of}
 use Rattle.qq_group.specs.declared.input.Input.{Input}

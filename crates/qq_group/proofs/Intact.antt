@@ -5,9 +5,9 @@ use Rattle.std.specs.Prelude.{option_map}
 use Rattle.std.proofs.lemmas.Bool.{false≢true}
 use Rattle.std.proofs.lemmas.Option.{none-some}
 use Rattle.qq_log.specs.Stable.{Stable, known_entries}
-use Rattle.qq_history.specs.History.{stable_of, state_at}
-use Rattle.qq_history.specs.declared.state.DiskState.{DiskState}
-use Rattle.qq_raft_step.proofs.Handing.{known-all}
+use Rattle.qq_group_history.specs.History.{stable_of, state_at}
+use Rattle.qq_group_history.specs.declared.state.DiskState.{DiskState}
+use Rattle.qq_raft_model.proofs.Handing.{known-all}
 use Rattle.qq_group.specs.Restarts.{IsIntact, IsIntactAt}
 use Rattle.qq_group.specs.declared.seat.Seat.{Seat}
 

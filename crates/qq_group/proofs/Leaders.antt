@@ -6,9 +6,9 @@ use Rattle.std.specs.Option.{option_copied}
 use Rattle.std.proofs.lemmas.Bool.{cond_both, false≢true}
 use Rattle.qq_base.specs.declared.ids.NodeId.{NodeId}
 use Rattle.qq_log.specs.Log.{LogState}
-use Rattle.qq_raft.specs.Raft.{server_of}
-use Rattle.qq_raft_step.specs.Server.{is_ready}
-use Rattle.qq_server.specs.declared.server.Server.{Server}
+use Rattle.qq_raft_core.specs.Raft.{server_of}
+use Rattle.qq_raft_model.specs.Server.{is_ready}
+use Rattle.qq_raft.specs.declared.server.Server.{Server}
 use Rattle.qq_group.specs.Group.{server_at}
 use Rattle.qq_group.specs.Reads.{later, latest, leader_of, leading_at, machine_at, machine_of, node_of}
 use Rattle.qq_group.specs.declared.group.Group.{Group}

@@ -13,11 +13,11 @@ use Rattle.qq_raft_msg.specs.declared.rpc.VoteMsg.{VoteMsg}
 use Rattle.qq_raft_msg.specs.declared.rpc.VotedMsg.{VotedMsg}
 use Rattle.qq_raft_msg.specs.Rpc.{envelope}
 use Rattle.qq_raft_msg.specs.declared.state.Role.TheVariants.{Leader}
-use Rattle.qq_raft_step.specs.declared.peer.Peer.{Peer}
-use Rattle.qq_raft_step.specs.Leading.{add_entry, advance, ask, become_candidate, commit_within, everyone, is_elected, lead, lead_if_elected, next_term, noop, send, stand, start_peer}
-use Rattle.qq_raft_step.specs.Server.{Input, accept, at_peer, back_peer, give_vote, grant_peer, greater, has_agreed, is_match, is_peer, is_ready, lacks, match_peer, may_grant, notice, receive, receive_append, receive_appended, receive_vote, receive_voted, refuse, refuse_entries, send_again, step, step_back, submit, take_ack, take_entries, take_notice, take_reply, tick, voted, write}
-use Rattle.qq_raft_step.specs.Server.Input.{Tick, Receive, Submit, Notice}
-use Rattle.qq_raft_step.specs.State.{Server, last, is_candidate, is_leader, change, enter, follow, leader_in, say, say_all, vote_in, wait}
+use Rattle.qq_raft_model.specs.declared.peer.Peer.{Peer}
+use Rattle.qq_raft_model.specs.Leading.{add_entry, advance, ask, become_candidate, commit_within, everyone, is_elected, lead, lead_if_elected, next_term, noop, send, stand, start_peer}
+use Rattle.qq_raft_model.specs.Server.{Input, accept, at_peer, back_peer, give_vote, grant_peer, greater, has_agreed, is_match, is_peer, is_ready, lacks, match_peer, may_grant, notice, receive, receive_append, receive_appended, receive_vote, receive_voted, refuse, refuse_entries, send_again, step, step_back, submit, take_ack, take_entries, take_notice, take_reply, tick, voted, write}
+use Rattle.qq_raft_model.specs.Server.Input.{Tick, Receive, Submit, Notice}
+use Rattle.qq_raft_model.specs.State.{Server, last, is_candidate, is_leader, change, enter, follow, leader_in, say, say_all, vote_in, wait}
 
 either : (b : Bool) (s t : Server) (n : ℕ) → s.noticed ≡ n → t.noticed ≡ n → (cond b s t).noticed ≡ n
 either true s t n p q = p

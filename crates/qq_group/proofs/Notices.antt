@@ -6,10 +6,10 @@ use Rattle.qq_base.specs.Fronts.{put}
 use Rattle.qq_base.proofs.Puts.{put-each}
 use Rattle.qq_log.specs.Log.{LogState}
 use Rattle.qq_log.specs.declared.op.Op.{Op}
-use Rattle.qq_raft_step.specs.Server.{Input}
-use Rattle.qq_server.specs.declared.server.Server.{Server}
-use Rattle.qq_group_model.specs.Group.{Group as GroupState, Seat as SeatState, feed, feed_by, happens}
-use Rattle.qq_group_model.specs.Group.Event.{Crash, Notice}
+use Rattle.qq_raft_model.specs.Server.{Input}
+use Rattle.qq_raft.specs.declared.server.Server.{Server}
+use Rattle.qq_raft_model.specs.Group.{Group as GroupState, Seat as SeatState, feed, feed_by, happens}
+use Rattle.qq_raft_model.specs.Group.Event.{Crash, Notice}
 use Rattle.qq_group.specs.Events.{lacks_by, lacks_op, notices}
 use Rattle.qq_group.specs.Follows.{Follows, Makes, OthersStay}
 use Rattle.qq_group.specs.Group.{IsSeat, IsSeatBy, Represents, server_at, server_by}

@@ -3,10 +3,10 @@ use Rattle.std.proofs.Common.{◌≡◌, ℕ, Option, Some, None, subst}
 use Rattle.std.specs.Prelude.{slice_get}
 use Rattle.std.proofs.lemmas.Option.{none-some}
 use Rattle.qq_log.specs.Log.{LogState}
-use Rattle.qq_raft.specs.Raft.{server_of}
-use Rattle.qq_server.specs.declared.server.Server.{Server}
-use Rattle.qq_group_model.specs.Group.{Group as GroupState, Seat as SeatState}
-use Rattle.qq_group_model.specs.Promises.{IsUp}
+use Rattle.qq_raft_core.specs.Raft.{server_of}
+use Rattle.qq_raft.specs.declared.server.Server.{Server}
+use Rattle.qq_raft_model.specs.Group.{Group as GroupState, Seat as SeatState}
+use Rattle.qq_raft_model.specs.Promises.{IsUp}
 use Rattle.qq_group.specs.Group.{IsSeat, IsSeatBy, Represents, server_at, server_by}
 use Rattle.qq_group.specs.declared.group.Group.{Group}
 use Rattle.qq_group.specs.declared.seat.Seat.{Seat}

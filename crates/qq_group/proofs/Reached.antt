@@ -8,16 +8,16 @@ use Rattle.qq_base.proofs.Fronts.{front-shorter}
 use Rattle.qq_base.specs.declared.ids.NodeId.{NodeId}
 use Rattle.qq_base.specs.declared.ids.QueueId.{QueueId}
 use Rattle.qq_entry.specs.declared.command.Entry.{Entry}
-use Rattle.qq_raft_model.specs.Moves.{longer}
+use Rattle.qq_raft_protocol.specs.Moves.{longer}
 use Rattle.qq_log.specs.Stable.{Stable, stable}
 use Rattle.qq_log.specs.declared.op.Op.{Op}
 use Rattle.qq_raft_msg.specs.Rpc.{envelope}
 use Rattle.qq_raft_msg.specs.declared.rpc.Rpc.{Rpc}
-use Rattle.qq_raft_step.specs.Server.{Input}
-use Rattle.qq_raft_step.specs.State.{Server}
-use Rattle.qq_group_model.specs.Group.{Event, Group, deliver_by, feed, feed_by, from_new, group_after, happens, may_restart, new_group, restart_by, take_by, take_op}
-use Rattle.qq_group_model.specs.Group.Event.{Tick, Submit, Deliver, Lose, Copy, Take, Notice, Crash, Restart}
-use Rattle.qq_group_model.specs.Promises.{AreDistinct, IsUp}
+use Rattle.qq_raft_model.specs.Server.{Input}
+use Rattle.qq_raft_model.specs.State.{Server}
+use Rattle.qq_raft_model.specs.Group.{Event, Group, deliver_by, feed, feed_by, from_new, group_after, happens, may_restart, new_group, restart_by, take_by, take_op}
+use Rattle.qq_raft_model.specs.Group.Event.{Tick, Submit, Deliver, Lose, Copy, Take, Notice, Crash, Restart}
+use Rattle.qq_raft_model.specs.Promises.{AreDistinct, IsUp}
 use Rattle.qq_group.specs.Group.{IsReached}
 use Rattle.qq_group.specs.Step.{extended}
 

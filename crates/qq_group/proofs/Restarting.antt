@@ -12,24 +12,24 @@ use Rattle.qq_base.specs.declared.ids.Term.{Term}
 use Rattle.qq_entry.specs.declared.command.Entry.{Entry}
 use Rattle.qq_log.specs.Log.{LogState}
 use Rattle.qq_log.specs.Stable.{Stable, stable}
-use Rattle.qq_raft.specs.Raft.{server_of, lane_of}
-use Rattle.qq_raft_step.proofs.Handing.{known-all}
-use Rattle.qq_raft_step.specs.Handing.{plain_state}
-use Rattle.qq_raft_step.specs.Server.{restart}
-use Rattle.qq_raft_step.specs.State.{Server as Raft}
-use Rattle.qq_server.specs.declared.server.Server.{Server}
-use Rattle.qq_group_model.specs.Group.{Group as GroupState, Seat as SeatState, happens, has_node, is_down, lane_with, may_restart, restart_by}
-use Rattle.qq_group_model.specs.Group.Event.{Restart}
-use Rattle.qq_server.specs.Stands.{StandsFor}
-use Rattle.qq_server.specs.Step.{new_state}
+use Rattle.qq_raft_core.specs.Raft.{server_of, lane_of}
+use Rattle.qq_raft_model.proofs.Handing.{known-all}
+use Rattle.qq_raft_model.specs.Handing.{plain_state}
+use Rattle.qq_raft_model.specs.Server.{restart}
+use Rattle.qq_raft_model.specs.State.{Server as Raft}
+use Rattle.qq_raft.specs.declared.server.Server.{Server}
+use Rattle.qq_raft_model.specs.Group.{Group as GroupState, Seat as SeatState, happens, has_node, is_down, lane_with, may_restart, restart_by}
+use Rattle.qq_raft_model.specs.Group.Event.{Restart}
+use Rattle.qq_raft.specs.Stands.{StandsFor}
+use Rattle.qq_raft.specs.Step.{new_state}
 use Rattle.qq_group.specs.Follows.{OthersStay}
 use Rattle.qq_group.specs.Group.{IsSeat, IsSeatBy, IsServed, HasReturned, IsReturned, KnowsLog, Represents, server_at, server_by}
 use Rattle.qq_group.specs.Opening.{AreEmpty, IsAllDown, IsEmpty, IsFresh, IsOpened, OpensOver, Start, Starts}
 use Rattle.qq_group.specs.Restarts.{Finds, HasStarted, IsFound, IsIntactAt, IsLost, IsStarted, Restarts, disk_of, is_known, started_seat}
 use Rattle.qq_group.specs.declared.group.Group.{Group}
-use Rattle.qq_history.specs.declared.state.DiskState.{DiskState}
+use Rattle.qq_group_history.specs.declared.state.DiskState.{DiskState}
 use Rattle.qq_group.specs.declared.seat.Seat.{Seat}
-use Rattle.qq_history.proofs.Histories.{history-at, history-new}
+use Rattle.qq_group_history.proofs.Histories.{history-at, history-new}
 use Rattle.qq_group.proofs.Stepped.{changed-other, changed-own, is-down, represents-put}
 
 -- ---- groups without servers

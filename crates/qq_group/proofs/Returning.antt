@@ -6,8 +6,8 @@ use Rattle.std.proofs.lemmas.Option.{slice_get_cases}
 use Rattle.qq_log.specs.Log.{LogState}
 use Rattle.qq_log.specs.Writable.{MayWrite}
 use Rattle.qq_log.specs.declared.op.Op.{Op}
-use Rattle.qq_raft.specs.Raft.{server_of}
-use Rattle.qq_server.specs.declared.server.Server.{Server}
+use Rattle.qq_raft_core.specs.Raft.{server_of}
+use Rattle.qq_raft.specs.declared.server.Server.{Server}
 use Rattle.qq_group.specs.Follows.{KeepsQueue}
 use Rattle.qq_group.specs.Group.{IsReturned, server_at, server_by}
 use Rattle.qq_group.specs.Handing.{given_back, handed_seat, has_returned, next_by, reseated, returned_at, with_returned, IsHandedOver, IsReseated, KeepsReturned, Refills, StaysAt}

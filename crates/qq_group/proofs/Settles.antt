@@ -2,9 +2,9 @@
 use Rattle.std.proofs.Common.{◌≡◌, ℕ, [], ◌++◌, sym, ap, ◌∙◌}
 use Rattle.std.specs.Prelude.{slice_get, slice_set}
 use Rattle.qq_log.specs.Log.{LogState}
-use Rattle.qq_raft.specs.Raft.{server_of}
-use Rattle.qq_raft_step.specs.State.{Server as RaftState}
-use Rattle.qq_server.specs.declared.server.Server.{Server}
+use Rattle.qq_raft_core.specs.Raft.{server_of}
+use Rattle.qq_raft_model.specs.State.{Server as RaftState}
+use Rattle.qq_raft.specs.declared.server.Server.{Server}
 use Rattle.qq_group.specs.Step.{IsPut, IsSettled, Publishes, extended, known_by, seated}
 use Rattle.qq_group.specs.declared.group.Group.{Group}
 

@@ -7,8 +7,8 @@ use Rattle.qq_base.proofs.Puts.{put-other}
 use Rattle.qq_base.specs.declared.ids.NodeId.{NodeId}
 use Rattle.qq_log.specs.Log.{LogState}
 use Rattle.qq_log.specs.Stable.{Stable, stable}
-use Rattle.qq_group_model.specs.Group.{Event, Group as GroupState, Seat as SeatState, group_after, happens, may_restart, restart_by}
-use Rattle.qq_group_model.specs.Group.Event.{Restart}
+use Rattle.qq_raft_model.specs.Group.{Event, Group as GroupState, Seat as SeatState, group_after, happens, may_restart, restart_by}
+use Rattle.qq_raft_model.specs.Group.Event.{Restart}
 use Rattle.qq_group.specs.Follows.{OthersStay}
 use Rattle.qq_group.specs.Group.{IsSound, Represents, server_at, server_by}
 use Rattle.qq_group.specs.Opening.{AreApart, AreFound, HasStartedBy, HaveStarted, IsFoundBy, IsFresh, IsStart, IsUnnamed, AreDown, Start, Starts, restarts_by, restarts_of}

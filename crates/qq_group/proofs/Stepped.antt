@@ -6,31 +6,31 @@ use Rattle.qq_base.specs.Fronts.{IsFront, put}
 use Rattle.qq_base.proofs.Puts.{put-each, put-same}
 use Rattle.qq_entry.specs.declared.command.Entry.{Entry}
 use Rattle.qq_log.specs.Log.{LogState}
-use Rattle.qq_raft.specs.Raft.{server_of}
+use Rattle.qq_raft_core.specs.Raft.{server_of}
 use Rattle.qq_raft_msg.specs.declared.rpc.Rpc.{Rpc}
-use Rattle.qq_raft_step.specs.Server.{Input as Event, step, step as step_raft}
-use Rattle.qq_raft_step.specs.State.{Server as Raft}
+use Rattle.qq_raft_model.specs.Server.{Input as Event, step, step as step_raft}
+use Rattle.qq_raft_model.specs.State.{Server as Raft}
 use Rattle.qq_base.specs.Causes.{SpentOnlyWhere}
 use Rattle.qq_base.specs.declared.ids.Index.{Index}
 use Rattle.qq_base.specs.declared.memory.Memory.{Memory}
 use Rattle.qq_raft_msg.specs.Queue.{Applied}
 use Rattle.qq_raft_msg.specs.declared.bag.TheConstants.{BAG_LIMIT}
-use Rattle.qq_server.specs.Stands.{Does, state_of}
-use Rattle.qq_server.specs.Step.{ServerState}
-use Rattle.qq_server.specs.declared.row.AppliedRow.{AppliedRow}
-use Rattle.qq_server.specs.declared.server.Server.{Server}
-use Rattle.qq_group_model.specs.Group.{Group as GroupState, Seat as SeatState, after_step, feed, feed_by, happens}
-use Rattle.qq_group_model.specs.Group.Event.{Crash}
+use Rattle.qq_raft.specs.Stands.{Does, state_of}
+use Rattle.qq_raft.specs.Step.{ServerState}
+use Rattle.qq_raft.specs.declared.row.AppliedRow.{AppliedRow}
+use Rattle.qq_raft.specs.declared.server.Server.{Server}
+use Rattle.qq_raft_model.specs.Group.{Group as GroupState, Seat as SeatState, after_step, feed, feed_by, happens}
+use Rattle.qq_raft_model.specs.Group.Event.{Crash}
 use Rattle.qq_group.specs.Follows.{Feeds, HasShown, HasShownBy, Makes, OthersStay}
 use Rattle.qq_group.specs.Group.{IsReached, IsSeat, IsSeatBy, Represents, server_at, server_by}
 use Rattle.qq_group.specs.Step.{ChangesSeat, IsSettled, IsTaken, IsUndone, emptied, extended, known_by, seated}
-use Rattle.qq_history.specs.History.{IsHistory}
+use Rattle.qq_group_history.specs.History.{IsHistory}
 use Rattle.qq_group.specs.Input.{IsFeedCaused, input_of}
 use Rattle.qq_group.specs.declared.group.Group.{Group}
-use Rattle.qq_history.specs.declared.history.History.{History}
+use Rattle.qq_group_history.specs.declared.history.History.{History}
 use Rattle.qq_group.specs.declared.input.Input.{Input}
 use Rattle.qq_group.specs.declared.seat.Seat.{Seat}
-use Rattle.qq_history.proofs.Histories.{history-later}
+use Rattle.qq_group_history.proofs.Histories.{history-later}
 use Rattle.qq_group.proofs.Noticed.{noticed-rises}
 use Rattle.qq_group.proofs.Reached.{KnownLaw, extended-is, known-front}
 use Rattle.qq_group.proofs.Seats.{set-other, set-own}

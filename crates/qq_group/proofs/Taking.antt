@@ -8,21 +8,21 @@ use Rattle.qq_base.specs.declared.ids.QueueId.{QueueId}
 use Rattle.qq_base.specs.declared.memory.TheConstants.{NUMBER_END}
 use Rattle.qq_log.specs.Log.{LogState}
 use Rattle.qq_log.specs.declared.op.Op.{Op}
-use Rattle.qq_raft.specs.Raft.{server_of}
-use Rattle.qq_raft_step.specs.State.{Server as Raft}
-use Rattle.qq_server.specs.declared.server.Server.{Server}
-use Rattle.qq_group_model.specs.Group.{Event, Group as GroupState, Seat as SeatState, from_new, happens, take_by, take_op}
-use Rattle.qq_group_model.specs.Group.Event.{Take}
-use Rattle.qq_group_model.specs.Promises.{AreDistinct, IsUp}
+use Rattle.qq_raft_core.specs.Raft.{server_of}
+use Rattle.qq_raft_model.specs.State.{Server as Raft}
+use Rattle.qq_raft.specs.declared.server.Server.{Server}
+use Rattle.qq_raft_model.specs.Group.{Event, Group as GroupState, Seat as SeatState, from_new, happens, take_by, take_op}
+use Rattle.qq_raft_model.specs.Group.Event.{Take}
+use Rattle.qq_raft_model.specs.Promises.{AreDistinct, IsUp}
 use Rattle.qq_group.specs.Follows.{Follows, Makes, OthersStay}
 use Rattle.qq_group.specs.Group.{IsReached, IsSeat, IsSeatBy, Represents, server_at, server_by}
 use Rattle.qq_group.specs.Handing.{handed_seat, hands, has_returned, next_at, next_by, returned_at, with_returned, IsHandedOver, IsReseated, Refills, StaysAt, reseated}
-use Rattle.qq_history.specs.History.{ops_of, IsHistory}
+use Rattle.qq_group_history.specs.History.{ops_of, IsHistory}
 use Rattle.qq_group.specs.Step.{IsTaken, emptied}
 use Rattle.qq_group.specs.declared.group.Group.{Group}
-use Rattle.qq_history.specs.declared.history.History.{History}
+use Rattle.qq_group_history.specs.declared.history.History.{History}
 use Rattle.qq_group.specs.declared.seat.Seat.{Seat}
-use Rattle.qq_history.proofs.Histories.{history-more}
+use Rattle.qq_group_history.proofs.Histories.{history-more}
 use Rattle.qq_group.proofs.Stepped.{changed-other, changed-own, is-down, is-up, represents-with, taken-crashes}
 
 -- `a_log_was_handed_the_changes_of_its_server` of `qq_group_model`

@@ -10,10 +10,10 @@ use Rattle.qq_log.specs.Log.{LogState}
 use Rattle.qq_raft_msg.specs.Bag.{at_place, without}
 use Rattle.qq_raft_msg.specs.Rpc.{envelope}
 use Rattle.qq_raft_msg.specs.declared.rpc.Rpc.{Rpc}
-use Rattle.qq_raft_step.specs.Server.{Input}
-use Rattle.qq_server.specs.declared.server.Server.{Server}
-use Rattle.qq_group_model.specs.Group.{Group as GroupState, Seat as SeatState, deliver_by, feed, happens}
-use Rattle.qq_group_model.specs.Group.Event.{Deliver, Lose, Crash}
+use Rattle.qq_raft_model.specs.Server.{Input}
+use Rattle.qq_raft.specs.declared.server.Server.{Server}
+use Rattle.qq_raft_model.specs.Group.{Group as GroupState, Seat as SeatState, deliver_by, feed, happens}
+use Rattle.qq_raft_model.specs.Group.Event.{Deliver, Lose, Crash}
 use Rattle.qq_group.specs.Events.{OneOf, copies, crash_on, delivers, delivery, loses, refuses, takes, takes_at}
 use Rattle.qq_group.specs.Follows.{Feeds, Follows, Makes}
 use Rattle.qq_group.specs.Group.{IsReached, IsSeat, IsSeatBy, Represents, server_at, server_by}

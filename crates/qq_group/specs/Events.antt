@@ -4,17 +4,17 @@ use Rattle.qq_base.specs.declared.ids.Index.{Index}
 use Rattle.qq_base.specs.declared.memory.Memory.{Memory}
 use Rattle.qq_entry.specs.declared.command.Entry.{Entry}
 use Rattle.qq_log.specs.Log.{LogState}
-use Rattle.qq_raft.specs.Fits.{fits}
-use Rattle.qq_raft.specs.Raft.{server_of}
+use Rattle.qq_raft_core.specs.Fits.{fits}
+use Rattle.qq_raft_core.specs.Raft.{server_of}
 use Rattle.qq_raft_msg.specs.Bag.{at_place}
 use Rattle.qq_raft_msg.specs.Queue.{Applied}
 use Rattle.qq_raft_msg.specs.Rpc.{envelope}
 use Rattle.qq_raft_msg.specs.declared.rpc.Rpc.{Rpc}
-use Rattle.qq_raft_step.specs.State.{Server as Raft}
-use Rattle.qq_server.specs.declared.row.AppliedRow.{AppliedRow}
-use Rattle.qq_server.specs.declared.server.Server.{Server}
-use Rattle.qq_group_model.specs.Group.{Group as GroupState, happens}
-use Rattle.qq_group_model.specs.Group.Event.{Deliver, Lose, Copy, Crash, Notice as Notify}
+use Rattle.qq_raft_model.specs.State.{Server as Raft}
+use Rattle.qq_raft.specs.declared.row.AppliedRow.{AppliedRow}
+use Rattle.qq_raft.specs.declared.server.Server.{Server}
+use Rattle.qq_raft_model.specs.Group.{Group as GroupState, happens}
+use Rattle.qq_raft_model.specs.Group.Event.{Deliver, Lose, Copy, Crash, Notice as Notify}
 use Rattle.qq_group.specs.Follows.{HasShownBy, OthersStay, ShowsNothing}
 use Rattle.qq_group.specs.Group.{server_at}
 use Rattle.qq_group.specs.Handing.{held}

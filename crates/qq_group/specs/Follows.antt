@@ -2,13 +2,13 @@
 use Rattle.std.specs.Prelude.{◌≡◌, ℕ, List, [], Option, Some, None, slice_get}
 use Rattle.qq_base.specs.Fronts.{IsFront}
 use Rattle.qq_log.specs.Log.{LogState}
-use Rattle.qq_raft_step.specs.Server.{Input}
-use Rattle.qq_raft.specs.Raft.{server_of}
-use Rattle.qq_server.specs.Stands.{state_of}
-use Rattle.qq_server.specs.Step.{ServerState}
-use Rattle.qq_server.specs.declared.row.AppliedRow.{AppliedRow}
-use Rattle.qq_server.specs.declared.server.Server.{Server}
-use Rattle.qq_group_model.specs.Group.{Group as GroupState, feed}
+use Rattle.qq_raft_model.specs.Server.{Input}
+use Rattle.qq_raft_core.specs.Raft.{server_of}
+use Rattle.qq_raft.specs.Stands.{state_of}
+use Rattle.qq_raft.specs.Step.{ServerState}
+use Rattle.qq_raft.specs.declared.row.AppliedRow.{AppliedRow}
+use Rattle.qq_raft.specs.declared.server.Server.{Server}
+use Rattle.qq_raft_model.specs.Group.{Group as GroupState, feed}
 use Rattle.qq_group.specs.Group.{Represents, IsReached}
 use Rattle.qq_group.specs.declared.group.Group.{Group}
 

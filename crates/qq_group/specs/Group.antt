@@ -6,14 +6,14 @@ use Rattle.qq_log.specs.Log.{LogState}
 use Rattle.qq_log.specs.Writable.{MayWrite}
 use Rattle.qq_log.specs.declared.limits.TheConstants.{NODE_LIMIT}
 use Rattle.qq_log.specs.declared.op.Op.{Op}
-use Rattle.qq_raft.specs.Ends.{IsSendable}
-use Rattle.qq_raft.specs.Raft.{server_of}
+use Rattle.qq_raft_core.specs.Ends.{IsSendable}
+use Rattle.qq_raft_core.specs.Raft.{server_of}
 use Rattle.qq_raft_msg.specs.Rpc.{IsNode}
-use Rattle.qq_server.specs.Stands.{IsSound as IsSoundServer}
-use Rattle.qq_server.specs.declared.server.Server.{Server}
-use Rattle.qq_group_model.specs.Group.{Event, Group as GroupState, Seat as SeatState, from_new}
-use Rattle.qq_group_model.specs.Promises.{AreDistinct}
-use Rattle.qq_history.specs.History.{IsHistory}
+use Rattle.qq_raft.specs.Stands.{IsSound as IsSoundServer}
+use Rattle.qq_raft.specs.declared.server.Server.{Server}
+use Rattle.qq_raft_model.specs.Group.{Event, Group as GroupState, Seat as SeatState, from_new}
+use Rattle.qq_raft_model.specs.Promises.{AreDistinct}
+use Rattle.qq_group_history.specs.History.{IsHistory}
 use Rattle.qq_group.specs.declared.group.Group.{Group}
 use Rattle.qq_group.specs.declared.seat.Seat.{Seat}
 

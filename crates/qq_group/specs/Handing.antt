@@ -2,14 +2,14 @@
 use Rattle.std.specs.Prelude.{◌≡◌, ◌+◌, ◌-◌, ◌^◌, ◌&&◌, ◌++◌, ◌∷◌, [], ℕ, Bool, true, false, Option, Some, None, is_none, is_some, min, if◌then◌else◌, slice_get}
 use Rattle.qq_log.specs.Log.{LogState}
 use Rattle.qq_log.specs.declared.op.Op.{Op}
-use Rattle.qq_raft.specs.Raft.{server_of}
-use Rattle.qq_server.specs.declared.server.Server.{Server}
-use Rattle.qq_group_model.specs.Group.{Group as GroupState, happens}
-use Rattle.qq_group_model.specs.Group.Event.{Take}
-use Rattle.qq_history.specs.History.{last_op, ops_of}
+use Rattle.qq_raft_core.specs.Raft.{server_of}
+use Rattle.qq_raft.specs.declared.server.Server.{Server}
+use Rattle.qq_raft_model.specs.Group.{Group as GroupState, happens}
+use Rattle.qq_raft_model.specs.Group.Event.{Take}
+use Rattle.qq_group_history.specs.History.{last_op, ops_of}
 use Rattle.qq_group.specs.Step.{ChangesSeat}
 use Rattle.qq_group.specs.declared.group.Group.{Group}
-use Rattle.qq_history.specs.declared.history.History.{History}
+use Rattle.qq_group_history.specs.declared.history.History.{History}
 use Rattle.qq_group.specs.declared.seat.Seat.{Seat}
 
 abbrev pub reseated : {Q L : Type 0} → Server Q L → Seat Q L → Seat Q L

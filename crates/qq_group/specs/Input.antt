@@ -8,15 +8,15 @@ use Rattle.qq_raft_msg.specs.declared.rpc.Rpc.{Rpc}
 use Rattle.qq_entry.specs.Range.{IsCommand, HasContent}
 use Rattle.qq_entry.specs.declared.command.Entry.{Entry}
 use Rattle.qq_log.specs.Log.{LogState}
-use Rattle.qq_raft.specs.Fits.{fits}
-use Rattle.qq_raft.specs.Raft.{server_of, IsCaused as IsRaftCaused}
+use Rattle.qq_raft_core.specs.Fits.{fits}
+use Rattle.qq_raft_core.specs.Raft.{server_of, IsCaused as IsRaftCaused}
 use Rattle.qq_raft_msg.specs.Queue.{Applied}
 use Rattle.qq_raft_msg.specs.Rpc.{IsWritable}
-use Rattle.qq_raft_step.specs.Server.{Input as Event, is_ready, step as step_raft, receive as receive_raft, notice as notice_raft}
-use Rattle.qq_raft_step.specs.State.{Server as Raft}
-use Rattle.qq_server.specs.Stands.{IsCaused, state_of}
-use Rattle.qq_server.specs.Step.{ServerState, tick, submit, receive, notice}
-use Rattle.qq_server.specs.declared.server.Server.{Server}
+use Rattle.qq_raft_model.specs.Server.{Input as Event, is_ready, step as step_raft, receive as receive_raft, notice as notice_raft}
+use Rattle.qq_raft_model.specs.State.{Server as Raft}
+use Rattle.qq_raft.specs.Stands.{IsCaused, state_of}
+use Rattle.qq_raft.specs.Step.{ServerState, tick, submit, receive, notice}
+use Rattle.qq_raft.specs.declared.server.Server.{Server}
 use Rattle.qq_group.specs.declared.input.Input.{Input}
 use Rattle.qq_group.specs.declared.input.Input.TheVariants.{Tick, Receive, Submit, Notice}
 use Rattle.qq_group.specs.declared.outcome.Outcome.{Outcome}

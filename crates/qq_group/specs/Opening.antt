@@ -8,11 +8,11 @@ use Rattle.qq_entry.specs.declared.command.Entry.{Entry}
 use Rattle.qq_log.specs.Log.{LogState}
 use Rattle.qq_log.specs.Stable.{no_snapshot}
 use Rattle.qq_log.specs.declared.limits.TheConstants.{NODE_LIMIT}
-use Rattle.qq_raft.specs.Raft.{IsWithinEnds}
+use Rattle.qq_raft_core.specs.Raft.{IsWithinEnds}
 use Rattle.qq_raft_msg.specs.Rpc.{IsNode}
-use Rattle.qq_server.specs.declared.server.Server.{Server}
-use Rattle.qq_group_model.specs.Group.{Event, Group as GroupState, group_after, has_node}
-use Rattle.qq_group_model.specs.Group.Event.{Restart}
+use Rattle.qq_raft.specs.declared.server.Server.{Server}
+use Rattle.qq_raft_model.specs.Group.{Event, Group as GroupState, group_after, has_node}
+use Rattle.qq_raft_model.specs.Group.Event.{Restart}
 use Rattle.qq_group.specs.Group.{HasState, Represents, server_at}
 use Rattle.qq_group.specs.Restarts.{HasStarted, IsFound, is_known}
 use Rattle.qq_group.specs.declared.group.Group.{Group}

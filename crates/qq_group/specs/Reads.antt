@@ -4,15 +4,15 @@ use Rattle.std.specs.List.{fold, list_all}
 use Rattle.qq_base.specs.declared.ids.NodeId.{NodeId}
 use Rattle.qq_entry.specs.declared.command.Entry.{Entry}
 use Rattle.qq_log.specs.Log.{LogState}
-use Rattle.qq_raft.specs.Raft.{server_of, state_of}
+use Rattle.qq_raft_core.specs.Raft.{server_of, state_of}
 use Rattle.qq_raft_msg.specs.Rpc.{envelope}
 use Rattle.qq_raft_msg.specs.declared.rpc.Rpc.{Rpc}
 use Rattle.qq_raft_msg.specs.declared.state.MemberState.{MemberState}
-use Rattle.qq_server.specs.declared.server.Server.{Server}
-use Rattle.qq_raft_step.specs.Server.{is_ready}
-use Rattle.qq_raft_step.specs.State.{Server as Raft}
-use Rattle.qq_group_model.specs.Group.{Group as GroupState}
-use Rattle.qq_group_model.specs.Promises.{IsUp}
+use Rattle.qq_raft.specs.declared.server.Server.{Server}
+use Rattle.qq_raft_model.specs.Server.{is_ready}
+use Rattle.qq_raft_model.specs.State.{Server as Raft}
+use Rattle.qq_raft_model.specs.Group.{Group as GroupState}
+use Rattle.qq_raft_model.specs.Promises.{IsUp}
 use Rattle.qq_group.specs.Group.{server_at}
 use Rattle.qq_group.specs.Handing.{held}
 use Rattle.qq_group.specs.declared.group.Group.{Group}

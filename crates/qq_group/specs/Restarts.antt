@@ -3,16 +3,16 @@ use Rattle.std.specs.Prelude.{◌≡◌, ◌≤◌, ⊤, ℕ, Bool, true, false,
 use Rattle.qq_base.specs.declared.memory.Memory.TheVariants.{Want}
 use Rattle.qq_log.specs.Log.{LogState}
 use Rattle.qq_log.specs.Stable.{stable}
-use Rattle.qq_raft_step.specs.Handing.{plain_state}
-use Rattle.qq_server.specs.declared.server.Server.{Server}
-use Rattle.qq_group_model.specs.Group.{Group as GroupState, happens}
-use Rattle.qq_group_model.specs.Group.Event.{Restart}
+use Rattle.qq_raft_model.specs.Handing.{plain_state}
+use Rattle.qq_raft.specs.declared.server.Server.{Server}
+use Rattle.qq_raft_model.specs.Group.{Group as GroupState, happens}
+use Rattle.qq_raft_model.specs.Group.Event.{Restart}
 use Rattle.qq_group.specs.Group.{Represents}
-use Rattle.qq_history.specs.History.{ops_of, stable_of, state_at}
+use Rattle.qq_group_history.specs.History.{ops_of, stable_of, state_at}
 use Rattle.qq_group.specs.Step.{ChangesSeat}
 use Rattle.qq_group.specs.declared.group.Group.{Group}
-use Rattle.qq_history.specs.declared.state.DiskState.{DiskState}
-use Rattle.qq_history.specs.declared.history.History.{History}
+use Rattle.qq_group_history.specs.declared.state.DiskState.{DiskState}
+use Rattle.qq_group_history.specs.declared.history.History.{History}
 use Rattle.qq_group.specs.declared.restart.RestartFault.{RestartFault}
 use Rattle.qq_group.specs.declared.restart.RestartFault.TheVariants.{Lost, Memory}
 use Rattle.qq_group.specs.declared.seat.Seat.{Seat}

@@ -9,9 +9,9 @@ use Rattle.qq_log.specs.Log.{LogState}
 use Rattle.qq_raft_msg.specs.Bag.{at_place, without}
 use Rattle.qq_raft_msg.specs.Queue.{Applied}
 use Rattle.qq_raft_msg.specs.declared.bag.TheConstants.{BAG_LIMIT}
-use Rattle.qq_server.specs.Step.{tick, submit}
-use Rattle.qq_server.specs.declared.row.AppliedRow.{AppliedRow}
-use Rattle.qq_group_model.specs.Group.{Event as GroupEvent, Group as GroupState, happens}
+use Rattle.qq_raft.specs.Step.{tick, submit}
+use Rattle.qq_raft.specs.declared.row.AppliedRow.{AppliedRow}
+use Rattle.qq_raft_model.specs.Group.{Event as GroupEvent, Group as GroupState, happens}
 use Rattle.qq_group.specs.Events.{copies, crash_outcome, delivers, delivery_outcome, lacks_op, loses, notice_outcome, notices, place_outcome, refuses, HasShownMessage, HasShownNotice, IsDeliveryCaused, ReachesOne}
 use Rattle.qq_group.specs.Follows.{HasShownBy, OthersStay}
 use Rattle.qq_group.specs.Group.{server_at}

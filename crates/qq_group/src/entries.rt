@@ -1,16 +1,16 @@
 //! Copies of a member's entries.
 ghost use Rattle.std.specs.Prelude.{◌≡◌, ◌≤◌, drop, take, length, IfOk, IsOkUnless};
 ghost use Rattle.qq_log.specs.Stable.{no_snapshot};
-ghost use Rattle.qq_raft.specs.Raft.{server_of};
-ghost use Rattle.qq_server.specs.Stands.{IsSound as IsSoundServer};
+ghost use Rattle.qq_raft_core.specs.Raft.{server_of};
+ghost use Rattle.qq_raft.specs.Stands.{IsSound as IsSoundServer};
 ghost use Rattle.qq_group.specs.Group.{IsSound, server_at};
 ghost use Rattle.qq_group.specs.Reads.{entries_at, entries_from};
 
 use crate::group::Group;
 use qq_base::{Duplicate, Index, Memory, NodeId};
 use qq_entry::{Entries, Entry};
+use qq_raft::Server;
 use qq_raft_msg::{LogView, Queue};
-use qq_server::Server;
 use std::alloc::Global;
 
 /// Copies of a log's entries behind one index, up to another.

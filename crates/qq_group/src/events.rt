@@ -1,8 +1,8 @@
 //! What may happen in a group, event by GroupEvent.
 ghost use Rattle.std.specs.Prelude.{◌≡◌, IfOk, IfErr, OnOk, OnErr};
 ghost use Rattle.qq_entry.specs.Range.{IsCommand, HasContent};
-ghost use Rattle.qq_server.specs.Step.{tick, submit};
-ghost use Rattle.qq_group_model.specs.Group.{happens, Event as GroupEvent};
+ghost use Rattle.qq_raft.specs.Step.{tick, submit};
+ghost use Rattle.qq_raft_model.specs.Group.{happens, Event as GroupEvent};
 ghost use Rattle.qq_group.specs.Follows.{Follows, HasShownBy, Makes, OthersStay};
 ghost use Rattle.qq_group.specs.Group.{IsSound, server_at};
 ghost use Rattle.qq_group.specs.Handing.{KeepsReturned};
@@ -14,7 +14,7 @@ use crate::input::Input;
 use crate::outcome::Shown;
 use qq_base::{Memory, NodeId};
 use qq_entry::Command;
-use qq_group_model::what_a_group_committed_stays;
+use qq_raft_model::what_a_group_committed_stays;
 use qq_raft_msg::{LogView, Queue};
 use std::alloc::Global;
 

@@ -1,7 +1,7 @@
 //! How an input reaches a member.
 ghost use Rattle.std.specs.Prelude.{◌≡◌, IfOk, IfErr, OnOk, OnErr};
-ghost use Rattle.qq_group_model.specs.Group.{happens};
-ghost use Rattle.qq_group_model.specs.Group.Event.{Crash};
+ghost use Rattle.qq_raft_model.specs.Group.{happens};
+ghost use Rattle.qq_raft_model.specs.Group.Event.{Crash};
 ghost use Rattle.qq_group.specs.Follows.{Feeds, HasShownBy, Makes, OthersStay};
 ghost use Rattle.qq_group.specs.Group.{IsSound, server_at};
 ghost use Rattle.qq_group.specs.Handing.{KeepsReturned};
@@ -11,7 +11,7 @@ use crate::group::Group;
 use crate::input::{Input, act};
 use crate::outcome::{Outcome, Shown};
 use qq_base::{Memory, NodeId};
-use qq_group_model::what_a_group_committed_stays;
+use qq_raft_model::what_a_group_committed_stays;
 use qq_raft_msg::{LogView, Queue};
 use std::alloc::Global;
 

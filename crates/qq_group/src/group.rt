@@ -3,18 +3,18 @@ ghost use Rattle.std.specs.Prelude.{◌≡◌, ◌+◌, ◌<◌, ◌++◌, ◌�
 ghost use Rattle.qq_base.specs.Causes.{SpentOnlyWhere};
 ghost use Rattle.qq_base.specs.Fronts.{IsFront};
 ghost use Rattle.qq_log.specs.Stable.{no_snapshot};
-ghost use Rattle.qq_raft.specs.Ends.{IsSendable};
-ghost use Rattle.qq_raft.specs.Raft.{server_of};
+ghost use Rattle.qq_raft_core.specs.Ends.{IsSendable};
+ghost use Rattle.qq_raft_core.specs.Raft.{server_of};
 ghost use Rattle.qq_raft_msg.specs.declared.bag.TheConstants.{BAG_LIMIT};
-ghost use Rattle.qq_server.specs.Stands.{IsSound as IsSoundServer};
+ghost use Rattle.qq_raft.specs.Stands.{IsSound as IsSoundServer};
 ghost use Rattle.qq_group.specs.Group.{IsServing, IsSound, server_at};
 ghost use Rattle.qq_group.specs.Step.{extended};
 
 use crate::seat::Seat;
 use qq_base::{Duplicate, Index, Memory, NodeId, QueueId};
 use qq_entry::Entry;
+use qq_raft::{AppliedRow, Server};
 use qq_raft_msg::{Bag, LogView, Queue};
-use qq_server::{AppliedRow, Server};
 use std::alloc::Global;
 
 /// The servers of a queue's group, the messages between them, and the group's audit.

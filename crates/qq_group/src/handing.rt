@@ -2,17 +2,17 @@
 ghost use Rattle.std.specs.Prelude.{◌≡◌, ◌<◌, None, Some, length, slice_get, IfOk, IfSome, OnErr, OnOk, IsOkUnless};
 ghost use Rattle.std.specs.Bool.{Decides};
 ghost use Rattle.qq_log.specs.Writable.{MayWrite};
-ghost use Rattle.qq_group_model.specs.Group.{happens, Event as GroupEvent};
+ghost use Rattle.qq_raft_model.specs.Group.{happens, Event as GroupEvent};
 ghost use Rattle.qq_group.specs.Follows.{Follows, KeepsQueue, Makes, OthersStay};
 ghost use Rattle.qq_group.specs.Group.{IsReturned, IsServing, IsSound, server_at};
 ghost use Rattle.qq_group.specs.Handing.{given_back, hands, has_returned, next_at, next_by, returned_at, takes_back, ChangesOnly, IsHandedOver, IsLastOf, IsReseated, KeepsReturned, Refills, StaysAt};
 
 use crate::group::Group;
 use qq_base::{Memory, NodeId};
-use qq_group_model::a_log_was_handed_the_changes_of_its_server;
 use qq_log::Op;
+use qq_raft::Server;
+use qq_raft_model::a_log_was_handed_the_changes_of_its_server;
 use qq_raft_msg::{LogView, Queue};
-use qq_server::Server;
 use std::alloc::Global;
 use std::mem;
 

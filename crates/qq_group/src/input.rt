@@ -1,15 +1,15 @@
 //! What comes to a server, and what it makes of it.
 ghost use Rattle.std.specs.Prelude.{◌≡◌, IfOk, IfErr, OnOk};
-ghost use Rattle.qq_raft.specs.Raft.{server_of};
-ghost use Rattle.qq_server.specs.Stands.{Does, IsSound as IsSoundServer};
+ghost use Rattle.qq_raft_core.specs.Raft.{server_of};
+ghost use Rattle.qq_raft.specs.Stands.{Does, IsSound as IsSoundServer};
 ghost use Rattle.qq_group.specs.Group.{IsServing};
 ghost use Rattle.qq_group.specs.Input.{acts, outcome_of, IsActCaused, MayCome};
 
 use crate::outcome::Outcome;
 use qq_base::Memory;
 use qq_entry::Command;
+use qq_raft::{Server, SubmitFault};
 use qq_raft_msg::{LogView, Queue, Rpc};
-use qq_server::{Server, SubmitFault};
 use std::alloc::Global;
 
 /// What comes to a server.

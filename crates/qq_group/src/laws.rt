@@ -6,21 +6,21 @@ ghost use Rattle.qq_base.specs.declared.ids.QueueId.{QueueId};
 ghost use Rattle.qq_entry.specs.declared.command.Command.{Command};
 ghost use Rattle.qq_entry.specs.declared.command.Entry.{Entry};
 ghost use Rattle.std.specs.List.{AllByRecursion};
-ghost use Rattle.qq_raft.specs.Raft.{server_of};
-ghost use Rattle.qq_raft_step.specs.Server.{is_ready};
-ghost use Rattle.qq_raft_step.specs.State.{last};
-ghost use Rattle.qq_raft_model.specs.Facts.{add};
-ghost use Rattle.qq_raft_model.specs.Safe.{IsSupported};
+ghost use Rattle.qq_raft_core.specs.Raft.{server_of};
+ghost use Rattle.qq_raft_model.specs.Server.{is_ready};
+ghost use Rattle.qq_raft_model.specs.State.{last};
+ghost use Rattle.qq_raft_protocol.specs.Facts.{add};
+ghost use Rattle.qq_raft_protocol.specs.Safe.{IsSupported};
 ghost use Rattle.qq_raft_msg.specs.declared.state.Role.TheVariants.{Leader};
-ghost use Rattle.qq_server.specs.declared.server.Server.{Server};
-ghost use Rattle.qq_group_model.specs.Group.{Event, Group as GroupState, group_after, happens, new_group};
-ghost use Rattle.qq_group_model.specs.Promises.{AreDistinct, IsLeft, members_of};
+ghost use Rattle.qq_raft.specs.declared.server.Server.{Server};
+ghost use Rattle.qq_raft_model.specs.Group.{Event, Group as GroupState, group_after, happens, new_group};
+ghost use Rattle.qq_raft_model.specs.Promises.{AreDistinct, IsLeft, members_of};
 ghost use Rattle.qq_group.specs.Group.{IsReached, Represents, server_at};
 ghost use Rattle.qq_group.specs.Opening.{AreApart, AreFound, IsAllDown, MayBeFoundBy, Start};
 ghost use Rattle.qq_group.specs.Reads.{is_idle, IsIdle};
 ghost use Rattle.qq_group.specs.declared.group.Group.{Group};
 
-use qq_group_model::{
+use qq_raft_model::{
     a_log_was_handed_the_changes_of_its_server, a_term_does_not_fall, a_term_has_one_leader,
     an_answered_command_stays, the_disks_support_the_audit, what_a_group_committed_stays,
 };

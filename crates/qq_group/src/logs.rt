@@ -1,8 +1,8 @@
 //! What the members' logs are handed, and what they tell.
 ghost use Rattle.std.specs.Prelude.{◌≡◌, None, Some, IfOk, IfErr, IfSome, IfNone, OnOk, OnErr, slice_get};
 ghost use Rattle.qq_log.specs.Writable.{MayWrite};
-ghost use Rattle.qq_server.specs.Step.{notice};
-ghost use Rattle.qq_group_model.specs.Group.{happens, Event as GroupEvent};
+ghost use Rattle.qq_raft.specs.Step.{notice};
+ghost use Rattle.qq_raft_model.specs.Group.{happens, Event as GroupEvent};
 ghost use Rattle.qq_group.specs.Events.{crash_outcome, lacks_op, notice_outcome, notices, HasShownNotice};
 ghost use Rattle.qq_group.specs.Follows.{Follows, Makes, OthersStay};
 ghost use Rattle.qq_group.specs.Group.{IsSound, server_at};
@@ -15,7 +15,7 @@ use crate::input::Input;
 use crate::outcome::{Outcome, Shown};
 use crate::seat::Seat;
 use qq_base::{Memory, NodeId};
-use qq_group_model::what_a_group_committed_stays;
+use qq_raft_model::what_a_group_committed_stays;
 use qq_raft_msg::{LogView, Queue};
 use std::alloc::Global;
 

@@ -1,12 +1,12 @@
 //! The messages that are on their way.
 ghost use Rattle.std.specs.Prelude.{◌≡◌, None, Some, length, IfOk, IfErr, IfSome, IfNone, OnOk, OnErr, IsSome};
 ghost use Rattle.qq_base.specs.Causes.{SpentOnlyWhere};
-ghost use Rattle.qq_raft.specs.Ends.{IsSendable};
+ghost use Rattle.qq_raft_core.specs.Ends.{IsSendable};
 ghost use Rattle.qq_raft_msg.specs.Bag.{at_place, without};
 ghost use Rattle.qq_raft_msg.specs.Rpc.{IsWritable, envelope};
 ghost use Rattle.qq_raft_msg.specs.declared.bag.TheConstants.{BAG_LIMIT};
-ghost use Rattle.qq_raft_step.specs.Server.{Input as GroupInput};
-ghost use Rattle.qq_group_model.specs.Group.{happens, Event as GroupEvent};
+ghost use Rattle.qq_raft_model.specs.Server.{Input as GroupInput};
+ghost use Rattle.qq_raft_model.specs.Group.{happens, Event as GroupEvent};
 ghost use Rattle.qq_group.specs.Events.{OneOf, taken_outcome, copies, delivers, delivery_outcome, loses, place_outcome, refuses, takes_at, HasShownMessage, IsDeliveryCaused, ReachesOne};
 ghost use Rattle.qq_group.specs.Follows.{Feeds, Follows, Makes, OthersStay};
 ghost use Rattle.qq_group.specs.Group.{IsSound, server_at};
@@ -16,7 +16,7 @@ use crate::group::Group;
 use crate::input::Input;
 use crate::outcome::{Outcome, Shown};
 use qq_base::{Memory, NodeId};
-use qq_group_model::what_a_group_committed_stays;
+use qq_raft_model::what_a_group_committed_stays;
 use qq_raft_msg::{CopyFault, LogView, Queue, Rpc};
 use std::alloc::Global;
 

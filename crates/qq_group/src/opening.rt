@@ -2,7 +2,7 @@
 ghost use Rattle.std.specs.Prelude.{◌≡◌, ◌<◌, ◌^◌, ℕ, true, All, [], length, IfOk, IfErr, OnOk, IsOkUnless};
 ghost use Rattle.std.specs.List.{AllByRecursion};
 ghost use Rattle.qq_raft_msg.specs.Rpc.{IsNode};
-ghost use Rattle.qq_group_model.specs.Group.{group_after, has_node, Group as GroupState};
+ghost use Rattle.qq_raft_model.specs.Group.{group_after, has_node, Group as GroupState};
 ghost use Rattle.qq_group.specs.Follows.{OthersStay};
 ghost use Rattle.qq_group.specs.Group.{IsSound, Represents, server_at};
 ghost use Rattle.qq_group.specs.Opening.{AreApart, AreDown, AreEmpty, HasStartedBy, HaveStarted, is_named, IsFoundBy, IsFresh, IsOpened, IsOpeningCaused, IsReady, IsStart, missing, OpensOver, restarts_by, Starts};
@@ -12,7 +12,7 @@ use crate::restart::RestartFault;
 use crate::seat::Seat;
 use qq_base::{Memory, NodeId, QueueId};
 use qq_entry::{Entries, Entry};
-use qq_history::{DiskState, History};
+use qq_group_history::{DiskState, History};
 use qq_log::NODE_LIMIT;
 use qq_raft_msg::{Bag, LogView, Queue};
 use std::alloc::Global;

@@ -1,5 +1,5 @@
 use qq_base::NodeId;
-use qq_server::AppliedRow;
+use qq_raft::AppliedRow;
 
 /// What came of an event.
 #[derive(Clone, Copy, Debug, PartialEq, Eq)]

@@ -2,9 +2,9 @@
 ghost use Rattle.std.specs.Prelude.{◌≡◌, ◌<◌, ◌^◌, All, None, length, true, IfOk, IfErr, OnOk, OnErr, IsOkUnless, slice_get};
 ghost use Rattle.std.specs.Bool.{Decides};
 ghost use Rattle.qq_log.specs.Stable.{no_snapshot};
-ghost use Rattle.qq_raft.specs.Raft.{IsWithinEnds};
+ghost use Rattle.qq_raft_core.specs.Raft.{IsWithinEnds};
 ghost use Rattle.qq_raft_msg.specs.Rpc.{IsNode};
-ghost use Rattle.qq_group_model.specs.Group.{has_node};
+ghost use Rattle.qq_raft_model.specs.Group.{has_node};
 ghost use Rattle.qq_group.specs.Follows.{OthersStay};
 ghost use Rattle.qq_group.specs.Group.{HasState, IsServing, IsSound, server_at};
 ghost use Rattle.qq_group.specs.Restarts.{disk_of, Finds, HasStarted, IsIntactAt, IsStarted, noticed_at, IsRestartCaused, Restarts};
@@ -15,9 +15,9 @@ use crate::group::Group;
 use crate::seat::Seat;
 use qq_base::{Memory, NodeId};
 use qq_entry::Entries;
-use qq_history::{DiskState, History};
+use qq_group_history::{DiskState, History};
+use qq_raft::Server;
 use qq_raft_msg::{LogView, Queue};
-use qq_server::Server;
 use std::alloc::Global;
 use thiserror::Error;
 

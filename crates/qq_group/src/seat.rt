@@ -5,10 +5,10 @@ ghost use Rattle.qq_group.specs.Reads.{has_settled};
 ghost use Rattle.qq_group.specs.Restarts.{IsIntact};
 
 use qq_base::Memory;
-use qq_history::{DiskState, History};
+use qq_group_history::{DiskState, History};
 use qq_log::Op;
+use qq_raft::Server;
 use qq_raft_msg::{LogView, Queue};
-use qq_server::Server;
 use std::alloc::Global;
 
 /// A member of a group.

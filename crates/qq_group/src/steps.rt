@@ -3,15 +3,15 @@ ghost use Rattle.std.specs.Prelude.{◌≡◌, ◌+◌, ◌<◌, None, is_some, 
 ghost use Rattle.std.specs.Option.{option_copied};
 ghost use Rattle.qq_base.specs.Causes.{SpentOnlyWhere};
 ghost use Rattle.qq_base.specs.Fronts.{IsFront};
-ghost use Rattle.qq_raft.specs.Raft.{server_of};
+ghost use Rattle.qq_raft_core.specs.Raft.{server_of};
 ghost use Rattle.qq_raft_msg.specs.declared.bag.TheConstants.{BAG_LIMIT};
 ghost use Rattle.qq_group.specs.Group.{IsServing, IsSound, server_at};
 ghost use Rattle.qq_group.specs.Step.{IsPut, IsSettled, IsTaken, IsUndone, Publishes};
 
 use crate::group::{Group, cut_bag, extend_audit, send_all, take_rows};
 use qq_base::{Memory, NodeId};
+use qq_raft::{AppliedRow, Server};
 use qq_raft_msg::{LogView, Queue};
-use qq_server::{AppliedRow, Server};
 use std::alloc::Global;
 
 impl<Q: Queue, L: LogView> Group<Q, L> {

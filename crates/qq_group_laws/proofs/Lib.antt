@@ -1,5 +1,9 @@
-mod Causes
-mod Ends
-mod Restarting
-mod Opened
-mod Returned
+mod Applying
+mod EventLaws
+mod Events
+mod Fitting
+mod Groups
+mod Refused
+mod Rows
+mod Sending
+mod Servers

@@ -9,6 +9,7 @@ mod dead_letters;
 mod deliveries;
 mod ends;
 mod messages;
+mod number_ends;
 mod refusals;
 mod sessions;
 
@@ -39,6 +40,7 @@ pub use messages::{
     messages_are_in_order, messages_last, publishes_are_kept, publishes_are_rejected_at_limits,
     purges_take_the_ready, the_first_message_is_next,
 };
+pub use number_ends::{HALFWAY, numbers_follow_their_counters, queues_are_reached_by_entries};
 pub use refusals::{
     answers_are_plain, consumers_keep_their_places, drains_are_answered, refusals_are_exact,
 };

@@ -8,7 +8,7 @@ use Rattle.qq_base.specs.declared.ids.Index.{Index}
 use Rattle.qq_entry.specs.declared.message.Message.{Message}
 use Rattle.qq_model.specs.declared.place.Row.{Row}
 use Rattle.qq_model.specs.State.{State}
-use Rattle.qq_gone.specs.Reduced.{Item, is_live_item, live_items}
+use Rattle.qq_parts.specs.Reduced.{Item, is_live_item, live_items}
 use Rattle.qq_parts.specs.Parts.{Parts, Stands, items_of}
 use Rattle.qq_parts.proofs.Perms.{perm-map, perm-sum}
 use Rattle.qq_live.specs.Indices.{is_index, occurrences}

@@ -8,7 +8,7 @@ use Rattle.qq_model.specs.declared.place.Row.{Row}
 use Rattle.qq_model.specs.declared.session.OpenSession.{OpenSession}
 use Rattle.qq_model.specs.Limits.{is_live}
 use Rattle.qq_model.specs.State.{State}
-use Rattle.qq_gone.specs.Reduced.{Item}
+use Rattle.qq_parts.specs.Reduced.{Item}
 use Rattle.qq_parts.specs.Parts.{Parts, items_of}
 use Rattle.qq_live.specs.Indices.{least}
 

@@ -2,7 +2,7 @@ use crate::expand::expand;
 use crate::texts::line_text;
 use anyhow::{Context, Result};
 use qq_defs::{Setup, read};
-use qq_lines::{Place, parse_line};
+use qq_script_lines::{Place, parse_line};
 use std::alloc::Global;
 
 /// The length of log files, which no line tells.

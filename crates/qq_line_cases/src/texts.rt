@@ -1,7 +1,7 @@
 use anyhow::Result;
 use qq_base::{Bytes, ConsumerId, Ids, NodeId, QueueId, SessionId};
 use qq_disk::{Image, Tail};
-use qq_lines::{Nodes, ScriptLine};
+use qq_script_lines::{Nodes, ScriptLine};
 use std::alloc::Global;
 use std::fmt;
 

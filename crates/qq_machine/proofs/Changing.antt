@@ -12,8 +12,8 @@ use Rattle.qq_model.specs.Choice.{credit_left}
 use Rattle.qq_parts.specs.Parts.{Served, Parts}
 use Rattle.qq_parts.specs.Consumers.{changed, keep_ones, needed_one}
 use Rattle.qq_parts.specs.Turns.{credit_of_one}
-use Rattle.qq_parts_step.specs.Work.{Work, Answered, say, say_refused, with_parts}
-use Rattle.qq_parts_step.specs.Commands.{one_of, cancelled, credited, parts_credit, parts_take_turn, parts_begin_to_wait, parts_cancel_by, parts_credit_by, parts_credit_by_mode, parts_drain_by}
+use Rattle.qq_parts.specs.Work.{Work, Answered, say, say_refused, with_parts}
+use Rattle.qq_parts.specs.Commands.{one_of, cancelled, credited, parts_credit, parts_take_turn, parts_begin_to_wait, parts_cancel_by, parts_credit_by, parts_credit_by_mode, parts_drain_by}
 use Rattle.qq_consumer.specs.Roster.{Roster, roster_of, cancel_by, drop_finished, put_one, credit_at, take_turn, begin_to_wait, credit_fault_by, mode_fault, give_credit_by, drain_by, drain_by_mode, drained, link_credit, link_credit_one}
 use Rattle.qq_machine.proofs.Delivering.{with_roster, found-id}
 

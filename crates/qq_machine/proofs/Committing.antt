@@ -6,7 +6,7 @@ use Rattle.qq_entry.specs.declared.answer.Answer.{Answer}
 use Rattle.qq_entry.specs.declared.audit.Effect.{Effect}
 use Rattle.qq_entry.specs.declared.command.Entry.{Entry}
 use Rattle.qq_parts.specs.Parts.{Parts}
-use Rattle.qq_parts_step.specs.Step.{PartsStep, parts_step}
+use Rattle.qq_parts.specs.Step.{PartsStep, parts_step}
 use Rattle.qq_machine.specs.declared.queue.Queue.{Queue}
 use Rattle.qq_machine.specs.Views.{parts_of, parts_in, Content, content_of, base_of}
 

@@ -9,14 +9,14 @@ use Rattle.qq_entry.specs.declared.audit.Effect.TheVariants.{Offer}
 use Rattle.qq_entry.specs.declared.message.Message.{Message}
 use Rattle.qq_entry.specs.declared.queue.QueueArgs.{QueueArgs}
 use Rattle.qq_model.specs.declared.TheConstants.{MOST_GIVEN}
-use Rattle.qq_gone.specs.Reduced.{Item}
+use Rattle.qq_parts.specs.Reduced.{Item}
 use Rattle.qq_parts.specs.Parts.{Parts, item_number}
 use Rattle.qq_parts.specs.Outs.{Cut, cut_id, behind_item}
 use Rattle.qq_parts.specs.Letters.{first_above, dead_of, take_dead}
-use Rattle.qq_parts_step.specs.Commands.{DeadSettled, take_given, parts_settle_dead_by}
+use Rattle.qq_parts.specs.Commands.{DeadSettled, take_given, parts_settle_dead_by}
 use Rattle.qq_entry.specs.declared.message.ReadyRow.{ReadyRow}
-use Rattle.qq_parts_step.specs.Work.{Work}
-use Rattle.qq_parts_step.specs.Follows.{may_give, parts_offer_by, parts_give_dead}
+use Rattle.qq_parts.specs.Work.{Work}
+use Rattle.qq_parts.specs.Follows.{may_give, parts_offer_by, parts_give_dead}
 use Rattle.qq_dead.specs.declared.row.DeadRow.{DeadRow}
 use Rattle.qq_dead.specs.Letters.{Letters, Rises, has_number, next_dead, next_offer, give, give_by, settled, settle, may_settle}
 use Rattle.qq_dead.specs.Letters.{may_give as may_offer}

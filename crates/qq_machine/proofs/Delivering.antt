@@ -11,12 +11,12 @@ use Rattle.qq_entry.specs.declared.message.Message.{Message}
 use Rattle.qq_entry.specs.declared.message.ReadyRow.{ReadyRow}
 use Rattle.qq_entry.specs.declared.queue.QueueArgs.{QueueArgs}
 use Rattle.qq_model.specs.declared.place.Place.{Place}
-use Rattle.qq_gone.specs.Reduced.{Item}
+use Rattle.qq_parts.specs.Reduced.{Item}
 use Rattle.qq_parts.specs.Parts.{Served}
 use Rattle.qq_parts.specs.Changes.{Taken}
-use Rattle.qq_parts_step.specs.Work.{Work}
-use Rattle.qq_parts_step.specs.Follows.{parts_deliver, parts_deliver_by}
-use Rattle.qq_parts_step.specs.Commands.{one_of}
+use Rattle.qq_parts.specs.Work.{Work}
+use Rattle.qq_parts.specs.Follows.{parts_deliver, parts_deliver_by}
+use Rattle.qq_parts.specs.Commands.{one_of}
 use Rattle.qq_consumer.specs.Roster.{Roster, item_at, check_out, next_id_at}
 use Rattle.qq_machine.specs.declared.queue.Draft.{Draft}
 use Rattle.qq_machine.specs.Views.{parts_of, work_of}

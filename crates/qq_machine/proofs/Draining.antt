@@ -17,15 +17,15 @@ use Rattle.qq_model.specs.declared.consumer.Consumer.{Consumer}
 use Rattle.qq_model.specs.Serving.{is_credited, use_credit, serve}
 use Rattle.qq_model.proofs.Loops.{while_next-keeps}
 use Rattle.qq_model.proofs.OneConsumer.{same_consumer-true}
-use Rattle.qq_gone.specs.Reduced.{Item}
+use Rattle.qq_parts.specs.Reduced.{Item}
 use Rattle.qq_parts.specs.Parts.{Served, Parts}
 use Rattle.qq_parts.specs.Reads.{ready_items}
 use Rattle.qq_parts.specs.Changes.{Taken, take_first, take_by}
 use Rattle.qq_parts.specs.Consumers.{change_one, changed}
 use Rattle.qq_parts.specs.Outs.{hand_to, serve_one}
-use Rattle.qq_parts_step.specs.Work.{Work, Answered, say_refused}
-use Rattle.qq_parts_step.specs.Follows.{next_one, parts_deliver, parts_deliver_by, parts_check_out, parts_check_out_all}
-use Rattle.qq_parts_step.specs.Commands.{one_of, credited, parts_take_turn, parts_begin_to_wait, parts_credit, parts_credit_by_mode, parts_credit_by, parts_give_credit, parts_act}
+use Rattle.qq_parts.specs.Work.{Work, Answered, say_refused}
+use Rattle.qq_parts.specs.Follows.{next_one, parts_deliver, parts_deliver_by, parts_check_out, parts_check_out_all}
+use Rattle.qq_parts.specs.Commands.{one_of, credited, parts_take_turn, parts_begin_to_wait, parts_credit, parts_credit_by_mode, parts_credit_by, parts_give_credit, parts_act}
 use Rattle.qq_consumer.specs.declared.row.ConsumerRow.{ConsumerRow}
 use Rattle.qq_consumer.specs.Roster.{served_of}
 use Rattle.qq_machine.specs.Views.{IsLinkAt, HasLinkFor}

@@ -6,11 +6,11 @@ use Rattle.qq_entry.specs.declared.message.Reason.TheVariants.{DeliveryLimit}
 use Rattle.qq_entry.specs.declared.message.Reason.{Reason}
 use Rattle.qq_entry.specs.declared.queue.Strategy.{Strategy}
 use Rattle.qq_entry.specs.declared.queue.Strategy.TheVariants.{AtLeastOnce}
-use Rattle.qq_gone.specs.Reduced.{Item}
+use Rattle.qq_parts.specs.Reduced.{Item}
 use Rattle.qq_parts.specs.Parts.{Parts}
 use Rattle.qq_parts.specs.Changes.{bury, push_dead, dead_letter, put_back, recounted, is_spent}
-use Rattle.qq_parts_step.specs.Work.{Work, with_parts}
-use Rattle.qq_parts_step.specs.Ends.{parts_die, parts_return}
+use Rattle.qq_parts.specs.Work.{Work, with_parts}
+use Rattle.qq_parts.specs.Ends.{parts_die, parts_return}
 use Rattle.qq_machine.specs.Views.{return_counted}
 
 pub return-is : (x : Item) (t : Work) → parts_return x t ≡ return_counted (recounted x) t

@@ -13,16 +13,16 @@ use Rattle.qq_entry.specs.declared.queue.Strategy.TheVariants.{Absent, AtMostOnc
 use Rattle.qq_model.specs.declared.consumer.Outcome.{Outcome}
 use Rattle.qq_model.specs.declared.consumer.Outcome.TheVariants.{Settled, Returned, Discarded}
 use Rattle.qq_model.specs.declared.place.Place.{Place}
-use Rattle.qq_gone.specs.Reduced.{Item}
+use Rattle.qq_parts.specs.Reduced.{Item}
 use Rattle.qq_parts.specs.Parts.{Served, Parts, item_number, IsWhole}
 use Rattle.qq_parts.specs.Consumers.{keep_ones, needed_one}
 use Rattle.qq_parts.specs.Turns.{credit_of_one}
 use Rattle.qq_parts.specs.Changes.{moved, bury, dead_letter, put_back, recounted, is_spent}
 use Rattle.qq_parts.specs.Outs.{Cut, cut_id, behind_item}
-use Rattle.qq_parts_step.specs.Work.{Work, say, with_parts}
-use Rattle.qq_parts_step.specs.Commands.{one_of, parts_begin_to_wait, parts_finish}
-use Rattle.qq_parts_step.specs.Ends.{parts_die, parts_return, parts_end}
-use Rattle.qq_parts_step.specs.AtOnce.{Cuts, first_cut, cut_ids, without_ids, cut_all, parts_end_items}
+use Rattle.qq_parts.specs.Work.{Work, say, with_parts}
+use Rattle.qq_parts.specs.Commands.{one_of, parts_begin_to_wait, parts_finish}
+use Rattle.qq_parts.specs.Ends.{parts_die, parts_return, parts_end}
+use Rattle.qq_parts.specs.AtOnce.{Cuts, first_cut, cut_ids, without_ids, cut_all, parts_end_items}
 use Rattle.qq_consumer.specs.declared.row.ConsumerRow.{ConsumerRow}
 use Rattle.qq_consumer.specs.declared.rising.Numbered.{Numbered}
 use Rattle.qq_consumer.specs.Roster.{item_at, row_of, out_item, served_of, with_out, cut_rest, put_rest, Roster, take_out, take_out_by, taken_rows, begin_to_wait, drop_finished}
@@ -31,7 +31,7 @@ use Rattle.qq_machine.specs.Views.{end_rows, end_taken}
 use Rattle.qq_machine.proofs.Ending.{return-is}
 use Rattle.qq_machine.proofs.Delivering.{with_roster}
 use Rattle.qq_machine.proofs.Changing.{roster_in, begins}
-use Rattle.qq_parts_step.proofs.AtOnce.{finishes_at_once}
+use Rattle.qq_parts.proofs.AtOnce.{finishes_at_once}
 
 -- Where a message was isn't looked at ------------------------------------------------------------------
 

@@ -16,14 +16,14 @@ use Rattle.qq_model.specs.declared.place.Place.TheVariants.{Out}
 use Rattle.qq_model.specs.Commands.{is_of_session}
 use Rattle.qq_model.proofs.Few.{filter-few}
 use Rattle.qq_model.proofs.OneConsumer.{same_consumer-refl}
-use Rattle.qq_gone.specs.Reduced.{Item}
+use Rattle.qq_parts.specs.Reduced.{Item}
 use Rattle.qq_parts.specs.Parts.{Served, AreTwo, AreApart}
 use Rattle.qq_parts.specs.Changes.{bury, put_back, recounted, is_spent}
-use Rattle.qq_parts_step.specs.Work.{Work, with_parts}
-use Rattle.qq_parts_step.specs.Ends.{parts_return}
-use Rattle.qq_parts_step.specs.Commands.{parts_return_session}
-use Rattle.qq_parts_step.specs.AtOnce.{first_of_session, without_first}
-use Rattle.qq_parts_step.proofs.AtOnce.{goes_first}
+use Rattle.qq_parts.specs.Work.{Work, with_parts}
+use Rattle.qq_parts.specs.Ends.{parts_return}
+use Rattle.qq_parts.specs.Commands.{parts_return_session}
+use Rattle.qq_parts.specs.AtOnce.{first_of_session, without_first}
+use Rattle.qq_parts.proofs.AtOnce.{goes_first}
 use Rattle.qq_consumer.specs.declared.row.ConsumerRow.{ConsumerRow}
 use Rattle.qq_consumer.specs.declared.rising.Numbered.{Numbered}
 use Rattle.qq_consumer.specs.Roster.{Roster, item_at, out_item, served_of, remove_one, is_one, first_of, is_one_of, end, end_by}

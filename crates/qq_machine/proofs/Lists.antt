@@ -7,7 +7,7 @@ use Rattle.std.proofs.lemmas.List.Sums.{sum_by-cons}
 use Rattle.qq_model.specs.Choice.{least_by}
 use Rattle.qq_model.specs.Changes.{while_next}
 use Rattle.qq_parts.specs.Parts.{Served, outs}
-use Rattle.qq_parts_step.proofs.Choosing.{fold-over}
+use Rattle.qq_parts.proofs.Choosing.{fold-over}
 
 pub find-over : {A B : Type 0} (test : B → Bool) (f : A → B) (xs : List A)
     → find test (map f xs) ≡ option_map f (find (λ (x : A). test (f x)) xs)

@@ -14,7 +14,7 @@ use Rattle.qq_sessions.proofs.Lows.{lesser-two, none-lesser, least-append}
 use Rattle.qq_ready.specs.declared.row.KeyedRow.{KeyedRow}
 use Rattle.qq_dead.specs.declared.row.DeadRow.{DeadRow}
 use Rattle.qq_parts.specs.Parts.{Parts, items_of, outs}
-use Rattle.qq_parts_step.specs.Step.{new_parts}
+use Rattle.qq_parts.specs.Step.{new_parts}
 use Rattle.qq_live.specs.Indices.{occurrences, least, Adds, Removes}
 use Rattle.qq_live.proofs.Sums.{least-same}
 use Rattle.qq_ledger.specs.Low.{got_indices, answers_indices, kept_indices, item_index, parts_low}

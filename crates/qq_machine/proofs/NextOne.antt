@@ -11,9 +11,9 @@ use Rattle.qq_model.proofs.Least.{least_by-in}
 use Rattle.qq_model.proofs.OneConsumer.{same_consumer-refl}
 use Rattle.qq_parts.specs.Parts.{Served, AreTwo, AreApart}
 use Rattle.qq_parts.specs.Turns.{may_serve, servable_one, is_current, active_one}
-use Rattle.qq_parts_step.specs.Follows.{servable_turn, longest_one, next_one}
-use Rattle.qq_parts_step.specs.Commands.{one_of}
-use Rattle.qq_parts_step.proofs.Choosing.{next-in}
+use Rattle.qq_parts.specs.Follows.{servable_turn, longest_one, next_one}
+use Rattle.qq_parts.specs.Commands.{one_of}
+use Rattle.qq_parts.proofs.Choosing.{next-in}
 use Rattle.qq_service.specs.Next.{next, servable_by, is_active}
 use Rattle.qq_service.specs.Next.{servable_turn as standing_turn}
 use Rattle.qq_consumer.specs.Roster.{standing_one}

@@ -17,13 +17,13 @@ use Rattle.qq_entry.specs.Range.{IsInRange}
 use Rattle.qq_model.specs.declared.place.Row.{Row}
 use Rattle.qq_model.specs.State.{State, empty_queue, is_row_within, is_consumer_within, is_session_within, is_within_ends}
 use Rattle.qq_model.specs.Audit.{next_step}
-use Rattle.qq_ends.specs.Far.{IsReached, are_far}
-use Rattle.qq_ends.proofs.Drawn.{IsCounted, IsDrawn, drawn_after}
-use Rattle.qq_ends.proofs.Within.{is_within, next-reached}
+use Rattle.qq_laws.specs.Far.{IsReached, are_far}
+use Rattle.qq_laws.proofs.Drawn.{IsCounted, IsDrawn, drawn_after}
+use Rattle.qq_laws.proofs.Within.{is_within, next-reached}
 use Rattle.qq_model.specs.Sound.{IsSound}
 use Rattle.qq_parts.specs.Parts.{Served, Parts, Stands, IsWhole, consumer_at}
-use Rattle.qq_parts_step.specs.Step.{PartsStep, parts_step, StepsFor}
-use Rattle.qq_parts_step.proofs.Stepping.{steps}
+use Rattle.qq_parts.specs.Step.{PartsStep, parts_step, StepsFor}
+use Rattle.qq_parts.proofs.Stepping.{steps}
 use Rattle.qq_machine.specs.declared.queue.Queue.{Queue}
 use Rattle.qq_machine.specs.Views.{parts_of}
 use Rattle.qq_machine.specs.Within.{is_one_within, are_within, AreTold}

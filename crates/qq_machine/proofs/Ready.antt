@@ -10,7 +10,7 @@ use Rattle.qq_entry.specs.declared.queue.QueueArgs.{QueueArgs}
 use Rattle.qq_model.specs.declared.place.Key.{Key}
 use Rattle.qq_model.specs.declared.place.Place.{Place}
 use Rattle.qq_model.specs.declared.place.Place.TheVariants.{Ready}
-use Rattle.qq_gone.specs.Reduced.{Item}
+use Rattle.qq_parts.specs.Reduced.{Item}
 use Rattle.qq_parts.specs.Parts.{Parts, outs, items_of}
 use Rattle.qq_parts.specs.Reads.{ready_items, size_of}
 use Rattle.qq_parts.specs.Changes.{take_first, push_back, arrive}

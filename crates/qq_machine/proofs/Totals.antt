@@ -21,7 +21,7 @@ use Rattle.qq_base.specs.declared.ids.SessionId.{SessionId}
 use Rattle.qq_base.specs.declared.ids.ConsumerId.{ConsumerId}
 use Rattle.qq_base.specs.Ids.{same_consumer}
 use Rattle.qq_model.specs.declared.consumer.Consumer.{Consumer}
-use Rattle.qq_gone.specs.Reduced.{Item}
+use Rattle.qq_parts.specs.Reduced.{Item}
 use Rattle.qq_base.proofs.Lists.{In, AllByRecursion-in, AllByRecursion-weaker, find-in}
 use Rattle.qq_model.proofs.OneConsumer.{same_consumer-true, same_consumer-refl}
 use Rattle.qq_parts.specs.Parts.{Served, outs, AreApart, AreTwo, item_number}

@@ -7,7 +7,7 @@ use Rattle.qq_model.specs.declared.place.Key.{Key}
 use Rattle.qq_model.specs.declared.place.Key.TheVariants.{Front, Back}
 use Rattle.qq_model.specs.declared.place.Place.{Place}
 use Rattle.qq_model.specs.declared.place.Place.TheVariants.{Ready}
-use Rattle.qq_gone.specs.Reduced.{Item}
+use Rattle.qq_parts.specs.Reduced.{Item}
 use Rattle.qq_parts.specs.Parts.{place_number, item_number, NumbersRise, IsPlaced, ArePlaced, IsDead, HasOut, AreApart, IsWhole}
 use Rattle.qq_ready.specs.declared.row.KeyedRow.{KeyedRow}
 use Rattle.qq_ready.specs.Queue.{number, IsKey, AreKeyed, IsInOrder}

@@ -2,7 +2,7 @@
 use Rattle.std.specs.Prelude.{ℕ, Bool, not, nat_le, List, [], ◌∷◌, map, filter, Option, Some, None, if◌then◌else◌}
 use Rattle.qq_entry.specs.declared.answer.Delivery.{Delivery}
 use Rattle.qq_entry.specs.declared.message.ReadyRow.{ReadyRow}
-use Rattle.qq_gone.specs.Reduced.{Item}
+use Rattle.qq_parts.specs.Reduced.{Item}
 use Rattle.qq_parts.specs.Parts.{Served, item_number}
 use Rattle.qq_consumer.specs.declared.rising.Numbered.{Numbered}
 

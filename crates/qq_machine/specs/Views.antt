@@ -20,17 +20,17 @@ use Rattle.qq_machine.specs.declared.pending.Pending.{Pending}
 use Rattle.qq_machine.specs.declared.pending.Pending.TheVariants.{Nothing}
 use Rattle.qq_machine.specs.Gated.{passed_by}
 use Rattle.qq_entry.specs.declared.message.ReadyRow.{ReadyRow}
-use Rattle.qq_gone.specs.Reduced.{Item}
+use Rattle.qq_parts.specs.Reduced.{Item}
 use Rattle.qq_parts.specs.Parts.{Served, Parts}
 use Rattle.qq_parts.specs.Turns.{may_serve}
-use Rattle.qq_parts_step.specs.Follows.{next_one, parts_deliver}
-use Rattle.qq_parts_step.specs.Commands.{one_of}
+use Rattle.qq_parts.specs.Follows.{next_one, parts_deliver}
+use Rattle.qq_parts.specs.Commands.{one_of}
 use Rattle.qq_base.specs.declared.ids.ConsumerId.{ConsumerId}
 use Rattle.qq_parts.specs.Changes.{take_first, put_back}
-use Rattle.qq_parts_step.specs.Work.{Work, Answered, with_parts}
-use Rattle.qq_parts_step.specs.Ends.{parts_die, parts_return, parts_end}
+use Rattle.qq_parts.specs.Work.{Work, Answered, with_parts}
+use Rattle.qq_parts.specs.Ends.{parts_die, parts_return, parts_end}
 use Rattle.qq_rules.specs.Decisions.{dies}
-use Rattle.qq_parts_step.specs.Step.{PartsStep}
+use Rattle.qq_parts.specs.Step.{PartsStep}
 use Rattle.qq_ready.specs.declared.row.KeyedRow.{KeyedRow}
 use Rattle.qq_dead.specs.declared.row.DeadRow.{DeadRow}
 use Rattle.qq_consumer.specs.declared.rising.Numbered.{Numbered}

@@ -3,7 +3,7 @@ use Rattle.std.specs.Prelude.{◌≡◌, ◌⊎◌, ◌+◌, true, Bool, ◌&&�
 use Rattle.std.specs.List.{list_all}
 use Rattle.qq_base.specs.declared.memory.TheConstants.{NUMBER_END}
 use Rattle.qq_model.specs.State.{is_consumer_within, is_session_within}
-use Rattle.qq_ends.specs.Far.{are_far}
+use Rattle.qq_laws.specs.Far.{are_far}
 use Rattle.qq_parts.specs.Parts.{Served, Parts}
 
 abbrev pub is_one_within : Served → Bool

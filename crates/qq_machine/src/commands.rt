@@ -3,7 +3,7 @@ ghost use Rattle.std.specs.Prelude.{◌≡◌, ◌+◌, length, slice_get, if◌
 ghost use Rattle.qq_entry.specs.declared.queue.QueueArgs.{QueueArgs};
 ghost use Rattle.std.specs.Option.{option_map_or};
 ghost use Rattle.qq_parts.specs.Parts.{items_of, outs};
-ghost use Rattle.qq_parts_step.specs.Commands.{parts_enqueue, parts_get, parts_subscribe, parts_cancel, parts_give_credit, parts_purge, parts_dead_attach, parts_settle_dead, parts_settle_dead_by, take_given, parts_dead_settle, full_by};
+ghost use Rattle.qq_parts.specs.Commands.{parts_enqueue, parts_get, parts_subscribe, parts_cancel, parts_give_credit, parts_purge, parts_dead_attach, parts_settle_dead, parts_settle_dead_by, take_given, parts_dead_settle, full_by};
 ghost use Rattle.qq_model.specs.Commands.{is_at_least_once};
 ghost use Rattle.qq_machine.specs.Views.{work_of, parts_of, Becomes, Changes, Replies, KeepsBase, KeepsStamp};
 ghost use Rattle.qq_machine.specs.Gated.{begun};
@@ -68,7 +68,7 @@ impl Queue {
 
 impl Draft {
     /// Publishes a message.
-    #[tactic(auto, unfolding(qq_parts_step::specs::Commands::parts_enqueue))]
+    #[tactic(auto, unfolding(qq_parts::specs::Commands::parts_enqueue))]
     pub fn enqueue(
         &mut self,
         alloc: Global,
@@ -92,7 +92,7 @@ impl Draft {
     }
 
     /// Takes the next message, settled at once.
-    #[tactic(auto, unfolding(qq_parts_step::specs::Commands::parts_get))]
+    #[tactic(auto, unfolding(qq_parts::specs::Commands::parts_get))]
     pub fn get(&mut self, args: &QueueArgs) -> Result<Answer, Memory>
         ensures ok { IfOk result (Replies parts_get args.now self.old self.new) }
         ensures base { KeepsBase self.old.queue self.new.queue }
@@ -115,7 +115,7 @@ impl Draft {
     }
 
     /// Attaches the dead-letter worker of a term.
-    #[tactic(auto, unfolding(qq_parts_step::specs::Commands::parts_dead_attach))]
+    #[tactic(auto, unfolding(qq_parts::specs::Commands::parts_dead_attach))]
     pub fn dead_attach(&mut self, args: &QueueArgs, term: Term) -> Answer
         ensures value { Replies (parts_dead_attach term) args.now self.old self.new result }
         ensures base { KeepsBase self.old.queue self.new.queue }
@@ -131,7 +131,7 @@ impl Draft {
     }
 
     /// Adds a consumer.
-    #[tactic(auto, unfolding(qq_parts_step::specs::Commands::parts_subscribe))]
+    #[tactic(auto, unfolding(qq_parts::specs::Commands::parts_subscribe))]
     pub fn subscribe(
         &mut self,
         alloc: Global,
@@ -165,7 +165,7 @@ impl Draft {
     }
 
     /// Cancels a consumer.
-    #[tactic(auto, unfolding(qq_parts_step::specs::Commands::parts_cancel))]
+    #[tactic(auto, unfolding(qq_parts::specs::Commands::parts_cancel))]
     pub fn cancel(&mut self, args: &QueueArgs, id: ConsumerId) -> Result<Answer, Memory>
         ensures ok { IfOk result (Replies (parts_cancel id) args.now self.old self.new) }
         ensures base { KeepsBase self.old.queue self.new.queue }
@@ -179,7 +179,7 @@ impl Draft {
     }
 
     /// Sets the link credit of a consumer.
-    #[tactic(auto, unfolding(qq_parts_step::specs::Commands::parts_give_credit))]
+    #[tactic(auto, unfolding(qq_parts::specs::Commands::parts_give_credit))]
     pub fn give_credit(
         &mut self,
         args: &QueueArgs,
@@ -201,7 +201,7 @@ impl Draft {
     }
 
     /// Removes all ready messages.
-    #[tactic(auto, unfolding(qq_parts_step::specs::Commands::parts_purge))]
+    #[tactic(auto, unfolding(qq_parts::specs::Commands::parts_purge))]
     pub fn purge(&mut self, args: &QueueArgs) -> Result<Answer, Memory>
         ensures ok { IfOk result (Replies parts_purge args.now self.old self.new) }
         ensures base { KeepsBase self.old.queue self.new.queue }
@@ -259,7 +259,7 @@ impl Draft {
     }
 
     /// Settles dead letters.
-    #[tactic(auto, unfolding(qq_parts_step::specs::Commands::parts_dead_settle))]
+    #[tactic(auto, unfolding(qq_parts::specs::Commands::parts_dead_settle))]
     pub fn dead_settle(
         &mut self,
         args: &QueueArgs,

@@ -1,7 +1,7 @@
 //! The end of a session.
 ghost use Rattle.std.specs.Prelude.{◌≡◌, ◌<◌, true, false, length, IfOk, IsOkUnless, OnOk};
 ghost use Rattle.qq_model.specs.declared.place.Place.{Place};
-ghost use Rattle.qq_parts_step.specs.Commands.{parts_return_session, parts_down};
+ghost use Rattle.qq_parts.specs.Commands.{parts_return_session, parts_down};
 ghost use Rattle.qq_machine.specs.Views.{work_of, Changes, Replies, return_rows, KeepsBase, KeepsStamp};
 ghost use Rattle.qq_machine.specs.declared.pending.Pending.TheVariants.{Nothing};
 
@@ -68,7 +68,7 @@ impl Draft {
     }
 
     /// Ends a session.
-    #[tactic(auto, unfolding(qq_parts_step::specs::Commands::parts_down))]
+    #[tactic(auto, unfolding(qq_parts::specs::Commands::parts_down))]
     pub fn down(
         &mut self,
         alloc: Global,

@@ -2,8 +2,8 @@
 ghost use Rattle.std.specs.Prelude.{◌≡◌, ◌+◌, ◌<◌, ◌^◌, fold, IfOk, IsOkUnless, OnOk};
 ghost use Rattle.qq_model.specs.declared.place.Place.{Place};
 ghost use Rattle.qq_parts.specs.Changes.{put_back};
-ghost use Rattle.qq_parts_step.specs.Work.{Work};
-ghost use Rattle.qq_parts_step.specs.Ends.{parts_die, parts_return, parts_end};
+ghost use Rattle.qq_parts.specs.Work.{Work};
+ghost use Rattle.qq_parts.specs.Ends.{parts_die, parts_return, parts_end};
 ghost use Rattle.qq_consumer.specs.Roster.{item_at};
 ghost use Rattle.qq_machine.specs.Views.{work_of, Becomes, Changes, return_counted, end_rows, KeepsBase};
 

@@ -4,7 +4,7 @@ ghost use Rattle.std.specs.Option.{option_map};
 ghost use Rattle.qq_model.specs.declared.place.Place.{Place};
 ghost use Rattle.qq_entry.specs.declared.queue.QueueArgs.{QueueArgs};
 ghost use Rattle.qq_parts.specs.Parts.{IsWhole};
-ghost use Rattle.qq_parts_step.specs.Commands.{parts_finish};
+ghost use Rattle.qq_parts.specs.Commands.{parts_finish};
 ghost use Rattle.qq_machine.specs.Views.{parts_of, work_of, Changes, Replies, end_taken, KeepsBase};
 
 use crate::queue::{Draft, Queue, next_number};
@@ -48,7 +48,7 @@ impl Draft {
     }
 
     /// Settles, returns or discards deliveries.
-    #[tactic(auto, unfolding(qq_parts_step::specs::Commands::parts_finish))]
+    #[tactic(auto, unfolding(qq_parts::specs::Commands::parts_finish))]
     pub fn finish(
         &mut self,
         alloc: Global,

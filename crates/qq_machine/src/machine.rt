@@ -1,14 +1,14 @@
 ghost use Rattle.std.specs.Prelude.{◌≡◌, ◌+◌, ◌-◌, ◌<◌, ◌^◌, [], min, false, length, count_by, IsTrue, IfOk, IfErr, IsOkUnless, OnOk, OnErr};
 ghost use Rattle.qq_base.specs.Causes.{SpentOnlyWhere};
 ghost use Rattle.qq_base.specs.declared.memory.TheConstants.{NUMBER_END};
-ghost use Rattle.qq_ends.specs.Far.{IsReached};
+ghost use Rattle.qq_laws.specs.Far.{IsReached};
 ghost use Rattle.qq_entry.specs.Range.{IsInRange};
 ghost use Rattle.qq_model.specs.State.{State, is_within_ends};
 ghost use Rattle.qq_model.specs.Sound.{IsSound};
 ghost use Rattle.qq_model.specs.Audit.{next_step};
 ghost use Rattle.qq_entry.specs.declared.queue.QueueArgs.{QueueArgs};
 ghost use Rattle.qq_parts.specs.Parts.{Stands, IsWhole};
-ghost use Rattle.qq_parts_step.specs.Step.{new_parts, parts_step, StepsFor};
+ghost use Rattle.qq_parts.specs.Step.{new_parts, parts_step, StepsFor};
 ghost use Rattle.qq_machine.specs.Views.{parts_of, parts_in, content_of, base_of, IsCommitted};
 ghost use Rattle.qq_ledger.specs.Low.{low, parts_low};
 ghost use Rattle.qq_machine.specs.Reads.{is_current, fetched};

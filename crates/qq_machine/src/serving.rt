@@ -2,8 +2,8 @@
 ghost use Rattle.std.specs.Prelude.{◌≡◌, ◌+◌, ◌<◌, ◌^◌, IfOk, IfSome, IfNone, IsOkUnless, OnOk, false};
 ghost use Rattle.qq_entry.specs.declared.queue.QueueArgs.{QueueArgs};
 ghost use Rattle.qq_model.specs.Serving.{is_credited};
-ghost use Rattle.qq_parts_step.specs.Follows.{parts_check_out, parts_check_out_all, parts_drop_head, parts_keep_limits, parts_give_dead, parts_give_all_dead, is_over};
-ghost use Rattle.qq_parts_step.specs.Commands.{parts_drain, parts_drain_after};
+ghost use Rattle.qq_parts.specs.Follows.{parts_check_out, parts_check_out_all, parts_drop_head, parts_keep_limits, parts_give_dead, parts_give_all_dead, is_over};
+ghost use Rattle.qq_parts.specs.Commands.{parts_drain, parts_drain_after};
 ghost use Rattle.qq_machine.specs.Views.{work_of, parts_of, Becomes, Changes, Replies, GoesOn, IsNextIn, IsLinkAt, HasLinkFor, Delivers, KeepsBase};
 ghost use Rattle.qq_consumer.specs.Roster.{item_at, HoldsAt, CanCount};
 ghost use Rattle.qq_consumer.specs.Turns.{waiting_turn};
@@ -79,7 +79,7 @@ impl Draft {
         Ok(())
     }
 
-    #[tactic(auto, unfolding(qq_parts_step::specs::Follows::parts_check_out))]
+    #[tactic(auto, unfolding(qq_parts::specs::Follows::parts_check_out))]
     fn check_out(&mut self, alloc: Global, args: &QueueArgs) -> Result<bool, Memory>
         ensures ok { IfOk result (GoesOn parts_check_out args.now self.old self.new) }
         ensures still { IfOk result
@@ -100,7 +100,7 @@ impl Draft {
     }
 
     /// Delivers messages while there is a next message and a next consumer.
-    #[tactic(auto, unfolding(qq_parts_step::specs::Follows::parts_check_out_all))]
+    #[tactic(auto, unfolding(qq_parts::specs::Follows::parts_check_out_all))]
     pub fn check_out_all(&mut self, alloc: Global, args: &QueueArgs) -> Result<(), Memory>
         ensures ok { OnOk result (Changes parts_check_out_all args.now self.old self.new) }
         ensures base { KeepsBase self.old.queue self.new.queue }
@@ -153,7 +153,7 @@ impl Draft {
     }
 
     /// Leaves no credit after a Credit with drain.
-    #[tactic(auto, unfolding(qq_parts_step::specs::Commands::parts_drain_after))]
+    #[tactic(auto, unfolding(qq_parts::specs::Commands::parts_drain_after))]
     pub fn drain_after(
         &mut self,
         args: &QueueArgs,
@@ -179,7 +179,7 @@ impl Draft {
         }
     }
 
-    #[tactic(auto, unfolding(qq_parts_step::specs::Follows::parts_drop_head))]
+    #[tactic(auto, unfolding(qq_parts::specs::Follows::parts_drop_head))]
     fn drop_head(&mut self, args: &QueueArgs) -> Result<bool, Memory>
         ensures ok { IfOk result (GoesOn parts_drop_head args.now self.old self.new) }
         ensures still { IfOk result
@@ -200,7 +200,7 @@ impl Draft {
     }
 
     /// Lets messages at the front die while the queue has grown past its limit.
-    #[tactic(auto, unfolding(qq_parts_step::specs::Follows::parts_keep_limits))]
+    #[tactic(auto, unfolding(qq_parts::specs::Follows::parts_keep_limits))]
     pub fn keep_limits(&mut self, args: &QueueArgs) -> Result<(), Memory>
         ensures ok { OnOk result (Changes parts_keep_limits args.now self.old self.new) }
         ensures base { KeepsBase self.old.queue self.new.queue }
@@ -215,7 +215,7 @@ impl Draft {
         Ok(())
     }
 
-    #[tactic(auto, unfolding(qq_parts_step::specs::Follows::parts_give_dead))]
+    #[tactic(auto, unfolding(qq_parts::specs::Follows::parts_give_dead))]
     fn give_dead(&mut self, alloc: Global, args: &QueueArgs) -> Result<bool, Memory>
         ensures ok { IfOk result (GoesOn parts_give_dead args.now self.old self.new) }
         ensures still { IfOk result
@@ -237,7 +237,7 @@ impl Draft {
     }
 
     /// Offers dead messages to the worker while it has room for them.
-    #[tactic(auto, unfolding(qq_parts_step::specs::Follows::parts_give_all_dead))]
+    #[tactic(auto, unfolding(qq_parts::specs::Follows::parts_give_all_dead))]
     pub fn give_all_dead(&mut self, alloc: Global, args: &QueueArgs) -> Result<(), Memory>
         ensures ok { OnOk result (Changes parts_give_all_dead args.now self.old self.new) }
         ensures base { KeepsBase self.old.queue self.new.queue }

@@ -7,7 +7,7 @@ ghost use Rattle.qq_entry.specs.Command.{stamp};
 ghost use Rattle.qq_model.specs.Gate.{gate};
 ghost use Rattle.qq_machine.specs.declared.pending.Pending.TheVariants.{Nothing};
 ghost use Rattle.qq_machine.specs.Gated.{begun};
-ghost use Rattle.qq_parts_step.specs.Step.{parts_carry_out, parts_pass_gate, parts_pass_ungated, parts_reject, parts_go_through, parts_step_by, parts_step};
+ghost use Rattle.qq_parts.specs.Step.{parts_carry_out, parts_pass_gate, parts_pass_ungated, parts_reject, parts_go_through, parts_step_by, parts_step};
 ghost use Rattle.qq_machine.specs.Views.{parts_of, work_of, base_of, CarriesOut, Makes, KeepsStamp};
 
 use crate::queue::{Draft, Made};
@@ -18,7 +18,7 @@ use std::alloc::Global;
 
 impl Draft {
     /// Carries out a command with all that follows on it.
-    #[tactic(auto, unfolding(qq_parts_step::specs::Step::parts_carry_out))]
+    #[tactic(auto, unfolding(qq_parts::specs::Step::parts_carry_out))]
     fn carry_out(
         &mut self,
         alloc: Global,
@@ -166,7 +166,7 @@ impl Draft {
     }
 
     /// Applies the next entry to a queue as it was at the last commit, without effects so far.
-    #[tactic(auto, unfolding(qq_parts_step::specs::Step::parts_step))]
+    #[tactic(auto, unfolding(qq_parts::specs::Step::parts_step))]
     pub fn step(
         &mut self,
         alloc: Global,

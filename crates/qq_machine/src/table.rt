@@ -1,6 +1,6 @@
 //! The table of the commands.
 ghost use Rattle.std.specs.Prelude.{◌≡◌, IfOk, IsOkUnless};
-ghost use Rattle.qq_parts_step.specs.Commands.{parts_act};
+ghost use Rattle.qq_parts.specs.Commands.{parts_act};
 ghost use Rattle.qq_machine.specs.Views.{work_of, Replies, KeepsStamp};
 ghost use Rattle.qq_machine.specs.Gated.{begun};
 ghost use Rattle.qq_entry.specs.Command.{stamp};
@@ -13,7 +13,7 @@ use std::alloc::Global;
 
 impl Draft {
     /// Carries out a command's row of the table.
-    #[tactic(auto, unfolding(qq_parts_step::specs::Commands::parts_act))]
+    #[tactic(auto, unfolding(qq_parts::specs::Commands::parts_act))]
     pub fn act(
         &mut self,
         alloc: Global,

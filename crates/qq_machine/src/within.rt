@@ -5,14 +5,14 @@ ghost use Rattle.std.specs.List.{list_all};
 ghost use Rattle.qq_base.specs.Causes.{SpentOnlyWhere};
 ghost use Rattle.qq_base.specs.declared.memory.TheConstants.{NUMBER_END};
 ghost use Rattle.qq_entry.specs.declared.queue.QueueArgs.{QueueArgs};
-ghost use Rattle.qq_ends.specs.Far.{are_far};
+ghost use Rattle.qq_laws.specs.Far.{are_far};
 ghost use Rattle.qq_machine.specs.Views.{parts_of, rest_of};
 ghost use Rattle.qq_machine.specs.Within.{is_one_within, are_within, AreTold};
 
 use crate::queue::Queue;
 use qq_base::{Memory, NUMBER_END};
 use qq_consumer::Consumers;
-use qq_ends::HALFWAY;
+use qq_laws::HALFWAY;
 use std::alloc::Global;
 
 fn is_within_at(consumers: &Consumers, place: usize) -> bool

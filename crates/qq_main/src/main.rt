@@ -3,9 +3,8 @@
 #![tactic(auto)]
 
 use qq_broker::run;
-use qq_ports::{StdSink, StdSource, write_all};
-use qq_program::status;
-use qq_yards::FolderYard;
+use qq_broker_run::status;
+use qq_ports::{FolderYard, StdSink, StdSource, write_all};
 use std::process::ExitCode;
 use std::rt::Env;
 use std::{env, io};

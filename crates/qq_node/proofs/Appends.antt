@@ -12,10 +12,10 @@ use Rattle.qq_disk.specs.Disk.{Disk, now}
 use Rattle.qq_disk.specs.Moments.{Adds}
 use Rattle.qq_disk.proofs.Moments.{adds-none, adds-now, adds-then, adds-weaker}
 use Rattle.qq_disk.proofs.Stored.{still_tells}
-use Rattle.qq_chain.specs.Laws.{HoldsOps, KeepsPromise, op_records}
+use Rattle.qq_wal_chain.specs.Laws.{HoldsOps, KeepsPromise, op_records}
 use Rattle.qq_log.specs.declared.op.Op.{Op}
-use Rattle.qq_chain.specs.Promise.{Promises}
-use Rattle.qq_chain.specs.Wal.{wal}
+use Rattle.qq_wal_chain.specs.Promise.{Promises}
+use Rattle.qq_wal_chain.specs.Wal.{wal}
 use Rattle.qq_wal.specs.Running.{top, Stays, StaysGiving, HoldsAlso}
 use Rattle.qq_wal.specs.Batch.{AllFitBatch, FitsBatch, IsBatch, encodings}
 use Rattle.qq_wal.specs.declared.batch.TheConstants.{BATCH_BYTES, BATCH_OPS}

@@ -5,9 +5,9 @@ use Rattle.std.proofs.lemmas.Bool.{and_from, cond_both, cond-true, eq-eqb, or_ri
 use Rattle.qq_base.proofs.Lists.{AllByRecursion-weaker}
 use Rattle.qq_base.specs.Fronts.{IsFront}
 use Rattle.qq_base.specs.declared.ids.QueueId.{QueueId}
-use Rattle.qq_chain.specs.Image.{put}
-use Rattle.qq_chain.specs.Lanes.{Lanes, is_listed}
-use Rattle.qq_chain.proofs.Walk.{put-at, put-other}
+use Rattle.qq_wal_chain.specs.Image.{put}
+use Rattle.qq_wal_chain.specs.Lanes.{Lanes, is_listed}
+use Rattle.qq_wal_chain.proofs.Walk.{put-at, put-other}
 use Rattle.qq_log.specs.declared.lane.Carry.{Carry}
 use Rattle.qq_log.specs.declared.op.Op.{Op}
 use Rattle.qq_log.specs.declared.op.Op.TheVariants.{Change, SnapshotMade, SegmentMade}

@@ -3,8 +3,8 @@ use Rattle.std.proofs.Common.{◌≡◌, ◌≢◌, ◌<◌, ◌≤◌, ◌+◌,
 use Rattle.std.specs.List.{AllByRecursion, flat_map, list_all, list_any}
 use Rattle.std.proofs.lemmas.List.{take_more_set, take_more}
 use Rattle.qq_base.proofs.InPlace.{mapped_rest}
-use Rattle.qq_desk.specs.Desk.{DeskState, Does, IsSameQueue, world_of}
-use Rattle.qq_desk.specs.Text.{shown_text_as}
+use Rattle.qq_node_queue.specs.Desk.{DeskState, Does, IsSameQueue, world_of}
+use Rattle.qq_node_queue.specs.Text.{shown_text_as}
 use Rattle.qq_world.specs.Node.{Setup, Node, At, Of, is_first, printed_text, shown_text, text_of}
 use Rattle.qq_world.specs.World.{World, Event, Shown, Answered, Delivered, NoLeader, WindowFull, HasEnded, happens, said}
 use Rattle.qq_node_laws.specs.Reads.{queue_at}

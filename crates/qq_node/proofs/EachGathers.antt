@@ -3,8 +3,8 @@ use Rattle.std.proofs.Common.{◌≡◌, ◌≤◌, ◌+◌, ℕ, zero, suc, Boo
 use Rattle.std.specs.Prelude.{IsTrue}
 use Rattle.qq_base.specs.Causes.{Rose}
 use Rattle.qq_base.specs.declared.ids.QueueId.{QueueId}
-use Rattle.qq_chain.specs.Laws.{KeepsPromise, op_records}
-use Rattle.qq_desk.specs.Desk.{DeskState, world_of}
+use Rattle.qq_wal_chain.specs.Laws.{KeepsPromise, op_records}
+use Rattle.qq_node_queue.specs.Desk.{DeskState, world_of}
 use Rattle.qq_disk.specs.Disk.{Disk}
 use Rattle.qq_disk.proofs.Moments.{adds-none}
 use Rattle.qq_log.specs.declared.op.Op.{Op}

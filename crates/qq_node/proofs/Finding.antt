@@ -10,15 +10,15 @@ use Rattle.qq_base.specs.Fronts.{IsFront}
 use Rattle.qq_base.proofs.Fronts.{front-refl}
 use Rattle.qq_base.specs.declared.ids.QueueId.{QueueId}
 use Rattle.qq_base.specs.declared.memory.Memory.{Memory}
-use Rattle.qq_desk.specs.Taking.{told}
+use Rattle.qq_node_queue.specs.Taking.{told}
 use Rattle.qq_disk.specs.Crash.{Remains, reopen}
 use Rattle.qq_disk.specs.Disk.{Disk, now, whole}
 use Rattle.qq_disk.specs.Image.{image_of, log_of}
 use Rattle.qq_disk.specs.declared.image.Image.{Image}
-use Rattle.qq_chain.specs.Image.{is_removed}
-use Rattle.qq_chain.specs.Lanes.{Lanes, IsStateOf, is_listed, of_queue}
-use Rattle.qq_chain.specs.Laws.{HoldsOps, KeepsPromise}
-use Rattle.qq_chain.proofs.Promised.{empty-keeps}
+use Rattle.qq_wal_chain.specs.Image.{is_removed}
+use Rattle.qq_wal_chain.specs.Lanes.{Lanes, IsStateOf, is_listed, of_queue}
+use Rattle.qq_wal_chain.specs.Laws.{HoldsOps, KeepsPromise}
+use Rattle.qq_wal_chain.proofs.Promised.{empty-keeps}
 use Rattle.qq_log.specs.declared.lane.Carry.{Carry}
 use Rattle.qq_log.specs.declared.lane.Lane.{Lane}
 use Rattle.qq_log.specs.declared.op.Op.{Op}
@@ -46,7 +46,7 @@ use Rattle.qq_node_laws.proofs.Finds.{all-take_up, found-linked}
 use Rattle.qq_node_laws.proofs.Promises.{promised-of, sound-at}
 use Rattle.qq_node_laws.proofs.Traces.{traced-one}
 use Rattle.qq_node_laws.proofs.Writes.{stays-keeps}
-use Rattle.qq_yards.specs.Yard.{IsNew}
+use Rattle.qq_ports.specs.Yard.{IsNew}
 use Rattle.qq_node.specs.Carried.{IsCarryAt, TellsEnd, ops_written}
 use Rattle.qq_node.specs.Found.{AllTakeUpTold, AreLanes, BeginsLinked, FailsLinked, FindsLinked, GoesOnFound, GoesOnNew, HasFound, as_told}
 use Rattle.qq_node.proofs.Carried.{AllListed, all-listed}

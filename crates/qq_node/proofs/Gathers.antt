@@ -12,7 +12,7 @@ use Rattle.qq_log.specs.declared.limits.TheConstants.{RECORD_LIMIT}
 use Rattle.qq_log.specs.declared.op.Op.{Op}
 use Rattle.qq_log.specs.declared.op.Op.TheVariants.{Change, SnapshotMade, SegmentMade}
 use Rattle.qq_log.specs.Writable.{record_length}
-use Rattle.qq_chain.specs.Laws.{op_records}
+use Rattle.qq_wal_chain.specs.Laws.{op_records}
 use Rattle.qq_wal.specs.Batch.{is_short}
 use Rattle.qq_wal.specs.declared.fault.WalFault.{WalFault}
 use Rattle.qq_wal.specs.declared.fault.WalFault.TheVariants.{TooLarge}

@@ -13,7 +13,7 @@ use Rattle.qq_node_laws.specs.Serves.{Leads}
 use Rattle.qq_node_laws.proofs.Serves.{leads-more, leads-start}
 use Rattle.qq_node.specs.declared.node.Node.{Node as Held}
 use Rattle.qq_node.specs.Node.{AtIndex, AtQueue, CanServe, HasPlace, IsAt, IsDesk, IsQueueAt, Served, Stands}
-use Rattle.qq_desk.specs.Desk.{DeskState, world_of}
+use Rattle.qq_node_queue.specs.Desk.{DeskState, world_of}
 use Rattle.qq_node.proofs.EachDesk.{all-desks, any-desks, as-many, desk-at}
 use Rattle.qq_node.proofs.Places.{at-none, at-queue}
 use Rattle.qq_node.proofs.Stands.{place-at, served-both, served-nothing, served-weaker}

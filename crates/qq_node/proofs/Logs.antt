@@ -7,8 +7,8 @@ use Rattle.std.proofs.lemmas.Bool.{and_parts, false≢true}
 use Rattle.qq_base.specs.Causes.{Rose}
 use Rattle.qq_base.specs.declared.ids.QueueId.{QueueId}
 use Rattle.qq_disk.specs.Disk.{Disk, now}
-use Rattle.qq_chain.specs.Laws.{op_records}
-use Rattle.qq_desk.specs.Desk.{DeskState, world_of}
+use Rattle.qq_wal_chain.specs.Laws.{op_records}
+use Rattle.qq_node_queue.specs.Desk.{DeskState, world_of}
 use Rattle.qq_log.specs.declared.op.Op.{Op}
 use Rattle.qq_wal.specs.Running.{Stays}
 use Rattle.qq_wal.specs.Wal.{StaysAppending, carries_ahead}

@@ -7,7 +7,7 @@ use Rattle.qq_base.specs.Causes.{Rose}
 use Rattle.qq_disk.specs.declared.image.Image.{Image}
 use Rattle.qq_disk.specs.Disk.{Disk, now}
 use Rattle.qq_disk.proofs.Moments.{adds-then}
-use Rattle.qq_chain.specs.Laws.{op_records}
+use Rattle.qq_wal_chain.specs.Laws.{op_records}
 use Rattle.qq_log.specs.declared.op.Op.{Op}
 use Rattle.qq_wal.specs.Running.{HoldsAlso, StaysGiving, Stays}
 use Rattle.qq_wal.specs.Wal.{StaysAppending}

@@ -2,7 +2,7 @@
 use Rattle.std.proofs.Common.{◌≡◌, ◌≤◌, ◌<◌, ◌+◌, ℕ, zero, suc, List, [], ◌∷◌, Option, Some, None, length, drop, get_or, refl, sym, subst, arith}
 use Rattle.std.specs.Prelude.{Contains}
 use Rattle.std.specs.List.{AllByRecursion}
-use Rattle.qq_desk.specs.Desk.{DeskState}
+use Rattle.qq_node_queue.specs.Desk.{DeskState}
 use Rattle.qq_log.specs.declared.lane.Lane.{Lane}
 use Rattle.qq_world.specs.Node.{Setup, new_node}
 use Rattle.qq_node.specs.declared.opening.OpenFault.{OpenFault}

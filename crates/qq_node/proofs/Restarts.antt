@@ -4,7 +4,7 @@ use Rattle.std.specs.Global.{Vec}
 use Rattle.std.specs.Prelude.{IsTrue}
 use Rattle.std.proofs.lemmas.Bool.{false≢true}
 use Rattle.qq_base.specs.declared.ids.QueueId.{QueueId}
-use Rattle.qq_desk.specs.Desk.{DeskState}
+use Rattle.qq_node_queue.specs.Desk.{DeskState}
 use Rattle.qq_disk.specs.declared.image.Image.{Image}
 use Rattle.qq_disk.specs.Disk.{Disk, now}
 use Rattle.qq_log.specs.declared.lane.Lane.{Lane}
@@ -22,7 +22,7 @@ use Rattle.qq_node_laws.specs.Traced.{LeavesImage, IsTraced}
 use Rattle.qq_node_laws.proofs.Both.{none-any}
 use Rattle.qq_node_laws.proofs.Serves.{serves-both}
 use Rattle.qq_node_laws.proofs.Stops.{failed-linked}
-use Rattle.qq_yards.specs.Yard.{IsNew}
+use Rattle.qq_ports.specs.Yard.{IsNew}
 use Rattle.qq_node.specs.declared.node.Node.{Node as Held}
 use Rattle.qq_node.specs.declared.node.NodeLog.{NodeLog}
 use Rattle.qq_node.specs.declared.node.NodeLog.TheVariants.{Open, Closed}

@@ -5,7 +5,7 @@ use Rattle.std.specs.Global.{Vec}
 use Rattle.std.specs.List.{list_any, list_all}
 use Rattle.qq_base.specs.declared.ids.QueueId.{QueueId}
 use Rattle.qq_disk.specs.Disk.{Disk}
-use Rattle.qq_desk.specs.Desk.{DeskState, world_of}
+use Rattle.qq_node_queue.specs.Desk.{DeskState, world_of}
 use Rattle.qq_world.specs.Node.{Setup, Node, NodeEvent, Alike, At, Shows, auto_after, node_happens, node_after, text_of}
 use Rattle.qq_world.specs.Rules.{Is, Then, is_node_up, is_idle, is_settled}
 use Rattle.qq_wal.specs.Wal.{carries_ahead}
@@ -18,7 +18,7 @@ use Rattle.qq_node_laws.proofs.Quiet.{still-up}
 use Rattle.qq_node_laws.proofs.Serves.{gives_up-behind, gives_up-same, serves-both, serves-nothing, serves-quiet, serves-weaker}
 use Rattle.qq_node.specs.declared.desks.Ask.{Ask}
 use Rattle.qq_node.specs.declared.desks.Ask.TheVariants.{Submit, TellEnded, Resend, Down, Tick, Notice}
-use Rattle.qq_desk.specs.Text.{state_text_as}
+use Rattle.qq_node_queue.specs.Text.{state_text_as}
 use Rattle.qq_node.specs.declared.node.Node.{Node as Held}
 use Rattle.qq_node.specs.declared.node.NodeLog.{NodeLog}
 use Rattle.qq_node.specs.declared.node.NodeLog.TheVariants.{Open, Closed}

@@ -3,8 +3,8 @@ use Rattle.std.specs.Prelude.{◌≡◌, ◌<◌, ℕ, zero, suc, Bool, true, fa
 use Rattle.std.specs.List.{flat_map}
 use Rattle.qq_log.specs.declared.op.Op.{Op}
 use Rattle.qq_node_laws.specs.Waiting.{ops_waiting}
-use Rattle.qq_desk.specs.Desk.{DeskState, Does, IsSameQueue, world_of}
-use Rattle.qq_desk.specs.Range.{MayStamp}
+use Rattle.qq_node_queue.specs.Desk.{DeskState, Does, IsSameQueue, world_of}
+use Rattle.qq_node_queue.specs.Range.{MayStamp}
 use Rattle.qq_world.specs.World.{Event, Submits, TellsEnded, Resends, Downs, Ticks, Notices, Writes, Syncs, Stops, happens}
 use Rattle.qq_node.specs.declared.desks.Ask.{Ask}
 use Rattle.qq_node.specs.declared.desks.Ask.TheVariants.{Submit, TellEnded, Resend, Down, Tick, Notice}

@@ -3,7 +3,7 @@ use Rattle.std.specs.Prelude.{◌≡◌, ◌≢◌, ℕ, Bool, false, List, [], 
 use Rattle.std.specs.List.{AllByRecursion, AllZip}
 use Rattle.qq_base.specs.declared.ids.QueueId.{QueueId}
 use Rattle.qq_disk.specs.Disk.{Disk, now}
-use Rattle.qq_chain.specs.Lanes.{Lanes}
+use Rattle.qq_wal_chain.specs.Lanes.{Lanes}
 use Rattle.qq_log.specs.declared.lane.Lane.{Lane}
 use Rattle.qq_log.specs.Stable.{Stable}
 use Rattle.qq_recover.specs.declared.fault.RecoverFault.{RecoverFault}
@@ -16,7 +16,7 @@ use Rattle.qq_world.specs.Promise.{MayTakeUp}
 use Rattle.qq_node_laws.specs.Linked.{IsLinked}
 use Rattle.qq_node_laws.specs.Reads.{IsReached, AreDown, ops_found, queue_at, queues_of, state_in}
 use Rattle.qq_node_laws.specs.Traced.{IsTraced}
-use Rattle.qq_yards.specs.Yard.{IsNew}
+use Rattle.qq_ports.specs.Yard.{IsNew}
 use Rattle.qq_node.specs.declared.recovering.Found.{Found}
 use Rattle.qq_node.specs.Carried.{CarriesAre}
 

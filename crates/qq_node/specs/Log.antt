@@ -3,7 +3,7 @@ use Rattle.std.specs.Prelude.{◌≡◌, ◌<◌, ◌+◌, ℕ, Bool, true, fals
 use Rattle.qq_base.specs.Causes.{Rose}
 use Rattle.qq_base.specs.declared.ids.QueueId.{QueueId}
 use Rattle.qq_disk.specs.Disk.{Disk, now}
-use Rattle.qq_chain.specs.Laws.{op_records}
+use Rattle.qq_wal_chain.specs.Laws.{op_records}
 use Rattle.qq_log.specs.declared.op.Op.{Op}
 use Rattle.qq_recover.specs.Recovered.{IsAtEnd}
 use Rattle.qq_wal.specs.declared.fault.WalFault.{WalFault}

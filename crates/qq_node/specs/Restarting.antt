@@ -4,11 +4,11 @@ use Rattle.std.specs.Global.{Vec}
 use Rattle.qq_base.specs.Causes.{Rose}
 use Rattle.qq_base.specs.declared.ids.QueueId.{QueueId}
 use Rattle.qq_base.specs.declared.memory.Memory.TheVariants.{Want}
-use Rattle.qq_desk.specs.Desk.{DeskState, IsSameQueue, world_of}
-use Rattle.qq_desk.specs.Taking.{told}
+use Rattle.qq_node_queue.specs.Desk.{DeskState, IsSameQueue, world_of}
+use Rattle.qq_node_queue.specs.Taking.{told}
 use Rattle.qq_disk.specs.declared.image.Image.{Image}
 use Rattle.qq_disk.specs.Disk.{Disk, now}
-use Rattle.qq_chain.specs.Lanes.{Lanes}
+use Rattle.qq_wal_chain.specs.Lanes.{Lanes}
 use Rattle.qq_log.specs.declared.lane.Lane.{Lane}
 use Rattle.qq_log.specs.Stable.{Stable}
 use Rattle.qq_recover.specs.declared.fault.RecoverFault.{RecoverFault}

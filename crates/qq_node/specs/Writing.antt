@@ -3,8 +3,8 @@ use Rattle.std.specs.Prelude.{◌≡◌, ◌≤◌, ℕ, Bool, true, false, List
 use Rattle.qq_base.specs.Causes.{Rose}
 use Rattle.qq_base.specs.declared.ids.QueueId.{QueueId}
 use Rattle.qq_disk.specs.Disk.{Disk}
-use Rattle.qq_chain.specs.Laws.{op_records}
-use Rattle.qq_desk.specs.Desk.{DeskState}
+use Rattle.qq_wal_chain.specs.Laws.{op_records}
+use Rattle.qq_node_queue.specs.Desk.{DeskState}
 use Rattle.qq_log.specs.declared.op.Op.{Op}
 use Rattle.qq_wal.specs.Running.{Stays, StaysWhole}
 use Rattle.qq_wal.specs.Wal.{IsSound, StaysAppending, carries_ahead}

@@ -1,6 +1,6 @@
 //! The lines of a script, as a node carries them out.
 ghost use Rattle.std.specs.Prelude.{◌≡◌, ◌<◌, IfErr, IsOkUnless, OnErr, OnOk};
-ghost use Rattle.qq_desk.specs.Range.{MayStamp};
+ghost use Rattle.qq_node_queue.specs.Range.{MayStamp};
 ghost use Rattle.qq_recover.specs.Recovered.{IsAtEnd};
 ghost use Rattle.qq_world.specs.Node.{Setup};
 ghost use Rattle.qq_world.specs.Rules.{End, IsLine, Notice, Resend, Send, Show, Sync, Tick, WhereUp, Write};

@@ -4,11 +4,11 @@ ghost use Rattle.qq_base.specs.Causes.{HasCause};
 ghost use Rattle.qq_disk.specs.Disk.{now};
 ghost use Rattle.qq_wal.specs.Running.{NoneRemoved};
 ghost use Rattle.qq_node_laws.specs.Traced.{LeavesImage};
-ghost use Rattle.qq_yards.specs.Yard.{IsYardCaused};
+ghost use Rattle.qq_ports.specs.Yard.{IsYardCaused};
 ghost use Rattle.qq_node.specs.Log.{IsWhole};
 
 use qq_disk::Image;
-use qq_yards::{Yard, YardFault};
+use qq_ports::{Yard, YardFault};
 use std::alloc::Global;
 
 /// The disk after a crash. Where the call is refused, the disk is given up.

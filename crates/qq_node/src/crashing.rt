@@ -3,7 +3,7 @@ ghost use Rattle.std.specs.Prelude.{◌≡◌, IfOk};
 ghost use Rattle.qq_base.specs.Causes.{HasCause};
 ghost use Rattle.qq_world.specs.Node.{Setup, Node as World};
 ghost use Rattle.qq_node_laws.specs.Reads.{IsReached};
-ghost use Rattle.qq_yards.specs.Yard.{IsYardCaused};
+ghost use Rattle.qq_ports.specs.Yard.{IsYardCaused};
 ghost use Rattle.qq_node.specs.Node.{CanServe, Stands, disk_in};
 ghost use Rattle.qq_node.specs.Restarting.{HasCrashed};
 
@@ -11,7 +11,7 @@ use crate::crash::crash_disk;
 use crate::desks::LogStep;
 use crate::node::{Node, NodeLog};
 use qq_disk::{Image, NodeDisk};
-use qq_yards::{Yard, YardFault};
+use qq_ports::{Yard, YardFault};
 use std::alloc::Global;
 
 // The disk, once the log isn't written to any more.

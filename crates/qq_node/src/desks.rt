@@ -1,7 +1,7 @@
 //! The queues of a node, one after the other.
 ghost use Rattle.std.specs.Prelude.{◌≡◌, ◌<◌, ◌+◌, ◌++◌, ◌∷◌, codes, not, drop, length, IfOk, IfErr, IsOkUnless, OnOk, OnErr};
 ghost use Rattle.std.specs.List.{list_all, list_any};
-ghost use Rattle.qq_desk.specs.Desk.{DeskState, Does, IsSameQueue, world_of};
+ghost use Rattle.qq_node_queue.specs.Desk.{DeskState, Does, IsSameQueue, world_of};
 ghost use Rattle.qq_recover.specs.Recovered.{IsAtEnd};
 ghost use Rattle.qq_world.specs.Rules.{is_ended, is_settled, waits_synced, waits_written};
 ghost use Rattle.qq_world.specs.World.{Ends, Mutes, Stops, happens, is_up};
@@ -11,9 +11,9 @@ ghost use Rattle.qq_node.specs.Desks.{AllDo, DoesAt, HasSettled, MayAsk, asked, 
 use crate::log::SyncOutcome;
 use crate::restarting::{RestartFault, take_up_each};
 use qq_base::Memory;
-use qq_desk::Desk;
 use qq_entry::Unstamped;
 use qq_log::Lane;
+use qq_node_queue::Desk;
 use qq_script::push_text;
 use std::alloc::Global;
 use std::marker::Model;
@@ -56,7 +56,7 @@ pub struct Desks {
 
 impl Model for Desks {
     ghost use Rattle.std.specs.Prelude.{List};
-    ghost use Rattle.qq_desk.specs.Desk.{DeskState};
+    ghost use Rattle.qq_node_queue.specs.Desk.{DeskState};
 
     ghost Value = { List DeskState };
 

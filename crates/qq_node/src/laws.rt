@@ -2,8 +2,8 @@
 ghost use Rattle.std.specs.Prelude.{◌≡◌, ◌+◌, [], ℕ, Bool, true, false, List, IsTrue, Ok, Contains};
 ghost use Rattle.qq_base.specs.declared.ids.QueueId.{QueueId};
 ghost use Rattle.qq_base.specs.declared.memory.Memory.{Memory};
-ghost use Rattle.qq_chain.specs.Lanes.{Lanes};
-ghost use Rattle.qq_desk.specs.Desk.{DeskState, IsSameQueue};
+ghost use Rattle.qq_wal_chain.specs.Lanes.{Lanes};
+ghost use Rattle.qq_node_queue.specs.Desk.{DeskState, IsSameQueue};
 ghost use Rattle.qq_disk.specs.declared.image.Image.{Image};
 ghost use Rattle.qq_disk.specs.Disk.{Disk, now};
 ghost use Rattle.qq_node_laws.specs.Linked.{IsLinked};

@@ -1,8 +1,8 @@
 //! A node is restarted.
 ghost use Rattle.std.specs.Prelude.{◌≡◌, ◌≤◌, false, length, IsTrue, IfOk, IfErr, OnOk, IsOkUnless};
 ghost use Rattle.std.specs.List.{list_all};
-ghost use Rattle.qq_desk.specs.Desk.{DeskState, world_of};
-ghost use Rattle.qq_desk.specs.Taking.{told};
+ghost use Rattle.qq_node_queue.specs.Desk.{DeskState, world_of};
+ghost use Rattle.qq_node_queue.specs.Taking.{told};
 ghost use Rattle.qq_world.specs.Node.{Setup, Node as World};
 ghost use Rattle.qq_world.specs.Rules.{IsRestart, is_node_up};
 ghost use Rattle.qq_world.specs.World.{is_up};
@@ -17,9 +17,9 @@ use crate::desks::Desks;
 use crate::node::{Node, NodeLog};
 use crate::recovering::{Found, recover_log};
 use qq_base::{Duplicate, Memory, QueueId, Text};
-use qq_desk::Desk;
 use qq_disk::{FileName, NodeDisk};
 use qq_log::Lane;
+use qq_node_queue::Desk;
 use qq_recover::RecoverFault;
 use std::alloc::Global;
 use thiserror::Error;

@@ -3,7 +3,7 @@ ghost use Rattle.std.specs.Prelude.{◌≡◌, ◌<◌, length, IfErr, OnErr, On
 ghost use Rattle.qq_recover.specs.Recovered.{IsAtEnd};
 ghost use Rattle.qq_world.specs.Node.{Setup};
 ghost use Rattle.qq_world.specs.Rules.{ForEach, IsNotice, IsPump, IsPumped, IsResend, IsRound, IsSend};
-ghost use Rattle.qq_desk.specs.Range.{MayStamp};
+ghost use Rattle.qq_node_queue.specs.Range.{MayStamp};
 ghost use Rattle.qq_world.specs.World.{Downs, Resends, Ticks};
 ghost use Rattle.qq_node.specs.Node.{AtIndex, CanServe, GaveUp, IsAt, Served};
 

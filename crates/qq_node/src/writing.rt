@@ -1,8 +1,8 @@
 //! What waits of a node's queues is written to its log, and synced.
 ghost use Rattle.std.specs.Prelude.{◌≡◌, ◌++◌, true, false, length, ◌<◌, IfErr, IfOk, IsOkUnless, OnErr, OnOk};
 ghost use Rattle.std.specs.List.{list_all, list_any};
-ghost use Rattle.qq_chain.specs.Laws.{op_records};
-ghost use Rattle.qq_desk.specs.Desk.{DeskState, world_of};
+ghost use Rattle.qq_wal_chain.specs.Laws.{op_records};
+ghost use Rattle.qq_node_queue.specs.Desk.{DeskState, world_of};
 ghost use Rattle.qq_recover.specs.Recovered.{IsAtEnd};
 ghost use Rattle.qq_wal.specs.Running.{Stays};
 ghost use Rattle.qq_wal.specs.Wal.{IsSound, carries_ahead};

@@ -7,8 +7,8 @@ use Rattle.qq_base.specs.Fronts.{IsFront}
 use Rattle.qq_base.specs.declared.ids.QueueId.{QueueId}
 use Rattle.qq_base.proofs.Fronts.{front-length, front-trans}
 use Rattle.qq_disk.specs.Disk.{Disk}
-use Rattle.qq_chain.proofs.Queues.{front-filter}
-use Rattle.qq_chain.specs.Lanes.{Lanes, IsStateOf}
+use Rattle.qq_wal_chain.proofs.Queues.{front-filter}
+use Rattle.qq_wal_chain.specs.Lanes.{Lanes, IsStateOf}
 use Rattle.qq_log.specs.declared.op.Op.{Op}
 use Rattle.qq_log.specs.Op.{queue}
 use Rattle.qq_log.specs.Stable.{Stable, stable}

@@ -8,9 +8,9 @@ use Rattle.qq_base.specs.declared.ids.QueueId.{QueueId}
 use Rattle.qq_disk.specs.Disk.{Disk}
 use Rattle.qq_disk.specs.Moments.{Adds}
 use Rattle.qq_disk.proofs.Moments.{adds-weaker}
-use Rattle.qq_chain.specs.Lanes.{Lanes, IsStateOf, RecoversLane, RecoversLanes, of_queue}
-use Rattle.qq_chain.specs.Laws.{KeepsPromise, lanes_read}
-use Rattle.qq_chain.proofs.Promised.{image-recovers}
+use Rattle.qq_wal_chain.specs.Lanes.{Lanes, IsStateOf, RecoversLane, RecoversLanes, of_queue}
+use Rattle.qq_wal_chain.specs.Laws.{KeepsPromise, lanes_read}
+use Rattle.qq_wal_chain.proofs.Promised.{image-recovers}
 use Rattle.qq_log.specs.declared.op.Op.{Op}
 use Rattle.qq_log.specs.Stable.{Stable, new_state, stable}
 use Rattle.qq_wal_record.specs.declared.record.LogRecord.TheVariants.{Op as OpRecord}

@@ -7,8 +7,8 @@ use Rattle.qq_disk.specs.declared.image.Image.{Image}
 use Rattle.qq_disk.specs.Disk.{Disk, now}
 use Rattle.qq_disk.specs.Image.{image_of}
 use Rattle.qq_disk.proofs.Named.{named}
-use Rattle.qq_chain.specs.Laws.{KeepsPromise}
-use Rattle.qq_chain.proofs.Promised.{crash-keeps}
+use Rattle.qq_wal_chain.specs.Laws.{KeepsPromise}
+use Rattle.qq_wal_chain.proofs.Promised.{crash-keeps}
 use Rattle.qq_log.specs.declared.op.Op.{Op}
 use Rattle.qq_wal.specs.Running.{top}
 use Rattle.qq_world.specs.Node.{Setup, Node, Fails, Crashes, node_happens}

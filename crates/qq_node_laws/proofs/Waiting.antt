@@ -18,7 +18,7 @@ use Rattle.qq_log.specs.declared.op.Op.{Op}
 use Rattle.qq_log.specs.declared.op.Op.TheVariants.{Change, SnapshotMade, SegmentMade}
 use Rattle.qq_log.specs.Op.{queue}
 use Rattle.qq_log.specs.Stable.{Stable, new_state, no_snapshot, stable, then_apply, apply_op, change, carry_of, last_index}
-use Rattle.qq_chain.specs.Lanes.{of_queue}
+use Rattle.qq_wal_chain.specs.Lanes.{of_queue}
 use Rattle.qq_wal.specs.Marks.{carry_behind}
 use Rattle.qq_world.specs.Node.{Setup, Node}
 use Rattle.qq_world.specs.Promise.{state_of}

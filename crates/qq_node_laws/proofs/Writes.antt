@@ -9,7 +9,7 @@ use Rattle.std.specs.Prelude.{nat_eq}
 use Rattle.qq_disk.specs.Disk.{Disk, now}
 use Rattle.qq_disk.specs.Moments.{Adds}
 use Rattle.qq_disk.proofs.Moments.{adds-now}
-use Rattle.qq_chain.specs.Laws.{KeepsPromise, op_records}
+use Rattle.qq_wal_chain.specs.Laws.{KeepsPromise, op_records}
 use Rattle.qq_log.specs.declared.op.Op.{Op}
 use Rattle.qq_log.specs.Op.{queue}
 use Rattle.qq_wal.specs.Running.{top, HoldsAlso, MayNotice, StaysGiving, StillHolds, Stays}

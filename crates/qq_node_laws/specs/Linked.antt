@@ -3,7 +3,7 @@ use Rattle.std.specs.Prelude.{◌≡◌, ◌≤◌, ℕ, true, List, ◌++◌, l
 use Rattle.std.specs.List.{AllByRecursion}
 use Rattle.qq_base.specs.Fronts.{IsFront}
 use Rattle.qq_disk.specs.Disk.{Disk}
-use Rattle.qq_chain.specs.Laws.{HoldsOps, KeepsPromise}
+use Rattle.qq_wal_chain.specs.Laws.{HoldsOps, KeepsPromise}
 use Rattle.qq_log.specs.declared.op.Op.{Op}
 use Rattle.qq_wal.specs.Running.{top}
 use Rattle.qq_world.specs.Node.{Setup, Node}

@@ -4,8 +4,8 @@ use Rattle.std.specs.List.{AllByRecursion}
 use Rattle.qq_base.specs.declared.ids.QueueId.{QueueId}
 use Rattle.qq_disk.specs.Crash.{Remains, IsImage}
 use Rattle.qq_disk.specs.Disk.{Disk}
-use Rattle.qq_chain.specs.Lanes.{Lanes, of_queue}
-use Rattle.qq_chain.specs.Laws.{IsHonestImage, lanes_read}
+use Rattle.qq_wal_chain.specs.Lanes.{Lanes, of_queue}
+use Rattle.qq_wal_chain.specs.Laws.{IsHonestImage, lanes_read}
 use Rattle.qq_log.specs.declared.op.Op.{Op}
 use Rattle.qq_log.specs.Stable.{Stable, new_state}
 use Rattle.qq_wal.specs.Running.{top}

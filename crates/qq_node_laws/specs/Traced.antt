@@ -1,8 +1,8 @@
 -- What a node's disk was at each moment, event by event.
 use Rattle.std.specs.Prelude.{◌≡◌, ℕ, List, [], ◌∷◌, Ok, Option, Some, take}
 use Rattle.std.specs.List.{AllByRecursion}
-use Rattle.qq_chain.specs.Lanes.{Lanes}
-use Rattle.qq_chain.specs.Laws.{IsHonestImage}
+use Rattle.qq_wal_chain.specs.Lanes.{Lanes}
+use Rattle.qq_wal_chain.specs.Laws.{IsHonestImage}
 use Rattle.qq_disk.specs.declared.image.Image.{Image}
 use Rattle.qq_disk.specs.declared.name.FileName.{FileName}
 use Rattle.qq_disk.specs.Disk.{Disk, now}

@@ -5,7 +5,7 @@ ghost use Rattle.qq_base.specs.Causes.{Rose};
 ghost use Rattle.qq_base.specs.Fronts.{IsFront};
 ghost use Rattle.qq_disk.specs.declared.image.Image.{Image};
 ghost use Rattle.qq_disk.specs.Disk.{Disk, now};
-ghost use Rattle.qq_chain.specs.Lanes.{Lanes};
+ghost use Rattle.qq_wal_chain.specs.Lanes.{Lanes};
 ghost use Rattle.qq_log.specs.declared.op.Op.{Op};
 ghost use Rattle.qq_recover.specs.Recovery.{SettlesLanes};
 ghost use Rattle.qq_wal.specs.Running.{HoldsAlso, MayNotice, StaysGiving, StillHolds, Stays};

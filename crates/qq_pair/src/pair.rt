@@ -1,7 +1,7 @@
 use qq_base::{ConsumerId, Duplicate, Index, Memory};
 use qq_entry::{Answer, Delivery, Effect, Entry, QueueArgs};
+use qq_entry_checks::is_in_range;
 use qq_machine::Machine;
-use qq_range::is_in_range;
 use qq_serial::Serial;
 use std::alloc::Global;
 use thiserror::Error;

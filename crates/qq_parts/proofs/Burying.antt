@@ -15,8 +15,8 @@ use Rattle.qq_model.specs.Choice.{is_lesser}
 use Rattle.qq_model.specs.Commands.{is_dead_number, dead_row}
 use Rattle.qq_model.specs.Serving.{is_given, given_count, dead_number, next_dead}
 use Rattle.qq_model.proofs.Least.{nat_lt-order, least_by-is, none-least_by}
-use Rattle.qq_gone.specs.Reduced.{Item, item_row, live_items}
-use Rattle.qq_gone.proofs.Live.{gone-is}
+use Rattle.qq_parts.specs.Reduced.{Item, item_row, live_items}
+use Rattle.qq_parts.proofs.Live.{gone-is}
 use Rattle.qq_parts.specs.Perm.{Perm}
 use Rattle.qq_parts.specs.Perm.Perm.{join}
 use Rattle.qq_parts.specs.Parts.{Parts, outs, items_of, Stands, item_number, NumbersRise, IsDead, IsWhole}

@@ -24,8 +24,8 @@ use Rattle.qq_model.specs.Serving.{use_credit, serve, deliver}
 use Rattle.qq_model.proofs.InOrder.{indices-purged}
 use Rattle.qq_model.proofs.Indices.{Rises}
 use Rattle.qq_model.proofs.OneConsumer.{same_consumer-refl}
-use Rattle.qq_gone.specs.Reduced.{Item, is_live_item, live_items}
-use Rattle.qq_gone.proofs.Puts.{purge_item, live-purge, filter-append}
+use Rattle.qq_parts.specs.Reduced.{Item, is_live_item, live_items}
+use Rattle.qq_parts.proofs.Puts.{purge_item, live-purge, filter-append}
 use Rattle.qq_parts.specs.Perm.{Perm}
 use Rattle.qq_parts.specs.Perm.Perm.{join}
 use Rattle.qq_parts.specs.Parts.{Served, consumer_at, Parts, outs, items_of, frame, with_rows, AreRising, Stands, StandsWith, ArePlaced, HasOut, AreTwo, AreApart, IsWhole}

@@ -14,8 +14,8 @@ use Rattle.qq_model.specs.State.{State}
 use Rattle.qq_model.specs.Commands.{is_delivery, delivered_row}
 use Rattle.qq_model.proofs.Lists.{find-none}
 use Rattle.qq_model.proofs.OneConsumer.{same_consumer-true}
-use Rattle.qq_gone.specs.Reduced.{Item, live_items}
-use Rattle.qq_gone.proofs.Live.{gone-is}
+use Rattle.qq_parts.specs.Reduced.{Item, live_items}
+use Rattle.qq_parts.proofs.Live.{gone-is}
 use Rattle.qq_parts.specs.Perm.{Perm}
 use Rattle.qq_parts.specs.Perm.Perm.{skip, swap, join}
 use Rattle.qq_parts.specs.Parts.{Served, consumer_at, Parts, outs, items_of, frame, Stands, item_number, NumbersRise, IsPlaced, HasOut, AreTwo, AreApart, IsWhole}

@@ -14,7 +14,7 @@ use Rattle.qq_model.specs.Commands.{is_of_session}
 use Rattle.qq_model.proofs.Lists.{AllByRecursion-from_in}
 use Rattle.qq_model.proofs.OneConsumer.{same_consumer-true}
 use Rattle.qq_model.proofs.Soundness.{in_contains}
-use Rattle.qq_gone.specs.Reduced.{Item, live_items}
+use Rattle.qq_parts.specs.Reduced.{Item, live_items}
 use Rattle.qq_parts.specs.Perm.{Perm}
 use Rattle.qq_parts.specs.Parts.{Served, consumer_at, Parts, outs, Stands, ArePlaced, HasOut, AreTwo, AreApart, IsWhole}
 use Rattle.qq_parts.specs.Reads.{ready_items}

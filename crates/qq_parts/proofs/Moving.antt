@@ -21,8 +21,8 @@ use Rattle.qq_model.specs.Limits.{is_live}
 use Rattle.qq_model.specs.Changes.{Progress, put_row, message_of, die_by, die, go_back, return_counted, return_row}
 use Rattle.qq_model.specs.Commands.{append_message, move_row}
 use Rattle.qq_model.proofs.InOrder.{put-length}
-use Rattle.qq_gone.specs.Reduced.{Item, items, is_live_item, live_items}
-use Rattle.qq_gone.proofs.Puts.{In-from_filter, message-at, live-append}
+use Rattle.qq_parts.specs.Reduced.{Item, items, is_live_item, live_items}
+use Rattle.qq_parts.proofs.Puts.{In-from_filter, message-at, live-append}
 use Rattle.qq_parts.specs.Perm.{Perm}
 use Rattle.qq_parts.specs.Perm.Perm.{skip, swap, join}
 use Rattle.qq_parts.specs.Parts.{Parts, outs, items_of, frame, with_rows, AreRising, Stands, StandsWith, item_number, NumbersRise, IsPlaced, ArePlaced, IsDead, AreDead, IsWhole}

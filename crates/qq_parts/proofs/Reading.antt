@@ -21,9 +21,9 @@ use Rattle.qq_model.specs.Changes.{message_of}
 use Rattle.qq_model.proofs.Least.{key_less-order, least_by-is, none-least_by}
 use Rattle.qq_model.proofs.Lists.{AllByRecursion-from_in}
 use Rattle.qq_model.proofs.OneConsumer.{same_consumer-refl}
-use Rattle.qq_gone.specs.Reduced.{Item, item_row, items, is_live_item}
-use Rattle.qq_gone.proofs.Live.{gone-is, fold-live}
-use Rattle.qq_gone.proofs.Puts.{In-from_filter, message-at}
+use Rattle.qq_parts.specs.Reduced.{Item, item_row, items, is_live_item}
+use Rattle.qq_parts.proofs.Live.{gone-is, fold-live}
+use Rattle.qq_parts.proofs.Puts.{In-from_filter, message-at}
 use Rattle.qq_parts.specs.Parts.{Served, Parts, outs, items_of, Stands, item_number, IsPlaced, ArePlaced, IsDead, HasOut, AreTwo, AreApart, IsWhole}
 use Rattle.qq_parts.specs.Reads.{first_of, ready_items, size_of, Reads}
 use Rattle.qq_parts.proofs.Perms.{perm-sym, perm-in, perm-sum}

@@ -13,7 +13,7 @@ use Rattle.qq_model.specs.Choice.{next_consumer}
 use Rattle.qq_model.specs.Changes.{Progress, while_next}
 use Rattle.qq_model.specs.Serving.{deliver, deliver_by, check_out, check_out_all}
 use Rattle.qq_model.proofs.Soundness.{in_contains}
-use Rattle.qq_gone.specs.Reduced.{Item, item_row}
+use Rattle.qq_parts.specs.Reduced.{Item, item_row}
 use Rattle.qq_parts.specs.Parts.{Served, consumer_at, Parts}
 use Rattle.qq_parts.specs.Reads.{first_of, ready_items}
 use Rattle.qq_parts.specs.Changes.{Taken, take_by, take_first}

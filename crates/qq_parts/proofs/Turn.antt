@@ -13,8 +13,8 @@ use Rattle.qq_model.specs.State.{State}
 use Rattle.qq_model.proofs.Indices.{Rises, indices}
 use Rattle.qq_model.proofs.InOrder.{indices-put}
 use Rattle.qq_model.proofs.Lists.{AllByRecursion-from_in}
-use Rattle.qq_gone.specs.Reduced.{Item, items, is_live_item, live_items}
-use Rattle.qq_gone.proofs.Puts.{items-rows, item-of, In-from_filter, put_item, live-put}
+use Rattle.qq_parts.specs.Reduced.{Item, items, is_live_item, live_items}
+use Rattle.qq_parts.proofs.Puts.{items-rows, item-of, In-from_filter, put_item, live-put}
 use Rattle.qq_parts.specs.Perm.{Perm}
 use Rattle.qq_parts.specs.Parts.{Parts, items_of, AreRising, Stands}
 use Rattle.qq_parts.proofs.Perms.{perm-sym, perm-in, perm-each, perm-map, perm-filter}

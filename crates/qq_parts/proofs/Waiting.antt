@@ -18,7 +18,7 @@ use Rattle.qq_model.proofs.Least.{nat_lt-order, least_by-is, none-least_by}
 use Rattle.qq_model.proofs.Lists.{AllByRecursion-from_in}
 use Rattle.qq_model.proofs.OneConsumer.{same_consumer-refl}
 use Rattle.qq_model.proofs.Soundness.{Contains-in, in_contains}
-use Rattle.qq_gone.specs.Reduced.{Item}
+use Rattle.qq_parts.specs.Reduced.{Item}
 use Rattle.qq_parts.specs.Parts.{Served, consumer_at, Parts, Stands, AreTwo, AreApart, IsWhole}
 use Rattle.qq_parts.specs.Outs.{serve_one, hand_to, hand_over}
 use Rattle.qq_parts.specs.Turns.{may_serve, AreByTurn, AreWaiting, first_one, behind, AreInTurn}

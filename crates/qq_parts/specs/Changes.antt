@@ -18,7 +18,7 @@ use Rattle.qq_model.specs.State.{State}
 use Rattle.qq_model.specs.Limits.{has_passed}
 use Rattle.qq_model.specs.Changes.{Progress, die, return_row}
 use Rattle.qq_model.specs.Commands.{append_message, move_row}
-use Rattle.qq_gone.specs.Reduced.{Item}
+use Rattle.qq_parts.specs.Reduced.{Item}
 use Rattle.qq_parts.specs.Parts.{Parts, Stands, StandsWith, IsWhole}
 
 -- a message that was taken out, and what is left

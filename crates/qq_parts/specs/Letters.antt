@@ -4,7 +4,7 @@ use Rattle.std.specs.Option.{option_map}
 use Rattle.qq_model.specs.State.{State}
 use Rattle.qq_model.specs.Commands.{dead_row}
 use Rattle.qq_model.specs.Serving.{next_dead, given_count}
-use Rattle.qq_gone.specs.Reduced.{Item, item_row}
+use Rattle.qq_parts.specs.Reduced.{Item, item_row}
 use Rattle.qq_parts.specs.Parts.{Parts, item_number}
 use Rattle.qq_parts.specs.Changes.{Taken, IsTaken}
 use Rattle.qq_parts.specs.Outs.{Cut, cut_id, taken_row}

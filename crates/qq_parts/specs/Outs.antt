@@ -15,7 +15,7 @@ use Rattle.qq_model.specs.State.{State}
 use Rattle.qq_model.specs.Gate.{take_tag}
 use Rattle.qq_model.specs.Commands.{new_consumer, join, delivered_row, purge_row}
 use Rattle.qq_model.specs.Serving.{serve, deliver}
-use Rattle.qq_gone.specs.Reduced.{Item}
+use Rattle.qq_parts.specs.Reduced.{Item}
 use Rattle.qq_parts.specs.Parts.{Served, Parts, item_number}
 use Rattle.qq_parts.specs.Changes.{Taken, moved, Holds, HoldsAfter, IsTaken}
 

@@ -10,7 +10,7 @@ use Rattle.qq_model.specs.declared.place.Place.TheVariants.{Ready, Out, Dead, Go
 use Rattle.qq_model.specs.declared.place.Row.{Row}
 use Rattle.qq_model.specs.declared.consumer.Consumer.{Consumer}
 use Rattle.qq_model.specs.State.{State}
-use Rattle.qq_gone.specs.Reduced.{Item, live_items}
+use Rattle.qq_parts.specs.Reduced.{Item, live_items}
 use Rattle.qq_parts.specs.Perm.{Perm}
 
 -- a consumer, and what is out with it by rising id

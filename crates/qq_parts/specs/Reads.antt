@@ -6,7 +6,7 @@ use Rattle.qq_model.specs.State.{State}
 use Rattle.qq_model.specs.Choice.{next_message, out_count}
 use Rattle.qq_model.specs.Limits.{ready_count, ready_bytes, dead_count, live_count}
 use Rattle.qq_model.specs.Changes.{message_of}
-use Rattle.qq_gone.specs.Reduced.{Item, item_row}
+use Rattle.qq_parts.specs.Reduced.{Item, item_row}
 use Rattle.qq_parts.specs.Parts.{Served, Parts, items_of}
 
 -- the first of a list

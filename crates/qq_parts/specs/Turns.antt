@@ -4,7 +4,7 @@ use Rattle.std.specs.Option.{option_and_then, option_map}
 use Rattle.std.specs.List.{AllByRecursion}
 use Rattle.qq_model.specs.State.{State}
 use Rattle.qq_model.specs.Choice.{credit_left, next_consumer}
-use Rattle.qq_gone.specs.Reduced.{Item}
+use Rattle.qq_parts.specs.Reduced.{Item}
 use Rattle.qq_parts.specs.Parts.{Served, consumer_at, Parts}
 use Rattle.qq_parts.specs.Outs.{serve_one, hand_over}
 

@@ -1,6 +1,9 @@
+mod Counted
+mod Counts
+mod Crashes
 mod Cuts
 mod Fetches
-mod Pieces
-mod Writes
 mod LineLemmas
-mod Counted
+mod Pieces
+mod Rows
+mod Writes

@@ -1,10 +1,2 @@
-mod Commits
-pub mod Entries
-mod Fitting
-mod Holding
-mod Members
-mod Pushes
-mod Ranges
-mod Said
-mod Sendable
-mod Waits
+mod Entries
+mod Rises

@@ -1,5 +1,2 @@
-pub mod Ends
-pub mod Fits
-pub mod Held
-pub mod Peers
-pub mod Raft
+pub mod Stands
+pub mod Step

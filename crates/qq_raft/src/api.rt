@@ -1,100 +1,75 @@
 //! What the layer above calls.
-ghost use Rattle.std.specs.Prelude.{◌≡◌, ◌<◌, ◌^◌, [], Ok, true, false, not, All, drop, filter, map, length, nat_eq, slice_get, IfOk, IfErr, IfSome, OnOk, OnErr, IsOkUnless};
-ghost use Rattle.qq_log.specs.Stable.{no_snapshot};
-ghost use Rattle.qq_raft_step.specs.State.{last};
-ghost use Rattle.qq_raft_step.specs.Server.{new_peer, restart, tick, receive, is_ready, submit, notice};
+ghost use Rattle.std.specs.Prelude.{◌≡◌, ◌+◌, ◌<◌, ◌^◌, Err, [], All, drop, length, slice_get, true, false, IfOk, IfErr, IfSome, OnOk, OnErr, IsOkUnless};
 ghost use Rattle.qq_entry.specs.Range.{IsCommand, HasContent};
+ghost use Rattle.qq_log.specs.Stable.{no_snapshot};
 ghost use Rattle.qq_log.specs.Writable.{MayWrite};
 ghost use Rattle.qq_raft_msg.specs.Rpc.{IsNode, IsWritable};
-ghost use Rattle.qq_raft.specs.Ends.{IsSendable};
-ghost use Rattle.qq_raft.specs.Fits.{fits};
-ghost use Rattle.qq_raft.specs.Raft.{server_of, lane_of, IsSound, IsCaused, IsWithinEnds, HandsNothingOut, state_of};
+ghost use Rattle.qq_raft_model.specs.State.{last};
+ghost use Rattle.qq_raft_model.specs.Server.{is_ready, restart, tick as tick_raft, receive as receive_raft, notice as notice_raft};
+ghost use Rattle.qq_raft_core.specs.Ends.{IsSendable};
+ghost use Rattle.qq_raft_core.specs.Fits.{fits};
+ghost use Rattle.qq_raft_core.specs.Raft.{server_of, lane_of, state_of as member_state, IsCaused as IsRaftCaused, IsWithinEnds};
+ghost use Rattle.qq_raft.specs.Step.{new_state, with_raft, tick, receive, submit, notice};
+ghost use Rattle.qq_raft.specs.Stands.{state_of, StandsFor, Does, IsSound, IsCaused, HandsNothingOut, IsAdded, IsLeftBy, IsRefused};
+ghost use Rattle.qq_raft.specs.declared.fault.SubmitFault.TheVariants.{NotLeader};
 
-use crate::fits::{has_indices, has_peer, has_size, is_within};
-use crate::raft::Raft;
+use crate::fault::SubmitFault;
+use crate::row::AppliedRow;
+use crate::server::Server;
 use qq_base::{Index, Memory, NodeId, QueueId};
 use qq_entry::Command;
 use qq_log::Op;
-use qq_raft_msg::{LogView, MemberState, Role, Rpc};
-use qq_raft_step::Peer;
+use qq_raft_core::Raft;
+use qq_raft_msg::{LogView, MemberState, Queue, Rpc};
 use std::alloc::Global;
 use std::collections::VecDeque;
 
-/// The other members.
-fn new_peers(alloc: Global, node: NodeId, members: &[NodeId]) -> Result<Vec<Peer>, Memory>
-    ensures ok { IfOk result (λ peers. peers.items
-        ≡ map new_peer (filter (λ (q : NodeId). not (nat_eq q.0 node.0)) members.now)) }
-    ensures want { IsOkUnless result Memory.Want }
-{
-    let mut peers = Vec::new(alloc);
-    'members: for member in members {
-        if member.0 != node.0 {
-            peers.push(Peer {
-                node: *member,
-                next: 1,
-                matched: 0,
-                granted: false,
-            })?;
-        }
-    }
-    Ok(peers)
-}
-
-impl<L: LogView> Raft<L> {
-    /// A follower with what its disk holds, all of which is durable. Its log is whole, and no number is past
-    /// its end. The only error is `Memory::Want`, out of memory, which gives the log up.
+impl<Q: Queue, L: LogView> Server<Q, L> {
+    /// A follower with what its disk holds, all of which is durable, and with a machine that has applied
+    /// nothing. The only error is `Memory::Want`, out of memory, which gives machine and log up.
     pub fn new(
         alloc: Global,
         queue: QueueId,
         node: NodeId,
         members: &[NodeId],
+        machine: Q,
         log: L,
     ) -> Result<Self, Memory>
         requires members { length members.now < 2 ^ 32 }
         requires nodes { IsNode node × All IsNode members.now }
         requires whole { (L.log log).base ≡ no_snapshot }
         requires ends { IsWithinEnds (L.log log) }
+        requires machine { Q.applied machine ≡ 0 }
 
-        ensures sound { IfOk result (IsSound L.log) }
-        ensures ok { IfOk result (λ server. server_of L.log server
-            ≡ restart node members.now (lane_of queue (L.log log))) }
+        ensures sound { IfOk result (IsSound L.log Q.applied) }
+        ensures ok { IfOk result (λ server. (state : Q.Plain) → Q.stands state machine →
+            StandsFor Q.stands L.log
+            (new_state (restart node members.now (lane_of queue (L.log log))) state)
+            server) }
         ensures want { IsOkUnless result Memory.Want }
     {
-        let peers = new_peers(alloc, node, members)?;
-        let (op, term, vote) = log.start();
-        let waiting = VecDeque::new(alloc);
-        let ops = VecDeque::new(alloc);
-        let out = VecDeque::new(alloc);
-        Ok(Raft {
-            queue,
-            node,
-            peers,
-            op,
-            term,
-            vote,
-            log,
-            noticed: op,
-            role: Role::Follower,
-            leader: None,
-            commit: 0,
-            waiting,
-            ops,
-            out,
+        let raft = Raft::new(alloc, queue, node, members, log)?;
+        let rows = VecDeque::new(alloc);
+        Ok(Server {
+            raft,
+            machine,
+            applied: 0,
+            rows,
         })
     }
 
     /// Time has passed without word from a leader, or a leader is to send. After an error it hands nothing
     /// out. `Spent` comes only where a number stands at its end.
     pub fn tick(&mut self, alloc: Global) -> Result<(), Memory>
-        requires { IsSound L.log self.old }
+        requires { IsSound L.log Q.applied self.old }
 
-        ensures sound { OnOk result (IsSound L.log self.new) }
-        ensures ok { OnOk result (server_of L.log self.new ≡ tick (server_of L.log self.old)) }
-        ensures err { OnErr result (HandsNothingOut (server_of L.log self.new)) }
-        ensures cause { IfErr result (IsCaused (server_of L.log self.old)) }
+        ensures sound { OnOk result (IsSound L.log Q.applied self.new) }
+        ensures ok { OnOk result (Does Q.stands L.log tick self.old self.new) }
+        ensures err { OnErr result (HandsNothingOut L.log self.new) }
+        ensures cause { IfErr result (IsRaftCaused (server_of L.log self.old.raft)) }
     {
-        if let Err(cause) = self.try_tick(alloc) {
-            self.clear();
+        if let Err(cause) = self.raft.tick(alloc) {
+            self.rows.clear();
             return Err(cause);
         }
         Ok(())
@@ -102,31 +77,26 @@ impl<L: LogView> Raft<L> {
 
     /// Whether it takes a message: one for itself, from another member, whose terms and indices are within
     /// their ends, and whose entries may be written to the log in one change.
-    #[tactic(auto, unfolding(crate::specs::Fits::fits))]
     pub fn fits(&self, rpc: &Rpc) -> bool
         requires { IsWritable rpc.now }
-        ensures { result ≡ fits (server_of L.log self.now) rpc.now }
+
+        ensures { result ≡ fits (server_of L.log self.now.raft) rpc.now }
     {
-        let envelope = rpc.envelope();
-        envelope.to.0 == self.node.0
-            && has_peer(envelope.from, &self.peers)
-            && is_within(envelope.term.0)
-            && has_indices(rpc)
-            && has_size(rpc)
+        self.raft.fits(rpc)
     }
 
-    /// Takes a message that fits. After an error it hands nothing out. `Spent` comes only where a number
-    /// stands at its end.
+    /// Takes a message that fits, and applies what is committed by then. After an error it hands nothing
+    /// out. `Spent` comes only where a number stands at its end.
     pub fn receive(&mut self, alloc: Global, rpc: Rpc) -> Result<(), Memory>
-        requires sound { IsSound L.log self.old }
+        requires sound { IsSound L.log Q.applied self.old }
         requires rpc { IsWritable rpc }
-        requires fits { fits (server_of L.log self.old) rpc ≡ true }
+        requires fits { fits (server_of L.log self.old.raft) rpc ≡ true }
 
-        ensures sound { OnOk result (IsSound L.log self.new) }
-        ensures ok { OnOk result (server_of L.log self.new
-            ≡ receive rpc (server_of L.log self.old)) }
-        ensures err { OnErr result (HandsNothingOut (server_of L.log self.new)) }
-        ensures cause { IfErr result (IsCaused (server_of L.log self.old)) }
+        ensures sound { OnOk result (IsSound L.log Q.applied self.new) }
+        ensures ok { OnOk result (Does Q.stands L.log (receive Q.step rpc) self.old self.new) }
+        ensures err { OnErr result (HandsNothingOut L.log self.new) }
+        ensures cause { IfErr result (λ e. (queue : Q.Plain) → Q.stands queue self.old.machine →
+            IsCaused Q.step Q.passes_end (receive_raft rpc) (state_of L.log queue self.old) e) }
     {
         if let Err(cause) = self.try_receive(alloc, rpc) {
             self.clear();
@@ -135,35 +105,46 @@ impl<L: LogView> Raft<L> {
         Ok(())
     }
 
-    /// A ready leader adds an entry of its term for a command, at this time, and sends it to all others. Any
-    /// other server stays as it is. After an error it hands nothing out. `Spent` comes only where a number
-    /// stands at its end.
-    pub fn submit(&mut self, alloc: Global, time: u64, command: &Command) -> Result<(), Memory>
-        requires sound { IsSound L.log self.old }
+    /// A ready leader adds an entry for a command, at this time: its index. `NotLeader` comes exactly where
+    /// it isn't ready, and then it stays as it is. After another error it hands nothing out. `Spent` comes
+    /// only where a number stands at its end.
+    pub fn submit(
+        &mut self,
+        alloc: Global,
+        time: u64,
+        command: &Command,
+    ) -> Result<Index, SubmitFault>
+        requires sound { IsSound L.log Q.applied self.old }
         requires command { IsCommand command.now × HasContent command.now }
 
-        ensures sound { OnOk result (IsSound L.log self.new) }
-        ensures ok { OnOk result (server_of L.log self.new
-            ≡ submit time command.now (server_of L.log self.old)) }
-        ensures err { OnErr result (HandsNothingOut (server_of L.log self.new)) }
-        ensures cause { IfErr result (IsCaused (server_of L.log self.old)) }
+        ensures sound { OnOk result (IsSound L.log Q.applied self.new) }
+        ensures ok { OnOk result (Does Q.stands L.log (submit time command.now) self.old self.new) }
+        ensures index { IfOk result (λ index. IsAdded (server_of L.log self.old.raft) index) }
+        ensures err { IfErr result (IsLeftBy L.log self.old self.new) }
+        ensures cause { IfErr result (IsRefused (server_of L.log self.old.raft)) }
     {
-        if let Err(cause) = self.try_submit(alloc, time, command) {
-            self.clear();
-            return Err(cause);
+        if !self.raft.ready() {
+            let hint = self.raft.leader();
+            return Err(SubmitFault::NotLeader { hint });
         }
-        Ok(())
+        let index = Index(self.raft.state().last.0 + 1);
+        if let Err(cause) = self.raft.submit(alloc, time, command) {
+            self.rows.clear();
+            return Err(SubmitFault::Memory(cause));
+        }
+        Ok(index)
     }
 
-    /// The changes up to a number are durable. After an error it hands nothing out. `Spent` comes only where
-    /// a number stands at its end.
+    /// The changes up to a number are durable: what is committed by then is applied. After an error it hands
+    /// nothing out. `Spent` comes only where a number stands at its end.
     pub fn notice(&mut self, alloc: Global, op: u64) -> Result<(), Memory>
-        requires { IsSound L.log self.old }
+        requires { IsSound L.log Q.applied self.old }
 
-        ensures sound { OnOk result (IsSound L.log self.new) }
-        ensures ok { OnOk result (server_of L.log self.new ≡ notice op (server_of L.log self.old)) }
-        ensures err { OnErr result (HandsNothingOut (server_of L.log self.new)) }
-        ensures cause { IfErr result (IsCaused (server_of L.log self.old)) }
+        ensures sound { OnOk result (IsSound L.log Q.applied self.new) }
+        ensures ok { OnOk result (Does Q.stands L.log (notice Q.step op) self.old self.new) }
+        ensures err { OnErr result (HandsNothingOut L.log self.new) }
+        ensures cause { IfErr result (λ e. (queue : Q.Plain) → Q.stands queue self.old.machine →
+            IsCaused Q.step Q.passes_end (notice_raft op) (state_of L.log queue self.old) e) }
     {
         if let Err(cause) = self.try_notice(alloc, op) {
             self.clear();
@@ -172,99 +153,130 @@ impl<L: LogView> Raft<L> {
         Ok(())
     }
 
-    /// It gives up what it would hand out, as after a refused call. All else stays.
-    pub fn clear(&mut self)
-        ensures none { HandsNothingOut (server_of L.log self.new) }
-        ensures rest { server_of L.log self.new ≡ record (server_of L.log self.old) {
-          waiting = [];
-          ops = [];
-          out = [];
-        } }
+    fn try_receive(&mut self, alloc: Global, rpc: Rpc) -> Result<(), Memory>
+        requires sound { IsSound L.log Q.applied self.old }
+        requires rpc { IsWritable rpc }
+        requires fits { fits (server_of L.log self.old.raft) rpc ≡ true }
+        ensures sound { OnOk result (IsSound L.log Q.applied self.new) }
+        ensures ok { OnOk result (Does Q.stands L.log (receive Q.step rpc) self.old self.new) }
+        ensures cause { IfErr result (λ e. (queue : Q.Plain) → Q.stands queue self.old.machine →
+            IsCaused Q.step Q.passes_end (receive_raft rpc) (state_of L.log queue self.old) e) }
     {
-        self.waiting.clear();
-        self.ops.clear();
-        self.out.clear();
+        self.raft.receive(alloc, rpc)?;
+        if let Err(cause) = self.apply_committed(alloc) {
+            return Err(cause);
+        }
+        Ok(())
+    }
+
+    fn try_notice(&mut self, alloc: Global, op: u64) -> Result<(), Memory>
+        requires { IsSound L.log Q.applied self.old }
+        ensures sound { OnOk result (IsSound L.log Q.applied self.new) }
+        ensures ok { OnOk result (Does Q.stands L.log (notice Q.step op) self.old self.new) }
+        ensures cause { IfErr result (λ e. (queue : Q.Plain) → Q.stands queue self.old.machine →
+            IsCaused Q.step Q.passes_end (notice_raft op) (state_of L.log queue self.old) e) }
+    {
+        self.raft.notice(alloc, op)?;
+        if let Err(cause) = self.apply_committed(alloc) {
+            return Err(cause);
+        }
+        Ok(())
+    }
+
+    fn clear(&mut self)
+        ensures { HandsNothingOut L.log self.new }
+    {
+        self.raft.clear();
+        self.rows.clear();
     }
 
     /// The next change for the log's disk, which the log takes and writes. None exactly where there is none.
-    #[tactic(auto, using(crate::proofs::Ranges::all_rest, crate::proofs::Ranges::all_front))]
     pub fn next_op(&mut self) -> Option<Op>
-        requires { IsSound L.log self.old }
+        requires { IsSound L.log Q.applied self.old }
 
         ensures may { IfSome result MayWrite }
-        ensures sound { IsSound L.log self.new }
-        ensures value { result ≡ slice_get (server_of L.log self.old).ops 0 }
-        ensures rest { server_of L.log self.new ≡ record (server_of L.log self.old) {
-          ops = drop 1 (server_of L.log self.old).ops;
+        ensures sound { IsSound L.log Q.applied self.new }
+        ensures value { result ≡ slice_get (server_of L.log self.old.raft).ops 0 }
+        ensures rest { server_of L.log self.new.raft ≡ record (server_of L.log self.old.raft) {
+          ops = drop 1 (server_of L.log self.old.raft).ops;
         } }
+        ensures same { self.new ≡ record self.old { raft = self.new.raft } }
     {
-        self.ops.pop_front()
+        self.raft.next_op()
     }
 
     /// The next message that may leave: it has bytes, and fits whoever gets it by its numbers. None exactly
     /// where there is none.
-    #[tactic(auto, using(crate::proofs::Ranges::all_rest, crate::proofs::Ranges::all_front))]
     pub fn next_rpc(&mut self) -> Option<Rpc>
-        requires { IsSound L.log self.old }
+        requires { IsSound L.log Q.applied self.old }
 
         ensures rpc { IfSome result IsSendable }
-        ensures sound { IsSound L.log self.new }
-        ensures value { result ≡ slice_get (server_of L.log self.old).out 0 }
-        ensures rest { server_of L.log self.new ≡ record (server_of L.log self.old) {
-          out = drop 1 (server_of L.log self.old).out;
+        ensures sound { IsSound L.log Q.applied self.new }
+        ensures value { result ≡ slice_get (server_of L.log self.old.raft).out 0 }
+        ensures rest { server_of L.log self.new.raft ≡ record (server_of L.log self.old.raft) {
+          out = drop 1 (server_of L.log self.old.raft).out;
         } }
+        ensures same { self.new ≡ record self.old { raft = self.new.raft } }
     {
-        self.out.pop_front()
+        self.raft.next_rpc()
+    }
+
+    /// The next row that a ready leader of its term shows, with its effects, in the order of the entries.
+    /// None exactly where there is none.
+    pub fn next_row(&mut self) -> Option<AppliedRow>
+        requires { IsSound L.log Q.applied self.old }
+
+        ensures sound { IsSound L.log Q.applied self.new }
+        ensures value { result ≡ slice_get self.old.rows.items 0 }
+        ensures rest { self.new.rows.items ≡ drop 1 self.old.rows.items }
+        ensures same { self.new ≡ record self.old { rows = self.new.rows } }
+    {
+        self.rows.pop_front()
     }
 
     /// What it tells of itself.
     pub fn state(&self) -> MemberState
-        requires { IsSound L.log self.now }
+        requires { IsSound L.log Q.applied self.now }
 
-        ensures { result ≡ state_of (server_of L.log self.now) }
+        ensures { result ≡ member_state (server_of L.log self.now.raft) }
     {
-        MemberState {
-            role: self.role,
-            term: self.term,
-            last: Index(self.last()),
-            commit: Index(self.commit),
-        }
+        self.raft.state()
     }
 
     /// The number of its last change.
     pub fn op(&self) -> u64
-        ensures { result ≡ (server_of L.log self.now).op }
+        ensures { result ≡ (server_of L.log self.now.raft).op }
     {
-        self.op
+        self.raft.op()
     }
 
     /// The change up to which it was told that its disk is durable.
     pub fn noticed(&self) -> u64
-        ensures { result ≡ (server_of L.log self.now).noticed }
+        ensures { result ≡ (server_of L.log self.now.raft).noticed }
     {
-        self.noticed
+        self.raft.noticed()
     }
 
-    /// The leader of its term, as far as it knows.
-    pub fn leader(&self) -> Option<NodeId>
-        ensures { result ≡ (server_of L.log self.now).leader }
+    /// Its queue machine.
+    pub fn machine(&self) -> &Q
+        ensures { result.now ≡ self.now.machine }
     {
-        self.leader
+        &self.machine
     }
 
     /// Its log.
     pub fn log(&self) -> &L
-        ensures { result.now ≡ self.now.log }
+        ensures { result.now ≡ self.now.raft.log }
     {
-        &self.log
+        self.raft.log()
     }
 
-    /// Whether it leads and has committed an entry of its term (Ongaro's dissertation, section 6.4).
+    /// Whether it leads and has applied an entry of its term (Ongaro's dissertation, section 6.4).
     pub fn ready(&self) -> bool
-        requires { IsSound L.log self.now }
+        requires { IsSound L.log Q.applied self.now }
 
-        ensures { result ≡ is_ready (server_of L.log self.now) }
+        ensures { result ≡ is_ready (server_of L.log self.now.raft) }
     {
-        self.is_ready()
+        self.raft.ready()
     }
 }

@@ -1,16 +1,16 @@
-//! Laws of what servers send each other.
-ghost use Rattle.std.specs.Prelude.{◌≡◌, List, All, true};
-ghost use Rattle.qq_entry.specs.Range.{IsWritable};
-ghost use Rattle.qq_entry.specs.declared.command.Entry.{Entry};
-ghost use Rattle.qq_raft_step.specs.Leading.{batch};
-ghost use Rattle.qq_raft.specs.Ends.{is_short};
+//! Laws of what a server applies.
+ghost use Rattle.std.specs.Prelude.{◌≤◌, ℕ};
+ghost use Rattle.qq_raft_msg.specs.declared.rpc.Rpc.{Rpc};
+ghost use Rattle.qq_raft.specs.Step.{ServerState, receive, notice};
 
-use qq_command::entries_read_back;
+use qq_raft_msg::Queue;
 
-/// A law: the entries of one message are no more than one change of the log may have, so that they fit
-/// whoever gets them.
-pub fn the_entries_of_a_message_fit()
-    ensures { (entries : List Entry) → All IsWritable entries → is_short (batch entries) ≡ true }
-{
-    entries_read_back();
-}
+/// A law: a server applies only what it knows to be committed, and what it knows to be committed only rises.
+pub fn what_is_applied_is_committed<Q: Queue>()
+    ensures receive { (s : ServerState Q.Plain) (rpc : Rpc) → s.applied ≤ s.raft.commit →
+        (receive Q.step rpc s).applied ≤ (receive Q.step rpc s).raft.commit }
+    ensures notice { (s : ServerState Q.Plain) (op : ℕ) → s.applied ≤ s.raft.commit →
+        (notice Q.step op s).applied ≤ (notice Q.step op s).raft.commit }
+    ensures rises { (s : ServerState Q.Plain) (rpc : Rpc) →
+        s.raft.commit ≤ (receive Q.step rpc s).raft.commit }
+{}

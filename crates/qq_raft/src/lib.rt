@@ -1,18 +1,15 @@
-//! A Raft server (Ongaro's dissertation, chapter 3): what it holds, how it answers each message, and what it
-//! hands out: changes for its log's disk, messages for the others, and the rows of what was committed.
+//! A Raft server with its queue (Ongaro's dissertation, sections 2.1 and 3.5): it applies what is committed,
+//! each entry once and in order, and hands out what a leader answers.
 #![tactic(auto)]
 
 mod api;
-mod batch;
-mod committing;
-mod electing;
-mod fits;
-mod inputs;
+mod applying;
+mod fault;
 mod laws;
-mod peers;
-mod raft;
-mod receiving;
-mod sending;
+mod row;
+mod server;
 
-pub use laws::the_entries_of_a_message_fit;
-pub use raft::Raft;
+pub use fault::SubmitFault;
+pub use laws::what_is_applied_is_committed;
+pub use row::AppliedRow;
+pub use server::Server;

@@ -1,189 +1,353 @@
--- A leader adds an entry.
-use Rattle.std.proofs.Common.{◌≡◌, ◌⊎◌, ℕ, ◌≤◌, ◌<◌, List, [], ◌∷◌, length, Some, None, refl, sym, ap, subst, ◌∙◌, arith, inl, inr}
-use Rattle.qq_base.specs.Fronts.{IsFront, put}
-use Rattle.qq_base.proofs.Fronts.{front-refl, front-trans}
-use Rattle.qq_base.proofs.Puts.{put-each, put-same, put-other}
+-- A candidate that has a majority of votes leads, adds the first entry of its term, and sends it.
+use Rattle.std.proofs.Common.{◌≡◌, ℕ, ◌+◌, ◌≤◌, Bool, true, cond, ◌&&◌, ltb, leb, List, [], ◌∷◌, ◌++◌, length, map, filter, count_by, take, Some, None, refl, sym, ap, subst, ◌∙◌, arith, inl, inr}
+use Rattle.std.proofs.lemmas.Bool.{cond_both, and_parts, ltb-true, ltb-false, leb-true, eqb-true, cases_Bool, false≢true}
+use Rattle.std.proofs.lemmas.List.{length-map, take_all}
+use Rattle.std.proofs.lemmas.List.Sums.{length-filter}
+use Rattle.qq_base.specs.Fronts.{IsFront}
+use Rattle.qq_base.proofs.Lists.{filter-map}
+use Rattle.std.specs.Prelude.{option_map}
+use Rattle.qq_base.specs.declared.ids.NodeId.{NodeId}
+use Rattle.qq_base.proofs.Puts.{put-same, put-other}
+use Rattle.qq_base.proofs.Fronts.{front-trans}
 use Rattle.qq_entry.specs.declared.command.Entry.{Entry}
-use Rattle.qq_raft_model.specs.World.{Ack, World}
-use Rattle.qq_raft_model.specs.World.Role.{Candidate, Leader}
-use Rattle.qq_raft_model.specs.Facts.{add, Within, Good, Point, Acked, Dead, Holds}
-use Rattle.qq_raft_model.specs.Moves.{push, next_lane, after, Allowed}
-use Rattle.qq_raft_model.specs.Moves.Move.{Append}
-use Rattle.qq_raft_model.proofs.Changes.{Follows, pushed, push-each, push-noticed, push-older, push-led, push-ask, push-grant, push-asked, push-ack, pushed-grows}
-use Rattle.qq_raft_model.proofs.Grows.{Grows, good-grows, dead-grows, holds-grows, settled-grows, won-grows}
-use Rattle.qq_raft_model.proofs.Kept.{Kept, LeaderKept, CandidateKept, DoneKept, AckKept, Has, elects_lanes, voted_term, ack_grows, sent_grows, done_grows}
-use Rattle.qq_raft_model.proofs.Elections.{stood_only}
-use Rattle.qq_raft_model.proofs.Majorities.{Most-map}
-use Rattle.qq_raft_model.proofs.Votes.{no_vote}
-use Rattle.qq_raft_model.proofs.Roles.{leader_asks, none_some, some_same}
-use Rattle.qq_raft_model.proofs.Logs.{front-add, front-of_add, add-same, Within-add}
+use Rattle.qq_raft_protocol.specs.Facts.{add, Most, Elects}
+use Rattle.qq_raft_protocol.specs.Moves.{after, push, next_lane}
+use Rattle.qq_raft_protocol.specs.Moves.Move.{Lead, Append}
+use Rattle.qq_raft_protocol.specs.World.{Role as ModelRole, Lane, World}
+use Rattle.qq_raft_protocol.proofs.Leaders.{candidate-first}
+use Rattle.qq_raft_protocol.proofs.Lists.{In-map}
+use Rattle.qq_raft_protocol.proofs.Logs.{length-add, front-of_add}
+use Rattle.qq_raft_msg.specs.declared.rpc.Rpc.TheVariants.{Voted}
+use Rattle.qq_raft_msg.specs.declared.rpc.VotedMsg.{VotedMsg}
+use Rattle.qq_raft_msg.specs.declared.state.Role.{Role}
+use Rattle.qq_raft_msg.specs.declared.state.Role.TheVariants.{Leader, Candidate, Follower}
+use Rattle.qq_raft_model.specs.declared.peer.Peer.{Peer}
+use Rattle.qq_raft_model.specs.State.{Server, last, is_candidate, change, follow, enter}
+use Rattle.qq_raft_model.specs.Leading.{send, everyone, add_entry, noop, start_peer, lead, one_if, is_majority, is_elected, lead_if_elected}
+use Rattle.qq_raft_model.specs.Server.{is_peer, grant_peer, at_peer, count_vote, receive_voted, refuse, accept, receive}
+use Rattle.qq_raft_model.specs.Refines.{number, lane_of, role_of, IsOnItsWay, IsGroup, HasOwnAck, AcksItself, Stands, OnlyMoves, Refines, IsReached}
+use Rattle.qq_raft_model.proofs.Electing.{majority}
+use Rattle.qq_raft_model.proofs.Later.{said-later, way-later, matched-later, only-trans}
+use Rattle.qq_raft_model.proofs.Moving.{push-noticed, pushed-lanes}
+use Rattle.qq_raft_model.proofs.Reached.{kept-there, safe-there}
+use Rattle.qq_raft_model.proofs.Refining.{refines-refl, refines-change}
+use Rattle.qq_raft_model.proofs.Sending.{leader_asks, send-refines}
 
--- nobody has acknowledged what follows the leader's log, so it is never committed once a later term has a leader
-new_refused : {members : List ℕ} {w : World} (i : ℕ) (e : Entry) → Kept members w
-    → w.hist (w.member i).mine.term ≡ (w.member i).mine.log → e.term.0 ≡ (w.member i).mine.term
-    → (t c : ℕ) → w.lead t ≡ Some c → e.term.0 < t → Dead members w (w.member i).mine.log e
-new_refused {members} {w} i e k log own t c lead lt =
-    Most-map (λ q x. record {
-      unacked = λ y.
-          let upto = (k.ack q y.ack y.said y.from).upto in
-          let long : length (w.hist y.ack.term) ≡ length (w.member i).mine.log = ap (λ (n : ℕ). length (w.hist n))
-          (y.term ∙ own) ∙ ap length log in
-          let reaches : length (w.member i).mine.log < y.ack.upto = y.reaches in
-          omega (arith, upto, long, reaches);
-      later = λ l here. let le = voted_term t c l (elects_lanes k x l here) in omega (arith, lt, le);
-    }) (k.won t c lead)
+is_candidate_of : (r : Role) → is_candidate r ≡ true → r ≡ Candidate
+is_candidate_of Leader e = absurd (false≢true e)
+is_candidate_of Candidate e = refl
+is_candidate_of Follower e = absurd (false≢true e)
 
-put-at : {A : Type 0} (t : ℕ) (x : A) (f : ℕ → A) (j : ℕ) → j ≡ t → put t x f j ≡ x
-put-at t x f j same = ap (put t x f) same ∙ put-same t x f
+-- ---- an entry more
 
--- a log that is longer holds what the shorter one held
-holds-front : {members : List ℕ} {w : World} {a log more : List Entry} {e : Entry} → IsFront log more
-    → Holds members w a e log → Holds members w a e more
-holds-front p holds = elim holds [ inl front ↦ inl (front-trans front p) | inr dead ↦ inr dead ]
+added : World → ℕ → Entry → Lane
+added w k e =
+    let m = w.member k in
+    next_lane m m.mine.term m.mine.vote (add m.mine.log e)
 
-holds-later : {members : List ℕ} {w v : World} {a log longer : List Entry} {e : Entry} → Grows w v
-    → IsFront log longer → Holds members w a e log → Holds members v a e longer
-holds-later g p holds = holds-front p (holds-grows g holds)
-
-pub kept-append : {members : List ℕ} {w : World} (i : ℕ) (entry : Entry) → Kept members w
-    → Allowed members w (Append i entry) → Kept members (after w (Append i entry))
-kept-append {members} {w} i new k may =
-    let m = w.member i in
-    let t = m.mine.term in
-    let log = add m.mine.log new in
-    let lane = next_lane m t m.mine.vote log in
-    let own : new.term.0 ≡ t = may.1 in
-    let l = k.leader i may.0 in
-    let f : Follows m.mine lane = record { op = refl; term = omega arith; vote = λ e. inl refl } in
-    let ack : Ack = record { from = i; term = t; upto = length log; op = lane.op } in
-    let v = after w (Append i new) in
-    let hist : (j : ℕ) → IsFront (w.hist j) (v.hist j) =
-    put-each (λ j h. IsFront (w.hist j) h) t log w.hist
-    (subst (λ x. IsFront x log) (sym l.log) (front-add m.mine.log new)) (λ j other. front-refl (w.hist j)) in
-    let g : Grows w v = pushed-grows w v i lane (omega arith) (λ q. refl)
-    (λ x said. elim said [
-      | inr before ↦ inl before
-      | inl same ↦
-          inr (subst (λ (y : Ack). (w.member y.from).mine.term ≤ y.term) (sym same) (omega arith))
-    ]) (λ x said. inr said) (λ x said. said) hist in
-    let back : (a : List Entry) (e : Entry) → Point v a e → Point w a e ⊎ ((a ≡ m.mine.log) × (e ≡ new)) =
-    λ a e p. put-each (λ j h. j ≡ e.term.0 → IsFront (add a e) h → Point w a e ⊎ ((a ≡ m.mine.log) × (e ≡ new))) t log
-    w.hist
-    (λ same q. elim (front-of_add (add a e) m.mine.log new q) [
-      | inl before ↦ inl (k.good i m.mine (inl refl) a e before)
-      | inr whole ↦ inr (add-same a m.mine.log e new whole)
-    ])
-    (λ j other same q. inl (subst (λ (n : ℕ). IsFront (add a e) (w.hist n)) same q)) e.term.0 refl p in
-    let old_point : (x : Ack) → x.upto ≤ length (w.hist x.term) → (a : List Entry) (e : Entry) → e.term.0 ≡ x.term
-    → length a < x.upto → Point v a e → Point w a e =
-    λ x upto a e same lt p. elim (back a e p) [
-      | inl before ↦ before
-      | inr is ↦
-          let long : length a ≡ length (w.hist x.term) = ap length (is.0 ∙ sym l.log)
-          ∙ ap (λ (n : ℕ). length (w.hist n)) (sym own ∙ ap (λ (y : Entry). y.term.0) (sym is.1) ∙ same) in
-          absurd (omega (arith, upto, long, lt))
-    ] in
-    let old_ack : (x : ℕ) (a : List Entry) (e : Entry) → (x ≡ i → e.term.0 ≡ t → ⊥) → Acked (ack ∷ w.acks) a e x
-    → Acked w.acks a e x =
-    λ q a e away x. elim x.said [
-      | inr before ↦ record { ack = x.ack; said = before; from = x.from; term = x.term; reaches = x.reaches }
-      | inl same ↦
-          absurd (away (sym x.from ∙ ap (λ (y : Ack). y.from) same) (sym x.term ∙ ap (λ (y : Ack). y.term) same))
-    ] in
-    let good : Good v log =
-    λ a e p. elim (front-of_add (add a e) m.mine.log new p) [
-      | inl before ↦ good-grows g (k.good i m.mine (inl refl)) a e before
-      | inr whole ↦
-          let is = add-same a m.mine.log e new whole in
-          subst (IsFront (add a e)) (sym (put-at t log w.hist e.term.0 (ap (λ (y : Entry). y.term.0) is.1 ∙ own)))
-          (subst (IsFront (add a e)) whole (front-refl (add a e)))
-    ] in
+append-only : (w : World) (k : ℕ) (e : Entry) → OnlyMoves k w (after w (Append k e))
+unfolding added
+append-only w k e =
     record {
-      noticed = push-noticed i lane k f;
-      older = push-older i lane k f;
-      good =
-          push-each w (λ q l. Good v l.log) i lane good (λ q l here. good-grows g (k.good q l here));
-      within =
-          push-each w (λ q l. Within l.term l.log) i lane
-          (Within-add m.mine.log new (k.within i m.mine (inl refl)) (omega (arith, own))) k.within;
-      hist_good =
-          put-each (λ j h. Good v h) t log w.hist
-          good (λ j other. good-grows g (k.hist_good j));
-      hist_within =
-          put-each (λ j h. Within j h) t log w.hist
-          (Within-add m.mine.log new (k.within i m.mine (inl refl)) (omega (arith, own))) (λ j other. k.hist_within j);
-      unled = λ j e.
-          put-each (λ j h. w.lead j ≡ None → h ≡ []) t log w.hist
-          (λ e. absurd (none_some (w.lead t) i e l.leads)) (λ j other e. k.unled j e) j e;
-      won = λ j c lead. won-grows g (k.won j c lead);
-      led = push-led i lane k f;
-      safe = λ j c lead a e p lt. elim (back a e p) [
-        | inl before ↦
-            holds-later g (hist j) (k.safe j c lead a e before lt)
-        | inr is ↦
-            inr (dead-grows g (subst (λ (x : List Entry). Dead members w x e) (sym is.0)
-            (subst (λ (y : Entry). Dead members w m.mine.log y) (sym is.1)
-            (new_refused i new k l.log own j c lead (subst (λ (y : Entry). y.term.0 < j) is.1 lt)))))
-      ];
-      ask_good = λ x said. good-grows g (k.ask_good x said);
-      ask = push-ask i lane k f;
-      grant = push-grant i lane k f;
-      asked = push-asked i lane k f;
-      once = k.once;
-      vote = λ x said a e p lt acked.
-          let away : x.from ≡ i → e.term.0 ≡ t → ⊥ =
-          λ from term. let le = no_vote i x k said from in omega (arith, le, term, lt) in
-          let known = old_ack x.from a e away acked in
-          elim (back a e p) [
-            | inl before ↦ holds-grows g (k.vote x said a e before lt known)
-            | inr is ↦
-                let kept = k.ack x.from known.ack known.said known.from in
-                let upto = kept.upto in
-                let long : length (w.hist known.ack.term) ≡ length a = ap (λ (n : ℕ). length (w.hist n))
-                (known.term ∙ ap (λ (y : Entry). y.term.0) is.1 ∙ own) ∙ ap length (l.log ∙ sym is.0) in
-                let reaches : length a < known.ack.upto = known.reaches in
-                absurd (omega (arith, upto, long, reaches))
-          ];
-      leader =
-          put-each (λ q x. w.role q ≡ Leader → LeaderKept w.lead v.hist q x) i (push m lane) w.member
-          (λ is. record { leads = l.leads; log = put-same t log w.hist })
-          (λ q other is.
-          let d = k.leader q is in
-          let away : (w.member q).mine.term ≡ t → ⊥ =
-          λ same. other (sym (some_same i q (sym l.leads ∙ ap w.lead (sym same) ∙ d.leads))) in
-          record { leads = d.leads; log = put-other t log w.hist (w.member q).mine.term away ∙ d.log });
-      candidate =
-          put-each (λ q x. w.role q ≡ Candidate → CandidateKept w.lead w.asks w.grants q x) i (push m lane) w.member
-          (λ is. absurd (leader_asks (sym may.0 ∙ is))) (λ q other. k.candidate q);
-      sent = λ s said. let kept = k.sent s said in sent_grows g kept.lead kept;
-      ack = λ q x said from. elim said [
-        | inr before ↦
-            let kept = push-ack i lane k f (λ a e p le holds. holds-front (front-add m.mine.log new) holds) q x before
-            from in
-            ack_grows g (old_point x kept.upto) kept
-        | inl same ↦
-            subst (λ (y : Ack). AckKept members v y (pushed w i lane q)) (sym same)
-            (put-each (λ q x. i ≡ q → AckKept members v ack x) i (push m lane) w.member
-            (λ here. record {
-              upto = subst (λ (x : List Entry). length log ≤ length x) (sym (put-same t log w.hist)) (omega arith);
-              op = omega arith;
-              each =
-                  stood_only i lane (Has members v ack) k refl (record {
-                    term = omega arith;
-                    entries = λ a e p same lt.
-                        inl (subst (IsFront (add a e)) (put-at t log w.hist e.term.0 same) p);
-                  });
-            })
-            (λ q other here. absurd (other (sym here))) q (ap (λ (y : Ack). y.from) (sym same) ∙ from))
-      ];
-      done =
-          put-each (λ q x. DoneKept members v x (w.done q)) i (push m lane) w.member
-          (record {
-            front = front-trans (k.done i).front (front-add m.mine.log new);
-            settled = settled-grows g (k.done i).settled;
-          })
-          (λ q other. done_grows g (k.done q));
-      audit_term = k.audit_term;
-      audit = settled-grows g k.audit;
-      dones = k.dones;
+      later = record {
+        asks = λ x here. here;
+        grants = λ x here. here;
+        acks = λ x here. inr here;
+        sents = λ x here. here;
+        noticed = λ q. let same = push-noticed w k (added w k e) q in omega (arith, same);
+      };
+      lanes = λ l here le. pushed-lanes w k (added w k e) l here;
+      member = λ q other. put-other k (push (w.member k) (added w k e)) w.member q other;
+      role = λ q other. refl;
+      done = λ q other. refl;
     }
+
+pub whole : (log : List Entry) (e : Entry) → log ++ e ∷ [] ≡ take (length log) log ++ e ∷ []
+whole log e = ap (λ (t : List Entry). t ++ e ∷ []) (sym (take_all (length log) log (omega arith)))
+
+-- the entry is acknowledged by the leader itself, as those before it are
+added-itself : {w : World} {k : ℕ} {s : Server} (e : Entry) → Stands w k s → s.role ≡ Leader
+    → AcksItself (after w (Append k e)).acks k (change s.term s.vote (last s) (e ∷ []) s)
+unfolding change
+added-itself {w = w} {k = k} {s = s} e st leads a f front own =
+    let mine = (w.member k).mine in
+    let log = take (length s.log) s.log ++ e ∷ [] in
+    let long : length (add s.log e) ≡ length log = ap length (whole s.log e) in
+    let there : IsFront (add a f) (add s.log e) = subst (λ x. IsFront (add a f) x) (sym (whole s.log e)) front in
+    let op : mine.op ≡ s.op = ap (λ (l : Lane). l.op) st.lane in
+    let size : length mine.log ≡ length s.log = ap (λ (l : Lane). length l.log) st.lane in
+    elim (front-of_add (add a f) s.log e there) [
+      | inl old ↦
+          let x : HasOwnAck w.acks k s.term.0 (last s) s.op a = st.itself leads a f old own in
+          let before : x.ack.op + last s ≤ s.op + (length a + 1) = x.op_is in
+          record {
+            ack = x.ack;
+            said = inr x.said;
+            from = x.from;
+            term_is = x.term_is;
+            upto = x.upto;
+            op_is = omega (arith, before, long, length-add s.log e);
+          }
+      | inr new ↦
+          let same : length (add a f) ≡ length (add s.log e) = ap length new in
+          record {
+            ack = record { from = k; term = mine.term; upto = length (add mine.log e); op = mine.op + 1 };
+            said = inl refl;
+            from = refl;
+            term_is = ap (λ (l : Lane). l.term) st.lane;
+            upto = omega (arith, same, size, length-add a f, length-add s.log e, length-add mine.log e);
+            op_is = omega (arith, op, long, same, length-add a f, length-add s.log e);
+          }
+    ]
+
+append-stands : {w : World} {k : ℕ} {s : Server} (e : Entry) → Stands w k s → s.role ≡ Leader
+    → Stands (after w (Append k e)) k (change s.term s.vote (last s) (e ∷ []) s)
+unfolding change added
+append-stands {w = w} {k = k} {s = s} e st leads =
+    let g = (append-only w k e).later in
+    record {
+      node = st.node;
+      lane =
+          ap (λ x. x.mine) (put-same k (push (w.member k) (added w k e)) w.member)
+          ∙ ap (λ (l : Lane). record { op = l.op + 1; term = l.term; vote = l.vote; log = add l.log e }) st.lane
+          ∙ ap (λ (log : List Entry).
+          record { op = s.op + 1; term = s.term.0; vote = option_map number s.vote; log = log }) (whole s.log e);
+      noticed = ap (λ x. x.noticed) (put-same k (push (w.member k) (added w k e)) w.member) ∙ st.noticed;
+      role = st.role;
+      commit = st.commit;
+      own_vote = λ is. absurd (leader_asks (sym leads ∙ is));
+      votes = λ is. absurd (leader_asks (sym leads ∙ is));
+      matches = λ is p here. elim (st.matches is p here) [ inl zero ↦ inl zero | inr x ↦ inr (matched-later g x) ];
+      within = λ is p here.
+          let old = st.within is p here in
+          let next : p.next ≤ last s + 1 = old.0 in
+          let matched : p.matched ≤ last s = old.1 in
+          let long : length (add s.log e) ≡ length (take (length s.log) s.log ++ e ∷ []) = ap length (whole s.log e) in
+          (omega (arith, next, long, length-add s.log e), omega (arith, matched, long, length-add s.log e));
+      itself = λ is. added-itself e st is;
+      waiting = λ x here. said-later g (st.waiting x here);
+      out = λ r here. way-later g (st.out r here);
+    }
+
+-- the entry is added, and sent with all that the peers lack
+pub add-refines : {members : List ℕ} {w : World} {k : ℕ} {s : Server} (e : Entry) → Stands w k s → s.role ≡ Leader
+    → e.term.0 ≡ s.term.0 → IsFront (w.done k) s.log → Refines members w k (add_entry e s)
+unfolding add_entry change
+add-refines {members} {w} {k} {s} e st leads own done =
+    let t = change s.term s.vote (last s) (e ∷ []) s in
+    let role : w.role k ≡ ModelRole.Leader = st.role ∙ ap role_of leads in
+    let term : e.term.0 ≡ (w.member k).mine.term = own ∙ sym (ap (λ (l : Lane). l.term) st.lane) in
+    let longer : IsFront s.log t.log = record { rest = e ∷ []; is = sym (whole s.log e) } in
+    let first : Refines members w k t = record {
+      moves = Append k e ∷ [];
+      allowed = ((role, term), tt);
+      stands = append-stands e st leads;
+      only = append-only w k e;
+    } in
+    let second : Refines members (after w (Append k e)) k (send everyone t) =
+    send-refines {members = members} everyone (append-stands e st leads) leads (front-trans done longer) in
+    record {
+      moves = Append k e ∷ second.moves;
+      allowed = ((role, term), second.allowed);
+      stands = second.stands;
+      only = only-trans (append-only w k e) second.only;
+    }
+
+-- ---- leading
+
+lead-only : (w : World) (k : ℕ) → OnlyMoves k w (after w (Lead k))
+lead-only w k = record {
+  later = record {
+    asks = λ x here. here;
+    grants = λ x here. here;
+    acks = λ x here. here;
+    sents = λ x here. here;
+    noticed = λ q. omega arith;
+  };
+  lanes = λ l here le. here;
+  member = λ q other. refl;
+  role = λ q other. put-other k ModelRole.Leader w.role q other;
+  done = λ q other. refl;
+}
+
+-- what it is when it leads, before its first entry
+leading : Server → Server
+leading s = record s { role = Leader; leader = Some s.node; peers = map (start_peer (last s + 1)) s.peers }
+
+-- no entry of the log has the server's term
+abbrev IsBefore : Lane → Type 0
+IsBefore l = (a : List Entry) (e : Entry) → IsFront (add a e) l.log → e.term.0 ≡ l.term → ⊥
+
+lead-stands : {w : World} {k : ℕ} {s : Server} → Stands w k s → IsBefore (lane_of s)
+    → Stands (after w (Lead k)) k (leading s)
+unfolding leading
+lead-stands {w = w} {k = k} {s = s} st first =
+    let g = (lead-only w k).later in
+    record {
+      node = st.node;
+      lane = st.lane;
+      noticed = st.noticed;
+      role = put-same k ModelRole.Leader w.role;
+      commit = st.commit;
+      own_vote = λ is. absurd (leader_asks is);
+      votes = λ is. absurd (leader_asks is);
+      matches = λ is p here.
+          let m = In-map (start_peer (last s + 1)) p s.peers here in
+          inl (ap (λ (x : Peer). x.matched) m.is);
+      within = λ is p here.
+          let m = In-map (start_peer (last s + 1)) p s.peers here in
+          let next : p.next ≡ last s + 1 = ap (λ (x : Peer). x.next) m.is in
+          let matched : p.matched ≡ 0 = ap (λ (x : Peer). x.matched) m.is in
+          (omega (arith, next), omega (arith, matched));
+      itself = λ is a e front own. absurd (first a e front own);
+      waiting = λ x here. said-later g (st.waiting x here);
+      out = λ r here. way-later g (st.out r here);
+    }
+
+-- a majority of votes is durable
+elected : {members : List ℕ} {w : World} {k : ℕ} {s : Server} → IsGroup members k s.peers → Stands w k s
+    → is_elected s ≡ true → Most members (Elects w s.term.0 k)
+elected {members} {w} {k} {s} group st e =
+    let parts = and_parts (is_candidate s.role)
+    (is_majority (leb s.op s.noticed) (λ p. p.granted) s.peers) e in
+    let is : s.role ≡ Candidate = is_candidate_of s.role parts.0 in
+    majority (leb s.op s.noticed) (λ p. p.granted) k s.peers group parts.1 (λ own.
+    let v = st.own_vote is in
+    let le = leb-true s.op s.noticed own in
+    let op : v.item.op ≡ s.op = v.is.op_is in
+    let same : (w.member k).noticed ≡ s.noticed = st.noticed in
+    record {
+      grant = v.item;
+      said = v.here;
+      from = v.is.from;
+      to = v.is.to;
+      term = v.is.term_is;
+      durable = omega (arith, le, op, same);
+    }) (λ p here granted. st.votes is p here granted)
+
+lead-refines : {members : List ℕ} {w : World} {k : ℕ} {s : Server} → IsReached members w
+    → IsGroup members k s.peers → Stands w k s → is_elected s ≡ true → Refines members w k (lead s)
+unfolding lead leading
+lead-refines {members} {w} {k} {s} reached group st e =
+    let parts = and_parts (is_candidate s.role)
+    (is_majority (leb s.op s.noticed) (λ p. p.granted) s.peers) e in
+    let is : s.role ≡ Candidate = is_candidate_of s.role parts.0 in
+    let role : w.role k ≡ ModelRole.Candidate = st.role ∙ ap role_of is in
+    let most : Most members (Elects w (w.member k).mine.term k) =
+    subst (λ (l : Lane). Most members (Elects w l.term k)) (sym st.lane) (elected group st e) in
+    let done : IsFront (w.done k) s.log =
+    subst (λ (l : Lane). IsFront (w.done k) l.log) st.lane ((safe-there members w reached).done k).1 in
+    let first : IsBefore (lane_of s) =
+    subst IsBefore st.lane (candidate-first k (kept-there members w reached) role most) in
+    let rest : Refines members (after w (Lead k)) k (add_entry (noop s.term) (leading s)) =
+    add-refines {members = members} (noop s.term) (lead-stands st first) refl refl done in
+    record {
+      moves = Lead k ∷ rest.moves;
+      allowed = ((role, most), rest.allowed);
+      stands = rest.stands;
+      only = only-trans (lead-only w k) rest.only;
+    }
+
+pub lead_if-refines : {members : List ℕ} {w : World} {k : ℕ} {s : Server} → IsReached members w
+    → IsGroup members k s.peers → Stands w k s → Refines members w k (lead_if_elected s)
+unfolding lead_if_elected
+lead_if-refines {members} {w} {k} {s} reached group st =
+    cond_both (is_elected s) (lead s) s (Refines members w k)
+    (λ e. lead-refines reached group st e) (λ _. refines-refl st)
+
+-- ---- a vote is counted
+
+same_nodes : (node : NodeId) (p : Peer) → (cond (is_peer node p) (grant_peer p) p).node.0 ≡ p.node.0
+same_nodes node p =
+    cond_both (is_peer node p) (grant_peer p) p (λ (x : Peer). x.node.0 ≡ p.node.0) (λ _. refl) (λ _. refl)
+
+counted-stands : {w : World} {k : ℕ} {s : Server} (m : VotedMsg) → Stands w k s → s.role ≡ Candidate
+    → s.term.0 ≡ m.term.0 → m.to.0 ≡ k → m.granted ≡ true → IsOnItsWay w (Voted m)
+    → Stands w k (at_peer m.from grant_peer s)
+counted-stands {w = w} {k = k} {s = s} m st is term to granted x =
+    let f : Peer → Peer = λ (p : Peer). cond (is_peer m.from p) (grant_peer p) p in
+    let a = x.said.says granted in
+    let le : x.op ≤ (w.member x.node).noticed = x.durable in
+    let op : a.item.op ≡ x.op = a.is.op_is in
+    record {
+      node = st.node;
+      lane = st.lane;
+      noticed = st.noticed;
+      role = st.role;
+      commit = st.commit;
+      own_vote = st.own_vote;
+      votes = λ c p here has.
+          let y = In-map f p s.peers here in
+          let there : (f y.item).granted ≡ true = sym (ap (λ (z : Peer). z.granted) y.is) ∙ has in
+          let node : (f y.item).node.0 ≡ y.item.node.0 = same_nodes m.from y.item in
+          subst (λ (i : ℕ). Elects w s.term.0 k i)
+          (sym (ap (λ (z : Peer). z.node.0) y.is ∙ node))
+          (elim (cases_Bool (is_peer m.from y.item)) [
+            | inl same ↦
+                let from : y.item.node.0 ≡ m.from.0 = eqb-true y.item.node.0 m.from.0 same in
+                let here_is : (w.member y.item.node.0).noticed ≡ (w.member x.node).noticed =
+                ap (λ i. (w.member i).noticed) (from ∙ x.said.from) in
+                record {
+                  grant = a.item;
+                  said = a.here;
+                  from = a.is.from ∙ sym from;
+                  to = a.is.to ∙ to;
+                  term = a.is.term ∙ sym term;
+                  durable = omega (arith, le, op, here_is);
+                }
+            | inr other ↦
+                st.votes c y.item y.here
+                (subst (λ b. (cond b (grant_peer y.item) y.item).granted ≡ true) other there)
+          ]);
+      matches = λ leads. absurd (leader_asks (sym leads ∙ is));
+      within = λ leads. absurd (leader_asks (sym leads ∙ is));
+      itself = λ leads. absurd (leader_asks (sym leads ∙ is));
+      waiting = st.waiting;
+      out = st.out;
+    }
+
+-- the server and its peers stay the group
+counted-group : {members : List ℕ} {k : ℕ} (node : NodeId) (peers : List Peer) → IsGroup members k peers
+    → IsGroup members k (map (λ p. cond (is_peer node p) (grant_peer p) p) peers)
+counted-group {members} {k} node peers group =
+    let f : Peer → Peer = λ (p : Peer). cond (is_peer node p) (grant_peer p) p in
+    record {
+      count = group.count ∙ ap (λ n. n + 1) (sym (length-map peers f));
+      each = λ test.
+          let t : Peer → Bool = λ (p : Peer). test p.node.0 in
+          let same : count_by t (map f peers) ≡ count_by t peers =
+          sym (length-filter t (map f peers))
+          ∙ ap length (filter-map t f peers (λ p. ap test (same_nodes node p)))
+          ∙ length-map (filter t peers) f ∙ length-filter t peers in
+          group.each test ∙ ap (λ n. one_if (test k) + n) (sym same);
+    }
+
+count-refines : {members : List ℕ} {w : World} {k : ℕ} {s : Server} (m : VotedMsg)
+    → IsReached members w → IsGroup members k s.peers → Stands w k s → s.term.0 ≡ m.term.0 → m.to.0 ≡ k
+    → IsOnItsWay w (Voted m) → Refines members w k (count_vote m s)
+count-refines {members} {w} {k} {s} m reached group st term to x =
+    let counted = at_peer m.from grant_peer s in
+    cond_both (is_candidate s.role && m.granted) (lead_if_elected counted) s (Refines members w k)
+    (λ e.
+    let parts = and_parts (is_candidate s.role) m.granted e in
+    let is = is_candidate_of s.role parts.0 in
+    lead_if-refines reached (counted-group m.from s.peers group)
+    (counted-stands m st is term to parts.1 x))
+    (λ _. refines-refl st)
+
+pub voted-refines : {members : List ℕ} {w : World} {k : ℕ} {s : Server} (m : VotedMsg)
+    → IsReached members w → IsGroup members k s.peers → Stands w k s → m.to.0 ≡ k → IsOnItsWay w (Voted m)
+    → Refines members w k (receive (Voted m) s)
+unfolding receive accept refuse receive_voted enter
+voted-refines {members} {w} {k} {s} m reached group st to x =
+    cond_both (ltb m.term.0 s.term.0) s (accept (Voted m) s) (Refines members w k) (λ _. refines-refl st)
+    (λ e.
+    let le = ltb-false m.term.0 s.term.0 e in
+    cond_both (ltb s.term.0 m.term.0) (follow None (change m.term None (last s) [] s)) s
+    (λ (t : Server). Refines members w k (count_vote m t))
+    (λ later.
+    let lt = ltb-true s.term.0 m.term.0 later in
+    refines-change None m.term None st le (λ same. absurd (omega (arith, lt, same))))
+    (λ own.
+    let ge = ltb-false s.term.0 m.term.0 own in
+    count-refines m reached group st (omega (arith, le, ge)) to x))

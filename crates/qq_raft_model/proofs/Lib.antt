@@ -1,18 +1,28 @@
-mod Changes
-mod Dones
-mod Elections
-mod Example
-mod Grows
-pub mod Kept
-pub mod Leaders
-mod Leads
-pub mod Lists
-pub mod Logs
-pub mod Majorities
+pub mod Adding
+pub mod Agreeing
+mod Appends
+mod Counting
+mod Electing
+mod Feeding
+mod Fits
+mod GroupRestarting
+pub mod Handing
+mod Happening
+pub mod Later
+mod Leading
+pub mod Leads
+mod Learning
+mod Matches
+mod Members
+mod Moving
+mod Noticing
 mod Promises
-mod Restarts
-mod Roles
-pub mod Runs
-mod Settles
+pub mod Reached
+pub mod Refining
+pub mod Restarting
+mod Sending
+mod Standing
+pub mod Steps
+mod Terms
+mod Tied
 mod Votes
-mod Writes

@@ -1,129 +1,240 @@
--- What the invariant promises.
-use Rattle.std.proofs.Common.{◌≡◌, ◌⊎◌, ℕ, ◌≤◌, ◌<◌, List, sym, ap, subst, ◌∙◌, arith, inl, inr}
+-- What a group promises, by the protocol's promises.
+use Rattle.std.proofs.Common.{◌≡◌, ℕ, ◌≤◌, ◌<◌, true, List, [], ◌++◌, length, take, Option, Some, refl, sym, ap, subst, ◌∙◌, arith}
+use Rattle.std.proofs.lemmas.Bool.{and_parts, cond-true}
+use Rattle.std.proofs.lemmas.List.{length-append, length-take-le, take-append-le}
+use Rattle.std.specs.Prelude.{option_map}
 use Rattle.qq_base.specs.Fronts.{IsFront}
-use Rattle.qq_base.proofs.Fronts.{front-trans, front-compare}
+use Rattle.qq_base.proofs.Fronts.{front-length, front-refl, front-shorter, front-take, front-trans}
+use Rattle.qq_base.proofs.Puts.{put-same}
+use Rattle.qq_base.specs.declared.ids.NodeId.{NodeId}
+use Rattle.qq_base.specs.declared.ids.QueueId.{QueueId}
+use Rattle.qq_entry.specs.declared.command.Command.{Command}
 use Rattle.qq_entry.specs.declared.command.Entry.{Entry}
-use Rattle.qq_raft_model.specs.World.{Lane, World}
-use Rattle.qq_raft_model.specs.World.Role.{Leader}
-use Rattle.qq_raft_model.specs.Facts.{add, In, Within, Point, Cause, Stored}
-use Rattle.qq_raft_model.specs.Safe.{IsLaneOf, Keeps, IsCarried, IsElected, IsSafe}
-use Rattle.qq_raft_model.proofs.Kept.{Kept, leader_of, elects_lanes, not_empty}
-use Rattle.qq_raft_model.proofs.Majorities.{Most-map}
-use Rattle.qq_raft_model.proofs.Settles.{sure}
-use Rattle.qq_raft_model.proofs.Roles.{some_same}
-use Rattle.qq_raft_model.proofs.Logs.{front-before, In-add, In-place, Within-front}
-use Rattle.qq_raft_model.proofs.Lists.{In-front}
+use Rattle.qq_log.specs.Stable.{Stable, stable}
+use Rattle.qq_raft_protocol.specs.Facts.{add, In, Most}
+use Rattle.qq_raft_protocol.specs.Moves.{run}
+use Rattle.qq_raft_protocol.specs.Safe.{HasVoted, IsSafe, IsSupported}
+use Rattle.qq_raft_protocol.specs.World.{Role as ModelRole, Lane, World, lanes, new_world}
+use Rattle.qq_raft_protocol.proofs.Logs.{length-add}
+use Rattle.qq_raft_protocol.proofs.Majorities.{Most-map}
+use Rattle.qq_raft_protocol.proofs.Runs.{leader-run, log-run}
+use Rattle.qq_raft_msg.specs.declared.state.Role.TheVariants.{Leader}
+use Rattle.qq_raft_model.specs.Handing.{lane_in, plain_state}
+use Rattle.qq_raft_model.specs.Leading.{add_entry, send}
+use Rattle.qq_raft_model.specs.Refines.{number, role_of, Stands}
+use Rattle.qq_raft_model.specs.Server.{Input, is_ready, step, submit}
+use Rattle.qq_raft_model.specs.State.{Server, change, last, is_leader}
+use Rattle.qq_raft_model.proofs.Adding.{done-front, is_leader_of}
+use Rattle.qq_raft_model.proofs.Handing.{known-all}
+use Rattle.qq_raft_model.proofs.Leads.{whole}
+use Rattle.qq_raft_model.proofs.Reached.{kept-there, safe-there}
+use Rattle.qq_raft_model.specs.Group.{Event, Group, Seat, feed_by, group_after, happens, new_group}
+use Rattle.qq_raft_model.specs.Group.Event.{Submit}
+use Rattle.qq_raft_model.specs.Promises.{AreDistinct, HasCarried, HasLater, IsLeft, IsUp, members_of}
+use Rattle.qq_raft_model.proofs.Feeding.{same_some}
+use Rattle.qq_raft_model.proofs.Happening.{group-follows, happens-follows, new-tied}
+use Rattle.qq_raft_model.proofs.Tied.{HasLane, Follows, Tied, pending}
 
-one_leader : {members : List ℕ} {w : World} (p q : ℕ) → Kept members w → w.role p ≡ Leader → w.role q ≡ Leader
-    → (w.member p).mine.term ≡ (w.member q).mine.term → p ≡ q
-one_leader {w = w} p q k is other same =
-    some_same p q (sym (k.leader p is).leads ∙ ap w.lead same ∙ (k.leader q other).leads)
+pub follows-new : (queue : QueueId) (nodes : List NodeId) (events : List Event) → AreDistinct nodes
+    → Follows nodes new_world (new_group queue nodes) (group_after (new_group queue nodes) events)
+follows-new queue nodes events distinct =
+    group-follows events new_world (new_group queue nodes) distinct (new-tied queue nodes)
 
-logs_match : {members : List ℕ} {w : World} (p q : ℕ) (l m : Lane) → Kept members w → IsLaneOf w p l
-    → IsLaneOf w q m → (a b : List Entry) (e f : Entry) → IsFront (add a e) l.log → IsFront (add b f) m.log
-    → e.term.0 ≡ f.term.0 → IsFront (add a e) (add b f) ⊎ IsFront (add b f) (add a e)
-logs_match {w = w} p q l m k here there a b e f first second same =
-    front-compare (subst (λ (t : ℕ). IsFront (add a e) (w.hist t)) same (k.good p l here a e first))
-    (k.good q m there b f second)
+-- ---- leaders
 
--- a majority's lanes have what was committed
-carried_each : {members : List ℕ} {w : World} {t : ℕ} {x : List Entry} (k : Kept members w) (c : Cause members w t x)
-    (q : ℕ) → Stored w c.before c.entry q → (l : Lane) → IsLaneOf w q l → IsFront (add c.before c.entry) l.log
-carried_each {w = w} k c q s l here =
-    let x = s.acked in
-    let kept = k.ack q x.ack x.said x.from in
-    let durable : x.ack.op ≤ (w.member q).noticed = s.durable in
-    let noticed : (w.member q).noticed ≤ l.op = k.noticed q l here in
-    sure c.committed
-    ((kept.each l here (omega (arith, durable, noticed))).entries c.before c.entry c.point (sym x.term) x.reaches)
+stands-leader : {w : World} {k : ℕ} {s : Server} → Stands w k s → s.role ≡ Leader → w.role k ≡ ModelRole.Leader
+stands-leader st leads = st.role ∙ ap role_of leads
 
-carried_keeps : {members : List ℕ} {w : World} {t : ℕ} {x : List Entry} (k : Kept members w)
-    (c : Cause members w t x) (q : ℕ) → Stored w c.before c.entry q → Keeps (IsLaneOf w) x c.entry.term.0 q
-carried_keeps k c q s = record {
-  log = λ l here. front-trans c.front (carried_each k c q s l here);
-  reaches = λ l here. (c.before, c.entry, omega arith, c.front, carried_each k c q s l here);
-}
+same-term : {w v : World} {p q : ℕ} {s t : Server} → Stands w p s → Stands v q t → s.term.0 ≡ t.term.0
+    → (w.member p).mine.term ≡ (v.member q).mine.term
+same-term first second same =
+    ap (λ (l : Lane). l.term) first.lane ∙ same ∙ sym (ap (λ (l : Lane). l.term) second.lane)
 
-carried_later : {members : List ℕ} {w : World} {t : ℕ} {x : List Entry} (k : Kept members w)
-    (c : Cause members w t x) (q : ℕ) (l : Lane) → IsLaneOf w q l → (a : List Entry) (e : Entry)
-    → IsFront (add a e) l.log → c.entry.term.0 < e.term.0 → IsFront x l.log
-carried_later {members} {w} k c q l here a e front lt =
-    let point : Point w a e = k.good q l here a e front in
-    let led = leader_of a e k point in
-    let inside : IsFront (add c.before c.entry) (w.hist e.term.0) = sure c.committed
-    (k.safe e.term.0 led.node led.is c.before c.entry c.point lt) in
-    elim (front-compare inside point) [
-      | inl shorter ↦ front-trans c.front (front-trans shorter front)
-      | inr longer ↦
-          let le : e.term.0 ≤ c.entry.term.0 = k.hist_within c.entry.term.0 e
-          (In-front e c.point (In-front e longer (In-add a e))) in
-          absurd (omega (arith, lt, le))
-    ]
+pub one-leader : {nodes : List NodeId} (w : World) (g : Group) (events : List Event) (p q : ℕ) (s t : Server)
+    → AreDistinct nodes → Tied nodes g w → IsUp g p s → IsUp (group_after g events) q t → s.role ≡ Leader
+    → t.role ≡ Leader → s.term.0 ≡ t.term.0 → p ≡ q
+one-leader {nodes} w g events p q s t distinct tied up there leads other same =
+    let f : Follows nodes w g (group_after g events) = group-follows events w g distinct tied in
+    let first : Stands w p s = ((tied.seats p).up s up).stands in
+    let second : Stands (run w f.moves) q t = ((f.tied.seats q).up t there).stands in
+    leader-run f.moves w (kept-there (members_of nodes) w tied.reached) f.allowed p q (stands-leader first leads)
+    (stands-leader second other) (same-term first second same)
 
-carried_own : {members : List ℕ} {w : World} {t : ℕ} {x : List Entry} (k : Kept members w)
-    (c : Cause members w t x) (a : List Entry) (e : Entry) → IsFront (add a e) x → e.term.0 ≤ c.entry.term.0
-carried_own k c a e front =
-    k.hist_within c.entry.term.0 e (In-front e c.point (In-front e c.front (In-front e front (In-add a e))))
+-- ---- what is committed
 
-carried_by : {members : List ℕ} {w : World} {t : ℕ} {x : List Entry} → Kept members w → Cause members w t x
-    → IsCarried members (IsLaneOf w) x
-carried_by k c = record {
-  term = c.entry.term.0;
-  own = carried_own k c;
-  majority = Most-map (λ q s. carried_keeps k c q s) c.committed;
-  later = carried_later k c;
-}
+pub commit-within : {nodes : List NodeId} (w : World) (g : Group) (k : ℕ) (s : Server) → Tied nodes g w → IsUp g k s
+    → s.commit ≤ last s
+commit-within {nodes} w g k s tied up =
+    let st : Stands w k s = ((tied.seats k).up s up).stands in
+    let done : IsFront (w.done k) s.log = done-front {members = members_of nodes} tied.reached st in
+    let le : length (w.done k) ≤ length s.log = front-length done in
+    let same : length (w.done k) ≡ s.commit = st.commit in
+    omega (arith, le, same)
 
-cause_front : {members : List ℕ} {w : World} {t : ℕ} {x y : List Entry} → IsFront x y → Cause members w t y
-    → Cause members w t x
-cause_front p c = record {
-  before = c.before;
-  entry = c.entry;
-  term = c.term;
-  point = c.point;
-  committed = c.committed;
-  front = front-trans p c.front;
-}
+-- ---- answers
 
-carried : {members : List ℕ} {w : World} (x : List Entry) → Kept members w → IsFront x w.audit → (a : List Entry)
-    (e : Entry) → x ≡ add a e → IsCarried members (IsLaneOf w) x
-carried {members} {w} x k front a e is = elim k.audit [
-  | inl nothing ↦ absurd (not_empty a w.audit e (subst (λ y. IsFront y w.audit) is front) nothing)
-  | inr c ↦ carried_by k (cause_front front c)
-]
+-- a ready leader that adds a command
+submitted : (time : ℕ) (command : Command) (s : Server) → is_ready s ≡ true
+    → submit time command s ≡ add_entry (record { term = s.term; time = time; command = command }) s
+unfolding submit
+submitted time command s ready =
+    cond-true (is_ready s) (add_entry (record { term = s.term; time = time; command = command }) s) s ready
 
-elected_by : {members : List ℕ} {w : World} (a : List Entry) (e : Entry) → Kept members w → Point w a e
-    → IsElected members (IsLaneOf w) e.term.0
-elected_by {w = w} a e k p =
-    let led = leader_of a e k p in
+added-role : (e : Entry) (s : Server) → (add_entry e s).role ≡ s.role
+unfolding add_entry send change
+added-role e s = refl
+
+added-term : (e : Entry) (s : Server) → (add_entry e s).term.0 ≡ s.term.0
+unfolding add_entry send change
+added-term e s = refl
+
+added-log : (e : Entry) (s : Server) → (add_entry e s).log ≡ add s.log e
+unfolding add_entry send change
+added-log e s = sym (whole s.log e)
+
+-- the server after an input
+fed-up : (g : Group) (k : ℕ) (input : Input) (s : Server) → IsUp g k s
+    → IsUp (feed_by k input (g.seat k).server g) k (record (step s input) { out = [] })
+fed-up g k input s up =
+    let t = step s input in
+    ap (λ (o : Option Server). ((feed_by k input o g).seat k).server) up
+    ∙ ap (λ (x : Seat). x.server)
+    (put-same k (record { server = Some (record t { out = [] }); ops = (g.seat k).ops; noticed = t.noticed }) g.seat)
+
+pub answered : {nodes : List NodeId} (w : World) (g : Group) (k time : ℕ) (command : Command) (events : List Event)
+    (p : ℕ) (s t : Server) → AreDistinct nodes → Tied nodes g w → IsUp g k s → is_ready s ≡ true
+    → IsUp (group_after (happens (Submit k time command) g) events) p t → t.role ≡ Leader → t.term.0 ≡ s.term.0
+    → last s < t.commit
+    → IsFront (add s.log (record { term = s.term; time = time; command = command }))
+    (group_after (happens (Submit k time command) g) events).audit
+answered {nodes} w g k time command events p s t distinct tied up ready there leads same reaches =
+    let e : Entry = record { term = s.term; time = time; command = command } in
+    let h = happens (Submit k time command) g in
+    let i = group_after h events in
+    let first : Follows nodes w g h = happens-follows (Submit k time command) distinct tied in
+    let v = run w first.moves in
+    let second : Follows nodes v h i = group-follows events v h distinct first.tied in
+    let z = run v second.moves in
+    let u : Server = record (submit time command s) { out = [] } in
+    let added : IsUp h k u = fed-up g k (Input.Submit time command) s up in
+    let before : Stands v k u = ((first.tied.seats k).up u added).stands in
+    let behind : Stands z p t = ((second.tied.seats p).up t there).stands in
+    let is = submitted time command s ready in
+    let role : u.role ≡ Leader =
+    ap (λ (x : Server). x.role) is ∙ added-role e s
+    ∙ is_leader_of s.role (and_parts (is_leader s.role) _ ready).0 in
+    let term : u.term.0 ≡ t.term.0 =
+    ap (λ (x : Server). x.term.0) is ∙ added-term e s ∙ sym same in
+    let log : u.log ≡ add s.log e = ap (λ (x : Server). x.log) is ∙ added-log e s in
+    let extends : IsFront (v.member k).mine.log (z.member p).mine.log =
+    log-run second.moves v (kept-there (members_of nodes) v first.tied.reached) second.allowed k p
+    (stands-leader before role) (stands-leader behind leads) (same-term before behind term) in
+    let front : IsFront (add s.log e) t.log =
+    subst (λ (x : List Entry). IsFront x t.log) (ap (λ (l : Lane). l.log) before.lane ∙ log)
+    (subst (λ (x : List Entry). IsFront (v.member k).mine.log x) (ap (λ (l : Lane). l.log) behind.lane) extends) in
+    let le : t.commit ≤ last t = commit-within z i p t second.tied there in
+    let long : length (take t.commit t.log) ≡ t.commit = length-take-le t.commit t.log le in
+    let known : IsFront (take t.commit t.log) i.audit = ((second.tied.seats p).up t there).known in
+    front-trans
+    (front-shorter front (front-take t.commit t.log) (omega (arith, long, reaches, length-add s.log e))) known
+
+-- ---- what the disks support
+
+-- what a crash may leave is a lane of the member
+left-lane : {nodes : List NodeId} {w : World} {g : Group} (k : ℕ) (l : Lane) → Tied nodes g w → IsLeft g k l
+    → In l (lanes (w.member k))
+left-lane {w = w} {g = g} k l tied x =
+    let seat = g.seat k in
+    let n = x.upto in
+    let lost = pending seat.server in
+    let handed : n ≤ length seat.ops = x.handed in
+    let same : take n (seat.ops ++ lost) ≡ take n seat.ops = take-append-le n seat.ops lost handed in
+    let h : HasLane (w.member k) n (take n (seat.ops ++ lost)) =
+    (tied.seats k).lanes n x.noticed (omega (arith, handed, length-append seat.ops lost)) in
+    let state : x.state ≡ plain_state n h.term h.vote h.log =
+    same_some x.state (plain_state n h.term h.vote h.log) (sym x.is ∙ ap stable (sym same) ∙ h.is) in
+    let with_log : List Entry → Lane =
+    λ (log : List Entry). record { op = n; term = h.term.0; vote = option_map number h.vote; log = log } in
+    let is : l ≡ with_log h.log = x.lane_is ∙ ap lane_in state ∙ ap with_log (known-all h.log) in
+    subst (λ (y : Lane). In y (lanes (w.member k))) (sym is) h.here
+
+pub leaves-lane : {nodes : List NodeId} (w : World) (g : Group) (k upto : ℕ) → Tied nodes g w
+    → (g.seat k).noticed ≤ upto → upto ≤ length (g.seat k).ops
+    → (lane : Lane) × (lane.op ≡ upto) × IsLeft g k lane
+leaves-lane w g k upto tied late handed =
+    let seat = g.seat k in
+    let lost = pending seat.server in
+    let h : HasLane (w.member k) upto (take upto (seat.ops ++ lost)) =
+    (tied.seats k).lanes upto late (omega (arith, handed, length-append seat.ops lost)) in
+    let state : Stable = plain_state upto h.term h.vote h.log in (
+      lane_in state,
+      refl,
+      record {
+        upto = upto;
+        noticed = late;
+        handed = handed;
+        state = state;
+        is = ap stable (sym (take-append-le upto seat.ops lost handed)) ∙ h.is;
+        lane_is = refl;
+      },
+    )
+
+pub supported : {nodes : List NodeId} (w : World) (g : Group) → Tied nodes g w
+    → IsSupported (members_of nodes) (IsLeft g) g.audit
+supported {nodes} w g tied =
+    let safe : IsSafe (members_of nodes) w = safe-there (members_of nodes) w tied.reached in
     record {
-      node = led.node;
-      own = k.led led.node e.term.0 led.is;
-      majority = Most-map (λ q x l here. elects_lanes k x l here) (k.won e.term.0 led.node led.is);
+      logs_match = λ p q l m here there a b e f first second same.
+          safe.supported.logs_match p q l m (left-lane p l tied here) (left-lane q m tied there) a b e f first second
+          same;
+      carried = λ x front a e is.
+          let c = safe.supported.carried x (front-trans front tied.audit) a e is in
+          record {
+            term = c.term;
+            own = c.own;
+            majority = Most-map (λ q has. record {
+              log = λ l here. has.log l (left-lane q l tied here);
+              reaches = λ l here. has.reaches l (left-lane q l tied here);
+            }) c.majority;
+            later = λ q l here b f inside lt. c.later q l (left-lane q l tied here) b f inside lt;
+          };
+      elected = λ q l here e inside.
+          let c = safe.supported.elected q l (left-lane q l tied here) e inside in
+          record {
+            node = c.node;
+            own = λ m there. c.own m (left-lane c.node m tied there);
+            majority = Most-map (λ p voted m there. voted m (left-lane p m tied there)) c.majority;
+          };
+      terms_rise = λ q l here a e front. safe.supported.terms_rise q l (left-lane q l tied here) a e front;
     }
 
-elected : {members : List ℕ} {w : World} (q : ℕ) (l : Lane) → Kept members w → IsLaneOf w q l → (e : Entry)
-    → In e l.log → IsElected members (IsLaneOf w) e.term.0
-elected q l k here e inside =
-    let place = In-place e l.log inside in
-    elected_by place.before e k (k.good q l here place.before e place.front)
+pub supported-new : (queue : QueueId) (nodes : List NodeId) (events : List Event) → AreDistinct nodes
+    → IsSupported (members_of nodes) (IsLeft (group_after (new_group queue nodes) events))
+    (group_after (new_group queue nodes) events).audit
+supported-new queue nodes events distinct =
+    let f = follows-new queue nodes events distinct in
+    supported (run new_world f.moves) (group_after (new_group queue nodes) events) f.tied
 
-terms_rise : {members : List ℕ} {w : World} (q : ℕ) (l : Lane) → Kept members w → IsLaneOf w q l
-    → (a : List Entry) (e : Entry) → IsFront (add a e) l.log → Within e.term.0 a × (e.term.0 ≤ l.term)
-terms_rise q l k here a e front = (
-  Within-front (front-before a _ e (k.good q l here a e front)) (k.hist_within e.term.0),
-  k.within q l here e (In-front e front (In-add a e)),
-)
+-- ---- the same in words
 
-pub kept-safe : {members : List ℕ} {w : World} → Kept members w → IsSafe members w
-kept-safe {members} {w} k = record {
-  one_leader = λ p q is other same. one_leader p q k is other same;
-  supported = record {
-    logs_match = λ p q l m here there a b e f first second same.
-        logs_match p q l m k here there a b e f first second same;
-    carried = λ x front a e is. carried x k front a e is;
-    elected = λ q l here e inside. elected q l k here e inside;
-    terms_rise = λ q l here a e front. terms_rise q l k here a e front;
-  };
-  done = λ q. (k.dones q, (k.done q).front);
-}
+-- a majority of the logs that are left has each entry of the audit, and so has each that is of a later term
+pub majority-left : {members : List ℕ} {L : ℕ → Lane → Type 0} {audit : List Entry} (lane : ℕ → Lane)
+    (a : List Entry) (e : Entry) → IsSupported members L audit → ((q : ℕ) → L q (lane q))
+    → IsFront (add a e) audit
+    → (c : ℕ) × (e.term.0 ≤ c) × Most members (λ q. HasCarried (add a e) c (lane q)) ×
+    ((q : ℕ) → HasLater c (lane q).log → IsFront (add a e) (lane q).log)
+majority-left lane a e s each front =
+    let c = s.carried (add a e) front a e refl in (
+      c.term,
+      c.own a e (front-refl (add a e)),
+      Most-map (λ q has. has.reaches (lane q) (each q)) c.majority,
+      λ q x. c.later q (lane q) (each q) x.0 x.1 x.3 x.2,
+    )
+
+-- a term of an entry has a node that a majority voted for
+pub votes-left : {members : List ℕ} {L : ℕ → Lane → Type 0} {audit : List Entry} (lane : ℕ → Lane) (k : ℕ)
+    (e : Entry) → IsSupported members L audit → ((q : ℕ) → L q (lane q)) → In e (lane k).log
+    → (node : ℕ) × (e.term.0 ≤ (lane node).term) × Most members (λ q. HasVoted e.term.0 node (lane q))
+votes-left lane k e s each here =
+    let c = s.elected k (lane k) (each k) e here in
+    (c.node, c.own (lane c.node) (each c.node), Most-map (λ q voted. voted (lane q) (each q)) c.majority)

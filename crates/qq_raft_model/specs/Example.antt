@@ -1,28 +1,76 @@
--- A group of three in which node 1 is elected by itself and node 2 and commits an entry, while node 3 is away.
-use Rattle.std.specs.Prelude.{ℕ, List, [], ◌∷◌, Some}
+-- Worked steps of node 1 in a group of three.
+use Rattle.std.specs.Prelude.{ℕ, Bool, List, [], ◌∷◌, map, Option, Some}
+use Rattle.qq_base.specs.declared.ids.NodeId.{NodeId}
 use Rattle.qq_entry.specs.declared.command.Entry.{Entry}
-use Rattle.qq_raft_model.specs.World.{Ask, Sent}
-use Rattle.qq_raft_model.specs.Moves.{Move}
-use Rattle.qq_raft_model.specs.Moves.Move.{Write, Stand, Vote, Lead, Append, Send, Reply, Commit, Notice}
+use Rattle.qq_raft_msg.specs.declared.rpc.Rpc.{Rpc}
+use Rattle.qq_raft_msg.specs.declared.rpc.Rpc.TheVariants.{Vote, Append, Appended}
+use Rattle.qq_raft_msg.specs.declared.state.Role.{Role}
+use Rattle.qq_raft_model.specs.declared.peer.Peer.{Peer}
+use Rattle.qq_raft_model.specs.Leading.{noop}
+use Rattle.qq_raft_model.specs.Server.{new_peer}
+use Rattle.qq_raft_model.specs.State.{Server}
 
-abbrev pub three : List ℕ
-three = 1 ∷ 2 ∷ 3 ∷ []
+abbrev pub node : ℕ → NodeId
+node n = record { 0 = n }
 
--- what node 1 asks when it stands
-abbrev pub first_ask : Ask
-first_ask = record { from = 1; term = 1; op = 1; log = [] }
+-- an entry of a term
+abbrev pub of_term : ℕ → Entry
+of_term term = noop (record { 0 = term })
 
--- what it sends when it leads
-abbrev pub first_sent : Entry → Sent
-first_sent e = record { from = 1; term = 1; front = e ∷ []; done = [] }
+abbrev pub peer : ℕ → Peer
+peer n = new_peer (node n)
 
--- node 1 is elected
-abbrev pub election : List Move
-election =
-    Stand 1 ∷ Notice 1 1 ∷ Write 2 1 (Some 1) [] ∷ Vote 2 first_ask ∷ Notice 2 1 ∷ Lead 1 ∷ []
+-- node 1 in a term, with a log of entries of these terms, whose 5 changes are durable
+abbrev pub server : Role → ℕ → Option NodeId → List ℕ → Server
+server role term vote terms =
+    record {
+      queue = record { 0 = 1 };
+      node = node 1;
+      peers = peer 2 ∷ peer 3 ∷ [];
+      op = 5;
+      term = record { 0 = term };
+      vote = vote;
+      log = map of_term terms;
+      noticed = 5;
+      role = role;
+      leader = Some (node 1);
+      commit = 0;
+      waiting = [];
+      ops = [];
+      out = [];
+    }
 
--- and then commits an entry once node 2 and it have it durably
-abbrev pub replication : Entry → List Move
-replication e =
-    Append 1 e ∷ Send 1 (e ∷ []) [] ∷ Write 2 1 (Some 1) (e ∷ []) ∷ Reply 2 (first_sent e) ∷ Notice 2 2 ∷ Notice 1 2
-    ∷ Commit 1 [] e ∷ []
+-- ---- messages of node 2
+
+abbrev pub acknowledgement : (term index : ℕ) → Rpc
+acknowledgement term index =
+    Appended (record {
+      from = node 2;
+      to = node 1;
+      term = record { 0 = term };
+      ok = Bool.true;
+      index = record { 0 = index };
+    })
+
+-- entries of these terms behind an entry
+abbrev pub append : (term index prev_term : ℕ) → List ℕ → Rpc
+append term index prev_term terms =
+    Append (record {
+      from = node 2;
+      to = node 1;
+      term = record { 0 = term };
+      prev_index = record { 0 = index };
+      prev_term = record { 0 = prev_term };
+      commit = record { 0 = 0 };
+      entries = map of_term terms;
+    })
+
+abbrev pub vote : (from term last_index last_term : ℕ) → Rpc
+vote from term last_index last_term =
+    Vote (record {
+      from = node from;
+      to = node 1;
+      term = record { 0 = term };
+      last_index = record { 0 = last_index };
+      last_term = record { 0 = last_term };
+    })

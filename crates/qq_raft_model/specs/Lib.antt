@@ -1,5 +1,9 @@
 pub mod Example
-pub mod Facts
-pub mod Moves
-pub mod Safe
-pub mod World
+pub mod Group
+pub mod GroupExample
+pub mod Handing
+pub mod Leading
+pub mod Promises
+pub mod Refines
+pub mod Server
+pub mod State

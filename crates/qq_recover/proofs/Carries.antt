@@ -4,7 +4,7 @@ use Rattle.std.specs.List.{AllByRecursion}
 use Rattle.qq_base.specs.declared.ids.QueueId.{QueueId}
 use Rattle.qq_base.proofs.Lists.{AllByRecursion-append}
 use Rattle.qq_log.specs.declared.lane.Carry.{Carry}
-use Rattle.qq_chain.specs.Lanes.{Lanes}
+use Rattle.qq_wal_chain.specs.Lanes.{Lanes}
 use Rattle.qq_wal.specs.Marks.{IsCarry, carries_of, carry_in}
 
 module _ (lanes : Lanes) where

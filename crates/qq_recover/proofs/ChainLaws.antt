@@ -8,20 +8,20 @@ use Rattle.qq_wal_record.specs.declared.header.NoHeader.TheVariants.{Short, Magi
 use Rattle.qq_wal_record.specs.declared.record.LogRecord.{LogRecord}
 use Rattle.qq_wal_record.specs.Encoding.{record_encoding}
 use Rattle.qq_wal_record.specs.Reading.{header_at}
-use Rattle.qq_chain.specs.Records.{end_of, replay}
-use Rattle.qq_chain.specs.Chain.{Logs, Found, records_up_to, add_file, read_on, read_file, chain, newest, good_length, reading}
-use Rattle.qq_chain.specs.Promise.{found_world}
-use Rattle.qq_chain.specs.Lanes.{Lanes, add_record}
-use Rattle.qq_chain.specs.Wal.{wal, whole_header, no_lanes}
+use Rattle.qq_wal_chain.specs.Records.{end_of, replay}
+use Rattle.qq_wal_chain.specs.Chain.{Logs, Found, records_up_to, add_file, read_on, read_file, chain, newest, good_length, reading}
+use Rattle.qq_wal_chain.specs.Promise.{found_world}
+use Rattle.qq_wal_chain.specs.Lanes.{Lanes, add_record}
+use Rattle.qq_wal_chain.specs.Wal.{wal, whole_header, no_lanes}
 use Rattle.qq_recover.specs.declared.file.ChainFile.{ChainFile}
 use Rattle.qq_recover.specs.Answer.{Answer, ◌>>=◌, or_refuse, answered}
 use Rattle.qq_recover.specs.Placed.{Placed, placed}
 use Rattle.qq_recover.specs.Files.{header_of, file_of, ends_at, file_at, chain_file, chain_files}
 use Rattle.qq_recover.specs.Replay.{replay_records, replay_files}
 use Rattle.qq_disk.specs.Image.{log_of}
-use Rattle.qq_chain.specs.Format.{IsFormat}
-use Rattle.qq_chain.proofs.Replays.{replay-none}
-use Rattle.qq_chain.proofs.Running.{world-added}
+use Rattle.qq_wal_chain.specs.Format.{IsFormat}
+use Rattle.qq_wal_chain.proofs.Replays.{replay-none}
+use Rattle.qq_wal_chain.proofs.Running.{world-added}
 use Rattle.qq_recover.specs.declared.fault.RecoverFault.TheVariants.{Damaged}
 use Rattle.qq_wal.specs.Running.{top}
 use Rattle.qq_recover.specs.Reading.{lanes_read}

@@ -6,9 +6,9 @@ use Rattle.qq_disk.specs.Image.{log_of}
 use Rattle.qq_wal_record.specs.declared.header.Header.{Header}
 use Rattle.qq_wal_record.specs.declared.record.LogRecord.{LogRecord}
 use Rattle.qq_wal_record.specs.Reading.{header_at}
-use Rattle.qq_chain.specs.Format.{IsFormat}
-use Rattle.qq_chain.specs.Chain.{records_up_to}
-use Rattle.qq_chain.specs.Wal.{wal}
+use Rattle.qq_wal_chain.specs.Format.{IsFormat}
+use Rattle.qq_wal_chain.specs.Chain.{records_up_to}
+use Rattle.qq_wal_chain.specs.Wal.{wal}
 use Rattle.qq_recover.specs.declared.fault.RecoverFault.{RecoverFault}
 use Rattle.qq_recover.specs.declared.fault.RecoverFault.TheVariants.{Disk, Memory, Damaged, Version}
 use Rattle.qq_recover.specs.Answer.{Answer, ◌>>=◌, Fails}

@@ -3,8 +3,8 @@ use Rattle.std.proofs.Common.{◌∙◌, List, [], ◌∷◌, ◌++◌, Option, 
 use Rattle.qq_base.specs.declared.ids.QueueId.{QueueId}
 use Rattle.qq_log.specs.declared.lane.Lane.{Lane}
 use Rattle.qq_log.specs.Stable.{Stable}
-use Rattle.qq_chain.specs.Image.{put}
-use Rattle.qq_chain.specs.Lanes.{Lanes}
+use Rattle.qq_wal_chain.specs.Image.{put}
+use Rattle.qq_wal_chain.specs.Lanes.{Lanes}
 use Rattle.qq_recover.specs.Lanes.{Begins, AreLanes, IsAdded, AddsLane}
 
 -- what holds of all lanes, where those of one queue more are taken out

@@ -6,13 +6,13 @@ use Rattle.qq_base.specs.declared.ids.QueueId.{QueueId}
 use Rattle.qq_disk.specs.Image.{log_of}
 use Rattle.qq_wal_record.specs.declared.header.Header.{Header}
 use Rattle.qq_wal_record.specs.Reading.{header_at}
-use Rattle.qq_chain.specs.Chain.{Logs, has_header, records_up_to, good_length}
-use Rattle.qq_chain.specs.Wal.{wal}
-use Rattle.qq_chain.proofs.Walk.{newest-has, newest-within}
+use Rattle.qq_wal_chain.specs.Chain.{Logs, has_header, records_up_to, good_length}
+use Rattle.qq_wal_chain.specs.Wal.{wal}
+use Rattle.qq_wal_chain.proofs.Walk.{newest-has, newest-within}
 use Rattle.qq_recover.specs.declared.fault.RecoverFault.TheVariants.{Damaged}
 use Rattle.qq_recover.specs.declared.file.ChainFile.{ChainFile}
 use Rattle.qq_recover.specs.declared.log.Log.{Log}
-use Rattle.qq_chain.specs.Wal.{no_lanes}
+use Rattle.qq_wal_chain.specs.Wal.{no_lanes}
 use Rattle.qq_recover.specs.declared.fault.RecoverFault.{RecoverFault}
 use Rattle.qq_recover.specs.Answer.{Answer, ◌>>=◌, Fails}
 use Rattle.qq_recover.specs.Replay.{replay_files}

@@ -11,10 +11,10 @@ use Rattle.qq_disk.specs.Disk.{Disk, contents, content, IsListing, IsListed, IsR
 use Rattle.qq_disk.specs.Image.{log_of}
 use Rattle.qq_disk.proofs.Names.{same_name-true, same_name-refl}
 use Rattle.qq_wal_record.specs.Reading.{header_at}
-use Rattle.qq_chain.specs.Chain.{has_header, newest}
-use Rattle.qq_chain.specs.Format.{IsFormat}
-use Rattle.qq_chain.specs.Wal.{wal, read_whole_header}
-use Rattle.qq_chain.proofs.Walk.{newest-is, newest-has}
+use Rattle.qq_wal_chain.specs.Chain.{has_header, newest}
+use Rattle.qq_wal_chain.specs.Format.{IsFormat}
+use Rattle.qq_wal_chain.specs.Wal.{wal, read_whole_header}
+use Rattle.qq_wal_chain.proofs.Walk.{newest-is, newest-has}
 use Rattle.qq_recover.specs.Newest.{has_whole, has_log, is_among, newer, newest_of}
 use Rattle.qq_wal.specs.Running.{top}
 use Rattle.qq_recover.specs.Reading.{shown, newest_file}

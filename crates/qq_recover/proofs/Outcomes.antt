@@ -6,7 +6,7 @@ use Rattle.qq_base.specs.declared.memory.Memory.TheVariants.{Spent, Want}
 use Rattle.qq_disk.specs.Disk.{Disk, now}
 use Rattle.qq_log.specs.declared.op.Op.{Op}
 use Rattle.qq_wal_record.specs.declared.header.Header.{Header}
-use Rattle.qq_chain.specs.Lanes.{Lanes}
+use Rattle.qq_wal_chain.specs.Lanes.{Lanes}
 use Rattle.qq_wal.specs.Ranges.{ranges_in}
 use Rattle.qq_recover.specs.declared.fault.RecoverFault.{RecoverFault}
 use Rattle.qq_recover.specs.declared.fault.RecoverFault.TheVariants.{Disk as DiskFailed, Damaged, Version, Memory}

@@ -3,9 +3,9 @@ use Rattle.std.proofs.Common.{◌≡◌, List, Ok, sym, ap, subst, ◌∙◌}
 use Rattle.qq_base.specs.declared.ids.QueueId.{QueueId}
 use Rattle.qq_disk.specs.declared.name.FileName.{FileName}
 use Rattle.qq_disk.specs.Disk.{Disk, IsListing, now}
-use Rattle.qq_chain.specs.Chain.{Logs}
-use Rattle.qq_chain.specs.Promise.{sync_all}
-use Rattle.qq_chain.proofs.Settling.{shown-sync_all}
+use Rattle.qq_wal_chain.specs.Chain.{Logs}
+use Rattle.qq_wal_chain.specs.Promise.{sync_all}
+use Rattle.qq_wal_chain.proofs.Settling.{shown-sync_all}
 use Rattle.qq_wal.specs.Running.{Stays}
 use Rattle.qq_recover.specs.declared.log.Log.{Log}
 use Rattle.qq_recover.specs.declared.start.Start.{Start}

@@ -5,18 +5,18 @@ use Rattle.qq_disk.specs.Crash.{IsImage, Remains, reopen}
 use Rattle.qq_disk.specs.Disk.{Disk, now}
 use Rattle.qq_disk.proofs.Moments.{adds-now}
 use Rattle.qq_log.specs.declared.op.Op.{Op}
-use Rattle.qq_chain.specs.Chain.{Logs, reading}
-use Rattle.qq_chain.specs.Format.{IsFormat}
-use Rattle.qq_chain.specs.Image.{files_of, is_removed, logs_of}
-use Rattle.qq_chain.specs.Lanes.{IsStateOf, Lanes, RecoversLanes, of_queue}
-use Rattle.qq_chain.specs.Laws.{IsHonestImage, KeepsPromise, SettlesOn, op_records}
-use Rattle.qq_chain.specs.Promise.{found_world}
-use Rattle.qq_chain.specs.Wal.{wal}
+use Rattle.qq_wal_chain.specs.Chain.{Logs, reading}
+use Rattle.qq_wal_chain.specs.Format.{IsFormat}
+use Rattle.qq_wal_chain.specs.Image.{files_of, is_removed, logs_of}
+use Rattle.qq_wal_chain.specs.Lanes.{IsStateOf, Lanes, RecoversLanes, of_queue}
+use Rattle.qq_wal_chain.specs.Laws.{IsHonestImage, KeepsPromise, SettlesOn, op_records}
+use Rattle.qq_wal_chain.specs.Promise.{found_world}
+use Rattle.qq_wal_chain.specs.Wal.{wal}
 use Rattle.qq_base.proofs.Fronts.{front-refl, front-same}
-use Rattle.qq_chain.proofs.Images.{shown-image}
-use Rattle.qq_chain.proofs.Promised.{crash-keeps}
-use Rattle.qq_chain.proofs.Queues.{recovers-lanes}
-use Rattle.qq_chain.proofs.Recovery.{reopened-image}
+use Rattle.qq_wal_chain.proofs.Images.{shown-image}
+use Rattle.qq_wal_chain.proofs.Promised.{crash-keeps}
+use Rattle.qq_wal_chain.proofs.Queues.{recovers-lanes}
+use Rattle.qq_wal_chain.proofs.Recovery.{reopened-image}
 use Rattle.qq_wal.specs.Running.{StillHolds, Stays, lanes_shown, top}
 use Rattle.qq_recover.specs.declared.fault.RecoverFault.{RecoverFault}
 use Rattle.qq_recover.specs.declared.fault.RecoverFault.TheVariants.{Disk as DiskFailed, Damaged, Version, Memory}

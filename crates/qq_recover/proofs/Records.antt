@@ -7,13 +7,13 @@ use Rattle.qq_wal_record.specs.declared.record.LogRecord.{LogRecord}
 use Rattle.qq_wal_record.specs.declared.record.NoRecord.{NoRecord}
 use Rattle.qq_wal_record.specs.Encoding.{record_encoding}
 use Rattle.qq_wal_record.specs.Reading.{record_at}
-use Rattle.qq_chain.specs.Format.{IsFormat}
-use Rattle.qq_chain.specs.Records.{encode_all, records, end_of, file_records}
-use Rattle.qq_chain.specs.Chain.{records_up_to}
-use Rattle.qq_chain.specs.Wal.{wal, record_of, read_record}
-use Rattle.qq_chain.proofs.Codec.{real-same}
-use Rattle.qq_chain.proofs.Runs.{records-some, records-none}
-use Rattle.qq_chain.proofs.Running.{good-records}
+use Rattle.qq_wal_chain.specs.Format.{IsFormat}
+use Rattle.qq_wal_chain.specs.Records.{encode_all, records, end_of, file_records}
+use Rattle.qq_wal_chain.specs.Chain.{records_up_to}
+use Rattle.qq_wal_chain.specs.Wal.{wal, record_of, read_record}
+use Rattle.qq_wal_chain.proofs.Codec.{real-same}
+use Rattle.qq_wal_chain.proofs.Runs.{records-some, records-none}
+use Rattle.qq_wal_chain.proofs.Running.{good-records}
 use Rattle.qq_recover.specs.Placed.{Placed, placed}
 use Rattle.qq_recover.specs.Files.{good_bytes, good_end}
 

@@ -20,11 +20,11 @@ use Rattle.qq_log.specs.Stable.{Stable, new_state, apply_op, change, follows, la
 use Rattle.qq_wal_record.specs.declared.header.Header.{Header}
 use Rattle.qq_wal_record.specs.declared.record.LogRecord.{LogRecord}
 use Rattle.qq_wal_record.specs.declared.record.LogRecord.TheVariants.{Op as OpRecord, Carry as CarryRecord}
-use Rattle.qq_chain.specs.Chain.{Logs, good_length}
-use Rattle.qq_chain.specs.Image.{put}
-use Rattle.qq_chain.specs.Lanes.{Lanes, add_carry, add_op, add_record, has_entries, is_carry_within_ends, is_change, is_listed, is_op_within_ends, is_plain, is_within_end, put_lane}
-use Rattle.qq_chain.specs.Wal.{no_lanes, wal}
-use Rattle.qq_chain.proofs.Walk.{put-at, put-other}
+use Rattle.qq_wal_chain.specs.Chain.{Logs, good_length}
+use Rattle.qq_wal_chain.specs.Image.{put}
+use Rattle.qq_wal_chain.specs.Lanes.{Lanes, add_carry, add_op, add_record, has_entries, is_carry_within_ends, is_change, is_listed, is_op_within_ends, is_plain, is_within_end, put_lane}
+use Rattle.qq_wal_chain.specs.Wal.{no_lanes, wal}
+use Rattle.qq_wal_chain.proofs.Walk.{put-at, put-other}
 use Rattle.qq_wal.specs.declared.ranges.QueueRanges.{QueueRanges}
 use Rattle.qq_wal.specs.Entries.{IsRangeOf, LieAs, files_behind}
 use Rattle.qq_wal.specs.Ranges.{AllRanges, as_indices, begin_file, begin_files, begin_queue, change_by, enter_file, in_file, in_file_by, list_queue, new_ranges, no_queues, places_of, put_ranges, ranges_in, ranges_of, write, write_op_in}

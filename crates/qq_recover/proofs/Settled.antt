@@ -5,15 +5,15 @@ use Rattle.qq_disk.specs.declared.name.FileName.{FileName}
 use Rattle.qq_disk.specs.Name.{same_name}
 use Rattle.qq_disk.specs.Disk.{Disk, sync, keep, contents, IsListing}
 use Rattle.qq_disk.specs.Image.{log_of}
-use Rattle.qq_chain.specs.Format.{IsFormat}
-use Rattle.qq_chain.specs.Image.{Files, put, files_of, shown_logs}
-use Rattle.qq_chain.specs.Laws.{IsSettledDisk}
-use Rattle.qq_chain.specs.Promise.{sync_all}
-use Rattle.qq_chain.specs.Wal.{wal}
-use Rattle.qq_chain.proofs.Bridge.{IsLogName, which-kind, sync-of-log, set-other-kind}
-use Rattle.qq_chain.proofs.Images.{shown-image}
-use Rattle.qq_chain.proofs.Recovery.{sync-image, put-removed}
-use Rattle.qq_chain.proofs.Settling.{all-settled, shown-sync-by}
+use Rattle.qq_wal_chain.specs.Format.{IsFormat}
+use Rattle.qq_wal_chain.specs.Image.{Files, put, files_of, shown_logs}
+use Rattle.qq_wal_chain.specs.Laws.{IsSettledDisk}
+use Rattle.qq_wal_chain.specs.Promise.{sync_all}
+use Rattle.qq_wal_chain.specs.Wal.{wal}
+use Rattle.qq_wal_chain.proofs.Bridge.{IsLogName, which-kind, sync-of-log, set-other-kind}
+use Rattle.qq_wal_chain.proofs.Images.{shown-image}
+use Rattle.qq_wal_chain.proofs.Recovery.{sync-image, put-removed}
+use Rattle.qq_wal_chain.proofs.Settling.{all-settled, shown-sync-by}
 use Rattle.qq_wal.specs.Running.{top}
 use Rattle.qq_recover.specs.Recovery.{IgnoresRemoved, MayRecover}
 

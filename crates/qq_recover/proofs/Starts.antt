@@ -7,14 +7,14 @@ use Rattle.qq_disk.specs.declared.name.FileKind.TheVariants.{Log as OfLog}
 use Rattle.qq_disk.specs.declared.name.FileName.{FileName}
 use Rattle.qq_disk.specs.Disk.{Disk, IsListed, IsListing}
 use Rattle.qq_disk.specs.Image.{log_of}
-use Rattle.qq_chain.specs.Chain.{Logs, Found, Reading, has_header, newest, reading}
-use Rattle.qq_chain.specs.Format.{IsFormat}
-use Rattle.qq_chain.specs.Lanes.{Lanes}
-use Rattle.qq_chain.specs.Laws.{IsSettledDisk}
-use Rattle.qq_chain.specs.Promise.{found_world}
-use Rattle.qq_chain.specs.Wal.{wal}
-use Rattle.qq_chain.proofs.Settling.{shown-sync_all}
-use Rattle.qq_chain.proofs.Walk.{newest-has}
+use Rattle.qq_wal_chain.specs.Chain.{Logs, Found, Reading, has_header, newest, reading}
+use Rattle.qq_wal_chain.specs.Format.{IsFormat}
+use Rattle.qq_wal_chain.specs.Lanes.{Lanes}
+use Rattle.qq_wal_chain.specs.Laws.{IsSettledDisk}
+use Rattle.qq_wal_chain.specs.Promise.{found_world}
+use Rattle.qq_wal_chain.specs.Wal.{wal}
+use Rattle.qq_wal_chain.proofs.Settling.{shown-sync_all}
+use Rattle.qq_wal_chain.proofs.Walk.{newest-has}
 use Rattle.qq_wal.specs.Marks.{carries_of}
 use Rattle.qq_wal.specs.Numbers.{greatest_number}
 use Rattle.qq_wal.specs.Running.{MayBegin, lanes_shown, reading_of, top}

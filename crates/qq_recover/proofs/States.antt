@@ -17,7 +17,7 @@ use Rattle.qq_log.specs.declared.op.Op.TheVariants.{Change}
 use Rattle.qq_log.specs.declared.head.Span.{Span}
 use Rattle.qq_log.specs.Stable.{Stable, new_state, last_index, act, apply_op, change, carry_of, take_carry, state_of, restates}
 use Rattle.qq_log.specs.Writable.{IsVote, IsSegment, IsWritableCarry}
-use Rattle.qq_chain.specs.Lanes.{is_within_end, is_head_within_ends, is_op_within_ends, is_carry_within_ends, is_plain}
+use Rattle.qq_wal_chain.specs.Lanes.{is_within_end, is_head_within_ends, is_op_within_ends, is_carry_within_ends, is_plain}
 use Rattle.qq_recover.specs.State.{known_state, IsCarried, state_with_op, state_with_carry}
 
 abbrev pub carry_with : QueueId → ℕ → Term → Option NodeId → SnapshotHead → ℕ → List Span → ℕ → Carry

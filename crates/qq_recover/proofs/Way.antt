@@ -6,8 +6,8 @@ use Rattle.qq_wal_record.specs.declared.header.Header.{Header}
 use Rattle.qq_wal_record.specs.declared.header.NoHeader.{NoHeader}
 use Rattle.qq_wal_record.specs.declared.header.NoHeader.TheVariants.{Short, Magic, Mark, Version}
 use Rattle.qq_wal_record.specs.Reading.{header_at}
-use Rattle.qq_chain.specs.Chain.{Logs, records_up_to, good_length}
-use Rattle.qq_chain.specs.Wal.{wal}
+use Rattle.qq_wal_chain.specs.Chain.{Logs, records_up_to, good_length}
+use Rattle.qq_wal_chain.specs.Wal.{wal}
 use Rattle.qq_disk.specs.Image.{log_of}
 use Rattle.qq_recover.specs.declared.fault.RecoverFault.{RecoverFault}
 use Rattle.qq_recover.specs.declared.fault.RecoverFault.TheVariants.{Disk, Memory, Damaged, Version as OtherVersion}

@@ -6,8 +6,8 @@ use Rattle.qq_log.specs.declared.op.Op.{Op}
 use Rattle.qq_log.specs.Op.{queue}
 use Rattle.qq_wal_record.specs.declared.record.LogRecord.{LogRecord}
 use Rattle.qq_wal_record.specs.declared.record.LogRecord.TheVariants.{Op as OpRecord, Carry as CarryRecord}
-use Rattle.qq_chain.specs.Chain.{Logs}
-use Rattle.qq_chain.specs.Lanes.{is_within_end}
+use Rattle.qq_wal_chain.specs.Chain.{Logs}
+use Rattle.qq_wal_chain.specs.Lanes.{is_within_end}
 use Rattle.qq_wal.specs.Entries.{files_behind}
 use Rattle.qq_wal.specs.Notices.{last_index}
 use Rattle.qq_wal.specs.Ranges.{AllRanges, ranges_of, write_op_in}

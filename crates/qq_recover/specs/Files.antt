@@ -8,9 +8,9 @@ use Rattle.qq_wal_record.specs.declared.header.NoHeader.TheVariants as no_header
 use Rattle.qq_wal_record.specs.declared.header.TheConstants.{HEADER_LEN}
 use Rattle.qq_wal_record.specs.declared.record.LogRecord.{LogRecord}
 use Rattle.qq_wal_record.specs.Reading.{header_at}
-use Rattle.qq_chain.specs.Records.{end_of, file_records}
-use Rattle.qq_chain.specs.Chain.{Logs, records_up_to, good_length}
-use Rattle.qq_chain.specs.Wal.{wal}
+use Rattle.qq_wal_chain.specs.Records.{end_of, file_records}
+use Rattle.qq_wal_chain.specs.Chain.{Logs, records_up_to, good_length}
+use Rattle.qq_wal_chain.specs.Wal.{wal}
 use Rattle.qq_recover.specs.declared.fault.RecoverFault.TheVariants.{Damaged, Version}
 use Rattle.qq_recover.specs.declared.file.ChainFile.{ChainFile}
 use Rattle.qq_recover.specs.Placed.{placed}

@@ -3,8 +3,8 @@ use Rattle.std.specs.Prelude.{ℕ, Bool, false, List, [], ◌∷◌, Option, Som
 use Rattle.std.specs.List.{list_any}
 use Rattle.qq_disk.specs.declared.name.FileName.{FileName}
 use Rattle.qq_disk.specs.Name.{rank, same_name}
-use Rattle.qq_chain.specs.Chain.{Logs}
-use Rattle.qq_chain.specs.Wal.{read_whole_header}
+use Rattle.qq_wal_chain.specs.Chain.{Logs}
+use Rattle.qq_wal_chain.specs.Wal.{read_whole_header}
 
 abbrev pub is_among : List FileName → FileName → Bool
 is_among names file = list_any (λ name. same_name name file) names

@@ -2,10 +2,10 @@
 use Rattle.std.specs.Prelude.{ℕ, List}
 use Rattle.qq_base.specs.declared.ids.QueueId.{QueueId}
 use Rattle.qq_disk.specs.Disk.{Disk}
-use Rattle.qq_chain.specs.Chain.{Logs, newest, good_length}
-use Rattle.qq_chain.specs.Image.{files_of, shown_logs}
-use Rattle.qq_chain.specs.Lanes.{Lanes}
-use Rattle.qq_chain.specs.Wal.{wal, no_lanes}
+use Rattle.qq_wal_chain.specs.Chain.{Logs, newest, good_length}
+use Rattle.qq_wal_chain.specs.Image.{files_of, shown_logs}
+use Rattle.qq_wal_chain.specs.Lanes.{Lanes}
+use Rattle.qq_wal_chain.specs.Wal.{wal, no_lanes}
 use Rattle.qq_wal.specs.Running.{top}
 use Rattle.qq_recover.specs.declared.file.ChainFile.{ChainFile}
 use Rattle.qq_recover.specs.Answer.{Answer, ◌>>=◌}

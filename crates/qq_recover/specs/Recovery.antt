@@ -4,11 +4,11 @@ use Rattle.qq_base.specs.declared.ids.QueueId.{QueueId}
 use Rattle.qq_disk.specs.Disk.{Disk}
 use Rattle.qq_log.specs.declared.op.Op.{Op}
 use Rattle.qq_base.specs.Fronts.{IsFront}
-use Rattle.qq_chain.specs.Chain.{Logs, reading}
-use Rattle.qq_chain.specs.Image.{Files, IsLogImage, files_of, is_removed}
-use Rattle.qq_chain.specs.Lanes.{Lanes, IsStateOf, RecoversLanes, of_queue}
-use Rattle.qq_chain.specs.Laws.{HoldsOps, KeepsPromise}
-use Rattle.qq_chain.specs.Wal.{wal}
+use Rattle.qq_wal_chain.specs.Chain.{Logs, reading}
+use Rattle.qq_wal_chain.specs.Image.{Files, IsLogImage, files_of, is_removed}
+use Rattle.qq_wal_chain.specs.Lanes.{Lanes, IsStateOf, RecoversLanes, of_queue}
+use Rattle.qq_wal_chain.specs.Laws.{HoldsOps, KeepsPromise}
+use Rattle.qq_wal_chain.specs.Wal.{wal}
 use Rattle.qq_wal.specs.Running.{top}
 use Rattle.qq_recover.specs.Reading.{shown, lanes_read}
 

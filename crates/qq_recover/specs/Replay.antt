@@ -2,7 +2,7 @@
 use Rattle.std.specs.Prelude.{ℕ, List, [], ◌∷◌, Ok}
 use Rattle.qq_base.specs.declared.ids.QueueId.{QueueId}
 use Rattle.qq_disk.specs.Image.{log_of}
-use Rattle.qq_chain.specs.Lanes.{Lanes, add_record}
+use Rattle.qq_wal_chain.specs.Lanes.{Lanes, add_record}
 use Rattle.qq_recover.specs.declared.fault.RecoverFault.TheVariants.{Damaged}
 use Rattle.qq_recover.specs.declared.file.ChainFile.{ChainFile}
 use Rattle.qq_recover.specs.Placed.{Placed}

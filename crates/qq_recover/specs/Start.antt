@@ -4,7 +4,7 @@ use Rattle.qq_base.specs.declared.ids.QueueId.{QueueId}
 use Rattle.qq_base.specs.declared.memory.TheConstants.{NUMBER_END}
 use Rattle.qq_disk.specs.declared.name.FileKind.TheVariants.{Log as OfLog}
 use Rattle.qq_disk.specs.Disk.{Disk, IsListing}
-use Rattle.qq_chain.specs.Promise.{sync_all}
+use Rattle.qq_wal_chain.specs.Promise.{sync_all}
 use Rattle.qq_wal.specs.Marks.{IsCarry, carries_of}
 use Rattle.qq_wal.specs.Numbers.{greatest_number}
 use Rattle.qq_wal.specs.Ranges.{ranges_in}

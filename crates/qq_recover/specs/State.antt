@@ -11,7 +11,7 @@ use Rattle.qq_log.specs.Lane.{IsLaneOf}
 use Rattle.qq_log.specs.declared.op.Op.{Op}
 use Rattle.qq_log.specs.Stable.{Stable, new_state, apply_op, take_carry, carry_of}
 use Rattle.qq_log.specs.Writable.{IsVote}
-use Rattle.qq_chain.specs.Lanes.{is_op_within_ends, is_carry_within_ends, is_change, is_plain, has_entries}
+use Rattle.qq_wal_chain.specs.Lanes.{is_op_within_ends, is_carry_within_ends, is_change, is_plain, has_entries}
 
 -- all entries are known, and no segment has any
 abbrev pub known_state : ℕ → Term → Option NodeId → SnapshotHead → ℕ → List Entry → Stable

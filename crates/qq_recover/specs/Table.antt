@@ -4,7 +4,7 @@ use Rattle.std.specs.Ordering.{nat_cmp, is_eq}
 use Rattle.std.specs.BTreeMap.{get}
 use Rattle.qq_base.specs.declared.ids.QueueId.{QueueId}
 use Rattle.qq_log.specs.Stable.{Stable}
-use Rattle.qq_chain.specs.Lanes.{Lanes, is_listed}
+use Rattle.qq_wal_chain.specs.Lanes.{Lanes, is_listed}
 use Rattle.qq_recover.specs.declared.table.Table.{Table}
 
 -- a row: None where the queue isn't listed

@@ -1,7 +1,7 @@
 //! Where the entries lie that are read.
 ghost use Rattle.std.specs.Prelude.{◌≡◌, ◌<◌, length, slice_index_or, IfOk, OnOk, IsOkUnless};
 ghost use Rattle.std.specs.List.{fold};
-ghost use Rattle.qq_chain.specs.Lanes.{is_within_end};
+ghost use Rattle.qq_wal_chain.specs.Lanes.{is_within_end};
 ghost use Rattle.qq_wal.specs.Notices.{last_index};
 ghost use Rattle.qq_wal.specs.Ranges.{ranges_in, ranges_of};
 ghost use Rattle.qq_recover.specs.declared.file.ChainFile.{ChainFile};

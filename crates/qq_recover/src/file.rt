@@ -3,9 +3,9 @@ ghost use Rattle.std.specs.Prelude.{◌≡◌, ◌+◌, ◌≤◌, ◌<◌, ◌^
 ghost use Rattle.qq_base.specs.declared.ids.QueueId.{QueueId};
 ghost use Rattle.qq_wal_record.specs.Record.{IsWritable};
 ghost use Rattle.qq_wal_record.specs.declared.header.TheConstants.{HEADER_LEN};
-ghost use Rattle.qq_chain.specs.Records.{encode_all, records};
+ghost use Rattle.qq_wal_chain.specs.Records.{encode_all, records};
 ghost use Rattle.qq_wal_record.specs.Reading.{IsRecordAt};
-ghost use Rattle.qq_chain.specs.Wal.{wal, read_record};
+ghost use Rattle.qq_wal_chain.specs.Wal.{wal, read_record};
 ghost use Rattle.qq_recover.specs.Answer.{Gives};
 ghost use Rattle.qq_recover.specs.Fault.{IsOfBytes};
 ghost use Rattle.qq_disk.specs.Image.{log_of};
@@ -14,8 +14,8 @@ ghost use Rattle.qq_recover.specs.Placed.{placed};
 
 use crate::fault::RecoverFault;
 use qq_base::{Items, Memory};
-use qq_chain::the_log_has_a_format;
 use qq_disk::{FileKind, FileName};
+use qq_wal_chain::the_log_has_a_format;
 use qq_wal_record::{Header, LogRecord, NoHeader, NoRecord, read_header, read_record};
 use std::alloc::Global;
 use std::marker::Model;

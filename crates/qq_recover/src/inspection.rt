@@ -2,7 +2,7 @@
 ghost use Rattle.std.specs.Prelude.{◌≡◌, List, Ok, IsTrue, IfOk, IfErr, OnOk, IsOkUnless};
 ghost use Rattle.qq_base.specs.Causes.{HasCause};
 ghost use Rattle.qq_disk.specs.Disk.{now};
-ghost use Rattle.qq_chain.specs.Lanes.{Lanes};
+ghost use Rattle.qq_wal_chain.specs.Lanes.{Lanes};
 ghost use Rattle.qq_recover.specs.Answer.{Fails};
 ghost use Rattle.qq_recover.specs.Fault.{IsCaused};
 ghost use Rattle.qq_recover.specs.Lanes.{AreLanes, AddsLane};

@@ -15,12 +15,12 @@ ghost use Rattle.qq_disk.specs.Image.{log_of};
 ghost use Rattle.qq_disk.specs.declared.name.FileName.{FileName};
 ghost use Rattle.qq_log.specs.declared.op.Op.{Op};
 ghost use Rattle.qq_log.specs.declared.op.Op.TheVariants.{Change};
-ghost use Rattle.qq_chain.specs.Chain.{Logs, reading};
-ghost use Rattle.qq_chain.specs.Image.{files_of, is_removed};
-ghost use Rattle.qq_chain.specs.Laws.{HoldsOps, IsHonestImage, KeepsPromise};
-ghost use Rattle.qq_chain.specs.Promise.{found_world};
-ghost use Rattle.qq_chain.specs.Wal.{wal};
-ghost use Rattle.qq_chain.specs.Lanes.{Lanes, is_listed, of_queue};
+ghost use Rattle.qq_wal_chain.specs.Chain.{Logs, reading};
+ghost use Rattle.qq_wal_chain.specs.Image.{files_of, is_removed};
+ghost use Rattle.qq_wal_chain.specs.Laws.{HoldsOps, IsHonestImage, KeepsPromise};
+ghost use Rattle.qq_wal_chain.specs.Promise.{found_world};
+ghost use Rattle.qq_wal_chain.specs.Wal.{wal};
+ghost use Rattle.qq_wal_chain.specs.Lanes.{Lanes, is_listed, of_queue};
 ghost use Rattle.qq_recover.specs.Answer.{Answer, Fails, answered};
 ghost use Rattle.qq_recover.specs.Fault.{IsCaused};
 ghost use Rattle.qq_recover.specs.declared.fault.RecoverFault.{RecoverFault};
@@ -41,8 +41,8 @@ ghost use Rattle.qq_recover.specs.Reading.{files_read, lanes_read, shown};
 ghost use Rattle.qq_recover.specs.Recovered.{IsBegunBehind, IsNoRefusal, IsRecoverCaused, IsSpentOn, KnowsLanes, lanes_left, wal_of};
 ghost use Rattle.qq_recover.specs.Recovery.{IsReadable, MayRecover, SettlesLanes};
 
-use qq_chain::the_log_has_a_format;
 use qq_disk::NodeDisk;
+use qq_wal_chain::the_log_has_a_format;
 
 /// The lanes that recovery reads are what the chain of files comes to, and it refuses exactly where
 /// the chain is damaged.

@@ -4,14 +4,14 @@ ghost use Rattle.qq_base.specs.declared.ids.QueueId.{QueueId};
 ghost use Rattle.qq_base.specs.Causes.{HasCause};
 ghost use Rattle.qq_disk.specs.Disk.{now, content, IsListing};
 ghost use Rattle.qq_disk.specs.Fault.{IsCaused};
-ghost use Rattle.qq_chain.specs.Wal.{read_whole_header};
+ghost use Rattle.qq_wal_chain.specs.Wal.{read_whole_header};
 ghost use Rattle.qq_recover.specs.Newest.{has_log, is_among, newer_log, newer};
 ghost use Rattle.qq_recover.specs.Reading.{shown, newest_file};
 ghost use Rattle.qq_recover.specs.ReadOnly.{OnlyReads};
 
 use crate::file::log_of;
-use qq_chain::the_log_has_a_format;
 use qq_disk::{DiskFault, FileKind, FileName, NodeDisk};
+use qq_wal_chain::the_log_has_a_format;
 use qq_wal_record::{NoHeader, read_header};
 use std::alloc::Global;
 

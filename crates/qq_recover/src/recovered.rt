@@ -1,6 +1,6 @@
 //! What recovery gives: the lanes, and the log.
 ghost use Rattle.std.specs.Prelude.{◌≡◌, None};
-ghost use Rattle.qq_chain.specs.Image.{put};
+ghost use Rattle.qq_wal_chain.specs.Image.{put};
 ghost use Rattle.qq_recover.specs.Recovered.{IsLaneFor, lanes_left, wal_of};
 
 use crate::table::Table;

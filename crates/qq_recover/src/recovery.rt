@@ -4,7 +4,7 @@ ghost use Rattle.qq_base.specs.declared.memory.TheConstants.{NUMBER_END};
 ghost use Rattle.qq_disk.specs.Disk.{now, IsListed};
 ghost use Rattle.qq_disk.specs.Image.{log_of};
 ghost use Rattle.qq_log.specs.declared.op.Op.{Op};
-ghost use Rattle.qq_chain.specs.Laws.{KeepsPromise};
+ghost use Rattle.qq_wal_chain.specs.Laws.{KeepsPromise};
 ghost use Rattle.qq_wal.specs.Fault.{IsCaused as IsWalCaused};
 ghost use Rattle.qq_wal.specs.Ranges.{ranges_in};
 ghost use Rattle.qq_wal.specs.Running.{MayBegin, StillHolds, Stays, StaysWhole, top};
@@ -20,9 +20,9 @@ use crate::fault::RecoverFault;
 use crate::recovered::Recovered;
 use crate::start::{Start, prepare};
 use qq_base::{Memory, QueueId};
-use qq_chain::{syncs_settle_what_is_read, the_log_has_a_format};
 use qq_disk::NodeDisk;
 use qq_wal::{Wal, WalFault};
+use qq_wal_chain::{syncs_settle_what_is_read, the_log_has_a_format};
 use std::alloc::Global;
 
 /// The log's fault as it is begun.

@@ -4,11 +4,11 @@ ghost use Rattle.qq_base.specs.declared.ids.QueueId.{QueueId};
 ghost use Rattle.qq_base.specs.Causes.{HasCause};
 ghost use Rattle.qq_disk.specs.Disk.{now, sync};
 ghost use Rattle.qq_disk.specs.Fault.{IsCaused};
-ghost use Rattle.qq_chain.specs.Promise.{sync_all};
+ghost use Rattle.qq_wal_chain.specs.Promise.{sync_all};
 ghost use Rattle.qq_wal.specs.Running.{Stays, StaysWhole};
 
-use qq_chain::the_log_has_a_format;
 use qq_disk::{DiskFault, FileName, NodeDisk};
+use qq_wal_chain::the_log_has_a_format;
 use std::alloc::Global;
 
 /// Syncs a file.

@@ -7,7 +7,7 @@ ghost use Rattle.qq_log.specs.Stable.{new_state, carry_of, restates};
 ghost use Rattle.qq_log.specs.Writable.{IsWritable, IsWritableCarry, IsVote};
 ghost use Rattle.qq_log.specs.Same.{same_vote, same_carry};
 ghost use Rattle.qq_log.specs.declared.op.Op.TheVariants.{Change};
-ghost use Rattle.qq_chain.specs.Lanes.{is_within_end, is_carry_within_ends, is_op_within_ends, is_head_within_ends, is_plain};
+ghost use Rattle.qq_wal_chain.specs.Lanes.{is_within_end, is_carry_within_ends, is_op_within_ends, is_head_within_ends, is_plain};
 ghost use Rattle.qq_recover.specs.State.{state_with_op, state_with_carry, IsPlainLaneOf};
 
 use qq_base::{Index, Memory, NUMBER_END, NodeId, QueueId, Term};

@@ -6,9 +6,9 @@ ghost use Rattle.qq_base.specs.declared.ids.QueueId.{QueueId};
 ghost use Rattle.qq_log.specs.Writable.{IsWritable as IsWritableOp, IsWritableCarry};
 ghost use Rattle.qq_wal_record.specs.Record.{IsWritable};
 ghost use Rattle.qq_wal_record.specs.declared.record.LogRecord.TheVariants.{Op as OpRecord, Carry as CarryRecord};
-ghost use Rattle.qq_chain.specs.Image.{put};
-ghost use Rattle.qq_chain.specs.Lanes.{add_record};
-ghost use Rattle.qq_chain.specs.Wal.{no_lanes};
+ghost use Rattle.qq_wal_chain.specs.Image.{put};
+ghost use Rattle.qq_wal_chain.specs.Lanes.{add_record};
+ghost use Rattle.qq_wal_chain.specs.Wal.{no_lanes};
 ghost use Rattle.qq_recover.specs.Table.{set_row, lanes_of, Lists, Fit};
 
 use crate::state::{State, state_with_carry, state_with_op};

@@ -3,8 +3,8 @@ ghost use Rattle.std.specs.Prelude.{◌≡◌, List, IsTrue};
 ghost use Rattle.qq_base.specs.declared.ids.QueueId.{QueueId};
 ghost use Rattle.qq_base.specs.Causes.{HasCause};
 ghost use Rattle.qq_disk.specs.Disk.{now, IsListing};
-ghost use Rattle.qq_chain.specs.Chain.{good_length};
-ghost use Rattle.qq_chain.specs.Wal.{wal};
+ghost use Rattle.qq_wal_chain.specs.Chain.{good_length};
+ghost use Rattle.qq_wal_chain.specs.Wal.{wal};
 ghost use Rattle.qq_recover.specs.Answer.{Gives};
 ghost use Rattle.qq_recover.specs.Fault.{IsCaused};
 ghost use Rattle.qq_recover.specs.Files.{chain_files};
@@ -15,8 +15,8 @@ ghost use Rattle.qq_recover.specs.ReadOnly.{OnlyReads};
 use crate::fault::RecoverFault;
 use crate::file::{ChainFile, file_at};
 use crate::read::read_listed;
-use qq_chain::the_log_has_a_format;
 use qq_disk::{FileName, NodeDisk};
+use qq_wal_chain::the_log_has_a_format;
 use std::alloc::Global;
 
 /// The files of the chain from one back, the newest first, each with its records as far as it is good.

@@ -8,6 +8,7 @@ mod commands;
 mod consumers;
 mod queue;
 mod rows;
+mod run;
 mod serial;
 mod serving;
 mod step;
@@ -15,4 +16,5 @@ mod table;
 
 pub use qq_base::{Index, Memory};
 pub use qq_entry::{Answer, Effect, Entry, QueueArgs};
+pub use run::{Applied, replay};
 pub use serial::Serial;

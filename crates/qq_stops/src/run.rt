@@ -4,8 +4,7 @@ use crate::texts::{script, was_confirmed, was_got};
 use crate::yard::{StoppingYard, Stops};
 use anyhow::{Result, ensure};
 use qq_broker::run;
-use qq_ports::{MemSink, MemSource};
-use qq_yards::Yard;
+use qq_ports::{MemSink, MemSource, Yard};
 use std::alloc::Global;
 
 /// What crashes leave of what waits for a sync.

@@ -1,15 +1,14 @@
 //! A node is opened over a disk that somebody else has written.
 ghost use Rattle.std.specs.Prelude.{IsOkUnless};
 ghost use Rattle.qq_base.specs.declared.memory.Memory.TheVariants.{Want};
-ghost use Rattle.qq_yards.specs.declared.fault.YardFault.TheVariants.{Memory as OfMemory};
+ghost use Rattle.qq_ports.specs.declared.yard_fault.YardFault.TheVariants.{Memory as OfMemory};
 
 use crate::run::{new_sink, serve};
 use crate::untold::Untold;
 use anyhow::{Result, ensure};
 use qq_base::{Memory, NodeId};
 use qq_disk::{FileKind, FileName, Image, NodeDisk};
-use qq_ports::MemSink;
-use qq_yards::{Yard, YardFault};
+use qq_ports::{MemSink, Yard, YardFault};
 use std::alloc::Global;
 
 /// A log file, the worked one of `docs/STORAGE.md`: its header, and the first op of queue 1, a vote.

@@ -1,14 +1,14 @@
 ghost use Rattle.std.specs.Prelude.{IsOkUnless};
 ghost use Rattle.qq_base.specs.declared.memory.Memory.TheVariants.{Want};
-ghost use Rattle.qq_yards.specs.declared.fault.YardFault.TheVariants.{Memory as OfMemory};
+ghost use Rattle.qq_ports.specs.declared.yard_fault.YardFault.TheVariants.{Memory as OfMemory};
 
 use crate::stop::Stop;
 use crate::untold::Untold;
 use qq_base::{Memory, NodeId, QueueId};
 use qq_disk::Image;
 use qq_log::Lane;
+use qq_ports::{Yard, YardFault};
 use qq_recover::inspect;
-use qq_yards::{Yard, YardFault};
 use std::alloc::Global;
 
 /// How the disk that a yard gives is stopped, and how the one that the first crash leaves.

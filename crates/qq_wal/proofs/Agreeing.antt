@@ -15,12 +15,12 @@ use Rattle.qq_log.specs.Above.{take_above}
 use Rattle.qq_log.specs.Stable.{Stable, new_state, carry_of, apply_op, change, segments_between, last_index, restates}
 use Rattle.qq_wal_record.specs.declared.record.LogRecord.{LogRecord}
 use Rattle.qq_wal_record.specs.declared.record.LogRecord.TheVariants.{Op as OpRecord, Carry as CarryRecord}
-use Rattle.qq_chain.specs.Image.{put}
-use Rattle.qq_chain.specs.Lanes.{Lanes, is_listed, is_op_within_ends, is_change, put_lane, add_record}
-use Rattle.qq_chain.specs.Records.{Restate, replay}
-use Rattle.qq_chain.specs.Wal.{wal}
-use Rattle.qq_chain.proofs.Queues.{carry-restates}
-use Rattle.qq_chain.proofs.Walk.{put-at, put-other}
+use Rattle.qq_wal_chain.specs.Image.{put}
+use Rattle.qq_wal_chain.specs.Lanes.{Lanes, is_listed, is_op_within_ends, is_change, put_lane, add_record}
+use Rattle.qq_wal_chain.specs.Records.{Restate, replay}
+use Rattle.qq_wal_chain.specs.Wal.{wal}
+use Rattle.qq_wal_chain.proofs.Queues.{carry-restates}
+use Rattle.qq_wal_chain.proofs.Walk.{put-at, put-other}
 use Rattle.qq_wal.specs.declared.marks.Mark.{Mark}
 use Rattle.qq_wal.specs.Batch.{FitsBatch}
 use Rattle.qq_wal.specs.Marks.{Carries, IsCarry, MayFollow, AllFollow, HasCarry, Agree, add_op, carry_behind, carry_or_new, follows_carry, known, queues_in, carries_in, carries_of, carry_in, carry_for}

@@ -14,12 +14,12 @@ use Rattle.qq_wal_record.specs.declared.header.Header.{Header}
 use Rattle.qq_wal_record.specs.declared.record.LogRecord.{LogRecord}
 use Rattle.qq_wal_record.specs.declared.record.LogRecord.TheVariants.{Op as OpRecord, Carry as CarryRecord}
 use Rattle.qq_wal_record.specs.Encoding.{record_encoding, header_encoding}
-use Rattle.qq_chain.specs.Format.{IsFormat}
-use Rattle.qq_chain.specs.Records.{encode_all}
-use Rattle.qq_chain.specs.Image.{files_of}
-use Rattle.qq_chain.specs.Promise.{log_file, kept_records}
-use Rattle.qq_chain.specs.Laws.{op_records, first_bytes}
-use Rattle.qq_chain.specs.Wal.{wal, Ours, RecordFits, encode_header}
+use Rattle.qq_wal_chain.specs.Format.{IsFormat}
+use Rattle.qq_wal_chain.specs.Records.{encode_all}
+use Rattle.qq_wal_chain.specs.Image.{files_of}
+use Rattle.qq_wal_chain.specs.Promise.{log_file, kept_records}
+use Rattle.qq_wal_chain.specs.Laws.{op_records, first_bytes}
+use Rattle.qq_wal_chain.specs.Wal.{wal, Ours, RecordFits, encode_header}
 use Rattle.qq_wal.specs.Batch.{encodings, FitsBatch, AllFitBatch}
 use Rattle.qq_wal.specs.Running.{IsWrittenTo, IsSynced, IsBatchOf, MayNotice}
 use Rattle.qq_wal.proofs.Steps.{sync-notices}

@@ -5,12 +5,12 @@ use Rattle.qq_base.specs.declared.ids.QueueId.{QueueId}
 use Rattle.qq_disk.specs.Disk.{Disk, file_content}
 use Rattle.qq_log.specs.declared.op.Op.{Op}
 use Rattle.qq_wal_record.specs.declared.header.Header.{Header}
-use Rattle.qq_chain.specs.Image.{Files, files_of, shown_logs}
-use Rattle.qq_chain.specs.Chain.{reading}
-use Rattle.qq_chain.specs.Records.{encode_all}
-use Rattle.qq_chain.specs.Promise.{IsLog, Keeps, found_behind, found_world, kept_records, pending_records}
-use Rattle.qq_chain.specs.Laws.{KeepsPromise, op_records}
-use Rattle.qq_chain.specs.Wal.{wal, Ours}
+use Rattle.qq_wal_chain.specs.Image.{Files, files_of, shown_logs}
+use Rattle.qq_wal_chain.specs.Chain.{reading}
+use Rattle.qq_wal_chain.specs.Records.{encode_all}
+use Rattle.qq_wal_chain.specs.Promise.{IsLog, Keeps, found_behind, found_world, kept_records, pending_records}
+use Rattle.qq_wal_chain.specs.Laws.{KeepsPromise, op_records}
+use Rattle.qq_wal_chain.specs.Wal.{wal, Ours}
 use Rattle.qq_wal.specs.declared.marks.Mark.{Mark}
 use Rattle.qq_wal.specs.declared.numbers.Numbers.{Numbers}
 use Rattle.qq_wal.specs.Running.{top, IsSynced, IsWrittenTo, SameLogs}

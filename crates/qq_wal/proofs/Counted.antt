@@ -9,8 +9,8 @@ use Rattle.qq_log.specs.declared.op.Op.{Op}
 use Rattle.qq_log.specs.declared.op.Op.TheVariants.{Change, SnapshotMade, SegmentMade}
 use Rattle.qq_log.specs.Op.{queue}
 use Rattle.qq_log.specs.Writable.{IsChange}
-use Rattle.qq_chain.specs.Image.{put}
-use Rattle.qq_chain.specs.Laws.{op_records}
+use Rattle.qq_wal_chain.specs.Image.{put}
+use Rattle.qq_wal_chain.specs.Laws.{op_records}
 use Rattle.qq_wal.specs.declared.marks.Mark.{Mark}
 use Rattle.qq_wal.specs.Marks.{Carries, known}
 use Rattle.qq_wal.specs.Notices.{AreCounted, carried_op, new_mark, note_all, note_record, sync_mark, synced_in, synced_of}

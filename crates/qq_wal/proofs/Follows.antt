@@ -14,9 +14,9 @@ use Rattle.qq_log.specs.Op.{queue}
 use Rattle.qq_log.specs.Writable.{HasFields, IsQueue, IsSegment}
 use Rattle.qq_wal_record.specs.declared.record.LogRecord.{LogRecord}
 use Rattle.qq_wal_record.specs.declared.record.LogRecord.TheVariants.{Op as OpRecord, Carry as CarryRecord}
-use Rattle.qq_chain.specs.Image.{put}
-use Rattle.qq_chain.specs.Lanes.{is_listed, is_op_within_ends, is_within_end, is_head_within_ends}
-use Rattle.qq_chain.proofs.Walk.{put-at, put-other}
+use Rattle.qq_wal_chain.specs.Image.{put}
+use Rattle.qq_wal_chain.specs.Lanes.{is_listed, is_op_within_ends, is_within_end, is_head_within_ends}
+use Rattle.qq_wal_chain.proofs.Walk.{put-at, put-other}
 use Rattle.qq_wal.specs.declared.marks.Mark.{Mark}
 use Rattle.qq_wal.specs.Batch.{FitsBatch}
 use Rattle.qq_wal.specs.Marks.{Carries, IsCarry, MayFollow, AllFollow, HasCarry, add_op, add_records, carry_behind, carry_or_new, known, new_carry, queues_in}

@@ -10,11 +10,11 @@ use Rattle.qq_log.specs.declared.op.Op.{Op}
 use Rattle.qq_wal_record.specs.declared.record.LogRecord.{LogRecord}
 use Rattle.qq_wal_record.specs.declared.record.LogRecord.TheVariants.{Op as OpRecord}
 use Rattle.qq_base.specs.Fronts.{IsFront}
-use Rattle.qq_chain.specs.Image.{files_of}
-use Rattle.qq_chain.specs.Laws.{HoldsOps, KeepsPromise, op_records}
-use Rattle.qq_chain.specs.Wal.{wal}
+use Rattle.qq_wal_chain.specs.Image.{files_of}
+use Rattle.qq_wal_chain.specs.Laws.{HoldsOps, KeepsPromise, op_records}
+use Rattle.qq_wal_chain.specs.Wal.{wal}
 use Rattle.qq_base.proofs.Fronts.{front-refl}
-use Rattle.qq_chain.proofs.Keeping.{keeps-weaker}
+use Rattle.qq_wal_chain.proofs.Keeping.{keeps-weaker}
 use Rattle.qq_wal.specs.declared.marks.Mark.{Mark}
 use Rattle.qq_wal.specs.Notices.{Tell, note_record}
 use Rattle.qq_wal.specs.Running.{HoldsAlso, MayNotice, Stays, StaysGiving, top}

@@ -13,16 +13,16 @@ use Rattle.qq_wal_record.specs.declared.header.Header.{Header}
 use Rattle.qq_wal_record.specs.Reading.{IsHeader}
 use Rattle.qq_wal_record.specs.declared.record.LogRecord.{LogRecord}
 use Rattle.qq_wal_record.specs.declared.record.LogRecord.TheVariants.{Carry as CarryRecord}
-use Rattle.qq_chain.specs.Format.{IsFormat}
-use Rattle.qq_chain.specs.Lanes.{Lanes}
-use Rattle.qq_chain.specs.Chain.{Found, reading}
-use Rattle.qq_chain.specs.Image.{files_of, shown_logs}
-use Rattle.qq_chain.specs.Records.{Restate, encode_all, end_of, replay}
-use Rattle.qq_chain.specs.Promise.{Continues, IsLog, found_behind, found_world, kept_records}
-use Rattle.qq_chain.specs.Laws.{op_records}
-use Rattle.qq_chain.specs.Wal.{wal, Ours, encode_header, RecordFits}
-use Rattle.qq_chain.proofs.Calls.{roll-continues}
-use Rattle.qq_chain.proofs.Growing.{log-shows-world}
+use Rattle.qq_wal_chain.specs.Format.{IsFormat}
+use Rattle.qq_wal_chain.specs.Lanes.{Lanes}
+use Rattle.qq_wal_chain.specs.Chain.{Found, reading}
+use Rattle.qq_wal_chain.specs.Image.{files_of, shown_logs}
+use Rattle.qq_wal_chain.specs.Records.{Restate, encode_all, end_of, replay}
+use Rattle.qq_wal_chain.specs.Promise.{Continues, IsLog, found_behind, found_world, kept_records}
+use Rattle.qq_wal_chain.specs.Laws.{op_records}
+use Rattle.qq_wal_chain.specs.Wal.{wal, Ours, encode_header, RecordFits}
+use Rattle.qq_wal_chain.proofs.Calls.{roll-continues}
+use Rattle.qq_wal_chain.proofs.Growing.{log-shows-world}
 use Rattle.qq_wal.specs.declared.marks.Mark.{Mark}
 use Rattle.qq_wal.specs.declared.numbers.Numbers.{Numbers}
 use Rattle.qq_wal.specs.Batch.{FitsBatch}

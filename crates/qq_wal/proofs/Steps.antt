@@ -11,21 +11,21 @@ use Rattle.qq_log.specs.declared.op.Op.{Op}
 use Rattle.qq_wal_record.specs.declared.header.Header.{Header}
 use Rattle.qq_wal_record.specs.declared.record.LogRecord.{LogRecord}
 use Rattle.qq_wal_record.specs.declared.record.LogRecord.TheVariants.{Op as OpRecord}
-use Rattle.qq_chain.specs.Format.{IsFormat}
-use Rattle.qq_chain.specs.Lanes.{Lanes}
-use Rattle.qq_chain.specs.Chain.{Found}
-use Rattle.qq_chain.specs.Image.{Files, files_of, put}
-use Rattle.qq_chain.specs.Records.{encode_all, replay}
-use Rattle.qq_chain.specs.Promise.{Continues, IsRunning, Promises, found_behind, found_world, kept_records, pending_records}
-use Rattle.qq_chain.specs.Laws.{AreSound, op_records, first_bytes}
-use Rattle.qq_chain.specs.Wal.{wal, Ours, encode_header, no_lanes}
-use Rattle.qq_chain.proofs.Alone.{running-told, pending-told}
-use Rattle.qq_chain.proofs.Bridge.{append-log as append-files, sync-of-log}
-use Rattle.qq_chain.proofs.Calls.{begin-stays, begin-done, sync-stays, sync-done, sync-noticed}
-use Rattle.qq_chain.proofs.Growing.{log-shows-world}
-use Rattle.qq_chain.proofs.Promised.{append-promised, append-runs}
-use Rattle.qq_chain.proofs.Replays.{replay-append, restated}
-use Rattle.qq_chain.proofs.Walk.{put-other}
+use Rattle.qq_wal_chain.specs.Format.{IsFormat}
+use Rattle.qq_wal_chain.specs.Lanes.{Lanes}
+use Rattle.qq_wal_chain.specs.Chain.{Found}
+use Rattle.qq_wal_chain.specs.Image.{Files, files_of, put}
+use Rattle.qq_wal_chain.specs.Records.{encode_all, replay}
+use Rattle.qq_wal_chain.specs.Promise.{Continues, IsRunning, Promises, found_behind, found_world, kept_records, pending_records}
+use Rattle.qq_wal_chain.specs.Laws.{AreSound, op_records, first_bytes}
+use Rattle.qq_wal_chain.specs.Wal.{wal, Ours, encode_header, no_lanes}
+use Rattle.qq_wal_chain.proofs.Alone.{running-told, pending-told}
+use Rattle.qq_wal_chain.proofs.Bridge.{append-log as append-files, sync-of-log}
+use Rattle.qq_wal_chain.proofs.Calls.{begin-stays, begin-done, sync-stays, sync-done, sync-noticed}
+use Rattle.qq_wal_chain.proofs.Growing.{log-shows-world}
+use Rattle.qq_wal_chain.proofs.Promised.{append-promised, append-runs}
+use Rattle.qq_wal_chain.proofs.Replays.{replay-append, restated}
+use Rattle.qq_wal_chain.proofs.Walk.{put-other}
 use Rattle.qq_wal.specs.Running.{top, IsWrittenTo, IsSynced, Stays, StaysGiving, HoldsAlso, StillHolds, MayNotice, IsBatchOf, MayAdd, SameOthers, lanes_shown}
 
 -- a number of 64 bits is no file's that is too great

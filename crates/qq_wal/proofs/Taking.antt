@@ -11,7 +11,7 @@ use Rattle.qq_log.specs.declared.op.Op.{Op}
 use Rattle.qq_log.specs.declared.op.Op.TheVariants.{Change, SnapshotMade, SegmentMade}
 use Rattle.qq_log.specs.Writable.{IsWithinEnd, MayGather, payload_length}
 use Rattle.qq_wal_record.specs.declared.record.LogRecord.TheVariants.{Op as OpRecord}
-use Rattle.qq_chain.specs.Lanes.{is_within_end}
+use Rattle.qq_wal_chain.specs.Lanes.{is_within_end}
 use Rattle.qq_wal.specs.declared.batch.TheConstants.{BATCH_BYTES}
 use Rattle.qq_wal_record.specs.declared.record.LogRecord.{LogRecord}
 use Rattle.qq_wal.specs.declared.marks.Mark.{Mark}

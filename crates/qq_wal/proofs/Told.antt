@@ -8,8 +8,8 @@ use Rattle.qq_base.specs.declared.ids.QueueId.{QueueId}
 use Rattle.qq_log.specs.declared.lane.Carry.{Carry}
 use Rattle.qq_log.specs.declared.op.Op.{Op}
 use Rattle.qq_log.specs.Op.{queue, number}
-use Rattle.qq_chain.specs.Laws.{op_records}
-use Rattle.qq_chain.specs.Lanes.{of_queue}
+use Rattle.qq_wal_chain.specs.Laws.{op_records}
+use Rattle.qq_wal_chain.specs.Lanes.{of_queue}
 use Rattle.qq_wal.specs.declared.notices.Notice.{Notice}
 use Rattle.qq_wal.specs.declared.marks.Mark.{Mark}
 use Rattle.qq_wal.proofs.Follows.{noted}

@@ -7,7 +7,7 @@ use Rattle.qq_disk.specs.Moments.{Adds, IsAppending, IsSyncing}
 use Rattle.qq_disk.specs.Name.{same_name}
 use Rattle.qq_disk.proofs.Moments.{adds-now}
 use Rattle.qq_disk.proofs.Names.{same_name-true}
-use Rattle.qq_chain.specs.Image.{is_removed}
+use Rattle.qq_wal_chain.specs.Image.{is_removed}
 use Rattle.qq_wal.specs.Running.{NoneRemoved, StaysWhole}
 
 set-whole : (d : Disk) (file : FileName) (o : Option FileState) → NoneRemoved d

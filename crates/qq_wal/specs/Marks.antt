@@ -11,8 +11,8 @@ use Rattle.qq_log.specs.Stable.{new_state, carry_of}
 use Rattle.qq_log.specs.Writable.{IsWritableCarry}
 use Rattle.qq_wal_record.specs.declared.record.LogRecord.{LogRecord}
 use Rattle.qq_wal_record.specs.declared.record.LogRecord.TheVariants.{Op as OpRecord, Carry as CarryRecord}
-use Rattle.qq_chain.specs.Image.{put}
-use Rattle.qq_chain.specs.Lanes.{Lanes, is_listed, is_op_within_ends, is_carry_within_ends, is_change, is_plain}
+use Rattle.qq_wal_chain.specs.Image.{put}
+use Rattle.qq_wal_chain.specs.Lanes.{Lanes, is_listed, is_op_within_ends, is_carry_within_ends, is_change, is_plain}
 use Rattle.qq_wal.specs.declared.marks.Mark.{Mark}
 
 -- ---- a queue's carry

@@ -8,7 +8,7 @@ use Rattle.qq_log.specs.declared.op.Op.TheVariants.{Change, SnapshotMade, Segmen
 use Rattle.qq_log.specs.Op.{queue, number}
 use Rattle.qq_wal_record.specs.declared.record.LogRecord.{LogRecord}
 use Rattle.qq_wal_record.specs.declared.record.LogRecord.TheVariants.{Op as OpRecord, Carry as CarryRecord}
-use Rattle.qq_chain.specs.Lanes.{of_queue}
+use Rattle.qq_wal_chain.specs.Lanes.{of_queue}
 use Rattle.qq_wal.specs.declared.notices.Notice.{Notice}
 use Rattle.qq_wal.specs.declared.marks.Mark.{Mark}
 use Rattle.qq_wal.specs.Marks.{carry_behind, carry_or_new, carry_for}

@@ -7,13 +7,13 @@ use Rattle.qq_disk.specs.Moments.{Adds}
 use Rattle.qq_log.specs.declared.lane.Carry.{Carry}
 use Rattle.qq_log.specs.declared.op.Op.{Op}
 use Rattle.qq_wal_record.specs.declared.header.Header.{Header}
-use Rattle.qq_chain.specs.Lanes.{Lanes}
-use Rattle.qq_chain.specs.Records.{replay}
-use Rattle.qq_chain.specs.Chain.{Found, Reading, reading}
-use Rattle.qq_chain.specs.Image.{files_of, is_removed, shown_logs}
-use Rattle.qq_chain.specs.Promise.{IsRunningLog, StaysPromised, pending_records, found_world}
-use Rattle.qq_chain.specs.Laws.{KeepsPromise, HoldsOps, AreWritable, IsSettledDisk, batch_bytes, op_records}
-use Rattle.qq_chain.specs.Wal.{wal, Ours}
+use Rattle.qq_wal_chain.specs.Lanes.{Lanes}
+use Rattle.qq_wal_chain.specs.Records.{replay}
+use Rattle.qq_wal_chain.specs.Chain.{Found, Reading, reading}
+use Rattle.qq_wal_chain.specs.Image.{files_of, is_removed, shown_logs}
+use Rattle.qq_wal_chain.specs.Promise.{IsRunningLog, StaysPromised, pending_records, found_world}
+use Rattle.qq_wal_chain.specs.Laws.{KeepsPromise, HoldsOps, AreWritable, IsSettledDisk, batch_bytes, op_records}
+use Rattle.qq_wal_chain.specs.Wal.{wal, Ours}
 use Rattle.qq_wal.specs.Marks.{carries_of}
 
 -- no file has a greater number

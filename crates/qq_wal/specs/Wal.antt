@@ -13,9 +13,9 @@ use Rattle.qq_wal_record.specs.declared.header.Header.{Header}
 use Rattle.qq_wal_record.specs.declared.record.LogRecord.{LogRecord}
 use Rattle.qq_wal_record.specs.declared.record.LogRecord.TheVariants.{Carry as CarryRecord}
 use Rattle.qq_wal_record.specs.Encoding.{header_encoding}
-use Rattle.qq_chain.specs.Image.{files_of}
-use Rattle.qq_chain.specs.Lanes.{Lanes}
-use Rattle.qq_chain.specs.Laws.{op_records}
+use Rattle.qq_wal_chain.specs.Image.{files_of}
+use Rattle.qq_wal_chain.specs.Lanes.{Lanes}
+use Rattle.qq_wal_chain.specs.Laws.{op_records}
 use Rattle.qq_wal.specs.Batch.{AllFitBatch, IsBatch, encodings}
 use Rattle.qq_wal.specs.Marks.{Carries, AllFollow, HasCarry, Agree, known, queues_in, carries_in, add_records}
 use Rattle.qq_wal.specs.Notices.{note_record, new_mark}

@@ -4,7 +4,7 @@ ghost use Rattle.std.specs.List.{AllByRecursion};
 ghost use Rattle.qq_base.specs.Fields.{AreBytes};
 ghost use Rattle.qq_wal_record.specs.Encoding.{record_encoding};
 ghost use Rattle.qq_wal_record.specs.Record.{IsWritable};
-ghost use Rattle.qq_chain.specs.Wal.{RecordFits};
+ghost use Rattle.qq_wal_chain.specs.Wal.{RecordFits};
 ghost use Rattle.qq_wal.specs.Batch.{encodings, AllFitBatch, IsBatch};
 
 use qq_base::Memory;

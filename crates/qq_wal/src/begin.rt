@@ -2,9 +2,9 @@
 ghost use Rattle.std.specs.Prelude.{◌≡◌, ◌++◌, List, length, map, option_to_list, IfOk, OnOk, IsOkUnless, IfSome};
 ghost use Rattle.std.specs.List.{AllByRecursion};
 ghost use Rattle.qq_base.specs.declared.ids.QueueId.{QueueId};
-ghost use Rattle.qq_chain.specs.Laws.{first_bytes};
+ghost use Rattle.qq_wal_chain.specs.Laws.{first_bytes};
 ghost use Rattle.qq_wal_record.specs.declared.record.LogRecord.TheVariants.{Carry as CarryRecord};
-ghost use Rattle.qq_chain.specs.Wal.{Ours, RecordFits};
+ghost use Rattle.qq_wal_chain.specs.Wal.{Ours, RecordFits};
 ghost use Rattle.qq_wal.specs.Batch.{encodings};
 ghost use Rattle.qq_wal.specs.Marks.{HasCarry, carries_in};
 ghost use Rattle.qq_wal.specs.Wal.{first_length};

@@ -8,16 +8,16 @@ ghost use Rattle.qq_disk.specs.Fault.{IsCaused};
 ghost use Rattle.qq_log.specs.declared.op.Op.{Op};
 ghost use Rattle.qq_wal_record.specs.declared.record.LogRecord.{LogRecord};
 ghost use Rattle.qq_wal_record.specs.Reading.{IsHeader};
-ghost use Rattle.qq_chain.specs.Chain.{Found};
-ghost use Rattle.qq_chain.specs.Image.{files_of, shown_logs};
-ghost use Rattle.qq_chain.specs.Promise.{Continues};
-ghost use Rattle.qq_chain.specs.Records.{replay};
-ghost use Rattle.qq_chain.specs.Laws.{first_bytes, op_records};
-ghost use Rattle.qq_chain.specs.Wal.{wal, Ours};
+ghost use Rattle.qq_wal_chain.specs.Chain.{Found};
+ghost use Rattle.qq_wal_chain.specs.Image.{files_of, shown_logs};
+ghost use Rattle.qq_wal_chain.specs.Promise.{Continues};
+ghost use Rattle.qq_wal_chain.specs.Records.{replay};
+ghost use Rattle.qq_wal_chain.specs.Laws.{first_bytes, op_records};
+ghost use Rattle.qq_wal_chain.specs.Wal.{wal, Ours};
 ghost use Rattle.qq_wal.specs.Running.{top, IsWrittenTo, IsSynced, IsBatchOf, MayAdd, Stays, StaysGiving, StaysWhole, SameOthers, MayNotice, lanes_shown};
 
-use qq_chain::the_log_has_a_format;
 use qq_disk::{DiskFault, FileKind, FileName, NodeDisk};
+use qq_wal_chain::the_log_has_a_format;
 use qq_wal_record::Header;
 use std::alloc::Global;
 

@@ -12,7 +12,7 @@ ghost use Rattle.qq_log.specs.declared.lane.Carry.{Carry};
 ghost use Rattle.qq_entry.specs.declared.command.Entry.{Entry};
 ghost use Rattle.qq_log.specs.declared.op.Op.{Op};
 ghost use Rattle.qq_log.specs.declared.op.Op.TheVariants.{Change};
-ghost use Rattle.qq_chain.specs.Laws.{HoldsOps, KeepsPromise, op_records};
+ghost use Rattle.qq_wal_chain.specs.Laws.{HoldsOps, KeepsPromise, op_records};
 ghost use Rattle.qq_wal_record.specs.declared.record.LogRecord.{LogRecord};
 ghost use Rattle.qq_wal.specs.Batch.{IsBatch, encodings};
 ghost use Rattle.qq_wal.specs.declared.marks.Mark.{Mark};

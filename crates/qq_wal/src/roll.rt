@@ -14,9 +14,9 @@ use crate::file::begin_file;
 use crate::numbers::{next_number, raise};
 use crate::wal::Wal;
 use qq_base::Memory;
-use qq_chain::the_log_has_a_format;
 use qq_disk::{FileKind, NodeDisk};
 use qq_log::carries_restate;
+use qq_wal_chain::the_log_has_a_format;
 use qq_wal_record::Header;
 use std::alloc::Global;
 

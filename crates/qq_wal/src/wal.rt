@@ -8,7 +8,7 @@ ghost use Rattle.qq_disk.specs.declared.name.FileKind.TheVariants.{Log};
 ghost use Rattle.qq_log.specs.declared.op.Op.{Op};
 ghost use Rattle.qq_log.specs.Writable.{MayGather};
 ghost use Rattle.qq_wal_record.specs.declared.record.LogRecord.TheVariants.{Op as OpRecord};
-ghost use Rattle.qq_chain.specs.Laws.{op_records};
+ghost use Rattle.qq_wal_chain.specs.Laws.{op_records};
 ghost use Rattle.qq_wal.specs.Batch.{is_short};
 ghost use Rattle.qq_wal.specs.Fault.{IsCaused, IsGatherCaused, IsAppendCaused};
 ghost use Rattle.qq_wal.specs.Marks.{IsCarry, GoesOn, add_op};

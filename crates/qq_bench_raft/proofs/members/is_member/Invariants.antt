@@ -1,5 +1,5 @@
 use Rattle.std.proofs.Common.{◌≡◌, drop}
-use Rattle.qq_group_model.specs.Group.{has_node}
+use Rattle.qq_raft_model.specs.Group.{has_node}
 use Rattle.qq_bench_raft.proofs.members.is_member.Given as goal
 
 -- the nodes from here on tell what all do

@@ -1,8 +1,8 @@
 use Rattle.std.proofs.lemmas.Result.{IfOk-weaker, IfErr-weaker}
 use Rattle.qq_calls.specs.Calls.{rule_of}
 use Rattle.qq_calls.specs.Queues.{node_setup}
-use Rattle.qq_program.proofs.Answering.{answers_from, stops_from, asks_from}
-use Rattle.qq_program.proofs.Named.{asked-named, plain-names}
+use Rattle.qq_broker_run.proofs.Answering.{answers_from, stops_from, asks_from}
+use Rattle.qq_broker_run.proofs.Named.{asked-named, plain-names}
 use Rattle.qq_broker.specs.Nodes.{IsNodeOf}
 use Rattle.qq_broker.proofs.program.answer.Goals as goal
 

@@ -1,8 +1,8 @@
 use Rattle.std.proofs.Common.{[], inr, subst}
 use Rattle.qq_base.specs.Causes.{Rose}
-use Rattle.qq_program.specs.Endings.{Ending}
-use Rattle.qq_program.specs.Runs.{Closes, HasStopped}
-use Rattle.qq_program.proofs.Closings.{stop_closes, stopped_earlier}
+use Rattle.qq_broker_run.specs.Endings.{Ending}
+use Rattle.qq_broker_run.specs.Runs.{Closes, HasStopped}
+use Rattle.qq_broker_run.proofs.Closings.{stop_closes, stopped_earlier}
 use Rattle.qq_broker.specs.Nodes.{Meets}
 use Rattle.qq_broker.proofs.Served.{meets-earlier}
 use Rattle.qq_broker.proofs.program.open_script.Goals as goal

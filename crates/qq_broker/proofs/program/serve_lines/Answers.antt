@@ -3,12 +3,12 @@ use Rattle.qq_base.specs.Causes.{Rose}
 use Rattle.qq_calls.specs.Queues.{node_setup}
 use Rattle.qq_ports.specs.Faults.{AppendsPrefix}
 use Rattle.qq_ports.specs.Lines.{ahead, TakesLine}
-use Rattle.qq_program.specs.declared.stop.Stop.{Stop}
-use Rattle.qq_program.specs.Runs.{HasStopped}
-use Rattle.qq_program.proofs.Ahead.{waiting_breaks, going_too_long, going_reads, going_stops}
-use Rattle.qq_program.proofs.Answering.{answer_stops}
-use Rattle.qq_program.proofs.Closings.{Rose_earlier}
-use Rattle.qq_program.proofs.Looping.{loops_start, loops_written, loops_line, loops_end, run_at}
+use Rattle.qq_broker_run.specs.declared.stop.Stop.{Stop}
+use Rattle.qq_broker_run.specs.Runs.{HasStopped}
+use Rattle.qq_broker_run.proofs.Ahead.{waiting_breaks, going_too_long, going_reads, going_stops}
+use Rattle.qq_broker_run.proofs.Answering.{answer_stops}
+use Rattle.qq_broker_run.proofs.Closings.{Rose_earlier}
+use Rattle.qq_broker_run.proofs.Looping.{loops_start, loops_written, loops_line, loops_end, run_at}
 use Rattle.qq_broker.specs.Nodes.{IsNodeOf, Meets}
 use Rattle.qq_broker.proofs.Served.{meets-earlier}
 use Rattle.qq_broker.proofs.program.serve_lines.Goals as goal

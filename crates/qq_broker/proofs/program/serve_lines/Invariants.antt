@@ -1,8 +1,8 @@
 use Rattle.std.proofs.Common.{◌≤◌, ◌-◌}
 use Rattle.qq_calls.specs.Queues.{node_setup}
 use Rattle.qq_ports.specs.Lines.{ahead}
-use Rattle.qq_program.specs.declared.ending.TheConstants.{LINES_LIMIT}
-use Rattle.qq_program.proofs.Looping.{LoopsOn}
+use Rattle.qq_broker_run.specs.declared.ending.TheConstants.{LINES_LIMIT}
+use Rattle.qq_broker_run.proofs.Looping.{LoopsOn}
 use Rattle.qq_broker.specs.Nodes.{IsNodeOf}
 use Rattle.qq_broker.proofs.program.serve_lines.Given as goal
 

@@ -1,6 +1,6 @@
 use Rattle.qq_calls.specs.Queues.{node_setup}
-use Rattle.qq_program.proofs.Closings.{Rose_earlier}
-use Rattle.qq_program.proofs.Looping.{served_done, served_breaks}
+use Rattle.qq_broker_run.proofs.Closings.{Rose_earlier}
+use Rattle.qq_broker_run.proofs.Looping.{served_done, served_breaks}
 use Rattle.qq_broker.specs.Nodes.{IsNodeOf}
 use Rattle.qq_broker.proofs.program.serve_script.Goals as goal
 

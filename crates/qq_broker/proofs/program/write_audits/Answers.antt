@@ -7,9 +7,9 @@ use Rattle.qq_entry.specs.declared.audit.AuditRow.{AuditRow}
 use Rattle.qq_ports.specs.Faults.{AppendsPrefix}
 use Rattle.qq_script.specs.Audit.{audit_text}
 use Rattle.qq_world.specs.Node.{audits_text}
-use Rattle.qq_program.specs.Pieces.{HasPrefix, HasSomePrefix}
-use Rattle.qq_program.proofs.Audits.{row_audit, audits_by_rows, has_place}
-use Rattle.qq_program.proofs.Pieces.{nothing, next_item, last_item, join, some_next, some_rest, whole}
+use Rattle.qq_broker_run.specs.Pieces.{HasPrefix, HasSomePrefix}
+use Rattle.qq_broker_run.proofs.Audits.{row_audit, audits_by_rows, has_place}
+use Rattle.qq_broker_run.proofs.Pieces.{nothing, next_item, last_item, join, some_next, some_rest, whole}
 use Rattle.qq_broker.proofs.program.write_audits.Goals as goal
 
 pub loop-row-init : goal.loop-row-init

@@ -1,8 +1,8 @@
 use Rattle.std.proofs.Common.{◌≤◌, ◌++◌, drop, flat_map}
 use Rattle.qq_calls.specs.Queues.{node_setup}
 use Rattle.qq_world.specs.Node.{Node, audits_text}
-use Rattle.qq_program.specs.Pieces.{HasPrefix}
-use Rattle.qq_program.proofs.Audits.{row_audit}
+use Rattle.qq_broker_run.specs.Pieces.{HasPrefix}
+use Rattle.qq_broker_run.proofs.Audits.{row_audit}
 use Rattle.qq_broker.specs.Nodes.{IsNodeOf}
 use Rattle.qq_broker.proofs.program.write_audits.Given as goal
 

@@ -1,6 +1,6 @@
 use Rattle.std.proofs.Common.{◌≡◌, Bool, true, List, [], ◌∷◌, ◌++◌, take, sym, ap, subst, ◌∙◌}
 use Rattle.qq_defs.specs.declared.members.QueueRow.{QueueRow}
-use Rattle.qq_desk.specs.Desk.{DeskState}
+use Rattle.qq_node_queue.specs.Desk.{DeskState}
 use Rattle.qq_broker.specs.Queues.{IsNewDesk, AreNewDesks}
 use Rattle.qq_broker.proofs.Desks.{none_before, none-more, desks-more, take-next}
 use Rattle.qq_broker.proofs.queues.new_desks.Goals as goal

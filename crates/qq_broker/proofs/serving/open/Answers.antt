@@ -2,7 +2,7 @@ use Rattle.std.proofs.Common.{true, List, map, sym, ap, subst, ◌∙◌}
 use Rattle.qq_calls.specs.Queues.{node_setup}
 use Rattle.qq_defs.specs.declared.members.QueueRow.{QueueRow}
 use Rattle.qq_node.specs.Restarting.{IsSetFor}
-use Rattle.qq_program.specs.Runs.{MayNotOpen}
+use Rattle.qq_broker_run.specs.Runs.{MayNotOpen}
 use Rattle.qq_broker.specs.Nodes.{Meets}
 use Rattle.qq_broker.specs.Queues.{queue_of, AreNewDesks}
 use Rattle.qq_broker.proofs.Plain.{plain-queue}

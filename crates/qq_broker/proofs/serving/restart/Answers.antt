@@ -1,5 +1,5 @@
 use Rattle.std.proofs.Common.{sym, subst}
-use Rattle.qq_program.specs.Service.{HasServeCause}
+use Rattle.qq_broker_run.specs.Service.{HasServeCause}
 use Rattle.qq_world.specs.Rules.{Restart}
 use Rattle.qq_broker.specs.Nodes.{Meets}
 use Rattle.qq_broker.proofs.Asked.{has-served}

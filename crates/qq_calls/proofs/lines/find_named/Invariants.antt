@@ -1,6 +1,6 @@
 use Rattle.std.proofs.Common.{◌≡◌, drop}
 use Rattle.std.specs.List.{find}
-use Rattle.qq_lines.specs.Names.{named}
+use Rattle.qq_script_lines.specs.Names.{named}
 use Rattle.qq_calls.proofs.lines.find_named.Given as goal
 
 -- it is among the rest

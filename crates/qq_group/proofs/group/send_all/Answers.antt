@@ -1,7 +1,7 @@
 use Rattle.std.proofs.Common.{◌+◌, ◌++◌, length, sym, ap, ◌∙◌, length-append}
-use Rattle.qq_raft.specs.Ends.{IsSendable}
-use Rattle.qq_raft.specs.Raft.{server_of}
-use Rattle.qq_raft_step.specs.State.{Server as Raft}
+use Rattle.qq_raft_core.specs.Ends.{IsSendable}
+use Rattle.qq_raft_core.specs.Raft.{server_of}
+use Rattle.qq_raft_model.specs.State.{Server as Raft}
 use Rattle.qq_group.proofs.Bags.{all-more, front-one, moved, only-out, only-raft, full-with}
 use Rattle.qq_group.proofs.group.send_all.Goals as goal
 

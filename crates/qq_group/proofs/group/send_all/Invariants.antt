@@ -1,8 +1,8 @@
 use Rattle.std.proofs.Common.{◌≡◌, ◌++◌, length}
 use Rattle.std.specs.Prelude.{All}
-use Rattle.qq_raft.specs.Ends.{IsSendable}
-use Rattle.qq_raft.specs.Raft.{server_of}
-use Rattle.qq_server.specs.Stands.{IsSound}
+use Rattle.qq_raft_core.specs.Ends.{IsSendable}
+use Rattle.qq_raft_core.specs.Raft.{server_of}
+use Rattle.qq_raft.specs.Stands.{IsSound}
 use Rattle.qq_base.specs.Fronts.{IsFront}
 use Rattle.qq_group.proofs.group.send_all.Given as goal
 

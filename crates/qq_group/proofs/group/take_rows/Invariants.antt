@@ -1,6 +1,6 @@
 use Rattle.std.proofs.Common.{◌≡◌, ◌++◌}
 use Rattle.std.specs.VecDeque.{deque_len}
-use Rattle.qq_server.specs.Stands.{IsSound}
+use Rattle.qq_raft.specs.Stands.{IsSound}
 use Rattle.qq_group.proofs.group.take_rows.Given as goal
 
 -- those so far and the rest are all

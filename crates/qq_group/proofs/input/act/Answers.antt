@@ -1,6 +1,6 @@
 use Rattle.std.proofs.Common.{subst, sym}
-use Rattle.qq_raft.specs.Raft.{server_of}
-use Rattle.qq_server.specs.Stands.{Does, IsLeftBy, IsRefused}
+use Rattle.qq_raft_core.specs.Raft.{server_of}
+use Rattle.qq_raft.specs.Stands.{Does, IsLeftBy, IsRefused}
 use Rattle.qq_group.specs.Input.{acts}
 use Rattle.qq_group.specs.declared.input.Input.{Input}
 use Rattle.qq_group.proofs.Inputs.{refused-does}

@@ -1,10 +1,10 @@
 use Rattle.std.proofs.Common.{List, sym, subst}
 use Rattle.qq_base.specs.Fronts.{IsFront}
 use Rattle.qq_entry.specs.declared.command.Entry.{Entry}
-use Rattle.qq_raft.specs.Raft.{server_of}
-use Rattle.qq_raft_model.specs.Facts.{add}
-use Rattle.qq_group_model.specs.Group.{Event, Group, group_after, happens}
-use Rattle.qq_group_model.specs.Promises.{IsUp}
+use Rattle.qq_raft_core.specs.Raft.{server_of}
+use Rattle.qq_raft_protocol.specs.Facts.{add}
+use Rattle.qq_raft_model.specs.Group.{Event, Group, group_after, happens}
+use Rattle.qq_raft_model.specs.Promises.{IsUp}
 use Rattle.qq_group.proofs.Promises.{up-in}
 use Rattle.qq_group.proofs.laws.an_answered_command_is_in_the_audit.Goals as goal
 

@@ -1,7 +1,7 @@
 use Rattle.std.proofs.Common.{subst}
-use Rattle.qq_raft.specs.Raft.{server_of}
-use Rattle.qq_group_model.specs.Group.{Group, group_after}
-use Rattle.qq_group_model.specs.Promises.{IsUp}
+use Rattle.qq_raft_core.specs.Raft.{server_of}
+use Rattle.qq_raft_model.specs.Group.{Group, group_after}
+use Rattle.qq_raft_model.specs.Promises.{IsUp}
 use Rattle.qq_group.proofs.Promises.{up-in}
 use Rattle.qq_group.proofs.laws.one_server_leads_a_term.Goals as goal
 

@@ -1,9 +1,9 @@
 use Rattle.std.proofs.Common.{List, subst, sym}
 use Rattle.qq_base.specs.declared.ids.NodeId.{NodeId}
 use Rattle.qq_entry.specs.declared.command.Entry.{Entry}
-use Rattle.qq_raft_model.specs.Safe.{IsSupported}
-use Rattle.qq_group_model.specs.Group.{Group}
-use Rattle.qq_group_model.specs.Promises.{IsLeft, members_of}
+use Rattle.qq_raft_protocol.specs.Safe.{IsSupported}
+use Rattle.qq_raft_model.specs.Group.{Group}
+use Rattle.qq_raft_model.specs.Promises.{IsLeft, members_of}
 use Rattle.qq_group.proofs.Reached.{reached-nodes}
 use Rattle.qq_group.proofs.laws.the_logs_support_the_audit.Goals as goal
 

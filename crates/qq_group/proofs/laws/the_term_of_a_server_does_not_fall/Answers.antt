@@ -1,5 +1,5 @@
-use Rattle.qq_raft.specs.Raft.{server_of}
-use Rattle.qq_group_model.specs.Group.{happens}
+use Rattle.qq_raft_core.specs.Raft.{server_of}
+use Rattle.qq_raft_model.specs.Group.{happens}
 use Rattle.qq_group.proofs.Promises.{up-in}
 use Rattle.qq_group.proofs.laws.the_term_of_a_server_does_not_fall.Goals as goal
 

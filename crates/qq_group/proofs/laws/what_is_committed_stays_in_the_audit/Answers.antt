@@ -1,7 +1,7 @@
 use Rattle.std.proofs.Common.{List, take, subst}
 use Rattle.qq_base.specs.Fronts.{IsFront}
 use Rattle.qq_entry.specs.declared.command.Entry.{Entry}
-use Rattle.qq_raft.specs.Raft.{server_of}
+use Rattle.qq_raft_core.specs.Raft.{server_of}
 use Rattle.qq_group.proofs.Promises.{up-in}
 use Rattle.qq_group.proofs.Reached.{audit-front, known-front}
 use Rattle.qq_group.proofs.laws.what_is_committed_stays_in_the_audit.Goals as goal

@@ -1,5 +1,5 @@
 use Rattle.std.proofs.Common.{◌≡◌, ◌≤◌, ◌++◌, ◌-◌, length, drop}
-use Rattle.qq_chain.specs.Laws.{op_records}
+use Rattle.qq_wal_chain.specs.Laws.{op_records}
 use Rattle.qq_wal.specs.Wal.{IsSound, carries_ahead}
 use Rattle.qq_node.specs.Gather.{AllGoOn, AllMayTake, add_ops}
 use Rattle.qq_node.proofs.gather.gather_all.Given as goal

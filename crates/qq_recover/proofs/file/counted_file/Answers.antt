@@ -1,6 +1,6 @@
 use Rattle.std.proofs.Common.{◌≡◌, ◌∙◌, ◌+◌, ℕ, List, Ok, Err, length, drop, ap, sym}
-use Rattle.qq_chain.specs.Records.{encode_all, records}
-use Rattle.qq_chain.specs.Wal.{wal}
+use Rattle.qq_wal_chain.specs.Records.{encode_all, records}
+use Rattle.qq_wal_chain.specs.Wal.{wal}
 use Rattle.qq_recover.specs.declared.fault.RecoverFault.TheVariants.{Damaged}
 use Rattle.qq_recover.specs.Placed.{placed}
 use Rattle.qq_recover.specs.Files.{is_short, counted_file, good_bytes}

@@ -2,7 +2,7 @@ use Rattle.std.proofs.Common.{◌≡◌, ◌≤◌, ◌∙◌, ◌+◌, ℕ, Lis
 use Rattle.std.specs.Prelude.{IfSome}
 use Rattle.qq_wal_record.specs.declared.record.LogRecord.{LogRecord}
 use Rattle.qq_wal_record.specs.Reading.{IsRecordAt}
-use Rattle.qq_chain.specs.Wal.{read_record}
+use Rattle.qq_wal_chain.specs.Wal.{read_record}
 use Rattle.qq_recover.specs.Placed.{Placed}
 use Rattle.qq_recover.proofs.Records.{ReadsOn, ends, goes-on, shorter, stops}
 use Rattle.qq_recover.proofs.file.records_at.Goals as goal

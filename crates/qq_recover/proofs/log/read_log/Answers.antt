@@ -1,8 +1,8 @@
 use Rattle.std.proofs.Common.{◌≡◌, ◌∙◌, List, Ok, ap, sym, subst}
 use Rattle.qq_disk.specs.Disk.{Disk, now, IsListing}
-use Rattle.qq_chain.specs.Chain.{good_length}
-use Rattle.qq_chain.specs.Lanes.{Lanes}
-use Rattle.qq_chain.specs.Wal.{wal}
+use Rattle.qq_wal_chain.specs.Chain.{good_length}
+use Rattle.qq_wal_chain.specs.Lanes.{Lanes}
+use Rattle.qq_wal_chain.specs.Wal.{wal}
 use Rattle.qq_recover.specs.Answer.{Answer, Fails, Gives}
 use Rattle.qq_recover.specs.Files.{chain_files}
 use Rattle.qq_recover.specs.Log.{IsNewest, good_of}

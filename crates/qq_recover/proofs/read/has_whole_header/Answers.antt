@@ -2,7 +2,7 @@ use Rattle.std.proofs.Common.{◌∙◌, ℕ, List, [], take, refl, ap, is_some}
 use Rattle.qq_disk.specs.declared.name.FileName.{FileName}
 use Rattle.qq_disk.specs.Disk.{now, content, contents}
 use Rattle.qq_disk.specs.Image.{log_of}
-use Rattle.qq_chain.specs.Wal.{read_whole_header}
+use Rattle.qq_wal_chain.specs.Wal.{read_whole_header}
 use Rattle.qq_recover.proofs.NewestLaws.{front-whole, content-whole}
 use Rattle.qq_recover.proofs.read.has_whole_header.Goals as goal
 

@@ -1,6 +1,6 @@
 use Rattle.std.proofs.Common.{Bool, IsTrue, sym, subst}
 use Rattle.qq_disk.specs.Disk.{Disk, now}
-use Rattle.qq_chain.specs.Laws.{SettlesOn}
+use Rattle.qq_wal_chain.specs.Laws.{SettlesOn}
 use Rattle.qq_wal.specs.Running.{StillHolds, top}
 use Rattle.qq_wal.proofs.Steps.{stays-then}
 use Rattle.qq_recover.specs.Reading.{lanes_read, shown}

@@ -1,6 +1,6 @@
 use Rattle.std.proofs.Common.{◌≡◌, ◌∙◌, List, Some, ap, sym, subst}
 use Rattle.qq_wal_record.specs.declared.record.LogRecord.{LogRecord}
-use Rattle.qq_chain.specs.Lanes.{add_record}
+use Rattle.qq_wal_chain.specs.Lanes.{add_record}
 use Rattle.qq_recover.specs.Placed.{Placed}
 use Rattle.qq_recover.specs.Replay.{replay_records}
 use Rattle.qq_recover.specs.Table.{lanes_of}

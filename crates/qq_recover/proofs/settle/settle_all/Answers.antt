@@ -1,7 +1,7 @@
 use Rattle.std.proofs.Common.{◌∙◌, ◌<◌, ℕ, Bool, List, suc, drop, length, ap, sym, subst, arith, add-one, drop-cons, IsTrue}
 use Rattle.qq_disk.specs.declared.name.FileName.{FileName}
 use Rattle.qq_disk.specs.Disk.{Disk, now}
-use Rattle.qq_chain.specs.Promise.{sync_all}
+use Rattle.qq_wal_chain.specs.Promise.{sync_all}
 use Rattle.qq_wal.proofs.Steps.{stays-then}
 use Rattle.qq_recover.proofs.settle.settle_all.Goals as goal
 

@@ -1,7 +1,7 @@
 use Rattle.std.proofs.Common.{◌≡◌, ◌≤◌, List, drop, IsTrue}
 use Rattle.qq_base.specs.declared.ids.QueueId.{QueueId}
 use Rattle.qq_disk.specs.Disk.{now}
-use Rattle.qq_chain.specs.Promise.{sync_all}
+use Rattle.qq_wal_chain.specs.Promise.{sync_all}
 use Rattle.qq_wal.specs.Running.{Stays, StaysWhole}
 use Rattle.qq_recover.proofs.settle.settle_all.Given as goal
 

@@ -1,5 +1,5 @@
-use Rattle.qq_chain.proofs.Calls.{sync-stays}
-use Rattle.qq_chain.specs.Wal.{wal}
+use Rattle.qq_wal_chain.proofs.Calls.{sync-stays}
+use Rattle.qq_wal_chain.specs.Wal.{wal}
 use Rattle.qq_wal.specs.Running.{top}
 use Rattle.qq_wal.proofs.Unremoved.{synced-whole}
 use Rattle.qq_recover.proofs.settle.sync_one.Goals as goal

@@ -1,8 +1,8 @@
 use Rattle.std.proofs.Common.{◌≡◌, ◌∙◌, Bool, IsTrue, List, ap, refl, sym, subst}
 use Rattle.qq_disk.specs.declared.name.FileName.{FileName}
 use Rattle.qq_disk.specs.Disk.{IsListing, now}
-use Rattle.qq_chain.specs.Chain.{Logs}
-use Rattle.qq_chain.specs.Promise.{sync_all}
+use Rattle.qq_wal_chain.specs.Chain.{Logs}
+use Rattle.qq_wal_chain.specs.Promise.{sync_all}
 use Rattle.qq_recover.specs.declared.start.Start.{Start}
 use Rattle.qq_recover.specs.Answer.{Fails}
 use Rattle.qq_recover.specs.Reading.{lanes_read}

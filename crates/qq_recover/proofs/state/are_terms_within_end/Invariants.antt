@@ -1,6 +1,6 @@
 use Rattle.std.proofs.Common.{◌≡◌, length}
 use Rattle.std.specs.List.{list_all}
-use Rattle.qq_chain.specs.Lanes.{is_within_end}
+use Rattle.qq_wal_chain.specs.Lanes.{is_within_end}
 use Rattle.qq_recover.proofs.state.are_terms_within_end.Given as goal
 
 abbrev pub invariant-entries : goal.invariant-entries

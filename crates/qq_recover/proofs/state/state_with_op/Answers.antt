@@ -2,7 +2,7 @@ use Rattle.std.proofs.Common.{◌≡◌, ◌∙◌, true, false, List, ap, sym, 
 use Rattle.qq_entry.specs.declared.command.Entry.{Entry}
 use Rattle.qq_log.specs.declared.op.Op.{Op}
 use Rattle.qq_log.specs.declared.op.Op.TheVariants.{Change}
-use Rattle.qq_chain.specs.Lanes.{is_op_within_ends}
+use Rattle.qq_wal_chain.specs.Lanes.{is_op_within_ends}
 use Rattle.qq_recover.specs.State.{state_with_op}
 use Rattle.qq_recover.proofs.States.{change-outside}
 use Rattle.qq_recover.proofs.state.state_with_op.Goals as goal

@@ -1,7 +1,7 @@
 use Rattle.std.proofs.Common.{◌≡◌, ◌∙◌, ◌<◌, ℕ, [], List, Some, None, Ok, option_map, ap, sym, subst, arith, rules}
 use Rattle.qq_disk.specs.Disk.{Disk, now, IsListing}
-use Rattle.qq_chain.specs.Chain.{good_length}
-use Rattle.qq_chain.specs.Wal.{wal}
+use Rattle.qq_wal_chain.specs.Chain.{good_length}
+use Rattle.qq_wal_chain.specs.Wal.{wal}
 use Rattle.qq_recover.specs.declared.file.ChainFile.{ChainFile}
 use Rattle.qq_recover.specs.Answer.{Fails}
 use Rattle.qq_recover.specs.Files.{file_at, good_end, chain_files}

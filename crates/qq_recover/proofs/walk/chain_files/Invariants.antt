@@ -1,8 +1,8 @@
 use Rattle.std.proofs.Common.{◌≡◌, ◌≤◌, List, IsTrue}
 use Rattle.qq_base.specs.declared.ids.QueueId.{QueueId}
 use Rattle.qq_disk.specs.Disk.{now, IsListing}
-use Rattle.qq_chain.specs.Chain.{good_length}
-use Rattle.qq_chain.specs.Wal.{wal}
+use Rattle.qq_wal_chain.specs.Chain.{good_length}
+use Rattle.qq_wal_chain.specs.Wal.{wal}
 use Rattle.qq_recover.specs.Files.{chain_files}
 use Rattle.qq_wal.specs.Running.{top}
 use Rattle.qq_recover.specs.Reading.{shown}

@@ -1,6 +1,6 @@
 use Rattle.std.proofs.Common.{◌≡◌, ◌≤◌, ◌-◌, length, take}
 use Rattle.std.specs.List.{AllByRecursion}
-use Rattle.qq_chain.specs.Wal.{RecordFits}
+use Rattle.qq_wal_chain.specs.Wal.{RecordFits}
 use Rattle.qq_wal.specs.declared.batch.TheConstants.{BATCH_OPS, BATCH_BYTES}
 use Rattle.qq_wal.specs.Batch.{encodings}
 use Rattle.qq_wal.proofs.batch.put_batch.Given as goal

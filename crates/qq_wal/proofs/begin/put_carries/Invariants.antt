@@ -1,7 +1,7 @@
 use Rattle.std.proofs.Common.{◌≡◌, ◌++◌, take, map}
 use Rattle.std.specs.List.{AllByRecursion}
 use Rattle.qq_wal_record.specs.declared.record.LogRecord.TheVariants.{Carry as CarryRecord}
-use Rattle.qq_chain.specs.Wal.{RecordFits}
+use Rattle.qq_wal_chain.specs.Wal.{RecordFits}
 use Rattle.qq_wal.specs.Batch.{encodings}
 use Rattle.qq_wal.specs.Marks.{carries_in}
 use Rattle.qq_wal.proofs.begin.put_carries.Given as goal

@@ -2,10 +2,10 @@ use Rattle.std.proofs.Common.{ap, ◌∙◌, rules}
 use Rattle.std.proofs.lemmas.Result.{on_ok_weaker}
 use Rattle.qq_disk.specs.Disk.{Disk, now}
 use Rattle.qq_disk.specs.Image.{log_of}
-use Rattle.qq_chain.specs.Image.{files_of, shown_logs}
-use Rattle.qq_chain.specs.Wal.{wal}
-use Rattle.qq_chain.proofs.Calls.{sync-stays}
-use Rattle.qq_chain.proofs.Settling.{shown-sync}
+use Rattle.qq_wal_chain.specs.Image.{files_of, shown_logs}
+use Rattle.qq_wal_chain.specs.Wal.{wal}
+use Rattle.qq_wal_chain.proofs.Calls.{sync-stays}
+use Rattle.qq_wal_chain.proofs.Settling.{shown-sync}
 use Rattle.qq_wal.specs.Running.{top}
 use Rattle.qq_wal.proofs.Steps.{sync-log, sync-notices}
 use Rattle.qq_wal.proofs.Batches.{clean-notices}

@@ -1,7 +1,7 @@
 use Rattle.std.proofs.Common.{◌≡◌, ◌⊎◌, ◌+◌, ◌<◌, ℕ, true, Option, Some, None, IfSome, is_some, List, sym, ap, ◌∙◌, subst, refl, arith}
 use Rattle.qq_model.specs.declared.place.Key.TheVariants.{Back}
 use Rattle.qq_model.specs.declared.place.Place.TheVariants.{Ready}
-use Rattle.qq_gone.specs.Reduced.{Item}
+use Rattle.qq_parts.specs.Reduced.{Item}
 use Rattle.qq_parts.specs.Parts.{Served}
 use Rattle.qq_consumer.specs.Numbers.{AreBelow}
 use Rattle.qq_consumer.specs.Roster.{ConsumersState, item_at}

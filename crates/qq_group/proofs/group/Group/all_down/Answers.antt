@@ -1,7 +1,7 @@
 use Rattle.std.proofs.Common.{rules, sym, subst}
 use Rattle.std.specs.Prelude.{All}
 use Rattle.std.proofs.lemmas.List.Elements.{All-nil}
-use Rattle.qq_raft.specs.Ends.{IsSendable}
+use Rattle.qq_raft_core.specs.Ends.{IsSendable}
 use Rattle.qq_raft_msg.specs.Rpc.{IsNode}
 use Rattle.qq_group.proofs.Restarting.{empty-returned, empty-served}
 use Rattle.qq_group.proofs.group.Group.all_down.Goals as goal

@@ -1,8 +1,8 @@
 use Rattle.std.proofs.Common.{subst}
 use Rattle.std.specs.Prelude.{OnErr}
 use Rattle.qq_raft_msg.specs.declared.envelope.Envelope.{Envelope}
-use Rattle.qq_group_model.specs.Group.{happens}
-use Rattle.qq_group_model.specs.Group.Event.{Crash}
+use Rattle.qq_raft_model.specs.Group.{happens}
+use Rattle.qq_raft_model.specs.Group.Event.{Crash}
 use Rattle.qq_group.specs.Follows.{Makes}
 use Rattle.qq_group.proofs.group.Group.hand_on.Goals as goal
 

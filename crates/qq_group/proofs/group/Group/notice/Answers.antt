@@ -1,7 +1,7 @@
 use Rattle.std.proofs.Common.{refl, subst, sym}
 use Rattle.std.proofs.lemmas.Result.{on_ok_weaker}
-use Rattle.qq_raft_step.specs.Server.{Input}
-use Rattle.qq_group_model.specs.Group.{Event}
+use Rattle.qq_raft_model.specs.Server.{Input}
+use Rattle.qq_raft_model.specs.Group.{Event}
 use Rattle.qq_group.specs.Events.{lacks_op, notices}
 use Rattle.qq_group.specs.Follows.{Follows}
 use Rattle.qq_group.proofs.Following.{feeds-follows}

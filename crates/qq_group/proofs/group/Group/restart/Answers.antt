@@ -2,9 +2,9 @@ use Rattle.std.proofs.Common.{List, refl, ap, subst, sym, ◌∙◌}
 use Rattle.std.specs.Bool.{Decides}
 use Rattle.std.specs.Prelude.{slice_get}
 use Rattle.qq_base.specs.declared.ids.NodeId.{NodeId}
-use Rattle.qq_history.specs.declared.state.DiskState.{DiskState}
-use Rattle.qq_raft.specs.Raft.{lane_of}
-use Rattle.qq_raft_step.specs.Server.{restart}
+use Rattle.qq_group_history.specs.declared.state.DiskState.{DiskState}
+use Rattle.qq_raft_core.specs.Raft.{lane_of}
+use Rattle.qq_raft_model.specs.Server.{restart}
 use Rattle.qq_group.specs.Restarts.{IsIntactAt, IsRestartCaused, IsStarted}
 use Rattle.qq_group.proofs.Restarting.{finds, has-started, loses, restarts, started-others}
 use Rattle.qq_group.proofs.group.Group.restart.Goals as goal

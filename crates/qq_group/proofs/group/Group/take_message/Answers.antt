@@ -1,6 +1,6 @@
 use Rattle.std.proofs.Common.{List, subst, sym}
 use Rattle.std.specs.Prelude.{All}
-use Rattle.qq_raft.specs.Ends.{IsSendable}
+use Rattle.qq_raft_core.specs.Ends.{IsSendable}
 use Rattle.qq_raft_msg.specs.declared.rpc.Rpc.{Rpc}
 use Rattle.qq_group.proofs.Travel.{all-at, all-without}
 use Rattle.qq_group.proofs.group.Group.take_message.Goals as goal

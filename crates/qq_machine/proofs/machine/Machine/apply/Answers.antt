@@ -2,8 +2,8 @@ use Rattle.std.proofs.Common.{ℕ, refl, ap, sym, ◌∙◌, subst}
 use Rattle.qq_base.specs.declared.ids.Index.{Index}
 use Rattle.qq_model.specs.Audit.{next_step}
 use Rattle.qq_parts.specs.Parts.{Parts, IsWhole}
-use Rattle.qq_parts_step.specs.Step.{PartsStep, parts_step, StepsFor}
-use Rattle.qq_parts_step.proofs.Stepping.{steps}
+use Rattle.qq_parts.specs.Step.{PartsStep, parts_step, StepsFor}
+use Rattle.qq_parts.proofs.Stepping.{steps}
 use Rattle.qq_machine.specs.Within.{are_within}
 use Rattle.qq_machine.specs.Views.{content_of, base_of}
 use Rattle.qq_machine.proofs.Lows.{holds-on}

@@ -3,9 +3,9 @@ use Rattle.std.specs.Prelude.{is_some}
 use Rattle.qq_model.specs.declared.place.Place.TheVariants.{Ready}
 use Rattle.qq_parts.specs.Parts.{Parts}
 use Rattle.qq_parts.specs.Changes.{take_first}
-use Rattle.qq_parts_step.specs.Work.{Work, with_parts}
-use Rattle.qq_parts_step.specs.Follows.{next_one, parts_check_out}
-use Rattle.qq_parts_step.specs.Commands.{one_of}
+use Rattle.qq_parts.specs.Work.{Work, with_parts}
+use Rattle.qq_parts.specs.Follows.{next_one, parts_check_out}
+use Rattle.qq_parts.specs.Commands.{one_of}
 use Rattle.qq_consumer.specs.Roster.{item_at}
 use Rattle.qq_machine.specs.Counted.{RosterTracked}
 use Rattle.qq_consumer.specs.Turns.{waiting_turn}

@@ -1,6 +1,6 @@
 use Rattle.std.proofs.Common.{ℕ, ◌-◌, ap, sym, ◌∙◌, arith}
 use Rattle.qq_model.specs.Changes.{while_next}
-use Rattle.qq_parts_step.specs.Follows.{parts_check_out, parts_check_out_all}
+use Rattle.qq_parts.specs.Follows.{parts_check_out, parts_check_out_all}
 use Rattle.qq_machine.specs.Views.{work_of}
 use Rattle.qq_machine.proofs.Lists.{while_next-more, while_next-over}
 use Rattle.qq_machine.proofs.Ready.{ready_count}

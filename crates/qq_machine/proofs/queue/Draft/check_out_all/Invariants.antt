@@ -1,6 +1,6 @@
 use Rattle.std.proofs.Common.{◌≡◌, ◌-◌}
 use Rattle.qq_model.specs.Changes.{while_next}
-use Rattle.qq_parts_step.specs.Follows.{parts_check_out}
+use Rattle.qq_parts.specs.Follows.{parts_check_out}
 use Rattle.qq_machine.specs.Views.{KeepsBase, work_of}
 use Rattle.qq_machine.proofs.queue.Draft.check_out_all.Given as goal
 

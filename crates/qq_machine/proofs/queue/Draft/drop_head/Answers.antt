@@ -1,6 +1,6 @@
 use Rattle.std.proofs.Common.{ap}
 use Rattle.qq_parts.specs.Parts.{Parts}
-use Rattle.qq_parts_step.specs.Work.{with_parts}
+use Rattle.qq_parts.specs.Work.{with_parts}
 use Rattle.qq_machine.specs.Views.{work_of}
 use Rattle.qq_machine.proofs.Lists.{if-none}
 use Rattle.qq_machine.proofs.queue.Draft.drop_head.Goals as goal

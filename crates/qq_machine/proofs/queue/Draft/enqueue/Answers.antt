@@ -2,8 +2,8 @@ use Rattle.std.proofs.Common.{Option, ap, sym, ◌∙◌}
 use Rattle.qq_entry.specs.declared.answer.Answer.TheVariants as answer
 use Rattle.qq_entry.specs.declared.answer.Full.{Full}
 use Rattle.qq_parts.specs.Parts.{Parts}
-use Rattle.qq_parts_step.specs.Work.{say, with_parts}
-use Rattle.qq_parts_step.specs.Commands.{parts_enqueue, parts_enqueue_by}
+use Rattle.qq_parts.specs.Work.{say, with_parts}
+use Rattle.qq_parts.specs.Commands.{parts_enqueue, parts_enqueue_by}
 use Rattle.qq_machine.specs.Views.{work_of}
 use Rattle.qq_machine.proofs.queue.Draft.enqueue.Goals as goal
 

@@ -3,8 +3,8 @@ use Rattle.std.proofs.lemmas.Bool.{cond-false}
 use Rattle.qq_entry.specs.declared.answer.Answer.TheVariants as answer
 use Rattle.qq_parts.specs.Parts.{Parts}
 use Rattle.qq_parts.specs.Changes.{Taken}
-use Rattle.qq_parts_step.specs.Work.{say, with_parts}
-use Rattle.qq_parts_step.specs.Commands.{parts_get, parts_get_by}
+use Rattle.qq_parts.specs.Work.{say, with_parts}
+use Rattle.qq_parts.specs.Commands.{parts_get, parts_get_by}
 use Rattle.qq_machine.specs.Views.{work_of}
 use Rattle.qq_machine.proofs.Lists.{if-none}
 use Rattle.qq_machine.proofs.queue.Draft.get.Goals as goal

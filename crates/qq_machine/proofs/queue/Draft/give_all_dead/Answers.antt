@@ -1,7 +1,7 @@
 use Rattle.std.proofs.Common.{ℕ, ◌-◌, ap, sym, ◌∙◌, arith}
 use Rattle.std.proofs.lemmas.List.{length-map}
 use Rattle.qq_model.specs.Changes.{while_next}
-use Rattle.qq_parts_step.specs.Follows.{parts_give_dead, parts_give_all_dead}
+use Rattle.qq_parts.specs.Follows.{parts_give_dead, parts_give_all_dead}
 use Rattle.qq_machine.specs.Views.{work_of, dead_item}
 use Rattle.qq_machine.proofs.Lists.{while_next-more, while_next-over}
 use Rattle.qq_machine.proofs.queue.Draft.give_all_dead.Goals as goal

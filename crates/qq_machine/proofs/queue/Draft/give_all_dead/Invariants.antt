@@ -1,6 +1,6 @@
 use Rattle.std.proofs.Common.{◌≡◌, ◌-◌}
 use Rattle.qq_model.specs.Changes.{while_next}
-use Rattle.qq_parts_step.specs.Follows.{parts_give_dead}
+use Rattle.qq_parts.specs.Follows.{parts_give_dead}
 use Rattle.qq_machine.specs.Views.{KeepsBase, work_of}
 use Rattle.qq_machine.proofs.queue.Draft.give_all_dead.Given as goal
 

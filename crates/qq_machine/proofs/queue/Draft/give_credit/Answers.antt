@@ -1,6 +1,6 @@
 use Rattle.std.proofs.Common.{◌+◌, refl}
-use Rattle.qq_parts_step.specs.Work.{Work}
-use Rattle.qq_parts_step.specs.Commands.{one_of, parts_give_credit}
+use Rattle.qq_parts.specs.Work.{Work}
+use Rattle.qq_parts.specs.Commands.{one_of, parts_give_credit}
 use Rattle.qq_machine.specs.Views.{work_of}
 use Rattle.qq_machine.proofs.Changing.{credits}
 use Rattle.qq_machine.proofs.queue.Draft.give_credit.Goals as goal

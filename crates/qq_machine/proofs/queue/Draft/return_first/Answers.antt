@@ -3,8 +3,8 @@ use Rattle.qq_model.specs.declared.place.Key.TheVariants.{Back}
 use Rattle.qq_model.specs.declared.place.Place.{Place}
 use Rattle.qq_model.specs.declared.place.Place.TheVariants.{Ready}
 use Rattle.qq_parts.specs.Parts.{Served}
-use Rattle.qq_parts_step.specs.AtOnce.{first_of_session}
-use Rattle.qq_parts_step.proofs.AtOnce.{nobody_goes}
+use Rattle.qq_parts.specs.AtOnce.{first_of_session}
+use Rattle.qq_parts.proofs.AtOnce.{nobody_goes}
 use Rattle.std.specs.Option.{option_map}
 use Rattle.qq_consumer.specs.declared.row.ConsumerRow.{ConsumerRow}
 use Rattle.qq_consumer.specs.Roster.{Roster, end_by, served_of}

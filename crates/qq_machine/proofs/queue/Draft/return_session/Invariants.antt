@@ -1,5 +1,5 @@
 use Rattle.std.proofs.Common.{◌≡◌, length}
-use Rattle.qq_parts_step.specs.Commands.{parts_return_session}
+use Rattle.qq_parts.specs.Commands.{parts_return_session}
 use Rattle.qq_machine.specs.Views.{KeepsBase, work_of}
 use Rattle.qq_machine.proofs.queue.Draft.return_session.Given as goal
 

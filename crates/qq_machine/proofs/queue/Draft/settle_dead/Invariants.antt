@@ -1,6 +1,6 @@
 use Rattle.std.proofs.Common.{◌≡◌, drop, fold}
 use Rattle.qq_entry.specs.declared.command.DeadDone.{DeadDone}
-use Rattle.qq_parts_step.specs.Commands.{DeadSettled, parts_settle_dead_by, take_given, parts_settle_dead}
+use Rattle.qq_parts.specs.Commands.{DeadSettled, parts_settle_dead_by, take_given, parts_settle_dead}
 use Rattle.qq_machine.specs.Views.{KeepsBase, work_of}
 use Rattle.qq_machine.proofs.queue.Draft.settle_dead.Given as goal
 

@@ -1,5 +1,5 @@
 use Rattle.std.proofs.Common.{ℕ, ◌+◌, Bool, ap, sym, ◌∙◌, if◌then◌else◌}
-use Rattle.qq_parts_step.specs.Commands.{DeadSettled}
+use Rattle.qq_parts.specs.Commands.{DeadSettled}
 use Rattle.qq_machine.specs.Views.{work_of}
 use Rattle.qq_machine.proofs.Dead.{with_letters, settles-one}
 use Rattle.qq_machine.proofs.queue.Draft.settle_one.Goals as goal

@@ -1,5 +1,5 @@
 use Rattle.std.proofs.Common.{ap, ◌∙◌}
-use Rattle.qq_parts_step.specs.Step.{PartsStep}
+use Rattle.qq_parts.specs.Step.{PartsStep}
 use Rattle.qq_machine.specs.Within.{are_within}
 use Rattle.qq_machine.proofs.NumberEnds.{spent_where}
 use Rattle.qq_machine.proofs.queue.Draft.step_within.Goals as goal

@@ -3,7 +3,7 @@ use Rattle.qq_log.specs.declared.lane.Carry.{Carry}
 use Rattle.qq_log.specs.Stable.{carry_of}
 use Rattle.qq_log.specs.Writable.{IsWritableCarry}
 use Rattle.qq_recover.specs.State.{known_state}
-use Rattle.qq_chain.specs.Lanes.{is_carry_within_ends, is_plain}
+use Rattle.qq_wal_chain.specs.Lanes.{is_carry_within_ends, is_plain}
 use Rattle.qq_recover.proofs.States.{carry-is, carry-writable}
 use Rattle.qq_recover.proofs.state.State.carry.Goals as goal
 

@@ -4,9 +4,9 @@ use Rattle.qq_disk.specs.Disk.{now}
 use Rattle.qq_log.specs.Stable.{carry_of}
 use Rattle.qq_wal_record.specs.declared.header.Header.{Header}
 use Rattle.qq_wal_record.specs.declared.record.LogRecord.TheVariants.{Carry as CarryRecord}
-use Rattle.qq_chain.specs.Image.{files_of}
-use Rattle.qq_chain.specs.Promise.{found_behind}
-use Rattle.qq_chain.specs.Wal.{wal, Ours}
+use Rattle.qq_wal_chain.specs.Image.{files_of}
+use Rattle.qq_wal_chain.specs.Promise.{found_behind}
+use Rattle.qq_wal_chain.specs.Wal.{wal, Ours}
 use Rattle.qq_wal.specs.Marks.{carries_in}
 use Rattle.qq_wal.specs.declared.marks.Mark.{Mark}
 use Rattle.qq_wal.specs.Ranges.{begin_files, ranges_in}

@@ -1,0 +1,12 @@
+pub mod Answers
+pub mod Asking
+pub mod Endings
+pub mod Inputs
+pub mod Pieces
+pub mod Printing
+pub mod Reading
+pub mod Runs
+pub mod Service
+pub mod Serving
+pub mod Statuses
+pub mod Troubles

@@ -1,5 +1,0 @@
-use Rattle.qq_chain.proofs.Promised.{crash-keeps}
-use Rattle.qq_chain.proofs.laws.a_crash_keeps_the_promise.Goals as goal
-
-pub returns : goal.returns
-returns c = crash-keeps

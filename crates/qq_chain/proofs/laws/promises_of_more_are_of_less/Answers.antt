@@ -1,5 +1,0 @@
-use Rattle.qq_chain.proofs.Gives.{promise-weaker}
-use Rattle.qq_chain.proofs.laws.promises_of_more_are_of_less.Goals as goal
-
-pub returns : goal.returns
-returns c = promise-weaker

@@ -1,9 +1,0 @@
-mod Machines
-mod Audits
-mod ShortOps
-mod Ranges
-mod TakenUp
-mod KnownClients
-mod Sending
-mod Showing
-mod Noticing

@@ -1,8 +1,0 @@
-use Rattle.qq_disk_laws.proofs.Runs.{may_hold, after_some}
-use Rattle.qq_disk_laws.proofs.moments.calls_that_fail_are_calls.Goals as goal
-
-pub returns-clause-ok : goal.returns-clause-ok
-returns-clause-ok c = may_hold
-
-pub returns-clause-each : goal.returns-clause-each
-returns-clause-each c = after_some

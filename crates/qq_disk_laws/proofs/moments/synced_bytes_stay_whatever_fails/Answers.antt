@@ -1,5 +1,0 @@
-use Rattle.qq_disk_laws.proofs.Runs.{stays_whatever_fails}
-use Rattle.qq_disk_laws.proofs.moments.synced_bytes_stay_whatever_fails.Goals as goal
-
-pub returns : goal.returns
-returns c = stays_whatever_fails

@@ -1,0 +1,11 @@
+mod Buffers
+mod Fresh
+mod Held
+mod InOrder
+mod Left
+mod Lying
+mod Named
+mod Numbers
+mod Runs
+mod Sizes
+mod Worn

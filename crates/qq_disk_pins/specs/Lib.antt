@@ -1,0 +1,5 @@
+pub mod Batches
+pub mod Images
+pub mod Runs
+pub mod Told
+pub mod WornDisk

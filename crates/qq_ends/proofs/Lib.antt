@@ -1,4 +1,0 @@
-pub mod Drawn
-pub mod Counts
-pub mod Numbers
-pub mod Within

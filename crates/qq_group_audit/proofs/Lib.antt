@@ -1,6 +1,0 @@
-mod Applying
-mod EventLaws
-mod Events
-mod Refused
-mod Rows
-mod Servers

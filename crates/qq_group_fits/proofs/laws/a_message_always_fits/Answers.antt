@@ -1,6 +1,0 @@
-use Rattle.qq_group_fits.proofs.Fitting.{message-fits}
-use Rattle.qq_group_fits.proofs.laws.a_message_always_fits.Goals as goal
-
-pub returns : goal.returns
-returns g c = λ h group rpc s reached r sound here up.
-    message-fits g.L.LogView.log h group rpc s reached r sound.bag here up

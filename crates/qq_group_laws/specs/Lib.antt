@@ -1,0 +1,3 @@
+pub mod Addressed
+pub mod Audited
+pub mod Plain

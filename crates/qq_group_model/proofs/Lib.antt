@@ -1,7 +1,0 @@
-mod Feeding
-mod Happening
-mod Members
-mod Promises
-mod Restarting
-mod Terms
-mod Tied

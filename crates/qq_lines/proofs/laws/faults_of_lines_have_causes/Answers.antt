@@ -1,5 +1,0 @@
-use Rattle.qq_lines.proofs.Causes.{cause_told}
-use Rattle.qq_lines.proofs.laws.faults_of_lines_have_causes.Goals as goal
-
-pub returns : goal.returns
-returns c = cause_told

@@ -1,5 +1,0 @@
-use Rattle.qq_lines.proofs.Writings.{decimal_text}
-use Rattle.qq_lines.proofs.laws.numbers_are_decimal_texts.Goals as goal
-
-pub returns : goal.returns
-returns c = decimal_text

@@ -1,8 +1,0 @@
-pub mod Words
-pub mod Numbers
-pub mod Names
-pub mod Bodies
-pub mod Images
-pub mod Kinds
-pub mod Calls
-pub mod Lines

@@ -1,4 +1,0 @@
-mod Sizes
-mod Numbers
-mod Lying
-mod InOrder

@@ -1,3 +1,0 @@
-mod Sound
-mod LowMark
-mod Moved

@@ -1,7 +1,0 @@
-use Rattle.qq_laws.specs.Always.{queue_after}
-use Rattle.qq_number_laws.proofs.Moved.{moves-live}
-use Rattle.qq_number_laws.proofs.moves.entries_move_what_is_live.Goals as goal
-
-pub returns : goal.returns
-returns c = λ args entries entry k row.
-    moves-live (queue_after args entries) entry k row (c.entries_move_messages.ensures args entries entry)

@@ -1,5 +1,0 @@
-use Rattle.qq_parts.proofs.Serving.{serves_all}
-use Rattle.qq_parts.proofs.all_checkouts_are_made.Goals as goal
-
-pub returns : goal.returns
-returns c = serves_all

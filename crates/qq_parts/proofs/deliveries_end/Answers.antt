@@ -1,5 +1,0 @@
-use Rattle.qq_parts.proofs.Ending.{may_end}
-use Rattle.qq_parts.proofs.deliveries_end.Goals as goal
-
-pub returns : goal.returns
-returns c = may_end

@@ -1,5 +1,0 @@
-use Rattle.qq_parts.proofs.Waiting.{in_turn}
-use Rattle.qq_parts.proofs.turns_are_a_queue.Goals as goal
-
-pub returns : goal.returns
-returns c = in_turn

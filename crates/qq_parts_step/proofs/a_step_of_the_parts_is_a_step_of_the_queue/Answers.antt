@@ -1,5 +1,0 @@
-use Rattle.qq_parts_step.proofs.Stepping.{steps}
-use Rattle.qq_parts_step.proofs.a_step_of_the_parts_is_a_step_of_the_queue.Goals as goal
-
-pub returns : goal.returns
-returns c = steps

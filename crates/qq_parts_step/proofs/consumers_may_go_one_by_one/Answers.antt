@@ -1,5 +1,0 @@
-use Rattle.qq_parts_step.proofs.AtOnce.{goes_first, nobody_goes}
-use Rattle.qq_parts_step.proofs.consumers_may_go_one_by_one.Goals as goal
-
-pub returns : goal.returns
-returns c = record { first = goes_first; over = nobody_goes }

@@ -1,5 +1,0 @@
-use Rattle.qq_parts_step.proofs.Ending.{ends-all}
-use Rattle.qq_parts_step.proofs.deliveries_end_in_order.Goals as goal
-
-pub returns : goal.returns
-returns c = λ t p outcome consumer ids it. ends-all outcome consumer ids t p it

@@ -1,5 +1,0 @@
-use Rattle.qq_parts_step.proofs.AtOnce.{finishes_at_once}
-use Rattle.qq_parts_step.proofs.ids_may_be_cut_at_once.Goals as goal
-
-pub returns : goal.returns
-returns c = finishes_at_once

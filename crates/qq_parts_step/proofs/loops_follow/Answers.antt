@@ -1,5 +1,0 @@
-use Rattle.qq_parts_step.proofs.Following.{checks_out, keeps_limits, gives_all}
-use Rattle.qq_parts_step.proofs.loops_follow.Goals as goal
-
-pub returns : goal.returns
-returns c = record { delivered = checks_out; limited = keeps_limits; given = gives_all }

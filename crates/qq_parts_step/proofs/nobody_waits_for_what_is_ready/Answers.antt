@@ -1,5 +1,0 @@
-use Rattle.qq_parts_step.proofs.Between.{next-served}
-use Rattle.qq_parts_step.proofs.nobody_waits_for_what_is_ready.Goals as goal
-
-pub returns : goal.returns
-returns c = next-served

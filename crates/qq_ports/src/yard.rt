@@ -1,0 +1,47 @@
+ghost use Rattle.std.specs.Prelude.{◌≡◌, ℕ, IsTrue, IfOk, IfNone};
+ghost use Rattle.qq_base.specs.Causes.{HasCause};
+ghost use Rattle.qq_ports.specs.Yard.{IsYardCaused, IsNew, IsAfterCrash};
+
+use crate::YardFault;
+use qq_base::NodeId;
+use qq_disk::{Image, NodeDisk};
+use std::alloc::Global;
+
+/// Where the disks of nodes come from.
+pub trait Yard {
+    /// A node's disk, which a thread of its own may write.
+    type Disk: NodeDisk + Send;
+
+    /// How often the yard has failed. The count never falls, and stops at 2^64 - 1.
+    ghost faults: { Self → ℕ };
+
+    /// The disk of a node under a root.
+    ///
+    /// - `empty`: without a root nothing was ever on the disk, where it tells its contents.
+    /// - `cause`: it fails only at a counted fault.
+    fn disk(
+        &mut self,
+        alloc: Global,
+        root: Option<&str>,
+        node: NodeId,
+    ) -> Result<Self::Disk, YardFault>
+        ensures empty { IfNone root.entry (IfOk result (λ disk.
+            IsTrue (Self.Disk.tells disk) → IsNew (Self.Disk.past disk))) }
+        ensures cause { HasCause IsYardCaused (faults self.old) (faults self.new) result };
+
+    /// The disk after a crash. Where the call is refused, the disk is given up.
+    ///
+    /// - `left`: a disk that tells its contents holds what the image names, and no moment came before.
+    /// - `told`: the disk tells its contents as before.
+    /// - `cause`: it fails only at a counted fault.
+    fn crash(
+        &mut self,
+        alloc: Global,
+        disk: Self::Disk,
+        image: &Image,
+    ) -> Result<Self::Disk, YardFault>
+        ensures left { IsTrue (Self.Disk.tells disk) → IfOk result (λ after.
+            IsAfterCrash image.now (Self.Disk.past disk) (Self.Disk.past after)) }
+        ensures told { IfOk result (λ after. Self.Disk.tells after ≡ Self.Disk.tells disk) }
+        ensures cause { HasCause IsYardCaused (faults self.old) (faults self.new) result };
+}

@@ -1,0 +1,3 @@
+mod LowMark
+mod Moved
+mod Sound

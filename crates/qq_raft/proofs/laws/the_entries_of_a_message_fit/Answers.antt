@@ -1,6 +1,0 @@
-use Rattle.std.proofs.lemmas.Bool.{le-leb}
-use Rattle.qq_raft.proofs.Ranges.{batch_short}
-use Rattle.qq_raft.proofs.laws.the_entries_of_a_message_fit.Goals as goal
-
-pub returns : goal.returns
-returns c = λ entries all. le-leb _ _ (batch_short c.entries_read_back.ensures.short entries all)

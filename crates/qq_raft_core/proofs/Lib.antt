@@ -1,0 +1,10 @@
+mod Commits
+pub mod Entries
+mod Fitting
+mod Holding
+mod Members
+mod Pushes
+mod Ranges
+mod Said
+mod Sendable
+mod Waits

@@ -1,0 +1,5 @@
+pub mod Ends
+pub mod Fits
+pub mod Held
+pub mod Peers
+pub mod Raft

@@ -1,5 +1,0 @@
-use Rattle.qq_raft_model.proofs.Runs.{log-stays}
-use Rattle.qq_raft_model.proofs.laws.a_leader_only_appends.Goals as goal
-
-pub returns : goal.returns
-returns c = log-stays

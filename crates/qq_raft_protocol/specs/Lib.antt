@@ -1,0 +1,5 @@
+pub mod Example
+pub mod Facts
+pub mod Moves
+pub mod Safe
+pub mod World

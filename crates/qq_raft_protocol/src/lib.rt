@@ -1,0 +1,10 @@
+//! Raft among servers whose disks are durable late: what a group may do, and what holds of it whatever it
+//! does. It has no code.
+#![tactic(auto)]
+
+mod laws;
+
+pub use laws::{
+    a_group_may_commit, a_leader_has_all_of_its_term, a_leader_only_appends, servers_agree,
+    what_is_committed_stays,
+};

@@ -1,0 +1,2 @@
+mod MachineSteps
+pub mod SerialSteps

@@ -1,6 +1,0 @@
-use Rattle.qq_raft_step.proofs.Steps.{step-refines}
-use Rattle.qq_raft_step.proofs.laws.each_step_is_moves.Goals as goal
-
-pub returns : goal.returns
-returns c = λ members w k s input reached group st may.
-    step-refines input reached group st may

@@ -1,0 +1,51 @@
+use Rattle.std.proofs.Common.{refl}
+use Rattle.qq_script_lines.specs.Options.{read_options}
+use Rattle.qq_script_lines.proofs.option_laws.options_stand_in_any_order.Goals as goal
+
+pub returns-clause-none : goal.returns-clause-none
+unfolding read_options
+returns-clause-none c = refl
+
+pub returns-clause-both : goal.returns-clause-both
+unfolding read_options
+returns-clause-both c = refl
+
+pub returns-clause-turned : goal.returns-clause-turned
+unfolding read_options
+returns-clause-turned c = refl
+
+pub returns-clause-twice : goal.returns-clause-twice
+unfolding read_options
+returns-clause-twice c = refl
+
+pub returns-clause-no_value : goal.returns-clause-no_value
+unfolding read_options
+returns-clause-no_value c = refl
+
+pub returns-clause-empty : goal.returns-clause-empty
+unfolding read_options
+returns-clause-empty c = refl
+
+pub returns-clause-zero : goal.returns-clause-zero
+unfolding read_options
+returns-clause-zero c = refl
+
+pub returns-clause-many : goal.returns-clause-many
+unfolding read_options
+returns-clause-many c = refl
+
+pub returns-clause-least : goal.returns-clause-least
+unfolding read_options
+returns-clause-least c = refl
+
+pub returns-clause-most : goal.returns-clause-most
+unfolding read_options
+returns-clause-most c = refl
+
+pub returns-clause-other : goal.returns-clause-other
+unfolding read_options
+returns-clause-other c = refl
+
+pub returns-clause-no_words : goal.returns-clause-no_words
+unfolding read_options
+returns-clause-no_words c = refl

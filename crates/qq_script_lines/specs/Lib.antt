@@ -1,0 +1,9 @@
+pub mod Bodies
+pub mod Calls
+pub mod Images
+pub mod Kinds
+pub mod Lines
+pub mod Names
+pub mod Numbers
+pub mod Options
+pub mod Words

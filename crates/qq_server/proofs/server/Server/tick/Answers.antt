@@ -1,6 +1,0 @@
-use Rattle.std.proofs.Common.{refl}
-use Rattle.qq_server.proofs.server.Server.tick.Goals as goal
-
-pub returns-clause-ok : goal.returns-clause-ok
-returns-clause-ok g c = λ queue f.
-    record { raft = c.in_default.ensures.ok; queue = f; applied = refl; rows = refl }

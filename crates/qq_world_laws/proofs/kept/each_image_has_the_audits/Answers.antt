@@ -1,5 +1,0 @@
-use Rattle.qq_world_laws.proofs.Images.{images-have}
-use Rattle.qq_world_laws.proofs.kept.each_image_has_the_audits.Goals as goal
-
-pub returns : goal.returns
-returns c = images-have

@@ -1,3 +1,0 @@
-mod Counts
-mod Crashes
-mod Rows

@@ -1,5 +1,0 @@
-use Rattle.qq_yards.proofs.Crashes.{leaves_image}
-use Rattle.qq_yards.proofs.laws.a_crash_leaves_an_image.Goals as goal
-
-pub returns : goal.returns
-returns c = leaves_image

@@ -1,3 +1,0 @@
-pub mod FolderYard
-pub mod MemYard
-pub mod Yard
