@@ -1,4 +1,4 @@
 mod Plain
-mod Desks
+mod NodeQueues
 mod Asked
 mod Served

@@ -7,10 +7,10 @@ use Rattle.qq_base.specs.declared.ids.QueueId.{QueueId}
 use Rattle.qq_base.specs.declared.memory.Memory.TheVariants.{Want, Spent}
 use Rattle.qq_calls.specs.Queues.{node_setup}
 use Rattle.qq_calls.proofs.Queues.{places, first_is, name_is, args_is}
-use Rattle.qq_defs.specs.declared.members.QueueRow.{QueueRow}
-use Rattle.qq_defs.specs.declared.setup.Setup.{Setup}
-use Rattle.qq_defs.specs.Setup.{plain_row, plain_rows}
-use Rattle.qq_node_queue.specs.Desk.{DeskState}
+use Rattle.qq_setup.specs.declared.queue_row.QueueRow.{QueueRow}
+use Rattle.qq_setup.specs.declared.setup.Setup.{Setup}
+use Rattle.qq_setup.specs.Setup.{plain_row, plain_rows}
+use Rattle.qq_node_queue.specs.NodeQueue.{NodeQueueState}
 use Rattle.qq_disk.specs.declared.image.Image.{Image}
 use Rattle.qq_disk.specs.Disk.{Disk, now}
 use Rattle.qq_node.specs.declared.node.Node.{Node as Held}
@@ -18,7 +18,7 @@ use Rattle.qq_node.specs.declared.opening.OpenFault.{OpenFault}
 use Rattle.qq_node.specs.declared.opening.OpenFault.TheVariants as open_fault
 use Rattle.qq_node.specs.declared.restarting.RestartFault.{RestartFault}
 use Rattle.qq_node.specs.declared.restarting.RestartFault.TheVariants as restart_fault
-use Rattle.qq_node.specs.Node.{IsDesk, AreDesks, Stands, disk_in}
+use Rattle.qq_node.specs.Node.{IsNodeQueue, AreNodeQueues, Stands, disk_in}
 use Rattle.qq_node.specs.Found.{as_told}
 use Rattle.qq_node.specs.Restarting.{HasCrashed, IsLostAsRead, IsLostIn, IsLostOf, IsSetFor, IsOpenCaused, IsRefusedBy, IsRestartCaused, lanes_in}
 use Rattle.qq_node_laws.specs.Reads.{queue_at, state_in}
@@ -38,7 +38,7 @@ use Rattle.qq_world.specs.Endings.{lost_text}
 use Rattle.qq_world.specs.Node.{Setup as NodeSetup, Node, Crashes, new_node, is_first}
 use Rattle.qq_world.specs.Rules.{Line, Crash, Restart, IsOpening}
 use Rattle.qq_world.specs.World.{new_world}
-use Rattle.qq_broker.specs.Queues.{queue_of, IsNewDesk, AreNewDesks}
+use Rattle.qq_broker.specs.Queues.{queue_of, IsNewNodeQueue, AreNewNodeQueues}
 use Rattle.qq_ports.specs.Yard.{IsNew}
 use Rattle.qq_broker.specs.Nodes.{NumbersPlaces, IsNodeOf, IsMemoryStop, Meets, open_ending, restart_stop}
 use Rattle.qq_broker.proofs.Plain.{plain-apart, plain-queues}
@@ -191,10 +191,10 @@ has-opened tells past setup node a b before later numbers so = record {
 
 -- ---- the queues of an opening
 
-desk-is : (count a : ℕ) (first : Bool) (d : DeskState) → a < count
-    → is_first (node_setup (plain_rows 1 1 count)) (a + 1) ≡ first → IsNewDesk first (plain_row 1 1 a) d
-    → IsDesk (node_setup (plain_rows 1 1 count)) (new_node (node_setup (plain_rows 1 1 count))) (a + 1) d
-desk-is count a first d lt same is = record {
+node_queue-is : (count a : ℕ) (first : Bool) (d : NodeQueueState) → a < count
+    → is_first (node_setup (plain_rows 1 1 count)) (a + 1) ≡ first → IsNewNodeQueue first (plain_row 1 1 a) d
+    → IsNodeQueue (node_setup (plain_rows 1 1 count)) (new_node (node_setup (plain_rows 1 1 count))) (a + 1) d
+node_queue-is count a first d lt same is = record {
   world_is = is.world_is ∙ ap new_world (sym (args_is count a lt));
   name_is = is.name_is ∙ sym (name_is count a lt);
   first_is = is.first_is ∙ sym same;
@@ -206,41 +206,41 @@ later-place a positive = elim (cases_Bool (nat_eq (a + 1) 1)) [
   | inr other ↦ other
 ]
 
-desks-rest : (count a n : ℕ) (desks : List DeskState) → 0 < a → a + n ≤ count
-    → AreNewDesks false (map (plain_row 1 1) (range_with_len a n)) desks
-    → AreDesks (node_setup (plain_rows 1 1 count)) (new_node (node_setup (plain_rows 1 1 count)))
-    (range_with_len (a + 1) n) desks
-desks-rest count a zero [] positive le are = tt
-desks-rest count a zero (d ∷ desks) positive le are = absurd are
-desks-rest count a (suc n) [] positive le are = absurd are
-desks-rest count a (suc n) (d ∷ desks) positive le are = (
-  desk-is count a false d (omega (arith, le))
+node_queues-rest : (count a n : ℕ) (node_queues : List NodeQueueState) → 0 < a → a + n ≤ count
+    → AreNewNodeQueues false (map (plain_row 1 1) (range_with_len a n)) node_queues
+    → AreNodeQueues (node_setup (plain_rows 1 1 count)) (new_node (node_setup (plain_rows 1 1 count)))
+    (range_with_len (a + 1) n) node_queues
+node_queues-rest count a zero [] positive le are = tt
+node_queues-rest count a zero (d ∷ node_queues) positive le are = absurd are
+node_queues-rest count a (suc n) [] positive le are = absurd are
+node_queues-rest count a (suc n) (d ∷ node_queues) positive le are = (
+  node_queue-is count a false d (omega (arith, le))
       (ap (nat_eq (a + 1)) (first_is count (omega (arith, positive, le))) ∙ later-place a positive) are.0,
-  desks-rest count (a + 1) n desks (omega arith) (omega (arith, le)) are.1,
+  node_queues-rest count (a + 1) n node_queues (omega arith) (omega (arith, le)) are.1,
 )
 
-desks-all : (count : ℕ) (desks : List DeskState) → AreNewDesks true (plain_rows 1 1 count) desks
-    → AreDesks (node_setup (plain_rows 1 1 count)) (new_node (node_setup (plain_rows 1 1 count)))
-    (range_with_len 1 count) desks
-desks-all zero [] are = tt
-desks-all zero (d ∷ desks) are = absurd are
-desks-all (suc n) [] are = absurd are
-desks-all (suc n) (d ∷ desks) are = (
-  desk-is (suc n) 0 true d (omega arith) (ap (nat_eq 1) (first_is (suc n) (omega arith))) are.0,
-  desks-rest (suc n) 1 n desks (omega arith) (omega arith) are.1,
+node_queues-all : (count : ℕ) (node_queues : List NodeQueueState) → AreNewNodeQueues true (plain_rows 1 1 count) node_queues
+    → AreNodeQueues (node_setup (plain_rows 1 1 count)) (new_node (node_setup (plain_rows 1 1 count)))
+    (range_with_len 1 count) node_queues
+node_queues-all zero [] are = tt
+node_queues-all zero (d ∷ node_queues) are = absurd are
+node_queues-all (suc n) [] are = absurd are
+node_queues-all (suc n) (d ∷ node_queues) are = (
+  node_queue-is (suc n) 0 true d (omega arith) (ap (nat_eq 1) (first_is (suc n) (omega arith))) are.0,
+  node_queues-rest (suc n) 1 n node_queues (omega arith) (omega arith) are.1,
 )
 
-pub set-for : (s : Setup) (queues : List QueueId) (desks : List DeskState) → IsPlain s
-    → queues ≡ map queue_of s.queues → AreNewDesks true s.queues desks
-    → IsSetFor (node_setup s.queues) queues desks
-set-for s queues desks plain is are = record {
+pub set-for : (s : Setup) (queues : List QueueId) (node_queues : List NodeQueueState) → IsPlain s
+    → queues ≡ map queue_of s.queues → AreNewNodeQueues true s.queues node_queues
+    → IsSetFor (node_setup s.queues) queues node_queues
+set-for s queues node_queues plain is are = record {
   queues_are = is ∙ plain-queues s plain;
   apart = plain-apart s plain;
-  desks_are = subst
-      (λ (rows : List QueueRow). AreDesks (node_setup rows) (new_node (node_setup rows)) (node_setup rows).places desks)
+  node_queues_are = subst
+      (λ (rows : List QueueRow). AreNodeQueues (node_setup rows) (new_node (node_setup rows)) (node_setup rows).places node_queues)
       (sym plain.is)
-      (subst (λ (l : List ℕ). AreDesks (node_setup (plain_rows 1 1 plain.count))
-      (new_node (node_setup (plain_rows 1 1 plain.count))) l desks) (sym (places plain.count))
-      (desks-all plain.count desks
-      (subst (λ (rows : List QueueRow). AreNewDesks true rows desks) plain.is are)));
+      (subst (λ (l : List ℕ). AreNodeQueues (node_setup (plain_rows 1 1 plain.count))
+      (new_node (node_setup (plain_rows 1 1 plain.count))) l node_queues) (sym (places plain.count))
+      (node_queues-all plain.count node_queues
+      (subst (λ (rows : List QueueRow). AreNewNodeQueues true rows node_queues) plain.is are)));
 }

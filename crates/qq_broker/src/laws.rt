@@ -2,7 +2,7 @@
 ghost use Rattle.std.specs.Prelude.{◌≡◌, ℕ, List, true, map, Contains};
 ghost use Rattle.qq_base.specs.Ids.{client};
 ghost use Rattle.qq_calls.specs.Queues.{node_setup};
-ghost use Rattle.qq_defs.specs.declared.setup.Setup.{Setup};
+ghost use Rattle.qq_setup.specs.declared.setup.Setup.{Setup};
 ghost use Rattle.qq_node_laws.specs.Reads.{queue_at, queues_of};
 ghost use Rattle.qq_node_laws.specs.Waiting.{AreApart};
 ghost use Rattle.qq_broker_run.specs.Answers.{IsPlain};

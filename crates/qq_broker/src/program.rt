@@ -17,11 +17,11 @@ use qq_broker_run::{
     AskStop, Ending, LINES_LIMIT, PrintFault, Stop, add_audit, ask, refuse_long_line,
 };
 use qq_calls::a_line_names_what_is_there;
-use qq_defs::Setup;
 use qq_disk::NodeDisk;
 use qq_node::Node;
 use qq_ports::{LineFault, Lines, Sink, Source, Yard, lines_law, next_line, write_all};
 use qq_script_lines::{Options, read_options};
+use qq_setup::Setup;
 use std::alloc::Global;
 
 // Reads a line that has so many before it, and serves it.

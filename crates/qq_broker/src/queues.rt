@@ -1,9 +1,9 @@
 ghost use Rattle.std.specs.Prelude.{◌≡◌, map, true, IfOk, IsOkUnless};
-ghost use Rattle.qq_broker.specs.Queues.{queue_of, IsNewDesk, AreNewDesks};
+ghost use Rattle.qq_broker.specs.Queues.{queue_of, IsNewNodeQueue, AreNewNodeQueues};
 
 use qq_base::{Duplicate, Memory, QueueId};
-use qq_defs::QueueRow;
-use qq_node_queue::Desk;
+use qq_node_queue::NodeQueue;
+use qq_setup::QueueRow;
 use std::alloc::Global;
 
 /// The numbers of queues, in order.
@@ -19,25 +19,25 @@ pub fn queue_ids(alloc: Global, rows: &[QueueRow]) -> Result<Vec<QueueId>, Memor
 }
 
 // The queue of a row, to which nothing has happened.
-fn new_desk(alloc: Global, row: &QueueRow, first: bool) -> Result<Desk, Memory>
-    ensures ok { IfOk result (IsNewDesk first row.now) }
+fn new_node_queue(alloc: Global, row: &QueueRow, first: bool) -> Result<NodeQueue, Memory>
+    ensures ok { IfOk result (IsNewNodeQueue first row.now) }
     ensures want { IsOkUnless result Memory.Want }
 {
     let args = row.args.copy(alloc)?;
     let name = row.name.copy(alloc)?;
-    Desk::new(alloc, args, name, first)
+    NodeQueue::new(alloc, args, name, first)
 }
 
 /// The queues of these rows, in order, to which nothing has happened. The first one is the node's first.
-pub fn new_desks(alloc: Global, rows: &[QueueRow]) -> Result<Vec<Desk>, Memory>
-    ensures ok { IfOk result (λ desks. AreNewDesks true rows.now desks.items) }
+pub fn new_node_queues(alloc: Global, rows: &[QueueRow]) -> Result<Vec<NodeQueue>, Memory>
+    ensures ok { IfOk result (λ node_queues. AreNewNodeQueues true rows.now node_queues.items) }
     ensures want { IsOkUnless result Memory.Want }
 {
-    let mut desks = Vec::with_capacity(alloc, rows.len())?;
+    let mut node_queues = Vec::with_capacity(alloc, rows.len())?;
     let mut first = true;
     'rows: for row in rows {
-        desks.push(new_desk(alloc, row, first)?)?;
+        node_queues.push(new_node_queue(alloc, row, first)?)?;
         first = false;
     }
-    Ok(desks)
+    Ok(node_queues)
 }

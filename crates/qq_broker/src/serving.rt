@@ -15,14 +15,14 @@ ghost use Rattle.qq_broker.specs.Nodes.{IsMemoryStop, IsNodeOf, Meets, open_endi
 
 use crate::asking::ask;
 use crate::laws::runs_have_queues_of_their_own;
-use crate::queues::{new_desks, queue_ids};
+use crate::queues::{new_node_queues, queue_ids};
 use qq_base::{Memory, NodeId};
 use qq_broker_run::{AskStop, Ending};
 use qq_calls::Call;
-use qq_defs::Setup;
 use qq_disk::{Image, NodeDisk};
 use qq_node::{Node, OpenFault, RestartFault, crash_node, open_node, restart_node};
 use qq_ports::{Yard, YardFault};
+use qq_setup::Setup;
 use std::alloc::Global;
 
 /// The one node of a run.
@@ -82,8 +82,8 @@ pub fn open<Y: Yard>(
         Ok(queues) => queues,
         Err(_) => return Err(Ending::no_memory()),
     };
-    let desks = match new_desks(alloc, rows) {
-        Ok(desks) => desks,
+    let node_queues = match new_node_queues(alloc, rows) {
+        Ok(node_queues) => node_queues,
         Err(_) => return Err(Ending::no_memory()),
     };
     let disk = match yard.disk(alloc, None, NODE) {
@@ -91,7 +91,7 @@ pub fn open<Y: Yard>(
         Err(YardFault::Failed) => return Err(Ending::yard_fault()),
         Err(YardFault::Memory(_)) => return Err(Ending::no_memory()),
     };
-    match open_node(disk, alloc, queues, desks, setup.log_bytes, text) {
+    match open_node(disk, alloc, queues, node_queues, setup.log_bytes, text) {
         Ok(node) => Ok(node),
         Err((fault, _)) => Err(open_ending(fault)),
     }

@@ -1,6 +1,6 @@
 -- A line is read and served.
 use Rattle.std.proofs.Common.{◌≡◌, ℕ, List, [], ◌++◌, Option, Some, refl, sym, ap, ◌∙◌, inl, inr}
-use Rattle.qq_defs.specs.declared.setup.Setup.{Setup}
+use Rattle.qq_setup.specs.declared.setup.Setup.{Setup}
 use Rattle.qq_calls.specs.Queues.{node_setup}
 use Rattle.qq_world.specs.Node.{Setup as NodeSetup, Node, NodeEvent, new_node, node_after, text_of}
 use Rattle.qq_ports.specs.Lines.{first_line, TakesLine, LosesSome, FirstLineLeads}

@@ -4,9 +4,9 @@ use Rattle.std.specs.Prelude.{Contains}
 use Rattle.std.specs.List.{range_with_len}
 use Rattle.std.proofs.lemmas.List.{length-map, get_or-map}
 use Rattle.std.proofs.lemmas.List.Elements.{Contains-get_or}
-use Rattle.qq_defs.specs.declared.members.QueueRow.{QueueRow}
-use Rattle.qq_defs.specs.declared.setup.Setup.{Setup}
-use Rattle.qq_defs.specs.Setup.{plain_row, plain_rows}
+use Rattle.qq_setup.specs.declared.queue_row.QueueRow.{QueueRow}
+use Rattle.qq_setup.specs.declared.setup.Setup.{Setup}
+use Rattle.qq_setup.specs.Setup.{plain_row, plain_rows}
 use Rattle.qq_script.specs.Audit.{audit_text}
 use Rattle.qq_calls.specs.Queues.{place_of, node_setup}
 use Rattle.qq_calls.proofs.Queues.{name_is}

@@ -5,7 +5,7 @@ use Rattle.std.proofs.lemmas.Option.{IfSome_then}
 use Rattle.std.specs.Io.KnownBytes.{Appends}
 use Rattle.std.proofs.KnownBytes.{Appends-trans}
 use Rattle.qq_base.specs.Causes.{Rose}
-use Rattle.qq_defs.specs.declared.setup.Setup.{Setup}
+use Rattle.qq_setup.specs.declared.setup.Setup.{Setup}
 use Rattle.qq_broker_run.specs.declared.stop.Stop.{Stop}
 use Rattle.qq_broker_run.specs.declared.stop.Stop.TheVariants as stops
 use Rattle.qq_broker_run.specs.Endings.{Ending}

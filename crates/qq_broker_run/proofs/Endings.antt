@@ -3,7 +3,7 @@ use Rattle.std.proofs.Common.{◌≡◌, ℕ, List, [], ◌++◌, Option, refl, 
 use Rattle.std.specs.Prelude.{IfSome}
 use Rattle.std.specs.Io.KnownBytes.{Appends}
 use Rattle.std.proofs.lemmas.Option.{IfSome_then}
-use Rattle.qq_defs.specs.declared.setup.Setup.{Setup}
+use Rattle.qq_setup.specs.declared.setup.Setup.{Setup}
 use Rattle.qq_calls.specs.Queues.{node_setup}
 use Rattle.qq_world.specs.Node.{Node, audits_text}
 use Rattle.qq_broker_run.specs.declared.status.TheConstants.{DONE}

@@ -4,9 +4,9 @@ use Rattle.std.specs.Prelude.{Contains}
 use Rattle.std.specs.Fmt.{decimal, digits}
 use Rattle.qq_base.specs.Causes.{Rose}
 use Rattle.qq_calls.specs.Queues.{node_setup}
-use Rattle.qq_defs.specs.declared.members.QueueRow.{QueueRow}
-use Rattle.qq_defs.specs.declared.setup.Setup.{Setup}
-use Rattle.qq_defs.specs.Setup.{plain_rows}
+use Rattle.qq_setup.specs.declared.queue_row.QueueRow.{QueueRow}
+use Rattle.qq_setup.specs.declared.setup.Setup.{Setup}
+use Rattle.qq_setup.specs.Setup.{plain_rows}
 use Rattle.qq_log.specs.Stable.{Stable}
 use Rattle.qq_script_lines.specs.declared.options.Options.{Options}
 use Rattle.qq_world.specs.Endings.{lost_text}

@@ -6,7 +6,7 @@ use Rattle.qq_entry.specs.declared.audit.AuditRow.{AuditRow}
 use Rattle.qq_entry.specs.declared.queue.QueueArgs.{QueueArgs}
 use Rattle.qq_model.specs.Audit.{next_index, next_step, row_of, audit_of, entries_of, IsSerial}
 use Rattle.qq_model.specs.State.{State, empty_queue}
-use Rattle.qq_defs.specs.declared.setup.Setup.{Setup}
+use Rattle.qq_setup.specs.declared.setup.Setup.{Setup}
 use Rattle.qq_calls.specs.Queues.{node_setup}
 use Rattle.qq_world.specs.Laws.{world_after, HasSerialAudit, KeepsAudit}
 use Rattle.qq_world.specs.Node.{Setup as NodeSetup, NodeEvent, part_of, parts_of}

@@ -9,9 +9,9 @@ use Rattle.qq_model.specs.Gate.{gate, admit, keep_answer, turn_away}
 use Rattle.qq_model.specs.Serving.{check_out, check_out_all, drain_after, drop_head, keep_limits, give_dead, give_all_dead}
 use Rattle.qq_model.specs.Step.{carry_out, step}
 use Rattle.qq_ports.specs.Lines.{HasNoFeed, lines_of, onto_first}
-use Rattle.qq_defs.specs.declared.members.QueueRow.{QueueRow}
-use Rattle.qq_defs.specs.declared.setup.Setup.{Setup}
-use Rattle.qq_defs.specs.Setup.{SetupState, plain_row, plain_rows}
+use Rattle.qq_setup.specs.declared.queue_row.QueueRow.{QueueRow}
+use Rattle.qq_setup.specs.declared.setup.Setup.{Setup}
+use Rattle.qq_setup.specs.Setup.{SetupState, plain_row, plain_rows}
 use Rattle.qq_script_lines.specs.declared.options.Options.{Options}
 use Rattle.qq_script_lines.specs.declared.fault.ScriptFault.{ScriptFault}
 use Rattle.qq_script_lines.specs.declared.fault.ScriptFault.TheVariants.{Words, Body}

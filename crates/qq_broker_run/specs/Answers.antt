@@ -1,8 +1,8 @@
 -- What serving a script's lines over a node has come to.
 use Rattle.std.specs.Prelude.{◌≡◌, ◌<◌, ◌^◌, ℕ, ◌+◌, List, [], ◌++◌, Option, IfSome}
 use Rattle.std.specs.Io.KnownBytes.{IsAtEnd}
-use Rattle.qq_defs.specs.declared.setup.Setup.{Setup}
-use Rattle.qq_defs.specs.Setup.{plain_rows}
+use Rattle.qq_setup.specs.declared.setup.Setup.{Setup}
+use Rattle.qq_setup.specs.Setup.{plain_rows}
 use Rattle.qq_calls.specs.Queues.{node_setup}
 use Rattle.qq_world.specs.Node.{Node}
 use Rattle.qq_broker_run.specs.declared.stop.AskStop.{AskStop}

@@ -6,7 +6,7 @@ use Rattle.qq_entry.specs.declared.audit.AuditRow.{AuditRow}
 use Rattle.qq_entry.specs.declared.command.Command.{Command}
 use Rattle.qq_entry.specs.declared.command.Command.TheVariants.{Enqueue}
 use Rattle.qq_laws.specs.Published.{is_confirmed}
-use Rattle.qq_defs.specs.declared.setup.Setup.{Setup}
+use Rattle.qq_setup.specs.declared.setup.Setup.{Setup}
 use Rattle.qq_script_lines.specs.declared.options.Options.{Options}
 use Rattle.qq_calls.specs.Queues.{node_setup}
 use Rattle.qq_world.specs.Node.{Printed, new_node, all_prints}

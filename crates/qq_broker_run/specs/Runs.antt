@@ -1,8 +1,8 @@
 -- How a run ends, and what it has written by then.
 use Rattle.std.specs.Prelude.{◌≡◌, ◌⊎◌, ℕ, List, [], ◌++◌, Option, Some, None, IfSome, take, Contains}
 use Rattle.std.specs.Io.KnownBytes.{Appends, Keeps, IsAtEnd}
-use Rattle.qq_defs.specs.declared.setup.Setup.{Setup}
-use Rattle.qq_defs.specs.Setup.{state_of, plain_setup}
+use Rattle.qq_setup.specs.declared.setup.Setup.{Setup}
+use Rattle.qq_setup.specs.Setup.{state_of, plain_setup}
 use Rattle.qq_calls.specs.Queues.{node_setup}
 use Rattle.qq_script_lines.specs.declared.options.Options.{Options}
 use Rattle.qq_ports.specs.Lines.{HasNoFeed}

@@ -2,7 +2,7 @@
 use Rattle.std.specs.Prelude.{◌≡◌, ◌⊎◌, ◌≤◌, ℕ, ◌+◌, List, [], ◌∷◌, ◌++◌, length, Option, IfSome}
 use Rattle.std.specs.Io.KnownBytes.{Appends}
 use Rattle.qq_base.specs.declared.memory.TheConstants.{NUMBER_END}
-use Rattle.qq_defs.specs.declared.setup.Setup.{Setup}
+use Rattle.qq_setup.specs.declared.setup.Setup.{Setup}
 use Rattle.qq_calls.specs.Queues.{node_setup}
 use Rattle.qq_world.specs.Endings.{IsLost}
 use Rattle.qq_world.specs.Node.{Setup as NodeSetup, Node, NodeEvent, new_node, node_after, text_of, audits_text}

@@ -1,14 +1,14 @@
 ghost use Rattle.std.specs.Prelude.{◌≡◌, ◌<◌, Some, None, IfOk, IfErr};
 ghost use Rattle.qq_calls.specs.Calls.{rule_of};
-ghost use Rattle.qq_defs.specs.declared.setup.Setup.{Setup};
+ghost use Rattle.qq_setup.specs.declared.setup.Setup.{Setup};
 ghost use Rattle.qq_broker_run.specs.Reading.{Asks, Ends, says};
 ghost use Rattle.qq_broker_run.specs.Asking.{stop_by, HasAskCause};
 
 use crate::ending::{Ending, LINES_LIMIT};
 use crate::stop::AskStop;
 use qq_calls::{Call, read_line};
-use qq_defs::Setup;
 use qq_script_lines::ScriptFault;
+use qq_setup::Setup;
 use std::alloc::Global;
 
 // Why the line of a number isn't served.

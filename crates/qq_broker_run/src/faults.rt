@@ -4,7 +4,7 @@ ghost use Rattle.std.specs.Prelude.{◌≡◌, ◌⊎◌, ◌≤◌, ◌++◌, �
 ghost use Rattle.std.specs.Fmt.{decimal};
 ghost use Rattle.qq_base.specs.Causes.{Rose};
 ghost use Rattle.qq_calls.specs.Queues.{node_setup};
-ghost use Rattle.qq_defs.specs.declared.setup.Setup.{Setup};
+ghost use Rattle.qq_setup.specs.declared.setup.Setup.{Setup};
 ghost use Rattle.qq_log.specs.Stable.{Stable};
 ghost use Rattle.qq_script_lines.specs.declared.options.Options.{Options};
 ghost use Rattle.qq_broker_run.specs.Inputs.{Input, inputs_of};

@@ -1,7 +1,7 @@
 //! Laws of runs: the functions do nothing, and their contracts are the laws.
 ghost use Rattle.std.specs.Prelude.{◌≡◌, ◌⊎◌, ◌≤◌, ◌<◌, ◌+◌, ◌++◌, [], ℕ, List, false, codes};
 ghost use Rattle.std.specs.Fmt.{decimal};
-ghost use Rattle.qq_defs.specs.declared.setup.Setup.{Setup};
+ghost use Rattle.qq_setup.specs.declared.setup.Setup.{Setup};
 ghost use Rattle.qq_script_lines.specs.declared.options.Options.{Options};
 ghost use Rattle.qq_broker_run.specs.Endings.{usage};
 ghost use Rattle.qq_broker_run.specs.Inputs.{Input};

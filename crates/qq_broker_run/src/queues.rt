@@ -2,7 +2,7 @@
 //! and their contracts are the laws.
 ghost use Rattle.std.specs.Prelude.{◌≡◌, ◌⊎◌, ◌≤◌, ◌++◌, ℕ, List, Some, true, Contains, filter, length, take};
 ghost use Rattle.qq_base.specs.Fronts.{IsFront};
-ghost use Rattle.qq_defs.specs.declared.setup.Setup.{Setup};
+ghost use Rattle.qq_setup.specs.declared.setup.Setup.{Setup};
 ghost use Rattle.qq_entry.specs.declared.answer.Answer.TheVariants.{Confirmed};
 ghost use Rattle.qq_entry.specs.declared.answer.Delivery.{Delivery};
 ghost use Rattle.qq_entry.specs.declared.audit.AuditRow.{AuditRow};

@@ -1,6 +1,6 @@
 //! What lines come to at a node, as laws: the functions do nothing, and their contracts are the laws.
 ghost use Rattle.std.specs.Prelude.{◌≡◌, [], ℕ, List, true, false, codes};
-ghost use Rattle.qq_defs.specs.declared.setup.Setup.{Setup};
+ghost use Rattle.qq_setup.specs.declared.setup.Setup.{Setup};
 ghost use Rattle.qq_world.specs.Node.{Setup as NodeSetup, Node, NodeEvent, text_of};
 ghost use Rattle.qq_world.specs.NodeLaws.{has_failure};
 ghost use Rattle.qq_world.specs.Rules.{Line, Pump, Write, Sync, Notice, Tick, IsLine, is_idle, is_node_up};

@@ -7,7 +7,7 @@ use Rattle.qq_disk.specs.declared.image.Tail.TheVariants.{Cut}
 use Rattle.qq_entry.specs.declared.command.Mode.TheVariants.{Prefetch, Link}
 use Rattle.qq_entry.specs.declared.command.Unstamped.TheVariants.{Get, Subscribe, Cancel, Credit, Settle, Return, Discard, Purge}
 use Rattle.qq_route.specs.declared.routes.Routes.{Routes}
-use Rattle.qq_defs.specs.Setup.{plain_row}
+use Rattle.qq_setup.specs.Setup.{plain_row}
 use Rattle.qq_script_lines.specs.declared.fault.ScriptFault.TheVariants.{Words, NoSuch}
 use Rattle.qq_script_lines.specs.Kinds.{kind_of}
 use Rattle.qq_script_lines.specs.Calls.{alone, one_session, one_queue, one_node, some_nodes, one_member, session_at, consumer_at, get, subscribe, credit, deliveries, crash, send}

@@ -6,8 +6,8 @@ use Rattle.std.specs.Fmt.{decimal}
 use Rattle.std.proofs.lemmas.Bool.{cases_lt, cond-true, cond-false}
 use Rattle.std.proofs.lemmas.Bool.Decides.{eqb_tells}
 use Rattle.qq_entry.specs.Queue.{default_args}
-use Rattle.qq_defs.specs.declared.members.QueueRow.{QueueRow}
-use Rattle.qq_defs.specs.Setup.{plain_row, plain_rows}
+use Rattle.qq_setup.specs.declared.queue_row.QueueRow.{QueueRow}
+use Rattle.qq_setup.specs.Setup.{plain_row, plain_rows}
 use Rattle.qq_calls.specs.Queues.{place_of, name_by, args_by, node_setup}
 
 places_from : (a n : ℕ) → map place_of (map (plain_row 1 1) (range_with_len a n)) ≡ range_with_len (a + 1) n

@@ -4,7 +4,7 @@ use Rattle.std.specs.Fmt.{digits}
 use Rattle.std.specs.Char.{encode_utf8}
 use Rattle.std.specs.Str.{chars, is_utf8}
 use Rattle.qq_route.specs.declared.routes.Routes.{Routes}
-use Rattle.qq_defs.specs.Setup.{plain_row}
+use Rattle.qq_setup.specs.Setup.{plain_row}
 use Rattle.qq_script_lines.specs.declared.fault.ScriptFault.TheVariants.{Words, Number, NoSuch, Body}
 use Rattle.qq_script_lines.specs.Kinds.{kind_of}
 use Rattle.qq_script_lines.specs.Calls.{send}

@@ -1,8 +1,8 @@
 -- Setups of examples.
 use Rattle.std.specs.Prelude.{None}
 use Rattle.qq_route.specs.declared.routes.Routes.{Routes}
-use Rattle.qq_defs.specs.declared.setup.Setup.{Setup}
-use Rattle.qq_defs.specs.Setup.{plain_rows}
+use Rattle.qq_setup.specs.declared.setup.Setup.{Setup}
+use Rattle.qq_setup.specs.Setup.{plain_rows}
 
 -- one node with two queues
 abbrev pub two_queues : Routes → Setup

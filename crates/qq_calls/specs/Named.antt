@@ -6,7 +6,7 @@ use Rattle.qq_entry.specs.declared.command.Unstamped.{Unstamped}
 use Rattle.qq_entry.specs.declared.command.Unstamped.TheVariants as bodies
 use Rattle.qq_entry.specs.declared.limits.TheConstants.{KEY_LIMIT}
 use Rattle.qq_entry.specs.Range.{IsContent, IsWhole, IsPositive, IsMode, AreIds}
-use Rattle.qq_defs.specs.declared.members.QueueRow.{QueueRow}
+use Rattle.qq_setup.specs.declared.queue_row.QueueRow.{QueueRow}
 use Rattle.qq_world.specs.Rules.{Line, Send, End, Mute, Notice, Tick, Show}
 
 -- a command in range: a message with its content, tags and ids from 1, and no number too great

@@ -3,7 +3,7 @@ use Rattle.std.specs.Prelude.{ℕ, List, [], ◌∷◌, map, nat_eq, Option, Som
 use Rattle.std.specs.List.{find}
 use Rattle.qq_entry.specs.declared.queue.QueueArgs.{QueueArgs}
 use Rattle.qq_entry.specs.Queue.{default_args}
-use Rattle.qq_defs.specs.declared.members.QueueRow.{QueueRow}
+use Rattle.qq_setup.specs.declared.queue_row.QueueRow.{QueueRow}
 use Rattle.qq_world.specs.Node.{Setup}
 
 -- a queue's place on its node is its number

@@ -7,8 +7,8 @@ ghost use Rattle.qq_entry.specs.declared.command.Mode.TheVariants.{Prefetch, Lin
 ghost use Rattle.qq_entry.specs.declared.command.Unstamped.TheVariants.{Get, Subscribe, Cancel, Credit, Settle, Return, Discard, Purge};
 ghost use Rattle.qq_entry.specs.Queue.{default_args};
 ghost use Rattle.qq_route.specs.declared.routes.Routes.{Routes};
-ghost use Rattle.qq_defs.specs.declared.setup.Setup.{Setup};
-ghost use Rattle.qq_defs.specs.Setup.{plain_row, plain_rows};
+ghost use Rattle.qq_setup.specs.declared.setup.Setup.{Setup};
+ghost use Rattle.qq_setup.specs.Setup.{plain_row, plain_rows};
 ghost use Rattle.qq_script_lines.specs.declared.fault.ScriptFault.TheVariants.{Words, Number, NoSuch, Body};
 ghost use Rattle.qq_world.specs.Rules.{Line, Send, End, Mute, Auto, Notice, Crash};
 ghost use Rattle.qq_calls.specs.Queues.{node_setup};

@@ -1,7 +1,7 @@
 ghost use Rattle.std.specs.Prelude.{◌≡◌, List, Ok, Err, Some, map, IfOk, IfErr, IsOkUnless};
 ghost use Rattle.std.specs.List.{find};
 ghost use Rattle.std.specs.Option.{option_copied, option_map};
-ghost use Rattle.qq_defs.specs.declared.members.QueueRow.{QueueRow};
+ghost use Rattle.qq_setup.specs.declared.queue_row.QueueRow.{QueueRow};
 ghost use Rattle.qq_entry.specs.declared.command.Unstamped.TheVariants.{Subscribe};
 ghost use Rattle.qq_script_lines.specs.Names.{named};
 ghost use Rattle.qq_script_lines.specs.Lines.{HasScriptCause, text_in};
@@ -12,9 +12,9 @@ ghost use Rattle.qq_calls.specs.Lines.{send_to, publish, send, of_consumer, line
 
 use crate::call::Call;
 use qq_base::{Bytes, ConsumerId, Duplicate, Memory, QueueId, SessionId, Text};
-use qq_defs::{QueueRow, Setup};
 use qq_entry::{BODY_LIMIT, Content, Deaths, Message, Mode, Unstamped};
 use qq_script_lines::{Place, ScriptFault, ScriptLine, parse_line, parts_of, text_in, text_of};
+use qq_setup::{QueueRow, Setup};
 use std::alloc::Global;
 
 fn is_named(word: &str, row: &QueueRow) -> bool

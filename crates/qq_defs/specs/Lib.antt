@@ -2,6 +2,4 @@ pub mod Arguments
 pub mod Definitions
 pub mod Draft
 pub mod Elements
-pub mod Members
 pub mod Reading
-pub mod Setup

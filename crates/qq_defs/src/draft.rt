@@ -2,11 +2,10 @@ ghost use Rattle.std.specs.Prelude.{◌≡◌, ◌<◌, ◌-◌, ◌+◌, ◌^�
 ghost use Rattle.std.specs.BTreeMap.{get_by_text};
 ghost use Rattle.qq_defs.specs.Draft.{state_of, more, put_name, before, next_queue, skip, declare, count_other};
 
-use crate::members::{QueueRow, QueueRows, members};
-use crate::setup::Made;
 use qq_base::{Memory, QueueId, Text};
 use qq_entry::QueueArgs;
 use qq_route::Routes;
+use qq_setup::{Made, QueueRow, QueueRows, members};
 use std::alloc::Global;
 use std::collections::BTreeMap;
 

@@ -3,9 +3,9 @@ ghost use Rattle.std.specs.Prelude.{◌≡◌, Some, None, Result, Err};
 ghost use Rattle.qq_base.specs.declared.memory.Memory.TheVariants.{Want};
 ghost use Rattle.qq_defs.specs.declared.fault.DefsFault.{DefsFault};
 ghost use Rattle.qq_defs.specs.declared.fault.DefsFault.TheVariants.{Memory};
-ghost use Rattle.qq_defs.specs.declared.setup.Setup.{Setup};
+ghost use Rattle.qq_setup.specs.declared.setup.Setup.{Setup};
 ghost use Rattle.qq_defs.specs.Reading.{Gives, with_memory};
-ghost use Rattle.qq_defs.specs.Setup.{SetupState, state_of};
+ghost use Rattle.qq_setup.specs.Setup.{SetupState, state_of};
 
 /// Memory takes part in no answer but its own: any other answer of `read` is what reading the text gives, the
 /// setup itself or the first fault itself.

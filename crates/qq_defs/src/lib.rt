@@ -11,12 +11,9 @@ mod elements;
 mod fault;
 mod fields;
 mod laws;
-mod members;
-mod setup;
 
 pub use arguments::queue_args;
 pub use definitions::{QUEUES_LIMIT, read, read_document};
 pub use fault::DefsFault;
 pub use laws::memory_takes_no_part;
-pub use members::{QueueRow, QueueRows};
-pub use setup::{Made, Setup};
+pub use qq_setup::{Made, QueueRow, QueueRows, Setup};

@@ -1,5 +1,5 @@
 -- The serial audit: what applying entries one after the other gives.
-use Rattle.std.specs.Prelude.{◌≡◌, ◌+◌, List, [], ◌∷◌, ◌++◌, filter_map, Option, Some, None, if◌then◌else◌}
+use Rattle.std.specs.Prelude.{◌≡◌, ◌+◌, List, [], ◌∷◌, ◌++◌, filter_map, Option, Some, None, Bool, true, ◌&&◌, if◌then◌else◌}
 use Rattle.qq_base.specs.declared.ids.Index.{Index}
 use Rattle.qq_base.specs.declared.ids.ConsumerId.{ConsumerId}
 use Rattle.qq_entry.specs.declared.command.Entry.{Entry}
@@ -7,7 +7,7 @@ use Rattle.qq_entry.specs.declared.answer.Delivery.{Delivery}
 use Rattle.qq_entry.specs.declared.audit.AuditRow.{AuditRow}
 use Rattle.qq_entry.specs.declared.audit.Effect.{Effect}
 use Rattle.qq_entry.specs.declared.audit.Effect.TheVariants.{Deliver}
-use Rattle.qq_model.specs.State.{State}
+use Rattle.qq_model.specs.State.{State, is_within_ends}
 use Rattle.qq_base.specs.Ids.{same_consumer}
 use Rattle.qq_model.specs.Step.{Step, step}
 
@@ -38,6 +38,12 @@ state_after s (entry ∷ entries) = state_after (next_step s entry).state entrie
 abbrev pub effects_of : State → List Entry → List Effect
 effects_of s [] = []
 effects_of s (entry ∷ entries) = (next_step s entry).effects ++ effects_of (next_step s entry).state entries
+
+-- no step of a run takes a number past its end
+abbrev pub stays_within : State → List Entry → Bool
+stays_within s [] = true
+stays_within s (entry ∷ entries) =
+    is_within_ends (next_step s entry).state && stays_within (next_step s entry).state entries
 
 -- rows are a serial audit from a state: the indices count on from it, and each row's fresh and answer are those of the
 -- step at the state before it

@@ -4,7 +4,7 @@ use Rattle.std.specs.Prelude.{IsTrue}
 use Rattle.qq_base.specs.Causes.{Rose}
 use Rattle.qq_base.specs.declared.ids.QueueId.{QueueId}
 use Rattle.qq_wal_chain.specs.Laws.{KeepsPromise, op_records}
-use Rattle.qq_node_queue.specs.Desk.{DeskState, world_of}
+use Rattle.qq_node_queue.specs.NodeQueue.{NodeQueueState, world_of}
 use Rattle.qq_disk.specs.Disk.{Disk}
 use Rattle.qq_disk.proofs.Moments.{adds-none}
 use Rattle.qq_log.specs.declared.op.Op.{Op}
@@ -14,7 +14,7 @@ use Rattle.qq_wal.specs.Wal.{IsSound, StaysAppending, carries_ahead}
 use Rattle.qq_wal.specs.Marks.{Carries}
 use Rattle.qq_wal.specs.declared.wal.Wal.{Wal}
 use Rattle.qq_wal_record.specs.declared.record.LogRecord.{LogRecord}
-use Rattle.qq_node.specs.Desks.{all_waiting}
+use Rattle.qq_node.specs.NodeQueues.{all_waiting}
 use Rattle.qq_node.specs.Gather.{AllGoOn, add_ops}
 use Rattle.qq_node.specs.Log.{AppendsAll, HasWritten}
 use Rattle.qq_node.specs.Writing.{Appends, BreaksOff, StaysGivingSome}
@@ -31,40 +31,40 @@ drop-past [] (suc k) le = refl
 drop-past (x ∷ xs) zero le = absurd (omega (arith, le))
 drop-past (x ∷ xs) (suc k) le = drop-past xs k (omega (arith, le))
 
-module _ {D : Type 0} (tells : D → Bool) (past : D → List Disk) (desks : List DeskState) (old : Wal D) where
+module _ {D : Type 0} (tells : D → Bool) (past : D → List Disk) (node_queues : List NodeQueueState) (old : Wal D) where
   -- with the queues from an index on, all is gathered
   pub record GatheredTo (at : ℕ) (wal : Wal D) : Type 0 where
     pub sound : IsSound tells past wal
     pub going : wal.stopped ≡ false
-    pub goes_on : AllGoOn wal.queues.items (carries_ahead wal) (all_waiting (drop at desks))
-    pub gathered : wal.waiting.items ++ op_records (all_waiting (drop at desks))
-        ≡ old.waiting.items ++ op_records (all_waiting desks)
-    pub ahead : add_ops (carries_ahead wal) (all_waiting (drop at desks))
-        ≡ add_ops (carries_ahead old) (all_waiting desks)
+    pub goes_on : AllGoOn wal.queues.items (carries_ahead wal) (all_waiting (drop at node_queues))
+    pub gathered : wal.waiting.items ++ op_records (all_waiting (drop at node_queues))
+        ≡ old.waiting.items ++ op_records (all_waiting node_queues)
+    pub ahead : add_ops (carries_ahead wal) (all_waiting (drop at node_queues))
+        ≡ add_ops (carries_ahead old) (all_waiting node_queues)
     pub same : wal ≡ record old { waiting = wal.waiting }
 
   pub gathered-none : IsSound tells past old → old.stopped ≡ false
-      → AllGoOn old.queues.items (carries_ahead old) (all_waiting desks) → GatheredTo 0 old
+      → AllGoOn old.queues.items (carries_ahead old) (all_waiting node_queues) → GatheredTo 0 old
   gathered-none sound going goes =
       record { sound = sound; going = going; goes_on = goes; gathered = refl; ahead = refl; same = refl }
 
   -- the next queue's ops go on
-  pub gathered-goes : (at : ℕ) (wal : Wal D) (d : DeskState) (ops : List Op) → GatheredTo at wal
-      → drop at desks ≡ d ∷ drop (at + 1) desks → ops ≡ ops_waiting (world_of d)
+  pub gathered-goes : (at : ℕ) (wal : Wal D) (d : NodeQueueState) (ops : List Op) → GatheredTo at wal
+      → drop at node_queues ≡ d ∷ drop (at + 1) node_queues → ops ≡ ops_waiting (world_of d)
       → AllGoOn wal.queues.items (carries_ahead wal) ops
   gathered-goes at wal d ops g here is =
       subst (AllGoOn wal.queues.items (carries_ahead wal)) (sym is)
-      (goes_on-both wal.queues.items (carries_ahead wal) (ops_waiting (world_of d)) (all_waiting (drop (at + 1) desks))
-      (subst (λ (l : List DeskState). AllGoOn wal.queues.items (carries_ahead wal) (all_waiting l)) here g.goes_on)).0
+      (goes_on-both wal.queues.items (carries_ahead wal) (ops_waiting (world_of d)) (all_waiting (drop (at + 1) node_queues))
+      (subst (λ (l : List NodeQueueState). AllGoOn wal.queues.items (carries_ahead wal) (all_waiting l)) here g.goes_on)).0
 
-  pub gathered-more : (at : ℕ) (wal next : Wal D) (d : DeskState) (ops : List Op) → GatheredTo at wal
-      → drop at desks ≡ d ∷ drop (at + 1) desks → ops ≡ ops_waiting (world_of d) → IsSound tells past next
+  pub gathered-more : (at : ℕ) (wal next : Wal D) (d : NodeQueueState) (ops : List Op) → GatheredTo at wal
+      → drop at node_queues ≡ d ∷ drop (at + 1) node_queues → ops ≡ ops_waiting (world_of d) → IsSound tells past next
       → next.waiting.items ≡ wal.waiting.items ++ op_records ops
       → carries_ahead next ≡ add_ops (carries_ahead wal) ops → next ≡ record wal { waiting = next.waiting }
       → GatheredTo (at + 1) next
   gathered-more at wal next d ops g here is sound waits ahead same =
       let w : List Op = ops_waiting (world_of d) in
-      let rest : List Op = all_waiting (drop (at + 1) desks) in
+      let rest : List Op = all_waiting (drop (at + 1) node_queues) in
       let queues : next.queues.items ≡ wal.queues.items = ap (λ (l : Wal D). l.queues.items) same in
       let later : carries_ahead next ≡ add_ops (carries_ahead wal) w = ahead ∙ ap (add_ops (carries_ahead wal)) is in
       record {
@@ -73,29 +73,29 @@ module _ {D : Type 0} (tells : D → Bool) (past : D → List Disk) (desks : Lis
         goes_on = subst (λ (ids : List QueueId). AllGoOn ids (carries_ahead next) rest) (sym queues)
             (subst (λ (c : Carries). AllGoOn wal.queues.items c rest) (sym later)
             (goes_on-both wal.queues.items (carries_ahead wal) w rest
-            (subst (λ (l : List DeskState). AllGoOn wal.queues.items (carries_ahead wal) (all_waiting l)) here
+            (subst (λ (l : List NodeQueueState). AllGoOn wal.queues.items (carries_ahead wal) (all_waiting l)) here
             g.goes_on)).1);
         gathered = ap (λ (l : List LogRecord). l ++ op_records rest) (waits
             ∙ ap (λ (l : List Op). wal.waiting.items ++ op_records l) is)
             ∙ append_assoc wal.waiting.items (op_records w) (op_records rest)
             ∙ ap (λ (l : List LogRecord). wal.waiting.items ++ l) (sym (records-both w rest))
-            ∙ ap (λ (l : List DeskState). wal.waiting.items ++ op_records (all_waiting l)) (sym here) ∙ g.gathered;
+            ∙ ap (λ (l : List NodeQueueState). wal.waiting.items ++ op_records (all_waiting l)) (sym here) ∙ g.gathered;
         ahead = ap (λ (c : Carries). add_ops c rest) later ∙ sym (add_ops-both (carries_ahead wal) w rest)
-            ∙ ap (λ (l : List DeskState). add_ops (carries_ahead wal) (all_waiting l)) (sym here) ∙ g.ahead;
+            ∙ ap (λ (l : List NodeQueueState). add_ops (carries_ahead wal) (all_waiting l)) (sym here) ∙ g.ahead;
         same = same ∙ ap (λ (l : Wal D). record l { waiting = next.waiting }) g.same;
       }
 
-  pub gathered-all : (at : ℕ) (wal : Wal D) → GatheredTo at wal → length desks ≤ at
-      → wal.waiting.items ≡ old.waiting.items ++ op_records (all_waiting desks)
+  pub gathered-all : (at : ℕ) (wal : Wal D) → GatheredTo at wal → length node_queues ≤ at
+      → wal.waiting.items ≡ old.waiting.items ++ op_records (all_waiting node_queues)
   gathered-all at wal g most =
       sym (append-nil wal.waiting.items)
-      ∙ ap (λ (l : List DeskState). wal.waiting.items ++ op_records (all_waiting l)) (sym (drop-past desks at most))
+      ∙ ap (λ (l : List NodeQueueState). wal.waiting.items ++ op_records (all_waiting l)) (sym (drop-past node_queues at most))
       ∙ g.gathered
 
-  pub ahead-all : (at : ℕ) (wal : Wal D) → GatheredTo at wal → length desks ≤ at
-      → carries_ahead wal ≡ add_ops (carries_ahead old) (all_waiting desks)
+  pub ahead-all : (at : ℕ) (wal : Wal D) → GatheredTo at wal → length node_queues ≤ at
+      → carries_ahead wal ≡ add_ops (carries_ahead old) (all_waiting node_queues)
   ahead-all at wal g most =
-      ap (λ (l : List DeskState). add_ops (carries_ahead wal) (all_waiting l)) (sym (drop-past desks at most)) ∙ g.ahead
+      ap (λ (l : List NodeQueueState). add_ops (carries_ahead wal) (all_waiting l)) (sym (drop-past node_queues at most)) ∙ g.ahead
 
 -- ---- and appended
 

@@ -5,7 +5,7 @@ pub mod Moments
 pub mod Finding
 pub mod Lanes
 pub mod Causes
-pub mod EachDesk
+pub mod EachNodeQueue
 pub mod Stands
 pub mod Places
 pub mod Logs

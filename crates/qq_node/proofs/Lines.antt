@@ -12,9 +12,9 @@ use Rattle.qq_node_laws.specs.Reads.{queue_at}
 use Rattle.qq_node_laws.specs.Serves.{Leads}
 use Rattle.qq_node_laws.proofs.Serves.{leads-more, leads-start}
 use Rattle.qq_node.specs.declared.node.Node.{Node as Held}
-use Rattle.qq_node.specs.Node.{AtIndex, AtQueue, CanServe, HasPlace, IsAt, IsDesk, IsQueueAt, Served, Stands}
-use Rattle.qq_node_queue.specs.Desk.{DeskState, world_of}
-use Rattle.qq_node.proofs.EachDesk.{all-desks, any-desks, as-many, desk-at}
+use Rattle.qq_node.specs.Node.{AtIndex, AtQueue, CanServe, HasPlace, IsAt, IsNodeQueue, IsQueueAt, Served, Stands}
+use Rattle.qq_node_queue.specs.NodeQueue.{NodeQueueState, world_of}
+use Rattle.qq_node.proofs.EachNodeQueue.{all-node_queues, any-node_queues, as-many, node_queue-at}
 use Rattle.qq_node.proofs.Places.{at-none, at-queue}
 use Rattle.qq_node.proofs.Stands.{place-at, served-both, served-nothing, served-weaker}
 
@@ -64,41 +64,41 @@ module _ {D : Type 0} (tells : D → Bool) (past : D → List Disk) (faults : D 
 
   -- the index that was found is one of a queue
   pub found-below : (queue : QueueId) (at : ℕ) (node : Held D) → CanServe tells past node
-      → IsQueueAt queue node.queues.items at → at < length node.desks
+      → IsQueueAt queue node.queues.items at → at < length node.node_queues
   found-below queue at node can found =
       omega (
         arith,
         found.0,
         ap length can.3.queues,
         mapped-length (queue_at can.0) can.0.places,
-        as-many can.0 can.1 can.0.places node.desks can.3.desks,
+        as-many can.0 can.1 can.0.places node.node_queues can.3.node_queues,
       )
 
   -- and so of any node that it stands for
   pub found-in : (setup : Setup) (n : Node) (queue : QueueId) (at : ℕ) (node : Held D) → Stands tells past setup node n
-      → IsQueueAt queue node.queues.items at → at < length node.desks
+      → IsQueueAt queue node.queues.items at → at < length node.node_queues
   found-in setup n queue at node st found =
       omega (
         arith,
         found.0,
         ap length st.queues,
         mapped-length (queue_at setup) setup.places,
-        as-many setup n setup.places node.desks st.desks,
+        as-many setup n setup.places node.node_queues st.node_queues,
       )
 
   -- the queue that was found is the one that was asked for
-  pub found-desk : (setup : Setup) (n : Node) (place : ℕ) (queue : QueueId) (at : ℕ) (node : Held D) (d : DeskState)
+  pub found-node_queue : (setup : Setup) (n : Node) (place : ℕ) (queue : QueueId) (at : ℕ) (node : Held D) (d : NodeQueueState)
       → Stands tells past setup node n → IsQueueAt queue node.queues.items at
-      → drop at node.desks ≡ d ∷ drop (at + 1) node.desks → Contains setup.places place → queue_at setup place ≡ queue
-      → IsDesk setup n place d
-  found-desk setup n place queue at node d st found here there same =
-      let first = place-at setup n node.desks at st.desks (found-in setup n queue at node st found) in
-      (at-queue setup (λ setup place n events. IsDesk setup n place d) n [] queue at node.queues.items st.apart st.queues
+      → drop at node.node_queues ≡ d ∷ drop (at + 1) node.node_queues → Contains setup.places place → queue_at setup place ≡ queue
+      → IsNodeQueue setup n place d
+  found-node_queue setup n place queue at node d st found here there same =
+      let first = place-at setup n node.node_queues at st.node_queues (found-in setup n queue at node st found) in
+      (at-queue setup (λ setup place n events. IsNodeQueue setup n place d) n [] queue at node.queues.items st.apart st.queues
       found (
         first.0,
         first.1,
-        desk-at setup n setup.places node.desks at first.0 d (drop (at + 1) setup.places) (drop (at + 1) node.desks)
-            st.desks first.1 here,
+        node_queue-at setup n setup.places node.node_queues at first.0 d (drop (at + 1) setup.places) (drop (at + 1) node.node_queues)
+            st.node_queues first.1 here,
       )).known place there same
 
   pub none-there : (setup : Setup) (n : Node) (place : ℕ) (queue : QueueId) (node : Held D)
@@ -109,14 +109,14 @@ module _ {D : Type 0} (tells : D → Bool) (past : D → List Disk) (faults : D 
 
   -- a rule for any place, where there is one
   pub served-any : (Any : Setup → Node → List NodeEvent → Type 0) (Rule : Setup → ℕ → Node → List NodeEvent → Type 0)
-      (at : ℕ) (old new : Held D) (before later : List ℕ) → at < length old.desks
+      (at : ℕ) (old new : Held D) (before later : List ℕ) → at < length old.node_queues
       → Served tells past faults Any old new before later
       → ((setup : Setup) (n : Node) (place : ℕ) (events : List NodeEvent) → Stands tells past setup old n
       → Any setup n events → Rule setup place n events)
       → Served tells past faults (AtIndex at Rule) old new before later
   served-any Any Rule at old new before later lt served rule =
       served-weaker tells past faults Any (AtIndex at Rule) old new before later served
-      (λ setup n events r st allowed. (let place = place-at setup n old.desks at st.desks lt in
+      (λ setup n events r st allowed. (let place = place-at setup n old.node_queues at st.node_queues lt in
       (place.0, place.1, rule setup n place.0 events st allowed)))
 
   -- one more rule for the place
@@ -143,16 +143,16 @@ module _ {D : Type 0} (tells : D → Bool) (past : D → List Disk) (faults : D 
 
   -- ---- a session that has ended, or not
 
-  ended-is : (setup : Setup) (n : Node) (at place session : ℕ) (node : Held D) (d : DeskState) (ended : Bool)
-      → Stands tells past setup node n → HasPlace setup at place → drop at node.desks ≡ d ∷ drop (at + 1) node.desks
+  ended-is : (setup : Setup) (n : Node) (at place session : ℕ) (node : Held D) (d : NodeQueueState) (ended : Bool)
+      → Stands tells past setup node n → HasPlace setup at place → drop at node.node_queues ≡ d ∷ drop (at + 1) node.node_queues
       → ended ≡ is_ended session (world_of d) → is_ended session (n.queue place) ≡ ended
   ended-is setup n at place session node d ended st here there is =
       sym (is ∙ ap (is_ended session)
-      (desk-at setup n setup.places node.desks at place d (drop (at + 1) setup.places) (drop (at + 1) node.desks) st.desks
+      (node_queue-at setup n setup.places node.node_queues at place d (drop (at + 1) setup.places) (drop (at + 1) node.node_queues) st.node_queues
       here there).world_is)
 
-  pub tells-ended : (at session : ℕ) (body : Unstamped) (old new : Held D) (before later : List ℕ) (d : DeskState)
-      → drop at old.desks ≡ d ∷ drop (at + 1) old.desks → true ≡ is_ended session (world_of d)
+  pub tells-ended : (at session : ℕ) (body : Unstamped) (old new : Held D) (before later : List ℕ) (d : NodeQueueState)
+      → drop at old.node_queues ≡ d ∷ drop (at + 1) old.node_queues → true ≡ is_ended session (world_of d)
       → Served tells past faults (AtIndex at (IsAt (TellsEnded session))) old new before later
       → Served tells past faults (AtIndex at (λ setup place. IsSend place session body)) old new before later
   tells-ended at session body old new before later d there is served =
@@ -166,8 +166,8 @@ module _ {D : Type 0} (tells : D → Bool) (past : D → List Disk) (faults : D 
             (ended-is setup n at allowed.0 session old d true st allowed.1 there is) allowed.2,
       ))
 
-  pub submits : (at session : ℕ) (body : Unstamped) (old new : Held D) (before later : List ℕ) (d : DeskState)
-      → drop at old.desks ≡ d ∷ drop (at + 1) old.desks → false ≡ is_ended session (world_of d)
+  pub submits : (at session : ℕ) (body : Unstamped) (old new : Held D) (before later : List ℕ) (d : NodeQueueState)
+      → drop at old.node_queues ≡ d ∷ drop (at + 1) old.node_queues → false ≡ is_ended session (world_of d)
       → Served tells past faults (AtIndex at (IsAt (Submits session body))) old new before later
       → Served tells past faults (AtIndex at (λ setup place. IsSend place session body)) old new before later
   submits at session body old new before later d there is served =
@@ -213,7 +213,7 @@ module _ {D : Type 0} (tells : D → Bool) (past : D → List Disk) (faults : D 
       rule-if (is_node_up setup n) (IsAt event setup place) (Is SaysDown) n events (sym (up setup n st)) allowed)
 
   -- where it is stopped
-  pub where-down : (event : Event) (at : ℕ) (old new : Held D) (before later : List ℕ) → at < length old.desks
+  pub where-down : (event : Event) (at : ℕ) (old new : Held D) (before later : List ℕ) → at < length old.node_queues
       → ((setup : Setup) (n : Node) → Stands tells past setup old n → false ≡ is_node_up setup n)
       → Served tells past faults (λ setup. Is SaysDown) old new before later
       → Served tells past faults (AtIndex at (λ setup place. WhereUp setup (IsAt event setup place))) old new before later
@@ -261,13 +261,13 @@ module _ {D : Type 0} (tells : D → Bool) (past : D → List Disk) (faults : D 
   -- ---- notices
 
   -- a queue notices nothing where the node is stopped, or nothing waits
-  notices-nothing : (at : ℕ) (node : Held D) (text : List ℕ) → at < length node.desks
+  notices-nothing : (at : ℕ) (node : Held D) (text : List ℕ) → at < length node.node_queues
       → ((setup : Setup) (n : Node) (place : ℕ) → Stands tells past setup node n → HasPlace setup at place
       → (is_node_up setup n && waits_noticed (n.queue place)) ≡ false)
       → Served tells past faults (AtIndex at IsNotice) node node text text
   notices-nothing at node text lt none =
       served-nothing tells past faults (AtIndex at IsNotice) node text
-      (λ setup n r st. (let place = place-at setup n node.desks at st.desks lt in (
+      (λ setup n r st. (let place = place-at setup n node.node_queues at st.node_queues lt in (
         place.0,
         place.1,
         rule-else (is_node_up setup n && waits_noticed (n.queue place.0)) (Is (At place.0 Notices))
@@ -275,34 +275,34 @@ module _ {D : Type 0} (tells : D → Bool) (past : D → List Disk) (faults : D 
       )))
 
   -- what the code tests is what the rule does
-  tests : (setup : Setup) (n : Node) (at place : ℕ) (node : Held D) (d : DeskState) (up waits : Bool)
-      → Stands tells past setup node n → HasPlace setup at place → drop at node.desks ≡ d ∷ drop (at + 1) node.desks
+  tests : (setup : Setup) (n : Node) (at place : ℕ) (node : Held D) (d : NodeQueueState) (up waits : Bool)
+      → Stands tells past setup node n → HasPlace setup at place → drop at node.node_queues ≡ d ∷ drop (at + 1) node.node_queues
       → up ≡ is_node_up setup n → waits ≡ waits_noticed (world_of d)
       → (is_node_up setup n && waits_noticed (n.queue place)) ≡ (up && waits)
   tests setup n at place node d up waits st here there up_is waits_is =
       ap (λ (b : Bool). b && waits_noticed (n.queue place)) (sym up_is)
       ∙ ap (λ (b : Bool). up && b) (sym (waits_is ∙ ap waits_noticed
-      (desk-at setup n setup.places node.desks at place d (drop (at + 1) setup.places) (drop (at + 1) node.desks) st.desks
+      (node_queue-at setup n setup.places node.node_queues at place d (drop (at + 1) setup.places) (drop (at + 1) node.node_queues) st.node_queues
       here there).world_is))
 
   abbrev pub TellsUp : Bool → Held D → Type 0
   TellsUp up node = (setup : Setup) (n : Node) → Stands tells past setup node n → up ≡ is_node_up setup n
 
-  pub notices-down : (at : ℕ) (node : Held D) (text : List ℕ) → at < length node.desks → TellsUp false node
+  pub notices-down : (at : ℕ) (node : Held D) (text : List ℕ) → at < length node.node_queues → TellsUp false node
       → Served tells past faults (AtIndex at IsNotice) node node text text
   notices-down at node text lt up =
       notices-nothing at node text lt
       (λ setup n place st here. ap (λ (b : Bool). b && waits_noticed (n.queue place)) (sym (up setup n st)))
 
-  pub notices-none : (at : ℕ) (node : Held D) (text : List ℕ) (d : DeskState) → at < length node.desks
-      → TellsUp true node → drop at node.desks ≡ d ∷ drop (at + 1) node.desks → false ≡ waits_noticed (world_of d)
+  pub notices-none : (at : ℕ) (node : Held D) (text : List ℕ) (d : NodeQueueState) → at < length node.node_queues
+      → TellsUp true node → drop at node.node_queues ≡ d ∷ drop (at + 1) node.node_queues → false ≡ waits_noticed (world_of d)
       → Served tells past faults (AtIndex at IsNotice) node node text text
   notices-none at node text d lt up there waits =
       notices-nothing at node text lt
       (λ setup n place st here. tests setup n at place node d true false st here there (up setup n st) waits)
 
-  pub notices : (at : ℕ) (old new : Held D) (before later : List ℕ) (d : DeskState) → TellsUp true old
-      → drop at old.desks ≡ d ∷ drop (at + 1) old.desks → true ≡ waits_noticed (world_of d)
+  pub notices : (at : ℕ) (old new : Held D) (before later : List ℕ) (d : NodeQueueState) → TellsUp true old
+      → drop at old.node_queues ≡ d ∷ drop (at + 1) old.node_queues → true ≡ waits_noticed (world_of d)
       → Served tells past faults (AtIndex at (IsAt Notices)) old new before later
       → Served tells past faults (AtIndex at IsNotice) old new before later
   notices at old new before later d up there waits served =
@@ -379,38 +379,38 @@ module _ {D : Type 0} (tells : D → Bool) (past : D → List Disk) (faults : D 
 
   -- ---- the log, where there is nothing to do
 
-  pub write-down : (node : Held D) (text : List ℕ) → false ≡ list_all (λ (d : DeskState). is_up (world_of d)) node.desks
+  pub write-down : (node : Held D) (text : List ℕ) → false ≡ list_all (λ (d : NodeQueueState). is_up (world_of d)) node.node_queues
       → Served tells past faults IsWrite node node text text
   write-down node text down =
       served-nothing tells past faults IsWrite node text
       (λ setup n r st. rule-else (is_node_up setup n && some_queue setup waits_written n) (OrFails (Alike Writes))
       (λ m es. es ≡ []) n [] (ap (λ (b : Bool). b && some_queue setup waits_written n)
-      (sym (down ∙ all-desks setup n is_up setup.places node.desks st.desks))) refl)
+      (sym (down ∙ all-node_queues setup n is_up setup.places node.node_queues st.node_queues))) refl)
 
-  pub write-none : (node : Held D) (text : List ℕ) → true ≡ list_all (λ (d : DeskState). is_up (world_of d)) node.desks
-      → false ≡ list_any (λ (d : DeskState). waits_written (world_of d)) node.desks
+  pub write-none : (node : Held D) (text : List ℕ) → true ≡ list_all (λ (d : NodeQueueState). is_up (world_of d)) node.node_queues
+      → false ≡ list_any (λ (d : NodeQueueState). waits_written (world_of d)) node.node_queues
       → Served tells past faults IsWrite node node text text
   write-none node text up none =
       served-nothing tells past faults IsWrite node text
       (λ setup n r st. rule-else (is_node_up setup n && some_queue setup waits_written n) (OrFails (Alike Writes))
       (λ m es. es ≡ []) n [] (ap (λ (b : Bool). b && some_queue setup waits_written n)
-      (sym (up ∙ all-desks setup n is_up setup.places node.desks st.desks))
-      ∙ sym (none ∙ any-desks setup n waits_written setup.places node.desks st.desks)) refl)
+      (sym (up ∙ all-node_queues setup n is_up setup.places node.node_queues st.node_queues))
+      ∙ sym (none ∙ any-node_queues setup n waits_written setup.places node.node_queues st.node_queues)) refl)
 
-  pub sync-down : (node : Held D) (text : List ℕ) → false ≡ list_all (λ (d : DeskState). is_up (world_of d)) node.desks
+  pub sync-down : (node : Held D) (text : List ℕ) → false ≡ list_all (λ (d : NodeQueueState). is_up (world_of d)) node.node_queues
       → Served tells past faults IsSync node node text text
   sync-down node text down =
       served-nothing tells past faults IsSync node text
       (λ setup n r st. rule-else (is_node_up setup n)
       (if_so (some_queue setup waits_synced n) IsSynced MayRoll) (λ m es. es ≡ []) n []
-      (sym (down ∙ all-desks setup n is_up setup.places node.desks st.desks)) refl)
+      (sym (down ∙ all-node_queues setup n is_up setup.places node.node_queues st.node_queues)) refl)
 
-  pub sync-empty : (node : Held D) (text : List ℕ) → length node.desks ≡ 0
+  pub sync-empty : (node : Held D) (text : List ℕ) → length node.node_queues ≡ 0
       → Served tells past faults IsSync node node text text
   sync-empty node text none =
       served-nothing tells past faults IsSync node text
       (λ setup n r st. either n (is_node_up setup n) (some_queue setup waits_synced n)
-      (no_queue n setup.places (omega (arith, none, as-many setup n setup.places node.desks st.desks))))
+      (no_queue n setup.places (omega (arith, none, as-many setup n setup.places node.node_queues st.node_queues))))
     where
       no_queue : (n : Node) (places : List ℕ) → length places ≡ 0
           → list_any (λ (place : ℕ). waits_synced (n.queue place)) places ≡ false

@@ -8,7 +8,7 @@ use Rattle.qq_base.specs.Causes.{Rose}
 use Rattle.qq_base.specs.declared.ids.QueueId.{QueueId}
 use Rattle.qq_disk.specs.Disk.{Disk, now}
 use Rattle.qq_wal_chain.specs.Laws.{op_records}
-use Rattle.qq_node_queue.specs.Desk.{DeskState, world_of}
+use Rattle.qq_node_queue.specs.NodeQueue.{NodeQueueState, world_of}
 use Rattle.qq_log.specs.declared.op.Op.{Op}
 use Rattle.qq_wal.specs.Running.{Stays}
 use Rattle.qq_wal.specs.Wal.{StaysAppending, carries_ahead}
@@ -30,13 +30,13 @@ use Rattle.qq_node.specs.declared.node.Node.{Node as Held}
 use Rattle.qq_node.specs.declared.node.NodeLog.{NodeLog}
 use Rattle.qq_node.specs.declared.node.NodeLog.TheVariants.{Open, Closed}
 use Rattle.qq_node.specs.Carried.{CarriesAre}
-use Rattle.qq_node.specs.Desks.{AllDo, HasSettled, all_waiting}
+use Rattle.qq_node.specs.NodeQueues.{AllDo, HasSettled, all_waiting}
 use Rattle.qq_node.specs.Gather.{AllGoOn, add_ops}
 use Rattle.qq_node.specs.Log.{AppendsAll, HasCome, IsWhole, sync_events}
-use Rattle.qq_node.specs.Node.{AreDesks, GaveUp, IsLogAt, IsRunning, Served, Stands, disk_in}
+use Rattle.qq_node.specs.Node.{AreNodeQueues, GaveUp, IsLogAt, IsRunning, Served, Stands, disk_in}
 use Rattle.qq_node.specs.Writing.{AppendsIn, BreaksOffIn, HasAppended, MayAppendIn, MaySyncIn, SameLog, StaysGivingSome, Syncs as SyncsLog, SyncsIn}
 use Rattle.qq_node.proofs.Carried.{carries-synced, carries-written, goes_on-waiting}
-use Rattle.qq_node.proofs.EachDesk.{all-desks, all-done, any-desks, as-many}
+use Rattle.qq_node.proofs.EachNodeQueue.{all-node_queues, all-done, any-node_queues, as-many}
 use Rattle.qq_node.proofs.Moments.{appending-keeps, sync-allowed, sync-caused, sync-no_crash, synced-traced, write_fails-traced, writes-traced}
 
 -- ---- tests
@@ -60,57 +60,57 @@ first-up n (place ∷ places) up lt =
 stops-down : (setup : Setup) (n : Node) → some_queue setup is_up (node_happens n Fails) ≡ false
 stops-down setup n = none-any (λ (place : ℕ). is_up ((node_happens n Fails).queue place)) (λ place. refl) setup.places
 
-pub waiting-is : (setup : Setup) (n : Node) (places : List ℕ) (desks : List DeskState) → AreDesks setup n places desks
-    → all_waiting desks ≡ waiting n places
+pub waiting-is : (setup : Setup) (n : Node) (places : List ℕ) (node_queues : List NodeQueueState) → AreNodeQueues setup n places node_queues
+    → all_waiting node_queues ≡ waiting n places
 waiting-is setup n [] [] are = refl
-waiting-is setup n (place ∷ places) (d ∷ desks) are =
-    ap (λ (w : World). ops_waiting w ++ all_waiting desks) are.0.world_is
-    ∙ ap (λ (l : List Op). ops_waiting (n.queue place) ++ l) (waiting-is setup n places desks are.1)
-waiting-is setup n [] (d ∷ desks) are = absurd are
+waiting-is setup n (place ∷ places) (d ∷ node_queues) are =
+    ap (λ (w : World). ops_waiting w ++ all_waiting node_queues) are.0.world_is
+    ∙ ap (λ (l : List Op). ops_waiting (n.queue place) ++ l) (waiting-is setup n places node_queues are.1)
+waiting-is setup n [] (d ∷ node_queues) are = absurd are
 waiting-is setup n (place ∷ places) [] are = absurd are
 
 -- ---- what the queues do
 
 -- what the queues do behind a sync leads to the node behind its events
-pub record Settles (setup : Setup) (n : Node) (events : List NodeEvent) (news : List DeskState) (before after : List ℕ)
+pub record Settles (setup : Setup) (n : Node) (events : List NodeEvent) (news : List NodeQueueState) (before after : List ℕ)
     : Type 0 where
-  pub desks : AreDesks setup (node_after n events) setup.places news
+  pub node_queues : AreNodeQueues setup (node_after n events) setup.places news
   pub auto : (node_after n events).auto ≡ n.auto
   pub says : after ≡ before ++ text_of setup n events
 
-pub settles : (setup : Setup) (n : Node) (s : SyncOutcome) (some : Bool) (olds news : List DeskState)
-    (before after : List ℕ) → AreDesks setup n setup.places olds → HasSettled s some olds news before after
+pub settles : (setup : Setup) (n : Node) (s : SyncOutcome) (some : Bool) (olds news : List NodeQueueState)
+    (before after : List ℕ) → AreNodeQueues setup n setup.places olds → HasSettled s some olds news before after
     → Settles setup n (sync_events some s) news before after
-settles setup n Whole false olds news before after are (desks, says) = record {
-  desks = subst (AreDesks setup n setup.places) (sym desks) are;
+settles setup n Whole false olds news before after are (node_queues, says) = record {
+  node_queues = subst (AreNodeQueues setup n setup.places) (sym node_queues) are;
   auto = refl;
   says = says ∙ sym (append-nil before);
 }
 settles setup n Whole true olds news before after are (done, says) = record {
-  desks = all-done setup n (node_happens n (Alike Syncs)) Syncs setup.places olds news are done (λ place. refl);
+  node_queues = all-done setup n (node_happens n (Alike Syncs)) Syncs setup.places olds news are done (λ place. refl);
   auto = refl;
   says = says ∙ sym (append-nil before);
 }
 settles setup n NoFile true olds news before after are both =
     let synced : Node = node_happens n (Alike Syncs) in
     let mid = all-done setup n synced Syncs setup.places olds both.mid are both.synced (λ place. refl) in record {
-      desks = all-done setup synced (node_happens synced Fails) Stops setup.places both.mid news mid both.stopped
+      node_queues = all-done setup synced (node_happens synced Fails) Stops setup.places both.mid news mid both.stopped
           (λ place. refl);
       auto = refl;
       says = both.says;
     }
 settles setup n NoFile false olds news before after are (done, says) = record {
-  desks = all-done setup n (node_happens n Fails) Stops setup.places olds news are done (λ place. refl);
+  node_queues = all-done setup n (node_happens n Fails) Stops setup.places olds news are done (λ place. refl);
   auto = refl;
   says = says;
 }
 settles setup n Nothing true olds news before after are (done, says) = record {
-  desks = all-done setup n (node_happens n Fails) Stops setup.places olds news are done (λ place. refl);
+  node_queues = all-done setup n (node_happens n Fails) Stops setup.places olds news are done (λ place. refl);
   auto = refl;
   says = says;
 }
 settles setup n Nothing false olds news before after are (done, says) = record {
-  desks = all-done setup n (node_happens n Fails) Stops setup.places olds news are done (λ place. refl);
+  node_queues = all-done setup n (node_happens n Fails) Stops setup.places olds news are done (λ place. refl);
   auto = refl;
   says = says;
 }
@@ -134,7 +134,7 @@ module _ {D : Type 0} (tells : D → Bool) (past : D → List Disk) (faults : D 
     pub events : List NodeEvent
     pub allowed : Rule setup n events
     pub no_crash : HasNoCrash events
-    pub desks : AreDesks setup (node_after n events) setup.places new.desks
+    pub node_queues : AreNodeQueues setup (node_after n events) setup.places new.node_queues
     pub auto : new.auto ≡ (node_after n events).auto
     pub log : LogDid setup n events old.log new.log
     pub says : later ≡ before ++ text_of setup n events
@@ -151,7 +151,7 @@ module _ {D : Type 0} (tells : D → Bool) (past : D → List Disk) (faults : D 
         no_crash = d.no_crash;
         stands = record {
           apart = st.apart;
-          desks = d.desks;
+          node_queues = d.node_queues;
           queues = ap (λ (v : Vec QueueId). v.items) queues ∙ st.queues;
           auto = d.auto;
           log = d.log.log;
@@ -172,26 +172,26 @@ module _ {D : Type 0} (tells : D → Bool) (past : D → List Disk) (faults : D 
   -- ---- a write
 
   pub may-append : (setup : Setup) (n : Node) (node : Held D) → IsReached setup n → Stands tells past setup node n
-      → list_all (λ (d : DeskState). is_up (world_of d)) node.desks ≡ true
-      → list_any (λ (d : DeskState). waits_written (world_of d)) node.desks ≡ true
-      → MayAppendIn tells past node.desks node.log
+      → list_all (λ (d : NodeQueueState). is_up (world_of d)) node.node_queues ≡ true
+      → list_any (λ (d : NodeQueueState). waits_written (world_of d)) node.node_queues ≡ true
+      → MayAppendIn tells past node.node_queues node.log
   may-append setup n node r st up waits = by node.log st.log
     where
       some : some_queue setup is_up n ≡ true
       some =
-          some-up n waits_written setup.places (sym (all-desks setup n is_up setup.places node.desks st.desks) ∙ up)
-          (sym (any-desks setup n waits_written setup.places node.desks st.desks) ∙ waits)
+          some-up n waits_written setup.places (sym (all-node_queues setup n is_up setup.places node.node_queues st.node_queues) ∙ up)
+          (sym (any-node_queues setup n waits_written setup.places node.node_queues st.node_queues) ∙ waits)
 
-      by : (log : NodeLog D) → IsLogAt tells past setup n log → MayAppendIn tells past node.desks log
+      by : (log : NodeLog D) → IsLogAt tells past setup n log → MayAppendIn tells past node.node_queues log
       by (Open wal) is =
           let run = is some in record {
             sound = run.sound;
             waiting = run.waiting;
             going = run.going;
-            goes_on = subst (λ (ids : List QueueId). AllGoOn ids (carries_ahead wal) (all_waiting node.desks))
+            goes_on = subst (λ (ids : List QueueId). AllGoOn ids (carries_ahead wal) (all_waiting node.node_queues))
                 (sym run.queues_are)
                 (subst (AllGoOn (queues_of setup) (carries_ahead wal))
-                (sym (waiting-is setup n setup.places node.desks st.desks))
+                (sym (waiting-is setup n setup.places node.node_queues st.node_queues))
                 (goes_on-waiting setup n (carries_ahead wal) r st.apart run.carries));
           }
       by (Closed disk) is = absurd (false≢true (sym is ∙ some))
@@ -250,57 +250,57 @@ module _ {D : Type 0} (tells : D → Bool) (past : D → List Disk) (faults : D 
       (sym (ap (λ (b : Bool). b && some_queue setup waits_written n) up ∙ waits)) allowed
 
   pub served-write : (old new : Held D) (text : List ℕ)
-      → list_all (λ (d : DeskState). is_up (world_of d)) old.desks ≡ true
-      → list_any (λ (d : DeskState). waits_written (world_of d)) old.desks ≡ true → new.queues ≡ old.queues
-      → new.auto ≡ old.auto → AppendsIn tells past faults (all_waiting old.desks) true old.log new.log
-      → AllDo Writes old.desks new.desks → Served tells past faults IsWrite old new text text
+      → list_all (λ (d : NodeQueueState). is_up (world_of d)) old.node_queues ≡ true
+      → list_any (λ (d : NodeQueueState). waits_written (world_of d)) old.node_queues ≡ true → new.queues ≡ old.queues
+      → new.auto ≡ old.auto → AppendsIn tells past faults (all_waiting old.node_queues) true old.log new.log
+      → AllDo Writes old.node_queues new.node_queues → Served tells past faults IsWrite old new text text
   served-write old new text up waits queues auto appends done =
       served-by IsWrite old new text text queues (λ setup n r st.
-      (let all_up = sym (all-desks setup n is_up setup.places old.desks st.desks) ∙ up in
-      let some = sym (any-desks setup n waits_written setup.places old.desks st.desks) ∙ waits in record {
+      (let all_up = sym (all-node_queues setup n is_up setup.places old.node_queues st.node_queues) ∙ up in
+      let some = sym (any-node_queues setup n waits_written setup.places old.node_queues st.node_queues) ∙ waits in record {
         events = Alike Writes ∷ [];
         allowed = write-rule setup n (Alike Writes ∷ []) all_up some (inl refl);
         no_crash = (tt, tt);
-        desks = all-done setup n (node_happens n (Alike Writes)) Writes setup.places old.desks new.desks st.desks done
+        node_queues = all-done setup n (node_happens n (Alike Writes)) Writes setup.places old.node_queues new.node_queues st.node_queues done
             (λ place. refl);
         auto = auto ∙ st.auto;
-        log = log-wrote setup n (all_waiting old.desks) old.log new.log r st.apart all_up some
-            (waiting-is setup n setup.places old.desks st.desks) st.log appends;
+        log = log-wrote setup n (all_waiting old.node_queues) old.log new.log r st.apart all_up some
+            (waiting-is setup n setup.places old.node_queues st.node_queues) st.log appends;
         says = sym (append-nil text);
       }))
 
   pub served-failed : (old new : Held D) (before later : List ℕ)
-      → list_all (λ (d : DeskState). is_up (world_of d)) old.desks ≡ true
-      → list_any (λ (d : DeskState). waits_written (world_of d)) old.desks ≡ true → new.queues ≡ old.queues
-      → new.auto ≡ old.auto → AppendsIn tells past faults (all_waiting old.desks) false old.log new.log
-      → AllDo Stops old.desks new.desks → later ≡ before ++ codes "node 1 stopped\n"
+      → list_all (λ (d : NodeQueueState). is_up (world_of d)) old.node_queues ≡ true
+      → list_any (λ (d : NodeQueueState). waits_written (world_of d)) old.node_queues ≡ true → new.queues ≡ old.queues
+      → new.auto ≡ old.auto → AppendsIn tells past faults (all_waiting old.node_queues) false old.log new.log
+      → AllDo Stops old.node_queues new.node_queues → later ≡ before ++ codes "node 1 stopped\n"
       → Served tells past faults IsWrite old new before later
   served-failed old new before later up waits queues auto appends done says =
       served-by IsWrite old new before later queues (λ setup n r st.
-      (let all_up = sym (all-desks setup n is_up setup.places old.desks st.desks) ∙ up in
-      let some = sym (any-desks setup n waits_written setup.places old.desks st.desks) ∙ waits in record {
+      (let all_up = sym (all-node_queues setup n is_up setup.places old.node_queues st.node_queues) ∙ up in
+      let some = sym (any-node_queues setup n waits_written setup.places old.node_queues st.node_queues) ∙ waits in record {
         events = Fails ∷ [];
         allowed = write-rule setup n (Fails ∷ []) all_up some (inr refl);
         no_crash = (tt, tt);
-        desks = all-done setup n (node_happens n Fails) Stops setup.places old.desks new.desks st.desks done
+        node_queues = all-done setup n (node_happens n Fails) Stops setup.places old.node_queues new.node_queues st.node_queues done
             (λ place. refl);
         auto = auto ∙ st.auto;
-        log = log-failed setup n (all_waiting old.desks) old.log new.log r st.apart all_up some
-            (waiting-is setup n setup.places old.desks st.desks) st.log appends;
+        log = log-failed setup n (all_waiting old.node_queues) old.log new.log r st.apart all_up some
+            (waiting-is setup n setup.places old.node_queues st.node_queues) st.log appends;
         says = says;
       }))
 
   -- ---- a sync
 
   pub may-sync : (setup : Setup) (n : Node) (node : Held D) → Stands tells past setup node n
-      → list_all (λ (d : DeskState). is_up (world_of d)) node.desks ≡ true → 0 < length node.desks
+      → list_all (λ (d : NodeQueueState). is_up (world_of d)) node.node_queues ≡ true → 0 < length node.node_queues
       → MaySyncIn tells past node.log
   may-sync setup n node st up lt = by node.log st.log
     where
       some : some_queue setup is_up n ≡ true
       some =
-          first-up n setup.places (sym (all-desks setup n is_up setup.places node.desks st.desks) ∙ up)
-          (omega (arith, lt, as-many setup n setup.places node.desks st.desks))
+          first-up n setup.places (sym (all-node_queues setup n is_up setup.places node.node_queues st.node_queues) ∙ up)
+          (omega (arith, lt, as-many setup n setup.places node.node_queues st.node_queues))
 
       by : (log : NodeLog D) → IsLogAt tells past setup n log → MaySyncIn tells past log
       by (Open wal) is = let run = is some in record { sound = run.sound; going = run.going }
@@ -349,26 +349,26 @@ module _ {D : Type 0} (tells : D → Bool) (past : D → List Disk) (faults : D 
   log-synced setup n s (Closed disk) is r up some was did = absurd did
 
   pub served-sync : (s : SyncOutcome) (waits : Bool) (old new : Held D) (before later : List ℕ)
-      → list_all (λ (d : DeskState). is_up (world_of d)) old.desks ≡ true → 0 < length old.desks
-      → waits ≡ list_any (λ (d : DeskState). waits_synced (world_of d)) old.desks → new.queues ≡ old.queues
+      → list_all (λ (d : NodeQueueState). is_up (world_of d)) old.node_queues ≡ true → 0 < length old.node_queues
+      → waits ≡ list_any (λ (d : NodeQueueState). waits_synced (world_of d)) old.node_queues → new.queues ≡ old.queues
       → new.auto ≡ old.auto → SyncsIn tells past faults s old.log new.log
-      → HasSettled s waits old.desks new.desks before later → Served tells past faults IsSync old new before later
+      → HasSettled s waits old.node_queues new.node_queues before later → Served tells past faults IsSync old new before later
   served-sync s waits old new before later up lt waits_is queues auto did settled =
       served-by IsSync old new before later queues (λ setup n r st.
       (let all_up : is_node_up setup n ≡ true =
-      sym (all-desks setup n is_up setup.places old.desks st.desks) ∙ up in
+      sym (all-node_queues setup n is_up setup.places old.node_queues st.node_queues) ∙ up in
       let is : waits ≡ some_queue setup waits_synced n =
-      waits_is ∙ any-desks setup n waits_synced setup.places old.desks st.desks in
-      let done : Settles setup n (sync_events (some_queue setup waits_synced n) s) new.desks before later =
-      subst (λ (b : Bool). Settles setup n (sync_events b s) new.desks before later) is
-      (settles setup n s waits old.desks new.desks before later st.desks settled) in record {
+      waits_is ∙ any-node_queues setup n waits_synced setup.places old.node_queues st.node_queues in
+      let done : Settles setup n (sync_events (some_queue setup waits_synced n) s) new.node_queues before later =
+      subst (λ (b : Bool). Settles setup n (sync_events b s) new.node_queues before later) is
+      (settles setup n s waits old.node_queues new.node_queues before later st.node_queues settled) in record {
         events = sync_events (some_queue setup waits_synced n) s;
         allowed = sync-allowed setup n s all_up;
         no_crash = sync-no_crash (some_queue setup waits_synced n) s;
-        desks = done.desks;
+        node_queues = done.node_queues;
         auto = auto ∙ st.auto ∙ sym done.auto;
         log = log-synced setup n s old.log new.log r all_up
-            (first-up n setup.places all_up (omega (arith, lt, as-many setup n setup.places old.desks st.desks))) st.log
+            (first-up n setup.places all_up (omega (arith, lt, as-many setup n setup.places old.node_queues st.node_queues))) st.log
             did;
         says = done.says;
       }))
@@ -393,15 +393,15 @@ module _ {D : Type 0} (tells : D → Bool) (past : D → List Disk) (faults : D 
   gives_up-appending setup n ops (Closed disk) is r apart up waits all was b = absurd b
 
   -- there was no memory while what waits was appended, or behind that
-  pub gave_up-write : (old new : Held D) → list_all (λ (d : DeskState). is_up (world_of d)) old.desks ≡ true
-      → list_any (λ (d : DeskState). waits_written (world_of d)) old.desks ≡ true
-      → BreaksOffIn tells past faults (StaysGivingSome (all_waiting old.desks)) old.log new.log
+  pub gave_up-write : (old new : Held D) → list_all (λ (d : NodeQueueState). is_up (world_of d)) old.node_queues ≡ true
+      → list_any (λ (d : NodeQueueState). waits_written (world_of d)) old.node_queues ≡ true
+      → BreaksOffIn tells past faults (StaysGivingSome (all_waiting old.node_queues)) old.log new.log
       → GaveUp tells past faults old new
   gave_up-write old new up waits breaks setup n r st =
-      gives_up-appending setup n (all_waiting old.desks) old.log new.log r st.apart
-      (sym (all-desks setup n is_up setup.places old.desks st.desks) ∙ up)
-      (sym (any-desks setup n waits_written setup.places old.desks st.desks) ∙ waits)
-      (waiting-is setup n setup.places old.desks st.desks) st.log breaks
+      gives_up-appending setup n (all_waiting old.node_queues) old.log new.log r st.apart
+      (sym (all-node_queues setup n is_up setup.places old.node_queues st.node_queues) ∙ up)
+      (sym (any-node_queues setup n waits_written setup.places old.node_queues st.node_queues) ∙ waits)
+      (waiting-is setup n setup.places old.node_queues st.node_queues) st.log breaks
 
   pub appends-break : (ops : List Op) (more : Bool) (was is : NodeLog D) → AppendsIn tells past faults ops more was is
       → BreaksOffIn tells past faults (StaysGivingSome ops) was is
@@ -424,12 +424,12 @@ module _ {D : Type 0} (tells : D → Bool) (past : D → List Disk) (faults : D 
   gives_up-syncing setup n (Closed disk) is r some was b = absurd b
 
   -- there was no memory in a sync, or behind it
-  pub gave_up-sync : (old new : Held D) → list_all (λ (d : DeskState). is_up (world_of d)) old.desks ≡ true
-      → 0 < length old.desks → BreaksOffIn tells past faults Stays old.log new.log → GaveUp tells past faults old new
+  pub gave_up-sync : (old new : Held D) → list_all (λ (d : NodeQueueState). is_up (world_of d)) old.node_queues ≡ true
+      → 0 < length old.node_queues → BreaksOffIn tells past faults Stays old.log new.log → GaveUp tells past faults old new
   gave_up-sync old new up lt breaks setup n r st =
       gives_up-syncing setup n old.log new.log r
-      (first-up n setup.places (sym (all-desks setup n is_up setup.places old.desks st.desks) ∙ up)
-      (omega (arith, lt, as-many setup n setup.places old.desks st.desks))) st.log breaks
+      (first-up n setup.places (sym (all-node_queues setup n is_up setup.places old.node_queues st.node_queues) ∙ up)
+      (omega (arith, lt, as-many setup n setup.places old.node_queues st.node_queues))) st.log breaks
 
   pub syncs-break : (s : SyncOutcome) (was is : NodeLog D) → SyncsIn tells past faults s was is
       → BreaksOffIn tells past faults Stays was is

@@ -2,11 +2,11 @@
 use Rattle.std.proofs.Common.{◌≡◌, ◌≤◌, ◌<◌, ◌+◌, ℕ, zero, suc, List, [], ◌∷◌, Option, Some, None, length, drop, get_or, refl, sym, subst, arith}
 use Rattle.std.specs.Prelude.{Contains}
 use Rattle.std.specs.List.{AllByRecursion}
-use Rattle.qq_node_queue.specs.Desk.{DeskState}
+use Rattle.qq_node_queue.specs.NodeQueue.{NodeQueueState}
 use Rattle.qq_log.specs.declared.lane.Lane.{Lane}
 use Rattle.qq_world.specs.Node.{Setup, new_node}
 use Rattle.qq_node.specs.declared.opening.OpenFault.{OpenFault}
-use Rattle.qq_node.specs.Node.{AreDesks, IsDesk}
+use Rattle.qq_node.specs.Node.{AreNodeQueues, IsNodeQueue}
 use Rattle.qq_node.specs.Restarting.{TellsFirstFound, TellsFound}
 
 abbrev pub AreNone : List (Option Lane) → Type 0
@@ -33,20 +33,20 @@ none-all (lane ∷ lanes) zero end none = absurd (omega (arith, end))
 none-all (lane ∷ lanes) (suc at) end none = (none.0, none-all lanes at (omega (arith, end)) none.1)
 
 -- behind them stands the first that isn't
-pub first-found : (desks : List DeskState) (lanes : List (Option Lane)) (at : ℕ) (d : Option Lane) (lane : Lane)
-    (x : DeskState) (later : List DeskState) (fault : OpenFault) → at < length lanes → NoneUpTo at lanes
-    → get_or lanes at d ≡ Some lane → drop at desks ≡ x ∷ later → TellsFound x lane fault
-    → TellsFirstFound desks lanes fault
+pub first-found : (node_queues : List NodeQueueState) (lanes : List (Option Lane)) (at : ℕ) (d : Option Lane) (lane : Lane)
+    (x : NodeQueueState) (later : List NodeQueueState) (fault : OpenFault) → at < length lanes → NoneUpTo at lanes
+    → get_or lanes at d ≡ Some lane → drop at node_queues ≡ x ∷ later → TellsFound x lane fault
+    → TellsFirstFound node_queues lanes fault
 first-found [] lanes zero d lane x later fault lt none is there tells = absurd cc
 first-found [] lanes (suc at) d lane x later fault lt none is there tells = absurd cc
-first-found (e ∷ desks) [] at d lane x later fault lt none is there tells = absurd (omega (arith, lt))
-first-found (e ∷ desks) (l ∷ lanes) zero d lane x later fault lt none is there tells =
+first-found (e ∷ node_queues) [] at d lane x later fault lt none is there tells = absurd (omega (arith, lt))
+first-found (e ∷ node_queues) (l ∷ lanes) zero d lane x later fault lt none is there tells =
     let same : x ≡ e = cc in
-    subst (λ (o : Option Lane). TellsFirstFound (e ∷ desks) (o ∷ lanes) fault) (sym is)
-    (subst (λ (y : DeskState). TellsFound y lane fault) same tells)
-first-found (e ∷ desks) (l ∷ lanes) (suc at) d lane x later fault lt none is there tells =
-    subst (λ (o : Option Lane). TellsFirstFound (e ∷ desks) (o ∷ lanes) fault) (sym none.0)
-    (first-found desks lanes at d lane x later fault (omega (arith, lt)) none.1 is there tells)
+    subst (λ (o : Option Lane). TellsFirstFound (e ∷ node_queues) (o ∷ lanes) fault) (sym is)
+    (subst (λ (y : NodeQueueState). TellsFound y lane fault) same tells)
+first-found (e ∷ node_queues) (l ∷ lanes) (suc at) d lane x later fault lt none is there tells =
+    subst (λ (o : Option Lane). TellsFirstFound (e ∷ node_queues) (o ∷ lanes) fault) (sym none.0)
+    (first-found node_queues lanes at d lane x later fault (omega (arith, lt)) none.1 is there tells)
 
 -- ---- the queue that is told
 
@@ -54,35 +54,35 @@ first-found (e ∷ desks) (l ∷ lanes) (suc at) d lane x later fault lt none is
 pub record FoundAt (setup : Setup) (places : List ℕ) (lanes : List (Option Lane)) (fault : OpenFault) : Type 0 where
   pub place : ℕ
   pub among : Contains places place
-  pub desk : DeskState
-  pub is_desk : IsDesk setup (new_node setup) place desk
+  pub node_queue : NodeQueueState
+  pub is_node_queue : IsNodeQueue setup (new_node setup) place node_queue
   pub lane : Lane
-  pub tells : TellsFound desk lane fault
+  pub tells : TellsFound node_queue lane fault
   pub some : AreNone lanes → ⊥
 
-pub found-at : (setup : Setup) (places : List ℕ) (desks : List DeskState) (lanes : List (Option Lane))
-    (fault : OpenFault) → AreDesks setup (new_node setup) places desks → TellsFirstFound desks lanes fault
+pub found-at : (setup : Setup) (places : List ℕ) (node_queues : List NodeQueueState) (lanes : List (Option Lane))
+    (fault : OpenFault) → AreNodeQueues setup (new_node setup) places node_queues → TellsFirstFound node_queues lanes fault
     → FoundAt setup places lanes fault
 found-at setup [] [] lanes fault are tells = absurd tells
-found-at setup [] (d ∷ desks) lanes fault are tells = absurd are
+found-at setup [] (d ∷ node_queues) lanes fault are tells = absurd are
 found-at setup (p ∷ places) [] lanes fault are tells = absurd are
-found-at setup (p ∷ places) (d ∷ desks) [] fault are tells = absurd tells
-found-at setup (p ∷ places) (d ∷ desks) (Some lane ∷ lanes) fault are tells = record {
+found-at setup (p ∷ places) (d ∷ node_queues) [] fault are tells = absurd tells
+found-at setup (p ∷ places) (d ∷ node_queues) (Some lane ∷ lanes) fault are tells = record {
   place = p;
   among = (0, omega arith, refl);
-  desk = d;
-  is_desk = are.0;
+  node_queue = d;
+  is_node_queue = are.0;
   lane = lane;
   tells = tells;
   some = λ none. (let e : Some lane ≡ None = none.0 in absurd cc);
 }
-found-at setup (p ∷ places) (d ∷ desks) (None ∷ lanes) fault are tells =
-    let later : FoundAt setup places lanes fault = found-at setup places desks lanes fault are.1 tells in
+found-at setup (p ∷ places) (d ∷ node_queues) (None ∷ lanes) fault are tells =
+    let later : FoundAt setup places lanes fault = found-at setup places node_queues lanes fault are.1 tells in
     record {
       place = later.place;
       among = (suc later.among.0, omega (arith, later.among.1), later.among.2);
-      desk = later.desk;
-      is_desk = later.is_desk;
+      node_queue = later.node_queue;
+      is_node_queue = later.is_node_queue;
       lane = later.lane;
       tells = later.tells;
       some = λ none. later.some none.1;

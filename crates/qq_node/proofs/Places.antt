@@ -12,7 +12,7 @@ use Rattle.qq_node_laws.specs.Waiting.{AreApart}
 use Rattle.qq_node_laws.proofs.Serves.{leads-more, leads-start}
 use Rattle.qq_node.specs.declared.node.Node.{Node as Held}
 use Rattle.qq_node.specs.Node.{AtIndex, AtQueue, CanServe, IsQueueAt, LeadsFrom, Served}
-use Rattle.qq_node.proofs.EachDesk.{as-many}
+use Rattle.qq_node.proofs.EachNodeQueue.{as-many}
 use Rattle.qq_node.proofs.Stands.{served-both, served-nothing, served-weaker}
 
 -- ---- the place of a queue
@@ -143,20 +143,20 @@ module _ {D : Type 0} (tells : D → Bool) (past : D → List Disk) (faults : D 
 
   -- all of them
   pub each-end : (Each : Setup → ℕ → Node → List NodeEvent → Type 0) (at : ℕ) (old new : Held D) (before later : List ℕ)
-      → Served tells past faults (LeadsFrom at Each) old new before later → length old.desks ≤ at
+      → Served tells past faults (LeadsFrom at Each) old new before later → length old.node_queues ≤ at
       → Served tells past faults (λ setup. ForEach setup.places (Each setup)) old new before later
   each-end Each at old new before later served most =
       served-weaker tells past faults (LeadsFrom at Each) (λ setup. ForEach setup.places (Each setup)) old new before later
       served
       (λ setup n events r st leads. subst (ForEach setup.places (Each setup) n) (append-nil events)
       (leads [] (subst (λ (l : List ℕ). ForEach l (Each setup) (node_after n events) [])
-      (sym (drop-past setup.places at (omega (arith, most, as-many setup n setup.places old.desks st.desks)))) refl)))
+      (sym (drop-past setup.places at (omega (arith, most, as-many setup n setup.places old.node_queues st.node_queues)))) refl)))
 
   -- the queues stay as many
   pub still-many : (Rule : Setup → Node → List NodeEvent → Type 0) (old new : Held D) (before later : List ℕ)
       → CanServe tells past old → Served tells past faults Rule old new before later
-      → length new.desks ≡ length old.desks
+      → length new.node_queues ≡ length old.node_queues
   still-many Rule old new before later can served =
       let s = served can.0 can.1 can.2 can.3 in
-      as-many can.0 (node_after can.1 s.events) can.0.places new.desks s.stands.desks
-      ∙ sym (as-many can.0 can.1 can.0.places old.desks can.3.desks)
+      as-many can.0 (node_after can.1 s.events) can.0.places new.node_queues s.stands.node_queues
+      ∙ sym (as-many can.0 can.1 can.0.places old.node_queues can.3.node_queues)

@@ -4,7 +4,7 @@ use Rattle.std.specs.Global.{Vec}
 use Rattle.std.specs.Prelude.{IsTrue}
 use Rattle.std.proofs.lemmas.Bool.{false≢true}
 use Rattle.qq_base.specs.declared.ids.QueueId.{QueueId}
-use Rattle.qq_node_queue.specs.Desk.{DeskState}
+use Rattle.qq_node_queue.specs.NodeQueue.{NodeQueueState}
 use Rattle.qq_disk.specs.declared.image.Image.{Image}
 use Rattle.qq_disk.specs.Disk.{Disk, now}
 use Rattle.qq_log.specs.declared.lane.Lane.{Lane}
@@ -29,13 +29,13 @@ use Rattle.qq_node.specs.declared.node.NodeLog.TheVariants.{Open, Closed}
 use Rattle.qq_node.specs.declared.opening.OpenFault.{OpenFault}
 use Rattle.qq_node.specs.declared.opening.OpenFault.TheVariants as open_fault
 use Rattle.qq_node.specs.declared.recovering.Found.{Found}
-use Rattle.qq_node.specs.Desks.{AllDo}
+use Rattle.qq_node.specs.NodeQueues.{AllDo}
 use Rattle.qq_node.specs.Found.{AreDistinct, AreLanes, FailsLinked, HasFound}
 use Rattle.qq_node.specs.Log.{IsWhole}
 use Rattle.qq_node.specs.Node.{GaveUp, IsLogAt, IsRunning, Served, Stands, disk_in, seen}
 use Rattle.qq_node.specs.Restarting.{HasBegun, HasCrashed, IsOpenCaused, IsSetFor, TellsFirstFound, opening_fault}
 use Rattle.qq_node.proofs.Carried.{apart-distinct}
-use Rattle.qq_node.proofs.EachDesk.{all-done}
+use Rattle.qq_node.proofs.EachNodeQueue.{all-done}
 use Rattle.qq_node.proofs.Finding.{new-promised, new-whole, none-found}
 use Rattle.qq_node.proofs.Moments.{crashed-traced}
 use Rattle.qq_node.proofs.NoneFound.{AreNone, FoundAt, found-at}
@@ -50,7 +50,7 @@ module _ {D : Type 0} (tells : D → Bool) (past : D → List Disk) (faults : D 
 
   pub crashed : (image : Image) (setup : Setup) (n : Node) (old new : Held D) (given left : D) → IsReached setup n
       → Stands tells past setup old n → new.queues ≡ old.queues → new.auto ≡ old.auto
-      → AllDo Stops old.desks new.desks → new.log ≡ Closed left → given ≡ disk_in old.log
+      → AllDo Stops old.node_queues new.node_queues → new.log ≡ Closed left → given ≡ disk_in old.log
       → tells left ≡ tells given → (IsTrue (tells given) → LeavesImage image (past given) (past left))
       → IsWhole tells past left → HasCrashed tells past image setup n old new
   crashed image setup n old new given left r st queues auto done log same told leaves whole =
@@ -62,7 +62,7 @@ module _ {D : Type 0} (tells : D → Bool) (past : D → List Disk) (faults : D 
       record {
         stands = record {
           apart = st.apart;
-          desks = all-done setup n later Stops setup.places old.desks new.desks st.desks done (λ place. refl);
+          node_queues = all-done setup n later Stops setup.places old.node_queues new.node_queues st.node_queues done (λ place. refl);
           queues = ap (λ (v : Vec QueueId). v.items) queues ∙ st.queues;
           auto = auto ∙ st.auto;
           log = subst (IsLogAt tells past setup later) (sym log) (crashes-down setup n image);
@@ -76,14 +76,14 @@ module _ {D : Type 0} (tells : D → Bool) (past : D → List Disk) (faults : D 
 
   -- ---- openings
 
-  pub may-begin : (setup : Setup) (queues : List QueueId) (desks : List DeskState) → IsSetFor setup queues desks
+  pub may-begin : (setup : Setup) (queues : List QueueId) (node_queues : List NodeQueueState) → IsSetFor setup queues node_queues
       → AreDistinct queues
-  may-begin setup queues desks set =
+  may-begin setup queues node_queues set =
       subst AreDistinct (sym set.queues_are) (apart-distinct setup setup.places set.apart)
 
   -- the node behind recovery
   pub begun : (setup : Setup) (queues : List QueueId) (log_bytes : ℕ) (disk : D) (f : Found D) (new : Held D)
-      → IsSetFor setup queues new.desks → (IsTrue (tells disk) → IsNew (past disk))
+      → IsSetFor setup queues new.node_queues → (IsTrue (tells disk) → IsNew (past disk))
       → HasFound tells past queues log_bytes disk f → AreNone f.lanes.items
       → (IsTrue (tells disk) → StaysWhole (past disk) (past f.wal.disk)) → tells f.wal.disk ≡ tells disk
       → faults disk ≤ faults f.wal.disk → new.queues.items ≡ queues → new.auto ≡ true → new.log ≡ Open f.wal
@@ -104,7 +104,7 @@ module _ {D : Type 0} (tells : D → Bool) (past : D → List Disk) (faults : D 
       record {
         stands = record {
           apart = set.apart;
-          desks = set.desks_are;
+          node_queues = set.node_queues_are;
           queues = same ∙ set.queues_are;
           auto = auto;
           log = subst (IsLogAt tells past setup (new_node setup)) (sym log) (λ up. running);
@@ -123,10 +123,10 @@ module _ {D : Type 0} (tells : D → Bool) (past : D → List Disk) (faults : D 
   silent false never = refl
 
   -- on a new disk no queue has ops
-  new-none : (setup : Setup) (queues : List QueueId) (desks : List DeskState) (log_bytes : ℕ) (disk : D) (f : Found D)
-      → IsSetFor setup queues desks → (IsTrue (tells disk) → IsNew (past disk))
+  new-none : (setup : Setup) (queues : List QueueId) (node_queues : List NodeQueueState) (log_bytes : ℕ) (disk : D) (f : Found D)
+      → IsSetFor setup queues node_queues → (IsTrue (tells disk) → IsNew (past disk))
       → HasFound tells past queues log_bytes disk f → IsTrue (tells disk) → AreNone f.lanes.items
-  new-none setup queues desks log_bytes disk f set fresh found tell = by queues f.lanes.items found.each
+  new-none setup queues node_queues log_bytes disk f set fresh found tell = by queues f.lanes.items found.each
     where
       by : (ids : List QueueId) (lanes : List (Option Lane)) → AreLanes ids found.lanes lanes → AreNone lanes
       by [] [] are = tt
@@ -138,12 +138,12 @@ module _ {D : Type 0} (tells : D → Bool) (past : D → List Disk) (faults : D 
           ((found.begins tell setup set.queues_are (fresh tell)).none id.0) are.0)
 
   -- so what is found of one is on a disk that tells nothing
-  pub found-caused : (setup : Setup) (queues : List QueueId) (desks : List DeskState) (log_bytes : ℕ) (disk : D)
-      (f : Found D) (before later : ℕ) (fault : OpenFault) → IsSetFor setup queues desks
+  pub found-caused : (setup : Setup) (queues : List QueueId) (node_queues : List NodeQueueState) (log_bytes : ℕ) (disk : D)
+      (f : Found D) (before later : ℕ) (fault : OpenFault) → IsSetFor setup queues node_queues
       → (IsTrue (tells disk) → IsNew (past disk)) → HasFound tells past queues log_bytes disk f
-      → TellsFirstFound desks f.lanes.items fault → IsOpenCaused setup (tells disk) before later fault
-  found-caused setup queues desks log_bytes disk f before later fault set fresh found first =
-      by fault (found-at setup setup.places desks f.lanes.items fault set.desks_are first)
+      → TellsFirstFound node_queues f.lanes.items fault → IsOpenCaused setup (tells disk) before later fault
+  found-caused setup queues node_queues log_bytes disk f before later fault set fresh found first =
+      by fault (found-at setup setup.places node_queues f.lanes.items fault set.node_queues_are first)
     where
       by : (fault : OpenFault) → FoundAt setup setup.places f.lanes.items fault
           → IsOpenCaused setup (tells disk) before later fault
@@ -152,23 +152,23 @@ module _ {D : Type 0} (tells : D → Bool) (past : D → List Disk) (faults : D 
       by (open_fault.Version file byte) at = absurd at.tells
       by (open_fault.Lost name noticed op) at = (
         silent (tells disk)
-            (λ tell. at.some (new-none setup queues desks log_bytes disk f set fresh found tell)),
+            (λ tell. at.some (new-none setup queues node_queues log_bytes disk f set fresh found tell)),
         record {
           place = at.place;
           among = at.among;
-          name_is = at.tells.0 ∙ at.is_desk.name_is;
-          noticed_is = at.tells.1 ∙ ap (λ (w : World). w.server.noticed) at.is_desk.world_is;
+          name_is = at.tells.0 ∙ at.is_node_queue.name_is;
+          noticed_is = at.tells.1 ∙ ap (λ (w : World). w.server.noticed) at.is_node_queue.world_is;
         },
       )
       by (open_fault.Memory memory) at = subst IsAtEnd (sym at.tells) tt
 
   -- nor is one refused
-  pub open-caused : (setup : Setup) (queues : List QueueId) (desks : List DeskState) (disk given : D)
-      (fault : RecoverFault) → IsSetFor setup queues desks → (IsTrue (tells disk) → IsNew (past disk))
+  pub open-caused : (setup : Setup) (queues : List QueueId) (node_queues : List NodeQueueState) (disk given : D)
+      (fault : RecoverFault) → IsSetFor setup queues node_queues → (IsTrue (tells disk) → IsNew (past disk))
       → (IsTrue (tells disk) → FailsLinked queues (past disk) (past given) fault)
       → IsRecoverCaused (faults disk) (faults given) fault
       → IsOpenCaused setup (tells disk) (faults disk) (faults given) (opening_fault fault)
-  open-caused setup queues desks disk given fault set fresh fails cause = by fault fails cause
+  open-caused setup queues node_queues disk given fault set fresh fails cause = by fault fails cause
     where
       refused : (fault : RecoverFault) → (IsTrue (tells disk) → FailsLinked queues (past disk) (past given) fault)
           → IsTrue (tells disk) → IsNoRefusal fault

@@ -5,7 +5,7 @@ use Rattle.std.specs.Global.{Vec}
 use Rattle.std.specs.List.{list_any, list_all}
 use Rattle.qq_base.specs.declared.ids.QueueId.{QueueId}
 use Rattle.qq_disk.specs.Disk.{Disk}
-use Rattle.qq_node_queue.specs.Desk.{DeskState, world_of}
+use Rattle.qq_node_queue.specs.NodeQueue.{NodeQueueState, world_of}
 use Rattle.qq_world.specs.Node.{Setup, Node, NodeEvent, Alike, At, Shows, auto_after, node_happens, node_after, text_of}
 use Rattle.qq_world.specs.Rules.{Is, Then, is_node_up, is_idle, is_settled}
 use Rattle.qq_wal.specs.Wal.{carries_ahead}
@@ -16,36 +16,36 @@ use Rattle.qq_node_laws.specs.Serves.{GivesUp, Seen, Serves}
 use Rattle.qq_node_laws.proofs.Promises.{reached-after}
 use Rattle.qq_node_laws.proofs.Quiet.{still-up}
 use Rattle.qq_node_laws.proofs.Serves.{gives_up-behind, gives_up-same, serves-both, serves-nothing, serves-quiet, serves-weaker}
-use Rattle.qq_node.specs.declared.desks.Ask.{Ask}
-use Rattle.qq_node.specs.declared.desks.Ask.TheVariants.{Submit, TellEnded, Resend, Down, Tick, Notice}
+use Rattle.qq_node.specs.declared.node_queues.Ask.{Ask}
+use Rattle.qq_node.specs.declared.node_queues.Ask.TheVariants.{Submit, TellEnded, Resend, Down, Tick, Notice}
 use Rattle.qq_node_queue.specs.Text.{state_text_as}
 use Rattle.qq_node.specs.declared.node.Node.{Node as Held}
 use Rattle.qq_node.specs.declared.node.NodeLog.{NodeLog}
 use Rattle.qq_node.specs.declared.node.NodeLog.TheVariants.{Open, Closed}
-use Rattle.qq_node.specs.Desks.{AllDo, DoesAt, asked}
+use Rattle.qq_node.specs.NodeQueues.{AllDo, DoesAt, asked}
 use Rattle.qq_node.specs.Log.{IsWhole}
-use Rattle.qq_node.specs.Node.{AreDesks, AtIndex, CanServe, GaveUp, HasPlace, IsAt, IsDesk, IsLogAt, Served, Stands, disk_in, seen}
+use Rattle.qq_node.specs.Node.{AreNodeQueues, AtIndex, CanServe, GaveUp, HasPlace, IsAt, IsNodeQueue, IsLogAt, Served, Stands, disk_in, seen}
 use Rattle.qq_node.proofs.Carried.{carries-unseen}
-use Rattle.qq_node.proofs.EachDesk.{all-desks, all-done, any-desks, as-many, desk-at, drop-at, one-done, one-said}
+use Rattle.qq_node.proofs.EachNodeQueue.{all-node_queues, all-done, any-node_queues, as-many, node_queue-at, drop-at, one-done, one-said}
 
 -- ---- what is asked of all queues
 
-pub idle-is : (setup : Setup) (n : Node) (up unsettled : Bool) (desks : List DeskState) → AreDesks setup n setup.places desks
-    → up ≡ list_all (λ (d : DeskState). is_up (world_of d)) desks
-    → unsettled ≡ list_any (λ (d : DeskState). not (is_settled (world_of d))) desks → not (up && unsettled) ≡ is_idle setup n
-idle-is setup n up unsettled desks are up_is unsettled_is =
-    ap (λ (b : Bool). not (b && unsettled)) (up_is ∙ all-desks setup n is_up setup.places desks are)
+pub idle-is : (setup : Setup) (n : Node) (up unsettled : Bool) (node_queues : List NodeQueueState) → AreNodeQueues setup n setup.places node_queues
+    → up ≡ list_all (λ (d : NodeQueueState). is_up (world_of d)) node_queues
+    → unsettled ≡ list_any (λ (d : NodeQueueState). not (is_settled (world_of d))) node_queues → not (up && unsettled) ≡ is_idle setup n
+idle-is setup n up unsettled node_queues are up_is unsettled_is =
+    ap (λ (b : Bool). not (b && unsettled)) (up_is ∙ all-node_queues setup n is_up setup.places node_queues are)
     ∙ ap (λ (b : Bool). not (is_node_up setup n && b))
-    (unsettled_is ∙ any-desks setup n (λ (w : World). not (is_settled w)) setup.places desks are)
+    (unsettled_is ∙ any-node_queues setup n (λ (w : World). not (is_settled w)) setup.places node_queues are)
 
 -- ---- places
 
 -- a queue has the place of its index
-pub place-at : (setup : Setup) (n : Node) (desks : List DeskState) (at : ℕ) → AreDesks setup n setup.places desks
-    → at < length desks → (place : ℕ) × HasPlace setup at place
-place-at setup n desks at are lt = (
+pub place-at : (setup : Setup) (n : Node) (node_queues : List NodeQueueState) (at : ℕ) → AreNodeQueues setup n setup.places node_queues
+    → at < length node_queues → (place : ℕ) × HasPlace setup at place
+place-at setup n node_queues at are lt = (
   get_or setup.places at 0,
-  drop-at setup.places at 0 (omega (arith, lt, as-many setup n setup.places desks are)),
+  drop-at setup.places at 0 (omega (arith, lt, as-many setup n setup.places node_queues are)),
 )
 
 -- ---- what is asked
@@ -59,19 +59,19 @@ asked-unseen Tick = tt
 asked-unseen Notice = tt
 
 -- where no queue changes they stand as before
-same-desks : (setup : Setup) (n m : Node) (places : List ℕ) (desks : List DeskState)
-    → ((place : ℕ) → m.queue place ≡ n.queue place) → AreDesks setup n places desks → AreDesks setup m places desks
-same-desks setup n m [] [] same are = tt
-same-desks setup n m (place ∷ places) (d ∷ desks) same are = (
+same-node_queues : (setup : Setup) (n m : Node) (places : List ℕ) (node_queues : List NodeQueueState)
+    → ((place : ℕ) → m.queue place ≡ n.queue place) → AreNodeQueues setup n places node_queues → AreNodeQueues setup m places node_queues
+same-node_queues setup n m [] [] same are = tt
+same-node_queues setup n m (place ∷ places) (d ∷ node_queues) same are = (
   record {
     world_is = are.0.world_is ∙ sym (same place);
     name_is = are.0.name_is;
     first_is = are.0.first_is;
   },
-  same-desks setup n m places desks same are.1,
+  same-node_queues setup n m places node_queues same are.1,
 )
-same-desks setup n m [] (d ∷ desks) same are = absurd are
-same-desks setup n m (place ∷ places) [] same are = absurd are
+same-node_queues setup n m [] (d ∷ node_queues) same are = absurd are
+same-node_queues setup n m (place ∷ places) [] same are = absurd are
 
 -- ---- the log
 
@@ -94,12 +94,12 @@ log-quiet tells past setup n event (Closed disk) r quiet is = still-up setup n e
 module _ {D : Type 0} (tells : D → Bool) (past : D → List Disk) (faults : D → ℕ) where
   -- behind an event that the log doesn't see
   pub stands-quiet : (setup : Setup) (n : Node) (event : NodeEvent) (old new : Held D) → IsReached setup n
-      → IsQuiet event → Stands tells past setup old n → AreDesks setup (node_happens n event) setup.places new.desks
+      → IsQuiet event → Stands tells past setup old n → AreNodeQueues setup (node_happens n event) setup.places new.node_queues
       → new.queues ≡ old.queues → new.log ≡ old.log → new.auto ≡ auto_after event old.auto
       → Stands tells past setup new (node_happens n event)
-  stands-quiet setup n event old new r quiet st desks queues log auto = record {
+  stands-quiet setup n event old new r quiet st node_queues queues log auto = record {
     apart = st.apart;
-    desks = desks;
+    node_queues = node_queues;
     queues = ap (λ (v : Vec QueueId). v.items) queues ∙ st.queues;
     auto = auto ∙ ap (auto_after event) st.auto;
     log = subst (IsLogAt tells past setup (node_happens n event)) (sym log)
@@ -183,7 +183,7 @@ module _ {D : Type 0} (tells : D → Bool) (past : D → List Disk) (faults : D 
   pub served-quiet : (Rule : Setup → Node → List NodeEvent → Type 0) (old new : Held D) (before later : List ℕ)
       → new.queues ≡ old.queues → new.log ≡ old.log
       → ((setup : Setup) (n : Node) → IsReached setup n → Stands tells past setup old n → (event : NodeEvent)
-      × IsQuiet event × Rule setup n (event ∷ []) × AreDesks setup (node_happens n event) setup.places new.desks
+      × IsQuiet event × Rule setup n (event ∷ []) × AreNodeQueues setup (node_happens n event) setup.places new.node_queues
       × (new.auto ≡ auto_after event old.auto) × (later ≡ before ++ text_of setup n (event ∷ [])))
       → Served tells past faults Rule old new before later
   served-quiet Rule old new before later queues log does setup n r st =
@@ -198,20 +198,20 @@ module _ {D : Type 0} (tells : D → Bool) (past : D → List Disk) (faults : D 
 
   -- one queue does what is asked of it
   pub served-at : (event : Event) (at : ℕ) (old new : Held D) (before later : List ℕ) → IsUnseen event
-      → at < length old.desks → new.queues ≡ old.queues → new.log ≡ old.log → new.auto ≡ old.auto
-      → DoesAt event at old.desks new.desks before later
+      → at < length old.node_queues → new.queues ≡ old.queues → new.log ≡ old.log → new.auto ≡ old.auto
+      → DoesAt event at old.node_queues new.node_queues before later
       → Served tells past faults (AtIndex at (IsAt event)) old new before later
   served-at event at old new before later unseen lt queues log auto does =
       served-quiet (AtIndex at (IsAt event)) old new before later queues log (λ setup n r st.
-      (let place = place-at setup n old.desks at st.desks lt in (
+      (let place = place-at setup n old.node_queues at st.node_queues lt in (
         At place.0 event,
         unseen,
         (place.0, place.1, refl),
-        one-done setup n (node_happens n (At place.0 event)) event at place.0 setup.places old.desks new.desks
-            (drop (at + 1) setup.places) before later st.apart place.1 st.desks does (here n place.0) (there n place.0),
+        one-done setup n (node_happens n (At place.0 event)) event at place.0 setup.places old.node_queues new.node_queues
+            (drop (at + 1) setup.places) before later st.apart place.1 st.node_queues does (here n place.0) (there n place.0),
         auto,
-        one-said setup n event at place.0 setup.places old.desks new.desks (drop (at + 1) setup.places) before later
-            place.1 st.desks does,
+        one-said setup n event at place.0 setup.places old.node_queues new.node_queues (drop (at + 1) setup.places) before later
+            place.1 st.node_queues does,
       )))
     where
       here : (n : Node) (place : ℕ) → (node_happens n (At place event)).queue place ≡ happens (n.queue place) event
@@ -226,14 +226,14 @@ module _ {D : Type 0} (tells : D → Bool) (past : D → List Disk) (faults : D 
 
   -- each queue does, and prints nothing
   pub served-alike : (event : Event) (old new : Held D) (text : List ℕ) → IsUnseen event → new.queues ≡ old.queues
-      → new.log ≡ old.log → new.auto ≡ old.auto → AllDo event old.desks new.desks
+      → new.log ≡ old.log → new.auto ≡ old.auto → AllDo event old.node_queues new.node_queues
       → Served tells past faults (λ setup. Is (Alike event)) old new text text
   served-alike event old new text unseen queues log auto done =
       served-quiet (λ setup. Is (Alike event)) old new text text queues log (λ setup n r st. (
         Alike event,
         unseen,
         refl,
-        all-done setup n (node_happens n (Alike event)) event setup.places old.desks new.desks st.desks done
+        all-done setup n (node_happens n (Alike event)) event setup.places old.node_queues new.node_queues st.node_queues done
             (λ place. refl),
         auto,
         sym (append-nil text),
@@ -241,36 +241,36 @@ module _ {D : Type 0} (tells : D → Bool) (past : D → List Disk) (faults : D 
 
   -- nothing happens to any queue, and a text has grown
   pub served-same : (event : NodeEvent) (old new : Held D) (before later : List ℕ) → IsQuiet event
-      → new.queues ≡ old.queues → new.log ≡ old.log → new.desks ≡ old.desks → new.auto ≡ auto_after event old.auto
+      → new.queues ≡ old.queues → new.log ≡ old.log → new.node_queues ≡ old.node_queues → new.auto ≡ auto_after event old.auto
       → ((n : Node) (place : ℕ) → (node_happens n event).queue place ≡ n.queue place)
       → ((setup : Setup) (n : Node) → later ≡ before ++ text_of setup n (event ∷ []))
       → Served tells past faults (λ setup. Is event) old new before later
-  served-same event old new before later quiet queues log desks auto same says =
+  served-same event old new before later quiet queues log node_queues auto same says =
       served-quiet (λ setup. Is event) old new before later queues log (λ setup n r st. (
         event,
         quiet,
         refl,
-        subst (AreDesks setup (node_happens n event) setup.places) (sym desks)
-            (same-desks setup n (node_happens n event) setup.places old.desks (same n) st.desks),
+        subst (AreNodeQueues setup (node_happens n event) setup.places) (sym node_queues)
+            (same-node_queues setup n (node_happens n event) setup.places old.node_queues (same n) st.node_queues),
         auto,
         says setup n,
       ))
 
   -- the state of a queue is shown
-  pub served-shown : (at : ℕ) (node : Held D) (before later : List ℕ) (d : DeskState)
-      → drop at node.desks ≡ d ∷ drop (at + 1) node.desks → at < length node.desks
+  pub served-shown : (at : ℕ) (node : Held D) (before later : List ℕ) (d : NodeQueueState)
+      → drop at node.node_queues ≡ d ∷ drop (at + 1) node.node_queues → at < length node.node_queues
       → later ≡ before ++ state_text_as d.name d.server
       → Served tells past faults (AtIndex at (λ setup place. Is (Shows place))) node node before later
   served-shown at node before later d here lt says =
       served-quiet (AtIndex at (λ setup place. Is (Shows place))) node node before later refl refl (λ setup n r st.
-      (let place = place-at setup n node.desks at st.desks lt in
-      let is : IsDesk setup n place.0 d =
-      desk-at setup n setup.places node.desks at place.0 d (drop (at + 1) setup.places) (drop (at + 1) node.desks)
-      st.desks place.1 here in (
+      (let place = place-at setup n node.node_queues at st.node_queues lt in
+      let is : IsNodeQueue setup n place.0 d =
+      node_queue-at setup n setup.places node.node_queues at place.0 d (drop (at + 1) setup.places) (drop (at + 1) node.node_queues)
+      st.node_queues place.1 here in (
         Shows place.0,
         tt,
         (place.0, place.1, refl),
-        same-desks setup n (node_happens n (Shows place.0)) setup.places node.desks (λ p. refl) st.desks,
+        same-node_queues setup n (node_happens n (Shows place.0)) setup.places node.node_queues (λ p. refl) st.node_queues,
         refl,
         says ∙ ap (λ (name : List ℕ). before ++ state_text_as name d.server) is.name_is
             ∙ ap (λ (w : World). before ++ state_text_as (setup.name place.0) w.server) is.world_is

@@ -8,7 +8,7 @@ use Rattle.std.proofs.lemmas.Slice.Zip.{AllZip-long}
 use Rattle.qq_base.proofs.Lists.{AllByRecursion-weaker}
 use Rattle.qq_base.specs.Causes.{Rose}
 use Rattle.qq_base.specs.declared.ids.QueueId.{QueueId}
-use Rattle.qq_node_queue.specs.Desk.{DeskState}
+use Rattle.qq_node_queue.specs.NodeQueue.{NodeQueueState}
 use Rattle.qq_node_queue.specs.Taking.{told}
 use Rattle.qq_disk.specs.Disk.{Disk, now}
 use Rattle.qq_wal_chain.specs.Lanes.{Lanes}
@@ -35,30 +35,30 @@ use Rattle.qq_node.specs.declared.recovering.Found.{Found}
 use Rattle.qq_node.specs.declared.restarting.RestartFault.{RestartFault}
 use Rattle.qq_node.specs.declared.restarting.RestartFault.TheVariants as restart_fault
 use Rattle.qq_node.specs.Found.{AllTakeUpTold, AreLanes, FailsLinked, HasFound, as_told}
-use Rattle.qq_node.specs.Node.{AreDesks, Served, Stands, disk_in}
+use Rattle.qq_node.specs.Node.{AreNodeQueues, Served, Stands, disk_in}
 use Rattle.qq_node.specs.Log.{IsWhole}
 use Rattle.qq_node.specs.Restarting.{AllTake, GoesOnWith, HandsBack, IsLinkedTo, IsLostAsRead, IsLostIn, IsLostOf, IsOfMemory, IsRefusedBy, IsRestartCaused, IsTakeAllCaused, SomeIsLost, StopsWith, TakesUp, lanes_in}
 use Rattle.qq_node.proofs.Carried.{may_restart-all}
-use Rattle.qq_node.proofs.EachDesk.{all-done, as-many}
+use Rattle.qq_node.proofs.EachNodeQueue.{all-done, as-many}
 use Rattle.qq_node.proofs.Finding.{lane-told}
 use Rattle.qq_node.proofs.Logs.{LogDid, served-by}
 
 module _ {D : Type 0} (tells : D → Bool) (past : D → List Disk) (faults : D → ℕ) where
   -- so many lanes are found as there are queues
-  pub lanes-many : (setup : Setup) (n : Node) (queues : List QueueId) (desks : List DeskState) (lanes : Lanes)
-      (found : List (Option Lane)) → queues ≡ queues_of setup → AreDesks setup n setup.places desks
-      → AreLanes queues lanes found → length found ≡ length desks
-  lanes-many setup n queues desks lanes found same are zip =
+  pub lanes-many : (setup : Setup) (n : Node) (queues : List QueueId) (node_queues : List NodeQueueState) (lanes : Lanes)
+      (found : List (Option Lane)) → queues ≡ queues_of setup → AreNodeQueues setup n setup.places node_queues
+      → AreLanes queues lanes found → length found ≡ length node_queues
+  lanes-many setup n queues node_queues lanes found same are zip =
       AllZip-long (λ (id : QueueId) (lane : Option Lane). IsLaneFor id (lanes id.0) lane) queues found zip
-      ∙ ap length same ∙ length-map setup.places (queue_at setup) ∙ sym (as-many setup n setup.places desks are)
+      ∙ ap length same ∙ length-map setup.places (queue_at setup) ∙ sym (as-many setup n setup.places node_queues are)
 
   -- what each queue has taken up is what its lane tells, and it stands behind that
-  taken-places : (setup : Setup) (n : Node) (lanes : Lanes) (places : List ℕ) (olds news : List DeskState)
-      (found : List (Option Lane)) → AreDesks setup n places olds
+  taken-places : (setup : Setup) (n : Node) (lanes : Lanes) (places : List ℕ) (olds news : List NodeQueueState)
+      (found : List (Option Lane)) → AreNodeQueues setup n places olds
       → AreLanes (map (queue_at setup) places) lanes found → AllTake found olds news
       → AllByRecursion
       (λ (place : ℕ). MayTakeUp (n.queue place).server (as_told (state_in lanes (queue_at setup place)))) places
-      × AreDesks setup (node_happens n (FindsEach (ops_found setup lanes))) places news
+      × AreNodeQueues setup (node_happens n (FindsEach (ops_found setup lanes))) places news
   taken-places setup n lanes [] [] [] [] are zip take = (tt, tt)
   taken-places setup n lanes [] (d ∷ olds) news found are zip take = absurd are
   taken-places setup n lanes [] [] (e ∷ news) [] are zip take = absurd take
@@ -101,18 +101,18 @@ module _ {D : Type 0} (tells : D → Bool) (past : D → List Disk) (faults : D 
       first false b c is = absurd (false≢true is)
 
   -- some queue may not, and so the queue at its place, which is one of the node's
-  pub lost-place : (setup : Setup) (n : Node) (places : List ℕ) (desks : List DeskState) (found : List (Option Lane))
+  pub lost-place : (setup : Setup) (n : Node) (places : List ℕ) (node_queues : List NodeQueueState) (found : List (Option Lane))
       (name : List ℕ) (noticed op : ℕ) → ((q : ℕ) → Contains places q → Contains setup.places q)
-      → is_node_up setup n ≡ false → AreDesks setup n places desks → SomeIsLost desks found name noticed op
+      → is_node_up setup n ≡ false → AreNodeQueues setup n places node_queues → SomeIsLost node_queues found name noticed op
       → IsLostOf setup n name noticed op
   lost-place setup n [] [] found name noticed op own down are lost = absurd lost
-  lost-place setup n [] (d ∷ desks) found name noticed op own down are lost = absurd are
+  lost-place setup n [] (d ∷ node_queues) found name noticed op own down are lost = absurd are
   lost-place setup n (p ∷ places) [] found name noticed op own down are lost = absurd are
-  lost-place setup n (p ∷ places) (d ∷ desks) [] name noticed op own down are lost = absurd lost
-  lost-place setup n (p ∷ places) (d ∷ desks) (l ∷ found) name noticed op own down are (inr lost) =
-      lost-place setup n places desks found name noticed op
+  lost-place setup n (p ∷ places) (d ∷ node_queues) [] name noticed op own down are lost = absurd lost
+  lost-place setup n (p ∷ places) (d ∷ node_queues) (l ∷ found) name noticed op own down are (inr lost) =
+      lost-place setup n places node_queues found name noticed op
       (λ q there. own q (suc there.0, omega (arith, there.1), there.2)) down are.1 lost
-  lost-place setup n (p ∷ places) (d ∷ desks) (l ∷ found) name noticed op own down are (inl lost) = record {
+  lost-place setup n (p ∷ places) (d ∷ node_queues) (l ∷ found) name noticed op own down are (inl lost) = record {
     place = p;
     among = own p (0, omega arith, refl);
     lane = told l;
@@ -123,14 +123,14 @@ module _ {D : Type 0} (tells : D → Bool) (past : D → List Disk) (faults : D 
     found_is = lost.found_is;
   }
 
-  pub restart-caused : (setup : Setup) (n : Node) (desks : List DeskState) (found : List (Option Lane))
-      (fault : RestartFault) → is_node_up setup n ≡ false → AreDesks setup n setup.places desks
-      → IsTakeAllCaused desks found fault → IsRestartCaused setup n fault
-  restart-caused setup n desks found (restart_fault.Damaged file place) down are cause = tt
-  restart-caused setup n desks found (restart_fault.Version file byte) down are cause = tt
-  restart-caused setup n desks found (restart_fault.Lost name noticed op) down are cause =
-      lost-place setup n setup.places desks found name noticed op (λ q there. there) down are cause
-  restart-caused setup n desks found (restart_fault.Memory memory) down are cause =
+  pub restart-caused : (setup : Setup) (n : Node) (node_queues : List NodeQueueState) (found : List (Option Lane))
+      (fault : RestartFault) → is_node_up setup n ≡ false → AreNodeQueues setup n setup.places node_queues
+      → IsTakeAllCaused node_queues found fault → IsRestartCaused setup n fault
+  restart-caused setup n node_queues found (restart_fault.Damaged file place) down are cause = tt
+  restart-caused setup n node_queues found (restart_fault.Version file byte) down are cause = tt
+  restart-caused setup n node_queues found (restart_fault.Lost name noticed op) down are cause =
+      lost-place setup n setup.places node_queues found name noticed op (λ q there. there) down are cause
+  restart-caused setup n node_queues found (restart_fault.Memory memory) down are cause =
       subst IsAtEnd (sym cause) tt
 
   allowed-down : (setup : Setup) (n : Node) (events : List NodeEvent) → is_node_up setup n ≡ false
@@ -151,13 +151,13 @@ module _ {D : Type 0} (tells : D → Bool) (past : D → List Disk) (faults : D 
 
   goes-on : (old new : Held D) (f : Found D) (log_bytes : ℕ) (text : List ℕ)
       → ((setup : Setup) (n : Node) → Stands tells past setup old n → is_node_up setup n ≡ false)
-      → Recovers old.queues.items log_bytes f (disk_in old.log) → GoesOnWith f old.desks old.queues old.auto new
+      → Recovers old.queues.items log_bytes f (disk_in old.log) → GoesOnWith f old.node_queues old.queues old.auto new
       → Served tells past faults IsRestart old new text text
   goes-on old new f log_bytes text down rec g =
       served-by tells past faults IsRestart old new text text g.queues_are (λ setup n r st.
       (let found : HasFound tells past old.queues.items log_bytes (disk_in old.log) f = rec.0 in
       let events : List NodeEvent = FindsEach (ops_found setup found.lanes) ∷ [] in
-      let both = taken-places setup n found.lanes setup.places old.desks new.desks f.lanes.items st.desks
+      let both = taken-places setup n found.lanes setup.places old.node_queues new.node_queues f.lanes.items st.node_queues
       (subst (λ (l : List QueueId). AreLanes l found.lanes f.lanes.items) st.queues found.each) g.take in
       let log : LogDid tells past faults setup n events old.log (Open f.wal) =
       record {
@@ -184,7 +184,7 @@ module _ {D : Type 0} (tells : D → Bool) (past : D → List Disk) (faults : D 
           is = refl;
         }));
         no_crash = (tt, tt);
-        desks = both.1;
+        node_queues = both.1;
         auto = g.auto_is ∙ st.auto;
         log = subst (LogDid tells past faults setup n events old.log) (sym g.log) log;
         says = sym (append-nil text);
@@ -193,7 +193,7 @@ module _ {D : Type 0} (tells : D → Bool) (past : D → List Disk) (faults : D 
   pub restarted : (old new : Held D) (given : D) (f : Found D) (queues : List QueueId) (log_bytes : ℕ) (text : List ℕ)
       → given ≡ disk_in old.log → queues ≡ old.queues.items
       → ((setup : Setup) (n : Node) → Stands tells past setup old n → is_node_up setup n ≡ false)
-      → Recovers queues log_bytes f given → GoesOnWith f old.desks old.queues old.auto new
+      → Recovers queues log_bytes f given → GoesOnWith f old.node_queues old.queues old.auto new
       → Served tells past faults IsRestart old new text text
   restarted old new given f queues log_bytes text disk ids down rec g =
       goes-on old new f log_bytes text down
@@ -215,7 +215,7 @@ module _ {D : Type 0} (tells : D → Bool) (past : D → List Disk) (faults : D 
   stops : (old new : Held D) (left : D) (fault : RecoverFault) (before later : List ℕ)
       → ((setup : Setup) (n : Node) → Stands tells past setup old n → is_node_up setup n ≡ false)
       → FailsWith old.queues.items left fault (disk_in old.log)
-      → StopsWith left old.desks old.queues old.auto before later new
+      → StopsWith left old.node_queues old.queues old.auto before later new
       → Served tells past faults IsRestart old new before later
   stops old new left fault before later down f s =
       served-by tells past faults IsRestart old new before later s.queues_are (λ setup n r st.
@@ -234,7 +234,7 @@ module _ {D : Type 0} (tells : D → Bool) (past : D → List Disk) (faults : D 
         events = Fails ∷ [];
         allowed = allowed-down setup n (Fails ∷ []) (down setup n st) (inr refl);
         no_crash = (tt, tt);
-        desks = all-done setup n m Stops setup.places old.desks new.desks st.desks s.stop (λ place. refl);
+        node_queues = all-done setup n m Stops setup.places old.node_queues new.node_queues st.node_queues s.stop (λ place. refl);
         auto = s.auto_is ∙ st.auto;
         log = subst (LogDid tells past faults setup n (Fails ∷ []) old.log) (sym s.log) log;
         says = s.says;
@@ -243,7 +243,7 @@ module _ {D : Type 0} (tells : D → Bool) (past : D → List Disk) (faults : D 
   pub stopped : (old new : Held D) (given left : D) (fault : RecoverFault) (queues : List QueueId) (before later : List ℕ)
       → given ≡ disk_in old.log → queues ≡ old.queues.items
       → ((setup : Setup) (n : Node) → Stands tells past setup old n → is_node_up setup n ≡ false)
-      → FailsWith queues left fault given → StopsWith left old.desks old.queues old.auto before later new
+      → FailsWith queues left fault given → StopsWith left old.node_queues old.queues old.auto before later new
       → Served tells past faults IsRestart old new before later
   stopped old new given left fault queues before later disk ids down f s =
       stops old new left fault before later down
@@ -310,28 +310,28 @@ module _ {D : Type 0} (tells : D → Bool) (past : D → List Disk) (faults : D 
   -- ---- a disk that is linked
 
   -- where each queue may take up what its lane tells, none is lost
-  never-lost : (setup : Setup) (n : Node) (lanes : Lanes) (places : List ℕ) (desks : List DeskState)
-      (found : List (Option Lane)) (name : List ℕ) (noticed op : ℕ) → AreDesks setup n places desks
+  never-lost : (setup : Setup) (n : Node) (lanes : Lanes) (places : List ℕ) (node_queues : List NodeQueueState)
+      (found : List (Option Lane)) (name : List ℕ) (noticed op : ℕ) → AreNodeQueues setup n places node_queues
       → AreLanes (map (queue_at setup) places) lanes found
       → AllByRecursion
       (λ (place : ℕ). MayTakeUp (n.queue place).server (as_told (state_in lanes (queue_at setup place)))) places
-      → SomeIsLost desks found name noticed op → ⊥
+      → SomeIsLost node_queues found name noticed op → ⊥
   never-lost setup n lanes [] [] found name noticed op are zip may lost = lost
-  never-lost setup n lanes [] (d ∷ desks) found name noticed op are zip may lost = are
+  never-lost setup n lanes [] (d ∷ node_queues) found name noticed op are zip may lost = are
   never-lost setup n lanes (p ∷ places) [] found name noticed op are zip may lost = are
-  never-lost setup n lanes (p ∷ places) (d ∷ desks) [] name noticed op are zip may lost = zip
-  never-lost setup n lanes (p ∷ places) (d ∷ desks) (l ∷ found) name noticed op are zip may (inl lost) =
+  never-lost setup n lanes (p ∷ places) (d ∷ node_queues) [] name noticed op are zip may lost = zip
+  never-lost setup n lanes (p ∷ places) (d ∷ node_queues) (l ∷ found) name noticed op are zip may (inl lost) =
       let id : QueueId = queue_at setup p in
       let is : told l ≡ as_told (state_in lanes id) = lane-told id (lanes id.0) l zip.0 in
       lost.lost (subst (λ (w : World). MayTakeUp w.server (told l)) (sym are.0.world_is)
       (subst (MayTakeUp (n.queue p).server) (sym is) may.0))
-  never-lost setup n lanes (p ∷ places) (d ∷ desks) (l ∷ found) name noticed op are zip may (inr lost) =
-      never-lost setup n lanes places desks found name noticed op are.1 zip.1 may.1 lost
+  never-lost setup n lanes (p ∷ places) (d ∷ node_queues) (l ∷ found) name noticed op are zip may (inr lost) =
+      never-lost setup n lanes places node_queues found name noticed op are.1 zip.1 may.1 lost
 
   pub takes-never : (setup : Setup) (n : Node) (old : Held D) (given : D) (f : Found D) (queues : List QueueId)
       (log_bytes : ℕ) (fault : RestartFault) → given ≡ disk_in old.log → queues ≡ old.queues.items
       → IsReached setup n → Stands tells past setup old n → IsLinkedTo tells past setup n old → AreDown setup n
-      → HasFound tells past queues log_bytes given f → IsTakeAllCaused old.desks f.lanes.items fault
+      → HasFound tells past queues log_bytes given f → IsTakeAllCaused old.node_queues f.lanes.items fault
       → IsOfMemory fault
   takes-never setup n old given f queues log_bytes fault disk ids r st linked down found cause = by fault cause
     where
@@ -344,30 +344,30 @@ module _ {D : Type 0} (tells : D → Bool) (past : D → List Disk) (faults : D 
       link : IsLinked setup n (now (past given))
       link = subst (λ (d : D). IsLinked setup n (now (past d))) (sym disk) linked.1
 
-      by : (fault : RestartFault) → IsTakeAllCaused old.desks f.lanes.items fault → IsOfMemory fault
+      by : (fault : RestartFault) → IsTakeAllCaused old.node_queues f.lanes.items fault → IsOfMemory fault
       by (restart_fault.Damaged file place) cause = cause
       by (restart_fault.Version file byte) cause = cause
       by (restart_fault.Lost name noticed op) cause =
-          never-lost setup n found.lanes setup.places old.desks f.lanes.items name noticed op st.desks
+          never-lost setup n found.lanes setup.places old.node_queues f.lanes.items name noticed op st.node_queues
           (subst (λ (l : List QueueId). AreLanes l found.lanes f.lanes.items) same found.each)
           (found.finds told_ setup n same r down link).taken_up cause
       by (restart_fault.Memory memory) cause = tt
 
   -- ---- a queue that may not take up what was found
 
-  lost-read : (setup : Setup) (n : Node) (read : Answer Lanes) (lanes : Lanes) (places : List ℕ) (desks : List DeskState)
+  lost-read : (setup : Setup) (n : Node) (read : Answer Lanes) (lanes : Lanes) (places : List ℕ) (node_queues : List NodeQueueState)
       (found : List (Option Lane)) (name : List ℕ) (noticed op : ℕ) → read ≡ Ok lanes
-      → ((q : ℕ) → Contains places q → Contains setup.places q) → AreDesks setup n places desks
-      → AreLanes (map (queue_at setup) places) lanes found → SomeIsLost desks found name noticed op
+      → ((q : ℕ) → Contains places q → Contains setup.places q) → AreNodeQueues setup n places node_queues
+      → AreLanes (map (queue_at setup) places) lanes found → SomeIsLost node_queues found name noticed op
       → IsLostIn setup n read name noticed op
   lost-read setup n read lanes [] [] found name noticed op is own are zip lost = absurd lost
-  lost-read setup n read lanes [] (d ∷ desks) found name noticed op is own are zip lost = absurd are
+  lost-read setup n read lanes [] (d ∷ node_queues) found name noticed op is own are zip lost = absurd are
   lost-read setup n read lanes (p ∷ places) [] found name noticed op is own are zip lost = absurd are
-  lost-read setup n read lanes (p ∷ places) (d ∷ desks) [] name noticed op is own are zip lost = absurd zip
-  lost-read setup n read lanes (p ∷ places) (d ∷ desks) (l ∷ found) name noticed op is own are zip (inr lost) =
-      lost-read setup n read lanes places desks found name noticed op is
+  lost-read setup n read lanes (p ∷ places) (d ∷ node_queues) [] name noticed op is own are zip lost = absurd zip
+  lost-read setup n read lanes (p ∷ places) (d ∷ node_queues) (l ∷ found) name noticed op is own are zip (inr lost) =
+      lost-read setup n read lanes places node_queues found name noticed op is
       (λ q there. own q (suc there.0, omega (arith, there.1), there.2)) are.1 zip.1 lost
-  lost-read setup n read lanes (p ∷ places) (d ∷ desks) (l ∷ found) name noticed op is own are zip (inl lost) =
+  lost-read setup n read lanes (p ∷ places) (d ∷ node_queues) (l ∷ found) name noticed op is own are zip (inl lost) =
       let id : QueueId = queue_at setup p in
       let same : told l ≡ as_told (state_in lanes id) = lane-told id (lanes id.0) l zip.0 in
       record {
@@ -385,7 +385,7 @@ module _ {D : Type 0} (tells : D → Bool) (past : D → List Disk) (faults : D 
   pub takes-lost : (setup : Setup) (n : Node) (old : Held D) (given : D) (f : Found D) (queues : List QueueId)
       (log_bytes : ℕ) (fault : RestartFault) → given ≡ disk_in old.log → queues ≡ old.queues.items
       → Stands tells past setup old n → IsTrue (tells (disk_in old.log)) → HasFound tells past queues log_bytes given f
-      → IsTakeAllCaused old.desks f.lanes.items fault → IsLostAsRead setup n (lanes_in past old) fault
+      → IsTakeAllCaused old.node_queues f.lanes.items fault → IsLostAsRead setup n (lanes_in past old) fault
   takes-lost setup n old given f queues log_bytes fault disk ids st tell found cause = by fault cause
     where
       read : lanes_in past old ≡ Ok found.lanes
@@ -393,20 +393,20 @@ module _ {D : Type 0} (tells : D → Bool) (past : D → List Disk) (faults : D 
           ∙ sym (ap (λ (d : D). lanes_read queues (shown (now (past d)))) disk)
           ∙ found.read (subst (λ (d : D). IsTrue (tells d)) (sym disk) tell)
 
-      by : (fault : RestartFault) → IsTakeAllCaused old.desks f.lanes.items fault
+      by : (fault : RestartFault) → IsTakeAllCaused old.node_queues f.lanes.items fault
           → IsLostAsRead setup n (lanes_in past old) fault
       by (restart_fault.Damaged file place) cause = tt
       by (restart_fault.Version file byte) cause = tt
       by (restart_fault.Lost name noticed op) cause =
-          lost-read setup n (lanes_in past old) found.lanes setup.places old.desks f.lanes.items name noticed op read
-          (λ q there. there) st.desks
+          lost-read setup n (lanes_in past old) found.lanes setup.places old.node_queues f.lanes.items name noticed op read
+          (λ q there. there) st.node_queues
           (subst (λ (l : List QueueId). AreLanes l found.lanes f.lanes.items) (ids ∙ st.queues) found.each) cause
       by (restart_fault.Memory memory) cause = tt
 
 -- what queues may not take up, the files don't refuse
-pub takes-refused : (read : Answer Lanes) (desks : List DeskState) (found : List (Option Lane)) (fault : RestartFault)
-    → IsTakeAllCaused desks found fault → IsRefusedBy read fault
-takes-refused read desks found (restart_fault.Damaged file place) cause = absurd cause
-takes-refused read desks found (restart_fault.Version file byte) cause = absurd cause
-takes-refused read desks found (restart_fault.Lost name noticed op) cause = tt
-takes-refused read desks found (restart_fault.Memory memory) cause = tt
+pub takes-refused : (read : Answer Lanes) (node_queues : List NodeQueueState) (found : List (Option Lane)) (fault : RestartFault)
+    → IsTakeAllCaused node_queues found fault → IsRefusedBy read fault
+takes-refused read node_queues found (restart_fault.Damaged file place) cause = absurd cause
+takes-refused read node_queues found (restart_fault.Version file byte) cause = absurd cause
+takes-refused read node_queues found (restart_fault.Lost name noticed op) cause = tt
+takes-refused read node_queues found (restart_fault.Memory memory) cause = tt

@@ -2,7 +2,7 @@
 use Rattle.std.specs.Prelude.{◌≡◌, ◌<◌, ℕ, ◌+◌, Bool, true, false, List, [], ◌∷◌, length, drop, slice_index_or, Contains}
 use Rattle.qq_base.specs.declared.ids.QueueId.{QueueId}
 use Rattle.qq_disk.specs.Disk.{Disk}
-use Rattle.qq_node_queue.specs.Desk.{DeskState, world_of}
+use Rattle.qq_node_queue.specs.NodeQueue.{NodeQueueState, world_of}
 use Rattle.qq_wal.specs.Wal.{IsSound, carries_ahead}
 use Rattle.qq_wal.specs.declared.wal.Wal.{Wal}
 use Rattle.qq_world.specs.Node.{Setup, Node, NodeEvent, At, is_first}
@@ -31,16 +31,16 @@ seen tells past faults node = seen_of tells past faults (disk_in node.log)
 -- ---- the queues
 
 -- a queue is the one at a place, and as it stands there
-pub record IsDesk (setup : Setup) (n : Node) (place : ℕ) (d : DeskState) : Type 0 where
+pub record IsNodeQueue (setup : Setup) (n : Node) (place : ℕ) (d : NodeQueueState) : Type 0 where
   pub world_is : world_of d ≡ n.queue place
   pub name_is : d.name ≡ setup.name place
   pub first_is : d.first ≡ is_first setup place
 
 -- these are the queues at these places, in order
-abbrev pub AreDesks : Setup → Node → List ℕ → List DeskState → Type 0
-AreDesks setup n [] [] = Unit {0}
-AreDesks setup n (place ∷ places) (d ∷ desks) = IsDesk setup n place d × AreDesks setup n places desks
-AreDesks setup n _ _ = ⊥
+abbrev pub AreNodeQueues : Setup → Node → List ℕ → List NodeQueueState → Type 0
+AreNodeQueues setup n [] [] = Unit {0}
+AreNodeQueues setup n (place ∷ places) (d ∷ node_queues) = IsNodeQueue setup n place d × AreNodeQueues setup n places node_queues
+AreNodeQueues setup n _ _ = ⊥
 
 -- ---- the node
 
@@ -62,7 +62,7 @@ IsLogAt tells past setup n (Closed disk) = some_queue setup is_up n ≡ false
 pub record Stands {D : Type 0} (tells : D → Bool) (past : D → List Disk) (setup : Setup) (node : Held D) (n : Node)
     : Type 0 where
   pub apart : AreApart setup setup.places
-  pub desks : AreDesks setup n setup.places node.desks
+  pub node_queues : AreNodeQueues setup n setup.places node.node_queues
   pub queues : node.queues.items ≡ queues_of setup
   pub auto : node.auto ≡ n.auto
   pub log : IsLogAt tells past setup n node.log

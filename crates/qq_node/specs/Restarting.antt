@@ -4,7 +4,7 @@ use Rattle.std.specs.Global.{Vec}
 use Rattle.qq_base.specs.Causes.{Rose}
 use Rattle.qq_base.specs.declared.ids.QueueId.{QueueId}
 use Rattle.qq_base.specs.declared.memory.Memory.TheVariants.{Want}
-use Rattle.qq_node_queue.specs.Desk.{DeskState, IsSameQueue, world_of}
+use Rattle.qq_node_queue.specs.NodeQueue.{NodeQueueState, IsSameQueue, world_of}
 use Rattle.qq_node_queue.specs.Taking.{told}
 use Rattle.qq_disk.specs.declared.image.Image.{Image}
 use Rattle.qq_disk.specs.Disk.{Disk, now}
@@ -32,10 +32,10 @@ use Rattle.qq_node.specs.declared.opening.OpenFault.{OpenFault}
 use Rattle.qq_node.specs.declared.opening.OpenFault.TheVariants as open_fault
 use Rattle.qq_node.specs.declared.restarting.RestartFault.{RestartFault}
 use Rattle.qq_node.specs.declared.restarting.RestartFault.TheVariants as restart_fault
-use Rattle.qq_node.specs.Desks.{AllDo}
+use Rattle.qq_node.specs.NodeQueues.{AllDo}
 use Rattle.qq_node.specs.Found.{as_told}
 use Rattle.qq_node.specs.Log.{IsWhole}
-use Rattle.qq_node.specs.Node.{AreDesks, Stands, disk_in, seen}
+use Rattle.qq_node.specs.Node.{AreNodeQueues, Stands, disk_in, seen}
 
 -- ---- a crash
 
@@ -52,10 +52,10 @@ pub record HasCrashed {D : Type 0} (tells : D → Bool) (past : D → List Disk)
 -- ---- an opening
 
 -- these are the new queues of a setup, which have numbers apart
-pub record IsSetFor (setup : Setup) (queues : List QueueId) (desks : List DeskState) : Type 0 where
+pub record IsSetFor (setup : Setup) (queues : List QueueId) (node_queues : List NodeQueueState) : Type 0 where
   pub queues_are : queues ≡ queues_of setup
   pub apart : AreApart setup setup.places
-  pub desks_are : AreDesks setup (new_node setup) setup.places desks
+  pub node_queues_are : AreNodeQueues setup (new_node setup) setup.places node_queues
 
 -- recovery's fault, as an opening tells it
 abbrev pub opening_fault : RecoverFault → OpenFault
@@ -74,16 +74,16 @@ pub record HasBegun {D : Type 0} (tells : D → Bool) (past : D → List Disk) (
   pub moments : IsTrue (tells disk) → IsTraced setup (new_node setup) [] (past disk) (past (disk_in new.log))
 
 -- what an opening tells where this was found of a new queue, or there is no memory for its name
-abbrev pub TellsFound : DeskState → Lane → OpenFault → Type 0
+abbrev pub TellsFound : NodeQueueState → Lane → OpenFault → Type 0
 TellsFound d lane (open_fault.Lost name noticed found) =
     (name ≡ d.name) × (noticed ≡ d.server.noticed) × (found ≡ lane.op)
 TellsFound d lane (open_fault.Memory memory) = memory ≡ Want
 TellsFound d lane _ = ⊥
 
 -- and so of the first queue that has a lane
-abbrev pub TellsFirstFound : List DeskState → List (Option Lane) → OpenFault → Type 0
-TellsFirstFound (d ∷ desks) (Some lane ∷ lanes) fault = TellsFound d lane fault
-TellsFirstFound (d ∷ desks) (None ∷ lanes) fault = TellsFirstFound desks lanes fault
+abbrev pub TellsFirstFound : List NodeQueueState → List (Option Lane) → OpenFault → Type 0
+TellsFirstFound (d ∷ node_queues) (Some lane ∷ lanes) fault = TellsFound d lane fault
+TellsFirstFound (d ∷ node_queues) (None ∷ lanes) fault = TellsFirstFound node_queues lanes fault
 TellsFirstFound _ _ fault = ⊥
 
 -- it is a queue of a new node, of which nothing was noticed
@@ -106,42 +106,42 @@ IsOpenCaused setup tells before now (open_fault.Memory memory) = IsAtEnd memory
 -- ---- a restart
 
 -- what was found of a queue is taken up
-pub record TakesUp (lane : Option Lane) (old new : DeskState) : Type 0 where
+pub record TakesUp (lane : Option Lane) (old new : NodeQueueState) : Type 0 where
   pub same : IsSameQueue old new
   pub may : MayTakeUp old.server (told lane)
   pub does : world_of new ≡ happens (world_of old) (Finds (told lane).op)
 
 -- and so of each queue, in order
-abbrev pub AllTake : List (Option Lane) → List DeskState → List DeskState → Type 0
+abbrev pub AllTake : List (Option Lane) → List NodeQueueState → List NodeQueueState → Type 0
 AllTake [] [] [] = Unit {0}
 AllTake (lane ∷ lanes) (old ∷ olds) (new ∷ news) = TakesUp lane old new × AllTake lanes olds news
 AllTake _ _ _ = ⊥
 
 -- a queue of this name may not take up what was found of it, so many ops, where so many were noticed
-pub record IsLostAt (d : DeskState) (lane : Option Lane) (name : List ℕ) (noticed found : ℕ) : Type 0 where
+pub record IsLostAt (d : NodeQueueState) (lane : Option Lane) (name : List ℕ) (noticed found : ℕ) : Type 0 where
   pub lost : MayTakeUp d.server (told lane) → ⊥
   pub name_is : name ≡ d.name
   pub noticed_is : noticed ≡ d.server.noticed
   pub found_is : found ≡ (told lane).op
 
 -- and so some queue
-abbrev pub SomeIsLost : List DeskState → List (Option Lane) → List ℕ → ℕ → ℕ → Type 0
-SomeIsLost (d ∷ desks) (lane ∷ lanes) name noticed found =
-    IsLostAt d lane name noticed found ⊎ SomeIsLost desks lanes name noticed found
+abbrev pub SomeIsLost : List NodeQueueState → List (Option Lane) → List ℕ → ℕ → ℕ → Type 0
+SomeIsLost (d ∷ node_queues) (lane ∷ lanes) name noticed found =
+    IsLostAt d lane name noticed found ⊎ SomeIsLost node_queues lanes name noticed found
 SomeIsLost _ _ name noticed found = ⊥
 
 -- why a queue doesn't take up what was found of it
-abbrev pub IsTakeCaused : DeskState → Option Lane → RestartFault → Type 0
+abbrev pub IsTakeCaused : NodeQueueState → Option Lane → RestartFault → Type 0
 IsTakeCaused d lane (restart_fault.Damaged file place) = ⊥
 IsTakeCaused d lane (restart_fault.Version file byte) = ⊥
 IsTakeCaused d lane (restart_fault.Lost name noticed found) = IsLostAt d lane name noticed found
 IsTakeCaused d lane (restart_fault.Memory memory) = memory ≡ Want
 
-abbrev pub IsTakeAllCaused : List DeskState → List (Option Lane) → RestartFault → Type 0
-IsTakeAllCaused desks lanes (restart_fault.Damaged file place) = ⊥
-IsTakeAllCaused desks lanes (restart_fault.Version file byte) = ⊥
-IsTakeAllCaused desks lanes (restart_fault.Lost name noticed found) = SomeIsLost desks lanes name noticed found
-IsTakeAllCaused desks lanes (restart_fault.Memory memory) = memory ≡ Want
+abbrev pub IsTakeAllCaused : List NodeQueueState → List (Option Lane) → RestartFault → Type 0
+IsTakeAllCaused node_queues lanes (restart_fault.Damaged file place) = ⊥
+IsTakeAllCaused node_queues lanes (restart_fault.Version file byte) = ⊥
+IsTakeAllCaused node_queues lanes (restart_fault.Lost name noticed found) = SomeIsLost node_queues lanes name noticed found
+IsTakeAllCaused node_queues lanes (restart_fault.Memory memory) = memory ≡ Want
 
 -- recovery finds of the queue at a place of a stopped node what its server may not take up
 pub record IsLostOf (setup : Setup) (n : Node) (name : List ℕ) (noticed found : ℕ) : Type 0 where
@@ -209,17 +209,17 @@ pub record HandsBack {D : Type 0} (tells : D → Bool) (past : D → List Disk) 
       → GivesUp setup n (seen tells past faults old) (seen_of tells past faults new)
 
 -- the queues have taken up what was found, and the log is the one that goes on behind it
-pub record GoesOnWith {D : Type 0} (found : Found D) (desks : List DeskState) (queues : Vec QueueId) (auto : Bool)
+pub record GoesOnWith {D : Type 0} (found : Found D) (node_queues : List NodeQueueState) (queues : Vec QueueId) (auto : Bool)
     (new : Held D) : Type 0 where
-  pub take : AllTake found.lanes.items desks new.desks
+  pub take : AllTake found.lanes.items node_queues new.node_queues
   pub log : new.log ≡ Open found.wal
   pub queues_are : new.queues ≡ queues
   pub auto_is : new.auto ≡ auto
 
 -- the queues have stopped, with this disk, and the node says so
-pub record StopsWith {D : Type 0} (disk : D) (desks : List DeskState) (queues : Vec QueueId) (auto : Bool)
+pub record StopsWith {D : Type 0} (disk : D) (node_queues : List NodeQueueState) (queues : Vec QueueId) (auto : Bool)
     (before later : List ℕ) (new : Held D) : Type 0 where
-  pub stop : AllDo Stops desks new.desks
+  pub stop : AllDo Stops node_queues new.node_queues
   pub log : new.log ≡ Closed disk
   pub queues_are : new.queues ≡ queues
   pub auto_is : new.auto ≡ auto

@@ -4,7 +4,7 @@ use Rattle.qq_base.specs.Causes.{Rose}
 use Rattle.qq_base.specs.declared.ids.QueueId.{QueueId}
 use Rattle.qq_disk.specs.Disk.{Disk}
 use Rattle.qq_wal_chain.specs.Laws.{op_records}
-use Rattle.qq_node_queue.specs.Desk.{DeskState}
+use Rattle.qq_node_queue.specs.NodeQueue.{NodeQueueState}
 use Rattle.qq_log.specs.declared.op.Op.{Op}
 use Rattle.qq_wal.specs.Running.{Stays, StaysWhole}
 use Rattle.qq_wal.specs.Wal.{IsSound, StaysAppending, carries_ahead}
@@ -12,7 +12,7 @@ use Rattle.qq_wal.specs.declared.wal.Wal.{Wal}
 use Rattle.qq_node.specs.declared.log.SyncOutcome.{SyncOutcome}
 use Rattle.qq_node.specs.declared.node.NodeLog.{NodeLog}
 use Rattle.qq_node.specs.declared.node.NodeLog.TheVariants.{Open, Closed}
-use Rattle.qq_node.specs.Desks.{all_waiting}
+use Rattle.qq_node.specs.NodeQueues.{all_waiting}
 use Rattle.qq_node.specs.Gather.{AllGoOn, add_ops}
 use Rattle.qq_node.specs.Log.{AppendsAll, FailsByCount, GoesOnAt, HasCome, KeepsWaiting}
 
@@ -65,16 +65,16 @@ pub record Appends {D : Type 0} (tells : D → Bool) (past : D → List Disk) (f
   pub stays : IsTrue (tells old.disk) → StaysGivingSome ops old.queues.items (past old.disk) (past new.disk)
 
 -- the log goes on, nothing waits in it, and it takes what waits of the queues
-pub record MayAppend {D : Type 0} (tells : D → Bool) (past : D → List Disk) (desks : List DeskState) (wal : Wal D) : Type 0
+pub record MayAppend {D : Type 0} (tells : D → Bool) (past : D → List Disk) (node_queues : List NodeQueueState) (wal : Wal D) : Type 0
   where
     pub sound : IsSound tells past wal
     pub waiting : wal.waiting.items ≡ []
     pub going : wal.stopped ≡ false
-    pub goes_on : AllGoOn wal.queues.items (carries_ahead wal) (all_waiting desks)
+    pub goes_on : AllGoOn wal.queues.items (carries_ahead wal) (all_waiting node_queues)
 
-abbrev pub MayAppendIn : {D : Type 0} → (D → Bool) → (D → List Disk) → List DeskState → NodeLog D → Type 0
-MayAppendIn tells past desks (Open wal) = MayAppend tells past desks wal
-MayAppendIn tells past desks (Closed disk) = ⊥
+abbrev pub MayAppendIn : {D : Type 0} → (D → Bool) → (D → List Disk) → List NodeQueueState → NodeLog D → Type 0
+MayAppendIn tells past node_queues (Open wal) = MayAppend tells past node_queues wal
+MayAppendIn tells past node_queues (Closed disk) = ⊥
 
 abbrev pub AppendsIn : {D : Type 0} → (D → Bool) → (D → List Disk) → (D → ℕ) → List Op → Bool → NodeLog D → NodeLog D
     → Type 0

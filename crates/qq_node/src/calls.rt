@@ -4,11 +4,11 @@ ghost use Rattle.qq_node_queue.specs.Range.{MayStamp};
 ghost use Rattle.qq_recover.specs.Recovered.{IsAtEnd};
 ghost use Rattle.qq_world.specs.Node.{Setup};
 ghost use Rattle.qq_world.specs.Rules.{End, IsLine, Notice, Resend, Send, Show, Sync, Tick, WhereUp, Write};
-ghost use Rattle.qq_node.specs.Desks.{MayAsk, asked};
+ghost use Rattle.qq_node.specs.NodeQueues.{MayAsk, asked};
 ghost use Rattle.qq_node.specs.Node.{AtQueue, CanServe, GaveUp, IsAt, Served};
 
-use crate::desks::Ask;
 use crate::node::Node;
+use crate::node_queues::Ask;
 use qq_base::{Memory, QueueId};
 use qq_disk::NodeDisk;
 use qq_entry::Unstamped;

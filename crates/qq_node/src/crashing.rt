@@ -8,8 +8,8 @@ ghost use Rattle.qq_node.specs.Node.{CanServe, Stands, disk_in};
 ghost use Rattle.qq_node.specs.Restarting.{HasCrashed};
 
 use crate::crash::crash_disk;
-use crate::desks::LogStep;
 use crate::node::{Node, NodeLog};
+use crate::node_queues::LogStep;
 use qq_disk::{Image, NodeDisk};
 use qq_ports::{Yard, YardFault};
 use std::alloc::Global;
@@ -39,7 +39,7 @@ pub fn crash_node<Y: Yard>(
     ensures cause { HasCause IsYardCaused (Y.faults yard.old) (Y.faults yard.new) result }
 {
     let Node {
-        mut desks,
+        mut node_queues,
         queues,
         log,
         log_bytes,
@@ -48,9 +48,9 @@ pub fn crash_node<Y: Yard>(
     let disk = into_disk(log);
     match crash_disk(yard, alloc, disk, image) {
         Ok(disk) => {
-            desks.step(LogStep::Stops);
+            node_queues.step(LogStep::Stops);
             Ok(Node {
-                desks,
+                node_queues,
                 queues,
                 log: NodeLog::Closed(disk),
                 log_bytes,

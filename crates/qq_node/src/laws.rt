@@ -3,7 +3,7 @@ ghost use Rattle.std.specs.Prelude.{◌≡◌, ◌+◌, [], ℕ, Bool, true, fal
 ghost use Rattle.qq_base.specs.declared.ids.QueueId.{QueueId};
 ghost use Rattle.qq_base.specs.declared.memory.Memory.{Memory};
 ghost use Rattle.qq_wal_chain.specs.Lanes.{Lanes};
-ghost use Rattle.qq_node_queue.specs.Desk.{DeskState, IsSameQueue};
+ghost use Rattle.qq_node_queue.specs.NodeQueue.{NodeQueueState, IsSameQueue};
 ghost use Rattle.qq_disk.specs.declared.image.Image.{Image};
 ghost use Rattle.qq_disk.specs.Disk.{Disk, now};
 ghost use Rattle.qq_node_laws.specs.Linked.{IsLinked};
@@ -87,6 +87,6 @@ pub fn a_queue_that_isnt_there_is_asked_nothing()
 
 /// A law: whatever is done with a queue, its name and its arguments stay, and so does whether it is the first one.
 pub fn a_queue_stays_the_same()
-    ensures { (old new : DeskState) → IsSameQueue old new →
+    ensures { (old new : NodeQueueState) → IsSameQueue old new →
         (new.name ≡ old.name) × (new.first ≡ old.first) × (new.server.args ≡ old.server.args) }
 {}

@@ -4,11 +4,11 @@
 mod calls;
 mod crash;
 mod crashing;
-mod desks;
 mod gather;
 mod laws;
 mod log;
 mod node;
+mod node_queues;
 mod opening;
 mod recovering;
 mod restarting;
@@ -17,7 +17,6 @@ mod writing;
 
 pub use crash::crash_disk;
 pub use crashing::crash_node;
-pub use desks::Desks;
 pub use gather::gather_all;
 pub use laws::{
     a_crash_leaves_the_named_image, a_lost_queue_is_as_it_was_read, a_queue_stays_the_same,
@@ -26,6 +25,7 @@ pub use laws::{
 };
 pub use log::{SyncOutcome, begin_next, sync_log, write_log};
 pub use node::{Node, NodeLog};
+pub use node_queues::NodeQueues;
 pub use opening::{OpenFault, open_node};
 pub use recovering::{Found, recover_log};
 pub use restarting::{RestartFault, restart_node};

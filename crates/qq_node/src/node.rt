@@ -5,10 +5,10 @@ ghost use Rattle.qq_world.specs.Node.{Setup, Node as World, Alike, SaysBusy, Say
 ghost use Rattle.qq_world.specs.Rules.{Is, is_ended, is_idle, is_node_up, some_queue};
 ghost use Rattle.qq_world.specs.World.{Ends, Mutes};
 ghost use Rattle.qq_node_laws.specs.Reads.{queue_at};
-ghost use Rattle.qq_node.specs.Desks.{MayAsk, asked};
+ghost use Rattle.qq_node.specs.NodeQueues.{MayAsk, asked};
 ghost use Rattle.qq_node.specs.Node.{AtIndex, CanServe, GaveUp, IsAt, IsQueueAt, Served, Stands};
 
-use crate::desks::{Ask, Desks};
+use crate::node_queues::{Ask, NodeQueues};
 use qq_base::{Memory, QueueId};
 use qq_disk::NodeDisk;
 use qq_entry::AuditRow;
@@ -32,7 +32,7 @@ pub enum NodeLog<D: NodeDisk> {
 /// or a number at its end, the run ends: the node and the text are used no more.
 #[derive(Drop)]
 pub struct Node<D: NodeDisk> {
-    pub(crate) desks: Desks,
+    pub(crate) node_queues: NodeQueues,
     // Their ids, in the same order.
     pub(crate) queues: Vec<QueueId>,
     pub(crate) log: NodeLog<D>,
@@ -60,7 +60,7 @@ impl<D: NodeDisk> Node<D> {
         ensures { (setup : Setup) (n : World) → Stands D.tells D.past setup self.now n →
             result ≡ is_node_up setup n }
     {
-        self.desks.all_up()
+        self.node_queues.all_up()
     }
 
     /// Whether a pump has nothing to do: the node is stopped, or no op waits.
@@ -68,11 +68,11 @@ impl<D: NodeDisk> Node<D> {
         ensures { (setup : Setup) (n : World) → Stands D.tells D.past setup self.now n →
             result ≡ is_idle setup n }
     {
-        let up = self.desks.all_up();
+        let up = self.node_queues.all_up();
         if !up {
             return true;
         }
-        let unsettled = self.desks.some_unsettled();
+        let unsettled = self.node_queues.some_unsettled();
         !unsettled
     }
 
@@ -92,7 +92,7 @@ impl<D: NodeDisk> Node<D> {
             queue_at setup place ≡ queue → result.now ≡ (n.queue place).server.audit }
     {
         match self.find(queue) {
-            Some(at) => self.desks.at(at).rows(),
+            Some(at) => self.node_queues.at(at).rows(),
             None => &[],
         }
     }
@@ -106,14 +106,14 @@ impl<D: NodeDisk> Node<D> {
         text: &mut Vec<u8>,
     ) -> Result<(), Memory>
         requires serve { CanServe D.tells D.past self.old }
-        requires place { at < length self.old.desks }
+        requires place { at < length self.old.node_queues }
         requires may { MayAsk ask }
         ensures ok { OnOk result (Served D.tells D.past D.faults (AtIndex at (IsAt (asked ask)))
             self.old self.new text.old.items text.new.items) }
         ensures err { OnErr result (GaveUp D.tells D.past D.faults self.old self.new) }
         ensures cause { IfErr result IsAtEnd }
     {
-        self.desks.ask(alloc, at, ask, text)
+        self.node_queues.ask(alloc, at, ask, text)
     }
 
     /// From here on answers to a session are lost, or come again. The only error is `Memory::Want`, out of
@@ -126,7 +126,7 @@ impl<D: NodeDisk> Node<D> {
         ensures err { OnErr result (GaveUp D.tells D.past D.faults self.old self.new) }
         ensures want { IsOkUnless result Memory.Want }
     {
-        self.desks.mute(alloc, session, muted)
+        self.node_queues.mute(alloc, session, muted)
     }
 
     // A session ends at each queue.
@@ -138,7 +138,7 @@ impl<D: NodeDisk> Node<D> {
         ensures err { OnErr result (GaveUp D.tells D.past D.faults self.old self.new) }
         ensures want { IsOkUnless result Memory.Want }
     {
-        self.desks.end(alloc, session)
+        self.node_queues.end(alloc, session)
     }
 
     // Whether a session has ended at some queue.
@@ -146,7 +146,7 @@ impl<D: NodeDisk> Node<D> {
         ensures { (setup : Setup) (n : World) → Stands D.tells D.past setup self.now n →
             result ≡ some_queue setup (is_ended session) n }
     {
-        self.desks.some_ended(session)
+        self.node_queues.some_ended(session)
     }
 
     /// Whether a pump follows each line of a client from here on.
@@ -191,12 +191,12 @@ impl<D: NodeDisk> Node<D> {
     // Adds the state of a queue's server.
     pub(crate) fn show_at(&self, alloc: Global, at: usize, text: &mut Vec<u8>) -> Result<(), Memory>
         requires serve { CanServe D.tells D.past self.now }
-        requires place { at < length self.now.desks }
+        requires place { at < length self.now.node_queues }
         ensures ok { OnOk result (Served D.tells D.past D.faults
             (AtIndex at (λ setup place. Is (Shows place)))
             self.now self.now text.old.items text.new.items) }
         ensures want { IsOkUnless result Memory.Want }
     {
-        self.desks.at(at).state_text(alloc, text)
+        self.node_queues.at(at).state_text(alloc, text)
     }
 }

@@ -10,13 +10,13 @@ ghost use Rattle.qq_node.specs.Node.{Stands, disk_in, seen};
 ghost use Rattle.qq_node.specs.Restarting.{HasBegun, IsOpenCaused, IsSetFor, TellsFirstFound, TellsFound, opening_fault};
 
 use crate::crashing::into_disk;
-use crate::desks::Desks;
 use crate::node::{Node, NodeLog};
+use crate::node_queues::NodeQueues;
 use crate::recovering::{Found, recover_log};
 use qq_base::{Duplicate, Memory, QueueId, Text};
 use qq_disk::{FileName, NodeDisk};
 use qq_log::Lane;
-use qq_node_queue::Desk;
+use qq_node_queue::NodeQueue;
 use qq_recover::RecoverFault;
 use std::alloc::Global;
 use thiserror::Error;
@@ -69,11 +69,11 @@ fn fault_at_opening(fault: RecoverFault) -> OpenFault
     }
 }
 
-fn found_of(desk: &Desk, alloc: Global, lane: &Lane) -> OpenFault
-    ensures { TellsFound desk.now lane.now result }
+fn found_of(node_queue: &NodeQueue, alloc: Global, lane: &Lane) -> OpenFault
+    ensures { TellsFound node_queue.now lane.now result }
 {
-    let noticed = desk.noticed() as u64;
-    match desk.name().copy(alloc) {
+    let noticed = node_queue.noticed() as u64;
+    match node_queue.name().copy(alloc) {
         Ok(name) => OpenFault::Lost {
             name,
             noticed,
@@ -84,15 +84,19 @@ fn found_of(desk: &Desk, alloc: Global, lane: &Lane) -> OpenFault
 }
 
 // A new queue begins with nothing, so one of which something was found isn't what its files say.
-fn find_none(desks: &Desks, alloc: Global, lanes: &[Option<Lane>]) -> Result<(), OpenFault>
-    requires { length lanes.now ≡ length desks.now }
+fn find_none(
+    node_queues: &NodeQueues,
+    alloc: Global,
+    lanes: &[Option<Lane>],
+) -> Result<(), OpenFault>
+    requires { length lanes.now ≡ length node_queues.now }
     ensures ok { OnOk result
         (AllByRecursion (λ (lane : Option LaneOf). lane ≡ None) lanes.now) }
-    ensures cause { IfErr result (TellsFirstFound desks.now lanes.now) }
+    ensures cause { IfErr result (TellsFirstFound node_queues.now lanes.now) }
 {
     'lanes: for at in 0..lanes.len() {
         if let Some(lane) = &lanes[at] {
-            return Err(found_of(desks.at(at), alloc, lane));
+            return Err(found_of(node_queues.at(at), alloc, lane));
         }
     }
     Ok(())
@@ -109,27 +113,27 @@ fn begin<D: NodeDisk>(
     disk: D,
     alloc: Global,
     queues: Vec<QueueId>,
-    desks: Desks,
+    node_queues: NodeQueues,
     log_bytes: u64,
 ) -> Result<Node<D>, (OpenFault, D)>
-    requires set { (setup : Setup) × IsSetFor setup queues.items desks }
+    requires set { (setup : Setup) × IsSetFor setup queues.items node_queues }
     requires fresh { IsTrue (D.tells disk) → IsNew (D.past disk) }
-    ensures ok { (setup : Setup) → IsSetFor setup queues.items desks →
+    ensures ok { (setup : Setup) → IsSetFor setup queues.items node_queues →
         IfOk result (HasBegun D.tells D.past D.faults setup disk) }
     ensures told { IfErr result (λ e. D.tells e.1 ≡ D.tells disk) }
     ensures later { IfErr result (λ e. D.faults disk ≤ D.faults e.1) }
-    ensures cause { (setup : Setup) → IsSetFor setup queues.items desks → IfErr result (λ e.
+    ensures cause { (setup : Setup) → IsSetFor setup queues.items node_queues → IfErr result (λ e.
         IsOpenCaused setup (D.tells disk) (D.faults disk) (D.faults e.1) e.0) }
 {
     let Found { wal, lanes } = match recover_log(disk, alloc, &queues, log_bytes) {
         Ok(found) => found,
         Err((fault, disk)) => return Err((fault_at_opening(fault), disk)),
     };
-    if let Err(fault) = find_none(&desks, alloc, &lanes) {
+    if let Err(fault) = find_none(&node_queues, alloc, &lanes) {
         return Err((fault, wal.into_disk()));
     }
     Ok(Node {
-        desks,
+        node_queues,
         queues,
         log: NodeLog::Open(wal),
         log_bytes,
@@ -147,22 +151,23 @@ pub fn open_node<D: NodeDisk>(
     disk: D,
     alloc: Global,
     queues: Vec<QueueId>,
-    desks: Vec<Desk>,
+    node_queues: Vec<NodeQueue>,
     log_bytes: u64,
     text: &mut Vec<u8>,
 ) -> Result<Node<D>, (OpenFault, D)>
-    requires set { (setup : Setup) × IsSetFor setup queues.items desks.items }
+    requires set { (setup : Setup) × IsSetFor setup queues.items node_queues.items }
     requires fresh { IsTrue (D.tells disk) → IsNew (D.past disk) }
-    ensures ok { (setup : Setup) → IsSetFor setup queues.items desks.items → IfOk result (λ node.
+    ensures ok { (setup : Setup) → IsSetFor setup queues.items node_queues.items → IfOk result (λ node.
         Serves setup (new_node setup) (IsOpening setup (new_node setup))
         (Stands D.tells D.past setup node) (seen_of D.tells D.past D.faults disk)
         (seen D.tells D.past D.faults node) text.old.items text.new.items) }
     ensures told { IfErr result (λ e. D.tells e.1 ≡ D.tells disk) }
     ensures later { IfErr result (λ e. D.faults disk ≤ D.faults e.1) }
-    ensures cause { (setup : Setup) → IsSetFor setup queues.items desks.items → IfErr result (λ e.
-        IsOpenCaused setup (D.tells disk) (D.faults disk) (D.faults e.1) e.0) }
+    ensures cause { (setup : Setup) → IsSetFor setup queues.items node_queues.items
+        → IfErr result (λ e. IsOpenCaused setup
+        (D.tells disk) (D.faults disk) (D.faults e.1) e.0) }
 {
-    let mut node = match begin(disk, alloc, queues, Desks::new(desks), log_bytes) {
+    let mut node = match begin(disk, alloc, queues, NodeQueues::new(node_queues), log_bytes) {
         Ok(node) => node,
         Err(fault) => return Err(fault),
     };

@@ -1,7 +1,7 @@
 //! A node is restarted.
 ghost use Rattle.std.specs.Prelude.{◌≡◌, ◌≤◌, false, length, IsTrue, IfOk, IfErr, OnOk, IsOkUnless};
 ghost use Rattle.std.specs.List.{list_all};
-ghost use Rattle.qq_node_queue.specs.Desk.{DeskState, world_of};
+ghost use Rattle.qq_node_queue.specs.NodeQueue.{NodeQueueState, world_of};
 ghost use Rattle.qq_node_queue.specs.Taking.{told};
 ghost use Rattle.qq_world.specs.Node.{Setup, Node as World};
 ghost use Rattle.qq_world.specs.Rules.{IsRestart, is_node_up};
@@ -13,13 +13,13 @@ ghost use Rattle.qq_node.specs.Node.{CanServe, Served, Stands, disk_in, seen};
 ghost use Rattle.qq_node.specs.Restarting.{AllTake, IsLinkedTo, IsLostAsRead, IsOfMemory, IsRefusedBy, IsRestartCaused, IsTakeAllCaused, IsTakeCaused, GoesOnWith, HandsBack, StopsWith, TakesUp, lanes_in};
 
 use crate::crashing::into_disk;
-use crate::desks::Desks;
 use crate::node::{Node, NodeLog};
+use crate::node_queues::NodeQueues;
 use crate::recovering::{Found, recover_log};
 use qq_base::{Duplicate, Memory, QueueId, Text};
 use qq_disk::{FileName, NodeDisk};
 use qq_log::Lane;
-use qq_node_queue::Desk;
+use qq_node_queue::NodeQueue;
 use qq_recover::RecoverFault;
 use std::alloc::Global;
 use thiserror::Error;
@@ -67,13 +67,13 @@ fn op_of(lane: &Option<Lane>) -> u64
     }
 }
 
-fn lost(desk: &Desk, alloc: Global, found: u64) -> Result<RestartFault, Memory>
-    ensures ok { IfOk result (λ fault. fault ≡ RestartFault.Lost desk.now.name
-        desk.now.server.noticed found) }
+fn lost(node_queue: &NodeQueue, alloc: Global, found: u64) -> Result<RestartFault, Memory>
+    ensures ok { IfOk result (λ fault. fault ≡ RestartFault.Lost node_queue.now.name
+        node_queue.now.server.noticed found) }
     ensures want { IsOkUnless result Memory.Want }
 {
-    let name = desk.name().copy(alloc)?;
-    let noticed = desk.noticed() as u64;
+    let name = node_queue.name().copy(alloc)?;
+    let noticed = node_queue.noticed() as u64;
     Ok(RestartFault::Lost {
         name,
         noticed,
@@ -82,18 +82,22 @@ fn lost(desk: &Desk, alloc: Global, found: u64) -> Result<RestartFault, Memory>
 }
 
 // A queue takes up what was found of it.
-fn take_up(desk: &mut Desk, alloc: Global, lane: &Option<Lane>) -> Result<(), RestartFault>
-    ensures ok { OnOk result (TakesUp lane.now desk.old desk.new) }
-    ensures cause { IfErr result (IsTakeCaused desk.old lane.now) }
+fn take_up(
+    node_queue: &mut NodeQueue,
+    alloc: Global,
+    lane: &Option<Lane>,
+) -> Result<(), RestartFault>
+    ensures ok { OnOk result (TakesUp lane.now node_queue.old node_queue.new) }
+    ensures cause { IfErr result (IsTakeCaused node_queue.old lane.now) }
 {
     let op = op_of(lane);
-    if !desk.may_take_up(lane.as_ref()) {
-        return match lost(desk, alloc, op) {
+    if !node_queue.may_take_up(lane.as_ref()) {
+        return match lost(node_queue, alloc, op) {
             Ok(fault) => Err(fault),
             Err(memory) => Err(RestartFault::Memory(memory)),
         };
     }
-    match desk.find(alloc, op) {
+    match node_queue.find(alloc, op) {
         Ok(()) => Ok(()),
         Err(memory) => Err(RestartFault::Memory(memory)),
     }
@@ -101,17 +105,17 @@ fn take_up(desk: &mut Desk, alloc: Global, lane: &Option<Lane>) -> Result<(), Re
 
 // Each queue takes up what was found of it, in order.
 pub(crate) fn take_up_each(
-    desks: &mut [Desk],
+    node_queues: &mut [NodeQueue],
     alloc: Global,
     lanes: &[Option<Lane>],
 ) -> Result<(), RestartFault>
-    requires { length lanes.now ≡ length desks.old }
-    ensures ok { OnOk result (AllTake lanes.now desks.old desks.new) }
-    ensures cause { IfErr result (IsTakeAllCaused desks.old lanes.now) }
+    requires { length lanes.now ≡ length node_queues.old }
+    ensures ok { OnOk result (AllTake lanes.now node_queues.old node_queues.new) }
+    ensures cause { IfErr result (IsTakeAllCaused node_queues.old lanes.now) }
 {
     let mut at = 0;
-    'desks: for desk in desks.iter_mut() {
-        if let Err(fault) = take_up(desk, alloc, &lanes[at]) {
+    'node_queues: for node_queue in node_queues.iter_mut() {
+        if let Err(fault) = take_up(node_queue, alloc, &lanes[at]) {
             return Err(fault);
         }
         at += 1;
@@ -121,25 +125,25 @@ pub(crate) fn take_up_each(
 
 // A stopped node goes on with what was found.
 fn go_on<D: NodeDisk>(
-    desks: Desks,
+    node_queues: NodeQueues,
     alloc: Global,
     queues: Vec<QueueId>,
     found: Found<D>,
     log_bytes: u64,
     auto: bool,
 ) -> Result<Node<D>, (RestartFault, D)>
-    requires { length found.lanes.items ≡ length desks }
-    ensures ok { IfOk result (GoesOnWith found desks queues auto) }
-    ensures cause { IfErr result (λ e. IsTakeAllCaused desks found.lanes.items e.0) }
+    requires { length found.lanes.items ≡ length node_queues }
+    ensures ok { IfOk result (GoesOnWith found node_queues queues auto) }
+    ensures cause { IfErr result (λ e. IsTakeAllCaused node_queues found.lanes.items e.0) }
     ensures disk { IfErr result (λ e. e.1 ≡ found.wal.disk) }
 {
-    let mut desks = desks;
+    let mut node_queues = node_queues;
     let Found { wal, lanes } = found;
-    if let Err(fault) = desks.take_up(alloc, &lanes) {
+    if let Err(fault) = node_queues.take_up(alloc, &lanes) {
         return Err((fault, wal.into_disk()));
     }
     Ok(Node {
-        desks,
+        node_queues,
         queues,
         log: NodeLog::Open(wal),
         log_bytes,
@@ -149,23 +153,23 @@ fn go_on<D: NodeDisk>(
 
 // A node whose disk has failed says so.
 fn stop<D: NodeDisk>(
-    desks: Desks,
+    node_queues: NodeQueues,
     queues: Vec<QueueId>,
     disk: D,
     log_bytes: u64,
     auto: bool,
     text: &mut Vec<u8>,
 ) -> Result<Node<D>, (RestartFault, D)>
-    ensures ok { IfOk result (StopsWith disk desks queues auto text.old.items text.new.items) }
+    ensures ok { IfOk result (StopsWith disk node_queues queues auto text.old.items text.new.items) }
     ensures cause { IfErr result (λ e. e.0 ≡ RestartFault.Memory Memory.Want) }
     ensures disk { IfErr result (λ e. e.1 ≡ disk) }
 {
-    let mut desks = desks;
-    if let Err(memory) = desks.stop(text) {
+    let mut node_queues = node_queues;
+    if let Err(memory) = node_queues.stop(text) {
         return Err((RestartFault::Memory(memory), disk));
     }
     Ok(Node {
-        desks,
+        node_queues,
         queues,
         log: NodeLog::Closed(disk),
         log_bytes,
@@ -197,15 +201,15 @@ fn recover_node<D: NodeDisk>(
     ensures back { IfErr result (λ e. HandsBack D.tells D.past D.faults node e.1) }
 {
     let Node {
-        desks,
+        node_queues,
         queues,
         log,
         log_bytes,
         auto,
     } = node;
     match recover_log(into_disk(log), alloc, &queues, log_bytes) {
-        Ok(found) => go_on(desks, alloc, queues, found, log_bytes, auto),
-        Err((RecoverFault::Disk, disk)) => stop(desks, queues, disk, log_bytes, auto, text),
+        Ok(found) => go_on(node_queues, alloc, queues, found, log_bytes, auto),
+        Err((RecoverFault::Disk, disk)) => stop(node_queues, queues, disk, log_bytes, auto, text),
         Err((RecoverFault::Damaged { file, place }, disk)) => {
             Err((RestartFault::Damaged { file, place }, disk))
         }

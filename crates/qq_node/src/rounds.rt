@@ -7,8 +7,8 @@ ghost use Rattle.qq_node_queue.specs.Range.{MayStamp};
 ghost use Rattle.qq_world.specs.World.{Downs, Resends, Ticks};
 ghost use Rattle.qq_node.specs.Node.{AtIndex, CanServe, GaveUp, IsAt, Served};
 
-use crate::desks::Ask;
 use crate::node::Node;
+use crate::node_queues::Ask;
 use qq_base::Memory;
 use qq_disk::NodeDisk;
 use qq_entry::Unstamped;
@@ -21,7 +21,7 @@ impl<D: NodeDisk> Node<D> {
     // A queue notices what is synced of it, where something is and the node is up.
     fn notice_at(&mut self, alloc: Global, at: usize, text: &mut Vec<u8>) -> Result<(), Memory>
         requires serve { CanServe D.tells D.past self.old }
-        requires place { at < length self.old.desks }
+        requires place { at < length self.old.node_queues }
         ensures ok { OnOk result (Served D.tells D.past D.faults (AtIndex at IsNotice)
             self.old self.new text.old.items text.new.items) }
         ensures err { OnErr result (GaveUp D.tells D.past D.faults self.old self.new) }
@@ -31,7 +31,7 @@ impl<D: NodeDisk> Node<D> {
         if !up {
             return Ok(());
         }
-        let waits = self.desks.at(at).waits_noticed();
+        let waits = self.node_queues.at(at).waits_noticed();
         if !waits {
             return Ok(());
         }
@@ -47,7 +47,7 @@ impl<D: NodeDisk> Node<D> {
         ensures err { OnErr result (GaveUp D.tells D.past D.faults self.old self.new) }
         ensures cause { IfErr result IsAtEnd }
     {
-        let count = self.desks.len();
+        let count = self.node_queues.len();
         'places: for at in 0..count {
             if let Err(cause) = self.notice_at(alloc, at, text) {
                 return Err(cause);
@@ -66,7 +66,7 @@ impl<D: NodeDisk> Node<D> {
         text: &mut Vec<u8>,
     ) -> Result<(), Memory>
         requires serve { CanServe D.tells D.past self.old }
-        requires place { at < length self.old.desks }
+        requires place { at < length self.old.node_queues }
         requires session { 0 < session }
         requires range { MayStamp body }
         ensures ok { OnOk result (Served D.tells D.past D.faults
@@ -75,7 +75,7 @@ impl<D: NodeDisk> Node<D> {
         ensures err { OnErr result (GaveUp D.tells D.past D.faults self.old self.new) }
         ensures cause { IfErr result IsAtEnd }
     {
-        let ended = self.desks.at(at).is_ended(session);
+        let ended = self.node_queues.at(at).is_ended(session);
         if ended {
             return self.ask(alloc, at, Ask::TellEnded { session }, text);
         }
@@ -124,7 +124,7 @@ impl<D: NodeDisk> Node<D> {
         ensures err { OnErr result (GaveUp D.tells D.past D.faults self.old self.new) }
         ensures cause { IfErr result IsAtEnd }
     {
-        let count = self.desks.len();
+        let count = self.node_queues.len();
         'places: for at in 0..count {
             if let Err(cause) = self.ask(alloc, at, Ask::Down { session }, text) {
                 return Err(cause);
@@ -147,7 +147,7 @@ impl<D: NodeDisk> Node<D> {
         ensures err { OnErr result (GaveUp D.tells D.past D.faults self.old self.new) }
         ensures cause { IfErr result IsAtEnd }
     {
-        let count = self.desks.len();
+        let count = self.node_queues.len();
         'places: for at in 0..count {
             if let Err(cause) = self.ask(alloc, at, Ask::Resend { session }, text) {
                 return Err(cause);
@@ -165,7 +165,7 @@ impl<D: NodeDisk> Node<D> {
         ensures err { OnErr result (GaveUp D.tells D.past D.faults self.old self.new) }
         ensures cause { IfErr result IsAtEnd }
     {
-        let count = self.desks.len();
+        let count = self.node_queues.len();
         'places: for at in 0..count {
             if let Err(cause) = self.ask(alloc, at, Ask::Tick, text) {
                 return Err(cause);

@@ -13,8 +13,7 @@ use Rattle.qq_entry.specs.declared.command.Entry.{Entry}
 use Rattle.qq_entry.specs.declared.audit.AuditRow.{AuditRow}
 use Rattle.qq_log.specs.declared.op.Op.{Op}
 use Rattle.qq_model.specs.State.{State, is_within_ends}
-use Rattle.qq_model.specs.Audit.{next_step, next_index, row_of, audit_of, state_after}
-use Rattle.qq_serial.specs.Replay.{stays_within}
+use Rattle.qq_model.specs.Audit.{next_step, next_index, row_of, audit_of, state_after, stays_within}
 use Rattle.qq_world.specs.Server.{entries_in, log_of}
 use Rattle.qq_node_queue.specs.declared.audit.Audit.{Audit}
 use Rattle.qq_node_queue.specs.Audited.{IsMachineOf, IsAuditOf, Adds, Applies, IsSameAudit}

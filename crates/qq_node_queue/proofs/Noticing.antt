@@ -8,28 +8,28 @@ use Rattle.qq_entry.specs.declared.audit.Effect.{Effect}
 use Rattle.qq_world.specs.Server.{Server, is_down, notice}
 use Rattle.qq_world.specs.World.{World, Clients, Notices, Answered, Shown, delivered, hear_all, is_up, own_effects, own_rows, printed, tell, told}
 use Rattle.qq_node_queue.specs.Clients.{Known, clients_of}
-use Rattle.qq_node_queue.specs.Desk.{DeskState, Does, is_of_term, world_of}
+use Rattle.qq_node_queue.specs.NodeQueue.{NodeQueueState, Does, is_of_term, world_of}
 use Rattle.qq_node_queue.specs.Audited.{all_effects}
 use Rattle.qq_node_queue.specs.Text.{shown_text_as, effects_text}
 use Rattle.qq_node_queue.proofs.Showing.{rows-text}
 
 -- the clients once they have heard what a server answers
-heard_by : DeskState → Server → Clients
+heard_by : NodeQueueState → Server → Clients
 heard_by d s = hear_all (own_rows d.server s) (clients_of d.known)
 
-after : DeskState → Server → Clients → World
+after : NodeQueueState → Server → Clients → World
 after d s clients = record { clients = clients; server = s; written = d.written; synced = d.synced }
 
-answers : DeskState → Server → List Shown
+answers : NodeQueueState → Server → List Shown
 answers d s = map Answered (printed (own_rows d.server s) (clients_of d.known))
 
-deliveries : DeskState → Server → List Shown
+deliveries : NodeQueueState → Server → List Shown
 deliveries d s = flat_map (delivered (heard_by d s)) (own_effects d.server s)
 
-text_by : DeskState → List ℕ → Server → List ℕ
+text_by : NodeQueueState → List ℕ → Server → List ℕ
 text_by d before s = before ++ flat_map (shown_text_as d.first d.name) (answers d s ++ deliveries d s)
 
-unfoldable pub noticed : (d : DeskState) (next : Server) (known : Known) (rows : List AuditRow)
+unfoldable pub noticed : (d : NodeQueueState) (next : Server) (known : Known) (rows : List AuditRow)
     (each : List (List Effect)) (before mid behind : List ℕ)
     → is_down d.server ≡ false → next ≡ notice d.synced d.server → rows ≡ drop (length d.server.audit) next.audit
     → clients_of known ≡ hear_all (filter (is_of_term next.term) rows) (clients_of d.known)

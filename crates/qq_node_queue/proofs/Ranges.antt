@@ -22,9 +22,8 @@ use Rattle.qq_log.specs.declared.op.Op.TheVariants.{Change, SnapshotMade, Segmen
 use Rattle.qq_log.specs.Writable.{IsWithinEnd, MayGather}
 use Rattle.qq_session.specs.Numbering.{IsLowMark}
 use Rattle.qq_session.specs.Publishing.{Numbers, OpenCommand, low_mark, next_stamp, next_command, hand, closes, answer, open_commands}
-use Rattle.qq_model.specs.Audit.{audit_of, state_after}
+use Rattle.qq_model.specs.Audit.{audit_of, state_after, stays_within}
 use Rattle.qq_model.specs.State.{State, empty_queue}
-use Rattle.qq_serial.specs.Replay.{stays_within}
 use Rattle.qq_world.specs.Server.{log_of, node, term_after, term_of}
 use Rattle.qq_world.proofs.Ops.{log-more, sound-more, sound-front}
 use Rattle.qq_node_queue.specs.declared.audit.Audit.{Audit}

@@ -9,7 +9,7 @@ use Rattle.qq_entry.specs.declared.audit.AuditRow.{AuditRow}
 use Rattle.qq_entry.specs.declared.command.Command.{Command}
 use Rattle.qq_world.specs.Server.{is_ready}
 use Rattle.qq_world.specs.World.{World, Clients, Shown, Answered, offer, said_of, hear, hear_all, is_printed, printed}
-use Rattle.qq_node_queue.specs.Desk.{is_of_term}
+use Rattle.qq_node_queue.specs.NodeQueue.{is_of_term}
 
 -- ---- commands
 

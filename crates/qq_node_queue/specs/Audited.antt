@@ -8,11 +8,10 @@ use Rattle.qq_entry.specs.declared.audit.AuditRow.{AuditRow}
 use Rattle.qq_entry.specs.declared.audit.Effect.{Effect}
 use Rattle.qq_log.specs.declared.op.Op.{Op}
 use Rattle.qq_model.specs.State.{State, is_within_ends}
-use Rattle.qq_model.specs.Audit.{next_index, next_step, audit_of, state_after}
+use Rattle.qq_model.specs.Audit.{next_index, next_step, audit_of, state_after, stays_within}
 use Rattle.qq_parts.specs.Parts.{Parts}
 use Rattle.qq_parts.specs.Changes.{Holds}
 use Rattle.qq_laws.specs.Far.{IsReached}
-use Rattle.qq_serial.specs.Replay.{stays_within}
 use Rattle.qq_world.specs.Server.{entries_in, log_of}
 use Rattle.qq_world.specs.World.{effects_of_term}
 use Rattle.qq_node_queue.specs.declared.audit.Audit.{Audit}

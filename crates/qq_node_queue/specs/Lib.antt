@@ -1,6 +1,6 @@
 pub mod Audited
 pub mod Clients
-pub mod Desk
+pub mod NodeQueue
 pub mod Range
 pub mod Roles
 pub mod Server

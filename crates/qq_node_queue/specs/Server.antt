@@ -8,7 +8,7 @@ use Rattle.qq_log.specs.declared.op.Op.{Op}
 use Rattle.qq_log.specs.Stable.{stable}
 use Rattle.qq_log.specs.Writable.{MayGather}
 use Rattle.qq_model.specs.State.{empty_queue}
-use Rattle.qq_serial.specs.Replay.{stays_within}
+use Rattle.qq_model.specs.Audit.{stays_within}
 use Rattle.qq_world.specs.Server.{Server, Role, Follower, Candidate, is_leader_in, entries_in, log_of}
 use Rattle.qq_world.specs.Promise.{state_of}
 use Rattle.qq_node_queue.specs.declared.audit.Audit.{Audit}

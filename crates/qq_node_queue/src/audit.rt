@@ -7,7 +7,7 @@ ghost use Rattle.qq_entry.specs.Range.{IsInRange};
 ghost use Rattle.qq_log.specs.declared.op.Op.{Op};
 ghost use Rattle.qq_log.specs.Writable.{MayGather};
 ghost use Rattle.qq_model.specs.State.{State, empty_queue};
-ghost use Rattle.qq_serial.specs.Replay.{stays_within};
+ghost use Rattle.qq_model.specs.Audit.{stays_within};
 ghost use Rattle.qq_world.specs.Server.{entries_in, log_of};
 ghost use Rattle.qq_world.specs.World.{effects_behind, effects_of_term};
 ghost use Rattle.qq_node_queue.specs.Audited.{IsShort, AreShort, IsMachineOf, IsAuditOf, Adds, Applies, IsSameAudit, all_effects, effects_next};

@@ -5,16 +5,16 @@ mod audit;
 mod client;
 mod clients;
 mod delivering;
-mod desk;
 mod laws;
 mod machine;
+mod node_queue;
 mod role;
 mod server;
 mod taking;
 mod text;
 
-pub use desk::Desk;
 pub use laws::lines_are_those_of_the_node;
+pub use node_queue::NodeQueue;
 pub use qq_base::{Memory, Term, Text};
 pub use qq_entry::{AuditRow, QueueArgs, Unstamped};
 pub use qq_log::{Lane, Op};

@@ -8,12 +8,12 @@ use Rattle.qq_base.specs.declared.ids.SessionId.{SessionId}
 use Rattle.qq_base.specs.declared.ids.ConsumerId.{ConsumerId}
 use Rattle.qq_base.specs.Ids.{client}
 use Rattle.qq_entry.specs.declared.limits.TheConstants.{KEY_LIMIT}
-use Rattle.qq_defs.specs.declared.members.QueueRow.{QueueRow}
-use Rattle.qq_defs.specs.declared.setup.Setup.{Setup}
+use Rattle.qq_setup.specs.declared.queue_row.QueueRow.{QueueRow}
+use Rattle.qq_setup.specs.declared.setup.Setup.{Setup}
 use Rattle.qq_script_lines.specs.declared.fault.ScriptFault.{ScriptFault}
 use Rattle.qq_script_lines.specs.declared.fault.ScriptFault.TheVariants.{Words, Number, NoSuch}
-use Rattle.qq_script_lines.specs.declared.kind.Verdict.{Verdict}
-use Rattle.qq_script_lines.specs.declared.kind.Verdict.TheVariants as verdicts
+use Rattle.qq_script_lines.specs.declared.kind.Disposition.{Disposition}
+use Rattle.qq_script_lines.specs.declared.kind.Disposition.TheVariants as verdicts
 use Rattle.qq_script_lines.specs.declared.line.Nodes.{Nodes}
 use Rattle.qq_script_lines.specs.declared.line.Nodes.TheVariants.{One, All}
 use Rattle.qq_script_lines.specs.declared.line.ScriptLine.{ScriptLine}
@@ -118,17 +118,17 @@ credit s (session ∷ queue ∷ tag ∷ count ∷ more ∷ how ∷ []) =
 credit s _ = Err Words
 
 -- what becomes of deliveries
-abbrev pub verdict_on : Verdict → ConsumerId → QueueId → List ℕ → ScriptLine
+abbrev pub verdict_on : Disposition → ConsumerId → QueueId → List ℕ → ScriptLine
 verdict_on verdicts.Settle by at ids = lines.Settle by at ids
 verdict_on verdicts.Return by at ids = lines.Return by at ids
 verdict_on verdicts.Discard by at ids = lines.Discard by at ids
 
 -- S Q T IDS
-unfoldable pub deliveries : Verdict → Setup → List (List ℕ) → Result ScriptLine ScriptFault
-deliveries verdict s (session ∷ queue ∷ tag ∷ ids ∷ []) =
+unfoldable pub deliveries : Disposition → Setup → List (List ℕ) → Result ScriptLine ScriptFault
+deliveries disposition s (session ∷ queue ∷ tag ∷ ids ∷ []) =
     or_fault Number (consumer_of session tag) >>= λ by. or_fault Number (ids_of ids) >>= λ list.
-    queue_of s queue >>= λ at. Ok (verdict_on verdict by at list)
-deliveries verdict s _ = Err Words
+    queue_of s queue >>= λ at. Ok (verdict_on disposition by at list)
+deliveries disposition s _ = Err Words
 
 -- N IMAGE
 unfoldable pub crash : Setup → List (List ℕ) → Result ScriptLine ScriptFault

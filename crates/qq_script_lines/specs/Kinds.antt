@@ -5,7 +5,7 @@ use Rattle.qq_script_lines.specs.declared.kind.Kind.{Kind}
 use Rattle.qq_script_lines.specs.declared.kind.Kind.TheVariants as kinds
 use Rattle.qq_script_lines.specs.declared.kind.PlainKind.{PlainKind}
 use Rattle.qq_script_lines.specs.declared.kind.PlainKind.TheVariants as plains
-use Rattle.qq_script_lines.specs.declared.kind.Verdict.TheVariants as verdicts
+use Rattle.qq_script_lines.specs.declared.kind.Disposition.TheVariants as verdicts
 
 -- which line begins with this word
 unfoldable pub kind_of : List ℕ → Option Kind

@@ -2,7 +2,7 @@
 use Rattle.std.specs.Prelude.{◌≡◌, ℕ, List, [], ◌∷◌, Bool, true, ◌&&◌, ◌||◌, nat_lt, length, take, drop, codes, Option, Some, None, Result, Ok, Err, if◌then◌else◌}
 use Rattle.std.specs.Str.{bytes_eq, is_utf8}
 use Rattle.qq_base.specs.declared.memory.Memory.TheVariants.{Want}
-use Rattle.qq_defs.specs.declared.setup.Setup.{Setup}
+use Rattle.qq_setup.specs.declared.setup.Setup.{Setup}
 use Rattle.qq_script_lines.specs.declared.fault.ScriptFault.{ScriptFault}
 use Rattle.qq_script_lines.specs.declared.fault.ScriptFault.TheVariants.{TooLong, Unknown, Words, Session, Memory}
 use Rattle.qq_script_lines.specs.declared.kind.Kind.{Kind}
@@ -53,7 +53,7 @@ read_plain s plains.Show words = one_queue s words >>= λ at. Ok (lines.Show at)
 unfoldable pub read : Setup → Kind → List ℕ → List (List ℕ) → Result ScriptLine ScriptFault
 read s kinds.Publish line words = Err Words
 read s kinds.Send line words = send line words
-read s (kinds.Deliveries verdict) line words = deliveries verdict s words
+read s (kinds.Deliveries disposition) line words = deliveries disposition s words
 read s kinds.Crash line words = crash s words
 read s (kinds.Plain kind) line words = read_plain s kind words
 

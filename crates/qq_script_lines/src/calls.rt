@@ -7,14 +7,14 @@ ghost use Rattle.std.specs.Option.{option_map};
 use crate::bodies::body_of;
 use crate::fault::ScriptFault;
 use crate::images::image_of;
-use crate::kind::Verdict;
+use crate::kind::Disposition;
 use crate::line::{Nodes, ScriptLine};
 use crate::names::{first_queue, node_of, nodes_of, queue_at, queue_of};
 use crate::numbers::{consumer_of, ids_of, number_in, session_of};
 use crate::words::{behind_four, text_of};
 use qq_base::{ConsumerId, NodeId, QueueId, SessionId, Text};
-use qq_defs::Setup;
 use qq_entry::KEY_LIMIT;
+use qq_setup::Setup;
 use std::alloc::Global;
 
 /// A line of one word.
@@ -217,14 +217,14 @@ pub fn credit(setup: &Setup, words: &[&str]) -> Result<ScriptLine, ScriptFault>
 #[tactic(auto, unfolding(crate::specs::Calls::deliveries))]
 pub fn deliveries(
     alloc: Global,
-    verdict: Verdict,
+    disposition: Disposition,
     setup: &Setup,
     words: &[&str],
 ) -> Result<ScriptLine, ScriptFault>
     ensures ok { IfOk result (λ said.
-        deliveries verdict setup.now (map (λ w. w.now) words.now) ≡ Ok said) }
+        deliveries disposition setup.now (map (λ w. w.now) words.now) ≡ Ok said) }
     ensures cause { IfErr result (λ e.
-        HasScriptCause e (deliveries verdict setup.now (map (λ w. w.now) words.now))) }
+        HasScriptCause e (deliveries disposition setup.now (map (λ w. w.now) words.now))) }
 {
     let [session, queue, tag, ids] = words else {
         return Err(ScriptFault::Words);
@@ -236,7 +236,7 @@ pub fn deliveries(
         return Err(ScriptFault::Number);
     };
     match queue_of(setup, queue) {
-        Ok(queue) => Ok(verdict.on(consumer, queue, ids)),
+        Ok(queue) => Ok(disposition.on(consumer, queue, ids)),
         Err(fault) => Err(fault),
     }
 }

@@ -10,7 +10,7 @@ use qq_base::{ConsumerId, Ids, QueueId};
 pub enum Kind {
     Publish,
     Send,
-    Deliveries(Verdict),
+    Deliveries(Disposition),
     Crash,
     Plain(PlainKind),
 }
@@ -41,7 +41,7 @@ pub enum PlainKind {
 
 /// What becomes of deliveries.
 #[derive(Clone, Copy, Debug, PartialEq, Eq)]
-pub enum Verdict {
+pub enum Disposition {
     Settle,
     Return,
     Discard,
@@ -87,9 +87,9 @@ impl Kind {
             "subscribe" => Some(Kind::Plain(PlainKind::Subscribe)),
             "link" => Some(Kind::Plain(PlainKind::Link)),
             "credit" => Some(Kind::Plain(PlainKind::Credit)),
-            "settle" => Some(Kind::Deliveries(Verdict::Settle)),
-            "return" => Some(Kind::Deliveries(Verdict::Return)),
-            "discard" => Some(Kind::Deliveries(Verdict::Discard)),
+            "settle" => Some(Kind::Deliveries(Disposition::Settle)),
+            "return" => Some(Kind::Deliveries(Disposition::Return)),
+            "discard" => Some(Kind::Deliveries(Disposition::Discard)),
             "cancel" => Some(Kind::Plain(PlainKind::Cancel)),
             "purge" => Some(Kind::Plain(PlainKind::Purge)),
             "end" => Some(Kind::Plain(PlainKind::End)),
@@ -124,23 +124,23 @@ impl Kind {
     }
 }
 
-impl Verdict {
-    /// The line with this verdict on deliveries.
+impl Disposition {
+    /// The line with this disposition on deliveries.
     pub fn on(self, consumer: ConsumerId, queue: QueueId, ids: Ids) -> ScriptLine
         ensures { result ≡ verdict_on self consumer queue ids }
     {
         match self {
-            Verdict::Settle => ScriptLine::Settle {
+            Disposition::Settle => ScriptLine::Settle {
                 consumer,
                 queue,
                 ids,
             },
-            Verdict::Return => ScriptLine::Return {
+            Disposition::Return => ScriptLine::Return {
                 consumer,
                 queue,
                 ids,
             },
-            Verdict::Discard => ScriptLine::Discard {
+            Disposition::Discard => ScriptLine::Discard {
                 consumer,
                 queue,
                 ids,

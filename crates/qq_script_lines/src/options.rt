@@ -1,8 +1,8 @@
 ghost use Rattle.std.specs.Prelude.{◌≡◌, IfOk, IsOkUnless};
-ghost use Rattle.qq_defs.specs.Setup.{state_of, plain_setup};
+ghost use Rattle.qq_setup.specs.Setup.{state_of, plain_setup};
 
 use qq_base::Memory;
-use qq_defs::Setup;
+use qq_setup::Setup;
 use std::alloc::Global;
 
 /// The most queues that a script may have.

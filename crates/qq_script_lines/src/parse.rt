@@ -12,7 +12,7 @@ use crate::fault::ScriptFault;
 use crate::kind::{Kind, PlainKind};
 use crate::line::{LINE_LIMIT, Place, ScriptLine};
 use crate::words::parts_of;
-use qq_defs::Setup;
+use qq_setup::Setup;
 use std::alloc::Global;
 
 fn is_text(bytes: &[u8]) -> bool
@@ -121,7 +121,7 @@ fn read(
     match kind {
         Kind::Publish => Err(ScriptFault::Words),
         Kind::Send => send(alloc, line, words),
-        Kind::Deliveries(verdict) => deliveries(alloc, verdict, setup, words),
+        Kind::Deliveries(disposition) => deliveries(alloc, disposition, setup, words),
         Kind::Crash => crash(alloc, setup, words),
         Kind::Plain(plain) => match read_plain(setup, plain, words) {
             Ok(said) => Ok(said),

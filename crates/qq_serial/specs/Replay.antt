@@ -1,9 +1,9 @@
 -- A run of entries from a state: what each of them gives.
-use Rattle.std.specs.Prelude.{List, [], ◌∷◌, map, flat_map, Bool, true, ◌&&◌}
+use Rattle.std.specs.Prelude.{List, [], ◌∷◌, map, flat_map}
 use Rattle.qq_entry.specs.declared.command.Entry.{Entry}
 use Rattle.qq_entry.specs.declared.audit.AuditRow.{AuditRow}
 use Rattle.qq_entry.specs.declared.audit.Effect.{Effect}
-use Rattle.qq_model.specs.State.{State, is_within_ends}
+use Rattle.qq_model.specs.State.{State}
 use Rattle.qq_model.specs.Audit.{next_index, next_step, row_of}
 use Rattle.qq_serial.specs.declared.run.Applied.{Applied}
 
@@ -24,9 +24,3 @@ rows run = map (λ (one : Applied). one.row) run
 -- the effects of a run, in order
 abbrev pub effects : List Applied → List Effect
 effects run = flat_map (λ (one : Applied). one.effects) run
-
--- no step of a run takes a number past its end
-abbrev pub stays_within : State → List Entry → Bool
-stays_within s [] = true
-stays_within s (entry ∷ entries) =
-    is_within_ends (next_step s entry).state && stays_within (next_step s entry).state entries

@@ -1,8 +1,8 @@
 ghost use Rattle.std.specs.Prelude.{◌≡◌, false, true, IfOk, IfErr, OnOk};
 ghost use Rattle.qq_base.specs.Causes.{SpentOnlyWhere};
 ghost use Rattle.qq_model.specs.State.{empty_queue};
-ghost use Rattle.qq_model.specs.Audit.{audit_of, effects_of};
-ghost use Rattle.qq_serial.specs.Replay.{replay, rows, effects, stays_within};
+ghost use Rattle.qq_model.specs.Audit.{audit_of, effects_of, stays_within};
+ghost use Rattle.qq_serial.specs.Replay.{replay, rows, effects};
 
 use crate::Serial;
 use qq_base::{Duplicate, Index, Items, Memory, NUMBER_END};

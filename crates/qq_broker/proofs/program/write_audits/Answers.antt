@@ -2,7 +2,7 @@ use Rattle.std.proofs.Common.{◌+◌, ℕ, List, ◌++◌, drop, flat_map, sym,
 use Rattle.std.specs.Prelude.{Contains}
 use Rattle.std.specs.Io.KnownBytes.{Appends}
 use Rattle.qq_calls.specs.Queues.{node_setup, place_of}
-use Rattle.qq_defs.specs.declared.members.QueueRow.{QueueRow}
+use Rattle.qq_setup.specs.declared.queue_row.QueueRow.{QueueRow}
 use Rattle.qq_entry.specs.declared.audit.AuditRow.{AuditRow}
 use Rattle.qq_ports.specs.Faults.{AppendsPrefix}
 use Rattle.qq_script.specs.Audit.{audit_text}

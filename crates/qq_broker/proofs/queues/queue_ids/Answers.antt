@@ -1,9 +1,9 @@
 use Rattle.std.proofs.Common.{List, [], ◌∷◌, ◌++◌, map, take, sym, ap, ◌∙◌}
 use Rattle.std.proofs.lemmas.List.{map-append}
 use Rattle.qq_base.specs.declared.ids.QueueId.{QueueId}
-use Rattle.qq_defs.specs.declared.members.QueueRow.{QueueRow}
+use Rattle.qq_setup.specs.declared.queue_row.QueueRow.{QueueRow}
 use Rattle.qq_broker.specs.Queues.{queue_of}
-use Rattle.qq_broker.proofs.Desks.{take-next}
+use Rattle.qq_broker.proofs.NodeQueues.{take-next}
 use Rattle.qq_broker.proofs.queues.queue_ids.Goals as goal
 
 pub rows-preserved : goal.rows-preserved

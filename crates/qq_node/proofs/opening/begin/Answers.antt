@@ -12,7 +12,7 @@ use Rattle.qq_node.proofs.opening.begin.Goals as goal
 pub recover_log-requires-clause-apart : goal.recover_log-requires-clause-apart
 recover_log-requires-clause-apart g c =
     subst AreDistinct (sym c.deref.ensures.value)
-    (may-begin g.D.NodeDisk.tells g.D.NodeDisk.past g.D.NodeDisk.faults c.requires.set.0 c.args.queues.items c.args.desks
+    (may-begin g.D.NodeDisk.tells g.D.NodeDisk.past g.D.NodeDisk.faults c.requires.set.0 c.args.queues.items c.args.node_queues
     c.requires.set.1)
 
 pub returns-in-Err-clause-cause : goal.returns-in-Err-clause-cause
@@ -22,7 +22,7 @@ returns-in-Err-clause-cause g c = λ setup set.
     let faults = g.D.NodeDisk.faults in
     subst (IsOpenCaused setup (tells c.args.disk) (faults c.args.disk) (faults c.in-Err.disk))
     (sym c.fault_at_opening.ensures)
-    (open-caused tells past faults setup c.args.queues.items c.args.desks c.args.disk
+    (open-caused tells past faults setup c.args.queues.items c.args.node_queues c.args.disk
     c.in-Err.disk c.in-Err.fault set c.requires.fresh
     (λ tell. subst (λ (ids : List QueueId). FailsLinked ids (past c.args.disk) (past c.in-Err.disk) c.in-Err.fault)
     c.deref.ensures.value (c.in-Err.ensures.fails tell)) c.in-Err.ensures.cause))
@@ -33,19 +33,19 @@ find_none-requires g c =
     let set = c.requires.set.1 in
     ap length c.deref-2.ensures.value
     ∙ lanes-many g.D.NodeDisk.tells g.D.NodeDisk.past g.D.NodeDisk.faults setup (new_node setup) c.deref.result.now
-    c.args.desks c.in-Ok.ensures.ok.lanes c.in-Ok.found.lanes.items (c.deref.ensures.value ∙ set.queues_are)
-    set.desks_are c.in-Ok.ensures.ok.each
+    c.args.node_queues c.in-Ok.ensures.ok.lanes c.in-Ok.found.lanes.items (c.deref.ensures.value ∙ set.queues_are)
+    set.node_queues_are c.in-Ok.ensures.ok.each
 
 pub returns-in-Err-find_none-clause-cause : goal.returns-in-Err-find_none-clause-cause
 returns-in-Err-find_none-clause-cause g c = λ setup set.
     (let tells = g.D.NodeDisk.tells in
     let past = g.D.NodeDisk.past in
     let fault = c.in-Err-find_none.fault in
-    found-caused tells past g.D.NodeDisk.faults setup c.args.queues.items c.args.desks c.args.log_bytes c.args.disk
+    found-caused tells past g.D.NodeDisk.faults setup c.args.queues.items c.args.node_queues c.args.log_bytes c.args.disk
     c.in-Ok.found _ _ fault set c.requires.fresh
     (subst (λ (ids : List QueueId). HasFound tells past ids c.args.log_bytes c.args.disk c.in-Ok.found)
     c.deref.ensures.value c.in-Ok.ensures.ok)
-    (subst (λ (lanes : List (Option Lane)). TellsFirstFound c.args.desks lanes fault) c.deref-2.ensures.value
+    (subst (λ (lanes : List (Option Lane)). TellsFirstFound c.args.node_queues lanes fault) c.deref-2.ensures.value
     c.in-Err-find_none.ensures.cause))
 
 pub returns-clause-ok : goal.returns-clause-ok

@@ -4,7 +4,7 @@ use Rattle.qq_node.proofs.opening.find_none.Goals as goal
 
 pub returns-in-Some-clause-cause : goal.returns-in-Some-clause-cause
 returns-in-Some-clause-cause c =
-    first-found c.args.desks.now c.args.lanes.now c.lanes.at _ c.in-Some.lane c.at.result.now _ c.found_of.result
+    first-found c.args.node_queues.now c.args.lanes.now c.lanes.at _ c.in-Some.lane c.at.result.now _ c.found_of.result
     c.lanes-test.true c.lanes.invariant (sym c.index-lanes-at.is ∙ c.in-Some.is) c.at.ensures c.found_of.ensures
 
 pub lanes-preserved : goal.lanes-preserved

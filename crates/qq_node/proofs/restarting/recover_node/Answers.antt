@@ -17,8 +17,8 @@ pub go_on-requires : goal.go_on-requires
 go_on-requires g c =
     let st = c.requires.serve.3 in
     lanes-many g.D.NodeDisk.tells g.D.NodeDisk.past g.D.NodeDisk.faults c.requires.serve.0 c.requires.serve.1
-    c.deref.result.now c.args.node.desks c.in-Ok.ensures.ok.lanes c.in-Ok.found.lanes.items
-    (c.deref.ensures.value ∙ st.queues) st.desks c.in-Ok.ensures.ok.each
+    c.deref.result.now c.args.node.node_queues c.in-Ok.ensures.ok.lanes c.in-Ok.found.lanes.items
+    (c.deref.ensures.value ∙ st.queues) st.node_queues c.in-Ok.ensures.ok.each
 
 pub returns-in-Ok-clause-ok : goal.returns-in-Ok-clause-ok
 returns-in-Ok-clause-ok g c =
@@ -35,8 +35,8 @@ returns-in-Ok-clause-ok g c =
 pub returns-in-Ok-clause-cause : goal.returns-in-Ok-clause-cause
 returns-in-Ok-clause-cause g c = λ setup n r st.
     IfErr-weaker c.go_on.result _ _ (λ e cause.
-    restart-caused g.D.NodeDisk.tells g.D.NodeDisk.past g.D.NodeDisk.faults setup n c.args.node.desks
-    c.in-Ok.found.lanes.items e.0 (c.requires.down setup n st) st.desks cause) c.go_on.ensures.cause
+    restart-caused g.D.NodeDisk.tells g.D.NodeDisk.past g.D.NodeDisk.faults setup n c.args.node.node_queues
+    c.in-Ok.found.lanes.items e.0 (c.requires.down setup n st) st.node_queues cause) c.go_on.ensures.cause
 
 pub returns-in-Err-Disk-default-clause-ok : goal.returns-in-Err-Disk-default-clause-ok
 returns-in-Err-Disk-default-clause-ok g c =
@@ -63,7 +63,7 @@ returns-in-Ok-clause-never g c = λ setup n r st linked down.
 pub returns-in-Ok-clause-refused : goal.returns-in-Ok-clause-refused
 returns-in-Ok-clause-refused g c = λ tell.
     IfErr-weaker c.go_on.result _ _ (λ e cause.
-    takes-refused (lanes_in g.D.NodeDisk.past c.args.node) c.args.node.desks c.in-Ok.found.lanes.items e.0 cause)
+    takes-refused (lanes_in g.D.NodeDisk.past c.args.node) c.args.node.node_queues c.in-Ok.found.lanes.items e.0 cause)
     c.go_on.ensures.cause
 
 pub returns-in-Ok-clause-lost : goal.returns-in-Ok-clause-lost

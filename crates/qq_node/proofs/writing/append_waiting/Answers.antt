@@ -1,11 +1,11 @@
-use Rattle.qq_node.specs.Desks.{all_waiting}
+use Rattle.qq_node.specs.NodeQueues.{all_waiting}
 use Rattle.qq_node.proofs.EachGathers.{appended}
 use Rattle.qq_node.proofs.EachGathers.{append-breaks, gather-breaks}
 use Rattle.qq_node.proofs.writing.append_waiting.Goals as goal
 
 pub returns-in-Ok-clause-ok : goal.returns-in-Ok-clause-ok
 returns-in-Ok-clause-ok g c =
-    appended g.D.NodeDisk.tells g.D.NodeDisk.past g.D.NodeDisk.faults (all_waiting c.args.desks.now) c.in-Ok.more
+    appended g.D.NodeDisk.tells g.D.NodeDisk.past g.D.NodeDisk.faults (all_waiting c.args.node_queues.now) c.in-Ok.more
     c.args.wal.now c.gather_each.new.wal c.write_log.new.wal c.requires.waiting c.in_default.ensures.ok
     c.in_default.ensures.ahead c.gather_each.ensures.same
     (record {
@@ -22,12 +22,12 @@ returns-in-Ok-clause-ok g c =
 
 pub returns-in-Err-clause-err : goal.returns-in-Err-clause-err
 returns-in-Err-clause-err g c =
-    gather-breaks g.D.NodeDisk.tells g.D.NodeDisk.past g.D.NodeDisk.faults (all_waiting c.args.desks.now) c.args.wal.now
+    gather-breaks g.D.NodeDisk.tells g.D.NodeDisk.past g.D.NodeDisk.faults (all_waiting c.args.node_queues.now) c.args.wal.now
     c.gather_each.new.wal c.gather_each.ensures.same
 
 pub returns-in-Err-write_log-clause-err : goal.returns-in-Err-write_log-clause-err
 returns-in-Err-write_log-clause-err g c =
-    append-breaks g.D.NodeDisk.tells g.D.NodeDisk.past g.D.NodeDisk.faults (all_waiting c.args.desks.now) c.args.wal.now
+    append-breaks g.D.NodeDisk.tells g.D.NodeDisk.past g.D.NodeDisk.faults (all_waiting c.args.node_queues.now) c.args.wal.now
     c.gather_each.new.wal c.write_log.new.wal c.requires.waiting c.in_default.ensures.ok c.gather_each.ensures.same
     (record {
       told = c.write_log.ensures.told;

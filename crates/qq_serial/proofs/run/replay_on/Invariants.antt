@@ -1,5 +1,6 @@
 use Rattle.std.proofs.Common.{◌≡◌, ◌++◌, drop}
-use Rattle.qq_serial.specs.Replay.{replay, stays_within}
+use Rattle.qq_model.specs.Audit.{stays_within}
+use Rattle.qq_serial.specs.Replay.{replay}
 use Rattle.qq_serial.proofs.run.replay_on.Given as goal
 
 -- what was given so far goes before what the rest gives, and the rest alone decides whether a number

@@ -1,6 +1,6 @@
 use Rattle.std.proofs.Common.{refl, sym, ◌∙◌}
 use Rattle.qq_world.specs.Rules.{WhereUp}
-use Rattle.qq_node.specs.Desks.{asked}
+use Rattle.qq_node.specs.NodeQueues.{asked}
 use Rattle.qq_node.specs.Node.{IsAt}
 use Rattle.qq_node.proofs.Lines.{found-below, served-other, served-queue, where-down, where-up}
 use Rattle.qq_node.proofs.Stands.{gave_up-same}

@@ -1,6 +1,6 @@
 use Rattle.std.proofs.Common.{◌∙◌, ap}
 use Rattle.qq_world.specs.World.{World}
-use Rattle.qq_node.proofs.Lines.{found-desk, found-in, none-there}
+use Rattle.qq_node.proofs.Lines.{found-node_queue, found-in, none-there}
 use Rattle.qq_node.proofs.node.Node.rows.Goals as goal
 
 pub at-requires : goal.at-requires
@@ -12,7 +12,7 @@ pub returns-in-Some : goal.returns-in-Some
 returns-in-Some g c = λ setup n place st there same.
     c.rows.ensures
     ∙ ap (λ (w : World). w.server.audit)
-    (found-desk g.D.NodeDisk.tells g.D.NodeDisk.past g.D.NodeDisk.faults setup n place c.args.queue c.in-Some.at
+    (found-node_queue g.D.NodeDisk.tells g.D.NodeDisk.past g.D.NodeDisk.faults setup n place c.args.queue c.in-Some.at
     c.args.self.now c.at.result.now st c.in-Some.ensures.some c.at.ensures there same).world_is
 
 pub returns-in-None : goal.returns-in-None

@@ -11,7 +11,7 @@ sync_in-requires g c =
 pub returns-clause-ok : goal.returns-clause-ok
 returns-clause-ok g c =
     served-sync g.D.NodeDisk.tells g.D.NodeDisk.past g.D.NodeDisk.faults c.in-Ok.outcome c.some_waits_synced-waits.result
-    c.args.self.now (record c.args.self.now { desks = c.settle.new.self; log = c.sync_in.new.log })
+    c.args.self.now (record c.args.self.now { node_queues = c.settle.new.self; log = c.sync_in.new.log })
     c.args.text.now.items c.settle.new.out.items c.requires.up c.requires.some c.some_waits_synced-waits.ensures refl
     refl c.in-Ok.ensures.ok c.in_default.ensures.ok
 
@@ -23,6 +23,6 @@ returns-in-Err-clause-err g c =
 pub returns-in-Err-settle-clause-err : goal.returns-in-Err-settle-clause-err
 returns-in-Err-settle-clause-err g c =
     gave_up-sync g.D.NodeDisk.tells g.D.NodeDisk.past g.D.NodeDisk.faults c.args.self.now
-    (record c.args.self.now { desks = c.settle.new.self; log = c.sync_in.new.log }) c.requires.up c.requires.some
+    (record c.args.self.now { node_queues = c.settle.new.self; log = c.sync_in.new.log }) c.requires.up c.requires.some
     (syncs-break g.D.NodeDisk.tells g.D.NodeDisk.past g.D.NodeDisk.faults c.in-Ok.outcome c.args.self.now.log c.sync_in.new.log
     c.in-Ok.ensures.ok)

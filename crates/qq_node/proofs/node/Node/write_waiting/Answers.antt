@@ -1,5 +1,5 @@
 use Rattle.std.proofs.Common.{Bool, refl, subst}
-use Rattle.qq_node.specs.Desks.{all_waiting}
+use Rattle.qq_node.specs.NodeQueues.{all_waiting}
 use Rattle.qq_node.specs.Writing.{AppendsIn}
 use Rattle.qq_node.proofs.Logs.{may-append, served-failed, served-write}
 use Rattle.qq_node.proofs.Logs.{appends-break, gave_up-write}
@@ -13,19 +13,19 @@ append_in-requires g c =
 pub returns-then-wrote-clause-ok : goal.returns-then-wrote-clause-ok
 returns-then-wrote-clause-ok g c =
     served-write g.D.NodeDisk.tells g.D.NodeDisk.past g.D.NodeDisk.faults c.args.self.now
-    (record c.args.self.now { desks = c.step.new.self; log = c.append_in.new.log }) c.args.text.now.items c.requires.up
+    (record c.args.self.now { node_queues = c.step.new.self; log = c.append_in.new.log }) c.args.text.now.items c.requires.up
     c.requires.waits refl refl
     (subst (λ (b : Bool). AppendsIn g.D.NodeDisk.tells g.D.NodeDisk.past g.D.NodeDisk.faults
-    (all_waiting c.args.self.now.desks) b c.args.self.now.log c.append_in.new.log) c.if-wrote.true c.in-Ok.ensures.ok)
+    (all_waiting c.args.self.now.node_queues) b c.args.self.now.log c.append_in.new.log) c.if-wrote.true c.in-Ok.ensures.ok)
     c.step.ensures
 
 pub returns-clause-ok : goal.returns-clause-ok
 returns-clause-ok g c =
     served-failed g.D.NodeDisk.tells g.D.NodeDisk.past g.D.NodeDisk.faults c.args.self.now
-    (record c.args.self.now { desks = c.stop.new.self; log = c.append_in.new.log }) c.args.text.now.items
+    (record c.args.self.now { node_queues = c.stop.new.self; log = c.append_in.new.log }) c.args.text.now.items
     c.stop.new.out.items c.requires.up c.requires.waits refl refl
     (subst (λ (b : Bool). AppendsIn g.D.NodeDisk.tells g.D.NodeDisk.past g.D.NodeDisk.faults
-    (all_waiting c.args.self.now.desks) b c.args.self.now.log c.append_in.new.log) c.if-wrote.false c.in-Ok.ensures.ok)
+    (all_waiting c.args.self.now.node_queues) b c.args.self.now.log c.append_in.new.log) c.if-wrote.false c.in-Ok.ensures.ok)
     c.in_default.ensures.ok c.in_default.ensures.said
 
 pub returns-in-Err-clause-err : goal.returns-in-Err-clause-err
@@ -36,6 +36,6 @@ returns-in-Err-clause-err g c =
 pub returns-in-Err-stop-clause-err : goal.returns-in-Err-stop-clause-err
 returns-in-Err-stop-clause-err g c =
     gave_up-write g.D.NodeDisk.tells g.D.NodeDisk.past g.D.NodeDisk.faults c.args.self.now
-    (record c.args.self.now { desks = c.stop.new.self; log = c.append_in.new.log }) c.requires.up c.requires.waits
-    (appends-break g.D.NodeDisk.tells g.D.NodeDisk.past g.D.NodeDisk.faults (all_waiting c.args.self.now.desks) c.in-Ok.wrote
+    (record c.args.self.now { node_queues = c.stop.new.self; log = c.append_in.new.log }) c.requires.up c.requires.waits
+    (appends-break g.D.NodeDisk.tells g.D.NodeDisk.past g.D.NodeDisk.faults (all_waiting c.args.self.now.node_queues) c.in-Ok.wrote
     c.args.self.now.log c.append_in.new.log c.in-Ok.ensures.ok)

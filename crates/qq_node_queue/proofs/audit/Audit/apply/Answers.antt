@@ -4,9 +4,8 @@ use Rattle.qq_base.specs.declared.memory.TheConstants.{NUMBER_END}
 use Rattle.qq_entry.specs.declared.audit.Effect.{Effect}
 use Rattle.qq_entry.specs.declared.command.Entry.{Entry}
 use Rattle.qq_log.specs.declared.op.Op.{Op}
-use Rattle.qq_model.specs.Audit.{state_after}
+use Rattle.qq_model.specs.Audit.{state_after, stays_within}
 use Rattle.qq_model.specs.State.{State}
-use Rattle.qq_serial.specs.Replay.{stays_within}
 use Rattle.qq_world.specs.Server.{entries_in, log_of}
 use Rattle.qq_node_queue.specs.declared.audit.Audit.{Audit}
 use Rattle.qq_world.specs.World.{effects_behind}
