@@ -269,12 +269,12 @@ follow-sole id mode command a sole =
 
 -- Over an entry --------------------------------------------------------------------------------------------
 
-ends-cancel : (command : Command) (id : ConsumerId) → ends_consumer command id ≡ false → Cancels command id → ⊥
+pub ends-cancel : (command : Command) (id : ConsumerId) → ends_consumer command id ≡ false → Cancels command id → ⊥
 ends-cancel command id goes is =
     false≢true (sym goes ∙ ap (λ (c : Command). ends_consumer c id) is.2
     ∙ ap (same_consumer id) (sym is.3) ∙ same_consumer-refl id)
 
-ends-down : (command : Command) (id : ConsumerId) → ends_consumer command id ≡ false → command ≡ Down id.session → ⊥
+pub ends-down : (command : Command) (id : ConsumerId) → ends_consumer command id ≡ false → command ≡ Down id.session → ⊥
 ends-down command id goes is =
     false≢true (sym goes ∙ ap (λ (c : Command). ends_consumer c id) is ∙ same_session-refl id.session)
 

@@ -26,6 +26,7 @@ pub mod FreshNumbers
 pub mod FreshRuns
 pub mod GivenCredit
 pub mod GivingWay
+pub mod GoingLemmas
 pub mod IdRuns
 pub mod Joining
 pub mod KeptLemmas
@@ -34,8 +35,11 @@ pub mod LimitLemmas
 pub mod LinkCreditLemmas
 pub mod MessageChanges
 pub mod Numbers
+pub mod NumeralLemmas
 pub mod OfferLemmas
 pub mod OnceLemmas
+pub mod OrderLaws
+pub mod OrderLemmas
 pub mod OutByDelivery
 pub mod PlaceLemmas
 pub mod PlainAnswers

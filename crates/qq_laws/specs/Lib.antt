@@ -14,7 +14,9 @@ pub mod Joining
 pub mod Kept
 pub mod LinkCredit
 pub mod Numbers
+pub mod Numerals
 pub mod Once
+pub mod Order
 pub mod Places
 pub mod Published
 pub mod Refusals

@@ -18,6 +18,7 @@ ghost use Rattle.qq_laws.specs.Turns.{ServesInTurn};
 ghost use Rattle.qq_laws.specs.Active.{ServesActiveAlone, ServesOne};
 ghost use Rattle.qq_laws.specs.Waiting.{ActiveDoesNotWait};
 ghost use Rattle.qq_laws.specs.Delivering.{DeliversInTurn};
+ghost use Rattle.qq_laws.specs.Order.{ActiveStays, FirstIsActive, GoOnInOrder, JoinLast};
 ghost use Rattle.qq_laws.specs.Joining.{CancelsConsumer, Joins, OnlyJoin, RefusesAtLimits, StaysThere};
 
 /// Under a single active consumer all that a command delivers goes to one: the longest joined consumer
@@ -106,4 +107,19 @@ pub fn subscribes_are_refused_at_limits()
 /// be served, or to the single active one, which then waits behind all others (RabbitMQ, "Consumers").
 pub fn deliveries_are_made_in_turn()
     ensures { (p next : Progress) → DeliversInTurn p next }
+{}
+
+/// Over an entry consumers keep the order in which they joined, and one that joins stands last. So do those
+/// that aren't cancelled, and none of them comes back.
+pub fn consumers_keep_their_order()
+    ensures all { (s : State) (entry : Entry) → JoinLast s entry }
+    ensures going { (s : State) (entry : Entry) → GoOnInOrder s entry }
+{}
+
+/// The active consumer is the one that joined first of those that aren't cancelled. It stays the active one
+/// until an entry cancels it or ends its session; then it is the one that joined next of those that stay
+/// (RabbitMQ, "Single Active Consumer").
+pub fn the_active_consumer_stays_until_it_ends()
+    ensures first { (consumers : List Consumer) → FirstIsActive consumers }
+    ensures stays { (s : State) (entry : Entry) → ActiveStays s entry }
 {}

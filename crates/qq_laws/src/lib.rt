@@ -10,16 +10,18 @@ mod deliveries;
 mod ends;
 mod messages;
 mod number_ends;
+mod numerals;
 mod refusals;
 mod sessions;
 
 pub use closing::{earlier_workers_give_way, sessions_are_few, sessions_end_for_good};
 pub use consumers::{
     consumers_are_cancelled, consumers_are_served_in_turn, consumers_come_by_subscribes,
-    consumers_join, consumers_stay, deliveries_are_made_in_turn, deliveries_are_out,
-    deliveries_go_to_who_waits, delivery_ids_count_by_one, nobody_waits_in_vain,
-    one_consumer_is_served_at_a_time, prefetch_is_kept, subscribes_are_refused_at_limits,
-    the_active_consumer_is_served_alone, the_active_consumer_never_waits_in_vain,
+    consumers_join, consumers_keep_their_order, consumers_stay, deliveries_are_made_in_turn,
+    deliveries_are_out, deliveries_go_to_who_waits, delivery_ids_count_by_one,
+    nobody_waits_in_vain, one_consumer_is_served_at_a_time, prefetch_is_kept,
+    subscribes_are_refused_at_limits, the_active_consumer_is_served_alone,
+    the_active_consumer_never_waits_in_vain, the_active_consumer_stays_until_it_ends,
 };
 pub use credit::{credit_is_given, link_credit_is_kept};
 pub use dead_letters::{
@@ -41,6 +43,13 @@ pub use messages::{
     purges_take_the_ready, the_first_message_is_next,
 };
 pub use number_ends::{HALFWAY, numbers_follow_their_counters, queues_are_reached_by_entries};
+pub use numerals::{
+    a_delivery_limit_of_two_allows_two_returns, a_limit_of_two_is_met_by_the_third_message,
+    a_prefetch_of_zero_is_two_thousand, a_queue_without_limits_drops_nothing,
+    an_unknown_end_counts_as_seen, deliveries_end_in_the_order_of_ids,
+    numbers_pass_the_gate_in_order, returned_messages_come_first,
+    what_is_turned_away_moves_the_mark_alone,
+};
 pub use refusals::{
     answers_are_plain, consumers_keep_their_places, drains_are_answered, refusals_are_exact,
 };
