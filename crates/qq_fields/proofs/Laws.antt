@@ -10,7 +10,8 @@ use Rattle.std.proofs.lemmas.List.Elements.{recursion_from_All, All-from_recursi
 use Rattle.qq_base.specs.Fields as base
 use Rattle.qq_base.specs.Fields.{AreBytes, ReadsBack}
 use Rattle.qq_base.proofs.Numbers.{back8, back16, back32, back64}
-use Rattle.qq_fields.specs.Reading.{◌>>=◌, Field, number_of, number_at, bytes_at, checked, flag_at, many, list_at}
+use Rattle.qq_base.specs.declared.memory.Memory.{Memory}
+use Rattle.qq_fields.specs.Reading.{◌>>=◌, Gives, Field, number_of, number_at, bytes_at, checked, flag_at, many, list_at}
 use Rattle.qq_fields.specs.Writing.{u8, u32, flag, list}
 
 -- what a reader took: a prefix, and the rest
@@ -220,3 +221,30 @@ list-reads {E} {A} {read} {write} {F} short r = record {
       in_turn _ (number_at short w32 bytes) _ ((u32-reads short).again (length xs) bytes _ split f.1)
       (many-again r xs _ rest refl (recursion_from_All F xs f.0));
 }
+
+-- ---- whole encodings
+
+-- what holds of what is read, holds of what a call answered
+pub found : {E A : Type 0} {P : A → Type 0} (memory : E → Option Memory) (answered read : Result A E) → Holds read P
+    → Gives memory (λ x. x) answered read → IfOk answered P
+found memory (Ok x) read h given = known read x h given
+found memory (Err e) read h given = tt
+
+abbrev read_as : {E A : Type 0} → A → Result A E
+read_as x = Ok x
+
+same_value : {E A : Type 0} (x y : A) → read_as {E = E} x ≡ read_as y → x ≡ y
+same_value x y e = cc
+
+-- where an encoding is read again whatever follows it, none begins another
+pub none_begins : {E A : Type 0} (read : List ℕ → Result (A × ℕ) E) (write : A → List ℕ) (a b : A) (x y : List ℕ)
+    → read (write a ++ x) ≡ Ok (a, length (write a)) → read (write b ++ y) ≡ Ok (b, length (write b))
+    → write a ++ x ≡ write b ++ y → (a ≡ b) × (x ≡ y)
+none_begins {E} {A} read write a b x y first second e =
+    let same : a ≡ b = ap (λ (p : A × ℕ). p.0)
+    (same_value {E = E} (a, length (write a)) (b, length (write b)) (sym first ∙ (ap read e ∙ second))) in
+    let from : write a ++ x ≡ write a ++ y = e ∙ ap (λ (c : A). write c ++ y) (sym same) in (
+      same,
+      sym (drop_at (write a) x (length (write a)) refl) ∙ ap (drop (length (write a))) from
+          ∙ drop_at (write a) y (length (write a)) refl,
+    )
