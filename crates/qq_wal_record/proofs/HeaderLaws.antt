@@ -5,8 +5,7 @@ use Rattle.std.specs.Cmp.Lexicographic.{bytes_decides}
 use Rattle.std.proofs.lemmas.Bool.{ltb-false, le-ltb, eqb-true}
 use Rattle.std.proofs.lemmas.List.{take-append-drop, take_at, length-append, length-drop}
 use Rattle.std.proofs.lemmas.Nat.{from_be_bytes-to_be_bytes_8}
-use Rattle.qq_base.specs.Fields.{AreBytes, ReadsBack}
-use Rattle.qq_base.specs.Fields.{number_at as number_in}
+use Rattle.qq_base.specs.Fields.{AreBytes, ReadsBack, number_at as number_in}
 use Rattle.qq_base.proofs.Numbers.{back8, back64}
 use Rattle.qq_fields.specs.Writing.{u8, u64}
 use Rattle.qq_wal_record.specs.declared.header.Header.{Header}

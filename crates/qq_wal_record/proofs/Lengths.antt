@@ -6,7 +6,7 @@ use Rattle.std.proofs.lemmas.List.Concat.{flat_map-cons}
 use Rattle.sha2.specs.Sha256.{sha256, digest_bytes, final_hash, initial_hash_256}
 use Rattle.qq_entry.specs.declared.command.Entry.{Entry}
 use Rattle.qq_fields.specs.Writing.{u32, u64, list}
-use Rattle.qq_command.specs.Encoding.{encoding}
+use Rattle.qq_command.specs.Encoding.{encoding, entries}
 use Rattle.qq_log.specs.declared.head.SnapshotHead.{SnapshotHead}
 use Rattle.qq_log.specs.declared.head.Span.{Span}
 use Rattle.qq_log.specs.declared.lane.Carry.{Carry as QueueCarry}
@@ -16,7 +16,6 @@ use Rattle.qq_log.specs.Writable.{payload_length as op_length, carry_length}
 use Rattle.qq_wal_record.specs.declared.record.LogRecord.{LogRecord}
 use Rattle.qq_wal_record.specs.declared.record.LogRecord.TheVariants.{Op, Carry}
 use Rattle.qq_wal_record.specs.declared.header.Header.{Header}
-use Rattle.qq_command.specs.Encoding.{entries}
 use Rattle.qq_wal_record.specs.Encoding.{head, segment, segments, change_payload, op_payload, carry_payload, payload, inside, body, record_mark, record_encoding, header_body, header_encoding}
 use Rattle.qq_wal_record.specs.Mark.{mark}
 use Rattle.qq_wal_record.specs.Record.{payload_length, IsWritable}
