@@ -11,10 +11,13 @@ use Rattle.qq_entry.specs.declared.limits.TheConstants.{MACHINE_VERSION, TERM_LI
 use Rattle.qq_entry.specs.declared.command.Command.{Command}
 use Rattle.qq_entry.specs.declared.command.Command.TheVariants.{Noop, Enqueue, Get, Subscribe, Cancel, Credit, Settle, Return, Discard, Purge, Down, DeadAttach, DeadSettle}
 use Rattle.qq_entry.specs.Range.{IsSession, AreIds, IsOfConsumer, IsCommand, HasContent}
-use Rattle.qq_command.specs.Encoding.{kind, u8, u32, u64, flag, session, stamp, origin, content, mode, ids, dead_dones, consumer, fields}
+use Rattle.qq_command.specs.declared.refusal.Refusal.TheVariants.{BadField}
+use Rattle.qq_fields.specs.Writing.{u8, u32, u64, flag}
+use Rattle.qq_command.specs.Encoding.{kind, session, stamp, origin, content, mode, ids, dead_dones, consumer, fields}
 use Rattle.qq_command.specs.Reading.{Field, number_at, checked, flag_at, session_at, is_counted, stamp_at, counted_at, origin_at, message_at, mode_at, ids_at, dead_dones_at, consumer_at, verdict_at, noop_at, enqueue_at, get_at, subscribe_at, cancel_at, credit_at, settle_at, return_at, discard_at, purge_at, down_at, dead_attach_at, dead_settle_at, fields_at}
-use Rattle.qq_command.proofs.Laws.{Takes, Takes-then, Holds, Reads, here, then_ok, in_turn, Reads-fits, checked-reads, u8-reads, u32-reads, u64-reads}
-use Rattle.qq_command.proofs.FieldLaws.{session-reads, stamp-reads, counted-reads, flag-reads, origin-reads, message-reads, mode-reads, ids-reads, dead_dones-reads, consumer-reads}
+use Rattle.qq_fields.proofs.Laws.{Takes, Takes-then, Holds, Reads, here, then_ok, in_turn, Reads-fits, checked-reads}
+use Rattle.qq_command.proofs.Numbers.{flag-reads, u8-reads, u32-reads, u64-reads}
+use Rattle.qq_command.proofs.FieldLaws.{session-reads, stamp-reads, counted-reads, origin-reads, message-reads, mode-reads, ids-reads, dead_dones-reads, consumer-reads}
 
 -- a command of this kind whose fields are a prefix
 abbrev pub Brings : ℕ → List ℕ → Command × List ℕ → Type 0
@@ -25,18 +28,18 @@ Brings k bytes x = Takes bytes (fields x.0) x.1 × IsCommand x.0 × HasContent x
 version-reads :
     Reads (λ bytes. checked (λ n. n == MACHINE_VERSION) (number_at w8 bytes)) u8 (λ n. n ≡ MACHINE_VERSION)
 version-reads =
-    Reads-fits (checked-reads (λ n. n == MACHINE_VERSION) u8-reads) (λ n p. eqb-true n MACHINE_VERSION p.1)
+    Reads-fits (checked-reads BadField (λ n. n == MACHINE_VERSION) u8-reads) (λ n p. eqb-true n MACHINE_VERSION p.1)
     (λ n p. (omega arith, grind (arith, nat_tests)))
 
 term-reads : Reads (λ bytes. checked (λ n. nat_le n TERM_LIMIT) (number_at w64 bytes)) u64 (λ n. n ≤ TERM_LIMIT)
 term-reads =
-    Reads-fits (checked-reads (λ n. nat_le n TERM_LIMIT) u64-reads) (λ n p. grind (arith, nat_tests))
+    Reads-fits (checked-reads BadField (λ n. nat_le n TERM_LIMIT) u64-reads) (λ n p. grind (arith, nat_tests))
     (λ n p. (omega arith, grind (arith, nat_tests)))
 
 down_session-reads :
     Reads (λ bytes. checked is_counted (session_at bytes)) session (λ s. IsSession s × (s.class < DEAD_LETTER))
 down_session-reads =
-    Reads-fits (checked-reads is_counted session-reads) (λ s p. (p.0, ltb-true _ _ p.1))
+    Reads-fits (checked-reads BadField is_counted session-reads) (λ s p. (p.0, ltb-true _ _ p.1))
     (λ s p. (p.0, lt-ltb _ _ p.1))
 
 verdict-reads : Reads verdict_at (λ x. consumer x.0 x.1 ++ ids x.2) (λ x. IsOfConsumer x.0 x.1 × AreIds x.2)

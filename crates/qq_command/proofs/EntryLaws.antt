@@ -3,7 +3,7 @@ use Rattle.std.proofs.Common.{◌≡◌, ℕ, ◌+◌, ◌^◌, ◌<◌, ◌≤�
 use Rattle.std.specs.Prelude.{IfOk}
 use Rattle.std.specs.Int.{w8, w32, w64}
 use Rattle.std.proofs.lemmas.Bool.{ltb-false, le-ltb, eqb-true}
-use Rattle.std.proofs.lemmas.List.{append-nil, nil_from_length, take-append-drop, length-append, take_at, drop_at, length-take}
+use Rattle.std.proofs.lemmas.List.{append-nil, nil_from_length, take-append-drop, length-append, take_at, length-take}
 use Rattle.qq_base.specs.Fields.{AreBytes}
 use Rattle.qq_base.proofs.Numbers.{AreBytes-take}
 use Rattle.qq_entry.specs.declared.limits.TheConstants.{LENGTH_LIMIT}
@@ -14,9 +14,11 @@ use Rattle.qq_entry.specs.declared.command.Command.{Command}
 use Rattle.qq_entry.specs.declared.command.Command.TheVariants.{Noop, Enqueue, Get, Subscribe, Cancel, Credit, Settle, Return, Discard, Purge, Down, DeadAttach, DeadSettle}
 use Rattle.qq_entry.specs.declared.command.Entry.{Entry}
 use Rattle.qq_entry.specs.Range.{IsCommand, HasContent, IsWritable}
-use Rattle.qq_command.specs.Encoding.{kind, u8, u32, u64, fields, payload, encoding}
-use Rattle.qq_command.specs.Reading.{number_at, fields_at, payload_at, entry_at, IsEntryPrefix, Gives}
-use Rattle.qq_command.proofs.Laws.{Takes, Takes-then, Holds, here, known, then_ok, where_true, where_false, in_turn, u8-reads, u32-reads, u64-reads}
+use Rattle.qq_fields.specs.Writing.{u8, u32, u64}
+use Rattle.qq_command.specs.Encoding.{kind, fields, payload, encoding}
+use Rattle.qq_command.specs.Reading.{memory_of, number_at, fields_at, payload_at, entry_at, IsEntryPrefix, Gives}
+use Rattle.qq_fields.proofs.Laws.{Takes, Takes-then, Holds, here, found, none_begins, then_ok, where_true, where_false, in_turn}
+use Rattle.qq_command.proofs.Numbers.{u8-reads, u32-reads, u64-reads}
 use Rattle.qq_command.proofs.CommandLaws.{fields_take, fields_again}
 use Rattle.qq_command.proofs.ShortEncodings.{payload_len}
 
@@ -121,16 +123,9 @@ entry_again e bytes rest is f =
     (in_turn _ (payload_at (payload e)) _ (payload_again e f)
     (ap (λ (k : ℕ). Ok (e, k)) (omega arith))))))
 
-abbrev read_as : Entry × ℕ → Result (Entry × ℕ) Refusal
-read_as x = Ok x
-
-same_value : (x y : Entry × ℕ) → read_as x ≡ read_as y → x ≡ y
-same_value x y e = cc
-
 pub is_entry_prefix : (bytes : List ℕ) (r : Result (Entry × ℕ) Refusal) → AreBytes bytes
     → Gives (λ x. x) r (entry_at bytes) → IfOk r (λ x. IsEntryPrefix bytes x)
-is_entry_prefix bytes (Ok x) fits given = known (entry_at bytes) x (entry_takes bytes fits) given
-is_entry_prefix bytes (Err e) fits given = tt
+is_entry_prefix bytes r fits given = found memory_of r (entry_at bytes) (entry_takes bytes fits) given
 
 pub is_within : (bytes : List ℕ) (r : Result (Entry × ℕ) Refusal) → IfOk r (λ x. IsEntryPrefix bytes x)
     → IfOk r (λ x. x.1 ≤ length bytes)
@@ -140,12 +135,4 @@ is_within bytes (Err e) found = tt
 pub same_entry : (a b : Entry) (x y : List ℕ) → IsWritable a → IsWritable b → encoding a ++ x ≡ encoding b ++ y
     → (a ≡ b) × (x ≡ y)
 same_entry a b x y f g e =
-    let first : entry_at (encoding a ++ x) ≡ Ok (a, length (encoding a)) = entry_again a (encoding a ++ x) x refl f in
-    let second : entry_at (encoding a ++ x) ≡ Ok (b, length (encoding b)) = entry_again b (encoding a ++ x) y e g in
-    let same : a ≡ b = ap (λ (p : Entry × ℕ). p.0)
-    (same_value (a, length (encoding a)) (b, length (encoding b)) (sym first ∙ second)) in
-    let from : encoding a ++ x ≡ encoding a ++ y = e ∙ ap (λ (c : Entry). encoding c ++ y) (sym same) in (
-      same,
-      sym (drop_at (encoding a) x (length (encoding a)) refl) ∙ ap (drop (length (encoding a))) from
-          ∙ drop_at (encoding a) y (length (encoding a)) refl,
-    )
+    none_begins entry_at encoding a b x y (entry_again a _ x refl f) (entry_again b _ y refl g) e

@@ -1,6 +1,6 @@
 -- Each field and its encoding.
 use Rattle.std.proofs.Common.{◌≡◌, ℕ, zero, suc, ◌^◌, ◌<◌, ◌≤◌, Bool, true, false, cond, ltb, leb, eqb, List, ◌++◌, length, Option, Some, None, Ok, Err, refl, sym, ap, subst, ◌∙◌, append_assoc, arith, All, lit<}
-use Rattle.std.specs.Prelude.{IfSome, nat_lt, ◌&&◌, ◌==◌}
+use Rattle.std.specs.Prelude.{IfSome, ◌&&◌}
 use Rattle.std.specs.List.{flat_map}
 use Rattle.std.specs.Str.{IsUtf8, is_utf8}
 use Rattle.std.specs.Int.{w8, w16, w32, w64}
@@ -20,9 +20,13 @@ use Rattle.qq_entry.specs.declared.command.Stamp.{Stamp}
 use Rattle.qq_entry.specs.declared.command.Mode.{Mode}
 use Rattle.qq_entry.specs.declared.command.Mode.TheVariants.{Prefetch, Link}
 use Rattle.qq_entry.specs.Range.{IsPositive, IsSession, IsStamp, IsCounted, IsQueue, IsDeath, IsContent, IsOrigin, IsMode, AreIds, IsDeadDone, AreDeadDones, IsOfConsumer, IsWhole}
-use Rattle.qq_command.specs.Encoding.{u8, u16, u32, u64, flag, reason_number, session, stamp, queue, origin, body, key, death, deaths, content, mode, ids, dead_done, dead_dones, consumer}
-use Rattle.qq_command.specs.Reading.{◌>>=◌, number_at, bytes_at, checked, positive_at, many, flag_at, has_owner, session_at, has_seq, is_counted, stamp_at, counted_at, queue_at, origin_at, body_at, key_at, reason_of, required, death_at, deaths_at, message_at, mode_at, ids_at, dead_done_at, dead_dones_at, consumer_at}
-use Rattle.qq_command.proofs.Laws.{Takes, Takes-then, Holds, Holds-map, Reads, here, then_ok, where_true, where_false, in_turn, Reads-fits, checked-reads, u8-reads, u16-reads, u32-reads, u64-reads, bytes-takes, bytes-again, many-takes, many-again, positive32-reads, positive64-reads}
+use Rattle.qq_fields.specs.Writing.{u8, u16, u32, u64, flag}
+use Rattle.qq_command.specs.Encoding.{reason_number, session, stamp, queue, origin, body, key, death, deaths, content, mode, ids, dead_done, dead_dones, consumer}
+use Rattle.qq_fields.specs.Reading as fields
+use Rattle.qq_fields.specs.Reading.{◌>>=◌, many, required}
+use Rattle.qq_command.specs.Reading.{number_at, bytes_at, checked, positive_at, flag_at, has_owner, session_at, has_seq, is_counted, stamp_at, counted_at, queue_at, origin_at, body_at, key_at, reason_of, death_at, deaths_at, message_at, mode_at, ids_at, dead_done_at, dead_dones_at, consumer_at}
+use Rattle.qq_fields.proofs.Laws.{Takes, Takes-then, Holds, Holds-map, Reads, here, then_ok, where_true, where_false, in_turn, Reads-fits, checked-reads, bytes-takes, bytes-again, many-takes, many-again}
+use Rattle.qq_command.proofs.Numbers.{flag-reads, u8-reads, u16-reads, u32-reads, u64-reads, positive32-reads, positive64-reads}
 
 -- ---- sessions
 
@@ -61,7 +65,7 @@ owns s p = grind (arith, nat_tests)
 pub session-reads : Reads session_at session IsSession
 unfolding session_at
 session-reads =
-    Reads-fits (checked-reads has_owner session_parts) is_session
+    Reads-fits (checked-reads BadField has_owner session_parts) is_session
     (λ s p. ((omega arith, p.owner, p.number), owns s p))
 
 -- ---- stamps
@@ -100,12 +104,12 @@ counts s p = let c = p.session.class in grind (arith, nat_tests)
 pub stamp-reads : Reads stamp_at stamp IsStamp
 unfolding stamp_at
 stamp-reads =
-    Reads-fits (checked-reads has_seq stamp_parts) is_stamp (λ s p. ((p.session, p.seq, p.done), counts s p))
+    Reads-fits (checked-reads BadField has_seq stamp_parts) is_stamp (λ s p. ((p.session, p.seq, p.done), counts s p))
 
 pub counted-reads : Reads counted_at stamp IsCounted
 unfolding counted_at
 counted-reads =
-    Reads-fits (checked-reads (λ s. is_counted s.session) stamp-reads) (λ s p. (p.0, ltb-true _ _ p.1))
+    Reads-fits (checked-reads BadField (λ s. is_counted s.session) stamp-reads) (λ s p. (p.0, ltb-true _ _ p.1))
     (λ s p. (p.0, lt-ltb _ _ p.1))
 
 -- ---- queues and origins
@@ -115,34 +119,6 @@ unfolding queue_at
 queue-reads = record {
   takes = λ bytes fits. then_ok (positive_at w32 bytes) _ (positive32-reads.takes bytes fits) (λ n p. here _ p);
   again = λ q bytes rest e f. in_turn _ (positive_at w32 bytes) _ (positive32-reads.again q.0 bytes rest e f) refl;
-}
-
-flag_is : (n : ℕ) → n < 2 → u8 n ≡ flag (n == 1)
-flag_is zero lt = refl
-flag_is (suc zero) lt = refl
-flag_is (suc (suc n)) lt = absurd (omega arith)
-
-abbrev flag_number : Bool → ℕ
-flag_number false = 0
-flag_number true = 1
-
-flag_again : (b : Bool) (bytes rest : List ℕ) → bytes ≡ flag b ++ rest → flag_at bytes ≡ Ok (b, rest)
-unfolding flag_at
-flag_again false bytes rest e =
-    in_turn _ (checked (λ n. nat_lt n 2) (number_at w8 bytes)) _
-    ((checked-reads (λ n. nat_lt n 2) u8-reads).again 0 bytes rest e (lit< tt, refl)) refl
-flag_again true bytes rest e =
-    in_turn _ (checked (λ n. nat_lt n 2) (number_at w8 bytes)) _
-    ((checked-reads (λ n. nat_lt n 2) u8-reads).again 1 bytes rest e (lit< tt, refl)) refl
-
-pub flag-reads : Reads flag_at flag (λ b. Unit {0})
-unfolding flag_at
-flag-reads = record {
-  takes =
-      λ bytes fits. then_ok (checked (λ n. nat_lt n 2) (number_at w8 bytes)) _
-      ((checked-reads (λ n. nat_lt n 2) u8-reads).takes bytes fits) (λ n p.
-      here _ (subst (λ (t : List ℕ). Takes bytes t n.1) (flag_is n.0 (ltb-true _ _ p.1.1)) p.0, tt));
-  again = λ b bytes rest e f. flag_again b bytes rest e;
 }
 
 origin_then : (bytes : List ℕ) (b : Bool) (rest : List ℕ) → Takes bytes (flag b) rest
@@ -160,10 +136,10 @@ origin_then bytes true rest p =
 origin_again : (o : Option Origin) (bytes rest : List ℕ) → bytes ≡ origin o ++ rest → IfSome o IsOrigin
     → origin_at bytes ≡ Ok (o, rest)
 unfolding origin_at origin
-origin_again None bytes rest e f = in_turn _ (flag_at bytes) _ (flag_again false bytes rest e) refl
+origin_again None bytes rest e f = in_turn _ (flag_at bytes) _ (flag-reads.again false bytes rest e tt) refl
 origin_again (Some o) bytes rest e f =
     let split : bytes ≡ flag true ++ (queue o.source ++ (u64 o.number ++ rest)) = e in
-    in_turn _ (flag_at bytes) _ (flag_again true bytes _ split)
+    in_turn _ (flag_at bytes) _ (flag-reads.again true bytes _ split tt)
     (in_turn _ (queue_at _) _ (queue-reads.again o.source _ _ refl f.0)
     (in_turn _ (positive_at w64 _) _ (positive64-reads.again o.number _ rest refl f.1) refl))
 
@@ -183,20 +159,20 @@ body-reads = record {
   takes = λ bytes fits.
       then_ok (number_at w32 bytes) _ (u32-reads.takes bytes fits) (λ n p.
       where_false (ltb BODY_LIMIT n.0) _ TooLarge (λ small.
-      Holds-map (bytes_at n.0 n.1) (bytes-takes n.0 n.1 p.0.rest_fits) (λ x q.
+      Holds-map (bytes_at n.0 n.1) (bytes-takes BadField n.0 n.1 p.0.rest_fits) (λ x q.
       (Takes-then (subst (λ (k : ℕ). Takes bytes (u32 k) n.1) (sym q.1) p.0) q.0, rw q.1 (ltb-false _ _ small)))));
   again = λ b bytes rest e f.
       let split : bytes ≡ u32 (length b) ++ (b ++ rest) = e in
       in_turn _ (number_at w32 bytes) _ (u32-reads.again (length b) bytes _ split (omega arith))
-      (rw (le-ltb BODY_LIMIT (length b) f) (bytes-again (length b) b _ rest refl refl));
+      (rw (le-ltb BODY_LIMIT (length b) f) (bytes-again BadField (length b) b _ rest refl refl));
 }
 
 pub key-reads : Reads key_at key (λ k. (length k ≤ KEY_LIMIT) × IsUtf8 k)
-unfolding key_at key checked
+unfolding key_at key fields.checked
 key-reads = record {
   takes = λ bytes fits.
       then_ok (number_at w8 bytes) _ (u8-reads.takes bytes fits) (λ n p.
-      then_ok (bytes_at n.0 n.1) _ (bytes-takes n.0 n.1 p.0.rest_fits) (λ x q.
+      then_ok (bytes_at n.0 n.1) _ (bytes-takes BadField n.0 n.1 p.0.rest_fits) (λ x q.
       where_true (is_utf8 x.0) (Ok x) BadField (λ t.
       here x (
         Takes-then (subst (λ (k : ℕ). Takes bytes (u8 k) n.1) (sym q.1) p.0) q.0,
@@ -205,7 +181,7 @@ key-reads = record {
   again = λ k bytes rest e f.
       let split : bytes ≡ u8 (length k) ++ (k ++ rest) = e in
       in_turn _ (number_at w8 bytes) _ (u8-reads.again (length k) bytes _ split (omega (arith, f.0)))
-      (in_turn _ (bytes_at (length k) _) _ (bytes-again (length k) k _ rest refl refl)
+      (in_turn _ (bytes_at (length k) _) _ (bytes-again BadField (length k) k _ rest refl refl)
       (rw (is_utf8-from_IsUtf8 k f.1) refl));
 }
 
@@ -214,7 +190,7 @@ key-reads = record {
 no_reason : (n : ℕ) → 4 < n → reason_of n ≡ None
 no_reason n lt = grind (arith, nat_tests)
 
-reason_known : (n : ℕ) → Holds (required (reason_of n)) (λ r. n ≡ reason_number r)
+reason_known : (n : ℕ) → Holds (required BadField (reason_of n)) (λ r. n ≡ reason_number r)
 reason_known zero = record { value = tt }
 reason_known (suc zero) = here Rejected refl
 reason_known (suc (suc zero)) = here Expired refl
@@ -229,7 +205,7 @@ reason_fits Expired = lit< tt
 reason_fits MaxLen = lit< tt
 reason_fits DeliveryLimit = lit< tt
 
-reason_again : (r : Reason) → required (reason_of (reason_number r)) ≡ Ok r
+reason_again : (r : Reason) → required BadField (reason_of (reason_number r)) ≡ Ok r
 reason_again Rejected = refl
 reason_again Expired = refl
 reason_again MaxLen = refl
@@ -241,13 +217,13 @@ death-reads = record {
   takes = λ bytes fits.
       then_ok (queue_at bytes) _ (queue-reads.takes bytes fits) (λ q p.
       then_ok (number_at w8 q.1) _ (u8-reads.takes q.1 p.0.rest_fits) (λ n r.
-      then_ok (required (reason_of n.0)) _ (reason_known n.0) (λ reason is.
+      then_ok (required BadField (reason_of n.0)) _ (reason_known n.0) (λ reason is.
       here _ (Takes-then p.0 (subst (λ (k : ℕ). Takes q.1 (u8 k) n.1) is r.0), p.1))));
   again = λ d bytes rest e f.
       let split : bytes ≡ queue d.queue ++ (u8 (reason_number d.reason) ++ rest) = e in
       in_turn _ (queue_at bytes) _ (queue-reads.again d.queue bytes _ split f)
       (in_turn _ (number_at w8 _) _ (u8-reads.again (reason_number d.reason) _ rest refl (reason_fits d.reason))
-      (in_turn _ (required (reason_of (reason_number d.reason))) d.reason (reason_again d.reason) refl));
+      (in_turn _ (required BadField (reason_of (reason_number d.reason))) d.reason (reason_again d.reason) refl));
 }
 
 deaths-reads : Reads deaths_at deaths (λ ds. (length ds ≤ DEATHS_LIMIT) × All IsDeath ds)
@@ -317,11 +293,11 @@ mode_again : (m : Mode) (bytes rest : List ℕ) → bytes ≡ mode m ++ rest →
 unfolding mode_at mode
 mode_again (Prefetch n) bytes rest e f =
     let split : bytes ≡ flag false ++ (u16 n ++ rest) = e in
-    in_turn _ (flag_at bytes) _ (flag_again false bytes _ split)
+    in_turn _ (flag_at bytes) _ (flag-reads.again false bytes _ split tt)
     (in_turn _ (number_at w16 _) _ (u16-reads.again n _ rest refl f) refl)
 mode_again Link bytes rest e f =
     let split : bytes ≡ flag true ++ (u16 0 ++ rest) = e in
-    in_turn _ (flag_at bytes) _ (flag_again true bytes _ split)
+    in_turn _ (flag_at bytes) _ (flag-reads.again true bytes _ split tt)
     (in_turn _ (number_at w16 _) _ (u16-reads.again 0 _ rest refl (lit< tt)) refl)
 
 pub mode-reads : Reads mode_at mode IsMode
@@ -366,7 +342,7 @@ ids-reads = record {
 
 few_targets : Reads (λ bytes. checked (λ n. leb n TARGETS_LIMIT) (number_at w16 bytes)) u16 (λ n. n ≤ TARGETS_LIMIT)
 few_targets =
-    Reads-fits (checked-reads (λ n. leb n TARGETS_LIMIT) u16-reads) (λ n p. grind (arith, nat_tests))
+    Reads-fits (checked-reads BadField (λ n. leb n TARGETS_LIMIT) u16-reads) (λ n p. grind (arith, nat_tests))
     (λ n p. (omega arith, grind (arith, nat_tests)))
 
 dead_done-reads : Reads dead_done_at dead_done IsDeadDone
@@ -393,7 +369,7 @@ some_dones :
     Reads (λ bytes. checked (λ n. ltb 0 n && leb n DEAD_DONE_LIMIT) (number_at w16 bytes)) u16
     (λ n. (0 < n) × (n ≤ DEAD_DONE_LIMIT))
 some_dones =
-    Reads-fits (checked-reads (λ n. ltb 0 n && leb n DEAD_DONE_LIMIT) u16-reads)
+    Reads-fits (checked-reads BadField (λ n. ltb 0 n && leb n DEAD_DONE_LIMIT) u16-reads)
     (λ n p. (grind (arith, nat_tests), grind (arith, nat_tests))) (λ n p. (omega arith, grind (arith, nat_tests)))
 
 pub dead_dones-reads : Reads dead_dones_at dead_dones AreDeadDones

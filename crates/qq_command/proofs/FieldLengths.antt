@@ -14,7 +14,8 @@ use Rattle.qq_entry.specs.declared.command.Entry.{Entry}
 use Rattle.qq_entry.specs.declared.command.Mode.{Mode}
 use Rattle.qq_entry.specs.declared.command.Mode.TheVariants.{Prefetch, Link}
 use Rattle.qq_entry.specs.declared.command.Stamp.{Stamp}
-use Rattle.qq_command.specs.Encoding.{u32, u64, flag, session, stamp, consumer, queue, origin, mode, body, key, death, deaths, content, dead_done, dead_dones, ids, fields, payload, encoding}
+use Rattle.qq_fields.specs.Writing.{u32, u64, flag}
+use Rattle.qq_command.specs.Encoding.{session, stamp, consumer, queue, origin, mode, body, key, death, deaths, content, dead_done, dead_dones, ids, fields, payload, encoding}
 use Rattle.qq_command.specs.Lengths.{origin_length, content_length, ids_length, add_dead_done, dead_dones_length, fields_length, entry_length}
 
 -- all of one length

@@ -1,8 +1,7 @@
-pub mod Loop
-pub mod Laws
+mod Numbers
 mod FieldLaws
 mod CommandLaws
 mod ShortEncodings
 mod EntryLaws
-mod Appends
 mod FieldLengths
+pub mod EntriesLaws

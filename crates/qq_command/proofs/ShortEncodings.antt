@@ -19,7 +19,8 @@ use Rattle.qq_entry.specs.declared.command.Command.{Command}
 use Rattle.qq_entry.specs.declared.command.Command.TheVariants.{Noop, Enqueue, Get, Subscribe, Cancel, Credit, Settle, Return, Discard, Purge, Down, DeadAttach, DeadSettle}
 use Rattle.qq_entry.specs.declared.command.Entry.{Entry}
 use Rattle.qq_entry.specs.Range.{IsPositive, IsQueue, IsDeath, IsContent, AreIds, IsDeadDone, AreDeadDones, IsCommand, IsInRange}
-use Rattle.qq_command.specs.Encoding.{u64, session, stamp, queue, origin, body, key, death, deaths, content, mode, ids, dead_done, dead_dones, consumer, fields, payload, encoding}
+use Rattle.qq_fields.specs.Writing.{u64}
+use Rattle.qq_command.specs.Encoding.{session, stamp, queue, origin, body, key, death, deaths, content, mode, ids, dead_done, dead_dones, consumer, fields, payload, encoding}
 
 -- the encodings of values, each of which has at most so many bytes
 each_within : {A : Type 0} (write : A → List ℕ) (F : A → Type 0) (most : ℕ)

@@ -1,9 +1,9 @@
 -- The one encoding of each entry. Numbers have their high byte first.
-use Rattle.std.specs.Prelude.{◌≡◌, ℕ, Bool, true, false, List, [], ◌∷◌, ◌++◌, length, Option, Some, None}
+use Rattle.std.specs.Prelude.{ℕ, true, false, List, [], ◌++◌, length, Option, Some, None}
 use Rattle.std.specs.List.{flat_map}
-use Rattle.std.specs.Int.{w8, w16, w32, w64, to_be_bytes}
 use Rattle.qq_base.specs.declared.ids.QueueId.{QueueId}
 use Rattle.qq_base.specs.declared.ids.SessionId.{SessionId}
+use Rattle.qq_fields.specs.Writing.{u8, u16, u32, u64, flag, list}
 use Rattle.qq_command.specs.declared.kinds.TheConstants as kinds
 use Rattle.qq_command.specs.declared.reasons.TheConstants as reasons
 use Rattle.qq_entry.specs.declared.message.Reason.{Reason}
@@ -39,22 +39,6 @@ reason_number Rejected = reasons.REJECTED
 reason_number Expired = reasons.EXPIRED
 reason_number MaxLen = reasons.MAX_LEN
 reason_number DeliveryLimit = reasons.DELIVERY_LIMIT
-
-abbrev pub u8 : ℕ → List ℕ
-u8 n = to_be_bytes w8 n
-
-abbrev pub u16 : ℕ → List ℕ
-u16 n = to_be_bytes w16 n
-
-abbrev pub u32 : ℕ → List ℕ
-u32 n = to_be_bytes w32 n
-
-abbrev pub u64 : ℕ → List ℕ
-u64 n = to_be_bytes w64 n
-
-abbrev pub flag : Bool → List ℕ
-flag false = 0 ∷ []
-flag true = 1 ∷ []
 
 unfoldable pub session : SessionId → List ℕ
 session s = u8 s.class ++ u32 s.owner ++ u64 s.number
@@ -126,7 +110,6 @@ payload e = u64 e.time ++ u8 (kind e.command) ++ fields e.command
 unfoldable pub encoding : Entry → List ℕ
 encoding e = u64 e.term.0 ++ u32 (length (payload e)) ++ payload e
 
--- bytes begin with others
-pub record IsPrefix (prefix bytes : List ℕ) : Type 0 where
-  pub rest : List ℕ
-  pub is : bytes ≡ prefix ++ rest
+-- a count in four bytes, and so many entries
+unfoldable pub entries : List Entry → List ℕ
+entries es = list encoding es

@@ -1,12 +1,13 @@
 -- Reading an entry from a prefix of bytes, field by field, with the first refusal that applies.
-use Rattle.std.specs.Prelude.{◌≡◌, ◌+◌, ℕ, zero, suc, Bool, List, [], ◌∷◌, length, take, drop, Option, Some, None, Result, Ok, Err, nat_lt, nat_le, ◌==◌, ◌&&◌, if◌then◌else◌}
+use Rattle.std.specs.Prelude.{◌≡◌, ◌+◌, ℕ, Bool, List, length, take, drop, Option, Some, None, Result, Ok, Err, nat_lt, nat_le, ◌==◌, ◌&&◌, if◌then◌else◌}
 use Rattle.std.specs.Str.{is_utf8}
 use Rattle.std.specs.Int.{Width, w8, w16, w32, w64}
-use Rattle.qq_base.specs.Fields as fields
 use Rattle.qq_base.specs.declared.ids.TheConstants.{CLIENT, DEAD_LETTER}
 use Rattle.qq_base.specs.declared.ids.QueueId.{QueueId}
 use Rattle.qq_base.specs.declared.ids.SessionId.{SessionId}
-use Rattle.qq_base.specs.declared.memory.Memory.TheVariants.{Want}
+use Rattle.qq_base.specs.declared.memory.Memory.{Memory as Cause}
+use Rattle.qq_fields.specs.Reading as fields
+use Rattle.qq_fields.specs.Reading.{◌>>=◌, required, many}
 use Rattle.qq_entry.specs.declared.limits.TheConstants.{MACHINE_VERSION, TERM_LIMIT, LENGTH_LIMIT, BODY_LIMIT, DEATHS_LIMIT, IDS_LIMIT, DEAD_DONE_LIMIT, TARGETS_LIMIT}
 use Rattle.qq_command.specs.declared.kinds.TheConstants as kinds
 use Rattle.qq_command.specs.declared.lengths.TheConstants.{HEAD_LEN}
@@ -29,60 +30,34 @@ use Rattle.qq_entry.specs.Message.{new_message}
 use Rattle.qq_entry.specs.Range.{IsWritable}
 use Rattle.qq_command.specs.Encoding.{encoding}
 
-infixl 10 ◌>>=◌
-abbrev pub ◌>>=◌ : {A B : Type 0} → Result A Refusal → (A → Result B Refusal) → Result B Refusal
-(Ok x) >>= f = f x
-(Err e) >>= f = Err e
+-- The memory that a refusal is for want of.
+abbrev pub memory_of : Refusal → Option Cause
+memory_of (Memory m) = Some m
+memory_of _ = None
 
 -- What a call answered is what reading gives, unless memory ran out.
-abbrev pub Fails : {Y : Type 0} → Refusal → Result Y Refusal → Type 0
-Fails (Memory m) read = m ≡ Want
-Fails Short read = read ≡ Err Short
-Fails BadKind read = read ≡ Err BadKind
-Fails BadField read = read ≡ Err BadField
-Fails TooLarge read = read ≡ Err TooLarge
-
 abbrev pub Gives : {X Y : Type 0} → (X → Y) → Result X Refusal → Result Y Refusal → Type 0
-Gives view (Ok x) read = read ≡ Ok (view x)
-Gives view (Err e) read = Fails e read
+Gives view answered read = fields.Gives memory_of view answered read
 
--- A field is a value and the bytes after it.
+-- A field is a value and the bytes after it. One that passes the end of its entry's length is out of range.
 abbrev pub Field : Type 0 → Type 0
-Field A = Result (A × List ℕ) Refusal
+Field A = fields.Field Refusal A
 
--- Inside an entry's length, a field that passes the end is out of range.
-abbrev pub field_of : List ℕ → Option (ℕ × ℕ) → Field ℕ
-field_of bytes None = Err BadField
-field_of bytes (Some x) = Ok (x.0, drop x.1 bytes)
+abbrev pub number_at : Width → List ℕ → Field ℕ
+number_at w bytes = fields.number_at BadField w bytes
 
-unfoldable pub number_at : Width → List ℕ → Field ℕ
-number_at w bytes = field_of bytes (fields.number_at w bytes)
+abbrev pub bytes_at : ℕ → List ℕ → Field (List ℕ)
+bytes_at n bytes = fields.bytes_at BadField n bytes
 
-unfoldable pub bytes_at : ℕ → List ℕ → Field (List ℕ)
-bytes_at n bytes = if nat_lt (length bytes) n then Err BadField else Ok (take n bytes, drop n bytes)
+abbrev pub flag_at : List ℕ → Field Bool
+flag_at bytes = fields.flag_at BadField BadField bytes
 
--- a value that has to pass a test
-unfoldable pub checked : {A : Type 0} → (A → Bool) → Field A → Field A
-checked passes read = do
-  x ← read
-  if passes x.0 then Ok x else Err BadField
-
--- so many values one behind the other
-unfoldable pub many : {A : Type 0} → (List ℕ → Field A) → ℕ → List ℕ → Field (List A)
-many read zero bytes = Ok ([], bytes)
-many read (suc n) bytes = do
-  first ← read bytes
-  others ← many read n first.1
-  Ok (first.0 ∷ others.0, others.1)
+abbrev pub checked : {A : Type 0} → (A → Bool) → Field A → Field A
+checked passes read = fields.checked BadField passes read
 
 -- a number from 1
 unfoldable pub positive_at : Width → List ℕ → Field ℕ
 positive_at w bytes = checked (λ n. nat_lt 0 n) (number_at w bytes)
-
-unfoldable pub flag_at : List ℕ → Field Bool
-flag_at bytes = do
-  n ← checked (λ n. nat_lt n 2) (number_at w8 bytes)
-  Ok (n.0 == 1, n.1)
 
 abbrev pub has_owner : SessionId → Bool
 has_owner s =
@@ -143,15 +118,11 @@ reason_of n =
     else if n == reasons.DELIVERY_LIMIT then Some DeliveryLimit
     else None
 
-abbrev pub required : {A : Type 0} → Option A → Result A Refusal
-required None = Err BadField
-required (Some x) = Ok x
-
 unfoldable pub death_at : List ℕ → Field Death
 death_at bytes = do
   queue ← queue_at bytes
   n ← number_at w8 queue.1
-  reason ← required (reason_of n.0)
+  reason ← required BadField (reason_of n.0)
   Ok (record { queue = queue.0; reason = reason }, n.1)
 
 unfoldable pub deaths_at : List ℕ → Field (List Death)
@@ -314,3 +285,15 @@ pub record IsEntryPrefix (bytes : List ℕ) (x : Entry × ℕ) : Type 0 where
   pub writable : IsWritable x.0
   pub is : take x.1 bytes ≡ encoding x.0
   pub len : x.1 ≡ length (encoding x.0)
+
+-- ---- entries one behind the other
+
+-- an entry, and the bytes behind it
+unfoldable pub entry_field_at : List ℕ → Field Entry
+entry_field_at bytes = do
+  x ← entry_at bytes
+  Ok (x.0, drop x.1 bytes)
+
+-- a count in four bytes, and so many entries
+unfoldable pub entries_at : List ℕ → Field (List Entry)
+entries_at bytes = fields.list_at Short entry_field_at bytes

@@ -1,99 +1,35 @@
 //! Reading the fields of a command from a prefix of bytes.
-ghost use Rattle.std.specs.Prelude.{◌≡◌, ◌≤◌, List, length, IfOk};
-ghost use Rattle.std.specs.Int.{w8, w16, w32, w64};
-ghost use Rattle.qq_command.specs.Reading.{Gives, Field, number_at, bytes_at, positive_at, flag_at, has_owner, session_at, has_seq, stamp_at, counted_at, queue_at, origin_at, body_at, key_at, message_at, mode_at, consumer_at, verdict_at};
+ghost use Rattle.std.specs.Prelude.{◌≡◌, ◌≤◌, length, IfOk};
+ghost use Rattle.std.specs.Int.{w32, w64};
+ghost use Rattle.qq_command.specs.Reading.{Gives, bytes_at, positive_at, flag_at, has_owner, session_at, has_seq, stamp_at, counted_at, queue_at, origin_at, body_at, key_at, message_at, mode_at, consumer_at, verdict_at};
 
 use crate::lists::{deaths_at, ids_at};
 use crate::refusal::Refusal;
-use qq_base::{
-    Bytes, CLIENT, DEAD_LETTER, Ids, QueueId, SessionId, Text, take_u8, take_u16, take_u32,
-    take_u64,
-};
+use qq_base::{Bytes, CLIENT, DEAD_LETTER, Ids, QueueId, SessionId, Text};
 use qq_entry::{BODY_LIMIT, Content, Message, Mode, Origin, Stamp};
+use qq_fields::{bytes_at, flag_at, u8_at, u16_at, u32_at, u64_at};
 use std::alloc::Global;
 
-#[tactic(auto, unfolding(crate::specs::Reading::number_at))]
-pub fn u8_at(bytes: &[u8]) -> Result<(u8, &[u8]), Refusal>
-    ensures { Gives (λ x. (x.0, x.1.now)) result (number_at w8 bytes.now) }
-{
-    match take_u8(bytes) {
-        None => Err(Refusal::BadField),
-        Some((number, taken)) => Ok((number, bytes.split_at(taken).1)),
-    }
-}
-
-#[tactic(auto, unfolding(crate::specs::Reading::number_at))]
-pub fn u16_at(bytes: &[u8]) -> Result<(u16, &[u8]), Refusal>
-    ensures { Gives (λ x. (x.0, x.1.now)) result (number_at w16 bytes.now) }
-{
-    match take_u16(bytes) {
-        None => Err(Refusal::BadField),
-        Some((number, taken)) => Ok((number, bytes.split_at(taken).1)),
-    }
-}
-
-#[tactic(auto, unfolding(crate::specs::Reading::number_at))]
-pub fn u32_at(bytes: &[u8]) -> Result<(u32, &[u8]), Refusal>
-    ensures { Gives (λ x. (x.0, x.1.now)) result (number_at w32 bytes.now) }
-{
-    match take_u32(bytes) {
-        None => Err(Refusal::BadField),
-        Some((number, taken)) => Ok((number, bytes.split_at(taken).1)),
-    }
-}
-
-#[tactic(auto, unfolding(crate::specs::Reading::number_at))]
-pub fn u64_at(bytes: &[u8]) -> Result<(u64, &[u8]), Refusal>
-    ensures { Gives (λ x. (x.0, x.1.now)) result (number_at w64 bytes.now) }
-{
-    match take_u64(bytes) {
-        None => Err(Refusal::BadField),
-        Some((number, taken)) => Ok((number, bytes.split_at(taken).1)),
-    }
-}
-
-#[tactic(auto, unfolding(crate::specs::Reading::bytes_at))]
-fn bytes_at(count: usize, bytes: &[u8]) -> Result<(&[u8], &[u8]), Refusal>
-    ensures exact { Gives (λ x. (x.0.now, x.1.now)) result (bytes_at count bytes.now) }
-    ensures len { IfOk result (λ x. length x.0.now ≡ count) }
-{
-    if bytes.len() < count {
-        return Err(Refusal::BadField);
-    }
-    Ok(bytes.split_at(count))
-}
-
-#[tactic(auto, unfolding(crate::specs::Reading::checked, crate::specs::Reading::positive_at))]
+#[tactic(auto, unfolding(qq_fields::specs::Reading::checked, crate::specs::Reading::positive_at))]
 fn positive_u32_at(bytes: &[u8]) -> Result<(u32, &[u8]), Refusal>
     ensures { Gives (λ x. (x.0, x.1.now)) result (positive_at w32 bytes.now) }
 {
-    let (number, rest) = u32_at(bytes)?;
+    let (number, rest) = u32_at(bytes, Refusal::BadField)?;
     if number == 0 {
         return Err(Refusal::BadField);
     }
     Ok((number, rest))
 }
 
-#[tactic(auto, unfolding(crate::specs::Reading::checked, crate::specs::Reading::positive_at))]
+#[tactic(auto, unfolding(qq_fields::specs::Reading::checked, crate::specs::Reading::positive_at))]
 pub fn positive_u64_at(bytes: &[u8]) -> Result<(u64, &[u8]), Refusal>
     ensures { Gives (λ x. (x.0, x.1.now)) result (positive_at w64 bytes.now) }
 {
-    let (number, rest) = u64_at(bytes)?;
+    let (number, rest) = u64_at(bytes, Refusal::BadField)?;
     if number == 0 {
         return Err(Refusal::BadField);
     }
     Ok((number, rest))
-}
-
-#[tactic(auto, unfolding(crate::specs::Reading::checked, crate::specs::Reading::flag_at))]
-pub fn flag_at(bytes: &[u8]) -> Result<(bool, &[u8]), Refusal>
-    ensures { Gives (λ x. (x.0, x.1.now)) result (flag_at bytes.now) }
-{
-    let (number, rest) = u8_at(bytes)?;
-    if number > 1 {
-        return Err(Refusal::BadField);
-    }
-    Ok((number == 1, rest))
 }
 
 fn has_owner(session: &SessionId) -> bool
@@ -106,12 +42,12 @@ fn has_owner(session: &SessionId) -> bool
     }
 }
 
-#[tactic(auto, unfolding(crate::specs::Reading::checked, crate::specs::Reading::session_at))]
+#[tactic(auto, unfolding(qq_fields::specs::Reading::checked, crate::specs::Reading::session_at))]
 pub fn session_at(bytes: &[u8]) -> Result<(SessionId, &[u8]), Refusal>
     ensures { Gives (λ x. (x.0, x.1.now)) result (session_at bytes.now) }
 {
-    let (class, rest) = u8_at(bytes)?;
-    let (owner, rest) = u32_at(rest)?;
+    let (class, rest) = u8_at(bytes, Refusal::BadField)?;
+    let (owner, rest) = u32_at(rest, Refusal::BadField)?;
     let (number, rest) = positive_u64_at(rest)?;
     let session = SessionId {
         class,
@@ -134,13 +70,13 @@ fn has_seq(stamp: &Stamp) -> bool
     }
 }
 
-#[tactic(auto, unfolding(crate::specs::Reading::checked, crate::specs::Reading::stamp_at))]
+#[tactic(auto, unfolding(qq_fields::specs::Reading::checked, crate::specs::Reading::stamp_at))]
 pub fn stamp_at(bytes: &[u8]) -> Result<(Stamp, &[u8]), Refusal>
     ensures { Gives (λ x. (x.0, x.1.now)) result (stamp_at bytes.now) }
 {
     let (session, rest) = session_at(bytes)?;
-    let (seq, rest) = u64_at(rest)?;
-    let (done, rest) = u64_at(rest)?;
+    let (seq, rest) = u64_at(rest, Refusal::BadField)?;
+    let (done, rest) = u64_at(rest, Refusal::BadField)?;
     let stamp = Stamp { session, seq, done };
     if !has_seq(&stamp) {
         return Err(Refusal::BadField);
@@ -149,7 +85,7 @@ pub fn stamp_at(bytes: &[u8]) -> Result<(Stamp, &[u8]), Refusal>
 }
 
 /// The stamp of a command that only clients and workers give.
-#[tactic(auto, unfolding(crate::specs::Reading::checked, crate::specs::Reading::counted_at))]
+#[tactic(auto, unfolding(qq_fields::specs::Reading::checked, crate::specs::Reading::counted_at))]
 pub fn counted_at(bytes: &[u8]) -> Result<(Stamp, &[u8]), Refusal>
     ensures { Gives (λ x. (x.0, x.1.now)) result (counted_at bytes.now) }
 {
@@ -172,7 +108,7 @@ pub fn queue_at(bytes: &[u8]) -> Result<(QueueId, &[u8]), Refusal>
 pub fn origin_at(bytes: &[u8]) -> Result<(Option<Origin>, &[u8]), Refusal>
     ensures { Gives (λ x. (x.0, x.1.now)) result (origin_at bytes.now) }
 {
-    let (is_there, rest) = flag_at(bytes)?;
+    let (is_there, rest) = flag_at(bytes, Refusal::BadField, Refusal::BadField)?;
     if !is_there {
         return Ok((None, rest));
     }
@@ -186,21 +122,21 @@ fn body_at(alloc: Global, bytes: &[u8]) -> Result<(Bytes, &[u8]), Refusal>
     ensures exact { Gives (λ x. (x.0, x.1.now)) result (body_at bytes.now) }
     ensures within { IfOk result (λ x. length x.0 ≤ BODY_LIMIT) }
 {
-    let (count, rest) = u32_at(bytes)?;
+    let (count, rest) = u32_at(bytes, Refusal::BadField)?;
     let count = count as usize;
     if count > BODY_LIMIT {
         return Err(Refusal::TooLarge);
     }
-    let (body, rest) = bytes_at(count, rest)?;
+    let (body, rest) = bytes_at(count, rest, Refusal::BadField)?;
     Ok((Bytes::from_vec(Vec::from_slice(alloc, body)?), rest))
 }
 
-#[tactic(auto, unfolding(crate::specs::Reading::checked, crate::specs::Reading::key_at))]
+#[tactic(auto, unfolding(qq_fields::specs::Reading::checked, crate::specs::Reading::key_at))]
 fn key_at(alloc: Global, bytes: &[u8]) -> Result<(Text, &[u8]), Refusal>
     ensures { Gives (λ x. (x.0, x.1.now)) result (key_at bytes.now) }
 {
-    let (count, rest) = u8_at(bytes)?;
-    let (key, rest) = bytes_at(count as usize, rest)?;
+    let (count, rest) = u8_at(bytes, Refusal::BadField)?;
+    let (key, rest) = bytes_at(count as usize, rest, Refusal::BadField)?;
     match str::from_utf8(key) {
         Ok(key) => Ok((Text::from_str(alloc, key)?, rest)),
         Err(_) => Err(Refusal::BadField),
@@ -222,8 +158,8 @@ pub fn message_at(alloc: Global, bytes: &[u8]) -> Result<(Message, &[u8]), Refus
 pub fn mode_at(bytes: &[u8]) -> Result<(Mode, &[u8]), Refusal>
     ensures { Gives (λ x. (x.0, x.1.now)) result (mode_at bytes.now) }
 {
-    let (is_link, rest) = flag_at(bytes)?;
-    let (count, rest) = u16_at(rest)?;
+    let (is_link, rest) = flag_at(bytes, Refusal::BadField, Refusal::BadField)?;
+    let (count, rest) = u16_at(rest, Refusal::BadField)?;
     if !is_link {
         return Ok((Mode::Prefetch(count), rest));
     }

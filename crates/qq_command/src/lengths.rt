@@ -17,3 +17,6 @@ pub const TARGET_LEN: usize = 4;
 
 /// A dead letter without targets.
 pub const DEAD_DONE_LEN: usize = 10;
+
+/// The least bytes of an entry: its term, its length, its time and its kind.
+pub const ENTRY_LEN: usize = 21;

@@ -2,8 +2,8 @@
 //! follows it. The types stand in `qq_entry`, and are passed on.
 #![tactic(auto)]
 
+mod entries;
 mod fields;
-mod items;
 mod kinds;
 mod lengths;
 mod lists;
@@ -14,6 +14,7 @@ mod reasons;
 mod refusal;
 mod writing;
 
+pub use entries::{entries_at, put_entries};
 pub use measure::encoded_len;
 pub use qq_entry::{
     Answer, AuditRow, BODY_LIMIT, Cause, Command, Content, DEAD_DONE_LIMIT, DEATHS_LIMIT,

@@ -1,11 +1,11 @@
 //! The lists of a command: ids, deaths, and dead letters with their targets.
 ghost use Rattle.std.specs.Prelude.{◌≡◌, ◌++◌, ◌≤◌, length, All, OnOk, OnErr, IsOkUnless};
 ghost use Rattle.qq_entry.specs.Range.{IsDeath, AreIds, IsDeadDone, AreDeadDones};
-ghost use Rattle.qq_command.specs.Encoding.{IsPrefix, reason_number, death, deaths, ids, dead_done, dead_dones};
-ghost use Rattle.qq_command.specs.Reading.{Gives, Field, reason_of, death_at, deaths_at, ids_at, dead_done_at, dead_dones_at};
+ghost use Rattle.qq_base.specs.Fronts.{IsFront as IsPrefix};
+ghost use Rattle.qq_command.specs.Encoding.{reason_number, death, deaths, ids, dead_done, dead_dones};
+ghost use Rattle.qq_command.specs.Reading.{Gives, reason_of, death_at, deaths_at, ids_at, dead_done_at, dead_dones_at};
 
-use crate::fields::{positive_u64_at, queue_at, u8_at, u16_at, u32_at};
-use crate::items::{Item, items_at, put_items};
+use crate::fields::{positive_u64_at, queue_at};
 use crate::lengths::{DEAD_DONE_LEN, DEATH_LEN, ID_LEN, TARGET_LEN};
 use crate::reasons;
 use crate::refusal::Refusal;
@@ -14,12 +14,13 @@ use qq_entry::{
     DEAD_DONE_LIMIT, DEATHS_LIMIT, DeadDone, DeadDones, Death, Deaths, IDS_LIMIT, Reason,
     TARGETS_LIMIT,
 };
+use qq_fields::{Item, many, put_each, u8_at, u16_at, u32_at};
 use std::alloc::Global;
 
-impl Item for u64 {
+impl Item<Refusal> for u64 {
     ghost use Rattle.std.specs.Int.{w64};
     ghost use Rattle.qq_entry.specs.Range.{IsPositive};
-    ghost use Rattle.qq_command.specs.Encoding.{u64};
+    ghost use Rattle.qq_fields.specs.Writing.{u64};
     ghost use Rattle.qq_command.specs.Reading.{positive_at};
 
     ghost read = { positive_at w64 };
@@ -41,7 +42,7 @@ impl Item for u64 {
 pub fn ids_at(alloc: Global, bytes: &[u8]) -> Result<(Ids, &[u8]), Refusal>
     ensures { Gives (λ x. (x.0, x.1.now)) result (ids_at bytes.now) }
 {
-    let (count, rest) = u32_at(bytes)?;
+    let (count, rest) = u32_at(bytes, Refusal::BadField)?;
     let count = count as usize;
     if count > IDS_LIMIT {
         return Err(Refusal::TooLarge);
@@ -49,11 +50,11 @@ pub fn ids_at(alloc: Global, bytes: &[u8]) -> Result<(Ids, &[u8]), Refusal>
     if count == 0 {
         return Err(Refusal::BadField);
     }
-    let (ids, rest) = items_at(alloc, ID_LEN, count, rest)?;
+    let (ids, rest) = many(alloc, ID_LEN, count, rest)?;
     Ok((Ids::from_vec(ids), rest))
 }
 
-#[tactic(auto, using(crate::proofs::Appends::prefix_rules), unfolding(crate::specs::Encoding::ids))]
+#[tactic(auto, using(qq_fields::proofs::Appends::prefix_rules), unfolding(crate::specs::Encoding::ids))]
 pub fn put_ids(out: &mut Vec<u8>, list: &[u64]) -> Result<(), Memory>
     requires { AreIds list.now }
     ensures ok { OnOk result (out.new.items ≡ out.old.items ++ ids list.now) }
@@ -61,7 +62,7 @@ pub fn put_ids(out: &mut Vec<u8>, list: &[u64]) -> Result<(), Memory>
     ensures want { IsOkUnless result Memory.Want }
 {
     put_u32(out, list.len() as u32)?;
-    put_items(out, list)
+    put_each::<Refusal, _>(out, list)
 }
 
 fn reason_of(number: u8) -> Option<Reason>
@@ -92,14 +93,14 @@ fn death_at(bytes: &[u8]) -> Result<(Death, &[u8]), Refusal>
     ensures { Gives (λ x. (x.0, x.1.now)) result (death_at bytes.now) }
 {
     let (queue, rest) = queue_at(bytes)?;
-    let (number, rest) = u8_at(rest)?;
+    let (number, rest) = u8_at(rest, Refusal::BadField)?;
     match reason_of(number) {
         Some(reason) => Ok((Death { queue, reason }, rest)),
         None => Err(Refusal::BadField),
     }
 }
 
-#[tactic(auto, using(crate::proofs::Appends::prefix_rules), unfolding(crate::specs::Encoding::death))]
+#[tactic(auto, using(qq_fields::proofs::Appends::prefix_rules), unfolding(crate::specs::Encoding::death))]
 fn put_death(out: &mut Vec<u8>, value: &Death) -> Result<(), Memory>
     ensures ok { OnOk result (out.new.items ≡ out.old.items ++ death value.now) }
     ensures err { OnErr result (IsPrefix out.old.items out.new.items) }
@@ -109,7 +110,7 @@ fn put_death(out: &mut Vec<u8>, value: &Death) -> Result<(), Memory>
     put_u8(out, reason_number(value.reason))
 }
 
-impl Item for Death {
+impl Item<Refusal> for Death {
     ghost use Rattle.qq_entry.specs.Range.{IsDeath};
     ghost use Rattle.qq_command.specs.Encoding.{death};
     ghost use Rattle.qq_command.specs.Reading.{death_at};
@@ -133,16 +134,16 @@ impl Item for Death {
 pub fn deaths_at(alloc: Global, bytes: &[u8]) -> Result<(Deaths, &[u8]), Refusal>
     ensures { Gives (λ x. (x.0, x.1.now)) result (deaths_at bytes.now) }
 {
-    let (count, rest) = u16_at(bytes)?;
+    let (count, rest) = u16_at(bytes, Refusal::BadField)?;
     let count = count as usize;
     if count > DEATHS_LIMIT {
         return Err(Refusal::TooLarge);
     }
-    let (deaths, rest) = items_at(alloc, DEATH_LEN, count, rest)?;
+    let (deaths, rest) = many(alloc, DEATH_LEN, count, rest)?;
     Ok((Deaths::from_vec(deaths), rest))
 }
 
-#[tactic(auto, using(crate::proofs::Appends::prefix_rules), unfolding(crate::specs::Encoding::deaths))]
+#[tactic(auto, using(qq_fields::proofs::Appends::prefix_rules), unfolding(crate::specs::Encoding::deaths))]
 pub fn put_deaths(out: &mut Vec<u8>, list: &[Death]) -> Result<(), Memory>
     requires most { length list.now ≤ DEATHS_LIMIT }
     requires each { All IsDeath list.now }
@@ -151,10 +152,10 @@ pub fn put_deaths(out: &mut Vec<u8>, list: &[Death]) -> Result<(), Memory>
     ensures want { IsOkUnless result Memory.Want }
 {
     put_u16(out, list.len() as u16)?;
-    put_items(out, list)
+    put_each::<Refusal, _>(out, list)
 }
 
-impl Item for QueueId {
+impl Item<Refusal> for QueueId {
     ghost use Rattle.qq_entry.specs.Range.{IsQueue};
     ghost use Rattle.qq_command.specs.Encoding.{queue};
     ghost use Rattle.qq_command.specs.Reading.{queue_at};
@@ -174,22 +175,22 @@ impl Item for QueueId {
     }
 }
 
-#[tactic(auto, unfolding(crate::specs::Reading::checked, crate::specs::Reading::dead_done_at))]
+#[tactic(auto, unfolding(qq_fields::specs::Reading::checked, crate::specs::Reading::dead_done_at))]
 fn dead_done_at(alloc: Global, bytes: &[u8]) -> Result<(DeadDone, &[u8]), Refusal>
     ensures { Gives (λ x. (x.0, x.1.now)) result (dead_done_at bytes.now) }
 {
     let (number, rest) = positive_u64_at(bytes)?;
-    let (count, rest) = u16_at(rest)?;
+    let (count, rest) = u16_at(rest, Refusal::BadField)?;
     let count = count as usize;
     if count > TARGETS_LIMIT {
         return Err(Refusal::BadField);
     }
-    let (targets, rest) = items_at(alloc, TARGET_LEN, count, rest)?;
+    let (targets, rest) = many(alloc, TARGET_LEN, count, rest)?;
     let targets = QueueIds::from_vec(targets);
     Ok((DeadDone { number, targets }, rest))
 }
 
-#[tactic(auto, using(crate::proofs::Appends::prefix_rules), unfolding(crate::specs::Encoding::dead_done))]
+#[tactic(auto, using(qq_fields::proofs::Appends::prefix_rules), unfolding(crate::specs::Encoding::dead_done))]
 fn put_dead_done(out: &mut Vec<u8>, value: &DeadDone) -> Result<(), Memory>
     requires { IsDeadDone value.now }
     ensures ok { OnOk result (out.new.items ≡ out.old.items ++ dead_done value.now) }
@@ -199,10 +200,10 @@ fn put_dead_done(out: &mut Vec<u8>, value: &DeadDone) -> Result<(), Memory>
     let targets = value.targets.as_slice();
     put_u64(out, value.number)?;
     put_u16(out, targets.len() as u16)?;
-    put_items(out, targets)
+    put_each::<Refusal, _>(out, targets)
 }
 
-impl Item for DeadDone {
+impl Item<Refusal> for DeadDone {
     ghost use Rattle.qq_entry.specs.Range.{IsDeadDone};
     ghost use Rattle.qq_command.specs.Encoding.{dead_done};
     ghost use Rattle.qq_command.specs.Reading.{dead_done_at};
@@ -222,20 +223,20 @@ impl Item for DeadDone {
     }
 }
 
-#[tactic(auto, unfolding(crate::specs::Reading::checked, crate::specs::Reading::dead_dones_at))]
+#[tactic(auto, unfolding(qq_fields::specs::Reading::checked, crate::specs::Reading::dead_dones_at))]
 pub fn dead_dones_at(alloc: Global, bytes: &[u8]) -> Result<(DeadDones, &[u8]), Refusal>
     ensures { Gives (λ x. (x.0, x.1.now)) result (dead_dones_at bytes.now) }
 {
-    let (count, rest) = u16_at(bytes)?;
+    let (count, rest) = u16_at(bytes, Refusal::BadField)?;
     let count = count as usize;
     if count == 0 || count > DEAD_DONE_LIMIT {
         return Err(Refusal::BadField);
     }
-    let (done, rest) = items_at(alloc, DEAD_DONE_LEN, count, rest)?;
+    let (done, rest) = many(alloc, DEAD_DONE_LEN, count, rest)?;
     Ok((DeadDones::from_vec(done), rest))
 }
 
-#[tactic(auto, using(crate::proofs::Appends::prefix_rules), unfolding(crate::specs::Encoding::dead_dones))]
+#[tactic(auto, using(qq_fields::proofs::Appends::prefix_rules), unfolding(crate::specs::Encoding::dead_dones))]
 pub fn put_dead_dones(out: &mut Vec<u8>, list: &[DeadDone]) -> Result<(), Memory>
     requires { AreDeadDones list.now }
     ensures ok { OnOk result (out.new.items ≡ out.old.items ++ dead_dones list.now) }
@@ -243,5 +244,5 @@ pub fn put_dead_dones(out: &mut Vec<u8>, list: &[DeadDone]) -> Result<(), Memory
     ensures want { IsOkUnless result Memory.Want }
 {
     put_u16(out, list.len() as u16)?;
-    put_items(out, list)
+    put_each::<Refusal, _>(out, list)
 }

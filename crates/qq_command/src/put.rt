@@ -1,22 +1,16 @@
 //! Putting the fields of a command at the end of bytes.
 ghost use Rattle.std.specs.Prelude.{◌≡◌, ◌++◌, ◌≤◌, length, OnOk, OnErr, IsOkUnless, IfSome};
 ghost use Rattle.qq_entry.specs.Range.{IsContent};
-ghost use Rattle.qq_command.specs.Encoding.{IsPrefix, flag, session, stamp, origin, body, key, content, mode, consumer};
+ghost use Rattle.qq_base.specs.Fronts.{IsFront as IsPrefix};
+ghost use Rattle.qq_command.specs.Encoding.{session, stamp, origin, body, key, content, mode, consumer};
 
 use crate::lengths::{CONTENT_LEN, DEATH_LEN};
 use crate::lists::put_deaths;
 use qq_base::{Memory, SessionId, put_u8, put_u16, put_u32, put_u64};
 use qq_entry::{BODY_LIMIT, Content, KEY_LIMIT, Mode, Origin, Shared, Stamp};
+use qq_fields::{put_bytes, put_flag};
 
-pub fn put_flag(out: &mut Vec<u8>, value: bool) -> Result<(), Memory>
-    ensures ok { OnOk result (out.new.items ≡ out.old.items ++ flag value) }
-    ensures err { OnErr result (IsPrefix out.old.items out.new.items) }
-    ensures want { IsOkUnless result Memory.Want }
-{
-    put_u8(out, if value { 1 } else { 0 })
-}
-
-#[tactic(auto, using(crate::proofs::Appends::prefix_rules), unfolding(crate::specs::Encoding::session))]
+#[tactic(auto, using(qq_fields::proofs::Appends::prefix_rules), unfolding(crate::specs::Encoding::session))]
 pub fn put_session(out: &mut Vec<u8>, value: &SessionId) -> Result<(), Memory>
     ensures ok { OnOk result (out.new.items ≡ out.old.items ++ session value.now) }
     ensures err { OnErr result (IsPrefix out.old.items out.new.items) }
@@ -27,7 +21,7 @@ pub fn put_session(out: &mut Vec<u8>, value: &SessionId) -> Result<(), Memory>
     put_u64(out, value.number)
 }
 
-#[tactic(auto, using(crate::proofs::Appends::prefix_rules), unfolding(crate::specs::Encoding::stamp))]
+#[tactic(auto, using(qq_fields::proofs::Appends::prefix_rules), unfolding(crate::specs::Encoding::stamp))]
 pub fn put_stamp(out: &mut Vec<u8>, value: &Stamp) -> Result<(), Memory>
     ensures ok { OnOk result (out.new.items ≡ out.old.items ++ stamp value.now) }
     ensures err { OnErr result (IsPrefix out.old.items out.new.items) }
@@ -38,7 +32,7 @@ pub fn put_stamp(out: &mut Vec<u8>, value: &Stamp) -> Result<(), Memory>
     put_u64(out, value.done)
 }
 
-#[tactic(auto, using(crate::proofs::Appends::prefix_rules), unfolding(crate::specs::Encoding::origin))]
+#[tactic(auto, using(qq_fields::proofs::Appends::prefix_rules), unfolding(crate::specs::Encoding::origin))]
 pub fn put_origin(out: &mut Vec<u8>, value: Option<Origin>) -> Result<(), Memory>
     ensures ok { OnOk result (out.new.items ≡ out.old.items ++ origin value) }
     ensures err { OnErr result (IsPrefix out.old.items out.new.items) }
@@ -55,7 +49,7 @@ pub fn put_origin(out: &mut Vec<u8>, value: Option<Origin>) -> Result<(), Memory
 }
 
 /// A stamp, and the tag of a consumer of its session.
-#[tactic(auto, using(crate::proofs::Appends::prefix_rules), unfolding(crate::specs::Encoding::consumer))]
+#[tactic(auto, using(qq_fields::proofs::Appends::prefix_rules), unfolding(crate::specs::Encoding::consumer))]
 pub fn put_consumer(out: &mut Vec<u8>, value: &Stamp, tag: u32) -> Result<(), Memory>
     ensures ok { OnOk result (out.new.items ≡ out.old.items ++ consumer value.now tag) }
     ensures err { OnErr result (IsPrefix out.old.items out.new.items) }
@@ -65,16 +59,7 @@ pub fn put_consumer(out: &mut Vec<u8>, value: &Stamp, tag: u32) -> Result<(), Me
     put_u32(out, tag)
 }
 
-fn put_bytes(out: &mut Vec<u8>, bytes: &[u8]) -> Result<(), Memory>
-    ensures ok { OnOk result (out.new.items ≡ out.old.items ++ bytes.now) }
-    ensures err { OnErr result (out.new.items ≡ out.old.items) }
-    ensures want { IsOkUnless result Memory.Want }
-{
-    out.extend_from_slice(bytes)?;
-    Ok(())
-}
-
-#[tactic(auto, using(crate::proofs::Appends::prefix_rules), unfolding(crate::specs::Encoding::body))]
+#[tactic(auto, using(qq_fields::proofs::Appends::prefix_rules), unfolding(crate::specs::Encoding::body))]
 fn put_body(out: &mut Vec<u8>, bytes: &[u8]) -> Result<(), Memory>
     requires { length bytes.now ≤ BODY_LIMIT }
     ensures ok { OnOk result (out.new.items ≡ out.old.items ++ body bytes.now) }
@@ -85,7 +70,7 @@ fn put_body(out: &mut Vec<u8>, bytes: &[u8]) -> Result<(), Memory>
     put_bytes(out, bytes)
 }
 
-#[tactic(auto, using(crate::proofs::Appends::prefix_rules), unfolding(crate::specs::Encoding::key))]
+#[tactic(auto, using(qq_fields::proofs::Appends::prefix_rules), unfolding(crate::specs::Encoding::key))]
 fn put_key(out: &mut Vec<u8>, bytes: &[u8]) -> Result<(), Memory>
     requires { length bytes.now ≤ KEY_LIMIT }
     ensures ok { OnOk result (out.new.items ≡ out.old.items ++ key bytes.now) }
@@ -97,7 +82,7 @@ fn put_key(out: &mut Vec<u8>, bytes: &[u8]) -> Result<(), Memory>
 }
 
 /// A content. One that was taken out has no bytes.
-#[tactic(auto, using(crate::proofs::Appends::prefix_rules), unfolding(crate::specs::Encoding::content))]
+#[tactic(auto, using(qq_fields::proofs::Appends::prefix_rules), unfolding(crate::specs::Encoding::content))]
 pub fn put_content(out: &mut Vec<u8>, value: &Option<Shared<Content>>) -> Result<(), Memory>
     requires { IfSome value.now IsContent }
     ensures ok { OnOk result (out.new.items ≡ out.old.items ++ content value.now) }
@@ -117,7 +102,7 @@ pub fn put_content(out: &mut Vec<u8>, value: &Option<Shared<Content>>) -> Result
     }
 }
 
-#[tactic(auto, using(crate::proofs::Appends::prefix_rules), unfolding(crate::specs::Encoding::mode))]
+#[tactic(auto, using(qq_fields::proofs::Appends::prefix_rules), unfolding(crate::specs::Encoding::mode))]
 pub fn put_mode(out: &mut Vec<u8>, value: Mode) -> Result<(), Memory>
     ensures ok { OnOk result (out.new.items ≡ out.old.items ++ mode value) }
     ensures err { OnErr result (IsPrefix out.old.items out.new.items) }

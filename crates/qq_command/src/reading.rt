@@ -9,8 +9,7 @@ ghost use Rattle.qq_command.specs.Laws.{HasShortEncoding};
 ghost use Rattle.qq_command.specs.Reading.{Gives, IsEntryPrefix, noop_at, enqueue_at, get_at, subscribe_at, cancel_at, credit_at, settle_at, return_at, discard_at, purge_at, down_at, dead_attach_at, dead_settle_at, fields_at, payload_at, entry_at};
 
 use crate::fields::{
-    consumer_at, counted_at, flag_at, message_at, mode_at, origin_at, session_at, stamp_at, u8_at,
-    u32_at, u64_at, verdict_at,
+    consumer_at, counted_at, message_at, mode_at, origin_at, session_at, stamp_at, verdict_at,
 };
 use crate::kinds;
 use crate::lengths::HEAD_LEN;
@@ -18,13 +17,14 @@ use crate::lists::dead_dones_at;
 use crate::refusal::Refusal;
 use qq_base::{DEAD_LETTER, Term};
 use qq_entry::{Command, Entry, LENGTH_LIMIT, MACHINE_VERSION, TERM_LIMIT};
+use qq_fields::{flag_at, u8_at, u32_at, u64_at};
 use std::alloc::Global;
 
-#[tactic(auto, unfolding(crate::specs::Reading::checked, crate::specs::Reading::noop_at))]
+#[tactic(auto, unfolding(qq_fields::specs::Reading::checked, crate::specs::Reading::noop_at))]
 fn noop_at(bytes: &[u8]) -> Result<(Command, &[u8]), Refusal>
     ensures { Gives (λ x. (x.0, x.1.now)) result (noop_at bytes.now) }
 {
-    let (version, rest) = u8_at(bytes)?;
+    let (version, rest) = u8_at(bytes, Refusal::BadField)?;
     if version != MACHINE_VERSION {
         return Err(Refusal::BadField);
     }
@@ -78,9 +78,9 @@ fn credit_at(bytes: &[u8]) -> Result<(Command, &[u8]), Refusal>
     ensures { Gives (λ x. (x.0, x.1.now)) result (credit_at bytes.now) }
 {
     let ((stamp, tag), rest) = consumer_at(bytes)?;
-    let (count, rest) = u32_at(rest)?;
-    let (credit, rest) = u32_at(rest)?;
-    let (drain, rest) = flag_at(rest)?;
+    let (count, rest) = u32_at(rest, Refusal::BadField)?;
+    let (credit, rest) = u32_at(rest, Refusal::BadField)?;
+    let (drain, rest) = flag_at(rest, Refusal::BadField, Refusal::BadField)?;
     Ok((
         Command::Credit {
             stamp,
@@ -125,7 +125,7 @@ fn purge_at(bytes: &[u8]) -> Result<(Command, &[u8]), Refusal>
     Ok((Command::Purge { stamp }, rest))
 }
 
-#[tactic(auto, unfolding(crate::specs::Reading::checked, crate::specs::Reading::down_at))]
+#[tactic(auto, unfolding(qq_fields::specs::Reading::checked, crate::specs::Reading::down_at))]
 fn down_at(bytes: &[u8]) -> Result<(Command, &[u8]), Refusal>
     ensures { Gives (λ x. (x.0, x.1.now)) result (down_at bytes.now) }
 {
@@ -136,11 +136,11 @@ fn down_at(bytes: &[u8]) -> Result<(Command, &[u8]), Refusal>
     Ok((Command::Down { session }, rest))
 }
 
-#[tactic(auto, unfolding(crate::specs::Reading::checked, crate::specs::Reading::dead_attach_at))]
+#[tactic(auto, unfolding(qq_fields::specs::Reading::checked, crate::specs::Reading::dead_attach_at))]
 fn dead_attach_at(bytes: &[u8]) -> Result<(Command, &[u8]), Refusal>
     ensures { Gives (λ x. (x.0, x.1.now)) result (dead_attach_at bytes.now) }
 {
-    let (term, rest) = u64_at(bytes)?;
+    let (term, rest) = u64_at(bytes, Refusal::BadField)?;
     if term > TERM_LIMIT {
         return Err(Refusal::BadField);
     }
@@ -151,7 +151,7 @@ fn dead_attach_at(bytes: &[u8]) -> Result<(Command, &[u8]), Refusal>
 fn dead_settle_at(alloc: Global, bytes: &[u8]) -> Result<(Command, &[u8]), Refusal>
     ensures { Gives (λ x. (x.0, x.1.now)) result (dead_settle_at bytes.now) }
 {
-    let (term, rest) = u64_at(bytes)?;
+    let (term, rest) = u64_at(bytes, Refusal::BadField)?;
     let (done, rest) = dead_dones_at(alloc, rest)?;
     Ok((
         Command::DeadSettle {
@@ -189,8 +189,8 @@ fn fields_at(alloc: Global, kind: u8, bytes: &[u8]) -> Result<(Command, &[u8]), 
 fn payload_at(alloc: Global, bytes: &[u8]) -> Result<(u64, Command), Refusal>
     ensures { Gives (λ x. x) result (payload_at bytes.now) }
 {
-    let (time, rest) = u64_at(bytes)?;
-    let (kind, rest) = u8_at(rest)?;
+    let (time, rest) = u64_at(bytes, Refusal::BadField)?;
+    let (kind, rest) = u8_at(rest, Refusal::BadField)?;
     let (command, rest) = fields_at(alloc, kind, rest)?;
     if !rest.is_empty() {
         return Err(Refusal::BadField);
@@ -205,8 +205,8 @@ fn entry_at(alloc: Global, bytes: &[u8]) -> Result<(Entry, usize), Refusal>
     if bytes.len() < HEAD_LEN {
         return Err(Refusal::Short);
     }
-    let (term, rest) = u64_at(bytes)?;
-    let (length, rest) = u32_at(rest)?;
+    let (term, rest) = u64_at(bytes, Refusal::BadField)?;
+    let (length, rest) = u32_at(rest, Refusal::BadField)?;
     let length = length as usize;
     if length > LENGTH_LIMIT {
         return Err(Refusal::TooLarge);

@@ -1,6 +1,7 @@
 ghost use Rattle.std.specs.Prelude.{◌≡◌};
 
 use qq_base::Memory;
+use qq_fields::Fault;
 use std::alloc::{AllocError, AllocFailed};
 use thiserror::Error;
 
@@ -22,6 +23,16 @@ pub enum Refusal {
     /// Out of memory.
     #[error("{0}")]
     Memory(Memory),
+}
+
+impl Fault for Refusal {
+    ghost use Rattle.qq_command.specs.Reading.{memory_of};
+
+    ghost memory = { memory_of };
+
+    fn want() -> Self {
+        Refusal::Memory(Memory::Want)
+    }
 }
 
 impl From<Memory> for Refusal {

@@ -1,15 +1,16 @@
 //! Writing an entry.
-ghost use Rattle.std.specs.Prelude.{◌≡◌, ◌++◌, ◌+◌, ◌≤◌, take, drop, length, vec_len, OnOk, OnErr, IfOk, IfSome, IsOkUnless};
+ghost use Rattle.std.specs.Prelude.{◌≡◌, ◌++◌, ◌+◌, length, OnOk, OnErr, IfOk, IfSome, IsOkUnless};
 ghost use Rattle.qq_entry.specs.Range.{IsContent, AreIds, AreDeadDones, IsCommand, IsWritable};
-ghost use Rattle.qq_command.specs.Encoding.{IsPrefix, kind, u32, u64, flag, stamp, origin, content, mode, ids, dead_dones, consumer, fields, payload, encoding};
+ghost use Rattle.qq_base.specs.Fronts.{IsFront as IsPrefix};
+ghost use Rattle.qq_fields.specs.Writing.{u32, u64, flag};
+ghost use Rattle.qq_command.specs.Encoding.{kind, stamp, origin, content, mode, ids, dead_dones, consumer, fields, payload, encoding};
 
 use crate::kinds;
 use crate::lists::{put_dead_dones, put_ids};
-use crate::put::{
-    put_consumer, put_content, put_flag, put_mode, put_origin, put_session, put_stamp,
-};
+use crate::put::{put_consumer, put_content, put_mode, put_origin, put_session, put_stamp};
 use qq_base::{Memory, Term, put_u8, put_u32, put_u64};
 use qq_entry::{Command, DeadDone, Entry, Message, Mode, Origin, Stamp};
+use qq_fields::{put_flag, set_length};
 use std::alloc::Global;
 
 fn kind(command: &Command) -> u8
@@ -32,7 +33,7 @@ fn kind(command: &Command) -> u8
     }
 }
 
-#[tactic(auto, using(crate::proofs::Appends::prefix_rules))]
+#[tactic(auto, using(qq_fields::proofs::Appends::prefix_rules))]
 fn put_enqueue(
     out: &mut Vec<u8>,
     by: &Stamp,
@@ -50,7 +51,7 @@ fn put_enqueue(
     put_content(out, &message.content)
 }
 
-#[tactic(auto, using(crate::proofs::Appends::prefix_rules))]
+#[tactic(auto, using(qq_fields::proofs::Appends::prefix_rules))]
 fn put_subscribe(out: &mut Vec<u8>, stamp: &Stamp, tag: u32, by: Mode) -> Result<(), Memory>
     ensures ok { OnOk result (out.new.items
         ≡ out.old.items ++ (consumer stamp.now tag ++ mode by)) }
@@ -61,7 +62,7 @@ fn put_subscribe(out: &mut Vec<u8>, stamp: &Stamp, tag: u32, by: Mode) -> Result
     put_mode(out, by)
 }
 
-#[tactic(auto, using(crate::proofs::Appends::prefix_rules))]
+#[tactic(auto, using(qq_fields::proofs::Appends::prefix_rules))]
 fn put_credit(
     out: &mut Vec<u8>,
     stamp: &Stamp,
@@ -82,7 +83,7 @@ fn put_credit(
 }
 
 /// A stamp, a tag, and ids of deliveries.
-#[tactic(auto, using(crate::proofs::Appends::prefix_rules))]
+#[tactic(auto, using(qq_fields::proofs::Appends::prefix_rules))]
 fn put_verdict(out: &mut Vec<u8>, stamp: &Stamp, tag: u32, list: &[u64]) -> Result<(), Memory>
     requires { AreIds list.now }
     ensures ok { OnOk result (out.new.items
@@ -94,7 +95,7 @@ fn put_verdict(out: &mut Vec<u8>, stamp: &Stamp, tag: u32, list: &[u64]) -> Resu
     put_ids(out, list)
 }
 
-#[tactic(auto, using(crate::proofs::Appends::prefix_rules))]
+#[tactic(auto, using(qq_fields::proofs::Appends::prefix_rules))]
 fn put_dead_settle(out: &mut Vec<u8>, term: Term, done: &[DeadDone]) -> Result<(), Memory>
     requires { AreDeadDones done.now }
     ensures ok { OnOk result (out.new.items
@@ -106,7 +107,7 @@ fn put_dead_settle(out: &mut Vec<u8>, term: Term, done: &[DeadDone]) -> Result<(
     put_dead_dones(out, done)
 }
 
-#[tactic(auto, using(crate::proofs::Appends::prefix_rules), unfolding(crate::specs::Encoding::fields))]
+#[tactic(auto, using(qq_fields::proofs::Appends::prefix_rules), unfolding(crate::specs::Encoding::fields))]
 fn put_fields(out: &mut Vec<u8>, command: &Command) -> Result<(), Memory>
     requires { IsCommand command.now }
     ensures ok { OnOk result (out.new.items ≡ out.old.items ++ fields command.now) }
@@ -140,7 +141,7 @@ fn put_fields(out: &mut Vec<u8>, command: &Command) -> Result<(), Memory>
 }
 
 /// What the length counts.
-#[tactic(auto, using(crate::proofs::Appends::prefix_rules), unfolding(crate::specs::Encoding::payload))]
+#[tactic(auto, using(qq_fields::proofs::Appends::prefix_rules), unfolding(crate::specs::Encoding::payload))]
 fn put_payload(out: &mut Vec<u8>, entry: &Entry) -> Result<(), Memory>
     requires { IsCommand entry.now.command }
     ensures ok { OnOk result (out.new.items ≡ out.old.items ++ payload entry.now) }
@@ -152,15 +153,7 @@ fn put_payload(out: &mut Vec<u8>, entry: &Entry) -> Result<(), Memory>
     put_fields(out, &entry.command)
 }
 
-fn set_length(out: &mut Vec<u8>, place: usize, length: u32)
-    requires { place + 4 ≤ vec_len out.old }
-    ensures { out.new.items
-        ≡ take place out.old.items ++ (u32 length ++ drop (place + 4) out.old.items) }
-{
-    out[place..place + 4].copy_from_slice(&length.to_be_bytes());
-}
-
-#[tactic(auto, using(crate::proofs::Appends::prefix_rules), unfolding(crate::specs::Encoding::encoding))]
+#[tactic(auto, using(qq_fields::proofs::Appends::prefix_rules), unfolding(crate::specs::Encoding::encoding))]
 fn put_encoding(out: &mut Vec<u8>, entry: &Entry) -> Result<(), Memory>
     requires { IsWritable entry.now }
     ensures ok { OnOk result (out.new.items ≡ out.old.items ++ encoding entry.now) }

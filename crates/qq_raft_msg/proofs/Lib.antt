@@ -1,4 +1,3 @@
-mod Appends
 mod FieldLaws
+mod Numbers
 mod RpcLaws
-mod Steps

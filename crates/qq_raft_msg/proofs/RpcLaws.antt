@@ -1,21 +1,23 @@
 -- Messages and their encodings.
-use Rattle.std.proofs.Common.{◌≡◌, ℕ, zero, suc, ◌-◌, ◌^◌, ◌<◌, ◌≤◌, true, List, ◌++◌, length, take, drop, Result, Ok, Err, refl, sym, ap, subst, ◌∙◌, append_assoc, arith, lit<}
+use Rattle.std.proofs.Common.{◌≡◌, ℕ, zero, suc, ◌-◌, ◌^◌, ◌<◌, ◌≤◌, true, List, ◌++◌, length, take, Result, Ok, Err, refl, sym, ap, subst, ◌∙◌, append_assoc, arith, lit<}
 use Rattle.std.specs.Prelude.{IfOk}
 use Rattle.std.specs.Int.{w64}
-use Rattle.std.proofs.lemmas.List.{take_at, drop_at, length-append, length-take}
+use Rattle.std.proofs.lemmas.List.{take_at, length-append, length-take}
 use Rattle.qq_base.specs.Fields.{AreBytes}
 use Rattle.qq_command.specs.declared.refusal.Refusal.{Refusal}
-use Rattle.qq_command.specs.Encoding.{u8, u64, flag}
-use Rattle.qq_command.specs.Reading.{◌>>=◌, Gives}
+use Rattle.qq_fields.specs.Writing.{u8, u64, flag}
+use Rattle.qq_command.specs.Reading.{Gives, memory_of, entries_at}
 use Rattle.qq_raft_msg.specs.declared.envelope.Envelope.{Envelope}
 use Rattle.qq_raft_msg.specs.declared.rpc.Rpc.{Rpc}
 use Rattle.qq_raft_msg.specs.declared.rpc.Rpc.TheVariants.{Vote, Voted, Append, Appended, Install, Installed}
-use Rattle.qq_raft_msg.specs.Encoding.{way, entries, shadow, fields, encoding}
-use Rattle.qq_raft_msg.specs.Reading.{number_at, is_kind, kind_at, flag_at, envelope_at, entries_at, shadow_at, vote_at, voted_at, append_at, appended_at, install_at, installed_at, fields_at, rpc_at, message_at, IsRpcPrefix}
+use Rattle.qq_command.specs.Encoding.{entries}
+use Rattle.qq_raft_msg.specs.Encoding.{way, shadow, fields, encoding}
+use Rattle.qq_raft_msg.specs.Reading.{number_at, is_kind, kind_at, flag_at, envelope_at, shadow_at, vote_at, voted_at, append_at, appended_at, install_at, installed_at, fields_at, rpc_at, message_at, IsRpcPrefix}
 use Rattle.qq_raft_msg.specs.Rpc.{kind, envelope, IsEnvelope, HasFields, IsWritable}
-use Rattle.qq_command.proofs.Laws.{Takes, Takes-then, Holds, Holds-map, Reads, here, known, then_ok, in_turn}
-use Rattle.qq_raft_msg.proofs.Steps.{u64-reads}
-use Rattle.qq_raft_msg.proofs.FieldLaws.{EntryLaws, kind_takes, kind_again, flag-reads, envelope-reads, entries-reads, shadow-reads}
+use Rattle.qq_fields.proofs.Laws.{found, none_begins, Takes, Takes-then, Holds, Holds-map, Reads, here, known, then_ok, in_turn}
+use Rattle.qq_raft_msg.proofs.Numbers.{u64-reads, flag-reads}
+use Rattle.qq_raft_msg.proofs.FieldLaws.{kind_takes, kind_again, envelope-reads, shadow-reads}
+use Rattle.qq_command.proofs.EntriesLaws.{entries-reads}
 
 -- ---- what follows an envelope
 
@@ -49,14 +51,14 @@ voted_takes e bytes fits =
       envelope_is = refl;
     }))
 
-append_takes : EntryLaws → (e : Envelope) (bytes : List ℕ) → AreBytes bytes
+append_takes : (e : Envelope) (bytes : List ℕ) → AreBytes bytes
     → Holds (append_at e bytes) (Brings 3 e bytes)
 unfolding append_at fields
-append_takes laws e bytes fits =
+append_takes e bytes fits =
     then_ok (number_at w64 bytes) _ (u64-reads.takes bytes fits) (λ index p.
     then_ok (number_at w64 index.1) _ (u64-reads.takes index.1 p.0.rest_fits) (λ term q.
     then_ok (number_at w64 term.1) _ (u64-reads.takes term.1 q.0.rest_fits) (λ commit r.
-    then_ok (entries_at commit.1) _ ((entries-reads laws).takes commit.1 r.0.rest_fits) (λ es s.
+    then_ok (entries_at commit.1) _ (entries-reads.takes commit.1 r.0.rest_fits) (λ es s.
     here _ (record {
       takes = Takes-then (Takes-then (Takes-then p.0 q.0) r.0) s.0;
       range = (p.1, q.1, r.1, s.1.0, s.1.1);
@@ -101,45 +103,45 @@ installed_takes e bytes fits =
       envelope_is = refl;
     }))
 
-fields_take : EntryLaws → (k : ℕ) (e : Envelope) (bytes : List ℕ) → AreBytes bytes → 0 < k → k ≤ 6
+fields_take : (k : ℕ) (e : Envelope) (bytes : List ℕ) → AreBytes bytes → 0 < k → k ≤ 6
     → Holds (fields_at k e bytes) (Brings k e bytes)
 unfolding fields_at
-fields_take laws zero e bytes fits low high = absurd (omega (arith, low))
-fields_take laws (suc zero) e bytes fits low high = vote_takes e bytes fits
-fields_take laws (suc (suc zero)) e bytes fits low high = voted_takes e bytes fits
-fields_take laws (suc (suc (suc zero))) e bytes fits low high = append_takes laws e bytes fits
-fields_take laws (suc (suc (suc (suc zero)))) e bytes fits low high = appended_takes e bytes fits
-fields_take laws (suc (suc (suc (suc (suc zero))))) e bytes fits low high = install_takes e bytes fits
-fields_take laws (suc (suc (suc (suc (suc (suc zero)))))) e bytes fits low high = installed_takes e bytes fits
-fields_take laws (suc (suc (suc (suc (suc (suc (suc k))))))) e bytes fits low high = absurd (omega (arith, high))
+fields_take zero e bytes fits low high = absurd (omega (arith, low))
+fields_take (suc zero) e bytes fits low high = vote_takes e bytes fits
+fields_take (suc (suc zero)) e bytes fits low high = voted_takes e bytes fits
+fields_take (suc (suc (suc zero))) e bytes fits low high = append_takes e bytes fits
+fields_take (suc (suc (suc (suc zero)))) e bytes fits low high = appended_takes e bytes fits
+fields_take (suc (suc (suc (suc (suc zero))))) e bytes fits low high = install_takes e bytes fits
+fields_take (suc (suc (suc (suc (suc (suc zero)))))) e bytes fits low high = installed_takes e bytes fits
+fields_take (suc (suc (suc (suc (suc (suc (suc k))))))) e bytes fits low high = absurd (omega (arith, high))
 
-fields_again : EntryLaws → (r : Rpc) (bytes rest : List ℕ) → bytes ≡ fields r ++ rest → HasFields r
+fields_again : (r : Rpc) (bytes rest : List ℕ) → bytes ≡ fields r ++ rest → HasFields r
     → fields_at (kind r) (envelope r) bytes ≡ Ok (r, rest)
 unfolding fields_at vote_at voted_at append_at appended_at install_at installed_at fields
-fields_again laws (Vote m) bytes rest e f =
+fields_again (Vote m) bytes rest e f =
     let split : bytes ≡ u64 m.last_index.0 ++ (u64 m.last_term.0 ++ rest) = e in
     in_turn _ (number_at w64 bytes) _ (u64-reads.again m.last_index.0 bytes _ split f.0)
     (in_turn _ (number_at w64 _) _ (u64-reads.again m.last_term.0 _ rest refl f.1) refl)
-fields_again laws (Voted m) bytes rest e f =
+fields_again (Voted m) bytes rest e f =
     in_turn _ (flag_at bytes) _ (flag-reads.again m.granted bytes rest e tt) refl
-fields_again laws (Append m) bytes rest e f =
+fields_again (Append m) bytes rest e f =
     let split : bytes ≡ u64 m.prev_index.0 ++ (u64 m.prev_term.0 ++ (u64 m.commit.0 ++ (entries m.entries ++ rest))) =
     e in
     in_turn _ (number_at w64 bytes) _ (u64-reads.again m.prev_index.0 bytes _ split f.0)
     (in_turn _ (number_at w64 _) _ (u64-reads.again m.prev_term.0 _ _ refl f.1)
     (in_turn _ (number_at w64 _) _ (u64-reads.again m.commit.0 _ _ refl f.2)
-    (in_turn _ (entries_at _) _ ((entries-reads laws).again m.entries _ rest refl (f.3, f.4)) refl)))
-fields_again laws (Appended m) bytes rest e f =
+    (in_turn _ (entries_at _) _ (entries-reads.again m.entries _ rest refl (f.3, f.4)) refl)))
+fields_again (Appended m) bytes rest e f =
     let split : bytes ≡ flag m.ok ++ (u64 m.index.0 ++ rest) = e ∙ append_assoc (flag m.ok) (u64 m.index.0) rest in
     in_turn _ (flag_at bytes) _ (flag-reads.again m.ok bytes _ split tt)
     (in_turn _ (number_at w64 _) _ (u64-reads.again m.index.0 _ rest refl f) refl)
-fields_again laws (Install m) bytes rest e f =
+fields_again (Install m) bytes rest e f =
     let split : bytes ≡ u64 m.index.0 ++ (u64 m.last_term.0 ++ (u64 m.through.0 ++ (shadow m.shadow ++ rest))) = e in
     in_turn _ (number_at w64 bytes) _ (u64-reads.again m.index.0 bytes _ split f.0)
     (in_turn _ (number_at w64 _) _ (u64-reads.again m.last_term.0 _ _ refl f.1)
     (in_turn _ (number_at w64 _) _ (u64-reads.again m.through.0 _ _ refl f.2)
     (in_turn _ (shadow_at _) _ (shadow-reads.again m.shadow _ rest refl f.3) refl)))
-fields_again laws (Installed m) bytes rest e f =
+fields_again (Installed m) bytes rest e f =
     in_turn _ (number_at w64 bytes) _ (u64-reads.again m.index.0 bytes rest e f) refl
 
 -- ---- messages
@@ -170,13 +172,13 @@ whole k e bytes first second x p q b =
     (sym b.envelope_is) q in
     Takes-then (Takes-then named sent) b.takes
 
-rpc-reads : EntryLaws → Reads rpc_at encoding IsWritable
+rpc-reads : Reads rpc_at encoding IsWritable
 unfolding rpc_at encoding
-rpc-reads laws = record {
+rpc-reads = record {
   takes = λ bytes fits.
       then_ok (kind_at bytes) _ (kind_takes bytes fits) (λ k p.
       then_ok (envelope_at k.1) _ (envelope-reads.takes k.1 p.0.rest_fits) (λ e q.
-      Holds-map (fields_at k.0 e.0 e.1) (fields_take laws k.0 e.0 e.1 q.0.rest_fits p.1 p.2) (λ x b. (
+      Holds-map (fields_at k.0 e.0 e.1) (fields_take k.0 e.0 e.1 q.0.rest_fits p.1 p.2) (λ x b. (
         whole k.0 e.0 bytes k.1 e.1 x p.0 q.0 b,
         record {
           envelope = subst IsEnvelope (sym b.envelope_is) q.1;
@@ -189,7 +191,7 @@ rpc-reads laws = record {
       ∙ append_assoc (u8 (kind r)) (way (envelope r)) (fields r ++ rest) in
       in_turn _ (kind_at bytes) _ (kind_again (kind r) bytes _ split (kind_fits r) (kind_passes r))
       (in_turn _ (envelope_at _) _ (envelope-reads.again (envelope r) _ _ refl w.envelope)
-      (fields_again laws r _ rest refl w.fields));
+      (fields_again r _ rest refl w.fields));
 }
 
 prefix_of : (bytes rest : List ℕ) (r : Rpc) → Takes bytes (encoding r) rest → IsWritable r
@@ -204,51 +206,34 @@ prefix_of bytes rest r t w =
       len = len;
     }
 
-message_takes : EntryLaws → (bytes : List ℕ) → AreBytes bytes → Holds (message_at bytes) (IsRpcPrefix bytes)
+message_takes : (bytes : List ℕ) → AreBytes bytes → Holds (message_at bytes) (IsRpcPrefix bytes)
 unfolding message_at
-message_takes laws bytes fits =
-    then_ok (rpc_at bytes) _ ((rpc-reads laws).takes bytes fits) (λ x p.
+message_takes bytes fits =
+    then_ok (rpc_at bytes) _ (rpc-reads.takes bytes fits) (λ x p.
     here (x.0, length bytes - length x.1) (prefix_of bytes x.1 x.0 p.0 p.1))
 
-pub message_again : EntryLaws → (r : Rpc) (bytes rest : List ℕ) → bytes ≡ encoding r ++ rest → IsWritable r
+pub message_again : (r : Rpc) (bytes rest : List ℕ) → bytes ≡ encoding r ++ rest → IsWritable r
     → message_at bytes ≡ Ok (r, length (encoding r))
 unfolding message_at
-message_again laws r bytes rest e w =
+message_again r bytes rest e w =
     let count : length bytes - length rest ≡ length (encoding r) = omega
     (arith, ap length e, length-append (encoding r) rest) in
-    in_turn _ (rpc_at bytes) _ ((rpc-reads laws).again r bytes rest e w) (ap (λ (k : ℕ). Ok (r, k)) count)
+    in_turn _ (rpc_at bytes) _ (rpc-reads.again r bytes rest e w) (ap (λ (k : ℕ). Ok (r, k)) count)
 
-pub message_alone : EntryLaws → (bytes : List ℕ) (x : Rpc × ℕ) → AreBytes bytes → message_at bytes ≡ Ok x
+pub message_alone : (bytes : List ℕ) (x : Rpc × ℕ) → AreBytes bytes → message_at bytes ≡ Ok x
     → IsRpcPrefix bytes x
-message_alone laws bytes x fits e = known (message_at bytes) x (message_takes laws bytes fits) e
+message_alone bytes x fits e = known (message_at bytes) x (message_takes bytes fits) e
 
-pub is_found : EntryLaws → (bytes : List ℕ) (r : Result (Rpc × ℕ) Refusal) → AreBytes bytes
+pub is_found : (bytes : List ℕ) (r : Result (Rpc × ℕ) Refusal) → AreBytes bytes
     → Gives (λ x. x) r (message_at bytes) → IfOk r (λ x. IsRpcPrefix bytes x)
-is_found laws bytes (Ok x) fits given = message_alone laws bytes x fits given
-is_found laws bytes (Err e) fits given = tt
+is_found bytes r fits given = found memory_of r (message_at bytes) (message_takes bytes fits) given
 
 pub is_within : (bytes : List ℕ) (r : Result (Rpc × ℕ) Refusal) → IfOk r (λ x. IsRpcPrefix bytes x)
     → IfOk r (λ x. x.1 ≤ length bytes)
 is_within bytes (Ok x) found = omega (arith, ap length found.is, found.len, length-take x.1 bytes)
 is_within bytes (Err e) found = tt
 
-abbrev read_as : Rpc × ℕ → Result (Rpc × ℕ) Refusal
-read_as x = Ok x
-
-same_value : (x y : Rpc × ℕ) → read_as x ≡ read_as y → x ≡ y
-same_value x y e = cc
-
-pub same_message : EntryLaws → (a b : Rpc) (x y : List ℕ) → IsWritable a → IsWritable b
+pub same_message : (a b : Rpc) (x y : List ℕ) → IsWritable a → IsWritable b
     → encoding a ++ x ≡ encoding b ++ y → (a ≡ b) × (x ≡ y)
-same_message laws a b x y f g e =
-    let first : message_at (encoding a ++ x) ≡ Ok (a, length (encoding a)) =
-    message_again laws a (encoding a ++ x) x refl f in
-    let second : message_at (encoding a ++ x) ≡ Ok (b, length (encoding b)) =
-    message_again laws b (encoding a ++ x) y e g in
-    let same : a ≡ b = ap (λ (p : Rpc × ℕ). p.0)
-    (same_value (a, length (encoding a)) (b, length (encoding b)) (sym first ∙ second)) in
-    let from : encoding a ++ x ≡ encoding a ++ y = e ∙ ap (λ (c : Rpc). encoding c ++ y) (sym same) in (
-      same,
-      sym (drop_at (encoding a) x (length (encoding a)) refl) ∙ ap (drop (length (encoding a))) from
-          ∙ drop_at (encoding a) y (length (encoding a)) refl,
-    )
+same_message a b x y f g e =
+    none_begins message_at encoding a b x y (message_again a _ x refl f) (message_again b _ y refl g) e

@@ -1,8 +1,7 @@
 -- The one encoding of each message. Numbers have their high byte first.
 use Rattle.std.specs.Prelude.{ℕ, List, ◌++◌, length}
-use Rattle.std.specs.List.{flat_map}
-use Rattle.qq_entry.specs.declared.command.Entry.{Entry}
-use Rattle.qq_command.specs.Encoding.{u8, u32, u64, flag, encoding as entry}
+use Rattle.qq_fields.specs.Writing.{u8, u32, u64, flag}
+use Rattle.qq_command.specs.Encoding.{entries}
 use Rattle.qq_raft_msg.specs.declared.envelope.Envelope.{Envelope}
 use Rattle.qq_raft_msg.specs.declared.rpc.Rpc.{Rpc}
 use Rattle.qq_raft_msg.specs.declared.rpc.Rpc.TheVariants.{Vote, Voted, Append, Appended, Install, Installed}
@@ -10,10 +9,6 @@ use Rattle.qq_raft_msg.specs.Rpc as rpc
 
 unfoldable pub way : Envelope → List ℕ
 way e = u8 e.from.0 ++ u8 e.to.0 ++ u64 e.term.0
-
--- a count, and so many entries
-unfoldable pub entries : List Entry → List ℕ
-entries es = u32 (length es) ++ flat_map entry es
 
 -- a length, and so many bytes
 unfoldable pub shadow : List ℕ → List ℕ

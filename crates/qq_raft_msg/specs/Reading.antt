@@ -1,13 +1,13 @@
 -- Reading a message from a prefix of bytes, field by field, with the first refusal that applies. Bytes that end before
 -- the message does are too short.
-use Rattle.std.specs.Prelude.{◌≡◌, ◌-◌, ℕ, Bool, List, length, take, drop, Option, Some, None, Result, Ok, Err, nat_lt, nat_le, ◌==◌, ◌&&◌, if◌then◌else◌}
+use Rattle.std.specs.Prelude.{◌≡◌, ◌-◌, ℕ, Bool, List, length, take, Result, Ok, Err, nat_lt, nat_le, ◌==◌, ◌&&◌, if◌then◌else◌}
 use Rattle.std.specs.Int.{Width, w8, w32, w64}
-use Rattle.qq_base.specs.Fields as fields
 use Rattle.qq_base.specs.declared.ids.NodeId.{NodeId}
-use Rattle.qq_entry.specs.declared.command.Entry.{Entry}
 use Rattle.qq_command.specs.declared.refusal.Refusal.{Refusal}
-use Rattle.qq_command.specs.declared.refusal.Refusal.TheVariants.{Short, BadKind}
-use Rattle.qq_command.specs.Reading.{◌>>=◌, Field, checked, many, entry_at}
+use Rattle.qq_command.specs.declared.refusal.Refusal.TheVariants.{Short, BadKind, BadField}
+use Rattle.qq_fields.specs.Reading as fields
+use Rattle.qq_fields.specs.Reading.{◌>>=◌}
+use Rattle.qq_command.specs.Reading.{Field, checked, entries_at}
 use Rattle.qq_log.specs.declared.limits.TheConstants.{NODE_LIMIT}
 use Rattle.qq_raft_msg.specs.declared.envelope.Envelope.{Envelope}
 use Rattle.qq_raft_msg.specs.declared.kinds.TheConstants as kinds
@@ -16,15 +16,14 @@ use Rattle.qq_raft_msg.specs.declared.rpc.Rpc.TheVariants.{Vote, Voted, Append, 
 use Rattle.qq_raft_msg.specs.Rpc.{IsWritable}
 use Rattle.qq_raft_msg.specs.Encoding.{encoding}
 
-abbrev pub field_of : List ℕ → Option (ℕ × ℕ) → Field ℕ
-field_of bytes None = Err Short
-field_of bytes (Some x) = Ok (x.0, drop x.1 bytes)
+abbrev pub number_at : Width → List ℕ → Field ℕ
+number_at w bytes = fields.number_at Short w bytes
 
-unfoldable pub number_at : Width → List ℕ → Field ℕ
-number_at w bytes = field_of bytes (fields.number_at w bytes)
+abbrev pub bytes_at : ℕ → List ℕ → Field (List ℕ)
+bytes_at n bytes = fields.bytes_at Short n bytes
 
-unfoldable pub bytes_at : ℕ → List ℕ → Field (List ℕ)
-bytes_at n bytes = if nat_lt (length bytes) n then Err Short else Ok (take n bytes, drop n bytes)
+abbrev pub flag_at : List ℕ → Field Bool
+flag_at bytes = fields.flag_at Short BadField bytes
 
 abbrev pub is_kind : ℕ → Bool
 is_kind n = nat_lt 0 n && nat_le n kinds.INSTALLED
@@ -42,29 +41,12 @@ node_at bytes = do
   n ← checked is_node (number_at w8 bytes)
   Ok (record { 0 = n.0 }, n.1)
 
-unfoldable pub flag_at : List ℕ → Field Bool
-flag_at bytes = do
-  n ← checked (λ n. nat_lt n 2) (number_at w8 bytes)
-  Ok (n.0 == 1, n.1)
-
 unfoldable pub envelope_at : List ℕ → Field Envelope
 envelope_at bytes = do
   from ← node_at bytes
   to ← node_at from.1
   term ← number_at w64 to.1
   Ok (record { from = from.0; to = to.0; term = record { 0 = term.0 } }, term.1)
-
--- an entry, and the bytes behind it
-unfoldable pub entry_field_at : List ℕ → Field Entry
-entry_field_at bytes = do
-  x ← entry_at bytes
-  Ok (x.0, drop x.1 bytes)
-
--- a count, and so many entries
-unfoldable pub entries_at : List ℕ → Field (List Entry)
-entries_at bytes = do
-  count ← number_at w32 bytes
-  many entry_field_at count.0 count.1
 
 -- a length, and so many bytes
 unfoldable pub shadow_at : List ℕ → Field (List ℕ)

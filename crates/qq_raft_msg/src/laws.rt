@@ -6,8 +6,6 @@ ghost use Rattle.qq_raft_msg.specs.Reading.{message_at, IsRpcPrefix};
 ghost use Rattle.qq_raft_msg.specs.Rpc.{IsWritable};
 ghost use Rattle.qq_raft_msg.specs.declared.rpc.Rpc.{Rpc};
 
-use qq_command::entries_read_back;
-
 /// A law: a message's encoding is read again whatever follows it, and what is read has that encoding and
 /// no other.
 pub fn messages_read_back()
@@ -15,14 +13,10 @@ pub fn messages_read_back()
         message_at (encoding r ++ rest) ≡ Ok (r, length (encoding r)) }
     ensures alone { (bytes : List ℕ) (x : Rpc × ℕ) → AreBytes bytes → message_at bytes ≡ Ok x →
         IsRpcPrefix bytes x }
-{
-    entries_read_back();
-}
+{}
 
 /// A law: no message's encoding begins another's, so what was written is read again whatever follows it.
 pub fn no_message_begins_another()
     ensures { (a b : Rpc) (x y : List ℕ) → IsWritable a → IsWritable b →
         encoding a ++ x ≡ encoding b ++ y → (a ≡ b) × (x ≡ y) }
-{
-    entries_read_back();
-}
+{}

@@ -8,19 +8,20 @@ ghost use Rattle.qq_raft_msg.specs.Rpc.{IsWritable};
 ghost use Rattle.qq_raft_msg.specs.declared.rpc.Rpc.{Rpc};
 
 use crate::envelope::Envelope;
-use crate::fields::{entries_at, envelope_at, flag_at, kind_at, shadow_at, u64_at};
+use crate::fields::{envelope_at, kind_at, shadow_at};
 use crate::kinds;
 use crate::rpc::{AppendMsg, AppendedMsg, InstallMsg, InstalledMsg, Rpc, VoteMsg, VotedMsg};
 use qq_base::{Index, Memory, Term};
-use qq_command::{Refusal, entries_read_back};
+use qq_command::{Refusal, entries_at};
+use qq_fields::{flag_at, u64_at};
 use std::alloc::Global;
 
 #[tactic(auto, unfolding(crate::specs::Reading::vote_at))]
 fn vote_at(envelope: Envelope, bytes: &[u8]) -> Result<(Rpc, &[u8]), Refusal>
     ensures { Gives (λ x. (x.0, x.1.now)) result (vote_at envelope bytes.now) }
 {
-    let (index, rest) = u64_at(bytes)?;
-    let (term, rest) = u64_at(rest)?;
+    let (index, rest) = u64_at(bytes, Refusal::Short)?;
+    let (term, rest) = u64_at(rest, Refusal::Short)?;
     let message = VoteMsg {
         from: envelope.from,
         to: envelope.to,
@@ -35,7 +36,7 @@ fn vote_at(envelope: Envelope, bytes: &[u8]) -> Result<(Rpc, &[u8]), Refusal>
 fn voted_at(envelope: Envelope, bytes: &[u8]) -> Result<(Rpc, &[u8]), Refusal>
     ensures { Gives (λ x. (x.0, x.1.now)) result (voted_at envelope bytes.now) }
 {
-    let (granted, rest) = flag_at(bytes)?;
+    let (granted, rest) = flag_at(bytes, Refusal::Short, Refusal::BadField)?;
     let message = VotedMsg {
         from: envelope.from,
         to: envelope.to,
@@ -49,9 +50,9 @@ fn voted_at(envelope: Envelope, bytes: &[u8]) -> Result<(Rpc, &[u8]), Refusal>
 fn append_at(alloc: Global, envelope: Envelope, bytes: &[u8]) -> Result<(Rpc, &[u8]), Refusal>
     ensures { Gives (λ x. (x.0, x.1.now)) result (append_at envelope bytes.now) }
 {
-    let (index, rest) = u64_at(bytes)?;
-    let (term, rest) = u64_at(rest)?;
-    let (commit, rest) = u64_at(rest)?;
+    let (index, rest) = u64_at(bytes, Refusal::Short)?;
+    let (term, rest) = u64_at(rest, Refusal::Short)?;
+    let (commit, rest) = u64_at(rest, Refusal::Short)?;
     let (entries, rest) = entries_at(alloc, rest)?;
     let message = AppendMsg {
         from: envelope.from,
@@ -69,8 +70,8 @@ fn append_at(alloc: Global, envelope: Envelope, bytes: &[u8]) -> Result<(Rpc, &[
 fn appended_at(envelope: Envelope, bytes: &[u8]) -> Result<(Rpc, &[u8]), Refusal>
     ensures { Gives (λ x. (x.0, x.1.now)) result (appended_at envelope bytes.now) }
 {
-    let (ok, rest) = flag_at(bytes)?;
-    let (index, rest) = u64_at(rest)?;
+    let (ok, rest) = flag_at(bytes, Refusal::Short, Refusal::BadField)?;
+    let (index, rest) = u64_at(rest, Refusal::Short)?;
     let message = AppendedMsg {
         from: envelope.from,
         to: envelope.to,
@@ -85,9 +86,9 @@ fn appended_at(envelope: Envelope, bytes: &[u8]) -> Result<(Rpc, &[u8]), Refusal
 fn install_at(alloc: Global, envelope: Envelope, bytes: &[u8]) -> Result<(Rpc, &[u8]), Refusal>
     ensures { Gives (λ x. (x.0, x.1.now)) result (install_at envelope bytes.now) }
 {
-    let (index, rest) = u64_at(bytes)?;
-    let (term, rest) = u64_at(rest)?;
-    let (through, rest) = u64_at(rest)?;
+    let (index, rest) = u64_at(bytes, Refusal::Short)?;
+    let (term, rest) = u64_at(rest, Refusal::Short)?;
+    let (through, rest) = u64_at(rest, Refusal::Short)?;
     let (shadow, rest) = shadow_at(alloc, rest)?;
     let message = InstallMsg {
         from: envelope.from,
@@ -105,7 +106,7 @@ fn install_at(alloc: Global, envelope: Envelope, bytes: &[u8]) -> Result<(Rpc, &
 fn installed_at(envelope: Envelope, bytes: &[u8]) -> Result<(Rpc, &[u8]), Refusal>
     ensures { Gives (λ x. (x.0, x.1.now)) result (installed_at envelope bytes.now) }
 {
-    let (index, rest) = u64_at(bytes)?;
+    let (index, rest) = u64_at(bytes, Refusal::Short)?;
     let message = InstalledMsg {
         from: envelope.from,
         to: envelope.to,
@@ -168,6 +169,5 @@ pub fn decode(alloc: Global, bytes: &[u8]) -> Result<(Rpc, usize), Refusal>
     ensures exact { Gives (λ x. x) result (message_at bytes.now) }
     ensures want { (m : Memory) → result ≡ Err (Refusal.Memory m) → m ≡ Memory.Want }
 {
-    entries_read_back();
     message_at(alloc, bytes)
 }

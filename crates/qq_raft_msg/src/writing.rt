@@ -1,27 +1,20 @@
 //! Writing a message.
-ghost use Rattle.std.specs.Prelude.{◌≡◌, ◌++◌, ◌<◌, ◌^◌, length, All, OnOk, OnErr, IfOk, IsOkUnless};
-ghost use Rattle.std.specs.List.{flat_map};
-ghost use Rattle.qq_command.specs.Encoding.{IsPrefix, flag, u64, encoding as entry};
-ghost use Rattle.qq_entry.specs.Range.{IsWritable as IsEntry};
-ghost use Rattle.qq_raft_msg.specs.Encoding.{way, entries, shadow, fields, encoding};
+ghost use Rattle.std.specs.Prelude.{◌≡◌, ◌++◌, ◌<◌, ◌^◌, length, OnOk, OnErr, IfOk, IsOkUnless};
+ghost use Rattle.qq_fields.specs.Writing.{u64};
+ghost use Rattle.qq_base.specs.Fronts.{IsFront as IsPrefix};
+ghost use Rattle.qq_command.specs.Encoding.{entries};
+ghost use Rattle.qq_raft_msg.specs.Encoding.{way, shadow, fields, encoding};
 ghost use Rattle.qq_raft_msg.specs.Rpc.{HasFields, IsWritable};
 ghost use Rattle.qq_raft_msg.specs.declared.rpc.Rpc.TheVariants.{Vote, Append, Install};
 
 use crate::envelope::Envelope;
 use crate::rpc::{AppendMsg, InstallMsg, Rpc, VoteMsg};
 use qq_base::{Memory, put_u8, put_u32, put_u64};
-use qq_command::{Entry, put_entry};
+use qq_command::put_entries;
+use qq_fields::{put_bytes, put_flag};
 use std::alloc::Global;
 
-fn put_flag(out: &mut Vec<u8>, value: bool) -> Result<(), Memory>
-    ensures ok { OnOk result (out.new.items ≡ out.old.items ++ flag value) }
-    ensures err { OnErr result (IsPrefix out.old.items out.new.items) }
-    ensures want { IsOkUnless result Memory.Want }
-{
-    put_u8(out, if value { 1 } else { 0 })
-}
-
-#[tactic(auto, using(crate::proofs::Appends::begins), unfolding(crate::specs::Encoding::way))]
+#[tactic(auto, using(qq_fields::proofs::Appends::prefix_rules), unfolding(crate::specs::Encoding::way))]
 fn put_envelope(out: &mut Vec<u8>, envelope: Envelope) -> Result<(), Memory>
     ensures ok { OnOk result (out.new.items ≡ out.old.items ++ way envelope) }
     ensures err { OnErr result (IsPrefix out.old.items out.new.items) }
@@ -32,41 +25,7 @@ fn put_envelope(out: &mut Vec<u8>, envelope: Envelope) -> Result<(), Memory>
     put_u64(out, envelope.term.0)
 }
 
-#[tactic(auto, using(crate::proofs::Appends::begins))]
-fn put_each_entry(out: &mut Vec<u8>, list: &[Entry]) -> Result<(), Memory>
-    requires { All IsEntry list.now }
-    ensures ok { OnOk result (out.new.items ≡ out.old.items ++ flat_map entry list.now) }
-    ensures err { OnErr result (IsPrefix out.old.items out.new.items) }
-    ensures want { IsOkUnless result Memory.Want }
-{
-    'list: for entry in list {
-        put_entry(out, entry)?;
-    }
-    Ok(())
-}
-
-#[tactic(auto, using(crate::proofs::Appends::begins), unfolding(crate::specs::Encoding::entries))]
-fn put_entries(out: &mut Vec<u8>, list: &[Entry]) -> Result<(), Memory>
-    requires each { All IsEntry list.now }
-    requires count { length list.now < 2 ^ 32 }
-    ensures ok { OnOk result (out.new.items ≡ out.old.items ++ entries list.now) }
-    ensures err { OnErr result (IsPrefix out.old.items out.new.items) }
-    ensures want { IsOkUnless result Memory.Want }
-{
-    put_u32(out, list.len() as u32)?;
-    put_each_entry(out, list)
-}
-
-fn put_bytes(out: &mut Vec<u8>, bytes: &[u8]) -> Result<(), Memory>
-    ensures ok { OnOk result (out.new.items ≡ out.old.items ++ bytes.now) }
-    ensures err { OnErr result (out.new.items ≡ out.old.items) }
-    ensures want { IsOkUnless result Memory.Want }
-{
-    out.extend_from_slice(bytes)?;
-    Ok(())
-}
-
-#[tactic(auto, using(crate::proofs::Appends::begins), unfolding(crate::specs::Encoding::shadow))]
+#[tactic(auto, using(qq_fields::proofs::Appends::prefix_rules), unfolding(crate::specs::Encoding::shadow))]
 fn put_shadow(out: &mut Vec<u8>, bytes: &[u8]) -> Result<(), Memory>
     requires { length bytes.now < 2 ^ 32 }
     ensures ok { OnOk result (out.new.items ≡ out.old.items ++ shadow bytes.now) }
@@ -77,7 +36,7 @@ fn put_shadow(out: &mut Vec<u8>, bytes: &[u8]) -> Result<(), Memory>
     put_bytes(out, bytes)
 }
 
-#[tactic(auto, using(crate::proofs::Appends::begins))]
+#[tactic(auto, using(qq_fields::proofs::Appends::prefix_rules))]
 fn put_numbers(out: &mut Vec<u8>, first: u64, second: u64, third: u64) -> Result<(), Memory>
     ensures ok { OnOk result (out.new.items
         ≡ out.old.items ++ (u64 first ++ u64 second ++ u64 third)) }
@@ -89,7 +48,7 @@ fn put_numbers(out: &mut Vec<u8>, first: u64, second: u64, third: u64) -> Result
     put_u64(out, third)
 }
 
-#[tactic(auto, using(crate::proofs::Appends::begins), unfolding(crate::specs::Encoding::fields))]
+#[tactic(auto, using(qq_fields::proofs::Appends::prefix_rules), unfolding(crate::specs::Encoding::fields))]
 fn put_vote(out: &mut Vec<u8>, m: &VoteMsg) -> Result<(), Memory>
     ensures ok { OnOk result (out.new.items ≡ out.old.items ++ fields (Vote m.now)) }
     ensures err { OnErr result (IsPrefix out.old.items out.new.items) }
@@ -99,7 +58,7 @@ fn put_vote(out: &mut Vec<u8>, m: &VoteMsg) -> Result<(), Memory>
     put_u64(out, m.last_term.0)
 }
 
-#[tactic(auto, using(crate::proofs::Appends::begins), unfolding(crate::specs::Encoding::fields))]
+#[tactic(auto, using(qq_fields::proofs::Appends::prefix_rules), unfolding(crate::specs::Encoding::fields))]
 fn put_append(out: &mut Vec<u8>, m: &AppendMsg) -> Result<(), Memory>
     requires { HasFields (Append m.now) }
     ensures ok { OnOk result (out.new.items ≡ out.old.items ++ fields (Append m.now)) }
@@ -110,7 +69,7 @@ fn put_append(out: &mut Vec<u8>, m: &AppendMsg) -> Result<(), Memory>
     put_entries(out, m.entries.as_slice())
 }
 
-#[tactic(auto, using(crate::proofs::Appends::begins), unfolding(crate::specs::Encoding::fields))]
+#[tactic(auto, using(qq_fields::proofs::Appends::prefix_rules), unfolding(crate::specs::Encoding::fields))]
 fn put_install(out: &mut Vec<u8>, m: &InstallMsg) -> Result<(), Memory>
     requires { HasFields (Install m.now) }
     ensures ok { OnOk result (out.new.items ≡ out.old.items ++ fields (Install m.now)) }
@@ -121,7 +80,7 @@ fn put_install(out: &mut Vec<u8>, m: &InstallMsg) -> Result<(), Memory>
     put_shadow(out, m.shadow.as_slice())
 }
 
-#[tactic(auto, using(crate::proofs::Appends::begins), unfolding(crate::specs::Encoding::fields))]
+#[tactic(auto, using(qq_fields::proofs::Appends::prefix_rules), unfolding(crate::specs::Encoding::fields))]
 fn put_fields(out: &mut Vec<u8>, rpc: &Rpc) -> Result<(), Memory>
     requires { HasFields rpc.now }
     ensures ok { OnOk result (out.new.items ≡ out.old.items ++ fields rpc.now) }
@@ -141,7 +100,7 @@ fn put_fields(out: &mut Vec<u8>, rpc: &Rpc) -> Result<(), Memory>
     }
 }
 
-#[tactic(auto, using(crate::proofs::Appends::begins), unfolding(crate::specs::Encoding::encoding))]
+#[tactic(auto, using(qq_fields::proofs::Appends::prefix_rules), unfolding(crate::specs::Encoding::encoding))]
 fn put_rpc(out: &mut Vec<u8>, rpc: &Rpc) -> Result<(), Memory>
     requires { IsWritable rpc.now }
     ensures ok { OnOk result (out.new.items ≡ out.old.items ++ encoding rpc.now) }

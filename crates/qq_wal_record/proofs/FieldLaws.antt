@@ -1,24 +1,22 @@
 -- Fields and their encodings.
-use Rattle.std.proofs.Common.{◌≡◌, ℕ, zero, suc, ◌+◌, ◌^◌, ◌<◌, ◌≤◌, Bool, true, false, cond, ltb, eqb, List, ◌++◌, length, drop, Option, Some, None, Result, Ok, Err, refl, sym, ap, subst, ◌∙◌, arith, inl, inr}
+use Rattle.std.proofs.Common.{◌≡◌, ℕ, zero, suc, ◌^◌, ◌<◌, ◌≤◌, Bool, true, false, cond, ltb, eqb, ◌++◌, length, Option, Some, None, Result, Ok, Err, refl, sym, ap, subst, arith, inl, inr}
 use Rattle.std.specs.Prelude.{All, IfSome}
-use Rattle.std.specs.List.{flat_map}
-use Rattle.std.specs.Int.{w8, w32, w64}
+use Rattle.std.specs.Int.{w8, w64}
 use Rattle.std.proofs.lemmas.Bool.{cases_Bool, ltb-false, le-ltb, eqb-true}
-use Rattle.std.proofs.lemmas.List.{drop_at, take-append-drop}
-use Rattle.std.proofs.lemmas.List.Elements.{recursion_from_All, All-from_recursion}
-use Rattle.qq_base.specs.Fields.{AreBytes}
 use Rattle.qq_base.specs.declared.ids.NodeId.{NodeId}
-use Rattle.qq_entry.specs.declared.command.Entry.{Entry}
 use Rattle.qq_entry.specs.Range.{IsWritable as IsEntry}
 use Rattle.qq_command.specs.declared.refusal.Refusal.{Refusal}
-use Rattle.qq_command.specs.Encoding.{u8, u32, u64, encoding}
-use Rattle.qq_command.specs.Reading.{entry_at, IsEntryPrefix}
+use Rattle.qq_fields.specs.Writing.{u8, u64}
 use Rattle.qq_log.specs.declared.limits.TheConstants.{NODE_LIMIT}
 use Rattle.qq_log.specs.Writable.{IsVote, IsHead, IsSegment}
 use Rattle.qq_wal_record.specs.declared.record.NoRecord.TheVariants.{Field}
-use Rattle.qq_wal_record.specs.Encoding.{vote_number, vote, head, segment, entries, segments}
-use Rattle.qq_wal_record.specs.Reading.{number_at, vote_of, vote_at, head_at, segment_at, taken_from, entry_field_at, entries_at, segments_at, many}
-use Rattle.qq_wal_record.proofs.Steps.{Takes, Takes-then, Holds, Holds-map, Reads, here, then_ok, where_false, in_turn, AreBytes-drop, u8-reads, u32-reads, u64-reads, many-takes, many-again}
+use Rattle.qq_command.specs.Encoding.{entries}
+use Rattle.qq_wal_record.specs.Encoding.{vote_number, vote, head, segment, segments}
+use Rattle.qq_wal_record.specs.Reading.{as_field, number_at, vote_of, vote_at, head_at, segment_at, entries_at, segments_at}
+use Rattle.qq_fields.proofs.Laws.{list-reads, Takes, Takes-then, Holds, Reads, here, then_ok, where_false, in_turn}
+use Rattle.qq_command.specs.Reading as commands
+use Rattle.qq_command.proofs.EntriesLaws as laws
+use Rattle.qq_wal_record.proofs.Numbers.{u8-reads, u64-reads}
 
 -- ---- votes
 
@@ -104,62 +102,18 @@ segment-reads = record {
 
 pub segments-reads : Reads segments_at segments (λ spans. All IsSegment spans × (length spans < 2 ^ 32))
 unfolding segments_at segments
-segments-reads = record {
-  takes = λ bytes fits.
-      then_ok (number_at w32 bytes) _ (u32-reads.takes bytes fits) (λ n p.
-      Holds-map (many segment_at n.0 n.1) (many-takes segment-reads n.0 n.1 p.0.rest_fits) (λ x q. (
-        Takes-then (subst (λ (k : ℕ). Takes bytes (u32 k) n.1) (sym q.1) p.0) q.0,
-        (All-from_recursion IsSegment x.0 q.2, subst (λ (k : ℕ). k < 2 ^ 32) (sym q.1) p.1),
-      )));
-  again = λ spans bytes rest e f.
-      let split : bytes ≡ u32 (length spans) ++ (flat_map segment spans ++ rest) = e in
-      in_turn _ (number_at w32 bytes) _ (u32-reads.again (length spans) bytes _ split f.1)
-      (many-again segment-reads spans _ rest refl (recursion_from_All IsSegment spans f.0));
-}
+segments-reads = list-reads Field segment-reads
 
 -- ---- entries
 
--- what is known of an entry's encoding
-pub record EntryLaws : Type 0 where
-  pub again : (e : Entry) (rest : List ℕ) → IsEntry e → entry_at (encoding e ++ rest) ≡ Ok (e, length (encoding e))
-  pub alone : (bytes : List ℕ) (x : Entry × ℕ) → AreBytes bytes → entry_at bytes ≡ Ok x → IsEntryPrefix bytes x
+-- what holds of a value holds whatever the refusals are called
+as_field-holds : {A : Type 0} {P : A → Type 0} (r : Result A Refusal) → Holds r P → Holds (as_field r) P
+as_field-holds (Ok x) h = here x h.value
+as_field-holds (Err e) h = record { value = tt }
 
-entry_taken : (bytes : List ℕ) (r : Result (Entry × ℕ) Refusal) → AreBytes bytes
-    → ((x : Entry × ℕ) → r ≡ Ok x → IsEntryPrefix bytes x)
-    → Holds (taken_from bytes r) (λ x. Takes bytes (encoding x.0) x.1 × IsEntry x.0)
-entry_taken bytes (Ok x) fits law =
-    let f = law x refl in
-    here (x.0, drop x.1 bytes) (
-      record {
-        parts = sym (take-append-drop x.1 bytes)
-            ∙ ap (λ (t : List ℕ). t ++ drop x.1 bytes) f.is;
-        rest_fits = AreBytes-drop x.1 bytes fits;
-      },
-      f.writable,
-    )
-entry_taken bytes (Err e) fits law = record { value = tt }
-
-entry-reads : EntryLaws → Reads entry_field_at encoding IsEntry
-unfolding entry_field_at
-entry-reads laws = record {
-  takes = λ bytes fits. entry_taken bytes (entry_at bytes) fits (λ x e. laws.alone bytes x fits e);
-  again = λ x bytes rest e f.
-      let read : entry_at bytes ≡ Ok (x, length (encoding x)) = ap entry_at e ∙ laws.again x rest f in
-      rw read (ap (λ (t : List ℕ). Ok (x, t))
-      (ap (drop (length (encoding x))) e ∙ drop_at (encoding x) rest (length (encoding x)) refl));
-}
-
-pub entries-reads : EntryLaws → Reads entries_at entries (λ es. All IsEntry es × (length es < 2 ^ 32))
-unfolding entries_at entries
-entries-reads laws = record {
-  takes = λ bytes fits.
-      then_ok (number_at w32 bytes) _ (u32-reads.takes bytes fits) (λ n p.
-      Holds-map (many entry_field_at n.0 n.1) (many-takes (entry-reads laws) n.0 n.1 p.0.rest_fits) (λ x q. (
-        Takes-then (subst (λ (k : ℕ). Takes bytes (u32 k) n.1) (sym q.1) p.0) q.0,
-        (All-from_recursion IsEntry x.0 q.2, subst (λ (k : ℕ). k < 2 ^ 32) (sym q.1) p.1),
-      )));
-  again = λ es bytes rest e f.
-      let split : bytes ≡ u32 (length es) ++ (flat_map encoding es ++ rest) = e in
-      in_turn _ (number_at w32 bytes) _ (u32-reads.again (length es) bytes _ split f.1)
-      (many-again (entry-reads laws) es _ rest refl (recursion_from_All IsEntry es f.0));
+pub entries-reads : Reads entries_at entries (λ es. All IsEntry es × (length es < 2 ^ 32))
+unfolding entries_at
+entries-reads = record {
+  takes = λ bytes fits. as_field-holds (commands.entries_at bytes) (laws.entries-reads.takes bytes fits);
+  again = λ es bytes rest e f. ap as_field (laws.entries-reads.again es bytes rest e f);
 }

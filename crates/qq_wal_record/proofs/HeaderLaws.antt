@@ -1,20 +1,19 @@
 -- Headers and their encodings.
-use Rattle.std.proofs.Common.{◌≡◌, ℕ, ◌+◌, ◌^◌, ◌<◌, ◌≤◌, Bool, true, false, cond, ltb, eqb, List, ◌++◌, length, take, drop, Some, Result, Ok, Err, refl, sym, ap, subst, ◌∙◌, arith}
+use Rattle.std.proofs.Common.{◌≡◌, ℕ, ◌^◌, ◌<◌, ◌≤◌, Bool, true, false, cond, ltb, eqb, List, ◌++◌, length, take, drop, Some, Result, Ok, Err, refl, sym, ap, subst, ◌∙◌, arith}
 use Rattle.std.specs.Int.{Width, w8, w64, byte_len, from_be_bytes, to_be_bytes}
 use Rattle.std.specs.Cmp.Lexicographic.{bytes_decides}
 use Rattle.std.proofs.lemmas.Bool.{ltb-false, le-ltb, eqb-true}
 use Rattle.std.proofs.lemmas.List.{take-append-drop, take_at, length-append, length-drop}
 use Rattle.std.proofs.lemmas.Nat.{from_be_bytes-to_be_bytes_8}
-use Rattle.qq_base.specs.Fields.{AreBytes, ReadsBack}
-use Rattle.qq_base.specs.Fields.{number_at as number_in}
+use Rattle.qq_base.specs.Fields.{AreBytes, ReadsBack, number_at as number_in}
 use Rattle.qq_base.proofs.Numbers.{back8, back64}
-use Rattle.qq_command.specs.Encoding.{u8, u64}
+use Rattle.qq_fields.specs.Writing.{u8, u64}
 use Rattle.qq_wal_record.specs.declared.header.Header.{Header}
 use Rattle.qq_wal_record.specs.declared.header.NoHeader.{NoHeader}
 use Rattle.qq_wal_record.specs.Encoding.{magic, header_body, header_encoding}
 use Rattle.qq_wal_record.specs.Mark.{mark, same_bytes}
 use Rattle.qq_wal_record.specs.Reading.{long_at, header_at, IsHeader, IsHeaderAt}
-use Rattle.qq_wal_record.proofs.Steps.{AreBytes-drop}
+use Rattle.qq_fields.proofs.Laws.{AreBytes-drop}
 use Rattle.qq_wal_record.proofs.Lengths.{mark_len, header_len}
 
 -- the header with these numbers

@@ -5,7 +5,8 @@ use Rattle.std.proofs.lemmas.List.{length-append, length-take}
 use Rattle.std.proofs.lemmas.List.Concat.{flat_map-cons}
 use Rattle.sha2.specs.Sha256.{sha256, digest_bytes, final_hash, initial_hash_256}
 use Rattle.qq_entry.specs.declared.command.Entry.{Entry}
-use Rattle.qq_command.specs.Encoding.{encoding, u32, u64}
+use Rattle.qq_fields.specs.Writing.{u32, u64, list}
+use Rattle.qq_command.specs.Encoding.{encoding, entries}
 use Rattle.qq_log.specs.declared.head.SnapshotHead.{SnapshotHead}
 use Rattle.qq_log.specs.declared.head.Span.{Span}
 use Rattle.qq_log.specs.declared.lane.Carry.{Carry as QueueCarry}
@@ -15,7 +16,7 @@ use Rattle.qq_log.specs.Writable.{payload_length as op_length, carry_length}
 use Rattle.qq_wal_record.specs.declared.record.LogRecord.{LogRecord}
 use Rattle.qq_wal_record.specs.declared.record.LogRecord.TheVariants.{Op, Carry}
 use Rattle.qq_wal_record.specs.declared.header.Header.{Header}
-use Rattle.qq_wal_record.specs.Encoding.{head, segment, entries, segments, change_payload, op_payload, carry_payload, payload, inside, body, record_mark, record_encoding, header_body, header_encoding}
+use Rattle.qq_wal_record.specs.Encoding.{head, segment, segments, change_payload, op_payload, carry_payload, payload, inside, body, record_mark, record_encoding, header_body, header_encoding}
 use Rattle.qq_wal_record.specs.Mark.{mark}
 use Rattle.qq_wal_record.specs.Record.{payload_length, IsWritable}
 
@@ -73,13 +74,13 @@ unfolding head
 head_len h = refl
 
 op_len : (op : QueueOp) → length (op_payload op) ≡ op_length op
-unfolding change_payload entries head segment
+unfolding change_payload entries list head segment
 op_len (Change queue op term by keep es) = omega arith
 op_len (SnapshotMade queue op h file) = refl
 op_len (SegmentMade queue op file first last) = refl
 
 carry_len : (c : QueueCarry) → length (carry_payload c) ≡ carry_length c
-unfolding carry_payload segments head
+unfolding carry_payload segments list head
 carry_len c = omega (arith, segments_len c.segments, length-append (flat_map segment c.segments) (u64 c.last.0))
 
 pub payload_len : (r : LogRecord) → length (payload r) ≡ payload_length r

@@ -1,7 +1,5 @@
-mod Appends
 mod FieldLaws
 mod HeaderLaws
 mod Lengths
-mod Loop
+mod Numbers
 mod RecordLaws
-mod Steps

@@ -8,7 +8,7 @@ use Rattle.std.proofs.lemmas.List.{append-nil, nil_from_length, take-append-drop
 use Rattle.qq_base.specs.Fields.{AreBytes}
 use Rattle.qq_base.proofs.Numbers.{AreBytes-take}
 use Rattle.qq_base.specs.declared.ids.QueueId.{QueueId}
-use Rattle.qq_command.specs.Encoding.{u8, u32, u64}
+use Rattle.qq_fields.specs.Writing.{u8, u32, u64}
 use Rattle.qq_log.specs.declared.lane.Carry.{Carry as QueueCarry}
 use Rattle.qq_log.specs.declared.op.Op.TheVariants.{Change, SnapshotMade, SegmentMade}
 use Rattle.qq_log.specs.Writable.{IsLong, IsQueue, IsVote, IsHead, IsSegment, HasFields}
@@ -16,12 +16,14 @@ use Rattle.qq_wal_record.specs.declared.record.LogRecord.{LogRecord}
 use Rattle.qq_wal_record.specs.declared.record.LogRecord.TheVariants.{Op, Carry}
 use Rattle.qq_wal_record.specs.declared.record.NoRecord.{NoRecord}
 use Rattle.qq_wal_record.specs.declared.record.NoRecord.TheVariants.{Short, Mark, Kind, Field}
-use Rattle.qq_wal_record.specs.Encoding.{vote, head, segment, entries, segments, change_payload, carry_payload, payload, inside, body, record_mark, record_encoding}
+use Rattle.qq_command.specs.Encoding.{entries}
+use Rattle.qq_wal_record.specs.Encoding.{vote, head, segment, segments, change_payload, carry_payload, payload, inside, body, record_mark, record_encoding}
 use Rattle.qq_wal_record.specs.Mark.{same_bytes}
-use Rattle.qq_wal_record.specs.Reading.{Gives, Taken, number_at, vote_at, head_at, segment_at, entries_at, segments_at, change_at, snapshot_made_at, segment_made_at, carry_at, payload_at, whole_payload_at, is_too_long, inside_at, marked_at, record_at, IsRecordAt}
+use Rattle.qq_wal_record.specs.Reading.{memory_of, Gives, Taken, number_at, vote_at, head_at, segment_at, entries_at, segments_at, change_at, snapshot_made_at, segment_made_at, carry_at, payload_at, whole_payload_at, is_too_long, inside_at, marked_at, record_at, IsRecordAt}
 use Rattle.qq_wal_record.specs.Record.{kind, queue, number, IsWritable}
-use Rattle.qq_wal_record.proofs.Steps.{Takes, Takes-then, Holds, Holds-map, here, known, then_ok, then_known, where_true, where_false, in_turn, u8-reads, u32-reads, u64-reads}
-use Rattle.qq_wal_record.proofs.FieldLaws.{EntryLaws, vote-reads, head-reads, segment-reads, segments-reads, entries-reads}
+use Rattle.qq_fields.proofs.Laws.{found, none_begins, Takes, Takes-then, Holds, Holds-map, here, known, then_ok, then_known, where_true, where_false, in_turn}
+use Rattle.qq_wal_record.proofs.Numbers.{u8-reads, u32-reads, u64-reads}
+use Rattle.qq_wal_record.proofs.FieldLaws.{vote-reads, head-reads, segment-reads, segments-reads, entries-reads}
 use Rattle.qq_wal_record.proofs.Lengths.{entries_count, payload_len, payload_fits, inside_len, body_len, record_len, record_mark_len}
 
 -- ---- payloads
@@ -44,14 +46,14 @@ record Brings (k : ℕ) (q : QueueId) (n : ℕ) (bytes : List ℕ) (x : LogRecor
   queue_is : queue x.0 ≡ q
   number_is : number x.0 ≡ n
 
-change_takes : EntryLaws → (q : QueueId) (n : ℕ) → IsQueue q → IsLong n → (bytes : List ℕ) → AreBytes bytes
+change_takes : (q : QueueId) (n : ℕ) → IsQueue q → IsLong n → (bytes : List ℕ) → AreBytes bytes
     → Holds (change_at q n bytes) (Brings 1 q n bytes)
 unfolding change_at change_payload
-change_takes laws q n qf nf bytes fits =
+change_takes q n qf nf bytes fits =
     then_ok (number_at w64 bytes) _ (u64-reads.takes bytes fits) (λ term p.
     then_ok (vote_at term.1) _ (vote-reads.takes term.1 p.0.rest_fits) (λ by v.
     then_ok (number_at w64 by.1) _ (u64-reads.takes by.1 v.0.rest_fits) (λ keep k.
-    then_ok (entries_at keep.1) _ ((entries-reads laws).takes keep.1 k.0.rest_fits) (λ es e.
+    then_ok (entries_at keep.1) _ (entries-reads.takes keep.1 k.0.rest_fits) (λ es e.
     here _ (record {
       takes = Takes-then (Takes-then (Takes-then p.0 v.0) k.0) e.0;
       fields = (qf, nf, p.1, v.1, k.1, e.1.0);
@@ -105,10 +107,10 @@ carry_takes q n qf nf bytes fits =
       number_is = refl;
     })))))))
 
-payload_takes : EntryLaws → (k : ℕ) (q : QueueId) (n : ℕ) → IsQueue q → IsLong n → (bytes : List ℕ) → AreBytes bytes
+payload_takes : (k : ℕ) (q : QueueId) (n : ℕ) → IsQueue q → IsLong n → (bytes : List ℕ) → AreBytes bytes
     → Holds (payload_at k q n bytes) (Brings k q n bytes)
 unfolding payload_at
-payload_takes laws k q n qf nf bytes fits = by (eqb k 1) refl (eqb k 2) refl (eqb k 3) refl (eqb k 4) refl
+payload_takes k q n qf nf bytes fits = by (eqb k 1) refl (eqb k 2) refl (eqb k 3) refl (eqb k 4) refl
   where
     of : (m : ℕ) (r : Taken LogRecord) → eqb k m ≡ true → Holds r (Brings m q n bytes) → Holds r (Brings k q n bytes)
     of m r is h = subst (λ (i : ℕ). Holds r (Brings i q n bytes)) (sym (eqb-true k m is)) h
@@ -117,7 +119,7 @@ payload_takes laws k q n qf nf bytes fits = by (eqb k 1) refl (eqb k 2) refl (eq
         → Holds (cond a (change_at q n bytes)
         (cond b (snapshot_made_at q n bytes)
         (cond c (segment_made_at q n bytes) (cond d (carry_at q n bytes) (Err Kind))))) (Brings k q n bytes)
-    by true e b f c g d h = of 1 (change_at q n bytes) e (change_takes laws q n qf nf bytes fits)
+    by true e b f c g d h = of 1 (change_at q n bytes) e (change_takes q n qf nf bytes fits)
     by false e true f c g d h = of 2 (snapshot_made_at q n bytes) f (snapshot_takes q n qf nf bytes fits)
     by false e false f true g d h = of 3 (segment_made_at q n bytes) g (segment_takes q n qf nf bytes fits)
     by false e false f false g true h = of 4 (carry_at q n bytes) h (carry_takes q n qf nf bytes fits)
@@ -127,28 +129,28 @@ regroup : (a b c d rest : List ℕ) → (((a ++ b) ++ c) ++ d) ++ rest ≡ a ++ 
 regroup a b c d rest =
     append_assoc ((a ++ b) ++ c) d rest ∙ append_assoc (a ++ b) c (d ++ rest) ∙ append_assoc a b (c ++ (d ++ rest))
 
-payload_again : EntryLaws → (r : LogRecord) (bytes rest : List ℕ) → bytes ≡ payload r ++ rest → IsWritable r
+payload_again : (r : LogRecord) (bytes rest : List ℕ) → bytes ≡ payload r ++ rest → IsWritable r
     → payload_at (kind r) (queue r) (number r) bytes ≡ Ok (r, rest)
 unfolding payload_at change_at snapshot_made_at segment_made_at carry_at change_payload carry_payload segment
-payload_again laws (Op (Change q n term by keep es)) bytes rest e w =
+payload_again (Op (Change q n term by keep es)) bytes rest e w =
     let f = w.fields in
     let count : length es < 2 ^ 32 = omega (arith, w.payload, entries_count es) in
     let split : bytes ≡ u64 term.0 ++ (vote by ++ (u64 keep.0 ++ (entries es ++ rest))) = e in
     in_turn _ (number_at w64 bytes) _ (u64-reads.again term.0 bytes _ split f.2)
     (in_turn _ (vote_at _) _ (vote-reads.again by _ _ refl f.3)
     (in_turn _ (number_at w64 _) _ (u64-reads.again keep.0 _ _ refl f.4)
-    (in_turn _ (entries_at _) _ ((entries-reads laws).again es _ rest refl (f.5, count)) refl)))
-payload_again laws (Op (SnapshotMade q n h file)) bytes rest e w =
+    (in_turn _ (entries_at _) _ (entries-reads.again es _ rest refl (f.5, count)) refl)))
+payload_again (Op (SnapshotMade q n h file)) bytes rest e w =
     let f = w.fields in
     let split : bytes ≡ head h ++ (u64 file ++ rest) = e ∙ append_assoc (head h) (u64 file) rest in
     in_turn _ (head_at bytes) _ (head-reads.again h bytes _ split f.2)
     (in_turn _ (number_at w64 _) _ (u64-reads.again file _ rest refl f.3) refl)
-payload_again laws (Op (SegmentMade q n file first last)) bytes rest e w =
+payload_again (Op (SegmentMade q n file first last)) bytes rest e w =
     let f = w.fields in
     in_turn _ (segment_at bytes) _
     (segment-reads.again (record { file = file; segment = true; first = first; last = last }) bytes rest e
     (refl, f.2, f.3, f.4)) refl
-payload_again laws (Carry c) bytes rest e w =
+payload_again (Carry c) bytes rest e w =
     let count : length c.segments < 2 ^ 32 = omega (arith, w.payload) in
     let tail : List ℕ = u64 c.last.0 ++ rest in
     let split : bytes ≡ u64 c.term.0 ++
@@ -172,11 +174,11 @@ record IsPayload (k : ℕ) (q : QueueId) (n : ℕ) (bytes : List ℕ) (r : LogRe
   queue_is : queue r ≡ q
   number_is : number r ≡ n
 
-whole_takes : EntryLaws → (k : ℕ) (q : QueueId) (n : ℕ) → IsQueue q → IsLong n → (bytes : List ℕ) → AreBytes bytes
+whole_takes : (k : ℕ) (q : QueueId) (n : ℕ) → IsQueue q → IsLong n → (bytes : List ℕ) → AreBytes bytes
     → Holds (whole_payload_at k q n bytes) (IsPayload k q n bytes)
 unfolding whole_payload_at
-whole_takes laws k q n qf nf bytes fits =
-    then_ok (payload_at k q n bytes) _ (payload_takes laws k q n qf nf bytes fits) (λ x p.
+whole_takes k q n qf nf bytes fits =
+    then_ok (payload_at k q n bytes) _ (payload_takes k q n qf nf bytes fits) (λ x p.
     where_true (eqb (length x.1) 0) (Ok x.0) Field (λ ended.
     let nothing : x.1 ≡ [] = nil_from_length x.1 (eqb-true _ _ ended) in
     here x.0 (record {
@@ -218,16 +220,16 @@ inside_parts len k q n tail after r parts there p =
       kind_is = p.kind_is;
     }
 
-inside_takes : EntryLaws → (len : ℕ) (tail : List ℕ) (k : ℕ × List ℕ) → AreBytes tail → 13 + len ≤ length tail
+inside_takes : (len : ℕ) (tail : List ℕ) (k : ℕ × List ℕ) → AreBytes tail → 13 + len ≤ length tail
     → number_at w8 tail ≡ Ok k → Holds (inside_at len (u32 len ++ tail)) (IsInside len k.0 tail)
 unfolding inside_at
-inside_takes laws len tail k fits there e =
+inside_takes len tail k fits there e =
     let p = known (number_at w8 tail) k (u8-reads.takes tail fits) e in
     rw e (then_ok (number_at w32 k.1) _ (u32-reads.takes k.1 p.0.rest_fits) (λ q o.
     then_ok (number_at w64 q.1) _ (u64-reads.takes q.1 o.0.rest_fits) (λ n t.
     let all : Takes tail ((u8 k.0 ++ u32 q.0) ++ u64 n.0) n.1 = Takes-then (Takes-then p.0 o.0) t.0 in
     let after : drop 17 (u32 len ++ tail) ≡ n.1 = ap (drop 13) all.parts in
-    let read = whole_takes laws k.0 (record { 0 = q.0 }) n.0 o.1 t.1 (take len n.1)
+    let read = whole_takes k.0 (record { 0 = q.0 }) n.0 o.1 t.1 (take len n.1)
     (AreBytes-take len n.1 all.rest_fits) in
     subst (λ (b : List ℕ). Holds (whole_payload_at k.0 (record { 0 = q.0 }) n.0 (take len b))
     (IsInside len k.0 tail)) (sym after)
@@ -277,17 +279,17 @@ at_front file len bytes tail r k is p marked =
     (arith, record_len file r, payload_len r, p.long) in
     (ap (take (17 + len + 8)) all ∙ take_at (record_encoding file r) (drop 8 behind) (17 + len + 8) count, sym count)
 
-marked_takes : EntryLaws → (file len : ℕ) (bytes tail : List ℕ) (k : ℕ × List ℕ) → bytes ≡ u32 len ++ tail
+marked_takes : (file len : ℕ) (bytes tail : List ℕ) (k : ℕ × List ℕ) → bytes ≡ u32 len ++ tail
     → AreBytes tail → len < 2 ^ 32 → 17 + len + 8 ≤ length bytes → number_at w8 tail ≡ Ok k
     → is_too_long k.0 len ≡ false
     → Holds (marked_at file len bytes) (IsRecordAt file bytes)
 unfolding marked_at
-marked_takes laws file len bytes tail k is fits small there e short =
+marked_takes file len bytes tail k is fits small there e short =
     where_true (same_bytes (record_mark file (take (17 + len) bytes)) (take 8 (drop (17 + len) bytes))) _ Mark
     (λ marked.
     let count : length bytes ≡ 4 + length tail = omega (arith, ap length is) in
     let read = subst (λ (b : List ℕ). Holds (inside_at len b) (IsInside len k.0 tail)) (sym is)
-    (inside_takes laws len tail k fits (omega arith) e) in
+    (inside_takes len tail k fits (omega arith) e) in
     then_ok (inside_at len bytes) _ read (λ r p.
     let front = at_front file len bytes tail r k.0 is p ((bytes_decides _ _).0 marked) in
     here (r, 17 + len + 8) (record {
@@ -297,16 +299,16 @@ marked_takes laws file len bytes tail k is fits small there e short =
       len = front.1;
     })))
 
-pub record_takes : EntryLaws → (file : ℕ) (bytes : List ℕ) → AreBytes bytes
+pub record_takes : (file : ℕ) (bytes : List ℕ) → AreBytes bytes
     → Holds (record_at file bytes) (IsRecordAt file bytes)
 unfolding record_at
-record_takes laws file bytes fits =
+record_takes file bytes fits =
     where_false (ltb (length bytes) 17) _ Short (λ headed.
     then_ok (number_at w32 bytes) _ (u32-reads.takes bytes fits) (λ len p.
     then_known (number_at w8 len.1) _ (λ k e.
     where_false (is_too_long k.0 len.0) _ Short (λ short.
     where_false (ltb (length bytes) (17 + len.0 + 8)) _ Short (λ there.
-    marked_takes laws file len.0 bytes len.1 k p.0.parts p.0.rest_fits p.1 (ltb-false _ _ there) e short)))))
+    marked_takes file len.0 bytes len.1 k p.0.parts p.0.rest_fits p.1 (ltb-false _ _ there) e short)))))
 
 kind_fits : (r : LogRecord) → kind r < 2 ^ 8
 kind_fits (Op (Change q n term by keep es)) = lit< tt
@@ -337,23 +339,23 @@ laid_body : (r : LogRecord) (after : List ℕ) → laid r after ≡ body r ++ af
 unfolding laid body inside
 laid_body r after = refl
 
-inside_again : EntryLaws → (r : LogRecord) (after : List ℕ) → IsWritable r
+inside_again : (r : LogRecord) (after : List ℕ) → IsWritable r
     → inside_at (length (payload r)) (laid r after) ≡ Ok r
 unfolding inside_at laid whole_payload_at
-inside_again laws r after w =
+inside_again r after w =
     let fits = queue_fits r w in
     in_turn _ (number_at w8 _) _ (u8-reads.again (kind r) _ _ refl (kind_fits r))
     (in_turn _ (number_at w32 _) _ (u32-reads.again (queue r).0 _ _ refl fits.0)
     (in_turn _ (number_at w64 _) _ (u64-reads.again (number r) _ _ refl fits.1)
     (rw (take_at (payload r) after (length (payload r)) refl)
     (in_turn _ (payload_at (kind r) (queue r) (number r) (payload r)) _
-    (payload_again laws r (payload r) [] (sym (append-nil (payload r))) w) refl))))
+    (payload_again r (payload r) [] (sym (append-nil (payload r))) w) refl))))
 
-marked_again : EntryLaws → (file : ℕ) (r : LogRecord) (rest : List ℕ) → IsWritable r
+marked_again : (file : ℕ) (r : LogRecord) (rest : List ℕ) → IsWritable r
     → marked_at file (length (payload r)) (laid r (record_mark file (body r) ++ rest)) ≡ Ok
     (r, 17 + length (payload r) + 8)
 unfolding marked_at
-marked_again laws file r rest w =
+marked_again file r rest w =
     let n = length (payload r) in
     let mark = record_mark file (body r) in
     let bytes = laid r (mark ++ rest) in
@@ -365,13 +367,13 @@ marked_again laws file r rest w =
     ∙ take_at mark rest 8 (record_mark_len file (body r)) in
     let same : same_bytes (record_mark file (take (17 + n) bytes)) (take 8 (drop (17 + n) bytes)) ≡
     true = (bytes_decides _ _).1 (ap (record_mark file) front ∙ sym marks) in
-    rw same (in_turn _ (inside_at n bytes) _ (inside_again laws r (mark ++ rest) w) refl)
+    rw same (in_turn _ (inside_at n bytes) _ (inside_again r (mark ++ rest) w) refl)
 
-pub record_again : EntryLaws → (file : ℕ) (r : LogRecord) (bytes rest : List ℕ)
+pub record_again : (file : ℕ) (r : LogRecord) (bytes rest : List ℕ)
     → bytes ≡ record_encoding file r ++ rest → IsWritable r
     → record_at file bytes ≡ Ok (r, length (record_encoding file r))
 unfolding record_at record_encoding laid
-record_again laws file r bytes rest is w =
+record_again file r bytes rest is w =
     let n = length (payload r) in
     let mark = record_mark file (body r) in
     let split : bytes ≡ laid r (mark ++ rest) = is ∙ append_assoc (body r) mark rest
@@ -385,44 +387,26 @@ record_again laws file r bytes rest is w =
     (in_turn _ (number_at w32 (laid r (mark ++ rest))) _ (u32-reads.again n _ _ refl (payload_fits r w))
     (in_turn _ (number_at w8 _) _ (u8-reads.again (kind r) _ _ refl (kind_fits r))
     (rw (not_too_long r w, there)
-    (marked_again laws file r rest w ∙ ap (λ (k : ℕ). Ok (r, k)) (omega (arith, record_len file r, payload_len r))))))
+    (marked_again file r rest w ∙ ap (λ (k : ℕ). Ok (r, k)) (omega (arith, record_len file r, payload_len r))))))
 
-abbrev read_as : LogRecord × ℕ → Result (LogRecord × ℕ) NoRecord
-read_as x = Ok x
-
-same_value : (x y : LogRecord × ℕ) → read_as x ≡ read_as y → x ≡ y
-same_value x y e = cc
-
-pub is_found : EntryLaws → (file : ℕ) (bytes : List ℕ) (r : Result (LogRecord × ℕ) NoRecord) → AreBytes bytes
+pub is_found : (file : ℕ) (bytes : List ℕ) (r : Result (LogRecord × ℕ) NoRecord) → AreBytes bytes
     → Gives (λ x. x) r (record_at file bytes) → IfOk r (λ x. IsRecordAt file bytes x)
-is_found laws file bytes (Ok x) fits given = known (record_at file bytes) x (record_takes laws file bytes fits) given
-is_found laws file bytes (Err e) fits given = tt
+is_found file bytes r fits given = found memory_of r (record_at file bytes) (record_takes file bytes fits) given
 
-pub record_alone : EntryLaws → (file : ℕ) (bytes : List ℕ) (x : LogRecord × ℕ) → AreBytes bytes
+pub record_alone : (file : ℕ) (bytes : List ℕ) (x : LogRecord × ℕ) → AreBytes bytes
     → record_at file bytes ≡ Ok x → IsRecordAt file bytes x
-record_alone laws file bytes x fits e = known (record_at file bytes) x (record_takes laws file bytes fits) e
+record_alone file bytes x fits e = known (record_at file bytes) x (record_takes file bytes fits) e
 
 pub is_within : (file : ℕ) (bytes : List ℕ) (r : Result (LogRecord × ℕ) NoRecord)
     → IfOk r (λ x. IsRecordAt file bytes x) → IfOk r (λ x. x.1 ≤ length bytes)
 is_within file bytes (Ok x) found = omega (arith, ap length found.front, found.len, length-take x.1 bytes)
 is_within file bytes (Err e) found = tt
 
-pub same_record : EntryLaws → (file : ℕ) (a b : LogRecord) (x y : List ℕ) → IsWritable a → IsWritable b
+pub same_record : (file : ℕ) (a b : LogRecord) (x y : List ℕ) → IsWritable a → IsWritable b
     → record_encoding file a ++ x ≡ record_encoding file b ++ y → (a ≡ b) × (x ≡ y)
-same_record laws file a b x y f g e =
-    let first : record_at file (record_encoding file a ++ x) ≡ Ok
-    (a, length (record_encoding file a)) = record_again laws file a (record_encoding file a ++ x) x refl f in
-    let second : record_at file (record_encoding file a ++ x) ≡ Ok
-    (b, length (record_encoding file b)) = record_again laws file b (record_encoding file a ++ x) y e g in
-    let same : a ≡ b = ap (λ (p : LogRecord × ℕ). p.0)
-    (same_value (a, length (record_encoding file a)) (b, length (record_encoding file b)) (sym first ∙ second)) in
-    let from : record_encoding file a ++ x ≡ record_encoding file a ++ y = e
-    ∙ ap (λ (c : LogRecord). record_encoding file c ++ y) (sym same) in (
-      same,
-      sym (drop_at (record_encoding file a) x (length (record_encoding file a)) refl)
-          ∙ ap (drop (length (record_encoding file a))) from
-          ∙ drop_at (record_encoding file a) y (length (record_encoding file a)) refl,
-    )
+same_record file a b x y f g e =
+    none_begins (record_at file) (record_encoding file) a b x y (record_again file a _ x refl f)
+    (record_again file b _ y refl g) e
 
 pub is_read : {read wanted : Result (LogRecord × ℕ) NoRecord} (r : Result (LogRecord × ℕ) NoRecord) → read ≡ wanted
     → Gives (λ x. x) r read → Gives (λ x. x) r wanted

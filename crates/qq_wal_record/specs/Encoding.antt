@@ -1,11 +1,11 @@
 -- The one encoding of each record and header. Numbers have their high byte first.
 use Rattle.std.specs.Prelude.{ℕ, true, List, [], ◌∷◌, ◌++◌, length, Option, Some, None}
-use Rattle.std.specs.List.{flat_map}
 use Rattle.qq_base.specs.declared.ids.Index.{Index}
 use Rattle.qq_base.specs.declared.ids.NodeId.{NodeId}
 use Rattle.qq_base.specs.declared.ids.Term.{Term}
 use Rattle.qq_entry.specs.declared.command.Entry.{Entry}
-use Rattle.qq_command.specs.Encoding.{u8, u32, u64, encoding}
+use Rattle.qq_fields.specs.Writing.{u8, u32, u64, list}
+use Rattle.qq_command.specs.Encoding.{entries}
 use Rattle.qq_log.specs.declared.head.SnapshotHead.{SnapshotHead}
 use Rattle.qq_log.specs.declared.head.Span.{Span}
 use Rattle.qq_log.specs.declared.lane.Carry.{Carry as QueueCarry}
@@ -34,13 +34,9 @@ head h = u64 h.index.0 ++ u64 h.term.0 ++ u64 h.through.0
 unfoldable pub segment : Span → List ℕ
 segment span = u64 span.file ++ u64 span.first.0 ++ u64 span.last.0
 
--- a count, and so many entries
-unfoldable pub entries : List Entry → List ℕ
-entries es = u32 (length es) ++ flat_map encoding es
-
 -- a count, and so many segments
 unfoldable pub segments : List Span → List ℕ
-segments spans = u32 (length spans) ++ flat_map segment spans
+segments spans = list segment spans
 
 -- ---- payloads
 

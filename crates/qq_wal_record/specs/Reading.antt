@@ -1,11 +1,15 @@
 -- Reading a record or a header from the front of bytes, with the first refusal that applies.
-use Rattle.std.specs.Prelude.{◌≡◌, ◌<◌, ◌+◌, ◌^◌, ℕ, zero, suc, true, Bool, List, [], ◌∷◌, length, take, drop, Option, Some, None, Result, Ok, Err, nat_lt, ◌==◌, if◌then◌else◌}
-use Rattle.std.specs.Int.{Width, w8, w32, w64, byte_len, from_be_bytes}
+use Rattle.std.specs.Prelude.{◌≡◌, ◌<◌, ◌+◌, ◌^◌, ℕ, true, Bool, List, length, take, drop, Option, Some, None, Result, Ok, Err, nat_lt, ◌==◌, if◌then◌else◌}
+use Rattle.std.specs.Int.{Width, w8, w32, w64, from_be_bytes}
 use Rattle.qq_base.specs.declared.ids.NodeId.{NodeId}
 use Rattle.qq_base.specs.declared.ids.QueueId.{QueueId}
+use Rattle.qq_base.specs.declared.memory.Memory.{Memory as Cause}
+use Rattle.qq_base.specs.declared.memory.Memory.TheVariants.{Want}
 use Rattle.qq_entry.specs.declared.command.Entry.{Entry}
+use Rattle.qq_fields.specs.Reading as fields
+use Rattle.qq_fields.specs.Reading.{◌>>=◌}
 use Rattle.qq_command.specs.declared.refusal.Refusal.{Refusal}
-use Rattle.qq_command.specs.Reading.{entry_at}
+use Rattle.qq_command.specs.Reading as commands
 use Rattle.qq_log.specs.declared.limits.TheConstants.{NODE_LIMIT, PAYLOAD_LIMIT}
 use Rattle.qq_log.specs.declared.head.SnapshotHead.{SnapshotHead}
 use Rattle.qq_log.specs.declared.head.Span.{Span}
@@ -24,40 +28,25 @@ use Rattle.qq_wal_record.specs.declared.header.TheConstants.{HEADER_LEN, VERSION
 use Rattle.qq_wal_record.specs.declared.record.TheConstants.{CHANGE, SNAPSHOT, SEGMENT, CARRY, HEAD_LEN}
 use Rattle.qq_wal_record.specs.Record.{IsWritable}
 
-infixl 10 ◌>>=◌
-abbrev pub ◌>>=◌ : {A B : Type 0} → Result A NoRecord → (A → Result B NoRecord) → Result B NoRecord
-(Ok x) >>= f = f x
-(Err e) >>= f = Err e
+-- The memory that a refusal is for want of.
+abbrev pub memory_of : NoRecord → Option Cause
+memory_of Memory = Some Want
+memory_of _ = None
 
 -- What a call answered is what reading gives, unless memory ran out.
 abbrev pub Fails : {Y : Type 0} → NoRecord → Result Y NoRecord → Type 0
-Fails Memory read = Unit {0}
-Fails Short read = read ≡ Err Short
-Fails Mark read = read ≡ Err Mark
-Fails Kind read = read ≡ Err Kind
-Fails Field read = read ≡ Err Field
+Fails e read = fields.Fails memory_of e read
 
 abbrev pub Gives : {X Y : Type 0} → (X → Y) → Result X NoRecord → Result Y NoRecord → Type 0
-Gives view (Ok x) read = read ≡ Ok (view x)
-Gives view (Err e) read = Fails e read
+Gives view answered read = fields.Gives memory_of view answered read
 
 -- ---- fields: a value and the bytes after it
 
 abbrev pub Taken : Type 0 → Type 0
-Taken A = Result (A × List ℕ) NoRecord
+Taken A = fields.Field NoRecord A
 
-unfoldable pub number_at : Width → List ℕ → Taken ℕ
-number_at w bytes =
-    if nat_lt (length bytes) (byte_len w) then Err Field else Ok
-    (from_be_bytes w (take (byte_len w) bytes), drop (byte_len w) bytes)
-
--- so many values one behind the other
-unfoldable pub many : {A : Type 0} → (List ℕ → Taken A) → ℕ → List ℕ → Taken (List A)
-many read zero bytes = Ok ([], bytes)
-many read (suc n) bytes = do
-  first ← read bytes
-  others ← many read n first.1
-  Ok (first.0 ∷ others.0, others.1)
+abbrev pub number_at : Width → List ℕ → Taken ℕ
+number_at w bytes = fields.number_at Field w bytes
 
 abbrev pub vote_of : ℕ → Option NodeId
 vote_of n = if n == 0 then None else Some (record { 0 = n })
@@ -85,24 +74,17 @@ segment_at bytes = do
   Ok (record { file = file.0; segment = true; first = record { 0 = first.0 }; last = record { 0 = last.0 } }, last.1)
 
 -- what is no entry is no field
-abbrev pub taken_from : List ℕ → Result (Entry × ℕ) Refusal → Taken Entry
-taken_from bytes (Ok x) = Ok (x.0, drop x.1 bytes)
-taken_from bytes (Err e) = Err Field
-
-unfoldable pub entry_field_at : List ℕ → Taken Entry
-entry_field_at bytes = taken_from bytes (entry_at bytes)
+abbrev pub as_field : {A : Type 0} → Result A Refusal → Result A NoRecord
+as_field (Ok x) = Ok x
+as_field (Err e) = Err Field
 
 -- a count, and so many entries
 unfoldable pub entries_at : List ℕ → Taken (List Entry)
-entries_at bytes = do
-  count ← number_at w32 bytes
-  many entry_field_at count.0 count.1
+entries_at bytes = as_field (commands.entries_at bytes)
 
 -- a count, and so many segments
 unfoldable pub segments_at : List ℕ → Taken (List Span)
-segments_at bytes = do
-  count ← number_at w32 bytes
-  many segment_at count.0 count.1
+segments_at bytes = fields.list_at Field segment_at bytes
 
 -- ---- payloads, of a queue and with an op's number
 

@@ -1,5 +1,5 @@
 ghost use Rattle.std.specs.Prelude.{◌≡◌, ◌++◌, ◌+◌, ◌≤◌, length, OnOk, OnErr, IsOkUnless};
-ghost use Rattle.qq_command.specs.Encoding.{IsPrefix};
+ghost use Rattle.qq_base.specs.Fronts.{IsFront as IsPrefix};
 ghost use Rattle.qq_wal_record.specs.Encoding.{header_body, header_encoding};
 ghost use Rattle.qq_wal_record.specs.Reading.{long_at, header_at};
 
@@ -50,7 +50,7 @@ pub enum NoHeader {
     },
 }
 
-#[tactic(auto, using(crate::proofs::Appends::begins), unfolding(crate::specs::Encoding::header_body))]
+#[tactic(auto, using(qq_fields::proofs::Appends::prefix_rules), unfolding(crate::specs::Encoding::header_body))]
 fn put_body(out: &mut Vec<u8>, header: &Header) -> Result<(), Memory>
     ensures ok { OnOk result (out.new.items ≡ out.old.items ++ header_body header.now) }
     ensures err { OnErr result (IsPrefix out.old.items out.new.items) }
@@ -64,7 +64,7 @@ fn put_body(out: &mut Vec<u8>, header: &Header) -> Result<(), Memory>
     Ok(())
 }
 
-#[tactic(auto, using(crate::proofs::Appends::begins), unfolding(crate::specs::Encoding::header_encoding))]
+#[tactic(auto, using(qq_fields::proofs::Appends::prefix_rules), unfolding(crate::specs::Encoding::header_encoding))]
 fn put_header(out: &mut Vec<u8>, header: &Header) -> Result<(), Memory>
     ensures ok { OnOk result (out.new.items ≡ out.old.items ++ header_encoding header.now) }
     ensures err { OnErr result (IsPrefix out.old.items out.new.items) }

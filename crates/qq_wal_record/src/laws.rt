@@ -7,8 +7,6 @@ ghost use Rattle.qq_wal_record.specs.Encoding.{record_encoding, header_encoding}
 ghost use Rattle.qq_wal_record.specs.Reading.{record_at, header_at, IsRecordAt, IsHeader, IsHeaderAt};
 ghost use Rattle.qq_wal_record.specs.Record.{payload_length, IsWritable};
 
-use qq_command::entries_read_back;
-
 /// A law: a record's encoding is read again whatever follows it, and what is read has that encoding and
 /// no other.
 pub fn records_read_back()
@@ -16,17 +14,13 @@ pub fn records_read_back()
         record_at file (record_encoding file r ++ rest) ≡ Ok (r, length (record_encoding file r)) }
     ensures alone { (file : ℕ) (bytes : List ℕ) (x : LogRecord × ℕ) → AreBytes bytes →
         record_at file bytes ≡ Ok x → IsRecordAt file bytes x }
-{
-    entries_read_back();
-}
+{}
 
 /// A law: no record's encoding begins another's, so what was written is read again whatever follows it.
 pub fn no_record_begins_another()
     ensures { (file : ℕ) (a b : LogRecord) (x y : List ℕ) → IsWritable a → IsWritable b →
         record_encoding file a ++ x ≡ record_encoding file b ++ y → (a ≡ b) × (x ≡ y) }
-{
-    entries_read_back();
-}
+{}
 
 /// A law: how long encodings are. A record's has 25 bytes beside its payload.
 pub fn encodings_have_lengths()

@@ -1,6 +1,5 @@
 //! Marks: the first 8 bytes of a digest under SHA-256.
-ghost use Rattle.std.specs.Prelude.{◌≡◌, ◌++◌, take};
-ghost use Rattle.sha2.specs.Sha256.{sha256};
+ghost use Rattle.std.specs.Prelude.{◌≡◌, take};
 ghost use Rattle.qq_wal_record.specs.Encoding.{record_mark};
 ghost use Rattle.qq_wal_record.specs.Mark.{mark};
 

@@ -5,11 +5,11 @@ ghost use Rattle.qq_wal_record.specs.Reading.{Gives, change_at, snapshot_made_at
 ghost use Rattle.qq_wal_record.specs.Record.{IsWritable};
 ghost use Rattle.qq_wal_record.specs.declared.record.LogRecord.{LogRecord};
 
-use crate::fields::{entries_at, head_at, segment_at, segments_at, u8_at, u32_at, u64_at, vote_at};
+use crate::fields::{entries_at, head_at, segment_at, segments_at, vote_at};
 use crate::mark::{MARK_LEN, record_mark};
 use crate::record::{CARRY, CHANGE, HEAD_LEN, LogRecord, NoRecord, SEGMENT, SNAPSHOT};
 use qq_base::{Index, QueueId, Term};
-use qq_command::entries_read_back;
+use qq_fields::{u8_at, u32_at, u64_at};
 use qq_log::{Carry, Op, PAYLOAD_LIMIT};
 use std::alloc::Global;
 
@@ -25,9 +25,9 @@ fn change_at(
 ) -> Result<(LogRecord, &[u8]), NoRecord>
     ensures { Gives (λ x. (x.0, x.1.now)) result (change_at queue op bytes.now) }
 {
-    let (term, rest) = u64_at(bytes)?;
+    let (term, rest) = u64_at(bytes, NoRecord::Field)?;
     let (vote, rest) = vote_at(rest)?;
-    let (keep, rest) = u64_at(rest)?;
+    let (keep, rest) = u64_at(rest, NoRecord::Field)?;
     let (entries, rest) = entries_at(alloc, rest)?;
     let change = Op::Change {
         queue,
@@ -45,7 +45,7 @@ fn snapshot_made_at(queue: QueueId, op: u64, bytes: &[u8]) -> Result<(LogRecord,
     ensures { Gives (λ x. (x.0, x.1.now)) result (snapshot_made_at queue op bytes.now) }
 {
     let (head, rest) = head_at(bytes)?;
-    let (file, rest) = u64_at(rest)?;
+    let (file, rest) = u64_at(rest, NoRecord::Field)?;
     let made = Op::SnapshotMade {
         queue,
         op,
@@ -79,12 +79,12 @@ fn carry_at(
 ) -> Result<(LogRecord, &[u8]), NoRecord>
     ensures { Gives (λ x. (x.0, x.1.now)) result (carry_at queue op bytes.now) }
 {
-    let (term, rest) = u64_at(bytes)?;
+    let (term, rest) = u64_at(bytes, NoRecord::Field)?;
     let (vote, rest) = vote_at(rest)?;
     let (base, rest) = head_at(rest)?;
-    let (snapshot, rest) = u64_at(rest)?;
+    let (snapshot, rest) = u64_at(rest, NoRecord::Field)?;
     let (segments, rest) = segments_at(alloc, rest)?;
-    let (last, rest) = u64_at(rest)?;
+    let (last, rest) = u64_at(rest, NoRecord::Field)?;
     let carry = Carry {
         queue,
         op,
@@ -141,9 +141,9 @@ fn inside_at(alloc: Global, len: usize, bytes: &[u8]) -> Result<LogRecord, NoRec
     requires { 17 + len ≤ length bytes.now }
     ensures { Gives (λ x. x) result (inside_at len bytes.now) }
 {
-    let (kind, rest) = u8_at(bytes.split_at(LENGTH_LEN).1)?;
-    let (queue, rest) = u32_at(rest)?;
-    let (op, _) = u64_at(rest)?;
+    let (kind, rest) = u8_at(bytes.split_at(LENGTH_LEN).1, NoRecord::Field)?;
+    let (queue, rest) = u32_at(rest, NoRecord::Field)?;
+    let (op, _) = u64_at(rest, NoRecord::Field)?;
     let payload = bytes.split_at(HEAD_LEN).1.split_at(len).0;
     whole_payload_at(alloc, kind, QueueId(queue), op, payload)
 }
@@ -181,8 +181,8 @@ fn record_at(alloc: Global, file: u64, bytes: &[u8]) -> Result<(LogRecord, usize
     if bytes.len() < HEAD_LEN {
         return Err(NoRecord::Short);
     }
-    let (len, rest) = u32_at(bytes)?;
-    let (kind, _) = u8_at(rest)?;
+    let (len, rest) = u32_at(bytes, NoRecord::Field)?;
+    let (kind, _) = u8_at(rest, NoRecord::Field)?;
     let len = len as usize;
     if is_too_long(kind, len) {
         return Err(NoRecord::Short);
@@ -210,6 +210,5 @@ pub fn read_record(alloc: Global, file: u64, bytes: &[u8]) -> Result<(LogRecord,
         Gives (λ x. x) result (Ok (r, length (record_encoding file r))) }
     ensures within { IfOk result (λ x. x.1 ≤ length bytes.now) }
 {
-    entries_read_back();
     record_at(alloc, file, bytes)
 }

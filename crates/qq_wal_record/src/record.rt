@@ -2,8 +2,8 @@ ghost use Rattle.std.specs.Prelude.{◌≡◌};
 ghost use Rattle.qq_wal_record.specs.Record.{kind, queue, number};
 
 use qq_base::QueueId;
+use qq_fields::Fault;
 use qq_log::{Carry, Op};
-use std::alloc::{AllocError, AllocFailed};
 use thiserror::Error;
 
 /// The kind of a change.
@@ -50,22 +50,12 @@ pub enum NoRecord {
     Memory,
 }
 
-impl From<AllocError> for NoRecord {
-    ghost use Rattle.qq_wal_record.specs.declared.record.NoRecord.TheVariants.{Memory};
+impl Fault for NoRecord {
+    ghost use Rattle.qq_wal_record.specs.Reading.{memory_of};
 
-    ghost from_gives = { λ _ e. e ≡ Memory };
+    ghost memory = { memory_of };
 
-    fn from(_: AllocError) -> Self {
-        NoRecord::Memory
-    }
-}
-
-impl<T: Drop> From<AllocFailed<T>> for NoRecord {
-    ghost use Rattle.qq_wal_record.specs.declared.record.NoRecord.TheVariants.{Memory};
-
-    ghost from_gives = { λ _ e. e ≡ Memory };
-
-    fn from(_: AllocFailed<T>) -> Self {
+    fn want() -> Self {
         NoRecord::Memory
     }
 }

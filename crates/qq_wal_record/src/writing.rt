@@ -1,16 +1,18 @@
 //! Writing a record.
-ghost use Rattle.std.specs.Prelude.{◌≡◌, ◌++◌, ◌+◌, ◌≤◌, ◌<◌, ◌^◌, take, drop, length, vec_len, All, OnOk, OnErr, IsOkUnless};
-ghost use Rattle.std.specs.List.{flat_map};
-ghost use Rattle.qq_command.specs.Encoding.{IsPrefix, u32, u64, encoding};
+ghost use Rattle.std.specs.Prelude.{◌≡◌, ◌++◌, ◌+◌, ◌<◌, ◌^◌, length, All, OnOk, OnErr, IsOkUnless};
+ghost use Rattle.qq_base.specs.Fronts.{IsFront as IsPrefix};
+ghost use Rattle.qq_fields.specs.Writing.{u64};
 ghost use Rattle.qq_entry.specs.Range.{IsWritable as IsEntry};
-ghost use Rattle.qq_log.specs.Writable.{IsWritable as IsWritableOp, IsWritableCarry};
-ghost use Rattle.qq_wal_record.specs.Encoding.{vote, head, segment, segments, entries, change_payload, op_payload, carry_payload, payload, inside, body, record_encoding};
+ghost use Rattle.qq_command.specs.Encoding.{entries};
+ghost use Rattle.qq_log.specs.Writable.{IsSegment, IsWritable as IsWritableOp, IsWritableCarry};
+ghost use Rattle.qq_wal_record.specs.Encoding.{vote, head, segment, segments, change_payload, op_payload, carry_payload, payload, inside, body, record_encoding};
 ghost use Rattle.qq_wal_record.specs.Record.{IsWritable};
 
 use crate::mark::record_mark;
-use crate::record::{HEAD_LEN, LogRecord};
+use crate::record::{HEAD_LEN, LogRecord, NoRecord};
 use qq_base::{Index, Memory, NodeId, Term, put_u8, put_u32, put_u64};
-use qq_command::{Entry, put_entry};
+use qq_command::{Entry, put_entries};
+use qq_fields::{put_list, set_length};
 use qq_log::{Carry, Op, SnapshotHead, Span};
 
 fn put_vote(out: &mut Vec<u8>, node: Option<NodeId>) -> Result<(), Memory>
@@ -24,7 +26,7 @@ fn put_vote(out: &mut Vec<u8>, node: Option<NodeId>) -> Result<(), Memory>
     }
 }
 
-#[tactic(auto, using(crate::proofs::Appends::begins), unfolding(crate::specs::Encoding::head))]
+#[tactic(auto, using(qq_fields::proofs::Appends::prefix_rules), unfolding(crate::specs::Encoding::head))]
 fn put_head(out: &mut Vec<u8>, snapshot: &SnapshotHead) -> Result<(), Memory>
     ensures ok { OnOk result (out.new.items ≡ out.old.items ++ head snapshot.now) }
     ensures err { OnErr result (IsPrefix out.old.items out.new.items) }
@@ -35,8 +37,8 @@ fn put_head(out: &mut Vec<u8>, snapshot: &SnapshotHead) -> Result<(), Memory>
     put_u64(out, snapshot.through.0)
 }
 
-#[tactic(auto, using(crate::proofs::Appends::begins), unfolding(crate::specs::Encoding::segment))]
-fn put_segment(out: &mut Vec<u8>, span: &Span) -> Result<(), Memory>
+#[tactic(auto, using(qq_fields::proofs::Appends::prefix_rules), unfolding(crate::specs::Encoding::segment))]
+pub fn put_segment(out: &mut Vec<u8>, span: &Span) -> Result<(), Memory>
     ensures ok { OnOk result (out.new.items ≡ out.old.items ++ segment span.now) }
     ensures err { OnErr result (IsPrefix out.old.items out.new.items) }
     ensures want { IsOkUnless result Memory.Want }
@@ -46,55 +48,18 @@ fn put_segment(out: &mut Vec<u8>, span: &Span) -> Result<(), Memory>
     put_u64(out, span.last.0)
 }
 
-#[tactic(auto, using(crate::proofs::Appends::begins))]
-fn put_each_segment(out: &mut Vec<u8>, spans: &[Span]) -> Result<(), Memory>
-    ensures ok { OnOk result (out.new.items ≡ out.old.items ++ flat_map segment spans.now) }
-    ensures err { OnErr result (IsPrefix out.old.items out.new.items) }
-    ensures want { IsOkUnless result Memory.Want }
-{
-    'spans: for span in spans {
-        put_segment(out, span)?;
-    }
-    Ok(())
-}
-
-#[tactic(auto, using(crate::proofs::Appends::begins), unfolding(crate::specs::Encoding::segments))]
+#[tactic(auto, unfolding(crate::specs::Encoding::segments))]
 fn put_segments(out: &mut Vec<u8>, spans: &[Span]) -> Result<(), Memory>
-    requires { length spans.now < 2 ^ 32 }
+    requires count { length spans.now < 2 ^ 32 }
+    requires each { All IsSegment spans.now }
     ensures ok { OnOk result (out.new.items ≡ out.old.items ++ segments spans.now) }
     ensures err { OnErr result (IsPrefix out.old.items out.new.items) }
     ensures want { IsOkUnless result Memory.Want }
 {
-    put_u32(out, spans.len() as u32)?;
-    put_each_segment(out, spans)
+    put_list::<NoRecord, _>(out, spans)
 }
 
-#[tactic(auto, using(crate::proofs::Appends::begins))]
-fn put_each_entry(out: &mut Vec<u8>, list: &[Entry]) -> Result<(), Memory>
-    requires { All IsEntry list.now }
-    ensures ok { OnOk result (out.new.items ≡ out.old.items ++ flat_map encoding list.now) }
-    ensures err { OnErr result (IsPrefix out.old.items out.new.items) }
-    ensures want { IsOkUnless result Memory.Want }
-{
-    'list: for entry in list {
-        put_entry(out, entry)?;
-    }
-    Ok(())
-}
-
-#[tactic(auto, using(crate::proofs::Appends::begins), unfolding(crate::specs::Encoding::entries))]
-fn put_entries(out: &mut Vec<u8>, list: &[Entry]) -> Result<(), Memory>
-    requires each { All IsEntry list.now }
-    requires count { length list.now < 2 ^ 32 }
-    ensures ok { OnOk result (out.new.items ≡ out.old.items ++ entries list.now) }
-    ensures err { OnErr result (IsPrefix out.old.items out.new.items) }
-    ensures want { IsOkUnless result Memory.Want }
-{
-    put_u32(out, list.len() as u32)?;
-    put_each_entry(out, list)
-}
-
-#[tactic(auto, using(crate::proofs::Appends::begins), unfolding(crate::specs::Encoding::change_payload))]
+#[tactic(auto, using(qq_fields::proofs::Appends::prefix_rules), unfolding(crate::specs::Encoding::change_payload))]
 fn put_change(
     out: &mut Vec<u8>,
     term: Term,
@@ -116,7 +81,7 @@ fn put_change(
     Ok(())
 }
 
-#[tactic(auto, using(crate::proofs::Appends::begins))]
+#[tactic(auto, using(qq_fields::proofs::Appends::prefix_rules))]
 fn put_snapshot(out: &mut Vec<u8>, snapshot: &SnapshotHead, file: u64) -> Result<(), Memory>
     ensures ok { OnOk result (out.new.items ≡ out.old.items ++ (head snapshot.now ++ u64 file)) }
     ensures err { OnErr result (IsPrefix out.old.items out.new.items) }
@@ -158,7 +123,7 @@ fn put_op(out: &mut Vec<u8>, op: &Op) -> Result<(), Memory>
     }
 }
 
-#[tactic(auto, using(crate::proofs::Appends::begins), unfolding(crate::specs::Encoding::carry_payload))]
+#[tactic(auto, using(qq_fields::proofs::Appends::prefix_rules), unfolding(crate::specs::Encoding::carry_payload))]
 fn put_carry(out: &mut Vec<u8>, carry: &Carry) -> Result<(), Memory>
     requires { IsWritableCarry carry.now }
     ensures ok { OnOk result (out.new.items ≡ out.old.items ++ carry_payload carry.now) }
@@ -186,7 +151,7 @@ fn put_payload(out: &mut Vec<u8>, r: &LogRecord) -> Result<(), Memory>
 }
 
 /// What follows a payload's length.
-#[tactic(auto, using(crate::proofs::Appends::begins), unfolding(crate::specs::Encoding::inside))]
+#[tactic(auto, using(qq_fields::proofs::Appends::prefix_rules), unfolding(crate::specs::Encoding::inside))]
 fn put_inside(out: &mut Vec<u8>, r: &LogRecord) -> Result<(), Memory>
     requires { IsWritable r.now }
     ensures ok { OnOk result (out.new.items ≡ out.old.items ++ inside r.now) }
@@ -200,16 +165,8 @@ fn put_inside(out: &mut Vec<u8>, r: &LogRecord) -> Result<(), Memory>
     Ok(())
 }
 
-fn set_length(out: &mut Vec<u8>, place: usize, length: u32)
-    requires { place + 4 ≤ vec_len out.old }
-    ensures { out.new.items
-        ≡ take place out.old.items ++ (u32 length ++ drop (place + 4) out.old.items) }
-{
-    out[place..place + 4].copy_from_slice(&length.to_be_bytes());
-}
-
 /// A record before its mark. Its payload's length is set when its payload stands there.
-#[tactic(auto, using(crate::proofs::Appends::begins), unfolding(crate::specs::Encoding::body))]
+#[tactic(auto, using(qq_fields::proofs::Appends::prefix_rules), unfolding(crate::specs::Encoding::body))]
 fn put_body(out: &mut Vec<u8>, r: &LogRecord) -> Result<(), Memory>
     requires { IsWritable r.now }
     ensures ok { OnOk result (out.new.items ≡ out.old.items ++ body r.now) }
@@ -224,7 +181,7 @@ fn put_body(out: &mut Vec<u8>, r: &LogRecord) -> Result<(), Memory>
     Ok(())
 }
 
-#[tactic(auto, using(crate::proofs::Appends::begins), unfolding(crate::specs::Encoding::record_encoding))]
+#[tactic(auto, using(qq_fields::proofs::Appends::prefix_rules), unfolding(crate::specs::Encoding::record_encoding))]
 fn put_record(out: &mut Vec<u8>, file: u64, r: &LogRecord) -> Result<(), Memory>
     requires { IsWritable r.now }
     ensures ok { OnOk result (out.new.items ≡ out.old.items ++ record_encoding file r.now) }

@@ -2,7 +2,8 @@ use Rattle.std.proofs.Common.{◌≡◌, Bool, true, false, refl, arith}
 use Rattle.std.specs.Str.{is_utf8}
 use Rattle.std.proofs.lemmas.Str.{is_utf8-from_IsUtf8, IsUtf8-from_is_utf8}
 use Rattle.std.proofs.lemmas.Grind.{common_steps}
-use Rattle.qq_command.specs.Reading.{checked, key_at}
+use Rattle.qq_fields.specs.Reading.{checked}
+use Rattle.qq_command.specs.Reading.{key_at}
 use Rattle.qq_command.proofs.fields.key_at.Goals as goal
 
 pub returns-in_ok-from_str-in-Ok : goal.returns-in_ok-from_str-in-Ok

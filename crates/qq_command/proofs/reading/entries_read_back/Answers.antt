@@ -1,6 +1,6 @@
 use Rattle.std.proofs.Common.{refl}
 use Rattle.qq_command.specs.Reading.{entry_at}
-use Rattle.qq_command.proofs.Laws.{known}
+use Rattle.qq_fields.proofs.Laws.{known}
 use Rattle.qq_command.proofs.ShortEncodings.{encoding_len}
 use Rattle.qq_command.proofs.EntryLaws.{entry_takes, entry_again}
 use Rattle.qq_command.proofs.reading.entries_read_back.Goals as goal

@@ -1,8 +1,9 @@
-use Rattle.std.proofs.Common.{◌≡◌, ◌-◌, ◌≤◌, length, arith}
+use Rattle.std.proofs.Common.{◌≡◌, ℕ, List, ◌-◌, ◌≤◌, ◌++◌, ◌∙◌, length, sym, ap, append_assoc, arith}
 use Rattle.qq_entry.specs.declared.limits.TheConstants.{LENGTH_LIMIT}
-use Rattle.qq_command.specs.Encoding.{u64, payload, encoding}
+use Rattle.qq_fields.specs.Writing.{u32, u64}
+use Rattle.qq_command.specs.Encoding.{payload, encoding}
 use Rattle.qq_command.proofs.ShortEncodings.{payload_len}
-use Rattle.qq_command.proofs.Appends.{length_between, set_between}
+use Rattle.qq_fields.proofs.Appends.{append_twice, length_between, set_before}
 use Rattle.qq_command.proofs.writing.put_encoding.Goals as goal
 
 pub overflow_cast-length : goal.overflow_cast-length
@@ -19,8 +20,13 @@ returns-clause-ok c =
     let between : length c.put_payload.new.out.items - length c.put_u32.new.out.items ≡ length
     (payload c.args.entry.now) = length_between c.put_u32.new.out.items (payload c.args.entry.now)
     c.put_payload.new.out.items c.in_ok-put_payload.ensures.ok in
-    set_between c.args.out.now.items (u64 c.args.entry.now.term.0) (payload c.args.entry.now)
-    c.put_u64.new.out.items c.put_u32.new.out.items c.put_payload.new.out.items c.set_length.new.out.items
-    c.len-place.result (c.len.result - c.len-start.result)
-    c.in_ok-put_u64.ensures.ok c.in_ok-put_u32.ensures.ok c.in_ok-put_payload.ensures.ok
-    (omega (arith, c.len-place.ensures)) (omega (arith, c.len.ensures, c.len-start.ensures)) c.set_length.ensures
+    let old = c.args.out.now.items in
+    let head = u64 c.args.entry.now.term.0 in
+    let inner = payload c.args.entry.now in
+    append_twice old head (u32 (length inner) ++ inner) c.put_u64.new.out.items c.set_length.new.out.items
+    c.in_ok-put_u64.ensures.ok
+    (set_before c.put_u64.new.out.items inner c.put_u32.new.out.items c.put_payload.new.out.items
+    c.set_length.new.out.items c.len-place.result (c.len.result - c.len-start.result) (length inner)
+    c.in_ok-put_u32.ensures.ok c.in_ok-put_payload.ensures.ok (omega (arith, c.len-place.ensures))
+    (omega (arith, c.len.ensures, c.len-start.ensures)) c.set_length.ensures)
+    ∙ ap (λ (t : List ℕ). old ++ t) (sym (append_assoc head (u32 (length inner)) inner))

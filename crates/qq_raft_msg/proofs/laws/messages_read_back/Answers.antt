@@ -4,12 +4,7 @@ use Rattle.qq_raft_msg.proofs.RpcLaws.{message_again, message_alone}
 use Rattle.qq_raft_msg.proofs.laws.messages_read_back.Goals as goal
 
 pub returns-clause-again : goal.returns-clause-again
-returns-clause-again c =
-    λ r rest w. message_again
-    (record { again = c.entries_read_back.ensures.again; alone = c.entries_read_back.ensures.alone }) r
-    (encoding r ++ rest) rest refl w
+returns-clause-again c = λ r rest w. message_again r (encoding r ++ rest) rest refl w
 
 pub returns-clause-alone : goal.returns-clause-alone
-returns-clause-alone c =
-    λ bytes x fits e. message_alone
-    (record { again = c.entries_read_back.ensures.again; alone = c.entries_read_back.ensures.alone }) bytes x fits e
+returns-clause-alone c = message_alone

@@ -4,13 +4,7 @@ use Rattle.qq_wal_record.proofs.RecordLaws.{record_again, record_alone}
 use Rattle.qq_wal_record.proofs.laws.records_read_back.Goals as goal
 
 pub returns-clause-again : goal.returns-clause-again
-returns-clause-again c =
-    λ file r rest w. record_again
-    (record { again = c.entries_read_back.ensures.again; alone = c.entries_read_back.ensures.alone }) file r
-    (record_encoding file r ++ rest) rest refl w
+returns-clause-again c = λ file r rest w. record_again file r (record_encoding file r ++ rest) rest refl w
 
 pub returns-clause-alone : goal.returns-clause-alone
-returns-clause-alone c =
-    λ file bytes x fits e. record_alone
-    (record { again = c.entries_read_back.ensures.again; alone = c.entries_read_back.ensures.alone }) file bytes x
-    fits e
+returns-clause-alone c = record_alone

@@ -4,19 +4,13 @@ use Rattle.qq_wal_record.proofs.reading.read_record.Goals as goal
 
 pub returns-clause-found : goal.returns-clause-found
 returns-clause-found c =
-    is_found (record { again = c.entries_read_back.ensures.again; alone = c.entries_read_back.ensures.alone })
-    c.args.file c.args.bytes.now c.record_at.result (λ i. omega (arith, c.type_inv.bytes i)) c.record_at.ensures
+    is_found c.args.file c.args.bytes.now c.record_at.result (λ i. omega (arith, c.type_inv.bytes i))
+    c.record_at.ensures
 
 pub returns-clause-only : goal.returns-clause-only
 returns-clause-only c = λ r rest w e.
-    is_read c.record_at.result
-    (record_again (record {
-      again = c.entries_read_back.ensures.again;
-      alone = c.entries_read_back.ensures.alone;
-    }) c.args.file r c.args.bytes.now rest e w) c.record_at.ensures
+    is_read c.record_at.result (record_again c.args.file r c.args.bytes.now rest e w) c.record_at.ensures
 
 pub returns-clause-within : goal.returns-clause-within
 returns-clause-within c =
-    is_within c.args.file c.args.bytes.now c.record_at.result
-    (is_found (record { again = c.entries_read_back.ensures.again; alone = c.entries_read_back.ensures.alone })
-    c.args.file c.args.bytes.now c.record_at.result (λ i. omega (arith, c.type_inv.bytes i)) c.record_at.ensures)
+    is_within c.args.file c.args.bytes.now c.record_at.result (returns-clause-found c)

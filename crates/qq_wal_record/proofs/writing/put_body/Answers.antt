@@ -1,6 +1,6 @@
 use Rattle.std.proofs.Common.{length, arith}
 use Rattle.qq_wal_record.specs.Encoding.{payload, inside, body}
-use Rattle.qq_wal_record.proofs.Appends.{set_front}
+use Rattle.qq_fields.proofs.Appends.{set_before}
 use Rattle.qq_wal_record.proofs.Lengths.{body_between, payload_fits}
 use Rattle.qq_wal_record.proofs.writing.put_body.Goals as goal
 
@@ -21,7 +21,7 @@ unfolding body
 returns-clause-ok c =
     let long = body_between c.args.out.now.items c.put_u32.new.out.items c.put_inside.new.out.items c.args.r.now
     c.in_ok-put_u32.ensures.ok c.in_ok-put_inside.ensures.ok in
-    set_front c.args.out.now.items (inside c.args.r.now) c.put_u32.new.out.items c.put_inside.new.out.items
+    set_before c.args.out.now.items (inside c.args.r.now) c.put_u32.new.out.items c.put_inside.new.out.items
     c.set_length.new.out.items c.len-place.result _ (length (payload c.args.r.now))
     c.in_ok-put_u32.ensures.ok c.in_ok-put_inside.ensures.ok (omega (arith, c.len-place.ensures))
     (omega (arith, c.len.ensures, c.len-place.ensures)) c.set_length.ensures

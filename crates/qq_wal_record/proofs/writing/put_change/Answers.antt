@@ -1,7 +1,8 @@
 use Rattle.std.proofs.Common.{◌++◌}
-use Rattle.qq_command.specs.Encoding.{u64}
-use Rattle.qq_wal_record.specs.Encoding.{vote, entries, change_payload}
-use Rattle.qq_wal_record.proofs.Appends.{append_twice}
+use Rattle.qq_fields.specs.Writing.{u64}
+use Rattle.qq_command.specs.Encoding.{entries}
+use Rattle.qq_wal_record.specs.Encoding.{vote, change_payload}
+use Rattle.qq_fields.proofs.Appends.{append_twice}
 use Rattle.qq_wal_record.proofs.writing.put_change.Goals as goal
 
 pub returns-clause-ok : goal.returns-clause-ok

@@ -1,9 +1,9 @@
 use Rattle.std.proofs.Common.{◌≡◌, ◌++◌, ℕ, ap, ◌∙◌}
 use Rattle.qq_base.specs.declared.ids.QueueId.{QueueId}
-use Rattle.qq_command.specs.Encoding.{u8, u32, u64}
+use Rattle.qq_fields.specs.Writing.{u8, u32, u64}
 use Rattle.qq_wal_record.specs.Encoding.{payload, inside}
 use Rattle.qq_wal_record.specs.Record.{kind, queue, number}
-use Rattle.qq_wal_record.proofs.Appends.{append_twice}
+use Rattle.qq_fields.proofs.Appends.{append_twice}
 use Rattle.qq_wal_record.proofs.writing.put_inside.Goals as goal
 
 pub returns-clause-ok : goal.returns-clause-ok

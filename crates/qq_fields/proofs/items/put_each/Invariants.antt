@@ -1,6 +1,6 @@
 use Rattle.std.proofs.Common.{◌≡◌, ◌++◌, take}
 use Rattle.std.specs.List.{flat_map}
-use Rattle.qq_command.proofs.items.put_items.Given as goal
+use Rattle.qq_fields.proofs.items.put_each.Given as goal
 
 -- what was put so far
 abbrev pub invariant-items : goal.invariant-items

@@ -1,7 +1,7 @@
 use Rattle.std.proofs.Common.{◌≡◌, ◌-◌}
-use Rattle.qq_command.specs.Reading.{many}
-use Rattle.qq_command.proofs.Loop.{with_prefix}
-use Rattle.qq_command.proofs.items.items_at.Given as goal
+use Rattle.qq_fields.specs.Reading.{many}
+use Rattle.qq_fields.proofs.Loop.{with_prefix}
+use Rattle.qq_fields.proofs.items.many.Given as goal
 
 -- what was read, and what is still read
 abbrev pub invariant-items : goal.invariant-items

@@ -1,0 +1,20 @@
+-- Numbers and flags of a message, which end too early where the bytes do.
+use Rattle.std.proofs.Common.{◌^◌, ◌<◌}
+use Rattle.std.specs.Int.{w8, w32, w64, to_be_bytes}
+use Rattle.qq_command.specs.declared.refusal.Refusal.TheVariants.{Short, BadField}
+use Rattle.qq_fields.specs.Writing.{flag}
+use Rattle.qq_raft_msg.specs.Reading.{number_at, flag_at}
+use Rattle.qq_fields.proofs.Laws as fields
+use Rattle.qq_fields.proofs.Laws.{Reads}
+
+pub u8-reads : Reads (number_at w8) (to_be_bytes w8) (λ n. n < 2 ^ 8)
+u8-reads = fields.u8-reads Short
+
+pub u32-reads : Reads (number_at w32) (to_be_bytes w32) (λ n. n < 2 ^ 32)
+u32-reads = fields.u32-reads Short
+
+pub u64-reads : Reads (number_at w64) (to_be_bytes w64) (λ n. n < 2 ^ 64)
+u64-reads = fields.u64-reads Short
+
+pub flag-reads : Reads flag_at flag (λ b. Unit {0})
+flag-reads = fields.flag-reads Short BadField
