@@ -31,7 +31,7 @@ use std::marker::Model;
 /// them, with how many turns were drawn, and their base: what they were at the last commit. `undo`
 /// makes them the base again, and takes no memory. A call that runs out of memory in its middle has
 /// undone all by itself.
-#[derive(Debug, Drop)]
+#[derive(Drop)]
 pub struct Consumers {
     joined: Joined,
     waiting: Rising<ConsumerId>,
@@ -581,6 +581,7 @@ impl Consumers {
         if let Err(cause) = self.joined.take_ids(id, ids, &mut rows) {
             take_back(&mut self.joined, &mut self.waiting);
             self.turns = self.base_turns;
+            drop(rows);
             return Err(cause);
         }
         match self.joined.next(id, before) {
@@ -589,6 +590,7 @@ impl Consumers {
                 if let Err(cause) = self.joined.leave(id) {
                     take_back(&mut self.joined, &mut self.waiting);
                     self.turns = self.base_turns;
+                    drop(rows);
                     return Err(cause);
                 }
                 Ok(Some(rows))
@@ -598,11 +600,13 @@ impl Consumers {
                 if let Err(cause) = self.joined.put(Consumer { turn, ..consumer }) {
                     take_back(&mut self.joined, &mut self.waiting);
                     self.turns = self.base_turns;
+                    drop(rows);
                     return Err(cause);
                 }
                 if let Err(cause) = enter(&mut self.waiting, id, self.joined.turn_of(id)) {
                     take_back(&mut self.joined, &mut self.waiting);
                     self.turns = self.base_turns;
+                    drop(rows);
                     return Err(cause);
                 }
                 self.turns = turn;

@@ -27,7 +27,7 @@ use std::marker::Model;
 /// Contracts see them and their base: the consumers at the last commit. A consumer that changed is
 /// touched, and knows what it was. Who joined and who left since is in the journal, the newest step
 /// first. The rows have spare memory for each step, so that whoever left can come back.
-#[derive(Debug, Drop)]
+#[derive(Drop)]
 pub struct Joined {
     rows: Rows,
     journal: VecDeque<Step>,

@@ -10,7 +10,7 @@ use std::collections::VecDeque;
 use std::marker::Model;
 
 /// An item under its number.
-#[derive(Debug, Drop)]
+#[derive(Drop)]
 pub struct Numbered<T> {
     pub number: u64,
     pub item: T,
@@ -20,7 +20,7 @@ pub struct Numbered<T> {
 ///
 /// Contracts see its items and its base: the items at the last commit. `undo` makes these the items
 /// again, and takes no memory.
-#[derive(Debug, Drop)]
+#[derive(Drop)]
 pub struct Rising<T> {
     rows: UndoDeque<Numbered<T>>,
 }

@@ -12,7 +12,7 @@ use std::collections::VecDeque;
 use std::marker::Model;
 
 /// How many numbers were drawn, and what the dead-letter worker was given.
-#[derive(Clone, Copy, Debug)]
+#[derive(Clone, Copy)]
 struct Counts {
     deads: u64,
     given: u64,
@@ -26,7 +26,7 @@ struct Counts {
 /// What the worker was given is a front of the list, so giving and counting need no scan. A number is
 /// found by binary search. Contracts see both as they are, and as they were at the last `commit`, which
 /// `undo` leads back to.
-#[derive(Debug, Drop)]
+#[derive(Drop)]
 pub struct Dead {
     rows: UndoDeque<DeadRow>,
     counts: Counts,

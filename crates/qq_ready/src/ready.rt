@@ -4,7 +4,7 @@ ghost use Rattle.qq_model.specs.declared.place.Key.TheVariants.{Front, Back};
 ghost use Rattle.qq_ready.specs.Queue.{no_messages, in_order, head, without_next, emptied, push_back, push_returned, bytes_of, AreKeyed, IsInOrder};
 
 use crate::row::KeyedRow;
-use qq_base::{Duplicate, Memory};
+use qq_base::{Duplicate, Memory, both};
 use qq_entry::ReadyRow;
 use qq_model::Key;
 use qq_undo::UndoDeque;
@@ -13,7 +13,7 @@ use std::collections::VecDeque;
 use std::marker::Model;
 
 /// How many keys of each kind were drawn, and how many bytes there are.
-#[derive(Clone, Copy, Debug)]
+#[derive(Clone, Copy)]
 struct Counts {
     orders: u64,
     returns: u64,
@@ -25,7 +25,7 @@ struct Counts {
 /// What was returned under a delivery limit comes before all else, in the order of the returns. Contracts
 /// see two lists and the counters from which places are drawn, and the same as they were at the last
 /// `commit`, which `undo` leads back to. No call goes through the messages, but `copy` and `from_parts`.
-#[derive(Debug, Drop)]
+#[derive(Drop)]
 pub struct Ready {
     fronts: UndoDeque<KeyedRow>,
     backs: UndoDeque<KeyedRow>,
@@ -307,9 +307,12 @@ impl Ready {
         ensures base { IfOk result (λ twin. twin.base ≡ self.now.queue) }
         ensures want { IsOkUnless result Memory.Want }
     {
+        let fronts = copy_rows(alloc, self.fronts.as_deque());
+        let backs = copy_rows(alloc, self.backs.as_deque());
+        let (fronts, backs) = both(fronts, backs)?;
         Ok(Ready {
-            fronts: UndoDeque::from_deque(copy_rows(alloc, self.fronts.as_deque())?),
-            backs: UndoDeque::from_deque(copy_rows(alloc, self.backs.as_deque())?),
+            fronts: UndoDeque::from_deque(fronts),
+            backs: UndoDeque::from_deque(backs),
             counts: self.counts,
             base: self.counts,
         })

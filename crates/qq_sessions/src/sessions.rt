@@ -14,7 +14,7 @@ use crate::ended::Ended;
 use crate::open_sessions::OpenSessions;
 use crate::row::{SessionRow, gate_number};
 use crate::workers::Workers;
-use qq_base::{CLIENT, DEAD_LETTER, Index, Memory, SessionId, WORKER};
+use qq_base::{CLIENT, DEAD_LETTER, Index, Memory, SessionId, WORKER, both};
 use qq_entry::{Answer, Stamp};
 use qq_model::{Gate, MOST_OPEN, MOST_SEEN, Worker};
 use std::alloc::Global;
@@ -24,7 +24,7 @@ use std::marker::Model;
 ///
 /// Contracts see the definition's `Sessions`, and for what there is memory. A check looks an id up by its
 /// hash, and an ended session by binary search. The least index that a kept answer names costs no scan.
-#[derive(Debug, Drop)]
+#[derive(Drop)]
 pub struct Sessions {
     opened: OpenSessions,
     ended: Ended,
@@ -324,10 +324,12 @@ impl Sessions {
         ensures ok { IfOk result (λ twin. twin.known ≡ self.now.known) }
         ensures want { IsOkUnless result Memory.Want }
     {
+        let ends = both(self.ended.copy(alloc), self.workers.copy(alloc));
+        let (opened, (ended, workers)) = both(self.opened.copy(alloc), ends)?;
         Ok(Sessions {
-            opened: self.opened.copy(alloc)?,
-            ended: self.ended.copy(alloc)?,
-            workers: self.workers.copy(alloc)?,
+            opened,
+            ended,
+            workers,
             seen: self.seen,
         })
     }

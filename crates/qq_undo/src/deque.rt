@@ -14,7 +14,7 @@ use std::mem;
 ///
 /// Contracts see its items and its base: the items at the last `commit`. `undo` makes the items the base
 /// again, and takes no memory: the deque never gives memory back, so there is room for what it had.
-#[derive(Debug, Drop)]
+#[derive(Drop)]
 pub struct UndoDeque<T> {
     items: VecDeque<T>,
     journal: Vec<Step<T>>,
