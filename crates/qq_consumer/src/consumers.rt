@@ -214,9 +214,11 @@ impl Consumers {
         ensures base { IfOk result (λ twin. twin.base ≡ self.now.roster) }
         ensures want { IsOkUnless result Memory.Want }
     {
+        // What owns most is made last, so that little is alive where a copy fails.
+        let waiting = self.waiting.copy(alloc)?;
         Ok(Consumers {
             joined: self.joined.copy(alloc)?,
-            waiting: self.waiting.copy(alloc)?,
+            waiting,
             turns: self.turns,
             base_turns: self.turns,
         })

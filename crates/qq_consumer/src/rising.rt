@@ -82,17 +82,6 @@ impl Duplicate for Numbered<ConsumerId> {
     }
 }
 
-fn copy_rows<R: Duplicate>(alloc: Global, rows: &VecDeque<R>) -> Result<VecDeque<R>, Memory>
-    ensures ok { IfOk result (λ twin. twin.items ≡ rows.now.items) }
-    ensures want { IsOkUnless result Memory.Want }
-{
-    let mut twin = VecDeque::with_capacity(alloc, rows.len())?;
-    'rows: for place in 0..rows.len() {
-        twin.push_back(rows[place].copy(alloc)?)?;
-    }
-    Ok(twin)
-}
-
 impl<T> Rising<T> {
     /// No items. It takes no memory.
     pub fn new(alloc: Global) -> Self
@@ -228,7 +217,7 @@ where
         ensures want { IsOkUnless result Memory.Want }
     {
         Ok(Rising {
-            rows: UndoDeque::from_deque(copy_rows(alloc, self.rows.as_deque())?),
+            rows: self.rows.copy(alloc)?,
         })
     }
 }

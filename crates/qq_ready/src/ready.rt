@@ -4,12 +4,11 @@ ghost use Rattle.qq_model.specs.declared.place.Key.TheVariants.{Front, Back};
 ghost use Rattle.qq_ready.specs.Queue.{no_messages, in_order, head, without_next, emptied, push_back, push_returned, bytes_of, AreKeyed, IsInOrder};
 
 use crate::row::KeyedRow;
-use qq_base::{Duplicate, Memory, both};
+use qq_base::{Memory, both};
 use qq_entry::ReadyRow;
 use qq_model::Key;
 use qq_undo::UndoDeque;
 use std::alloc::Global;
-use std::collections::VecDeque;
 use std::marker::Model;
 
 /// How many keys of each kind were drawn, and how many bytes there are.
@@ -69,17 +68,6 @@ fn bytes_of(rows: &[KeyedRow]) -> u128
         sum += size(one);
     }
     sum
-}
-
-fn copy_rows(alloc: Global, rows: &VecDeque<KeyedRow>) -> Result<VecDeque<KeyedRow>, Memory>
-    ensures ok { IfOk result (λ twin. twin.items ≡ rows.now.items) }
-    ensures want { IsOkUnless result Memory.Want }
-{
-    let mut twin = VecDeque::with_capacity(alloc, rows.len())?;
-    'rows: for place in 0..rows.len() {
-        twin.push_back(rows[place].copy(alloc)?)?;
-    }
-    Ok(twin)
 }
 
 // Takes all out. After an error both are as at the last commit.
@@ -307,12 +295,10 @@ impl Ready {
         ensures base { IfOk result (λ twin. twin.base ≡ self.now.queue) }
         ensures want { IsOkUnless result Memory.Want }
     {
-        let fronts = copy_rows(alloc, self.fronts.as_deque());
-        let backs = copy_rows(alloc, self.backs.as_deque());
-        let (fronts, backs) = both(fronts, backs)?;
+        let (fronts, backs) = both(self.fronts.copy(alloc), self.backs.copy(alloc))?;
         Ok(Ready {
-            fronts: UndoDeque::from_deque(fronts),
-            backs: UndoDeque::from_deque(backs),
+            fronts,
+            backs,
             counts: self.counts,
             base: self.counts,
         })

@@ -257,8 +257,8 @@ impl OpenSessions {
         ensures ok { IfOk result (λ twin. twin.rows ≡ self.now.rows) }
         ensures want { IsOkUnless result Memory.Want }
     {
-        let opened = self.opened.copy(alloc)?;
         let named = self.named.copy(alloc)?;
+        let opened = self.opened.copy(alloc)?;
         Ok(OpenSessions { opened, named })
     }
 

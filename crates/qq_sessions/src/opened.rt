@@ -247,13 +247,8 @@ impl Opened {
         ensures want { IsOkUnless result Memory.Want }
     {
         let mut twin = Opened::new(alloc);
-        match self.copy_into(alloc, &mut twin) {
-            Ok(()) => Ok(twin),
-            Err(cause) => {
-                drop(twin);
-                Err(cause)
-            }
-        }
+        self.copy_into(alloc, &mut twin)?;
+        Ok(twin)
     }
 
     /// The sessions of these rows, each of which has an id of its own.

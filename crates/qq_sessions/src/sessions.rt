@@ -14,7 +14,7 @@ use crate::ended::Ended;
 use crate::open_sessions::OpenSessions;
 use crate::row::{SessionRow, gate_number};
 use crate::workers::Workers;
-use qq_base::{CLIENT, DEAD_LETTER, Index, Memory, SessionId, WORKER, both};
+use qq_base::{CLIENT, DEAD_LETTER, Index, Memory, SessionId, WORKER};
 use qq_entry::{Answer, Stamp};
 use qq_model::{Gate, MOST_OPEN, MOST_SEEN, Worker};
 use std::alloc::Global;
@@ -324,10 +324,11 @@ impl Sessions {
         ensures ok { IfOk result (λ twin. twin.known ≡ self.now.known) }
         ensures want { IsOkUnless result Memory.Want }
     {
-        let ends = both(self.ended.copy(alloc), self.workers.copy(alloc));
-        let (opened, (ended, workers)) = both(self.opened.copy(alloc), ends)?;
+        // What owns most is made last, so that little is alive where a copy fails.
+        let ended = self.ended.copy(alloc)?;
+        let workers = self.workers.copy(alloc)?;
         Ok(Sessions {
-            opened,
+            opened: self.opened.copy(alloc)?,
             ended,
             workers,
             seen: self.seen,

@@ -75,6 +75,17 @@ fn undo_all<T: Drop>(items: &mut VecDeque<T>, journal: &mut Vec<Step<T>>)
     }
 }
 
+fn copied<T: Duplicate>(alloc: Global, items: &VecDeque<T>) -> Result<VecDeque<T>, Memory>
+    ensures ok { IfOk result (λ twin. twin.items ≡ items.now.items) }
+    ensures want { IsOkUnless result Memory.Want }
+{
+    let mut twin = VecDeque::with_capacity(alloc, items.len())?;
+    'items: for place in 0..items.len() {
+        twin.push_back(items[place].copy(alloc)?)?;
+    }
+    Ok(twin)
+}
+
 impl<T> UndoDeque<T> {
     /// No items. It takes no memory.
     pub fn new(alloc: Global) -> Self
@@ -221,5 +232,14 @@ impl<T: Duplicate> UndoDeque<T> {
             return Ok(None);
         }
         Ok(Some(self.remove(0)?))
+    }
+
+    /// The same items, committed, in memory of their own.
+    pub fn copy(&self, alloc: Global) -> Result<Self, Memory>
+        ensures items { IfOk result (λ twin. twin.items ≡ self.now.items) }
+        ensures base { IfOk result (λ twin. twin.base ≡ self.now.items) }
+        ensures want { IsOkUnless result Memory.Want }
+    {
+        Ok(UndoDeque::from_deque(copied(alloc, &self.items)?))
     }
 }
