@@ -7,8 +7,8 @@ use Rattle.qq_machine.specs.Counted.{ended_indices}
 use Rattle.qq_machine.proofs.Totals.{left-by, named-ended, keeps-less, keeps-back}
 use Rattle.qq_machine.proofs.counted.Counted.end.Goals as goal
 
-pub invariant_of-self-in-Ok : goal.invariant_of-self-in-Ok
-invariant_of-self-in-Ok c =
+pub invariant_of-self : goal.invariant_of-self
+invariant_of-self c =
     keeps-less c.self.inside.consumers c.end_one.new.consumers _ _ _ c.self.inside.ledger.came.items c.self.inside.ledger.gone.items
     c.self.inside.ledger.came.items c.end_one.new.gone.items (ended_indices c.in-Ok.ended) c.self.invariant
     (left-by c.args.session c.in-Ok.ended c.self.inside.consumers.roster _ _ c.len.ensures.apart

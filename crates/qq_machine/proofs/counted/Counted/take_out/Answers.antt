@@ -8,8 +8,8 @@ use Rattle.qq_ledger.specs.Ledger.{message_index, out_indices}
 use Rattle.qq_machine.proofs.Totals.{left-without, named-taken, keeps-less, keeps-back}
 use Rattle.qq_machine.proofs.counted.Counted.take_out.Goals as goal
 
-pub invariant_of-self-in-Ok : goal.invariant_of-self-in-Ok
-invariant_of-self-in-Ok c =
+pub invariant_of-self : goal.invariant_of-self
+invariant_of-self c =
     keeps-less c.self.inside.consumers c.take_out.new.consumers _ _ _ c.self.inside.ledger.came.items c.self.inside.ledger.gone.items
     c.self.inside.ledger.came.items c.take_out.new.gone.items
     (option_map_or (λ rows. map message_index rows.items) c.in-Ok.taken []) c.self.invariant
