@@ -7,7 +7,7 @@ use qq_pair::{Made, Pair};
 use std::alloc::Global;
 
 /// A queue on both machines, and the entries that were applied to it.
-#[derive(Debug, Drop)]
+#[derive(Drop)]
 pub struct Replay {
     pair: Pair,
 }

@@ -31,7 +31,7 @@ use std::marker::Model;
 /// them, with how many turns were drawn, and their base: what they were at the last commit. `undo`
 /// makes them the base again, and takes no memory. A call that runs out of memory in its middle has
 /// undone all by itself.
-#[derive(Debug, Drop)]
+#[derive(Drop)]
 pub struct Consumers {
     joined: Joined,
     waiting: Rising<ConsumerId>,
@@ -214,9 +214,11 @@ impl Consumers {
         ensures base { IfOk result (λ twin. twin.base ≡ self.now.roster) }
         ensures want { IsOkUnless result Memory.Want }
     {
+        // What owns most is made last, so that little is alive where a copy fails.
+        let waiting = self.waiting.copy(alloc)?;
         Ok(Consumers {
             joined: self.joined.copy(alloc)?,
-            waiting: self.waiting.copy(alloc)?,
+            waiting,
             turns: self.turns,
             base_turns: self.turns,
         })
@@ -581,6 +583,7 @@ impl Consumers {
         if let Err(cause) = self.joined.take_ids(id, ids, &mut rows) {
             take_back(&mut self.joined, &mut self.waiting);
             self.turns = self.base_turns;
+            drop(rows);
             return Err(cause);
         }
         match self.joined.next(id, before) {
@@ -589,6 +592,7 @@ impl Consumers {
                 if let Err(cause) = self.joined.leave(id) {
                     take_back(&mut self.joined, &mut self.waiting);
                     self.turns = self.base_turns;
+                    drop(rows);
                     return Err(cause);
                 }
                 Ok(Some(rows))
@@ -598,11 +602,13 @@ impl Consumers {
                 if let Err(cause) = self.joined.put(Consumer { turn, ..consumer }) {
                     take_back(&mut self.joined, &mut self.waiting);
                     self.turns = self.base_turns;
+                    drop(rows);
                     return Err(cause);
                 }
                 if let Err(cause) = enter(&mut self.waiting, id, self.joined.turn_of(id)) {
                     take_back(&mut self.joined, &mut self.waiting);
                     self.turns = self.base_turns;
+                    drop(rows);
                     return Err(cause);
                 }
                 self.turns = turn;

@@ -27,7 +27,7 @@ use std::marker::Model;
 /// Contracts see them and their base: the consumers at the last commit. A consumer that changed is
 /// touched, and knows what it was. Who joined and who left since is in the journal, the newest step
 /// first. The rows have spare memory for each step, so that whoever left can come back.
-#[derive(Debug, Drop)]
+#[derive(Drop)]
 pub struct Joined {
     rows: Rows,
     journal: VecDeque<Step>,
@@ -266,6 +266,19 @@ impl Joined {
         None
     }
 
+    // Puts a copy of each consumer behind none.
+    fn copy_into(&self, alloc: Global, twin: &mut Joined) -> Result<(), Memory>
+        requires { twin.old.served ≡ [] }
+
+        ensures served { OnOk result (twin.new.served ≡ self.now.served) }
+        ensures want { IsOkUnless result Memory.Want }
+    {
+        'rows: for place in 0..self.len() {
+            twin.push(copy_row(alloc, self.row(place))?)?;
+        }
+        Ok(())
+    }
+
     /// The same consumers, with copies of what is out with them.
     pub fn copy(&self, alloc: Global) -> Result<Self, Memory>
         ensures ok { IfOk result (λ twin. twin.served ≡ self.now.served) }
@@ -273,9 +286,7 @@ impl Joined {
         ensures want { IsOkUnless result Memory.Want }
     {
         let mut twin = Joined::new(alloc);
-        'rows: for place in 0..self.len() {
-            twin.push(copy_row(alloc, self.row(place))?)?;
-        }
+        self.copy_into(alloc, &mut twin)?;
         twin.commit();
         Ok(twin)
     }

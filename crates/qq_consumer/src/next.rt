@@ -1,7 +1,7 @@
 use qq_model::Consumer;
 
 /// What follows for a consumer once deliveries to it have ended.
-#[derive(Clone, Copy, Debug)]
+#[derive(Clone, Copy)]
 pub enum Next {
     /// It was cancelled, and nothing is out with it.
     Leaves,

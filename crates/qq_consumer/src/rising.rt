@@ -10,7 +10,7 @@ use std::collections::VecDeque;
 use std::marker::Model;
 
 /// An item under its number.
-#[derive(Debug, Drop)]
+#[derive(Drop)]
 pub struct Numbered<T> {
     pub number: u64,
     pub item: T,
@@ -20,7 +20,7 @@ pub struct Numbered<T> {
 ///
 /// Contracts see its items and its base: the items at the last commit. `undo` makes these the items
 /// again, and takes no memory.
-#[derive(Debug, Drop)]
+#[derive(Drop)]
 pub struct Rising<T> {
     rows: UndoDeque<Numbered<T>>,
 }
@@ -80,17 +80,6 @@ impl Duplicate for Numbered<ConsumerId> {
             item: self.item,
         })
     }
-}
-
-fn copy_rows<R: Duplicate>(alloc: Global, rows: &VecDeque<R>) -> Result<VecDeque<R>, Memory>
-    ensures ok { IfOk result (λ twin. twin.items ≡ rows.now.items) }
-    ensures want { IsOkUnless result Memory.Want }
-{
-    let mut twin = VecDeque::with_capacity(alloc, rows.len())?;
-    'rows: for place in 0..rows.len() {
-        twin.push_back(rows[place].copy(alloc)?)?;
-    }
-    Ok(twin)
 }
 
 impl<T> Rising<T> {
@@ -228,7 +217,7 @@ where
         ensures want { IsOkUnless result Memory.Want }
     {
         Ok(Rising {
-            rows: UndoDeque::from_deque(copy_rows(alloc, self.rows.as_deque())?),
+            rows: self.rows.copy(alloc)?,
         })
     }
 }

@@ -22,7 +22,7 @@ use std::alloc::Global;
 use std::collections::VecDeque;
 
 /// A consumer, and the messages that are out with it, under the ids of their deliveries.
-#[derive(Debug, Drop)]
+#[derive(Drop)]
 pub struct ConsumerRow {
     pub consumer: Consumer,
     pub out: Rising<ReadyRow>,

@@ -1,7 +1,7 @@
 use crate::seat::Seat;
 
 /// A change of who is there.
-#[derive(Debug, Drop)]
+#[derive(Drop)]
 pub enum Step {
     /// A consumer joined at the end.
     Joined,

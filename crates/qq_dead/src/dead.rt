@@ -3,7 +3,7 @@ ghost use Rattle.std.specs.Option.{option_copied, option_map};
 ghost use Rattle.qq_dead.specs.Letters.{no_letters, add, attach, may_give, next_dead, next_offer, give, settled, settle, letters_of, AreNumbered, Rises, place_of, is_at, IsSettledAt, SettlesNothing};
 
 use crate::row::DeadRow;
-use qq_base::{Duplicate, Memory, Term};
+use qq_base::{Memory, Term};
 use qq_entry::{ReadyRow, Reason};
 use qq_model::MOST_GIVEN;
 use qq_undo::UndoDeque;
@@ -12,7 +12,7 @@ use std::collections::VecDeque;
 use std::marker::Model;
 
 /// How many numbers were drawn, and what the dead-letter worker was given.
-#[derive(Clone, Copy, Debug)]
+#[derive(Clone, Copy)]
 struct Counts {
     deads: u64,
     given: u64,
@@ -26,7 +26,7 @@ struct Counts {
 /// What the worker was given is a front of the list, so giving and counting need no scan. A number is
 /// found by binary search. Contracts see both as they are, and as they were at the last `commit`, which
 /// `undo` leads back to.
-#[derive(Debug, Drop)]
+#[derive(Drop)]
 pub struct Dead {
     rows: UndoDeque<DeadRow>,
     counts: Counts,
@@ -48,17 +48,6 @@ impl Model for Dead {
         × SplitsAt d.counts.given d.counts.under_way d.rows.items)
         × (AreNumbered (letters_of d.rows.base d.base.deads d.base.given d.base.attached)
         × SplitsAt d.base.given d.base.under_way d.rows.base) };
-}
-
-fn copy_rows(alloc: Global, rows: &VecDeque<DeadRow>) -> Result<VecDeque<DeadRow>, Memory>
-    ensures ok { IfOk result (λ twin. twin.items ≡ rows.now.items) }
-    ensures want { IsOkUnless result Memory.Want }
-{
-    let mut twin = VecDeque::with_capacity(alloc, rows.len())?;
-    'rows: for place in 0..rows.len() {
-        twin.push_back(rows[place].copy(alloc)?)?;
-    }
-    Ok(twin)
 }
 
 // The first place at which the number isn't below this one.
@@ -284,7 +273,7 @@ impl Dead {
         ensures want { IsOkUnless result Memory.Want }
     {
         Ok(Dead {
-            rows: UndoDeque::from_deque(copy_rows(alloc, self.rows.as_deque())?),
+            rows: self.rows.copy(alloc)?,
             counts: self.counts,
             base: self.counts,
         })

@@ -3,7 +3,7 @@ use qq_entry::{ReadyRow, Reason};
 use std::alloc::Global;
 
 /// A dead message that stays until its dead-letter targets have confirmed it.
-#[derive(Debug, Drop)]
+#[derive(Drop)]
 pub struct DeadRow {
     /// Its number among the dead of its queue, from 1.
     pub number: u64,

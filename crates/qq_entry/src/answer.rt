@@ -18,7 +18,7 @@ pub struct Delivery {
 }
 
 /// Which limit a publish has met (RabbitMQ, "Queue Length Limit", `reject-publish`).
-#[derive(Clone, Copy, Debug, PartialEq, Eq, Hash)]
+#[derive(Clone, Copy, Debug, PartialEq, Eq)]
 pub enum Full {
     /// The ready messages are at `x-max-length`.
     Length,
@@ -29,7 +29,7 @@ pub enum Full {
 }
 
 /// Why a command was refused.
-#[derive(Clone, Copy, Debug, PartialEq, Eq, Hash)]
+#[derive(Clone, Copy, Debug, PartialEq, Eq)]
 pub enum Cause {
     /// A get of a queue with a single active consumer.
     SingleActive,

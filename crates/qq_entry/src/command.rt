@@ -3,7 +3,7 @@ use qq_base::{ConsumerId, Duplicate, Ids, Items, Memory, QueueIds, SessionId, Te
 use std::alloc::Global;
 
 /// The stamp of a session's command (Ongaro's dissertation, section 6.3).
-#[derive(Clone, Copy, Debug, PartialEq, Eq, Hash)]
+#[derive(Clone, Copy, Debug, PartialEq, Eq)]
 pub struct Stamp {
     /// The session that gives the command.
     pub session: SessionId,
@@ -14,7 +14,7 @@ pub struct Stamp {
 }
 
 /// How a consumer gets deliveries.
-#[derive(Clone, Copy, Debug, PartialEq, Eq, Hash)]
+#[derive(Clone, Copy, Debug, PartialEq, Eq)]
 pub enum Mode {
     /// Up to so many that it hasn't settled (RabbitMQ, "Consumer Prefetch"); 0 stands for 2,000.
     Prefetch(u16),

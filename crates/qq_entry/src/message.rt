@@ -3,7 +3,7 @@ use qq_base::{Bytes, Duplicate, Index, Items, Memory, QueueId, Text};
 use std::alloc::Global;
 
 /// Why a message was dead-lettered (RabbitMQ, "Dead Letter Exchanges", `x-death` reasons).
-#[derive(Clone, Copy, Debug, PartialEq, Eq, Hash)]
+#[derive(Clone, Copy, Debug, PartialEq, Eq)]
 pub enum Reason {
     /// A consumer discarded it.
     Rejected,
@@ -16,7 +16,7 @@ pub enum Reason {
 }
 
 /// One death of a message: in which queue, and why.
-#[derive(Clone, Copy, Debug, PartialEq, Eq, Hash)]
+#[derive(Clone, Copy, Debug, PartialEq, Eq)]
 pub struct Death {
     /// Where it died.
     pub queue: QueueId,
@@ -48,7 +48,7 @@ pub struct Message {
 }
 
 /// Where a dead letter comes from.
-#[derive(Clone, Copy, Debug, PartialEq, Eq, Hash)]
+#[derive(Clone, Copy, Debug, PartialEq, Eq)]
 pub struct Origin {
     /// The queue in which it died.
     pub source: QueueId,

@@ -2,7 +2,7 @@ use qq_base::{Duplicate, Items, Memory, NodeId, QueueId, Text};
 use std::alloc::Global;
 
 /// What a queue at a length limit does (RabbitMQ, "Queue Length Limit", `x-overflow`).
-#[derive(Clone, Copy, Debug, PartialEq, Eq, Hash)]
+#[derive(Clone, Copy, Debug, PartialEq, Eq)]
 pub enum Overflow {
     /// Messages at the front die.
     DropHead,
@@ -12,7 +12,7 @@ pub enum Overflow {
 
 /// How dead messages are sent on (RabbitMQ, "At-Least-Once Dead Lettering",
 /// `x-dead-letter-strategy`).
-#[derive(Clone, Copy, Debug, PartialEq, Eq, Hash)]
+#[derive(Clone, Copy, Debug, PartialEq, Eq)]
 pub enum Strategy {
     /// The queue has no dead-letter exchange.
     Absent,

@@ -13,7 +13,7 @@ use std::alloc::Global;
 use std::marker::Model;
 
 /// The dead messages of a queue, with a ledger of which came and left since the last commit.
-#[derive(Debug, Drop)]
+#[derive(Drop)]
 pub struct TrackedDead {
     dead: Dead,
     ledger: Ledger,

@@ -6,7 +6,7 @@ use std::alloc::Global;
 
 /// The indices of the messages that came to a part of a queue, and of those that left it, since the last
 /// commit. A message that came and left is in both.
-#[derive(Debug, Drop)]
+#[derive(Drop)]
 pub struct Ledger {
     /// Of those that came.
     pub came: Vec<Index>,

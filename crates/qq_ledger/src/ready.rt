@@ -14,7 +14,7 @@ use std::alloc::Global;
 use std::marker::Model;
 
 /// The ready messages of a queue, with a ledger of which came and left since the last commit.
-#[derive(Debug, Drop)]
+#[derive(Drop)]
 pub struct TrackedReady {
     ready: Ready,
     ledger: Ledger,

@@ -19,7 +19,7 @@ use std::marker::Model;
 /// An index is found by binary search. Between others that are held it keeps its slot of 16 bytes when
 /// nobody holds it any more, until more than half of the slots are free; then all these leave. So there
 /// are at most twice as many slots as indices that are held.
-#[derive(Debug, Drop)]
+#[derive(Drop)]
 pub struct Live {
     // By rising index. The first is held.
     slots: VecDeque<Slot>,

@@ -8,7 +8,7 @@ use std::alloc::Global;
 use std::collections::VecDeque;
 
 /// An index, and how many hold it.
-#[derive(Clone, Copy, Debug)]
+#[derive(Clone, Copy)]
 pub struct Slot {
     /// Of the entry that brought the message.
     pub index: Index,

@@ -570,3 +570,19 @@ keeps-back old failed new out base came gone came' gone' tracked same back stays
           balance-none (out_indices new.base.served) (out_indices new.roster.served) came' gone'
           (ap (λ (r : Roster). out_indices r.served) (back ∙ sym stays)) comes goes;
     }
+
+-- a copy is of what is now, with nothing written down
+pub keeps-copy : (old new : ConsumersState) (out base : ℕ) (came gone came' gone' : List Index)
+    → IsTracked old out base came gone → new.roster ≡ old.roster → new.base ≡ old.roster → came' ≡ [] → gone' ≡ []
+    → IsTracked new out out came' gone'
+keeps-copy old new out base came gone came' gone' tracked same stays comes goes =
+    record {
+      counted =
+          record {
+            now_out = tracked.counted.now_out ∙ sym (ap (λ (r : Roster). total r.served) same);
+            base_out = tracked.counted.now_out ∙ sym (ap (λ (r : Roster). total r.served) stays);
+          };
+      balance =
+          balance-none (out_indices new.base.served) (out_indices new.roster.served) came' gone'
+          (ap (λ (r : Roster). out_indices r.served) (same ∙ sym stays)) comes goes;
+    }

@@ -26,7 +26,7 @@ use std::marker::Model;
 /// left since the last commit.
 ///
 /// After an error they may be as they were at the last commit.
-#[derive(Debug, Drop)]
+#[derive(Drop)]
 pub struct Counted {
     consumers: Consumers,
     out: u64,
@@ -114,6 +114,70 @@ fn push_taken(taken: &Option<VecDeque<ReadyRow>>, indices: &mut Vec<Index>) -> R
     match taken {
         None => Ok(()),
         Some(rows) => push_all(rows, indices),
+    }
+}
+
+// Makes consumers whose change ran out of memory what they were at the last commit.
+fn take_back(consumers: &mut Consumers, ledger: &mut Ledger)
+    ensures roster { consumers.new.roster ≡ consumers.old.base }
+    ensures base { consumers.new.base ≡ consumers.old.base }
+    ensures came { ledger.new.came.items ≡ [] }
+    ensures gone { ledger.new.gone.items ≡ [] }
+{
+    consumers.undo();
+    ledger.clear();
+}
+
+// The longest joined consumer of a session leaves, and what was out with it is written down.
+fn end_one(
+    consumers: &mut Consumers,
+    gone: &mut Vec<Index>,
+    alloc: Global,
+    session: SessionId,
+) -> Result<Option<ConsumerRow>, Memory>
+    ensures value { IfOk result (λ row. option_map served_of row
+        ≡ first_of session consumers.old.roster.served) }
+    ensures ok { OnOk result (consumers.new.roster ≡ end session consumers.old.roster) }
+    ensures gone { IfOk result (λ row. gone.new.items ≡ gone.old.items ++ ended_indices row) }
+    ensures base { consumers.new.base ≡ consumers.old.base }
+    ensures want { IsOkUnless result Memory.Want }
+{
+    let ended = consumers.end(alloc, session)?;
+    match push_ended(&ended, gone) {
+        Ok(()) => Ok(ended),
+        Err(cause) => {
+            drop(ended);
+            Err(cause)
+        }
+    }
+}
+
+// Those of the ids that are out with a consumer are taken out, and written down.
+fn take_out(
+    consumers: &mut Consumers,
+    gone: &mut Vec<Index>,
+    alloc: Global,
+    id: ConsumerId,
+    ids: &[u64],
+) -> Result<Option<VecDeque<ReadyRow>>, Memory>
+    requires { consumers.old.roster.turns + 1 < 2 ^ 64 }
+
+    ensures rows { IfOk result (λ rows. option_map (λ r. r.items) rows
+        ≡ option_map (taken_rows ids.now) (one_of id consumers.old.roster.served)) }
+    ensures roster { OnOk result (consumers.new.roster
+        ≡ take_out id ids.now consumers.old.roster) }
+    ensures gone { IfOk result (λ rows. gone.new.items ≡ gone.old.items
+        ++ option_map_or (λ r. map message_index r.items) rows []) }
+    ensures base { consumers.new.base ≡ consumers.old.base }
+    ensures want { IsOkUnless result Memory.Want }
+{
+    let taken = consumers.take_out(alloc, id, ids)?;
+    match push_taken(&taken, gone) {
+        Ok(()) => Ok(taken),
+        Err(cause) => {
+            drop(taken);
+            Err(cause)
+        }
     }
 }
 
@@ -233,9 +297,8 @@ impl Counted {
         match self.consumers.subscribe(alloc, id, mode, greatest) {
             Ok(()) => Ok(()),
             Err(fault) => {
-                self.consumers.undo();
+                take_back(&mut self.consumers, &mut self.ledger);
                 self.out = self.base_out;
-                self.ledger.clear();
                 Err(fault)
             }
         }
@@ -264,9 +327,8 @@ impl Counted {
                 Ok(number)
             }
             Err(cause) => {
-                self.consumers.undo();
+                take_back(&mut self.consumers, &mut self.ledger);
                 self.out = self.base_out;
-                self.ledger.clear();
                 Err(cause)
             }
         }
@@ -290,9 +352,8 @@ impl Counted {
             Ok(()) => Ok(()),
             Err(CreditFault::Refused(cause)) => Err(CreditFault::Refused(cause)),
             Err(CreditFault::Memory) => {
-                self.consumers.undo();
+                take_back(&mut self.consumers, &mut self.ledger);
                 self.out = self.base_out;
-                self.ledger.clear();
                 Err(CreditFault::Memory)
             }
         }
@@ -310,9 +371,8 @@ impl Counted {
         match self.consumers.drain(id) {
             Ok(credit) => Ok(credit),
             Err(cause) => {
-                self.consumers.undo();
+                take_back(&mut self.consumers, &mut self.ledger);
                 self.out = self.base_out;
-                self.ledger.clear();
                 Err(cause)
             }
         }
@@ -329,9 +389,8 @@ impl Counted {
         match self.consumers.cancel(id) {
             Ok(did) => Ok(did),
             Err(cause) => {
-                self.consumers.undo();
+                take_back(&mut self.consumers, &mut self.ledger);
                 self.out = self.base_out;
-                self.ledger.clear();
                 Err(cause)
             }
         }
@@ -347,21 +406,14 @@ impl Counted {
         ensures want { IsOkUnless result Memory.Want }
     {
         self.consumers.len();
-        match self.consumers.end(alloc, session) {
+        match end_one(&mut self.consumers, &mut self.ledger.gone, alloc, session) {
             Ok(ended) => {
-                if let Err(cause) = push_ended(&ended, &mut self.ledger.gone) {
-                    self.consumers.undo();
-                    self.out = self.base_out;
-                    self.ledger.clear();
-                    return Err(cause);
-                }
                 self.out = left_by(self.out, &ended);
                 Ok(ended)
             }
             Err(cause) => {
-                self.consumers.undo();
+                take_back(&mut self.consumers, &mut self.ledger);
                 self.out = self.base_out;
-                self.ledger.clear();
                 Err(cause)
             }
         }
@@ -384,21 +436,14 @@ impl Counted {
         ensures want { IsOkUnless result Memory.Want }
     {
         self.consumers.len();
-        match self.consumers.take_out(alloc, id, ids) {
+        match take_out(&mut self.consumers, &mut self.ledger.gone, alloc, id, ids) {
             Ok(taken) => {
-                if let Err(cause) = push_taken(&taken, &mut self.ledger.gone) {
-                    self.consumers.undo();
-                    self.out = self.base_out;
-                    self.ledger.clear();
-                    return Err(cause);
-                }
                 self.out = left_without(self.out, &taken);
                 Ok(taken)
             }
             Err(cause) => {
-                self.consumers.undo();
+                take_back(&mut self.consumers, &mut self.ledger);
                 self.out = self.base_out;
-                self.ledger.clear();
                 Err(cause)
             }
         }

@@ -7,7 +7,7 @@ ghost use Rattle.qq_machine.specs.declared.pending.Pending.TheVariants.{Nothing,
 ghost use Rattle.qq_machine.specs.Gated.{tagged, passed, begun, passed_by, HasPlaceFor, IsTagOf, done, CanBeDone};
 
 use crate::pending::Pending;
-use qq_base::{Duplicate, Memory, SessionId};
+use qq_base::{Duplicate, Memory, SessionId, both};
 use qq_entry::{Answer, Stamp};
 use qq_model::Gate;
 use qq_sessions::Sessions;
@@ -19,7 +19,7 @@ use std::mem;
 ///
 /// The sessions themselves change only at the `commit`, for which there is memory by then. Contracts see
 /// them as the step leaves them so far, and as they were at the last `commit`.
-#[derive(Debug, Drop)]
+#[derive(Drop)]
 pub struct Gated {
     sessions: Sessions,
     pending: Pending,
@@ -223,11 +223,16 @@ impl Gated {
             within ≡ list_all is_session_within self.now.known.opened) }
         ensures want { IsOkUnless result Memory.Want }
     {
-        let mut twin = self.sessions.copy(alloc)?;
-        let pending = self.pending.copy(alloc)?;
-        make_room(alloc, &mut twin, &pending)?;
+        let (mut twin, pending) = both(self.sessions.copy(alloc), self.pending.copy(alloc))?;
+        if let Err(cause) = make_room(alloc, &mut twin, &pending) {
+            drop(twin);
+            drop(pending);
+            return Err(cause);
+        }
         perform(&mut twin, pending);
-        Ok(twin.are_within())
+        let within = twin.are_within();
+        drop(twin);
+        Ok(within)
     }
 
     /// What is to be done is done. It takes no memory.

@@ -20,7 +20,7 @@ use crate::gated::Gated;
 use crate::least::least_index;
 use crate::queue::{Draft, Queue, Saved};
 use crate::reads::{current_count, to_u32};
-use qq_base::{ConsumerId, Duplicate, Index, Memory};
+use qq_base::{ConsumerId, Duplicate, Index, Memory, both};
 use qq_consumer::Consumers;
 use qq_dead::Dead;
 use qq_entry::{Answer, Delivery, Effect, Entry, QueueArgs};
@@ -35,7 +35,7 @@ use std::mem;
 /// A queue that keeps lists of its live messages alone.
 ///
 /// Contracts see the parts of a queue.
-#[derive(Debug, Drop)]
+#[derive(Drop)]
 pub struct Machine {
     args: QueueArgs,
     draft: Draft,
@@ -120,18 +120,9 @@ impl Queue {
         ensures committed { IfOk result (λ twin. IsCommitted twin) }
         ensures want { IsOkUnless result Memory.Want }
     {
-        let Ok(sessions) = self.sessions.copy(alloc) else {
-            return Err(Memory::Want);
-        };
-        let Ok(ready) = self.ready.copy(alloc) else {
-            return Err(Memory::Want);
-        };
-        let Ok(consumers) = self.consumers.copy(alloc) else {
-            return Err(Memory::Want);
-        };
-        let Ok(dead) = self.dead.copy(alloc) else {
-            return Err(Memory::Want);
-        };
+        let waiting = both(self.sessions.copy(alloc), self.ready.copy(alloc));
+        let served = both(self.consumers.copy(alloc), self.dead.copy(alloc));
+        let ((sessions, ready), (consumers, dead)) = both(waiting, served)?;
         Ok(Queue {
             applied: self.applied,
             arrivals: self.arrivals,
@@ -224,6 +215,10 @@ impl Machine {
         ensures want { IsOkUnless result Memory.Want }
     {
         let Ok(consumers) = Counted::from_consumers(alloc, consumers) else {
+            drop(args);
+            drop(sessions);
+            drop(ready);
+            drop(dead);
             return Err(Memory::Want);
         };
         let mut queue = Queue {
@@ -240,6 +235,8 @@ impl Machine {
         };
         queue.commit();
         let Ok(live) = queue.live_messages(alloc) else {
+            drop(args);
+            drop(queue);
             return Err(Memory::Want);
         };
         let effects = Vec::new(alloc);

@@ -5,7 +5,7 @@ use qq_entry::{Answer, Stamp};
 use std::alloc::Global;
 
 /// What a step does to the sessions, which is done once the step is whole.
-#[derive(Debug, Drop)]
+#[derive(Drop)]
 pub enum Pending {
     /// Nothing so far.
     Nothing,

@@ -7,7 +7,7 @@ use qq_entry::{Answer, Effect};
 use qq_ledger::{TrackedDead, TrackedReady};
 
 /// The numbers of a queue at the last commit.
-#[derive(Clone, Copy, Debug)]
+#[derive(Clone, Copy)]
 pub struct Saved {
     pub applied: u64,
     pub arrivals: u64,
@@ -15,7 +15,7 @@ pub struct Saved {
 
 /// A queue but for its arguments, which a step never copies. Each part of it tells what it was at the last
 /// commit, and can be that again.
-#[derive(Debug, Drop)]
+#[derive(Drop)]
 pub struct Queue {
     pub applied: u64,
     pub arrivals: u64,
@@ -27,14 +27,14 @@ pub struct Queue {
 }
 
 /// A queue while an entry is applied, and the effects so far.
-#[derive(Debug, Drop)]
+#[derive(Drop)]
 pub struct Draft {
     pub queue: Queue,
     pub effects: Vec<Effect>,
 }
 
 /// Whether an entry's command counted as fresh, and its answer.
-#[derive(Debug, Drop)]
+#[derive(Drop)]
 pub struct Made {
     pub fresh: bool,
     pub answer: Answer,

@@ -49,7 +49,7 @@ pub(crate) enum Ask {
 /// The queues of a node, in the order of their places.
 ///
 /// Contracts see the list of their states.
-#[derive(Debug, Drop)]
+#[derive(Drop)]
 pub struct NodeQueues {
     rows: Vec<NodeQueue>,
 }

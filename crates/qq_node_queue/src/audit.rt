@@ -20,7 +20,7 @@ use qq_machine::Machine;
 use std::alloc::Global;
 
 /// The machine and the audit of a queue.
-#[derive(Debug, Drop)]
+#[derive(Drop)]
 pub struct Audit {
     /// What the first ops make of a new queue.
     pub machine: Machine,

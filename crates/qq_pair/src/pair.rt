@@ -39,7 +39,7 @@ pub struct Made {
 }
 
 /// A plain machine and a machine of parts that the same entries were applied to. After a fault they may differ.
-#[derive(Debug, Drop)]
+#[derive(Drop)]
 pub struct Pair {
     serial: Serial,
     machine: Machine,

@@ -7,7 +7,7 @@ use qq_serial::Serial;
 use std::alloc::Global;
 
 /// The machine of parts, which a Raft server applies entries to.
-#[derive(Debug, Drop)]
+#[derive(Drop)]
 pub struct MachineQueue {
     machine: Machine,
 }

@@ -6,7 +6,7 @@ use qq_serial::Serial;
 use std::alloc::Global;
 
 /// The plain queue machine, which a Raft server applies entries to.
-#[derive(Debug, Drop)]
+#[derive(Drop)]
 pub struct SerialQueue {
     serial: Serial,
 }

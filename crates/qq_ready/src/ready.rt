@@ -4,16 +4,15 @@ ghost use Rattle.qq_model.specs.declared.place.Key.TheVariants.{Front, Back};
 ghost use Rattle.qq_ready.specs.Queue.{no_messages, in_order, head, without_next, emptied, push_back, push_returned, bytes_of, AreKeyed, IsInOrder};
 
 use crate::row::KeyedRow;
-use qq_base::{Duplicate, Memory};
+use qq_base::{Memory, both};
 use qq_entry::ReadyRow;
 use qq_model::Key;
 use qq_undo::UndoDeque;
 use std::alloc::Global;
-use std::collections::VecDeque;
 use std::marker::Model;
 
 /// How many keys of each kind were drawn, and how many bytes there are.
-#[derive(Clone, Copy, Debug)]
+#[derive(Clone, Copy)]
 struct Counts {
     orders: u64,
     returns: u64,
@@ -25,7 +24,7 @@ struct Counts {
 /// What was returned under a delivery limit comes before all else, in the order of the returns. Contracts
 /// see two lists and the counters from which places are drawn, and the same as they were at the last
 /// `commit`, which `undo` leads back to. No call goes through the messages, but `copy` and `from_parts`.
-#[derive(Debug, Drop)]
+#[derive(Drop)]
 pub struct Ready {
     fronts: UndoDeque<KeyedRow>,
     backs: UndoDeque<KeyedRow>,
@@ -69,17 +68,6 @@ fn bytes_of(rows: &[KeyedRow]) -> u128
         sum += size(one);
     }
     sum
-}
-
-fn copy_rows(alloc: Global, rows: &VecDeque<KeyedRow>) -> Result<VecDeque<KeyedRow>, Memory>
-    ensures ok { IfOk result (λ twin. twin.items ≡ rows.now.items) }
-    ensures want { IsOkUnless result Memory.Want }
-{
-    let mut twin = VecDeque::with_capacity(alloc, rows.len())?;
-    'rows: for place in 0..rows.len() {
-        twin.push_back(rows[place].copy(alloc)?)?;
-    }
-    Ok(twin)
 }
 
 // Takes all out. After an error both are as at the last commit.
@@ -307,9 +295,10 @@ impl Ready {
         ensures base { IfOk result (λ twin. twin.base ≡ self.now.queue) }
         ensures want { IsOkUnless result Memory.Want }
     {
+        let (fronts, backs) = both(self.fronts.copy(alloc), self.backs.copy(alloc))?;
         Ok(Ready {
-            fronts: UndoDeque::from_deque(copy_rows(alloc, self.fronts.as_deque())?),
-            backs: UndoDeque::from_deque(copy_rows(alloc, self.backs.as_deque())?),
+            fronts,
+            backs,
             counts: self.counts,
             base: self.counts,
         })

@@ -4,7 +4,7 @@ use qq_model::Key;
 use std::alloc::Global;
 
 /// A ready message, and where it stands in the queue.
-#[derive(Debug, Drop)]
+#[derive(Drop)]
 pub struct KeyedRow {
     /// Its place: `Front` where it was returned under a delivery limit, else `Back`.
     pub key: Key,

@@ -11,14 +11,14 @@ use qq_sessions::Sessions;
 use std::alloc::Global;
 
 /// What a step never copies: the queue's arguments, and its messages in the order of their rows.
-#[derive(Debug, Drop)]
+#[derive(Drop)]
 pub struct Store {
     pub args: QueueArgs,
     pub messages: Vec<Message>,
 }
 
 /// The rest of a queue's state.
-#[derive(Debug, Drop)]
+#[derive(Drop)]
 pub struct Queue {
     pub applied: u64,
     pub arrivals: u64,
@@ -34,14 +34,14 @@ pub struct Queue {
 }
 
 /// A queue while an entry is applied, and the effects so far.
-#[derive(Debug, Drop)]
+#[derive(Drop)]
 pub struct Draft {
     pub queue: Queue,
     pub effects: Vec<Effect>,
 }
 
 /// Whether an entry's command counted as fresh, and its answer.
-#[derive(Debug, Drop)]
+#[derive(Drop)]
 pub struct Made {
     pub fresh: bool,
     pub answer: Answer,

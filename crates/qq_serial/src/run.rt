@@ -10,7 +10,7 @@ use qq_entry::{AuditRow, Effects, Entries, Entry, QueueArgs};
 use std::alloc::Global;
 
 /// What an entry gave that was applied.
-#[derive(Debug, Drop, PartialEq)]
+#[derive(Drop)]
 pub struct Applied {
     /// Its row of the audit.
     pub row: AuditRow,

@@ -7,9 +7,10 @@ use qq_entry::{Answer, Effect, Entry, QueueArgs};
 use qq_sessions::Sessions;
 use std::alloc::Global;
 use std::marker::Model;
+use std::mem;
 
 /// A queue that computes each step of the definition plainly, over all messages that it ever had.
-#[derive(Debug, Drop)]
+#[derive(Drop)]
 pub struct Serial {
     store: Store,
     queue: Queue,
@@ -93,12 +94,14 @@ impl Serial {
                 Err(stop)
             }
             Ok((draft, made)) => {
-                let Draft { queue, effects } = draft;
-                if !queue.is_within_ends() {
+                if !draft.queue.is_within_ends() {
                     self.store.messages.truncate(before);
+                    drop(draft);
+                    drop(made);
                     return Err(Memory::Spent { number: NUMBER_END });
                 }
-                self.queue = queue;
+                let Draft { queue, effects } = draft;
+                drop(mem::replace(&mut self.queue, queue));
                 Ok((made.fresh, made.answer, effects))
             }
         }

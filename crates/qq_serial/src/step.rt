@@ -6,7 +6,7 @@ ghost use Rattle.qq_model.specs.Step.{carry_out, pass_gate, pass_ungated, reject
 ghost use Rattle.qq_serial.specs.Views.{state_of, progress_of, step_of, CarriesOut, Makes, OnlyAddsMessages};
 
 use crate::queue::{Draft, Made, Queue, Store};
-use qq_base::{Duplicate, Index, Memory};
+use qq_base::{Duplicate, Index, Memory, both};
 use qq_entry::{Answer, Command, Entry, Stamp};
 use qq_model::Gate;
 use std::alloc::Global;
@@ -76,8 +76,16 @@ impl Draft {
         self.queue.sessions.reserve(alloc, stamp.session)?;
         self.queue.sessions.admit(&stamp);
         let answer = self.carry_out(alloc, store, index, command)?;
-        self.queue.sessions.reserve(alloc, stamp.session)?;
-        self.queue.sessions.keep(&stamp, answer.copy(alloc)?);
+        let twin = answer.copy(alloc);
+        let reserved = self.queue.sessions.reserve(alloc, stamp.session);
+        let (twin, ()) = match both(twin, reserved) {
+            Ok(held) => held,
+            Err(cause) => {
+                drop(answer);
+                return Err(cause);
+            }
+        };
+        self.queue.sessions.keep(&stamp, twin);
         self.queue.applied = index.0;
         Ok(Made {
             fresh: true,
@@ -170,6 +178,11 @@ pub fn step(
         queue: queue.copy(alloc)?,
         effects: Vec::new(alloc),
     };
-    let made = draft.step_by(alloc, store, entry.command.stamp(), index, &entry.command)?;
-    Ok((draft, made))
+    match draft.step_by(alloc, store, entry.command.stamp(), index, &entry.command) {
+        Ok(made) => Ok((draft, made)),
+        Err(cause) => {
+            drop(draft);
+            Err(cause)
+        }
+    }
 }

@@ -9,7 +9,7 @@ use std::alloc::Global;
 use std::marker::Model;
 
 /// The numbers of the clients' sessions that have ended, rising.
-#[derive(Debug, Drop)]
+#[derive(Drop)]
 pub struct Ended {
     numbers: Vec<u64>,
 }

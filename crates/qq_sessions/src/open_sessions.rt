@@ -22,7 +22,7 @@ use std::marker::Model;
 
 /// The open sessions, and beside them the messages that their kept answers name, so that the least index
 /// of these costs no scan.
-#[derive(Debug, Drop)]
+#[derive(Drop)]
 pub struct OpenSessions {
     opened: Opened,
     // Each index as often as kept answers name it.
@@ -257,8 +257,8 @@ impl OpenSessions {
         ensures ok { IfOk result (λ twin. twin.rows ≡ self.now.rows) }
         ensures want { IsOkUnless result Memory.Want }
     {
-        let opened = self.opened.copy(alloc)?;
         let named = self.named.copy(alloc)?;
+        let opened = self.opened.copy(alloc)?;
         Ok(OpenSessions { opened, named })
     }
 

@@ -24,7 +24,7 @@ use std::marker::Model;
 const FIRST_ANSWERS: usize = 4;
 
 /// The open sessions, in the order of their opening.
-#[derive(Debug, Drop)]
+#[derive(Drop)]
 pub struct Opened {
     rows: IndexMap<SessionId, SessionRow>,
     // An empty list of answers for the next session.
@@ -223,6 +223,23 @@ impl Opened {
         Ok(())
     }
 
+    // Puts a copy of each session behind none.
+    fn copy_into(&self, alloc: Global, twin: &mut Opened) -> Result<(), Memory>
+        requires rows { twin.old.rows ≡ [] }
+        requires room { twin.old.room ≡ None }
+
+        ensures rows { OnOk result (twin.new.rows ≡ self.now.rows) }
+        ensures room { OnOk result (twin.new.room ≡ None) }
+        ensures want { IsOkUnless result Memory.Want }
+    {
+        let len = self.len();
+        twin.rows.reserve(len)?;
+        'rows: for place in 0..len {
+            twin.push(copy_row(alloc, self.row(place))?)?;
+        }
+        Ok(())
+    }
+
     /// The same sessions.
     pub fn copy(&self, alloc: Global) -> Result<Opened, Memory>
         ensures ok { IfOk result (λ twin. twin.rows ≡ self.now.rows) }
@@ -230,11 +247,7 @@ impl Opened {
         ensures want { IsOkUnless result Memory.Want }
     {
         let mut twin = Opened::new(alloc);
-        let len = self.len();
-        twin.rows.reserve(len)?;
-        'rows: for place in 0..len {
-            twin.push(copy_row(alloc, self.row(place))?)?;
-        }
+        self.copy_into(alloc, &mut twin)?;
         Ok(twin)
     }
 

@@ -14,7 +14,7 @@ use std::collections::VecDeque;
 pub type Kepts = VecDeque<Answer>;
 
 /// An open session.
-#[derive(Debug, Drop)]
+#[derive(Drop)]
 pub struct SessionRow {
     /// Whose it is.
     pub session: SessionId,

@@ -24,7 +24,7 @@ use std::marker::Model;
 ///
 /// Contracts see the definition's `Sessions`, and for what there is memory. A check looks an id up by its
 /// hash, and an ended session by binary search. The least index that a kept answer names costs no scan.
-#[derive(Debug, Drop)]
+#[derive(Drop)]
 pub struct Sessions {
     opened: OpenSessions,
     ended: Ended,
@@ -324,10 +324,13 @@ impl Sessions {
         ensures ok { IfOk result (λ twin. twin.known ≡ self.now.known) }
         ensures want { IsOkUnless result Memory.Want }
     {
+        // What owns most is made last, so that little is alive where a copy fails.
+        let ended = self.ended.copy(alloc)?;
+        let workers = self.workers.copy(alloc)?;
         Ok(Sessions {
             opened: self.opened.copy(alloc)?,
-            ended: self.ended.copy(alloc)?,
-            workers: self.workers.copy(alloc)?,
+            ended,
+            workers,
             seen: self.seen,
         })
     }

@@ -10,7 +10,7 @@ use std::alloc::Global;
 use std::marker::Model;
 
 /// The greatest numbers of the dead-letter workers of each source queue, by rising owner.
-#[derive(Debug, Drop)]
+#[derive(Drop)]
 pub struct Workers {
     workers: Vec<Worker>,
 }

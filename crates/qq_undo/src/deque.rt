@@ -14,7 +14,7 @@ use std::mem;
 ///
 /// Contracts see its items and its base: the items at the last `commit`. `undo` makes the items the base
 /// again, and takes no memory: the deque never gives memory back, so there is room for what it had.
-#[derive(Debug, Drop)]
+#[derive(Drop)]
 pub struct UndoDeque<T> {
     items: VecDeque<T>,
     journal: Vec<Step<T>>,
@@ -73,6 +73,17 @@ fn undo_all<T: Drop>(items: &mut VecDeque<T>, journal: &mut Vec<Step<T>>)
     'steps: while let Some(step) = journal.pop() {
         undo_step(items, step);
     }
+}
+
+fn copied<T: Duplicate>(alloc: Global, items: &VecDeque<T>) -> Result<VecDeque<T>, Memory>
+    ensures ok { IfOk result (λ twin. twin.items ≡ items.now.items) }
+    ensures want { IsOkUnless result Memory.Want }
+{
+    let mut twin = VecDeque::with_capacity(alloc, items.len())?;
+    'items: for place in 0..items.len() {
+        twin.push_back(items[place].copy(alloc)?)?;
+    }
+    Ok(twin)
 }
 
 impl<T> UndoDeque<T> {
@@ -221,5 +232,14 @@ impl<T: Duplicate> UndoDeque<T> {
             return Ok(None);
         }
         Ok(Some(self.remove(0)?))
+    }
+
+    /// The same items, committed, in memory of their own.
+    pub fn copy(&self, alloc: Global) -> Result<Self, Memory>
+        ensures items { IfOk result (λ twin. twin.items ≡ self.now.items) }
+        ensures base { IfOk result (λ twin. twin.base ≡ self.now.items) }
+        ensures want { IsOkUnless result Memory.Want }
+    {
+        Ok(UndoDeque::from_deque(copied(alloc, &self.items)?))
     }
 }

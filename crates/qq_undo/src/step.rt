@@ -1,7 +1,7 @@
 use std::collections::VecDeque;
 
 /// A change of a deque, with what leads back.
-#[derive(Debug, Drop)]
+#[derive(Drop)]
 pub enum Step<T> {
     /// An item was put in at this place.
     Inserted(usize),

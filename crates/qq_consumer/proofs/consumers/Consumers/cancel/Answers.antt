@@ -2,7 +2,7 @@ use Rattle.std.proofs.Common.{List, sym, ap, ◌∙◌, subst, refl}
 use Rattle.qq_parts.specs.Parts.{Served}
 use Rattle.qq_consumer.specs.Roster.{ConsumersState, roster_of, served_of, cancel, remove_one, put_one}
 use Rattle.qq_consumer.specs.Turns.{Waiting, IsKept}
-use Rattle.qq_consumer.proofs.Back.{still-kept}
+use Rattle.qq_consumer.proofs.Back.{still-kept, taken-back}
 use Rattle.qq_consumer.proofs.Changing.{removed-kept}
 use Rattle.qq_consumer.proofs.Calls.{over, is-there, out-empty, cancel-idle, cancel-busy, left-by, busy-kept, next-id}
 use Rattle.qq_consumer.proofs.consumers.Consumers.cancel.Goals as goal
@@ -63,3 +63,21 @@ returns-clause-ok c =
     c.row_of.ensures.apart c.in-Some.ensures.value c.self.invariant.now_kept.needed c.if-consumer.false
     (out-empty c.in-Some.row.now c.is_empty-is_idle.result c.is_empty-is_idle.ensures ∙ c.if-is_idle.false)
     ∙ ap (λ (s : ConsumersState). cancel c.args.id s.roster) c.self.view_is
+
+pub invariant_of-self-in-Err : goal.invariant_of-self-in-Err
+invariant_of-self-in-Err c =
+    taken-back c.self.inside.waiting.base c.self.inside.joined.base c.self.inside.base_turns c.take_back.new.waiting
+    c.take_back.new.joined.served c.take_back.new.joined.base c.self.invariant.before_kept
+    (c.take_back.ensures.items ∙ c.leave.ensures.base)
+    (c.take_back.ensures.served ∙ c.leave-then-is_idle.ensures.base)
+    (c.take_back.ensures.waiting ∙ c.leave.ensures.base)
+    (c.take_back.ensures.base ∙ c.leave-then-is_idle.ensures.base)
+
+pub invariant_of-self-in-Err-put : goal.invariant_of-self-in-Err-put
+invariant_of-self-in-Err-put c =
+    taken-back c.self.inside.waiting.base c.self.inside.joined.base c.self.inside.base_turns
+    c.take_back-in-Err-put.new.waiting c.take_back-in-Err-put.new.joined.served c.take_back-in-Err-put.new.joined.base
+    c.self.invariant.before_kept (c.take_back-in-Err-put.ensures.items ∙ c.leave.ensures.base)
+    (c.take_back-in-Err-put.ensures.served ∙ c.put.ensures.base)
+    (c.take_back-in-Err-put.ensures.waiting ∙ c.leave.ensures.base)
+    (c.take_back-in-Err-put.ensures.base ∙ c.put.ensures.base)

@@ -6,7 +6,7 @@ use Rattle.qq_parts.specs.Parts.{Served}
 use Rattle.qq_consumer.specs.Numbers.{AreBelow}
 use Rattle.qq_consumer.specs.Roster.{ConsumersState, item_at}
 use Rattle.qq_consumer.specs.Turns.{waiting_turn, Waiting, leave, enter}
-use Rattle.qq_consumer.proofs.Back.{still-kept}
+use Rattle.qq_consumer.proofs.Back.{still-kept, taken-back}
 use Rattle.qq_consumer.proofs.Keeping.{entered-below, handed-turn, delivered-kept}
 use Rattle.qq_consumer.proofs.consumers.Consumers.check_out.Goals as goal
 
@@ -50,3 +50,21 @@ invariant_of-self-2 c =
           c.hand_to.new.self.base c.self.inside.base_turns (c.enter.ensures.base ∙ c.leave.ensures.base)
           c.hand_to.ensures.base c.self.invariant.before_kept;
     }
+
+pub invariant_of-self-in-Err : goal.invariant_of-self-in-Err
+invariant_of-self-in-Err c =
+    taken-back c.self.inside.waiting.base c.self.inside.joined.base c.self.inside.base_turns
+    c.take_back.new.waiting c.take_back.new.joined.served c.take_back.new.joined.base
+    c.self.invariant.before_kept (c.take_back.ensures.items ∙ c.leave.ensures.base)
+    (c.take_back.ensures.served ∙ c.hand_to.ensures.base)
+    (c.take_back.ensures.waiting ∙ c.leave.ensures.base)
+    (c.take_back.ensures.base ∙ c.hand_to.ensures.base)
+
+pub invariant_of-self-in-Err-enter : goal.invariant_of-self-in-Err-enter
+invariant_of-self-in-Err-enter c =
+    taken-back c.self.inside.waiting.base c.self.inside.joined.base c.self.inside.base_turns
+    c.take_back-in-Err-enter.new.waiting c.take_back-in-Err-enter.new.joined.served c.take_back-in-Err-enter.new.joined.base
+    c.self.invariant.before_kept (c.take_back-in-Err-enter.ensures.items ∙ c.enter.ensures.base ∙ c.leave.ensures.base)
+    (c.take_back-in-Err-enter.ensures.served ∙ c.hand_to.ensures.base)
+    (c.take_back-in-Err-enter.ensures.waiting ∙ c.enter.ensures.base ∙ c.leave.ensures.base)
+    (c.take_back-in-Err-enter.ensures.base ∙ c.hand_to.ensures.base)

@@ -1,9 +1,9 @@
-use Rattle.std.proofs.Common.{List, sym, ap, subst}
+use Rattle.std.proofs.Common.{List, sym, ap, subst, ◌∙◌}
 use Rattle.qq_model.specs.declared.consumer.Consumer.{Consumer}
 use Rattle.qq_parts.specs.Parts.{Served}
 use Rattle.qq_consumer.specs.Roster.{roster_of, served_of, put_one}
 use Rattle.qq_consumer.specs.Turns.{Waiting, IsKept}
-use Rattle.qq_consumer.proofs.Back.{still-kept}
+use Rattle.qq_consumer.proofs.Back.{still-kept, taken-back}
 use Rattle.qq_consumer.proofs.Calls.{is-there, left-by, drain-kept, next-id}
 use Rattle.qq_consumer.proofs.consumers.Consumers.drain.Goals as goal
 
@@ -30,3 +30,12 @@ invariant_of-self-in_default-put c =
           still-kept c.self.inside.waiting.base c.leave.new.waiting.base c.self.inside.joined.base c.put.new.self.base
           c.self.inside.base_turns c.leave.ensures.base c.put.ensures.base c.self.invariant.before_kept;
     }
+
+pub invariant_of-self-in-Err : goal.invariant_of-self-in-Err
+invariant_of-self-in-Err c =
+    taken-back c.self.inside.waiting.base c.self.inside.joined.base c.self.inside.base_turns
+    c.take_back.new.waiting c.take_back.new.joined.served c.take_back.new.joined.base
+    c.self.invariant.before_kept (c.take_back.ensures.items ∙ c.leave.ensures.base)
+    (c.take_back.ensures.served ∙ c.put.ensures.base)
+    (c.take_back.ensures.waiting ∙ c.leave.ensures.base)
+    (c.take_back.ensures.base ∙ c.put.ensures.base)

@@ -2,7 +2,7 @@ use Rattle.std.proofs.Common.{List, Some, sym, ap, ◌∙◌, subst}
 use Rattle.qq_parts.specs.Parts.{Served}
 use Rattle.qq_consumer.specs.Roster.{ConsumersState, roster_of, first_of, remove_one}
 use Rattle.qq_consumer.specs.Turns.{Waiting, IsKept}
-use Rattle.qq_consumer.proofs.Back.{still-kept}
+use Rattle.qq_consumer.proofs.Back.{still-kept, taken-back}
 use Rattle.qq_consumer.proofs.Changing.{removed-kept}
 use Rattle.qq_consumer.proofs.Calls.{left-by, first-one}
 use Rattle.qq_consumer.proofs.consumers.Consumers.end.Goals as goal
@@ -30,3 +30,12 @@ returns-clause-value c =
     ∙ c.in-Some-row_of.ensures.value
     ∙ first-one c.args.session c.self.inside.joined.served c.in-Some.id c.first_of.ensures.apart c.in-Some.ensures.value
     ∙ ap (λ (s : ConsumersState). first_of c.args.session s.roster.served) c.self.view_is
+
+pub invariant_of-self-in-Err : goal.invariant_of-self-in-Err
+invariant_of-self-in-Err c =
+    taken-back c.self.inside.waiting.base c.self.inside.joined.base c.self.inside.base_turns
+    c.take_back.new.waiting c.take_back.new.joined.served c.take_back.new.joined.base
+    c.self.invariant.before_kept (c.take_back.ensures.items ∙ c.leave.ensures.base)
+    (c.take_back.ensures.served ∙ c.leave-2.ensures.base)
+    (c.take_back.ensures.waiting ∙ c.leave.ensures.base)
+    (c.take_back.ensures.base ∙ c.leave-2.ensures.base)

@@ -3,7 +3,7 @@ use Rattle.qq_parts.specs.Parts.{Served}
 use Rattle.qq_consumer.specs.declared.row.ConsumerRow.{ConsumerRow}
 use Rattle.qq_consumer.specs.Roster.{ConsumersState, served_of, is_there, roster_of}
 use Rattle.qq_consumer.specs.Turns.{Waiting, IsKept, enter}
-use Rattle.qq_consumer.proofs.Back.{still-kept}
+use Rattle.qq_consumer.proofs.Back.{still-kept, taken-back}
 use Rattle.qq_consumer.proofs.Keeping.{new-kept}
 use Rattle.qq_consumer.proofs.consumers.Consumers.join.Goals as goal
 
@@ -26,3 +26,12 @@ invariant_of-self-2 c =
           still-kept c.self.inside.waiting.base c.enter.new.waiting.base c.self.inside.joined.base c.push.new.self.base
           c.self.inside.base_turns c.enter.ensures.base c.push.ensures.base c.self.invariant.before_kept;
     }
+
+pub invariant_of-self-in-Err : goal.invariant_of-self-in-Err
+invariant_of-self-in-Err c =
+    taken-back c.self.inside.waiting.base c.self.inside.joined.base c.self.inside.base_turns
+    c.take_back.new.waiting c.take_back.new.joined.served c.take_back.new.joined.base
+    c.self.invariant.before_kept (c.take_back.ensures.items ∙ c.enter.ensures.base)
+    (c.take_back.ensures.served ∙ c.push.ensures.base)
+    (c.take_back.ensures.waiting ∙ c.enter.ensures.base)
+    (c.take_back.ensures.base ∙ c.push.ensures.base)

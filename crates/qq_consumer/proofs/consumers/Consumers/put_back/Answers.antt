@@ -4,7 +4,7 @@ use Rattle.qq_parts.specs.Parts.{Served}
 use Rattle.qq_consumer.specs.Numbers.{IsFree}
 use Rattle.qq_consumer.specs.Roster.{ConsumersState, served_of, is_there, roster_of}
 use Rattle.qq_consumer.specs.Turns.{Waiting, IsKept, place_in, HasDrawn, HaveTwoTurns}
-use Rattle.qq_consumer.proofs.Back.{still-kept}
+use Rattle.qq_consumer.proofs.Back.{still-kept, taken-back}
 use Rattle.qq_consumer.proofs.Copying.{given-row}
 use Rattle.qq_consumer.proofs.Restoring.{free-turn, put-kept}
 use Rattle.qq_consumer.proofs.consumers.Consumers.put_back.Goals as goal
@@ -45,3 +45,12 @@ invariant_of-self-in_default c =
           c.push.new.self.base c.self.inside.base_turns c.place_in.ensures.base c.push.ensures.base
           c.self.invariant.before_kept;
     }
+
+pub invariant_of-self-in-Err : goal.invariant_of-self-in-Err
+invariant_of-self-in-Err c =
+    taken-back c.self.inside.waiting.base c.self.inside.joined.base c.self.inside.base_turns
+    c.take_back.new.waiting c.take_back.new.joined.served c.take_back.new.joined.base
+    c.self.invariant.before_kept (c.take_back.ensures.items ∙ c.place_in.ensures.base)
+    (c.take_back.ensures.served ∙ c.push.ensures.base)
+    (c.take_back.ensures.waiting ∙ c.place_in.ensures.base)
+    (c.take_back.ensures.base ∙ c.push.ensures.base)

@@ -3,7 +3,7 @@ use Rattle.std.specs.Option.{option_map}
 use Rattle.qq_parts.specs.Parts.{Served, AreApart, consumer_at}
 use Rattle.qq_consumer.specs.Roster.{ConsumersState, roster_of, one_of, put_one, credited, set_credit}
 use Rattle.qq_consumer.specs.Turns.{Waiting, IsKept}
-use Rattle.qq_consumer.proofs.Back.{still-kept}
+use Rattle.qq_consumer.proofs.Back.{still-kept, taken-back}
 use Rattle.qq_consumer.proofs.Calls.{left-by, set-draws, draws-is, stays-is, set-ends, set-keeps}
 use Rattle.qq_consumer.proofs.consumers.Consumers.set_credit.Goals as goal
 
@@ -86,3 +86,21 @@ invariant_of-self-2 c =
           subst (λ (s : List Served). IsKept c.self.inside.waiting.base (roster_of s c.self.inside.base_turns))
           (sym c.put-2.ensures.base) c.self.invariant.before_kept;
     }
+
+pub invariant_of-self-in-Err : goal.invariant_of-self-in-Err
+invariant_of-self-in-Err c =
+    taken-back c.self.inside.waiting.base c.self.inside.joined.base c.self.inside.base_turns
+    c.take_back.new.waiting c.take_back.new.joined.served c.take_back.new.joined.base
+    c.self.invariant.before_kept (c.take_back.ensures.items ∙ c.enter.ensures.base)
+    (c.take_back.ensures.served ∙ c.put.ensures.base)
+    (c.take_back.ensures.waiting ∙ c.enter.ensures.base)
+    (c.take_back.ensures.base ∙ c.put.ensures.base)
+
+pub invariant_of-self-in-Err-put : goal.invariant_of-self-in-Err-put
+invariant_of-self-in-Err-put c =
+    taken-back c.self.inside.waiting.base c.self.inside.joined.base c.self.inside.base_turns
+    c.take_back-in-Err-put.new.waiting c.take_back-in-Err-put.new.joined.served c.take_back-in-Err-put.new.joined.base
+    c.self.invariant.before_kept (c.take_back-in-Err-put.ensures.items ∙ c.leave.ensures.base)
+    (c.take_back-in-Err-put.ensures.served ∙ c.put-then-is_zero.ensures.base)
+    (c.take_back-in-Err-put.ensures.waiting ∙ c.leave.ensures.base)
+    (c.take_back-in-Err-put.ensures.base ∙ c.put-then-is_zero.ensures.base)

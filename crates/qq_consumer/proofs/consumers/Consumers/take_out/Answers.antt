@@ -5,7 +5,7 @@ use Rattle.qq_consumer.specs.declared.next.Next.TheVariants as next
 use Rattle.qq_consumer.specs.Numbers.{AreBelow}
 use Rattle.qq_consumer.specs.Roster.{ConsumersState, roster_of, served_of, put_one, take_out}
 use Rattle.qq_consumer.specs.Turns.{Waiting, IsKept, enter}
-use Rattle.qq_consumer.proofs.Back.{still-kept}
+use Rattle.qq_consumer.proofs.Back.{still-kept, taken-back}
 use Rattle.qq_consumer.proofs.Calls.{next-id}
 use Rattle.qq_consumer.proofs.Taking.{with_rest, next-own, mid-there, leaves-is, leaves-keeps, stays-takes, stays-keeps, draws-takes, draws-keeps, draws-below}
 use Rattle.qq_consumer.proofs.consumers.Consumers.take_out.Goals as goal
@@ -152,3 +152,39 @@ returns-in_default-enter-clause-roster c =
     c.in-Some.ensures.value c.in_default-take_ids.ensures.served c.put.new.self.served put is.0
     is.1
     ∙ ap (λ (s : ConsumersState). take_out c.args.id c.args.ids.now s.roster) c.self.view_is
+
+pub invariant_of-self : goal.invariant_of-self
+invariant_of-self c =
+    taken-back c.self.inside.waiting.base c.self.inside.joined.base c.self.inside.base_turns
+    c.take_back.new.waiting c.take_back.new.joined.served c.take_back.new.joined.base
+    c.self.invariant.before_kept (c.take_back.ensures.items)
+    (c.take_back.ensures.served ∙ c.take_ids.ensures.base)
+    (c.take_back.ensures.waiting)
+    (c.take_back.ensures.base ∙ c.take_ids.ensures.base)
+
+pub invariant_of-self-in-Err-leave : goal.invariant_of-self-in-Err-leave
+invariant_of-self-in-Err-leave c =
+    taken-back c.self.inside.waiting.base c.self.inside.joined.base c.self.inside.base_turns
+    c.take_back-in-Err-leave.new.waiting c.take_back-in-Err-leave.new.joined.served c.take_back-in-Err-leave.new.joined.base
+    c.self.invariant.before_kept (c.take_back-in-Err-leave.ensures.items)
+    (c.take_back-in-Err-leave.ensures.served ∙ c.leave.ensures.base ∙ c.take_ids.ensures.base)
+    (c.take_back-in-Err-leave.ensures.waiting)
+    (c.take_back-in-Err-leave.ensures.base ∙ c.leave.ensures.base ∙ c.take_ids.ensures.base)
+
+pub invariant_of-self-in-Err-put : goal.invariant_of-self-in-Err-put
+invariant_of-self-in-Err-put c =
+    taken-back c.self.inside.waiting.base c.self.inside.joined.base c.self.inside.base_turns
+    c.take_back-in-Err-put.new.waiting c.take_back-in-Err-put.new.joined.served c.take_back-in-Err-put.new.joined.base
+    c.self.invariant.before_kept (c.take_back-in-Err-put.ensures.items)
+    (c.take_back-in-Err-put.ensures.served ∙ c.put.ensures.base ∙ c.take_ids.ensures.base)
+    (c.take_back-in-Err-put.ensures.waiting)
+    (c.take_back-in-Err-put.ensures.base ∙ c.put.ensures.base ∙ c.take_ids.ensures.base)
+
+pub invariant_of-self-in-Err-enter : goal.invariant_of-self-in-Err-enter
+invariant_of-self-in-Err-enter c =
+    taken-back c.self.inside.waiting.base c.self.inside.joined.base c.self.inside.base_turns
+    c.take_back-in-Err-enter.new.waiting c.take_back-in-Err-enter.new.joined.served c.take_back-in-Err-enter.new.joined.base
+    c.self.invariant.before_kept (c.take_back-in-Err-enter.ensures.items ∙ c.enter.ensures.base)
+    (c.take_back-in-Err-enter.ensures.served ∙ c.put.ensures.base ∙ c.take_ids.ensures.base)
+    (c.take_back-in-Err-enter.ensures.waiting ∙ c.enter.ensures.base)
+    (c.take_back-in-Err-enter.ensures.base ∙ c.put.ensures.base ∙ c.take_ids.ensures.base)

@@ -12,6 +12,6 @@ invariant_of-self c =
 
 pub invariant_of-self-in-Err : goal.invariant_of-self-in-Err
 invariant_of-self-in-Err c =
-    keeps-back c.self.inside.consumers c.cancel.new.self c.undo.new.self _ _ c.self.inside.ledger.came.items c.self.inside.ledger.gone.items
-    c.clear.new.self.came.items c.clear.new.self.gone.items c.self.invariant c.cancel.ensures.base c.undo.ensures.roster c.undo.ensures.base c.clear.ensures.came
-    c.clear.ensures.gone
+    keeps-back c.self.inside.consumers c.cancel.new.self c.take_back.new.consumers _ _ c.self.inside.ledger.came.items c.self.inside.ledger.gone.items
+    c.take_back.new.ledger.came.items c.take_back.new.ledger.gone.items c.self.invariant c.cancel.ensures.base c.take_back.ensures.roster c.take_back.ensures.base c.take_back.ensures.came
+    c.take_back.ensures.gone

@@ -13,9 +13,9 @@ invariant_of-self c =
 
 pub invariant_of-self-in-Err-Memory : goal.invariant_of-self-in-Err-Memory
 invariant_of-self-in-Err-Memory c =
-    keeps-back c.self.inside.consumers c.credit.new.self c.undo.new.self _ _ c.self.inside.ledger.came.items c.self.inside.ledger.gone.items
-    c.clear.new.self.came.items c.clear.new.self.gone.items c.self.invariant c.credit.ensures.base c.undo.ensures.roster c.undo.ensures.base c.clear.ensures.came
-    c.clear.ensures.gone
+    keeps-back c.self.inside.consumers c.credit.new.self c.take_back.new.consumers _ _ c.self.inside.ledger.came.items c.self.inside.ledger.gone.items
+    c.take_back.new.ledger.came.items c.take_back.new.ledger.gone.items c.self.invariant c.credit.ensures.base c.take_back.ensures.roster c.take_back.ensures.base c.take_back.ensures.came
+    c.take_back.ensures.gone
 
 pub invariant_of-self-in-Err-Refused : goal.invariant_of-self-in-Err-Refused
 invariant_of-self-in-Err-Refused c =

@@ -5,7 +5,7 @@ use Rattle.qq_model.specs.Gate.{is_open}
 use Rattle.qq_sessions.specs.Row.{open_of}
 use Rattle.qq_sessions.proofs.OpenRows.{apart-before}
 use Rattle.qq_sessions.proofs.Places.{take-at}
-use Rattle.qq_sessions.proofs.opened.Opened.copy.Goals as goal
+use Rattle.qq_sessions.proofs.opened.Opened.copy_into.Goals as goal
 
 pub push-requires : goal.push-requires
 push-requires c =

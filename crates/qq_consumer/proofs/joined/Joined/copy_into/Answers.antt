@@ -3,7 +3,7 @@ use Rattle.qq_base.specs.declared.ids.ConsumerId.{ConsumerId}
 use Rattle.qq_parts.specs.Parts.{Served, HasOut}
 use Rattle.qq_consumer.specs.Roster.{served_of, is_there}
 use Rattle.qq_consumer.proofs.Copying.{take-at, each-at, free-before, given-row}
-use Rattle.qq_consumer.proofs.joined.Joined.copy.Goals as goal
+use Rattle.qq_consumer.proofs.joined.Joined.copy_into.Goals as goal
 
 pub push-requires-clause-free : goal.push-requires-clause-free
 push-requires-clause-free c =

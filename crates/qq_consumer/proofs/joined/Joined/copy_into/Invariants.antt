@@ -1,5 +1,5 @@
 use Rattle.std.proofs.Common.{◌≡◌, take}
-use Rattle.qq_consumer.proofs.joined.Joined.copy.Given as goal
+use Rattle.qq_consumer.proofs.joined.Joined.copy_into.Given as goal
 
 -- the consumers so far are copied
 abbrev pub invariant-rows : goal.invariant-rows

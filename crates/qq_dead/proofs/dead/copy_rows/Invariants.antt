@@ -1,6 +1,0 @@
-use Rattle.std.proofs.Common.{◌≡◌, take}
-use Rattle.qq_dead.proofs.dead.copy_rows.Given as goal
-
--- the rows so far are copied
-abbrev pub invariant-rows : goal.invariant-rows
-invariant-rows l = l.twin.items ≡ take l.place l.rows.items
