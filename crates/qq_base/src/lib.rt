@@ -13,5 +13,5 @@ pub use fields::{
 };
 pub use ids::{CLIENT, ConsumerId, DEAD_LETTER, Index, NodeId, QueueId, SessionId, Term, WORKER};
 pub use items::{Bytes, Ids, Items, QueueIds};
-pub use memory::{Duplicate, Memory, NUMBER_END};
+pub use memory::{Duplicate, Memory, NUMBER_END, both};
 pub use text::Text;

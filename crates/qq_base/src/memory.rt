@@ -1,4 +1,4 @@
-ghost use Rattle.std.specs.Prelude.{◌≡◌, IfOk, IsOkUnless};
+ghost use Rattle.std.specs.Prelude.{◌≡◌, ◌⊎◌, Ok, Err, IfOk, IfErr, IsOk, IsOkUnless};
 
 use std::alloc::{AllocError, AllocFailed, Global};
 use thiserror::Error;
@@ -46,4 +46,31 @@ pub trait Duplicate: Drop + Sized {
     fn copy(&self, alloc: Global) -> Result<Self, Memory>
         ensures ok { IfOk result (λ twin. twin ≡ self.now) }
         ensures want { IsOkUnless result Memory.Want };
+}
+
+/// Both values, or else the first error. A caller whose results own much makes them first and joins them
+/// here, so that no other end of it owns any.
+pub fn both<A: Drop, B: Drop>(
+    first: Result<A, Memory>,
+    second: Result<B, Memory>,
+) -> Result<(A, B), Memory>
+    ensures first { IfOk result (λ pair. first ≡ Ok pair.0) }
+    ensures second { IfOk result (λ pair. second ≡ Ok pair.1) }
+    ensures err { IfErr result (λ e. (first ≡ Err e) ⊎ (IsOk first × (second ≡ Err e))) }
+    ensures want { IsOkUnless first Memory.Want → IsOkUnless second Memory.Want →
+        IsOkUnless result Memory.Want }
+{
+    match first {
+        Err(cause) => {
+            drop(second);
+            Err(cause)
+        }
+        Ok(a) => match second {
+            Err(cause) => {
+                drop(a);
+                Err(cause)
+            }
+            Ok(b) => Ok((a, b)),
+        },
+    }
 }
