@@ -1,5 +1,4 @@
 pub mod Queues
 mod Examples
 mod Named
-mod LineKinds
 mod Refusals

@@ -10,7 +10,6 @@ use Rattle.std.proofs.lemmas.List.Splits.{length-slice_split}
 use Rattle.std.proofs.lemmas.Slice.Eq.{bytes_eq-Decides}
 use Rattle.qq_base.proofs.Lists.{In, In-map, find-in, AllByRecursion-in}
 use Rattle.qq_base.specs.Ids.{client}
-use Rattle.qq_base.specs.declared.ids.ConsumerId.{ConsumerId}
 use Rattle.qq_base.specs.declared.ids.NodeId.{NodeId}
 use Rattle.qq_base.specs.declared.ids.QueueId.{QueueId}
 use Rattle.qq_base.specs.declared.ids.SessionId.{SessionId}
@@ -23,27 +22,21 @@ use Rattle.qq_setup.specs.declared.queue_row.QueueRow.{QueueRow}
 use Rattle.qq_setup.specs.declared.setup.Setup.{Setup}
 use Rattle.qq_script_lines.specs.declared.fault.ScriptFault.{ScriptFault}
 use Rattle.qq_script_lines.specs.declared.fault.ScriptFault.TheVariants.{Body, NoSuch, Number, Words, TooLong, Unknown, Session, Memory}
-use Rattle.qq_script_lines.specs.declared.kind.Kind.{Kind}
-use Rattle.qq_script_lines.specs.declared.kind.Kind.TheVariants as kinds
-use Rattle.qq_script_lines.specs.declared.kind.PlainKind.{PlainKind}
-use Rattle.qq_script_lines.specs.declared.kind.PlainKind.TheVariants as plains
-use Rattle.qq_script_lines.specs.declared.kind.Verdict.{Verdict}
-use Rattle.qq_script_lines.specs.declared.kind.Verdict.TheVariants as verdicts
 use Rattle.qq_script_lines.specs.declared.line.TheConstants.{LINE_LIMIT}
 use Rattle.qq_script_lines.specs.declared.line.Place.{Place}
 use Rattle.qq_script_lines.specs.declared.line.ScriptLine.{ScriptLine}
 use Rattle.qq_script_lines.specs.declared.line.ScriptLine.TheVariants as lines
 use Rattle.qq_script_lines.specs.Bodies.{limited, body_of}
-use Rattle.qq_script_lines.specs.Calls.{queue_of, first_queue, alone, one_session, one_queue, one_node, nodes_of, some_nodes, served_at, queue_at, one_member, session_at, consumer_at, get, subscribe, credit, deliveries, crash, key_of, is_drain, amount_of, verdict_on, send as read_send}
+use Rattle.qq_script_lines.specs.Arguments.{queue_of, first_queue, no_word, one_session, one_queue, one_node, nodes_of, some_nodes, served_at, queue_at, one_member, crash, key_of, send as read_send}
+use Rattle.qq_script_lines.specs.Commands.{bare, bare_or_none, one_tag, deliveries, subscribe, is_drain, amount_of, credit, plain_command, command_of, client_at, client_line}
 use Rattle.qq_script_lines.specs.Images.{image_of}
-use Rattle.qq_script_lines.specs.Kinds.{kind_of}
-use Rattle.qq_script_lines.specs.Lines.{is_nothing, publish_text, may_stand, text_in, parse_line, read_plain, read, in_place, read_as, read_words, read_text, read_bytes}
+use Rattle.qq_script_lines.specs.Lines.{is_nothing, publish_text, node_line, plain_line, read, may_stand, text_in, parse_line, in_place, or_client, read_words, read_text, read_bytes}
 use Rattle.qq_script_lines.specs.Names.{named, numbered, behind_hash, row_of, row_at, node_of, is_member}
-use Rattle.qq_script_lines.specs.Numbers.{number_in, number_of, session_of, tag_of, consumer_of, id_of, all_ids, is_comma, ids_of, within, is_within}
-use Rattle.qq_script_lines.specs.Words.{◌>>=◌, or_fault, text_of, behind_four, words_of}
+use Rattle.qq_script_lines.specs.Numbers.{number_in, number_of, session_of, tag_of, id_of, all_ids, is_comma, ids_of, within, is_within}
+use Rattle.qq_script_lines.specs.Words.{◌>>=◌, make, or_fault, text_of, behind_four, words_of}
 use Rattle.qq_world.specs.Rules.{Line, Nothing, Send, Resend, End, Mute, Auto, Pump, Write, Sync, Notice, Tick, Crash, Restart, Show}
 use Rattle.qq_calls.specs.Named.{IsBody, IsNamed, HaveNames}
-use Rattle.qq_calls.specs.Lines.{of_consumer, line_of, publish_to, send_to, publish, send, send_by_name, at_line, read_line, ask_by, is_there, target_of}
+use Rattle.qq_calls.specs.Lines.{line_of, publish_to, send_to, publish, send, send_by_name, at_line, read_line, ask_by, is_there, target_of}
 use Rattle.qq_calls.specs.Queues.{place_of}
 
 -- ---- one step after another
@@ -77,6 +70,18 @@ bound P (Err e) f y is then = absurd (refused e y is)
 found : {A : Type 0} (fault : ScriptFault) (o : Option A) (x : A) → or_fault fault o ≡ Ok x → o ≡ Some x
 found fault None x is = absurd (refused fault x is)
 found fault (Some y) x is = ap (λ (z : _). Some z) (same-read y x is)
+
+-- what holds of what is made
+made : {A B : Type 0} (P : B → Type 0) (f : A → B) (r : Result A ScriptFault) (y : B) → make f r ≡ Ok y
+    → ((x : A) → r ≡ Ok x → P (f x)) → P y
+made P f (Ok x) y is holds = subst P (same-read (f x) y is) (holds x refl)
+made P f (Err e) y is holds = absurd (refused e y is)
+
+-- what holds by the first row of a table, or by its other rows
+row : {A : Type 0} (P : Type 0) (b : Bool) (here later : Result A ScriptFault) (y : A) → cond b here later ≡ Ok y
+    → (here ≡ Ok y → P) → (later ≡ Ok y → P) → P
+row P true here later y is first rest = first is
+row P false here later y is first rest = rest is
 
 is-in : {A : Type 0} (x : A) (xs : List A) → In x xs → Contains xs x
 is-in x [] here = absurd here
@@ -126,31 +131,8 @@ below-in bits word n some is =
     let range = in-range 0 (2 ^ bits - 1) (number_of word) n is in
     omega (arith, some, range.1)
 
-abbrev consumer-at : Option ConsumerId → ConsumerId → ConsumerId
-consumer-at None d = d
-consumer-at (Some by) d = by
-
-abbrev IsConsumer : ConsumerId → Type 0
-IsConsumer by = (0 < by.session.number) × IsPositive 32 by.tag
-
-consumer-positive : (session tag : List ℕ) (by : ConsumerId) → consumer_of session tag ≡ Some by → IsConsumer by
-consumer-positive session tag by is = from (session_of session) refl
-  where
-    from : (o : Option SessionId) → session_of session ≡ o → IsConsumer by
-    from None none =
-        let here : nothing {A = ConsumerId} ≡ Some by = sym (rw none refl) ∙ is in
-        absurd cc
-    from (Some owner) some = behind (tag_of tag) refl
-      where
-        behind : (o : Option ℕ) → tag_of tag ≡ o → IsConsumer by
-        behind None none =
-            let here : nothing {A = ConsumerId} ≡ Some by = sym (rw some (rw none refl)) ∙ is in
-            absurd cc
-        behind (Some n) given =
-            let one : ConsumerId = record { session = owner; tag = n } in
-            let here : Some one ≡ Some by = sym (rw some (rw given refl)) ∙ is in
-            let same : one ≡ by = ap (λ (o : Option ConsumerId). consumer-at o one) here in
-            subst IsConsumer same (session-positive session owner some, positive-in 32 tag n given)
+tag-positive : (word : List ℕ) (tag : ℕ) → or_fault Number (tag_of word) ≡ Ok tag → IsPositive 32 tag
+tag-positive word tag is = positive-in 32 word tag (found Number (tag_of word) tag is)
 
 abbrev ids-at : Option (List ℕ) → List ℕ
 ids-at None = []
@@ -256,51 +238,103 @@ member-said s node word at is =
             (same-read row.args.queue at (sym (rw is' refl) ∙ last)) (row-placed s.queues row here)
         choose false is' = absurd (refused NoSuch at (sym (rw is' refl) ∙ last))
 
-session-at-said : (s : Setup) (words : List (List ℕ)) (p : SessionId × QueueId) → session_at s words ≡ Ok p
-    → IsPlaceOf s.queues p.1.0 × (0 < p.0.number)
-unfolding session_at
-session-at-said s (session ∷ queue ∷ []) p is =
+-- a session from 1, and a queue that is there
+abbrev IsClientAt : Setup → SessionId × QueueId → Type 0
+IsClientAt s p = IsPlaceOf s.queues p.1.0 × (0 < p.0.number)
+
+client-at-said : (s : Setup) (words : List (List ℕ)) (p : SessionId × QueueId) → client_at s words ≡ Ok p
+    → IsClientAt s p
+unfolding client_at
+client-at-said s [] p is =
+    bound _ (first_queue s.queues) _ p is
+    (λ at first last. subst (IsClientAt s) (same-read (client 1, at) p last)
+    (first-said s.queues at first, omega arith))
+client-at-said s (session ∷ queue ∷ words) p is =
     bound _ (or_fault Number (session_of session)) _ p is
     (λ by first more. bound _ (queue_of s queue) _ p more
-    (λ at second last.
-    let same : (by, at) ≡ p = same-read (by, at) p last in
-    subst (λ (q : SessionId × QueueId). IsPlaceOf s.queues q.1.0 × (0 < q.0.number)) same
+    (λ at second last. subst (IsClientAt s) (same-read (by, at) p last)
     (queue-said s queue at second, session-positive session by (found Number (session_of session) by first))))
-session-at-said s _ p is = absurd (refused Words p is)
+client-at-said s (session ∷ []) p is = absurd (refused Words p is)
 
--- a consumer of a session from 1, and a queue that is there
-abbrev IsConsumerAt : Setup → ConsumerId → QueueId → Type 0
-IsConsumerAt s by at = IsPlaceOf s.queues at.0 × IsConsumer by
+-- ---- commands
 
-consumer-at-said : (s : Setup) (words : List (List ℕ)) (p : ConsumerId × QueueId) → consumer_at s words ≡ Ok p
-    → IsConsumerAt s p.0 p.1
-unfolding consumer_at
-consumer-at-said s (session ∷ queue ∷ tag ∷ []) p is =
-    bound _ (or_fault Number (consumer_of session tag)) _ p is
-    (λ by first more. bound _ (queue_of s queue) _ p more
-    (λ at second last.
-    let same : (by, at) ≡ p = same-read (by, at) p last in
-    subst (λ (q : ConsumerId × QueueId). IsConsumerAt s q.0 q.1) same
-    (queue-said s queue at second, consumer-positive session tag by (found Number (consumer_of session tag) by first))))
-consumer-at-said s _ p is = absurd (refused Words p is)
+one-tag-said : (words : List (List ℕ)) (tag : ℕ) → one_tag words ≡ Ok tag → IsPositive 32 tag
+unfolding one_tag
+one-tag-said (session ∷ queue ∷ tag ∷ []) by is = tag-positive tag by is
+one-tag-said _ by is = absurd (refused Words by is)
+
+deliveries-said : (words : List (List ℕ)) (p : ℕ × List ℕ) → deliveries words ≡ Ok p
+    → IsPositive 32 p.0 × AreIds p.1
+unfolding deliveries
+deliveries-said (session ∷ queue ∷ tag ∷ ids ∷ []) p is =
+    bound _ (or_fault Number (tag_of tag)) _ p is
+    (λ by one rest. bound _ (or_fault Number (ids_of ids)) _ p rest
+    (λ list two last. subst (λ (q : ℕ × List ℕ). IsPositive 32 q.0 × AreIds q.1) (same-read (by, list) p last)
+    (tag-positive tag by one, ids-positive ids list (found Number (ids_of ids) list two))))
+deliveries-said _ p is = absurd (refused Words p is)
+
+subscribe-said : (words : List (List ℕ)) (body : Unstamped) → subscribe words ≡ Ok body → IsBody body
+unfolding subscribe
+subscribe-said (session ∷ queue ∷ tag ∷ prefetch ∷ []) body is =
+    bound _ (or_fault Number (tag_of tag)) _ body is
+    (λ by one rest. bound _ (or_fault Number (number_in 0 (2 ^ 16 - 1) prefetch)) _ body rest
+    (λ most two last. subst IsBody (same-read (bodies.Subscribe by (Prefetch most)) body last) (
+      tag-positive tag by one,
+      below-in 16 prefetch most (omega arith) (found Number (number_in 0 (2 ^ 16 - 1) prefetch) most two),
+    )))
+subscribe-said _ body is = absurd (refused Words body is)
+
+credit-said : (words : List (List ℕ)) (body : Unstamped) → credit words ≡ Ok body → IsBody body
+unfolding credit
+credit-said (session ∷ queue ∷ tag ∷ count ∷ more ∷ how ∷ []) body is =
+    bound _ (or_fault Words (is_drain how)) _ body is
+    (λ drain one rest. bound _ (or_fault Number (tag_of tag)) _ body rest
+    (λ by two rest'. bound _ (or_fault Number (amount_of count)) _ body rest'
+    (λ had three later. bound _ (or_fault Number (amount_of more)) _ body later
+    (λ given four last. subst IsBody (same-read (bodies.Credit by had given drain) body last) (
+      tag-positive tag by two,
+      below-in 32 count had (omega arith) (found Number (amount_of count) had three),
+      below-in 32 more given (omega arith) (found Number (amount_of more) given four),
+    )))))
+credit-said _ body is = absurd (refused Words body is)
+
+plain-command-said : (name : List ℕ) (words : List (List ℕ)) (body : Unstamped) → plain_command name words ≡ Ok body
+    → IsBody body
+unfolding plain_command
+plain-command-said name words body is =
+    row _ (bytes_eq name (codes "get")) _ _ body is
+    (λ here. made IsBody (λ none. bodies.Get) (bare_or_none words) body here (λ none read'. tt))
+    (λ is. row _ (bytes_eq name (codes "subscribe")) _ _ body is (subscribe-said words body)
+    (λ is. row _ (bytes_eq name (codes "link")) _ _ body is
+    (λ here. made IsBody (λ tag. bodies.Subscribe tag Link) (one_tag words) body here
+    (λ tag read'. (one-tag-said words tag read', tt)))
+    (λ is. row _ (bytes_eq name (codes "credit")) _ _ body is (credit-said words body)
+    (λ is. row _ (bytes_eq name (codes "cancel")) _ _ body is
+    (λ here. made IsBody bodies.Cancel (one_tag words) body here (one-tag-said words))
+    (λ is. row _ (bytes_eq name (codes "purge")) _ _ body is
+    (λ here. made IsBody (λ none. bodies.Purge) (bare words) body here (λ none read'. tt))
+    (λ is. absurd (refused Unknown body is)))))))
+
+command-said : (name : List ℕ) (words : List (List ℕ)) (body : Unstamped) → command_of name words ≡ Ok body
+    → IsBody body
+unfolding command_of
+command-said name words body is =
+    row _ (bytes_eq name (codes "settle")) _ _ body is
+    (λ here. made IsBody (λ p. bodies.Settle p.0 p.1) (deliveries words) body here (deliveries-said words))
+    (λ is. row _ (bytes_eq name (codes "return")) _ _ body is
+    (λ here. made IsBody (λ p. bodies.Return p.0 p.1) (deliveries words) body here (deliveries-said words))
+    (λ is. row _ (bytes_eq name (codes "discard")) _ _ body is
+    (λ here. made IsBody (λ p. bodies.Discard p.0 p.1) (deliveries words) body here (deliveries-said words))
+    (plain-command-said name words body)))
 
 -- ---- lines
 
 -- what a line says of queues and sessions
 abbrev Says : Setup → ScriptLine → Type 0
 Says s (lines.Send by exchange key body) = (0 < by.number) × (length key ≤ KEY_LIMIT)
-Says s (lines.Get by at) = IsPlaceOf s.queues at.0 × (0 < by.number)
-Says s (lines.Subscribe by at most) = IsConsumerAt s by at × (most < 2 ^ 16)
-Says s (lines.Link by at) = IsConsumerAt s by at
-Says s (lines.Credit by at had given drain) = IsConsumerAt s by at × (had < 2 ^ 32) × (given < 2 ^ 32)
-Says s (lines.Settle by at ids) = IsConsumerAt s by at × AreIds ids
-Says s (lines.Return by at ids) = IsConsumerAt s by at × AreIds ids
-Says s (lines.Discard by at ids) = IsConsumerAt s by at × AreIds ids
-Says s (lines.Cancel by at) = IsConsumerAt s by at
-Says s (lines.Purge by at) = IsPlaceOf s.queues at.0 × (0 < by.number)
+Says s (lines.Client by at body) = IsPlaceOf s.queues at.0 × (0 < by.number) × IsBody body
 Says s (lines.End by) = 0 < by.number
-Says s (lines.Mute by) = 0 < by.number
-Says s (lines.Unmute by) = 0 < by.number
+Says s (lines.Mute by muted) = 0 < by.number
 Says s (lines.Notice node at) = IsPlaceOf s.queues at.0
 Says s (lines.Tick node at) = IsPlaceOf s.queues at.0
 Says s (lines.Show at) = IsPlaceOf s.queues at.0
@@ -330,15 +364,6 @@ one-member-said s (node ∷ queue ∷ []) p is =
     (λ at second last. subst (λ (q : NodeId × QueueId). IsPlaceOf s.queues q.1.0) (same-read (by, at) p last)
     (member-said s by queue at second)))
 one-member-said s _ p is = absurd (refused Words p is)
-
-get-said : (s : Setup) (words : List (List ℕ)) (said : ScriptLine) → get s words ≡ Ok said → Says s said
-unfolding get
-get-said s [] said is =
-    bound _ (first_queue s.queues) _ said is
-    (λ at first last. plain-said s (lines.Get (client 1) at) said last (first-said s.queues at first, omega arith))
-get-said s (word ∷ words) said is =
-    bound _ (session_at s (word ∷ words)) _ said is
-    (λ p first last. plain-said s (lines.Get p.0 p.1) said last (session-at-said s (word ∷ words) p first))
 
 key-short : (word short : List ℕ) → key_of word ≡ Some short → length short ≤ KEY_LIMIT
 key-short word short is = by (nat_lt KEY_LIMIT (length word)) refl
@@ -372,69 +397,6 @@ send-said s line (session ∷ exchange ∷ key ∷ first ∷ more) said is =
     ))))
 send-said s line _ said is = absurd (refused Words said is)
 
-alone-said : (s : Setup) (one said : ScriptLine) (words : List (List ℕ)) → alone one words ≡ Ok said → Says s one
-    → Says s said
-unfolding alone
-alone-said s one said [] is holds = plain-said s one said is holds
-alone-said s one said (word ∷ words) is holds = absurd (refused Words said is)
-
--- ---- lines about consumers
-
-subscribe-said : (s : Setup) (words : List (List ℕ)) (said : ScriptLine) → subscribe s words ≡ Ok said → Says s said
-unfolding subscribe
-subscribe-said s (session ∷ queue ∷ tag ∷ prefetch ∷ []) said is =
-    bound _ (or_fault Number (consumer_of session tag)) _ said is
-    (λ by one rest. bound _ (or_fault Number (number_in 0 (2 ^ 16 - 1) prefetch)) _ said rest
-    (λ most two rest'. bound _ (queue_of s queue) _ said rest'
-    (λ at three last. plain-said s (lines.Subscribe by at most) said last (
-      (
-        queue-said s queue at three,
-        consumer-positive session tag by (found Number (consumer_of session tag) by one),
-      ),
-      below-in 16 prefetch most (omega arith) (found Number (number_in 0 (2 ^ 16 - 1) prefetch) most two),
-    ))))
-subscribe-said s _ said is = absurd (refused Words said is)
-
-credit-said : (s : Setup) (words : List (List ℕ)) (said : ScriptLine) → credit s words ≡ Ok said → Says s said
-unfolding credit
-credit-said s (session ∷ queue ∷ tag ∷ count ∷ more ∷ how ∷ []) said is =
-    bound _ (or_fault Words (is_drain how)) _ said is
-    (λ drain one rest. bound _ (or_fault Number (consumer_of session tag)) _ said rest
-    (λ by two rest'. bound _ (or_fault Number (amount_of count)) _ said rest'
-    (λ had three later. bound _ (or_fault Number (amount_of more)) _ said later
-    (λ given four later'. bound _ (queue_of s queue) _ said later'
-    (λ at five last. plain-said s (lines.Credit by at had given drain) said last (
-      (
-        queue-said s queue at five,
-        consumer-positive session tag by (found Number (consumer_of session tag) by two),
-      ),
-      below-in 32 count had (omega arith) (found Number (amount_of count) had three),
-      below-in 32 more given (omega arith) (found Number (amount_of more) given four),
-    ))))))
-credit-said s _ said is = absurd (refused Words said is)
-
-verdict-said : (s : Setup) (verdict : Verdict) (by : ConsumerId) (at : QueueId) (ids : List ℕ)
-    → IsConsumerAt s by at × AreIds ids → Says s (verdict_on verdict by at ids)
-verdict-said s verdicts.Settle by at ids holds = holds
-verdict-said s verdicts.Return by at ids holds = holds
-verdict-said s verdicts.Discard by at ids holds = holds
-
-deliveries-said : (s : Setup) (verdict : Verdict) (words : List (List ℕ)) (said : ScriptLine)
-    → deliveries verdict s words ≡ Ok said → Says s said
-unfolding deliveries
-deliveries-said s verdict (session ∷ queue ∷ tag ∷ ids ∷ []) said is =
-    bound _ (or_fault Number (consumer_of session tag)) _ said is
-    (λ by one rest. bound _ (or_fault Number (ids_of ids)) _ said rest
-    (λ list two rest'. bound _ (queue_of s queue) _ said rest'
-    (λ at three last. plain-said s (verdict_on verdict by at list) said last (verdict-said s verdict by at list (
-      (
-        queue-said s queue at three,
-        consumer-positive session tag by (found Number (consumer_of session tag) by one),
-      ),
-      ids-positive ids list (found Number (ids_of ids) list two),
-    )))))
-deliveries-said s verdict _ said is = absurd (refused Words said is)
-
 crash-said : (s : Setup) (words : List (List ℕ)) (said : ScriptLine) → crash s words ≡ Ok said → Says s said
 unfolding crash
 crash-said s [] said is = absurd (refused Words said is)
@@ -445,79 +407,98 @@ crash-said s (node ∷ image) said is =
 
 -- ---- every line
 
-read_plain-said : (s : Setup) (kind : PlainKind) (words : List (List ℕ)) (said : ScriptLine)
-    → read_plain s kind words ≡ Ok said → Says s said
-unfolding read_plain
-read_plain-said s plains.Get words said is = get-said s words said is
-read_plain-said s plains.Subscribe words said is = subscribe-said s words said is
-read_plain-said s plains.Link words said is =
-    bound _ (consumer_at s words) _ said is
-    (λ p one last. plain-said s (lines.Link p.0 p.1) said last (consumer-at-said s words p one))
-read_plain-said s plains.Credit words said is = credit-said s words said is
-read_plain-said s plains.Cancel words said is =
-    bound _ (consumer_at s words) _ said is
-    (λ p one last. plain-said s (lines.Cancel p.0 p.1) said last (consumer-at-said s words p one))
-read_plain-said s plains.Purge words said is =
-    bound _ (session_at s words) _ said is
-    (λ p one last. plain-said s (lines.Purge p.0 p.1) said last (session-at-said s words p one))
-read_plain-said s plains.End words said is =
-    bound _ (one_session words) _ said is
-    (λ by one last. plain-said s (lines.End by) said last (one-session-said words by one))
-read_plain-said s plains.Resend words said is =
-    bound _ (one_session words) _ said is (λ by one last. plain-said s (lines.Resend by) said last tt)
-read_plain-said s plains.Mute words said is =
-    bound _ (one_session words) _ said is
-    (λ by one last. plain-said s (lines.Mute by) said last (one-session-said words by one))
-read_plain-said s plains.Unmute words said is =
-    bound _ (one_session words) _ said is
-    (λ by one last. plain-said s (lines.Unmute by) said last (one-session-said words by one))
-read_plain-said s plains.Manual words said is = alone-said s lines.Manual said words is tt
-read_plain-said s plains.Auto words said is = alone-said s lines.Auto said words is tt
-read_plain-said s plains.Pump words said is = alone-said s lines.Pump said words is tt
-read_plain-said s plains.Write words said is =
-    bound _ (one_node s words) _ said is (λ node one last. plain-said s (lines.Write node) said last tt)
-read_plain-said s plains.Sync words said is =
-    bound _ (one_node s words) _ said is (λ node one last. plain-said s (lines.Sync node) said last tt)
-read_plain-said s plains.Notice words said is =
-    bound _ (one_member s words) _ said is
-    (λ p one last. plain-said s (lines.Notice p.0 p.1) said last (one-member-said s words p one))
-read_plain-said s plains.Tick words said is =
-    bound _ (one_member s words) _ said is
-    (λ p one last. plain-said s (lines.Tick p.0 p.1) said last (one-member-said s words p one))
-read_plain-said s plains.Restart words said is =
-    bound _ (some_nodes s words) _ said is (λ nodes one last. plain-said s (lines.Restart nodes) said last tt)
-read_plain-said s plains.Show words said is =
-    bound _ (one_queue s words) _ said is
-    (λ at one last. plain-said s (lines.Show at) said last (one-queue-said s words at one))
+abbrev SaysIf : Setup → Option ScriptLine → Type 0
+SaysIf s None = Unit {0}
+SaysIf s (Some said) = Says s said
 
-read-said : (s : Setup) (kind : Kind) (line : List ℕ) (words : List (List ℕ)) (said : ScriptLine)
-    → read s kind line words ≡ Ok said → Says s said
+node-line-said : (s : Setup) (word : List ℕ) (words : List (List ℕ)) (o : Option ScriptLine)
+    → node_line s word words ≡ Ok o → SaysIf s o
+unfolding node_line
+node-line-said s word words o is =
+    row _ (bytes_eq word (codes "write")) _ _ o is
+    (λ here. made (SaysIf s) (λ node. Some (lines.Write node)) (one_node s words) o here
+    (λ node read'. tt))
+    (λ is. row _ (bytes_eq word (codes "sync")) _ _ o is
+    (λ here. made (SaysIf s) (λ node. Some (lines.Sync node)) (one_node s words) o here
+    (λ node read'. tt))
+    (λ is. row _ (bytes_eq word (codes "notice")) _ _ o is
+    (λ here. made (SaysIf s) (λ p. Some (lines.Notice p.0 p.1)) (one_member s words) o here
+    (one-member-said s words))
+    (λ is. row _ (bytes_eq word (codes "tick")) _ _ o is
+    (λ here. made (SaysIf s) (λ p. Some (lines.Tick p.0 p.1)) (one_member s words) o here
+    (one-member-said s words))
+    (λ is. row _ (bytes_eq word (codes "restart")) _ _ o is
+    (λ here. made (SaysIf s) (λ nodes. Some (lines.Restart nodes)) (some_nodes s words) o here
+    (λ nodes read'. tt))
+    (λ is. row _ (bytes_eq word (codes "show")) _ _ o is
+    (λ here. made (SaysIf s) (λ at. Some (lines.Show at)) (one_queue s words) o here
+    (one-queue-said s words))
+    (λ is. subst (SaysIf s) (same-read None o is) tt))))))
+
+plain-line-said : (s : Setup) (word : List ℕ) (words : List (List ℕ)) (o : Option ScriptLine)
+    → plain_line s word words ≡ Ok o → SaysIf s o
+unfolding plain_line
+plain-line-said s word words o is =
+    row _ (bytes_eq word (codes "end")) _ _ o is
+    (λ here. made (SaysIf s) (λ by. Some (lines.End by)) (one_session words) o here
+    (one-session-said words))
+    (λ is. row _ (bytes_eq word (codes "resend")) _ _ o is
+    (λ here. made (SaysIf s) (λ by. Some (lines.Resend by)) (one_session words) o here
+    (λ by read'. tt))
+    (λ is. row _ (bytes_eq word (codes "mute")) _ _ o is
+    (λ here. made (SaysIf s) (λ by. Some (lines.Mute by true)) (one_session words) o here
+    (one-session-said words))
+    (λ is. row _ (bytes_eq word (codes "unmute")) _ _ o is
+    (λ here. made (SaysIf s) (λ by. Some (lines.Mute by false)) (one_session words) o here
+    (one-session-said words))
+    (λ is. row _ (bytes_eq word (codes "manual")) _ _ o is
+    (λ here. made (SaysIf s) (λ none. Some (lines.Pace false)) (no_word words) o here
+    (λ none read'. tt))
+    (λ is. row _ (bytes_eq word (codes "auto")) _ _ o is
+    (λ here. made (SaysIf s) (λ none. Some (lines.Pace true)) (no_word words) o here
+    (λ none read'. tt))
+    (λ is. row _ (bytes_eq word (codes "pump")) _ _ o is
+    (λ here. made (SaysIf s) (λ none. Some lines.Pump) (no_word words) o here
+    (λ none read'. tt))
+    (node-line-said s word words o)))))))
+
+client-line-said : (s : Setup) (word : List ℕ) (words : List (List ℕ)) (said : ScriptLine)
+    → client_line s word words ≡ Ok said → Says s said
+unfolding client_line
+client-line-said s word words said is =
+    bound _ (command_of word words) _ said is
+    (λ body one rest. bound _ (client_at s words) _ said rest
+    (λ p two last.
+    let at = client-at-said s words p two in
+    plain-said s (lines.Client p.0 p.1 body) said last (at.0, at.1, command-said word words body one)))
+
+or-client-said : (s : Setup) (word : List ℕ) (words : List (List ℕ)) (o : Option ScriptLine) (said : ScriptLine)
+    → SaysIf s o → or_client s word words o ≡ Ok said → Says s said
+or-client-said s word words (Some one) said says is = plain-said s one said is says
+or-client-said s word words None said says is = client-line-said s word words said is
+
+read-said : (s : Setup) (line word : List ℕ) (words : List (List ℕ)) (said : ScriptLine)
+    → read s line word words ≡ Ok said → Says s said
 unfolding read
-read-said s kinds.Publish line words said is = absurd (refused Words said is)
-read-said s kinds.Send line words said is = send-said s line words said is
-read-said s (kinds.Deliveries verdict) line words said is = deliveries-said s verdict words said is
-read-said s kinds.Crash line words said is = crash-said s words said is
-read-said s (kinds.Plain kind) line words said is = read_plain-said s kind words said is
+read-said s line word words said is =
+    row _ (bytes_eq word (codes "publish")) _ _ said is (λ here. absurd (refused Words said here))
+    (λ is. row _ (bytes_eq word (codes "send")) _ _ said is (send-said s line words said)
+    (λ is. row _ (bytes_eq word (codes "crash")) _ _ said is (crash-said s words said)
+    (λ is. bound _ (plain_line s word words) _ said is
+    (λ o one last. or-client-said s word words o said (plain-line-said s word words o one) last))))
 
-in-place-said : (s : Setup) (place : Place) (kind : Kind) (one said : ScriptLine) → in_place place kind one ≡ Ok said
-    → Says s one → Says s said
-in-place-said s place kind one said is holds = by (may_stand place.section kind) refl
-  where
-    by : (b : Bool) → may_stand place.section kind ≡ b → Says s said
-    by true may = plain-said s one said (sym (rw may refl) ∙ is) holds
-    by false may = absurd (refused Session said (sym (rw may refl) ∙ is))
-
-read-as-said : (s : Setup) (place : Place) (line : List ℕ) (words : List (List ℕ)) (o : Option Kind)
-    (said : ScriptLine) → read_as s place line words o ≡ Ok said → Says s said
-read-as-said s place line words None said is = absurd (refused Unknown said is)
-read-as-said s place line words (Some kind) said is =
-    bound _ (read s kind line words) (in_place place kind) said is
-    (λ one first last. in-place-said s place kind one said last (read-said s kind line words one first))
+in-place-said : (s : Setup) (place : Place) (one said : ScriptLine) → in_place place one ≡ Ok said → Says s one
+    → Says s said
+in-place-said s place one said is holds =
+    row _ (may_stand place.section one) (Ok one) (Err Session) said is (λ here. plain-said s one said here holds)
+    (λ here. absurd (refused Session said here))
 
 read-words-said : (s : Setup) (place : Place) (line : List ℕ) (words : List (List ℕ)) (said : ScriptLine)
     → read_words s place line words ≡ Ok said → Says s said
 read-words-said s place line [] said is = absurd (refused Unknown said is)
-read-words-said s place line (word ∷ words) said is = read-as-said s place line words (kind_of word) said is
+read-words-said s place line (word ∷ words) said is =
+    bound _ (read s line word words) (in_place place) said is
+    (λ one first last. in-place-said s place one said last (read-said s line word words one first))
 
 read-text-said : (s : Setup) (place : Place) (o : Option (List ℕ)) (said : ScriptLine)
     → read_text s place o ≡ Ok said → Says s said
@@ -534,16 +515,10 @@ read-bytes-said s place line None said is = read-text-said s place (text_in line
 
 parse-said : (s : Setup) (place : Place) (line : List ℕ) (said : ScriptLine) → parse_line s place line ≡ Ok said
     → Says s said
-parse-said s place line said is = long (nat_lt LINE_LIMIT (length line)) refl
-  where
-    rest : (b : Bool) → is_nothing line ≡ b
-        → cond b (Ok lines.Nothing) (read_bytes s place line (publish_text line)) ≡ Ok said → Says s said
-    rest true none is' = plain-said s lines.Nothing said is' tt
-    rest false none is' = read-bytes-said s place line (publish_text line) said is'
-
-    long : (b : Bool) → nat_lt LINE_LIMIT (length line) ≡ b → Says s said
-    long true past = absurd (refused TooLong said (sym (rw past refl) ∙ is))
-    long false past = rest (is_nothing line) refl (sym (rw past refl) ∙ is)
+parse-said s place line said is =
+    row _ (nat_lt LINE_LIMIT (length line)) _ _ said is (λ here. absurd (refused TooLong said here))
+    (λ is. row _ (is_nothing line) _ _ said is (λ here. plain-said s lines.Nothing said here tt)
+    (read-bytes-said s place line (publish_text line) said))
 
 -- ---- what is asked for
 
@@ -605,12 +580,6 @@ sent-to rows session exchange key body asked names positive short is = by (nat_e
     by true none = to (sym (rw none refl) ∙ is)
     by false some = absurd (refused NoSuch asked (sym (rw some refl) ∙ is))
 
--- a command of a consumer's session
-consumed : (s : Setup) (by : ConsumerId) (at : QueueId) (body : Unstamped) (asked : Line) → IsConsumerAt s by at
-    → IsBody body → ok_of (of_consumer by at body) ≡ Ok asked → IsNamed (map place_of s.queues) asked
-consumed s by at body asked says range is =
-    same-line s.queues (of_consumer by at body) asked is (says.0, says.1.0, range)
-
 line-named : (s : Setup) (said : ScriptLine) (asked : Line) → HaveNames s.queues → Says s said
     → line_of s.queues said ≡ Ok asked → IsNamed (map place_of s.queues) asked
 unfolding line_of
@@ -618,13 +587,12 @@ line-named s lines.Nothing asked names says is = same-line s.queues Nothing aske
 line-named s (lines.Publish body) asked names says is = published s.queues body asked names is
 line-named s (lines.Send by exchange key body) asked names says is =
     sent-to s.queues by.number exchange key body asked names says.0 says.1 is
-line-named s (lines.Get by at) asked names says is =
-    same-line s.queues (Send at.0 by.number bodies.Get) asked is (says.0, says.1, tt)
+line-named s (lines.Client by at body) asked names says is =
+    same-line s.queues (Send at.0 by.number body) asked is says
+line-named s (lines.End by) asked names says is = same-line s.queues (End by.number) asked is says
 line-named s (lines.Resend by) asked names says is = same-line s.queues (Resend by.number) asked is tt
-line-named s (lines.Mute by) asked names says is = same-line s.queues (Mute by.number true) asked is says
-line-named s (lines.Unmute by) asked names says is = same-line s.queues (Mute by.number false) asked is says
-line-named s lines.Manual asked names says is = same-line s.queues (Auto false) asked is tt
-line-named s lines.Auto asked names says is = same-line s.queues (Auto true) asked is tt
+line-named s (lines.Mute by muted) asked names says is = same-line s.queues (Mute by.number muted) asked is says
+line-named s (lines.Pace auto) asked names says is = same-line s.queues (Auto auto) asked is tt
 line-named s lines.Pump asked names says is = same-line s.queues Pump asked is tt
 line-named s (lines.Write node) asked names says is = same-line s.queues Write asked is tt
 line-named s (lines.Sync node) asked names says is = same-line s.queues Sync asked is tt
@@ -633,23 +601,6 @@ line-named s (lines.Tick node at) asked names says is = same-line s.queues (Tick
 line-named s (lines.Crash nodes image) asked names says is = same-line s.queues (Crash image) asked is tt
 line-named s (lines.Restart nodes) asked names says is = same-line s.queues Restart asked is tt
 line-named s (lines.Show at) asked names says is = same-line s.queues (Show at.0) asked is says
-line-named s (lines.Subscribe by at most) asked names says is =
-    consumed s by at (bodies.Subscribe by.tag (Prefetch most)) asked says.0 (says.0.1.1, says.1) is
-line-named s (lines.Link by at) asked names says is =
-    consumed s by at (bodies.Subscribe by.tag Link) asked says (says.1.1, tt) is
-line-named s (lines.Credit by at had given drain) asked names says is =
-    consumed s by at (bodies.Credit by.tag had given drain) asked says.0 (says.0.1.1, says.1, says.2) is
-line-named s (lines.Settle by at ids) asked names says is =
-    consumed s by at (bodies.Settle by.tag ids) asked says.0 (says.0.1.1, says.1) is
-line-named s (lines.Return by at ids) asked names says is =
-    consumed s by at (bodies.Return by.tag ids) asked says.0 (says.0.1.1, says.1) is
-line-named s (lines.Discard by at ids) asked names says is =
-    consumed s by at (bodies.Discard by.tag ids) asked says.0 (says.0.1.1, says.1) is
-line-named s (lines.Cancel by at) asked names says is =
-    consumed s by at (bodies.Cancel by.tag) asked says says.1.1 is
-line-named s (lines.Purge by at) asked names says is =
-    same-line s.queues (Send at.0 by.number bodies.Purge) asked is (says.0, says.1, tt)
-line-named s (lines.End by) asked names says is = same-line s.queues (End by.number) asked is says
 
 ask-named : (s : Setup) (line : List ℕ) (read' : Result ScriptLine ScriptFault) (asked : Line) → HaveNames s.queues
     → ((said : ScriptLine) → read' ≡ Ok said → Says s said) → ask_by s line read' ≡ Ok asked
