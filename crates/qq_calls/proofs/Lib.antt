@@ -1,4 +1,5 @@
 pub mod Queues
 mod Examples
 mod Named
+mod Said
 mod Refusals
