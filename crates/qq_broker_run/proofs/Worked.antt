@@ -15,8 +15,7 @@ use Rattle.qq_setup.specs.Setup.{SetupState, plain_row, plain_rows}
 use Rattle.qq_script_lines.specs.declared.options.Options.{Options}
 use Rattle.qq_script_lines.specs.declared.fault.ScriptFault.{ScriptFault}
 use Rattle.qq_script_lines.specs.declared.fault.ScriptFault.TheVariants.{Words, Body}
-use Rattle.qq_script_lines.specs.Kinds.{kind_of}
-use Rattle.qq_script_lines.specs.Lines.{read_plain, read}
+use Rattle.qq_script_lines.specs.Lines.{read}
 use Rattle.qq_calls.specs.Lines.{publish_to, line_of, read_line}
 use Rattle.qq_calls.specs.Queues.{node_setup}
 use Rattle.qq_world.specs.Example.{one_round, opening}
@@ -57,7 +56,7 @@ with_rows s rows =
     record { nodes = s.nodes; queues = rows; routes = s.routes; log_bytes = s.log_bytes; made = s.made }
 
 reads-publish : (s : Setup) → s.queues ≡ plain_rows 1 1 1 → read_line s 1 (codes "publish a") ≡ Ok sends
-unfolding is_utf8 chars encode_utf8 digits read_line line_of read read_plain kind_of
+unfolding is_utf8 chars encode_utf8 digits read_line line_of read
 reads-publish s rows =
     subst (λ (r : List QueueRow). read_line (with_rows s r) 1 (codes "publish a") ≡ Ok sends) (sym rows) refl
 
@@ -65,11 +64,11 @@ pub asks-publish : (s : Setup) → s.queues ≡ plain_rows 1 1 1 → says s 0 pu
 asks-publish s rows = asks_for s 0 (codes "publish a") sends (omega arith) (reads-publish s rows)
 
 reads-bare : (s : Setup) → read_line s 2 (codes "publish") ≡ Err Words
-unfolding is_utf8 chars encode_utf8 digits read_line line_of read read_plain kind_of
+unfolding is_utf8 chars encode_utf8 digits read_line line_of read
 reads-bare s = refl
 
 reads-long : (s : Setup) → s.queues ≡ plain_rows 1 1 1 → read_line s 2 (codes "publish =65537") ≡ Err (Body 65537)
-unfolding is_utf8 chars encode_utf8 digits read_line line_of read read_plain kind_of
+unfolding is_utf8 chars encode_utf8 digits read_line line_of read
 reads-long s rows =
     subst (λ (r : List QueueRow). read_line (with_rows s r) 2 (codes "publish =65537") ≡ Err (Body 65537)) (sym rows)
     refl

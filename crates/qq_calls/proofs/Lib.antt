@@ -1,5 +1,5 @@
 pub mod Queues
 mod Examples
 mod Named
-mod LineKinds
+mod Said
 mod Refusals

@@ -1,6 +1,5 @@
 pub mod Queues
 pub mod Calls
-pub mod Kinds
 pub mod Lines
 pub mod Named
 pub mod Examples

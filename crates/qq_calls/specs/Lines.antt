@@ -3,9 +3,6 @@ use Rattle.std.specs.Prelude.{ℕ, List, [], ◌∷◌, Bool, true, false, ◌&&
 use Rattle.std.specs.List.{find}
 use Rattle.std.specs.Option.{is_some}
 use Rattle.std.specs.Str.{bytes_eq}
-use Rattle.qq_base.specs.declared.ids.ConsumerId.{ConsumerId}
-use Rattle.qq_base.specs.declared.ids.QueueId.{QueueId}
-use Rattle.qq_entry.specs.declared.command.Mode.TheVariants.{Prefetch, Link}
 use Rattle.qq_entry.specs.declared.command.Unstamped.{Unstamped}
 use Rattle.qq_entry.specs.declared.command.Unstamped.TheVariants as bodies
 use Rattle.qq_entry.specs.Message.{new_message}
@@ -48,21 +45,16 @@ send rows session exchange key body =
 
 -- ---- lines
 
--- a command about a consumer is one of its session
-abbrev pub of_consumer : ConsumerId → QueueId → Unstamped → Line
-of_consumer by at body = Send at.0 by.session.number body
-
 -- what a line asks of a node
 unfoldable pub line_of : List QueueRow → ScriptLine → Result Line ScriptFault
 line_of rows lines.Nothing = Ok Nothing
 line_of rows (lines.Publish body) = publish rows body
 line_of rows (lines.Send by exchange key body) = send rows by.number exchange key body
-line_of rows (lines.Get by at) = Ok (Send at.0 by.number bodies.Get)
+line_of rows (lines.Client by at body) = Ok (Send at.0 by.number body)
+line_of rows (lines.End by) = Ok (End by.number)
 line_of rows (lines.Resend by) = Ok (Resend by.number)
-line_of rows (lines.Mute by) = Ok (Mute by.number true)
-line_of rows (lines.Unmute by) = Ok (Mute by.number false)
-line_of rows lines.Manual = Ok (Auto false)
-line_of rows lines.Auto = Ok (Auto true)
+line_of rows (lines.Mute by muted) = Ok (Mute by.number muted)
+line_of rows (lines.Pace auto) = Ok (Auto auto)
 line_of rows lines.Pump = Ok Pump
 line_of rows (lines.Write node) = Ok Write
 line_of rows (lines.Sync node) = Ok Sync
@@ -71,15 +63,6 @@ line_of rows (lines.Tick node at) = Ok (Tick at.0)
 line_of rows (lines.Crash nodes image) = Ok (Crash image)
 line_of rows (lines.Restart nodes) = Ok Restart
 line_of rows (lines.Show at) = Ok (Show at.0)
-line_of rows (lines.Subscribe by at most) = Ok (of_consumer by at (bodies.Subscribe by.tag (Prefetch most)))
-line_of rows (lines.Link by at) = Ok (of_consumer by at (bodies.Subscribe by.tag Link))
-line_of rows (lines.Credit by at had given drain) = Ok (of_consumer by at (bodies.Credit by.tag had given drain))
-line_of rows (lines.Settle by at ids) = Ok (of_consumer by at (bodies.Settle by.tag ids))
-line_of rows (lines.Return by at ids) = Ok (of_consumer by at (bodies.Return by.tag ids))
-line_of rows (lines.Discard by at ids) = Ok (of_consumer by at (bodies.Discard by.tag ids))
-line_of rows (lines.Cancel by at) = Ok (of_consumer by at (bodies.Cancel by.tag))
-line_of rows (lines.Purge by at) = Ok (Send at.0 by.number bodies.Purge)
-line_of rows (lines.End by) = Ok (End by.number)
 
 -- ---- bytes
 

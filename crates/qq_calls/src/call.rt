@@ -3,7 +3,7 @@ use qq_disk::Image;
 use qq_entry::Unstamped;
 
 /// What a line asks of a node. A session is a client's, by its number.
-#[derive(Debug, Drop, PartialEq)]
+#[derive(Drop)]
 pub enum Call {
     /// Nothing.
     Nothing,

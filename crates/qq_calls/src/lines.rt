@@ -2,17 +2,14 @@ ghost use Rattle.std.specs.Prelude.{◌≡◌, List, Ok, Err, Some, map, IfOk, I
 ghost use Rattle.std.specs.List.{find};
 ghost use Rattle.std.specs.Option.{option_copied, option_map};
 ghost use Rattle.qq_setup.specs.declared.queue_row.QueueRow.{QueueRow};
-ghost use Rattle.qq_entry.specs.declared.command.Unstamped.TheVariants.{Subscribe};
 ghost use Rattle.qq_script_lines.specs.Names.{named};
 ghost use Rattle.qq_script_lines.specs.Lines.{HasScriptCause, text_in};
-ghost use Rattle.qq_world.specs.Rules.{Send};
 ghost use Rattle.qq_calls.specs.Calls.{rule_of};
-ghost use Rattle.qq_calls.specs.Kinds.{IsOther, IsOfConsumer, IsOfDeliveries};
-ghost use Rattle.qq_calls.specs.Lines.{send_to, publish, send, of_consumer, line_of, target_in, target_of, is_there, ask_by, read_line};
+ghost use Rattle.qq_calls.specs.Lines.{send_to, publish, send, line_of, target_in, target_of, is_there, ask_by, read_line};
 
 use crate::call::Call;
-use qq_base::{Bytes, ConsumerId, Duplicate, Memory, QueueId, SessionId, Text};
-use qq_entry::{BODY_LIMIT, Content, Deaths, Message, Mode, Unstamped};
+use qq_base::{Bytes, Duplicate, Memory, Text};
+use qq_entry::{BODY_LIMIT, Content, Deaths, Message, Unstamped};
 use qq_script_lines::{Place, ScriptFault, ScriptLine, parse_line, parts_of, text_in, text_of};
 use qq_setup::{QueueRow, Setup};
 use std::alloc::Global;
@@ -92,132 +89,6 @@ fn send(
     }
 }
 
-// A command about a consumer.
-fn of_consumer(consumer: ConsumerId, queue: QueueId, body: Unstamped) -> Call
-    ensures { rule_of result ≡ of_consumer consumer queue body }
-{
-    Call::Send {
-        queue,
-        session: consumer.session.number,
-        body,
-    }
-}
-
-// A new consumer.
-fn subscribe(consumer: ConsumerId, queue: QueueId, mode: Mode) -> Call
-    ensures { rule_of result ≡ of_consumer consumer queue (Subscribe consumer.tag mode) }
-{
-    let tag = consumer.tag;
-    of_consumer(consumer, queue, Unstamped::Subscribe { tag, mode })
-}
-
-// A command of a session that says nothing more.
-fn of_session(session: SessionId, queue: QueueId, body: Unstamped) -> Call
-    ensures { rule_of result ≡ Send queue.0 session.number body }
-{
-    Call::Send {
-        queue,
-        session: session.number,
-        body,
-    }
-}
-
-// What a line about deliveries asks of a node.
-#[tactic(auto, unfolding(crate::specs::Lines::line_of))]
-fn delivery_call(said: ScriptLine) -> Call
-    requires { IsOfDeliveries said }
-    ensures { (rows : List QueueRow) → line_of rows said ≡ Ok (rule_of result) }
-{
-    match said {
-        ScriptLine::Settle {
-            consumer,
-            queue,
-            ids,
-        } => {
-            let tag = consumer.tag;
-            of_consumer(consumer, queue, Unstamped::Settle { tag, ids })
-        }
-        ScriptLine::Return {
-            consumer,
-            queue,
-            ids,
-        } => {
-            let tag = consumer.tag;
-            of_consumer(consumer, queue, Unstamped::Return { tag, ids })
-        }
-        ScriptLine::Discard {
-            consumer,
-            queue,
-            ids,
-        } => {
-            let tag = consumer.tag;
-            of_consumer(consumer, queue, Unstamped::Discard { tag, ids })
-        }
-        _ => unreachable!(),
-    }
-}
-
-// What a line about a consumer asks of a node.
-#[tactic(auto, unfolding(crate::specs::Lines::line_of))]
-fn consumer_call(said: ScriptLine) -> Call
-    requires { IsOfConsumer said }
-    ensures { (rows : List QueueRow) → line_of rows said ≡ Ok (rule_of result) }
-{
-    match said {
-        ScriptLine::Subscribe {
-            consumer,
-            queue,
-            prefetch,
-        } => {
-            let mode = Mode::Prefetch(prefetch);
-            subscribe(consumer, queue, mode)
-        }
-        ScriptLine::Link { consumer, queue } => subscribe(consumer, queue, Mode::Link),
-        ScriptLine::Credit {
-            consumer,
-            queue,
-            count,
-            credit,
-            drain,
-        } => {
-            let tag = consumer.tag;
-            let body = Unstamped::Credit {
-                tag,
-                count,
-                credit,
-                drain,
-            };
-            of_consumer(consumer, queue, body)
-        }
-        ScriptLine::Cancel { consumer, queue } => {
-            let tag = consumer.tag;
-            of_consumer(consumer, queue, Unstamped::Cancel { tag })
-        }
-        said => delivery_call(said),
-    }
-}
-
-// What a line asks of a node that says neither a session nor a message: one of the node itself, or of a consumer.
-#[tactic(auto, unfolding(crate::specs::Lines::line_of))]
-fn other_call(said: ScriptLine) -> Call
-    requires { IsOther said }
-    ensures { (rows : List QueueRow) → line_of rows said ≡ Ok (rule_of result) }
-{
-    match said {
-        ScriptLine::Manual => Call::Auto { auto: false },
-        ScriptLine::Auto => Call::Auto { auto: true },
-        ScriptLine::Pump => Call::Pump,
-        ScriptLine::Write { .. } => Call::Write,
-        ScriptLine::Sync { .. } => Call::Sync,
-        ScriptLine::Notice { queue, .. } => Call::Notice { queue },
-        ScriptLine::Tick { queue, .. } => Call::Tick { queue },
-        ScriptLine::Crash { image, .. } => Call::Crash { image },
-        ScriptLine::Restart { .. } => Call::Restart,
-        ScriptLine::Show { queue } => Call::Show { queue },
-        said => consumer_call(said),
-    }
-}
-
 /// What a line asks of a node of these queues.
 ///
 /// - `ok`: it is the line's call.
@@ -237,23 +108,34 @@ pub fn call_of(alloc: Global, rows: &[QueueRow], said: ScriptLine) -> Result<Cal
             key,
             body,
         } => send(alloc, rows, session.number, &exchange, &key, body),
-        ScriptLine::Get { session, queue } => Ok(of_session(session, queue, Unstamped::Get)),
-        ScriptLine::Purge { session, queue } => Ok(of_session(session, queue, Unstamped::Purge)),
-        ScriptLine::Resend { session } => Ok(Call::Resend {
+        ScriptLine::Client {
+            session,
+            queue,
+            body,
+        } => Ok(Call::Send {
+            queue,
             session: session.number,
-        }),
-        ScriptLine::Mute { session } => Ok(Call::Mute {
-            session: session.number,
-            muted: true,
-        }),
-        ScriptLine::Unmute { session } => Ok(Call::Mute {
-            session: session.number,
-            muted: false,
+            body,
         }),
         ScriptLine::End { session } => Ok(Call::End {
             session: session.number,
         }),
-        said => Ok(other_call(said)),
+        ScriptLine::Resend { session } => Ok(Call::Resend {
+            session: session.number,
+        }),
+        ScriptLine::Mute { session, muted } => Ok(Call::Mute {
+            session: session.number,
+            muted,
+        }),
+        ScriptLine::Pace { auto } => Ok(Call::Auto { auto }),
+        ScriptLine::Pump => Ok(Call::Pump),
+        ScriptLine::Write { .. } => Ok(Call::Write),
+        ScriptLine::Sync { .. } => Ok(Call::Sync),
+        ScriptLine::Notice { queue, .. } => Ok(Call::Notice { queue }),
+        ScriptLine::Tick { queue, .. } => Ok(Call::Tick { queue }),
+        ScriptLine::Crash { image, .. } => Ok(Call::Crash { image }),
+        ScriptLine::Restart { .. } => Ok(Call::Restart),
+        ScriptLine::Show { queue } => Ok(Call::Show { queue }),
     }
 }
 

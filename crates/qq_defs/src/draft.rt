@@ -1,8 +1,9 @@
-ghost use Rattle.std.specs.Prelude.{◌≡◌, ◌<◌, ◌-◌, ◌+◌, ◌^◌, Some, None, OnOk, IsOkUnless};
+ghost use Rattle.std.specs.Prelude.{◌≡◌, ◌<◌, ◌-◌, ◌+◌, ◌^◌, Some, None, OnOk, IfOk, IsOkUnless};
 ghost use Rattle.std.specs.BTreeMap.{get_by_text};
+ghost use Rattle.qq_setup.specs.Members.{members};
 ghost use Rattle.qq_defs.specs.Draft.{state_of, more, put_name, before, next_queue, skip, declare, count_other};
 
-use qq_base::{Memory, QueueId, Text};
+use qq_base::{Memory, QueueId, Text, both};
 use qq_entry::QueueArgs;
 use qq_route::Routes;
 use qq_setup::{Made, QueueRow, QueueRows, members};
@@ -33,6 +34,33 @@ fn put_name(
 {
     names.insert(String::from_str(alloc, name)?, queue)?;
     Ok(())
+}
+
+// A queue behind so many others.
+fn row_of(
+    alloc: Global,
+    nodes: u8,
+    before: u32,
+    name: &str,
+    args: QueueArgs,
+) -> Result<QueueRow, Memory>
+    requires { 0 < nodes }
+    ensures ok { IfOk result (λ row. row
+        ≡ record { name = name.now; args = args; members = members nodes args.group before }) }
+    ensures want { IsOkUnless result Memory.Want }
+{
+    let members = members(alloc, nodes, args.group, before);
+    match both(Text::from_str(alloc, name), members) {
+        Ok((name, members)) => Ok(QueueRow {
+            name,
+            args,
+            members,
+        }),
+        Err(cause) => {
+            drop(args);
+            Err(cause)
+        }
+    }
 }
 
 impl Draft {
@@ -83,15 +111,11 @@ impl Draft {
         ensures want { IsOkUnless result Memory.Want }
     {
         let queue = args.queue;
-        let members = members(alloc, nodes, args.group, self.before())?;
-        let name_text = Text::from_str(alloc, name)?;
+        let row = row_of(alloc, nodes, self.before(), name, args)?;
+        self.rows.push(row)?;
         put_name(&mut self.names, alloc, name, Some(queue))?;
-        self.routes.add_queue(alloc, &name_text, queue)?;
-        self.rows.push(QueueRow {
-            name: name_text,
-            args,
-            members,
-        })?;
+        let name = Text::from_str(alloc, name)?;
+        self.routes.add_queue(alloc, &name, queue)?;
         self.made.queues = self.made.queues.saturating_add(1);
         Ok(())
     }

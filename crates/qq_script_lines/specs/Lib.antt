@@ -1,7 +1,7 @@
 pub mod Bodies
-pub mod Calls
+pub mod Arguments
 pub mod Images
-pub mod Kinds
+pub mod Commands
 pub mod Lines
 pub mod Names
 pub mod Numbers

@@ -1,23 +1,19 @@
 -- The lines of a script.
-use Rattle.std.specs.Prelude.{◌≡◌, ℕ, List, [], ◌∷◌, Bool, true, ◌&&◌, ◌||◌, nat_lt, length, take, drop, codes, Option, Some, None, Result, Ok, Err, if◌then◌else◌}
+use Rattle.std.specs.Prelude.{◌≡◌, ℕ, List, [], ◌∷◌, Bool, true, false, ◌&&◌, ◌||◌, nat_lt, length, take, drop, codes, Option, Some, None, Result, Ok, Err, if◌then◌else◌}
 use Rattle.std.specs.Str.{bytes_eq, is_utf8}
 use Rattle.qq_base.specs.declared.memory.Memory.TheVariants.{Want}
 use Rattle.qq_setup.specs.declared.setup.Setup.{Setup}
 use Rattle.qq_script_lines.specs.declared.fault.ScriptFault.{ScriptFault}
 use Rattle.qq_script_lines.specs.declared.fault.ScriptFault.TheVariants.{TooLong, Unknown, Words, Session, Memory}
-use Rattle.qq_script_lines.specs.declared.kind.Kind.{Kind}
-use Rattle.qq_script_lines.specs.declared.kind.Kind.TheVariants as kinds
-use Rattle.qq_script_lines.specs.declared.kind.PlainKind.{PlainKind}
-use Rattle.qq_script_lines.specs.declared.kind.PlainKind.TheVariants as plains
 use Rattle.qq_script_lines.specs.declared.line.Place.{Place}
 use Rattle.qq_script_lines.specs.declared.line.TheConstants.{LINE_LIMIT}
 use Rattle.qq_script_lines.specs.declared.line.ScriptLine.{ScriptLine}
 use Rattle.qq_script_lines.specs.declared.line.ScriptLine.TheVariants as lines
-use Rattle.qq_script_lines.specs.Words.{◌>>=◌, words_of}
+use Rattle.qq_script_lines.specs.Words.{◌>>=◌, make, words_of}
 use Rattle.qq_script_lines.specs.Numbers.{is_empty}
 use Rattle.qq_script_lines.specs.Bodies.{begins_with}
-use Rattle.qq_script_lines.specs.Kinds.{kind_of, is_client}
-use Rattle.qq_script_lines.specs.Calls.{alone, one_session, one_queue, one_node, some_nodes, one_member, session_at, consumer_at, get, subscribe, credit, deliveries, crash, send, publish}
+use Rattle.qq_script_lines.specs.Arguments.{no_word, one_session, one_queue, one_node, some_nodes, one_member, crash, send, publish}
+use Rattle.qq_script_lines.specs.Commands.{client_line}
 
 -- an empty line, or a comment: a semicolon and any text
 abbrev pub is_nothing : List ℕ → Bool
@@ -27,53 +23,70 @@ is_nothing line = is_empty line || (begins_with 59 line && is_utf8 line)
 abbrev pub publish_text : List ℕ → Option (List ℕ)
 publish_text line = if bytes_eq (take 8 line) (codes "publish ") then Some (drop 8 line) else None
 
--- a line without a text, a list or an image
-unfoldable pub read_plain : Setup → PlainKind → List (List ℕ) → Result ScriptLine ScriptFault
-read_plain s plains.Get words = get s words
-read_plain s plains.Subscribe words = subscribe s words
-read_plain s plains.Link words = consumer_at s words >>= λ p. Ok (lines.Link p.0 p.1)
-read_plain s plains.Credit words = credit s words
-read_plain s plains.Cancel words = consumer_at s words >>= λ p. Ok (lines.Cancel p.0 p.1)
-read_plain s plains.Purge words = session_at s words >>= λ p. Ok (lines.Purge p.0 p.1)
-read_plain s plains.End words = one_session words >>= λ by. Ok (lines.End by)
-read_plain s plains.Resend words = one_session words >>= λ by. Ok (lines.Resend by)
-read_plain s plains.Mute words = one_session words >>= λ by. Ok (lines.Mute by)
-read_plain s plains.Unmute words = one_session words >>= λ by. Ok (lines.Unmute by)
-read_plain s plains.Manual words = alone lines.Manual words
-read_plain s plains.Auto words = alone lines.Auto words
-read_plain s plains.Pump words = alone lines.Pump words
-read_plain s plains.Write words = one_node s words >>= λ node. Ok (lines.Write node)
-read_plain s plains.Sync words = one_node s words >>= λ node. Ok (lines.Sync node)
-read_plain s plains.Notice words = one_member s words >>= λ p. Ok (lines.Notice p.0 p.1)
-read_plain s plains.Tick words = one_member s words >>= λ p. Ok (lines.Tick p.0 p.1)
-read_plain s plains.Restart words = some_nodes s words >>= λ nodes. Ok (lines.Restart nodes)
-read_plain s plains.Show words = one_queue s words >>= λ at. Ok (lines.Show at)
+-- ---- lines by their first word, and the words behind it
 
--- What a whole line of this kind says, by the words behind its first one. Without a blank `publish` has no body.
-unfoldable pub read : Setup → Kind → List ℕ → List (List ℕ) → Result ScriptLine ScriptFault
-read s kinds.Publish line words = Err Words
-read s kinds.Send line words = send line words
-read s (kinds.Deliveries disposition) line words = deliveries disposition s words
-read s kinds.Crash line words = crash s words
-read s (kinds.Plain kind) line words = read_plain s kind words
+-- a line about nodes, None where the word is of no such line
+unfoldable pub node_line : Setup → List ℕ → List (List ℕ) → Result (Option ScriptLine) ScriptFault
+node_line s word words =
+    if bytes_eq word (codes "write") then make (λ node. Some (lines.Write node)) (one_node s words)
+    else if bytes_eq word (codes "sync") then make (λ node. Some (lines.Sync node)) (one_node s words)
+    else if bytes_eq word (codes "notice") then make (λ p. Some (lines.Notice p.0 p.1)) (one_member s words)
+    else if bytes_eq word (codes "tick") then make (λ p. Some (lines.Tick p.0 p.1)) (one_member s words)
+    else if bytes_eq word (codes "restart") then make (λ of. Some (lines.Restart of)) (some_nodes s words)
+    else if bytes_eq word (codes "show") then make (λ at. Some (lines.Show at)) (one_queue s words)
+    else Ok None
 
--- Whether a line of this kind may stand there: a client's section has its own lines alone. Bodies stand in such lines, so
--- none of them is looked at before the place.
-abbrev pub may_stand : Option ℕ → Kind → Bool
-may_stand None kind = true
-may_stand (Some section) kind = is_client kind
+-- a line about a whole session or the pace, or one about nodes
+unfoldable pub plain_line : Setup → List ℕ → List (List ℕ) → Result (Option ScriptLine) ScriptFault
+plain_line s word words =
+    if bytes_eq word (codes "end") then make (λ by. Some (lines.End by)) (one_session words)
+    else if bytes_eq word (codes "resend") then make (λ by. Some (lines.Resend by)) (one_session words)
+    else if bytes_eq word (codes "mute") then make (λ by. Some (lines.Mute by true)) (one_session words)
+    else if bytes_eq word (codes "unmute") then make (λ by. Some (lines.Mute by false)) (one_session words)
+    else if bytes_eq word (codes "manual") then make (λ _. Some (lines.Pace false)) (no_word words)
+    else if bytes_eq word (codes "auto") then make (λ _. Some (lines.Pace true)) (no_word words)
+    else if bytes_eq word (codes "pump") then make (λ _. Some lines.Pump) (no_word words)
+    else node_line s word words
 
-abbrev pub in_place : Place → Kind → ScriptLine → Result ScriptLine ScriptFault
-in_place place kind said = if may_stand place.section kind then Ok said else Err Session
+-- a plain line, where it is one, or a client's at a queue
+abbrev pub or_client : Setup → List ℕ → List (List ℕ) → Option ScriptLine → Result ScriptLine ScriptFault
+or_client s word words (Some said) = Ok said
+or_client s word words None = client_line s word words
 
--- a line by its first word
-abbrev pub read_as : Setup → Place → List ℕ → List (List ℕ) → Option Kind → Result ScriptLine ScriptFault
-read_as s place line words None = Err Unknown
-read_as s place line words (Some kind) = read s kind line words >>= in_place place kind
+abbrev pub plain_or_client : Setup → List ℕ → List (List ℕ) → Result ScriptLine ScriptFault
+plain_or_client s word words = plain_line s word words >>= or_client s word words
+
+-- What a whole line says. Without a blank `publish` has no body.
+unfoldable pub read : Setup → List ℕ → List ℕ → List (List ℕ) → Result ScriptLine ScriptFault
+read s line word words =
+    if bytes_eq word (codes "publish") then Err Words
+    else if bytes_eq word (codes "send") then send line words
+    else if bytes_eq word (codes "crash") then crash s words
+    else plain_or_client s word words
+
+-- ---- lines where they stand
+
+-- the lines that a client's section may have: its messages and commands, its end, and what it sends again
+abbrev pub is_client : ScriptLine → Bool
+is_client (lines.Publish body) = true
+is_client (lines.Send by exchange key body) = true
+is_client (lines.Client by at command) = true
+is_client (lines.End by) = true
+is_client (lines.Resend by) = true
+is_client _ = false
+
+-- Whether this line may stand there: a client's section has its own lines alone. Bodies stand in such lines, so none of
+-- them is looked at before the place.
+abbrev pub may_stand : Option ℕ → ScriptLine → Bool
+may_stand None said = true
+may_stand (Some section) said = is_client said
+
+abbrev pub in_place : Place → ScriptLine → Result ScriptLine ScriptFault
+in_place place said = if may_stand place.section said then Ok said else Err Session
 
 abbrev pub read_words : Setup → Place → List ℕ → List (List ℕ) → Result ScriptLine ScriptFault
 read_words s place line [] = Err Unknown
-read_words s place line (word ∷ words) = read_as s place line words (kind_of word)
+read_words s place line (word ∷ words) = read s line word words >>= in_place place
 
 -- a line where it is UTF-8
 abbrev pub text_in : List ℕ → Option (List ℕ)

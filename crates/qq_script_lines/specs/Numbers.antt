@@ -1,9 +1,8 @@
 -- The numbers in a line: decimal, without leading zeros.
 use Rattle.std.specs.Prelude.{ℕ, ◌+◌, ◌-◌, ◌*◌, ◌^◌, ◌==◌, ◌&&◌, nat_le, Bool, true, false, not, List, [], ◌∷◌, length, fold, Option, Some, None, if◌then◌else◌}
 use Rattle.std.specs.List.{list_all, slice_split}
-use Rattle.std.specs.Option.{option_map, option_and_then}
+use Rattle.std.specs.Option.{option_map}
 use Rattle.qq_base.specs.declared.ids.SessionId.{SessionId}
-use Rattle.qq_base.specs.declared.ids.ConsumerId.{ConsumerId}
 use Rattle.qq_base.specs.Ids.{client}
 use Rattle.qq_entry.specs.declared.limits.TheConstants.{IDS_LIMIT}
 
@@ -51,10 +50,6 @@ session_of word = option_map client (number_in 1 (2 ^ 32 - 1) word)
 
 abbrev pub tag_of : List ℕ → Option ℕ
 tag_of word = number_in 1 (2 ^ 32 - 1) word
-
-abbrev pub consumer_of : List ℕ → List ℕ → Option ConsumerId
-consumer_of session tag =
-    option_and_then (λ by. option_map (λ t. record { session = by; tag = t }) (tag_of tag)) (session_of session)
 
 abbrev pub id_of : List ℕ → Option ℕ
 id_of word = number_in 1 (2 ^ 64 - 1) word

@@ -34,3 +34,8 @@ abbrev pub ◌>>=◌ : {A B : Type 0} → Result A ScriptFault → (A → Result
 abbrev pub or_fault : {A : Type 0} → ScriptFault → Option A → Result A ScriptFault
 or_fault fault None = Err fault
 or_fault fault (Some x) = Ok x
+
+-- what is made of what was read
+abbrev pub make : {A B : Type 0} → (A → B) → Result A ScriptFault → Result B ScriptFault
+make f (Ok x) = Ok (f x)
+make f (Err fault) = Err fault

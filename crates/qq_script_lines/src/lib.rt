@@ -1,11 +1,11 @@
 //! What a script and the words of its command say: lines, and the options behind `script`. No input is read here.
 #![tactic(auto)]
 
+mod arguments;
 mod bodies;
-mod calls;
+mod commands;
 mod fault;
 mod images;
-mod kind;
 mod laws;
 mod line;
 mod names;

@@ -1,11 +1,12 @@
-use qq_base::{Bytes, ConsumerId, Ids, NodeId, QueueId, SessionId, Text};
+use qq_base::{Bytes, NodeId, QueueId, SessionId, Text};
 use qq_disk::Image;
+use qq_entry::Unstamped;
 
 /// The most bytes of a line, without its line feed.
 pub const LINE_LIMIT: usize = 70_000;
 
 /// The nodes that a line is about.
-#[derive(Clone, Copy, Debug, PartialEq, Eq)]
+#[derive(Clone, Copy)]
 pub enum Nodes {
     /// `N`: this one.
     One(NodeId),
@@ -14,7 +15,7 @@ pub enum Nodes {
 }
 
 /// Where a line stands.
-#[derive(Clone, Copy, Debug, PartialEq, Eq)]
+#[derive(Clone, Copy)]
 pub struct Place {
     /// Its number in the script, from 1.
     pub number: u64,
@@ -25,7 +26,7 @@ pub struct Place {
 }
 
 /// A line of a script. A session stands for a client, and each node and queue that is named is there.
-#[derive(Debug, Drop, PartialEq)]
+#[derive(Drop)]
 pub enum ScriptLine {
     /// An empty line, or a comment: `;` and any text.
     Nothing,
@@ -43,60 +44,23 @@ pub enum ScriptLine {
         key: Text,
         body: Bytes,
     },
-    /// `get S Q`: the next message. `get` alone is of session 1 and the first queue.
-    Get {
+    /// A client's command at a queue:
+    ///
+    /// - `get S Q`: the next message. `get` alone is of session 1 and the first queue.
+    /// - `subscribe S Q T P`: a new consumer that gets so many messages ahead.
+    /// - `link S Q T`: a new consumer that gets messages by the credit that it gives.
+    /// - `credit S Q T COUNT CREDIT drain`, or `keep` as its last word: a consumer's link credit, how many
+    ///   deliveries it has had so far and how many it may have beyond these, and whether credit that no message
+    ///   meets is used up at once.
+    /// - `settle S Q T IDS`: deliveries are done with.
+    /// - `return S Q T IDS`: deliveries go back to the queue.
+    /// - `discard S Q T IDS`: deliveries are dead-lettered.
+    /// - `cancel S Q T`: a consumer gets no more.
+    /// - `purge S Q`: all ready messages go.
+    Client {
         session: SessionId,
         queue: QueueId,
-    },
-    /// `subscribe S Q T P`: a new consumer that gets so many messages ahead.
-    Subscribe {
-        consumer: ConsumerId,
-        queue: QueueId,
-        prefetch: u16,
-    },
-    /// `link S Q T`: a new consumer that gets messages by the credit that it gives.
-    Link {
-        consumer: ConsumerId,
-        queue: QueueId,
-    },
-    /// `credit S Q T COUNT CREDIT drain`, or `keep` as its last word: a consumer's link credit.
-    Credit {
-        consumer: ConsumerId,
-        queue: QueueId,
-        /// How many deliveries the consumer has had so far.
-        count: u32,
-        /// How many it may have beyond these.
-        credit: u32,
-        /// Whether credit that no message meets is used up at once.
-        drain: bool,
-    },
-    /// `settle S Q T IDS`: deliveries are done with.
-    Settle {
-        consumer: ConsumerId,
-        queue: QueueId,
-        ids: Ids,
-    },
-    /// `return S Q T IDS`: deliveries go back to the queue.
-    Return {
-        consumer: ConsumerId,
-        queue: QueueId,
-        ids: Ids,
-    },
-    /// `discard S Q T IDS`: deliveries are dead-lettered.
-    Discard {
-        consumer: ConsumerId,
-        queue: QueueId,
-        ids: Ids,
-    },
-    /// `cancel S Q T`: a consumer gets no more.
-    Cancel {
-        consumer: ConsumerId,
-        queue: QueueId,
-    },
-    /// `purge S Q`: all ready messages go.
-    Purge {
-        session: SessionId,
-        queue: QueueId,
+        body: Unstamped,
     },
     /// `end S`: the session ends at each queue.
     End {
@@ -106,18 +70,16 @@ pub enum ScriptLine {
     Resend {
         session: SessionId,
     },
-    /// `mute S`: from here on answers and deliveries are lost.
+    /// `mute S`: from here on answers and deliveries are lost. `unmute S`: they come again.
     Mute {
         session: SessionId,
+        muted: bool,
     },
-    /// `unmute S`: they come again.
-    Unmute {
-        session: SessionId,
+    /// `manual`: only the lines below make anything happen. `auto`: after each client's line all that waits is
+    /// done.
+    Pace {
+        auto: bool,
     },
-    /// `manual`: only the lines below make anything happen.
-    Manual,
-    /// `auto`: after each client's line all that waits is done.
-    Auto,
     /// `pump`: all that waits is done.
     Pump,
     /// `write N`: what waits at a node is appended to its log.

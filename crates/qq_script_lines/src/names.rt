@@ -2,7 +2,7 @@ ghost use Rattle.std.specs.Prelude.{◌≡◌, IfErr};
 ghost use Rattle.std.specs.List.{find};
 ghost use Rattle.std.specs.Option.{option_copied};
 ghost use Rattle.qq_script_lines.specs.Names.{named, behind_hash, numbered, row_of, node_of, is_member};
-ghost use Rattle.qq_script_lines.specs.Calls.{queue_of, first_queue, nodes_of, queue_at};
+ghost use Rattle.qq_script_lines.specs.Arguments.{queue_of, first_queue, nodes_of, queue_at};
 ghost use Rattle.qq_script_lines.specs.Lines.{IsOfLine};
 
 use crate::fault::ScriptFault;

@@ -1,10 +1,10 @@
 ghost use Rattle.std.specs.Prelude.{◌≡◌, ◌≤◌, ◌^◌, ◌<◌, map, length, IfOk, IfSome, IsOkUnless};
 ghost use Rattle.std.specs.List.{list_all};
 ghost use Rattle.std.specs.Option.{option_map};
-ghost use Rattle.qq_script_lines.specs.Numbers.{is_digit, has_leading_zero, is_number, number_in, session_of, tag_of, consumer_of, id_of, all_ids, ids_of};
+ghost use Rattle.qq_script_lines.specs.Numbers.{is_digit, has_leading_zero, is_number, number_in, session_of, tag_of, id_of, all_ids, ids_of};
 
 use crate::words::parts_of;
-use qq_base::{ConsumerId, Ids, Memory, SessionId};
+use qq_base::{Ids, Memory, SessionId};
 use qq_entry::IDS_LIMIT;
 use std::alloc::Global;
 
@@ -69,24 +69,12 @@ pub fn session_of(word: &str) -> Option<SessionId>
     }
 }
 
-fn tag_of(word: &str) -> Option<u32>
+/// A consumer's tag, from 1.
+pub fn tag_of(word: &str) -> Option<u32>
     ensures { result ≡ tag_of word.now }
 {
     match number_in(1, 4_294_967_295, word) {
         Some(tag) => Some(tag as u32),
-        None => None,
-    }
-}
-
-/// A consumer by its session's number and its tag.
-pub fn consumer_of(session: &str, tag: &str) -> Option<ConsumerId>
-    ensures { result ≡ consumer_of session.now tag.now }
-{
-    let Some(session) = session_of(session) else {
-        return None;
-    };
-    match tag_of(tag) {
-        Some(tag) => Some(ConsumerId { session, tag }),
         None => None,
     }
 }

@@ -1,15 +1,14 @@
 ghost use Rattle.std.specs.Prelude.{◌≡◌, map, Ok, IfOk, IfErr};
 ghost use Rattle.std.specs.Option.{option_map};
 ghost use Rattle.std.specs.Str.{is_utf8};
-ghost use Rattle.qq_script_lines.specs.Lines.{is_nothing, publish_text, read_plain, read, in_place, read_words, text_in, read_text, parse_line, HasScriptCause, IsOfLine};
+ghost use Rattle.qq_script_lines.specs.Lines.{is_nothing, publish_text, node_line, plain_line, plain_or_client, read, is_client, in_place, read_words, text_in, read_text, parse_line, HasScriptCause, IsOfLine};
 
-use crate::bodies::begins_with;
-use crate::calls::{
-    alone, consumer_at, crash, credit, deliveries, get, one_member, one_node, one_queue,
-    one_session, publish, send, session_at, some_nodes, subscribe,
+use crate::arguments::{
+    crash, no_word, one_member, one_node, one_queue, one_session, publish, send, some_nodes,
 };
+use crate::bodies::begins_with;
+use crate::commands::client_line;
 use crate::fault::ScriptFault;
-use crate::kind::{Kind, PlainKind};
 use crate::line::{LINE_LIMIT, Place, ScriptLine};
 use crate::words::parts_of;
 use qq_setup::Setup;
@@ -44,99 +43,138 @@ fn publish_text(line: &[u8]) -> Option<&[u8]>
     None
 }
 
-// What a line without a text, a list or an image says.
-#[tactic(auto, unfolding(crate::specs::Lines::read_plain))]
-fn read_plain(setup: &Setup, kind: PlainKind, words: &[&str]) -> Result<ScriptLine, ScriptFault>
-    ensures said { result ≡ read_plain setup.now kind (map (λ w. w.now) words.now) }
+// A line about nodes.
+#[tactic(auto, unfolding(crate::specs::Lines::node_line))]
+fn node_line(setup: &Setup, word: &str, words: &[&str]) -> Result<Option<ScriptLine>, ScriptFault>
+    ensures said { result ≡ node_line setup.now word.now (map (λ w. w.now) words.now) }
     ensures fault { IfErr result IsOfLine }
 {
-    Ok(match kind {
-        PlainKind::Get => return get(setup, words),
-        PlainKind::Subscribe => return subscribe(setup, words),
-        PlainKind::Credit => return credit(setup, words),
-        PlainKind::Link => {
-            let (consumer, queue) = consumer_at(setup, words)?;
-            ScriptLine::Link { consumer, queue }
-        }
-        PlainKind::Cancel => {
-            let (consumer, queue) = consumer_at(setup, words)?;
-            ScriptLine::Cancel { consumer, queue }
-        }
-        PlainKind::Purge => {
-            let (session, queue) = session_at(setup, words)?;
-            ScriptLine::Purge { session, queue }
-        }
-        PlainKind::End => ScriptLine::End {
-            session: one_session(words)?,
-        },
-        PlainKind::Resend => ScriptLine::Resend {
-            session: one_session(words)?,
-        },
-        PlainKind::Mute => ScriptLine::Mute {
-            session: one_session(words)?,
-        },
-        PlainKind::Unmute => ScriptLine::Unmute {
-            session: one_session(words)?,
-        },
-        PlainKind::Manual => return alone(ScriptLine::Manual, words),
-        PlainKind::Auto => return alone(ScriptLine::Auto, words),
-        PlainKind::Pump => return alone(ScriptLine::Pump, words),
-        PlainKind::Write => ScriptLine::Write {
+    Ok(Some(match word {
+        "write" => ScriptLine::Write {
             node: one_node(setup, words)?,
         },
-        PlainKind::Sync => ScriptLine::Sync {
+        "sync" => ScriptLine::Sync {
             node: one_node(setup, words)?,
         },
-        PlainKind::Notice => {
+        "notice" => {
             let (node, queue) = one_member(setup, words)?;
             ScriptLine::Notice { node, queue }
         }
-        PlainKind::Tick => {
+        "tick" => {
             let (node, queue) = one_member(setup, words)?;
             ScriptLine::Tick { node, queue }
         }
-        PlainKind::Restart => ScriptLine::Restart {
+        "restart" => ScriptLine::Restart {
             nodes: some_nodes(setup, words)?,
         },
-        PlainKind::Show => ScriptLine::Show {
+        "show" => ScriptLine::Show {
             queue: one_queue(setup, words)?,
         },
-    })
+        _ => return Ok(None),
+    }))
 }
 
-// What a line of this kind says.
-#[tactic(auto, using(crate::proofs::Causes::line_cause), unfolding(crate::specs::Lines::read))]
-fn read(
+// A line about a whole session or the pace, or one about nodes.
+#[tactic(auto, unfolding(crate::specs::Lines::plain_line))]
+fn plain_line(setup: &Setup, word: &str, words: &[&str]) -> Result<Option<ScriptLine>, ScriptFault>
+    ensures said { result ≡ plain_line setup.now word.now (map (λ w. w.now) words.now) }
+    ensures fault { IfErr result IsOfLine }
+{
+    Ok(Some(match word {
+        "end" => ScriptLine::End {
+            session: one_session(words)?,
+        },
+        "resend" => ScriptLine::Resend {
+            session: one_session(words)?,
+        },
+        "mute" => ScriptLine::Mute {
+            session: one_session(words)?,
+            muted: true,
+        },
+        "unmute" => ScriptLine::Mute {
+            session: one_session(words)?,
+            muted: false,
+        },
+        "manual" => {
+            no_word(words)?;
+            ScriptLine::Pace { auto: false }
+        }
+        "auto" => {
+            no_word(words)?;
+            ScriptLine::Pace { auto: true }
+        }
+        "pump" => {
+            no_word(words)?;
+            ScriptLine::Pump
+        }
+        _ => return node_line(setup, word, words),
+    }))
+}
+
+// A plain line, where it is one, or a client's at a queue.
+#[tactic(auto, using(crate::proofs::Causes::line_cause))]
+fn plain_or_client(
     alloc: Global,
     setup: &Setup,
-    kind: Kind,
-    line: &str,
+    word: &str,
     words: &[&str],
 ) -> Result<ScriptLine, ScriptFault>
     ensures ok { IfOk result (λ said.
-        read setup.now kind line.now (map (λ w. w.now) words.now) ≡ Ok said) }
+        plain_or_client setup.now word.now (map (λ w. w.now) words.now) ≡ Ok said) }
     ensures cause { IfErr result (λ e.
-        HasScriptCause e (read setup.now kind line.now (map (λ w. w.now) words.now))) }
+        HasScriptCause e (plain_or_client setup.now word.now (map (λ w. w.now) words.now))) }
 {
-    match kind {
-        Kind::Publish => Err(ScriptFault::Words),
-        Kind::Send => send(alloc, line, words),
-        Kind::Deliveries(disposition) => deliveries(alloc, disposition, setup, words),
-        Kind::Crash => crash(alloc, setup, words),
-        Kind::Plain(plain) => match read_plain(setup, plain, words) {
-            Ok(said) => Ok(said),
-            Err(fault) => Err(fault),
-        },
+    match plain_line(setup, word, words) {
+        Ok(Some(said)) => Ok(said),
+        Ok(None) => client_line(alloc, setup, word, words),
+        Err(fault) => Err(fault),
+    }
+}
+
+// What a whole line says, by its first word and the words behind it.
+#[tactic(auto, unfolding(crate::specs::Lines::read))]
+fn read(
+    alloc: Global,
+    setup: &Setup,
+    line: &str,
+    word: &str,
+    words: &[&str],
+) -> Result<ScriptLine, ScriptFault>
+    ensures ok { IfOk result (λ said.
+        read setup.now line.now word.now (map (λ w. w.now) words.now) ≡ Ok said) }
+    ensures cause { IfErr result (λ e.
+        HasScriptCause e (read setup.now line.now word.now (map (λ w. w.now) words.now))) }
+{
+    match word {
+        "publish" => Err(ScriptFault::Words),
+        "send" => send(alloc, line, words),
+        "crash" => crash(alloc, setup, words),
+        _ => plain_or_client(alloc, setup, word, words),
+    }
+}
+
+// Whether a client's section may have it.
+fn is_client(said: &ScriptLine) -> bool
+    ensures { result ≡ is_client said.now }
+{
+    match said {
+        ScriptLine::Publish { .. }
+        | ScriptLine::Send { .. }
+        | ScriptLine::Client { .. }
+        | ScriptLine::End { .. }
+        | ScriptLine::Resend { .. } => true,
+        _ => false,
     }
 }
 
 // A line may stand in a place, where its kind may.
-fn in_place(place: Place, kind: Kind, said: ScriptLine) -> Result<ScriptLine, ScriptFault>
-    ensures { result ≡ in_place place kind said }
+fn in_place(place: Place, said: ScriptLine) -> Result<ScriptLine, ScriptFault>
+    ensures { result ≡ in_place place said }
 {
-    if place.section.is_none() || kind.is_client() {
+    if place.section.is_none() || is_client(&said) {
         return Ok(said);
     }
+    drop(said);
     Err(ScriptFault::Session)
 }
 
@@ -155,11 +193,8 @@ fn read_words(
     let [word, words @ ..] = words else {
         return Err(ScriptFault::Unknown);
     };
-    let Some(kind) = Kind::of(word) else {
-        return Err(ScriptFault::Unknown);
-    };
-    match read(alloc, setup, kind, line, words) {
-        Ok(said) => in_place(place, kind, said),
+    match read(alloc, setup, line, word, words) {
+        Ok(said) => in_place(place, said),
         Err(fault) => Err(fault),
     }
 }

@@ -186,19 +186,27 @@ impl Publishing {
         ensures cause { IfErr result (λ fault. HasHandCause fault self.old) }
     {
         if self.open_count() as u64 >= WINDOW {
+            drop(body);
             return Err(HandFault::WindowFull);
         }
         if self.next == NUMBER_END {
+            drop(body);
             return Err(HandFault::Memory(Memory::Spent { number: NUMBER_END }));
         }
         let command = stamped(self.next_stamp(), body);
         let kept = match command.copy(alloc) {
             Ok(kept) => kept,
-            Err(_) => return Err(HandFault::Memory(Memory::Want)),
+            Err(_) => {
+                drop(command);
+                return Err(HandFault::Memory(Memory::Want));
+            }
         };
         match self.open_next(kept) {
             Ok(()) => Ok(command),
-            Err(_) => Err(HandFault::Memory(Memory::Want)),
+            Err(_) => {
+                drop(command);
+                Err(HandFault::Memory(Memory::Want))
+            }
         }
     }
 

@@ -1,0 +1,183 @@
+//! What the words behind a line's first one say.
+ghost use Rattle.std.specs.Prelude.{◌≡◌, map, Ok, IfOk, IfErr};
+ghost use Rattle.qq_script_lines.specs.Arguments.{no_word, one_session, one_queue, one_node, some_nodes, one_member, crash, key_of, send_to, send, publish};
+ghost use Rattle.qq_script_lines.specs.Lines.{HasScriptCause, IsOfLine};
+ghost use Rattle.std.specs.Option.{option_map};
+
+use crate::bodies::body_of;
+use crate::fault::ScriptFault;
+use crate::images::image_of;
+use crate::line::{Nodes, ScriptLine};
+use crate::names::{first_queue, node_of, nodes_of, queue_at, queue_of};
+use crate::numbers::session_of;
+use crate::words::{behind_four, text_of};
+use qq_base::{NodeId, QueueId, SessionId, Text};
+use qq_entry::KEY_LIMIT;
+use qq_setup::Setup;
+use std::alloc::Global;
+
+/// No word.
+#[tactic(auto, unfolding(crate::specs::Arguments::no_word))]
+pub fn no_word(words: &[&str]) -> Result<(), ScriptFault>
+    ensures said { result ≡ no_word (map (λ w. w.now) words.now) }
+    ensures fault { IfErr result IsOfLine }
+{
+    match words {
+        [] => Ok(()),
+        _ => Err(ScriptFault::Words),
+    }
+}
+
+/// `S`.
+#[tactic(auto, unfolding(crate::specs::Arguments::one_session))]
+pub fn one_session(words: &[&str]) -> Result<SessionId, ScriptFault>
+    ensures said { result ≡ one_session (map (λ w. w.now) words.now) }
+    ensures fault { IfErr result IsOfLine }
+{
+    let [session] = words else {
+        return Err(ScriptFault::Words);
+    };
+    session_of(session).ok_or(ScriptFault::Number)
+}
+
+/// `Q`.
+#[tactic(auto, unfolding(crate::specs::Arguments::one_queue))]
+pub fn one_queue(setup: &Setup, words: &[&str]) -> Result<QueueId, ScriptFault>
+    ensures said { result ≡ one_queue setup.now (map (λ w. w.now) words.now) }
+    ensures fault { IfErr result IsOfLine }
+{
+    let [queue] = words else {
+        return Err(ScriptFault::Words);
+    };
+    queue_of(setup, queue)
+}
+
+/// `N`.
+#[tactic(auto, unfolding(crate::specs::Arguments::one_node))]
+pub fn one_node(setup: &Setup, words: &[&str]) -> Result<NodeId, ScriptFault>
+    ensures said { result ≡ one_node setup.now (map (λ w. w.now) words.now) }
+    ensures fault { IfErr result IsOfLine }
+{
+    let [node] = words else {
+        return Err(ScriptFault::Words);
+    };
+    node_of(setup, node)
+}
+
+/// `N`, or `all`.
+#[tactic(auto, unfolding(crate::specs::Arguments::some_nodes))]
+pub fn some_nodes(setup: &Setup, words: &[&str]) -> Result<Nodes, ScriptFault>
+    ensures said { result ≡ some_nodes setup.now (map (λ w. w.now) words.now) }
+    ensures fault { IfErr result IsOfLine }
+{
+    let [nodes] = words else {
+        return Err(ScriptFault::Words);
+    };
+    nodes_of(setup, nodes)
+}
+
+/// `N Q`, where the node is a member of the queue's group.
+#[tactic(auto, unfolding(crate::specs::Arguments::one_member))]
+pub fn one_member(setup: &Setup, words: &[&str]) -> Result<(NodeId, QueueId), ScriptFault>
+    ensures said { result ≡ one_member setup.now (map (λ w. w.now) words.now) }
+    ensures fault { IfErr result IsOfLine }
+{
+    let [node, queue] = words else {
+        return Err(ScriptFault::Words);
+    };
+    let node = node_of(setup, node)?;
+    let queue = queue_at(setup, node, queue)?;
+    Ok((node, queue))
+}
+
+/// `N IMAGE`, or `all IMAGE`.
+#[tactic(auto, unfolding(crate::specs::Arguments::crash))]
+pub fn crash(alloc: Global, setup: &Setup, words: &[&str]) -> Result<ScriptLine, ScriptFault>
+    ensures ok { IfOk result (λ said.
+        crash setup.now (map (λ w. w.now) words.now) ≡ Ok said) }
+    ensures cause { IfErr result (λ e.
+        HasScriptCause e (crash setup.now (map (λ w. w.now) words.now))) }
+{
+    let [node, image @ ..] = words else {
+        return Err(ScriptFault::Words);
+    };
+    let image = match image_of(alloc, image) {
+        Ok(image) => image,
+        Err(fault) => return Err(fault),
+    };
+    match nodes_of(setup, node) {
+        Ok(nodes) => Ok(ScriptLine::Crash { nodes, image }),
+        Err(fault) => Err(fault),
+    }
+}
+
+fn key_of(word: &str) -> Option<&str>
+    ensures { option_map (λ key. key.now) result ≡ key_of word.now }
+{
+    if word.len() > KEY_LIMIT {
+        return None;
+    }
+    Some(text_of(word))
+}
+
+// The whole line, its session, exchange and key.
+fn send_to(
+    alloc: Global,
+    line: &str,
+    session: SessionId,
+    exchange: &str,
+    key: &str,
+) -> Result<ScriptLine, ScriptFault>
+    ensures ok { IfOk result (λ said.
+        send_to line.now session exchange.now key.now ≡ Ok said) }
+    ensures cause { IfErr result (λ e.
+        HasScriptCause e (send_to line.now session exchange.now key.now)) }
+{
+    let body = match body_of(alloc, behind_four(line).as_bytes()) {
+        Ok(body) => body,
+        Err(fault) => return Err(fault),
+    };
+    Ok(ScriptLine::Send {
+        session,
+        exchange: Text::from_str(alloc, exchange)?,
+        key: Text::from_str(alloc, key)?,
+        body,
+    })
+}
+
+/// `S X K BODY` behind the first word of a line.
+#[tactic(auto, unfolding(crate::specs::Arguments::send))]
+pub fn send(alloc: Global, line: &str, words: &[&str]) -> Result<ScriptLine, ScriptFault>
+    ensures ok { IfOk result (λ said.
+        send line.now (map (λ w. w.now) words.now) ≡ Ok said) }
+    ensures cause { IfErr result (λ e.
+        HasScriptCause e (send line.now (map (λ w. w.now) words.now))) }
+{
+    let [session, exchange, key, body @ ..] = words else {
+        return Err(ScriptFault::Words);
+    };
+    if body.is_empty() {
+        return Err(ScriptFault::Words);
+    }
+    let Some(key) = key_of(key) else {
+        return Err(ScriptFault::Words);
+    };
+    let Some(session) = session_of(session) else {
+        return Err(ScriptFault::Number);
+    };
+    send_to(alloc, line, session, text_of(exchange), key)
+}
+
+/// `BODY`, to the first queue.
+pub fn publish(alloc: Global, setup: &Setup, text: &[u8]) -> Result<ScriptLine, ScriptFault>
+    ensures ok { IfOk result (λ said. publish setup.now text.now ≡ Ok said) }
+    ensures cause { IfErr result (λ e. HasScriptCause e (publish setup.now text.now)) }
+{
+    if let Err(fault) = first_queue(setup) {
+        return Err(fault);
+    }
+    match body_of(alloc, text) {
+        Ok(body) => Ok(ScriptLine::Publish { body }),
+        Err(fault) => Err(fault),
+    }
+}
