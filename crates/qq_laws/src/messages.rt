@@ -38,10 +38,10 @@ pub fn entries_move_messages()
     ensures { Always (λ s. (entry : Entry) → StepsRows s entry (next_step s entry)) }
 {}
 
-/// A confirmed message stays ready, with a consumer or dead until an entry whose command explains why
-/// it is gone: a get took it, its consumer settled it, the queue was purged, its targets confirmed it
-/// as a dead letter, or it died and the queue keeps no dead: by a discard, by a return or the end of a
-/// session past the delivery limit, or at the head of a queue that drops there.
+/// A message that is gone after an entry was gone before it, or the entry's command is of a kind that
+/// goes with the reason: a get, a settle, a purge, or the settlement of a dead letter; or, where the
+/// queue keeps no dead, a discard, a return or the end of a session for the delivery limit, or any
+/// command in a queue that drops at its head.
 pub fn messages_are_gone_for_a_reason()
     ensures { Always (λ s. (entry : Entry) → IsGoneForAReason s entry) }
 {}
@@ -59,8 +59,8 @@ pub fn deliveries_show_publishes()
         EffectsShow args before entry }
 {}
 
-/// The message that a get is answered is that of the confirmed publish of its arrival, with its index.
-/// A repeat of the get is answered by the same answer.
+/// The message that a get is answered, when it is carried out, is that of the confirmed publish of its
+/// arrival, with its index.
 pub fn gets_show_publishes()
     ensures { (args : QueueArgs) (before : List Entry) (entry : Entry) →
         FreshAnswerShows args before entry }

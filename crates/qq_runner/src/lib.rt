@@ -6,6 +6,3 @@ mod turn;
 
 pub use runner::run_all;
 pub use turn::{Turn, Turned};
-
-#[cfg(test)]
-mod tests;

@@ -1,0 +1,19 @@
+//! Checks of whole runs of the broker, by name.
+#![tactic(auto)]
+
+mod runs;
+mod script;
+mod stops;
+mod used;
+mod yard;
+
+use anyhow::Result;
+use cases::Trials;
+
+fn main(rt: HostRuntime) -> Result<()> {
+    let mut trials = Trials::new(rt);
+    runs::check(&mut trials)?;
+    used::check(&mut trials)?;
+    stops::check(&mut trials)?;
+    trials.end()
+}

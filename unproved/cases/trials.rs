@@ -1,0 +1,54 @@
+use anyhow::{Result, bail};
+
+/// Runs checks that have names, and counts those that fail.
+#[derive(Drop)]
+pub struct Trials {
+    rt: HostRuntime,
+    count: u32,
+    failed: u32,
+}
+
+impl Trials {
+    pub fn new(rt: HostRuntime) -> Self {
+        Trials {
+            rt,
+            count: 0,
+            failed: 0,
+        }
+    }
+
+    /// Runs a check, and prints its name, and why it failed.
+    pub fn run<F>(&mut self, name: &str, check: F) -> Result<()>
+    where
+        F: FnOnce(HostRuntime) -> Result<()>,
+    {
+        self.count += 1;
+        match check(self.rt) {
+            Ok(()) => println!(self.rt; "{name}")?,
+            Err(error) => {
+                self.failed += 1;
+                println!(self.rt; "failed {name}: {error}")?;
+            }
+        }
+        Ok(())
+    }
+
+    /// An error if a check has failed.
+    pub fn end(self) -> Result<()> {
+        match self.failed {
+            0 => Ok(()),
+            failed => bail!("{failed} of {} checks failed", self.count),
+        }
+    }
+}
+
+/// Runs functions as checks, each under its own name: of the runtime, or of one that stands behind the checks.
+#[macro_export]
+macro_rules! run_each {
+    ($trials:expr; $($check:ident),+ $(,)?) => {
+        $($trials.run(stringify!($check), $check)?;)+
+    };
+    ($trials:expr, $rt:expr; $($check:ident),+ $(,)?) => {
+        $($trials.run(stringify!($check), |_| $check($rt))?;)+
+    };
+}

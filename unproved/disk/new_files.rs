@@ -1,0 +1,64 @@
+//! Checks of the log's writer where files and their numbers end.
+
+use crate::files::log_file;
+use crate::logs::bytes_of;
+use crate::writer::begin;
+use anyhow::{Result, ensure};
+use cases::{Trials, run_each};
+use qq_base::{Memory, NUMBER_END};
+use qq_disk::{FileKind, NodeDisk};
+use qq_wal::WalFault;
+
+/// File 1, which names no other.
+const FIRST: &str = "51514c4f470100000000000000010000000000000000000000000000000052e411e63587068b";
+
+/// File 2 behind 38 bytes of file 1.
+const SECOND: &str = "51514c4f47010000000000000002000000000000000100000000000000264aaf92ff3f163126";
+
+/// A file is full with so many bytes.
+const LOG_BYTES: u64 = 39;
+
+fn a_new_file_names_the_old_one(rt: HostRuntime) -> Result<()> {
+    let alloc = rt.alloc();
+    let mut wal = begin(alloc, 1, Vec::new(alloc), LOG_BYTES)?;
+    ensure!(!wal.full());
+    ensure!(wal.roll(alloc) == Ok(2));
+    let mut disk = wal.into_disk();
+    for (number, digits) in [(1, FIRST), (2, SECOND)] {
+        let mut bytes = [0; 64];
+        let count = disk.read(alloc, log_file(number), 0, &mut bytes)?;
+        ensure!(&bytes[..count] == bytes_of(alloc, digits)?.as_slice());
+    }
+    Ok(())
+}
+
+fn the_log_stops_where_the_disk_fails(rt: HostRuntime) -> Result<()> {
+    let alloc = rt.alloc();
+    let mut wal = begin(alloc, 1, vec![in alloc; 3]?, LOG_BYTES)?;
+    ensure!(wal.roll(alloc) == Err(WalFault::Disk));
+    ensure!(wal.append_batch(alloc) == Err(WalFault::Stopped));
+    ensure!(wal.sync_batch(alloc).is_err());
+    Ok(())
+}
+
+fn numbers_end(rt: HostRuntime) -> Result<()> {
+    let alloc = rt.alloc();
+    let mut wal = begin(alloc, NUMBER_END - 1, Vec::new(alloc), LOG_BYTES)?;
+    ensure!(wal.fresh(FileKind::Segment) == Ok(1));
+    ensure!(wal.fresh(FileKind::Segment) == Ok(2));
+    ensure!(wal.fresh(FileKind::Log) == Ok(NUMBER_END));
+    let spent = Memory::Spent { number: NUMBER_END };
+    ensure!(wal.fresh(FileKind::Log) == Err(spent));
+    ensure!(wal.roll(alloc) == Err(WalFault::Memory(spent)));
+    Ok(())
+}
+
+pub fn check(trials: &mut Trials) -> Result<()> {
+    run_each!(
+        trials;
+        a_new_file_names_the_old_one,
+        the_log_stops_where_the_disk_fails,
+        numbers_end,
+    );
+    Ok(())
+}

@@ -1,0 +1,195 @@
+//! What a line of a script says, in words.
+
+use qq_base::{Bytes, ConsumerId, Ids, QueueId};
+use qq_disk::{Image, Tail};
+use qq_script_lines::{Nodes, ScriptLine};
+use std::fmt;
+
+/// A text up to this length is shown in full.
+const SHOWN: usize = 40;
+
+/// A text, or its length.
+#[derive(Clone, Copy)]
+struct Text<'a>(&'a str);
+
+impl fmt::Display for Text<'_> {
+    fn fmt<W: fmt::Write>(&self, f: &mut fmt::Formatter<W>) -> fmt::Result {
+        if self.0.len() > SHOWN {
+            return write!(f, "({} bytes)", self.0.len());
+        }
+        write!(f, "{:?}", self.0)
+    }
+}
+
+/// A body as text, or as bytes where it is none.
+#[derive(Clone, Copy)]
+struct Body<'a>(&'a Bytes);
+
+impl fmt::Display for Body<'_> {
+    fn fmt<W: fmt::Write>(&self, f: &mut fmt::Formatter<W>) -> fmt::Result {
+        match str::from_utf8(self.0.as_slice()) {
+            Ok(text) => write!(f, "{}", Text(text)),
+            Err(_) => write!(f, "{:?}", self.0.as_slice()),
+        }
+    }
+}
+
+/// A consumer of a queue.
+#[derive(Clone, Copy)]
+struct Consumer<'a>(&'a ConsumerId, QueueId);
+
+impl fmt::Display for Consumer<'_> {
+    fn fmt<W: fmt::Write>(&self, f: &mut fmt::Formatter<W>) -> fmt::Result {
+        let Consumer(consumer, queue) = self;
+        let (session, tag) = (consumer.session.number, consumer.tag);
+        write!(f, "session {session} tag {tag} queue {}", queue.0)
+    }
+}
+
+/// Up to four ids in full, or how many.
+#[derive(Clone, Copy)]
+struct List<'a>(&'a Ids);
+
+impl fmt::Display for List<'_> {
+    fn fmt<W: fmt::Write>(&self, f: &mut fmt::Formatter<W>) -> fmt::Result {
+        match self.0.as_slice() {
+            ids if ids.len() > 4 => write!(f, "{} ids", ids.len()),
+            ids => write!(f, "ids {ids:?}"),
+        }
+    }
+}
+
+#[derive(Clone, Copy)]
+struct Which<'a>(&'a Nodes);
+
+impl fmt::Display for Which<'_> {
+    fn fmt<W: fmt::Write>(&self, f: &mut fmt::Formatter<W>) -> fmt::Result {
+        match self.0 {
+            Nodes::One(node) => write!(f, "node {}", node.0),
+            Nodes::All => f.write_str("all nodes"),
+        }
+    }
+}
+
+/// What a crash leaves of a file.
+#[derive(Clone, Copy)]
+struct Left<'a>(&'a Tail);
+
+impl fmt::Display for Left<'_> {
+    fn fmt<W: fmt::Write>(&self, f: &mut fmt::Formatter<W>) -> fmt::Result {
+        match self.0 {
+            Tail::Cut(count) => write!(f, "{count} bytes"),
+            Tail::Junk(bytes) => write!(f, "junk {:?}", bytes.as_slice()),
+            Tail::Whole => f.write_str("all"),
+        }
+    }
+}
+
+#[derive(Clone, Copy)]
+struct Crash<'a>(&'a Nodes, &'a Image);
+
+impl fmt::Display for Crash<'_> {
+    fn fmt<W: fmt::Write>(&self, f: &mut fmt::Formatter<W>) -> fmt::Result {
+        let Crash(nodes, image) = self;
+        let (newest, others) = (Left(&image.newest_log), Left(&image.others));
+        let removed = if image.removed_back { "back" } else { "absent" };
+        write!(f, "crash {}: {newest} of the newest log, ", Which(nodes))?;
+        write!(f, "{others} of others, removed files {removed}")
+    }
+}
+
+/// A line of a script.
+#[derive(Clone, Copy)]
+pub struct Said<'a>(pub &'a ScriptLine);
+
+impl fmt::Display for Said<'_> {
+    fn fmt<W: fmt::Write>(&self, f: &mut fmt::Formatter<W>) -> fmt::Result {
+        match self.0 {
+            ScriptLine::Nothing => f.write_str("nothing"),
+            ScriptLine::Publish { body } => write!(f, "publish {}", Body(body)),
+            ScriptLine::Send {
+                session,
+                exchange,
+                key,
+                body,
+            } => {
+                let (exchange, key) = (Text(exchange.as_str()), Text(key.as_str()));
+                write!(
+                    f,
+                    "send session {} exchange {exchange} key {key}",
+                    session.number
+                )?;
+                write!(f, " body {}", Body(body))
+            }
+            ScriptLine::Get { session, queue } => {
+                write!(f, "get session {} queue {}", session.number, queue.0)
+            }
+            ScriptLine::Purge { session, queue } => {
+                write!(f, "purge session {} queue {}", session.number, queue.0)
+            }
+            ScriptLine::End { session } => write!(f, "end session {}", session.number),
+            ScriptLine::Resend { session } => write!(f, "resend session {}", session.number),
+            ScriptLine::Mute { session } => write!(f, "mute session {}", session.number),
+            ScriptLine::Unmute { session } => write!(f, "unmute session {}", session.number),
+            ScriptLine::Manual => f.write_str("manual"),
+            ScriptLine::Auto => f.write_str("auto"),
+            ScriptLine::Pump => f.write_str("pump"),
+            ScriptLine::Write { node } => write!(f, "write node {}", node.0),
+            ScriptLine::Sync { node } => write!(f, "sync node {}", node.0),
+            ScriptLine::Notice { node, queue } => {
+                write!(f, "notice node {} queue {}", node.0, queue.0)
+            }
+            ScriptLine::Tick { node, queue } => write!(f, "tick node {} queue {}", node.0, queue.0),
+            ScriptLine::Crash { nodes, image } => write!(f, "{}", Crash(nodes, image)),
+            ScriptLine::Restart { nodes } => write!(f, "restart {}", Which(nodes)),
+            ScriptLine::Show { queue } => write!(f, "show queue {}", queue.0),
+            said => write_consumer_line(f, said),
+        }
+    }
+}
+
+/// A line about a consumer, or what becomes of its deliveries.
+fn write_consumer_line<W: fmt::Write>(f: &mut fmt::Formatter<W>, said: &ScriptLine) -> fmt::Result {
+    match said {
+        ScriptLine::Subscribe {
+            consumer,
+            queue,
+            prefetch,
+        } => write!(
+            f,
+            "subscribe {} prefetch {prefetch}",
+            Consumer(consumer, *queue)
+        ),
+        ScriptLine::Link { consumer, queue } => write!(f, "link {}", Consumer(consumer, *queue)),
+        ScriptLine::Cancel { consumer, queue } => {
+            write!(f, "cancel {}", Consumer(consumer, *queue))
+        }
+        ScriptLine::Credit {
+            consumer,
+            queue,
+            count,
+            credit,
+            drain,
+        } => {
+            let how = if *drain { "drain" } else { "keep" };
+            write!(f, "credit {} ", Consumer(consumer, *queue))?;
+            write!(f, "count {count} credit {credit} {how}")
+        }
+        ScriptLine::Settle {
+            consumer,
+            queue,
+            ids,
+        } => write!(f, "settle {} {}", Consumer(consumer, *queue), List(ids)),
+        ScriptLine::Return {
+            consumer,
+            queue,
+            ids,
+        } => write!(f, "return {} {}", Consumer(consumer, *queue), List(ids)),
+        ScriptLine::Discard {
+            consumer,
+            queue,
+            ids,
+        } => write!(f, "discard {} {}", Consumer(consumer, *queue), List(ids)),
+        _ => f.write_str("no text"),
+    }
+}

@@ -1,0 +1,240 @@
+//! Cases of a group's events. Members are numbered from 1, and so are the messages that are on their way. The
+//! lines are
+//!
+//! - `group COUNT`: from here on a new group of so many members over new disks, all of them up;
+//! - `tick N`, `crash N`: time passes at a member, or it crashes;
+//! - `publish N [COUNT [SIZE]]`: so many commands reach a member, each with a body of so many bytes;
+//! - `deliver PLACE`, `lose PLACE`, `copy PLACE`: what becomes of a message; `to N`: all messages that are on
+//!   their way to a member reach it; `drop`: all messages are lost;
+//! - `write N`: all ops of a member that wait are written to its disk; `notice N [OP]`: it is told of what its
+//!   disk holds, or of an op;
+//! - `restart N OP`: a member that is down restarts over what its disk held when an op was the last on it;
+//! - `settle`: messages are delivered, ops written and members told, until nothing is left;
+//! - `state`, `audit`, `bag`: each member, the terms of the committed entries, and whom messages are for.
+//!
+//! An answer says that the event didn't happen, and why, or which entries a leader answers by it.
+
+use crate::disk::Disk;
+use crate::party::Party;
+use anyhow::{Context, Result, bail};
+use cases::{Words, answer_lines};
+use qq_base::NodeId;
+use qq_group::{Event, Outcome, Shown};
+use qq_raft_msg::Role;
+use std::alloc::Global;
+
+/// The rounds after which nothing may be on its way.
+const ROUNDS: u32 = 1_000;
+
+/// A group, and what the disks of its members held at each op.
+#[derive(Drop)]
+struct Stage {
+    alloc: Global,
+    party: Party,
+    older: Vec<(u8, Disk)>,
+    submitted: u64,
+}
+
+/// What an event came to, and the entries that are answered by it.
+fn text(alloc: Global, shown: &Shown) -> Result<String> {
+    let mut text = String::new(alloc);
+    match shown.outcome {
+        Outcome::Done => {}
+        Outcome::Down => text.push_str("down\n")?,
+        Outcome::NoSuch => text.push_str("no such\n")?,
+        Outcome::Unfit => text.push_str("unfit\n")?,
+        Outcome::NotLeader { hint: None } => text.push_str("not the leader\n")?,
+        Outcome::NotLeader { hint: Some(leader) } => {
+            writeln!(text, "not the leader, which is {}", leader.0)?;
+        }
+    }
+    for applied in &shown.rows {
+        let (index, term) = (applied.row.index.0, applied.row.entry.term.0);
+        writeln!(text, "answers entry {index} of term {term}")?;
+    }
+    Ok(text)
+}
+
+impl Stage {
+    fn new(alloc: Global, count: u8) -> Result<Stage> {
+        Ok(Stage {
+            alloc,
+            party: Party::new(alloc, count)?,
+            older: Vec::new(alloc),
+            submitted: 0,
+        })
+    }
+
+    /// Carries out a line, and tells what is printed below it.
+    fn line(&mut self, line: &str) -> Result<String> {
+        let words = &mut Words::new(line);
+        let shown = match words.next() {
+            "tick" => self.party.tick(words.number()?)?,
+            "crash" => {
+                let node = NodeId(words.number()?);
+                self.party.step(Event::Crash { node })?
+            }
+            "publish" => self.publish(words)?,
+            "notice" => self.notice(words)?,
+            "deliver" => self.party.deliver(words.number()?)?,
+            "lose" => {
+                let place = words.number()?;
+                self.party.step(Event::Lose { place })?
+            }
+            "copy" => {
+                let place = words.number()?;
+                self.party.step(Event::Copy { place })?
+            }
+            word => return self.many_events(word, words),
+        };
+        text(self.alloc, &shown)
+    }
+
+    /// Carries out a line of many events, of which nothing is shown, or one that asks.
+    fn many_events(&mut self, word: &str, words: &mut Words) -> Result<String> {
+        match word {
+            "group" => *self = Stage::new(self.alloc, words.number()?)?,
+            "to" => self.deliver_to(words.number()?)?,
+            "drop" => self.party.lose_all()?,
+            "write" => {
+                self.write(words.number()?)?;
+            }
+            "settle" => self.settle()?,
+            "restart" => return self.restart(words.number()?, words.number()?),
+            "state" => return self.state(),
+            "audit" => return self.audit(),
+            "bag" => return self.bag(),
+            _ => bail!("no such line"),
+        }
+        Ok(String::new(self.alloc))
+    }
+
+    /// One command reaches a member, or so many, each at the time that is its number. What the last one comes
+    /// to.
+    fn publish(&mut self, words: &mut Words) -> Result<Shown> {
+        let node = words.number()?;
+        let counts: Vec<u64> = words.numbers(self.alloc)?;
+        let count = counts.first().copied().unwrap_or(1);
+        let size = counts.get(1).copied().unwrap_or(0) as usize;
+        let mut shown = None;
+        for _ in 0..count {
+            self.submitted += 1;
+            shown = Some(self.party.publish(node, self.submitted, size)?);
+        }
+        shown.context("no command")
+    }
+
+    /// A member is told of what its disk holds, or of an op.
+    fn notice(&mut self, words: &mut Words) -> Result<Shown> {
+        let node = words.number()?;
+        match words.rest() {
+            "" => self.party.notice(node),
+            _ => self.party.notice_op(node, words.number()?),
+        }
+    }
+
+    /// All ops of a member that wait are written to its disk. How many they were.
+    fn write(&mut self, node: u8) -> Result<u32> {
+        let mut written = 0;
+        while self.party.write(node)? {
+            let disk = self.party.disk(node)?.copy(self.alloc)?;
+            self.older.push((node, disk))?;
+            written += 1;
+        }
+        Ok(written)
+    }
+
+    /// All messages that are on their way to a member, at this moment, reach it.
+    fn deliver_to(&mut self, node: u8) -> Result<()> {
+        let mut place = 1;
+        for _ in 0..self.party.messages() {
+            if self.party.receiver(place) == Some(NodeId(node)) {
+                self.party.deliver(place)?;
+            } else {
+                place += 1;
+            }
+        }
+        Ok(())
+    }
+
+    /// Messages reach their members, ops are written, and members are told of them, until nothing is left.
+    fn settle(&mut self) -> Result<()> {
+        for _ in 0..ROUNDS {
+            let mut done = self.party.deliver_all()?;
+            for node in 1..=self.party.count {
+                done += self.write(node)?;
+                self.party.notice(node)?;
+            }
+            if done == 0 {
+                return Ok(());
+            }
+        }
+        bail!("messages don't end")
+    }
+
+    /// A member that is down restarts over what its disk held when an op was the last that was written. Without
+    /// ops it was new.
+    fn restart(&mut self, node: u8, op: u64) -> Result<String> {
+        let mut disk = Disk::new(self.alloc);
+        if op > 0 {
+            let held = self.older.iter().rev();
+            let mut held = held.filter(|(owner, held)| *owner == node && held.op() == op);
+            let (_, held) = held
+                .next()
+                .context("the disk never held that op as its last")?;
+            disk = held.copy(self.alloc)?;
+        }
+        match self.party.restart(node, disk)? {
+            Some((noticed, found)) => {
+                Ok(format!(in self.alloc; "lost: noticed {noticed}, found {found}")?)
+            }
+            None => Ok(String::new(self.alloc)),
+        }
+    }
+
+    fn state(&self) -> Result<String> {
+        let mut text = String::new(self.alloc);
+        for number in 1..=self.party.count {
+            let Some(state) = self.party.member(number) else {
+                writeln!(text, "{number} is down")?;
+                continue;
+            };
+            let role = match state.role {
+                Role::Leader => "leads",
+                Role::Candidate => "stands",
+                Role::Follower => "follows",
+            };
+            let (term, last, commit) = (state.term.0, state.last.0, state.commit.0);
+            writeln!(
+                text,
+                "{number} {role} in term {term}, last {last}, commit {commit}"
+            )?;
+        }
+        Ok(text)
+    }
+
+    /// The terms of the entries that were committed, in order.
+    fn audit(&self) -> Result<String> {
+        let mut text = String::from_str(self.alloc, "terms")?;
+        for entry in self.party.audit() {
+            write!(text, " {}", entry.term.0)?;
+        }
+        Ok(text)
+    }
+
+    /// Whom the messages are for, in order.
+    fn bag(&self) -> Result<String> {
+        let mut text = String::from_str(self.alloc, "for")?;
+        for place in 1..=self.party.messages() {
+            if let Some(receiver) = self.party.receiver(place) {
+                write!(text, " {}", receiver.0)?;
+            }
+        }
+        Ok(text)
+    }
+}
+
+pub fn run(rt: HostRuntime) -> Result<()> {
+    let mut stage = Stage::new(rt.alloc(), 1)?;
+    answer_lines(rt, |line| stage.line(line))
+}

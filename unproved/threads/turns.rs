@@ -1,0 +1,60 @@
+//! A check of values that take turns, each in a thread of its own.
+
+use anyhow::{Result, ensure};
+use cases::{Trials, run_each};
+use qq_base::Memory;
+use qq_runner::{Turn, Turned, run_all};
+use std::sync::Wait;
+use std::thread::Threads;
+
+/// Counts down by one a turn, and then ends or is refused.
+#[derive(Drop)]
+struct Countdown {
+    place: u64,
+    left: u64,
+    refused: bool,
+}
+
+impl Turn for Countdown {
+    ghost name = { ? };
+
+    ghost over = { ? };
+
+    fn turn<W: Wait>(&mut self, _: &W) -> Result<Turned, Memory> {
+        if self.left > 0 {
+            self.left -= 1;
+            return Ok(match self.left % 3 {
+                0 => Turned::Idle,
+                _ => Turned::Worked,
+            });
+        }
+        if self.refused {
+            return Err(Memory::Want);
+        }
+        Ok(Turned::Ended)
+    }
+}
+
+fn each_value_is_turned_to_its_end_and_comes_back<R: Threads + Wait + Sync + AllocGlobal>(
+    rt: &R,
+) -> Result<()> {
+    let mut values = Vec::new(rt.alloc());
+    for place in 0..20 {
+        values.push(Countdown {
+            place,
+            left: 1000 - 50 * place,
+            refused: place % 4 == 3,
+        })?;
+    }
+    let values = run_all(rt, values);
+    ensure!(values.len() == 20);
+    for (place, value) in values.iter().enumerate() {
+        ensure!((value.place, value.left) == (place as u64, 0));
+    }
+    Ok(())
+}
+
+pub fn check<R: Threads + Wait + Sync + AllocGlobal>(rt: &R, trials: &mut Trials) -> Result<()> {
+    run_each!(trials, rt; each_value_is_turned_to_its_end_and_comes_back);
+    Ok(())
+}
