@@ -1,15 +1,10 @@
 -- What a sink has of a text that is written part by part.
 use Rattle.std.proofs.Common.{ℕ, List, ◌++◌, Option, take, sym, subst, arith, length, ◌+◌}
-use Rattle.std.proofs.lemmas.List.{length-append, take-append-le}
+use Rattle.std.proofs.lemmas.List.{length-append}
 use Rattle.std.proofs.Math.Seq.{take-append-add}
 use Rattle.std.specs.Io.KnownBytes.{Appends}
 use Rattle.std.proofs.KnownBytes.{Appends-trans}
 use Rattle.qq_ports.specs.Faults.{AppendsPrefix}
-
--- a prefix of a text is one of the text with more behind it
-pub prefix_more : (a b : Option (List ℕ)) (xs ys : List ℕ) → AppendsPrefix a b xs → AppendsPrefix a b (xs ++ ys)
-prefix_more a b xs ys (n, le, grown) =
-    (n, omega (arith, length-append xs ys), subst (Appends a b) (sym (take-append-le n xs ys le)) grown)
 
 -- a text, and then a prefix of another
 pub prefix_then : (a b c : Option (List ℕ)) (xs ys : List ℕ) → Appends a b xs → AppendsPrefix b c ys
@@ -20,6 +15,3 @@ prefix_then a b c xs ys first (n, le, grown) = (
   subst (Appends a c) (sym (take-append-add xs ys n))
       (Appends-trans a b c xs (take n ys) first grown),
 )
-
-pub joined : (a b c : Option (List ℕ)) (xs ys : List ℕ) → Appends a b xs → Appends b c ys → Appends a c (xs ++ ys)
-joined a b c xs ys first second = Appends-trans a b c xs ys first second

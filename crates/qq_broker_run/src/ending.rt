@@ -239,7 +239,6 @@ impl Ending {
 
 // Each of these writes one part behind another. Where the sink fails, a prefix of both was written.
 
-#[tactic(auto, using(crate::proofs::Prefixes::prefix_more, crate::proofs::Prefixes::joined))]
 fn write_parts<O: Sink>(
     output: &mut O,
     start: &str,
@@ -264,7 +263,6 @@ fn write_parts<O: Sink>(
     write_numbers(output, before, first, between, second, end)
 }
 
-#[tactic(auto, using(crate::proofs::Prefixes::prefix_more, crate::proofs::Prefixes::joined))]
 fn write_name<O: Sink>(output: &mut O, start: &str, name: &Option<Text>) -> Result<(), Failed>
     ensures ok { OnOk result (Appends (O.written output.old) (O.written output.new)
         (start.now ++ name_text name.now)) }
@@ -278,7 +276,6 @@ fn write_name<O: Sink>(output: &mut O, start: &str, name: &Option<Text>) -> Resu
     write_text(output, name)
 }
 
-#[tactic(auto, using(crate::proofs::Prefixes::prefix_more, crate::proofs::Prefixes::joined))]
 fn write_numbers<O: Sink>(
     output: &mut O,
     before: &str,
@@ -299,7 +296,6 @@ fn write_numbers<O: Sink>(
     write_end(output, between, second, end)
 }
 
-#[tactic(auto, using(crate::proofs::Prefixes::prefix_more, crate::proofs::Prefixes::joined))]
 fn write_end<O: Sink>(
     output: &mut O,
     text: &str,
@@ -318,7 +314,6 @@ fn write_end<O: Sink>(
     write_str(output, end)
 }
 
-#[tactic(auto, using(crate::proofs::Prefixes::prefix_more, crate::proofs::Prefixes::joined))]
 fn write_number<O: Sink>(output: &mut O, text: &str, number: Option<u64>) -> Result<(), Failed>
     ensures ok { OnOk result (Appends (O.written output.old) (O.written output.new)
         (text.now ++ number_text number)) }

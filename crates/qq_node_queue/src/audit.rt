@@ -18,6 +18,7 @@ use qq_entry::{AuditRow, Effect, Effects, Entry, QueueArgs};
 use qq_log::Op;
 use qq_machine::Machine;
 use std::alloc::Global;
+use std::mem;
 
 /// The machine and the audit of a queue.
 #[derive(Drop)]
@@ -83,7 +84,7 @@ impl Audit {
         ensures applied { self.new.applied ≡ 0 }
         ensures machine { IsMachineOf (empty_queue args) self.new.machine }
     {
-        self.machine = Machine::new(alloc, args);
+        drop(mem::replace(&mut self.machine, Machine::new(alloc, args)));
         self.applied = 0;
     }
 
