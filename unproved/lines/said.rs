@@ -1,7 +1,8 @@
 //! What a line of a script says, in words.
 
-use qq_base::{Bytes, ConsumerId, Ids, QueueId};
+use qq_base::{Bytes, Ids, QueueId, SessionId};
 use qq_disk::{Image, Tail};
+use qq_entry::{Mode, Unstamped};
 use qq_script_lines::{Nodes, ScriptLine};
 use std::fmt;
 
@@ -34,15 +35,24 @@ impl fmt::Display for Body<'_> {
     }
 }
 
-/// A consumer of a queue.
+/// A session at a queue.
 #[derive(Clone, Copy)]
-struct Consumer<'a>(&'a ConsumerId, QueueId);
+struct Client(SessionId, QueueId);
 
-impl fmt::Display for Consumer<'_> {
+/// A session's consumer of a tag.
+#[derive(Clone, Copy)]
+struct Consumer(Client, u32);
+
+impl fmt::Display for Client {
     fn fmt<W: fmt::Write>(&self, f: &mut fmt::Formatter<W>) -> fmt::Result {
-        let Consumer(consumer, queue) = self;
-        let (session, tag) = (consumer.session.number, consumer.tag);
-        write!(f, "session {session} tag {tag} queue {}", queue.0)
+        write!(f, "session {} queue {}", self.0.number, self.1.0)
+    }
+}
+
+impl fmt::Display for Consumer {
+    fn fmt<W: fmt::Write>(&self, f: &mut fmt::Formatter<W>) -> fmt::Result {
+        let Consumer(Client(session, queue), tag) = self;
+        write!(f, "session {} tag {tag} queue {}", session.number, queue.0)
     }
 }
 
@@ -121,18 +131,18 @@ impl fmt::Display for Said<'_> {
                 )?;
                 write!(f, " body {}", Body(body))
             }
-            ScriptLine::Get { session, queue } => {
-                write!(f, "get session {} queue {}", session.number, queue.0)
-            }
-            ScriptLine::Purge { session, queue } => {
-                write!(f, "purge session {} queue {}", session.number, queue.0)
-            }
+            ScriptLine::Client {
+                session,
+                queue,
+                body,
+            } => write_command(f, Client(*session, *queue), body),
             ScriptLine::End { session } => write!(f, "end session {}", session.number),
             ScriptLine::Resend { session } => write!(f, "resend session {}", session.number),
-            ScriptLine::Mute { session } => write!(f, "mute session {}", session.number),
-            ScriptLine::Unmute { session } => write!(f, "unmute session {}", session.number),
-            ScriptLine::Manual => f.write_str("manual"),
-            ScriptLine::Auto => f.write_str("auto"),
+            ScriptLine::Mute { session, muted } => {
+                let how = if *muted { "mute" } else { "unmute" };
+                write!(f, "{how} session {}", session.number)
+            }
+            ScriptLine::Pace { auto } => f.write_str(if *auto { "auto" } else { "manual" }),
             ScriptLine::Pump => f.write_str("pump"),
             ScriptLine::Write { node } => write!(f, "write node {}", node.0),
             ScriptLine::Sync { node } => write!(f, "sync node {}", node.0),
@@ -143,53 +153,39 @@ impl fmt::Display for Said<'_> {
             ScriptLine::Crash { nodes, image } => write!(f, "{}", Crash(nodes, image)),
             ScriptLine::Restart { nodes } => write!(f, "restart {}", Which(nodes)),
             ScriptLine::Show { queue } => write!(f, "show queue {}", queue.0),
-            said => write_consumer_line(f, said),
         }
     }
 }
 
-/// A line about a consumer, or what becomes of its deliveries.
-fn write_consumer_line<W: fmt::Write>(f: &mut fmt::Formatter<W>, said: &ScriptLine) -> fmt::Result {
-    match said {
-        ScriptLine::Subscribe {
-            consumer,
-            queue,
-            prefetch,
-        } => write!(
-            f,
-            "subscribe {} prefetch {prefetch}",
-            Consumer(consumer, *queue)
-        ),
-        ScriptLine::Link { consumer, queue } => write!(f, "link {}", Consumer(consumer, *queue)),
-        ScriptLine::Cancel { consumer, queue } => {
-            write!(f, "cancel {}", Consumer(consumer, *queue))
-        }
-        ScriptLine::Credit {
-            consumer,
-            queue,
+/// A client's command at a queue.
+fn write_command<W: fmt::Write>(
+    f: &mut fmt::Formatter<W>,
+    client: Client,
+    body: &Unstamped,
+) -> fmt::Result {
+    match body {
+        Unstamped::Enqueue { message, .. } => write!(f, "enqueue {client} size {}", message.size),
+        Unstamped::Get => write!(f, "get {client}"),
+        Unstamped::Purge => write!(f, "purge {client}"),
+        Unstamped::Subscribe { tag, mode } => match mode {
+            Mode::Prefetch(prefetch) => {
+                write!(f, "subscribe {} prefetch {prefetch}", Consumer(client, *tag))
+            }
+            Mode::Link => write!(f, "link {}", Consumer(client, *tag)),
+        },
+        Unstamped::Cancel { tag } => write!(f, "cancel {}", Consumer(client, *tag)),
+        Unstamped::Credit {
+            tag,
             count,
             credit,
             drain,
         } => {
             let how = if *drain { "drain" } else { "keep" };
-            write!(f, "credit {} ", Consumer(consumer, *queue))?;
+            write!(f, "credit {} ", Consumer(client, *tag))?;
             write!(f, "count {count} credit {credit} {how}")
         }
-        ScriptLine::Settle {
-            consumer,
-            queue,
-            ids,
-        } => write!(f, "settle {} {}", Consumer(consumer, *queue), List(ids)),
-        ScriptLine::Return {
-            consumer,
-            queue,
-            ids,
-        } => write!(f, "return {} {}", Consumer(consumer, *queue), List(ids)),
-        ScriptLine::Discard {
-            consumer,
-            queue,
-            ids,
-        } => write!(f, "discard {} {}", Consumer(consumer, *queue), List(ids)),
-        _ => f.write_str("no text"),
+        Unstamped::Settle { tag, ids } => write!(f, "settle {} {}", Consumer(client, *tag), List(ids)),
+        Unstamped::Return { tag, ids } => write!(f, "return {} {}", Consumer(client, *tag), List(ids)),
+        Unstamped::Discard { tag, ids } => write!(f, "discard {} {}", Consumer(client, *tag), List(ids)),
     }
 }
