@@ -1,6 +1,7 @@
 use anyhow::Result;
 use qq_base::{Bytes, ConsumerId, Ids, NodeId, QueueId, SessionId};
 use qq_disk::{Image, Tail};
+use qq_entry::{Mode, Unstamped};
 use qq_script_lines::{Nodes, ScriptLine};
 use std::alloc::Global;
 use std::fmt;
@@ -147,42 +148,54 @@ fn credited_text(
     Ok(format!(in alloc; "{counted} credit {credit} {how}")?)
 }
 
-// A line about a consumer, or what becomes of its deliveries.
-fn consumer_text(alloc: Global, said: &ScriptLine) -> Result<String> {
-    match said {
-        ScriptLine::Subscribe {
-            consumer,
-            queue,
-            prefetch,
-        } => subscribed_text(alloc, consumer, *queue, *prefetch),
-        ScriptLine::Link { consumer, queue } => consumed_text(alloc, "link", consumer, *queue),
-        ScriptLine::Credit {
-            consumer,
-            queue,
+// A command about a consumer of a queue.
+fn consumer_text(
+    alloc: Global,
+    session: SessionId,
+    queue: QueueId,
+    tag: u32,
+    command: &Unstamped,
+) -> Result<String> {
+    let consumer = ConsumerId { session, tag };
+    match command {
+        Unstamped::Subscribe { mode, .. } => match mode {
+            Mode::Prefetch(prefetch) => subscribed_text(alloc, &consumer, queue, *prefetch),
+            Mode::Link => consumed_text(alloc, "link", &consumer, queue),
+        },
+        Unstamped::Credit {
             count,
             credit,
             drain,
+            ..
         } => {
-            let head = consumed_text(alloc, "credit", consumer, *queue)?;
+            let head = consumed_text(alloc, "credit", &consumer, queue)?;
             credited_text(alloc, head.as_str(), *count, *credit, *drain)
         }
-        ScriptLine::Cancel { consumer, queue } => consumed_text(alloc, "cancel", consumer, *queue),
-        ScriptLine::Settle {
-            consumer,
-            queue,
-            ids,
-        } => settled_text(alloc, "settle", consumer, *queue, ids),
-        ScriptLine::Return {
-            consumer,
-            queue,
-            ids,
-        } => settled_text(alloc, "return", consumer, *queue, ids),
-        ScriptLine::Discard {
-            consumer,
-            queue,
-            ids,
-        } => settled_text(alloc, "discard", consumer, *queue, ids),
+        Unstamped::Cancel { .. } => consumed_text(alloc, "cancel", &consumer, queue),
+        Unstamped::Settle { ids, .. } => settled_text(alloc, "settle", &consumer, queue, ids),
+        Unstamped::Return { ids, .. } => settled_text(alloc, "return", &consumer, queue, ids),
+        Unstamped::Discard { ids, .. } => settled_text(alloc, "discard", &consumer, queue, ids),
         _ => text_of(alloc, "no text"),
+    }
+}
+
+// A client's command at a queue.
+fn client_text(
+    alloc: Global,
+    session: SessionId,
+    queue: QueueId,
+    command: &Unstamped,
+) -> Result<String> {
+    match command {
+        Unstamped::Get => asked_text(alloc, "get", session, queue),
+        Unstamped::Purge => asked_text(alloc, "purge", session, queue),
+        Unstamped::Subscribe { tag, .. }
+        | Unstamped::Credit { tag, .. }
+        | Unstamped::Cancel { tag }
+        | Unstamped::Settle { tag, .. }
+        | Unstamped::Return { tag, .. }
+        | Unstamped::Discard { tag, .. } => consumer_text(alloc, session, queue, *tag, command),
+        Unstamped::Enqueue { .. } => text_of(alloc, "no text"),
     }
 }
 
@@ -197,8 +210,7 @@ fn at_server_text(alloc: Global, word: &str, node: NodeId, queue: QueueId) -> Re
 // A line about nodes, servers and rounds.
 fn node_text(alloc: Global, said: &ScriptLine) -> Result<String> {
     match said {
-        ScriptLine::Manual => text_of(alloc, "manual"),
-        ScriptLine::Auto => text_of(alloc, "auto"),
+        ScriptLine::Pace { auto } => text_of(alloc, if *auto { "auto" } else { "manual" }),
         ScriptLine::Pump => text_of(alloc, "pump"),
         ScriptLine::Write { node } => at_node_text(alloc, "write", *node),
         ScriptLine::Sync { node } => at_node_text(alloc, "sync", *node),
@@ -207,7 +219,7 @@ fn node_text(alloc: Global, said: &ScriptLine) -> Result<String> {
         ScriptLine::Crash { nodes, image } => image_text(alloc, nodes, image),
         ScriptLine::Restart { nodes } => Ok(format!(in alloc; "restart {}", Which(nodes))?),
         ScriptLine::Show { queue } => Ok(format!(in alloc; "show queue {}", queue.0)?),
-        said => consumer_text(alloc, said),
+        _ => text_of(alloc, "no text"),
     }
 }
 
@@ -247,12 +259,16 @@ pub fn line_text(alloc: Global, said: &ScriptLine) -> Result<String> {
             let to = sent_to_text(alloc, *session, exchange.as_str())?;
             sent_text(alloc, to.as_str(), key.as_str(), body)
         }
-        ScriptLine::Get { session, queue } => asked_text(alloc, "get", *session, *queue),
-        ScriptLine::Purge { session, queue } => asked_text(alloc, "purge", *session, *queue),
+        ScriptLine::Client {
+            session,
+            queue,
+            body,
+        } => client_text(alloc, *session, *queue, body),
         ScriptLine::End { session } => session_text(alloc, "end", *session),
         ScriptLine::Resend { session } => session_text(alloc, "resend", *session),
-        ScriptLine::Mute { session } => session_text(alloc, "mute", *session),
-        ScriptLine::Unmute { session } => session_text(alloc, "unmute", *session),
+        ScriptLine::Mute { session, muted } => {
+            session_text(alloc, if *muted { "mute" } else { "unmute" }, *session)
+        }
         said => node_text(alloc, said),
     }
 }
