@@ -7,7 +7,7 @@ use qq_serial::Serial;
 use std::alloc::Global;
 
 /// What applying an entry gives.
-#[derive(Debug, Drop)]
+#[derive(Drop)]
 pub struct Made {
     /// Of the entry.
     pub index: Index,
@@ -19,7 +19,7 @@ pub struct Made {
 }
 
 /// The plain machine and the machine of parts, to which the same entries were applied.
-#[derive(Debug, Drop)]
+#[derive(Drop)]
 pub struct Pair {
     serial: Serial,
     pub machine: Machine,

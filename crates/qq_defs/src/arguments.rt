@@ -13,7 +13,7 @@ use std::alloc::Global;
 const GROUP: u8 = 3;
 
 /// What an argument of a queue may be.
-#[derive(Clone, Copy, Debug, PartialEq, Eq, Hash)]
+#[derive(Clone, Copy)]
 pub enum Rule {
     /// An initial group size, 1 to 7.
     Group,

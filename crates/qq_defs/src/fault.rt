@@ -6,7 +6,7 @@ use thiserror::Error;
 
 /// Why definitions aren't read. The first fault is told: of the text, of the policies, then of the queues,
 /// the exchanges and the bindings, each in the order of its list, and last that there are too many queues.
-#[derive(Debug, Drop, PartialEq, Error)]
+#[derive(Debug, Drop, Error)]
 pub enum DefsFault {
     /// Not JSON, not UTF-8, or nested more than 127 deep.
     #[error("not JSON")]

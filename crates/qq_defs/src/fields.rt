@@ -8,7 +8,7 @@ use serde_json::Value;
 use std::alloc::Global;
 
 /// A list of the definitions.
-#[derive(Clone, Copy, Debug, PartialEq, Eq, Hash)]
+#[derive(Clone, Copy)]
 pub enum Section {
     Queues,
     Exchanges,
@@ -16,7 +16,7 @@ pub enum Section {
 }
 
 /// An element of a list.
-#[derive(Clone, Copy, Debug, PartialEq, Eq, Hash)]
+#[derive(Clone, Copy)]
 pub struct Place {
     pub section: Section,
     /// From 0.

@@ -5,7 +5,7 @@ use std::fmt;
 
 /// Why a line isn't read. A whole line is looked at for one kind before the next, in this order: `TooLong`,
 /// `Unknown`, `Words`, `Number`, `NoSuch`, `Session`, `Body`. `Memory` may come at any time.
-#[derive(Clone, Copy, Debug, PartialEq, Eq)]
+#[derive(Clone, Copy, Debug)]
 pub enum ScriptFault {
     /// Its first word names no line, or it isn't UTF-8, the body of `publish` excepted.
     Unknown,

@@ -6,14 +6,14 @@ use crate::number_in;
 use crate::options::{LOG_BYTES, LOG_BYTES_LEAST, LOG_BYTES_MOST, Options, QUEUES_MOST};
 
 /// An option.
-#[derive(Clone, Copy, Debug, PartialEq, Eq)]
+#[derive(Clone, Copy)]
 pub enum Name {
     Queues,
     LogBytes,
 }
 
 /// What the words so far have said, and the option whose value is the next word.
-#[derive(Clone, Copy, Debug)]
+#[derive(Clone, Copy)]
 pub struct Draft {
     queues: Option<u32>,
     log_bytes: Option<u64>,

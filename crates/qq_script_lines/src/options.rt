@@ -18,7 +18,7 @@ pub const LOG_BYTES_LEAST: u64 = 65_536;
 pub const LOG_BYTES_MOST: u64 = 67_108_864;
 
 /// What a script is run with.
-#[derive(Clone, Copy, Debug, PartialEq, Eq, Hash)]
+#[derive(Clone, Copy)]
 pub struct Options {
     /// How many queues there are, from 1 to `QUEUES_MOST`.
     pub queues: u32,
