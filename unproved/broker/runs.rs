@@ -48,7 +48,7 @@ fn a_failing_source_or_sink_ends_the_run(rt: HostRuntime) -> Result<()> {
     let alloc = rt.alloc();
     for (script, read, write, status, printed) in [
         ("get\n", 1, 0, 5, "read fault\n"),
-        // In mid-line, and behind a whole line.
+        // Within a line, and after a whole line.
         ("get\npubl", 2, 0, 5, "empty\nread fault\n"),
         ("get\n", 2, 0, 5, "empty\nread fault\n"),
         ("get\nget\n", 0, 2, 6, "empty\n"),

@@ -8,8 +8,8 @@ pub fn body_front(alloc: Global, queue: u32, number: u64) -> Result<String> {
     Ok(format!(in alloc; "q{queue}.{number}.")?)
 }
 
-/// Messages to two queues, in more bytes than a log file has, a crash, more messages, another crash, and gets of
-/// all. After a crash the node is restarted, and its queues get leaders.
+/// Messages to two queues, longer than a log file, a crash, more messages, another crash, and gets of all. After
+/// a crash the node is restarted, and its queues get leaders.
 pub fn script(alloc: Global, image: &str) -> Result<String> {
     let long = "x".repeat(alloc, 40_000)?;
     let crash = format!(in alloc; "crash 1 {image}\nrestart 1\ntick 1 q1\ntick 1 q2\npump\n")?;

@@ -1,8 +1,8 @@
 //! A script for two queues is stopped at each call of its node's disk, and each call fails once.
 //!
-//! A run is stopped in the first disk, before the first crash, or in the second one, inside the restart and
-//! behind it. In each run, each message that was confirmed has to come by a `get` behind the last restart, and
-//! has to stand, with its body, in the lane that recovery reads on the disk.
+//! A run is stopped on the first disk, before the first crash, or on the second one, within the restart and after
+//! it. In each run, each message that was confirmed has to come by a `get` after the last restart, and has to be,
+//! with its body, in the lane that recovery reads from the disk.
 
 use crate::runs::{Ran, serve};
 use crate::script::{body_front, script, was_confirmed, was_got};
@@ -15,10 +15,10 @@ use std::alloc::Global;
 
 const OPTIONS: [&str; 2] = ["--queues=2", "--log-bytes=65536"];
 
-/// No run makes so many calls of a disk.
+/// More calls than any run makes of a disk.
 const MOST_CALLS: u64 = 1_000;
 
-/// At least so many runs are stopped by each disk.
+/// At least this many runs are stopped by each disk.
 const LEAST_CALLS: u64 = 10;
 
 /// The status of a run whose node found no disk.
@@ -42,8 +42,7 @@ fn is_in_lane(lanes: &[Lane], queue: u32, front: &str) -> bool {
         .any(|entry| publishes(&entry.command, front.as_bytes()))
 }
 
-/// Whether a run was stopped. What was confirmed has to be there, and in a run that isn't stopped all messages
-/// are confirmed.
+/// Checks what was confirmed: all messages, in a run that wasn't stopped. Returns whether it was.
 fn check_run(alloc: Global, ran: &Ran, yard: &StoppingYard) -> Result<bool> {
     let printed = ran.printed()?;
     if ran.status == YARD_FAULT {
@@ -68,7 +67,7 @@ fn check_run(alloc: Global, ran: &Ran, yard: &StoppingYard) -> Result<bool> {
     Ok(yard.has_failed())
 }
 
-/// Stops runs by more and more calls of a disk, until none is stopped any more.
+/// Stops runs after more and more calls of a disk, until a run is no longer stopped.
 fn stop_each<F: Fn(u64) -> [Stop; 2]>(rt: HostRuntime, image: &str, stops: F) -> Result<()> {
     let script = script(rt.alloc(), image)?;
     for calls in 0..MOST_CALLS {
@@ -82,12 +81,11 @@ fn stop_each<F: Fn(u64) -> [Stop; 2]>(rt: HostRuntime, image: &str, stops: F) ->
     bail!("a run makes too many calls of its disk")
 }
 
-/// Stops runs in each of the two disks, from a call on and at one call, where crashes leave this of what waits
-/// for a sync.
+/// Stops runs on each of the two disks, from a call on and at one call, where crashes leave this image.
 fn stop_both(rt: HostRuntime, image: &str) -> Result<()> {
-    stop_each(rt, image, |calls| [Stop::Behind(calls), Stop::Never])?;
+    stop_each(rt, image, |calls| [Stop::After(calls), Stop::Never])?;
     stop_each(rt, image, |calls| [Stop::Once(calls), Stop::Never])?;
-    stop_each(rt, image, |calls| [Stop::Never, Stop::Behind(calls)])?;
+    stop_each(rt, image, |calls| [Stop::Never, Stop::After(calls)])?;
     stop_each(rt, image, |calls| [Stop::Never, Stop::Once(calls)])
 }
 
@@ -107,7 +105,7 @@ fn confirmed_messages_survive_crashes_that_leave_20_bytes(rt: HostRuntime) -> Re
 const UNSYNCED: &str =
     "node 1 stopped\nno leader q1\naudit q1 0 1\n1 1 noop 1 lead\naudit q2 0 1\n1 1 noop 1 lead\n";
 
-/// Of runs in which one call fails there is one whose message was appended, and is lost by a crash.
+/// Of runs in which one call fails there is one whose message was appended and is then lost by the crash.
 fn a_message_whose_sync_fails_is_not_answered(rt: HostRuntime) -> Result<()> {
     let mut unsynced = 0;
     for calls in 0..40 {

@@ -45,7 +45,7 @@ impl Yard for UsedYard {
     }
 }
 
-/// The run tells the queue, and how many of its ops were found.
+/// The run prints the queue, and how many of its ops were found.
 fn no_node_is_opened_over_ops_of_another_run(rt: HostRuntime) -> Result<()> {
     let options = ["--queues=2", "--log-bytes=65536"];
     let ran = serve(rt, &options, &mut UsedYard, "publish a\n", 0, 0)?;

@@ -13,9 +13,9 @@ use std::alloc::Global;
 pub enum Stop {
     /// It goes on.
     Never,
-    /// So many calls pass, and all behind them fail.
-    Behind(u64),
-    /// So many calls pass, and then one fails.
+    /// All calls after this many fail.
+    After(u64),
+    /// After this many calls one fails.
     Once(u64),
 }
 
@@ -25,11 +25,11 @@ pub struct StoppingYard {
     /// How the first disk is stopped, and how the one that the first crash leaves.
     stops: [Stop; 2],
     crashes: usize,
-    /// Calls of the disk behind so many may fail.
+    /// Calls of the disk after this many may fail.
     passing: u64,
     /// Whether a call of a disk that was crashed had failed.
     failed: bool,
-    /// The lanes on the disk before the last crash, and those behind it.
+    /// The lanes on the disk before the last crash, and after it.
     before: Vec<Lane>,
     lanes: Vec<Lane>,
 }
@@ -62,18 +62,18 @@ impl StoppingYard {
         &self.before
     }
 
-    /// The lanes on the disk behind the last crash.
+    /// The lanes on the disk after the last crash.
     pub fn lanes(&self) -> &[Lane] {
         &self.lanes
     }
 
-    /// The disk, which is stopped as is set for this many crashes.
+    /// Sets how the disk is stopped after this many crashes.
     fn stop(&mut self, alloc: Global, mut disk: MemDisk) -> Result<MemDisk, YardFault> {
         let stop = self.stops.get(self.crashes).copied();
         self.passing = u64::MAX;
         match stop.unwrap_or(Stop::Never) {
             Stop::Never => {}
-            Stop::Behind(calls) => {
+            Stop::After(calls) => {
                 self.passing = disk.calls() + calls;
                 disk.fuse(calls);
             }

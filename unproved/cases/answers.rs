@@ -4,7 +4,7 @@ use std::io;
 /// Reads cases from the input, and prints each line again with its answer below it, indented by two blanks. So
 /// a file of cases is its own wanted output.
 ///
-/// A line that is indented so is an answer of an earlier run, and is passed over. One that is empty or begins
+/// A line with that indentation is an answer of an earlier run, and is skipped. A line that is empty or begins
 /// with `#` is a comment.
 pub fn answer_lines<F>(rt: HostRuntime, mut answer: F) -> Result<()>
 where

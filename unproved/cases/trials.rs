@@ -42,7 +42,8 @@ impl Trials {
     }
 }
 
-/// Runs functions as checks, each under its own name: of the runtime, or of one that stands behind the checks.
+/// Runs functions as checks, each under its own name. They take the runtime; or a reference to one, where it is
+/// given before the semicolon.
 #[macro_export]
 macro_rules! run_each {
     ($trials:expr; $($check:ident),+ $(,)?) => {

@@ -18,7 +18,7 @@ impl<'a> Words<'a> {
         Words { rest: line }
     }
 
-    /// All that is left of the line.
+    /// The rest of the line.
     pub fn rest(&self) -> &'a str {
         self.rest
     }

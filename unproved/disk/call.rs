@@ -44,7 +44,7 @@ fn read<D: NodeDisk>(alloc: Global, disk: &mut D, words: &mut Words) -> Result<S
     }
 }
 
-/// Makes a line's call of a disk, and tells what it answered.
+/// Makes a line's call of a disk, and returns the answer as text.
 pub fn answer<D: NodeDisk>(alloc: Global, disk: &mut D, line: &str) -> Result<String> {
     let words = &mut Words::new(line);
     let done = match words.next() {

@@ -9,7 +9,7 @@
 //! Of the disk in memory alone, after which the other is put aside until the next `disk`:
 //!
 //! - `fail N..`: the calls of these numbers fail; `fuse K`: K calls more pass; `calls` says how many were made;
-//! - `crash NEWEST OTHERS BACK`: a crash, with what is left of the pending bytes of the newest log and of
+//! - `crash NEWEST OTHERS BACK`: a crash. It says what remains of the pending bytes of the newest log and of
 //!   all other files (`whole`, `cut:N`, `junk:TEXT`), and whether removed files are back (`back`, `gone`).
 //!
 //! Of the disk in the folder alone:
@@ -18,7 +18,7 @@
 //! - `break K`: K calls of the system more pass, and then one fails; `reopen`: the folder is opened anew;
 //! - `put NAME TEXT` and `folder NAME`: somebody else puts a file or a folder there;
 //! - `block`: somebody else puts a file in the folder's place;
-//! - `random SEED COUNT`: so many random calls of both disks.
+//! - `random SEED COUNT`: COUNT random calls of both disks.
 //!
 //! Of yards, one in memory and one of folders, which give both disks:
 //!
@@ -100,7 +100,7 @@ impl<'a> Disks<'a> {
         self.system.rt.alloc()
     }
 
-    /// Carries out a line, and tells what is printed below it.
+    /// Carries out a line, and returns its answer.
     fn line(&mut self, line: &str) -> Result<String> {
         let words = &mut Words::new(line);
         match words.next() {
@@ -140,8 +140,8 @@ impl<'a> Disks<'a> {
         Ok(String::new(self.alloc()))
     }
 
-    /// Makes a call of both. What the one in the folder asks of the system is printed behind the answer of the
-    /// one in memory.
+    /// Makes a call of both. The answer of the one in memory is printed first, since the one in the folder may
+    /// print its calls of the system.
     fn call(&mut self, line: &str) -> Result<String> {
         let alloc = self.alloc();
         let text = answer(alloc, &mut self.memory, line)?;
@@ -232,7 +232,7 @@ impl<'a> Disks<'a> {
         self.take(memory, folder)
     }
 
-    /// Takes the disks that the yards gave, and tells what they answered.
+    /// Takes the disks that the yards gave, and returns what the yards answered.
     fn take(
         &mut self,
         memory: Result<MemDisk, YardFault>,

@@ -1,4 +1,4 @@
-//! Checks of log records and of file headers: each is worked out by hand, with its mark by another SHA-256.
+//! Checks of log records and of file headers against their bytes.
 
 use crate::logs::bytes_of;
 use anyhow::{Result, ensure};
@@ -38,7 +38,7 @@ const SEGMENT: &str =
     "000000180300000003000000000000000e000000000000000900000000000000050000000000000006495218 \
     f4ad508022";
 
-/// File 3 behind 84 bytes of file 1.
+/// File 3, which follows 84 bytes of file 1.
 const HEADER: &str = "51514c4f4701000000000000000300000000000000010000000000000054b0ec9fad098c5884";
 
 /// CHANGE with kind 5, marked anew.
@@ -63,7 +63,7 @@ const HEAD: SnapshotHead = SnapshotHead {
     through: Index(6),
 };
 
-/// The bytes are the record, whatever follows them, and it is written so.
+/// Checks that these bytes are read as the record, whatever follows them, and that it is written as them.
 fn stand_for(alloc: Global, file: u64, digits: &str, wanted: LogRecord) -> Result<()> {
     let bytes = bytes_of(alloc, digits)?;
     let mut longer = bytes.clone()?;

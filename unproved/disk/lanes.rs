@@ -12,7 +12,7 @@ use qq_wal_record::read_header;
 use std::alloc::Global;
 use std::fmt;
 
-/// Log files that recovery begins are full with so many bytes.
+/// The length at which a log file that recovery begins is full.
 const LOG_BYTES: u64 = 1000;
 
 /// A lane as the number of its last op, its term and vote, and the terms of its entries.

@@ -6,13 +6,13 @@
 //! - `lanes QUEUE..`: what recovery reads of the disk where these queues are listed, and changes nothing;
 //! - `recover QUEUE..`: recovery of the disk: the lanes that it gives, which log files have entries of which
 //!   queue, and the file that it begins;
-//! - `cuts QUEUE..`: the lanes that recovery gives after a crash that leaves so many of the bytes that wait
-//!   for a sync, for each number of them, in runs that give the same, and where it leaves others there;
+//! - `cuts QUEUE..`: the lanes that recovery gives after a crash that leaves the first K bytes of those that
+//!   wait for a sync, for each K, printed where they change, and after one that leaves other bytes there;
 //! - `stops QUEUE..`: recovery of the disk as it was written, where each call of the disk in turn fails
-//!   alone, and where the disk stops there: then comes a crash that leaves nothing of what waits for a sync,
-//!   so many bytes, all or others; and a second recovery, which behind a crash that leaves nothing, all or
-//!   others is stopped at each of its calls, before a third. Each that isn't stopped has to give the same
-//!   lanes.
+//!   alone, and where the disk stops at that call. After a stop comes a crash, which leaves each possible
+//!   number of the bytes that wait for a sync, all of them, or others, and a second recovery. Where the crash
+//!   left none, all or others, the second recovery is stopped at each of its calls too, before a third. Each
+//!   recovery that isn't stopped has to give the same lanes.
 //!
 //! A queue's lane is printed as the number of its last op, its term and vote, and the terms of its entries. A
 //! queue without ops has none.
@@ -43,7 +43,7 @@ fn queues(words: &mut Words, alloc: Global) -> Result<Vec<QueueId>> {
     Ok(numbers.into_iter().map(QueueId).collect(alloc)?)
 }
 
-/// The bytes of hexadecimal digits, whatever blanks are between them.
+/// The bytes of hexadecimal digits, which may have blanks between them.
 pub fn bytes_of(alloc: Global, digits: &str) -> Result<Vec<u8>> {
     let digits: String = digits.split_whitespace().collect(alloc)?;
     Ok(hex::decode(alloc, digits.as_str())?)
@@ -58,7 +58,7 @@ impl Images {
         }
     }
 
-    /// Carries out a line, and tells what is printed below it.
+    /// Carries out a line, and returns its answer.
     fn line(&mut self, alloc: Global, line: &str) -> Result<String> {
         let words = &mut Words::new(line);
         match words.next() {

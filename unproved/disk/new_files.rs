@@ -12,10 +12,10 @@ use qq_wal::WalFault;
 /// File 1, which names no other.
 const FIRST: &str = "51514c4f470100000000000000010000000000000000000000000000000052e411e63587068b";
 
-/// File 2 behind 38 bytes of file 1.
+/// File 2, which follows 38 bytes of file 1.
 const SECOND: &str = "51514c4f47010000000000000002000000000000000100000000000000264aaf92ff3f163126";
 
-/// A file is full with so many bytes.
+/// The length at which a file is full.
 const LOG_BYTES: u64 = 39;
 
 fn a_new_file_names_the_old_one(rt: HostRuntime) -> Result<()> {

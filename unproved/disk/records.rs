@@ -1,9 +1,9 @@
-//! Appends records to a disk in a folder, and syncs after so many of them.
+//! Appends records to a disk in a folder, and syncs now and then.
 //!
 //! The words are `FOLDER SYNCS RECORDS BYTES`: RECORDS records of BYTES bytes each go to log 1 before each
 //! of SYNCS syncs, each by an append of its own. A record is its number in ten digits, from 0 on, dots and a
-//! line feed. After each sync the number of its last record is printed, with the word `quiet` behind the
-//! others only after the last sync.
+//! line feed. After each sync the number of its last record is printed; with `quiet` as a fifth word, only after
+//! the last sync.
 
 use crate::files::log_file;
 use anyhow::{Context, Result, bail};

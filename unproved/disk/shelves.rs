@@ -2,7 +2,7 @@
 //! answers otherwise, that is printed too. The lines are
 //!
 //! - `empty`: no files;
-//! - `file NAME TEXT`, `long NAME LENGTH`: a file of the shelves to come, with this text or so many dots;
+//! - `file NAME TEXT`, `long NAME LENGTH`: a file of the next shelves, with this text or LENGTH dots;
 //! - `folder NAME`: a folder in a file's place, for the shelf in a folder alone;
 //! - `shelf CALLS..`: shelves of these files; in memory the calls with these numbers fail, counted from 1;
 //! - `fetch NAME`: the file's text; `length NAME`: its length.
@@ -57,7 +57,7 @@ impl Shelves {
         })
     }
 
-    /// Carries out a line, and tells what is printed below it.
+    /// Carries out a line, and returns its answer.
     fn line(&mut self, line: &str) -> Result<String> {
         let alloc = self.rt.alloc();
         let words = &mut Words::new(line);

@@ -1,4 +1,4 @@
-//! What recovery gives where a crash cut what waits for a sync, and where the disk stops at each call.
+//! What recovery gives after each cut of what waits for a sync, and after a stop at each call of the disk.
 
 use crate::lanes::recovered_lanes;
 use anyhow::{Result, bail, ensure};
@@ -8,7 +8,7 @@ use qq_mem_disk::MemDisk;
 use qq_recover::{RecoverFault, recover};
 use std::alloc::Global;
 
-/// No recovery of the cases makes so many calls.
+/// More calls than any recovery of the cases makes.
 const MOST_CALLS: u64 = 1000;
 
 /// The files that recovery begins have fewer bytes.
@@ -39,7 +39,7 @@ pub struct Written {
 }
 
 impl Written {
-    /// Nothing.
+    /// A disk to which nothing was written.
     pub fn new(alloc: Global) -> Self {
         Written {
             pieces: Vec::new(alloc),
@@ -84,7 +84,7 @@ fn junk(alloc: Global) -> Result<Tail> {
     Ok(Tail::Junk(Bytes::from_vec(vec![in alloc; 255; 1000]?)))
 }
 
-/// What a crash leaves, with this of what waits for a sync.
+/// What a crash leaves of a disk, with this tail of what waits for a sync.
 fn crash(alloc: Global, disk: MemDisk, tail: Tail) -> Result<MemDisk> {
     let image = Image {
         newest_log: tail,
@@ -94,8 +94,8 @@ fn crash(alloc: Global, disk: MemDisk, tail: Tail) -> Result<MemDisk> {
     Ok(disk.crash(alloc, &image)?)
 }
 
-/// The lanes of each cut of what waits for a sync, in runs of cuts that give the same, and then those where
-/// other bytes stand there.
+/// The lanes after each cut of what waits for a sync, where they differ from those before, and then those with
+/// other bytes in its place.
 pub fn cuts(alloc: Global, written: &Written, queues: &[QueueId]) -> Result<String> {
     let mut text = String::new(alloc);
     let mut before = String::new(alloc);
@@ -122,12 +122,12 @@ struct Recovery<'a> {
     alloc: Global,
     written: &'a Written,
     queues: &'a [QueueId],
-    /// The lanes that come whatever happens.
+    /// The lanes that each recovery has to give.
     wanted: &'a str,
 }
 
 impl Recovery<'_> {
-    /// The disk, where it stops a recovery. None where the recovery comes to its end.
+    /// The disk, if it stops a recovery. None if the recovery ends.
     fn stopped_by(self, disk: MemDisk) -> Option<MemDisk> {
         match recover(disk, self.alloc, self.queues, 1000) {
             Err((RecoverFault::Disk, disk)) => Some(disk),
@@ -135,13 +135,13 @@ impl Recovery<'_> {
         }
     }
 
-    /// The disk, where so many calls pass and all behind them fail.
+    /// The disk, if it stops a recovery when all calls fail after this many.
     fn stopped_after(self, mut disk: MemDisk, calls: u64) -> Option<MemDisk> {
         disk.fuse(calls);
         self.stopped_by(disk)
     }
 
-    /// The disk, where so many calls pass and one fails.
+    /// The disk, if it stops a recovery when one call fails after this many.
     fn failed_after(self, mut disk: MemDisk, calls: u64) -> Result<Option<MemDisk>> {
         let failing = disk.calls() + calls + 1;
         disk.fail_calls(vec![in self.alloc; failing]?);
@@ -157,8 +157,8 @@ impl Recovery<'_> {
         Ok(())
     }
 
-    /// What a crash leaves behind a recovery that is stopped after so many calls: so many bytes of what waits
-    /// for a sync, all of it or others. None where the recovery came to its end.
+    /// What a crash leaves after a recovery that is stopped after `calls` calls: `choice` bytes of what waits
+    /// for a sync, or, for the two greatest choices, all of it and others. None if the recovery ends.
     fn crashed(self, calls: u64, choice: u64) -> Result<Option<MemDisk>> {
         let tail = match choice {
             0..LONGEST => Tail::Cut(choice),
@@ -171,7 +171,7 @@ impl Recovery<'_> {
         }
     }
 
-    /// A second recovery is stopped at each of its calls, and a third one wants the same lanes.
+    /// Stops a second recovery at each of its calls, and checks the lanes of a third one.
     fn stop_again(self, calls: u64, choice: u64) -> Result<()> {
         for more in 0..MOST_CALLS {
             let Some(disk) = self.crashed(calls, choice)? else {
@@ -185,8 +185,8 @@ impl Recovery<'_> {
         bail!("a recovery makes too many calls")
     }
 
-    /// Whether a recovery is stopped after so many calls. Whatever a crash leaves then has to give these
-    /// lanes, and so has the disk itself where one call failed.
+    /// Whether a recovery is stopped after this many calls. Then it has to give the lanes after each crash, and
+    /// also where only one call failed.
     fn stops_after(self, calls: u64) -> Result<bool> {
         let Some(disk) = self.failed_after(self.written.disk(self.alloc)?, calls)? else {
             return Ok(false);
@@ -205,7 +205,7 @@ impl Recovery<'_> {
     }
 }
 
-/// In how many calls the disk can stop a recovery, where the same lanes come whatever follows.
+/// How many calls of a recovery the disk can stop, each with the same lanes afterwards.
 pub fn stops(alloc: Global, written: &Written, queues: &[QueueId]) -> Result<String> {
     ensure!(written.waiting() == 0, "all has to be synced");
     let wanted = recovered_lanes(alloc, written.disk(alloc)?, queues)?;

@@ -1,8 +1,8 @@
 //! Cases of the log's writer: what a log of queues 1 and 2 answers. The lines are
 //!
 //! - `log CALLS..`: a new log, on a disk that fails at calls of these numbers;
-//! - `gather QUEUE COUNT SIZE`: the queue's next op, which publishes so many messages with bodies of 65,536
-//!   bytes, and then one with a body of SIZE bytes; `many COUNT`: so many ops of queue 1 with empty bodies;
+//! - `gather QUEUE COUNT SIZE`: the queue's next op, which publishes COUNT messages with bodies of 65,536
+//!   bytes, and then one with a body of SIZE bytes; `many COUNT`: COUNT ops of queue 1 with empty bodies;
 //! - `append`, `sync`, and `roll`, which syncs before it;
 //! - `size FILE`: how long a log file is; `entries QUEUE FILE`: which entries of a queue lie in it.
 
@@ -23,7 +23,7 @@ use std::fmt::Display;
 pub const QUEUES: [QueueId; 2] = [QueueId(1), QueueId(2)];
 
 /// A log of queues 1 and 2 without ops, which begins with a file of this number, on a disk in memory that fails
-/// at calls of these numbers. A file is full with so many bytes.
+/// at calls of these numbers. A file is full at `log_bytes` bytes.
 pub fn begin(alloc: Global, file: u64, fails: Vec<u64>, log_bytes: u64) -> Result<Wal<MemDisk>> {
     let header = Header {
         file,
@@ -54,7 +54,7 @@ struct Fed {
     lines: [Line; 2],
 }
 
-/// An entry that publishes a message with a body of so many bytes.
+/// An entry that publishes a message with a body of `size` bytes.
 fn publish(alloc: Global, size: usize) -> Result<Entry> {
     let content = Content {
         body: Bytes::from_vec(vec![in alloc; b'x'; size]?),
@@ -85,8 +85,8 @@ impl Fed {
         })
     }
 
-    /// Hands a queue's next op to the log, with so many entries whose bodies are as long as may be, and one
-    /// with a body of so many bytes.
+    /// Hands a queue's next op to the log: `longest` entries whose bodies are as long as possible, and one with
+    /// a body of `size` bytes.
     fn gather(
         &mut self,
         alloc: Global,
@@ -159,7 +159,7 @@ impl Fed {
         }
     }
 
-    /// Carries out a line, and tells what the log answered.
+    /// Carries out a line, and returns its answer.
     fn line(&mut self, alloc: Global, line: &str) -> Result<String> {
         let words = &mut Words::new(line);
         match words.next() {
@@ -189,7 +189,7 @@ impl Fed {
     }
 }
 
-/// What a call has answered, behind a word, or why it failed.
+/// A word and what a call answered, or why it failed.
 fn text<T: Display + Drop>(
     alloc: Global,
     word: &str,

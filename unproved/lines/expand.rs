@@ -24,9 +24,8 @@ impl Names {
         Ok(())
     }
 
-    /// The line, with what stands for each part in angle brackets, the inner ones first: for `<NAME>` the text
-    /// of that name, and for `<COUNT TEXT>` so many copies of a text, in each of which `%` is the copy's
-    /// number, from 1.
+    /// The line, with each part in angle brackets replaced, the inner ones first: `<NAME>` by the text of that
+    /// name, and `<COUNT TEXT>` by COUNT copies of a text, in each of which `%` is the copy's number, from 1.
     pub fn expand(&self, alloc: Global, line: &str) -> Result<String> {
         let mut around = Vec::new(alloc);
         let mut text = String::new(alloc);

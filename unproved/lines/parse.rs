@@ -1,6 +1,6 @@
 //! Cases of a script's lines: a line of a script, and below it what it says, or its first fault. In a line of
-//! cases `<COUNT TEXT>` stands for so many copies of a text, in each of which `%` is the copy's number, from 1.
-//! The lines are
+//! cases `<COUNT TEXT>` means COUNT copies of a text, in each of which `%` is the copy's number, from 1. The
+//! lines are
 //!
 //! - `setup NODES GROUP QUEUES`: the setup from here on, with no definitions. At first it is of one node and
 //!   one queue;
@@ -16,7 +16,7 @@ use qq_defs::{Setup, read};
 use qq_script_lines::{Place, parse_line};
 use std::alloc::Global;
 
-/// The length of log files, which no line tells.
+/// The length of log files, which no line shows.
 const LOG_BYTES: u64 = 65_536;
 
 /// The setup that lines are read with, and where they stand.
@@ -44,7 +44,7 @@ impl Reader {
         })
     }
 
-    /// Carries out a line of cases, and tells what is printed below it.
+    /// Carries out a line of cases, and returns its answer.
     fn line(&mut self, line: &str) -> Result<String> {
         let alloc = self.alloc;
         let line = Names::new(alloc).expand(alloc, line)?;

@@ -11,7 +11,7 @@ use std::alloc::Global;
 /// A line is given up at its first byte too many.
 const TOO_LONG: LineFault = LineFault::TooLong { length: 70_001 };
 
-/// How long a line of so many letters and an ending is, or why it isn't given.
+/// The length of the line that is read from `letters` letters and an ending, or why none is given.
 fn length_of(alloc: Global, letters: usize, ending: &[u8]) -> Result<Result<usize, LineFault>> {
     let mut bytes = vec![in alloc; b'x'; letters]?;
     bytes.extend_from_slice(ending)?;
@@ -53,7 +53,7 @@ impl Sink for ByByte {
     }
 }
 
-/// What is written of a text where there is so much room and one call fails, and the result.
+/// The result of writing a text where a sink has this room and one call fails, and what was written.
 fn written(alloc: Global, room: usize, fails: u64) -> Result<(Result<(), Failed>, Vec<u8>)> {
     let mut out = ByByte(MemSink::new(alloc, room, vec![in alloc; fails]?)?);
     let result = write_all(&mut out, b"orders");

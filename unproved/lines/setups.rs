@@ -1,6 +1,5 @@
-//! Cases of definitions and of routes: a line asks, and below it stands the answer. In a line `<NAME>` stands
-//! for what `let NAME TEXT` said, and `<COUNT TEXT>` for so many copies of a text, in each of which `%` is the
-//! copy's number, from 1. The lines are
+//! Cases of definitions and of routes. In a line `<NAME>` means the text that `let NAME TEXT` gave, and
+//! `<COUNT TEXT>` means COUNT copies of a text, in each of which `%` is the copy's number, from 1. The lines are
 //!
 //! - `nodes N`, `policies ignored` and `policies refused`: how exports are read from here on, at first over 3
 //!   nodes with policies refused;
@@ -8,7 +7,7 @@
 //!   that the program's word names, or from hexadecimal digits;
 //! - `cut TEXT`: each shorter front of an export is read, down to the empty one;
 //! - `arguments TEXT`: a quorum queue's arguments are read;
-//! - `plain GROUP QUEUES`: the setup of so many queues with no definitions.
+//! - `plain GROUP QUEUES`: the setup of QUEUES queues with no definitions.
 //!
 //! The routes are those of the last setup, or, after `routes`, the first ones of a broker. `-` is the empty
 //! text.
@@ -66,7 +65,7 @@ impl<'a> Setups<'a> {
         })
     }
 
-    /// Carries out a line, and tells what is printed below it.
+    /// Carries out a line, and returns its answer.
     fn line(&mut self, line: &str) -> Result<String> {
         let alloc = self.rt.alloc();
         let line = self.names.expand(alloc, line)?;
@@ -148,7 +147,7 @@ impl<'a> Setups<'a> {
         }
     }
 
-    /// Takes a setup's routes, and tells what it is.
+    /// Takes a setup's routes, and returns the setup in words.
     fn take(&mut self, setup: Setup) -> Result<String> {
         let text = setup_text(self.rt.alloc(), &setup)?;
         self.routes = setup.routes;

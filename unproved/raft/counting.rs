@@ -8,7 +8,7 @@ use qq_log::{Lane, Log};
 use qq_raft_msg::{LogView, Queue};
 use std::alloc::Global;
 
-/// A machine that counts entries. It answers each with the number of entries so far, as a purge of so many
+/// A machine that counts entries. It answers each with the number of entries so far, as a purge of that many
 /// messages.
 #[derive(Drop)]
 pub struct Counting {

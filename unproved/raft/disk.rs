@@ -10,7 +10,7 @@ use std::mem;
 /// The queue of the group.
 pub const QUEUE: QueueId = QueueId(1);
 
-/// What the ops that were written come to.
+/// The lane that the written ops make.
 #[derive(Drop)]
 pub struct Disk {
     lane: Lane,

@@ -1,15 +1,15 @@
 //! Cases of a group's events. Members are numbered from 1, and so are the messages that are on their way. The
 //! lines are
 //!
-//! - `group COUNT`: from here on a new group of so many members over new disks, all of them up;
+//! - `group COUNT`: from here on a new group of COUNT members over new disks, all of them up;
 //! - `tick N`, `crash N`: time passes at a member, or it crashes;
-//! - `publish N [COUNT [SIZE]]`: so many commands reach a member, each with a body of so many bytes;
+//! - `publish N [COUNT [SIZE]]`: COUNT commands reach a member, each with a body of SIZE bytes;
 //! - `deliver PLACE`, `lose PLACE`, `copy PLACE`: what becomes of a message; `to N`: all messages that are on
 //!   their way to a member reach it; `drop`: all messages are lost;
-//! - `write N`: all ops of a member that wait are written to its disk; `notice N [OP]`: it is told of what its
-//!   disk holds, or of an op;
+//! - `write N`: all ops of a member that wait are written to its disk; `notice N [OP]`: it learns that they are
+//!   durable, all that its disk holds or those up to an op;
 //! - `restart N OP`: a member that is down restarts over what its disk held when an op was the last on it;
-//! - `settle`: messages are delivered, ops written and members told, until nothing is left;
+//! - `settle`: messages are delivered, ops written and noticed, until nothing is left;
 //! - `state`, `audit`, `bag`: each member, the terms of the committed entries, and whom messages are for.
 //!
 //! An answer says that the event didn't happen, and why, or which entries a leader answers by it.
@@ -35,7 +35,7 @@ struct Stage {
     submitted: u64,
 }
 
-/// What an event came to, and the entries that are answered by it.
+/// The outcome of an event, and the entries that it answers.
 fn text(alloc: Global, shown: &Shown) -> Result<String> {
     let mut text = String::new(alloc);
     match shown.outcome {
@@ -65,7 +65,7 @@ impl Stage {
         })
     }
 
-    /// Carries out a line, and tells what is printed below it.
+    /// Carries out a line, and returns its answer.
     fn line(&mut self, line: &str) -> Result<String> {
         let words = &mut Words::new(line);
         let shown = match words.next() {
@@ -90,7 +90,7 @@ impl Stage {
         text(self.alloc, &shown)
     }
 
-    /// Carries out a line of many events, of which nothing is shown, or one that asks.
+    /// Carries out a line of many events, which has no answer, or one that asks.
     fn many_events(&mut self, word: &str, words: &mut Words) -> Result<String> {
         match word {
             "group" => *self = Stage::new(self.alloc, words.number()?)?,
@@ -109,8 +109,7 @@ impl Stage {
         Ok(String::new(self.alloc))
     }
 
-    /// One command reaches a member, or so many, each at the time that is its number. What the last one comes
-    /// to.
+    /// Commands reach a member, each at the time that is its number. The outcome of the last one.
     fn publish(&mut self, words: &mut Words) -> Result<Shown> {
         let node = words.number()?;
         let counts: Vec<u64> = words.numbers(self.alloc)?;
@@ -124,7 +123,7 @@ impl Stage {
         shown.context("no command")
     }
 
-    /// A member is told of what its disk holds, or of an op.
+    /// A member learns that its log is durable, up to what its disk holds or up to an op.
     fn notice(&mut self, words: &mut Words) -> Result<Shown> {
         let node = words.number()?;
         match words.rest() {
@@ -157,7 +156,7 @@ impl Stage {
         Ok(())
     }
 
-    /// Messages reach their members, ops are written, and members are told of them, until nothing is left.
+    /// Messages reach their members, and ops are written and noticed, until nothing is left.
     fn settle(&mut self) -> Result<()> {
         for _ in 0..ROUNDS {
             let mut done = self.party.deliver_all()?;
@@ -172,8 +171,8 @@ impl Stage {
         bail!("messages don't end")
     }
 
-    /// A member that is down restarts over what its disk held when an op was the last that was written. Without
-    /// ops it was new.
+    /// A member that is down restarts over its disk as it was when an op was the last on it, or over a new one
+    /// for op 0.
     fn restart(&mut self, node: u8, op: u64) -> Result<String> {
         let mut disk = Disk::new(self.alloc);
         if op > 0 {

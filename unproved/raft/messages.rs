@@ -17,7 +17,7 @@ const VOTE: &str = "010102 0000000000000003 0000000000000004 0000000000000002";
 /// From 2 to 1 in term 3: granted.
 const VOTED: &str = "020201 0000000000000003 01";
 
-/// From 1 to 3 in term 3: behind entry 1 of term 1, commit 1, one first entry of term 3 and time 5.
+/// From 1 to 3 in term 3: after entry 1 of term 1, commit 1, one entry of term 3 and time 5.
 const APPEND: &str = "030103 0000000000000003 0000000000000001 0000000000000001 0000000000000001 \
     00000001 0000000000000003 0000000a 0000000000000005 00 01";
 
@@ -72,13 +72,13 @@ const CURRENT: InstalledMsg = InstalledMsg {
     index: Index(4),
 };
 
-/// The bytes of hexadecimal digits, whatever blanks are between them.
+/// The bytes of hexadecimal digits, which may have blanks between them.
 fn bytes_of(alloc: Global, digits: &str) -> Result<Vec<u8>> {
     let digits: String = digits.split_whitespace().collect(alloc)?;
     Ok(hex::decode(alloc, digits.as_str())?)
 }
 
-/// The bytes are the message, whatever follows them, and it is written so.
+/// Checks that these bytes are read as the message, whatever follows them, and that it is written as them.
 fn stand_for(alloc: Global, digits: &str, wanted: &Rpc) -> Result<()> {
     let bytes = bytes_of(alloc, digits)?;
     let mut longer = bytes.clone()?;
@@ -127,7 +127,7 @@ fn entries_and_snapshots_have_their_bytes(rt: HostRuntime) -> Result<()> {
     stand_for(alloc, INSTALL, &Rpc::Install(install))
 }
 
-/// The bytes are refused so.
+/// Checks that bytes are refused for this cause.
 fn refuses(alloc: Global, bytes: &[u8], wanted: Refusal) -> Result<()> {
     match decode(alloc, bytes) {
         Ok(_) => bail!("the bytes are a message"),
@@ -138,7 +138,7 @@ fn refuses(alloc: Global, bytes: &[u8], wanted: Refusal) -> Result<()> {
     }
 }
 
-/// A message that says 64 entries and has so many.
+/// A message that says 64 entries and has `count`.
 fn append_with(alloc: Global, count: usize) -> Result<Vec<u8>> {
     let mut bytes = bytes_of(alloc, APPEND_64)?;
     let entry = bytes_of(alloc, NOOP)?;

@@ -31,7 +31,7 @@ fn open(alloc: Global, audit: Entries, disks: &[Disk]) -> Result<Group<Counting,
     Ok(Group::resume(alloc, QUEUE, &nodes, audit, starts)?)
 }
 
-/// A command that publishes a message with a body of so many bytes.
+/// A command that publishes a message with a body of `size` bytes.
 pub fn publish(alloc: Global, size: usize) -> Result<Command> {
     let content = Content {
         body: Bytes::from_vec(vec![in alloc; b'x'; size]?),
@@ -86,9 +86,10 @@ impl Party {
         self.disks.get_mut(place).context("no such disk")
     }
 
-    /// A member that is down restarts over a disk, which is its own from here on. What was lost, where the
-    /// group knows that more was durable: the op that it was told of, and the one that was found.
+    /// A member that is down restarts over a disk, which is its own from here on. If the group knows that more
+    /// was durable, it stays down: the op that was noticed, and the one that was found.
     pub fn restart(&mut self, node: u8, disk: Disk) -> Result<Option<(u64, u64)>> {
+        ensure!(1 <= node && node <= self.count, "no such member");
         ensure!(self.member(node).is_none(), "the member is up");
         let log = disk.log(self.alloc)?;
         match self
@@ -127,7 +128,7 @@ impl Party {
         self.step(Event::Tick { node: NodeId(node) })
     }
 
-    /// A command that publishes a message with a body of so many bytes reaches a member.
+    /// A command that publishes a message with a body of `size` bytes reaches a member.
     pub fn publish(&mut self, node: u8, time: u64, size: usize) -> Result<Shown> {
         let command = publish(self.alloc, size)?;
         self.step(Event::Submit {
@@ -142,7 +143,7 @@ impl Party {
         self.step(Event::Deliver { place })
     }
 
-    /// A member is told that its log is durable up to an op.
+    /// A member learns that its log is durable up to an op.
     pub fn notice_op(&mut self, node: u8, op: u64) -> Result<Shown> {
         self.step(Event::Notice {
             node: NodeId(node),
@@ -150,13 +151,13 @@ impl Party {
         })
     }
 
-    /// A member is told that its log is durable up to what is on its disk.
+    /// A member learns that its log is durable up to what is on its disk.
     pub fn notice(&mut self, node: u8) -> Result<Shown> {
         let op = self.disk(node)?.op();
         self.notice_op(node, op)
     }
 
-    /// The next op of a member is written to its disk. Whether there was one.
+    /// The next op of a member is written to its disk. Returns whether there was one.
     pub fn write(&mut self, node: u8) -> Result<bool> {
         let alloc = self.alloc;
         let Some(op) = self.group.waiting(alloc, NodeId(node))? else {
@@ -166,7 +167,7 @@ impl Party {
         Ok(true)
     }
 
-    /// All messages that are on their way reach their members. How many they were.
+    /// All messages that are on their way reach their members. Returns how many they were.
     pub fn deliver_all(&mut self) -> Result<u32> {
         let count = self.messages();
         for _ in 0..count {
@@ -183,7 +184,7 @@ impl Party {
         Ok(())
     }
 
-    /// All ops of all members are written. How many they were.
+    /// All ops of all members are written. Returns how many they were.
     pub fn write_all(&mut self) -> Result<u64> {
         let mut written = 0;
         for node in 1..=self.count {
@@ -194,7 +195,7 @@ impl Party {
         Ok(written)
     }
 
-    /// All members are told of what is on their disks.
+    /// All members learn what is durable on their disks.
     pub fn notice_all(&mut self) -> Result<()> {
         for node in 1..=self.count {
             self.notice(node)?;
@@ -217,7 +218,7 @@ impl Party {
         self.group.receiver(place)
     }
 
-    /// What a member tells of itself.
+    /// A member's state. None if it is down.
     pub fn member(&self, node: u8) -> Option<MemberState> {
         self.group.member(NodeId(node))
     }

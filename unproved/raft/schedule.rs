@@ -1,6 +1,6 @@
 //! A group of 3 members and one of 5 go through random events: time passes, commands are submitted, messages
-//! are delivered in any order, lost and copied, ops are written, members are told of them or not, crash, and
-//! start again over their disks as they stand, one of them or all.
+//! are delivered in any order, lost and copied, ops are written, and noticed or not, and members crash and start
+//! again over their disks as they are, one of them or all.
 //!
 //! At each step the last entries that a member knows to be committed are the audit's, each row that is shown is
 //! of the audit's entry at its index, the audit hasn't become shorter, and one member leads a term at most.

@@ -66,8 +66,8 @@ fn lead_third_term(party: &mut Party) -> Result<()> {
     Ok(())
 }
 
-/// The message in front reaches its member. Whether it tells the leader of entries of term 1 alone: member 2
-/// has commands of term 1, and not yet the entry of term 3.
+/// The first message reaches its member. Returns whether it informs the leader of entries of term 1 alone: member
+/// 2 has commands of term 1, and not yet the entry of term 3.
 fn take_first(party: &mut Party) -> Result<bool> {
     let last = state_of(party, 2)?.last.0;
     let is_for_leader = party.receiver(1).is_some_and(|receiver| receiver.0 == 1);
@@ -80,8 +80,8 @@ fn take_first(party: &mut Party) -> Result<bool> {
     Ok(is_for_leader && 1 < last && last < ALL)
 }
 
-/// Members take messages until all is committed; nothing is before the entry of term 3 is, though a majority
-/// has told the leader of entries of term 1.
+/// Members take messages until all is committed. Nothing is committed before the entry of term 3 is, though the
+/// leader knows that a majority has entries of term 1.
 fn commit_at_once(party: &mut Party) -> Result<()> {
     let mut told = false;
     for _ in 0..ROUNDS {

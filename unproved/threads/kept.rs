@@ -1,4 +1,4 @@
-//! Ops of three queues, and what is kept of them.
+//! Ops of three queues, and a log that keeps them.
 
 use qq_base::{Index, QueueId, Term};
 use qq_entry::Entries;
@@ -39,7 +39,7 @@ impl Synced for Kept {
 }
 
 impl Kept {
-    /// Keeps an op, and tells whether it is the next one of its queue.
+    /// Keeps an op, and returns whether it is the next one of its queue.
     pub fn keep(&mut self, op: &Op) -> bool {
         let last = &mut self.last[op.queue().0 as usize - 1];
         let is_next = op.number() == *last + 1;

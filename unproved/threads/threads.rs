@@ -17,7 +17,7 @@ use std::thread::Threads;
 /// The ops of each of three queues, but for the first one, which has one more.
 const ROUNDS: u64 = 33_333;
 
-/// So many ops of each of three queues, in turn, and one more of the first.
+/// `rounds` ops of each of three queues, in turn, and one more of the first.
 fn three_queues(alloc: Global, rounds: u64) -> Result<VecDeque<Op>> {
     let mut ops = VecDeque::new(alloc);
     for number in 1..=rounds {
@@ -29,8 +29,8 @@ fn three_queues(alloc: Global, rounds: u64) -> Result<VecDeque<Op>> {
     Ok(ops)
 }
 
-/// Offers each op until it is put, and looks at the second queue's mark after each. Tells how often that was
-/// too high.
+/// Offers each op until it is taken in, and looks at the second queue's mark after each. Returns how often that
+/// was too high.
 fn publish<R: Wait>(
     rt: &R,
     inbox: &Inbox,
@@ -54,7 +54,7 @@ fn publish<R: Wait>(
     early
 }
 
-/// Takes so many ops, keeps and marks each. Tells what it kept, and how many came out of order.
+/// Takes `count` ops, keeps and marks each. Returns what it kept, and how many came out of order.
 fn write<R: Wait>(
     rt: &R,
     inbox: &Inbox,
@@ -84,7 +84,7 @@ fn write<R: Wait>(
 }
 
 /// Looks at the three queues' marks, which rise in turn, the last one first, until the first queue's is at its
-/// end. Tells how often a mark was lower than one that rises after it, or had fallen.
+/// end. Returns how often a mark was lower than one that rises after it, or had fallen.
 fn watch_marks(marks: &Marks, seat: &mut MarkSeat, end: u64) -> u64 {
     let mut wrong = 0;
     let mut before = 0;
