@@ -2,7 +2,7 @@ ghost use Rattle.std.specs.Prelude.{◌≡◌};
 
 use qq_base::Memory;
 use qq_fields::Fault;
-use std::alloc::{AllocError, AllocFailed};
+use std::alloc::AllocError;
 use thiserror::Error;
 
 /// Why bytes are no entry. The entry is read field by field, and its first fault is answered.
@@ -52,17 +52,6 @@ impl From<AllocError> for Refusal {
     ghost from_gives = { λ _ e. e ≡ Memory Want };
 
     fn from(_: AllocError) -> Self {
-        Refusal::Memory(Memory::Want)
-    }
-}
-
-impl<T: Drop> From<AllocFailed<T>> for Refusal {
-    ghost use Rattle.qq_base.specs.declared.memory.Memory.TheVariants.{Want};
-    ghost use Rattle.qq_command.specs.declared.refusal.Refusal.TheVariants.{Memory};
-
-    ghost from_gives = { λ _ e. e ≡ Memory Want };
-
-    fn from(_: AllocFailed<T>) -> Self {
         Refusal::Memory(Memory::Want)
     }
 }

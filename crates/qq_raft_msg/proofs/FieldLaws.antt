@@ -50,7 +50,8 @@ node-reads = record {
       here _ (p.0, node_bounds n.0 p.1.1));
   again =
       λ n bytes rest e f. in_turn _ (checked is_node (number_at w8 bytes)) _
-      ((checked-reads BadField is_node u8-reads).again n.0 bytes rest e (omega (arith, f.1), node_passes n.0 f.0 f.1)) refl;
+      ((checked-reads BadField is_node u8-reads).again n.0 bytes rest e
+      (omega (arith, f.1), node_passes n.0 f.0 f.1)) refl;
 }
 
 pub envelope-reads : Reads envelope_at way IsEnvelope
