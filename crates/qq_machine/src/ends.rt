@@ -91,14 +91,8 @@ impl Draft {
     {
         match outcome {
             Outcome::Settled => Ok(()),
-            Outcome::Returned => {
-                self.return_row(args, row)?;
-                Ok(())
-            }
-            Outcome::Discarded => {
-                self.die(args, Reason::Rejected, row)?;
-                Ok(())
-            }
+            Outcome::Returned => self.return_row(args, row),
+            Outcome::Discarded => self.die(args, Reason::Rejected, row),
         }
     }
 
