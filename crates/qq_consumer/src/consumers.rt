@@ -374,7 +374,10 @@ impl Consumers {
     {
         let number = self.next_id_of(id);
         let turn = self.turns + 1;
-        leave(&mut self.waiting, self.joined.turn_of(id))?;
+        if let Err(cause) = leave(&mut self.waiting, self.joined.turn_of(id)) {
+            drop(row);
+            return Err(cause);
+        }
         if let Err(cause) = self.joined.hand_to(turn, row, id) {
             take_back(&mut self.joined, &mut self.waiting);
             self.turns = self.base_turns;

@@ -140,7 +140,10 @@ impl Joined {
             base: row.consumer,
             row,
         };
-        make_room(&mut self.rows, &mut self.journal, 2)?;
+        if let Err(cause) = make_room(&mut self.rows, &mut self.journal, 2) {
+            drop(seat);
+            return Err(cause);
+        }
         self.rows.insert(seat.base.id, seat)?;
         self.journal.push_front_reserved(Step::Joined);
         Ok(())
@@ -156,8 +159,12 @@ impl Joined {
         ensures base { self.new.base ≡ self.old.base }
         ensures want { IsOkUnless result Memory.Want }
     {
-        self.touched.push_front(id)?;
+        let Ok(()) = self.touched.push_front(id) else {
+            drop(message);
+            return Err(Memory::Want);
+        };
         let Some(seat) = self.rows.get_mut(&id) else {
+            drop(message);
             return Ok(());
         };
         serve_one(&mut seat.row, turn, message)

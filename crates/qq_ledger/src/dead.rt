@@ -79,7 +79,10 @@ impl TrackedDead {
         ensures want { IsOkUnless result Memory.Want }
     {
         let index = row.index;
-        self.ledger.reserve()?;
+        if let Err(cause) = self.ledger.reserve() {
+            drop(row);
+            return Err(cause);
+        }
         let number = self.dead.add(row, reason)?;
         self.ledger.take_in(index);
         Ok(number)

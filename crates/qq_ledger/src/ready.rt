@@ -79,7 +79,10 @@ impl TrackedReady {
         ensures want { IsOkUnless result Memory.Want }
     {
         let index = row.index;
-        self.ledger.reserve()?;
+        if let Err(cause) = self.ledger.reserve() {
+            drop(row);
+            return Err(cause);
+        }
         self.ready.push_back(row)?;
         self.ledger.take_in(index);
         Ok(())
@@ -96,7 +99,10 @@ impl TrackedReady {
         ensures want { IsOkUnless result Memory.Want }
     {
         let index = row.index;
-        self.ledger.reserve()?;
+        if let Err(cause) = self.ledger.reserve() {
+            drop(row);
+            return Err(cause);
+        }
         self.ready.push_returned(row)?;
         self.ledger.take_in(index);
         Ok(())

@@ -234,6 +234,7 @@ impl Draft {
         self.queue.dead.counters();
         let settled = self.queue.dead.settle(term, number)?;
         let did = settled.is_some();
+        drop(settled);
         let after = count_if(did, count)?;
         Ok(after)
     }

@@ -317,9 +317,18 @@ impl Counted {
         ensures base { self.new.base ≡ self.old.base }
         ensures want { IsOkUnless result Memory.Want }
     {
-        let out = next_number(self.out)?;
+        let out = match next_number(self.out) {
+            Ok(out) => out,
+            Err(cause) => {
+                drop(row);
+                return Err(cause);
+            }
+        };
         let index = row.index;
-        self.ledger.reserve()?;
+        if let Err(cause) = self.ledger.reserve() {
+            drop(row);
+            return Err(cause);
+        }
         match self.consumers.check_out(id, row) {
             Ok(number) => {
                 self.ledger.take_in(index);

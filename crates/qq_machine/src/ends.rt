@@ -64,11 +64,9 @@ impl Draft {
         ensures want { IsOkUnless result Memory.Want }
     {
         if dies(args, row.count) {
-            self.die(args, Reason::DeliveryLimit, row)?;
-            return Ok(());
+            return self.die(args, Reason::DeliveryLimit, row);
         }
-        self.queue.put_back(args.delivery_limit, row)?;
-        Ok(())
+        self.queue.put_back(args.delivery_limit, row)
     }
 
     /// A message is returned to the queue.
@@ -91,14 +89,8 @@ impl Draft {
     {
         match outcome {
             Outcome::Settled => Ok(()),
-            Outcome::Returned => {
-                self.return_row(args, row)?;
-                Ok(())
-            }
-            Outcome::Discarded => {
-                self.die(args, Reason::Rejected, row)?;
-                Ok(())
-            }
+            Outcome::Returned => self.return_row(args, row),
+            Outcome::Discarded => self.die(args, Reason::Rejected, row),
         }
     }
 

@@ -52,8 +52,7 @@ impl Queue {
         ensures want { IsOkUnless result Memory.Want }
     {
         let came = self.came()?;
-        live.reserve(came)?;
-        Ok(())
+        live.reserve(came)
     }
 
     /// What came since the last commit is held, and what left is let go. There has to be room.

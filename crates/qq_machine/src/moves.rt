@@ -36,9 +36,11 @@ impl Queue {
         ensures want { IsOkUnless result Memory.Want }
     {
         let (orders, _) = self.ready.counters();
-        next_number(orders)?;
-        self.ready.push_back(row)?;
-        Ok(())
+        if let Err(cause) = next_number(orders) {
+            drop(row);
+            return Err(cause);
+        }
+        self.ready.push_back(row)
     }
 
     /// Puts a message that was returned under a delivery limit behind those returned before.
@@ -49,9 +51,11 @@ impl Queue {
         ensures want { IsOkUnless result Memory.Want }
     {
         let (_, returns) = self.ready.counters();
-        next_number(returns)?;
-        self.ready.push_returned(row)?;
-        Ok(())
+        if let Err(cause) = next_number(returns) {
+            drop(row);
+            return Err(cause);
+        }
+        self.ready.push_returned(row)
     }
 
     /// Keeps a message that has died.
@@ -62,7 +66,10 @@ impl Queue {
         ensures want { IsOkUnless result Memory.Want }
     {
         let (deads, _, _) = self.dead.counters();
-        next_number(deads)?;
+        if let Err(cause) = next_number(deads) {
+            drop(row);
+            return Err(cause);
+        }
         self.dead.add(row, reason)?;
         Ok(())
     }

@@ -62,10 +62,25 @@ impl Draft {
         ensures base { KeepsBase self.old.queue self.new.queue }
         ensures want { IsOkUnless result Memory.Want }
     {
-        self.queue.can_deliver(id)?;
-        let message = row.message.copy(alloc)?;
+        if let Err(cause) = self.queue.can_deliver(id) {
+            drop(row);
+            return Err(cause);
+        }
+        let message = match row.message.copy(alloc) {
+            Ok(message) => message,
+            Err(cause) => {
+                drop(row);
+                return Err(cause);
+            }
+        };
         let (index, arrival, count) = (row.index, row.arrival, row.count);
-        let number = self.queue.consumers.check_out(id, row)?;
+        let number = match self.queue.consumers.check_out(id, row) {
+            Ok(number) => number,
+            Err(cause) => {
+                drop(message);
+                return Err(cause);
+            }
+        };
         self.effects.push(Effect::Deliver(
             id,
             Delivery {
@@ -140,6 +155,7 @@ impl Draft {
         let Mode::Link = row.consumer.mode else {
             unreachable!()
         };
+        drop(answer);
         if row
             .consumer
             .count

@@ -35,11 +35,22 @@ impl Draft {
         ensures want { IsOkUnless result Memory.Want }
     {
         let answer = self.act(alloc, args, index, command)?;
-        self.check_out_all(alloc, args)?;
+        if let Err(cause) = self.check_out_all(alloc, args) {
+            drop(answer);
+            return Err(cause);
+        }
         let answer = self.drain_after(args, command, answer)?;
-        self.keep_limits(args)?;
-        self.give_all_dead(alloc, args)?;
-        Ok(answer)
+        if let Err(cause) = self.keep_limits(args) {
+            drop(answer);
+            return Err(cause);
+        }
+        match self.give_all_dead(alloc, args) {
+            Ok(()) => Ok(answer),
+            Err(cause) => {
+                drop(answer);
+                Err(cause)
+            }
+        }
     }
 
     fn pass_ungated(
@@ -86,7 +97,14 @@ impl Draft {
     {
         self.queue.sessions.admit(alloc, by)?;
         let answer = self.carry_out(alloc, args, index, command)?;
-        self.queue.sessions.keep(by, answer.copy(alloc)?);
+        let twin = match answer.copy(alloc) {
+            Ok(twin) => twin,
+            Err(cause) => {
+                drop(answer);
+                return Err(cause);
+            }
+        };
+        self.queue.sessions.keep(by, twin);
         self.queue.applied = index.0;
         Ok(Made {
             fresh: true,

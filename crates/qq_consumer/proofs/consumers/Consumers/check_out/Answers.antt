@@ -21,12 +21,12 @@ enter-requires c =
       below =
           subst (λ (o : Option ℕ). IfSome o (λ n. AreBelow n c.leave.new.waiting.items)) (sym c.turn_of-2.ensures)
           (subst (λ (ws : Waiting). IfSome (waiting_turn c.hand_to.new.self.served c.args.id) (λ n. AreBelow n ws))
-          (sym (c.in_ok-leave.ensures.items
+          (sym (c.in_default.ensures.items
           ∙ ap (λ (o : Option ℕ). leave o c.self.inside.waiting.items) c.turn_of.ensures))
           (entered-below c.args.id c.self.inside.joined.served c.hand_to.new.self.served c.self.inside.turns turn
           c.self.inside.waiting.items c.self.invariant.now_kept.queue less
           (subst (λ (s : List Served). (waiting_turn s c.args.id ≡ None) ⊎ (waiting_turn s c.args.id ≡ Some turn))
-          (sym (c.in_default.ensures.served (Ready (Back 0))))
+          (sym (c.in_default-hand_to.ensures.served (Ready (Back 0))))
           (handed-turn turn x c.args.id c.self.inside.joined.served may))));
     }
 
@@ -39,11 +39,11 @@ invariant_of-self-2 c =
       now_kept =
           delivered-kept (c.self.inside.turns + 1) x c.args.id c.self.inside.joined.served c.hand_to.new.self.served
           c.self.inside.turns c.self.inside.waiting.items c.enter.new.waiting.items c.self.invariant.now_kept may refl
-          (c.in_default.ensures.served (Ready (Back 0)))
+          (c.in_default-hand_to.ensures.served (Ready (Back 0)))
           (c.in_default-enter.ensures.items
           ∙ ap (λ (o : Option ℕ). enter c.args.id o c.leave.new.waiting.items) c.turn_of-2.ensures
           ∙ ap (enter c.args.id (waiting_turn c.hand_to.new.self.served c.args.id))
-          (c.in_ok-leave.ensures.items
+          (c.in_default.ensures.items
           ∙ ap (λ (o : Option ℕ). leave o c.self.inside.waiting.items) c.turn_of.ensures));
       before_kept =
           still-kept c.self.inside.waiting.base c.enter.new.waiting.base c.self.inside.joined.base
@@ -51,8 +51,8 @@ invariant_of-self-2 c =
           c.hand_to.ensures.base c.self.invariant.before_kept;
     }
 
-pub invariant_of-self-in-Err : goal.invariant_of-self-in-Err
-invariant_of-self-in-Err c =
+pub invariant_of-self-in-Err-hand_to : goal.invariant_of-self-in-Err-hand_to
+invariant_of-self-in-Err-hand_to c =
     taken-back c.self.inside.waiting.base c.self.inside.joined.base c.self.inside.base_turns
     c.take_back.new.waiting c.take_back.new.joined.served c.take_back.new.joined.base
     c.self.invariant.before_kept (c.take_back.ensures.items ∙ c.leave.ensures.base)

@@ -11,10 +11,10 @@ use Rattle.qq_consumer.proofs.JoinedRows.{absent-hands, found-one, found-given, 
 use Rattle.qq_consumer.proofs.GoingBack.{served}
 use Rattle.qq_consumer.proofs.joined.Joined.hand_to.Goals as goal
 
-pub returns-in_default-clause-served : goal.returns-in_default-clause-served
-returns-in_default-clause-served c place =
+pub returns-in_default-get_mut-clause-served : goal.returns-in_default-get_mut-clause-served
+returns-in_default-get_mut-clause-served c place =
     absent-hands c.args.id c.self.inside.rows c.get_mut.follows.lender-at-none c.self.invariant.joined c.args.turn
-    (item_at place c.args.message) c.get_mut.follows.holds-at-none c.in_default.ensures.value
+    (item_at place c.args.message) c.get_mut.follows.holds-at-none c.in_default-get_mut.ensures.value
     ∙ ap (λ (j : JoinedState). hand_to c.args.turn (item_at place c.args.message) c.args.id j.served) c.self.view_is
 
 pub serve_one-requires-clause-counts : goal.serve_one-requires-clause-counts
@@ -35,7 +35,7 @@ invariant_of-self-2 c =
     let seat : Seat = c.in-Some.seat.now in
     let w : Seat = record { row = c.serve_one.new.row; base = seat.base } in
     subst (λ (ts : List ConsumerId). CanGoBack (c.get_mut.follows.lender w).entries c.self.inside.journal.items ts
-    (spare (c.get_mut.follows.lender w))) (sym c.in_ok-push_front.ensures.items)
+    (spare (c.get_mut.follows.lender w))) (sym c.in-Ok.ensures.items)
     (write-back c.args.id c.self.inside.rows (c.get_mut.follows.lender w) c.self.invariant.joined seat w
     c.in-Some.ensures.value (c.get_mut.follows.holds w) c.self.inside.journal.items c.self.inside.touched.items c.self.invariant
     c.serve_one.ensures.id (λ given. c.serve_one.ensures.given) refl c.serve_one.ensures.base)

@@ -34,7 +34,7 @@ invariant_of-self-2 c =
     (sym (journal-is c))
     (joins-back c.self.inside.rows.entries c.args.row c.commit.new.self c.commit.ensures.items c.commit.ensures.base
     c.insert.new.self.entries c.self.inside.journal.items c.self.inside.touched.items _ _ (entries-are c)
-    c.insert.ensures.unique c.requires.given (omega (arith, c.in_ok-make_room.ensures.room, c.in_ok-insert.ensures.spare))
+    c.insert.ensures.unique c.requires.given (omega (arith, c.in_default.ensures.room, c.in_ok-insert.ensures.spare))
     c.self.invariant)
 
 pub returns-clause-ok : goal.returns-clause-ok

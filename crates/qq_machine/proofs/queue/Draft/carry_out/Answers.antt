@@ -6,4 +6,4 @@ pub drain_after-requires : goal.drain_after-requires
 drain_after-requires c =
     credit-links c.args.index c.args.command.now (work_of c.args.args.now c.args.self.now)
     (work_of c.args.args.now c.act.new.self) (work_of c.args.args.now c.check_out_all.new.self)
-    c.in_ok-answer.answer c.in_ok-answer.ensures.ok c.in_ok-check_out_all.ensures.ok
+    c.in_ok-answer.answer c.in_ok-answer.ensures.ok c.in_default.ensures.ok

@@ -7,9 +7,9 @@ use Rattle.qq_machine.proofs.queue.Draft.deliver.Goals as goal
 pub returns-clause-ok : goal.returns-clause-ok
 returns-clause-ok c place args one found =
     delivers c.args.id c.args.row place args c.args.self.now one c.check_out.new.self.roster
-    c.in_ok-number.number c.in_ok-message.message found
+    c.in-Ok-check_out.number c.in-Ok.message found
     (found-id c.args.id c.args.self.now.queue.consumers.roster.served one found)
-    (c.in_ok-number.ensures.ok place) c.in_ok-number.ensures.id c.in_ok-message.ensures.ok
+    (c.in-Ok-check_out.ensures.ok place) c.in-Ok-check_out.ensures.id c.in-Ok.ensures.ok
     ∙ ap (λ (es : List Effect). record (with_roster c.check_out.new.self.roster (work_of args c.args.self.now)) {
       effects = es;
     }) (sym c.in_ok-push.ensures.items)
