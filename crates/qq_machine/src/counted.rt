@@ -202,7 +202,13 @@ impl Counted {
     {
         let mut consumers = consumers;
         consumers.commit();
-        let out = out_count(&consumers)?;
+        let out = match out_count(&consumers) {
+            Ok(out) => out,
+            Err(cause) => {
+                drop(consumers);
+                return Err(cause);
+            }
+        };
         Ok(Counted {
             consumers,
             out,

@@ -311,12 +311,19 @@ impl Machine {
         let Ok(live) = copy_live(alloc, &self.live) else {
             return Err(Memory::Want);
         };
+        let Ok(args) = self.args.copy(alloc) else {
+            drop(live);
+            return Err(Memory::Want);
+        };
+        let Ok(queue) = self.draft.queue.copy(alloc) else {
+            drop(live);
+            drop(args);
+            return Err(Memory::Want);
+        };
+        let effects = Vec::new(alloc);
         Ok(Machine {
-            args: self.args.copy(alloc)?,
-            draft: Draft {
-                queue: self.draft.queue.copy(alloc)?,
-                effects: Vec::new(alloc),
-            },
+            args,
+            draft: Draft { queue, effects },
             live,
         })
     }

@@ -29,11 +29,22 @@ impl Draft {
         ensures want { IsOkUnless result Memory.Want }
     {
         let answer = self.act(alloc, store, index, command)?;
-        self.check_out_all(alloc, store)?;
+        if let Err(cause) = self.check_out_all(alloc, store) {
+            drop(answer);
+            return Err(cause);
+        }
         let answer = self.drain_after(store, command, answer)?;
-        self.keep_limits(alloc, store)?;
-        self.give_all_dead(alloc, store)?;
-        Ok(answer)
+        if let Err(cause) = self.keep_limits(alloc, store) {
+            drop(answer);
+            return Err(cause);
+        }
+        match self.give_all_dead(alloc, store) {
+            Ok(()) => Ok(answer),
+            Err(cause) => {
+                drop(answer);
+                Err(cause)
+            }
+        }
     }
 
     fn pass_ungated(
