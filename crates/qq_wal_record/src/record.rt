@@ -22,7 +22,7 @@ pub const CARRY: u8 = 4;
 pub const HEAD_LEN: usize = 17;
 
 /// What stands in a log file: an op of a queue, or what a new file restates of one.
-#[derive(Debug, Drop, PartialEq)]
+#[derive(Drop, PartialEq)]
 pub enum LogRecord {
     /// An op that was handed to the log.
     Op(Op),
