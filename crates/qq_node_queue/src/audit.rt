@@ -21,7 +21,7 @@ use std::alloc::Global;
 use std::mem;
 
 /// The machine and the audit of a queue.
-#[derive(Debug, Drop)]
+#[derive(Drop)]
 pub struct Audit {
     /// What the first ops make of a new queue.
     pub machine: Machine,

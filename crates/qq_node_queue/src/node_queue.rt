@@ -35,7 +35,7 @@ use std::marker::Model;
 ///
 /// Contracts see its name, the server, the sessions that have sent something, and how many of the server's
 /// ops were appended to the log and synced.
-#[derive(Debug, Drop)]
+#[derive(Drop)]
 pub struct NodeQueue {
     label: Label,
     server: Server,

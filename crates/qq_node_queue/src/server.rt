@@ -31,7 +31,7 @@ const NODE: NodeId = NodeId(1);
 const VERSION: u8 = 1;
 
 /// A server with all ops that it handed to the log, and the queue as far as it is applied.
-#[derive(Debug, Drop)]
+#[derive(Drop)]
 pub struct Server {
     args: QueueArgs,
     role: Role,
