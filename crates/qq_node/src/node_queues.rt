@@ -30,7 +30,7 @@ pub(crate) enum LogStep {
 }
 
 /// What is asked of one queue.
-#[derive(Debug, Drop)]
+#[derive(Drop)]
 pub(crate) enum Ask {
     /// A client gives a command the next number and sends it.
     Submit { session: u64, body: Unstamped },

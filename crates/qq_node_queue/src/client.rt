@@ -18,7 +18,7 @@ use std::alloc::Global;
 use std::marker::Model;
 
 /// The numbers of a client's session at the queue, whether answers to it are lost, and whether it has ended.
-#[derive(Debug, Drop)]
+#[derive(Drop)]
 pub struct Client {
     numbers: Publishing,
     muted: bool,

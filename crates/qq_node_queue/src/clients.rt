@@ -21,7 +21,7 @@ use std::alloc::Global;
 use std::marker::Model;
 
 /// The sessions of clients that have sent something, by their numbers. Any other is a new one.
-#[derive(Debug, Drop)]
+#[derive(Drop)]
 pub struct Clients {
     queue: QueueId,
     rows: IndexMap<u64, Client>,

@@ -13,7 +13,7 @@ use qq_machine::Machine;
 use std::alloc::Global;
 
 /// What an entry has done.
-#[derive(Debug, Drop)]
+#[derive(Drop)]
 pub struct Made {
     /// Its index.
     pub index: Index,

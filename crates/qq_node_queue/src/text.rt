@@ -14,7 +14,7 @@ use qq_script::{answer_text, delivery_text, push_number, push_text, session_line
 use std::alloc::Global;
 
 /// Whose lines they are: the queue's name, and whether it is the node's first queue.
-#[derive(Debug, Drop)]
+#[derive(Drop)]
 pub struct Label {
     pub name: Text,
     pub first: bool,

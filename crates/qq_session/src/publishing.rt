@@ -46,7 +46,7 @@ impl<T: Drop> From<AllocFailed<T>> for HandFault {
 ///
 /// Contracts see the session, the queue, the next number, and the open numbers with their commands, in
 /// order. A command is looked up by its number's hash.
-#[derive(Debug, Drop)]
+#[derive(Drop)]
 pub struct Publishing {
     session: SessionId,
     queue: QueueId,
