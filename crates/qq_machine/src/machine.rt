@@ -366,6 +366,7 @@ impl Machine {
                 Err(cause)
             }
             Ok(made) => {
+                // Room before the commit, which can't be taken back.
                 if let Err(cause) = self.draft.queue.make_room(&mut self.live) {
                     self.draft.undo(alloc);
                     return Err(cause);

@@ -39,6 +39,7 @@ impl Draft {
             drop(answer);
             return Err(cause);
         }
+        // Checkouts come before limits: a message that a consumer waits for is delivered and not dropped.
         let answer = self.drain_after(args, command, answer)?;
         if let Err(cause) = self.keep_limits(args) {
             drop(answer);

@@ -13,7 +13,7 @@ use qq_log::Op;
 use qq_wal::{Wal, WalFault};
 use std::alloc::Global;
 
-/// An equal change.
+/// An equal change. The log takes a copy, since a restart cuts the ops that the server keeps.
 fn copy_change(alloc: Global, op: &Op) -> Result<Op, Memory>
     requires { IsChange op.now }
     ensures ok { IfOk result (λ twin. twin ≡ op.now) }

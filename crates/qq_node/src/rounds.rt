@@ -47,6 +47,7 @@ impl<D: NodeDisk> Node<D> {
         ensures err { OnErr result (GaveUp D.tells D.past D.faults self.old self.new) }
         ensures cause { IfErr result IsAtEnd }
     {
+        // In the order of the queues, which is the order of what is printed.
         let count = self.node_queues.len();
         'places: for at in 0..count {
             if let Err(cause) = self.notice_at(alloc, at, text) {

@@ -127,6 +127,7 @@ impl Audit {
         ensures cause { IfErr result (λ e. (s : State) → IsMachineOf s self.old.machine →
             SpentOnlyWhere e NUMBER_END (stays_within s (entry.now ∷ []) ≡ false)) }
     {
+        // Room first: the machine's step can't be taken back.
         if let Err(_) = self.rows.reserve(1) {
             return Err(Memory::Want);
         }

@@ -295,6 +295,7 @@ impl Server {
         if self.term.0 >= NUMBER_END {
             return Err(Memory::Spent { number: NUMBER_END });
         }
+        // The number of the op that is to hold its vote: before that is durable the vote doesn't count.
         let since = self.next_number();
         self.role = Role::Candidate;
         self.term = Term(self.term.0 + 1);

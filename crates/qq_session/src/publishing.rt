@@ -194,6 +194,7 @@ impl Publishing {
             return Err(HandFault::Memory(Memory::Spent { number: NUMBER_END }));
         }
         let command = stamped(self.next_stamp(), body);
+        // A copy stays until the answer comes: what is sent may be lost.
         let kept = match command.copy(alloc) {
             Ok(kept) => kept,
             Err(_) => {
