@@ -1,9 +1,8 @@
 -- What holds of a client's numbers at each time.
-use Rattle.std.proofs.Common.{◌≡◌, ℕ, suc, ◌+◌, ◌-◌, ◌<◌, ◌≤◌, Bool, false, not, ◌||◌, List, [], ◌∷◌, ◌++◌, length, Some, None, is_some, refl, sym, ap, ◌∙◌, subst, inl, inr, arith}
+use Rattle.std.proofs.Common.{◌≡◌, ℕ, suc, ◌+◌, ◌-◌, ◌<◌, ◌≤◌, Bool, true, false, not, ◌||◌, List, [], ◌∷◌, ◌++◌, length, drop, Some, refl, sym, ap, ◌∙◌, subst, inl, inr, arith}
 use Rattle.std.specs.Prelude.{nat_eq}
 use Rattle.std.specs.List.{AllByRecursion}
-use Rattle.std.specs.Map.{lookup, remove_entry}
-use Rattle.std.proofs.lemmas.Bool.{cases_eq, cond-true, cond-false, cond_both, eq-eqb, ne_eqb, not_from_true, not_from_false, or_from}
+use Rattle.std.proofs.lemmas.Bool.{cases_eq, cond-true, cond-false, cond_both, eq-eqb, eqb-true, false≢true, ne_eqb, not_from_true, not_from_false, or_from, or_parts}
 use Rattle.std.proofs.lemmas.List.{length-append}
 use Rattle.qq_base.specs.declared.ids.SessionId.{SessionId}
 use Rattle.qq_base.specs.declared.memory.TheConstants.{NUMBER_END}
@@ -14,7 +13,7 @@ use Rattle.qq_entry.specs.declared.command.Unstamped.{Unstamped}
 use Rattle.qq_entry.specs.declared.command.Unstamped.TheVariants as bodies
 use Rattle.qq_entry.specs.Command.{stamp}
 use Rattle.qq_model.specs.declared.TheConstants.{WINDOW}
-use Rattle.qq_session.specs.Publishing.{OpenCommand, Numbers, mark_before, low_mark, next_stamp, next_command, stamped, is_open_in, without}
+use Rattle.qq_session.specs.Publishing.{OpenCommand, Numbers, mark_before, low_mark, next_stamp, next_command, stamped, is_first, is_open_in, without}
 use Rattle.qq_session.specs.Numbering.{HasNumber, IsOpenBelow, Rise, IsNumbering, IsLowMark}
 
 -- ---- one number in the list
@@ -34,45 +33,35 @@ above-kept seq (one ∷ more) above =
     (not_from_false (nat_eq one.0 seq) (ne_eqb one.0 seq (λ same. omega (arith, same, above.0))))
     ∙ ap (λ (l : List OpenCommand). one ∷ l) (above-kept seq more above.1)
 
-pub removed-without : (seq : ℕ) (open' : List OpenCommand) → Rise open'
-    → remove_entry (nat_eq seq) open' ≡ without seq open'
-removed-without seq [] rise = refl
-removed-without seq (one ∷ more) rise = elim (cases_eq seq one.0) [
-  | inl here ↦
-      cond-true (nat_eq seq one.0) more (one ∷ remove_entry (nat_eq seq) more) (eq-eqb seq one.0 here)
-      ∙ sym (above-kept seq more (AllByRecursion-weaker (λ (o : OpenCommand). one.0 < o.0)
-      (λ (o : OpenCommand). seq < o.0) (λ o lt. omega (arith, here, lt)) more rise.0))
-      ∙ sym (cond-false (not (nat_eq one.0 seq)) (one ∷ without seq more) (without seq more)
-      (not_from_true (nat_eq one.0 seq) (eq-eqb one.0 seq (sym here))))
-  | inr other ↦
-      cond-false (nat_eq seq one.0) more (one ∷ remove_entry (nat_eq seq) more) (ne_eqb seq one.0 other)
-      ∙ ap (λ (l : List OpenCommand). one ∷ l) (removed-without seq more rise.1)
-      ∙ sym (cond-true (not (nat_eq one.0 seq)) (one ∷ without seq more) (without seq more)
-      (not_from_false (nat_eq one.0 seq) (ne_eqb one.0 seq (λ same. other (sym same)))))
-]
+-- to close the first open number is to take it out
+pub dropped-without : (seq : ℕ) (open' : List OpenCommand) → Rise open' → is_first seq open' ≡ true
+    → drop 1 open' ≡ without seq open'
+dropped-without seq [] rise first = absurd (false≢true first)
+dropped-without seq (one ∷ more) rise first =
+    let same : one.0 ≡ seq = eqb-true one.0 seq first in
+    sym (above-kept seq more (AllByRecursion-weaker (λ (o : OpenCommand). one.0 < o.0)
+    (λ (o : OpenCommand). seq < o.0) (λ o lt. omega (arith, same, lt)) more rise.0))
+    ∙ sym (cond-false (not (nat_eq one.0 seq)) (one ∷ without seq more) (without seq more)
+    (not_from_true (nat_eq one.0 seq) first))
 
-pub lookup-open : (seq : ℕ) (open' : List OpenCommand) → is_some (lookup (nat_eq seq) open') ≡ is_open_in seq open'
-lookup-open seq [] = refl
-lookup-open seq (one ∷ more) = elim (cases_eq seq one.0) [
-  | inl here ↦
-      ap is_some (cond-true (nat_eq seq one.0) (Some one.1) (lookup (nat_eq seq) more) (eq-eqb seq one.0 here))
-      ∙ sym (ap (λ (b : Bool). b || is_open_in seq more) (eq-eqb one.0 seq (sym here)))
-  | inr other ↦
-      ap is_some (cond-false (nat_eq seq one.0) (Some one.1) (lookup (nat_eq seq) more) (ne_eqb seq one.0 other))
-      ∙ lookup-open seq more
-      ∙ sym (ap (λ (b : Bool). b || is_open_in seq more) (ne_eqb one.0 seq (λ same. other (sym same))))
-]
+-- a number that isn't open leaves the list as it is
+pub absent-without : (seq : ℕ) (open' : List OpenCommand) → is_open_in seq open' ≡ false → without seq open' ≡ open'
+absent-without seq [] none' = refl
+absent-without seq (one ∷ more) none' =
+    let both = or_parts (nat_eq one.0 seq) (is_open_in seq more) none' in
+    cond-true (not (nat_eq one.0 seq)) (one ∷ without seq more) (without seq more)
+    (not_from_false (nat_eq one.0 seq) both.0)
+    ∙ ap (λ (l : List OpenCommand). one ∷ l) (absent-without seq more both.1)
 
--- a number that isn't below another isn't among those below it
-pub next-absent : (session : SessionId) (next : ℕ) (open' : List OpenCommand)
-    → AllByRecursion (IsOpenBelow session next) open' → lookup (nat_eq next) open' ≡ None
-next-absent session next [] below = refl
-next-absent session next (one ∷ more) below =
-    cond-false (nat_eq next one.0) (Some one.1) (lookup (nat_eq next) more)
-    (ne_eqb next one.0 (λ same. let lt = below.0.below in omega (arith, same, lt)))
-    ∙ next-absent session next more below.1
-
--- ---- the list keeps its order
+-- the first open number is open
+pub first-open : (seq : ℕ) (open' : List OpenCommand) → (is_first seq open' || is_open_in seq open')
+    ≡ is_open_in seq open'
+first-open seq [] = refl
+first-open seq (one ∷ more) = by (nat_eq one.0 seq)
+  where
+    by : (b : Bool) → (b || (b || is_open_in seq more)) ≡ (b || is_open_in seq more)
+    by true = refl
+    by false = refl
 
 rise-push : (session : SessionId) (next : ℕ) (command : Command) (open' : List OpenCommand)
     → AllByRecursion (IsOpenBelow session next) open' → Rise open' → Rise (open' ++ (next, command) ∷ [])

@@ -75,6 +75,11 @@ HasHandCause (faults.Memory memory) n =
 
 -- ---- a number is answered
 
+-- the first open number is this one
+abbrev pub is_first : ℕ → List OpenCommand → Bool
+is_first seq [] = false
+is_first seq (one ∷ more) = nat_eq one.0 seq
+
 abbrev pub is_open_in : ℕ → List OpenCommand → Bool
 is_open_in seq open' = list_any (λ (one : OpenCommand). nat_eq one.0 seq) open'
 

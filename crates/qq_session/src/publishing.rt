@@ -3,15 +3,15 @@ ghost use Rattle.qq_base.specs.declared.memory.Memory.TheVariants.{Want};
 ghost use Rattle.qq_base.specs.declared.memory.TheConstants.{NUMBER_END};
 ghost use Rattle.qq_model.specs.declared.TheConstants.{WINDOW};
 ghost use Rattle.qq_session.specs.declared.publishing.HandFault.TheVariants as faults;
-ghost use Rattle.qq_session.specs.Numbering.{HasNumber, IsNumbering, IsLowMark};
-ghost use Rattle.qq_session.specs.Publishing.{Numbers, new_numbers, low_mark, mark_before, next_stamp, next_command, hand, HasHandCause, is_open, is_first_answer, answer, open_commands};
+ghost use Rattle.qq_session.specs.Numbering.{HasNumber, IsNumbering, IsLowMark, Rise};
+ghost use Rattle.qq_session.specs.Publishing.{Numbers, new_numbers, low_mark, mark_before, next_stamp, next_command, hand, HasHandCause, is_first, is_open, is_open_in, is_first_answer, without, answer, open_commands};
 
 use crate::stamped::{closes, stamped};
-use indexmap::IndexMap;
 use qq_base::{Duplicate, Memory, NUMBER_END, QueueId, SessionId};
 use qq_entry::{Answer, Command, Stamp, Unstamped};
 use qq_model::WINDOW;
 use std::alloc::{AllocFailed, Global};
+use std::collections::VecDeque;
 use std::marker::Model;
 use thiserror::Error;
 
@@ -45,13 +45,13 @@ impl<T: Drop> From<AllocFailed<T>> for HandFault {
 /// The numbers of a session's commands to one queue, and the commands that aren't answered.
 ///
 /// Contracts see the session, the queue, the next number, and the open numbers with their commands, in
-/// order. A command is looked up by its number's hash.
+/// order.
 #[derive(Drop)]
 pub struct Publishing {
     session: SessionId,
     queue: QueueId,
     next: u64,
-    opened: IndexMap<u64, Command>,
+    opened: VecDeque<(u64, Command)>,
 }
 
 impl Model for Publishing {
@@ -64,25 +64,52 @@ impl Model for Publishing {
       session = p.session;
       queue = p.queue;
       next = p.next;
-      opened = p.opened.entries;
+      opened = p.opened.items;
     } };
 
     ghost invariant = { λ p. IsNumbering (record {
       session = p.session;
       queue = p.queue;
       next = p.next;
-      opened = p.opened.entries;
+      opened = p.opened.items;
     }) };
 }
 
 // The low mark before the next number and the open ones.
-fn mark_before(next: u64, opened: &IndexMap<u64, Command>) -> u64
-    ensures { result ≡ mark_before next opened.now.entries }
+fn mark_before(next: u64, opened: &VecDeque<(u64, Command)>) -> u64
+    ensures { result ≡ mark_before next opened.now.items }
 {
-    match opened.first() {
+    match opened.front() {
         None => next.saturating_sub(1),
-        Some((first, _)) => first.saturating_sub(1),
+        Some(first) => first.0.saturating_sub(1),
     }
+}
+
+fn is_first(seq: u64, opened: &VecDeque<(u64, Command)>) -> bool
+    ensures { result ≡ is_first seq opened.now.items }
+{
+    match opened.front() {
+        None => false,
+        Some(first) => first.0 == seq,
+    }
+}
+
+fn is_open_in(seq: u64, opened: &VecDeque<(u64, Command)>) -> bool
+    ensures { result ≡ is_open_in seq opened.now.items }
+{
+    opened.iter().any(|one| one.0 == seq)
+}
+
+// Numbers are mostly answered in their order, so that the first open one is looked at before the others.
+fn close(seq: u64, opened: &mut VecDeque<(u64, Command)>)
+    requires { Rise opened.old.items }
+    ensures { opened.new.items ≡ without seq opened.old.items }
+{
+    if is_first(seq, opened) {
+        drop(opened.pop_front());
+        return;
+    }
+    opened.retain(|one| one.0 != seq);
 }
 
 impl Publishing {
@@ -94,7 +121,7 @@ impl Publishing {
             session,
             queue,
             next: 1,
-            opened: IndexMap::new(alloc),
+            opened: VecDeque::new(alloc),
         }
     }
 
@@ -139,7 +166,7 @@ impl Publishing {
     pub fn is_open(&self, seq: u64) -> bool
         ensures { result ≡ is_open seq self.now }
     {
-        self.opened.contains_key(&seq)
+        is_first(seq, &self.opened) || is_open_in(seq, &self.opened)
     }
 
     fn next_stamp(&self) -> Stamp
@@ -165,7 +192,7 @@ impl Publishing {
         ensures err { OnErr result (self.new ≡ self.old) }
         ensures want { IsOkUnless result Memory.Want }
     {
-        self.opened.insert(self.next, command)?;
+        self.opened.push_back((self.next, command))?;
         self.next += 1;
         Ok(())
     }
@@ -221,7 +248,11 @@ impl Publishing {
         if !closes(given) {
             return false;
         }
-        self.opened.shift_remove(&seq).is_some()
+        let open = self.is_open(seq);
+        if open {
+            close(seq, &mut self.opened);
+        }
+        open
     }
 
     /// Copies of the open commands in the order of their numbers, each with the stamp that it had.
@@ -234,8 +265,8 @@ impl Publishing {
         ensures want { IsOkUnless result Memory.Want }
     {
         let mut commands = Vec::with_capacity(alloc, self.opened.len())?;
-        'commands: for command in self.opened.values() {
-            commands.push(command.copy(alloc)?)?;
+        'commands: for one in self.opened.iter() {
+            commands.push(one.1.copy(alloc)?)?;
         }
         Ok(commands)
     }
