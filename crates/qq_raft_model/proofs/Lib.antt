@@ -15,6 +15,7 @@ mod Learning
 mod Matches
 mod Members
 mod Moving
+pub mod Noticed
 mod Noticing
 mod Promises
 pub mod Reached
