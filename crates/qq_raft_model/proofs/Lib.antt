@@ -16,11 +16,14 @@ mod Matches
 mod Members
 mod Moving
 mod Noticing
+mod Opened
+mod Opening
 mod Promises
 pub mod Reached
 pub mod Refining
 pub mod Restarting
 mod Sending
+mod Sources
 mod Standing
 pub mod Steps
 mod Terms
