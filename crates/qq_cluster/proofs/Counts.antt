@@ -5,7 +5,6 @@ use Rattle.std.proofs.lemmas.List.{length-take-le}
 use Rattle.std.proofs.lemmas.Bool.{and_parts, cases_eq, cond_both, cond-false, cond-true, eqb-true, leb-true}
 use Rattle.qq_base.proofs.Puts.{put-each, put-other, put-same}
 use Rattle.qq_base.specs.Fronts.{put}
-use Rattle.qq_base.specs.declared.ids.NodeId.{NodeId}
 use Rattle.qq_entry.specs.declared.command.Command.{Command}
 use Rattle.qq_entry.specs.declared.queue.QueueArgs.{QueueArgs}
 use Rattle.qq_log.specs.Op.{number}
@@ -20,8 +19,8 @@ use Rattle.qq_raft_model.specs.State.{Server}
 use Rattle.qq_raft_model.proofs.Noticed.{noticed-is, noticed_by}
 use Rattle.qq_raft_msg.specs.Rpc.{envelope}
 use Rattle.qq_raft_msg.specs.declared.rpc.Rpc.{Rpc}
-use Rattle.qq_cluster.specs.Laws.{CountsRise, queue_after}
-use Rattle.qq_cluster.specs.Queue.{Queue, Event, Mutes, Ends, Submits, TellsEnded, Resends, Downs, Ticks, Delivers, Loses, Copies, Writes, Syncs, Notices, Stops, Finds, after, group_then, happens, leader, moves, new_queue, offered, submits, synced_after, waiting}
+use Rattle.qq_cluster.specs.Laws.{CountsRise, IsBegun, queue_after}
+use Rattle.qq_cluster.specs.Queue.{Queue, Event, Mutes, Ends, Submits, TellsEnded, Resends, Downs, Ticks, Delivers, Loses, Copies, Writes, Syncs, Notices, Stops, Finds, after, begin, happens, leader, moves, offered, submits, synced_after, waiting}
 
 -- ---- how many ops there are
 
@@ -317,15 +316,15 @@ pub counted-all : (q : Queue) (events : List Event) → IsCounted q → IsCounte
 counted-all q [] right = right
 counted-all q (event ∷ events) right = counted-all (happens q event) events (counted-event q event right)
 
-pub counted-new : (args : QueueArgs) (nodes : List NodeId) → IsCounted (new_queue args nodes)
-counted-new args nodes k = record {
-  server = λ s is. absurd (let e : None ≡ Some s = is in cc);
+pub counted-new : (args : QueueArgs) (group : Group) → IsBegun group → IsCounted (begin args group)
+counted-new args group begun k = record {
+  server = λ s is. absurd (let e : None ≡ Some s = sym (begun.opened.down.down k) ∙ is in cc);
   noticed = omega arith;
-  synced_is = omega arith;
+  synced_is = begun.opened.down.noticed k;
 }
 
-pub counts-rise : (args : QueueArgs) (nodes : List NodeId) (events : List Event) (k : ℕ)
-    → CountsRise (queue_after args nodes events) k
-counts-rise args nodes events k =
-    let right = counted-all (new_queue args nodes) events (counted-new args nodes) k in
+pub counts-rise : (args : QueueArgs) (group : Group) (events : List Event) (k : ℕ) → IsBegun group
+    → CountsRise (queue_after args group events) k
+counts-rise args group events k begun =
+    let right = counted-all (begin args group) events (counted-new args group begun) k in
     record { noticed = right.noticed; synced = right.synced_is }

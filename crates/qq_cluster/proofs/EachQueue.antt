@@ -90,7 +90,7 @@ module _ (knows : KnowsCommits) (keeps : KeepsCommits) where
   prints-true counts answered setup events groups =
       AllByRecursion-weaker (IsOwn final) (IsTrueOf final) one (all_prints setup (new_cluster setup) events)
       (all-own setup (new_cluster setup) events
-      (λ place. reached-new (setup.args place) (setup.members place) (groups place)))
+      (λ place. reached-new (setup.args place) (setup.group place) (groups place)))
     where
       final : Cluster
       final = cluster_after (new_cluster setup) events

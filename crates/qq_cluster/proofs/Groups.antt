@@ -1,29 +1,28 @@
 -- A queue's group is one that its events make of a new one, so each law of groups is one of it.
 use Rattle.std.proofs.Common.{◌≡◌, ℕ, List, [], ◌∷◌, ◌++◌, take, refl, sym, ap, ◌∙◌, subst}
 use Rattle.qq_base.specs.Fronts.{IsFront}
-use Rattle.qq_base.specs.declared.ids.NodeId.{NodeId}
-use Rattle.qq_base.specs.declared.ids.QueueId.{QueueId}
+use Rattle.qq_entry.specs.declared.command.Entry.{Entry}
 use Rattle.qq_entry.specs.declared.queue.QueueArgs.{QueueArgs}
 use Rattle.qq_model.specs.Audit.{IsSerial, audit_of}
 use Rattle.qq_model.specs.State.{empty_queue}
-use Rattle.qq_raft_model.specs.Group.{Event as Move, Group, from_new, group_after, happens as moved, new_group}
-use Rattle.qq_raft_model.specs.Promises.{AreDistinct, IsUp}
+use Rattle.qq_raft_model.specs.Group.{Event as Move, Group, group_after, happens as moved}
+use Rattle.qq_raft_model.specs.Promises.{AreDistinct, IsOpened, IsUp}
 use Rattle.qq_raft_model.specs.State.{Server}
 use Rattle.qq_world.proofs.Audits.{audit-front, audit-serial}
-use Rattle.qq_cluster.specs.Laws.{KeepsAudit, all_moves, queue_after}
-use Rattle.qq_cluster.specs.Queue.{Queue, Event, after, audit_rows, happens, moves, new_queue}
+use Rattle.qq_cluster.specs.Laws.{IsBegun, KeepsAudit, all_moves, queue_after}
+use Rattle.qq_cluster.specs.Queue.{Queue, Event, after, audit_rows, begin, happens, moves}
 
 -- ---- what the laws of groups say
 
 abbrev pub KnowsCommits : Type 0
 KnowsCommits =
-    (queue : QueueId) (nodes : List NodeId) (events : List Move) (k : ℕ) (s : Server) → AreDistinct nodes
-    → IsUp (from_new queue nodes events) k s → IsFront (take s.commit s.log) (from_new queue nodes events).audit
+    (g : Group) (whole : List Entry) (made : List Move) (k : ℕ) (s : Server) → AreDistinct g.nodes
+    → IsOpened g whole → IsUp (group_after g made) k s → IsFront (take s.commit s.log) (group_after g made).audit
 
 abbrev pub KeepsCommits : Type 0
 KeepsCommits =
-    (queue : QueueId) (nodes : List NodeId) (first second : List Move) → AreDistinct nodes
-    → IsFront (from_new queue nodes first).audit (group_after (from_new queue nodes first) second).audit
+    (g : Group) (whole : List Entry) (first second : List Move) → AreDistinct g.nodes → IsOpened g whole
+    → IsFront (group_after g first).audit (group_after (group_after g first) second).audit
 
 -- ---- lists of events
 
@@ -49,21 +48,21 @@ after-append q (event ∷ first) second = after-append (happens q event) first s
 -- ---- reached queues
 
 pub record Reached (q : Queue) : Type 0 where
-  pub nodes : List NodeId
+  pub start : Group
+  pub begun : IsBegun start
   pub made : List Move
-  pub distinct : AreDistinct nodes
-  pub is : q.group ≡ from_new q.args.queue nodes made
+  pub is : q.group ≡ group_after start made
 
-pub reached-new : (args : QueueArgs) (nodes : List NodeId) → AreDistinct nodes → Reached (new_queue args nodes)
-reached-new args nodes distinct = record { nodes = nodes; made = []; distinct = distinct; is = refl }
+pub reached-new : (args : QueueArgs) (group : Group) → IsBegun group → Reached (begin args group)
+reached-new args group begun = record { start = group; begun = begun; made = []; is = refl }
 
 pub reached-next : (q : Queue) (event : Event) → Reached q → Reached (happens q event)
 reached-next q event r = record {
-  nodes = r.nodes;
+  start = r.start;
+  begun = r.begun;
   made = r.made ++ moves q event;
-  distinct = r.distinct;
   is = ap (λ (g : Group). group_after g (moves q event)) r.is
-      ∙ sym (group-append (new_group q.args.queue r.nodes) r.made (moves q event));
+      ∙ sym (group-append r.start r.made (moves q event));
 }
 
 pub reached-all : (q : Queue) (events : List Event) → Reached q → Reached (after q events)
@@ -75,7 +74,7 @@ pub known-in : KnowsCommits → (q : Queue) → Reached q → (k : ℕ) (s : Ser
     → IsFront (take s.commit s.log) q.group.audit
 known-in knows q r k s up =
     subst (λ (g : Group). IsFront (take s.commit s.log) g.audit) (sym r.is)
-    (knows q.args.queue r.nodes r.made k s r.distinct (subst (λ (g : Group). IsUp g k s) r.is up))
+    (knows r.start r.begun.whole r.made k s r.begun.distinct r.begun.opened (subst (λ (g : Group). IsUp g k s) r.is up))
 
 -- ---- audits
 
@@ -83,7 +82,7 @@ entries-grow : KeepsCommits → (q : Queue) (made : List Move) → Reached q
     → IsFront q.group.audit (group_after q.group made).audit
 entries-grow keeps q made r =
     subst (λ (g : Group). IsFront g.audit (group_after g made).audit) (sym r.is)
-    (keeps q.args.queue r.nodes r.made made r.distinct)
+    (keeps r.start r.begun.whole r.made made r.begun.distinct r.begun.opened)
 
 pub commits-grow : KeepsCommits → (q : Queue) (events : List Event) → Reached q
     → IsFront q.group.audit (after q events).group.audit
@@ -97,9 +96,9 @@ audit-grows keeps q events r =
     (audit_of (empty_queue args) (after q events).group.audit)) (sym (args-are q events))
     (audit-front (empty_queue q.args) q.group.audit (after q events).group.audit (commits-grow keeps q events r))
 
-pub serial-after : (args : QueueArgs) (nodes : List NodeId) (events : List Event)
-    → IsSerial (empty_queue args) (audit_rows (queue_after args nodes events))
-serial-after args nodes events =
-    let q : Queue = queue_after args nodes events in
+pub serial-after : (args : QueueArgs) (group : Group) (events : List Event)
+    → IsSerial (empty_queue args) (audit_rows (queue_after args group events))
+serial-after args group events =
+    let q : Queue = queue_after args group events in
     subst (λ (own : QueueArgs). IsSerial (empty_queue own) (audit_of (empty_queue q.args) q.group.audit))
-    (args-are (new_queue args nodes) events) (audit-serial (empty_queue q.args) q.group.audit)
+    (args-are (begin args group) events) (audit-serial (empty_queue q.args) q.group.audit)

@@ -5,9 +5,9 @@ use Rattle.std.proofs.lemmas.Bool.{eq-eqb, ne_eqb, cases_eq, cond_both}
 use Rattle.qq_base.proofs.Puts.{put-each}
 use Rattle.qq_base.specs.Fronts.{put}
 use Rattle.qq_base.specs.Ids.{client}
-use Rattle.qq_base.specs.declared.ids.NodeId.{NodeId}
 use Rattle.qq_entry.specs.declared.command.Unstamped.{Unstamped}
 use Rattle.qq_entry.specs.declared.queue.QueueArgs.{QueueArgs}
+use Rattle.qq_raft_model.specs.Group.{Group}
 use Rattle.qq_session.specs.Arriving.{Deed, Hands, after_deed}
 use Rattle.qq_session.specs.Publishing.{Numbers, new_numbers, hand}
 use Rattle.qq_world.specs.Laws.{after_deeds, takes_of}
@@ -15,7 +15,7 @@ use Rattle.qq_world.specs.World.{Client, Clients, may_hand}
 use Rattle.qq_world.proofs.Deeds.{deeds-append, heard-numbers}
 use Rattle.qq_world.proofs.Ends.{all-ended}
 use Rattle.qq_cluster.specs.Laws.{StaysEnded, deeds, deeds_at, hands_at, queue_after}
-use Rattle.qq_cluster.specs.Queue.{Queue, Event, Mutes, Ends, Submits, TellsEnded, Resends, Downs, Ticks, Delivers, Loses, Copies, Writes, Syncs, Notices, Stops, Finds, acts, after, happens, new_queue, rows_told}
+use Rattle.qq_cluster.specs.Queue.{Queue, Event, Mutes, Ends, Submits, TellsEnded, Resends, Downs, Ticks, Delivers, Loses, Copies, Writes, Syncs, Notices, Stops, Finds, acts, after, happens, begin, rows_told}
 use Rattle.qq_cluster.specs.Rules.{is_ended}
 
 -- ---- what a client does by itself
@@ -102,10 +102,10 @@ deeds-numbers session q (event ∷ events) =
     (q.clients session).numbers)
 
 -- a session's numbers are what it has made of them
-pub counts-deeds : (args : QueueArgs) (nodes : List NodeId) (session : ℕ) (events : List Event)
-    → ((queue_after args nodes events).clients session).numbers
-    ≡ after_deeds (deeds session (new_queue args nodes) events) (new_numbers (client session) args.queue)
-counts-deeds args nodes session events = deeds-numbers session (new_queue args nodes) events
+pub counts-deeds : (args : QueueArgs) (group : Group) (session : ℕ) (events : List Event)
+    → ((queue_after args group events).clients session).numbers
+    ≡ after_deeds (deeds session (begin args group) events) (new_numbers (client session) args.queue)
+counts-deeds args group session events = deeds-numbers session (begin args group) events
 
 -- ---- sessions that have ended
 

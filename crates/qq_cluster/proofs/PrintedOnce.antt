@@ -4,17 +4,17 @@ use Rattle.std.specs.Prelude.{filter_map, AllPairs}
 use Rattle.std.specs.List.{AllByRecursion, flat_map}
 use Rattle.std.proofs.lemmas.Bool.{cond_both}
 use Rattle.qq_base.proofs.Lists.{AllByRecursion-append, AllByRecursion-weaker}
-use Rattle.qq_base.specs.declared.ids.NodeId.{NodeId}
 use Rattle.qq_entry.specs.declared.audit.AuditRow.{AuditRow}
 use Rattle.qq_entry.specs.declared.audit.Effect.{Effect}
 use Rattle.qq_entry.specs.declared.queue.QueueArgs.{QueueArgs}
 use Rattle.qq_session.proofs.AuditRows.{filter_map-append}
+use Rattle.qq_raft_model.specs.Group.{Group}
 use Rattle.qq_session.specs.Publishing.{Numbers}
 use Rattle.qq_world.specs.Laws.{closed_number}
 use Rattle.qq_world.specs.World.{Clients, Shown, Answered, WindowFull, delivered, hear_all, may_hand, printed, said_of}
 use Rattle.qq_world.proofs.PrintedOnce.{IsClosed, OpenBelow, closed-deeds, below-deeds, numbers_in, printed_numbers, Distinct, pairs-distinct, printed-distinct, printed-closed, never-printed, offered-none, delivered-none, distinct-append}
 use Rattle.qq_cluster.specs.Laws.{deeds_at}
-use Rattle.qq_cluster.specs.Queue.{Queue, Event, Mutes, Ends, Submits, TellsEnded, Resends, Downs, Ticks, Delivers, Loses, Copies, Writes, Syncs, Notices, Stops, Finds, acts, after, all_said, effects_told, happens, has_leader, new_queue, offered, rows_told, said, told}
+use Rattle.qq_cluster.specs.Queue.{Queue, Event, Mutes, Ends, Submits, TellsEnded, Resends, Downs, Ticks, Delivers, Loses, Copies, Writes, Syncs, Notices, Stops, Finds, acts, after, all_said, effects_told, happens, has_leader, begin, offered, rows_told, said, told}
 use Rattle.qq_cluster.proofs.Numbers.{event-numbers}
 
 -- what is told closes the numbers of the rows that are printed
@@ -107,8 +107,8 @@ closes-distinct session q (event ∷ events) below =
     (λ (x : ℕ). AllByRecursion (λ (m : ℕ). m ≢ x) (numbers_in session (all_said next events)))
     (λ x is. never-again x session next events is) (numbers_in session (said q event)) closed))
 
-pub closes-once : (args : QueueArgs) (nodes : List NodeId) (session : ℕ) (events : List Event)
-    → AllPairs (λ (m n : ℕ). m ≢ n) (filter_map (closed_number session) (all_said (new_queue args nodes) events))
-closes-once args nodes session events =
-    pairs-distinct (numbers_in session (all_said (new_queue args nodes) events))
-    (closes-distinct session (new_queue args nodes) events tt)
+pub closes-once : (args : QueueArgs) (group : Group) (session : ℕ) (events : List Event)
+    → AllPairs (λ (m n : ℕ). m ≢ n) (filter_map (closed_number session) (all_said (begin args group) events))
+closes-once args group session events =
+    pairs-distinct (numbers_in session (all_said (begin args group) events))
+    (closes-distinct session (begin args group) events tt)

@@ -20,8 +20,8 @@ use Rattle.qq_raft_msg.specs.Rpc.{envelope}
 use Rattle.qq_raft_msg.specs.declared.rpc.Rpc.{Rpc}
 use Rattle.qq_script_lines.specs.declared.line.ScriptLine.{ScriptLine}
 use Rattle.qq_script_lines.specs.declared.line.ScriptLine.TheVariants as lines
-use Rattle.qq_cluster.specs.Cluster.{Setup, Cluster, ClusterEvent, Sets, Alike, At, NodeWrites, NodeSyncs, Fails, Crashes, FindsEach, Shows, SaysDown, SaysNoSuch, SaysUnroutable, SaysBusy, SaysEnded, new_cluster, cluster_happens, cluster_after, part_of, up_after}
-use Rattle.qq_cluster.specs.ClusterLaws.{IsServedBy, has_failure, is_failure}
+use Rattle.qq_cluster.specs.Cluster.{Setup, Cluster, ClusterEvent, Sets, Alike, At, NodeWrites, NodeSyncs, Fails, Crashes, FindsEach, Shows, SaysDown, SaysNoSuch, SaysUnroutable, SaysBusy, SaysEnded, new_cluster, cluster_happens, cluster_after, members, part_of, up_after}
+use Rattle.qq_cluster.specs.ClusterLaws.{HasGroups, IsServedBy, has_failure, is_failure}
 use Rattle.qq_cluster.specs.Lines.{AndPumped, IsCopy, IsDeliver, IsDelivered, IsLine, IsLose, IsRouted, IsRun, IsScript, IsSend, WhereThere, WhereUp, nodes_of, publish_with, receiver_at}
 use Rattle.qq_cluster.specs.Queue.{Queue, Event, Mutes, Ends, Submits, TellsEnded, Resends, Downs, Ticks, Delivers, Loses, Copies, Writes, Syncs, Notices, Stops, Finds, after, happens, leader, moves, offered, submits, waiting}
 use Rattle.qq_cluster.specs.Rules.{Rule, ForEach, FindsLanes, Is, IsEmptied, IsEnd, IsFirstTick, IsFound, IsGiven, IsNodeRound, IsNothing, IsNotice, IsOpening, IsPump, IsPumped, IsResend, IsRestart, IsRound, IsSync, IsSynced, IsWrite, IsWritten, MayRoll, Pumps, Then, if_so, is_ended, is_idle, may_find, most_rounds, some_queue, tick_at, waits_noticed, waits_synced, waits_written}
@@ -529,26 +529,26 @@ serve-open setup =
     serve-both (ForEach setup.nodes (IsRestart setup))
     (Then (ForEach setup.places (IsFirstTick setup)) (IsPump setup))
     (does.each setup.nodes (does.restart setup does.all_given))
-    (does.both (does.each setup.places (λ place. does.first_tick place (setup.members place))) (does.pump setup))
+    (does.both (does.each setup.places (λ place. does.first_tick place (members setup place))) (does.pump setup))
     (serve-each setup.nodes (IsRestart setup) (does.restart setup does.all_given) (serve-restart setup))
     (serve-both (ForEach setup.places (IsFirstTick setup)) (IsPump setup)
-    (does.each setup.places (λ place. does.first_tick place (setup.members place))) (does.pump setup)
-    (serve-each setup.places (IsFirstTick setup) (λ place. does.first_tick place (setup.members place))
-    (λ place. serve-tick place (setup.members place))) (serve-pumps most_rounds setup))
+    (does.each setup.places (λ place. does.first_tick place (members setup place))) (does.pump setup)
+    (serve-each setup.places (IsFirstTick setup) (λ place. does.first_tick place (members setup place))
+    (λ place. serve-tick place (members setup place))) (serve-pumps most_rounds setup))
 
-new-down : (setup : Setup) → Sound (new_cluster setup)
-new-down setup = record {
-  counted = λ place. counted-new (setup.args place) (setup.members place);
-  down = λ k is place. refl;
+new-down : (setup : Setup) → HasGroups setup → Sound (new_cluster setup)
+new-down setup groups = record {
+  counted = λ place. counted-new (setup.args place) (setup.group place) (groups place);
+  down = λ k is place. ap is_down ((groups place).opened.down.down k);
 }
 
-pub runs-served : (setup : Setup) (said : List ScriptLine)
+pub runs-served : (setup : Setup) (said : List ScriptLine) → HasGroups setup
     → IsServedBy setup said (does.run setup does.all_given said (new_cluster setup))
-runs-served setup said =
+runs-served setup said groups =
     let served =
     serve-both (IsOpening setup) (IsScript setup said) (does.open setup does.all_given)
     (does.script setup does.all_given said) (serve-open setup) (serve-script setup said) (new_cluster setup)
-    (new-down setup) in
+    (new-down setup groups) in
     record {
       is = served.is;
       fine = calm-fine (does.run setup does.all_given said (new_cluster setup)) served.calm;

@@ -7,7 +7,7 @@ use Rattle.qq_base.specs.declared.ids.NodeId.{NodeId}
 use Rattle.qq_entry.specs.declared.command.Unstamped.{Unstamped}
 use Rattle.qq_script_lines.specs.declared.line.ScriptLine.{ScriptLine}
 use Rattle.qq_script_lines.specs.declared.line.ScriptLine.TheVariants as lines
-use Rattle.qq_cluster.specs.Cluster.{Setup, Cluster, ClusterEvent, Sets, Alike, At, NodeWrites, NodeSyncs, Fails, Crashes, FindsEach, Shows, SaysDown, SaysNoSuch, SaysUnroutable, SaysBusy, SaysEnded, new_cluster, cluster_after}
+use Rattle.qq_cluster.specs.Cluster.{Setup, Cluster, ClusterEvent, Sets, Alike, At, NodeWrites, NodeSyncs, Fails, Crashes, FindsEach, Shows, SaysDown, SaysNoSuch, SaysUnroutable, SaysBusy, SaysEnded, new_cluster, cluster_after, members}
 use Rattle.qq_cluster.specs.ClusterLaws.{is_failure, has_failure, finding, findings, LeavesNoChoice}
 use Rattle.qq_cluster.specs.Lines.{publish_with, IsRouted, IsSend, WhereUp, nodes_of, receiver_at, IsDelivered, WhereThere, IsDeliver, IsLose, IsCopy, AndPumped, IsLine, IsScript, IsRun}
 use Rattle.qq_cluster.specs.Queue.{Event, Mutes, Ends, Submits, TellsEnded, Resends, Downs, Ticks, Delivers, Loses, Copies, Notices}
@@ -271,7 +271,7 @@ settles-opening setup c =
     (Then (ForEach setup.places (IsFirstTick setup)) (IsPump setup)) c
     (settles-each setup.nodes (IsRestart setup) (settles-restart setup) c)
     (λ d. settles-then (ForEach setup.places (IsFirstTick setup)) (IsPump setup) d
-    (settles-each setup.places (IsFirstTick setup) (λ place e. settles-tick place (setup.members place) e) d)
+    (settles-each setup.places (IsFirstTick setup) (λ place e. settles-tick place (members setup place) e) d)
     (λ e. settles-pumps most_rounds setup e))
 
 settled : (Allows : Rule) (c : Cluster) → Settles Allows c → LeavesNoChoice Allows c

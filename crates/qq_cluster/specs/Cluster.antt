@@ -6,10 +6,10 @@ use Rattle.qq_base.specs.Fronts.{put}
 use Rattle.qq_base.specs.declared.ids.NodeId.{NodeId}
 use Rattle.qq_disk.specs.declared.image.Image.{Image}
 use Rattle.qq_entry.specs.declared.queue.QueueArgs.{QueueArgs}
-use Rattle.qq_raft_model.specs.Group.{has_node}
+use Rattle.qq_raft_model.specs.Group.{Group, has_node}
 use Rattle.qq_raft_model.specs.State.{Server}
 use Rattle.qq_world.specs.World.{Shown}
-use Rattle.qq_cluster.specs.Queue.{Queue, Event, Writes, Syncs, Stops, Finds, new_queue, after, said}
+use Rattle.qq_cluster.specs.Queue.{Queue, Event, Writes, Syncs, Stops, Finds, begin, after, said}
 
 -- what a cluster is started with
 pub record Setup : Type 0 where
@@ -18,7 +18,7 @@ pub record Setup : Type 0 where
   pub first : ℕ  -- the first queue's place
   pub name : ℕ → List ℕ
   pub args : ℕ → QueueArgs
-  pub members : ℕ → List NodeId  -- the nodes that have a queue's group, its first member first
+  pub group : ℕ → Group  -- each queue's group as its members' logs have it, all of them down
   pub targets : (exchange key : List ℕ) → List ℕ  -- the queues that a message is routed to, in order
 
 pub record Cluster : Type 0 where
@@ -26,13 +26,17 @@ pub record Cluster : Type 0 where
   pub up : ℕ → Bool  -- which nodes are up
   pub queue : ℕ → Queue  -- each queue, by its place
 
--- all nodes are down, and their logs are empty
+-- the nodes that have a queue's group, its first member first
+abbrev pub members : Setup → ℕ → List NodeId
+members setup place = (setup.group place).nodes
+
+-- all nodes are down
 abbrev pub new_cluster : Setup → Cluster
 new_cluster setup =
     record {
       auto = true;
       up = λ k. false;
-      queue = λ place. new_queue (setup.args place) (setup.members place);
+      queue = λ place. begin (setup.args place) (setup.group place);
     }
 
 pub data ClusterEvent : Type 0 where
@@ -120,7 +124,7 @@ pub data Printed : Type 0 where
 
 -- the members of a queue's group, in order of their nodes
 abbrev pub members_in_order : Setup → ℕ → List ℕ
-members_in_order setup place = filter (λ k. has_node k (setup.members place)) setup.nodes
+members_in_order setup place = filter (λ k. has_node k (members setup place)) setup.nodes
 
 abbrev pub state_at : Cluster → ℕ → ℕ → Printed
 state_at c place k = State place k ((c.queue place).group.seat k).server

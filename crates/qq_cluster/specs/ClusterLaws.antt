@@ -4,7 +4,6 @@ use Rattle.std.specs.List.{AllByRecursion, flat_map, list_any}
 use Rattle.qq_base.specs.declared.ids.NodeId.{NodeId}
 use Rattle.qq_base.specs.declared.ids.QueueId.{QueueId}
 use Rattle.qq_entry.specs.declared.command.Unstamped.{Unstamped}
-use Rattle.qq_raft_model.specs.Promises.{AreDistinct}
 use Rattle.qq_script_lines.specs.declared.line.ScriptLine.{ScriptLine}
 use Rattle.qq_script_lines.specs.declared.line.ScriptLine.TheVariants.{Write, Sync, Notice, Tick}
 use Rattle.qq_world.specs.Laws.{IsAudited, IsConfirmedOnce}
@@ -12,18 +11,18 @@ use Rattle.qq_cluster.specs.Queue.{Queue, TellsEnded, audit_rows}
 use Rattle.qq_cluster.specs.Cluster.{Setup, Cluster, ClusterEvent, At, Fails, FindsEach, SaysDown, SaysEnded, Printed, Of, new_cluster, cluster_after, parts_of, all_prints}
 use Rattle.qq_cluster.specs.Rules.{Rule, some_queue, is_idle, is_ended, IsPump, IsGiven, IsResend}
 use Rattle.qq_cluster.specs.Lines.{IsLine, IsRun}
-use Rattle.qq_cluster.specs.Laws.{queue_after, IsMade}
+use Rattle.qq_cluster.specs.Laws.{IsBegun, IsMade, queue_after}
 
 -- each queue of a cluster is a queue to which its own part of the events happened
 abbrev pub HasItsQueues : Setup → List ClusterEvent → Type 0
 HasItsQueues setup events =
     (place : ℕ)
     → (cluster_after (new_cluster setup) events).queue place
-    ≡ queue_after (setup.args place) (setup.members place) (parts_of place events)
+    ≡ queue_after (setup.args place) (setup.group place) (parts_of place events)
 
--- no node has two members of a queue's group
+-- each queue may begin with its group
 abbrev pub HasGroups : Setup → Type 0
-HasGroups setup = (place : ℕ) → AreDistinct (setup.members place)
+HasGroups setup = (place : ℕ) → IsBegun (setup.group place)
 
 -- What is printed as an answer at a queue is one of its audit, what is confirmed there was published once, and what is
 -- delivered is what an entry of the audit did.

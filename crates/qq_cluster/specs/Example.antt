@@ -10,6 +10,7 @@ use Rattle.qq_disk.specs.declared.image.Image.{Image}
 use Rattle.qq_disk.specs.declared.image.Tail.TheVariants.{Cut, Whole}
 use Rattle.qq_entry.specs.declared.command.Unstamped.TheVariants.{Get}
 use Rattle.qq_entry.specs.Queue.{default_args}
+use Rattle.qq_raft_model.specs.Group.{new_group}
 use Rattle.qq_setup.specs.Members.{members}
 use Rattle.qq_script_lines.specs.declared.line.Nodes.TheVariants.{One}
 use Rattle.qq_script_lines.specs.declared.line.ScriptLine.{ScriptLine}
@@ -37,7 +38,7 @@ setup_of nodes queues = record {
   first = 1;
   name = name_of;
   args = λ place. default_args (record { 0 = place }) nodes;
-  members = λ place. members nodes 3 (place - 1);
+  group = λ place. new_group (record { 0 = place }) (members nodes 3 (place - 1));
   targets = by_name (range_with_len 1 queues);
 }
 

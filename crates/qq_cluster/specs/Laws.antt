@@ -2,27 +2,34 @@
 use Rattle.std.specs.Prelude.{◌≡◌, ◌≤◌, ◌<◌, ℕ, List, [], ◌∷◌, ◌++◌, Bool, true, false, Some, None, length, nat_eq, Contains, if◌then◌else◌}
 use Rattle.qq_base.specs.Fronts.{IsFront}
 use Rattle.qq_base.specs.Ids.{client}
-use Rattle.qq_base.specs.declared.ids.NodeId.{NodeId}
 use Rattle.qq_entry.specs.declared.audit.AuditRow.{AuditRow}
 use Rattle.qq_entry.specs.declared.audit.Effect.TheVariants.{Deliver}
 use Rattle.qq_entry.specs.declared.command.Command.{Command}
 use Rattle.qq_entry.specs.declared.command.Command.TheVariants.{Down}
 use Rattle.qq_entry.specs.declared.command.Unstamped.{Unstamped}
+use Rattle.qq_entry.specs.declared.command.Entry.{Entry}
 use Rattle.qq_entry.specs.declared.queue.QueueArgs.{QueueArgs}
 use Rattle.qq_model.specs.Audit.{effects_of}
 use Rattle.qq_model.specs.State.{empty_queue}
-use Rattle.qq_raft_model.specs.Group.{Event as Move}
+use Rattle.qq_raft_model.specs.Group.{Event as Move, Group}
 use Rattle.qq_raft_model.specs.Group.Event.{Submit}
+use Rattle.qq_raft_model.specs.Promises.{AreDistinct, IsOpened}
 use Rattle.qq_session.specs.Arriving.{Deed, Hands, handed}
 use Rattle.qq_session.specs.Publishing.{new_numbers}
 use Rattle.qq_world.specs.Laws.{takes_of}
 use Rattle.qq_world.specs.World.{Shown, Delivered, NoLeader}
-use Rattle.qq_cluster.specs.Queue.{Queue, Event, Submits, Downs, Ends, acts, audit_rows, moves, happens, said, after, new_queue, leader, rows_told}
+use Rattle.qq_cluster.specs.Queue.{Queue, Event, Submits, Downs, Ends, acts, audit_rows, moves, happens, said, after, begin, leader, rows_told}
 use Rattle.qq_cluster.specs.Rules.{is_ended}
 
--- a queue that may be reached
-abbrev pub queue_after : QueueArgs → List NodeId → List Event → Queue
-queue_after args nodes events = after (new_queue args nodes) events
+-- a group with which a queue may begin: no node has two of its members, and their logs support an audit
+pub record IsBegun (group : Group) : Type 0 where
+  pub distinct : AreDistinct group.nodes
+  pub whole : List Entry
+  pub opened : IsOpened group whole
+
+-- what events make of a queue that begins with a group
+abbrev pub queue_after : QueueArgs → Group → List Event → Queue
+queue_after args group events = after (begin args group) events
 
 -- what events are to the queue's group
 abbrev pub all_moves : Queue → List Event → List Move
@@ -55,9 +62,9 @@ deeds session q [] = []
 deeds session q (event ∷ events) = deeds_at session q event ++ deeds session (happens q event) events
 
 -- the commands that a session has given numbers, in order
-abbrev pub commands_of : QueueArgs → List NodeId → ℕ → List Event → List Command
-commands_of args nodes session events =
-    handed (new_numbers (client session) args.queue) (deeds session (new_queue args nodes) events)
+abbrev pub commands_of : QueueArgs → Group → ℕ → List Event → List Command
+commands_of args group session events =
+    handed (new_numbers (client session) args.queue) (deeds session (begin args group) events)
 
 -- ---- the logs
 

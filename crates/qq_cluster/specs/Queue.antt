@@ -13,7 +13,7 @@ use Rattle.qq_entry.specs.declared.command.Unstamped.{Unstamped}
 use Rattle.qq_entry.specs.declared.queue.QueueArgs.{QueueArgs}
 use Rattle.qq_model.specs.Audit.{audit_of, state_after}
 use Rattle.qq_model.specs.State.{empty_queue}
-use Rattle.qq_raft_model.specs.Group.{Event as Move, Group, group_after, may_restart, new_group}
+use Rattle.qq_raft_model.specs.Group.{Event as Move, Group, group_after, may_restart}
 use Rattle.qq_raft_model.specs.Group.Event.{Tick, Submit, Deliver, Lose, Copy, Take, Notice, Crash, Restart}
 use Rattle.qq_raft_model.specs.Server.{is_ready}
 use Rattle.qq_raft_model.specs.State.{Server}
@@ -58,10 +58,10 @@ pub record Queue : Type 0 where
   pub group : Group
   pub synced : ℕ → ℕ  -- how many of the ops that each node's log was handed a sync has kept
 
--- no member is up, and nothing was handed to a log
-abbrev pub new_queue : QueueArgs → List NodeId → Queue
-new_queue args nodes =
-    record { args = args; clients = new_clients args; group = new_group args.queue nodes; synced = λ k. 0 }
+-- a queue begins with a group all of whose members are down; what they were noticed of is kept
+abbrev pub begin : QueueArgs → Group → Queue
+begin args group =
+    record { args = args; clients = new_clients args; group = group; synced = λ k. (group.seat k).noticed }
 
 pub data Event : Type 0 where
   -- from here on answers to a session are lost, or come again

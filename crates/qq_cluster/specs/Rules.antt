@@ -6,7 +6,7 @@ use Rattle.qq_base.specs.declared.ids.NodeId.{NodeId}
 use Rattle.qq_entry.specs.declared.command.Unstamped.{Unstamped}
 use Rattle.qq_raft_model.specs.Group.{has_node, may_restart}
 use Rattle.qq_cluster.specs.Queue.{Queue, Mutes, Ends, Submits, TellsEnded, Resends, Downs, Ticks, Delivers, Notices, waiting}
-use Rattle.qq_cluster.specs.Cluster.{Setup, Cluster, ClusterEvent, Alike, At, NodeWrites, NodeSyncs, Fails, FindsEach, SaysBusy, SaysEnded, cluster_after}
+use Rattle.qq_cluster.specs.Cluster.{Setup, Cluster, ClusterEvent, Alike, At, NodeWrites, NodeSyncs, Fails, FindsEach, SaysBusy, SaysEnded, cluster_after, members}
 
 abbrev pub Rule : Type 1
 Rule = Cluster → List ClusterEvent → Type 0
@@ -170,7 +170,7 @@ tick_at place [] = IsNothing
 tick_at place (n ∷ nodes) = Is (At place (Ticks n.0))
 
 abbrev pub IsFirstTick : Setup → ℕ → Rule
-IsFirstTick setup place = tick_at place (setup.members place)
+IsFirstTick setup place = tick_at place (members setup place)
 
 -- every node is recovered, in order, then each queue's first member stands for election, and a pump follows
 abbrev pub IsOpening : Setup → Rule

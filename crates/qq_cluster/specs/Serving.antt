@@ -5,7 +5,7 @@ use Rattle.qq_entry.specs.declared.command.Unstamped.{Unstamped}
 use Rattle.qq_script_lines.specs.declared.line.ScriptLine.{ScriptLine}
 use Rattle.qq_script_lines.specs.declared.line.ScriptLine.TheVariants as lines
 use Rattle.qq_cluster.specs.Queue.{Event, Mutes, Ends, Submits, TellsEnded, Resends, Downs, Ticks, Delivers, Loses, Copies, Notices}
-use Rattle.qq_cluster.specs.Cluster.{Setup, Cluster, ClusterEvent, Sets, Alike, At, NodeWrites, NodeSyncs, Crashes, FindsEach, Shows, SaysDown, SaysNoSuch, SaysUnroutable, SaysBusy, SaysEnded, cluster_after}
+use Rattle.qq_cluster.specs.Cluster.{Setup, Cluster, ClusterEvent, Sets, Alike, At, NodeWrites, NodeSyncs, Crashes, FindsEach, Shows, SaysDown, SaysNoSuch, SaysUnroutable, SaysBusy, SaysEnded, cluster_after, members}
 use Rattle.qq_cluster.specs.Rules.{some_queue, waits_written, waits_synced, waits_noticed, is_idle, most_rounds, is_ended}
 use Rattle.qq_cluster.specs.Lines.{publish_with, nodes_of, receiver_at}
 
@@ -149,7 +149,7 @@ first_tick place (n ∷ nodes) = one (At place (Ticks n.0))
 abbrev pub open : Setup → Finding → Doing
 open setup find =
     both (each setup.nodes (restart setup find))
-    (both (each setup.places (λ place. first_tick place (setup.members place))) (pump setup))
+    (both (each setup.places (λ place. first_tick place (members setup place))) (pump setup))
 
 abbrev pub script : Setup → Finding → List ScriptLine → Doing
 script setup find [] = nothing

@@ -42,7 +42,7 @@ pub fn lines_settle()
 /// A law: each script may be served to its end with no failure of a disk, whatever its lines crash
 /// and restart: by these events, where each restart finds all that its node's log was given.
 pub fn scripts_may_be_served()
-    ensures { (setup : Setup) (lines : List ScriptLine) →
+    ensures { (setup : Setup) (lines : List ScriptLine) → HasGroups setup →
         IsServedBy setup lines (run setup all_given lines (new_cluster setup)) }
 {}
 

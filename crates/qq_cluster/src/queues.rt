@@ -1,45 +1,43 @@
 //! The laws of a queue of a cluster, whatever happens to it.
 ghost use Rattle.std.specs.Prelude.{◌≡◌, ◌≤◌, ◌<◌, ◌∷◌, [], List, ℕ, Some, None, length, map};
-ghost use Rattle.qq_base.specs.declared.ids.NodeId.{NodeId};
 ghost use Rattle.qq_entry.specs.declared.command.Command.{Command};
 ghost use Rattle.qq_entry.specs.declared.command.Unstamped.{Unstamped};
 ghost use Rattle.qq_entry.specs.declared.queue.QueueArgs.{QueueArgs};
 ghost use Rattle.qq_model.specs.Audit.{IsSerial};
 ghost use Rattle.qq_model.specs.State.{empty_queue};
 ghost use Rattle.qq_model.specs.declared.TheConstants.{WINDOW};
-ghost use Rattle.qq_raft_model.specs.Group.{from_new};
+ghost use Rattle.qq_raft_model.specs.Group.{Group, group_after};
 ghost use Rattle.qq_raft_model.specs.Group.Event.{Submit};
-ghost use Rattle.qq_raft_model.specs.Promises.{AreDistinct};
 ghost use Rattle.qq_session.specs.Publishing.{next_command, hand, open_commands};
 ghost use Rattle.qq_world.specs.World.{NoLeader, WindowFull};
-ghost use Rattle.qq_cluster.specs.Laws.{CountsRise, KeepsAudit, all_moves, queue_after};
-ghost use Rattle.qq_cluster.specs.Queue.{Event, Queue, Submits, Resends, audit_rows, happens, leader, moves, new_queue, said};
+ghost use Rattle.qq_cluster.specs.Laws.{CountsRise, IsBegun, KeepsAudit, all_moves, queue_after};
+ghost use Rattle.qq_cluster.specs.Queue.{Event, Queue, Submits, Resends, audit_rows, begin, happens, leader, moves, said};
 
 use qq_raft_model::what_a_group_committed_stays;
 
-/// A law: the group of a queue is one that the queue's events make of a new one, so each law of a
-/// group is one of it.
+/// A law: the group of a queue is one that the queue's events make of the one that it began with, so each
+/// law of a group is one of it.
 pub fn a_queue_is_its_group()
-    ensures { (args : QueueArgs) (nodes : List NodeId) (events : List Event) →
-        (queue_after args nodes events).group
-        ≡ from_new args.queue nodes (all_moves (new_queue args nodes) events) }
+    ensures { (args : QueueArgs) (group : Group) (events : List Event) →
+        (queue_after args group events).group
+        ≡ group_after group (all_moves (begin args group) events) }
 {}
 
 /// A law: the audit is what the queue's definition gives of the entries that its group has
 /// committed, one after the other; and whatever happens later, crashes too, its rows stay.
 pub fn an_audit_is_serial()
-    ensures serial { (args : QueueArgs) (nodes : List NodeId) (events : List Event) →
-        IsSerial (empty_queue args) (audit_rows (queue_after args nodes events)) }
-    ensures stays { (args : QueueArgs) (nodes : List NodeId) (first second : List Event) →
-        AreDistinct nodes → KeepsAudit (queue_after args nodes first) second }
+    ensures serial { (args : QueueArgs) (group : Group) (events : List Event) →
+        IsSerial (empty_queue args) (audit_rows (queue_after args group events)) }
+    ensures stays { (args : QueueArgs) (group : Group) (first second : List Event) →
+        IsBegun group → KeepsAudit (queue_after args group first) second }
 {
     what_a_group_committed_stays();
 }
 
 /// A law: a member is noticed of no more than a sync has kept of what its node's log was given.
 pub fn ops_are_noticed_once_synced()
-    ensures { (args : QueueArgs) (nodes : List NodeId) (events : List Event) (k : ℕ) →
-        CountsRise (queue_after args nodes events) k }
+    ensures { (args : QueueArgs) (group : Group) (events : List Event) (k : ℕ) →
+        IsBegun group → CountsRise (queue_after args group events) k }
 {}
 
 /// A law: a command that gets a number goes to the leader. Where there is none, and only there, the
