@@ -56,18 +56,20 @@ count-ops [] s t is =
     let same : s ≡ t = cc in
     let op = ap (λ (u : Stable). u.op) same in
     omega (arith, op)
-count-ops (op ∷ all) s t is = by (apply_op s op) refl is
+count-ops (op ∷ all) s t is = by (apply_op s op) refl is (λ u e. count-ops all u t e)
   where
-    by : (o : Option Stable) → apply_op s op ≡ o → fold then_apply o all ≡ Some t → t.op ≡ s.op + length (op ∷ all)
-    by None none' e = absurd (let same : None ≡ Some t = sym (none-stays all) ∙ e in cc)
-    by (Some u) one e =
-        let later = count-ops all u t e in
+    by : (o : Option Stable) → apply_op s op ≡ o → fold then_apply o all ≡ Some t
+        → ((u : Stable) → fold then_apply (Some u) all ≡ Some t → t.op ≡ u.op + length all)
+        → t.op ≡ s.op + length (op ∷ all)
+    by None none' e more = absurd (let same : None ≡ Some t = sym (none-stays all) ∙ e in cc)
+    by (Some u) one e more =
+        let later = more u e in
         let here = apply-op s u op one in
         omega (arith, later, here)
 
 -- what ops come to has as many
 stable-op : (all : List Op) (t : Stable) → stable all ≡ Some t → t.op ≡ length all
-stable-op all t is = count-ops all new_state t is
+stable-op all t is = let so = count-ops all new_state t is in omega (arith, so)
 
 -- ---- seats
 

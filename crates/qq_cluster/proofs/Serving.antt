@@ -254,18 +254,17 @@ calm-replicate event calm (suc count) = (calm, calm-replicate event calm count)
 -- ---- rules that are met
 
 -- a rule allows these events, and no disk fails among them
-record Served (Allows : Cluster → List ClusterEvent → Type 0) (c : Cluster) (events : List ClusterEvent)
-    : Type 0 where
-  pub is : Allows c events
+record Served (Allowed : Type 0) (events : List ClusterEvent) : Type 0 where
+  pub is : Allowed
   pub calm : AreCalm events
 
 abbrev Serves : Rule → does.Doing → Type 0
-Serves Allows doing = (c : Cluster) → Sound c → Served Allows c (doing c)
+Serves Allows doing = (c : Cluster) → Sound c → Served (Allows c (doing c)) (doing c)
 
 serve-both : (First Second : Rule) (first second : does.Doing) → Serves First first → Serves Second second
     → Serves (Then First Second) (does.both first second)
 serve-both First Second first second one two c sound =
-    let early : Served First c (first c) = one c sound in
+    let early : Served (First c (first c)) (first c) = one c sound in
     let late = two (cluster_after c (first c)) (sound-all c (first c) early.calm sound) in
     record {
       is = record {
@@ -278,15 +277,16 @@ serve-both First Second first second one two c sound =
       calm = calm-append (first c) (second (cluster_after c (first c))) early.calm late.calm;
     }
 
-serve-if : (b : Bool) (First Second : Rule) (c : Cluster) (es fs : List ClusterEvent) → (b ≡ true → Served First c es)
-    → (b ≡ false → Served Second c fs) → Served (if_so b First Second) c (cond b es fs)
+serve-if : (b : Bool) (First Second : Rule) (c : Cluster) (es fs : List ClusterEvent)
+    → (b ≡ true → Served (First c es) es) → (b ≡ false → Served (Second c fs) fs)
+    → Served (if_so b First Second c (cond b es fs)) (cond b es fs)
 serve-if true First Second c es fs first second = first refl
 serve-if false First Second c es fs first second = second refl
 
-serve-nothing : (c : Cluster) → Served IsNothing c []
+serve-nothing : (c : Cluster) → Served (IsNothing c []) []
 serve-nothing c = record { is = refl; calm = tt }
 
-serve-one : (event : ClusterEvent) → IsCalm event → (c : Cluster) → Served (Is event) c (event ∷ [])
+serve-one : (event : ClusterEvent) → IsCalm event → (c : Cluster) → Served (Is event c (event ∷ [])) (event ∷ [])
 serve-one event calm c = record { is = refl; calm = (calm, tt) }
 
 serve-each : {A : Type 0} (xs : List A) (Each : A → Rule) (doing : A → does.Doing)
@@ -444,12 +444,12 @@ serve-restart setup k c sound =
 
 serve-delivered : (place at : ℕ) (o : Option ℕ) → Serves (IsDelivered place at o) (does.deliver_by place at o)
 serve-delivered place at None c sound = serve-one SaysNoSuch tt c
-serve-delivered place at (Some k) =
+serve-delivered place at (Some k) c sound =
     serve-both (Is (At place (Delivers at))) (λ c. if_so (c.up k) IsNothing (Is (SaysDown k)) c)
     (does.one (At place (Delivers at))) (λ c. cond (c.up k) [] (SaysDown k ∷ []))
     (serve-at (Delivers at) tt place)
-    (λ c sound. serve-if (c.up k) IsNothing (Is (SaysDown k)) c [] (SaysDown k ∷ []) (λ _. serve-nothing c)
-    (λ _. serve-one (SaysDown k) tt c))
+    (λ d _. serve-if (d.up k) IsNothing (Is (SaysDown k)) d [] (SaysDown k ∷ []) (λ _. serve-nothing d)
+    (λ _. serve-one (SaysDown k) tt d)) c sound
 
 serve-there : (o : Option ℕ) (event : Event) → FindsNothing event → (place : ℕ)
     → Serves (WhereThere o event place) (does.where_there o event place)
@@ -524,7 +524,7 @@ serve-tick : (place : ℕ) (nodes : List NodeId) → Serves (tick_at place nodes
 serve-tick place [] c sound = serve-nothing c
 serve-tick place (n ∷ nodes) c sound = serve-one (At place (Ticks n.0)) tt c
 
-serve-open : (setup : Setup) → Serves (IsOpening setup) (does.open setup does.all_given)
+serve-open : (setup : Setup) → Serves (IsOpening setup) (does.opening setup does.all_given)
 serve-open setup =
     serve-both (ForEach setup.nodes (IsRestart setup))
     (Then (ForEach setup.places (IsFirstTick setup)) (IsPump setup))
@@ -546,7 +546,7 @@ pub runs-served : (setup : Setup) (said : List ScriptLine) → HasGroups setup
     → IsServedBy setup said (does.run setup does.all_given said (new_cluster setup))
 runs-served setup said groups =
     let served =
-    serve-both (IsOpening setup) (IsScript setup said) (does.open setup does.all_given)
+    serve-both (IsOpening setup) (IsScript setup said) (does.opening setup does.all_given)
     (does.script setup does.all_given said) (serve-open setup) (serve-script setup said) (new_cluster setup)
     (new-down setup groups) in
     record {

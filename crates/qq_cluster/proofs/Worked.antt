@@ -3,7 +3,7 @@ use Rattle.std.proofs.Common.{◌≡◌, ◌++◌, refl}
 use Rattle.std.specs.Fmt.{digits}
 use Rattle.std.specs.Prelude.{codes}
 use Rattle.qq_base.specs.Fronts.{put}
-use Rattle.qq_command.specs.Encoding.{encoding}
+use Rattle.qq_command.specs.Encoding.{body, content, death, deaths, encoding, fields, key, origin, payload, session, stamp}
 use Rattle.qq_log.specs.Stable.{apply_op, change as change_log}
 use Rattle.qq_model.specs.Commands.{act, enqueue, get}
 use Rattle.qq_model.specs.Gate.{gate, admit, keep_answer, turn_away}

@@ -52,15 +52,15 @@ WhereThere (Some k) event place = Is (At place event)
 
 -- places are counted from 1
 abbrev pub IsDeliver : ℕ → ℕ → Rule
-IsDeliver place zero = Is SaysNoSuch
+IsDeliver place zero c events = Is SaysNoSuch c events
 IsDeliver place (suc at) c events = IsDelivered place at (receiver_at c place at) c events
 
 abbrev pub IsLose : ℕ → ℕ → Rule
-IsLose place zero = Is SaysNoSuch
+IsLose place zero c events = Is SaysNoSuch c events
 IsLose place (suc at) c events = WhereThere (receiver_at c place at) (Loses at) place c events
 
 abbrev pub IsCopy : ℕ → ℕ → Rule
-IsCopy place zero = Is SaysNoSuch
+IsCopy place zero c events = Is SaysNoSuch c events
 IsCopy place (suc at) c events = WhereThere (receiver_at c place at) (Copies at) place c events
 
 -- ---- lines

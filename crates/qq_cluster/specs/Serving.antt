@@ -104,7 +104,7 @@ deliver_by place at (Some k) =
     both (one (At place (Delivers at))) (λ c. if c.up k then [] else SaysDown k ∷ [])
 
 abbrev pub deliver : ℕ → ℕ → Doing
-deliver place zero = one SaysNoSuch
+deliver place zero c = SaysNoSuch ∷ []
 deliver place (suc at) c = deliver_by place at (receiver_at c place at) c
 
 abbrev pub where_there : Option ℕ → Event → ℕ → Doing
@@ -112,11 +112,11 @@ where_there None event place = one SaysNoSuch
 where_there (Some k) event place = one (At place event)
 
 abbrev pub lose : ℕ → ℕ → Doing
-lose place zero = one SaysNoSuch
+lose place zero c = SaysNoSuch ∷ []
 lose place (suc at) c = where_there (receiver_at c place at) (Loses at) place c
 
 abbrev pub copy : ℕ → ℕ → Doing
-copy place zero = one SaysNoSuch
+copy place zero c = SaysNoSuch ∷ []
 copy place (suc at) c = where_there (receiver_at c place at) (Copies at) place c
 
 unfoldable pub line : Setup → Finding → ScriptLine → Doing
@@ -146,8 +146,8 @@ abbrev pub first_tick : ℕ → List NodeId → Doing
 first_tick place [] = nothing
 first_tick place (n ∷ nodes) = one (At place (Ticks n.0))
 
-abbrev pub open : Setup → Finding → Doing
-open setup find =
+abbrev pub opening : Setup → Finding → Doing
+opening setup find =
     both (each setup.nodes (restart setup find))
     (both (each setup.places (λ place. first_tick place (members setup place))) (pump setup))
 
@@ -156,4 +156,4 @@ script setup find [] = nothing
 script setup find (said ∷ more) = both (line setup find said) (script setup find more)
 
 abbrev pub run : Setup → Finding → List ScriptLine → Doing
-run setup find said = both (open setup find) (script setup find said)
+run setup find said = both (opening setup find) (script setup find said)

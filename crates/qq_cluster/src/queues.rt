@@ -1,19 +1,22 @@
 //! The laws of a queue of a cluster, whatever happens to it.
 ghost use Rattle.std.specs.Prelude.{◌≡◌, ◌≤◌, ◌<◌, ◌∷◌, [], List, ℕ, Some, None, length, map};
+ghost use Rattle.qq_base.specs.declared.ids.NodeId.{NodeId};
+ghost use Rattle.qq_base.specs.declared.ids.QueueId.{QueueId};
 ghost use Rattle.qq_entry.specs.declared.command.Command.{Command};
 ghost use Rattle.qq_entry.specs.declared.command.Unstamped.{Unstamped};
 ghost use Rattle.qq_entry.specs.declared.queue.QueueArgs.{QueueArgs};
 ghost use Rattle.qq_model.specs.Audit.{IsSerial};
 ghost use Rattle.qq_model.specs.State.{empty_queue};
 ghost use Rattle.qq_model.specs.declared.TheConstants.{WINDOW};
-ghost use Rattle.qq_raft_model.specs.Group.{Group, group_after};
+ghost use Rattle.qq_raft_model.specs.Group.{Group, group_after, new_group};
 ghost use Rattle.qq_raft_model.specs.Group.Event.{Submit};
+ghost use Rattle.qq_raft_model.specs.Promises.{AreDistinct};
 ghost use Rattle.qq_session.specs.Publishing.{next_command, hand, open_commands};
 ghost use Rattle.qq_world.specs.World.{NoLeader, WindowFull};
 ghost use Rattle.qq_cluster.specs.Laws.{CountsRise, IsBegun, KeepsAudit, all_moves, queue_after};
 ghost use Rattle.qq_cluster.specs.Queue.{Event, Queue, Submits, Resends, audit_rows, begin, happens, leader, moves, said};
 
-use qq_raft_model::what_a_group_committed_stays;
+use qq_raft_model::{groups_are_opened, what_a_group_committed_stays};
 
 /// A law: the group of a queue is one that the queue's events make of the one that it began with, so each
 /// law of a group is one of it.
@@ -22,6 +25,14 @@ pub fn a_queue_is_its_group()
         (queue_after args group events).group
         ≡ group_after group (all_moves (begin args group) events) }
 {}
+
+/// A law: a queue may begin with new logs, and so with an empty audit.
+pub fn a_queue_may_begin_with_new_logs()
+    ensures { (queue : QueueId) (nodes : List NodeId) → AreDistinct nodes →
+        IsBegun (new_group queue nodes) }
+{
+    groups_are_opened();
+}
 
 /// A law: the audit is what the queue's definition gives of the entries that its group has
 /// committed, one after the other; and whatever happens later, crashes too, its rows stay.
