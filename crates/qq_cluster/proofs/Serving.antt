@@ -542,6 +542,10 @@ new-down setup groups = record {
   down = λ k is place. ap is_down ((groups place).opened.down.down k);
 }
 
+pub opening-served : (setup : Setup) → HasGroups setup
+    → IsOpening setup (new_cluster setup) (does.opening setup does.all_given (new_cluster setup))
+opening-served setup groups = (serve-open setup (new_cluster setup) (new-down setup groups)).is
+
 pub runs-served : (setup : Setup) (said : List ScriptLine) → HasGroups setup
     → IsServedBy setup said (does.run setup does.all_given said (new_cluster setup))
 runs-served setup said groups =

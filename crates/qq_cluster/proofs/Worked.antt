@@ -1,5 +1,5 @@
 -- What the worked scripts print.
-use Rattle.std.proofs.Common.{◌≡◌, ◌++◌, refl}
+use Rattle.std.proofs.Common.{◌≡◌, List, [], ◌∷◌, ◌++◌, refl, inl, inr}
 use Rattle.std.specs.Fmt.{digits}
 use Rattle.std.specs.Prelude.{codes}
 use Rattle.qq_base.specs.Fronts.{put}
@@ -12,8 +12,17 @@ use Rattle.qq_model.specs.Step.{carry_out, step}
 use Rattle.qq_raft_model.specs.Leading.{send, add_entry, stand, lead, lead_if_elected, advance}
 use Rattle.qq_raft_model.specs.Server.{refuse, give_vote, receive_vote, receive_voted, take_entries, refuse_entries, receive_append, take_ack, step_back, receive_appended, accept, receive, tick, submit, notice}
 use Rattle.qq_raft_model.specs.State.{change, enter, say_all}
-use Rattle.qq_cluster.specs.Example.{cut, cut_behind, first_given, kept_by_followers, muted, output_of, publish_and_get, replaced, setup_of}
-use Rattle.qq_cluster.specs.Rules.{most_rounds}
+use Rattle.qq_base.specs.declared.ids.NodeId.{NodeId}
+use Rattle.qq_base.specs.declared.ids.QueueId.{QueueId}
+use Rattle.qq_entry.specs.declared.command.Unstamped.TheVariants as bodies
+use Rattle.qq_raft_model.specs.Group.{new_group}
+use Rattle.qq_raft_model.specs.Promises.{IsOpened}
+use Rattle.qq_cluster.specs.Cluster.{At, Fails, NodeWrites, cluster_after, new_cluster}
+use Rattle.qq_cluster.specs.Lines.{IsLine, IsRun, IsScript}
+use Rattle.qq_cluster.specs.Queue.{Submits}
+use Rattle.qq_cluster.proofs.Serving.{opening-served}
+use Rattle.qq_cluster.specs.Example.{at_the_fault, cut, cut_behind, first_given, kept_by_followers, muted, opened, output, output_of, publish_a, publish_and_get, replaced, setup_of, with_a_fault}
+use Rattle.qq_cluster.specs.Rules.{IsPumped, most_rounds}
 use Rattle.qq_cluster.specs.Serving.{all_given, all_synced, line}
 
 pub publish-printed : output_of (setup_of 1 1) all_given publish_and_get
@@ -57,3 +66,79 @@ pub first-kept-printed : output_of (setup_of 1 2) first_given (cut_behind (cut 1
     ++ codes "2 2 noop 1 lead\n3 2 enqueue 1 1 2 confirmed 1\n"
 unfolding digits put most_rounds line step carry_out act gate admit keep_answer turn_away enqueue get check_out check_out_all drain_after drop_head keep_limits give_dead give_all_dead apply_op change_log send add_entry stand lead lead_if_elected advance refuse give_vote receive_vote receive_voted take_entries refuse_entries receive_append take_ack step_back receive_appended accept receive tick submit notice change enter say_all encoding payload fields session stamp origin body key death deaths content
 first-kept-printed = refl
+
+pub fault-printed : output (setup_of 1 1) (opened (setup_of 1 1) ++ at_the_fault)
+    ≡ codes "node 1 stopped\nno leader q1\naudit q1 0 1\n1 1 noop 1 lead\n"
+unfolding digits put most_rounds line step carry_out act gate admit keep_answer turn_away enqueue get check_out check_out_all drain_after drop_head keep_limits give_dead give_all_dead apply_op change_log send add_entry stand lead lead_if_elected advance refuse give_vote receive_vote receive_voted take_entries refuse_entries receive_append take_ack step_back receive_appended accept receive tick submit notice change enter say_all encoding payload fields session stamp origin body key death deaths content
+fault-printed = refl
+
+-- the round in which the sync fails
+faulty-pump : IsPumped (setup_of 1 1) (cluster_after (new_cluster (setup_of 1 1)) (opened (setup_of 1 1) ++ publish_a ∷ []))
+    (NodeWrites 1 ∷ Fails 1 ∷ [])
+unfolding digits put most_rounds line step carry_out act gate admit keep_answer turn_away enqueue get check_out check_out_all drain_after drop_head keep_limits give_dead give_all_dead apply_op change_log send add_entry stand lead lead_if_elected advance refuse give_vote receive_vote receive_voted take_entries refuse_entries receive_append take_ack step_back receive_appended accept receive tick submit notice change enter say_all encoding payload fields session stamp origin body key death deaths content
+faulty-pump = record {
+  early = NodeWrites 1 ∷ Fails 1 ∷ [];
+  late = [];
+  is = refl;
+  first = record {
+    early = NodeWrites 1 ∷ Fails 1 ∷ [];
+    late = [];
+    is = refl;
+    first = record {
+      early = NodeWrites 1 ∷ Fails 1 ∷ [];
+      late = [];
+      is = refl;
+      first = record {
+        early = NodeWrites 1 ∷ [];
+        late = Fails 1 ∷ [];
+        is = refl;
+        first = inl refl;
+        second = record {
+          early = Fails 1 ∷ [];
+          late = [];
+          is = refl;
+          first = inr (inl refl);
+          second = record { early = []; late = []; is = refl; first = refl; second = refl };
+        };
+      };
+      second = refl;
+    };
+    second = record { early = []; late = []; is = refl; first = refl; second = refl };
+  };
+  second = refl;
+}
+
+faulty-script : IsScript (setup_of 1 1) with_a_fault
+    (cluster_after (new_cluster (setup_of 1 1)) (opened (setup_of 1 1))) at_the_fault
+unfolding digits put most_rounds line step carry_out act gate admit keep_answer turn_away enqueue get check_out check_out_all drain_after drop_head keep_limits give_dead give_all_dead apply_op change_log send add_entry stand lead lead_if_elected advance refuse give_vote receive_vote receive_voted take_entries refuse_entries receive_append take_ack step_back receive_appended accept receive tick submit notice change enter say_all encoding payload fields session stamp origin body key death deaths content IsLine
+faulty-script = record {
+  early = publish_a ∷ NodeWrites 1 ∷ Fails 1 ∷ [];
+  late = At 1 (Submits 1 bodies.Get) ∷ [];
+  is = refl;
+  first = record {
+    early = publish_a ∷ [];
+    late = NodeWrites 1 ∷ Fails 1 ∷ [];
+    is = refl;
+    first = record { early = publish_a ∷ []; late = []; is = refl; first = refl; second = refl };
+    second = faulty-pump;
+  };
+  second = record {
+    early = At 1 (Submits 1 bodies.Get) ∷ [];
+    late = [];
+    is = refl;
+    first = record { early = At 1 (Submits 1 bodies.Get) ∷ []; late = []; is = refl; first = refl; second = refl };
+    second = refl;
+  };
+}
+
+-- the queues of a setup whose nodes are as many as these begin with new logs
+pub faulty-run : ((queue : QueueId) (nodes : List NodeId) → IsOpened (new_group queue nodes) [])
+    → IsRun (setup_of 1 1) with_a_fault (new_cluster (setup_of 1 1)) (opened (setup_of 1 1) ++ at_the_fault)
+faulty-run new = record {
+  early = opened (setup_of 1 1);
+  late = at_the_fault;
+  is = refl;
+  first = opening-served (setup_of 1 1)
+      (λ place. record { distinct = ((λ m here same. here), tt); whole = []; opened = new (record { 0 = place }) _ });
+  second = faulty-script;
+}

@@ -15,8 +15,10 @@ use Rattle.qq_setup.specs.Members.{members}
 use Rattle.qq_script_lines.specs.declared.line.Nodes.TheVariants.{One}
 use Rattle.qq_script_lines.specs.declared.line.ScriptLine.{ScriptLine}
 use Rattle.qq_script_lines.specs.declared.line.ScriptLine.TheVariants.{Publish, Send, Client, Resend, Mute, Pace, Pump, Write, Sync, Notice, Tick, Deliver, Lose, Crash, Restart, Show}
-use Rattle.qq_cluster.specs.Cluster.{Setup, Cluster, ClusterEvent, new_cluster, cluster_after}
-use Rattle.qq_cluster.specs.Serving.{Finding, all_given, all_synced, run}
+use Rattle.qq_cluster.specs.Cluster.{Setup, Cluster, ClusterEvent, At, NodeWrites, Fails, new_cluster, cluster_after}
+use Rattle.qq_cluster.specs.Lines.{publish_with}
+use Rattle.qq_cluster.specs.Queue.{Submits}
+use Rattle.qq_cluster.specs.Serving.{Finding, all_given, all_synced, opening, run}
 use Rattle.qq_cluster.specs.Texts.{text_of, audits_text}
 
 -- ---- setups
@@ -109,6 +111,20 @@ cut_behind image =
 -- of the first queue's ops all are left, of the others' what was synced
 abbrev pub first_given : Finding
 first_given c k place = if nat_eq place 1 then all_given c k place else all_synced c k place
+
+-- the disk fails at the sync of a message, and then there is no leader
+abbrev pub with_a_fault : List ScriptLine
+with_a_fault = Publish (codes "a") ∷ get ∷ []
+
+abbrev pub publish_a : ClusterEvent
+publish_a = At 1 (Submits 1 (publish_with (name_of 1) (codes "a")))
+
+abbrev pub at_the_fault : List ClusterEvent
+at_the_fault = publish_a ∷ NodeWrites 1 ∷ Fails 1 ∷ At 1 (Submits 1 Get) ∷ []
+
+-- what is done at first over new disks
+abbrev pub opened : Setup → List ClusterEvent
+opened setup = opening setup all_given (new_cluster setup)
 
 -- ---- what is printed
 

@@ -1,7 +1,11 @@
 //! Worked scripts: what they print, letter by letter.
 ghost use Rattle.std.specs.Prelude.{◌≡◌, ◌++◌, codes};
-ghost use Rattle.qq_cluster.specs.Example.{cut, cut_behind, first_given, kept_by_followers, muted, output_of, publish_and_get, replaced, setup_of};
+ghost use Rattle.qq_cluster.specs.Example.{at_the_fault, cut, cut_behind, first_given, kept_by_followers, muted, opened, output, output_of, publish_and_get, replaced, setup_of, with_a_fault};
+ghost use Rattle.qq_cluster.specs.Cluster.{new_cluster};
+ghost use Rattle.qq_cluster.specs.Lines.{IsRun};
 ghost use Rattle.qq_cluster.specs.Serving.{all_given, all_synced};
+
+use qq_raft_model::groups_are_opened;
 
 /// A law: worked scripts of one node, of one with two queues, and of three nodes.
 ///
@@ -14,6 +18,8 @@ ghost use Rattle.qq_cluster.specs.Serving.{all_given, all_synced};
 ///   printed once.
 /// - `lost`, `first_kept`: a message to each of two queues is appended, and a crash leaves nothing of
 ///   them, or the first one's. Sent again, each is confirmed.
+/// - `fault`, `fault_run`: the disk fails at the sync of a message. The node stops, and a later command
+///   finds no leader; the script asks for these events.
 pub fn worked_scripts_print()
     ensures publish { output_of (setup_of 1 1) all_given publish_and_get
         ≡ codes "confirmed 1\nmessage 1 a\nempty\naudit q1 0 4\n1 1 noop 1 lead\n"
@@ -39,4 +45,10 @@ pub fn worked_scripts_print()
         ++ codes "2 1 enqueue 1 1 2 confirmed 1\n3 2 noop 1 lead\n"
         ++ codes "4 2 enqueue 1 1 2 confirmed 1 again\naudit q2 0 3\n1 1 noop 1 lead\n"
         ++ codes "2 2 noop 1 lead\n3 2 enqueue 1 1 2 confirmed 1\n" }
-{}
+    ensures fault { output (setup_of 1 1) (opened (setup_of 1 1) ++ at_the_fault)
+        ≡ codes "node 1 stopped\nno leader q1\naudit q1 0 1\n1 1 noop 1 lead\n" }
+    ensures fault_run { IsRun (setup_of 1 1) with_a_fault (new_cluster (setup_of 1 1))
+        (opened (setup_of 1 1) ++ at_the_fault) }
+{
+    groups_are_opened();
+}

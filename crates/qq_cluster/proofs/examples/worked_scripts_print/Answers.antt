@@ -1,4 +1,4 @@
-use Rattle.qq_cluster.proofs.Worked.{publish-printed, kept-printed, replaced-printed, muted-printed, lost-printed, first-kept-printed}
+use Rattle.qq_cluster.proofs.Worked.{publish-printed, kept-printed, replaced-printed, muted-printed, lost-printed, first-kept-printed, fault-printed, faulty-run}
 use Rattle.qq_cluster.proofs.examples.worked_scripts_print.Goals as goal
 
 pub returns-clause-publish : goal.returns-clause-publish
@@ -18,3 +18,9 @@ returns-clause-lost c = lost-printed
 
 pub returns-clause-first_kept : goal.returns-clause-first_kept
 returns-clause-first_kept c = first-kept-printed
+
+pub returns-clause-fault : goal.returns-clause-fault
+returns-clause-fault c = fault-printed
+
+pub returns-clause-fault_run : goal.returns-clause-fault_run
+returns-clause-fault_run c = faulty-run c.groups_are_opened.ensures.new
