@@ -13,7 +13,6 @@ use Rattle.qq_log.specs.declared.op.Op.{Op}
 use Rattle.qq_log.specs.declared.op.Op.TheVariants as ops
 use Rattle.qq_raft_model.specs.Group.{Event as Move, Group, Seat, after_step, deliver_by, feed, feed_by, group_after, happens as moved, has_node, is_down, lane_with, may_restart, restart_by, take_by, take_op}
 use Rattle.qq_raft_model.specs.Group.Event.{Tick, Submit, Deliver, Lose, Copy, Take, Notice, Crash, Restart}
-use Rattle.qq_raft_model.specs.Promises.{IsUp}
 use Rattle.qq_raft_model.specs.Server.{Input, greater, restart, step}
 use Rattle.qq_raft_model.specs.State.{Server}
 use Rattle.qq_raft_model.proofs.Noticed.{noticed-is, noticed_by}

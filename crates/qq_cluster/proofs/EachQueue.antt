@@ -1,6 +1,5 @@
 -- Each queue of a cluster is a queue by itself.
-use Rattle.std.proofs.Common.{◌≡◌, ℕ, Bool, cond, List, [], ◌∷◌, ◌++◌, map, refl, sym, ap, ◌∙◌, subst, inl}
-use Rattle.std.specs.Prelude.{filter}
+use Rattle.std.proofs.Common.{◌≡◌, ℕ, Bool, cond, List, [], ◌∷◌, ◌++◌, map, refl, sym, ap, ◌∙◌, subst}
 use Rattle.std.specs.List.{AllByRecursion}
 use Rattle.std.proofs.lemmas.Bool.{eq-eqb}
 use Rattle.qq_base.proofs.Lists.{AllByRecursion-append, AllByRecursion-map, AllByRecursion-weaker}
@@ -13,10 +12,9 @@ use Rattle.qq_model.specs.Gate.{IsNumbered}
 use Rattle.qq_session.specs.Answered.{IsAnswered}
 use Rattle.qq_world.proofs.Handed.{all-front}
 use Rattle.qq_world.proofs.Once.{confirmed-once}
-use Rattle.qq_world.specs.World.{Shown}
 use Rattle.qq_cluster.specs.Cluster.{Setup, Cluster, ClusterEvent, Sets, Alike, At, NodeWrites, NodeSyncs, Fails, Crashes, FindsEach, Shows, SaysDown, SaysNoSuch, SaysUnroutable, SaysBusy, SaysEnded, Printed, Of, Stopped, IsDown, NoSuch, Unroutable, Busy, Ended, State, new_cluster, cluster_happens, cluster_after, part_of, parts_of, members_in_order, state_at, prints, all_prints}
 use Rattle.qq_cluster.specs.ClusterLaws.{HasGroups, HasItsQueues, IsTrueOf, PrintsWhatIsTrue}
-use Rattle.qq_cluster.specs.Queue.{Queue, Event, after, all_said, audit_rows, happens, said}
+use Rattle.qq_cluster.specs.Queue.{Queue, Event, after, all_said, happens, said}
 use Rattle.qq_cluster.proofs.Groups.{KnowsCommits, KeepsCommits, Reached, after-append, reached-all, reached-new}
 use Rattle.qq_cluster.proofs.Told.{IsOf, all-of}
 

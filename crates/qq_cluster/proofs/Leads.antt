@@ -1,6 +1,6 @@
 -- Who takes commands, and who is told of the end of a session.
-use Rattle.std.proofs.Common.{◌≡◌, ◌≤◌, ◌<◌, ℕ, Bool, true, false, List, [], ◌∷◌, Option, Some, None, length, map, refl, sym, ap, ◌∙◌}
-use Rattle.std.specs.Prelude.{is_some, nat_lt}
+use Rattle.std.proofs.Common.{◌≡◌, ◌≤◌, ◌<◌, ℕ, Bool, true, false, List, [], ◌∷◌, Option, Some, None, length, map, refl, ap, ◌∙◌}
+use Rattle.std.specs.Prelude.{is_some}
 use Rattle.std.proofs.lemmas.Bool.{cond-true, cond-false, lt-ltb, le-ltb}
 use Rattle.qq_base.proofs.Puts.{put-same}
 use Rattle.qq_base.specs.Fronts.{put}
@@ -9,10 +9,10 @@ use Rattle.qq_entry.specs.declared.command.Command.{Command}
 use Rattle.qq_entry.specs.declared.command.Command.TheVariants.{Down}
 use Rattle.qq_entry.specs.declared.command.Unstamped.{Unstamped}
 use Rattle.qq_model.specs.declared.TheConstants.{WINDOW}
-use Rattle.qq_raft_model.specs.Group.{Event as Move, Group, group_after}
+use Rattle.qq_raft_model.specs.Group.{Event as Move, group_after}
 use Rattle.qq_raft_model.specs.Group.Event.{Submit}
 use Rattle.qq_session.specs.Publishing.{Numbers, next_command, hand, open_commands}
-use Rattle.qq_world.specs.World.{Client, Clients, NoLeader, Shown, WindowFull, is_used, may_hand, said_of}
+use Rattle.qq_world.specs.World.{Client, Clients, NoLeader, WindowFull, is_used, may_hand, said_of}
 use Rattle.qq_cluster.specs.Laws.{LeaderIsTold, NobodyIsTold, TellsOfEnd}
 use Rattle.qq_cluster.specs.Queue.{Queue, Submits, Resends, Downs, acts, happens, leader, moves, offered, said, submits}
 

@@ -1,5 +1,5 @@
 -- A session's numbers are what it has made of them, and it stays ended.
-use Rattle.std.proofs.Common.{◌≡◌, ◌≢◌, ◌⊎◌, ℕ, Bool, true, false, cond, List, [], ◌∷◌, ◌++◌, refl, sym, ap, ◌∙◌, subst, inl, inr}
+use Rattle.std.proofs.Common.{◌≡◌, ◌≢◌, ◌⊎◌, ℕ, Bool, true, false, cond, List, [], ◌∷◌, refl, sym, ap, ◌∙◌, subst, inl, inr}
 use Rattle.std.specs.Prelude.{nat_eq}
 use Rattle.std.proofs.lemmas.Bool.{eq-eqb, ne_eqb, cases_eq, cond_both}
 use Rattle.qq_base.proofs.Puts.{put-each}
@@ -8,7 +8,7 @@ use Rattle.qq_base.specs.Ids.{client}
 use Rattle.qq_entry.specs.declared.command.Unstamped.{Unstamped}
 use Rattle.qq_entry.specs.declared.queue.QueueArgs.{QueueArgs}
 use Rattle.qq_raft_model.specs.Group.{Group}
-use Rattle.qq_session.specs.Arriving.{Deed, Hands, after_deed}
+use Rattle.qq_session.specs.Arriving.{Deed, Hands}
 use Rattle.qq_session.specs.Publishing.{Numbers, new_numbers, hand}
 use Rattle.qq_world.specs.Laws.{after_deeds, takes_of}
 use Rattle.qq_world.specs.World.{Client, Clients, may_hand}
@@ -16,7 +16,6 @@ use Rattle.qq_world.proofs.Deeds.{deeds-append, heard-numbers}
 use Rattle.qq_world.proofs.Ends.{all-ended}
 use Rattle.qq_cluster.specs.Laws.{StaysEnded, deeds, deeds_at, hands_at, queue_after}
 use Rattle.qq_cluster.specs.Queue.{Queue, Event, Mutes, Ends, Submits, TellsEnded, Resends, Downs, Ticks, Delivers, Loses, Copies, Writes, Syncs, Notices, Stops, Finds, acts, after, happens, begin, rows_told}
-use Rattle.qq_cluster.specs.Rules.{is_ended}
 
 -- ---- what a client does by itself
 

@@ -1,5 +1,5 @@
 -- The answer that closes a number is printed once.
-use Rattle.std.proofs.Common.{◌≡◌, ◌≢◌, ℕ, Bool, true, false, List, [], ◌∷◌, ◌++◌, map, refl, sym, ap, ◌∙◌, subst, append-nil}
+use Rattle.std.proofs.Common.{◌≡◌, ◌≢◌, ℕ, List, [], ◌∷◌, ◌++◌, map, sym, ap, ◌∙◌, subst, append-nil}
 use Rattle.std.specs.Prelude.{filter_map, AllPairs}
 use Rattle.std.specs.List.{AllByRecursion, flat_map}
 use Rattle.std.proofs.lemmas.Bool.{cond_both}
@@ -14,7 +14,7 @@ use Rattle.qq_world.specs.Laws.{closed_number}
 use Rattle.qq_world.specs.World.{Clients, Shown, Answered, WindowFull, delivered, hear_all, may_hand, printed, said_of}
 use Rattle.qq_world.proofs.PrintedOnce.{IsClosed, OpenBelow, closed-deeds, below-deeds, numbers_in, printed_numbers, Distinct, pairs-distinct, printed-distinct, printed-closed, never-printed, offered-none, delivered-none, distinct-append}
 use Rattle.qq_cluster.specs.Laws.{deeds_at}
-use Rattle.qq_cluster.specs.Queue.{Queue, Event, Mutes, Ends, Submits, TellsEnded, Resends, Downs, Ticks, Delivers, Loses, Copies, Writes, Syncs, Notices, Stops, Finds, acts, after, all_said, effects_told, happens, has_leader, begin, offered, rows_told, said, told}
+use Rattle.qq_cluster.specs.Queue.{Queue, Event, Mutes, Ends, Submits, TellsEnded, Resends, Downs, Ticks, Delivers, Loses, Copies, Writes, Syncs, Notices, Stops, Finds, all_said, effects_told, happens, has_leader, begin, offered, rows_told, said, told}
 use Rattle.qq_cluster.proofs.Numbers.{event-numbers}
 
 -- what is told closes the numbers of the rows that are printed

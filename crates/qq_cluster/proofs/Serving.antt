@@ -1,18 +1,16 @@
 -- Each script may be served without a failure of a disk.
-use Rattle.std.proofs.Common.{◌≡◌, ◌⊎◌, ◌≢◌, ℕ, zero, suc, Bool, true, false, cond, ◌||◌, ◌&&◌, List, [], ◌∷◌, ◌++◌, Option, Some, None, length, take, drop, refl, sym, ap, ◌∙◌, subst, inl, inr, arith}
+use Rattle.std.proofs.Common.{◌≡◌, ◌⊎◌, ◌≢◌, ℕ, zero, suc, Bool, true, false, cond, ◌&&◌, List, [], ◌∷◌, ◌++◌, Option, Some, None, length, take, drop, refl, sym, ap, ◌∙◌, subst, inl, inr, arith}
 use Rattle.std.specs.Prelude.{nat_eq, nat_le, replicate}
 use Rattle.std.specs.List.{list_all}
-use Rattle.std.proofs.lemmas.Bool.{and_from, cases_eq, cond_both, cond-true, false≢true, le-leb}
-use Rattle.std.proofs.lemmas.List.Folds.{list_any-append}
+use Rattle.std.proofs.lemmas.Bool.{and_from, cases_eq, cond_both, false≢true, le-leb}
 use Rattle.qq_base.proofs.Puts.{put-each, put-other, put-same}
 use Rattle.qq_base.specs.Fronts.{put}
 use Rattle.qq_base.specs.declared.ids.NodeId.{NodeId}
-use Rattle.qq_disk.specs.declared.image.Image.{Image}
 use Rattle.qq_entry.specs.declared.command.Command.{Command}
 use Rattle.qq_entry.specs.declared.command.Unstamped.{Unstamped}
 use Rattle.qq_log.specs.Stable.{Stable, stable}
 use Rattle.qq_log.specs.declared.op.Op.{Op}
-use Rattle.qq_raft_model.specs.Group.{Event as Move, Group, Seat, after_step, deliver_by, feed, feed_by, group_after, happens as moved, has_node, is_down, lane_with, may_restart, restart_by, take_by, take_op}
+use Rattle.qq_raft_model.specs.Group.{Event as Move, Group, Seat, deliver_by, feed, feed_by, group_after, happens as moved, has_node, is_down, lane_with, may_restart, restart_by, take_by, take_op}
 use Rattle.qq_raft_model.specs.Group.Event.{Tick, Submit, Deliver, Lose, Copy, Take, Notice, Crash, Restart}
 use Rattle.qq_raft_model.specs.Server.{Input, restart, step}
 use Rattle.qq_raft_model.specs.State.{Server}
@@ -21,10 +19,10 @@ use Rattle.qq_raft_msg.specs.declared.rpc.Rpc.{Rpc}
 use Rattle.qq_script_lines.specs.declared.line.ScriptLine.{ScriptLine}
 use Rattle.qq_script_lines.specs.declared.line.ScriptLine.TheVariants as lines
 use Rattle.qq_cluster.specs.Cluster.{Setup, Cluster, ClusterEvent, Sets, Alike, At, NodeWrites, NodeSyncs, Fails, Crashes, FindsEach, Shows, SaysDown, SaysNoSuch, SaysUnroutable, SaysBusy, SaysEnded, new_cluster, cluster_happens, cluster_after, members, part_of, up_after}
-use Rattle.qq_cluster.specs.ClusterLaws.{HasGroups, IsServedBy, has_failure, is_failure}
-use Rattle.qq_cluster.specs.Lines.{AndPumped, IsCopy, IsDeliver, IsDelivered, IsLine, IsLose, IsRouted, IsRun, IsScript, IsSend, WhereThere, WhereUp, nodes_of, publish_with, receiver_at}
+use Rattle.qq_cluster.specs.ClusterLaws.{HasGroups, IsServedBy, has_failure}
+use Rattle.qq_cluster.specs.Lines.{AndPumped, IsCopy, IsDeliver, IsDelivered, IsLine, IsLose, IsRouted, IsScript, IsSend, WhereThere, WhereUp, nodes_of, publish_with, receiver_at}
 use Rattle.qq_cluster.specs.Queue.{Queue, Event, Mutes, Ends, Submits, TellsEnded, Resends, Downs, Ticks, Delivers, Loses, Copies, Writes, Syncs, Notices, Stops, Finds, after, happens, leader, moves, offered, submits, waiting}
-use Rattle.qq_cluster.specs.Rules.{Rule, ForEach, FindsLanes, Is, IsEmptied, IsEnd, IsFirstTick, IsFound, IsGiven, IsNodeRound, IsNothing, IsNotice, IsOpening, IsPump, IsPumped, IsResend, IsRestart, IsRound, IsSync, IsSynced, IsWrite, IsWritten, MayRoll, Pumps, Then, if_so, is_ended, is_idle, may_find, most_rounds, some_queue, tick_at, waits_noticed, waits_synced, waits_written}
+use Rattle.qq_cluster.specs.Rules.{Rule, ForEach, Is, IsEmptied, IsEnd, IsFirstTick, IsFound, IsGiven, IsNodeRound, IsNothing, IsNotice, IsOpening, IsPump, IsPumped, IsResend, IsRestart, IsRound, IsSync, IsSynced, IsWrite, IsWritten, MayRoll, Pumps, Then, if_so, is_ended, is_idle, may_find, most_rounds, some_queue, tick_at, waits_noticed, waits_synced, waits_written}
 use Rattle.qq_cluster.specs.Serving as does
 use Rattle.qq_cluster.proofs.Counts.{IsCounted, counted-all, counted-new}
 

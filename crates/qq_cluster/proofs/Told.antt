@@ -1,18 +1,16 @@
 -- What is printed as an answer is a row of the audit, and what is printed as a delivery is an effect of an entry of it.
-use Rattle.std.proofs.Common.{◌≡◌, ℕ, Bool, true, false, cond, List, [], ◌∷◌, ◌++◌, Option, Some, None, length, map, take, drop, refl, sym, ap, ◌∙◌, subst, take-append-drop}
+use Rattle.std.proofs.Common.{◌≡◌, ℕ, Bool, true, false, List, [], ◌∷◌, Option, Some, None, map, take, drop, refl, sym, subst, take-append-drop}
 use Rattle.std.specs.Prelude.{Contains}
 use Rattle.std.specs.List.{AllByRecursion, flat_map}
 use Rattle.std.proofs.lemmas.Bool.{cond_both}
 use Rattle.std.proofs.lemmas.List.Elements.{Contains-append_left, Contains-append_right}
 use Rattle.qq_base.proofs.Lists.{AllByRecursion-append, AllByRecursion-filter, AllByRecursion-map, AllByRecursion-weaker}
 use Rattle.qq_base.specs.Fronts.{IsFront}
-use Rattle.qq_base.specs.Ids.{client}
 use Rattle.qq_base.specs.declared.ids.Term.{Term}
 use Rattle.qq_entry.specs.declared.audit.AuditRow.{AuditRow}
 use Rattle.qq_entry.specs.declared.audit.Effect.{Effect}
 use Rattle.qq_entry.specs.declared.audit.Effect.TheVariants.{Deliver, DeadOnce, Offer}
 use Rattle.qq_entry.specs.declared.command.Command.{Command}
-use Rattle.qq_entry.specs.declared.command.Command.TheVariants as commands
 use Rattle.qq_entry.specs.declared.command.Entry.{Entry}
 use Rattle.qq_entry.specs.declared.queue.QueueArgs.{QueueArgs}
 use Rattle.qq_model.specs.Audit.{audit_of, effects_of, state_after}
@@ -21,14 +19,14 @@ use Rattle.qq_raft_model.specs.Group.{Group}
 use Rattle.qq_raft_model.specs.Promises.{IsUp}
 use Rattle.qq_raft_model.specs.Server.{is_ready}
 use Rattle.qq_raft_model.specs.State.{Server}
-use Rattle.qq_session.specs.Publishing.{Numbers, next_command, open_commands}
+use Rattle.qq_session.specs.Publishing.{Numbers}
 use Rattle.qq_world.specs.Laws.{IsAnswer, IsAudited}
-use Rattle.qq_world.specs.World.{Clients, Shown, Answered, Delivered, NoLeader, WindowFull, HasEnded, printed, effects_of_term, is_delivered_to, delivered, said_of, may_hand, is_used}
+use Rattle.qq_world.specs.World.{Clients, Shown, Answered, Delivered, NoLeader, WindowFull, HasEnded, printed, effects_of_term, is_delivered_to, delivered, said_of, may_hand}
 use Rattle.qq_world.proofs.Audits.{audit-front}
 use Rattle.qq_world.proofs.Made.{effects-append, of-term}
 use Rattle.qq_world.proofs.Printed.{all-drop, delivered-audited, each-contained, front-contains, later-audited, offered-audited, printed-are}
 use Rattle.qq_cluster.specs.Laws.{IsMade}
-use Rattle.qq_cluster.specs.Queue.{Queue, Event, Mutes, Ends, Submits, TellsEnded, Resends, Downs, Ticks, Delivers, Loses, Copies, Writes, Syncs, Notices, Stops, Finds, after, all_said, audit_rows, effects_at, effects_by, effects_told, group_then, happens, has_leader, is_shown, offered, own_effects, own_rows, rows_at, rows_by, rows_told, said, stepping, told}
+use Rattle.qq_cluster.specs.Queue.{Queue, Event, Mutes, Ends, Submits, TellsEnded, Resends, Downs, Ticks, Delivers, Loses, Copies, Writes, Syncs, Notices, Stops, Finds, after, all_said, audit_rows, effects_at, effects_by, effects_told, group_then, happens, has_leader, is_shown, offered, rows_at, rows_by, rows_told, said, stepping, told}
 use Rattle.qq_cluster.proofs.Groups.{KnowsCommits, KeepsCommits, Reached, args-are, audit-grows, commits-grow, known-in, reached-next}
 
 -- ---- rows

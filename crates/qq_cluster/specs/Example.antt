@@ -1,5 +1,5 @@
 -- Worked scripts over one node and over three.
-use Rattle.std.specs.Prelude.{ℕ, ◌-◌, List, [], ◌∷◌, ◌++◌, true, false, map, nat_eq, codes, if◌then◌else◌}
+use Rattle.std.specs.Prelude.{ℕ, ◌-◌, List, [], ◌∷◌, ◌++◌, true, false, nat_eq, codes, if◌then◌else◌}
 use Rattle.std.specs.Fmt.{decimal}
 use Rattle.std.specs.List.{range_with_len}
 use Rattle.std.specs.Str.{bytes_eq}
@@ -15,7 +15,7 @@ use Rattle.qq_setup.specs.Members.{members}
 use Rattle.qq_script_lines.specs.declared.line.Nodes.TheVariants.{One}
 use Rattle.qq_script_lines.specs.declared.line.ScriptLine.{ScriptLine}
 use Rattle.qq_script_lines.specs.declared.line.ScriptLine.TheVariants.{Publish, Send, Client, Resend, Mute, Pace, Pump, Write, Sync, Notice, Tick, Deliver, Lose, Crash, Restart, Show}
-use Rattle.qq_cluster.specs.Cluster.{Setup, Cluster, ClusterEvent, At, NodeWrites, Fails, new_cluster, cluster_after}
+use Rattle.qq_cluster.specs.Cluster.{Setup, ClusterEvent, At, NodeWrites, Fails, new_cluster, cluster_after}
 use Rattle.qq_cluster.specs.Lines.{publish_with}
 use Rattle.qq_cluster.specs.Queue.{Submits}
 use Rattle.qq_cluster.specs.Serving.{Finding, all_given, all_synced, opening, run}

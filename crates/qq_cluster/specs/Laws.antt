@@ -1,12 +1,10 @@
 -- What holds of a queue of a cluster, whatever happens to it.
-use Rattle.std.specs.Prelude.{◌≡◌, ◌≤◌, ◌<◌, ℕ, List, [], ◌∷◌, ◌++◌, Bool, true, false, Some, None, length, nat_eq, Contains, if◌then◌else◌}
+use Rattle.std.specs.Prelude.{◌≡◌, ◌≤◌, ◌<◌, ℕ, List, [], ◌∷◌, ◌++◌, true, Some, None, length, nat_eq, Contains, if◌then◌else◌}
 use Rattle.qq_base.specs.Fronts.{IsFront}
 use Rattle.qq_base.specs.Ids.{client}
-use Rattle.qq_entry.specs.declared.audit.AuditRow.{AuditRow}
 use Rattle.qq_entry.specs.declared.audit.Effect.TheVariants.{Deliver}
 use Rattle.qq_entry.specs.declared.command.Command.{Command}
 use Rattle.qq_entry.specs.declared.command.Command.TheVariants.{Down}
-use Rattle.qq_entry.specs.declared.command.Unstamped.{Unstamped}
 use Rattle.qq_entry.specs.declared.command.Entry.{Entry}
 use Rattle.qq_entry.specs.declared.queue.QueueArgs.{QueueArgs}
 use Rattle.qq_model.specs.Audit.{effects_of}

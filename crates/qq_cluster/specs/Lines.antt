@@ -1,6 +1,5 @@
 -- What the lines of a script ask of a cluster.
-use Rattle.std.specs.Prelude.{ℕ, zero, suc, List, [], ◌∷◌, Bool, true, not, Option, Some, None, drop, if◌then◌else◌}
-use Rattle.qq_base.specs.declared.ids.NodeId.{NodeId}
+use Rattle.std.specs.Prelude.{ℕ, zero, suc, List, [], ◌∷◌, Option, Some, None, drop}
 use Rattle.qq_entry.specs.declared.command.Unstamped.{Unstamped}
 use Rattle.qq_entry.specs.declared.command.Unstamped.TheVariants.{Enqueue}
 use Rattle.qq_entry.specs.Message.{new_message}
@@ -9,7 +8,7 @@ use Rattle.qq_script_lines.specs.declared.line.Nodes.TheVariants.{One, All}
 use Rattle.qq_script_lines.specs.declared.line.ScriptLine.{ScriptLine}
 use Rattle.qq_script_lines.specs.declared.line.ScriptLine.TheVariants as lines
 use Rattle.qq_cluster.specs.Queue.{Event, Mutes, Ticks, Delivers, Loses, Copies, Notices, receiver_by}
-use Rattle.qq_cluster.specs.Cluster.{Setup, Cluster, ClusterEvent, Sets, Alike, At, Crashes, Shows, SaysDown, SaysNoSuch, SaysUnroutable}
+use Rattle.qq_cluster.specs.Cluster.{Setup, Cluster, Sets, Alike, At, Crashes, Shows, SaysDown, SaysNoSuch, SaysUnroutable}
 use Rattle.qq_cluster.specs.Rules.{Rule, IsNothing, Is, Then, if_so, ForEach, IsWrite, IsSync, IsPump, IsPumped, IsGiven, IsResend, IsEnd, IsRestart, IsOpening}
 
 -- ---- messages to exchanges

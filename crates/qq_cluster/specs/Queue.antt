@@ -1,6 +1,6 @@
 -- One queue of a cluster: the group of servers that replicates it (Ongaro's dissertation, chapter 3), its part of each
 -- node's log, and the sessions of its clients. What may happen to it, and what is shown of that.
-use Rattle.std.specs.Prelude.{ℕ, List, [], ◌∷◌, ◌++◌, Bool, true, false, ◌&&◌, Option, Some, None, is_some, length, drop, filter, map, flat_map, fold, replicate, take, nat_eq, nat_lt, if◌then◌else◌}
+use Rattle.std.specs.Prelude.{ℕ, List, [], ◌∷◌, ◌++◌, Bool, true, ◌&&◌, Option, Some, None, is_some, length, drop, filter, map, flat_map, fold, replicate, take, nat_eq, nat_lt, if◌then◌else◌}
 use Rattle.qq_base.specs.Fronts.{put}
 use Rattle.qq_base.specs.Ids.{client}
 use Rattle.qq_base.specs.declared.ids.NodeId.{NodeId}
@@ -20,7 +20,7 @@ use Rattle.qq_raft_model.specs.State.{Server}
 use Rattle.qq_raft_msg.specs.Rpc.{envelope}
 use Rattle.qq_raft_msg.specs.declared.rpc.Rpc.{Rpc}
 use Rattle.qq_session.specs.Publishing.{Numbers, next_command, hand, open_commands}
-use Rattle.qq_world.specs.World.{Clients, Shown, Answered, Delivered, NoLeader, WindowFull, HasEnded, new_clients, hear_all, printed, may_hand, is_used, effects_of_term, delivered, said_of}
+use Rattle.qq_world.specs.World.{Clients, Shown, Answered, WindowFull, HasEnded, new_clients, hear_all, printed, may_hand, is_used, effects_of_term, delivered, said_of}
 
 -- ---- the leader
 

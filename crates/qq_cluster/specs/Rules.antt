@@ -1,11 +1,11 @@
 -- Which events may be what is asked of a cluster. A rule says of a cluster and a list of events whether these may be it;
 -- where no call of a disk fails it leaves no choice but what restarts found.
-use Rattle.std.specs.Prelude.{◌≡◌, ◌⊎◌, ℕ, zero, suc, List, [], ◌∷◌, ◌++◌, Bool, true, false, not, ◌&&◌, Option, Some, None, is_some, length, nat_eq, nat_lt, replicate, if◌then◌else◌}
+use Rattle.std.specs.Prelude.{◌≡◌, ◌⊎◌, ℕ, zero, suc, List, [], ◌∷◌, ◌++◌, Bool, true, false, ◌&&◌, length, nat_eq, nat_lt, replicate, if◌then◌else◌}
 use Rattle.std.specs.List.{list_all, list_any}
 use Rattle.qq_base.specs.declared.ids.NodeId.{NodeId}
 use Rattle.qq_entry.specs.declared.command.Unstamped.{Unstamped}
 use Rattle.qq_raft_model.specs.Group.{has_node, may_restart}
-use Rattle.qq_cluster.specs.Queue.{Queue, Mutes, Ends, Submits, TellsEnded, Resends, Downs, Ticks, Delivers, Notices, waiting}
+use Rattle.qq_cluster.specs.Queue.{Queue, Ends, Submits, TellsEnded, Resends, Downs, Ticks, Delivers, Notices, waiting}
 use Rattle.qq_cluster.specs.Cluster.{Setup, Cluster, ClusterEvent, Alike, At, NodeWrites, NodeSyncs, Fails, FindsEach, SaysBusy, SaysEnded, cluster_after, members}
 
 abbrev pub Rule : Type 1

@@ -1,5 +1,5 @@
 -- The events of a script in which no call of a disk fails, given what restarts find.
-use Rattle.std.specs.Prelude.{ℕ, zero, suc, List, [], ◌∷◌, ◌++◌, Bool, Option, Some, None, length, replicate, ◌&&◌, if◌then◌else◌}
+use Rattle.std.specs.Prelude.{ℕ, zero, suc, List, [], ◌∷◌, ◌++◌, Option, Some, None, length, replicate, ◌&&◌, if◌then◌else◌}
 use Rattle.qq_base.specs.declared.ids.NodeId.{NodeId}
 use Rattle.qq_entry.specs.declared.command.Unstamped.{Unstamped}
 use Rattle.qq_script_lines.specs.declared.line.ScriptLine.{ScriptLine}

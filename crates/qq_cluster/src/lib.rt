@@ -11,8 +11,8 @@ mod sessions;
 mod texts;
 
 pub use clusters::{
-    a_cluster_prints_what_is_true, a_node_that_is_down_says_so, each_queue_is_its_own, lines_settle,
-    pumps_end, scripts_may_be_served,
+    a_cluster_prints_what_is_true, a_node_that_is_down_says_so, each_queue_is_its_own,
+    lines_settle, pumps_end, scripts_may_be_served,
 };
 pub use ended::{an_ended_session_gives_no_commands, ends_go_to_the_leader};
 pub use examples::worked_scripts_print;
