@@ -9,7 +9,7 @@ use Rattle.qq_entry.specs.Message.{new_message}
 use Rattle.qq_setup.specs.declared.queue_row.QueueRow.{QueueRow}
 use Rattle.qq_setup.specs.declared.setup.Setup.{Setup}
 use Rattle.qq_script_lines.specs.declared.fault.ScriptFault.{ScriptFault}
-use Rattle.qq_script_lines.specs.declared.fault.ScriptFault.TheVariants.{NoSuch, Body}
+use Rattle.qq_script_lines.specs.declared.fault.ScriptFault.TheVariants.{NoSuch, Unknown, Body}
 use Rattle.qq_script_lines.specs.declared.line.Place.{Place}
 use Rattle.qq_script_lines.specs.declared.line.ScriptLine.{ScriptLine}
 use Rattle.qq_script_lines.specs.declared.line.ScriptLine.TheVariants as lines
@@ -60,6 +60,9 @@ line_of rows (lines.Write node) = Ok Write
 line_of rows (lines.Sync node) = Ok Sync
 line_of rows (lines.Notice node at) = Ok (Notice at.0)
 line_of rows (lines.Tick node at) = Ok (Tick at.0)
+line_of rows (lines.Deliver at message) = Err Unknown
+line_of rows (lines.Lose at message) = Err Unknown
+line_of rows (lines.Copy at message) = Err Unknown
 line_of rows (lines.Crash nodes image) = Ok (Crash image)
 line_of rows (lines.Restart nodes) = Ok Restart
 line_of rows (lines.Show at) = Ok (Show at.0)

@@ -92,7 +92,7 @@ fn send(
 /// What a line asks of a node of these queues.
 ///
 /// - `ok`: it is the line's call.
-/// - `cause`: `NoSuch` comes where a message goes to an exchange, or to a queue that isn't there, and `Body`
+/// - `cause`: `Unknown` comes at a line about messages between servers, `NoSuch` where a message goes to an exchange, or to a queue that isn't there, and `Body`
 ///   where it is too long. `Memory(Memory::Want)` may come at any time.
 #[tactic(auto, unfolding(crate::specs::Lines::line_of))]
 pub fn call_of(alloc: Global, rows: &[QueueRow], said: ScriptLine) -> Result<Call, ScriptFault>
@@ -133,6 +133,10 @@ pub fn call_of(alloc: Global, rows: &[QueueRow], said: ScriptLine) -> Result<Cal
         ScriptLine::Sync { .. } => Ok(Call::Sync),
         ScriptLine::Notice { queue, .. } => Ok(Call::Notice { queue }),
         ScriptLine::Tick { queue, .. } => Ok(Call::Tick { queue }),
+        // Without groups no message is on its way.
+        ScriptLine::Deliver { .. } | ScriptLine::Lose { .. } | ScriptLine::Copy { .. } => {
+            Err(ScriptFault::Unknown)
+        }
         ScriptLine::Crash { image, .. } => Ok(Call::Crash { image }),
         ScriptLine::Restart { .. } => Ok(Call::Restart),
         ScriptLine::Show { queue } => Ok(Call::Show { queue }),

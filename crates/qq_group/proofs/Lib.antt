@@ -7,7 +7,6 @@ mod Idle
 mod Inputs
 mod Intact
 mod Leaders
-mod Noticed
 mod Notices
 mod Promises
 mod Reached

@@ -31,7 +31,7 @@ use Rattle.qq_group_history.specs.declared.history.History.{History}
 use Rattle.qq_group.specs.declared.input.Input.{Input}
 use Rattle.qq_group.specs.declared.seat.Seat.{Seat}
 use Rattle.qq_group_history.proofs.Histories.{history-later}
-use Rattle.qq_group.proofs.Noticed.{noticed-rises}
+use Rattle.qq_raft_model.proofs.Noticed.{noticed-rises}
 use Rattle.qq_group.proofs.Reached.{KnownLaw, extended-is, known-front}
 use Rattle.qq_group.proofs.Seats.{set-other, set-own}
 

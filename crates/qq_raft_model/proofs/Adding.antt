@@ -12,7 +12,8 @@ use Rattle.qq_raft_model.specs.declared.peer.Peer.{Peer}
 use Rattle.qq_raft_model.specs.State.{Server, last, is_leader}
 use Rattle.qq_raft_model.specs.Leading.{add_entry, everyone, send, stand}
 use Rattle.qq_raft_model.specs.Server.{is_ready, send_again, submit, tick}
-use Rattle.qq_raft_model.specs.Refines.{HasMatched, IsReached, Refines, Stands}
+use Rattle.qq_raft_model.specs.Server.Input.{Submit}
+use Rattle.qq_raft_model.specs.Refines.{entry_of, Adds, HasMatched, IsReached, Refines, RefinesBy, Stands}
 use Rattle.qq_raft_model.proofs.Leads.{add-refines}
 use Rattle.qq_raft_model.proofs.Reached.{safe-there}
 use Rattle.qq_raft_model.proofs.Refining.{refines-refl}
@@ -74,12 +75,13 @@ leader_tick-refines {members} {w} {k} {s} reached st e =
     (send-refines {members = members} everyone (again-stands st leads) leads (done-front reached st))
 
 pub submit-refines : {members : List ℕ} {w : World} {k : ℕ} {s : Server} (time : ℕ) (command : Command)
-    → IsReached members w → Stands w k s → Refines members w k (submit time command s)
+    → IsReached members w → Stands w k s → RefinesBy members w k s (Submit time command)
 unfolding submit
 submit-refines {members} {w} {k} {s} time command reached st =
-    let entry : Entry = record { term = s.term; time = time; command = command } in
-    cond_both (is_ready s) (add_entry entry s) s (Refines members w k)
+    let entry : Entry = entry_of time command s in
+    cond_both (is_ready s) (add_entry entry s) s
+    (λ (t : Server). Refines members w k t ⊎ ((is_ready s ≡ true) × Adds members w k entry t))
     (λ e.
     let leads = is_leader_of s.role (and_parts (is_leader s.role) _ e).0 in
-    add-refines {members = members} entry st leads refl (done-front reached st))
-    (λ _. refines-refl st)
+    inr (e, add-refines {members = members} entry st leads refl (done-front reached st)))
+    (λ _. inl (refines-refl st))

@@ -93,6 +93,7 @@ module _ (m : AppendMsg) (x : Sent) (s : Server) (sends : Sends m x) (match : Ma
       record {
         moves = Write k m.term.0 vote log ∷ [];
         allowed = (may, tt);
+        quiet = (tt, tt);
         stands = write-stands (Some m.from) m.term (vote_in m.term s) keep (e ∷ es) st;
         only = write-only w k m.term.0 vote log;
       }
@@ -146,6 +147,7 @@ acknowledge {members} {w} {k} {t} m x st said sends taken =
     record {
       moves = Reply k x ∷ Learn k x z ∷ [];
       allowed = (has, ((still, take-front index x.front, known_done m x sends), tt));
+      quiet = (tt, (tt, tt));
       stands =
           say-stands (appended m.from true (end m) (learn index t)) learnt (record {
             from = st.node;

@@ -15,7 +15,7 @@ use Rattle.qq_raft_protocol.specs.Moves.{after, longer, last_term}
 use Rattle.qq_raft_protocol.specs.Moves.Move.{Commit}
 use Rattle.qq_raft_protocol.specs.World.{Role as ModelRole, Lane, Ack, World}
 use Rattle.qq_raft_protocol.proofs.Logs.{last_of, last_term-add}
-use Rattle.qq_raft_protocol.proofs.Leaders.{leader-acks}
+use Rattle.qq_raft_protocol.proofs.Shades.{shaded-acks}
 use Rattle.qq_raft_protocol.proofs.Lists.{In-map}
 use Rattle.qq_raft_msg.specs.declared.rpc.AppendedMsg.{AppendedMsg}
 use Rattle.qq_raft_msg.specs.declared.rpc.Rpc.TheVariants.{Appended}
@@ -30,7 +30,7 @@ use Rattle.qq_raft_model.proofs.Electing.{majority}
 use Rattle.qq_raft_model.proofs.Later.{there-later, said-later, way-later, elects-later, matched-later}
 use Rattle.qq_raft_model.proofs.Learning.{longer-length}
 use Rattle.qq_raft_model.proofs.Matches.{take-front}
-use Rattle.qq_raft_model.proofs.Reached.{kept-there}
+use Rattle.qq_raft_model.proofs.Reached.{shaded-there}
 use Rattle.qq_raft_model.proofs.Refining.{refines-refl, refines-then, refines-change}
 use Rattle.qq_raft_model.proofs.Sending.{leader_asks, send-refines}
 
@@ -180,6 +180,7 @@ found-refines {members} {w} {k} {s} n c group st leads le f =
           subst (λ (x : Lane). IsFront (add a e) x.log) (sym st.lane) front in
           record {
             moves = Commit k a e ∷ [];
+            quiet = (tt, tt);
             allowed = (
               (
                 role,
@@ -323,7 +324,7 @@ pub acks-within : {members : List ℕ} {w : World} {k : ℕ} {s : Server} (x : A
 acks-within {members} {w} {k} {s} x reached st leads here same =
     let term : x.term ≡ (w.member k).mine.term = same ∙ sym (ap (λ (l : Lane). l.term) st.lane) in
     let le : x.upto ≤ length (w.member k).mine.log =
-    leader-acks k x (kept-there members w reached) (st.role ∙ ap role_of leads) here term in
+    shaded-acks (shaded-there members w reached) k x (st.role ∙ ap role_of leads) here term in
     let long : length (w.member k).mine.log ≡ last s = ap (λ (l : Lane). length l.log) st.lane in
     omega (arith, le, long)
 

@@ -13,16 +13,17 @@ use Rattle.qq_log.specs.Stable.{Stable, stable}
 use Rattle.qq_raft_protocol.specs.Moves.{longer, run}
 use Rattle.qq_raft_protocol.specs.World.{Member, World}
 use Rattle.qq_raft_protocol.proofs.Lists.{In-append}
-use Rattle.qq_raft_protocol.proofs.Runs.{audit-run}
+use Rattle.qq_raft_protocol.proofs.Shades.{shaded-audit}
 use Rattle.qq_raft_model.specs.Handing.{state_of, Continues}
-use Rattle.qq_raft_model.specs.Refines.{number, IsReached, MayCome, OnlyMoves, Refines, Stands}
+use Rattle.qq_raft_model.specs.Refines.{number, IsReached, MayCome, OnlyMoves, Stands}
 use Rattle.qq_raft_model.specs.Server.{Input, step}
 use Rattle.qq_raft_model.specs.State.{Server}
 use Rattle.qq_raft_model.proofs.Adding.{done-front}
 use Rattle.qq_raft_model.proofs.Agreeing.{take_front}
 use Rattle.qq_raft_model.proofs.Handing.{comes-to, continues-step}
 use Rattle.qq_raft_model.proofs.Later.{others-stand, way-later}
-use Rattle.qq_raft_model.proofs.Reached.{kept-there, safe-there, then-reached}
+use Rattle.qq_raft_model.proofs.Reached.{shaded-there, safe-there, then-reached}
+use Rattle.qq_raft_model.proofs.Sources.{StepsTo, Takes, steps-by}
 use Rattle.qq_raft_model.proofs.Steps.{step-refines}
 use Rattle.qq_raft_model.specs.Group.{Group, Seat, after_step, feed, feed_by}
 use Rattle.qq_raft_model.specs.Promises.{members_of}
@@ -107,11 +108,12 @@ new-count ops s t next count = elim next.hands [
       )
 ]
 
-new-lanes : {members : List ℕ} {w : World} {k : ℕ} (ops : List Op) (was : ℕ) (s t : Server)
-    → (r : Refines members w k t) → Continues s t → stable (ops ++ s.ops) ≡ Some (state_of s)
+new-lanes : {members : List ℕ} {w : World} {k : ℕ} {S : List Entry → Entry → Type 0} (ops : List Op) (was : ℕ)
+    (s t : Server)
+    → (r : StepsTo members w k S t) → Continues s t → stable (ops ++ s.ops) ≡ Some (state_of s)
     → s.op ≡ length (ops ++ s.ops) → was ≤ t.noticed → HasLanes (w.member k) was (ops ++ s.ops)
     → HasLanes ((run w r.moves).member k) t.noticed (ops ++ t.ops)
-new-lanes {members} {w} {k} ops was s t r next holds count rises lanes =
+new-lanes {members} {w} {k} {S} ops was s t r next holds count rises lanes =
     let m = (run w r.moves).member k in
     let noticed : m.noticed ≡ t.noticed = r.stands.noticed in
     let stay : HasLanes m t.noticed (ops ++ s.ops) = stay-lanes r.only noticed rises lanes in
@@ -177,21 +179,23 @@ other-seat {i = i} {seat = seat} only other grows y = record {
 
 -- ---- the group
 
-feed-some : {nodes : List NodeId} {w : World} {g : Group} (k : ℕ) (input : Input) (s : Server) → Tied nodes g w
-    → (g.seat k).server ≡ Some s → MayCome w k s input → Follows nodes w g (after_step k (step s input) g)
-feed-some {nodes} {w} {g} k input s tied is may =
+feed-some : {nodes : List NodeId} {w : World} {g : Group} (S : List Entry → Entry → Type 0) (k : ℕ) (input : Input)
+    (s : Server) → Tied nodes g w → (g.seat k).server ≡ Some s → MayCome w k s input × Takes S s input
+    → Follows nodes S w g (after_step k (step s input) g)
+feed-some {nodes} {w} {g} S k input s tied is may =
     let members = members_of nodes in
     let t = step s input in
     let ops = (g.seat k).ops in
     let was = (g.seat k).noticed in
     let old : IsTied members w k ops was g.audit s = (tied.seats k).up s is in
-    let r : Refines members w k t = step-refines input tied.reached old.group old.stands may in
+    let r : StepsTo members w k S t =
+    steps-by S input old.stands may.1 (step-refines input tied.reached old.group old.stands may.0) in
     let v = run w r.moves in
     let next : Continues s t = continues-step s input in
     let reached : IsReached members v = then-reached r.moves tied.reached r.allowed in
     let h = after_step k t g in
     let before : IsFront g.audit v.audit =
-    front-trans tied.audit (audit-run r.moves w (kept-there members w tied.reached) r.allowed) in
+    front-trans tied.audit (shaded-audit r.moves w (shaded-there members w tied.reached) r.allowed) in
     let known : IsFront (take t.commit t.log) v.audit = known-front reached r.stands in
     let grows : IsFront g.audit h.audit = longer-first before known in
     let lanes : HasLanes (w.member k) was (ops ++ s.ops) =
@@ -213,6 +217,7 @@ feed-some {nodes} {w} {g} k input s tied is may =
     record {
       moves = r.moves;
       allowed = r.allowed;
+      sourced = r.sourced;
       tied = record {
         reached = reached;
         nodes_are = tied.nodes_are;
@@ -233,13 +238,14 @@ feed-some {nodes} {w} {g} k input s tied is may =
       audit = grows;
     }
 
-feed-by : {nodes : List NodeId} {w : World} {g : Group} (k : ℕ) (input : Input) (o : Option Server)
-    → Tied nodes g w → (g.seat k).server ≡ o → ((s : Server) → o ≡ Some s → MayCome w k s input)
-    → Follows nodes w g (feed_by k input o g)
-feed-by k input None tied is may = follows-refl tied
-feed-by k input (Some s) tied is may = feed-some k input s tied is (may s refl)
+feed-by : {nodes : List NodeId} {w : World} {g : Group} (S : List Entry → Entry → Type 0) (k : ℕ) (input : Input)
+    (o : Option Server) → Tied nodes g w → (g.seat k).server ≡ o
+    → ((s : Server) → o ≡ Some s → MayCome w k s input × Takes S s input) → Follows nodes S w g (feed_by k input o g)
+feed-by S k input None tied is may = follows-refl tied
+feed-by S k input (Some s) tied is may = feed-some S k input s tied is (may s refl)
 
-pub feed-follows : {nodes : List NodeId} {w : World} {g : Group} (k : ℕ) (input : Input) → Tied nodes g w
-    → ((s : Server) → (g.seat k).server ≡ Some s → MayCome w k s input)
-    → Follows nodes w g (feed k input g)
-feed-follows {g = g} k input tied may = feed-by k input (g.seat k).server tied refl may
+pub feed-follows : {nodes : List NodeId} {w : World} {g : Group} (S : List Entry → Entry → Type 0) (k : ℕ)
+    (input : Input) → Tied nodes g w
+    → ((s : Server) → (g.seat k).server ≡ Some s → MayCome w k s input × Takes S s input)
+    → Follows nodes S w g (feed k input g)
+feed-follows {g = g} S k input tied may = feed-by S k input (g.seat k).server tied refl may

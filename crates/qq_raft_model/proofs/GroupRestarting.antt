@@ -14,12 +14,13 @@ use Rattle.qq_raft_protocol.specs.Facts.{In}
 use Rattle.qq_raft_protocol.specs.Moves.{after}
 use Rattle.qq_raft_protocol.specs.Moves.Move.{Restart}
 use Rattle.qq_raft_protocol.specs.World.{Lane, Member, World, lanes}
+use Rattle.qq_raft_protocol.proofs.Shades.{shaded-noticed}
 use Rattle.qq_raft_model.specs.Handing.{plain_state}
 use Rattle.qq_raft_model.specs.Refines.{number, disk_lane, IsGroup, OnlyRestarts}
 use Rattle.qq_raft_model.specs.Server.{new_peer, restart}
 use Rattle.qq_raft_model.specs.State.{Server}
 use Rattle.qq_raft_model.proofs.Handing.{known-all}
-use Rattle.qq_raft_model.proofs.Reached.{kept-there, then-reached}
+use Rattle.qq_raft_model.proofs.Reached.{shaded-there, then-reached}
 use Rattle.qq_raft_model.proofs.Restarting.{restart-only, restart-others, restart-stands, way-left}
 use Rattle.qq_raft_model.specs.Group.{Group, Seat, has_node, is_down, lane_with, may_restart, restart_by}
 use Rattle.qq_raft_model.specs.Promises.{AreDistinct, members_of}
@@ -57,11 +58,12 @@ one-lane {m = m} {n = n} ops long h i late within =
     subst (λ (l : List Op). HasLane m i l) (sym (take_all i ops (omega (arith, late, long))))
     (subst (λ (j : ℕ). HasLane m j ops) same h)
 
-restart-with : {nodes : List NodeId} {w : World} {g : Group} (k op : ℕ) → Tied nodes g w → AreDistinct nodes
+restart-with : {nodes : List NodeId} {S : List Entry → Entry → Type 0} {w : World} {g : Group} (k op : ℕ)
+    → Tied nodes g w → AreDistinct nodes
     → has_node k nodes ≡ true → op ≤ length (g.seat k).ops
     → (h : HasLane (w.member k) op (take op (g.seat k).ops))
-    → Follows nodes w g (restart_by k op (Some (plain_state op h.term h.vote h.log)) g)
-restart-with {nodes} {w} {g} k op tied distinct has le h =
+    → Follows nodes S w g (restart_by k op (Some (plain_state op h.term h.vote h.log)) g)
+restart-with {nodes} {S} {w} {g} k op tied distinct has le h =
     let members = members_of nodes in
     let ops = take op (g.seat k).ops in
     let node : NodeId = record { 0 = k } in
@@ -73,7 +75,7 @@ restart-with {nodes} {w} {g} k op tied distinct has le h =
     let here : In disk (lanes (w.member k)) =
     subst (λ (log : List Entry). In (with_log log) (lanes (w.member k))) (sym known) h.here in
     let v = after w (Restart k disk) in
-    let late : (w.member k).noticed ≤ op = (kept-there members w tied.reached).noticed k disk here in
+    let late : (w.member k).noticed ≤ op = shaded-noticed (shaded-there members w tied.reached) k disk here in
     let only : OnlyRestarts k w v = restart-only w k disk late in
     let s : Server = restart node g.nodes lane in
     let long : length ops ≡ op = length-take-le op (g.seat k).ops le in
@@ -106,6 +108,7 @@ restart-with {nodes} {w} {g} k op tied distinct has le h =
     record {
       moves = Restart k disk ∷ [];
       allowed = (here, tt);
+      sourced = (tt, tt);
       tied = record {
         reached = then-reached (Restart k disk ∷ []) tied.reached (here, tt);
         nodes_are = tied.nodes_are;
@@ -122,10 +125,11 @@ restart-with {nodes} {w} {g} k op tied distinct has le h =
       audit = front-refl g.audit;
     }
 
-pub restart-follows : {nodes : List NodeId} {w : World} {g : Group} (k op : ℕ) → Tied nodes g w
+pub restart-follows : {nodes : List NodeId} {S : List Entry → Entry → Type 0} {w : World} {g : Group} (k op : ℕ)
+    → Tied nodes g w
     → AreDistinct nodes → may_restart k op g ≡ true
-    → Follows nodes w g (restart_by k op (stable (take op (g.seat k).ops)) g)
-restart-follows {nodes} {w} {g} k op tied distinct may =
+    → Follows nodes S w g (restart_by k op (stable (take op (g.seat k).ops)) g)
+restart-follows {nodes} {S} {w} {g} k op tied distinct may =
     let seat = g.seat k in
     let first = and_parts (is_down seat.server)
     (has_node k g.nodes && (leb seat.noticed op && leb op (length seat.ops))) may in
@@ -139,5 +143,5 @@ restart-follows {nodes} {w} {g} k op tied distinct may =
     (ap (λ (l : List Op). seat.ops ++ l) (nothing-pending seat.server first.0) ∙ append-nil seat.ops)
     (tied.seats k).lanes in
     let h : HasLane (w.member k) op (take op seat.ops) = lanes_are op late le in
-    subst (λ (o : Option Stable). Follows nodes w g (restart_by k op o g)) (sym h.is)
+    subst (λ (o : Option Stable). Follows nodes S w g (restart_by k op o g)) (sym h.is)
     (restart-with k op tied distinct has le h)

@@ -2,26 +2,28 @@
 use Rattle.std.proofs.Common.{◌≡◌, ℕ, ◌+◌, ◌≤◌, leb, List, [], ◌∷◌, ◌++◌, length, take, drop, Option, Some, None, refl, sym, ap, subst, ◌∙◌, append_assoc, arith, inl, inr}
 use Rattle.std.proofs.lemmas.Bool.{cond_both, leb-true}
 use Rattle.std.proofs.lemmas.List.{length-append, take-append-le, take-append-drop}
-use Rattle.qq_base.proofs.Fronts.{front-nil, front-refl}
+use Rattle.qq_base.proofs.Fronts.{front-refl}
 use Rattle.qq_base.proofs.Puts.{put-each}
 use Rattle.qq_base.specs.declared.ids.NodeId.{NodeId}
-use Rattle.qq_base.specs.declared.ids.QueueId.{QueueId}
+use Rattle.qq_entry.specs.declared.command.Command.{Command}
+use Rattle.qq_entry.specs.declared.command.Entry.{Entry}
 use Rattle.qq_log.specs.declared.op.Op.{Op}
 use Rattle.qq_log.specs.Stable.{stable}
 use Rattle.qq_raft_protocol.specs.Facts.{In}
-use Rattle.qq_raft_protocol.specs.World.{Member, World, new_world}
+use Rattle.qq_raft_protocol.specs.World.{Member, World}
 use Rattle.qq_raft_protocol.proofs.Lists.{In-append, In-left}
 use Rattle.qq_raft_msg.specs.Rpc.{envelope}
 use Rattle.qq_raft_msg.specs.declared.rpc.Rpc.{Rpc}
 use Rattle.qq_raft_model.specs.Refines.{Stands}
 use Rattle.qq_raft_model.specs.Server.{Input}
 use Rattle.qq_raft_model.specs.State.{Server}
-use Rattle.qq_raft_model.specs.Group.{Event, Group, Seat, deliver_by, feed, group_after, happens, may_restart, new_group, restart_by, take_by, take_op}
+use Rattle.qq_raft_model.specs.Group.{Event, Group, Seat, deliver_by, feed, group_after, happens, may_restart, restart_by, take_by, take_op}
 use Rattle.qq_raft_model.specs.Group.Event.{Tick, Submit, Deliver, Lose, Copy, Take, Notice, Crash, Restart}
-use Rattle.qq_raft_model.specs.Promises.{AreDistinct, members_of}
+use Rattle.qq_raft_model.specs.Promises.{AreDistinct, IsSubmitted, members_of}
 use Rattle.qq_raft_model.proofs.Feeding.{feed-follows, same_some}
 use Rattle.qq_raft_model.proofs.GroupRestarting.{restart-follows}
-use Rattle.qq_raft_model.proofs.Tied.{HasLane, HasLanes, IsTied, IsSeat, Tied, Follows, In-drop, In-right, In-take, follows-refl, follows-then, pending, tied-bag}
+use Rattle.qq_raft_model.proofs.Sources.{Takes}
+use Rattle.qq_raft_model.proofs.Tied.{HasLane, HasLanes, IsTied, IsSeat, Tied, Follows, In-drop, In-right, In-take, follows-refl, follows-then, follows-weaker, pending, tied-bag}
 
 -- ---- messages
 
@@ -44,15 +46,17 @@ found-in r at bag behind is here =
     subst (λ (l : List Rpc). In r l)
     (ap (λ (l : List Rpc). take at bag ++ l) (sym is) ∙ take-append-drop at bag) here
 
-bag-follows : {nodes : List NodeId} {w : World} {g : Group} (bag : List Rpc) → Tied nodes g w
-    → ((r : Rpc) → In r bag → In r g.bag) → Follows nodes w g (record g { bag = bag })
+bag-follows : {nodes : List NodeId} {S : List Entry → Entry → Type 0} {w : World} {g : Group} (bag : List Rpc)
+    → Tied nodes g w
+    → ((r : Rpc) → In r bag → In r g.bag) → Follows nodes S w g (record g { bag = bag })
 bag-follows {g = g} bag tied each =
-    record { moves = []; allowed = tt; tied = tied-bag bag tied each; audit = front-refl g.audit }
+    record { moves = []; allowed = tt; sourced = tt; tied = tied-bag bag tied each; audit = front-refl g.audit }
 
-deliver-follows : {nodes : List NodeId} {w : World} {g : Group} (at : ℕ) (behind : List Rpc) → Tied nodes g w
-    → drop at g.bag ≡ behind → Follows nodes w g (deliver_by (take at g.bag) behind g)
-deliver-follows at [] tied is = follows-refl tied
-deliver-follows {nodes} {w} {g} at (rpc ∷ behind) tied is =
+deliver-follows : {nodes : List NodeId} {w : World} {g : Group} (S : List Entry → Entry → Type 0) (at : ℕ)
+    (behind : List Rpc) → Tied nodes g w
+    → drop at g.bag ≡ behind → Follows nodes S w g (deliver_by (take at g.bag) behind g)
+deliver-follows S at [] tied is = follows-refl tied
+deliver-follows {nodes} {w} {g} S at (rpc ∷ behind) tied is =
     let before = take at g.bag in
     let rest : Group = record g { bag = before ++ behind } in
     let fewer : (r : Rpc) → In r (before ++ behind) → In r g.bag =
@@ -61,10 +65,10 @@ deliver-follows {nodes} {w} {g} at (rpc ∷ behind) tied is =
       | inr later ↦ In-right r before (rpc ∷ behind) (inr later)
     ]) in
     let way = tied.bag rpc (found-in rpc at g.bag (rpc ∷ behind) is (In-right rpc before (rpc ∷ behind) (inl refl))) in
-    let f : Follows nodes w rest (feed (envelope rpc).to.0 (Input.Receive rpc) rest) =
-    feed-follows (envelope rpc).to.0 (Input.Receive rpc) (tied-bag (before ++ behind) tied fewer)
-    (λ s up. (refl, way)) in
-    record { moves = f.moves; allowed = f.allowed; tied = f.tied; audit = f.audit }
+    let f : Follows nodes S w rest (feed (envelope rpc).to.0 (Input.Receive rpc) rest) =
+    feed-follows S (envelope rpc).to.0 (Input.Receive rpc) (tied-bag (before ++ behind) tied fewer)
+    (λ s up. ((refl, way), tt)) in
+    record { moves = f.moves; allowed = f.allowed; sourced = f.sourced; tied = f.tied; audit = f.audit }
 
 -- ---- logs
 
@@ -85,10 +89,11 @@ taken-stands ops st = record {
   out = st.out;
 }
 
-take_by-follows : {nodes : List NodeId} {w : World} {g : Group} (k : ℕ) (s : Server) (left : List Op)
-    → Tied nodes g w → (g.seat k).server ≡ Some s → s.ops ≡ left → Follows nodes w g (take_by k s left g)
+take_by-follows : {nodes : List NodeId} {S : List Entry → Entry → Type 0} {w : World} {g : Group} (k : ℕ)
+    (s : Server) (left : List Op)
+    → Tied nodes g w → (g.seat k).server ≡ Some s → s.ops ≡ left → Follows nodes S w g (take_by k s left g)
 take_by-follows k s [] tied is ops = follows-refl tied
-take_by-follows {nodes} {w} {g} k s (op ∷ left) tied is ops =
+take_by-follows {nodes} {S} {w} {g} k s (op ∷ left) tied is ops =
     let seat = g.seat k in
     let old = (tied.seats k).up s is in
     let list : (seat.ops ++ op ∷ []) ++ left ≡ seat.ops ++ s.ops =
@@ -100,6 +105,7 @@ take_by-follows {nodes} {w} {g} k s (op ∷ left) tied is ops =
     record {
       moves = [];
       allowed = tt;
+      sourced = tt;
       tied = record {
         reached = tied.reached;
         nodes_are = tied.nodes_are;
@@ -125,12 +131,13 @@ take_by-follows {nodes} {w} {g} k s (op ∷ left) tied is ops =
       audit = front-refl g.audit;
     }
 
-take-follows : {nodes : List NodeId} {w : World} {g : Group} (k : ℕ) (o : Option Server) → Tied nodes g w
-    → (g.seat k).server ≡ o → Follows nodes w g (take_op k o g)
+take-follows : {nodes : List NodeId} {S : List Entry → Entry → Type 0} {w : World} {g : Group} (k : ℕ)
+    (o : Option Server) → Tied nodes g w
+    → (g.seat k).server ≡ o → Follows nodes S w g (take_op k o g)
 take-follows k None tied is = follows-refl tied
 take-follows k (Some s) tied is = take_by-follows k s s.ops tied is refl
 
-none_some : {A : Type 0} (a : A) → None ≡ Some a → ⊥
+pub none_some : {A : Type 0} (a : A) → None ≡ Some a → ⊥
 none_some a e = absurd cc
 
 -- what its log was handed is left
@@ -143,14 +150,15 @@ crashed-lanes {m = m} noticed ops lost lanes n late within =
     subst (λ (l : List Op). HasLane m n l) same
     (lanes n late (omega (arith, few, length-append ops lost)))
 
-crash-follows : {nodes : List NodeId} {w : World} {g : Group} (k : ℕ) → Tied nodes g w
-    → Follows nodes w g (happens (Crash k) g)
-crash-follows {nodes} {w} {g} k tied =
+crash-follows : {nodes : List NodeId} {S : List Entry → Entry → Type 0} {w : World} {g : Group} (k : ℕ) → Tied nodes g w
+    → Follows nodes S w g (happens (Crash k) g)
+crash-follows {nodes} {S} {w} {g} k tied =
     let seat = g.seat k in
     let next : Seat = record { server = None; ops = seat.ops; noticed = seat.noticed } in
     record {
       moves = [];
       allowed = tt;
+      sourced = tt;
       tied = record {
         reached = tied.reached;
         nodes_are = tied.nodes_are;
@@ -176,53 +184,84 @@ handed-within {g = g} k op s tied is le =
     let count : s.op ≡ length ((g.seat k).ops ++ s.ops) = ((tied.seats k).up s is).count in
     omega (arith, le, count, length-append (g.seat k).ops s.ops)
 
+-- what a command that reaches a server may add
+submit-takes : (g : Group) (k time : ℕ) (command : Command) (s : Server) → (g.seat k).server ≡ Some s
+    → Takes (IsSubmitted g (Submit k time command ∷ [])) s (Input.Submit time command)
+submit-takes g k time command s up ready = record {
+  first = [];
+  node = k;
+  rest = [];
+  is = refl;
+  server = s;
+  up = up;
+  ready = ready;
+  term = refl;
+  log = refl;
+}
+
 pub happens-follows : {nodes : List NodeId} {w : World} {g : Group} (e : Event) → AreDistinct nodes
-    → Tied nodes g w → Follows nodes w g (happens e g)
-happens-follows (Tick k) distinct tied = feed-follows k Input.Tick tied (λ s up. tt)
-happens-follows (Submit k time command) distinct tied =
-    feed-follows k (Input.Submit time command) tied (λ s up. tt)
-happens-follows {g = g} (Deliver at) distinct tied = deliver-follows at (drop at g.bag) tied refl
+    → Tied nodes g w → Follows nodes (IsSubmitted g (e ∷ [])) w g (happens e g)
+happens-follows {g = g} (Tick k) distinct tied =
+    feed-follows (IsSubmitted g (Tick k ∷ [])) k Input.Tick tied (λ s up. (tt, tt))
+happens-follows {g = g} (Submit k time command) distinct tied =
+    feed-follows (IsSubmitted g (Submit k time command ∷ [])) k (Input.Submit time command) tied
+    (λ s up. (tt, submit-takes g k time command s up))
+happens-follows {g = g} (Deliver at) distinct tied =
+    deliver-follows (IsSubmitted g (Deliver at ∷ [])) at (drop at g.bag) tied refl
 happens-follows {g = g} (Lose at) distinct tied =
     bag-follows (take at g.bag ++ drop (at + 1) g.bag) tied (λ r here. still-in r at (at + 1) g.bag here)
 happens-follows {g = g} (Copy at) distinct tied =
     bag-follows (g.bag ++ take 1 (drop at g.bag)) tied (λ r here. copied-in r at g.bag here)
 happens-follows {g = g} (Take k) distinct tied = take-follows k (g.seat k).server tied refl
 happens-follows {nodes} {w} {g} (Notice k op) distinct tied =
-    cond_both (leb op (length (g.seat k).ops)) (feed k (Input.Notice op) g) g (Follows nodes w g)
+    cond_both (leb op (length (g.seat k).ops)) (feed k (Input.Notice op) g) g
+    (Follows nodes (IsSubmitted g (Notice k op ∷ [])) w g)
     (λ e.
-    feed-follows k (Input.Notice op) tied (λ s up.
-    handed-within k op s tied up (leb-true op (length (g.seat k).ops) e)))
+    feed-follows (IsSubmitted g (Notice k op ∷ [])) k (Input.Notice op) tied (λ s up.
+    (handed-within k op s tied up (leb-true op (length (g.seat k).ops) e), tt)))
     (λ _. follows-refl tied)
 happens-follows (Crash k) distinct tied = crash-follows k tied
 happens-follows {nodes} {w} {g} (Restart k op) distinct tied =
-    cond_both (may_restart k op g) (restart_by k op (stable (take op (g.seat k).ops)) g) g (Follows nodes w g)
+    cond_both (may_restart k op g) (restart_by k op (stable (take op (g.seat k).ops)) g) g
+    (Follows nodes (IsSubmitted g (Restart k op ∷ [])) w g)
     (λ may. restart-follows k op tied distinct may) (λ _. follows-refl tied)
 
 -- ---- any events
 
+submitted-now : (g : Group) (x : Event) (events : List Event) (a : List Entry) (e : Entry)
+    → IsSubmitted g (x ∷ []) a e → IsSubmitted g (x ∷ events) a e
+submitted-now g x events a e y = record {
+  first = y.first;
+  node = y.node;
+  rest = y.rest ++ events;
+  is =
+      ap (λ (es : List Event). es ++ events) y.is
+      ∙ append_assoc y.first (Submit y.node e.time e.command ∷ y.rest) events;
+  server = y.server;
+  up = y.up;
+  ready = y.ready;
+  term = y.term;
+  log = y.log;
+}
+
+submitted-later : (g : Group) (x : Event) (events : List Event) (a : List Entry) (e : Entry)
+    → IsSubmitted (happens x g) events a e → IsSubmitted g (x ∷ events) a e
+submitted-later g x events a e y = record {
+  first = x ∷ y.first;
+  node = y.node;
+  rest = y.rest;
+  is = ap (λ (es : List Event). x ∷ es) y.is;
+  server = y.server;
+  up = y.up;
+  ready = y.ready;
+  term = y.term;
+  log = y.log;
+}
+
 pub group-follows : {nodes : List NodeId} (events : List Event) (w : World) (g : Group) → AreDistinct nodes
-    → Tied nodes g w → Follows nodes w g (group_after g events)
+    → Tied nodes g w → Follows nodes (IsSubmitted g events) w g (group_after g events)
 group-follows [] w g distinct tied = follows-refl tied
 group-follows (e ∷ events) w g distinct tied =
-    follows-then {i = group_after g (e ∷ events)} (happens-follows e distinct tied) (λ v there.
-    group-follows events v (happens e g) distinct there)
-
-pub new-tied : (queue : QueueId) (nodes : List NodeId) → Tied nodes (new_group queue nodes) new_world
-new-tied queue nodes = record {
-  reached = record { moves = []; allowed = tt; is = refl };
-  nodes_are = refl;
-  seats = λ k. record {
-    up = λ s e. absurd (none_some s e);
-    lanes = λ n late within.
-        let start : 0 ≡ n = omega (arith, within) in
-        subst (λ (i : ℕ). HasLane (new_world.member k) i (take i [])) start (record {
-          term = record { 0 = 0 };
-          vote = None;
-          log = [];
-          is = refl;
-          here = inl refl;
-        });
-  };
-  bag = λ r here. absurd here;
-  audit = front-nil [];
-}
+    follows-then {i = group_after g (e ∷ events)}
+    (follows-weaker (λ a x y. submitted-now g e events a x y) (happens-follows e distinct tied)) (λ v there.
+    follows-weaker (λ a x y. submitted-later g e events a x y) (group-follows events v (happens e g) distinct there))

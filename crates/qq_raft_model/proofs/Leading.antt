@@ -5,6 +5,7 @@ use Rattle.qq_base.specs.Fronts.{IsFront}
 use Rattle.qq_base.proofs.Fronts.{front-length}
 use Rattle.qq_entry.specs.declared.command.Entry.{Entry}
 use Rattle.qq_raft_protocol.specs.World.{Lane, World}
+use Rattle.qq_raft_protocol.proofs.Shades.{shaded-noticed}
 use Rattle.qq_raft_model.specs.declared.peer.Peer.{Peer}
 use Rattle.qq_raft_model.specs.State.{Server, last, is_leader, change}
 use Rattle.qq_raft_model.specs.Leading.{add_entry, advance, commit_within, is_elected, lead, lead_if_elected, noop, pass, send, start_peer}
@@ -14,7 +15,7 @@ use Rattle.qq_raft_model.proofs.Adding.{is_leader_of, done-front}
 use Rattle.qq_raft_model.proofs.Counting.{advance-refines, mapped-group}
 use Rattle.qq_raft_model.proofs.Leads.{lead_if-refines}
 use Rattle.qq_raft_model.proofs.Noticing.{greater_le, greater_most, take-refines}
-use Rattle.qq_raft_model.proofs.Reached.{kept-there, refines-next}
+use Rattle.qq_raft_model.proofs.Reached.{shaded-there, refines-next}
 use Rattle.qq_raft_model.proofs.Refining.{refines-refl}
 
 lead-group : {members : List ℕ} {k : ℕ} (s : Server) → IsGroup members k s.peers
@@ -59,7 +60,7 @@ notice-refines {members} {w} {k} {s} op reached group st le =
     let same : (w.member k).noticed ≡ s.noticed = st.noticed in
     let mine : (w.member k).mine.op ≡ s.op = ap (λ (l : Lane). l.op) st.lane in
     let below : (w.member k).noticed ≤ (w.member k).mine.op =
-    (kept-there members w reached).noticed k (w.member k).mine (inl refl) in
+    shaded-noticed (shaded-there members w reached) k (w.member k).mine (inl refl) in
     let most : n ≤ s.op = greater_most s.noticed op s.op (omega (arith, same, mine, below)) le in
     refines-next {t = notice op s} reached (take-refines n st (greater_le s.noticed op) most) (λ v reached_v taken only.
     refines-next {t = notice op s} reached_v (lead_if-refines reached_v group taken) (λ u reached_u led only_u.

@@ -14,7 +14,7 @@ use Rattle.qq_raft_protocol.specs.Facts.{add, Most, Elects}
 use Rattle.qq_raft_protocol.specs.Moves.{after, push, next_lane}
 use Rattle.qq_raft_protocol.specs.Moves.Move.{Lead, Append}
 use Rattle.qq_raft_protocol.specs.World.{Role as ModelRole, Lane, World}
-use Rattle.qq_raft_protocol.proofs.Leaders.{candidate-first}
+use Rattle.qq_raft_protocol.proofs.Shades.{shaded-first}
 use Rattle.qq_raft_protocol.proofs.Lists.{In-map}
 use Rattle.qq_raft_protocol.proofs.Logs.{length-add, front-of_add}
 use Rattle.qq_raft_msg.specs.declared.rpc.Rpc.TheVariants.{Voted}
@@ -25,11 +25,11 @@ use Rattle.qq_raft_model.specs.declared.peer.Peer.{Peer}
 use Rattle.qq_raft_model.specs.State.{Server, last, is_candidate, change, follow, enter}
 use Rattle.qq_raft_model.specs.Leading.{send, everyone, add_entry, noop, start_peer, lead, one_if, is_majority, is_elected, lead_if_elected}
 use Rattle.qq_raft_model.specs.Server.{is_peer, grant_peer, at_peer, count_vote, receive_voted, refuse, accept, receive}
-use Rattle.qq_raft_model.specs.Refines.{number, lane_of, role_of, IsOnItsWay, IsGroup, HasOwnAck, AcksItself, Stands, OnlyMoves, Refines, IsReached}
+use Rattle.qq_raft_model.specs.Refines.{number, lane_of, role_of, IsOnItsWay, IsGroup, HasOwnAck, AcksItself, Stands, OnlyMoves, Adds, Refines, IsReached}
 use Rattle.qq_raft_model.proofs.Electing.{majority}
 use Rattle.qq_raft_model.proofs.Later.{said-later, way-later, matched-later, only-trans}
 use Rattle.qq_raft_model.proofs.Moving.{push-noticed, pushed-lanes}
-use Rattle.qq_raft_model.proofs.Reached.{kept-there, safe-there}
+use Rattle.qq_raft_model.proofs.Reached.{shaded-there, safe-there}
 use Rattle.qq_raft_model.proofs.Refining.{refines-refl, refines-change}
 use Rattle.qq_raft_model.proofs.Sending.{leader_asks, send-refines}
 
@@ -131,24 +131,19 @@ append-stands {w = w} {k = k} {s = s} e st leads =
 
 -- the entry is added, and sent with all that the peers lack
 pub add-refines : {members : List ℕ} {w : World} {k : ℕ} {s : Server} (e : Entry) → Stands w k s → s.role ≡ Leader
-    → e.term.0 ≡ s.term.0 → IsFront (w.done k) s.log → Refines members w k (add_entry e s)
+    → e.term.0 ≡ s.term.0 → IsFront (w.done k) s.log → Adds members w k e (add_entry e s)
 unfolding add_entry change
 add-refines {members} {w} {k} {s} e st leads own done =
     let t = change s.term s.vote (last s) (e ∷ []) s in
     let role : w.role k ≡ ModelRole.Leader = st.role ∙ ap role_of leads in
     let term : e.term.0 ≡ (w.member k).mine.term = own ∙ sym (ap (λ (l : Lane). l.term) st.lane) in
     let longer : IsFront s.log t.log = record { rest = e ∷ []; is = sym (whole s.log e) } in
-    let first : Refines members w k t = record {
-      moves = Append k e ∷ [];
-      allowed = ((role, term), tt);
-      stands = append-stands e st leads;
-      only = append-only w k e;
-    } in
     let second : Refines members (after w (Append k e)) k (send everyone t) =
     send-refines {members = members} everyone (append-stands e st leads) leads (front-trans done longer) in
     record {
-      moves = Append k e ∷ second.moves;
+      moves = second.moves;
       allowed = ((role, term), second.allowed);
+      quiet = second.quiet;
       stands = second.stands;
       only = only-trans (append-only w k e) second.only;
     }
@@ -238,12 +233,13 @@ lead-refines {members} {w} {k} {s} reached group st e =
     let done : IsFront (w.done k) s.log =
     subst (λ (l : Lane). IsFront (w.done k) l.log) st.lane ((safe-there members w reached).done k).1 in
     let first : IsBefore (lane_of s) =
-    subst IsBefore st.lane (candidate-first k (kept-there members w reached) role most) in
-    let rest : Refines members (after w (Lead k)) k (add_entry (noop s.term) (leading s)) =
+    subst IsBefore st.lane (shaded-first (shaded-there members w reached) k role most) in
+    let rest : Adds members (after w (Lead k)) k (noop s.term) (add_entry (noop s.term) (leading s)) =
     add-refines {members = members} (noop s.term) (lead-stands st first) refl refl done in
     record {
-      moves = Lead k ∷ rest.moves;
+      moves = Lead k ∷ Append k (noop s.term) ∷ rest.moves;
       allowed = ((role, most), rest.allowed);
+      quiet = (tt, (refl, rest.quiet));
       stands = rest.stands;
       only = only-trans (lead-only w k) rest.only;
     }

@@ -15,12 +15,16 @@ mod Learning
 mod Matches
 mod Members
 mod Moving
+pub mod Noticed
 mod Noticing
+mod Opened
+mod Opening
 mod Promises
 pub mod Reached
 pub mod Refining
 pub mod Restarting
 mod Sending
+mod Sources
 mod Standing
 pub mod Steps
 mod Terms

@@ -1,61 +1,18 @@
--- What was sent matches every log: a member that never moved could take it up, and then log matching speaks of both.
-use Rattle.std.proofs.Common.{◌≡◌, ◌⊎◌, ℕ, suc, ◌+◌, ◌≤◌, eqb, List, [], ◌∷◌, ◌++◌, length, take, drop, None, refl, sym, ap, subst, ◌∙◌, append_assoc, arith, inl, inr}
+-- What was sent matches every log.
+use Rattle.std.proofs.Common.{◌≡◌, ◌⊎◌, ℕ, suc, eqb, List, [], ◌∷◌, ◌++◌, length, take, drop, refl, sym, ap, subst, ◌∙◌, append_assoc, arith, inl, inr}
 use Rattle.std.proofs.lemmas.Bool.{cond_both, eqb-true}
 use Rattle.std.proofs.lemmas.List.{length-append, nil_from_length, take-append-drop}
 use Rattle.qq_base.specs.Fronts.{IsFront}
-use Rattle.qq_base.proofs.Puts.{put-same, put-other}
-use Rattle.qq_base.proofs.Fronts.{front-trans, front-length, either-same}
+use Rattle.qq_base.proofs.Fronts.{either-same}
 use Rattle.qq_entry.specs.declared.command.Entry.{Entry}
 use Rattle.qq_raft_protocol.specs.Facts.{add, In}
-use Rattle.qq_raft_protocol.specs.Moves.{Move, MayWrite, AreAllowed, after, run, push, next_lane, last_term}
-use Rattle.qq_raft_protocol.specs.Moves.Move.{Write, Stand, Vote, Lead, Append, Send, Reply, Learn, Commit, Notice, Restart, Follow}
-use Rattle.qq_raft_protocol.specs.Safe.{IsSafe, IsLaneOf}
-use Rattle.qq_raft_protocol.specs.World.{Member, Sent, World, lanes, new_member, new_world}
+use Rattle.qq_raft_protocol.specs.Moves.{last_term}
+use Rattle.qq_raft_protocol.specs.World.{Sent, World}
 use Rattle.qq_raft_protocol.proofs.Logs.{last_of, last_term-add}
-use Rattle.qq_raft_protocol.proofs.Runs.{safe-run}
+use Rattle.qq_raft_protocol.proofs.Shades.{shaded-sent}
 use Rattle.qq_raft_model.specs.Refines.{IsReached}
 use Rattle.qq_raft_model.specs.Server.{agreed}
-use Rattle.qq_raft_model.proofs.Refining.{run-append, allowed-append}
-
--- ---- a member that never moved
-
-abbrev mover : Move → ℕ
-mover (Write k term vote log) = k
-mover (Stand k) = k
-mover (Vote k ask) = k
-mover (Lead k) = k
-mover (Append k entry) = k
-mover (Send k front done) = k
-mover (Reply k sent) = k
-mover (Learn k sent done) = k
-mover (Commit k before entry) = k
-mover (Notice k op) = k
-mover (Restart k lane) = k
-mover (Follow k) = k
-
--- a number above all that moved
-abbrev above : List Move → ℕ
-above [] = 0
-above (m ∷ ms) = mover m + above ms + 1
-
-same-after : (w : World) (m : Move) (q : ℕ) → (q ≡ mover m → ⊥) → (after w m).member q ≡ w.member q
-same-after w (Write k term vote log) q other = put-other k _ w.member q other
-same-after w (Stand k) q other = put-other k _ w.member q other
-same-after w (Vote k ask) q other = refl
-same-after w (Lead k) q other = refl
-same-after w (Append k entry) q other = put-other k _ w.member q other
-same-after w (Send k front done) q other = refl
-same-after w (Reply k sent) q other = refl
-same-after w (Learn k sent done) q other = refl
-same-after w (Commit k before entry) q other = refl
-same-after w (Notice k op) q other = put-other k _ w.member q other
-same-after w (Restart k lane) q other = put-other k _ w.member q other
-same-after w (Follow k) q other = refl
-
-same-run : (w : World) (ms : List Move) (q : ℕ) → above ms ≤ q → (run w ms).member q ≡ w.member q
-same-run w [] q le = refl
-same-run w (m ∷ ms) q le =
-    same-run (after w m) ms q (omega (arith, le)) ∙ same-after w m q (λ e. omega (arith, le, e))
+use Rattle.qq_raft_model.proofs.Reached.{shaded-there}
 
 -- ---- log matching
 
@@ -65,52 +22,10 @@ Match own log =
     (a b : List Entry) (e f : Entry) → IsFront (add a e) own → IsFront (add b f) log → e.term.0 ≡ f.term.0
     → IsFront (add a e) (add b f) ⊎ IsFront (add b f) (add a e)
 
-not_empty : (b : List Entry) (f : Entry) → IsFront (add b f) [] → ⊥
-not_empty b f p = let le = front-length p in omega (arith, le, length-append b (f ∷ []))
-
--- the member takes up what was sent
-may_take : (w : World) (q : ℕ) (x : Sent) (b : List Entry) (f : Entry) → w.member q ≡ new_member → In x w.sents
-    → IsFront (add b f) x.front → MayWrite w (w.member q).mine x.term None x.front
-may_take w q x b f new said p =
-    subst (λ (m : Member). MayWrite w m.mine x.term None x.front) (sym new) (record {
-      term_rises = omega arith;
-      vote_stays = λ e. inr refl;
-      log_is = inr (record {
-        sent = x;
-        said = said;
-        term_is = refl;
-        log_is = refl;
-        differs = λ front. not_empty b f (front-trans p front);
-      });
-    })
-
 pub sent-matches : {members : List ℕ} {w : World} (k : ℕ) (x : Sent) → IsReached members w
     → In x w.sents → Match (w.member k).mine.log x.front
-sent-matches {members} {w} k x reached said a b e f p r same =
-    let ms = reached.moves in
-    let q = above ms + k + 1 in
-    let start = run new_world ms in
-    let is : w ≡ start = reached.is in
-    let new : w.member q ≡ new_member =
-    ap (λ (v : World). v.member q) is ∙ same-run new_world ms q (omega arith) in
-    let may : MayWrite w (w.member q).mine x.term None x.front = may_take w q x b f new said r in
-    let there : MayWrite start (start.member q).mine x.term None x.front =
-    subst (λ (v : World). MayWrite v (v.member q).mine x.term None x.front) is may in
-    let move = Write q x.term None x.front in
-    let allowed : AreAllowed members new_world (ms ++ move ∷ []) =
-    allowed-append members new_world ms (move ∷ []) reached.allowed (there, tt) in
-    let ends : run new_world (ms ++ move ∷ []) ≡ after w move =
-    run-append new_world ms (move ∷ []) ∙ ap (λ (v : World). after v move) (sym is) in
-    let safe : IsSafe members (after w move) =
-    subst (λ (v : World). IsSafe members v) ends (safe-run members (ms ++ move ∷ []) allowed) in
-    let m = w.member q in
-    let lane = next_lane m x.term None x.front in
-    let own : IsLaneOf (after w move) k (w.member k).mine =
-    subst (λ (y : Member). In (w.member k).mine (lanes y))
-    (sym (put-other q (push m lane) w.member k (λ same. omega (arith, same)))) (inl refl) in
-    let taken : IsLaneOf (after w move) q lane =
-    subst (λ (y : Member). In lane (lanes y)) (sym (put-same q (push m lane) w.member)) (inl refl) in
-    safe.supported.logs_match k q (w.member k).mine lane own taken a b e f p r same
+sent-matches {members} {w} k x reached said =
+    shaded-sent (shaded-there members w reached) k (w.member k).mine x (inl refl) said
 
 -- ---- entries of one term at one index are the same
 

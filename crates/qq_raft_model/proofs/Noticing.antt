@@ -139,6 +139,7 @@ take-refines {members} {w} {k} {s} n st rises le =
     record {
       moves = Notice k n ∷ [];
       allowed = ((omega (arith, same, rises), omega (arith, mine, le)), tt);
+      quiet = (tt, tt);
       stands = take-stands n st rises;
       only = notice-only w k n (omega (arith, same, rises));
     }

@@ -4,20 +4,20 @@ use Rattle.std.proofs.lemmas.Bool.{and_parts, cond-true}
 use Rattle.std.proofs.lemmas.List.{length-append, length-take-le, take-append-le}
 use Rattle.std.specs.Prelude.{option_map}
 use Rattle.qq_base.specs.Fronts.{IsFront}
-use Rattle.qq_base.proofs.Fronts.{front-length, front-refl, front-shorter, front-take, front-trans}
+use Rattle.qq_base.proofs.Fronts.{front-length, front-shorter, front-take, front-trans}
 use Rattle.qq_base.proofs.Puts.{put-same}
 use Rattle.qq_base.specs.declared.ids.NodeId.{NodeId}
-use Rattle.qq_base.specs.declared.ids.QueueId.{QueueId}
 use Rattle.qq_entry.specs.declared.command.Command.{Command}
 use Rattle.qq_entry.specs.declared.command.Entry.{Entry}
 use Rattle.qq_log.specs.Stable.{Stable, stable}
 use Rattle.qq_raft_protocol.specs.Facts.{add, In, Most}
 use Rattle.qq_raft_protocol.specs.Moves.{run}
-use Rattle.qq_raft_protocol.specs.Safe.{HasVoted, IsSafe, IsSupported}
-use Rattle.qq_raft_protocol.specs.World.{Role as ModelRole, Lane, World, lanes, new_world}
+use Rattle.qq_raft_protocol.specs.Safe.{HasVoted, IsSupported}
+use Rattle.qq_raft_protocol.specs.World.{Role as ModelRole, Lane, World, lanes}
+use Rattle.qq_raft_protocol.proofs.Fewer.{supported-fewer}
 use Rattle.qq_raft_protocol.proofs.Logs.{length-add}
 use Rattle.qq_raft_protocol.proofs.Majorities.{Most-map}
-use Rattle.qq_raft_protocol.proofs.Runs.{leader-run, log-run}
+use Rattle.qq_raft_protocol.proofs.Shades.{shaded-leader, shaded-log}
 use Rattle.qq_raft_msg.specs.declared.state.Role.TheVariants.{Leader}
 use Rattle.qq_raft_model.specs.Handing.{lane_in, plain_state}
 use Rattle.qq_raft_model.specs.Leading.{add_entry, send}
@@ -27,18 +27,13 @@ use Rattle.qq_raft_model.specs.State.{Server, change, last, is_leader}
 use Rattle.qq_raft_model.proofs.Adding.{done-front, is_leader_of}
 use Rattle.qq_raft_model.proofs.Handing.{known-all}
 use Rattle.qq_raft_model.proofs.Leads.{whole}
-use Rattle.qq_raft_model.proofs.Reached.{kept-there, safe-there}
-use Rattle.qq_raft_model.specs.Group.{Event, Group, Seat, feed_by, group_after, happens, new_group}
+use Rattle.qq_raft_model.proofs.Reached.{shaded-there, safe-there}
+use Rattle.qq_raft_model.specs.Group.{Event, Group, Seat, feed_by, group_after, happens}
 use Rattle.qq_raft_model.specs.Group.Event.{Submit}
-use Rattle.qq_raft_model.specs.Promises.{AreDistinct, HasCarried, HasLater, IsLeft, IsUp, members_of}
+use Rattle.qq_raft_model.specs.Promises.{AreDistinct, HasLater, IsLeft, IsUp, members_of}
 use Rattle.qq_raft_model.proofs.Feeding.{same_some}
-use Rattle.qq_raft_model.proofs.Happening.{group-follows, happens-follows, new-tied}
-use Rattle.qq_raft_model.proofs.Tied.{HasLane, Follows, Tied, pending}
-
-pub follows-new : (queue : QueueId) (nodes : List NodeId) (events : List Event) → AreDistinct nodes
-    → Follows nodes new_world (new_group queue nodes) (group_after (new_group queue nodes) events)
-follows-new queue nodes events distinct =
-    group-follows events new_world (new_group queue nodes) distinct (new-tied queue nodes)
+use Rattle.qq_raft_model.proofs.Happening.{group-follows, happens-follows}
+use Rattle.qq_raft_model.proofs.Tied.{HasLane, Tied, pending}
 
 -- ---- leaders
 
@@ -54,11 +49,11 @@ pub one-leader : {nodes : List NodeId} (w : World) (g : Group) (events : List Ev
     → AreDistinct nodes → Tied nodes g w → IsUp g p s → IsUp (group_after g events) q t → s.role ≡ Leader
     → t.role ≡ Leader → s.term.0 ≡ t.term.0 → p ≡ q
 one-leader {nodes} w g events p q s t distinct tied up there leads other same =
-    let f : Follows nodes w g (group_after g events) = group-follows events w g distinct tied in
+    let f = group-follows events w g distinct tied in
     let first : Stands w p s = ((tied.seats p).up s up).stands in
     let second : Stands (run w f.moves) q t = ((f.tied.seats q).up t there).stands in
-    leader-run f.moves w (kept-there (members_of nodes) w tied.reached) f.allowed p q (stands-leader first leads)
-    (stands-leader second other) (same-term first second same)
+    shaded-leader f.moves w (shaded-there (members_of nodes) w tied.reached) f.allowed p q
+    (stands-leader first leads) (stands-leader second other) (same-term first second same)
 
 -- ---- what is committed
 
@@ -111,9 +106,9 @@ answered {nodes} w g k time command events p s t distinct tied up ready there le
     let e : Entry = record { term = s.term; time = time; command = command } in
     let h = happens (Submit k time command) g in
     let i = group_after h events in
-    let first : Follows nodes w g h = happens-follows (Submit k time command) distinct tied in
+    let first = happens-follows (Submit k time command) distinct tied in
     let v = run w first.moves in
-    let second : Follows nodes v h i = group-follows events v h distinct first.tied in
+    let second = group-follows events v h distinct first.tied in
     let z = run v second.moves in
     let u : Server = record (submit time command s) { out = [] } in
     let added : IsUp h k u = fed-up g k (Input.Submit time command) s up in
@@ -127,7 +122,7 @@ answered {nodes} w g k time command events p s t distinct tied up ready there le
     ap (λ (x : Server). x.term.0) is ∙ added-term e s ∙ sym same in
     let log : u.log ≡ add s.log e = ap (λ (x : Server). x.log) is ∙ added-log e s in
     let extends : IsFront (v.member k).mine.log (z.member p).mine.log =
-    log-run second.moves v (kept-there (members_of nodes) v first.tied.reached) second.allowed k p
+    shaded-log second.moves v (shaded-there (members_of nodes) v first.tied.reached) second.allowed k p
     (stands-leader before role) (stands-leader behind leads) (same-term before behind term) in
     let front : IsFront (add s.log e) t.log =
     subst (λ (x : List Entry). IsFront x t.log) (ap (λ (l : Lane). l.log) before.lane ∙ log)
@@ -141,7 +136,7 @@ answered {nodes} w g k time command events p s t distinct tied up ready there le
 -- ---- what the disks support
 
 -- what a crash may leave is a lane of the member
-left-lane : {nodes : List NodeId} {w : World} {g : Group} (k : ℕ) (l : Lane) → Tied nodes g w → IsLeft g k l
+pub left-lane : {nodes : List NodeId} {w : World} {g : Group} (k : ℕ) (l : Lane) → Tied nodes g w → IsLeft g k l
     → In l (lanes (w.member k))
 left-lane {w = w} {g = g} k l tied x =
     let seat = g.seat k in
@@ -179,41 +174,11 @@ leaves-lane w g k upto tied late handed =
       },
     )
 
-pub supported : {nodes : List NodeId} (w : World) (g : Group) → Tied nodes g w
-    → IsSupported (members_of nodes) (IsLeft g) g.audit
-supported {nodes} w g tied =
-    let safe : IsSafe (members_of nodes) w = safe-there (members_of nodes) w tied.reached in
-    record {
-      logs_match = λ p q l m here there a b e f first second same.
-          safe.supported.logs_match p q l m (left-lane p l tied here) (left-lane q m tied there) a b e f first second
-          same;
-      carried = λ x front a e is.
-          let c = safe.supported.carried x (front-trans front tied.audit) a e is in
-          record {
-            term = c.term;
-            own = c.own;
-            majority = Most-map (λ q has. record {
-              log = λ l here. has.log l (left-lane q l tied here);
-              reaches = λ l here. has.reaches l (left-lane q l tied here);
-            }) c.majority;
-            later = λ q l here b f inside lt. c.later q l (left-lane q l tied here) b f inside lt;
-          };
-      elected = λ q l here e inside.
-          let c = safe.supported.elected q l (left-lane q l tied here) e inside in
-          record {
-            node = c.node;
-            own = λ m there. c.own m (left-lane c.node m tied there);
-            majority = Most-map (λ p voted m there. voted m (left-lane p m tied there)) c.majority;
-          };
-      terms_rise = λ q l here a e front. safe.supported.terms_rise q l (left-lane q l tied here) a e front;
-    }
-
-pub supported-new : (queue : QueueId) (nodes : List NodeId) (events : List Event) → AreDistinct nodes
-    → IsSupported (members_of nodes) (IsLeft (group_after (new_group queue nodes) events))
-    (group_after (new_group queue nodes) events).audit
-supported-new queue nodes events distinct =
-    let f = follows-new queue nodes events distinct in
-    supported (run new_world f.moves) (group_after (new_group queue nodes) events) f.tied
+pub supported : {nodes : List NodeId} {audit : List Entry} (w : World) (g : Group) → Tied nodes g w
+    → IsFront audit w.audit → IsSupported (members_of nodes) (IsLeft g) audit
+supported {nodes} w g tied front =
+    supported-fewer (λ q l here. left-lane q l tied here) front
+    (safe-there (members_of nodes) w tied.reached).supported
 
 -- ---- the same in words
 
@@ -221,13 +186,15 @@ supported-new queue nodes events distinct =
 pub majority-left : {members : List ℕ} {L : ℕ → Lane → Type 0} {audit : List Entry} (lane : ℕ → Lane)
     (a : List Entry) (e : Entry) → IsSupported members L audit → ((q : ℕ) → L q (lane q))
     → IsFront (add a e) audit
-    → (c : ℕ) × (e.term.0 ≤ c) × Most members (λ q. HasCarried (add a e) c (lane q)) ×
-    ((q : ℕ) → HasLater c (lane q).log → IsFront (add a e) (lane q).log)
+    → (b : List Entry) × (f : Entry) × IsFront (add a e) (add b f) ×
+    Most members (λ q. IsFront (add b f) (lane q).log) ×
+    ((q : ℕ) → HasLater f.term.0 (lane q).log → IsFront (add b f) (lane q).log)
 majority-left lane a e s each front =
     let c = s.carried (add a e) front a e refl in (
-      c.term,
-      c.own a e (front-refl (add a e)),
-      Most-map (λ q has. has.reaches (lane q) (each q)) c.majority,
+      c.before,
+      c.entry,
+      c.front,
+      Most-map (λ q has. has (lane q) (each q)) c.majority,
       λ q x. c.later q (lane q) (each q) x.0 x.1 x.3 x.2,
     )
 

@@ -11,7 +11,7 @@ use Rattle.qq_raft_protocol.specs.Moves.Move.{Write, Follow}
 use Rattle.qq_raft_protocol.specs.World.{Lane, World}
 use Rattle.qq_raft_msg.specs.declared.rpc.Rpc.{Rpc}
 use Rattle.qq_raft_model.specs.State.{Server, last, change, follow, enter, say}
-use Rattle.qq_raft_model.specs.Refines.{number, IsSaid, Stands, OnlyMoves, Refines}
+use Rattle.qq_raft_model.specs.Refines.{number, AreQuiet, IsSaid, Stands, OnlyMoves, Refines}
 use Rattle.qq_raft_model.proofs.Later.{only-refl, only-trans}
 use Rattle.qq_raft_model.proofs.Moving.{say-stands, write-only, write-stands, follow-only, follow-stands}
 
@@ -25,8 +25,12 @@ allowed-append members w [] ys first second = second
 allowed-append members w (x ∷ xs) ys first second =
     (first.0, allowed-append members (after w x) xs ys first.1 second)
 
+pub quiet-append : (xs ys : List Move) → AreQuiet xs → AreQuiet ys → AreQuiet (xs ++ ys)
+quiet-append [] ys first second = second
+quiet-append (x ∷ xs) ys first second = (first.0, quiet-append xs ys first.1 second)
+
 pub refines-refl : {members : List ℕ} {w : World} {k : ℕ} {s : Server} → Stands w k s → Refines members w k s
-refines-refl {w = w} {k = k} st = record { moves = []; allowed = tt; stands = st; only = only-refl k w }
+refines-refl {w = w} {k = k} st = record { moves = []; allowed = tt; quiet = tt; stands = st; only = only-refl k w }
 
 -- one thing after another
 pub refines-then : {members : List ℕ} {w : World} {k : ℕ} {s t : Server} → Refines members w k s
@@ -38,6 +42,7 @@ refines-then {members = members} {w = w} {k = k} {t = t} first next =
     record {
       moves = first.moves ++ second.moves;
       allowed = allowed-append members w first.moves second.moves first.allowed second.allowed;
+      quiet = quiet-append first.moves second.moves first.quiet second.quiet;
       stands = subst (λ x. Stands x k t) (sym same) second.stands;
       only = subst (OnlyMoves k w) (sym same) (only-trans first.only second.only);
     }
@@ -63,6 +68,7 @@ refines-change {members} {w} {k} {s} leader term vote st le stays =
     record {
       moves = Write k term.0 (option_map number vote) log ∷ [];
       allowed = (may, tt);
+      quiet = (tt, tt);
       stands = write-stands leader term vote (last s) [] st;
       only = write-only w k term.0 (option_map number vote) log;
     }
@@ -83,6 +89,7 @@ refines-follow {w = w} {k = k} leader st =
     record {
       moves = Follow k ∷ [];
       allowed = (tt, tt);
+      quiet = (tt, tt);
       stands = follow-stands leader st;
       only = follow-only w k;
     }

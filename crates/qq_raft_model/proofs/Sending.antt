@@ -15,7 +15,7 @@ use Rattle.qq_raft_model.specs.declared.limits.TheConstants.{BATCH_BYTES, BATCH_
 use Rattle.qq_raft_model.specs.declared.peer.Peer.{Peer}
 use Rattle.qq_raft_model.specs.State.{Server, last}
 use Rattle.qq_raft_model.specs.Leading.{weight, fit, batch, batch_from, append_to, pass, send}
-use Rattle.qq_raft_model.specs.Refines.{role_of, IsOnItsWay, HasMatched, Stands, OnlyMoves, Refines}
+use Rattle.qq_raft_model.specs.Refines.{AreQuiet, role_of, IsOnItsWay, HasMatched, Stands, OnlyMoves, Refines}
 use Rattle.qq_raft_model.proofs.Later.{only-refl, only-trans, way-later, stands-later}
 
 pub leader_asks : Leader ≡ Candidate → ⊥
@@ -106,6 +106,7 @@ sent-way {w = w} {k = k} {s = s} p st done le =
 pub record HasSentAll (members : List ℕ) (w : World) (k : ℕ) (s : Server) (ps : List Peer) : Type 0 where
   pub moves : List Move
   pub allowed : AreAllowed members w moves
+  pub quiet : AreQuiet moves
   pub stands : Stands (run w moves) k s
   pub only : OnlyMoves k w (run w moves)
   pub way : (p : Peer) → In p ps → IsOnItsWay (run w moves) (append_to s p)
@@ -117,6 +118,7 @@ send-all {members} {k} {s} [] w st leads done each =
     record {
       moves = [];
       allowed = tt;
+      quiet = tt;
       stands = st;
       only = only-refl k w;
       way = λ p here. absurd here;
@@ -134,6 +136,7 @@ send-all {members} {k} {s} (p ∷ ps) w st leads done each =
     record {
       moves = Send k front (w.done k) ∷ rest.moves;
       allowed = ((role, own, front-refl (w.done k)), rest.allowed);
+      quiet = (tt, rest.quiet);
       stands = rest.stands;
       only = only-trans step rest.only;
       way = λ x here. elim here [
@@ -167,6 +170,7 @@ send-refines {members} {w} {k} {s} picks st leads done =
     record {
       moves = sent.moves;
       allowed = sent.allowed;
+      quiet = sent.quiet;
       stands = record {
         node = sent.stands.node;
         lane = sent.stands.lane;

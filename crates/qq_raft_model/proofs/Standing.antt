@@ -118,6 +118,7 @@ stand-refines {w = w} {k = k} {s = s} st =
     record {
       moves = Stand k ∷ [];
       allowed = (tt, tt);
+      quiet = (tt, tt);
       stands =
           say_all-stands (map (ask c) c.peers) (become-stands st) (λ r here.
           let m = In-map (ask c) r c.peers here in

@@ -8,9 +8,9 @@ use Rattle.qq_raft_msg.specs.declared.rpc.InstalledMsg.{InstalledMsg}
 use Rattle.qq_raft_msg.specs.declared.rpc.Rpc.{Rpc}
 use Rattle.qq_raft_msg.specs.declared.rpc.Rpc.TheVariants.{Vote, Voted, Append, Appended, Install, Installed}
 use Rattle.qq_raft_model.specs.State.{Server, is_leader, enter}
-use Rattle.qq_raft_model.specs.Server.{Input, installed, refuse, accept, receive, step}
+use Rattle.qq_raft_model.specs.Server.{Input, installed, refuse, accept, receive}
 use Rattle.qq_raft_model.specs.Server.Input.{Tick, Receive, Submit, Notice}
-use Rattle.qq_raft_model.specs.Refines.{IsOnItsWay, IsGroup, IsReached, MayCome, Refines, Stands}
+use Rattle.qq_raft_model.specs.Refines.{IsOnItsWay, IsGroup, IsReached, MayCome, Refines, RefinesBy, Stands}
 use Rattle.qq_raft_model.proofs.Adding.{leader_tick-refines, submit-refines}
 use Rattle.qq_raft_model.proofs.Appends.{append-refines}
 use Rattle.qq_raft_model.proofs.Counting.{appended-refines}
@@ -47,7 +47,7 @@ receive-refines (Installed m) reached group st to way = installed-refines m st
 
 pub step-refines : {members : List ℕ} {w : World} {k : ℕ} {s : Server} (input : Input)
     → IsReached members w → IsGroup members k s.peers → Stands w k s → MayCome w k s input
-    → Refines members w k (step s input)
+    → RefinesBy members w k s input
 step-refines {s = s} Tick reached group st may = elim (cases_Bool (is_leader s.role)) [
   | inl leads ↦ leader_tick-refines reached st leads
   | inr other ↦ tick-refines st other

@@ -18,6 +18,7 @@ use Rattle.qq_raft_model.specs.Handing.{plain_state, state_of}
 use Rattle.qq_raft_model.specs.Refines.{number, IsGroup, IsOnItsWay, IsReached, Stands}
 use Rattle.qq_raft_model.specs.State.{Server}
 use Rattle.qq_raft_model.proofs.Refining.{run-append, allowed-append}
+use Rattle.qq_raft_model.proofs.Sources.{AreSourced, sourced-append, sourced-weaker}
 use Rattle.qq_raft_model.specs.Group.{Group, Seat}
 use Rattle.qq_raft_model.specs.Promises.{members_of}
 
@@ -59,25 +60,38 @@ pub record Tied (nodes : List NodeId) (g : Group) (w : World) : Type 0 where
   pub bag : (r : Rpc) → In r g.bag → IsOnItsWay w r
   pub audit : IsFront g.audit w.audit
 
--- moves lead to a world of the next group
-pub record Follows (nodes : List NodeId) (w : World) (g h : Group) : Type 0 where
+-- moves lead to a world of the next group, and add no entries but leaders' first ones and those that are so
+pub record Follows (nodes : List NodeId) (S : List Entry → Entry → Type 0) (w : World) (g h : Group) : Type 0 where
   pub moves : List Move
   pub allowed : AreAllowed (members_of nodes) w moves
+  pub sourced : AreSourced S w moves
   pub tied : Tied nodes h (run w moves)
   pub audit : IsFront g.audit h.audit
 
-pub follows-refl : {nodes : List NodeId} {w : World} {g : Group} → Tied nodes g w → Follows nodes w g g
-follows-refl {g = g} tied = record { moves = []; allowed = tt; tied = tied; audit = front-refl g.audit }
+pub follows-refl : {nodes : List NodeId} {S : List Entry → Entry → Type 0} {w : World} {g : Group} → Tied nodes g w
+    → Follows nodes S w g g
+follows-refl {g = g} tied = record { moves = []; allowed = tt; sourced = tt; tied = tied; audit = front-refl g.audit }
 
-pub follows-then : {nodes : List NodeId} {w : World} {g h i : Group} → Follows nodes w g h
-    → ((v : World) → Tied nodes h v → Follows nodes v h i) → Follows nodes w g i
-follows-then {nodes = nodes} {w = w} {g = g} {h = h} {i = i} first next =
+pub follows-weaker : {nodes : List NodeId} {S R : List Entry → Entry → Type 0} {w : World} {g h : Group}
+    → ((a : List Entry) (e : Entry) → S a e → R a e) → Follows nodes S w g h → Follows nodes R w g h
+follows-weaker {S = S} {R = R} {w = w} f x = record {
+  moves = x.moves;
+  allowed = x.allowed;
+  sourced = sourced-weaker S R w x.moves f x.sourced;
+  tied = x.tied;
+  audit = x.audit;
+}
+
+pub follows-then : {nodes : List NodeId} {S : List Entry → Entry → Type 0} {w : World} {g h i : Group}
+    → Follows nodes S w g h → ((v : World) → Tied nodes h v → Follows nodes S v h i) → Follows nodes S w g i
+follows-then {nodes = nodes} {S = S} {w = w} {g = g} {h = h} {i = i} first next =
     let v = run w first.moves in
-    let second : Follows nodes v h i = next v first.tied in
+    let second : Follows nodes S v h i = next v first.tied in
     let same = run-append w first.moves second.moves in
     record {
       moves = first.moves ++ second.moves;
       allowed = allowed-append (members_of nodes) w first.moves second.moves first.allowed second.allowed;
+      sourced = sourced-append S w first.moves second.moves first.sourced second.sourced;
       tied = subst (Tied nodes i) (sym same) second.tied;
       audit = front-trans first.audit second.audit;
     }

@@ -131,6 +131,7 @@ give-answers {members} {w} {k} {s} m st x le may =
     record {
       moves = Give k a.item ∷ [];
       allowed = (may_give m y there given, tt);
+      quiet = (tt, tt);
       stands =
           say-stands (voted m.from true (give_vote m s)) (vote-stands a.item there) (record {
             from = there.node;

@@ -1,14 +1,17 @@
 -- What ties a server to the protocol: when it stands for a member of the protocol's world, and when what it does is a
 -- list of the protocol's moves.
-use Rattle.std.specs.Prelude.{◌≡◌, ◌⊎◌, ◌≤◌, ◌<◌, ◌+◌, ℕ, Bool, true, List, length, ◌++◌, option_map}
+use Rattle.std.specs.Prelude.{◌≡◌, ◌⊎◌, ◌≤◌, ◌<◌, ◌+◌, ℕ, Bool, true, List, [], ◌∷◌, length, ◌++◌, option_map}
 use Rattle.std.specs.List.{count_by}
 use Rattle.qq_base.specs.declared.ids.NodeId.{NodeId}
 use Rattle.qq_base.specs.Fronts.{IsFront}
+use Rattle.qq_entry.specs.declared.command.Command.{Command}
 use Rattle.qq_entry.specs.declared.command.Entry.{Entry}
 use Rattle.qq_log.specs.declared.lane.Lane.{Lane as DiskLane}
 use Rattle.qq_raft_protocol.specs.Facts.{add, In, Elects, tally}
 use Rattle.qq_raft_protocol.specs.Moves.{Move, AreAllowed, run, last_term}
-use Rattle.qq_raft_protocol.specs.World.{Role as ModelRole, Lane, Ask, Grant, Ack, Sent, World, lanes, new_world}
+use Rattle.qq_raft_protocol.specs.Moves.Move.{Append as Adding}
+use Rattle.qq_raft_protocol.specs.Starts.{IsStart}
+use Rattle.qq_raft_protocol.specs.World.{Role as ModelRole, Lane, Member, Ask, Grant, Ack, Sent, World, lanes, start_world}
 use Rattle.qq_raft_msg.specs.Rpc.{envelope}
 use Rattle.qq_raft_msg.specs.declared.rpc.AppendMsg.{AppendMsg}
 use Rattle.qq_raft_msg.specs.declared.rpc.AppendedMsg.{AppendedMsg}
@@ -18,8 +21,8 @@ use Rattle.qq_raft_msg.specs.declared.rpc.VoteMsg.{VoteMsg}
 use Rattle.qq_raft_msg.specs.declared.rpc.VotedMsg.{VotedMsg}
 use Rattle.qq_raft_msg.specs.declared.state.Role.{Role}
 use Rattle.qq_raft_msg.specs.declared.state.Role.TheVariants.{Leader, Candidate, Follower}
-use Rattle.qq_raft_model.specs.Leading.{one_if}
-use Rattle.qq_raft_model.specs.Server.{Input}
+use Rattle.qq_raft_model.specs.Leading.{noop, one_if}
+use Rattle.qq_raft_model.specs.Server.{Input, is_ready, step, submit}
 use Rattle.qq_raft_model.specs.Server.Input.{Tick, Receive, Submit, Notice}
 use Rattle.qq_raft_model.specs.State.{Server, last}
 use Rattle.qq_raft_model.specs.declared.peer.Peer.{Peer}
@@ -195,10 +198,25 @@ pub record OnlyRestarts (k : ℕ) (w v : World) : Type 0 where
 
 -- ---- when what a server does is the protocol's
 
--- moves that are allowed lead to a world in which it stands for the member, and nothing else has changed
+-- a leader's first entry of a term
+abbrev pub IsNoop : Entry → Type 0
+IsNoop e = e ≡ noop e.term
+
+-- these moves add no other entries
+abbrev pub IsQuiet : Move → Type 0
+IsQuiet (Adding k e) = IsNoop e
+IsQuiet _ = Unit {0}
+
+abbrev pub AreQuiet : List Move → Type 0
+AreQuiet [] = Unit {0}
+AreQuiet (m ∷ ms) = IsQuiet m × AreQuiet ms
+
+-- Moves that are allowed lead to a world in which it stands for the member, and nothing else has changed. No client's
+-- command is added.
 pub record Refines (members : List ℕ) (w : World) (k : ℕ) (s : Server) : Type 0 where
   pub moves : List Move
   pub allowed : AreAllowed members w moves
+  pub quiet : AreQuiet moves
   pub stands : Stands (run w moves) k s
   pub only : OnlyMoves k w (run w moves)
 
@@ -210,8 +228,30 @@ MayCome w k s (Receive rpc) = ((envelope rpc).to.0 ≡ k) × IsOnItsWay w rpc
 MayCome w k s (Submit time command) = Unit {0}
 MayCome w k s (Notice op) = op ≤ s.op
 
--- a world that allowed moves lead to
-pub record IsReached (members : List ℕ) (w : World) : Type 0 where
+-- an entry is added, and what else the moves do is as above
+pub record Adds (members : List ℕ) (w : World) (k : ℕ) (e : Entry) (s : Server) : Type 0 where
   pub moves : List Move
-  pub allowed : AreAllowed members new_world moves
-  pub is : w ≡ run new_world moves
+  pub allowed : AreAllowed members w (Adding k e ∷ moves)
+  pub quiet : AreQuiet moves
+  pub stands : Stands (run w (Adding k e ∷ moves)) k s
+  pub only : OnlyMoves k w (run w (Adding k e ∷ moves))
+
+-- the entry of a client's command
+abbrev pub entry_of : ℕ → Command → Server → Entry
+entry_of time command s = record { term = s.term; time = time; command = command }
+
+-- what a step is: only a ready leader that is given a command adds it
+abbrev pub RefinesBy : List ℕ → World → ℕ → Server → Input → Type 0
+RefinesBy members w k s (Submit time command) =
+    Refines members w k (submit time command s)
+    ⊎ ((is_ready s ≡ true) × Adds members w k (entry_of time command s) (submit time command s))
+RefinesBy members w k s input = Refines members w k (step s input)
+
+-- a world that allowed moves lead to, from disks that support an audit
+pub record IsReached (members : List ℕ) (w : World) : Type 0 where
+  pub member : ℕ → Member
+  pub audit : List Entry
+  pub start : IsStart members member audit
+  pub moves : List Move
+  pub allowed : AreAllowed members (start_world member audit) moves
+  pub is : w ≡ run (start_world member audit) moves

@@ -17,8 +17,9 @@ ghost use Rattle.qq_raft_msg.specs.declared.rpc.VoteMsg.{VoteMsg};
 ghost use Rattle.qq_raft_msg.specs.declared.rpc.VotedMsg.{VotedMsg};
 ghost use Rattle.qq_raft_msg.specs.declared.state.Role.TheVariants.{Leader};
 ghost use Rattle.qq_raft_model.specs.Handing.{Continues, lane_in, plain_state, state_of};
-ghost use Rattle.qq_raft_model.specs.Refines.{IsOnItsWay, IsReached, IsGroup, IsWithinLog, AcksItself, MayCome, Stands, OnlyMoves, Refines, disk_lane, lane_of};
-ghost use Rattle.qq_raft_model.specs.Server.{Input, receive, tick, submit, notice, step, restart};
+ghost use Rattle.qq_raft_model.specs.Refines.{IsOnItsWay, IsReached, IsGroup, IsWithinLog, AcksItself, MayCome, Stands, OnlyMoves, Refines, RefinesBy, disk_lane, lane_of};
+ghost use Rattle.qq_raft_model.specs.Server.{Input, receive, tick, notice, step, restart};
+ghost use Rattle.qq_raft_model.specs.Server.Input.{Submit};
 ghost use Rattle.qq_raft_model.specs.State.{Server, is_leader, last};
 
 /// A law: what a server does with a request for its vote is moves of the protocol, which allows them.
@@ -56,7 +57,7 @@ pub fn a_leader_sends_and_adds_by_moves()
         Stands w k s → is_leader s.role ≡ true → Refines members w k (tick s) }
     ensures submit { (members : List ℕ) (w : World) (k : ℕ) (s : Server) (time : ℕ)
         (command : Command) → IsReached members w → Stands w k s →
-        Refines members w k (submit time command s) }
+        RefinesBy members w k s (Submit time command) }
 {}
 
 /// A law: a server of a group takes an acknowledgement by moves of the protocol. A leader sends what is left
@@ -87,11 +88,12 @@ pub fn a_leader_keeps_to_its_log()
 {}
 
 /// A law: whatever comes to a server of a group, what it does is moves of the protocol, which allows them, in
-/// each world that the protocol can come to.
+/// each world that the protocol can come to. The moves add no entry but a new leader's first one, and the
+/// command that a ready leader was given.
 pub fn each_step_is_moves()
     ensures { (members : List ℕ) (w : World) (k : ℕ) (s : Server) (input : Input) →
         IsReached members w → IsGroup members k s.peers → Stands w k s → MayCome w k s input →
-        Refines members w k (step s input) }
+        RefinesBy members w k s input }
 {}
 
 /// A law: a step keeps the node and its peers, its term doesn't fall, and it hands out one change at most. So

@@ -19,7 +19,8 @@ pub use group_examples::{
 };
 pub use group_laws::{
     a_log_was_handed_the_changes_of_its_server, a_term_does_not_fall, a_term_has_one_leader,
-    an_answered_command_stays, the_disks_support_the_audit, what_a_group_committed_stays,
+    an_answered_command_stays, each_row_was_submitted, groups_are_opened,
+    the_disks_support_the_audit, what_a_group_committed_stays,
 };
 pub use laws::{
     a_leader_keeps_to_its_log, a_leader_sends_and_adds_by_moves,

@@ -1,7 +1,7 @@
 -- What stands in a list that is longer, that was filtered or mapped.
-use Rattle.std.proofs.Common.{◌≡◌, ◌⊎◌, Bool, true, false, cond, List, [], ◌∷◌, ◌++◌, map, refl, sym, ap, subst, ◌∙◌, inl, inr}
+use Rattle.std.proofs.Common.{◌≡◌, ◌⊎◌, ℕ, Bool, true, false, cond, List, [], ◌∷◌, ◌++◌, map, refl, sym, ap, subst, ◌∙◌, inl, inr}
 use Rattle.std.specs.Prelude.{filter}
-use Rattle.std.proofs.lemmas.Bool.{false≢true}
+use Rattle.std.proofs.lemmas.Bool.{false≢true, cases_eq}
 use Rattle.qq_base.specs.Fronts.{IsFront}
 use Rattle.qq_raft_protocol.specs.Facts.{In}
 
@@ -18,6 +18,22 @@ In-append x [] ys here = inr here
 In-append x (y ∷ xs) ys (inl same) = inl (inl same)
 In-append x (y ∷ xs) ys (inr later) =
     elim (In-append x xs ys later) [ inl first ↦ inl (inr first) | inr second ↦ inr second ]
+
+pub In-right : {A : Type 0} (x : A) (xs ys : List A) → In x ys → In x (xs ++ ys)
+In-right x [] ys here = here
+In-right x (y ∷ xs) ys here = inr (In-right x xs ys here)
+
+-- whether a number stands in a list
+pub In-cases : (q : ℕ) (ms : List ℕ) → In q ms ⊎ (In q ms → ⊥)
+In-cases q [] = inr (λ here. here)
+In-cases q (m ∷ ms) =
+    elim (cases_eq q m) [
+      | inl same ↦ inl (inl same)
+      | inr other ↦ elim (In-cases q ms) [
+        | inl here ↦ inl (inr here)
+        | inr away ↦ inr (λ here. elim here [ inl same ↦ other same | inr later ↦ away later ])
+      ]
+    ]
 
 -- ---- what a filter leaves
 
@@ -64,3 +80,8 @@ In-map f y (x ∷ xs) (inl same) = record { item = x; here = inl refl; is = same
 In-map f y (x ∷ xs) (inr later) =
     let m = In-map f y xs later in
     record { item = m.item; here = inr m.here; is = m.is }
+
+pub map-In : {A B : Type 0} (f : A → B) (x : A) (xs : List A) → In x xs → In (f x) (map f xs)
+map-In f x [] here = absurd here
+map-In f x (y ∷ xs) (inl same) = inl (ap f same)
+map-In f x (y ∷ xs) (inr later) = inr (map-In f x xs later)

@@ -5,6 +5,7 @@ use Rattle.qq_raft_protocol.specs.Facts.{In, tally, Most}
 
 pub record Shared (members : List ℕ) (P Q : ℕ → Type 0) : Type 0 where
   pub who : ℕ
+  pub here : In who members
   pub first : P who
   pub second : Q who
 
@@ -34,7 +35,12 @@ both (m ∷ ms) p r lt = both_by m ms p r (p m) (r m) refl refl (both ms p r) (o
 pub shared : {members : List ℕ} {P Q : ℕ → Type 0} → Most members P → Most members Q → Shared members P Q
 shared {members} {P} {Q} a b =
     let x = both members a.counts b.counts (omega (arith, a.majority, b.majority)) in
-    record { who = x.who; first = a.each x.who x.here x.first; second = b.each x.who x.here x.second }
+    record {
+      who = x.who;
+      here = x.here;
+      first = a.each x.who x.here x.first;
+      second = b.each x.who x.here x.second;
+    }
 
 pub Most-map : {members : List ℕ} {P Q : ℕ → Type 0} → ((q : ℕ) → P q → Q q) → Most members P → Most members Q
 Most-map f a =

@@ -6,7 +6,7 @@ use Rattle.qq_entry.specs.declared.command.Entry.{Entry}
 use Rattle.qq_raft_protocol.specs.World.{Lane, World}
 use Rattle.qq_raft_protocol.specs.World.Role.{Leader}
 use Rattle.qq_raft_protocol.specs.Facts.{add, In, Within, Point, Cause, Stored}
-use Rattle.qq_raft_protocol.specs.Safe.{IsLaneOf, Keeps, IsCarried, IsElected, IsSafe}
+use Rattle.qq_raft_protocol.specs.Safe.{IsLaneOf, IsCarried, IsElected, IsSafe}
 use Rattle.qq_raft_protocol.proofs.Kept.{Kept, leader_of, elects_lanes, not_empty}
 use Rattle.qq_raft_protocol.proofs.Majorities.{Most-map}
 use Rattle.qq_raft_protocol.proofs.Settles.{sure}
@@ -37,40 +37,29 @@ carried_each {w = w} k c q s l here =
     sure c.committed
     ((kept.each l here (omega (arith, durable, noticed))).entries c.before c.entry c.point (sym x.term) x.reaches)
 
-carried_keeps : {members : List ℕ} {w : World} {t : ℕ} {x : List Entry} (k : Kept members w)
-    (c : Cause members w t x) (q : ℕ) → Stored w c.before c.entry q → Keeps (IsLaneOf w) x c.entry.term.0 q
-carried_keeps k c q s = record {
-  log = λ l here. front-trans c.front (carried_each k c q s l here);
-  reaches = λ l here. (c.before, c.entry, omega arith, c.front, carried_each k c q s l here);
-}
-
 carried_later : {members : List ℕ} {w : World} {t : ℕ} {x : List Entry} (k : Kept members w)
     (c : Cause members w t x) (q : ℕ) (l : Lane) → IsLaneOf w q l → (a : List Entry) (e : Entry)
-    → IsFront (add a e) l.log → c.entry.term.0 < e.term.0 → IsFront x l.log
+    → IsFront (add a e) l.log → c.entry.term.0 < e.term.0 → IsFront (add c.before c.entry) l.log
 carried_later {members} {w} k c q l here a e front lt =
     let point : Point w a e = k.good q l here a e front in
     let led = leader_of a e k point in
     let inside : IsFront (add c.before c.entry) (w.hist e.term.0) = sure c.committed
     (k.safe e.term.0 led.node led.is c.before c.entry c.point lt) in
     elim (front-compare inside point) [
-      | inl shorter ↦ front-trans c.front (front-trans shorter front)
+      | inl shorter ↦ front-trans shorter front
       | inr longer ↦
           let le : e.term.0 ≤ c.entry.term.0 = k.hist_within c.entry.term.0 e
           (In-front e c.point (In-front e longer (In-add a e))) in
           absurd (omega (arith, lt, le))
     ]
 
-carried_own : {members : List ℕ} {w : World} {t : ℕ} {x : List Entry} (k : Kept members w)
-    (c : Cause members w t x) (a : List Entry) (e : Entry) → IsFront (add a e) x → e.term.0 ≤ c.entry.term.0
-carried_own k c a e front =
-    k.hist_within c.entry.term.0 e (In-front e c.point (In-front e c.front (In-front e front (In-add a e))))
-
 carried_by : {members : List ℕ} {w : World} {t : ℕ} {x : List Entry} → Kept members w → Cause members w t x
     → IsCarried members (IsLaneOf w) x
 carried_by k c = record {
-  term = c.entry.term.0;
-  own = carried_own k c;
-  majority = Most-map (λ q s. carried_keeps k c q s) c.committed;
+  before = c.before;
+  entry = c.entry;
+  front = c.front;
+  majority = Most-map (λ q s l here. carried_each k c q s l here) c.committed;
   later = carried_later k c;
 }
 

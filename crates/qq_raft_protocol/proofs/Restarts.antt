@@ -5,7 +5,7 @@ use Rattle.std.proofs.lemmas.Bool.{cases_eq, eq-eqb, ne_eqb, leb-true, le-leb}
 use Rattle.qq_base.specs.Fronts.{IsFront, put}
 use Rattle.qq_base.proofs.Fronts.{front-refl, front-nil}
 use Rattle.qq_base.proofs.Puts.{put-each, put-same, put-other}
-use Rattle.qq_raft_protocol.specs.World.{Lane, Member, Ask, Grant, Ack, World, lanes}
+use Rattle.qq_raft_protocol.specs.World.{Lane, Member, Ask, Grant, Ack, World, lanes, opened}
 use Rattle.qq_raft_protocol.specs.World.Role.{Follower, Candidate, Leader}
 use Rattle.qq_raft_protocol.specs.Facts.{In, Within, Good}
 use Rattle.qq_raft_protocol.specs.Moves.{stays, after, Allowed}
@@ -124,9 +124,6 @@ stays_durable : (i noticed from op : ℕ) → stays i noticed from op ≡ true �
 stays_durable i noticed from op e same =
     leb-true op noticed (sym (rw (eq-eqb from i same) refl) ∙ e)
 
-abbrev restarted : Lane → Member
-restarted lane = record { mine = lane; older = []; noticed = lane.op }
-
 -- the one lane that is left
 alone : (P : Lane → Type 0) (lane : Lane) → P lane → (l : Lane) → In l (lane ∷ []) → P l
 alone P lane own l here = elim here [ inl same ↦ subst P (sym same) own | inr before ↦ absurd before ]
@@ -135,7 +132,7 @@ pub kept-restart : {members : List ℕ} {w : World} (i : ℕ) (lane : Lane) → 
     → Allowed members w (Restart i lane) → Kept members (after w (Restart i lane))
 kept-restart {members} {w} i lane k may =
     let m = w.member i in
-    let n = restarted lane in
+    let n = opened lane in
     let v = after w (Restart i lane) in
     let durable : m.noticed ≤ lane.op = k.noticed i lane may in
     let noticed : (q : ℕ) → (w.member q).noticed ≤ (v.member q).noticed =

@@ -8,20 +8,15 @@ use Rattle.qq_raft_protocol.specs.Facts.{add, In, Within, Most, Elects}
 
 -- ---- what the members' disks support, whatever lanes a crash may leave of each member
 
--- each lane of a member has these entries, and then one of this term or a later one
-pub record Keeps (L : ℕ → Lane → Type 0) (x : List Entry) (c q : ℕ) : Type 0 where
-  pub log : (l : Lane) → L q l → IsFront x l.log
-  pub reaches : (l : Lane) → L q l → (a : List Entry) × (e : Entry) × (c ≤ e.term.0) × IsFront x (add a e) ×
-      IsFront (add a e) l.log
-
--- Entries of the audit are on a majority of disks, whatever crashes, and in every later leader's log: there is a
--- term that carries them.
+-- Entries of the audit are on a majority of disks, whatever crashes, and in every later leader's log. A list that they
+-- begin carries them: the majority has it, and so has each log with an entry of a later term than its last one.
 pub record IsCarried (members : List ℕ) (L : ℕ → Lane → Type 0) (x : List Entry) : Type 0 where
-  pub term : ℕ
-  pub own : (a : List Entry) (e : Entry) → IsFront (add a e) x → e.term.0 ≤ term
-  pub majority : Most members (Keeps L x term)
+  pub before : List Entry
+  pub entry : Entry
+  pub front : IsFront x (add before entry)
+  pub majority : Most members (λ q. (l : Lane) → L q l → IsFront (add before entry) l.log)
   pub later : (q : ℕ) (l : Lane) → L q l → (a : List Entry) (e : Entry) → IsFront (add a e) l.log
-      → term < e.term.0 → IsFront x l.log
+      → entry.term.0 < e.term.0 → IsFront (add before entry) l.log
 
 -- a member's lane is past a term, or has given its vote in it to this node
 abbrev pub HasVoted : ℕ → ℕ → Lane → Type 0

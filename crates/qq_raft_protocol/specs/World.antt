@@ -79,18 +79,26 @@ no_lane = record { op = 0; term = 0; vote = None; log = [] }
 abbrev pub new_member : Member
 new_member = record { mine = no_lane; older = []; noticed = 0 }
 
--- new disks
-abbrev pub new_world : World
-new_world =
+-- a member with this lane, which is durable
+abbrev pub opened : Lane → Member
+opened lane = record { mine = lane; older = []; noticed = lane.op }
+
+-- a group over these disks, which has committed this audit: all follow, and nothing was said
+abbrev pub start_world : (ℕ → Member) → List Entry → World
+start_world member audit =
     record {
       hist = λ t. [];
       lead = λ t. None;
-      member = λ q. new_member;
+      member = member;
       role = λ q. Role.Follower;
       done = λ q. [];
       asks = [];
       grants = [];
       acks = [];
       sents = [];
-      audit = [];
+      audit = audit;
     }
+
+-- new disks
+abbrev pub new_world : World
+new_world = start_world (λ q. new_member) []

@@ -15,7 +15,7 @@ use Rattle.qq_script_lines.specs.declared.line.Nodes.TheVariants.{One, All}
 use Rattle.qq_script_lines.specs.declared.line.ScriptLine.{ScriptLine}
 use Rattle.qq_script_lines.specs.declared.line.ScriptLine.TheVariants as lines
 use Rattle.qq_script_lines.specs.Words.{◌>>=◌, or_fault, text_of, behind_four}
-use Rattle.qq_script_lines.specs.Numbers.{session_of}
+use Rattle.qq_script_lines.specs.Numbers.{session_of, place_of}
 use Rattle.qq_script_lines.specs.Names.{row_of, node_of, is_member}
 use Rattle.qq_script_lines.specs.Bodies.{body_of, limited}
 use Rattle.qq_script_lines.specs.Images.{image_of}
@@ -69,6 +69,12 @@ queue_at s node word = or_fault NoSuch (row_of s word) >>= served_at node
 unfoldable pub one_member : Setup → List (List ℕ) → Result (NodeId × QueueId) ScriptFault
 one_member s (node ∷ queue ∷ []) = node_of s node >>= λ by. queue_at s by queue >>= λ at. Ok (by, at)
 one_member s _ = Err Words
+
+-- Q K, a queue and a place among the messages of its servers
+unfoldable pub one_message : Setup → List (List ℕ) → Result (QueueId × ℕ) ScriptFault
+one_message s (queue ∷ place ∷ []) =
+    or_fault Number (place_of place) >>= λ at. queue_of s queue >>= λ of. Ok (of, at)
+one_message s _ = Err Words
 
 -- ---- words of one line
 

@@ -12,7 +12,7 @@ use Rattle.qq_script_lines.specs.declared.line.ScriptLine.TheVariants as lines
 use Rattle.qq_script_lines.specs.Words.{◌>>=◌, make, words_of}
 use Rattle.qq_script_lines.specs.Numbers.{is_empty}
 use Rattle.qq_script_lines.specs.Bodies.{begins_with}
-use Rattle.qq_script_lines.specs.Arguments.{no_word, one_session, one_queue, one_node, some_nodes, one_member, crash, send, publish}
+use Rattle.qq_script_lines.specs.Arguments.{no_word, one_session, one_queue, one_node, some_nodes, one_member, one_message, crash, send, publish}
 use Rattle.qq_script_lines.specs.Commands.{client_line}
 
 -- an empty line, or a comment: a semicolon and any text
@@ -32,6 +32,9 @@ node_line s word words =
     else if bytes_eq word (codes "sync") then make (λ node. Some (lines.Sync node)) (one_node s words)
     else if bytes_eq word (codes "notice") then make (λ p. Some (lines.Notice p.0 p.1)) (one_member s words)
     else if bytes_eq word (codes "tick") then make (λ p. Some (lines.Tick p.0 p.1)) (one_member s words)
+    else if bytes_eq word (codes "deliver") then make (λ p. Some (lines.Deliver p.0 p.1)) (one_message s words)
+    else if bytes_eq word (codes "lose") then make (λ p. Some (lines.Lose p.0 p.1)) (one_message s words)
+    else if bytes_eq word (codes "copy") then make (λ p. Some (lines.Copy p.0 p.1)) (one_message s words)
     else if bytes_eq word (codes "restart") then make (λ of. Some (lines.Restart of)) (some_nodes s words)
     else if bytes_eq word (codes "show") then make (λ at. Some (lines.Show at)) (one_queue s words)
     else Ok None

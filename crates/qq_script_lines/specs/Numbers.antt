@@ -51,6 +51,9 @@ session_of word = option_map client (number_in 1 (2 ^ 32 - 1) word)
 abbrev pub tag_of : List ℕ → Option ℕ
 tag_of word = number_in 1 (2 ^ 32 - 1) word
 
+abbrev pub place_of : List ℕ → Option ℕ
+place_of word = number_in 0 (2 ^ 32 - 1) word
+
 abbrev pub id_of : List ℕ → Option ℕ
 id_of word = number_in 1 (2 ^ 64 - 1) word
 

@@ -1,6 +1,6 @@
 //! What the words behind a line's first one say.
 ghost use Rattle.std.specs.Prelude.{◌≡◌, map, Ok, IfOk, IfErr};
-ghost use Rattle.qq_script_lines.specs.Arguments.{no_word, one_session, one_queue, one_node, some_nodes, one_member, crash, key_of, send_to, send, publish};
+ghost use Rattle.qq_script_lines.specs.Arguments.{no_word, one_session, one_queue, one_node, some_nodes, one_member, one_message, crash, key_of, send_to, send, publish};
 ghost use Rattle.qq_script_lines.specs.Lines.{HasScriptCause, IsOfLine};
 ghost use Rattle.std.specs.Option.{option_map};
 
@@ -9,7 +9,7 @@ use crate::fault::ScriptFault;
 use crate::images::image_of;
 use crate::line::{Nodes, ScriptLine};
 use crate::names::{first_queue, node_of, nodes_of, queue_at, queue_of};
-use crate::numbers::session_of;
+use crate::numbers::{place_of, session_of};
 use crate::words::{behind_four, text_of};
 use qq_base::{NodeId, QueueId, SessionId, Text};
 use qq_entry::KEY_LIMIT;
@@ -88,6 +88,22 @@ pub fn one_member(setup: &Setup, words: &[&str]) -> Result<(NodeId, QueueId), Sc
     let node = node_of(setup, node)?;
     let queue = queue_at(setup, node, queue)?;
     Ok((node, queue))
+}
+
+/// `Q K`: a queue and a place among the messages of its servers.
+#[tactic(auto, unfolding(crate::specs::Arguments::one_message))]
+pub fn one_message(setup: &Setup, words: &[&str]) -> Result<(QueueId, u32), ScriptFault>
+    ensures said { result ≡ one_message setup.now (map (λ w. w.now) words.now) }
+    ensures fault { IfErr result IsOfLine }
+{
+    let [queue, place] = words else {
+        return Err(ScriptFault::Words);
+    };
+    let Some(place) = place_of(place) else {
+        return Err(ScriptFault::Number);
+    };
+    let queue = queue_of(setup, queue)?;
+    Ok((queue, place))
 }
 
 /// `N IMAGE`, or `all IMAGE`.

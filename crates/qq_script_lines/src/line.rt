@@ -100,6 +100,22 @@ pub enum ScriptLine {
         node: NodeId,
         queue: QueueId,
     },
+    /// `deliver Q K`: the message at a place of those on their way between a queue's servers, the first one's is
+    /// 1, reaches its receiver.
+    Deliver {
+        queue: QueueId,
+        message: u32,
+    },
+    /// `lose Q K`: it is lost.
+    Lose {
+        queue: QueueId,
+        message: u32,
+    },
+    /// `copy Q K`: it is on its way twice.
+    Copy {
+        queue: QueueId,
+        message: u32,
+    },
     /// `crash N IMAGE`: a node stops, and so much is left of its disk.
     Crash {
         nodes: Nodes,

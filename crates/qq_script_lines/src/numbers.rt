@@ -1,7 +1,7 @@
 ghost use Rattle.std.specs.Prelude.{◌≡◌, ◌≤◌, ◌^◌, ◌<◌, map, length, IfOk, IfSome, IsOkUnless};
 ghost use Rattle.std.specs.List.{list_all};
 ghost use Rattle.std.specs.Option.{option_map};
-ghost use Rattle.qq_script_lines.specs.Numbers.{is_digit, has_leading_zero, is_number, number_in, session_of, tag_of, id_of, all_ids, ids_of};
+ghost use Rattle.qq_script_lines.specs.Numbers.{is_digit, has_leading_zero, is_number, number_in, session_of, tag_of, place_of, id_of, all_ids, ids_of};
 
 use crate::words::parts_of;
 use qq_base::{Ids, Memory, SessionId};
@@ -75,6 +75,16 @@ pub fn tag_of(word: &str) -> Option<u32>
 {
     match number_in(1, 4_294_967_295, word) {
         Some(tag) => Some(tag as u32),
+        None => None,
+    }
+}
+
+/// A place among messages. No message has place 0.
+pub fn place_of(word: &str) -> Option<u32>
+    ensures { result ≡ place_of word.now }
+{
+    match number_in(0, 4_294_967_295, word) {
+        Some(place) => Some(place as u32),
         None => None,
     }
 }

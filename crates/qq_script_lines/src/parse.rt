@@ -4,7 +4,8 @@ ghost use Rattle.std.specs.Str.{is_utf8};
 ghost use Rattle.qq_script_lines.specs.Lines.{is_nothing, publish_text, node_line, plain_line, plain_or_client, read, is_client, in_place, read_words, text_in, read_text, parse_line, HasScriptCause, IsOfLine};
 
 use crate::arguments::{
-    crash, no_word, one_member, one_node, one_queue, one_session, publish, send, some_nodes,
+    crash, no_word, one_member, one_message, one_node, one_queue, one_session, publish, send,
+    some_nodes,
 };
 use crate::bodies::begins_with;
 use crate::commands::client_line;
@@ -63,6 +64,18 @@ fn node_line(setup: &Setup, word: &str, words: &[&str]) -> Result<Option<ScriptL
         "tick" => {
             let (node, queue) = one_member(setup, words)?;
             ScriptLine::Tick { node, queue }
+        }
+        "deliver" => {
+            let (queue, message) = one_message(setup, words)?;
+            ScriptLine::Deliver { queue, message }
+        }
+        "lose" => {
+            let (queue, message) = one_message(setup, words)?;
+            ScriptLine::Lose { queue, message }
+        }
+        "copy" => {
+            let (queue, message) = one_message(setup, words)?;
+            ScriptLine::Copy { queue, message }
         }
         "restart" => ScriptLine::Restart {
             nodes: some_nodes(setup, words)?,

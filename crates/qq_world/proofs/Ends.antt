@@ -61,7 +61,7 @@ prints-end session clients row is =
 -- ---- a session that has ended
 
 module _ (session : ℕ) where
-  heard-ended : (row : AuditRow) (clients : Clients) → (clients session).ended ≡ true
+  pub heard-ended : (row : AuditRow) (clients : Clients) → (clients session).ended ≡ true
       → (hear row clients session).ended ≡ true
   heard-ended row clients is = by (sender row)
     where
@@ -73,7 +73,7 @@ module _ (session : ℕ) where
           (λ e. cond_both (clients own).muted (clients own) _ (λ (c : Client). c.ended ≡ true) (λ _. e) (λ _. e))
           (λ i other e. e) session is
 
-  all-ended : (rows : List AuditRow) (clients : Clients) → (clients session).ended ≡ true
+  pub all-ended : (rows : List AuditRow) (clients : Clients) → (clients session).ended ≡ true
       → (hear_all rows clients session).ended ≡ true
   all-ended [] clients is = is
   all-ended (row ∷ rows) clients is = all-ended rows (hear row clients) (heard-ended row clients is)

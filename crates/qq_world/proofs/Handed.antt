@@ -42,17 +42,17 @@ pub record IsOfSession (session : SessionId) (command : Command) : Type 0 where
   pub is : stamp command ≡ Some by
   pub session_is : by.session ≡ session
 
-record IsOpenOf (session : SessionId) (commands : List Command) (one : OpenCommand) : Type 0 where
+pub record IsOpenOf (session : SessionId) (commands : List Command) (one : OpenCommand) : Type 0 where
   pub given : Contains commands one.1
   pub own : IsOfSession session one.1
 
-abbrev AreOpen : SessionId → List Command → List OpenCommand → Type 0
+abbrev pub AreOpen : SessionId → List Command → List OpenCommand → Type 0
 AreOpen session commands opened = AllByRecursion (IsOpenOf session commands) opened
 
-next-own : (body : Unstamped) (n : Numbers) → IsOfSession n.session (next_command body n)
+pub next-own : (body : Unstamped) (n : Numbers) → IsOfSession n.session (next_command body n)
 next-own body n = record { by = next_stamp n; is = stamped-stamp (next_stamp n) body; session_is = refl }
 
-handed-append : (first second : List Deed) (n : Numbers)
+pub handed-append : (first second : List Deed) (n : Numbers)
     → handed n (first ++ second) ≡ handed n first ++ handed (after_deeds first n) second
 handed-append [] second n = refl
 handed-append (deed ∷ first) second n =
@@ -72,7 +72,7 @@ pub deeds-session : (deeds : List Deed) (n : Numbers) → (after_deeds deeds n).
 deeds-session [] n = refl
 deeds-session (deed ∷ more) n = deeds-session more (after_deed deed n) ∙ deed-session deed n
 
-more-open : (session : SessionId) (commands more : List Command) (one : OpenCommand) → IsOpenOf session commands one
+pub more-open : (session : SessionId) (commands more : List Command) (one : OpenCommand) → IsOpenOf session commands one
     → IsOpenOf session (commands ++ more) one
 more-open session commands more one is =
     record { given = Contains-append_left commands more one.1 is.given; own = is.own }
@@ -102,7 +102,7 @@ deed-open (Takes seq given) n commands each =
         AllByRecursion-weaker (IsOpenOf n.session commands) (IsOpenOf n.session (commands ++ []))
         (more-open n.session commands []) n.opened each
 
-deeds-open : (deeds : List Deed) (n : Numbers) (commands : List Command) → AreOpen n.session commands n.opened
+pub deeds-open : (deeds : List Deed) (n : Numbers) (commands : List Command) → AreOpen n.session commands n.opened
     → AreOpen n.session (commands ++ handed n deeds) (after_deeds deeds n).opened
 deeds-open [] n commands each =
     AllByRecursion-weaker (IsOpenOf n.session commands) (IsOpenOf n.session (commands ++ []))
@@ -192,7 +192,7 @@ each-offer_all P (command ∷ commands) new w each =
 
 -- ---- worlds
 
-abbrev first_numbers : QueueId → ℕ → Numbers
+abbrev pub first_numbers : QueueId → ℕ → Numbers
 first_numbers queue session = new_numbers (client session) queue
 
 -- what each session has made of its numbers, and that the entries of each were handed out
@@ -201,7 +201,7 @@ record Handed (queue : QueueId) (so_far : ℕ → List Deed) (w : World) : Type 
   pub each : (i : ℕ) → Each (WasHanded (client i) (handed (first_numbers queue i) (so_far i))) w.server.ops
 
 -- two clients with one id are one
-client-same : (a b : ℕ) → client a ≡ client b → a ≡ b
+pub client-same : (a b : ℕ) → client a ≡ client b → a ≡ b
 client-same a b is = ap (λ (s : SessionId). s.number) is
 
 handed-event : (queue : QueueId) (so_far : ℕ → List Deed) (w : World) (event : Event) → Handed queue so_far w

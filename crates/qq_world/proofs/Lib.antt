@@ -1,20 +1,20 @@
-mod Audits
+pub mod Audits
 pub mod Ops
 pub mod Moves
 pub mod Worlds
 pub mod Lawful
-mod Confirming
-mod Printed
+pub mod Confirming
+pub mod Printed
 pub mod Made
-mod Once
-mod Deeds
-mod Handed
-mod SessionLaws
+pub mod Once
+pub mod Deeds
+pub mod Handed
+pub mod SessionLaws
 pub mod EachQueue
-mod Settling
-mod Leading
+pub mod Settling
+pub mod Leading
 pub mod Serving
-mod Worked
-mod Stopping
-mod PrintedOnce
-mod Ends
+pub mod Worked
+pub mod Stopping
+pub mod PrintedOnce
+pub mod Ends

@@ -31,7 +31,7 @@ pub entries-append : (a b : List AuditRow) → entries_of (a ++ b) ≡ entries_o
 entries-append [] b = refl
 entries-append (row ∷ a) b = ap (λ (l : List Entry). row.entry ∷ l) (entries-append a b)
 
-effects-append : (s : State) (xs ys : List Entry)
+pub effects-append : (s : State) (xs ys : List Entry)
     → effects_of s (xs ++ ys) ≡ effects_of s xs ++ effects_of (state_after s xs) ys
 effects-append s [] ys = refl
 effects-append s (x ∷ xs) ys =
@@ -56,7 +56,7 @@ has-later args a b effect front has =
 
 -- ---- what is shown
 
-of-term : (term : Term) (s : State) (entries : List Entry)
+pub of-term : (term : Term) (s : State) (entries : List Entry)
     → AllByRecursion (Contains (effects_of s entries)) (effects_of_term term s entries)
 of-term term s [] = tt
 of-term term s (entry ∷ entries) =

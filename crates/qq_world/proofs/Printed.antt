@@ -28,7 +28,7 @@ each-contained (x ∷ xs) = (
       (each-contained xs),
 )
 
-all-drop : {A : Type 0} (P : A → Type 0) (k : ℕ) (xs : List A) → AllByRecursion P xs → AllByRecursion P (drop k xs)
+pub all-drop : {A : Type 0} (P : A → Type 0) (k : ℕ) (xs : List A) → AllByRecursion P xs → AllByRecursion P (drop k xs)
 all-drop P zero xs each = each
 all-drop P (suc k) [] each = tt
 all-drop P (suc k) (x ∷ xs) each = all-drop P k xs each.1
@@ -59,7 +59,7 @@ answers audit clients row is_in printed' =
       | inr second ↦ told-end audit clients row (ended_by row.entry.command) refl is_in second
     ]
 
-printed-are : (audit rows : List AuditRow) (clients : Clients) → AllByRecursion (Contains audit) rows
+pub printed-are : (audit rows : List AuditRow) (clients : Clients) → AllByRecursion (Contains audit) rows
     → AllByRecursion (IsAnswer audit) (printed rows clients)
 printed-are audit [] clients each = tt
 printed-are audit (row ∷ rows) clients each =
@@ -75,13 +75,13 @@ own-contained before now =
     (drop (length before.audit) now.audit)
     (all-drop (Contains now.audit) (length before.audit) now.audit (each-contained now.audit))
 
-offered-audited : (audit : List AuditRow) (ready : Bool) (session : ℕ) (commands : List Command)
+pub offered-audited : (audit : List AuditRow) (ready : Bool) (session : ℕ) (commands : List Command)
     → AllByRecursion (IsAudited audit) (said_of ready session commands)
 offered-audited audit true session commands = tt
 offered-audited audit false session [] = tt
 offered-audited audit false session (command ∷ commands) = (tt, offered-audited audit false session commands)
 
-delivered-audited : (audit : List AuditRow) (clients : Clients) (effects : List Effect)
+pub delivered-audited : (audit : List AuditRow) (clients : Clients) (effects : List Effect)
     → AllByRecursion (IsAudited audit) (flat_map (delivered clients) effects)
 delivered-audited audit clients [] = tt
 delivered-audited audit clients (Deliver consumer delivery ∷ effects) =
@@ -130,7 +130,7 @@ said-audited w Notices = by (is_up w)
 said-audited w Stops = tt
 said-audited w (Finds op) = tt
 
-later-audited : (a b : List AuditRow) → IsFront a b → (shown : Shown) → IsAudited a shown → IsAudited b shown
+pub later-audited : (a b : List AuditRow) → IsFront a b → (shown : Shown) → IsAudited a shown → IsAudited b shown
 later-audited a b front (Answered row) is =
     record { is_in = front-contains a b row front is.is_in; session = is.session; sender_is = is.sender_is }
 later-audited a b front (Delivered consumer delivery) is = tt

@@ -28,11 +28,11 @@ use Rattle.qq_world.specs.World.{World, Clients, Event, Mutes, Ends, Ticks, Subm
 use Rattle.qq_world.proofs.Deeds.{heard, heard-numbers, event-numbers}
 
 -- a number was given and is closed
-abbrev IsClosed : ℕ → Numbers → Type 0
+abbrev pub IsClosed : ℕ → Numbers → Type 0
 IsClosed seq n = (is_open seq n ≡ false) × (seq < n.next)
 
 -- each open number was given
-abbrev OpenBelow : Numbers → Type 0
+abbrev pub OpenBelow : Numbers → Type 0
 OpenBelow n = AllByRecursion (λ (one : OpenCommand). one.0 < n.next) n.opened
 
 not-true : (b : Bool) → not b ≡ true → b ≡ false
@@ -78,7 +78,7 @@ closed-deed seq (Hands body) n is =
     (λ _. is)
 closed-deed seq (Takes own given) n is = closed-answer seq own given n is
 
-closed-deeds : (seq : ℕ) (deeds : List Deed) (n : Numbers) → IsClosed seq n → IsClosed seq (after_deeds deeds n)
+pub closed-deeds : (seq : ℕ) (deeds : List Deed) (n : Numbers) → IsClosed seq n → IsClosed seq (after_deeds deeds n)
 closed-deeds seq [] n is = is
 closed-deeds seq (deed ∷ more) n is = closed-deeds seq more (after_deed deed n) (closed-deed seq deed n is)
 
@@ -94,7 +94,7 @@ below-deed (Takes own given) n below =
     (λ _. AllByRecursion-filter (λ (one : OpenCommand). one.0 < n.next)
     (λ (one : OpenCommand). not (nat_eq one.0 own)) n.opened below) (λ _. below)
 
-below-deeds : (deeds : List Deed) (n : Numbers) → OpenBelow n → OpenBelow (after_deeds deeds n)
+pub below-deeds : (deeds : List Deed) (n : Numbers) → OpenBelow n → OpenBelow (after_deeds deeds n)
 below-deeds [] n below = below
 below-deeds (deed ∷ more) n below = below-deeds more (after_deed deed n) (below-deed deed n below)
 
@@ -111,13 +111,13 @@ open-below seq next (one ∷ more) below is =
 
 -- ---- rows that are printed
 
-abbrev closing : ℕ → AuditRow → Bool
+abbrev pub closing : ℕ → AuditRow → Bool
 closing session row = is_sent_by session (sender row) && closes row.answer
 
-abbrev numbers_in : ℕ → List Shown → List ℕ
+abbrev pub numbers_in : ℕ → List Shown → List ℕ
 numbers_in session shown = filter_map (closed_number session) shown
 
-abbrev printed_numbers : ℕ → List AuditRow → Clients → List ℕ
+abbrev pub printed_numbers : ℕ → List AuditRow → Clients → List ℕ
 printed_numbers session rows clients = numbers_in session (map Answered (printed rows clients))
 
 -- a row adds its number, or none
@@ -136,7 +136,7 @@ row-numbers session row rows clients P one rest = by (is_printed clients row) re
     by false is = rest
 
 -- whose answer is printed hears it, and its number is open
-record Shows (session : ℕ) (row : AuditRow) (clients : Clients) : Type 0 where
+pub record Shows (session : ℕ) (row : AuditRow) (clients : Clients) : Type 0 where
   hears : (clients session).muted ≡ false
   opened : is_open (seq_of row.entry.command) (clients session).numbers ≡ true
 
@@ -196,7 +196,7 @@ below-hear session row clients below =
     subst OpenBelow (sym (heard-numbers (row ∷ []) clients session))
     (below-deeds (takes_of session clients (row ∷ [])) (clients session).numbers below)
 
-never-printed : (seq session : ℕ) (rows : List AuditRow) (clients : Clients)
+pub never-printed : (seq session : ℕ) (rows : List AuditRow) (clients : Clients)
     → IsClosed seq (clients session).numbers
     → AllByRecursion (λ (m : ℕ). m ≢ seq) (printed_numbers session rows clients)
 never-printed seq session [] clients is = tt
@@ -216,7 +216,7 @@ closed-all seq session rows clients is =
     subst (IsClosed seq) (sym (heard-numbers rows clients session))
     (closed-deeds seq (takes_of session clients rows) (clients session).numbers is)
 
-printed-closed : (session : ℕ) (rows : List AuditRow) (clients : Clients) → OpenBelow (clients session).numbers
+pub printed-closed : (session : ℕ) (rows : List AuditRow) (clients : Clients) → OpenBelow (clients session).numbers
     → AllByRecursion (λ (m : ℕ). IsClosed m (hear_all rows clients session).numbers)
     (printed_numbers session rows clients)
 printed-closed session [] clients below = tt
@@ -231,11 +231,11 @@ printed-closed session (row ∷ rows) clients below =
     )) rest
 
 -- no number stands twice
-abbrev Distinct : List ℕ → Type 0
+abbrev pub Distinct : List ℕ → Type 0
 Distinct [] = Unit {0}
 Distinct (n ∷ ns) = AllByRecursion (λ (m : ℕ). m ≢ n) ns × Distinct ns
 
-pairs-distinct : (ns : List ℕ) → Distinct ns → AllPairs (λ (m n : ℕ). m ≢ n) ns
+pub pairs-distinct : (ns : List ℕ) → Distinct ns → AllPairs (λ (m n : ℕ). m ≢ n) ns
 pairs-distinct [] apart = λ i j d before within. absurd (omega (arith, within))
 pairs-distinct (n ∷ ns) apart =
     AllPairs-cons (λ (m n : ℕ). m ≢ n) n ns
@@ -243,7 +243,7 @@ pairs-distinct (n ∷ ns) apart =
     (AllByRecursion-weaker (λ (m : ℕ). m ≢ n) (λ (m : ℕ). n ≢ m) (λ m other same. other (sym same)) ns apart.0))
     (pairs-distinct ns apart.1)
 
-printed-distinct : (session : ℕ) (rows : List AuditRow) (clients : Clients) → OpenBelow (clients session).numbers
+pub printed-distinct : (session : ℕ) (rows : List AuditRow) (clients : Clients) → OpenBelow (clients session).numbers
     → Distinct (printed_numbers session rows clients)
 printed-distinct session [] clients below = tt
 printed-distinct session (row ∷ rows) clients below =
@@ -257,14 +257,14 @@ printed-distinct session (row ∷ rows) clients below =
 
 -- ---- events
 
-offered-none : (session own : ℕ) (ready : Bool) (commands : List Command)
+pub offered-none : (session own : ℕ) (ready : Bool) (commands : List Command)
     → numbers_in session (said_of ready own commands) ≡ []
 offered-none session own true commands = refl
 offered-none session own false [] = refl
 offered-none session own false (command ∷ commands) = offered-none session own false commands
 
 -- a delivery closes no number
-delivered-none : (session : ℕ) (clients : Clients) (effects : List Effect)
+pub delivered-none : (session : ℕ) (clients : Clients) (effects : List Effect)
     → numbers_in session (flat_map (delivered clients) effects) ≡ []
 delivered-none session clients [] = refl
 delivered-none session clients (Deliver consumer delivery ∷ effects) =
@@ -349,7 +349,7 @@ never-again seq session w (event ∷ events) is =
     (λ up. never-printed seq session (own_rows w.server (notice w.synced w.server)) w.clients is))
     (never-again seq session next events (closed-event seq session w event is)))
 
-distinct-append : (xs ys : List ℕ) → Distinct xs → Distinct ys
+pub distinct-append : (xs ys : List ℕ) → Distinct xs → Distinct ys
     → AllByRecursion (λ (x : ℕ). AllByRecursion (λ (m : ℕ). m ≢ x) ys) xs → Distinct (xs ++ ys)
 distinct-append [] ys first second apart = second
 distinct-append (x ∷ xs) ys first second apart = (

@@ -187,3 +187,16 @@ noticed-rises s (Notice op) =
     let e = notice-same op s in
     let le = greater-rises s.noticed op in
     omega (arith, e, le)
+
+-- what an input leaves of the op that a server was noticed of
+abbrev pub noticed_by : Input → ℕ → ℕ
+noticed_by (Notice op) before = greater before op
+noticed_by _ before = before
+
+pub noticed-is : (s : Server) (input : Input) → (step s input).noticed ≡ noticed_by input s.noticed
+unfolding submit
+noticed-is s Tick = tick-same s
+noticed-is s (Receive rpc) = receive-same rpc s
+noticed-is s (Submit time command) =
+    submit-same time (record { term = s.term; time = time; command = command }) (is_ready s) s
+noticed-is s (Notice op) = notice-same op s

@@ -1,0 +1,12 @@
+pub mod Groups
+mod Told
+mod Numbers
+mod PrintedOnce
+mod Leads
+mod SessionLaws
+pub mod Counts
+pub mod EachQueue
+mod Settling
+mod Serving
+mod Stopping
+mod Worked

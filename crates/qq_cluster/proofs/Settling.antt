@@ -1,0 +1,288 @@
+-- Where no disk fails, the rules leave no choice but what restarts found.
+use Rattle.std.proofs.Common.{◌≡◌, ℕ, zero, suc, Bool, true, false, ◌&&◌, List, [], ◌∷◌, ◌++◌, Option, Some, None, refl, sym, ap, ◌∙◌, subst, inl, inr, append_assoc}
+use Rattle.std.proofs.lemmas.Bool.{false≢true, or_parts}
+use Rattle.std.proofs.lemmas.Grind.{flat_map-append}
+use Rattle.std.proofs.lemmas.List.Folds.{list_any-append}
+use Rattle.qq_base.specs.declared.ids.NodeId.{NodeId}
+use Rattle.qq_entry.specs.declared.command.Unstamped.{Unstamped}
+use Rattle.qq_script_lines.specs.declared.line.ScriptLine.{ScriptLine}
+use Rattle.qq_script_lines.specs.declared.line.ScriptLine.TheVariants as lines
+use Rattle.qq_cluster.specs.Cluster.{Setup, Cluster, ClusterEvent, Sets, Alike, At, NodeWrites, NodeSyncs, Fails, Crashes, FindsEach, Shows, SaysDown, SaysNoSuch, SaysUnroutable, SaysBusy, SaysEnded, new_cluster, cluster_after, members}
+use Rattle.qq_cluster.specs.ClusterLaws.{is_failure, has_failure, finding, findings, LeavesNoChoice}
+use Rattle.qq_cluster.specs.Lines.{publish_with, IsRouted, IsSend, WhereUp, nodes_of, receiver_at, IsDelivered, WhereThere, IsDeliver, IsLose, IsCopy, AndPumped, IsLine, IsScript, IsRun}
+use Rattle.qq_cluster.specs.Queue.{Event, Mutes, Ends, Submits, TellsEnded, Resends, Downs, Ticks, Delivers, Loses, Copies, Notices}
+use Rattle.qq_cluster.specs.Rules.{Rule, IsNothing, Is, Then, if_so, ForEach, some_queue, waits_written, waits_synced, waits_noticed, IsWritten, IsWrite, MayRoll, IsSynced, IsSync, IsNotice, IsNodeRound, IsEmptied, IsRound, is_idle, Pumps, most_rounds, IsPump, IsPumped, is_ended, IsGiven, IsResend, IsEnd, IsFound, IsRestart, tick_at, IsFirstTick, IsOpening}
+
+-- whatever is found behind them
+abbrev Settles : Rule → Cluster → Type 0
+Settles Allows c =
+    (es fs : List ClusterEvent) (rest more : List (ℕ → ℕ)) → Allows c es → Allows c fs → has_failure es ≡ false
+    → has_failure fs ≡ false → findings es ++ rest ≡ findings fs ++ more → es ≡ fs
+
+cancel : {A : Type 0} (xs rest more : List A) → xs ++ rest ≡ xs ++ more → rest ≡ more
+cancel [] rest more same = same
+cancel (x ∷ xs) rest more same =
+    let tails : xs ++ rest ≡ xs ++ more = cc in
+    cancel xs rest more tails
+
+whole : (es early late : List ClusterEvent) → es ≡ early ++ late → has_failure es ≡ false
+    → (has_failure early ≡ false) × (has_failure late ≡ false)
+whole es early late is fine =
+    or_parts (has_failure early) (has_failure late)
+    (sym (list_any-append is_failure early late) ∙ sym (ap has_failure is) ∙ fine)
+
+found : (es early late : List ClusterEvent) (rest : List (ℕ → ℕ)) → es ≡ early ++ late
+    → findings es ++ rest ≡ findings early ++ (findings late ++ rest)
+found es early late rest is =
+    ap (λ (l : List ClusterEvent). findings l ++ rest) is
+    ∙ ap (λ (l : List (ℕ → ℕ)). l ++ rest) (flat_map-append finding early late)
+    ∙ append_assoc (findings early) (findings late) rest
+
+settles-then : (First Second : Rule) (c : Cluster) → Settles First c → ((d : Cluster) → Settles Second d)
+    → Settles (Then First Second) c
+settles-then First Second c first second es fs rest more a b fine_es fine_fs finds =
+    let es_parts = whole es a.early a.late a.is fine_es in
+    let fs_parts = whole fs b.early b.late b.is fine_fs in
+    let all : findings a.early ++ (findings a.late ++ rest) ≡ findings b.early ++ (findings b.late ++ more) =
+    sym (found es a.early a.late rest a.is) ∙ finds ∙ found fs b.early b.late more b.is in
+    let early : a.early ≡ b.early =
+    first a.early b.early (findings a.late ++ rest) (findings b.late ++ more) a.first b.first es_parts.0 fs_parts.0
+    all in
+    let left : findings a.late ++ rest ≡ findings b.late ++ more =
+    cancel (findings b.early) (findings a.late ++ rest) (findings b.late ++ more)
+    (ap (λ (l : List ClusterEvent). findings l ++ (findings a.late ++ rest)) (sym early) ∙ all) in
+    let late : a.late ≡ b.late =
+    second (cluster_after c a.early) a.late b.late rest more a.second
+    (subst (λ (l : List ClusterEvent). Second (cluster_after c l) b.late) (sym early) b.second) es_parts.1 fs_parts.1
+    left in
+    a.is ∙ ap (λ (l : List ClusterEvent). l ++ a.late) early ∙ ap (λ (l : List ClusterEvent). b.early ++ l) late
+    ∙ sym b.is
+
+settles-if : (b : Bool) (First Second : Rule) (c : Cluster) → Settles First c → Settles Second c
+    → Settles (if_so b First Second) c
+settles-if true First Second c first second = first
+settles-if false First Second c first second = second
+
+settles-is : (event : ClusterEvent) (c : Cluster) → Settles (Is event) c
+settles-is event c es fs rest more a b fine_es fine_fs finds = a ∙ sym b
+
+settles-nothing : (c : Cluster) → Settles IsNothing c
+settles-nothing c es fs rest more a b fine_es fine_fs finds = a ∙ sym b
+
+-- of the lists that a rule allows only one has no failure
+abbrev IsFine : Rule → List ClusterEvent → Cluster → Type 0
+IsFine Allows one c = (es : List ClusterEvent) → Allows c es → has_failure es ≡ false → es ≡ one
+
+settles-fine : (Allows : Rule) (one : List ClusterEvent) (c : Cluster) → IsFine Allows one c → Settles Allows c
+settles-fine Allows one c fine es fs rest more a b fine_es fine_fs finds = fine es a fine_es ∙ sym (fine fs b fine_fs)
+
+failed : (es fs : List ClusterEvent) → es ≡ fs → has_failure fs ≡ true → has_failure es ≡ false → ⊥
+failed es fs is fails fine = false≢true (sym fine ∙ ap has_failure is ∙ fails)
+
+written-fine : (k : ℕ) (c : Cluster) → IsFine (IsWritten k) (NodeWrites k ∷ []) c
+written-fine k c es (inl a) fine = a
+written-fine k c es (inr a) fine = absurd (failed es (NodeWrites k ∷ Fails k ∷ []) a refl fine)
+
+roll-fine : (k : ℕ) (c : Cluster) → IsFine (MayRoll k) [] c
+roll-fine k c es (inl a) fine = a
+roll-fine k c es (inr a) fine = absurd (failed es (Fails k ∷ []) a refl fine)
+
+synced-fine : (k : ℕ) (c : Cluster) → IsFine (IsSynced k) (NodeSyncs k ∷ []) c
+synced-fine k c es (inl a) fine = a
+synced-fine k c es (inr (inl a)) fine = absurd (failed es (Fails k ∷ []) a refl fine)
+synced-fine k c es (inr (inr a)) fine = absurd (failed es (NodeSyncs k ∷ Fails k ∷ []) a refl fine)
+
+settles-each : {A : Type 0} (xs : List A) (Each : A → Rule) → ((x : A) (d : Cluster) → Settles (Each x) d)
+    → (c : Cluster) → Settles (ForEach xs Each) c
+settles-each [] Each each c = settles-nothing c
+settles-each (x ∷ xs) Each each c =
+    settles-then (Each x) (ForEach xs Each) c (each x c) (λ d. settles-each xs Each each d)
+
+-- ---- the logs and pumps
+
+settles-write : (setup : Setup) (k : ℕ) (c : Cluster) → Settles (IsWrite setup k) c
+settles-write setup k c =
+    settles-if (c.up k && some_queue setup (waits_written k) c) (IsWritten k) IsNothing c
+    (settles-fine (IsWritten k) (NodeWrites k ∷ []) c (written-fine k c)) (settles-nothing c)
+
+settles-sync : (setup : Setup) (k : ℕ) (c : Cluster) → Settles (IsSync setup k) c
+settles-sync setup k c =
+    settles-if (c.up k) (if_so (some_queue setup (waits_synced k) c) (IsSynced k) (MayRoll k)) IsNothing c
+    (settles-if (some_queue setup (waits_synced k) c) (IsSynced k) (MayRoll k) c
+    (settles-fine (IsSynced k) (NodeSyncs k ∷ []) c (synced-fine k c))
+    (settles-fine (MayRoll k) [] c (roll-fine k c))) (settles-nothing c)
+
+settles-notice : (k place : ℕ) (c : Cluster) → Settles (IsNotice k place) c
+settles-notice k place c =
+    settles-if (c.up k && waits_noticed k (c.queue place)) (Is (At place (Notices k))) IsNothing c
+    (settles-is (At place (Notices k)) c) (settles-nothing c)
+
+settles-node : (setup : Setup) (k : ℕ) (c : Cluster) → Settles (IsNodeRound setup k) c
+settles-node setup k c =
+    settles-then (IsWrite setup k) (Then (IsSync setup k) (ForEach setup.places (IsNotice k))) c
+    (settles-write setup k c)
+    (λ d. settles-then (IsSync setup k) (ForEach setup.places (IsNotice k)) d (settles-sync setup k d)
+    (λ e. settles-each setup.places (IsNotice k) (settles-notice k) e))
+
+settles-emptied : (place : ℕ) (c : Cluster) → Settles (IsEmptied place) c
+settles-emptied place c es fs rest more a b fine_es fine_fs finds = a ∙ sym b
+
+settles-round : (setup : Setup) (c : Cluster) → Settles (IsRound setup) c
+settles-round setup c =
+    settles-then (ForEach setup.nodes (IsNodeRound setup)) (ForEach setup.places IsEmptied) c
+    (settles-each setup.nodes (IsNodeRound setup) (settles-node setup) c)
+    (λ d. settles-each setup.places IsEmptied settles-emptied d)
+
+settles-pumps : (fuel : ℕ) (setup : Setup) (c : Cluster) → Settles (Pumps fuel setup) c
+settles-pumps zero setup c =
+    settles-if (is_idle setup c) IsNothing (Is SaysBusy) c (settles-nothing c) (settles-is SaysBusy c)
+settles-pumps (suc fuel) setup c =
+    settles-if (is_idle setup c) IsNothing (Then (IsRound setup) (Pumps fuel setup)) c (settles-nothing c)
+    (settles-then (IsRound setup) (Pumps fuel setup) c (settles-round setup c) (λ d. settles-pumps fuel setup d))
+
+settles-pumped : (setup : Setup) (c : Cluster) → Settles (IsPumped setup) c
+settles-pumped setup c =
+    settles-if c.auto (IsPump setup) IsNothing c (settles-pumps most_rounds setup c) (settles-nothing c)
+
+settles-asked : (setup : Setup) (Asked : Rule) (c : Cluster) → Settles Asked c → Settles (AndPumped setup Asked) c
+settles-asked setup Asked c asked = settles-then Asked (IsPumped setup) c asked (settles-pumped setup)
+
+-- ---- clients
+
+settles-given : (session : ℕ) (body : Unstamped) (place : ℕ) (c : Cluster) → Settles (IsGiven session body place) c
+settles-given session body place c =
+    settles-if (is_ended session (c.queue place)) (Is (At place (TellsEnded session)))
+    (Is (At place (Submits session body))) c (settles-is (At place (TellsEnded session)) c)
+    (settles-is (At place (Submits session body)) c)
+
+settles-routed : (session : ℕ) (body : Unstamped) (places : List ℕ) (c : Cluster)
+    → Settles (IsRouted session body places) c
+settles-routed session body [] c = settles-is SaysUnroutable c
+settles-routed session body (place ∷ places) c =
+    settles-each (place ∷ places) (IsGiven session body) (settles-given session body) c
+
+settles-resend : (setup : Setup) (session : ℕ) (c : Cluster) → Settles (IsResend setup session) c
+settles-resend setup session c =
+    settles-if (some_queue setup (is_ended session) c) (Is SaysEnded)
+    (ForEach setup.places (λ place. Is (At place (Resends session)))) c (settles-is SaysEnded c)
+    (settles-each setup.places (λ place. Is (At place (Resends session)))
+    (λ place d. settles-is (At place (Resends session)) d) c)
+
+settles-end : (setup : Setup) (session : ℕ) (c : Cluster) → Settles (IsEnd setup session) c
+settles-end setup session c =
+    settles-then (Is (Alike (Ends session))) (ForEach setup.places (λ place. Is (At place (Downs session)))) c
+    (settles-is (Alike (Ends session)) c)
+    (λ d. settles-each setup.places (λ place. Is (At place (Downs session)))
+    (λ place e. settles-is (At place (Downs session)) e) d)
+
+-- ---- nodes and messages
+
+settles-up : (k : ℕ) (Up : Rule) (c : Cluster) → Settles Up c → Settles (WhereUp k Up) c
+settles-up k Up c up = settles-if (c.up k) Up (Is (SaysDown k)) c up (settles-is (SaysDown k) c)
+
+settles-found : (setup : Setup) (k : ℕ) (c : Cluster) → Settles (IsFound setup k) c
+settles-found setup k c es fs rest more (inl a) (inl b) fine_es fine_fs finds =
+    let all : (a.ops ∷ []) ++ rest ≡ (b.ops ∷ []) ++ more =
+    ap (λ (l : List ClusterEvent). findings l ++ rest) (sym a.is) ∙ finds
+    ∙ ap (λ (l : List ClusterEvent). findings l ++ more) b.is in
+    let ops : a.ops ≡ b.ops = cc in
+    a.is ∙ ap (λ (o : ℕ → ℕ). FindsEach k o ∷ []) ops ∙ sym b.is
+settles-found setup k c es fs rest more (inr a) b fine_es fine_fs finds =
+    absurd (failed es (Fails k ∷ []) a refl fine_es)
+settles-found setup k c es fs rest more (inl a) (inr b) fine_es fine_fs finds =
+    absurd (failed fs (Fails k ∷ []) b refl fine_fs)
+
+settles-restart : (setup : Setup) (k : ℕ) (c : Cluster) → Settles (IsRestart setup k) c
+settles-restart setup k c =
+    settles-if (c.up k) IsNothing (IsFound setup k) c (settles-nothing c) (settles-found setup k c)
+
+settles-delivered : (place at : ℕ) (o : Option ℕ) (c : Cluster) → Settles (IsDelivered place at o) c
+settles-delivered place at None c = settles-is SaysNoSuch c
+settles-delivered place at (Some k) c =
+    settles-then (Is (At place (Delivers at))) (λ d. if_so (d.up k) IsNothing (Is (SaysDown k)) d) c
+    (settles-is (At place (Delivers at)) c)
+    (λ d. settles-if (d.up k) IsNothing (Is (SaysDown k)) d (settles-nothing d) (settles-is (SaysDown k) d))
+
+settles-there : (o : Option ℕ) (event : Event) (place : ℕ) (c : Cluster) → Settles (WhereThere o event place) c
+settles-there None event place c = settles-is SaysNoSuch c
+settles-there (Some k) event place c = settles-is (At place event) c
+
+settles-deliver : (place message : ℕ) (c : Cluster) → Settles (IsDeliver place message) c
+settles-deliver place zero c = settles-is SaysNoSuch c
+settles-deliver place (suc at) c = settles-delivered place at (receiver_at c place at) c
+
+settles-lose : (place message : ℕ) (c : Cluster) → Settles (IsLose place message) c
+settles-lose place zero c = settles-is SaysNoSuch c
+settles-lose place (suc at) c = settles-there (receiver_at c place at) (Loses at) place c
+
+settles-copy : (place message : ℕ) (c : Cluster) → Settles (IsCopy place message) c
+settles-copy place zero c = settles-is SaysNoSuch c
+settles-copy place (suc at) c = settles-there (receiver_at c place at) (Copies at) place c
+
+-- ---- lines
+
+settles-line : (setup : Setup) (line : ScriptLine) (c : Cluster) → Settles (IsLine setup line) c
+unfolding IsLine
+settles-line setup lines.Nothing c = settles-nothing c
+settles-line setup (lines.Publish body) c =
+    settles-asked setup (IsSend setup 1 [] (setup.name setup.first) body) c
+    (settles-routed 1 (publish_with (setup.name setup.first) body) (setup.targets [] (setup.name setup.first)) c)
+settles-line setup (lines.Send by exchange key body) c =
+    settles-asked setup (IsSend setup by.number exchange key body) c
+    (settles-routed by.number (publish_with key body) (setup.targets exchange key) c)
+settles-line setup (lines.Client by at body) c =
+    settles-asked setup (IsGiven by.number body at.0) c (settles-given by.number body at.0 c)
+settles-line setup (lines.End by) c =
+    settles-asked setup (IsEnd setup by.number) c (settles-end setup by.number c)
+settles-line setup (lines.Resend by) c =
+    settles-asked setup (IsResend setup by.number) c (settles-resend setup by.number c)
+settles-line setup (lines.Mute by muted) c = settles-is (Alike (Mutes by.number muted)) c
+settles-line setup (lines.Pace auto) c = settles-is (Sets auto) c
+settles-line setup lines.Pump c = settles-pumps most_rounds setup c
+settles-line setup (lines.Write node) c =
+    settles-up node.0 (IsWrite setup node.0) c (settles-write setup node.0 c)
+settles-line setup (lines.Sync node) c = settles-up node.0 (IsSync setup node.0) c (settles-sync setup node.0 c)
+settles-line setup (lines.Notice node at) c =
+    settles-up node.0 (Is (At at.0 (Notices node.0))) c (settles-is (At at.0 (Notices node.0)) c)
+settles-line setup (lines.Tick node at) c =
+    settles-up node.0 (Is (At at.0 (Ticks node.0))) c (settles-is (At at.0 (Ticks node.0)) c)
+settles-line setup (lines.Deliver at message) c = settles-deliver at.0 message c
+settles-line setup (lines.Lose at message) c = settles-lose at.0 message c
+settles-line setup (lines.Copy at message) c = settles-copy at.0 message c
+settles-line setup (lines.Crash nodes image) c =
+    settles-each (nodes_of setup nodes) (λ k. Is (Crashes k image)) (λ k d. settles-is (Crashes k image) d) c
+settles-line setup (lines.Restart nodes) c =
+    settles-each (nodes_of setup nodes) (IsRestart setup) (settles-restart setup) c
+settles-line setup (lines.Show at) c = settles-is (Shows at.0) c
+
+settles-script : (setup : Setup) (said : List ScriptLine) (c : Cluster) → Settles (IsScript setup said) c
+settles-script setup [] c = settles-nothing c
+settles-script setup (line ∷ more) c =
+    settles-then (IsLine setup line) (IsScript setup more) c (settles-line setup line c)
+    (λ d. settles-script setup more d)
+
+settles-tick : (place : ℕ) (nodes : List NodeId) (c : Cluster) → Settles (tick_at place nodes) c
+settles-tick place [] c = settles-nothing c
+settles-tick place (n ∷ nodes) c = settles-is (At place (Ticks n.0)) c
+
+settles-opening : (setup : Setup) (c : Cluster) → Settles (IsOpening setup) c
+settles-opening setup c =
+    settles-then (ForEach setup.nodes (IsRestart setup))
+    (Then (ForEach setup.places (IsFirstTick setup)) (IsPump setup)) c
+    (settles-each setup.nodes (IsRestart setup) (settles-restart setup) c)
+    (λ d. settles-then (ForEach setup.places (IsFirstTick setup)) (IsPump setup) d
+    (settles-each setup.places (IsFirstTick setup) (λ place e. settles-tick place (members setup place) e) d)
+    (λ e. settles-pumps most_rounds setup e))
+
+settled : (Allows : Rule) (c : Cluster) → Settles Allows c → LeavesNoChoice Allows c
+settled Allows c settles es fs a b fine_es fine_fs finds =
+    settles es fs [] [] a b fine_es fine_fs (ap (λ (l : List (ℕ → ℕ)). l ++ []) finds)
+
+pub line-settles : (setup : Setup) (line : ScriptLine) (c : Cluster) → LeavesNoChoice (IsLine setup line) c
+line-settles setup line c = settled (IsLine setup line) c (settles-line setup line c)
+
+pub run-settles : (setup : Setup) (said : List ScriptLine) → LeavesNoChoice (IsRun setup said) (new_cluster setup)
+run-settles setup said =
+    settled (IsRun setup said) (new_cluster setup)
+    (settles-then (IsOpening setup) (IsScript setup said) (new_cluster setup)
+    (settles-opening setup (new_cluster setup)) (λ d. settles-script setup said d))

@@ -1,0 +1,96 @@
+-- What holds of a queue of a cluster, whatever happens to it.
+use Rattle.std.specs.Prelude.{◌≡◌, ◌≤◌, ◌<◌, ℕ, List, [], ◌∷◌, ◌++◌, true, Some, None, length, nat_eq, Contains, if◌then◌else◌}
+use Rattle.qq_base.specs.Fronts.{IsFront}
+use Rattle.qq_base.specs.Ids.{client}
+use Rattle.qq_entry.specs.declared.audit.Effect.TheVariants.{Deliver}
+use Rattle.qq_entry.specs.declared.command.Command.{Command}
+use Rattle.qq_entry.specs.declared.command.Command.TheVariants.{Down}
+use Rattle.qq_entry.specs.declared.command.Entry.{Entry}
+use Rattle.qq_entry.specs.declared.queue.QueueArgs.{QueueArgs}
+use Rattle.qq_model.specs.Audit.{effects_of}
+use Rattle.qq_model.specs.State.{empty_queue}
+use Rattle.qq_raft_model.specs.Group.{Event as Move, Group}
+use Rattle.qq_raft_model.specs.Group.Event.{Submit}
+use Rattle.qq_raft_model.specs.Promises.{AreDistinct, IsOpened}
+use Rattle.qq_session.specs.Arriving.{Deed, Hands, handed}
+use Rattle.qq_session.specs.Publishing.{new_numbers}
+use Rattle.qq_world.specs.Laws.{takes_of}
+use Rattle.qq_world.specs.World.{Shown, Delivered, NoLeader}
+use Rattle.qq_cluster.specs.Queue.{Queue, Event, Submits, Downs, Ends, acts, audit_rows, moves, happens, said, after, begin, leader, rows_told}
+use Rattle.qq_cluster.specs.Rules.{is_ended}
+
+-- a group with which a queue may begin: no node has two of its members, and their logs support an audit
+pub record IsBegun (group : Group) : Type 0 where
+  pub distinct : AreDistinct group.nodes
+  pub whole : List Entry
+  pub opened : IsOpened group whole
+
+-- what events make of a queue that begins with a group
+abbrev pub queue_after : QueueArgs → Group → List Event → Queue
+queue_after args group events = after (begin args group) events
+
+-- what events are to the queue's group
+abbrev pub all_moves : Queue → List Event → List Move
+all_moves q [] = []
+all_moves q (event ∷ events) = moves q event ++ all_moves (happens q event) events
+
+-- whatever happens next, the rows of its audit stay
+abbrev pub KeepsAudit : Queue → List Event → Type 0
+KeepsAudit q events = IsFront (audit_rows q) (audit_rows (after q events))
+
+-- what is printed as a delivery is an effect of an entry of the audit
+abbrev pub IsMade : Queue → Shown → Type 0
+IsMade q (Delivered consumer delivery) =
+    Contains (effects_of (empty_queue q.args) q.group.audit) (Deliver consumer delivery)
+IsMade q _ = Unit {0}
+
+-- ---- a session's commands
+
+-- a session gives a command a number
+abbrev pub hands_at : ℕ → Event → List Deed
+hands_at session (Submits own body) = if nat_eq own session then Hands body ∷ [] else []
+hands_at session _ = []
+
+-- what a session does at an event: it gives a command a number, and it takes answers that aren't lost
+abbrev pub deeds_at : ℕ → Queue → Event → List Deed
+deeds_at session q event = hands_at session event ++ takes_of session (acts event q.clients) (rows_told q event)
+
+abbrev pub deeds : ℕ → Queue → List Event → List Deed
+deeds session q [] = []
+deeds session q (event ∷ events) = deeds_at session q event ++ deeds session (happens q event) events
+
+-- the commands that a session has given numbers, in order
+abbrev pub commands_of : QueueArgs → Group → ℕ → List Event → List Command
+commands_of args group session events =
+    handed (new_numbers (client session) args.queue) (deeds session (begin args group) events)
+
+-- ---- the logs
+
+-- of what a node's log was given no more is noticed than a sync has kept
+pub record CountsRise (q : Queue) (k : ℕ) : Type 0 where
+  pub noticed : (q.group.seat k).noticed ≤ q.synced k
+  pub synced : q.synced k ≤ length (q.group.seat k).ops
+
+-- ---- the end of a session
+
+-- a leader is handed the end of a session; without one the session is told so, and nothing else happens
+pub record LeaderIsTold (session : ℕ) (q : Queue) : Type 0 where
+  pub handed : (k : ℕ) → leader q.group ≡ Some k → moves q (Downs session) ≡ Submit k 0 (Down (client session)) ∷ []
+  pub silent : (k : ℕ) → leader q.group ≡ Some k → said q (Downs session) ≡ []
+  pub lost : leader q.group ≡ None → happens q (Downs session) ≡ q
+  pub told : leader q.group ≡ None → said q (Downs session) ≡ NoLeader session ∷ []
+
+pub record NobodyIsTold (session : ℕ) (q : Queue) : Type 0 where
+  pub same : happens q (Downs session) ≡ q
+  pub silent : said q (Downs session) ≡ []
+
+-- a queue is told of the end of the sessions that have given it a command
+abbrev pub TellsOfEnd : ℕ → Queue → Type 0
+TellsOfEnd session q =
+    ((1 < (q.clients session).numbers.next) → LeaderIsTold session q)
+    × (((q.clients session).numbers.next ≤ 1) → NobodyIsTold session q)
+
+-- a session has ended once it ends, and whatever happens then
+pub record StaysEnded (session : ℕ) (q : Queue) : Type 0 where
+  pub ends : is_ended session (happens q (Ends session)) ≡ true
+  pub stays : (event : Event) → is_ended session q ≡ true → is_ended session (happens q event) ≡ true

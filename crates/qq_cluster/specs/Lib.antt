@@ -1,0 +1,9 @@
+pub mod Queue
+pub mod Cluster
+pub mod Texts
+pub mod Rules
+pub mod Lines
+pub mod Serving
+pub mod Laws
+pub mod ClusterLaws
+pub mod Example

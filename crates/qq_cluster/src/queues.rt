@@ -1,0 +1,83 @@
+//! The laws of a queue of a cluster, whatever happens to it.
+ghost use Rattle.std.specs.Prelude.{◌≡◌, ◌≤◌, ◌<◌, ◌∷◌, [], List, ℕ, Some, None, length, map};
+ghost use Rattle.qq_base.specs.declared.ids.NodeId.{NodeId};
+ghost use Rattle.qq_base.specs.declared.ids.QueueId.{QueueId};
+ghost use Rattle.qq_entry.specs.declared.command.Command.{Command};
+ghost use Rattle.qq_entry.specs.declared.command.Unstamped.{Unstamped};
+ghost use Rattle.qq_entry.specs.declared.queue.QueueArgs.{QueueArgs};
+ghost use Rattle.qq_model.specs.Audit.{IsSerial};
+ghost use Rattle.qq_model.specs.State.{empty_queue};
+ghost use Rattle.qq_model.specs.declared.TheConstants.{WINDOW};
+ghost use Rattle.qq_raft_model.specs.Group.{Group, group_after, new_group};
+ghost use Rattle.qq_raft_model.specs.Group.Event.{Submit};
+ghost use Rattle.qq_raft_model.specs.Promises.{AreDistinct};
+ghost use Rattle.qq_session.specs.Publishing.{next_command, hand, open_commands};
+ghost use Rattle.qq_world.specs.World.{NoLeader, WindowFull};
+ghost use Rattle.qq_cluster.specs.Laws.{CountsRise, IsBegun, KeepsAudit, all_moves, queue_after};
+ghost use Rattle.qq_cluster.specs.Queue.{Event, Queue, Submits, Resends, audit_rows, begin, happens, leader, moves, said};
+
+use qq_raft_model::{groups_are_opened, what_a_group_committed_stays};
+
+/// A law: the group of a queue is one that the queue's events make of the one that it began with, so each
+/// law of a group is one of it.
+pub fn a_queue_is_its_group()
+    ensures { (args : QueueArgs) (group : Group) (events : List Event) →
+        (queue_after args group events).group
+        ≡ group_after group (all_moves (begin args group) events) }
+{}
+
+/// A law: a queue may begin with new logs, and so with an empty audit.
+pub fn a_queue_may_begin_with_new_logs()
+    ensures { (queue : QueueId) (nodes : List NodeId) → AreDistinct nodes →
+        IsBegun (new_group queue nodes) }
+{
+    groups_are_opened();
+}
+
+/// A law: the audit is what the queue's definition gives of the entries that its group has
+/// committed, one after the other; and whatever happens later, crashes too, its rows stay.
+pub fn an_audit_is_serial()
+    ensures serial { (args : QueueArgs) (group : Group) (events : List Event) →
+        IsSerial (empty_queue args) (audit_rows (queue_after args group events)) }
+    ensures stays { (args : QueueArgs) (group : Group) (first second : List Event) →
+        IsBegun group → KeepsAudit (queue_after args group first) second }
+{
+    what_a_group_committed_stays();
+}
+
+/// A law: a member is noticed of no more than a sync has kept of what its node's log was given.
+pub fn ops_are_noticed_once_synced()
+    ensures { (args : QueueArgs) (group : Group) (events : List Event) (k : ℕ) →
+        IsBegun group → CountsRise (queue_after args group events) k }
+{}
+
+/// A law: a command that gets a number goes to the leader. Where there is none, and only there, the
+/// session is told so; the command stays open, and nothing else happens. A session whose window is
+/// full is told that, and gets no number. Commands that are sent again where there is no leader are
+/// each told so, and nothing else happens.
+pub fn commands_go_to_the_leader()
+    ensures opened { (session : ℕ) (body : Unstamped) (q : Queue) →
+        length (q.clients session).numbers.opened < WINDOW →
+        ((happens q (Submits session body)).clients session).numbers
+        ≡ hand body (q.clients session).numbers }
+    ensures led { (session : ℕ) (body : Unstamped) (q : Queue) (k : ℕ) →
+        length (q.clients session).numbers.opened < WINDOW → leader q.group ≡ Some k →
+        (moves q (Submits session body)
+        ≡ Submit k 0 (next_command body (q.clients session).numbers) ∷ [])
+        × (said q (Submits session body) ≡ []) }
+    ensures lost { (session : ℕ) (body : Unstamped) (q : Queue) →
+        length (q.clients session).numbers.opened < WINDOW → leader q.group ≡ None →
+        (moves q (Submits session body) ≡ [])
+        × (said q (Submits session body) ≡ NoLeader session ∷ []) }
+    ensures full { (session : ℕ) (body : Unstamped) (q : Queue) →
+        WINDOW ≤ length (q.clients session).numbers.opened →
+        (happens q (Submits session body) ≡ q)
+        × (said q (Submits session body) ≡ WindowFull session ∷ []) }
+    ensures again { (session : ℕ) (q : Queue) (k : ℕ) → leader q.group ≡ Some k →
+        (moves q (Resends session)
+        ≡ map (Submit k 0) (open_commands (q.clients session).numbers))
+        × (said q (Resends session) ≡ []) }
+    ensures again_lost { (session : ℕ) (q : Queue) → leader q.group ≡ None →
+        (happens q (Resends session) ≡ q) × (said q (Resends session)
+        ≡ map (λ (c : Command). NoLeader session) (open_commands (q.clients session).numbers)) }
+{}
