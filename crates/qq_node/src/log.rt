@@ -1,10 +1,10 @@
 //! The log, as a node writes to it.
-ghost use Rattle.std.specs.Prelude.{◌≡◌, ◌≤◌, false, true, [], nat_le, IsTrue, IfOk, IfErr, OnOk};
+ghost use Rattle.std.specs.Prelude.{◌≡◌, ◌≤◌, false, true, [], IsTrue, IfOk, IfErr, OnOk};
 ghost use Rattle.qq_base.specs.Causes.{HasCause, Rose};
 ghost use Rattle.qq_disk.specs.Disk.{now};
 ghost use Rattle.qq_recover.specs.Recovered.{IsAtEnd};
 ghost use Rattle.qq_wal.specs.Running.{Stays, StaysWhole, StillHolds};
-ghost use Rattle.qq_wal.specs.Wal.{IsSound, StaysAppending, carries_ahead};
+ghost use Rattle.qq_wal.specs.Wal.{IsSound, StaysAppending, carries_ahead, is_full};
 ghost use Rattle.qq_node.specs.Log.{AppendsAll, AppendsSome, FailsByCount, GoesOnAt, HasCome, HasWritten, IsLogCaused, IsNextFile, KeepsLimit, KeepsWaiting};
 
 use qq_base::Memory;
@@ -112,8 +112,8 @@ pub fn begin_next<D: NodeDisk>(wal: &mut Wal<D>, alloc: Global) -> Result<bool, 
         (D.past wal.old.disk) (D.past wal.new.disk) }
     ensures holds { IsTrue (D.tells wal.old.disk) → IfOk result (λ more. more ≡ true →
         StillHolds wal.old.queues.items (now (D.past wal.old.disk)) (now (D.past wal.new.disk))) }
-    ensures file { IfOk result (λ more. more ≡ true → IsNextFile
-        (nat_le wal.old.log_bytes wal.old.size) wal.old wal.new) }
+    ensures file { IfOk result (λ more. more ≡ true →
+        IsNextFile (is_full wal.old) wal.old wal.new) }
     ensures going { IfOk result (λ more. more ≡ true → wal.new.stopped ≡ false) }
     ensures failed { IfOk result (λ more. more ≡ false →
         Rose (D.faults wal.old.disk) (D.faults wal.new.disk)) }

@@ -61,6 +61,7 @@ module _ {D : Type 0} (queues : List QueueId) (names : List FileName) (log_bytes
           ∙ ap (λ (h : Header). begin_files h.file vec.items ranges) (sym b.header_is)
           ∙ ap (λ (v : Vec QueueId). begin_files w.header.file v.items ranges) (sym b.queues_are);
       size = b.size ∙ ap (λ (h : Header). first_length h w.marks) (sym b.header_is);
+      first = b.first;
       numbers = b.numbers ∙ ap (λ (h : Header). first_numbers h names) (sym b.header_is);
       limit = b.limit;
       clean = b.clean;

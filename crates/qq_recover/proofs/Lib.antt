@@ -19,3 +19,4 @@ mod Outcomes
 pub mod Causes
 pub mod Reread
 pub mod GoingOn
+pub mod Frames

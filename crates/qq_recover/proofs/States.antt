@@ -1,9 +1,11 @@
 -- A queue's state with a record more.
-use Rattle.std.proofs.Common.{◌≡◌, ◌≤◌, ◌<◌, ◌^◌, ◌+◌, ◌-◌, ℕ, Bool, true, false, cond, eqb, leb, ◌&&◌, List, [], ◌∷◌, ◌++◌, length, take, Option, Some, None, refl, sym, ap, subst, ◌∙◌, arith}
-use Rattle.std.specs.Prelude.{map, replicate, unwrap_or, All}
+use Rattle.std.proofs.Common.{◌≡◌, ◌≤◌, ◌<◌, ◌^◌, ◌+◌, ◌-◌, ℕ, zero, suc, Bool, true, false, cond, eqb, leb, ◌&&◌, List, [], ◌∷◌, ◌++◌, length, take, Option, Some, None, refl, sym, ap, subst, ◌∙◌, arith}
+use Rattle.std.specs.Prelude.{map, replicate, unwrap_or, All, IfSome}
+use Rattle.std.specs.List.{AllByRecursion}
+use Rattle.qq_base.proofs.Lists.{AllByRecursion-append}
 use Rattle.std.specs.List.{list_all}
 use Rattle.std.proofs.lemmas.Bool.{and_parts, and_from, eqb-true, eq-eqb, leb-true, le-leb, lt-leb}
-use Rattle.std.proofs.lemmas.List.Elements.{All-from_recursion}
+use Rattle.std.proofs.lemmas.List.Elements.{All-from_recursion, recursion_from_All}
 use Rattle.std.proofs.lemmas.List.{map-append, take-map, length-map, length-append, length-take}
 use Rattle.qq_base.specs.declared.ids.Index.{Index}
 use Rattle.qq_base.specs.declared.ids.NodeId.{NodeId}
@@ -11,14 +13,52 @@ use Rattle.qq_base.specs.declared.ids.QueueId.{QueueId}
 use Rattle.qq_base.specs.declared.ids.Term.{Term}
 use Rattle.qq_base.specs.declared.memory.TheConstants.{NUMBER_END}
 use Rattle.qq_entry.specs.declared.command.Entry.{Entry}
+use Rattle.qq_entry.specs.Range.{IsWritable as IsEntry}
 use Rattle.qq_log.specs.declared.head.SnapshotHead.{SnapshotHead}
 use Rattle.qq_log.specs.declared.lane.Carry.{Carry}
+use Rattle.qq_log.specs.declared.lane.Lane.{Lane}
 use Rattle.qq_log.specs.declared.op.Op.TheVariants.{Change}
 use Rattle.qq_log.specs.declared.head.Span.{Span}
 use Rattle.qq_log.specs.Stable.{Stable, new_state, last_index, act, apply_op, change, carry_of, take_carry, state_of, restates}
-use Rattle.qq_log.specs.Writable.{IsVote, IsSegment, IsWritableCarry}
+use Rattle.qq_log.specs.Writable.{IsHeadWithinEnds, IsVote, IsSegment, IsWritableCarry}
 use Rattle.qq_wal_chain.specs.Lanes.{is_within_end, is_head_within_ends, is_op_within_ends, is_carry_within_ends, is_plain}
-use Rattle.qq_recover.specs.State.{known_state, IsCarried, state_with_op, state_with_carry}
+use Rattle.qq_recover.specs.State.{known_state, IsCarried, IsSoundEntry, IsWithinEnds, state_with_op, state_with_carry}
+
+-- ---- entries
+
+some-to : (entries : List Entry) → AllByRecursion IsSoundEntry entries
+    → AllByRecursion (λ (o : Option Entry). IfSome o IsSoundEntry) (map Some entries)
+some-to [] each = tt
+some-to (e ∷ entries) each = (each.0, some-to entries each.1)
+
+pub some-from : (entries : List Entry) → AllByRecursion (λ (o : Option Entry). IfSome o IsSoundEntry) (map Some entries)
+    → AllByRecursion IsSoundEntry entries
+some-from [] each = tt
+some-from (e ∷ entries) each = (each.0, some-from entries each.1)
+
+first-sound : (count : ℕ) (entries : List Entry) → AllByRecursion IsSoundEntry entries
+    → AllByRecursion IsSoundEntry (take count entries)
+first-sound zero entries each = tt
+first-sound (suc count) [] each = tt
+first-sound (suc count) (e ∷ entries) each = (each.0, first-sound count entries each.1)
+
+new-sound : (entries : List Entry) → AllByRecursion IsEntry entries
+    → list_all (λ (e : Entry). is_within_end e.term.0) entries ≡ true → AllByRecursion IsSoundEntry entries
+new-sound [] each within = tt
+new-sound (e ∷ entries) each within =
+    let both = and_parts (is_within_end e.term.0) (list_all (λ (e : Entry). is_within_end e.term.0) entries) within in
+    (record { entry = each.0; term = leb-true e.term.0 NUMBER_END both.0 }, new-sound entries each.1 both.1)
+
+both-said : (entries : List Entry) → AllByRecursion IsSoundEntry entries
+    → AllByRecursion (λ (e : Entry). IsEntry e × (e.term.0 ≤ NUMBER_END)) entries
+both-said [] each = tt
+both-said (e ∷ entries) each = ((each.0.entry, each.0.term), both-said entries each.1)
+
+pub sound-entries : (entries : List Entry) → All IsSoundEntry entries
+    → All (λ (e : Entry). IsEntry e × (e.term.0 ≤ NUMBER_END)) entries
+sound-entries entries each =
+    All-from_recursion (λ (e : Entry). IsEntry e × (e.term.0 ≤ NUMBER_END)) entries
+    (both-said entries (recursion_from_All IsSoundEntry entries each))
 
 abbrev pub carry_with : QueueId → ℕ → Term → Option NodeId → SnapshotHead → ℕ → List Span → ℕ → Carry
 carry_with queue op term vote base snapshot segments last =
@@ -67,13 +107,19 @@ module _ (own_op : ℕ) (own_term : Term) (own_vote : Option NodeId) (base : Sna
       rw (within, follows_so, low, high) refl
 
   -- its carry may be written again
-  pub change-carried : IsVote vote → keep.0 ≤ length log
+  pub change-carried : IsVote vote → All IsEntry entries → keep.0 ≤ length log
       → IsCarried (known_state op term vote base snapshot (take keep.0 log ++ entries))
-  change-carried v h =
+  change-carried v each h =
       record {
         vote = v;
         within = within_so;
         plain = λ id. and_from (eqb base.index.0 0) true (eq-eqb base.index.0 0 at_zero) refl;
+        entries = some-to (take keep.0 log ++ entries)
+            (AllByRecursion-append IsSoundEntry (take keep.0 log) entries
+            (first-sound keep.0 log (some-from log carried.entries))
+            (new-sound entries (recursion_from_All IsEntry entries each)
+            (and_parts (is_within_end op && is_within_end term.0 && is_within_end (keep.0 + length entries))
+            (list_all (λ (e : Entry). is_within_end e.term.0) entries) within).1));
       }
     where
       new_last : ℕ
@@ -152,6 +198,37 @@ module _ (op : ℕ) (term : Term) (vote : Option NodeId) (base : SnapshotHead) (
       ≡ carry_of queue (known_state op term vote base snapshot entries)
   carry-is queue segments last none long = λ i.
       carry_with queue op term vote base snapshot (none i) ((long ∙ last-is) i)
+
+  -- its lane is within all ends
+  pub lane-within : (lane : Lane) → lane.op ≡ op → lane.term ≡ term → lane.vote ≡ vote → lane.base ≡ base
+      → lane.entries ≡ entries → IsWithinEnds lane
+  lane-within lane same_op same_term same_vote same_base same_entries =
+      let o4 = and_parts (is_within_end op && is_within_end term.0 && is_head_within_ends base && is_within_end snapshot)
+      (is_within_end (base.index.0 + length (map Some entries))) (carried.within (record { 0 = 0 })) in
+      let o3 = and_parts (is_within_end op && is_within_end term.0 && is_head_within_ends base) (is_within_end snapshot) o4.0 in
+      let o2 = and_parts (is_within_end op && is_within_end term.0) (is_head_within_ends base) o3.0 in
+      let o1 = and_parts (is_within_end op) (is_within_end term.0) o2.0 in
+      let b2 = and_parts (is_within_end base.index.0 && is_within_end base.term.0) (is_within_end base.through.0) o2.1 in
+      let b1 = and_parts (is_within_end base.index.0) (is_within_end base.term.0) b2.0 in
+      record {
+        op = subst (λ (n : ℕ). n ≤ NUMBER_END) (sym same_op) (leb-true op NUMBER_END o1.0);
+        term = subst (λ (t : Term). t.0 ≤ NUMBER_END) (sym same_term) (leb-true term.0 NUMBER_END o1.1);
+        vote = subst (λ (v : Option NodeId). IsVote v) (sym same_vote) carried.vote;
+        base = subst (λ (b : SnapshotHead). IsHeadWithinEnds b) (sym same_base) (
+          leb-true base.index.0 NUMBER_END b1.0,
+          leb-true base.term.0 NUMBER_END b1.1,
+          leb-true base.through.0 NUMBER_END b2.1,
+        );
+        last = subst (λ (b : SnapshotHead). b.index.0 + length lane.entries ≤ NUMBER_END) (sym same_base)
+            (subst (λ (es : List Entry). base.index.0 + length es ≤ NUMBER_END) (sym same_entries)
+            (omega (
+              arith,
+              leb-true (base.index.0 + length (map Some entries)) NUMBER_END o4.1,
+              length-map {A = Entry} {B = Option Entry},
+            )));
+        entries = subst (λ (es : List Entry). All IsSoundEntry es) (sym same_entries)
+            (All-from_recursion IsSoundEntry entries (some-from entries carried.entries));
+      }
 
 -- its carry may be written
 module _ (s : Stable) (queue : QueueId) (short : queue.0 < 2 ^ 32) (carried : IsCarried s) (none : s.segments ≡ []) where
@@ -247,7 +324,8 @@ module _ (c : Carry) (may : (is_carry_within_ends c && is_plain c) ≡ true) whe
         within = λ id. and_from (is_within_end c.op && is_within_end c.term.0 && is_head_within_ends c.base && is_within_end c.snapshot)
             (is_within_end (c.base.index.0 + 0)) o4.0 (le-leb (c.base.index.0 + 0) NUMBER_END (omega (arith, zero)));
         plain = λ id. and_from (eqb c.base.index.0 0) true parts.0 refl;
+        entries = tt;
       }
 
 pub new-carried : IsCarried new_state
-new-carried = record { vote = tt; within = λ id. refl; plain = λ id. refl }
+new-carried = record { vote = tt; within = λ id. refl; plain = λ id. refl; entries = tt }

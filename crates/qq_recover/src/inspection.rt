@@ -1,20 +1,25 @@
 //! The lanes, without a change of the disk.
-ghost use Rattle.std.specs.Prelude.{◌≡◌, List, Ok, IsTrue, IfOk, IfErr, OnOk, IsOkUnless};
-ghost use Rattle.qq_base.specs.Causes.{HasCause};
-ghost use Rattle.qq_disk.specs.Disk.{now};
+ghost use Rattle.std.specs.Prelude.{◌≡◌, ◌≤◌, ◌<◌, ℕ, List, Ok, IsTrue, IfOk, IfErr, OnOk, IsOkUnless};
+ghost use Rattle.qq_base.specs.declared.memory.TheConstants.{NUMBER_END};
+ghost use Rattle.qq_base.specs.Causes.{HasCause, SpentOnlyWhere};
+ghost use Rattle.qq_disk.specs.declared.name.FileKind.TheVariants.{Log as OfLog};
+ghost use Rattle.qq_disk.specs.Disk.{IsListed, now};
+ghost use Rattle.qq_disk.specs.Image.{log_of};
+ghost use Rattle.qq_wal.specs.Numbers.{greatest_number};
 ghost use Rattle.qq_wal_chain.specs.Lanes.{Lanes};
 ghost use Rattle.qq_recover.specs.Answer.{Fails};
-ghost use Rattle.qq_recover.specs.Fault.{IsCaused};
 ghost use Rattle.qq_recover.specs.Lanes.{AreLanes, AddsLane};
 ghost use Rattle.qq_recover.specs.Reading.{shown, lanes_read};
 ghost use Rattle.qq_recover.specs.ReadOnly.{OnlyReads};
+ghost use Rattle.qq_recover.specs.Recovered.{IsRecoverCaused, IsSpentOn};
 ghost use Rattle.qq_recover.specs.Table.{lanes_of};
 
 use crate::fault::RecoverFault;
-use crate::log::read_log;
+use crate::log::{Log, read_log};
+use crate::start::next_number;
 use crate::table::Table;
 use qq_base::{Memory, QueueId};
-use qq_disk::NodeDisk;
+use qq_disk::{FileName, NodeDisk};
 use qq_log::Lane;
 use std::alloc::Global;
 
@@ -52,12 +57,29 @@ fn lanes_in(alloc: Global, queues: &[QueueId], table: Table) -> Result<Vec<Lane>
     Ok(lanes)
 }
 
+/// The lanes of a log that was read, where a file could follow it.
+fn lanes_of_log(
+    alloc: Global,
+    queues: &[QueueId],
+    names: &[FileName],
+    log: Log,
+) -> Result<Vec<Lane>, Memory>
+    ensures ok { IfOk result (λ lanes. AreLanes queues.now (lanes_of log.table) lanes.items) }
+    ensures end { OnOk result (greatest_number OfLog names.now < NUMBER_END) }
+    ensures cause { IfErr result (λ e. SpentOnlyWhere e (greatest_number OfLog names.now)
+        (NUMBER_END ≤ greatest_number OfLog names.now)) }
+{
+    next_number(names)?;
+    lanes_in(alloc, queues, log.table)
+}
+
 /// The lanes that `recover` would give, of each queue that has ops, in the order of the queues; or why it
 /// would give none. It makes no call that changes the disk.
 ///
 /// `Damaged` and `Version` come exactly where the log files that the disk shows break the rules of the log,
-/// and tell the first place. `Disk` comes only where the disk's count of faults rose, and `Memory` where
-/// there was none.
+/// and tell the first place. `Disk` comes only where the disk's count of faults rose, `Spent` exactly where a
+/// listed log file's number is 2^63 or more, with the greatest, as `recover` answers it, and `Want` where there
+/// was no memory.
 pub fn inspect<D: NodeDisk>(
     disk: &mut D,
     alloc: Global,
@@ -68,12 +90,16 @@ pub fn inspect<D: NodeDisk>(
         × AreLanes queues.now read lanes.items) }
     ensures err { IsTrue (D.tells disk.old) →
         IfErr result (λ e. Fails e (lanes_read queues.now (shown (now (D.past disk.old))))) }
+    ensures spent { IsTrue (D.tells disk.old) →
+        IfErr result (IsSpentOn (now (D.past disk.old))) }
+    ensures end { IsTrue (D.tells disk.old) → (number : ℕ) → NUMBER_END ≤ number →
+        IsListed (now (D.past disk.old)) (log_of number) → OnOk result ⊥ }
     ensures reads { OnlyReads D.tells D.past disk.old disk.new }
-    ensures cause { HasCause IsCaused (D.faults disk.old) (D.faults disk.new) result }
+    ensures cause { HasCause IsRecoverCaused (D.faults disk.old) (D.faults disk.new) result }
 {
     let names = disk.names(alloc)?;
     match read_log(disk, alloc, names.as_slice(), queues) {
-        Ok(log) => Ok(lanes_in(alloc, queues, log.table)?),
+        Ok(log) => Ok(lanes_of_log(alloc, queues, names.as_slice(), log)?),
         Err(fault) => Err(fault),
     }
 }

@@ -1,5 +1,5 @@
 //! Laws of what recovery reads: the functions do nothing, and their contracts are the laws.
-ghost use Rattle.std.specs.Prelude.{◌≡◌, ◌≤◌, ◌+◌, ◌⊎◌, ◌^◌, ℕ, List, Option, Some, Ok, Err, length, unwrap_or, true, false};
+ghost use Rattle.std.specs.Prelude.{◌≡◌, ◌≤◌, ◌<◌, ◌+◌, ◌⊎◌, ◌^◌, ℕ, All, List, Option, Some, Ok, Err, length, unwrap_or, true, false};
 ghost use Rattle.qq_base.specs.Causes.{Rose};
 ghost use Rattle.qq_base.specs.Fronts.{IsFront};
 ghost use Rattle.qq_base.specs.declared.ids.Index.{Index};
@@ -10,7 +10,8 @@ ghost use Rattle.qq_base.specs.declared.ids.QueueId.{QueueId};
 ghost use Rattle.qq_base.specs.declared.memory.Memory.{Memory};
 ghost use Rattle.qq_base.specs.declared.memory.Memory.TheVariants.{Want, Spent};
 ghost use Rattle.qq_disk.specs.Crash.{IsImage, Remains, reopen};
-ghost use Rattle.qq_disk.specs.Disk.{Disk, IsListed, now};
+ghost use Rattle.qq_disk.specs.Disk.{Disk, IsListed, contents, now};
+ghost use Rattle.qq_disk.specs.Name.{same_name};
 ghost use Rattle.qq_disk.specs.Image.{log_of};
 ghost use Rattle.qq_disk.specs.declared.name.FileName.{FileName};
 ghost use Rattle.qq_log.specs.declared.op.Op.{Op};
@@ -39,7 +40,11 @@ ghost use Rattle.qq_recover.specs.declared.recovered.Recovered.{Recovered};
 ghost use Rattle.qq_recover.specs.Entries.{entry_files, ranges_read};
 ghost use Rattle.qq_recover.specs.Reading.{files_read, lanes_read, shown};
 ghost use Rattle.qq_recover.specs.Recovered.{IsBegunBehind, IsNoRefusal, IsRecoverCaused, IsSpentOn, KnowsLanes, lanes_left, wal_of};
-ghost use Rattle.qq_recover.specs.Recovery.{IsReadable, MayRecover, SettlesLanes};
+ghost use Rattle.qq_entry.specs.Range.{IsWritable as IsEntry};
+ghost use Rattle.qq_log.specs.declared.lane.Lane.{Lane};
+ghost use Rattle.qq_log.specs.Writable.{IsVote};
+ghost use Rattle.qq_recover.specs.State.{IsWithinEnds};
+ghost use Rattle.qq_recover.specs.Recovery.{BeginsOne, IsReadable, MayRecover, SettlesLanes, StaysSyncing};
 
 use qq_disk::NodeDisk;
 use qq_wal_chain::the_log_has_a_format;
@@ -101,6 +106,35 @@ pub fn a_recovered_queue_goes_on<D: NodeDisk>()
         synced_in (wal_of r).marks id ≡ (unwrap_or (lanes_left r id.0) new_state).op }
 {}
 
+/// What recovery leaves of the files that are there: whatever it answers, each file shows what it showed, of whatever
+/// kind, but for one log file, whose number is above that of each log file that was listed.
+pub fn recovery_leaves_other_files_their_bytes()
+    ensures synced { (old new : List Disk) (file : FileName) → StaysSyncing old new →
+        contents (now new) file ≡ contents (now old) file }
+    ensures begun { (old new : List Disk) → BeginsOne old new → (number : ℕ)
+        × ((m : ℕ) → IsListed (now old) (log_of m) → m < number)
+        × ((file : FileName) → same_name (log_of number) file ≡ false →
+        contents (now new) file ≡ contents (now old) file) }
+{}
+
+/// What a lane is that recovery hands out, whatever the disk tells. `IsWithinEnds` is a clause of
+/// `Recovered::lane`.
+///
+/// - `numbers`: its op, its term and the index of its last entry are at most 2^63, and so are the numbers of the
+///   snapshot that it stands on.
+/// - `vote`: whom its server has voted for may be written.
+/// - `entries`: each entry is in range with its content, and its term is at most 2^63.
+pub fn a_lane_is_within_its_ends()
+    ensures numbers { (lane : Lane) → IsWithinEnds lane →
+        (lane.op ≤ 2 ^ 63) × (lane.term.0 ≤ 2 ^ 63)
+        × (lane.base.index.0 + length lane.entries ≤ 2 ^ 63)
+        × (lane.base.index.0 ≤ 2 ^ 63) × (lane.base.term.0 ≤ 2 ^ 63)
+        × (lane.base.through.0 ≤ 2 ^ 63) }
+    ensures vote { (lane : Lane) → IsWithinEnds lane → IsVote lane.vote }
+    ensures entries { (lane : Lane) → IsWithinEnds lane →
+        All (λ e. IsEntry e × (e.term.0 ≤ 2 ^ 63)) lane.entries }
+{}
+
 /// What `in_file` tells once a log was recovered is true of the files that were read: of each queue the
 /// changes in these files, one after the other, leave each of its entries in one file, and of those that lie
 /// in a file the first and the last are told.
@@ -130,8 +164,9 @@ pub fn entries_lie_where_they_were_read<D: NodeDisk>()
 /// Why recovery gave up.
 ///
 /// - `disk`: `Disk` comes only where the disk has counted a failure.
-/// - `memory`: of `inspect` and of the files nothing else comes but that there is no memory.
-/// - `spent`: a listed log file's number is 2^63 or more, and the greatest of them is told.
+/// - `memory`: of the files nothing else comes but that there is no memory.
+/// - `spent`: of `recover` and `inspect` alike, a listed log file's number is 2^63 or more, and the greatest of
+///   them is told.
 /// - `damaged`, `version`: the files break the rules there first.
 /// - `never`: what is no refusal is neither of these two.
 pub fn recovery_tells_why_it_refuses()

@@ -1,7 +1,8 @@
 //! What recovery gives: the lanes, and the log.
-ghost use Rattle.std.specs.Prelude.{◌≡◌, None};
+ghost use Rattle.std.specs.Prelude.{◌≡◌, None, IfSome};
 ghost use Rattle.qq_wal_chain.specs.Image.{put};
 ghost use Rattle.qq_recover.specs.Recovered.{IsLaneFor, lanes_left, wal_of};
+ghost use Rattle.qq_recover.specs.State.{IsWithinEnds};
 
 use crate::table::Table;
 use qq_base::QueueId;
@@ -19,9 +20,11 @@ pub struct Recovered<D: NodeDisk> {
 
 impl<D: NodeDisk> Recovered<D> {
     /// Takes a queue's lane. None comes exactly for a queue without ops, and where its lane was taken
-    /// before. It takes no memory.
+    /// before. It takes no memory. Whatever the disk tells, a lane's numbers are within their ends and its
+    /// entries in range with their content, so that a server may be started with it.
     pub fn lane(&mut self, alloc: Global, queue: QueueId) -> Option<Lane>
         ensures lane { IsLaneFor queue (lanes_left self.old queue.0) result }
+        ensures ends { IfSome result IsWithinEnds }
         ensures rest { lanes_left self.new ≡ put (lanes_left self.old) queue.0 None }
         ensures wal { wal_of self.new ≡ wal_of self.old }
     {

@@ -1,5 +1,5 @@
 //! Recovery: what is read is kept, and a new file goes on behind it.
-ghost use Rattle.std.specs.Prelude.{◌≡◌, ◌≤◌, ℕ, List, Ok, false, IsTrue, IfOk, IfErr, OnOk};
+ghost use Rattle.std.specs.Prelude.{◌≡◌, ◌≤◌, ◌⊎◌, ℕ, List, Ok, false, IsTrue, IfOk, IfErr, OnOk};
 ghost use Rattle.qq_base.specs.declared.memory.TheConstants.{NUMBER_END};
 ghost use Rattle.qq_disk.specs.Disk.{now, IsListed};
 ghost use Rattle.qq_disk.specs.Image.{log_of};
@@ -7,12 +7,12 @@ ghost use Rattle.qq_log.specs.declared.op.Op.{Op};
 ghost use Rattle.qq_wal_chain.specs.Laws.{KeepsPromise};
 ghost use Rattle.qq_wal.specs.Fault.{IsCaused as IsWalCaused};
 ghost use Rattle.qq_wal.specs.Ranges.{ranges_in};
-ghost use Rattle.qq_wal.specs.Running.{MayBegin, StillHolds, Stays, StaysWhole, top};
+ghost use Rattle.qq_wal.specs.Running.{MayBegin, StillHolds, Stays, StaysBeside, StaysWhole, top};
 ghost use Rattle.qq_wal.specs.Wal.{IsSound};
 ghost use Rattle.qq_recover.specs.Answer.{Fails};
 ghost use Rattle.qq_recover.specs.Reading.{shown, lanes_read};
 ghost use Rattle.qq_recover.specs.Recovered.{IsBeginFault, IsBegunAbove, IsBegunBehind, IsDiskCaused, IsNewLog, IsNoRefusal, IsRecoverCaused, IsSpentOn, KnowsLanes, disk_of, lanes_left, wal_of};
-ghost use Rattle.qq_recover.specs.Recovery.{MayRecover, SettlesLanes};
+ghost use Rattle.qq_recover.specs.Recovery.{BeginsOne, MayRecover, SettlesLanes, StaysSyncing};
 ghost use Rattle.qq_recover.specs.Start.{IsStart};
 ghost use Rattle.qq_recover.specs.Table.{lanes_of};
 
@@ -58,6 +58,8 @@ fn begin_behind<D: NodeDisk>(
         Stays queues.now (D.past disk) (D.past (disk_of result)) }
     ensures holds { IsTrue (D.tells disk) → OnOk result (
         StillHolds queues.now (now (D.past disk)) (now (D.past (disk_of result)))) }
+    ensures beside { IsTrue (D.tells disk) → StaysBeside (log_of start.header.file)
+        (D.past disk) (D.past (disk_of result)) }
     ensures whole { IsTrue (D.tells disk) →
         StaysWhole (D.past disk) (D.past (disk_of result)) }
     ensures told { D.tells (disk_of result) ≡ D.tells disk }
@@ -100,6 +102,9 @@ fn begin_behind<D: NodeDisk>(
 /// a listed log file's number is 2^63 or more, with the greatest, and `Want` where there was no memory. A
 /// disk that this log wrote, and whatever a crash left of one, is never refused.
 ///
+/// Of the files that are there, of whatever kind, none loses or gains a byte: each is as it was or synced, and
+/// one log file is begun, of a number above theirs.
+///
 /// What a crash leaves of removed files may have no say in the reading: so it is on a disk that was just
 /// opened, and on one that keeps a promise of the log.
 pub fn recover<D: NodeDisk>(
@@ -130,6 +135,8 @@ pub fn recover<D: NodeDisk>(
         IfErr result (λ e. IsSpentOn (now (D.past disk)) e.0) }
     ensures end { IsTrue (D.tells disk) → (number : ℕ) → NUMBER_END ≤ number →
         IsListed (now (D.past disk)) (log_of number) → OnOk result ⊥ }
+    ensures others { IsTrue (D.tells disk) → StaysSyncing (D.past disk) (D.past (disk_of result))
+        ⊎ BeginsOne (D.past disk) (D.past (disk_of result)) }
     ensures whole { IsTrue (D.tells disk) →
         StaysWhole (D.past disk) (D.past (disk_of result)) }
     ensures told { D.tells (disk_of result) ≡ D.tells disk }

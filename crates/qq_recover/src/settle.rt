@@ -6,6 +6,7 @@ ghost use Rattle.qq_disk.specs.Disk.{now, sync};
 ghost use Rattle.qq_disk.specs.Fault.{IsCaused};
 ghost use Rattle.qq_wal_chain.specs.Promise.{sync_all};
 ghost use Rattle.qq_wal.specs.Running.{Stays, StaysWhole};
+ghost use Rattle.qq_recover.specs.Recovery.{StaysSyncing};
 
 use qq_disk::{DiskFault, FileName, NodeDisk};
 use qq_wal_chain::the_log_has_a_format;
@@ -17,6 +18,7 @@ fn sync_one<D: NodeDisk>(disk: &mut D, alloc: Global, file: FileName) -> Result<
         OnOk result (now (D.past disk.new) ≡ sync (now (D.past disk.old)) file) }
     ensures stays { IsTrue (D.tells disk.old) → (queues : List QueueId) →
         Stays queues (D.past disk.old) (D.past disk.new) }
+    ensures only { IsTrue (D.tells disk.old) → StaysSyncing (D.past disk.old) (D.past disk.new) }
     ensures whole { IsTrue (D.tells disk.old) →
         StaysWhole (D.past disk.old) (D.past disk.new) }
     ensures told { D.tells disk.new ≡ D.tells disk.old }
@@ -36,6 +38,7 @@ pub(crate) fn settle_all<D: NodeDisk>(
         OnOk result (now (D.past disk.new) ≡ sync_all (now (D.past disk.old)) names.now) }
     ensures stays { IsTrue (D.tells disk.old) → (queues : List QueueId) →
         Stays queues (D.past disk.old) (D.past disk.new) }
+    ensures only { IsTrue (D.tells disk.old) → StaysSyncing (D.past disk.old) (D.past disk.new) }
     ensures whole { IsTrue (D.tells disk.old) →
         StaysWhole (D.past disk.old) (D.past disk.new) }
     ensures told { D.tells disk.new ≡ D.tells disk.old }

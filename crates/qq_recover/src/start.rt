@@ -12,6 +12,7 @@ ghost use Rattle.qq_wal.specs.Running.{Stays, StaysWhole};
 ghost use Rattle.qq_recover.specs.Answer.{Gives};
 ghost use Rattle.qq_recover.specs.Reading.{shown, lanes_read};
 ghost use Rattle.qq_recover.specs.Recovered.{IsRecoverCaused, IsSpentOn};
+ghost use Rattle.qq_recover.specs.Recovery.{StaysSyncing};
 ghost use Rattle.qq_recover.specs.Start.{IsStart, IsReadOf};
 ghost use Rattle.qq_recover.specs.Table.{lanes_of};
 
@@ -77,7 +78,7 @@ fn carries_of(alloc: Global, queues: &[QueueId], table: &Table) -> Result<Vec<Ca
 
 /// A number above that of each log file. `Spent` comes exactly where the greatest stands at the end or past
 /// it, and tells it.
-fn next_number(names: &[FileName]) -> Result<u64, Memory>
+pub(crate) fn next_number(names: &[FileName]) -> Result<u64, Memory>
     ensures ok { IfOk result (λ number. number ≡ greatest_number OfLog names.now + 1) }
     ensures within { IfOk result (λ number. number ≤ NUMBER_END) }
     ensures spent { IfErr result (λ e. e ≡ Memory.Spent (greatest_number OfLog names.now)) }
@@ -142,6 +143,7 @@ pub(crate) fn prepare<D: NodeDisk>(
         (lanes_read queues.now (shown (now (D.past disk.old)))) }
     ensures stays { IsTrue (D.tells disk.old) →
         Stays queues.now (D.past disk.old) (D.past disk.new) }
+    ensures only { IsTrue (D.tells disk.old) → StaysSyncing (D.past disk.old) (D.past disk.new) }
     ensures whole { IsTrue (D.tells disk.old) →
         StaysWhole (D.past disk.old) (D.past disk.new) }
     ensures told { D.tells disk.new ≡ D.tells disk.old }

@@ -1,14 +1,15 @@
 //! A queue's state, as its records come to.
-ghost use Rattle.std.specs.Prelude.{◌≡◌, ◌+◌, true, ◌&&◌, length, Option, Some, None, IfOk, IsOkUnless};
+ghost use Rattle.std.specs.Prelude.{◌≡◌, ◌+◌, true, All, ◌&&◌, length, Option, Some, None, IfOk, IsOkUnless};
 ghost use Rattle.std.specs.List.{list_all};
 ghost use Rattle.qq_base.specs.declared.ids.NodeId.{NodeId};
 ghost use Rattle.qq_base.specs.declared.ids.QueueId.{QueueId};
+ghost use Rattle.qq_entry.specs.Range.{IsWritable as IsEntry};
 ghost use Rattle.qq_log.specs.Stable.{new_state, carry_of, restates};
 ghost use Rattle.qq_log.specs.Writable.{IsWritable, IsWritableCarry, IsVote};
 ghost use Rattle.qq_log.specs.Same.{same_vote, same_carry};
 ghost use Rattle.qq_log.specs.declared.op.Op.TheVariants.{Change};
 ghost use Rattle.qq_wal_chain.specs.Lanes.{is_within_end, is_carry_within_ends, is_op_within_ends, is_head_within_ends, is_plain};
-ghost use Rattle.qq_recover.specs.State.{state_with_op, state_with_carry, IsPlainLaneOf};
+ghost use Rattle.qq_recover.specs.State.{state_with_op, state_with_carry, IsPlainLaneOf, IsWithinEnds};
 
 use qq_base::{Index, Memory, NUMBER_END, NodeId, QueueId, Term};
 use qq_entry::{Entries, Entry};
@@ -167,6 +168,7 @@ impl State {
         entries: Entries,
     ) -> Result<Option<State>, Memory>
         requires writable { IsVote vote }
+        requires entries { All IsEntry entries }
         requires next { op ≡ self.op + 1 }
         requires within { (queue : QueueId) →
             is_op_within_ends (Change queue op term vote keep entries) ≡ true }
@@ -233,6 +235,7 @@ impl State {
     pub(crate) fn into_lane(self, alloc: Global, queue: QueueId) -> Lane
         ensures queue { result.queue ≡ queue }
         ensures lane { IsPlainLaneOf self result }
+        ensures ends { IsWithinEnds result }
     {
         let State {
             op,
@@ -265,6 +268,7 @@ fn followed(
     entries: Entries,
 ) -> Result<Option<State>, Memory>
     requires writable { IsVote vote }
+    requires entries { All IsEntry entries }
     requires within { (queue : QueueId) →
         is_op_within_ends (Change queue op term vote keep entries) ≡ true }
     ensures ok { (queue : QueueId) → IfOk result (λ new.
@@ -288,6 +292,7 @@ fn changed(
     entries: Entries,
 ) -> Result<Option<State>, Memory>
     requires writable { IsVote vote }
+    requires entries { All IsEntry entries }
     requires within { (queue : QueueId) →
         is_op_within_ends (Change queue op term vote keep entries) ≡ true }
     ensures ok { (queue : QueueId) → IfOk result (λ new.

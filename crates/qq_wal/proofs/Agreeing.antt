@@ -246,7 +246,7 @@ listed-more queues (other ∷ more) id listed =
     either true = refl
     either false = refl
 
-listed-self : (front queues : List QueueId)
+pub listed-self : (front queues : List QueueId)
     → AllByRecursion (λ (id : QueueId). is_listed (front ++ queues) id ≡ true) queues
 listed-self front [] = tt
 listed-self front (id ∷ queues) = (

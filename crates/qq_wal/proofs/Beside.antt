@@ -1,5 +1,5 @@
 -- What is said of a log speaks of its log files alone.
-use Rattle.std.proofs.Common.{◌≡◌, ℕ, List, [], length, sym, subst, ap, ◌∙◌, unwrap_or}
+use Rattle.std.proofs.Common.{◌≡◌, ℕ, List, [], Some, length, sym, subst, ap, ◌∙◌, unwrap_or}
 use Rattle.std.specs.List.{AllByRecursion}
 use Rattle.qq_base.specs.declared.ids.QueueId.{QueueId}
 use Rattle.qq_disk.specs.Disk.{Disk, file_content}
@@ -7,14 +7,14 @@ use Rattle.qq_log.specs.declared.op.Op.{Op}
 use Rattle.qq_wal_record.specs.declared.header.Header.{Header}
 use Rattle.qq_wal_chain.specs.Image.{Files, files_of, shown_logs}
 use Rattle.qq_wal_chain.specs.Chain.{reading}
-use Rattle.qq_wal_chain.specs.Records.{encode_all}
+use Rattle.qq_wal_chain.specs.Records.{encode_all, replay}
 use Rattle.qq_wal_chain.specs.Promise.{IsLog, Keeps, found_behind, found_world, kept_records, pending_records}
 use Rattle.qq_wal_chain.specs.Laws.{KeepsPromise, op_records}
 use Rattle.qq_wal_chain.specs.Wal.{wal, Ours}
 use Rattle.qq_wal.specs.declared.marks.Mark.{Mark}
 use Rattle.qq_wal.specs.declared.numbers.Numbers.{Numbers}
 use Rattle.qq_wal.specs.Running.{top, IsSynced, IsWrittenTo, SameLogs}
-use Rattle.qq_wal.specs.Wal.{IsOnDisk}
+use Rattle.qq_wal.specs.Wal.{IsKept, IsOnDisk}
 
 same-files : (d e : Disk) → SameLogs d e → files_of e ≡ files_of d
 same-files d e same = λ i n. same n i
@@ -52,6 +52,15 @@ module _ (queues : List QueueId) (d e : Disk) (same : SameLogs d e) where
     agree = on.agree;
     size_is = on.size_is ∙ ap (λ (fs : Files). length (unwrap_or (file_content (fs h.file)) [])) files;
     free = λ n above. ap file_content (same n) ∙ on.free n above;
+  }
+
+  pub beside-kept : (h : Header) (marks : List Mark) → IsKept queues h marks d → IsKept queues h marks e
+  beside-kept h marks k = record {
+    lanes = k.lanes;
+    is =
+        ap (λ (fs : Files). replay (wal queues) (kept_records (wal queues) h.file fs)
+        (Some (found_behind (wal queues) top (Ours h) fs).world)) (sym files) ∙ k.is;
+    each = k.each;
   }
 
   pub beside-keeps : (noticed given : List Op) → KeepsPromise queues top noticed given d

@@ -27,7 +27,7 @@ counted-noted (Change id n term vote keep entries) m is = refl
 counted-noted (SnapshotMade id n head file) m is = absurd is
 counted-noted (SegmentMade id n file first last) m is = absurd is
 
-counted-op : (op : Op) (marks : List Mark) → IsChange op → AreCounted marks → AreCounted (note_all marks op)
+pub counted-op : (op : Op) (marks : List Mark) → IsChange op → AreCounted marks → AreCounted (note_all marks op)
 counted-op op [] is each = tt
 counted-op op (m ∷ marks) is each = (by (eqb (queue op).0 m.queue.0), counted-op op marks is each.1)
   where

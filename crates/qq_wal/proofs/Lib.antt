@@ -15,3 +15,6 @@ pub mod Causes
 pub mod Counted
 pub mod Unremoved
 pub mod Runs
+pub mod Refusing
+pub mod Held
+pub mod Frames

@@ -67,6 +67,11 @@ module _ (queues : List QueueId) (h : Header) (marks : List Mark) (size : ℕ) (
 
 -- ---- it is synced
 
+pub same-lanes : (queues : List QueueId) (d e : Disk) → shown_logs (files_of e) ≡ shown_logs (files_of d)
+    → lanes_shown queues e ≡ lanes_shown queues d
+same-lanes queues d e same =
+    ap (λ (logs : ℕ → Option (List ℕ)). found_world (wal queues) ((reading (wal queues) top logs).found)) same
+
 pub shown-holds : (queues : List QueueId) (d e : Disk) → shown_logs (files_of e) ≡ shown_logs (files_of d)
     → StillHolds queues d e
 shown-holds queues d e same =
@@ -141,7 +146,7 @@ module _ (same : (id : QueueId) (s : Stable) → restates (carry_of id s) s ≡ 
     (carries : List Carry) (names : List FileName) (d : Disk) (may : MayBegin queues h carries names d)
     (number : greatest_number Log names < h.file) (each : AllByRecursion IsCarry carries) (marks : List Mark)
     (made : marks ≡ map (new_mark carries) queues) where
-  begin-agree : Agree may.before.world marks
+  pub begin-agree : Agree may.before.world marks
   begin-agree =
       subst (λ (l : List Mark). Agree may.before.world l)
       (sym (made ∙ ap (λ (l : List Carry). map (new_mark l) queues) may.carries_are))

@@ -19,14 +19,14 @@ use Rattle.qq_wal_chain.specs.Records.{encode_all, replay}
 use Rattle.qq_wal_chain.specs.Promise.{Continues, IsRunning, Promises, found_behind, found_world, kept_records, pending_records}
 use Rattle.qq_wal_chain.specs.Laws.{AreSound, op_records, first_bytes}
 use Rattle.qq_wal_chain.specs.Wal.{wal, Ours, encode_header, no_lanes}
-use Rattle.qq_wal_chain.proofs.Alone.{running-told, pending-told}
+use Rattle.qq_wal_chain.proofs.Alone.{before-told, kept-told, running-told, pending-told}
 use Rattle.qq_wal_chain.proofs.Bridge.{append-log as append-files, sync-of-log}
 use Rattle.qq_wal_chain.proofs.Calls.{begin-stays, begin-done, sync-stays, sync-done, sync-noticed}
 use Rattle.qq_wal_chain.proofs.Growing.{log-shows-world}
 use Rattle.qq_wal_chain.proofs.Promised.{append-promised, append-runs}
 use Rattle.qq_wal_chain.proofs.Replays.{replay-append, restated}
 use Rattle.qq_wal_chain.proofs.Walk.{put-other}
-use Rattle.qq_wal.specs.Running.{top, IsWrittenTo, IsSynced, Stays, StaysGiving, HoldsAlso, StillHolds, MayNotice, IsBatchOf, MayAdd, SameOthers, lanes_shown}
+use Rattle.qq_wal.specs.Running.{top, IsWrittenTo, IsSynced, Stays, StaysGiving, HoldsAlso, StillHolds, MayNotice, IsBatchOf, MayAdd, SameOthers, lanes_kept, lanes_shown}
 
 -- a number of 64 bits is no file's that is too great
 pub in_top : (n : ℕ) → n < 2 ^ 64 → n ≤ top
@@ -129,6 +129,16 @@ module _ (queues : List QueueId) (laws : IsFormat (wal queues)) (h : Header) whe
           ∙ replay-append (wal queues) (kept (now old) ++ pending (now old)) (op_records batch) (Some world)
           ∙ ap (λ (o : Option Lanes). replay (wal queues) (op_records batch) o)
           (sym (shows (now old) (behind (now old)) (kept (now old)) (pending (now old)) running))
+
+      -- the kept part is as it was
+      pub append-kept : lanes_kept queues h e ≡ lanes_kept queues h (now old)
+      append-kept =
+          ap (λ (l : List LogRecord). replay (wal queues) l (Some (behind e).world))
+          (kept-told (wal queues) laws top h.file (Ours h) (behind (now old)) (kept (now old))
+          (pending (now old) ++ op_records batch) e runs)
+          ∙ ap (λ (f : Found (wal queues)). replay (wal queues) (kept (now old)) (Some f.world))
+          (before-told (wal queues) laws top h.file (Ours h) (behind (now old)) (kept (now old))
+          (pending (now old) ++ op_records batch) e runs)
 
   pub append-length : (bytes : List ℕ) (d e : Disk) → IsWrittenTo queues h d → e ≡ append d (log_of h.file) bytes
       → length (content e (log_of h.file)) ≡ length (content d (log_of h.file)) + length bytes

@@ -18,7 +18,7 @@ set-whole d file o none here n = by (same_name file (log_of n)) refl
     by true e = here n (same_name-true file (log_of n) e)
     by false e = none n
 
-target-whole : (o : Option FileState) → (append_target o).removed ≡ false
+pub target-whole : (o : Option FileState) → (append_target o).removed ≡ false
 target-whole None = refl
 target-whole (Some f) = by f.removed refl
   where

@@ -1,8 +1,12 @@
 -- Why a call of the log gave up.
-use Rattle.std.specs.Prelude.{◌≡◌, ◌<◌, ◌≤◌, ◌+◌, ◌-◌, ◌^◌, ℕ, Bool, true, false}
+use Rattle.std.specs.Prelude.{◌≡◌, ◌<◌, ◌≤◌, ◌+◌, ◌-◌, ◌^◌, ◌⊎◌, ℕ, Bool, true, false, Result, Err}
 use Rattle.qq_base.specs.Causes.{Rose, SpentOnlyWhere}
 use Rattle.qq_base.specs.declared.memory.Memory.TheVariants.{Want}
 use Rattle.qq_base.specs.declared.memory.TheConstants.{NUMBER_END}
+use Rattle.qq_disk.specs.Disk.{IsListed}
+use Rattle.qq_disk.specs.Disk as disk
+use Rattle.qq_disk.specs.Fault as disk_fault
+use Rattle.qq_disk.specs.Image.{log_of}
 use Rattle.qq_disk.specs.declared.fault.DiskFault.{DiskFault}
 use Rattle.qq_disk.specs.declared.fault.DiskFault.TheVariants.{Failed, Memory as OfMemory}
 use Rattle.qq_log.specs.declared.op.Op.{Op}
@@ -15,6 +19,30 @@ use Rattle.qq_wal.specs.declared.fault.WalFault.TheVariants.{Disk, Stopped, TooL
 abbrev pub fault_of : DiskFault → WalFault
 fault_of Failed = Disk
 fault_of (OfMemory m) = Memory m
+
+-- whether the disk failed, and didn't only lack memory
+abbrev pub is_failure : DiskFault → Bool
+is_failure Failed = true
+is_failure (OfMemory m) = false
+
+-- a log is stopped behind a call where it was before, and where the disk failed in it
+abbrev pub stops_at : {T : Type 0} → Bool → Result T WalFault → Bool
+stops_at before (Err Disk) = true
+stops_at before _ = before
+
+-- the disk failed, or it had no memory to sync a file that was begun
+abbrev pub IsHalfBegun : ℕ → DiskFault → disk.Disk → Type 0
+IsHalfBegun n Failed d = Unit {0}
+IsHalfBegun n (OfMemory m) d = IsListed d (log_of n)
+
+-- so the log may be stopped where a new file was begun
+abbrev pub StopsAtRoll : {T : Type 0} → ℕ → Bool → Result T WalFault → Bool → disk.Disk → Type 0
+StopsAtRoll n before result stopped d =
+    (stopped ≡ stops_at before result) ⊎ ((result ≡ Err (Memory Want)) × (stopped ≡ true) × IsListed d (log_of n))
+
+-- the disk's fault has its cause
+abbrev pub IsBeginCaused : ℕ → ℕ → DiskFault × Bool → Type 0
+IsBeginCaused before now e = disk_fault.IsCaused before now e.0
 
 -- the disk's count rose, or the log was stopped before, or there was no memory
 abbrev pub IsCaused : Bool → ℕ → ℕ → WalFault → Type 0

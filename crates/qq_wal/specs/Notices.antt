@@ -1,5 +1,5 @@
 -- What each queue is told of once its ops are synced (the Ra library's internals, written events).
-use Rattle.std.specs.Prelude.{◌≡◌, ◌+◌, ℕ, zero, suc, List, [], ◌∷◌, length, map, min, Option, Some, None, option_map, option_to_list, unwrap_or, nat_eq, if◌then◌else◌}
+use Rattle.std.specs.Prelude.{◌≡◌, ◌+◌, ℕ, zero, suc, List, [], ◌∷◌, length, map, min, Option, Some, None, option_map, option_to_list, unwrap_or, IfSome, nat_eq, if◌then◌else◌}
 use Rattle.std.specs.List.{AllByRecursion, fold, flat_map, last_or}
 use Rattle.qq_base.specs.declared.ids.QueueId.{QueueId}
 use Rattle.qq_log.specs.declared.lane.Carry.{Carry}
@@ -128,6 +128,10 @@ carried_op (Some c) = c.op
 -- of each queue what is synced, or will be at the next sync, is what its carry says
 abbrev pub AreCounted : List Mark → Type 0
 AreCounted marks = AllByRecursion (λ (m : Mark). synced_of m ≡ carried_op m.carry) marks
+
+-- each notice is of its mark's queue
+abbrev pub AreNamed : List Mark → Type 0
+AreNamed marks = AllByRecursion (λ (m : Mark). IfSome m.notice (λ n. n.queue ≡ m.queue)) marks
 
 -- a queue's mark before any op is appended
 abbrev pub new_mark : List Carry → QueueId → Mark

@@ -1,17 +1,19 @@
 -- What a log that is written to keeps of its promise, from call to call.
-use Rattle.std.specs.Prelude.{◌≡◌, ◌≢◌, ◌-◌, ◌^◌, ◌<◌, ℕ, false, List, [], ◌++◌, Option, Some}
+use Rattle.std.specs.Prelude.{◌≡◌, ◌≢◌, ◌-◌, ◌^◌, ◌<◌, ℕ, false, List, [], ◌++◌, Option, Some, unwrap_or}
 use Rattle.qq_base.specs.declared.ids.QueueId.{QueueId}
 use Rattle.qq_disk.specs.declared.name.FileName.{FileName}
 use Rattle.qq_disk.specs.Disk.{Disk, now, IsListing}
 use Rattle.qq_disk.specs.Moments.{Adds}
+use Rattle.qq_disk.specs.Name.{same_name}
 use Rattle.qq_log.specs.declared.lane.Carry.{Carry}
 use Rattle.qq_log.specs.declared.op.Op.{Op}
+use Rattle.qq_log.specs.Stable.{new_state}
 use Rattle.qq_wal_record.specs.declared.header.Header.{Header}
 use Rattle.qq_wal_chain.specs.Lanes.{Lanes}
 use Rattle.qq_wal_chain.specs.Records.{replay}
 use Rattle.qq_wal_chain.specs.Chain.{Found, Reading, reading}
 use Rattle.qq_wal_chain.specs.Image.{files_of, is_removed, shown_logs}
-use Rattle.qq_wal_chain.specs.Promise.{IsRunningLog, StaysPromised, pending_records, found_world}
+use Rattle.qq_wal_chain.specs.Promise.{IsRunningLog, StaysPromised, found_behind, found_world, kept_records, pending_records}
 use Rattle.qq_wal_chain.specs.Laws.{KeepsPromise, HoldsOps, AreWritable, IsSettledDisk, batch_bytes, op_records}
 use Rattle.qq_wal_chain.specs.Wal.{wal, Ours}
 use Rattle.qq_wal.specs.Marks.{carries_of}
@@ -27,6 +29,16 @@ reading_of queues d = reading (wal queues) top (shown_logs (files_of d))
 -- what that comes to, queue by queue
 abbrev pub lanes_shown : List QueueId → Disk → Option Lanes
 lanes_shown queues d = found_world (wal queues) ((reading_of queues d).found)
+
+-- what the kept part of the log's file comes to
+abbrev pub lanes_kept : List QueueId → Header → Disk → Option Lanes
+lanes_kept queues h d =
+    let files = files_of d in
+    replay (wal queues) (kept_records (wal queues) h.file files) (Some (found_behind (wal queues) top (Ours h) files).world)
+
+-- the number of a queue's last op, 0 where it has none
+abbrev pub op_in : Lanes → QueueId → ℕ
+op_in lanes id = (unwrap_or (lanes id.0) new_state).op
 
 -- the log of these queues is written to the file of this header
 abbrev pub IsWrittenTo : List QueueId → Header → Disk → Type 0
@@ -79,6 +91,14 @@ MayAdd queues batch d =
 -- of all log files but this one the disk holds the same
 abbrev pub SameOthers : ℕ → Disk → Disk → Type 0
 SameOthers n d e = (m : ℕ) → n ≢ m → files_of e m ≡ files_of d m
+
+-- of every file but this one, of whatever kind, the disk holds the same
+abbrev pub KeepsOthers : FileName → Disk → Disk → Type 0
+KeepsOthers file d e = (other : FileName) → same_name file other ≡ false → e other ≡ d other
+
+-- at each moment since, and so now
+abbrev pub StaysBeside : FileName → List Disk → List Disk → Type 0
+StaysBeside file old new = Adds (KeepsOthers file (now old)) old new
 
 -- of all log files the disk holds the same
 abbrev pub SameLogs : Disk → Disk → Type 0

@@ -1,5 +1,5 @@
 -- What a log keeps from call to call.
-use Rattle.std.specs.Prelude.{◌++◌, ◌≡◌, ◌≤◌, ◌<◌, ◌+◌, ℕ, Bool, false, List, [], map, length, take, drop, Some, None, Result, Ok, Err, IsTrue}
+use Rattle.std.specs.Prelude.{◌++◌, ◌≡◌, ◌≤◌, ◌<◌, ◌+◌, ◌-◌, nat_le, ℕ, Bool, false, List, [], map, length, take, drop, Some, None, Result, Ok, Err, IsTrue}
 use Rattle.std.specs.List.{AllByRecursion, fold}
 use Rattle.std.specs.Global.{Vec}
 use Rattle.qq_base.specs.declared.ids.QueueId.{QueueId}
@@ -18,10 +18,10 @@ use Rattle.qq_wal_chain.specs.Lanes.{Lanes}
 use Rattle.qq_wal_chain.specs.Laws.{op_records}
 use Rattle.qq_wal.specs.Batch.{AllFitBatch, IsBatch, encodings}
 use Rattle.qq_wal.specs.Marks.{Carries, AllFollow, HasCarry, Agree, known, queues_in, carries_in, add_records}
-use Rattle.qq_wal.specs.Notices.{note_record, new_mark}
+use Rattle.qq_wal.specs.Notices.{AreCounted, AreNamed, note_record, new_mark}
 use Rattle.qq_wal.specs.Numbers.{first_numbers, raise}
 use Rattle.qq_wal.specs.Ranges.{AllRanges, begin_files, ranges_in, write_record}
-use Rattle.qq_wal.specs.Running.{IsWrittenTo, IsSynced, StaysGiving, lanes_shown}
+use Rattle.qq_wal.specs.Running.{IsWrittenTo, IsSynced, StaysGiving, lanes_kept, lanes_shown, op_in}
 use Rattle.qq_wal.specs.declared.fault.WalFault.{WalFault}
 use Rattle.qq_wal.specs.declared.marks.Mark.{Mark}
 use Rattle.qq_wal.specs.declared.numbers.Numbers.{Numbers}
@@ -38,6 +38,13 @@ pub record IsOnDisk (queues : List QueueId) (header : Header) (marks : List Mark
   pub size_is : size ≡ length (content d (log_of header.file))
   pub free : (n : ℕ) → numbers.log < n → file_content (files_of d n) ≡ None
 
+-- What counts as synced of each queue is kept: each number is at most that of the last op that the kept part of the log
+-- has of its queue.
+pub record IsKept (queues : List QueueId) (header : Header) (marks : List Mark) (d : Disk) : Type 0 where
+  pub lanes : Lanes
+  pub is : lanes_kept queues header d ≡ Some lanes
+  pub each : AllByRecursion (λ (m : Mark). m.synced ≤ op_in lanes m.queue) marks
+
 -- Each record that waits may be written, behind those before it. Where the disk tells its contents and no call has
 -- failed, the disk is as the log knows it, and where nothing was appended since the last sync, nothing waits for one.
 pub record IsSound {D : Type 0} (tells : D → Bool) (past : D → List Disk) (w : Wal D) : Type 0 where
@@ -46,14 +53,22 @@ pub record IsSound {D : Type 0} (tells : D → Bool) (past : D → List Disk) (w
   pub queues_are : queues_in w.marks ≡ w.queues.items
   pub carries : AllByRecursion HasCarry w.marks
   pub number : w.header.file ≤ w.numbers.log
+  pub counted : AreCounted w.marks
+  pub named : AreNamed w.marks
   pub on_disk : IsTrue (tells w.disk) → w.stopped ≡ false
       → IsOnDisk w.queues.items w.header w.marks w.size w.numbers (now (past w.disk))
   pub synced : IsTrue (tells w.disk) → w.stopped ≡ false → w.dirty ≡ false
       → IsSynced w.queues.items w.header (now (past w.disk))
+  pub kept : IsTrue (tells w.disk) → w.stopped ≡ false
+      → IsKept w.queues.items w.header w.marks (now (past w.disk))
 
 -- what each queue has once all that waits is appended
 abbrev pub carries_ahead : {D : Type 0} → Wal D → Carries
 carries_ahead w = add_records (known w.marks) w.waiting.items
+
+-- so much came behind the bytes with which the file was begun that it is full
+abbrev pub is_full : {D : Type 0} → Wal D → Bool
+is_full w = nat_le w.log_bytes (w.size - w.first)
 
 -- the log is of the same queues, in the same file
 pub record SameFile {D : Type 0} (old new : Wal D) : Type 0 where
@@ -61,6 +76,7 @@ pub record SameFile {D : Type 0} (old new : Wal D) : Type 0 where
   pub header : new.header ≡ old.header
   pub numbers : new.numbers ≡ old.numbers
   pub log_bytes : new.log_bytes ≡ old.log_bytes
+  pub first : new.first ≡ old.first
 
 -- the first of what waits is appended
 pub record Appends {D : Type 0} (count : ℕ) (old new : Wal D) : Type 0 where
@@ -89,6 +105,7 @@ pub record IsBegun {D : Type 0} (queues : Vec QueueId) (header : Header) (carrie
   pub marks : w.marks ≡ map (new_mark carries) queues.items
   pub ranges_are : ranges_in w.ranges ≡ begin_files header.file queues.items ranges
   pub size : w.size ≡ first_length header w.marks
+  pub first : w.first ≡ w.size
   pub numbers : w.numbers ≡ first_numbers header names
   pub limit : w.log_bytes ≡ log_bytes
   pub clean : w.dirty ≡ false
@@ -98,6 +115,7 @@ pub record IsBegun {D : Type 0} (queues : Vec QueueId) (header : Header) (carrie
 pub record IsRolled {D : Type 0} (old new : Wal D) : Type 0 where
   pub header : new.header ≡ record { file = old.numbers.log + 1; previous = old.header.file; good = old.size }
   pub size : new.size ≡ first_length new.header new.marks
+  pub first : new.first ≡ new.size
   pub numbers : new.numbers ≡ raise Log old.numbers
   pub log_bytes : new.log_bytes ≡ old.log_bytes
   pub waiting : new.waiting ≡ old.waiting

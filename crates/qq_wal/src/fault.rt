@@ -1,5 +1,5 @@
 ghost use Rattle.std.specs.Prelude.{◌≡◌};
-ghost use Rattle.qq_wal.specs.Fault.{fault_of};
+ghost use Rattle.qq_wal.specs.Fault.{fault_of, is_failure};
 
 use qq_base::Memory;
 use qq_disk::DiskFault;
@@ -8,7 +8,8 @@ use thiserror::Error;
 /// Why a call of the log gave up.
 #[derive(Clone, Copy, Debug, PartialEq, Eq, Error)]
 pub enum WalFault {
-    /// The disk failed, which it counts. The log is stopped from then on.
+    /// The disk failed, which it counts. The log is stopped from then on, and after no other error but one
+    /// that `roll` names.
     #[error("the disk failed")]
     Disk,
     /// The disk failed in an earlier call.
@@ -29,5 +30,15 @@ pub(crate) fn fault_of(fault: DiskFault) -> WalFault
     match fault {
         DiskFault::Failed => WalFault::Disk,
         DiskFault::Memory(memory) => WalFault::Memory(memory),
+    }
+}
+
+/// Whether the disk failed, and didn't only lack memory.
+pub(crate) fn is_failure(fault: DiskFault) -> bool
+    ensures { result ≡ is_failure fault }
+{
+    match fault {
+        DiskFault::Failed => true,
+        DiskFault::Memory(_) => false,
     }
 }

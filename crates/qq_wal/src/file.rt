@@ -1,10 +1,11 @@
 //! The calls of a disk that write a log file, with what they keep of the promise.
-ghost use Rattle.std.specs.Prelude.{◌≡◌, ◌+◌, List, length, false, IsTrue, OnOk};
+ghost use Rattle.std.specs.Prelude.{◌≡◌, ◌+◌, List, length, true, false, IsTrue, IfErr, OnOk};
 ghost use Rattle.qq_base.specs.declared.ids.QueueId.{QueueId};
 ghost use Rattle.qq_base.specs.Causes.{HasCause};
 ghost use Rattle.qq_disk.specs.Disk.{now, content};
 ghost use Rattle.qq_disk.specs.Image.{log_of};
 ghost use Rattle.qq_disk.specs.Fault.{IsCaused};
+ghost use Rattle.qq_disk.specs.Moments.{StaysAtWant};
 ghost use Rattle.qq_log.specs.declared.op.Op.{Op};
 ghost use Rattle.qq_wal_record.specs.declared.record.LogRecord.{LogRecord};
 ghost use Rattle.qq_wal_record.specs.Reading.{IsHeader};
@@ -14,20 +15,23 @@ ghost use Rattle.qq_wal_chain.specs.Promise.{Continues};
 ghost use Rattle.qq_wal_chain.specs.Records.{replay};
 ghost use Rattle.qq_wal_chain.specs.Laws.{first_bytes, op_records};
 ghost use Rattle.qq_wal_chain.specs.Wal.{wal, Ours};
-ghost use Rattle.qq_wal.specs.Running.{top, IsWrittenTo, IsSynced, IsBatchOf, MayAdd, Stays, StaysGiving, StaysWhole, SameOthers, MayNotice, lanes_shown};
+ghost use Rattle.qq_wal.specs.Fault.{IsHalfBegun, IsBeginCaused};
+ghost use Rattle.qq_wal.specs.Running.{top, IsWrittenTo, IsSynced, IsBatchOf, MayAdd, Stays, StaysBeside, StaysGiving, StaysWhole, SameOthers, MayNotice, lanes_kept, lanes_shown};
 
+use crate::fault::is_failure;
 use qq_disk::{DiskFault, FileKind, FileName, NodeDisk};
 use qq_wal_chain::the_log_has_a_format;
 use qq_wal_record::Header;
 use std::alloc::Global;
 
-/// Writes the first bytes of a new file, and syncs it.
+/// Writes the first bytes of a new file, and syncs it. An error says too whether some of them may have been
+/// written, so that the log can't go on in its old file.
 pub(crate) fn begin_file<D: NodeDisk>(
     disk: &mut D,
     alloc: Global,
     header: Header,
     bytes: &[u8],
-) -> Result<(), DiskFault>
+) -> Result<(), (DiskFault, bool)>
     ensures stays { IsTrue (D.tells disk.old) → (queues : List QueueId)
         (before : Found (wal queues)) (carries : List LogRecord) →
         Continues (wal queues) top before header.file (Ours header) carries
@@ -61,19 +65,31 @@ pub(crate) fn begin_file<D: NodeDisk>(
         (files_of (now (D.past disk.old))) →
         bytes.now ≡ first_bytes queues header.file (Ours header) carries →
         OnOk result (SameOthers header.file (now (D.past disk.old)) (now (D.past disk.new))) }
+    ensures beside { IsTrue (D.tells disk.old) →
+        StaysBeside (log_of header.file) (D.past disk.old) (D.past disk.new) }
     ensures whole { IsTrue (D.tells disk.old) →
         StaysWhole (D.past disk.old) (D.past disk.new) }
+    ensures half { IsTrue (D.tells disk.old) → IfErr result (λ e. e.1 ≡ true →
+        IsHalfBegun header.file e.0 (now (D.past disk.new))) }
+    ensures failed { IfErr result (λ e. e.0 ≡ DiskFault.Failed → e.1 ≡ true) }
+    ensures want { IsTrue (D.tells disk.old) →
+        IfErr result (λ e. e.1 ≡ false → D.past disk.new ≡ D.past disk.old) }
     ensures range { IsHeader header }
     ensures told { D.tells disk.new ≡ D.tells disk.old }
-    ensures cause { HasCause IsCaused (D.faults disk.old) (D.faults disk.new) result }
+    ensures cause { HasCause IsBeginCaused (D.faults disk.old) (D.faults disk.new) result }
 {
     the_log_has_a_format();
     let file = FileName {
         kind: FileKind::Log,
         number: header.file,
     };
-    disk.append(alloc, file, bytes)?;
-    disk.sync(alloc, file)
+    if let Err(fault) = disk.append(alloc, file, bytes) {
+        return Err((fault, is_failure(fault)));
+    }
+    match disk.sync(alloc, file) {
+        Ok(()) => Ok(()),
+        Err(fault) => Err((fault, true)),
+    }
 }
 
 /// Adds a batch to the log's file.
@@ -97,14 +113,23 @@ pub(crate) fn append_file<D: NodeDisk>(
         → IsBatchOf queues header batch bytes.now →
         OnOk result (lanes_shown queues (now (D.past disk.new))
         ≡ replay (wal queues) (op_records batch) (lanes_shown queues (now (D.past disk.old)))) }
+    ensures kept { IsTrue (D.tells disk.old) → (queues : List QueueId) (batch : List Op) →
+        IsWrittenTo queues header (now (D.past disk.old))
+        → IsBatchOf queues header batch bytes.now →
+        OnOk result (lanes_kept queues header (now (D.past disk.new))
+        ≡ lanes_kept queues header (now (D.past disk.old))) }
     ensures length { IsTrue (D.tells disk.old) → (queues : List QueueId) →
         IsWrittenTo queues header (now (D.past disk.old)) →
         OnOk result (length (content (now (D.past disk.new)) (log_of header.file))
         ≡ length (content (now (D.past disk.old)) (log_of header.file)) + length bytes.now) }
     ensures others { IsTrue (D.tells disk.old) →
         OnOk result (SameOthers header.file (now (D.past disk.old)) (now (D.past disk.new))) }
+    ensures beside { IsTrue (D.tells disk.old) →
+        StaysBeside (log_of header.file) (D.past disk.old) (D.past disk.new) }
     ensures whole { IsTrue (D.tells disk.old) →
         StaysWhole (D.past disk.old) (D.past disk.new) }
+    ensures want { IsTrue (D.tells disk.old) →
+        IfErr result (StaysAtWant (D.past disk.old) (D.past disk.new)) }
     ensures told { D.tells disk.new ≡ D.tells disk.old }
     ensures cause { HasCause IsCaused (D.faults disk.old) (D.faults disk.new) result }
 {
@@ -137,8 +162,12 @@ pub(crate) fn sync_file<D: NodeDisk>(
         IsWrittenTo queues header (now (D.past disk.old)) →
         (dirty ≡ false → IsSynced queues header (now (D.past disk.old))) →
         OnOk result (MayNotice queues (now (D.past disk.old)) (now (D.past disk.new))) }
+    ensures beside { IsTrue (D.tells disk.old) →
+        StaysBeside (log_of header.file) (D.past disk.old) (D.past disk.new) }
     ensures whole { IsTrue (D.tells disk.old) →
         StaysWhole (D.past disk.old) (D.past disk.new) }
+    ensures want { IsTrue (D.tells disk.old) →
+        IfErr result (StaysAtWant (D.past disk.old) (D.past disk.new)) }
     ensures told { D.tells disk.new ≡ D.tells disk.old }
     ensures cause { HasCause IsCaused (D.faults disk.old) (D.faults disk.new) result }
 {

@@ -1,18 +1,21 @@
 //! Laws: the functions do nothing, and their contracts are the laws.
-ghost use Rattle.std.specs.Prelude.{◌≡◌, ◌≤◌, ◌<◌, ◌+◌, ◌-◌, ◌^◌, ◌⊎◌, ◌++◌, [], ℕ, Bool, true, false, All, List, Option, drop, length, map, take};
+ghost use Rattle.std.specs.Prelude.{◌≡◌, ◌≤◌, ◌<◌, ◌+◌, ◌-◌, ◌^◌, ◌⊎◌, ◌++◌, [], ℕ, Bool, true, false, All, IsTrue, List, Option, Some, drop, length, map, take, unwrap_or};
 ghost use Rattle.std.specs.List.{fold};
 ghost use Rattle.qq_base.specs.Causes.{Rose};
 ghost use Rattle.qq_base.specs.declared.ids.Index.{Index};
 ghost use Rattle.qq_base.specs.declared.ids.NodeId.{NodeId};
 ghost use Rattle.qq_base.specs.declared.ids.QueueId.{QueueId};
 ghost use Rattle.qq_base.specs.declared.ids.Term.{Term};
+ghost use Rattle.qq_disk.specs.Crash.{IsImage, Remains};
 ghost use Rattle.qq_disk.specs.Disk.{Disk, now};
 ghost use Rattle.qq_disk.specs.Moments.{Adds};
 ghost use Rattle.qq_log.specs.declared.lane.Carry.{Carry};
 ghost use Rattle.qq_entry.specs.declared.command.Entry.{Entry};
 ghost use Rattle.qq_log.specs.declared.op.Op.{Op};
 ghost use Rattle.qq_log.specs.declared.op.Op.TheVariants.{Change};
-ghost use Rattle.qq_wal_chain.specs.Laws.{HoldsOps, KeepsPromise, op_records};
+ghost use Rattle.qq_log.specs.Stable.{new_state};
+ghost use Rattle.qq_wal_chain.specs.Lanes.{Lanes};
+ghost use Rattle.qq_wal_chain.specs.Laws.{HoldsOps, IsHonestImage, KeepsPromise, lanes_read, op_records};
 ghost use Rattle.qq_wal_record.specs.declared.record.LogRecord.{LogRecord};
 ghost use Rattle.qq_wal.specs.Batch.{IsBatch, encodings};
 ghost use Rattle.qq_wal.specs.declared.marks.Mark.{Mark};
@@ -32,6 +35,7 @@ ghost use Rattle.qq_wal.specs.Wal.{Appends, IsSound, StaysAppending};
 ghost use Rattle.qq_wal.specs.declared.wal.Wal.{Wal};
 
 use qq_disk::NodeDisk;
+use qq_wal_chain::the_log_has_a_format;
 
 /// The marks tell the ops that were appended since the last sync, so the notices are those of these ops:
 /// one for each queue that has an op among them, with that queue's last op.
@@ -64,6 +68,19 @@ pub fn a_sync_counts_what_was_appended()
         synced_in (map sync_mark marks) id ≡ carried_op (known marks id.0) }
     ensures carries { (marks : List Mark) → known (map sync_mark marks) ≡ known marks }
 {}
+
+/// What counts as synced of a queue is kept: whatever a crash leaves at that moment gives the queue an op of that
+/// number or a later one. The log is one that goes on, over a disk that tells its contents, and what stands behind
+/// the synced end of a file is honest.
+pub fn what_counts_as_synced_is_in_every_image<D: NodeDisk>()
+    ensures { (w : Wal D) (i : Remains) (id : QueueId) → IsSound D.tells D.past w →
+        IsTrue (D.tells w.disk) → w.stopped ≡ false → IsImage (now (D.past w.disk)) i →
+        IsHonestImage w.queues.items (now (D.past w.disk)) i → (lanes : Lanes)
+        × (lanes_read w.queues.items top i ≡ Some lanes)
+        × (synced_in w.marks id ≤ (unwrap_or (lanes id.0) new_state).op) }
+{
+    the_log_has_a_format();
+}
 
 /// Why a call of the log gave up: these errors come, and no others.
 ///

@@ -1,12 +1,13 @@
 //! New files of the log, and the numbers of files.
-ghost use Rattle.std.specs.Prelude.{◌≡◌, ◌≤◌, ◌+◌, Err, true, false, nat_le, IsTrue, IfOk, IfErr, OnOk, OnErr};
+ghost use Rattle.std.specs.Prelude.{◌≡◌, ◌≤◌, ◌+◌, Err, true, false, IsTrue, IfOk, IfErr, OnOk, OnErr};
 ghost use Rattle.qq_base.specs.declared.memory.TheConstants.{NUMBER_END};
 ghost use Rattle.qq_base.specs.Causes.{HasCause};
 ghost use Rattle.qq_disk.specs.Disk.{now};
-ghost use Rattle.qq_wal.specs.Fault.{IsRollCaused};
+ghost use Rattle.qq_disk.specs.Image.{log_of};
+ghost use Rattle.qq_wal.specs.Fault.{IsRollCaused, StopsAtRoll};
 ghost use Rattle.qq_wal.specs.Numbers.{number_of, raise};
-ghost use Rattle.qq_wal.specs.Running.{Stays, StaysWhole, StillHolds};
-ghost use Rattle.qq_wal.specs.Wal.{IsSound, IsRolled, carries_ahead};
+ghost use Rattle.qq_wal.specs.Running.{Stays, StaysBeside, StaysWhole, StillHolds};
+ghost use Rattle.qq_wal.specs.Wal.{IsSound, IsRolled, carries_ahead, is_full};
 
 use crate::begin::first_bytes;
 use crate::fault::{WalFault, fault_of};
@@ -21,17 +22,20 @@ use qq_wal_record::Header;
 use std::alloc::Global;
 
 impl<D: NodeDisk> Wal<D> {
-    /// Whether the file has reached the length that makes it full.
+    /// Whether so much came behind the bytes with which the file was begun that it is full. So a file isn't full
+    /// at once, however many queues it restates.
     pub fn full(&self) -> bool
-        ensures { result ≡ nat_le self.now.log_bytes self.now.size }
+        ensures { result ≡ is_full self.now }
     {
-        self.log_bytes <= self.size
+        self.log_bytes <= self.size.saturating_sub(self.first)
     }
 
     /// Begins a new file with the carries of the queues that have one, in one append, and syncs it; it
     /// answers the file's number. Nothing that was appended may wait for a sync: else a crash could leave
     /// the old file cut and the new header whole, which names more of the old file. What was gathered
-    /// waits on. `Spent` comes exactly where the greatest number of a log file is at its end.
+    /// waits on. `Spent` comes exactly where the greatest number of a log file is at its end. After an error
+    /// the log is as it was. It is stopped only where the disk failed, or had no memory to sync the file that
+    /// was begun.
     pub fn roll(&mut self, alloc: Global) -> Result<u64, WalFault>
         requires sound { IsSound D.tells D.past self.old }
         requires synced { self.old.dirty ≡ false }
@@ -44,12 +48,22 @@ impl<D: NodeDisk> Wal<D> {
             self.old.queues.items (now (D.past self.old.disk)) (now (D.past self.new.disk))) }
         ensures queues { self.new.queues ≡ self.old.queues }
         ensures ahead { carries_ahead self.new ≡ carries_ahead self.old }
-        ensures err { OnErr result (self.new.stopped ≡ false → self.new ≡ self.old) }
+        ensures err { OnErr result (self.new ≡ record self.old {
+          disk = self.new.disk;
+          stopped = self.new.stopped;
+        }) }
+        ensures stops { IsTrue (D.tells self.old.disk) → StopsAtRoll (self.old.numbers.log + 1)
+            self.old.stopped result self.new.stopped (now (D.past self.new.disk)) }
+        ensures failed { result ≡ Err WalFault.Disk → self.new.stopped ≡ true }
+        ensures moments { IsTrue (D.tells self.old.disk) → OnErr result (self.new.stopped ≡ false →
+            D.past self.new.disk ≡ D.past self.old.disk) }
         ensures stopped { self.old.stopped ≡ true →
             (self.new ≡ self.old) × (result ≡ Err WalFault.Stopped) }
-        ensures stops { result ≡ Err WalFault.Disk → self.new.stopped ≡ true }
         ensures spent { self.old.stopped ≡ false → NUMBER_END ≤ self.old.numbers.log →
             result ≡ Err (WalFault.Memory (Memory.Spent self.old.numbers.log)) }
+        ensures beside { IsTrue (D.tells self.old.disk) →
+            StaysBeside (log_of (self.old.numbers.log + 1))
+            (D.past self.old.disk) (D.past self.new.disk) }
         ensures whole { IsTrue (D.tells self.old.disk) →
             StaysWhole (D.past self.old.disk) (D.past self.new.disk) }
         ensures told { D.tells self.new.disk ≡ D.tells self.old.disk }
@@ -78,15 +92,16 @@ impl<D: NodeDisk> Wal<D> {
             Ok(ranges) => ranges,
             Err(memory) => return Err(WalFault::Memory(memory)),
         };
-        self.stopped = true;
-        if let Err(fault) = begin_file(&mut self.disk, alloc, header, bytes.as_slice()) {
+        if let Err((fault, half)) = begin_file(&mut self.disk, alloc, header, bytes.as_slice()) {
+            self.stopped = half;
             return Err(fault_of(fault));
         }
         self.header = header;
-        self.size = bytes.len() as u64;
+        let size = bytes.len() as u64;
+        self.size = size;
+        self.first = size;
         self.numbers.log = number;
         self.ranges = ranges;
-        self.stopped = false;
         Ok(number)
     }
 

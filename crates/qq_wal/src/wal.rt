@@ -4,23 +4,24 @@ ghost use Rattle.std.specs.Borrow.{Lends, sem};
 ghost use Rattle.qq_base.specs.declared.memory.TheConstants.{NUMBER_END};
 ghost use Rattle.qq_base.specs.Causes.{HasCause};
 ghost use Rattle.qq_disk.specs.Disk.{now};
+ghost use Rattle.qq_disk.specs.Image.{log_of};
 ghost use Rattle.qq_disk.specs.declared.name.FileKind.TheVariants.{Log};
 ghost use Rattle.qq_log.specs.declared.op.Op.{Op};
 ghost use Rattle.qq_log.specs.Writable.{MayGather};
 ghost use Rattle.qq_wal_record.specs.declared.record.LogRecord.TheVariants.{Op as OpRecord};
 ghost use Rattle.qq_wal_chain.specs.Laws.{op_records};
 ghost use Rattle.qq_wal.specs.Batch.{is_short};
-ghost use Rattle.qq_wal.specs.Fault.{IsCaused, IsGatherCaused, IsAppendCaused};
+ghost use Rattle.qq_wal.specs.Fault.{IsCaused, IsGatherCaused, IsAppendCaused, stops_at};
 ghost use Rattle.qq_wal.specs.Marks.{IsCarry, GoesOn, add_op};
-ghost use Rattle.qq_wal.specs.Notices.{notices_in, sync_mark};
+ghost use Rattle.qq_wal.specs.Notices.{notices_in, sync_mark, synced_in};
 ghost use Rattle.qq_wal.specs.Numbers.{greatest_number};
 ghost use Rattle.qq_wal.specs.Ranges.{ranges_in};
-ghost use Rattle.qq_wal.specs.Running.{MayBegin, Stays, StaysGiving, StaysWhole, HoldsAlso, StillHolds, MayNotice};
+ghost use Rattle.qq_wal.specs.Running.{MayBegin, Stays, StaysBeside, StaysGiving, StaysWhole, HoldsAlso, StillHolds, MayNotice};
 ghost use Rattle.qq_wal.specs.Wal.{IsSound, IsBegun, carries_ahead, disk_of, SameFile, Appends, StaysAppending};
 
 use crate::batch::{BATCH_BYTES, put_batch};
 use crate::begin::first_bytes;
-use crate::fault::{WalFault, fault_of};
+use crate::fault::{WalFault, fault_of, is_failure};
 use crate::file::{append_file, begin_file, sync_file};
 use crate::measure::is_short;
 use crate::notices::{Notice, notices_in, take_batch};
@@ -30,6 +31,7 @@ use crate::table::Marks;
 use qq_base::{Memory, QueueId};
 use qq_disk::{FileName, NodeDisk};
 use qq_log::{Carry, Op, carries_restate};
+use qq_wal_chain::the_log_has_a_format;
 use qq_wal_record::{Header, LogRecord};
 use std::alloc::Global;
 use std::collections::VecDeque;
@@ -44,6 +46,8 @@ pub struct Wal<D: NodeDisk> {
     pub(crate) header: Header,
     /// The bytes of that file.
     pub(crate) size: u64,
+    /// Those with which it was begun: its header and the carries.
+    pub(crate) first: u64,
     /// How many bytes make it full.
     pub(crate) log_bytes: u64,
     /// The greatest numbers of files.
@@ -89,6 +93,8 @@ impl<D: NodeDisk> Wal<D> {
             Stays queues.items (D.past disk) (D.past (disk_of result)) }
         ensures holds { IsTrue (D.tells disk) → OnOk result (
             StillHolds queues.items (now (D.past disk)) (now (D.past (disk_of result)))) }
+        ensures beside { IsTrue (D.tells disk) → StaysBeside (log_of header.file)
+            (D.past disk) (D.past (disk_of result)) }
         ensures whole { IsTrue (D.tells disk) →
             StaysWhole (D.past disk) (D.past (disk_of result)) }
         ensures told { D.tells (disk_of result) ≡ D.tells disk }
@@ -97,6 +103,7 @@ impl<D: NodeDisk> Wal<D> {
             IsCaused false (D.faults disk) (D.faults (disk_of result)) e.0) }
     {
         carries_restate();
+        the_log_has_a_format();
         let mut disk = disk;
         let marks = match Marks::new(alloc, queues.as_slice(), carries) {
             Ok(marks) => marks,
@@ -110,14 +117,16 @@ impl<D: NodeDisk> Wal<D> {
             Ok(ranges) => ranges,
             Err(memory) => return Err((WalFault::Memory(memory), disk)),
         };
-        if let Err(fault) = begin_file(&mut disk, alloc, header, bytes.as_slice()) {
+        if let Err((fault, _)) = begin_file(&mut disk, alloc, header, bytes.as_slice()) {
             return Err((fault_of(fault), disk));
         }
+        let size = bytes.len() as u64;
         Ok(Wal {
             disk,
             queues,
             header,
-            size: bytes.len() as u64,
+            size,
+            first: size,
             log_bytes,
             numbers: first_numbers(header, names),
             waiting: VecDeque::new(alloc),
@@ -179,7 +188,8 @@ impl<D: NodeDisk> Wal<D> {
 
     /// Appends a batch of what was gathered, from the first op on, and answers of how many ops it is:
     /// at most `BATCH_OPS` and `BATCH_BYTES`. Where nothing waits it makes no call of the disk. `Spent`
-    /// comes only where a batch more could make the file longer than a number of 64 bits tells.
+    /// comes only where a batch more could make the file longer than a number of 64 bits tells. After an error
+    /// the log is as it was, and it is stopped only where the disk failed.
     pub fn append_batch(&mut self, alloc: Global) -> Result<u64, WalFault>
         requires { IsSound D.tells D.past self.old }
         ensures sound { IsSound D.tells D.past self.new }
@@ -193,11 +203,18 @@ impl<D: NodeDisk> Wal<D> {
             StaysGiving self.old.queues.items batch (D.past self.old.disk) (D.past self.new.disk)
             × HoldsAlso self.old.queues.items batch
             (now (D.past self.old.disk)) (now (D.past self.new.disk))) }
-        ensures err { OnErr result (self.new.stopped ≡ false → self.new ≡ self.old) }
+        ensures err { OnErr result (self.new ≡ record self.old {
+          disk = self.new.disk;
+          stopped = self.new.stopped;
+        }) }
+        ensures stops { self.new.stopped ≡ stops_at self.old.stopped result }
+        ensures moments { IsTrue (D.tells self.old.disk) → OnErr result (self.new.stopped ≡ false →
+            D.past self.new.disk ≡ D.past self.old.disk) }
         ensures stopped { self.old.stopped ≡ true →
             (self.new ≡ self.old) × (result ≡ Err WalFault.Stopped) }
-        ensures stops { result ≡ Err WalFault.Disk → self.new.stopped ≡ true }
         ensures file { SameFile self.old self.new }
+        ensures beside { IsTrue (D.tells self.old.disk) → StaysBeside (log_of self.old.header.file)
+            (D.past self.old.disk) (D.past self.new.disk) }
         ensures whole { IsTrue (D.tells self.old.disk) →
             StaysWhole (D.past self.old.disk) (D.past self.new.disk) }
         ensures told { D.tells self.new.disk ≡ D.tells self.old.disk }
@@ -218,24 +235,26 @@ impl<D: NodeDisk> Wal<D> {
         if self.size > u64::MAX - BATCH_BYTES as u64 {
             return Err(WalFault::Memory(Memory::Spent { number: self.size }));
         }
-        self.stopped = true;
-        self.dirty = true;
         if let Err(fault) = append_file(&mut self.disk, alloc, self.header, bytes.as_slice()) {
+            self.stopped = is_failure(fault);
             return Err(fault_of(fault));
         }
+        self.dirty = true;
         self.ranges.write_batch(&self.waiting, count);
         take_batch(alloc, &mut self.waiting, &mut self.marks, count);
         self.size += bytes.len() as u64;
-        self.stopped = false;
         Ok(count as u64)
     }
 
     /// Syncs what was appended, and answers one notice for each queue that has an op in it, in the
-    /// order of the queues. Where nothing was appended it makes no call of the disk.
+    /// order of the queues. Where nothing was appended it makes no call of the disk. After an error nothing
+    /// counts as synced that didn't before, and the log is stopped only where the disk failed.
     pub fn sync_batch(&mut self, alloc: Global) -> Result<Vec<Notice>, WalFault>
         requires { IsSound D.tells D.past self.old }
         ensures sound { IsSound D.tells D.past self.new }
         ensures notices { IfOk result (λ notices. notices.items ≡ notices_in self.old.marks) }
+        ensures names_synced { IsTrue (D.tells self.old.disk) → IfOk result (λ notices.
+            All (λ n. synced_in self.new.marks n.queue ≡ n.op) notices.items) }
         ensures marks { OnOk result (self.new.marks ≡ map sync_mark self.old.marks) }
         ensures ranges { self.new.ranges ≡ self.old.ranges }
         ensures synced { OnOk result (self.new.dirty ≡ false) }
@@ -248,17 +267,25 @@ impl<D: NodeDisk> Wal<D> {
             self.old.queues.items (now (D.past self.old.disk)) (now (D.past self.new.disk))) }
         ensures waiting { self.new.waiting ≡ self.old.waiting }
         ensures ahead { carries_ahead self.new ≡ carries_ahead self.old }
-        ensures err { OnErr result (self.new.stopped ≡ false → self.new ≡ self.old) }
+        ensures err { OnErr result (self.new ≡ record self.old {
+          disk = self.new.disk;
+          stopped = self.new.stopped;
+        }) }
+        ensures stops { self.new.stopped ≡ stops_at self.old.stopped result }
+        ensures moments { IsTrue (D.tells self.old.disk) → OnErr result (self.new.stopped ≡ false →
+            D.past self.new.disk ≡ D.past self.old.disk) }
         ensures stopped { self.old.stopped ≡ true →
             (self.new ≡ self.old) × (result ≡ Err WalFault.Stopped) }
-        ensures stops { result ≡ Err WalFault.Disk → self.new.stopped ≡ true }
         ensures file { SameFile self.old self.new }
+        ensures beside { IsTrue (D.tells self.old.disk) → StaysBeside (log_of self.old.header.file)
+            (D.past self.old.disk) (D.past self.new.disk) }
         ensures whole { IsTrue (D.tells self.old.disk) →
             StaysWhole (D.past self.old.disk) (D.past self.new.disk) }
         ensures told { D.tells self.new.disk ≡ D.tells self.old.disk }
         ensures cause { HasCause (IsCaused self.old.stopped)
             (D.faults self.old.disk) (D.faults self.new.disk) result }
     {
+        the_log_has_a_format();
         if self.stopped {
             return Err(WalFault::Stopped);
         }
@@ -266,13 +293,12 @@ impl<D: NodeDisk> Wal<D> {
             Ok(notices) => notices,
             Err(memory) => return Err(WalFault::Memory(memory)),
         };
-        self.stopped = true;
         if let Err(fault) = sync_file(&mut self.disk, alloc, self.header, self.dirty) {
+            self.stopped = is_failure(fault);
             return Err(fault_of(fault));
         }
         self.marks.sync();
         self.dirty = false;
-        self.stopped = false;
         Ok(notices)
     }
 }

@@ -1,4 +1,4 @@
-use Rattle.std.proofs.Common.{Bool, IsTrue, sym, subst}
+use Rattle.std.proofs.Common.{Bool, IsTrue, arith, inl, inr, sym, subst}
 use Rattle.qq_disk.specs.Disk.{Disk, now}
 use Rattle.qq_wal_chain.specs.Laws.{SettlesOn}
 use Rattle.qq_wal.specs.Running.{StillHolds, top}
@@ -6,9 +6,10 @@ use Rattle.qq_wal.proofs.Steps.{stays-then}
 use Rattle.qq_recover.specs.Reading.{lanes_read, shown}
 use Rattle.qq_recover.specs.Recovered.{disk_of}
 use Rattle.qq_recover.specs.Table.{lanes_of}
+use Rattle.qq_recover.proofs.Frames.{begins-one}
 use Rattle.qq_recover.proofs.Outcomes.{begun-ok, disk-fails, disk-no-refusal, disk-unspent, err-weaker, knows-ok, lanes-ok, never-ok, new-ok, settles-ok}
 use Rattle.qq_recover.proofs.Promised.{no-refusal, readable, settles-lanes}
-use Rattle.qq_recover.proofs.Starts.{may-begin, none-at-end, shows-lanes}
+use Rattle.qq_recover.proofs.Starts.{listed-within, may-begin, none-at-end, shows-lanes}
 use Rattle.qq_recover.proofs.recovery.recover.Goals as goal
 
 pub begin_behind-requires-clause-goes_on : goal.begin_behind-requires-clause-goes_on
@@ -104,3 +105,21 @@ pub returns-in-Ok-clause-whole : goal.returns-in-Ok-clause-whole
 returns-in-Ok-clause-whole g c = λ told none.
     c.begin_behind.ensures.whole (subst (λ (t : Bool). IsTrue t) (sym c.prepare.ensures.told) told)
     (c.prepare.ensures.whole told none)
+
+pub returns-in-Ok-clause-others : goal.returns-in-Ok-clause-others
+returns-in-Ok-clause-others g c = λ told.
+    let past = g.D.NodeDisk.past in
+    let start = c.in-Ok.ensures.start in
+    let read = c.in-Ok.ensures.read told in
+    inr (begins-one (past c.args.disk) (past c.prepare.new.disk) (past (disk_of c.begin_behind.result))
+    c.in-Ok.start.header.file
+    (λ m listed. omega (
+      arith,
+      start.number,
+      listed-within (now (past c.args.disk)) c.in-Ok.start.names.items read.listing m listed,
+    ))
+    (c.prepare.ensures.only told)
+    (c.begin_behind.ensures.beside (subst (λ (t : Bool). IsTrue t) (sym c.prepare.ensures.told) told)))
+
+pub returns-in-Err-clause-others : goal.returns-in-Err-clause-others
+returns-in-Err-clause-others g c = λ told. inl (c.prepare.ensures.only told)

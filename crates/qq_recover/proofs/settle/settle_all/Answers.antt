@@ -3,6 +3,7 @@ use Rattle.qq_disk.specs.declared.name.FileName.{FileName}
 use Rattle.qq_disk.specs.Disk.{Disk, now}
 use Rattle.qq_wal_chain.specs.Promise.{sync_all}
 use Rattle.qq_wal.proofs.Steps.{stays-then}
+use Rattle.qq_recover.proofs.Frames.{only-then}
 use Rattle.qq_recover.proofs.settle.settle_all.Goals as goal
 
 pub returns-in_err-sync_one-clause-stays : goal.returns-in_err-sync_one-clause-stays
@@ -11,6 +12,13 @@ returns-in_err-sync_one-clause-stays g c = λ told queues.
     stays-then queues (past c.args.disk.now) (past c.loop-name.disk) (past c.sync_one.new.disk)
     (c.loop-name.invariant.stays told queues)
     (c.sync_one.ensures.stays (subst (λ (t : Bool). IsTrue t) (sym c.loop-name.invariant.told) told) queues)
+
+pub returns-in_err-sync_one-clause-only : goal.returns-in_err-sync_one-clause-only
+returns-in_err-sync_one-clause-only g c = λ told.
+    let past = g.D.NodeDisk.past in
+    only-then (past c.args.disk.now) (past c.loop-name.disk) (past c.sync_one.new.disk)
+    (c.loop-name.invariant.only told)
+    (c.sync_one.ensures.only (subst (λ (t : Bool). IsTrue t) (sym c.loop-name.invariant.told) told))
 
 pub returns-in_err-sync_one-clause-whole : goal.returns-in_err-sync_one-clause-whole
 returns-in_err-sync_one-clause-whole g c = λ told none.
@@ -34,6 +42,10 @@ loop-name-preserved g c =
           stays-then queues (past c.args.disk.now) (past c.loop-name.disk) (past c.sync_one.new.disk)
           (c.loop-name.invariant.stays told queues)
           (c.sync_one.ensures.stays (subst (λ (t : Bool). IsTrue t) (sym c.loop-name.invariant.told) told) queues);
+      only = λ told.
+          only-then (past c.args.disk.now) (past c.loop-name.disk) (past c.sync_one.new.disk)
+          (c.loop-name.invariant.only told)
+          (c.sync_one.ensures.only (subst (λ (t : Bool). IsTrue t) (sym c.loop-name.invariant.told) told));
       whole = λ told none.
           c.sync_one.ensures.whole (subst (λ (t : Bool). IsTrue t) (sym c.loop-name.invariant.told) told)
           (c.loop-name.invariant.whole told none);

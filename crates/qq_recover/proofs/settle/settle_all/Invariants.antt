@@ -3,6 +3,7 @@ use Rattle.qq_base.specs.declared.ids.QueueId.{QueueId}
 use Rattle.qq_disk.specs.Disk.{now}
 use Rattle.qq_wal_chain.specs.Promise.{sync_all}
 use Rattle.qq_wal.specs.Running.{Stays, StaysWhole}
+use Rattle.qq_recover.specs.Recovery.{StaysSyncing}
 use Rattle.qq_recover.proofs.settle.settle_all.Given as goal
 
 abbrev pub invariant-loop-name : goal.invariant-loop-name
@@ -15,6 +16,7 @@ invariant-loop-name g l =
       stays :
           IsTrue (g.D.NodeDisk.tells l.fn.disk) → (queues : List QueueId)
           → Stays queues (past l.fn.disk) (past l.disk);
+      only : IsTrue (g.D.NodeDisk.tells l.fn.disk) → StaysSyncing (past l.fn.disk) (past l.disk);
       whole : IsTrue (g.D.NodeDisk.tells l.fn.disk) → StaysWhole (past l.fn.disk) (past l.disk);
       told : g.D.NodeDisk.tells l.disk ≡ g.D.NodeDisk.tells l.fn.disk;
       later : g.D.NodeDisk.faults l.fn.disk ≤ g.D.NodeDisk.faults l.disk;

@@ -6,6 +6,7 @@ use Rattle.qq_wal_chain.specs.Promise.{sync_all}
 use Rattle.qq_recover.specs.declared.start.Start.{Start}
 use Rattle.qq_recover.specs.Answer.{Fails}
 use Rattle.qq_recover.specs.Reading.{lanes_read}
+use Rattle.qq_recover.proofs.Frames.{only-through}
 use Rattle.qq_recover.proofs.Prepared.{prepared-stays, read-of, still-listed, still-shown}
 use Rattle.qq_wal.proofs.Unremoved.{whole-through}
 use Rattle.qq_recover.proofs.start.prepare.Goals as goal
@@ -122,3 +123,34 @@ returns-in-Err-read_log-clause-whole g c = λ told.
     let settled = subst (λ (t : Bool). IsTrue t) (sym c.settle_all.ensures.told) named in
     whole-through (past c.args.disk.now) (past c.names.new.self) (past c.settle_all.new.disk)
     (past c.read_log.new.disk) (c.names.ensures.same told) (c.settle_all.ensures.whole named) (c.read_log.ensures.reads.same settled)
+
+pub returns-in-Err-clause-only : goal.returns-in-Err-clause-only
+returns-in-Err-clause-only g c = λ told.
+    let past = g.D.NodeDisk.past in
+    let named = subst (λ (t : Bool). IsTrue t) (sym c.names.ensures.told) told in
+    only-through (past c.args.disk.now) (past c.names.new.self) (past c.settle_all.new.disk)
+    (past c.settle_all.new.disk) (c.names.ensures.same told) (c.settle_all.ensures.only named) refl
+
+pub returns-in_err-start_behind-in-Ok-clause-only : goal.returns-in_err-start_behind-in-Ok-clause-only
+returns-in_err-start_behind-in-Ok-clause-only g c = λ told.
+    let past = g.D.NodeDisk.past in
+    let named = subst (λ (t : Bool). IsTrue t) (sym c.names.ensures.told) told in
+    let settled = subst (λ (t : Bool). IsTrue t) (sym c.settle_all.ensures.told) named in
+    only-through (past c.args.disk.now) (past c.names.new.self) (past c.settle_all.new.disk)
+    (past c.read_log.new.disk) (c.names.ensures.same told) (c.settle_all.ensures.only named) (c.read_log.ensures.reads.same settled)
+
+pub returns-in_ok-start_behind-in-Ok-clause-only : goal.returns-in_ok-start_behind-in-Ok-clause-only
+returns-in_ok-start_behind-in-Ok-clause-only g c = λ told.
+    let past = g.D.NodeDisk.past in
+    let named = subst (λ (t : Bool). IsTrue t) (sym c.names.ensures.told) told in
+    let settled = subst (λ (t : Bool). IsTrue t) (sym c.settle_all.ensures.told) named in
+    only-through (past c.args.disk.now) (past c.names.new.self) (past c.settle_all.new.disk)
+    (past c.read_log.new.disk) (c.names.ensures.same told) (c.settle_all.ensures.only named) (c.read_log.ensures.reads.same settled)
+
+pub returns-in-Err-read_log-clause-only : goal.returns-in-Err-read_log-clause-only
+returns-in-Err-read_log-clause-only g c = λ told.
+    let past = g.D.NodeDisk.past in
+    let named = subst (λ (t : Bool). IsTrue t) (sym c.names.ensures.told) told in
+    let settled = subst (λ (t : Bool). IsTrue t) (sym c.settle_all.ensures.told) named in
+    only-through (past c.args.disk.now) (past c.names.new.self) (past c.settle_all.new.disk)
+    (past c.read_log.new.disk) (c.names.ensures.same told) (c.settle_all.ensures.only named) (c.read_log.ensures.reads.same settled)

@@ -1,7 +1,8 @@
 use Rattle.std.proofs.lemmas.Result.{on_ok_weaker}
 use Rattle.qq_disk.specs.Disk.{now}
-use Rattle.qq_wal.proofs.Steps.{append-stays, append-log, append-shows, append-length, append-others}
+use Rattle.qq_wal.proofs.Steps.{append-stays, append-log, append-shows, append-kept, append-length, append-others}
 use Rattle.qq_disk.specs.Image.{log_of}
+use Rattle.qq_wal.proofs.Frames.{append-beside}
 use Rattle.qq_wal.proofs.Unremoved.{appended-whole}
 use Rattle.qq_wal.proofs.file.append_file.Goals as goal
 
@@ -42,3 +43,15 @@ pub returns-clause-whole : goal.returns-clause-whole
 returns-clause-whole g c = λ told.
     appended-whole (g.D.NodeDisk.past c.args.disk.now) (g.D.NodeDisk.past c.append.new.self)
     (log_of c.args.header.file) c.args.bytes.now (c.append.ensures.moments told)
+
+pub returns-clause-kept : goal.returns-clause-kept
+returns-clause-kept g c = λ told queues batch running b.
+    on_ok_weaker c.append.result
+    (λ is. append-kept queues (c.the_log_has_a_format.ensures queues) c.args.header batch c.args.bytes.now b
+    (g.D.NodeDisk.past c.args.disk.now) running (now (g.D.NodeDisk.past c.append.new.self)) is)
+    (c.append.ensures.ok told)
+
+pub returns-clause-beside : goal.returns-clause-beside
+returns-clause-beside g c = λ told.
+    append-beside (g.D.NodeDisk.past c.args.disk.now) (g.D.NodeDisk.past c.append.new.self) (log_of c.args.header.file)
+    c.args.bytes.now (c.append.ensures.moments told)

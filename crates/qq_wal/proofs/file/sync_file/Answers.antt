@@ -9,6 +9,7 @@ use Rattle.qq_wal_chain.proofs.Settling.{shown-sync}
 use Rattle.qq_wal.specs.Running.{top}
 use Rattle.qq_wal.proofs.Steps.{sync-log, sync-notices}
 use Rattle.qq_wal.proofs.Batches.{clean-notices}
+use Rattle.qq_wal.proofs.Frames.{sync-beside}
 use Rattle.qq_wal.proofs.Unremoved.{synced-whole}
 use Rattle.qq_wal.proofs.file.sync_file.Goals as goal
 
@@ -46,4 +47,9 @@ returns-then-not-dirty-clause-noticed g c = λ told queues running clean.
 pub returns-clause-whole : goal.returns-clause-whole
 returns-clause-whole g c = λ told.
     synced-whole (g.D.NodeDisk.past c.args.disk.now) (g.D.NodeDisk.past c.sync.new.self)
+    (log_of c.args.header.file) (c.sync.ensures.moments told)
+
+pub returns-clause-beside : goal.returns-clause-beside
+returns-clause-beside g c = λ told.
+    sync-beside (g.D.NodeDisk.past c.args.disk.now) (g.D.NodeDisk.past c.sync.new.self)
     (log_of c.args.header.file) (c.sync.ensures.moments told)

@@ -24,7 +24,7 @@ invariant_of-result c =
     c.self.inside.snapshot log)) (sym is)
     (change-carried c.self.inside.op c.self.inside.term c.self.inside.vote c.self.inside.base c.self.inside.snapshot
     c.self.inside.entries.items c.self.invariant (record { 0 = 0 }) c.args.op c.args.term c.args.vote c.args.keep
-    c.args.entries next (c.requires.within (record { 0 = 0 })) c.requires.writable (omega (arith, c.len.ensures)))
+    c.args.entries next (c.requires.within (record { 0 = 0 })) c.requires.writable c.requires.entries (omega (arith, c.len.ensures)))
 
 pub returns-clause-ok : goal.returns-clause-ok
 returns-clause-ok c = λ queue.

@@ -7,11 +7,13 @@ use Rattle.qq_wal_record.specs.declared.record.LogRecord.{LogRecord}
 use Rattle.qq_wal.specs.declared.marks.Mark.{Mark}
 use Rattle.qq_wal.specs.Batch.{FitsBatch, AllFitBatch}
 use Rattle.qq_wal.specs.Marks.{AllFollow, HasCarry, add_records, known, queues_in}
-use Rattle.qq_wal.specs.Notices.{note_record}
-use Rattle.qq_wal.specs.Wal.{IsOnDisk}
+use Rattle.qq_wal.specs.Notices.{AreCounted, AreNamed, note_record}
+use Rattle.qq_wal.specs.Wal.{IsKept, IsOnDisk}
 use Rattle.qq_wal.proofs.Batches.{told_before, ops_of, is_batch}
 use Rattle.qq_wal.proofs.Follows.{follow-take, noted-queues}
+use Rattle.qq_wal.proofs.Held.{follow-counted, noted-kept, noted-named}
 use Rattle.qq_wal.proofs.OnDisk.{appended, may-add}
+use Rattle.qq_wal.proofs.Refusing.{stays-at-want, still-sound, stops}
 use Rattle.qq_wal.proofs.Steps.{holds-also}
 use Rattle.qq_wal.proofs.Taking.{left-ahead, left-carries, left-follow, taken-fit}
 use Rattle.qq_wal.proofs.wal.Wal.append_batch.Goals as goal
@@ -94,6 +96,11 @@ returns-clause-sound g c =
           (left-carries was.queues.items was.marks c.in-Ok.count was.waiting.items c.requires.waiting
           c.requires.follow c.requires.queues_are c.requires.carries);
       number = c.requires.number;
+      counted = subst (λ (l : List Mark). AreCounted l) (sym marks)
+          (follow-counted was.queues.items (known was.marks) taken was.marks
+          (follow-take was.queues.items c.in-Ok.count was.waiting.items (known was.marks) c.requires.follow)
+          c.requires.counted);
+      named = subst (λ (l : List Mark). AreNamed l) (sym marks) (noted-named taken was.marks c.requires.named);
       on_disk = λ told going.
           let before = told_before c.append_file.ensures.told told in
           let on = c.requires.on_disk before c.if-self.false in
@@ -114,4 +121,36 @@ returns-clause-sound g c =
           ∙ ap (λ (k : ℕ). length (content (now (g.D.NodeDisk.past was.disk)) (log_of was.header.file)) + k) (search rules))
           (c.in_default.ensures.others before));
       synced = λ told going clean. absurd (cc clean);
+      kept = λ told going.
+          let before = told_before c.append_file.ensures.told told in
+          let on = c.requires.on_disk before c.if-self.false in
+          let ops = ops_of c.in-Ok.count was.waiting.items c.requires.waiting in
+          let b = is_batch was.queues.items was.header taken c.as_slice.result.now
+          (c.as_slice.ensures.value ∙ c.in-Ok.ensures.ok) c.in-Ok.ensures.fits ops.ops ops.are in
+          subst (λ (l : List Mark). IsKept was.queues.items was.header l
+          (now (g.D.NodeDisk.past c.append_file.new.disk))) (sym marks)
+          (noted-kept was.queues.items was.header was.marks taken (now (g.D.NodeDisk.past was.disk))
+          (now (g.D.NodeDisk.past c.append_file.new.disk))
+          (c.in_default.ensures.kept before was.queues.items ops.ops on.log b)
+          (c.requires.kept before c.if-self.false));
     }
+
+pub returns-in-Err-append_file-clause-sound : goal.returns-in-Err-append_file-clause-sound
+returns-in-Err-append_file-clause-sound g c =
+    let past = g.D.NodeDisk.past in
+    still-sound g.D.NodeDisk.tells past c.args.self.now c.append_file.new.disk c.is_failure-self.result c.requires
+    c.if-self.false c.append_file.ensures.told
+    (λ told. stays-at-want (past c.args.self.now.disk) (past c.append_file.new.disk) c.in-Err-append_file.fault
+    c.is_failure-self.result c.is_failure-self.ensures (c.in-Err-append_file.ensures.want told))
+
+pub returns-in-Err-append_file-clause-stops : goal.returns-in-Err-append_file-clause-stops
+returns-in-Err-append_file-clause-stops g c =
+    stops ℕ c.args.self.now.stopped c.is_failure-self.result c.in-Err-append_file.fault c.fault_of.result
+    c.fault_of.ensures c.if-self.false
+    c.is_failure-self.ensures
+
+pub returns-in-Err-append_file-clause-moments : goal.returns-in-Err-append_file-clause-moments
+returns-in-Err-append_file-clause-moments g c = λ told.
+    let past = g.D.NodeDisk.past in
+    stays-at-want (past c.args.self.now.disk) (past c.append_file.new.disk) c.in-Err-append_file.fault
+    c.is_failure-self.result c.is_failure-self.ensures (c.in-Err-append_file.ensures.want told)

@@ -1,4 +1,4 @@
-use Rattle.std.proofs.Common.{List, map, subst, sym, ap, ◌∙◌, refl, rules, ◌≡◌, length}
+use Rattle.std.proofs.Common.{Option, List, map, subst, sym, ap, ◌∙◌, refl, rules, ◌≡◌, length}
 use Rattle.std.specs.List.{AllByRecursion}
 use Rattle.std.proofs.lemmas.List.Elements.{recursion_from_All}
 use Rattle.qq_base.specs.declared.ids.QueueId.{QueueId}
@@ -9,12 +9,17 @@ use Rattle.qq_wal_record.specs.declared.record.LogRecord.TheVariants.{Carry as C
 use Rattle.qq_wal.specs.declared.marks.Mark.{Mark}
 use Rattle.qq_wal.specs.Batch.{AllFitBatch}
 use Rattle.qq_wal.specs.Marks.{AllFollow, HasCarry, IsCarry, carries_in, known, queues_in}
-use Rattle.qq_wal.specs.Notices.{new_mark}
+use Rattle.qq_wal.specs.Notices.{AreCounted, AreNamed, new_mark}
 use Rattle.qq_wal.specs.Ranges.{begin_files, ranges_in}
 use Rattle.qq_wal.specs.Wal.{first_length}
 use Rattle.qq_wal.proofs.Agreeing.{begun-carries, begun-queues}
+use Rattle.qq_wal_chain.specs.Chain.{Found}
+use Rattle.qq_wal_chain.specs.Promise.{found_world}
+use Rattle.qq_wal_chain.specs.Wal.{wal}
 use Rattle.qq_wal.proofs.Batches.{told_before}
-use Rattle.qq_wal.proofs.OnDisk.{begin-continues, begin-on-disk}
+use Rattle.qq_wal.proofs.Counted.{counted-first}
+use Rattle.qq_wal.proofs.Held.{begun-kept, begun-named, clean-kept}
+use Rattle.qq_wal.proofs.OnDisk.{begin-agree, begin-continues, begin-on-disk}
 use Rattle.qq_wal.proofs.Steps.{in_top, still-holds}
 use Rattle.qq_wal.proofs.wal.Wal.begin.Goals as goal
 
@@ -80,6 +85,8 @@ returns-clause-sound g c =
       carries = subst (λ (l : List Mark). AllByRecursion HasCarry l) (sym made)
           (begun-carries c.args.carries.now queues each);
       number = search rules;
+      counted = subst (λ (l : List Mark). AreCounted l) (sym made) (counted-first c.args.carries.now queues);
+      named = subst (λ (l : List Mark). AreNamed l) (sym made) (begun-named c.args.carries.now queues);
       on_disk = λ told going.
           let before = told_before c.begin_file.ensures.told told in
           let may = c.requires.goes_on before in
@@ -90,7 +97,7 @@ returns-clause-sound g c =
           let is = c.as_slice-3.ensures.value ∙ c.in-Ok-first_bytes.ensures.ok queues in
           begin-on-disk (λ id s. (c.carries_restate.ensures.exact (carry_of id s) s).1 refl) queues
           c.args.header c.args.carries.now c.args.names.now (now (g.D.NodeDisk.past c.args.disk)) may
-          c.requires.number each c.in-Ok.marks made c.len.result c.first_numbers.result
+          c.requires.number each c.in-Ok.marks made c.len-size.result c.first_numbers.result
           (now (g.D.NodeDisk.past c.begin_file.new.disk)) c.first_numbers.ensures
           (c.in_default.ensures.log before queues may.before records goes_on is).0
           (c.in_default.ensures.shown before queues may.before records goes_on is)
@@ -105,11 +112,29 @@ returns-clause-sound g c =
           (in_top c.args.header.file (search rules)) c.in-Ok-first_bytes.ensures.fits in
           (c.in_default.ensures.log before queues may.before records goes_on
           (c.as_slice-3.ensures.value ∙ c.in-Ok-first_bytes.ensures.ok queues)).1;
+      kept = λ told going.
+          let before = told_before c.begin_file.ensures.told told in
+          let may = c.requires.goes_on before in
+          let goes_on = begin-continues (λ id s. (c.carries_restate.ensures.exact (carry_of id s) s).1 refl) queues
+          c.args.header c.args.carries.now c.args.names.now (now (g.D.NodeDisk.past c.args.disk)) may
+          c.requires.number each c.as_slice-2.result.now (c.as_slice-2.ensures ∙ made) (search rules)
+          (in_top c.args.header.file (search rules)) c.in-Ok-first_bytes.ensures.fits in
+          let is = c.as_slice-3.ensures.value ∙ c.in-Ok-first_bytes.ensures.ok queues in
+          let log = c.in_default.ensures.log before queues may.before records goes_on is in
+          begun-kept queues c.args.header c.args.carries.now c.in-Ok.marks (now (g.D.NodeDisk.past c.begin_file.new.disk))
+          may.before.world made
+          (clean-kept queues (c.the_log_has_a_format.ensures queues) c.args.header c.in-Ok.marks
+          (now (g.D.NodeDisk.past c.begin_file.new.disk)) log.0 log.1
+          ∙ c.in_default.ensures.shown before queues may.before records goes_on is
+          ∙ ap (λ (f : Option (Found (wal queues))). found_world (wal queues) f) may.found)
+          (begin-agree (λ id s. (c.carries_restate.ensures.exact (carry_of id s) s).1 refl) queues
+          c.args.header c.args.carries.now c.args.names.now (now (g.D.NodeDisk.past c.args.disk)) may
+          c.requires.number each c.in-Ok.marks made);
     }
 
 pub returns-clause-ok : goal.returns-clause-ok
 returns-clause-ok g c =
-    let long : c.len.result ≡ length c.in-Ok-first_bytes.bytes.items = search rules in
+    let long : c.len-size.result ≡ length c.in-Ok-first_bytes.bytes.items = search rules in
     record {
       queues_are = refl;
       header_is = refl;
@@ -120,6 +145,7 @@ returns-clause-ok g c =
           ∙ ap (λ (l : List QueueId). begin_files c.args.header.file l (ranges_in c.args.ranges.now)) c.deref.ensures.value;
       size = long ∙ c.in-Ok-first_bytes.ensures.length
           ∙ ap (λ (l : List Mark). first_length c.args.header l) c.as_slice-2.ensures;
+      first = refl;
       numbers = c.first_numbers.ensures;
       limit = refl;
       clean = refl;

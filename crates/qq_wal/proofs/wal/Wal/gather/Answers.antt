@@ -19,8 +19,11 @@ returns-clause-sound g c =
       queues_are = c.requires.sound.queues_are;
       carries = c.requires.sound.carries;
       number = c.requires.sound.number;
+      counted = c.requires.sound.counted;
+      named = c.requires.sound.named;
       on_disk = c.requires.sound.on_disk;
       synced = c.requires.sound.synced;
+      kept = c.requires.sound.kept;
     }
 
 pub returns-clause-ahead : goal.returns-clause-ahead

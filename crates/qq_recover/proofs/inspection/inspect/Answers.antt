@@ -1,0 +1,18 @@
+use Rattle.std.proofs.Common.{List, ap, arith}
+use Rattle.qq_disk.specs.declared.name.FileKind.TheVariants.{Log as OfLog}
+use Rattle.qq_disk.specs.declared.name.FileName.{FileName}
+use Rattle.qq_disk.specs.Disk.{now}
+use Rattle.qq_wal.specs.Numbers.{greatest_number}
+use Rattle.qq_recover.proofs.Starts.{listed-within}
+use Rattle.qq_recover.proofs.inspection.inspect.Goals as goal
+
+pub returns-in-Ok-clause-end : goal.returns-in-Ok-clause-end
+returns-in-Ok-clause-end g c = λ told number end listed.
+    absurd (omega (
+      arith,
+      end,
+      listed-within (now (g.D.NodeDisk.past c.args.disk.now)) c.in_ok-names.names.items (c.in_ok-names.ensures.ok told)
+          number listed,
+      ap (λ (l : List FileName). greatest_number OfLog l) c.as_slice-in-Ok.ensures.value,
+      c.in_ok-lanes_of_log-in-Ok.ensures.end,
+    ))
