@@ -7,7 +7,7 @@ use crate::words::{number, word};
 use anyhow::Result;
 use qq_base::{Index, QueueId, Term};
 use qq_entry::Entries;
-use qq_inbox::{hand_over, wait_for_op};
+use qq_inbox::{Start, hand_over, wait_for_op};
 use qq_log::{Op, Synced};
 use std::alloc::Global;
 use std::collections::VecDeque;
@@ -17,6 +17,15 @@ use std::time::{Clock, Duration, Instant};
 
 /// The most ops that a node's inbox holds.
 const CAPACITY: usize = 8_192;
+
+/// A log without ops, to which an inbox brings the first ones.
+struct Fresh;
+
+impl Start for Fresh {
+    ghost queues = { ? };
+
+    ghost carries = { ? };
+}
 
 /// A log that has synced every op up to a number.
 #[derive(Drop)]
@@ -67,7 +76,7 @@ fn time_ops<R: Threads + Wait + Sync + Clock + Print>(
     }
     let start = Instant::now(rt)?;
     for _ in 0..rounds {
-        ops = hand_over(rt, alloc, CAPACITY, ops)?.taken;
+        ops = hand_over::<Fresh, R>(rt, alloc, CAPACITY, ops)?.taken;
     }
     let spent = start.elapsed(rt)?;
     println!(rt;

@@ -1,6 +1,6 @@
 //! Checks of an inbox in one thread.
 
-use crate::kept::entryless;
+use crate::kept::{Fresh, entryless};
 use anyhow::{Context, Result, ensure};
 use cases::{Trials, run_each};
 use qq_inbox::Inbox;
@@ -8,7 +8,7 @@ use std::sync::Wait;
 
 fn an_inbox_for_two_hands_a_third_op_back<R: Wait + AllocGlobal>(rt: &R) -> Result<()> {
     let op = |number| entryless(rt.alloc(), 1, number);
-    let (inbox, mut pass) = Inbox::new(rt.alloc(), 2)?;
+    let (inbox, mut pass) = Inbox::<Fresh>::new(rt.alloc(), 2)?;
     ensure!(inbox.offer(rt, &mut pass, op(1)) == Ok(()));
     ensure!(inbox.offer(rt, &mut pass, op(2)) == Ok(()));
     ensure!(inbox.offer(rt, &mut pass, op(3)) == Err(op(3)));
@@ -22,7 +22,7 @@ fn an_inbox_for_two_hands_a_third_op_back<R: Wait + AllocGlobal>(rt: &R) -> Resu
 
 fn an_inbox_for_one_and_a_split_of_a_split<R: Wait + AllocGlobal>(rt: &R) -> Result<()> {
     let op = |number| entryless(rt.alloc(), 3, number);
-    let (inbox, mut writer) = Inbox::new(rt.alloc(), 1)?;
+    let (inbox, mut writer) = Inbox::<Fresh>::new(rt.alloc(), 1)?;
     let mut reader = inbox.split(&mut writer).ok().context("no split")?;
     let idle = inbox.split(&mut writer).ok().context("no split")?;
     let mut last = inbox.split(&mut reader).ok().context("no split")?;

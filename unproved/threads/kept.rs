@@ -2,6 +2,7 @@
 
 use qq_base::{Index, QueueId, Term};
 use qq_entry::Entries;
+use qq_inbox::Start;
 use qq_log::{Op, Synced};
 use std::alloc::Global;
 
@@ -15,6 +16,15 @@ pub fn entryless(alloc: Global, queue: u32, number: u64) -> Op {
         keep: Index(0),
         entries: Entries::new(alloc),
     }
+}
+
+/// A log without ops, to which an inbox brings the first ones.
+pub struct Fresh;
+
+impl Start for Fresh {
+    ghost queues = { ? };
+
+    ghost carries = { ? };
 }
 
 /// A log of queues 1 to 3 that keeps the number of the last op of each.

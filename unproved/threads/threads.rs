@@ -1,6 +1,6 @@
 //! Checks over two threads and three.
 
-use crate::kept::{Kept, entryless};
+use crate::kept::{Fresh, Kept, entryless};
 use anyhow::{Context, Result, ensure};
 use cases::{Trials, run_each};
 use qq_base::QueueId;
@@ -33,7 +33,7 @@ fn three_queues(alloc: Global, rounds: u64) -> Result<VecDeque<Op>> {
 /// was too high.
 fn publish<R: Wait>(
     rt: &R,
-    inbox: &Inbox,
+    inbox: &Inbox<Fresh>,
     pass: &mut InboxPass,
     marks: &Marks,
     seat: &mut MarkSeat,
@@ -57,7 +57,7 @@ fn publish<R: Wait>(
 /// Takes `count` ops, keeps and marks each. Returns what it kept, and how many came out of order.
 fn write<R: Wait>(
     rt: &R,
-    inbox: &Inbox,
+    inbox: &Inbox<Fresh>,
     pass: &mut InboxPass,
     marks: &Marks,
     seat: &mut MarkSeat,
@@ -111,7 +111,7 @@ fn ops_of_three_queues_come_in_order_and_are_marked<R: Threads + Wait + Sync + A
     let ops = three_queues(alloc, ROUNDS)?;
     let count = ops.len();
     ensure!(count == 100_000);
-    let (made, mut offering) = Inbox::new(alloc, 512)?;
+    let (made, mut offering) = Inbox::<Fresh>::new(alloc, 512)?;
     let (table, mut raising) = new_marks(alloc, 3)?;
     let mut taking = made.split(&mut offering).ok().context("no split")?;
     let mut looking = table.split(&mut raising).ok().context("no split")?;
@@ -146,7 +146,7 @@ fn a_list_is_handed_over_whole<R: Threads + Wait + Sync + AllocGlobal>(rt: &R) -
         taken,
         inbox,
         mut pass,
-    } = hand_over(rt, alloc, 2, three_queues(alloc, 100)?)?;
+    } = hand_over::<Fresh, R>(rt, alloc, 2, three_queues(alloc, 100)?)?;
     ensure!(taken == wanted);
     ensure!(inbox.take(rt, &mut pass) == None);
     Ok(())

@@ -1,2 +1,3 @@
-pub mod Names
 mod Searches
+mod Syncs
+pub mod Names

@@ -1,11 +1,12 @@
-ghost use Rattle.std.specs.Prelude.{◌≡◌, ◌≤◌, true, false, Err, IfOk, IfErr, IfSome, OnErr, length};
+ghost use Rattle.std.specs.Prelude.{◌≡◌, ◌≤◌, true, false, Err, None, IfOk, IfErr, IfNone, IfSome, OnOk, OnErr, length};
 ghost use Rattle.std.specs.List.Sorted.{IsStrictlySortedBy};
 ghost use Rattle.qq_disk.specs.Name.{name_cmp};
 ghost use Rattle.qq_base.specs.Causes.{HasCause};
 ghost use Rattle.qq_disk.specs.Fault.{IsCaused};
 ghost use Rattle.qq_dir_disk.specs.Faults.{StopsWhereFailed};
-ghost use Rattle.qq_dir_disk.specs.Handles.{without, KeepsOpen};
+ghost use Rattle.qq_dir_disk.specs.Handles.{handle_of, without, HasSynced, KeepsOpen};
 
+use crate::disk_file::DiskFile;
 use crate::faults::Faults;
 use crate::folder::Folder;
 use crate::handles::{Access, Handle, Handles};
@@ -34,7 +35,10 @@ pub struct DirDisk<R: Files> {
     is_synced: bool,
 }
 
-impl<R: Files> DirDisk<R> {
+impl<R: Files> DirDisk<R>
+where
+    R::File: DiskFile,
+{
     /// The disk in this folder, which needn't be there: the first append makes it. Nothing is opened.
     pub fn new(rt: R, alloc: Global, folder: String) -> Self
         ensures faults { result.faults.count ≡ 0 }
@@ -51,19 +55,19 @@ impl<R: Files> DirDisk<R> {
         }
     }
 
-    /// The disk in the same folder as a process sees it that starts anew: the files are closed, and all that
-    /// was known of the folder is forgotten, failed calls too. What was pending is whatever the system has
-    /// taken.
+    /// The disk in the same folder, opened again: the files are closed, and all that was known of the folder is
+    /// forgotten. What was pending is whatever the system has taken. A disk that was stopped stays so, since
+    /// what it shows may be in the system's memory alone.
     pub fn reopen(self, alloc: Global) -> Self
         ensures faults { result.faults.count ≡ 0 }
-        ensures stopped { result.faults.stopped ≡ false }
+        ensures stopped { result.faults.stopped ≡ self.faults.stopped }
         ensures folder { result.folder ≡ self.folder }
     {
         DirDisk {
             rt: self.rt,
             folder: self.folder,
             handles: Handles::new(alloc),
-            faults: Faults::new(),
+            faults: self.faults.begin_again(),
             is_made: false,
             is_synced: false,
         }
@@ -75,7 +79,7 @@ impl<R: Files> DirDisk<R> {
         ensures later { self.old.faults.count ≤ self.new.faults.count }
         ensures stopped { self.old.faults.stopped ≡ true → self.new.faults.stopped ≡ true }
     {
-        if handle.access == Access::Append && handle.file.sync_all().is_err() {
+        if handle.access == Access::Append && handle.file.sync_whole().is_err() {
             self.faults.stop();
         }
     }
@@ -123,7 +127,7 @@ impl<R: Files> DirDisk<R> {
         ensures stopped { self.old.faults.stopped ≡ true → self.new.faults.stopped ≡ true }
         ensures cause { HasCause IsCaused self.old.faults.count self.new.faults.count result }
     {
-        if file.sync_all().is_err() {
+        if file.sync_whole().is_err() {
             return Err(self.faults.stop());
         }
         self.sync_folder()
@@ -137,6 +141,8 @@ impl<R: Files> DirDisk<R> {
         access: Access,
     ) -> Result<Option<Handle<R::File>>, DiskFault>
         ensures name { IfOk result (λ found. IfSome found (λ handle. handle.name ≡ name)) }
+        ensures closed { access ≡ Access.Read → IfOk result (λ found. IfNone found
+            (handle_of name self.old.handles.files.items ≡ None)) }
         ensures handles { self.new.handles.files.items ≡ without name self.old.handles.files.items }
         ensures stopped { self.old.faults.stopped ≡ true → self.new.faults.stopped ≡ true }
         ensures cause { HasCause IsCaused self.old.faults.count self.new.faults.count result }
@@ -214,18 +220,21 @@ impl<R: Files> DirDisk<R> {
 
     // Syncs a file's bytes and its name, where it is there.
     fn flush(&mut self, alloc: Global, name: FileName) -> Result<(), DiskFault>
+        ensures synced { OnOk result (HasSynced (λ file. R.File.is_synced file) name
+            self.old.handles.files.items self.new.handles.files.items) }
         ensures stopped { self.old.faults.stopped ≡ true → self.new.faults.stopped ≡ true }
         ensures cause { HasCause IsCaused self.old.faults.count self.new.faults.count result }
     {
         let Some(handle) = self.open(alloc, name, Access::Read)? else {
             return Ok(());
         };
-        let synced = handle.file.sync_data();
+        let synced = handle.file.sync_bytes();
         self.keep_open(handle);
         if synced.is_err() {
             return Err(self.faults.count());
         }
-        self.sync_folder()
+        self.sync_folder()?;
+        Ok(())
     }
 }
 
@@ -262,7 +271,10 @@ fn read_from<F: Read + Seek + OpenFile>(
     Ok(count)
 }
 
-impl<R: Files + AllocGlobal + Clone + Drop> NodeDisk for DirDisk<R> {
+impl<R: Files + AllocGlobal + Clone + Drop> NodeDisk for DirDisk<R>
+where
+    R::File: DiskFile,
+{
     ghost use Rattle.std.specs.Prelude.{false, []};
 
     ghost tells = { λ _. false };
@@ -338,6 +350,8 @@ impl<R: Files + AllocGlobal + Clone + Drop> NodeDisk for DirDisk<R> {
     }
 
     fn sync(&mut self, alloc: Global, file: FileName) -> Result<(), DiskFault>
+        ensures synced { OnOk result (HasSynced (λ file. R.File.is_synced file) file
+            self.old.handles.files.items self.new.handles.files.items) }
         ensures still { self.old.faults.stopped ≡ true → result ≡ Err DiskFault.Failed }
         ensures failed { IfErr result (StopsWhereFailed self.new.faults.stopped) }
         ensures stopped { self.old.faults.stopped ≡ true → self.new.faults.stopped ≡ true }

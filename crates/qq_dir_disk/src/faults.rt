@@ -31,6 +31,17 @@ impl Faults {
         }
     }
 
+    /// None so far of the same disk, opened again. Where it was stopped it stays so.
+    pub fn begin_again(&self) -> Self
+        ensures count { result.count ≡ 0 }
+        ensures stopped { result.stopped ≡ self.now.stopped }
+    {
+        Faults {
+            count: 0,
+            stopped: self.stopped,
+        }
+    }
+
     /// Counts a fault, once.
     pub fn count(&mut self) -> DiskFault
         ensures failed { result ≡ DiskFault.Failed }

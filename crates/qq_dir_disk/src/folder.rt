@@ -1,12 +1,13 @@
-ghost use Rattle.std.specs.Prelude.{◌≡◌, ◌++◌, ◌∷◌, IfOk, IsOkUnless};
+ghost use Rattle.std.specs.Prelude.{◌≡◌, ◌++◌, ◌∷◌, true, IfOk, IfSome, IsOkUnless};
 ghost use Rattle.qq_dir_disk.specs.Name.{file_text};
 ghost use Rattle.qq_dir_disk.specs.Folder.{folder_path};
 
+use crate::disk_file::DiskFile;
 use crate::name::file_text;
 use qq_base::Memory;
 use qq_disk::FileName;
 use std::alloc::Global;
-use std::fs::{File, OpenFile};
+use std::fs::File;
 use std::io::ErrorKind;
 use std::rt::Files;
 use std::{fs, io};
@@ -26,21 +27,37 @@ fn parent(path: &str) -> &str {
     }
 }
 
-fn sync_path<R: Files>(rt: &R, path: &str) -> io::Result<()> {
-    File::open(rt, path)?.sync_all()
+// Syncs a file or a folder, and answers it.
+fn sync_path<R: Files>(rt: &R, path: &str) -> io::Result<R::File>
+where
+    R::File: DiskFile,
+    ensures { IfOk result (λ file. R.File.is_synced file ≡ true) }
+{
+    let file = File::open(rt, path)?;
+    file.sync_whole()?;
+    Ok(file)
 }
 
-// Syncs the name of a folder that was found. Where the folder above may not be read, nobody could have made
-// and synced it from here, and there is nothing to catch up on.
-fn sync_found<R: Files>(rt: &R, path: &str) -> io::Result<()> {
+// Syncs the name of a folder that was found, and answers the folder above. Where that may not be read, nobody
+// could have made and synced the name from here, and there is nothing to catch up on.
+fn sync_found<R: Files>(rt: &R, path: &str) -> io::Result<Option<R::File>>
+where
+    R::File: DiskFile,
+    ensures { IfOk result (λ above. IfSome above (λ file. R.File.is_synced file ≡ true)) }
+{
     match sync_path(rt, parent(path)) {
-        Err(e) if e.kind() == ErrorKind::PermissionDenied => Ok(()),
-        done => done,
+        Ok(above) => Ok(Some(above)),
+        Err(e) if e.kind() == ErrorKind::PermissionDenied => Ok(None),
+        Err(e) => Err(e),
     }
 }
 
-// Makes a folder that is absent, and syncs its name into the folder above.
-fn make_level<R: Files>(rt: &R, path: &str) -> io::Result<()> {
+// Makes a folder that is absent, and syncs its name into the folder above, which it answers.
+fn make_level<R: Files>(rt: &R, path: &str) -> io::Result<R::File>
+where
+    R::File: DiskFile,
+    ensures { IfOk result (λ above. R.File.is_synced above ≡ true) }
+{
     fs::create_dir(rt, path)?;
     sync_path(rt, parent(path))
 }
@@ -75,43 +92,56 @@ impl Folder {
         Ok(path)
     }
 
-    /// Syncs its entries, so that the names of its files survive.
-    pub fn sync<R: Files>(&self, rt: &R) -> io::Result<()> {
+    /// Syncs its entries, so that the names of its files survive, and answers it as it is open.
+    pub fn sync<R: Files>(&self, rt: &R) -> io::Result<R::File>
+    where
+        R::File: DiskFile,
+        ensures { IfOk result (λ folder. R.File.is_synced folder ≡ true) }
+    {
         sync_path(rt, self.path())
     }
 
     /// Makes the folder and those above it, as far as they are absent, from the top down. A folder's own
     /// name is synced before anything is made in it, also that of one that was found, since who made it
-    /// may have ended before that.
-    pub fn make<R: Files>(&self, rt: &R) -> io::Result<()> {
+    /// may have ended before that. Answers the folder above, into which its name was synced, None where that
+    /// may not be read.
+    pub fn make<R: Files>(&self, rt: &R) -> io::Result<Option<R::File>>
+    where
+        R::File: DiskFile,
+        ensures { IfOk result (λ above. IfSome above (λ file. R.File.is_synced file ≡ true)) }
+    {
         let path = self.path();
         let mut found = None;
         for end in 1..path.len() {
             match path.split_at_checked(end) {
-                Some((level, rest)) if rest.starts_with('/') => found = step(rt, found, level)?,
+                Some((level, rest)) if rest.starts_with('/') => found = step(rt, found, level)?.0,
                 _ => {}
             }
         }
-        match step(rt, found, path)? {
+        let (found, above) = step(rt, found, path)?;
+        match found {
             Some(folder) => sync_found(rt, folder),
-            None => Ok(()),
+            None => Ok(above),
         }
     }
 }
 
-// Makes one level below the one that was found. Answers the level, where it was found with its name not
-// synced.
+// Makes one level below the one that was found. Answers the level, where it was found with its name not synced,
+// and else the folder above it, with its name synced there.
 fn step<'a, R: Files>(
     rt: &R,
     found: Option<&'a str>,
     level: &'a str,
-) -> io::Result<Option<&'a str>> {
+) -> io::Result<(Option<&'a str>, Option<R::File>)>
+where
+    R::File: DiskFile,
+    ensures { IfOk result (λ done. IfSome done.1 (λ file. R.File.is_synced file ≡ true)) }
+{
     if fs::exists(rt, level)? {
-        return Ok(Some(level));
+        return Ok((Some(level), None));
     }
     if let Some(above) = found {
         sync_found(rt, above)?;
     }
-    make_level(rt, level)?;
-    Ok(None)
+    Ok((None, Some(make_level(rt, level)?)))
 }

@@ -6,11 +6,15 @@
 #![tactic(auto)]
 
 mod dir_disk;
+mod disk_file;
 mod faults;
 mod folder;
 mod handles;
 mod listing;
 mod name;
+mod root;
 
 pub use dir_disk::DirDisk;
+pub use disk_file::DiskFile;
 pub use name::{file_name, file_text};
+pub use root::{LockedRoot, lock_root};

@@ -1,7 +1,9 @@
 -- Each step of a pass keeps the rule of the inbox, and what it tells.
-use Rattle.std.proofs.Common.{◌≡◌, ◌⊎◌, ◌+◌, ℕ, true, false, List, [], ◌∷◌, ◌++◌, length, set, sym, refl, ap, ◌∙◌, subst, inl, inr, ⊎_elim, append_assoc, append-nil, length-append, arith}
+use Rattle.std.proofs.Common.{◌≡◌, ◌⊎◌, ℕ, true, false, List, [], ◌∷◌, ◌++◌, length, set, sym, refl, ap, ◌∙◌, subst, inl, inr, ⊎_elim, append_assoc, append-nil, length-append, arith}
 use Rattle.crossbeam_queue.specs.Fifo.{Pushes, Pops, Forks, Merges, Learns}
+use Rattle.qq_base.specs.declared.ids.QueueId.{QueueId}
 use Rattle.qq_log.specs.declared.op.Op.{Op}
+use Rattle.qq_log.specs.Carries.{Carries}
 use Rattle.qq_inbox.specs.declared.pass.PassView.{PassView}
 use Rattle.qq_inbox.specs.HandOver.{MayCome, InOrder, pass_view, first_view, spent_view, with_offered, with_taken, left_view, given_view, joined_view, HandedOver, Tells, Begins}
 use Rattle.qq_inbox.proofs.Rights.{chosen, held, held_alone, held_changed, held_kept, held_beside, held_moved, held_joined}
@@ -21,29 +23,32 @@ snoc_split {A = A} (z ∷ xs) y (f ∷ front) x back e =
     ⊎_elim (λ t. inl ((λ i. head i ∷ t.0 i), t.1)) (λ t. inr (t.0, λ i. head i ∷ t.1 i))
     (snoc_split xs y front x back tail)
 
-pub in_order_none : InOrder []
-in_order_none front op back e = absurd (omega (arith, ap length e, length-append front (op ∷ back)))
+pub in_order_none : (queues : List QueueId) (carries : Carries) → InOrder queues carries []
+in_order_none queues carries front op back e = absurd (omega (arith, ap length e, length-append front (op ∷ back)))
 
-pub in_order_more : (ops : List Op) (op : Op) → InOrder ops → MayCome ops op → InOrder (ops ++ op ∷ [])
-in_order_more ops op order may front x back e =
-    ⊎_elim (λ t. subst (λ (p : List Op × Op). MayCome p.0 p.1) (λ i. (t.0 i, t.1 i)) may) (λ t. order front x t.0 t.1)
+pub in_order_more : (queues : List QueueId) (carries : Carries) (ops : List Op) (op : Op)
+    → InOrder queues carries ops → MayCome queues carries ops op → InOrder queues carries (ops ++ op ∷ [])
+in_order_more queues carries ops op order may front x back e =
+    ⊎_elim (λ t. subst (λ (p : List Op × Op). MayCome queues carries p.0 p.1) (λ i. (t.0 i, t.1 i)) may)
+    (λ t. order front x t.0 t.1)
     (snoc_split ops op front x back e)
 
 -- ---- the steps
 
-pub begins : HandedOver [] (first_view ∷ [])
-begins = (
+pub begins : (queues : List QueueId) (carries : Carries) → HandedOver queues carries [] (first_view ∷ [])
+begins queues carries = (
   [],
   [],
   refl,
-  in_order_none,
+  in_order_none queues carries,
   held_alone (λ (v : PassView). v.offers) (λ (v : PassView). v.offered) first_view,
   held_alone (λ (v : PassView). v.takes) (λ (v : PassView). v.taken) first_view,
 )
 
-pub offers : (n pass : ℕ) (v : PassView) (op : Op) → v.offers ≡ true → MayCome v.offered op
-    → Pushes HandedOver n pass v op (λ w. w ≡ with_offered v op)
-offers n pass v op right may items views room h at =
+pub offers : (queues : List QueueId) (carries : Carries) (n pass : ℕ) (v : PassView) (op : Op) → v.offers ≡ true
+    → MayCome queues carries v.offered op
+    → Pushes (HandedOver queues carries) n pass v op (λ w. w ≡ with_offered v op)
+offers queues carries n pass v op right may items views room h at =
     let w = with_offered v op in
     let all : v.offered ≡ h.0 =
     held (λ (u : PassView). u.offers) (λ (u : PassView). u.offered) views pass v h.0 h.4 at right in (
@@ -52,7 +57,7 @@ offers n pass v op right may items views room h at =
         h.0 ++ op ∷ [],
         h.1,
         ap (λ (l : List Op). l ++ op ∷ []) h.2 ∙ append_assoc h.1 items (op ∷ []),
-        in_order_more h.0 op h.3 (subst (λ (l : List Op). MayCome l op) all may),
+        in_order_more queues carries h.0 op h.3 (subst (λ (l : List Op). MayCome queues carries l op) all may),
         held_changed (λ (u : PassView). u.offers) (λ (u : PassView). u.offered) views pass v w h.0 (h.0 ++ op ∷ []) h.4
             at right (ap (λ (l : List Op). l ++ op ∷ []) all),
         held_kept (λ (u : PassView). u.takes) (λ (u : PassView). u.taken) views pass v w h.1 h.5 at
@@ -61,9 +66,9 @@ offers n pass v op right may items views room h at =
       refl,
     )
 
-pub takes : (pass : ℕ) (v : PassView) → v.takes ≡ true
-    → Pops HandedOver pass v (λ op w. (w ≡ with_taken v op) × MayCome v.taken op)
-takes pass v right op items views h at =
+pub takes : (queues : List QueueId) (carries : Carries) (pass : ℕ) (v : PassView) → v.takes ≡ true
+    → Pops (HandedOver queues carries) pass v (λ op w. (w ≡ with_taken v op) × MayCome queues carries v.taken op)
+takes queues carries pass v right op items views h at =
     let w = with_taken v op in
     let all : v.taken ≡ h.1 =
     held (λ (u : PassView). u.takes) (λ (u : PassView). u.taken) views pass v h.1 h.5 at right in (
@@ -78,11 +83,12 @@ takes pass v right op items views h at =
         held_changed (λ (u : PassView). u.takes) (λ (u : PassView). u.taken) views pass v w h.1 (h.1 ++ op ∷ []) h.5 at
             right (ap (λ (l : List Op). l ++ op ∷ []) all),
       ),
-      (refl, subst (λ (l : List Op). MayCome l op) (sym all) (h.3 h.1 op items h.2)),
+      (refl, subst (λ (l : List Op). MayCome queues carries l op) (sym all) (h.3 h.1 op items h.2)),
     )
 
-pub splits : (pass : ℕ) (v : PassView) → Forks HandedOver pass v (left_view v) (given_view v)
-splits pass v items views h at = (
+pub splits : (queues : List QueueId) (carries : Carries) (pass : ℕ) (v : PassView)
+    → Forks (HandedOver queues carries) pass v (left_view v) (given_view v)
+splits queues carries pass v items views h at = (
   h.0,
   h.1,
   h.2,
@@ -95,9 +101,9 @@ splits pass v items views h at = (
       at refl (λ own. (own, refl)),
 )
 
-pub joins : (pass : ℕ) (v : PassView) (other : ℕ) (u : PassView)
-    → Merges HandedOver pass v other u (joined_view v u) spent_view
-joins pass v other u items views h at apart at_other = (
+pub joins : (queues : List QueueId) (carries : Carries) (pass : ℕ) (v : PassView) (other : ℕ) (u : PassView)
+    → Merges (HandedOver queues carries) pass v other u (joined_view v u) spent_view
+joins queues carries pass v other u items views h at apart at_other = (
   h.0,
   h.1,
   h.2,
@@ -110,8 +116,9 @@ joins pass v other u items views h at apart at_other = (
 
 -- ---- what is learned
 
-pub tells : (pass : ℕ) (v : PassView) → Learns HandedOver pass v (Tells v)
-tells pass v items views h at =
+pub tells : (queues : List QueueId) (carries : Carries) (pass : ℕ) (v : PassView)
+    → Learns (HandedOver queues carries) pass v (Tells v)
+tells queues carries pass v items views h at =
     let offered = held (λ (u : PassView). u.offers) (λ (u : PassView). u.offered) views pass v h.0 h.4 at in
     let taken = held (λ (u : PassView). u.takes) (λ (u : PassView). u.taken) views pass v h.1 h.5 at in (
       λ offers. (h.1, offered offers ∙ h.2),

@@ -1,4 +1,3 @@
-pub mod Counted
 pub mod HandOvers
 mod Knowledge
 pub mod Numbers

@@ -1,33 +1,25 @@
 -- The inbox: what was offered is what was taken and then what it holds, in order.
-use Rattle.std.specs.Prelude.{◌≡◌, ◌≢◌, ◌+◌, ◌≤◌, ℕ, Bool, true, false, cond, ◌||◌, List, [], ◌∷◌, ◌++◌, length, Option, None, Some, IfSome, if◌then◌else◌, ◌==◌, fold}
+use Rattle.std.specs.Prelude.{◌≡◌, ◌≢◌, ◌+◌, ◌≤◌, ℕ, Bool, true, false, cond, ◌||◌, List, [], ◌∷◌, ◌++◌, length}
 use mathlib.Core.List.{IsPrefix}
+use Rattle.qq_base.specs.declared.ids.QueueId.{QueueId}
 use Rattle.qq_log.specs.declared.op.Op.{Op}
-use Rattle.qq_log.specs.Op.{queue, number}
+use Rattle.qq_log.specs.Carries.{Carries, GoesOn, add_ops}
+use Rattle.qq_log.specs.Op.{queue}
 use Rattle.qq_log.specs.Writable.{MayWrite}
 use Rattle.qq_inbox.specs.declared.pass.PassView.{PassView}
 use Rattle.qq_inbox.specs.Rights.{Owned}
 
 -- ---- which op may come next
 
--- a queue's last number, once an op more has come
-abbrev pub next_last : ℕ → Option ℕ → Op → Option ℕ
-next_last id last op = if (queue op).0 == id then Some (number op) else last
+-- An op may come after these, where the log stood at these carries of these queues before them: it goes on where its
+-- queue stands now, and the log writes it.
+abbrev pub MayCome : List QueueId → Carries → List Op → Op → Type 0
+MayCome queues carries ops op = GoesOn queues (add_ops carries ops) op × MayWrite op
 
--- the number of a queue's last op in a list, None where it has none there
-abbrev pub last_number : ℕ → List Op → Option ℕ
-last_number id ops = fold (next_last id) None ops
-
--- an op's number is the one behind its queue's last; a queue's first op may have any
-abbrev pub Follows : List Op → Op → Type 0
-Follows ops op = IfSome (last_number (queue op).0 ops) (λ last. number op ≡ last + 1)
-
--- an op may come behind these: it follows its queue's last, and the log writes it
-abbrev pub MayCome : List Op → Op → Type 0
-MayCome ops op = Follows ops op × MayWrite op
-
--- each op may come behind those before it
-abbrev pub InOrder : List Op → Type 0
-InOrder ops = (front : List Op) (op : Op) (back : List Op) → ops ≡ front ++ op ∷ back → MayCome front op
+-- each op may come after those before it
+abbrev pub InOrder : List QueueId → Carries → List Op → Type 0
+InOrder queues carries ops =
+    (front : List Op) (op : Op) (back : List Op) → ops ≡ front ++ op ∷ back → MayCome queues carries front op
 
 -- none of these is an op of the queue
 abbrev pub NoneOf : ℕ → List Op → Type 0
@@ -70,11 +62,11 @@ joined_view v w =
 
 -- ---- the rule
 
--- What was offered is what was taken and then what the inbox holds, and each op came in order. One pass at
--- most may offer, and knows what was offered; one at most may take, and knows what was taken.
-abbrev pub HandedOver : List Op → List PassView → Type 0
-HandedOver items views =
-    (offered : List Op) × (taken : List Op) × (offered ≡ taken ++ items) × InOrder offered
+-- What was offered is what was taken and then what the inbox holds, and each op came in order, from where the log
+-- stood. One pass at most may offer, and knows what was offered; one at most may take, and knows what was taken.
+abbrev pub HandedOver : List QueueId → Carries → List Op → List PassView → Type 0
+HandedOver queues carries items views =
+    (offered : List Op) × (taken : List Op) × (offered ≡ taken ++ items) × InOrder queues carries offered
     × Owned (λ (v : PassView). v.offers) (λ (v : PassView). v.offered) offered views
     × Owned (λ (v : PassView). v.takes) (λ (v : PassView). v.taken) taken views
 

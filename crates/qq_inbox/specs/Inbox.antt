@@ -13,7 +13,7 @@ abbrev pub view : InboxPass → PassView
 view pass = queue_view pass
 
 -- a pass of this inbox
-abbrev pub IsPassOf : Inbox → InboxPass → Type 0
+abbrev pub IsPassOf : {S : Type 0} → Inbox S → InboxPass → Type 0
 IsPassOf inbox pass = IsQueuePassOf inbox.queue pass
 
 -- a pass of the same inbox as before
@@ -21,5 +21,5 @@ abbrev pub IsSamePass : InboxPass → InboxPass → Type 0
 IsSamePass old new = IsSameQueuePass old new
 
 -- how many ops an inbox may hold
-abbrev pub capacity_of : Inbox → ℕ
+abbrev pub capacity_of : {S : Type 0} → Inbox S → ℕ
 capacity_of inbox = ruled_capacity inbox.queue

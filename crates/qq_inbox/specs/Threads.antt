@@ -10,11 +10,11 @@ use Rattle.qq_inbox.specs.Inbox.{InboxPass, view, IsPassOf}
 use Rattle.qq_inbox.specs.Marks.{MarkSeat, reading, words, IsSeatOf}
 
 -- the pass may offer, and has offered these
-abbrev pub HasOffered : Inbox → InboxPass → List Op → Type 0
+abbrev pub HasOffered : {S : Type 0} → Inbox S → InboxPass → List Op → Type 0
 HasOffered inbox pass ops = IsPassOf inbox pass × (view pass ≡ pass_view true false ops [])
 
 -- the pass may take, and has taken these
-abbrev pub HasTaken : Inbox → InboxPass → List Op → Type 0
+abbrev pub HasTaken : {S : Type 0} → Inbox S → InboxPass → List Op → Type 0
 HasTaken inbox pass ops = IsPassOf inbox pass × (view pass ≡ pass_view false true [] ops)
 
 -- the list holds so many ops, and has room for as many as the second number says

@@ -1,5 +1,8 @@
 //! Laws of what passes and seats know: the functions do nothing, and their contracts are the laws.
-ghost use Rattle.std.specs.Prelude.{◌≡◌, ◌≢◌, ◌+◌, ◌<◌, ◌≤◌, ◌++◌, ◌∷◌, ℕ, List, true, length, slice_index};
+ghost use Rattle.std.specs.Prelude.{◌≡◌, ◌≢◌, ◌+◌, ◌<◌, ◌≤◌, ◌++◌, ◌∷◌, ℕ, List, true, length, nat_eq, slice_index, unwrap_or};
+ghost use Rattle.std.specs.List.{list_any};
+ghost use Rattle.qq_base.specs.declared.ids.QueueId.{QueueId};
+ghost use Rattle.qq_log.specs.Carries.{Carries, new_carry};
 ghost use Rattle.qq_log.specs.declared.op.Op.{Op};
 ghost use Rattle.qq_log.specs.Op.{queue, number};
 ghost use Rattle.qq_log.specs.Writable.{MayWrite};
@@ -10,15 +13,24 @@ ghost use Rattle.qq_inbox.specs.Seats.{AtMost, raised_to, reader, joined_seat};
 
 /// What ops in order are, as they are offered and taken.
 ///
-/// - `next`: of two ops of a queue, with none of it between them, the second has the number behind the first's.
+/// - `next`: of two ops of a queue, with none of it between them, the second has the number after the first's.
+/// - `first`: a queue's first op has the number after that of the carry at which the log stood.
+/// - `listed`: each is of a queue of the log.
 /// - `written`: each op is one that the log writes.
 pub fn ops_in_order_count_on()
-    ensures next { (front between back : List Op) (first second : Op) →
-        InOrder (front ++ first ∷ (between ++ second ∷ back)) →
+    ensures next { (queues : List QueueId) (carries : Carries) (front between back : List Op)
+        (first second : Op) →
+        InOrder queues carries (front ++ first ∷ (between ++ second ∷ back)) →
         (queue second).0 ≡ (queue first).0 → NoneOf (queue first).0 between →
         number second ≡ number first + 1 }
-    ensures written { (front back : List Op) (op : Op) →
-        InOrder (front ++ op ∷ back) → MayWrite op }
+    ensures first { (queues : List QueueId) (carries : Carries) (front back : List Op) (op : Op) →
+        InOrder queues carries (front ++ op ∷ back) → NoneOf (queue op).0 front →
+        number op ≡ (unwrap_or (carries (queue op).0) (new_carry (queue op))).op + 1 }
+    ensures listed { (queues : List QueueId) (carries : Carries) (front back : List Op) (op : Op) →
+        InOrder queues carries (front ++ op ∷ back) →
+        list_any (λ (id : QueueId). nat_eq id.0 (queue op).0) queues ≡ true }
+    ensures written { (queues : List QueueId) (carries : Carries) (front back : List Op) (op : Op) →
+        InOrder queues carries (front ++ op ∷ back) → MayWrite op }
 {}
 
 /// What an op that comes back tells of the inbox.

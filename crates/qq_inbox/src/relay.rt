@@ -7,6 +7,7 @@ ghost use Rattle.qq_inbox.specs.Inbox.{view, IsPassOf, capacity_of};
 ghost use Rattle.qq_inbox.specs.Threads.{HasOffered, HasTaken, HasRoom};
 
 use crate::inbox::{Inbox, InboxPass};
+use crate::pass::Start;
 use qq_base::Memory;
 use qq_log::Op;
 use std::alloc::Global;
@@ -17,11 +18,11 @@ use std::thread::Threads;
 
 /// Ops that went from one thread to another, and what they went through.
 #[derive(Drop)]
-pub struct Relay {
+pub struct Relay<S: Start> {
     /// The ops as they were taken.
     pub taken: VecDeque<Op>,
     /// The inbox.
-    pub inbox: Inbox,
+    pub inbox: Inbox<S>,
     /// Its pass, which may offer and take again.
     pub pass: InboxPass,
 }
@@ -30,14 +31,14 @@ pub struct Relay {
 /// the other takes as many. What was taken is what was offered: all, in order, each once. Both rights come
 /// back in one pass. It takes its memory before the threads begin. Where no thread can be made and there are
 /// more ops than the inbox may hold, it doesn't return.
-pub fn hand_over<R: Threads + Wait + Sync>(
+pub fn hand_over<S: Start + Send + Sync, R: Threads + Wait + Sync>(
     rt: &R,
     alloc: Global,
     capacity: usize,
     ops: VecDeque<Op>,
-) -> Result<Relay, Memory>
+) -> Result<Relay<S>, Memory>
     requires capacity { 0 < capacity }
-    requires order { InOrder ops.items }
+    requires order { InOrder S.queues S.carries ops.items }
     ensures taken { IfOk result (λ relay. relay.taken.items ≡ ops.items) }
     ensures pass { IfOk result (λ relay. IsPassOf relay.inbox relay.pass) }
     ensures view { IfOk result (λ relay.
@@ -47,13 +48,13 @@ pub fn hand_over<R: Threads + Wait + Sync>(
 {
     let count = ops.len();
     let room = VecDeque::with_capacity(alloc, count)?;
-    let (inbox, mut writer) = Inbox::new(alloc, capacity)?;
+    let (inbox, mut writer) = Inbox::<S>::new(alloc, capacity)?;
     let reader = inbox.split(&mut writer)?;
     let shared = &inbox;
     let (mut pass, (reader, taken)) = thread::join(
         rt,
         move || -> InboxPass
-            requires { HasOffered shared.now writer [] × InOrder ops.items }
+            requires { HasOffered shared.now writer [] × InOrder S.queues S.carries ops.items }
             ensures { HasOffered shared.entry.now result ops.items }
         { offer_all(rt, shared, writer, ops) },
         move || -> (InboxPass, VecDeque<Op>)
@@ -67,14 +68,14 @@ pub fn hand_over<R: Threads + Wait + Sync>(
 }
 
 // Offers each op, until it is put.
-fn offer_all<W: Wait>(
+fn offer_all<S: Start, W: Wait>(
     rt: &W,
-    inbox: &Inbox,
+    inbox: &Inbox<S>,
     mut pass: InboxPass,
     mut ops: VecDeque<Op>,
 ) -> InboxPass
     requires pass { HasOffered inbox.now pass [] }
-    requires order { InOrder ops.items }
+    requires order { InOrder S.queues S.carries ops.items }
     ensures pass { HasOffered inbox.now result ops.items }
 {
     'ops: while let Some(op) = ops.pop_front() {
@@ -83,10 +84,10 @@ fn offer_all<W: Wait>(
     pass
 }
 
-fn offer_until_put<W: Wait>(rt: &W, inbox: &Inbox, pass: &mut InboxPass, op: Op)
+fn offer_until_put<S: Start, W: Wait>(rt: &W, inbox: &Inbox<S>, pass: &mut InboxPass, op: Op)
     requires pass { IsPassOf inbox.now pass.old }
     requires right { (view pass.old).offers ≡ true }
-    requires order { MayCome (view pass.old).offered op }
+    requires order { MayCome S.queues S.carries (view pass.old).offered op }
     ensures pass { IsPassOf inbox.now pass.new }
     ensures view { view pass.new ≡ with_offered (view pass.old) op }
 {
@@ -102,9 +103,9 @@ fn offer_until_put<W: Wait>(rt: &W, inbox: &Inbox, pass: &mut InboxPass, op: Op)
 }
 
 // Takes so many ops.
-fn take_all<W: Wait>(
+fn take_all<S: Start, W: Wait>(
     rt: &W,
-    inbox: &Inbox,
+    inbox: &Inbox<S>,
     mut pass: InboxPass,
     mut taken: VecDeque<Op>,
     count: usize,
@@ -121,7 +122,12 @@ fn take_all<W: Wait>(
 }
 
 // Takes the next op to the end of a list that has room for it.
-fn take_next<W: Wait>(rt: &W, inbox: &Inbox, pass: &mut InboxPass, taken: &mut VecDeque<Op>)
+fn take_next<S: Start, W: Wait>(
+    rt: &W,
+    inbox: &Inbox<S>,
+    pass: &mut InboxPass,
+    taken: &mut VecDeque<Op>,
+)
     requires pass { HasTaken inbox.now pass.old taken.old.items }
     requires room { deque_len taken.old < deque_capacity taken.old }
     ensures pass { HasTaken inbox.now pass.new taken.new.items }
@@ -133,7 +139,7 @@ fn take_next<W: Wait>(rt: &W, inbox: &Inbox, pass: &mut InboxPass, taken: &mut V
     taken.push_back_reserved(op);
 }
 
-fn take_until_found<W: Wait>(rt: &W, inbox: &Inbox, pass: &mut InboxPass) -> Op
+fn take_until_found<S: Start, W: Wait>(rt: &W, inbox: &Inbox<S>, pass: &mut InboxPass) -> Op
     requires pass { IsPassOf inbox.now pass.old }
     requires right { (view pass.old).takes ≡ true }
     ensures pass { IsPassOf inbox.now pass.new }

@@ -1,4 +1,5 @@
 pub mod Above
+pub mod Carries
 pub mod Lane
 pub mod Log
 pub mod Op

@@ -8,7 +8,7 @@ use Rattle.qq_inbox.proofs.relay.offer_all.Given as goal
 -- what was offered and what is left are all ops
 abbrev pub invariant-ops : goal.invariant-ops
 invariant-ops g l =
-    InOrder l.fn.ops.items
+    InOrder g.S.Start.queues g.S.Start.carries l.fn.ops.items
     × ((sent : List Op) × (sent ++ l.ops.items ≡ l.fn.ops.items) × HasOffered l.inbox l.pass sent)
 
 -- an op fewer is left
