@@ -17,7 +17,7 @@ use Rattle.qq_raft_model.specs.Refines.{Stands}
 use Rattle.qq_raft_model.specs.Server.{Input}
 use Rattle.qq_raft_model.specs.State.{Server}
 use Rattle.qq_raft_model.specs.Group.{Event, Group, Seat, deliver_by, feed, group_after, happens, may_restart, new_group, restart_by, take_by, take_op}
-use Rattle.qq_raft_model.specs.Group.Event.{Tick, Submit, Deliver, Lose, Copy, Take, Notice, Crash, Restart}
+use Rattle.qq_raft_model.specs.Group.Event.{Tick, Submit, Add, Flush, Deliver, Lose, Copy, Take, Notice, Crash, Restart}
 use Rattle.qq_raft_model.specs.Promises.{AreDistinct, members_of}
 use Rattle.qq_raft_model.proofs.Feeding.{feed-follows, same_some}
 use Rattle.qq_raft_model.proofs.GroupRestarting.{restart-follows}
@@ -181,6 +181,8 @@ pub happens-follows : {nodes : List NodeId} {w : World} {g : Group} (e : Event) 
 happens-follows (Tick k) distinct tied = feed-follows k Input.Tick tied (λ s up. tt)
 happens-follows (Submit k time command) distinct tied =
     feed-follows k (Input.Submit time command) tied (λ s up. tt)
+happens-follows (Add k time command) distinct tied = feed-follows k (Input.Add time command) tied (λ s up. tt)
+happens-follows (Flush k) distinct tied = feed-follows k Input.Flush tied (λ s up. tt)
 happens-follows {g = g} (Deliver at) distinct tied = deliver-follows at (drop at g.bag) tied refl
 happens-follows {g = g} (Lose at) distinct tied =
     bag-follows (take at g.bag ++ drop (at + 1) g.bag) tied (λ r here. still-in r at (at + 1) g.bag here)

@@ -20,7 +20,7 @@ use Rattle.qq_raft_msg.specs.declared.state.Role.{Role}
 use Rattle.qq_raft_msg.specs.declared.state.Role.TheVariants.{Leader, Candidate, Follower}
 use Rattle.qq_raft_model.specs.Leading.{one_if}
 use Rattle.qq_raft_model.specs.Server.{Input}
-use Rattle.qq_raft_model.specs.Server.Input.{Tick, Receive, Submit, Notice}
+use Rattle.qq_raft_model.specs.Server.Input.{Tick, Receive, Submit, Add, Flush, Notice}
 use Rattle.qq_raft_model.specs.State.{Server, last}
 use Rattle.qq_raft_model.specs.declared.peer.Peer.{Peer}
 use Rattle.qq_raft_model.specs.declared.peer.Waiting.{Waiting}
@@ -208,6 +208,8 @@ abbrev pub MayCome : World → ℕ → Server → Input → Type 0
 MayCome w k s Tick = Unit {0}
 MayCome w k s (Receive rpc) = ((envelope rpc).to.0 ≡ k) × IsOnItsWay w rpc
 MayCome w k s (Submit time command) = Unit {0}
+MayCome w k s (Add time command) = Unit {0}
+MayCome w k s Flush = Unit {0}
 MayCome w k s (Notice op) = op ≤ s.op
 
 -- a world that allowed moves lead to
