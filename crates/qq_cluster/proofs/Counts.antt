@@ -12,7 +12,7 @@ use Rattle.qq_log.specs.Stable.{Stable, add_segment, act, apply_op, change, foll
 use Rattle.qq_log.specs.declared.op.Op.{Op}
 use Rattle.qq_log.specs.declared.op.Op.TheVariants as ops
 use Rattle.qq_raft_model.specs.Group.{Event as Move, Group, Seat, after_step, deliver_by, feed, feed_by, group_after, happens as moved, has_node, is_down, lane_with, may_restart, restart_by, take_by, take_op}
-use Rattle.qq_raft_model.specs.Group.Event.{Tick, Submit, Deliver, Lose, Copy, Take, Notice, Crash, Restart}
+use Rattle.qq_raft_model.specs.Group.Event.{Tick, Submit, Add, Flush, Deliver, Lose, Copy, Take, Notice, Crash, Restart}
 use Rattle.qq_raft_model.specs.Server.{Input, greater, restart, step}
 use Rattle.qq_raft_model.specs.State.{Server}
 use Rattle.qq_raft_model.proofs.Noticed.{noticed-is, noticed_by}
@@ -166,6 +166,9 @@ right-plain : (synced : ℕ → ℕ) (move : Move) (g : Group) → IsPlain move 
 right-plain synced (Tick k) g plain right = right-feed synced k Input.Tick g (λ s le. le) right
 right-plain synced (Submit k time command) g plain right =
     right-feed synced k (Input.Submit time command) g (λ s le. le) right
+right-plain synced (Add k time command) g plain right =
+    right-feed synced k (Input.Add time command) g (λ s le. le) right
+right-plain synced (Flush k) g plain right = right-feed synced k Input.Flush g (λ s le. le) right
 right-plain synced (Deliver at) g plain right = right-deliver synced (take at g.bag) (drop at g.bag) g right
 right-plain synced (Lose at) g plain right = right
 right-plain synced (Copy at) g plain right = right

@@ -11,7 +11,7 @@ use Rattle.qq_entry.specs.declared.command.Unstamped.{Unstamped}
 use Rattle.qq_log.specs.Stable.{Stable, stable}
 use Rattle.qq_log.specs.declared.op.Op.{Op}
 use Rattle.qq_raft_model.specs.Group.{Event as Move, Group, Seat, deliver_by, feed, feed_by, group_after, happens as moved, has_node, is_down, lane_with, may_restart, restart_by, take_by, take_op}
-use Rattle.qq_raft_model.specs.Group.Event.{Tick, Submit, Deliver, Lose, Copy, Take, Notice, Crash, Restart}
+use Rattle.qq_raft_model.specs.Group.Event.{Tick, Submit, Add, Flush, Deliver, Lose, Copy, Take, Notice, Crash, Restart}
 use Rattle.qq_raft_model.specs.Server.{Input, restart, step}
 use Rattle.qq_raft_model.specs.State.{Server}
 use Rattle.qq_raft_msg.specs.Rpc.{envelope}
@@ -102,6 +102,8 @@ NoRestart _ = Unit {0}
 down-move : (j : ℕ) (move : Move) (g : Group) → NoRestart move → IsDown j g → IsDown j (moved move g)
 down-move j (Tick k) g none' down = down-feed j k Input.Tick g down
 down-move j (Submit k time command) g none' down = down-feed j k (Input.Submit time command) g down
+down-move j (Add k time command) g none' down = down-feed j k (Input.Add time command) g down
+down-move j (Flush k) g none' down = down-feed j k Input.Flush g down
 down-move j (Deliver at) g none' down = down-deliver j (take at g.bag) (drop at g.bag) g down
 down-move j (Lose at) g none' down = down
 down-move j (Copy at) g none' down = down

@@ -9,7 +9,8 @@ use Rattle.qq_entry.specs.declared.command.Command.{Command}
 use Rattle.qq_entry.specs.declared.command.Entry.{Entry}
 use Rattle.qq_raft_msg.specs.Queue.{Applied}
 use Rattle.qq_raft_msg.specs.declared.rpc.Rpc.{Rpc}
-use Rattle.qq_raft_model.specs.Server.{is_ready, tick as tick_raft, receive as receive_raft, submit as submit_raft, notice as notice_raft}
+use Rattle.qq_raft_model.specs.Server.{is_ready, tick as tick_raft, receive as receive_raft, submit as submit_raft, add as add_raft, notice as notice_raft}
+use Rattle.qq_raft_model.specs.Leading.{flush as flush_raft}
 use Rattle.qq_raft_model.specs.State.{Server as Raft}
 use Rattle.qq_raft.specs.declared.row.AppliedRow.{AppliedRow}
 
@@ -76,6 +77,12 @@ tick s = with_raft (tick_raft s.raft) s
 
 abbrev pub submit : {P : Type 0} → ℕ → Command → ServerState P → ServerState P
 submit time command s = with_raft (submit_raft time command s.raft) s
+
+abbrev pub add : {P : Type 0} → ℕ → Command → ServerState P → ServerState P
+add time command s = with_raft (add_raft time command s.raft) s
+
+abbrev pub flush : {P : Type 0} → ServerState P → ServerState P
+flush s = with_raft (flush_raft s.raft) s
 
 abbrev pub receive : {P : Type 0} → (P → Index → Entry → Applied P) → Rpc → ServerState P → ServerState P
 receive step rpc s = apply_committed step (with_raft (receive_raft rpc s.raft) s)

@@ -9,7 +9,7 @@ ghost use Rattle.qq_raft_model.specs.Server.{is_ready, restart, tick as tick_raf
 ghost use Rattle.qq_raft_core.specs.Ends.{IsSendable};
 ghost use Rattle.qq_raft_core.specs.Fits.{fits};
 ghost use Rattle.qq_raft_core.specs.Raft.{server_of, lane_of, state_of as member_state, IsCaused as IsRaftCaused, IsWithinEnds};
-ghost use Rattle.qq_raft.specs.Step.{new_state, with_raft, tick, receive, submit, notice};
+ghost use Rattle.qq_raft.specs.Step.{new_state, with_raft, tick, receive, submit, add, flush, notice};
 ghost use Rattle.qq_raft.specs.Stands.{state_of, StandsFor, Does, IsSound, IsCaused, HandsNothingOut, IsAdded, IsLeftBy, IsRefused};
 ghost use Rattle.qq_raft.specs.declared.fault.SubmitFault.TheVariants.{NotLeader};
 
@@ -133,6 +133,47 @@ impl<Q: Queue, L: LogView> Server<Q, L> {
             return Err(SubmitFault::Memory(cause));
         }
         Ok(index)
+    }
+
+    /// A ready leader adds an entry for a command, at this time, which isn't sent before the next `flush`: its
+    /// index. All else is as with `submit`.
+    pub fn add(&mut self, alloc: Global, time: u64, command: &Command) -> Result<Index, SubmitFault>
+        requires sound { IsSound L.log Q.applied self.old }
+        requires command { IsCommand command.now × HasContent command.now }
+
+        ensures sound { OnOk result (IsSound L.log Q.applied self.new) }
+        ensures ok { OnOk result (Does Q.stands L.log (add time command.now) self.old self.new) }
+        ensures index { IfOk result (λ index. IsAdded (server_of L.log self.old.raft) index) }
+        ensures err { IfErr result (IsLeftBy L.log self.old self.new) }
+        ensures cause { IfErr result (IsRefused (server_of L.log self.old.raft)) }
+    {
+        if !self.raft.ready() {
+            let hint = self.raft.leader();
+            return Err(SubmitFault::NotLeader { hint });
+        }
+        let index = Index(self.raft.state().last.0 + 1);
+        if let Err(cause) = self.raft.add(alloc, time, command) {
+            self.rows.clear();
+            return Err(SubmitFault::Memory(cause));
+        }
+        Ok(index)
+    }
+
+    /// A leader sends each of the others the entries that it wasn't sent. Any other server stays as it is.
+    /// After an error, which is `Memory::Want` alone, it hands nothing out.
+    pub fn flush(&mut self, alloc: Global) -> Result<(), Memory>
+        requires { IsSound L.log Q.applied self.old }
+
+        ensures sound { OnOk result (IsSound L.log Q.applied self.new) }
+        ensures ok { OnOk result (Does Q.stands L.log flush self.old self.new) }
+        ensures err { OnErr result (HandsNothingOut L.log self.new) }
+        ensures want { IsOkUnless result Memory.Want }
+    {
+        if let Err(cause) = self.raft.flush(alloc) {
+            self.rows.clear();
+            return Err(cause);
+        }
+        Ok(())
     }
 
     /// The changes up to a number are durable: what is committed by then is applied. After an error it hands

@@ -1,6 +1,7 @@
 mod Commits
 pub mod Entries
 mod Fitting
+mod Flushes
 mod Holding
 mod Members
 mod Pushes

@@ -104,7 +104,7 @@ fit-count (suc n) room (e ∷ es) = by (nat_le (weight e) room) (fit-count n (ro
     by true le = omega (arith, le)
     by false le = omega arith
 
-pub batch_count : (es : List Entry) → length (batch es) ≤ 64
+pub batch_count : (es : List Entry) → length (batch es) ≤ 256
 batch_count [] = omega arith
 batch_count (e ∷ es) = let le = fit-count (BATCH_ENTRIES - 1) (BATCH_BYTES - weight e) es in omega (arith, le)
 

@@ -8,12 +8,12 @@ use Rattle.qq_raft_msg.specs.declared.rpc.Rpc.{Rpc}
 use Rattle.qq_raft_msg.specs.declared.rpc.Rpc.TheVariants.{Append}
 use Rattle.qq_raft_model.specs.declared.peer.Peer.{Peer}
 use Rattle.qq_raft_model.specs.State.{term_at}
-use Rattle.qq_raft_model.specs.Leading.{batch_from, pass, clear_vote, start_peer, everyone}
+use Rattle.qq_raft_model.specs.Leading.{batch_from, pass, clear_vote, lags, start_peer, everyone}
 use Rattle.qq_raft_model.specs.Server.{is_peer, grant_peer, match_peer, back_peer, lacks, send_again}
 use Rattle.qq_raft_core.specs.declared.peers.PeerChange.{PeerChange}
 use Rattle.qq_raft_core.specs.declared.peers.PeerChange.TheVariants.{Started, Rewound, Asked, Granted, Matched, Behind}
 use Rattle.qq_raft_core.specs.declared.peers.Target.{Target}
-use Rattle.qq_raft_core.specs.declared.peers.Target.TheVariants.{Everyone, One, Lacking}
+use Rattle.qq_raft_core.specs.declared.peers.Target.TheVariants.{Everyone, One, Lacking, Lagging}
 
 -- what becomes of one
 abbrev pub change_peer : PeerChange → Peer → Peer
@@ -29,6 +29,7 @@ abbrev pub picks : Target → ℕ → Peer → Bool
 picks Everyone last = everyone
 picks (One node) last = is_peer node
 picks (Lacking node) last = lacks node last
+picks Lagging last = lags last
 
 -- what this node sends in this term, with this commit and log
 abbrev pub append_from : NodeId → Term → ℕ → List Entry → Peer → Rpc

@@ -2,7 +2,8 @@
 ghost use Rattle.std.specs.Prelude.{◌≡◌, ◌<◌, ◌^◌, [], Ok, true, false, not, All, drop, filter, map, length, nat_eq, slice_get, IfOk, IfErr, IfSome, OnOk, OnErr, IsOkUnless};
 ghost use Rattle.qq_log.specs.Stable.{no_snapshot};
 ghost use Rattle.qq_raft_model.specs.State.{last};
-ghost use Rattle.qq_raft_model.specs.Server.{new_peer, restart, tick, receive, is_ready, submit, notice};
+ghost use Rattle.qq_raft_model.specs.Leading.{flush};
+ghost use Rattle.qq_raft_model.specs.Server.{new_peer, restart, tick, receive, is_ready, submit, add, notice};
 ghost use Rattle.qq_entry.specs.Range.{IsCommand, HasContent};
 ghost use Rattle.qq_log.specs.Writable.{MayWrite};
 ghost use Rattle.qq_raft_msg.specs.Rpc.{IsNode, IsWritable};
@@ -149,6 +150,43 @@ impl<L: LogView> Raft<L> {
         ensures cause { IfErr result (IsCaused (server_of L.log self.old)) }
     {
         if let Err(cause) = self.try_submit(alloc, time, command) {
+            self.clear();
+            return Err(cause);
+        }
+        Ok(())
+    }
+
+    /// A ready leader adds an entry of its term for a command, at this time, which isn't sent before the next
+    /// `flush`. Any other server stays as it is. After an error it hands nothing out. `Spent` comes only where
+    /// a number stands at its end.
+    pub fn add(&mut self, alloc: Global, time: u64, command: &Command) -> Result<(), Memory>
+        requires sound { IsSound L.log self.old }
+        requires command { IsCommand command.now × HasContent command.now }
+
+        ensures sound { OnOk result (IsSound L.log self.new) }
+        ensures ok { OnOk result (server_of L.log self.new
+            ≡ add time command.now (server_of L.log self.old)) }
+        ensures err { OnErr result (HandsNothingOut (server_of L.log self.new)) }
+        ensures cause { IfErr result (IsCaused (server_of L.log self.old)) }
+    {
+        if let Err(cause) = self.try_add(alloc, time, command) {
+            self.clear();
+            return Err(cause);
+        }
+        Ok(())
+    }
+
+    /// A leader sends each of the others the entries that it wasn't sent. Any other server stays as it is.
+    /// After an error, which is `Memory::Want` alone, it hands nothing out.
+    pub fn flush(&mut self, alloc: Global) -> Result<(), Memory>
+        requires { IsSound L.log self.old }
+
+        ensures sound { OnOk result (IsSound L.log self.new) }
+        ensures ok { OnOk result (server_of L.log self.new ≡ flush (server_of L.log self.old)) }
+        ensures err { OnErr result (HandsNothingOut (server_of L.log self.new)) }
+        ensures want { IsOkUnless result Memory.Want }
+    {
+        if let Err(cause) = self.try_flush(alloc) {
             self.clear();
             return Err(cause);
         }

@@ -1,7 +1,7 @@
 //! What makes a server act beside messages: time, clients, and its log's disk.
 ghost use Rattle.std.specs.Prelude.{◌≡◌, ◌++◌, All, false, nat_le, slice_get, IfErr, IfOk, OnOk, IsOkUnless};
 ghost use Rattle.std.specs.Option.{option_map_or};
-ghost use Rattle.qq_raft_model.specs.Server.{tick, is_ready, submit, free, still_waiting, notice};
+ghost use Rattle.qq_raft_model.specs.Server.{add, tick, is_ready, submit, free, still_waiting, notice};
 ghost use Rattle.qq_entry.specs.Range.{IsCommand, HasContent};
 ghost use Rattle.qq_raft_core.specs.Ends.{IsSendable};
 ghost use Rattle.qq_raft_core.specs.Raft.{server_of, IsSound, IsInLog, IsWaiting, IsCaused};
@@ -110,6 +110,28 @@ impl<L: LogView> Raft<L> {
         }
         let entry = self.entry_for(alloc, time, command)?;
         self.add_entry(alloc, entry)
+    }
+
+    /// A ready leader adds an entry for a command, which isn't sent yet.
+    #[tactic(auto, unfolding(qq_raft_model::specs::Server::add))]
+    pub(crate) fn try_add(
+        &mut self,
+        alloc: Global,
+        time: u64,
+        command: &Command,
+    ) -> Result<(), Memory>
+        requires sound { IsSound L.log self.old }
+        requires command { IsCommand command.now × HasContent command.now }
+        ensures sound { OnOk result (IsSound L.log self.new) }
+        ensures ok { OnOk result (server_of L.log self.new
+            ≡ add time command.now (server_of L.log self.old)) }
+        ensures cause { IfErr result (IsCaused (server_of L.log self.old)) }
+    {
+        if !self.is_ready() {
+            return Ok(());
+        }
+        let entry = self.entry_for(alloc, time, command)?;
+        self.append_entry(alloc, entry)
     }
 
     /// The changes up to a number are durable.

@@ -36,6 +36,8 @@ pub(crate) enum Target {
     One { node: NodeId },
     /// One, if there is an entry that it wasn't sent.
     Lacking { node: NodeId },
+    /// Each that wasn't sent the last entry.
+    Lagging,
 }
 
 impl Target {
@@ -46,6 +48,7 @@ impl Target {
             Target::Everyone => true,
             Target::One { node } => peer.node.0 == node.0,
             Target::Lacking { node } => peer.node.0 == node.0 && peer.next <= last,
+            Target::Lagging => peer.next <= last,
         }
     }
 }

@@ -1,11 +1,12 @@
 //! What a leader sends to the others.
 ghost use Rattle.std.specs.Prelude.{◌≡◌, ◌+◌, ◌≤◌, ◌++◌, ◌∷◌, [], All, length, map, filter, IfOk, IfErr, OnOk, IsOkUnless};
+ghost use Rattle.std.specs.List.{list_any};
 ghost use Rattle.qq_base.specs.declared.memory.TheConstants.{NUMBER_END};
 ghost use Rattle.qq_log.specs.Stable.{no_snapshot};
 ghost use Rattle.qq_raft_msg.specs.declared.rpc.Rpc.TheVariants.{Append};
 ghost use Rattle.qq_raft_model.specs.declared.peer.Peer.{Peer};
 ghost use Rattle.qq_raft_model.specs.State.{last, change};
-ghost use Rattle.qq_raft_model.specs.Leading.{send, add_entry};
+ghost use Rattle.qq_raft_model.specs.Leading.{send, add_entry, append_entry, flush, flush_within, lags};
 ghost use Rattle.qq_raft_core.specs.Fits.{IsShort};
 ghost use Rattle.qq_raft_core.specs.Peers.{picks, append_from, sent_to, passed};
 ghost use Rattle.qq_raft_msg.specs.Rpc.{IsWritable};
@@ -20,7 +21,7 @@ use qq_base::{Index, Memory, NodeId, Term};
 use qq_command::entries_read_back;
 use qq_entry::{Entries, Entry};
 use qq_raft_model::Peer;
-use qq_raft_msg::{AppendMsg, LogView, Rpc};
+use qq_raft_msg::{AppendMsg, LogView, Role, Rpc};
 use std::alloc::Global;
 use std::collections::VecDeque;
 
@@ -160,9 +161,9 @@ fn one_entry(alloc: Global, entry: Entry) -> Result<Entries, Memory>
     ensures want { IsOkUnless result Memory.Want }
 {
     entries_read_back();
-    let mut entries = Entries::new(alloc);
+    let mut entries = Vec::with_capacity(alloc, 1)?;
     entries.push(entry)?;
-    Ok(entries)
+    Ok(Entries::from_vec(entries))
 }
 
 impl<L: LogView> Raft<L> {
@@ -190,6 +191,20 @@ impl<L: LogView> Raft<L> {
         )
     }
 
+    /// A leader adds an entry, which isn't sent yet.
+    pub(crate) fn append_entry(&mut self, alloc: Global, entry: Entry) -> Result<(), Memory>
+        requires sound { IsSound L.log self.old }
+        requires entry { IsInLog entry }
+        ensures sound { OnOk result (IsSound L.log self.new) }
+        ensures ok { OnOk result (server_of L.log self.new
+            ≡ append_entry entry (server_of L.log self.old)) }
+        ensures cause { IfErr result (IsCaused (server_of L.log self.old)) }
+    {
+        let entries = one_entry(alloc, entry)?;
+        let (term, vote, last) = (self.term, self.vote, self.last());
+        self.change(alloc, term, vote, last, entries)
+    }
+
     /// A leader adds an entry and sends it.
     #[tactic(auto, unfolding(qq_raft_model::specs::Leading::add_entry))]
     pub(crate) fn add_entry(&mut self, alloc: Global, entry: Entry) -> Result<(), Memory>
@@ -200,9 +215,51 @@ impl<L: LogView> Raft<L> {
             ≡ add_entry entry (server_of L.log self.old)) }
         ensures cause { IfErr result (IsCaused (server_of L.log self.old)) }
     {
-        let entries = one_entry(alloc, entry)?;
-        let (term, vote, last) = (self.term, self.vote, self.last());
-        self.change(alloc, term, vote, last, entries)?;
+        self.append_entry(alloc, entry)?;
         self.send(alloc, Target::Everyone)
+    }
+
+    /// Whether another member wasn't sent the last entry.
+    fn some_lag(&self) -> bool
+        requires { (L.log self.now.log).base ≡ no_snapshot }
+        ensures { result
+            ≡ list_any (lags (last (server_of L.log self.now))) self.now.peers.items }
+    {
+        let last = self.last();
+        self.peers.iter().any(|peer| peer.next <= last)
+    }
+
+    /// Message after message, until each of the others was sent the last entry, or so many times.
+    fn flush_within(&mut self, alloc: Global, rounds: u64) -> Result<(), Memory>
+        requires { IsSound L.log self.old }
+        ensures sound { OnOk result (IsSound L.log self.new) }
+        ensures ok { OnOk result (server_of L.log self.new
+            ≡ flush_within rounds (server_of L.log self.old)) }
+        ensures want { IsOkUnless result Memory.Want }
+    {
+        'sends: for round in 0..rounds {
+            let lag = self.some_lag();
+            if !lag {
+                return Ok(());
+            }
+            self.send(alloc, Target::Lagging)?;
+        }
+        Ok(())
+    }
+
+    /// A leader sends each of the others what it wasn't sent.
+    #[tactic(auto, unfolding(qq_raft_model::specs::Leading::flush))]
+    pub(crate) fn try_flush(&mut self, alloc: Global) -> Result<(), Memory>
+        requires { IsSound L.log self.old }
+        ensures sound { OnOk result (IsSound L.log self.new) }
+        ensures ok { OnOk result (server_of L.log self.new
+            ≡ flush (server_of L.log self.old)) }
+        ensures want { IsOkUnless result Memory.Want }
+    {
+        if self.role != Role::Leader {
+            return Ok(());
+        }
+        let last = self.last();
+        self.flush_within(alloc, last + 1)
     }
 }

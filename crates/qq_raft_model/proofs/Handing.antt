@@ -1,9 +1,10 @@
 -- A step hands out one change at most, and with it the disk's state is what the server works on.
-use Rattle.std.proofs.Common.{◌≡◌, ℕ, suc, ◌+◌, ◌-◌, ◌≤◌, Bool, true, false, cond, ◌&&◌, eqb, ltb, leb, min, List, [], ◌∷◌, ◌++◌, length, map, take, drop, Option, Some, None, refl, sym, ap, subst, ◌∙◌, append_assoc, arith, inl, inr}
+use Rattle.std.proofs.Common.{◌≡◌, ℕ, zero, suc, ◌+◌, ◌-◌, ◌≤◌, Bool, true, false, cond, ◌&&◌, eqb, ltb, leb, min, List, [], ◌∷◌, ◌++◌, length, map, take, drop, Option, Some, None, refl, sym, ap, subst, ◌∙◌, append_assoc, arith, inl, inr}
 use Rattle.std.proofs.lemmas.Bool.{cond_both, cond-true, or_cases, and_parts, and_from, eq-eqb, eqb-true, le-leb, leb-true, ltb-false, ltb-true}
 use Rattle.std.proofs.lemmas.List.{length-drop, length-map, map-append, take-map}
 use Rattle.std.proofs.lemmas.Grind.{fold-append}
 use Rattle.std.specs.Prelude.{option_map}
+use Rattle.std.specs.List.{list_any}
 use Rattle.qq_base.specs.declared.ids.NodeId.{NodeId}
 use Rattle.qq_base.specs.declared.ids.QueueId.{QueueId}
 use Rattle.qq_base.specs.declared.ids.Term.{Term}
@@ -24,9 +25,9 @@ use Rattle.qq_raft_msg.specs.Rpc.{envelope}
 use Rattle.qq_raft_model.specs.declared.peer.Peer.{Peer}
 use Rattle.qq_raft_model.specs.Handing.{plain_state, state_of, lane_in, Rests, peer_number, Continues}
 use Rattle.qq_raft_model.specs.Refines.{number, lane_of}
-use Rattle.qq_raft_model.specs.Leading.{add_entry, advance, ask, become_candidate, clear_vote, commit_within, everyone, is_elected, lead, lead_if_elected, next_term, noop, pass, send, stand, start_peer}
-use Rattle.qq_raft_model.specs.Server.{Input, accept, agreed, appended, at_peer, back_peer, end, give_vote, grant_peer, greater, has_agreed, installed, is_match, is_peer, is_ready, lacks, learn, match_peer, may_grant, notice, receive, receive_append, receive_appended, receive_vote, receive_voted, refuse, refuse_entries, send_again, step, step_back, submit, take_ack, take_entries, take_notice, take_reply, tick, voted, write}
-use Rattle.qq_raft_model.specs.Server.Input.{Tick, Receive, Submit, Notice}
+use Rattle.qq_raft_model.specs.Leading.{add_entry, advance, append_entry, ask, become_candidate, clear_vote, commit_within, everyone, flush, flush_within, is_elected, lags, lead, lead_if_elected, next_term, noop, pass, send, stand, start_peer}
+use Rattle.qq_raft_model.specs.Server.{Input, accept, add, agreed, appended, at_peer, back_peer, end, give_vote, grant_peer, greater, has_agreed, installed, is_match, is_peer, is_ready, lacks, learn, match_peer, may_grant, notice, receive, receive_append, receive_appended, receive_vote, receive_voted, refuse, refuse_entries, send_again, step, step_back, submit, take_ack, take_entries, take_notice, take_reply, tick, voted, write}
+use Rattle.qq_raft_model.specs.Server.Input.{Tick, Receive, Submit, Add, Flush, Notice}
 use Rattle.qq_raft_model.specs.State.{Server, last, term_at, is_candidate, is_leader, change, enter, follow, leader_in, say, say_all, vote_in}
 
 -- ---- a change on the disk
@@ -224,11 +225,19 @@ continues-enter term s =
     (λ e. let lt = ltb-true s.term.0 term.0 e in continues-write None term None s (omega (arith, lt)))
     (λ _. continues-refl s)
 
+continues-entry : (entry : Entry) (s : Server) → Continues s (append_entry entry s)
+continues-entry entry s = continues-change s.term s.vote (last s) (entry ∷ []) s (omega arith) (omega arith)
+
 continues-add : (entry : Entry) (s : Server) → Continues s (add_entry entry s)
 unfolding add_entry
-continues-add entry s =
-    continues-stays (continues-change s.term s.vote (last s) (entry ∷ []) s (omega arith) (omega arith))
-    (stays-send everyone (change s.term s.vote (last s) (entry ∷ []) s))
+continues-add entry s = continues-stays (continues-entry entry s) (stays-send everyone (append_entry entry s))
+
+stays-flush : (n : ℕ) (s : Server) → Stays s (flush_within n s)
+stays-flush zero s = stays-refl s
+stays-flush (suc n) s =
+    let next = send (lags (last s)) s in
+    cond_both (list_any (lags (last s)) s.peers) (flush_within n next) s (Stays s)
+    (λ _. stays-stays (stays-send (lags (last s)) s) (stays-flush n next)) (λ _. stays-refl s)
 
 continues-lead : (s : Server) → Continues s (lead s)
 unfolding lead
@@ -419,13 +428,20 @@ continues-notice op s =
     stays-continues taken (continues-stays (continues-lead_if t) (stays-advance (lead_if_elected t)))
 
 pub continues-step : (s : Server) (input : Input) → Continues s (step s input)
-unfolding submit
+unfolding submit add flush
 continues-step s Tick = continues-tick s
 continues-step s (Receive rpc) = continues-receive rpc s
 continues-step s (Submit time command) =
     let entry : Entry = record { term = s.term; time = time; command = command } in
     cond_both (is_ready s) (add_entry entry s) s (Continues s)
     (λ _. continues-add entry s) (λ _. continues-refl s)
+continues-step s (Add time command) =
+    let entry : Entry = record { term = s.term; time = time; command = command } in
+    cond_both (is_ready s) (append_entry entry s) s (Continues s)
+    (λ _. continues-entry entry s) (λ _. continues-refl s)
+continues-step s Flush =
+    cond_both (is_leader s.role) (flush_within (last s + 1) s) s (Continues s)
+    (λ _. stays-is (stays-flush (last s + 1) s)) (λ _. continues-refl s)
 continues-step s (Notice op) = continues-notice op s
 
 -- ---- what the ops come to

@@ -1,5 +1,5 @@
 -- Each event is moves of the protocol, and so is each list of events.
-use Rattle.std.proofs.Common.{◌≡◌, ℕ, ◌+◌, ◌≤◌, leb, List, [], ◌∷◌, ◌++◌, length, take, drop, Option, Some, None, refl, sym, ap, subst, ◌∙◌, append_assoc, arith, inl, inr}
+use Rattle.std.proofs.Common.{◌≡◌, ◌⊎◌, ℕ, ◌+◌, ◌≤◌, true, leb, List, [], ◌∷◌, ◌++◌, length, take, drop, Option, Some, None, refl, sym, ap, subst, ◌∙◌, append_assoc, arith, inl, inr}
 use Rattle.std.proofs.lemmas.Bool.{cond_both, leb-true}
 use Rattle.std.proofs.lemmas.List.{length-append, take-append-le, take-append-drop}
 use Rattle.qq_base.proofs.Fronts.{front-refl}
@@ -14,15 +14,14 @@ use Rattle.qq_raft_protocol.specs.World.{Member, World}
 use Rattle.qq_raft_protocol.proofs.Lists.{In-append, In-left}
 use Rattle.qq_raft_msg.specs.Rpc.{envelope}
 use Rattle.qq_raft_msg.specs.declared.rpc.Rpc.{Rpc}
-use Rattle.qq_raft_model.specs.Refines.{Stands}
-use Rattle.qq_raft_model.specs.Server.{Input}
+use Rattle.qq_raft_model.specs.Refines.{entry_of, Stands}
+use Rattle.qq_raft_model.specs.Server.{Input, is_ready}
 use Rattle.qq_raft_model.specs.State.{Server}
 use Rattle.qq_raft_model.specs.Group.{Event, Group, Seat, deliver_by, feed, group_after, happens, may_restart, restart_by, take_by, take_op}
-use Rattle.qq_raft_model.specs.Group.Event.{Tick, Submit, Deliver, Lose, Copy, Take, Notice, Crash, Restart}
+use Rattle.qq_raft_model.specs.Group.Event.{Tick, Submit, Add, Flush, Deliver, Lose, Copy, Take, Notice, Crash, Restart}
 use Rattle.qq_raft_model.specs.Promises.{AreDistinct, IsSubmitted, members_of}
 use Rattle.qq_raft_model.proofs.Feeding.{feed-follows, same_some}
 use Rattle.qq_raft_model.proofs.GroupRestarting.{restart-follows}
-use Rattle.qq_raft_model.proofs.Sources.{Takes}
 use Rattle.qq_raft_model.proofs.Tied.{HasLane, HasLanes, IsTied, IsSeat, Tied, Follows, In-drop, In-right, In-take, follows-refl, follows-then, follows-weaker, pending, tied-bag}
 
 -- ---- messages
@@ -185,11 +184,14 @@ handed-within {g = g} k op s tied is le =
     omega (arith, le, count, length-append (g.seat k).ops s.ops)
 
 -- what a command that reaches a server may add
-submit-takes : (g : Group) (k time : ℕ) (command : Command) (s : Server) → (g.seat k).server ≡ Some s
-    → Takes (IsSubmitted g (Submit k time command ∷ [])) s (Input.Submit time command)
-submit-takes g k time command s up ready = record {
+given-takes : (g : Group) (k time : ℕ) (command : Command) (event : Event)
+    → (event ≡ Submit k time command) ⊎ (event ≡ Add k time command) → (s : Server) → (g.seat k).server ≡ Some s
+    → is_ready s ≡ true → IsSubmitted g (event ∷ []) s.log (entry_of time command s)
+given-takes g k time command event gives s up ready = record {
   first = [];
   node = k;
+  event = event;
+  gives = gives;
   rest = [];
   is = refl;
   server = s;
@@ -205,7 +207,12 @@ happens-follows {g = g} (Tick k) distinct tied =
     feed-follows (IsSubmitted g (Tick k ∷ [])) k Input.Tick tied (λ s up. (tt, tt))
 happens-follows {g = g} (Submit k time command) distinct tied =
     feed-follows (IsSubmitted g (Submit k time command ∷ [])) k (Input.Submit time command) tied
-    (λ s up. (tt, submit-takes g k time command s up))
+    (λ s up. (tt, given-takes g k time command (Submit k time command) (inl refl) s up))
+happens-follows {g = g} (Add k time command) distinct tied =
+    feed-follows (IsSubmitted g (Add k time command ∷ [])) k (Input.Add time command) tied
+    (λ s up. (tt, given-takes g k time command (Add k time command) (inr refl) s up))
+happens-follows {g = g} (Flush k) distinct tied =
+    feed-follows (IsSubmitted g (Flush k ∷ [])) k Input.Flush tied (λ s up. (tt, tt))
 happens-follows {g = g} (Deliver at) distinct tied =
     deliver-follows (IsSubmitted g (Deliver at ∷ [])) at (drop at g.bag) tied refl
 happens-follows {g = g} (Lose at) distinct tied =
@@ -233,10 +240,10 @@ submitted-now : (g : Group) (x : Event) (events : List Event) (a : List Entry) (
 submitted-now g x events a e y = record {
   first = y.first;
   node = y.node;
+  event = y.event;
+  gives = y.gives;
   rest = y.rest ++ events;
-  is =
-      ap (λ (es : List Event). es ++ events) y.is
-      ∙ append_assoc y.first (Submit y.node e.time e.command ∷ y.rest) events;
+  is = ap (λ (es : List Event). es ++ events) y.is ∙ append_assoc y.first (y.event ∷ y.rest) events;
   server = y.server;
   up = y.up;
   ready = y.ready;
@@ -249,6 +256,8 @@ submitted-later : (g : Group) (x : Event) (events : List Event) (a : List Entry)
 submitted-later g x events a e y = record {
   first = x ∷ y.first;
   node = y.node;
+  event = y.event;
+  gives = y.gives;
   rest = y.rest;
   is = ap (λ (es : List Event). x ∷ es) y.is;
   server = y.server;

@@ -23,14 +23,14 @@ use Rattle.qq_raft_msg.specs.declared.state.Role.{Role}
 use Rattle.qq_raft_msg.specs.declared.state.Role.TheVariants.{Leader, Candidate, Follower}
 use Rattle.qq_raft_model.specs.declared.peer.Peer.{Peer}
 use Rattle.qq_raft_model.specs.State.{Server, last, is_candidate, change, follow, enter}
-use Rattle.qq_raft_model.specs.Leading.{send, everyone, add_entry, noop, start_peer, lead, one_if, is_majority, is_elected, lead_if_elected}
+use Rattle.qq_raft_model.specs.Leading.{add_entry, append_entry, everyone, is_elected, is_majority, lead, lead_if_elected, noop, one_if, send, start_peer}
 use Rattle.qq_raft_model.specs.Server.{is_peer, grant_peer, at_peer, count_vote, receive_voted, refuse, accept, receive}
 use Rattle.qq_raft_model.specs.Refines.{number, lane_of, role_of, IsOnItsWay, IsGroup, HasOwnAck, AcksItself, Stands, OnlyMoves, Adds, Refines, IsReached}
 use Rattle.qq_raft_model.proofs.Electing.{majority}
 use Rattle.qq_raft_model.proofs.Later.{said-later, way-later, matched-later, only-trans}
 use Rattle.qq_raft_model.proofs.Moving.{push-noticed, pushed-lanes}
-use Rattle.qq_raft_model.proofs.Reached.{shaded-there, safe-there}
-use Rattle.qq_raft_model.proofs.Refining.{refines-refl, refines-change}
+use Rattle.qq_raft_model.proofs.Reached.{safe-there, shaded-there}
+use Rattle.qq_raft_model.proofs.Refining.{refines-change, refines-refl}
 use Rattle.qq_raft_model.proofs.Sending.{leader_asks, send-refines}
 
 is_candidate_of : (r : Role) → is_candidate r ≡ true → r ≡ Candidate
@@ -127,6 +127,21 @@ append-stands {w = w} {k = k} {s = s} e st leads =
       itself = λ is. added-itself e st is;
       waiting = λ x here. said-later g (st.waiting x here);
       out = λ r here. way-later g (st.out r here);
+    }
+
+-- the entry is added
+pub append-refines : {members : List ℕ} {w : World} {k : ℕ} {s : Server} (e : Entry) → Stands w k s → s.role ≡ Leader
+    → e.term.0 ≡ s.term.0 → Adds members w k e (append_entry e s)
+unfolding change
+append-refines {members} {w} {k} {s} e st leads own =
+    let role : w.role k ≡ ModelRole.Leader = st.role ∙ ap role_of leads in
+    let term : e.term.0 ≡ (w.member k).mine.term = own ∙ sym (ap (λ (l : Lane). l.term) st.lane) in
+    record {
+      moves = [];
+      allowed = ((role, term), tt);
+      quiet = tt;
+      stands = append-stands e st leads;
+      only = append-only w k e;
     }
 
 -- the entry is added, and sent with all that the peers lack

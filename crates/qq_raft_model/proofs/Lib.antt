@@ -5,6 +5,7 @@ mod Counting
 mod Electing
 mod Feeding
 mod Fits
+mod Flushing
 mod GroupRestarting
 pub mod Handing
 mod Happening

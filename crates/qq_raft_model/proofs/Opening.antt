@@ -22,8 +22,8 @@ use Rattle.qq_raft_model.specs.Handing.{lane_in, plain_state}
 use Rattle.qq_raft_model.specs.Refines.{IsNoop}
 use Rattle.qq_raft_model.specs.State.{Server}
 use Rattle.qq_raft_model.specs.Group.{Event, Group, group_after, new_group}
-use Rattle.qq_raft_model.specs.Group.Event.{Submit}
-use Rattle.qq_raft_model.specs.Promises.{AreDistinct, IsDown, IsLeft, IsOpened, IsPlain, IsSubmitted, IsUp, WasLeft, members_of, whole_audit}
+use Rattle.qq_raft_model.specs.Group.Event.{Add, Submit}
+use Rattle.qq_raft_model.specs.Promises.{AreDistinct, Gives, IsDown, IsLeft, IsOpened, IsPlain, IsSubmitted, IsUp, WasLeft, members_of, whole_audit}
 use Rattle.qq_raft_model.proofs.Feeding.{longer-first, longer-second, longer-whole, same_some}
 use Rattle.qq_raft_model.proofs.Happening.{group-follows}
 use Rattle.qq_raft_model.proofs.Opened.{members_in, opened-start, opened-tied, was-left}
@@ -96,10 +96,20 @@ lane-row-comes g whole events k lane a e distinct o here front =
       | inr x ↦ inr (appended-source (IsSubmitted g events) (opening g whole) f.moves a e f.sourced x)
     ]
 
--- one submit gives one entry, at one place
-same_submit : (k i time other : ℕ) (command third : Command) (rest more : List Event)
-    → Submit k time command ∷ rest ≡ Submit i other third ∷ more → (k ≡ i) × (time ≡ other) × (command ≡ third)
-same_submit k i time other command third rest more e = (cc, cc, cc)
+-- one event gives one entry, at one place
+same_gives : (k i time other : ℕ) (command third : Command) (event : Event) → Gives k time command event
+    → Gives i other third event → (k ≡ i) × (time ≡ other) × (command ≡ third)
+same_gives k i time other command third event (inl a) (inl b) =
+    let same : Submit k time command ≡ Submit i other third = sym a ∙ b in (cc, cc, cc)
+same_gives k i time other command third event (inr a) (inr b) =
+    let same : Add k time command ≡ Add i other third = sym a ∙ b in (cc, cc, cc)
+same_gives k i time other command third event (inl a) (inr b) =
+    absurd (let same : Submit k time command ≡ Add i other third = sym a ∙ b in cc)
+same_gives k i time other command third event (inr a) (inl b) =
+    absurd (let same : Add k time command ≡ Submit i other third = sym a ∙ b in cc)
+
+same_first : (x y : Event) (xs ys : List Event) → x ∷ xs ≡ y ∷ ys → x ≡ y
+same_first x y xs ys e = cc
 
 same_entry : (e f : Entry) → e.term ≡ f.term → e.time ≡ f.time → e.command ≡ f.command → e ≡ f
 same_entry e f term time command =
@@ -110,13 +120,13 @@ same_entry e f term time command =
 pub once : (g : Group) (events : List Event) (a b : List Entry) (e f : Entry) (x : IsSubmitted g events a e)
     (y : IsSubmitted g events b f) → x.first ≡ y.first → (a ≡ b) × (e ≡ f)
 once g events a b e f x y same =
-    let lists : x.first ++ Submit x.node e.time e.command ∷ x.rest
-    ≡ x.first ++ Submit y.node f.time f.command ∷ y.rest =
-    sym x.is ∙ y.is
-    ∙ ap (λ (l : List Event). l ++ Submit y.node f.time f.command ∷ y.rest) (sym same) in
-    let parts = same_submit x.node y.node e.time f.time e.command f.command x.rest y.rest
-    (append_cancel_left x.first (Submit x.node e.time e.command ∷ x.rest)
-    (Submit y.node f.time f.command ∷ y.rest) lists) in
+    let lists : x.first ++ x.event ∷ x.rest ≡ x.first ++ y.event ∷ y.rest =
+    sym x.is ∙ y.is ∙ ap (λ (l : List Event). l ++ y.event ∷ y.rest) (sym same) in
+    let event : x.event ≡ y.event =
+    same_first x.event y.event x.rest y.rest
+    (append_cancel_left x.first (x.event ∷ x.rest) (y.event ∷ y.rest) lists) in
+    let parts = same_gives x.node y.node e.time f.time e.command f.command y.event
+    (subst (Gives x.node e.time e.command) event x.gives) y.gives in
     let there : IsUp (group_after g x.first) x.node y.server =
     subst (λ (k : ℕ). IsUp (group_after g x.first) k y.server) (sym parts.0)
     (subst (λ (l : List Event). IsUp (group_after g l) y.node y.server) (sym same) y.up) in

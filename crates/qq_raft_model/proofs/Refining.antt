@@ -32,12 +32,10 @@ quiet-append (x ∷ xs) ys first second = (first.0, quiet-append xs ys first.1 s
 pub refines-refl : {members : List ℕ} {w : World} {k : ℕ} {s : Server} → Stands w k s → Refines members w k s
 refines-refl {w = w} {k = k} st = record { moves = []; allowed = tt; quiet = tt; stands = st; only = only-refl k w }
 
--- one thing after another
-pub refines-then : {members : List ℕ} {w : World} {k : ℕ} {s t : Server} → Refines members w k s
-    → ((v : World) → Stands v k s → OnlyMoves k w v → Refines members v k t) → Refines members w k t
-refines-then {members = members} {w = w} {k = k} {t = t} first next =
-    let v = run w first.moves in
-    let second = next v first.stands first.only in
+-- what leads on from the world that moves lead to
+pub refines-also : {members : List ℕ} {w : World} {k : ℕ} {s t : Server} (first : Refines members w k s)
+    → Refines members (run w first.moves) k t → Refines members w k t
+refines-also {members = members} {w = w} {k = k} {t = t} first second =
     let same = run-append w first.moves second.moves in
     record {
       moves = first.moves ++ second.moves;
@@ -46,6 +44,11 @@ refines-then {members = members} {w = w} {k = k} {t = t} first next =
       stands = subst (λ x. Stands x k t) (sym same) second.stands;
       only = subst (OnlyMoves k w) (sym same) (only-trans first.only second.only);
     }
+
+-- one thing after another
+pub refines-then : {members : List ℕ} {w : World} {k : ℕ} {s t : Server} → Refines members w k s
+    → ((v : World) → Stands v k s → OnlyMoves k w v → Refines members v k t) → Refines members w k t
+refines-then {w = w} first next = refines-also first (next (run w first.moves) first.stands first.only)
 
 pub refines-say : {members : List ℕ} {w : World} {k : ℕ} {s : Server} (r : Rpc) → Stands w k s → IsSaid w k s.op r
     → Refines members w k (say r s)

@@ -5,9 +5,9 @@ use Rattle.qq_raft_protocol.specs.Moves.{Move, AreAllowed, after, run}
 use Rattle.qq_raft_protocol.specs.Moves.Move.{Append}
 use Rattle.qq_raft_protocol.specs.Starts.{IsAppended}
 use Rattle.qq_raft_protocol.specs.World.{Lane, World}
-use Rattle.qq_raft_model.specs.Refines.{entry_of, AreQuiet, IsNoop, IsQuiet, OnlyMoves, Refines, RefinesBy, Stands}
+use Rattle.qq_raft_model.specs.Refines.{entry_of, Adds, AreQuiet, IsNoop, IsQuiet, OnlyMoves, Refines, RefinesBy, Stands}
 use Rattle.qq_raft_model.specs.Server.{Input, is_ready, step}
-use Rattle.qq_raft_model.specs.Server.Input.{Tick, Receive, Submit, Notice}
+use Rattle.qq_raft_model.specs.Server.Input.{Tick, Receive, Submit, Add, Flush, Notice}
 use Rattle.qq_raft_model.specs.State.{Server}
 
 -- a move adds a leader's first entry, or one that is so after the log
@@ -68,6 +68,7 @@ pub record StepsTo (members : List ℕ) (w : World) (k : ℕ) (S : List Entry �
 -- the command that a ready leader is given
 abbrev pub Takes : (List Entry → Entry → Type 0) → Server → Input → Type 0
 Takes S s (Submit time command) = is_ready s ≡ true → S s.log (entry_of time command s)
+Takes S s (Add time command) = is_ready s ≡ true → S s.log (entry_of time command s)
 Takes S s _ = Unit {0}
 
 quiet-steps : {members : List ℕ} {w : World} {k : ℕ} {s : Server} (S : List Entry → Entry → Type 0)
@@ -80,21 +81,26 @@ quiet-steps {w = w} S r = record {
   only = r.only;
 }
 
+adding-steps : {members : List ℕ} {w : World} {k : ℕ} {s t : Server} (S : List Entry → Entry → Type 0) (e : Entry)
+    → Stands w k s → S s.log e → Adds members w k e t → StepsTo members w k S t
+adding-steps {w = w} {k = k} S e st given x = record {
+  moves = Append k e ∷ x.moves;
+  allowed = x.allowed;
+  sourced = (
+    inr (subst (λ (l : Lane). S l.log e) (sym st.lane) given),
+    sourced-quiet S (after w (Append k e)) x.moves x.quiet,
+  );
+  stands = x.stands;
+  only = x.only;
+}
+
 pub steps-by : {members : List ℕ} {w : World} {k : ℕ} {s : Server} (S : List Entry → Entry → Type 0) (input : Input)
     → Stands w k s → Takes S s input → RefinesBy members w k s input → StepsTo members w k S (step s input)
 steps-by S Tick st takes r = quiet-steps S r
 steps-by S (Receive rpc) st takes r = quiet-steps S r
 steps-by S (Notice op) st takes r = quiet-steps S r
+steps-by S Flush st takes r = quiet-steps S r
 steps-by S (Submit time command) st takes (inl r) = quiet-steps S r
-steps-by {w = w} {k = k} {s = s} S (Submit time command) st takes (inr x) =
-    let e : Entry = entry_of time command s in
-    record {
-      moves = Append k e ∷ x.1.moves;
-      allowed = x.1.allowed;
-      sourced = (
-        inr (subst (λ (l : Lane). S l.log e) (sym st.lane) (takes x.0)),
-        sourced-quiet S (after w (Append k e)) x.1.moves x.1.quiet,
-      );
-      stands = x.1.stands;
-      only = x.1.only;
-    }
+steps-by {s = s} S (Submit time command) st takes (inr x) = adding-steps S (entry_of time command s) st (takes x.0) x.1
+steps-by S (Add time command) st takes (inl r) = quiet-steps S r
+steps-by {s = s} S (Add time command) st takes (inr x) = adding-steps S (entry_of time command s) st (takes x.0) x.1

@@ -9,9 +9,9 @@ use Rattle.qq_raft_msg.specs.declared.rpc.Rpc.{Rpc}
 use Rattle.qq_raft_msg.specs.declared.rpc.Rpc.TheVariants.{Vote, Voted, Append, Appended, Install, Installed}
 use Rattle.qq_raft_model.specs.State.{Server, is_leader, enter}
 use Rattle.qq_raft_model.specs.Server.{Input, installed, refuse, accept, receive}
-use Rattle.qq_raft_model.specs.Server.Input.{Tick, Receive, Submit, Notice}
+use Rattle.qq_raft_model.specs.Server.Input.{Tick, Receive, Submit, Add, Flush, Notice}
 use Rattle.qq_raft_model.specs.Refines.{IsOnItsWay, IsGroup, IsReached, MayCome, Refines, RefinesBy, Stands}
-use Rattle.qq_raft_model.proofs.Adding.{leader_tick-refines, submit-refines}
+use Rattle.qq_raft_model.proofs.Adding.{add-refines, flush-refines, leader_tick-refines, submit-refines}
 use Rattle.qq_raft_model.proofs.Appends.{append-refines}
 use Rattle.qq_raft_model.proofs.Counting.{appended-refines}
 use Rattle.qq_raft_model.proofs.Leading.{notice-refines}
@@ -55,4 +55,6 @@ step-refines {s = s} Tick reached group st may = elim (cases_Bool (is_leader s.r
 step-refines (Receive rpc) reached group st may =
     receive-refines rpc reached group st may.0 may.1
 step-refines (Submit time command) reached group st may = submit-refines time command reached st
+step-refines (Add time command) reached group st may = add-refines time command st
+step-refines Flush reached group st may = flush-refines reached st
 step-refines (Notice op) reached group st may = notice-refines op reached group st may

@@ -10,7 +10,7 @@ use Rattle.qq_raft_model.specs.Server.{Input, restart, step}
 use Rattle.qq_raft_model.specs.State.{Server}
 use Rattle.qq_raft_model.proofs.Handing.{continues-step}
 use Rattle.qq_raft_model.specs.Group.{Event, Group, Seat, deliver_by, feed, feed_by, happens, has_node, is_down, lane_with, may_restart, restart_by, take_by, take_op}
-use Rattle.qq_raft_model.specs.Group.Event.{Tick, Submit, Deliver, Lose, Copy, Take, Notice, Crash, Restart}
+use Rattle.qq_raft_model.specs.Group.Event.{Tick, Submit, Add, Flush, Deliver, Lose, Copy, Take, Notice, Crash, Restart}
 use Rattle.qq_raft_model.proofs.Feeding.{same_some}
 
 -- where a member is up before and after, its term is no earlier one
@@ -82,6 +82,8 @@ restart-rises g k op (Some state) down i =
 pub event-rises : (e : Event) (g : Group) (i : ℕ) → Rises (g.seat i).server ((happens e g).seat i)
 event-rises (Tick k) g i = feed-rises g k Input.Tick (g.seat k).server refl i
 event-rises (Submit k time command) g i = feed-rises g k (Input.Submit time command) (g.seat k).server refl i
+event-rises (Add k time command) g i = feed-rises g k (Input.Add time command) (g.seat k).server refl i
+event-rises (Flush k) g i = feed-rises g k Input.Flush (g.seat k).server refl i
 event-rises (Deliver at) g i = deliver-rises g (take at g.bag) (drop at g.bag) i
 event-rises (Lose at) g i = same-rises (g.seat i)
 event-rises (Copy at) g i = same-rises (g.seat i)

@@ -41,6 +41,9 @@ pub data Event : Type 0 where
   Tick : (node : ℕ) → Event
   -- a client's command reaches a server
   Submit : (node time : ℕ) (command : Command) → Event
+  -- the same, but that its entry isn't sent before the next `Flush` of the server
+  Add : (node time : ℕ) (command : Command) → Event
+  Flush : (node : ℕ) → Event
   -- the message at a place of the bag reaches the server that it is for, or is lost where that is down
   Deliver : (at : ℕ) → Event
   Lose : (at : ℕ) → Event
@@ -145,6 +148,8 @@ restart_by k op (Some state) g =
 abbrev pub happens : Event → Group → Group
 happens (Tick k) g = feed k Input.Tick g
 happens (Submit k time command) g = feed k (Input.Submit time command) g
+happens (Add k time command) g = feed k (Input.Add time command) g
+happens (Flush k) g = feed k Input.Flush g
 happens (Deliver at) g = deliver_by (take at g.bag) (drop at g.bag) g
 happens (Lose at) g = record g { bag = take at g.bag ++ drop (at + 1) g.bag }
 happens (Copy at) g = record g { bag = g.bag ++ take 1 (drop at g.bag) }

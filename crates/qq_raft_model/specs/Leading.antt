@@ -1,6 +1,6 @@
 -- How a server stands for election, leads, sends and commits (Ongaro's dissertation, sections 3.4 to 3.6 and 10.2.1).
 use Rattle.std.specs.Prelude.{◌+◌, ◌-◌, ◌*◌, ℕ, zero, suc, Bool, true, false, List, [], ◌∷◌, ◌++◌, length, drop, map, filter, Some, None, nat_le, nat_lt, ◌==◌, ◌&&◌, if◌then◌else◌}
-use Rattle.std.specs.List.{count_by}
+use Rattle.std.specs.List.{count_by, list_any}
 use Rattle.qq_base.specs.declared.ids.Term.{Term}
 use Rattle.qq_command.specs.Encoding.{encoding}
 use Rattle.qq_entry.specs.declared.command.Command.TheVariants.{Noop}
@@ -66,8 +66,26 @@ everyone peer = true
 
 -- ---- entries of a leader
 
+-- one is added, and isn't sent yet
+abbrev pub append_entry : Entry → Server → Server
+append_entry entry s = change s.term s.vote (last s) (entry ∷ []) s
+
 unfoldable pub add_entry : Entry → Server → Server
-add_entry entry s = send everyone (change s.term s.vote (last s) (entry ∷ []) s)
+add_entry entry s = send everyone (append_entry entry s)
+
+-- a peer wasn't sent the last entry
+abbrev pub lags : ℕ → Peer → Bool
+lags last peer = nat_le peer.next last
+
+-- message after message, until each peer was sent the last entry, or so many times
+abbrev pub flush_within : ℕ → Server → Server
+flush_within zero s = s
+flush_within (suc n) s =
+    if list_any (lags (last s)) s.peers then flush_within n (send (lags (last s)) s) else s
+
+-- a leader sends what it hasn't sent, one entry or more at a time
+unfoldable pub flush : Server → Server
+flush s = if is_leader s.role then flush_within (last s + 1) s else s
 
 -- the first entry of a leader (section 3.6.2)
 abbrev pub noop : Term → Entry

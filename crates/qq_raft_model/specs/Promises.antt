@@ -1,8 +1,9 @@
 -- What a group promises.
-use Rattle.std.specs.Prelude.{◌≡◌, ◌≤◌, ◌<◌, ℕ, true, List, [], ◌∷◌, ◌++◌, length, take, map, Option, Some, None}
+use Rattle.std.specs.Prelude.{◌≡◌, ◌⊎◌, ◌≤◌, ◌<◌, ℕ, true, List, [], ◌∷◌, ◌++◌, length, take, map, Option, Some, None}
 use Rattle.qq_base.specs.Fronts.{IsFront}
 use Rattle.qq_base.specs.declared.ids.NodeId.{NodeId}
 use Rattle.qq_base.specs.declared.ids.Term.{Term}
+use Rattle.qq_entry.specs.declared.command.Command.{Command}
 use Rattle.qq_entry.specs.declared.command.Entry.{Entry}
 use Rattle.qq_log.specs.declared.op.Op.{Op}
 use Rattle.qq_log.specs.Stable.{Stable, stable}
@@ -15,7 +16,7 @@ use Rattle.qq_raft_model.specs.Refines.{number}
 use Rattle.qq_raft_model.specs.Server.{is_ready}
 use Rattle.qq_raft_model.specs.State.{Server}
 use Rattle.qq_raft_model.specs.Group.{Event, Group, group_after}
-use Rattle.qq_raft_model.specs.Group.Event.{Submit}
+use Rattle.qq_raft_model.specs.Group.Event.{Add, Submit}
 
 abbrev pub AreDistinct : List NodeId → Type 0
 AreDistinct [] = Unit {0}
@@ -80,12 +81,18 @@ pub record WasLeft (g : Group) (a : List Entry) (e : Entry) : Type 0 where
   pub left : IsLeft g node lane
   pub front : IsFront (add a e) lane.log
 
+-- an event is that a command reaches a server
+abbrev pub Gives : ℕ → ℕ → Command → Event → Type 0
+Gives node time command event = (event ≡ Submit node time command) ⊎ (event ≡ Add node time command)
+
 -- one of the events was that its command reached a ready leader of its term, whose log was these
 pub record IsSubmitted (g : Group) (events : List Event) (a : List Entry) (e : Entry) : Type 0 where
   pub first : List Event
   pub node : ℕ
+  pub event : Event
+  pub gives : Gives node e.time e.command event
   pub rest : List Event
-  pub is : events ≡ first ++ Submit node e.time e.command ∷ rest
+  pub is : events ≡ first ++ event ∷ rest
   pub server : Server
   pub up : IsUp (group_after g first) node server
   pub ready : is_ready server ≡ true

@@ -22,8 +22,8 @@ use Rattle.qq_raft_msg.specs.declared.rpc.VotedMsg.{VotedMsg}
 use Rattle.qq_raft_msg.specs.declared.state.Role.{Role}
 use Rattle.qq_raft_msg.specs.declared.state.Role.TheVariants.{Leader, Candidate, Follower}
 use Rattle.qq_raft_model.specs.Leading.{noop, one_if}
-use Rattle.qq_raft_model.specs.Server.{Input, is_ready, step, submit}
-use Rattle.qq_raft_model.specs.Server.Input.{Tick, Receive, Submit, Notice}
+use Rattle.qq_raft_model.specs.Server.{Input, add, is_ready, step, submit}
+use Rattle.qq_raft_model.specs.Server.Input.{Tick, Receive, Submit, Add, Flush, Notice}
 use Rattle.qq_raft_model.specs.State.{Server, last}
 use Rattle.qq_raft_model.specs.declared.peer.Peer.{Peer}
 use Rattle.qq_raft_model.specs.declared.peer.Waiting.{Waiting}
@@ -226,6 +226,8 @@ abbrev pub MayCome : World → ℕ → Server → Input → Type 0
 MayCome w k s Tick = Unit {0}
 MayCome w k s (Receive rpc) = ((envelope rpc).to.0 ≡ k) × IsOnItsWay w rpc
 MayCome w k s (Submit time command) = Unit {0}
+MayCome w k s (Add time command) = Unit {0}
+MayCome w k s Flush = Unit {0}
 MayCome w k s (Notice op) = op ≤ s.op
 
 -- an entry is added, and what else the moves do is as above
@@ -245,6 +247,9 @@ abbrev pub RefinesBy : List ℕ → World → ℕ → Server → Input → Type 
 RefinesBy members w k s (Submit time command) =
     Refines members w k (submit time command s)
     ⊎ ((is_ready s ≡ true) × Adds members w k (entry_of time command s) (submit time command s))
+RefinesBy members w k s (Add time command) =
+    Refines members w k (add time command s)
+    ⊎ ((is_ready s ≡ true) × Adds members w k (entry_of time command s) (add time command s))
 RefinesBy members w k s input = Refines members w k (step s input)
 
 -- a world that allowed moves lead to, from disks that support an audit

@@ -17,7 +17,7 @@ use Rattle.qq_raft_msg.specs.declared.state.Role.TheVariants.{Follower}
 use Rattle.qq_raft_model.specs.declared.peer.Peer.{Peer}
 use Rattle.qq_raft_model.specs.declared.peer.Waiting.{Waiting}
 use Rattle.qq_raft_model.specs.State.{Server, last, term_at, is_leader, is_candidate, follow, change, vote_in, leader_in, enter, say}
-use Rattle.qq_raft_model.specs.Leading.{send, everyone, add_entry, stand, lead_if_elected, advance}
+use Rattle.qq_raft_model.specs.Leading.{send, everyone, add_entry, append_entry, flush, stand, lead_if_elected, advance}
 
 pub data Input : Type 0 where
   -- time has passed without word from a leader, or it is time for a leader to send
@@ -25,6 +25,9 @@ pub data Input : Type 0 where
   Receive : (rpc : Rpc) → Input
   -- a client's command, and the leader's time
   Submit : (time : ℕ) (command : Command) → Input
+  -- the same, but that the entry isn't sent before the next `Flush`
+  Add : (time : ℕ) (command : Command) → Input
+  Flush : Input
   -- the changes up to a number are durable
   Notice : (op : ℕ) → Input
 
@@ -199,6 +202,11 @@ unfoldable pub submit : ℕ → Command → Server → Server
 submit time command s =
     if is_ready s then add_entry (record { term = s.term; time = time; command = command }) s else s
 
+-- the same, but that the entry isn't sent before the next `flush`
+unfoldable pub add : ℕ → Command → Server → Server
+add time command s =
+    if is_ready s then append_entry (record { term = s.term; time = time; command = command }) s else s
+
 -- messages wait in the order of their changes
 abbrev pub free : ℕ → List Waiting → List Rpc
 free op [] = []
@@ -220,6 +228,8 @@ abbrev pub step : Server → Input → Server
 step s Tick = tick s
 step s (Receive rpc) = receive rpc s
 step s (Submit time command) = submit time command s
+step s (Add time command) = add time command s
+step s Flush = flush s
 step s (Notice op) = notice op s
 
 -- ---- starts

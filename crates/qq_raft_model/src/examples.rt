@@ -51,11 +51,11 @@ pub fn a_vote_is_durable_single_and_for_a_current_log()
         ≡ voted (node 2) false (server Follower 3 None []) ∷ [] }
 {}
 
-/// A law: a message holds one entry at least, 64 at most, and more than one where their encodings have a
+/// A law: a message holds one entry at least, 256 at most, and more than one where their encodings have a
 /// mebibyte at most.
-pub fn a_message_holds_64_entries_or_a_mebibyte()
+pub fn a_message_holds_256_entries_or_a_mebibyte()
     ensures first { (e : Entry) → batch (e ∷ []) ≡ e ∷ [] }
-    ensures count { length (batch (replicate 65 (of_term 1))) ≡ 64 }
+    ensures count { length (batch (replicate 257 (of_term 1))) ≡ 256 }
     ensures full { (e : Entry) → weight e ≡ 524288 → batch (e ∷ e ∷ []) ≡ e ∷ e ∷ [] }
     ensures over { (e : Entry) → weight e ≡ 524289 → batch (e ∷ e ∷ []) ≡ e ∷ [] }
 {}

@@ -1,5 +1,5 @@
 //! Laws: what a server does is the protocol's.
-ghost use Rattle.std.specs.Prelude.{◌≡◌, ◌≤◌, List, ◌++◌, ℕ, Some, take, true, false};
+ghost use Rattle.std.specs.Prelude.{◌≡◌, ◌≤◌, ◌<◌, List, ◌++◌, ℕ, Some, take, true, false};
 ghost use Rattle.qq_base.specs.declared.ids.NodeId.{NodeId};
 ghost use Rattle.qq_entry.specs.declared.command.Command.{Command};
 ghost use Rattle.qq_log.specs.declared.lane.Lane.{Lane};
@@ -16,10 +16,12 @@ ghost use Rattle.qq_raft_msg.specs.declared.rpc.Rpc.TheVariants.{Vote, Voted, Ap
 ghost use Rattle.qq_raft_msg.specs.declared.rpc.VoteMsg.{VoteMsg};
 ghost use Rattle.qq_raft_msg.specs.declared.rpc.VotedMsg.{VotedMsg};
 ghost use Rattle.qq_raft_msg.specs.declared.state.Role.TheVariants.{Leader};
+ghost use Rattle.qq_raft_model.specs.declared.peer.Peer.{Peer};
+ghost use Rattle.qq_raft_model.specs.Leading.{flush};
 ghost use Rattle.qq_raft_model.specs.Handing.{Continues, lane_in, plain_state, state_of};
 ghost use Rattle.qq_raft_model.specs.Refines.{IsOnItsWay, IsReached, IsGroup, IsWithinLog, AcksItself, MayCome, Stands, OnlyMoves, Refines, RefinesBy, disk_lane, lane_of};
 ghost use Rattle.qq_raft_model.specs.Server.{Input, receive, tick, notice, step, restart};
-ghost use Rattle.qq_raft_model.specs.Server.Input.{Submit};
+ghost use Rattle.qq_raft_model.specs.Server.Input.{Add, Submit};
 ghost use Rattle.qq_raft_model.specs.State.{Server, is_leader, last};
 
 /// A law: what a server does with a request for its vote is moves of the protocol, which allows them.
@@ -58,6 +60,10 @@ pub fn a_leader_sends_and_adds_by_moves()
     ensures submit { (members : List ℕ) (w : World) (k : ℕ) (s : Server) (time : ℕ)
         (command : Command) → IsReached members w → Stands w k s →
         RefinesBy members w k s (Submit time command) }
+    ensures add { (members : List ℕ) (w : World) (k : ℕ) (s : Server) (time : ℕ)
+        (command : Command) → Stands w k s → RefinesBy members w k s (Add time command) }
+    ensures flush { (members : List ℕ) (w : World) (k : ℕ) (s : Server) → IsReached members w →
+        Stands w k s → Refines members w k (flush s) }
 {}
 
 /// A law: a server of a group takes an acknowledgement by moves of the protocol. A leader sends what is left
@@ -85,6 +91,12 @@ pub fn a_leader_keeps_to_its_log()
     ensures acks { (members : List ℕ) (w : World) (k : ℕ) (s : Server) (x : Ack) →
         IsReached members w → Stands w k s → s.role ≡ Leader → In x w.acks → x.term ≡ s.term.0 →
         x.upto ≤ last s }
+{}
+
+/// A law: once a leader has flushed, each peer was sent its last entry.
+pub fn a_flush_leaves_nothing_to_send()
+    ensures { (s : Server) (p : Peer) → is_leader s.role ≡ true →
+        ((q : Peer) → In q s.peers → 1 ≤ q.next) → In p (flush s).peers → last s < p.next }
 {}
 
 /// A law: whatever comes to a server of a group, what it does is moves of the protocol, which allows them, in

@@ -10,7 +10,7 @@ mod limits;
 mod peer;
 
 pub use examples::{
-    a_message_holds_64_entries_or_a_mebibyte, a_vote_is_durable_single_and_for_a_current_log,
+    a_message_holds_256_entries_or_a_mebibyte, a_vote_is_durable_single_and_for_a_current_log,
     an_append_cuts_only_what_differs, an_entry_of_an_older_term_is_not_committed_by_counting,
 };
 pub use group_examples::{
@@ -23,7 +23,7 @@ pub use group_laws::{
     the_disks_support_the_audit, what_a_group_committed_stays,
 };
 pub use laws::{
-    a_leader_keeps_to_its_log, a_leader_sends_and_adds_by_moves,
+    a_flush_leaves_nothing_to_send, a_leader_keeps_to_its_log, a_leader_sends_and_adds_by_moves,
     a_request_for_a_vote_is_answered_by_moves, a_restart_is_a_move,
     a_server_works_on_what_it_handed_out, a_step_of_one_leaves_the_others,
     a_vote_is_counted_by_moves, an_acknowledgement_is_counted_by_moves, each_step_is_moves,

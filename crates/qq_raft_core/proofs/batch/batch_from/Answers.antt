@@ -30,7 +30,7 @@ returns-clause-ok g c =
     let there = sym (entry-known log place c.requires.whole) ∙ c.in-Some.ensures.some in
     let left = c.saturating_sub-room.ensures ∙ ap (λ n. BATCH_BYTES - n) c.weight.ensures in
     c.from_vec-2.ensures ∙ c.in_ok-add_fitting.ensures.ok
-    ∙ ap (λ es. es ++ fit 63 room (drop (place + 1) log.entries))
+    ∙ ap (λ es. es ++ fit 255 room (drop (place + 1) log.entries))
     (c.in_ok-push.ensures.items ∙ ap (λ es. es ++ c.in_ok-copy.field-0 ∷ []) c.new-entries.ensures.items
     ∙ ap (λ (e : Entry). e ∷ []) c.in_ok-copy.ensures.ok)
     ∙ batch-first log.entries c.args.next place room first c.saturating_sub-place.ensures there left

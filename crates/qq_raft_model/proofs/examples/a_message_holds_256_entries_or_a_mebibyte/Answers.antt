@@ -4,7 +4,7 @@ use Rattle.qq_command.specs.Encoding.{encoding, payload, fields}
 use Rattle.qq_entry.specs.declared.command.Entry.{Entry}
 use Rattle.qq_raft_model.specs.declared.limits.TheConstants.{BATCH_BYTES}
 use Rattle.qq_raft_model.specs.Leading.{weight}
-use Rattle.qq_raft_model.proofs.examples.a_message_holds_64_entries_or_a_mebibyte.Goals as goal
+use Rattle.qq_raft_model.proofs.examples.a_message_holds_256_entries_or_a_mebibyte.Goals as goal
 
 pub returns-clause-first : goal.returns-clause-first
 returns-clause-first c = λ e. refl
