@@ -22,7 +22,7 @@ use Rattle.qq_raft_msg.specs.declared.rpc.VotedMsg.{VotedMsg}
 use Rattle.qq_raft_msg.specs.declared.state.Role.{Role}
 use Rattle.qq_raft_msg.specs.declared.state.Role.TheVariants.{Leader, Candidate, Follower}
 use Rattle.qq_raft_model.specs.Leading.{noop, one_if}
-use Rattle.qq_raft_model.specs.Server.{Input, add, is_ready, step, submit}
+use Rattle.qq_raft_model.specs.Server.{Input, add as add_command, is_ready, step, submit}
 use Rattle.qq_raft_model.specs.Server.Input.{Tick, Receive, Submit, Add, Flush, Notice}
 use Rattle.qq_raft_model.specs.State.{Server, last}
 use Rattle.qq_raft_model.specs.declared.peer.Peer.{Peer}
@@ -248,8 +248,8 @@ RefinesBy members w k s (Submit time command) =
     Refines members w k (submit time command s)
     ⊎ ((is_ready s ≡ true) × Adds members w k (entry_of time command s) (submit time command s))
 RefinesBy members w k s (Add time command) =
-    Refines members w k (add time command s)
-    ⊎ ((is_ready s ≡ true) × Adds members w k (entry_of time command s) (add time command s))
+    Refines members w k (add_command time command s)
+    ⊎ ((is_ready s ≡ true) × Adds members w k (entry_of time command s) (add_command time command s))
 RefinesBy members w k s input = Refines members w k (step s input)
 
 -- a world that allowed moves lead to, from disks that support an audit
