@@ -5,9 +5,14 @@ use crate::logs::bytes_of;
 use crate::writer::begin;
 use anyhow::{Result, ensure};
 use cases::{Trials, run_each};
-use qq_base::{Memory, NUMBER_END};
+use qq_base::{Index, Memory, NUMBER_END, QueueId, Term};
+use qq_command::Entries;
 use qq_disk::{FileKind, NodeDisk};
+use qq_log::Op;
+use qq_mem_disk::MemDisk;
+use qq_recover::recover;
 use qq_wal::WalFault;
+use std::alloc::Global;
 
 /// File 1, which names no other.
 const FIRST: &str = "51514c4f470100000000000000010000000000000000000000000000000052e411e63587068b";
@@ -53,12 +58,50 @@ fn numbers_end(rt: HostRuntime) -> Result<()> {
     Ok(())
 }
 
+/// An op without entries, of a queue of which it is the one of this number.
+fn op(alloc: Global, queue: QueueId, number: u64) -> Op {
+    Op::Change {
+        queue,
+        op: number,
+        term: Term(1),
+        vote: None,
+        keep: Index(0),
+        entries: Entries::new(alloc),
+    }
+}
+
+/// A header of 38 bytes and 1,024 carries of 78 are more than the 65,536 bytes that make a file full. An op without
+/// entries has 46 bytes, so a round of one for each queue adds 47,104.
+fn a_file_of_many_carries_is_not_full(rt: HostRuntime) -> Result<()> {
+    let alloc = rt.alloc();
+    let mut queues = Vec::new(alloc);
+    for number in 1..=1024 {
+        queues.push(QueueId(number))?;
+    }
+    let begun = recover(MemDisk::new(alloc), alloc, queues.as_slice(), 65_536);
+    let mut wal = begun.map_err(|(fault, _)| fault)?.into_wal();
+    for (number, full) in [(1, false), (2, true)] {
+        for queue in &queues {
+            ensure!(wal.gather(op(alloc, *queue, number)).is_ok());
+        }
+        ensure!(wal.append_batch(alloc) == Ok(1024));
+        ensure!(wal.sync_batch(alloc)?.len() == 1024);
+        ensure!(wal.full() == full);
+    }
+    ensure!(wal.roll(alloc) == Ok(2));
+    ensure!(!wal.full());
+    let mut disk = wal.into_disk();
+    ensure!(disk.size(alloc, log_file(2))? == 79_910);
+    Ok(())
+}
+
 pub fn check(trials: &mut Trials) -> Result<()> {
     run_each!(
         trials;
         a_new_file_names_the_old_one,
         the_log_stops_where_the_disk_fails,
         numbers_end,
+        a_file_of_many_carries_is_not_full,
     );
     Ok(())
 }

@@ -14,7 +14,7 @@ ghost use Rattle.qq_wal.specs.declared.wal.Wal.{Wal};
 ghost use Rattle.qq_wal.specs.Marks.{IsCarry, carries_in};
 ghost use Rattle.qq_wal.specs.Numbers.{greatest_number, number_of};
 ghost use Rattle.qq_wal.specs.Ranges.{AllRanges};
-ghost use Rattle.qq_wal.specs.Wal.{IsBegun, IsSound};
+ghost use Rattle.qq_wal.specs.Wal.{IsBegun, IsSound, is_full};
 ghost use Rattle.qq_recover.specs.declared.recovered.Recovered.{Recovered};
 ghost use Rattle.qq_recover.specs.Reading.{newest_file, shown};
 ghost use Rattle.qq_recover.specs.Recovered.{IsBegunBehind, IsNewLog, wal_of};
@@ -28,6 +28,7 @@ use qq_wal_record::encodings_have_lengths;
 ///   handed in, and a new file may follow at once.
 /// - `size`: its file has 38 bytes of header, and 78 for each queue that has ops.
 /// - `full`: as many bytes as were asked for make the file full.
+/// - `fresh`: it isn't full, however many queues it restates, where any bytes were asked for.
 /// - `numbers`: no file that was listed has a number above the greatest of its kind, so each number that is
 ///   given from then on is that of no file there.
 pub fn a_new_log_is_ready<D: NodeDisk>()
@@ -43,6 +44,10 @@ pub fn a_new_log_is_ready<D: NodeDisk>()
         (names : List FileName) (ranges : AllRanges) (log_bytes bytes : ℕ) (w : Wal D) →
         IsBegun queues header carries names ranges log_bytes w →
         nat_le w.log_bytes bytes ≡ nat_le log_bytes bytes }
+    ensures fresh { (queues : Vec QueueId) (header : Header) (carries : List Carry)
+        (names : List FileName) (ranges : AllRanges) (log_bytes : ℕ) (w : Wal D) →
+        IsBegun queues header carries names ranges log_bytes w → 0 < log_bytes →
+        is_full w ≡ false }
     ensures numbers { (queues : Vec QueueId) (header : Header) (carries : List Carry)
         (names : List FileName) (ranges : AllRanges) (log_bytes : ℕ) (w : Wal D)
         (file : FileName) → greatest_number Log names < header.file →

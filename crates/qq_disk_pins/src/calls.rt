@@ -18,7 +18,7 @@ ghost use Rattle.qq_wal.specs.Notices.{notices_in, synced_in};
 ghost use Rattle.qq_wal.specs.Numbers.{number_of};
 ghost use Rattle.qq_wal.specs.Ranges.{in_file, ranges_in};
 ghost use Rattle.qq_wal.specs.Sweep.{IsReplaced, files_named};
-ghost use Rattle.qq_wal.specs.Wal.{Appends, IsRolled, IsSound, SameFile, carries_ahead};
+ghost use Rattle.qq_wal.specs.Wal.{Appends, IsRolled, IsSound, SameFile, carries_ahead, is_full};
 ghost use Rattle.qq_disk_pins.specs.Batches.{AllKeepWithin, files_after};
 
 use qq_disk::NodeDisk;
@@ -29,7 +29,7 @@ use qq_wal_record::encodings_have_lengths;
 /// - `file`: the log is written to the same file, with the same header.
 /// - `queues`: what may be handed in, may be handed in then.
 /// - `numbers`: no number of a file was given, so the next one of each kind is the same.
-/// - `full`: as many bytes as before make the file full.
+/// - `full`: as many bytes as before make the file full, behind the same ones with which it was begun.
 pub fn appends_and_syncs_stay_in_their_file<D: NodeDisk>()
     ensures file { (old new : Wal D) → SameFile old new → new.header ≡ old.header }
     ensures queues { (old new : Wal D) (carries : Carries) (op : Op) → SameFile old new →
@@ -37,7 +37,7 @@ pub fn appends_and_syncs_stay_in_their_file<D: NodeDisk>()
     ensures numbers { (old new : Wal D) (kind : FileKind) → SameFile old new →
         number_of kind new.numbers ≡ number_of kind old.numbers }
     ensures full { (old new : Wal D) (bytes : ℕ) → SameFile old new →
-        nat_le new.log_bytes bytes ≡ nat_le old.log_bytes bytes }
+        (nat_le new.log_bytes bytes ≡ nat_le old.log_bytes bytes) × (new.first ≡ old.first) }
 {}
 
 /// What an append takes of what waits, and what it leaves.
@@ -70,6 +70,7 @@ pub fn an_append_takes_what_fits<D: NodeDisk>()
 /// - `size`: it has 38 bytes of header, and 78 for each queue that has ops.
 /// - `numbers`: the log's greatest number is the file's, and no other number was given.
 /// - `full`: as many bytes as before make it full.
+/// - `fresh`: it isn't full, however many queues it restates, where it takes any bytes to make a file full.
 /// - `waits`: what was gathered waits on, each queue goes on where it stood, and is told what it was to be
 ///   told.
 /// - `ready`: where nothing waited for a sync nothing does, and no call has failed: the next file may follow.
@@ -87,6 +88,8 @@ pub fn a_new_file_goes_on_from_the_old_one<D: NodeDisk>()
         × (number_of Snapshot new.numbers ≡ number_of Snapshot old.numbers) }
     ensures full { (old new : Wal D) (bytes : ℕ) → IsRolled old new →
         nat_le new.log_bytes bytes ≡ nat_le old.log_bytes bytes }
+    ensures fresh { (old new : Wal D) → IsRolled old new → 0 < old.log_bytes →
+        is_full new ≡ false }
     ensures waits { (old new : Wal D) (id : QueueId) → IsRolled old new →
         (new.waiting.items ≡ old.waiting.items) × (carries_ahead new ≡ carries_ahead old)
         × (synced_in new.marks id ≡ synced_in old.marks id)

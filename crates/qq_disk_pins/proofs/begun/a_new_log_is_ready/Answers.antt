@@ -1,4 +1,5 @@
-use Rattle.std.proofs.Common.{List, ℕ, ap, sym, subst, ◌∙◌, leb, ◌≤◌}
+use Rattle.std.proofs.Common.{List, ℕ, ◌-◌, arith, ap, sym, subst, ◌∙◌, leb, ◌≤◌}
+use Rattle.std.proofs.lemmas.Bool.{lt-leb}
 use Rattle.std.specs.List.{AllByRecursion}
 use Rattle.std.proofs.lemmas.List.Elements.{recursion_from_All}
 use Rattle.qq_wal.specs.declared.marks.Mark.{Mark}
@@ -23,6 +24,10 @@ returns-clause-size g c = λ queues header carries names ranges log_bytes w each
 pub returns-clause-full : goal.returns-clause-full
 returns-clause-full g c = λ queues header carries names ranges log_bytes bytes w b.
     ap (λ (n : ℕ). leb n bytes) b.limit
+
+pub returns-clause-fresh : goal.returns-clause-fresh
+returns-clause-fresh g c = λ queues header carries names ranges log_bytes w b some.
+    lt-leb w.log_bytes (w.size - w.first) (omega (arith, b.first, b.limit, some))
 
 pub returns-clause-numbers : goal.returns-clause-numbers
 returns-clause-numbers g c = λ queues header carries names ranges log_bytes w file newer b has.

@@ -1,5 +1,6 @@
 use Rattle.std.proofs.Common.{Global, List, ℕ, ap, sym, subst, ◌∙◌, leb, length, arith}
-use Rattle.std.specs.Prelude.{◌+◌, ◌*◌}
+use Rattle.std.specs.Prelude.{◌+◌, ◌-◌, ◌*◌}
+use Rattle.std.proofs.lemmas.Bool.{lt-leb}
 use Rattle.qq_wal_record.specs.declared.header.Header.{Header}
 use Rattle.qq_wal.specs.declared.marks.Mark.{Mark}
 use Rattle.qq_wal.specs.declared.numbers.Numbers.{Numbers}
@@ -39,6 +40,10 @@ returns-clause-numbers g c = λ old new r. (
 
 pub returns-clause-full : goal.returns-clause-full
 returns-clause-full g c = λ old new bytes r. ap (λ (n : ℕ). leb n bytes) r.log_bytes
+
+pub returns-clause-fresh : goal.returns-clause-fresh
+returns-clause-fresh g c = λ old new r some.
+    lt-leb new.log_bytes (new.size - new.first) (omega (arith, r.first, r.log_bytes, some))
 
 pub returns-clause-waits : goal.returns-clause-waits
 returns-clause-waits g c = λ old new id r. (

@@ -17,4 +17,4 @@ pub returns-clause-numbers : goal.returns-clause-numbers
 returns-clause-numbers g c = λ old new kind same. ap (λ (n : Numbers). number_of kind n) same.numbers
 
 pub returns-clause-full : goal.returns-clause-full
-returns-clause-full g c = λ old new bytes same. ap (λ (n : ℕ). leb n bytes) same.log_bytes
+returns-clause-full g c = λ old new bytes same. (ap (λ (n : ℕ). leb n bytes) same.log_bytes, same.first)
