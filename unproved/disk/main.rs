@@ -6,6 +6,7 @@
 //!   folder (`logs.rs`);
 //! - `writer`: cases of what the log's writer answers (`writer.rs`);
 //! - `records FOLDER SYNCS RECORDS BYTES [quiet]`: records are appended to a disk in a folder (`records.rs`);
+//! - `root ROOT`: a disk under a root that other processes may have locked (`roots.rs`);
 //! - `trials`: checks by name.
 #![tactic(auto)]
 
@@ -20,6 +21,7 @@ mod logs;
 mod new_files;
 mod random;
 mod records;
+mod roots;
 mod shelves;
 mod stops;
 mod watched;
@@ -30,7 +32,7 @@ use anyhow::{Context, Result, bail};
 use cases::Trials;
 use std::env;
 
-const USAGE: &str = "usage: disk calls | shelves | logs | writer | records | trials";
+const USAGE: &str = "usage: disk calls | shelves | logs | writer | records | root | trials";
 
 fn check_all(rt: HostRuntime) -> Result<()> {
     let mut trials = Trials::new(rt);
@@ -50,6 +52,7 @@ fn main(rt: HostRuntime) -> Result<()> {
         "logs" => logs::run(rt, words),
         "writer" => writer::run(rt),
         "records" => records::run(rt, words),
+        "root" => roots::run(rt, words),
         "trials" => check_all(rt),
         _ => bail!("{USAGE}"),
     }

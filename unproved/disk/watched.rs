@@ -1,5 +1,6 @@
 //! The system's files, with each call printed and one made to fail.
 
+use qq_dir_disk::DiskFile;
 use std::alloc::{Allocator, Global};
 use std::fs::{File, Metadata, OpenFile, OpenOptions};
 use std::io;
@@ -212,5 +213,24 @@ impl<'a> OpenFile for WatchedFile<'a> {
     fn sync_data(&self) -> io::Result<()> {
         self.call("sync bytes of")?;
         self.file.sync_data()
+    }
+}
+
+impl<'a> DiskFile for WatchedFile<'a> {
+    ghost is_synced = { ? };
+
+    ghost is_locked = { ? };
+
+    fn sync_bytes(&self) -> io::Result<()> {
+        self.sync_data()
+    }
+
+    fn sync_whole(&self) -> io::Result<()> {
+        self.sync_all()
+    }
+
+    fn lock_file(&self) -> io::Result<bool> {
+        self.call("lock")?;
+        self.file.lock_file()
     }
 }

@@ -30,7 +30,7 @@ impl<'a> Yards<'a> {
             system,
             held: Vec::new(alloc),
             memory: MemYard::new(Vec::new(alloc), Vec::new(alloc)),
-            folders: FolderYard::new(system),
+            folders: FolderYard::new(system, alloc),
         }
     }
 

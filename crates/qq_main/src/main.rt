@@ -21,7 +21,7 @@ fn words(rt: &(impl Env + AllocGlobal)) -> io::Result<Vec<String>> {
 fn main(rt: HostRuntime) -> ExitCode {
     let mut input = StdSource::new(rt.stdin());
     let mut output = StdSink::new(rt.stdout());
-    let mut yard = FolderYard::new(rt);
+    let mut yard = FolderYard::new(rt, rt.alloc());
     let status = match words(&rt) {
         Ok(words) => run(&rt, &words, &mut yard, &mut input, &mut output),
         Err(error) if error.kind() == io::ErrorKind::OutOfMemory => {

@@ -5,5 +5,6 @@ mod Cuts
 mod Fetches
 mod LineLemmas
 mod Pieces
+mod Roots
 mod Rows
 mod Writes
