@@ -165,7 +165,3 @@ happens (Restart k op) g =
 abbrev pub group_after : Group → List Event → Group
 group_after g [] = g
 group_after g (e ∷ es) = group_after (happens e g) es
-
--- what events make of a new group
-abbrev pub from_new : QueueId → List NodeId → List Event → Group
-from_new queue nodes events = group_after (new_group queue nodes) events

@@ -68,6 +68,7 @@ left-start members w lane safe left others = record {
   older = λ q l here. absurd here;
   others = λ q away l here. subst (λ (x : Lane). x.log ≡ []) (sym (opened_lane (lane q) l here)) (others q away);
   supported =
-      supported-fewer (λ q l here. subst (λ (x : Lane). In x (lanes (w.member q))) (sym (opened_lane (lane q) l here)) (left q))
+      supported-fewer
+      (λ q l here. subst (λ (x : Lane). In x (lanes (w.member q))) (sym (opened_lane (lane q) l here)) (left q))
       (front-refl w.audit) safe.supported;
 }

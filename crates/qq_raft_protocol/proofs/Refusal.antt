@@ -69,7 +69,9 @@ refused lane one two third five six of_one of_two of_third of_five a b d s =
     (q.first (lane q.who) refl) in
     let alone : x ≡ one ∷ [] =
     front-cases x (lane 1).log (lane 2).log one five two [] (six ∷ []) in_first in_second a b
-    (λ same. let level : five.term.0 ≡ two.term.0 = ap (λ (e : Entry). e.term.0) same in omega (arith, level, of_five, of_two))
+    (λ same.
+    let level : five.term.0 ≡ two.term.0 = ap (λ (e : Entry). e.term.0) same in
+    omega (arith, level, of_five, of_two))
     c.front in
     let entry : c.entry ≡ one = (add-same c.before [] c.entry one alone).1 in
     let term : c.entry.term.0 ≡ one.term.0 = ap (λ (e : Entry). e.term.0) entry in

@@ -138,8 +138,8 @@ pub grants-after : {members : List ℕ} {w : World} (m : Move) (s : Shaded membe
     → In g (after w m).grants → In g (after (shade s) m).grants
 grants-after {w = w} (Stand i) s =
     let m = w.member i in
-    more-in (record { from = i; to = i; term = m.mine.term + 1; op = m.mine.op + 1; log = m.mine.log }) w.grants s.grants
-    s.grants_in
+    more-in (record { from = i; to = i; term = m.mine.term + 1; op = m.mine.op + 1; log = m.mine.log }) w.grants
+    s.grants s.grants_in
 grants-after {w = w} (Vote i ask) s =
     more-in (record { from = i; to = ask.from; term = ask.term; op = (w.member i).mine.op; log = ask.log }) w.grants
     s.grants s.grants_in
