@@ -1,10 +1,9 @@
 -- Files that a call doesn't write to are left as they are.
-use Rattle.std.proofs.Common.{◌≡◌, ℕ, false, List, take, Option, Some, option_map, refl, ap, subst, ◌∙◌, inl, inr}
+use Rattle.std.proofs.Common.{◌≡◌, ℕ, List, take, Some, option_map, refl, ap, subst, ◌∙◌, inl, inr}
 use Rattle.qq_disk.specs.declared.name.FileName.{FileName}
 use Rattle.qq_disk.specs.Disk.{Disk, append_target, grow, keep, now}
 use Rattle.qq_disk.specs.Image.{log_of}
 use Rattle.qq_disk.specs.Moments.{Adds, IsAppending, IsSyncing}
-use Rattle.qq_disk.specs.Name.{same_name}
 use Rattle.qq_disk.proofs.Moments.{adds-now, adds-step, adds-weaker}
 use Rattle.qq_disk.proofs.Names.{set-other}
 use Rattle.qq_wal.specs.Running.{KeepsOthers, StaysBeside}
