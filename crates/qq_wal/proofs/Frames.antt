@@ -41,5 +41,6 @@ beside-then old mid new file first second =
     (λ e is other apart. is other apart ∙ here other apart)
 
 -- of a file by its number
-pub beside-log : (n m : ℕ) (old new : List Disk) → n ≡ m → StaysBeside (log_of n) old new → StaysBeside (log_of m) old new
+pub beside-log : (n m : ℕ) (old new : List Disk) → n ≡ m → StaysBeside (log_of n) old new
+    → StaysBeside (log_of m) old new
 beside-log n m old new same stays = subst (λ (k : ℕ). StaysBeside (log_of k) old new) same stays
