@@ -1,11 +1,11 @@
 -- What recovery leaves of files that it doesn't write to.
-use Rattle.std.proofs.Common.{◌≡◌, ◌<◌, ◌⊎◌, ℕ, Bool, true, false, cond, List, ◌++◌, Option, Some, None, option_map, refl, sym, ap, subst, ◌∙◌, inl, inr, arith, append-nil}
+use Rattle.std.proofs.Common.{◌≡◌, ◌<◌, ◌⊎◌, ℕ, Bool, true, false, cond, List, ◌++◌, Option, Some, None, option_map, refl, sym, ap, subst, ◌∙◌, inl, inr, append-nil}
 use Rattle.qq_disk.specs.declared.name.FileName.{FileName}
-use Rattle.qq_disk.specs.Disk.{Disk, FileState, IsListed, contents, file_content, keep, now, sync, whole}
+use Rattle.qq_disk.specs.Disk.{Disk, FileState, IsListed, contents, file_content, keep, now, whole}
 use Rattle.qq_disk.specs.Image.{log_of}
 use Rattle.qq_disk.specs.Moments.{Adds, IsSyncing}
 use Rattle.qq_disk.specs.Name.{same_name}
-use Rattle.qq_disk.proofs.Moments.{adds-now, adds-same, adds-step, adds-weaker}
+use Rattle.qq_disk.proofs.Moments.{adds-now, adds-step, adds-weaker}
 use Rattle.qq_disk.proofs.Names.{same_name-true}
 use Rattle.qq_wal.specs.Running.{KeepsOthers, StaysBeside}
 use Rattle.qq_recover.specs.Recovery.{BeginsOne, OnlySyncs, StaysSyncing, SyncsOthers}

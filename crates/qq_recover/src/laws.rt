@@ -1,5 +1,5 @@
 //! Laws of what recovery reads: the functions do nothing, and their contracts are the laws.
-ghost use Rattle.std.specs.Prelude.{◌≡◌, ◌≤◌, ◌<◌, ◌+◌, ◌⊎◌, ◌^◌, ℕ, All, List, Option, Some, Ok, Err, length, unwrap_or, true, false};
+ghost use Rattle.std.specs.Prelude.{◌≡◌, ◌≤◌, ◌<◌, ◌+◌, ◌⊎◌, ◌^◌, ℕ, All, IsTrue, List, Option, Some, Ok, Err, length, unwrap_or, true, false};
 ghost use Rattle.qq_base.specs.Causes.{Rose};
 ghost use Rattle.qq_base.specs.Fronts.{IsFront};
 ghost use Rattle.qq_base.specs.declared.ids.Index.{Index};
@@ -30,7 +30,8 @@ ghost use Rattle.qq_wal.specs.Running.{NoneRemoved, StaysWhole, top};
 ghost use Rattle.qq_log.specs.Stable.{Stable, last_index, new_state, stable};
 ghost use Rattle.qq_wal.specs.Marks.{GoesOn};
 ghost use Rattle.qq_wal.specs.Notices.{synced_in};
-ghost use Rattle.qq_wal.specs.Wal.{carries_ahead};
+ghost use Rattle.qq_wal.specs.Wal.{IsSound, carries_ahead};
+ghost use Rattle.qq_wal.specs.declared.wal.Wal.{Wal};
 ghost use Rattle.qq_wal.specs.declared.ranges.QueueRanges.{QueueRanges};
 ghost use Rattle.qq_wal.specs.Entries.{IsRangeOf, LieAs};
 ghost use Rattle.qq_wal.specs.Ranges.{AllRanges, as_indices, in_file, ranges_in};
@@ -69,6 +70,15 @@ pub fn these_disks_may_be_recovered()
     ensures later { (queues : List QueueId) (old new : List Disk) → NoneRemoved (now old) →
         StaysWhole old new → MayRecover queues (now new) }
 {}
+
+/// The disk of a log that goes on may be recovered, whatever files were removed from it: none that is removed has a
+/// say in what is read, since the log's own file isn't removed and each image reads as that file says.
+pub fn a_log_that_goes_on_may_be_recovered<D: NodeDisk>()
+    ensures { (w : Wal D) → IsSound D.tells D.past w → IsTrue (D.tells w.disk) →
+        w.stopped ≡ false → MayRecover w.queues.items (now (D.past w.disk)) }
+{
+    the_log_has_a_format();
+}
 
 /// A disk that keeps a promise of the log is read, and gives each queue what it was promised. So does
 /// whatever a crash leaves of it.

@@ -1,10 +1,9 @@
 -- Files that a call doesn't write to are left as they are.
-use Rattle.std.proofs.Common.{◌≡◌, ℕ, false, List, take, Option, Some, option_map, refl, ap, subst, ◌∙◌, inl, inr}
+use Rattle.std.proofs.Common.{◌≡◌, ℕ, List, take, Some, option_map, refl, ap, subst, ◌∙◌, inl, inr}
 use Rattle.qq_disk.specs.declared.name.FileName.{FileName}
 use Rattle.qq_disk.specs.Disk.{Disk, append_target, grow, keep, now}
 use Rattle.qq_disk.specs.Image.{log_of}
 use Rattle.qq_disk.specs.Moments.{Adds, IsAppending, IsSyncing}
-use Rattle.qq_disk.specs.Name.{same_name}
 use Rattle.qq_disk.proofs.Moments.{adds-now, adds-step, adds-weaker}
 use Rattle.qq_disk.proofs.Names.{set-other}
 use Rattle.qq_wal.specs.Running.{KeepsOthers, StaysBeside}
@@ -42,5 +41,6 @@ beside-then old mid new file first second =
     (λ e is other apart. is other apart ∙ here other apart)
 
 -- of a file by its number
-pub beside-log : (n m : ℕ) (old new : List Disk) → n ≡ m → StaysBeside (log_of n) old new → StaysBeside (log_of m) old new
+pub beside-log : (n m : ℕ) (old new : List Disk) → n ≡ m → StaysBeside (log_of n) old new
+    → StaysBeside (log_of m) old new
 beside-log n m old new same stays = subst (λ (k : ℕ). StaysBeside (log_of k) old new) same stays

@@ -1,5 +1,5 @@
 -- What counts as synced of a queue is kept, and is in every image.
-use Rattle.std.proofs.Common.{◌≡◌, ◌≤◌, ◌+◌, ◌&&◌, ℕ, Bool, true, false, cond, eqb, List, [], ◌∷◌, ◌++◌, map, Option, Some, None, refl, sym, ap, subst, ◌∙◌, arith, append-nil, append_assoc, unwrap_or, option_map}
+use Rattle.std.proofs.Common.{◌≡◌, ◌≤◌, ◌+◌, ◌&&◌, ℕ, Bool, true, false, cond, eqb, List, [], ◌∷◌, ◌++◌, map, Option, Some, None, refl, sym, ap, subst, ◌∙◌, arith, append-nil, unwrap_or, option_map}
 use Rattle.std.proofs.lemmas.List.Elements.{All-from_recursion}
 use Rattle.qq_base.proofs.Lists.{AllByRecursion-append}
 use Rattle.std.proofs.lemmas.Bool.{eqb-true}
@@ -12,24 +12,24 @@ use Rattle.qq_log.specs.declared.lane.Carry.{Carry}
 use Rattle.qq_log.specs.declared.op.Op.{Op}
 use Rattle.qq_log.specs.declared.op.Op.TheVariants.{Change, SnapshotMade, SegmentMade}
 use Rattle.qq_log.specs.Op.{number, queue}
-use Rattle.qq_log.specs.Stable.{Stable, act, apply_op, carry_of, change, follows, may_keep, may_rebase, has_range, new_state, rebase, add_segment, restates, state_of, take_carry}
+use Rattle.qq_log.specs.Stable.{Stable, act, apply_op, carry_of, change, follows, may_keep, may_rebase, has_range, new_state, rebase, add_segment, restates, take_carry}
 use Rattle.qq_wal_record.specs.declared.header.Header.{Header}
 use Rattle.qq_wal_record.specs.declared.record.LogRecord.{LogRecord}
 use Rattle.qq_wal_record.specs.declared.record.LogRecord.TheVariants.{Op as OpRecord, Carry as CarryRecord}
 use Rattle.qq_wal_chain.specs.Format.{IsFormat}
 use Rattle.qq_wal_chain.specs.Chain.{Found, Logs, Reading, reading}
 use Rattle.qq_wal_chain.specs.Image.{IsLogImage, files_of, put}
-use Rattle.qq_wal_chain.specs.Lanes.{Lanes, add_carry, add_record, has_entries, is_carry_within_ends, is_change, is_listed, is_op_within_ends, is_plain, put_lane}
-use Rattle.qq_wal_chain.specs.Promise.{IsLog, IsRunning, found_behind, found_world, kept_records, pending_records}
-use Rattle.qq_wal_chain.specs.Records.{encode_all, file_records, replay, step_on}
+use Rattle.qq_wal_chain.specs.Lanes.{Lanes, add_record, has_entries, is_carry_within_ends, is_change, is_listed, is_op_within_ends, is_plain, put_lane}
+use Rattle.qq_wal_chain.specs.Promise.{found_behind, found_world, kept_records, pending_records}
+use Rattle.qq_wal_chain.specs.Records.{encode_all, file_records, replay}
 use Rattle.qq_wal_chain.specs.Wal.{wal, Ours}
 use Rattle.qq_wal_chain.proofs.Growing.{all-records, log-shows-world}
 use Rattle.qq_wal_chain.proofs.Replays.{IsSome, replay-append, replay-front, replay-none}
 use Rattle.qq_wal_chain.proofs.Running.{log-reads, log-shown, log_reading, world-added}
 use Rattle.qq_wal.specs.declared.marks.Mark.{Mark}
 use Rattle.qq_wal.specs.declared.notices.Notice.{Notice}
-use Rattle.qq_wal.specs.Marks.{Agree, AllFollow, Carries, add_op, carry_for, carry_in, known, queues_in}
-use Rattle.qq_wal.specs.Notices.{AreCounted, AreNamed, carried_op, new_mark, note_all, note_mark, note_record, notices_in, sync_mark, synced_in, synced_of}
+use Rattle.qq_wal.specs.Marks.{Agree, AllFollow, Carries, add_op, carry_in, queues_in}
+use Rattle.qq_wal.specs.Notices.{AreCounted, AreNamed, carried_op, new_mark, note_all, note_record, notices_in, sync_mark, synced_in, synced_of}
 use Rattle.qq_wal.specs.Running.{top, IsSynced, IsWrittenTo, lanes_kept, lanes_shown, op_in}
 use Rattle.qq_wal.specs.Wal.{IsKept}
 use Rattle.qq_wal.proofs.Agreeing.{agree-known, listed-self}

@@ -1,5 +1,5 @@
 -- What an error leaves of the log, and of the file that it would have begun.
-use Rattle.std.proofs.Common.{◌≡◌, ◌⊎◌, ℕ, Bool, true, false, cond, List, ◌++◌, Result, Option, Some, None, Err, refl, sym, ap, subst, ◌∙◌, inl, inr, is_some, IsTrue}
+use Rattle.std.proofs.Common.{◌≡◌, ℕ, Bool, true, false, cond, List, ◌++◌, Result, Option, Some, None, Err, refl, sym, ap, subst, ◌∙◌, inl, inr, is_some, IsTrue}
 use Rattle.qq_disk.specs.declared.fault.DiskFault.{DiskFault}
 use Rattle.qq_disk.specs.declared.fault.DiskFault.TheVariants.{Failed, Memory as OfMemory}
 use Rattle.qq_disk.specs.declared.name.FileName.{FileName}
