@@ -1,12 +1,8 @@
--- Facts of each of a list, together, and tests that agree on it.
+-- Tests that agree on each of a list.
 use Rattle.std.proofs.Common.{◌≡◌, Bool, true, false, ◌||◌, List, [], ◌∷◌, refl, ap, ◌∙◌}
 use Rattle.std.specs.List.{AllByRecursion, list_all, list_any}
 use Rattle.std.proofs.lemmas.Bool.{and_parts}
-
-pub all-both : {A : Type 0} (P Q R : A → Type 0) → ((x : A) → P x → Q x → R x) → (xs : List A)
-    → AllByRecursion P xs → AllByRecursion Q xs → AllByRecursion R xs
-all-both P Q R join [] ps qs = tt
-all-both P Q R join (x ∷ xs) ps qs = (join x ps.0 qs.0, all-both P Q R join xs ps.1 qs.1)
+pub use Rattle.qq_lots.proofs.Each.{all-both}
 
 pub all-passed : {A : Type 0} (test : A → Bool) (xs : List A) → list_all test xs ≡ true
     → AllByRecursion (λ (x : A). test x ≡ true) xs

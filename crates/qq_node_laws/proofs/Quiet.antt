@@ -4,7 +4,6 @@ use Rattle.std.specs.Prelude.{nat_eq, nat_le}
 use Rattle.std.proofs.lemmas.Bool.{cond_both}
 use Rattle.qq_base.specs.Fronts.{IsFront}
 use Rattle.qq_base.proofs.Fronts.{front-more, front-refl, front-trans}
-use Rattle.qq_base.proofs.Lists.{AllByRecursion-weaker}
 use Rattle.qq_disk.specs.Disk.{Disk}
 use Rattle.qq_disk.proofs.Moments.{adds-none}
 use Rattle.qq_base.specs.Ids.{client}
@@ -13,6 +12,8 @@ use Rattle.qq_entry.specs.declared.command.Command.TheVariants as commands
 use Rattle.qq_entry.specs.declared.command.Command.TheVariants.{Noop}
 use Rattle.qq_entry.specs.declared.command.Entry.{Entry}
 use Rattle.qq_log.specs.declared.op.Op.{Op}
+use Rattle.qq_lots.proofs.Each.{of-each}
+use Rattle.qq_lots.proofs.Writes.{promised-later, tied-same}
 use Rattle.qq_session.specs.Publishing.{Numbers, next_command, hand, open_commands}
 use Rattle.qq_world.specs.Node.{Setup, Node, NodeEvent, Sets, Alike, At, Fails, Crashes, FindsEach, Shows, SaysDown, SaysBusy, SaysEnded, node_happens}
 use Rattle.qq_world.specs.Rules.{some_queue}
@@ -21,12 +22,13 @@ use Rattle.qq_world.specs.World.{World, Event, Mutes, Ends, Ticks, Submits, Tell
 use Rattle.qq_world.proofs.Lawful.{take-front}
 use Rattle.qq_world.proofs.Serving.{IsCalm, calm-part}
 use Rattle.qq_world.proofs.Worlds.{SoundWorld}
-use Rattle.qq_node_laws.specs.Linked.{IsPromised, IsWritten, IsLinked}
+use Rattle.qq_node_laws.specs.Linked.{IsLinked, part_written, parts_handed, parts_written}
 use Rattle.qq_node_laws.specs.Quiet.{IsUnseen, IsQuiet}
-use Rattle.qq_node_laws.specs.Reads.{IsReached, HasAudits, ops_at}
+use Rattle.qq_node_laws.specs.Reads.{IsReached, HasAudits, lot_of}
 use Rattle.qq_node_laws.specs.Traced.{Keeps}
 use Rattle.qq_node_laws.proofs.Both.{same-any}
 use Rattle.qq_node_laws.proofs.Promises.{sound-at}
+use Rattle.qq_node_laws.proofs.Writes.{part_with}
 
 -- ops are only added, and as many are written and synced
 pub record Extends (w v : World) : Type 0 where
@@ -125,22 +127,12 @@ part-extends n SaysDown place quiet = same (n.queue place)
 part-extends n SaysBusy place quiet = same (n.queue place)
 part-extends n SaysEnded place quiet = same (n.queue place)
 
-still-promised : (w v : World) (noticed given : List Op) → Extends w v → IsPromised w noticed given
-    → IsPromised v noticed given
-still-promised w v noticed given e is = record {
-  front = front-trans is.front e.ops;
-  covers = omega (arith, e.synced, is.covers);
-}
-
-still-written : (w v : World) (noticed given : List Op) → SoundWorld w → Extends w v → IsWritten w noticed given
-    → IsWritten v noticed given
-still-written w v noticed given sound e is = record {
-  written = is.written ∙ take-front w.written w.server.ops v.server.ops e.ops sound.counts.written
-      ∙ ap (λ (k : ℕ). take k v.server.ops) (sym e.written);
-  synced = is.synced ∙ take-front w.synced w.server.ops v.server.ops e.ops
-      (omega (arith, sound.counts.synced, sound.counts.written))
-      ∙ ap (λ (k : ℕ). take k v.server.ops) (sym e.synced);
-}
+still-written : (w v : World) → SoundWorld w → Extends w v → part_written v ≡ part_written w
+still-written w v sound e =
+    ap (λ (l : List Op). part_with l v.synced)
+    (ap (λ (k : ℕ). take k v.server.ops) e.written
+    ∙ sym (take-front w.written w.server.ops v.server.ops e.ops sound.counts.written))
+    ∙ ap (part_with (take w.written w.server.ops)) e.synced
 
 calm : (event : NodeEvent) → IsQuiet event → IsCalm event
 calm (Sets auto) quiet = tt
@@ -192,34 +184,17 @@ still-up setup n event quiet =
 -- what the log doesn't see leaves the link as it is
 pub quiet-linked : (setup : Setup) (n : Node) (event : NodeEvent) (d : Disk) → IsReached setup n → IsQuiet event
     → IsLinked setup n d → IsLinked setup (node_happens n event) d
-quiet-linked setup n event d r quiet l = record {
-  promised = record {
-    noticed = l.promised.noticed;
-    given = l.promised.given;
-    each = AllByRecursion-weaker
-        (λ (place : ℕ). IsPromised (n.queue place) (ops_at setup place l.promised.noticed)
-        (ops_at setup place l.promised.given))
-        (λ (place : ℕ). IsPromised ((node_happens n event).queue place) (ops_at setup place l.promised.noticed)
-        (ops_at setup place l.promised.given))
-        (λ place is. still-promised (n.queue place) ((node_happens n event).queue place)
-        (ops_at setup place l.promised.noticed) (ops_at setup place l.promised.given) (part-extends n event place quiet)
-        is) setup.places l.promised.each;
-    promise = l.promised.promise;
-  };
-  tied = λ up. (let t = l.tied (sym (still-up setup n event quiet) ∙ up) in record {
-    noticed = t.noticed;
-    given = t.given;
-    each = AllByRecursion-weaker
-        (λ (place : ℕ). IsWritten (n.queue place) (ops_at setup place t.noticed) (ops_at setup place t.given))
-        (λ (place : ℕ). IsWritten ((node_happens n event).queue place) (ops_at setup place t.noticed)
-        (ops_at setup place t.given))
-        (λ place is. still-written (n.queue place) ((node_happens n event).queue place)
-        (ops_at setup place t.noticed) (ops_at setup place t.given) (sound-at setup n r place)
-        (part-extends n event place quiet) is) setup.places t.each;
-    holds = t.holds;
-    promise = t.promise;
-  });
-}
+quiet-linked setup n event d r quiet l =
+    let m : Node = node_happens n event in
+    record {
+      promised = promised-later (lot_of setup) (parts_handed n) (parts_handed m) d
+          (λ place. (let e = part-extends n event place quiet in (e.ops, omega (arith, e.synced)))) l.promised;
+      tied = λ up. tied-same (lot_of setup) (parts_written n) (parts_written m) d
+          (of-each (λ (place : ℕ). parts_written m place ≡ parts_written n place)
+          (λ place. still-written (n.queue place) (m.queue place) (sound-at setup n r place)
+          (part-extends n event place quiet)) setup.places)
+          (l.tied (sym (still-up setup n event quiet) ∙ up));
+    }
 
 -- and the disk as it was
 pub quiet-keeps : (setup : Setup) (n : Node) (event : NodeEvent) (past : List Disk) → IsQuiet event

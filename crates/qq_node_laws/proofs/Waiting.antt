@@ -18,6 +18,7 @@ use Rattle.qq_log.specs.declared.op.Op.{Op}
 use Rattle.qq_log.specs.declared.op.Op.TheVariants.{Change, SnapshotMade, SegmentMade}
 use Rattle.qq_log.specs.Op.{queue}
 use Rattle.qq_log.specs.Stable.{Stable, new_state, no_snapshot, stable, then_apply, apply_op, change, carry_of, last_index}
+use Rattle.qq_lots.proofs.Between.{first-items}
 use Rattle.qq_wal_chain.specs.Lanes.{of_queue}
 use Rattle.qq_wal.specs.Marks.{carry_behind}
 use Rattle.qq_world.specs.Node.{Setup, Node}
@@ -28,7 +29,7 @@ use Rattle.qq_node_laws.specs.Reads.{IsReached, ops_at, queue_at}
 use Rattle.qq_node_laws.specs.Waiting.{AreApart, GoesOnBehind, IsChangeOf, ops_waiting, waiting}
 use Rattle.qq_node_laws.proofs.Both.{all-both}
 use Rattle.qq_node_laws.proofs.Own.{owns-ops}
-use Rattle.qq_node_laws.proofs.Promises.{first-items, sound-at}
+use Rattle.qq_node_laws.proofs.Promises.{sound-at}
 
 -- ---- one queue's part of what waits
 

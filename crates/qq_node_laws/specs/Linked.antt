@@ -1,70 +1,42 @@
 -- What the log of a node was given and has promised, in the words of the node's queues.
-use Rattle.std.specs.Prelude.{◌≡◌, ◌≤◌, ℕ, true, List, ◌++◌, length, take, drop}
+use Rattle.std.specs.Prelude.{◌≡◌, ℕ, true, List, take, drop}
 use Rattle.std.specs.List.{AllByRecursion}
-use Rattle.qq_base.specs.Fronts.{IsFront}
 use Rattle.qq_disk.specs.Disk.{Disk}
-use Rattle.qq_wal_chain.specs.Laws.{HoldsOps, KeepsPromise}
 use Rattle.qq_log.specs.declared.op.Op.{Op}
-use Rattle.qq_wal.specs.Running.{top}
+use Rattle.qq_lots.specs.Kept as lots
+use Rattle.qq_lots.specs.Lots.{Part, Parts}
 use Rattle.qq_world.specs.Node.{Setup, Node}
 use Rattle.qq_world.specs.Rules.{some_queue}
 use Rattle.qq_world.specs.World.{World, is_up}
-use Rattle.qq_node_laws.specs.Reads.{ops_at, queues_of}
+use Rattle.qq_node_laws.specs.Reads.{lot_of, ops_at}
 
 -- ---- a node that is stopped
 
--- the log was given first ops of the queue's server, and promises as many as a sync has kept
-pub record IsPromised (w : World) (noticed given : List Op) : Type 0 where
-  pub front : IsFront given w.server.ops
-  pub covers : w.synced ≤ length noticed
+-- of a queue the log was given at most all that its server handed out: the write that failed may have had all of it
+abbrev pub part_handed : World → Part
+part_handed w = record { ops = w.server.ops; synced = w.synced }
 
--- and so of each queue
-abbrev pub AllPromised : Setup → Node → List Op → List Op → Type 0
-AllPromised setup n noticed given =
-    AllByRecursion
-    (λ (place : ℕ). IsPromised (n.queue place) (ops_at setup place noticed) (ops_at setup place given)) setup.places
+abbrev pub parts_handed : Node → Parts
+parts_handed n = λ place. part_handed (n.queue place)
 
 -- the disk keeps what the log promised of each queue
-pub record KeepsPromised (setup : Setup) (n : Node) (d : Disk) : Type 0 where
-  pub noticed : List Op
-  pub given : List Op
-  pub each : AllPromised setup n noticed given
-  pub promise : KeepsPromise (queues_of setup) top noticed given d
+abbrev pub KeepsPromised : Setup → Node → Disk → Type 0
+KeepsPromised setup n d = lots.KeepsPromised (lot_of setup) (parts_handed n) d
 
 -- ---- a node that is up
 
--- the log was given what is written of the queue's ops, and has kept what is synced
-pub record IsWritten (w : World) (noticed given : List Op) : Type 0 where
-  pub written : given ≡ take w.written w.server.ops
-  pub synced : noticed ≡ take w.synced w.server.ops
+-- of a queue the log was given what is written
+abbrev pub part_written : World → Part
+part_written w = record { ops = take w.written w.server.ops; synced = w.synced }
 
--- and so of each queue
-abbrev pub AllWritten : Setup → Node → List Op → List Op → Type 0
-AllWritten setup n noticed given =
-    AllByRecursion
-    (λ (place : ℕ). IsWritten (n.queue place) (ops_at setup place noticed) (ops_at setup place given)) setup.places
+abbrev pub parts_written : Node → Parts
+parts_written n = λ place. part_written (n.queue place)
 
 -- the disk holds what is written of each queue, and keeps what is synced
-pub record IsTied (setup : Setup) (n : Node) (d : Disk) : Type 0 where
-  pub noticed : List Op
-  pub given : List Op
-  pub each : AllWritten setup n noticed given
-  pub holds : HoldsOps (queues_of setup) top given d
-  pub promise : KeepsPromise (queues_of setup) top noticed given d
+abbrev pub IsTied : Setup → Node → Disk → Type 0
+IsTied setup n d = lots.IsTied (lot_of setup) (parts_written n) d
 
 -- ---- while ops are appended
-
--- with the rest the log was given all of the queue's ops
-pub record IsLeft (w : World) (noticed given rest : List Op) : Type 0 where
-  pub all : given ++ rest ≡ w.server.ops
-  pub synced : noticed ≡ take w.synced w.server.ops
-
--- and so of each queue
-abbrev pub AllLeft : Setup → Node → List Op → List Op → List Op → Type 0
-AllLeft setup n noticed given rest =
-    AllByRecursion
-    (λ (place : ℕ). IsLeft (n.queue place) (ops_at setup place noticed) (ops_at setup place given)
-    (ops_at setup place rest)) setup.places
 
 -- these are the ops that wait for their write
 abbrev pub AllWait : Setup → Node → List Op → Type 0
@@ -73,12 +45,8 @@ AllWait setup n ops =
     (λ (place : ℕ). ops_at setup place ops ≡ drop (n.queue place).written (n.queue place).server.ops) setup.places
 
 -- the disk holds of all that was handed out all but the rest
-pub record LacksRest (setup : Setup) (n : Node) (rest : List Op) (d : Disk) : Type 0 where
-  pub noticed : List Op
-  pub given : List Op
-  pub each : AllLeft setup n noticed given rest
-  pub holds : HoldsOps (queues_of setup) top given d
-  pub promise : KeepsPromise (queues_of setup) top noticed given d
+abbrev pub LacksRest : Setup → Node → List Op → Disk → Type 0
+LacksRest setup n rest d = lots.LacksRest (lot_of setup) (parts_handed n) rest d
 
 -- ---- both
 

@@ -1,17 +1,21 @@
 -- What recovery gives of a node's queues, whatever a crash leaves.
-use Rattle.std.specs.Prelude.{◌≡◌, ℕ, true, List, map, Option, option_map, unwrap_or}
+use Rattle.std.specs.Prelude.{◌≡◌, ℕ, true, List, Option, option_map}
 use Rattle.std.specs.List.{AllByRecursion}
 use Rattle.qq_base.specs.declared.ids.QueueId.{QueueId}
 use Rattle.qq_disk.specs.Crash.{Remains, IsImage}
 use Rattle.qq_disk.specs.Disk.{Disk}
-use Rattle.qq_wal_chain.specs.Lanes.{Lanes, of_queue}
+use Rattle.qq_lots.specs.Left as found
+use Rattle.qq_lots.specs.Lots as lots
+use Rattle.qq_lots.specs.Lots.{Lot}
+use Rattle.qq_wal_chain.specs.Lanes.{Lanes}
 use Rattle.qq_wal_chain.specs.Laws.{IsHonestImage, lanes_read}
 use Rattle.qq_log.specs.declared.op.Op.{Op}
-use Rattle.qq_log.specs.Stable.{Stable, new_state}
+use Rattle.qq_log.specs.Stable.{Stable}
 use Rattle.qq_wal.specs.Running.{top}
 use Rattle.qq_world.specs.Node.{Setup, Node, NodeEvent, new_node, node_after}
 use Rattle.qq_world.specs.Promise.{MayTakeUp, Supports}
 use Rattle.qq_world.specs.Server.{is_down}
+pub use Rattle.qq_lots.specs.Left.{state_in}
 
 -- a node that something may have led to
 abbrev pub IsReached : Setup → Node → Type 0
@@ -21,20 +25,19 @@ abbrev pub queue_at : Setup → ℕ → QueueId
 queue_at setup place = (setup.args place).queue
 
 -- the queues of its log
+abbrev pub lot_of : Setup → Lot
+lot_of setup = record { places = setup.places; id = queue_at setup }
+
 abbrev pub queues_of : Setup → List QueueId
-queues_of setup = map (queue_at setup) setup.places
+queues_of setup = lots.ids_of (lot_of setup)
 
 -- those of the log's ops that are of one queue
 abbrev pub ops_at : Setup → ℕ → List Op → List Op
-ops_at setup place ops = of_queue (queue_at setup place).0 ops
+ops_at setup place ops = lots.ops_at (lot_of setup) place ops
 
--- a queue's state, a new one where it has no ops
-abbrev pub state_in : Lanes → QueueId → Stable
-state_in lanes id = unwrap_or (lanes id.0) new_state
-
--- how many ops of each queue its lane tells of
+-- how many ops of each queue its lane has
 abbrev pub ops_found : Setup → Lanes → ℕ → ℕ
-ops_found setup lanes = λ place. (state_in lanes (queue_at setup place)).op
+ops_found setup lanes = found.ops_found (lot_of setup) lanes
 
 -- what recovery gives of a queue, None where it gives nothing
 abbrev pub state_read : List QueueId → QueueId → Remains → Option Stable

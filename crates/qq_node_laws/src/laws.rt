@@ -7,6 +7,8 @@ ghost use Rattle.qq_disk.specs.declared.image.Image.{Image};
 ghost use Rattle.qq_disk.specs.Disk.{Disk, now};
 ghost use Rattle.qq_wal_chain.specs.Lanes.{Lanes};
 ghost use Rattle.qq_log.specs.declared.op.Op.{Op};
+ghost use Rattle.qq_lots.specs.Kept.{AllPromised};
+ghost use Rattle.qq_lots.specs.Left.{LeavesBetween};
 ghost use Rattle.qq_recover.specs.Recovery.{SettlesLanes};
 ghost use Rattle.qq_wal.specs.Running.{HoldsAlso, MayNotice, StaysGiving, StillHolds, Stays};
 ghost use Rattle.qq_world.specs.Node.{Setup, Node, NodeEvent, Alike, Crashes, Fails, FindsEach, new_node, node_after, node_happens, text_of};
@@ -14,20 +16,21 @@ ghost use Rattle.qq_world.specs.NodeLaws.{has_failure};
 ghost use Rattle.qq_world.specs.Rules.{is_node_up};
 ghost use Rattle.qq_world.specs.World.{Writes, Syncs};
 ghost use Rattle.qq_node_laws.specs.Answers.{KeepsAnswers};
-ghost use Rattle.qq_node_laws.specs.Linked.{LacksRest, IsLinked, KeepsPromised, IsTied, AllPromised, AllWait};
+ghost use Rattle.qq_node_laws.specs.Linked.{LacksRest, IsLinked, KeepsPromised, IsTied, AllWait, parts_handed, parts_written};
 ghost use Rattle.qq_node_laws.specs.Quiet.{IsQuiet};
-ghost use Rattle.qq_node_laws.specs.Reads.{IsReached, HasAudits, AllTakeUp, AreDown, ops_found, queues_of};
+ghost use Rattle.qq_node_laws.specs.Reads.{IsReached, HasAudits, AllTakeUp, AreDown, lot_of, ops_found, queues_of};
 ghost use Rattle.qq_node_laws.specs.Serves.{Seen, Serves, GivesUp};
 ghost use Rattle.qq_node_laws.specs.Traced.{HasHonestImage, HasNoCrash, KeepsAudits, LeavesImage, IsTraced};
 ghost use Rattle.qq_node_laws.specs.Waiting.{AreApart, GoesOnBehind, OwnsOps, waiting};
 
 /// A law: where the disk keeps what the log promised of a node, whatever a crash leaves gives each queue
-/// a log that begins with the entries of its audit. A node that is up has promised what is synced.
+/// a log that begins with the entries of its audit. A node that is up has promised what is synced, and what a
+/// crash leaves of it has no op that isn't written.
 pub fn what_is_promised_has_the_audits()
     ensures audits { (setup : Setup) (n : Node) (d : Disk) →
         IsReached setup n → KeepsPromised setup n d → HasAudits setup n d }
-    ensures up { (setup : Setup) (n : Node) (d : Disk) →
-        IsReached setup n → IsTied setup n d → KeepsPromised setup n d }
+    ensures up { (setup : Setup) (n : Node) (d : Disk) → IsTied setup n d →
+        KeepsPromised setup n d × LeavesBetween (lot_of setup) (parts_written n) d }
 {}
 
 /// A law: a write appends what waits, batch by batch. At each moment each queue has its audit, also
@@ -53,9 +56,9 @@ pub fn a_sync_keeps_the_link()
     ensures moments { (setup : Setup) (n : Node) (old new : List Disk) → IsReached setup n →
         KeepsPromised setup n (now old) → Stays (queues_of setup) old new →
         KeepsAudits setup n old new × KeepsPromised setup n (now new) }
-    ensures synced { (setup : Setup) (n : Node) (d e : Disk) → is_node_up setup n ≡ true →
-        IsTied setup n d → MayNotice (queues_of setup) d e → StillHolds (queues_of setup) d e →
-        IsTied setup (node_happens n (Alike Syncs)) e }
+    ensures synced { (setup : Setup) (n : Node) (d e : Disk) → IsReached setup n →
+        is_node_up setup n ≡ true → IsTied setup n d → MayNotice (queues_of setup) d e →
+        StillHolds (queues_of setup) d e → IsTied setup (node_happens n (Alike Syncs)) e }
     ensures rolled { (setup : Setup) (n : Node) (old new : List Disk) → IsTied setup n (now old) →
         Stays (queues_of setup) old new → StillHolds (queues_of setup) (now old) (now new) →
         IsTied setup n (now new) }
@@ -76,10 +79,11 @@ pub fn a_stop_keeps_the_promise()
 /// log holds of each queue what its server goes on with.
 pub fn a_restart_goes_on_with_the_log()
     ensures taken_up { (setup : Setup) (n : Node) (noticed given : List Op) (lanes : Lanes)
-        (d : Disk) → IsReached setup n → AreDown setup n → AllPromised setup n noticed given →
+        (d : Disk) → IsReached setup n → AreDown setup n →
+        AllPromised (lot_of setup) (parts_handed n) noticed given →
         SettlesLanes (queues_of setup) noticed given lanes d → AllTakeUp setup n lanes }
     ensures linked { (setup : Setup) (n : Node) (noticed given : List Op) (lanes : Lanes)
-        (d : Disk) → IsReached setup n → AllPromised setup n noticed given →
+        (d : Disk) → AllPromised (lot_of setup) (parts_handed n) noticed given →
         SettlesLanes (queues_of setup) noticed given lanes d → AllTakeUp setup n lanes →
         IsLinked setup (node_happens n (FindsEach (ops_found setup lanes))) d }
 {}
