@@ -18,3 +18,4 @@ pub mod Runs
 pub mod Refusing
 pub mod Held
 pub mod Frames
+pub mod Removing

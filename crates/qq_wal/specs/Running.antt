@@ -1,5 +1,6 @@
 -- What a log that is written to keeps of its promise, from call to call.
-use Rattle.std.specs.Prelude.{◌≡◌, ◌≢◌, ◌-◌, ◌^◌, ◌<◌, ℕ, false, List, [], ◌++◌, Option, Some, unwrap_or}
+use Rattle.std.specs.Prelude.{◌≡◌, ◌≢◌, ◌-◌, ◌^◌, ◌<◌, ℕ, false, List, [], ◌++◌, Option, Some, unwrap_or, nat_eq}
+use Rattle.std.specs.List.{AllByRecursion}
 use Rattle.qq_base.specs.declared.ids.QueueId.{QueueId}
 use Rattle.qq_disk.specs.declared.name.FileName.{FileName}
 use Rattle.qq_disk.specs.Disk.{Disk, now, IsListing}
@@ -91,6 +92,12 @@ MayAdd queues batch d =
 -- of all log files but this one the disk holds the same
 abbrev pub SameOthers : ℕ → Disk → Disk → Type 0
 SameOthers n d e = (m : ℕ) → n ≢ m → files_of e m ≡ files_of d m
+
+-- a log file that isn't read: neither the one to which the log is written, nor one of the chain behind it
+abbrev pub IsOutside : List QueueId → Header → Disk → ℕ → Type 0
+IsOutside queues h d m =
+    (m ≢ h.file)
+    × AllByRecursion (λ (k : ℕ). nat_eq m k ≡ false) (found_behind (wal queues) top (Ours h) (files_of d)).files
 
 -- of every file but this one, of whatever kind, the disk holds the same
 abbrev pub KeepsOthers : FileName → Disk → Disk → Type 0

@@ -8,7 +8,8 @@ ghost use Rattle.qq_base.specs.declared.ids.QueueId.{QueueId};
 ghost use Rattle.qq_base.specs.declared.ids.Term.{Term};
 ghost use Rattle.qq_disk.specs.Crash.{IsImage, Remains};
 ghost use Rattle.qq_disk.specs.Disk.{Disk, now};
-ghost use Rattle.qq_disk.specs.Moments.{Adds};
+ghost use Rattle.qq_disk.specs.Image.{log_of};
+ghost use Rattle.qq_disk.specs.Moments.{Adds, IsRemoving};
 ghost use Rattle.qq_log.specs.declared.lane.Carry.{Carry};
 ghost use Rattle.qq_entry.specs.declared.command.Entry.{Entry};
 ghost use Rattle.qq_log.specs.declared.op.Op.{Op};
@@ -30,7 +31,7 @@ ghost use Rattle.qq_wal.specs.declared.fault.WalFault.TheVariants.{Disk as DiskF
 ghost use Rattle.qq_wal.specs.Fault.{IsAppendCaused, IsCaused, IsGatherCaused, IsRollCaused};
 ghost use Rattle.qq_wal.specs.Marks.{known};
 ghost use Rattle.qq_wal.specs.Notices.{AreCounted, Tell, carried_op, note_record, notices_in, notices_of, sync_mark, synced_in, new_mark};
-ghost use Rattle.qq_wal.specs.Running.{top, HoldsAlso, MayNotice, SameLogs, Stays, StaysGiving, StillHolds};
+ghost use Rattle.qq_wal.specs.Running.{top, HoldsAlso, IsOutside, MayNotice, SameLogs, Stays, StaysGiving, StillHolds};
 ghost use Rattle.qq_wal.specs.Wal.{Appends, IsSound, StaysAppending};
 ghost use Rattle.qq_wal.specs.declared.wal.Wal.{Wal};
 
@@ -78,6 +79,18 @@ pub fn what_counts_as_synced_is_in_every_image<D: NodeDisk>()
         IsHonestImage w.queues.items (now (D.past w.disk)) i → (lanes : Lanes)
         × (lanes_read w.queues.items top i ≡ Some lanes)
         × (synced_in w.marks id ≤ (unwrap_or (lanes id.0) new_state).op) }
+{
+    the_log_has_a_format();
+}
+
+/// A log file that isn't read may be removed: the log stays sound, whether the removal answered Ok or failed, and
+/// may have been done.
+pub fn a_file_that_is_not_read_may_go<D: NodeDisk>()
+    ensures { (w : Wal D) (d : D) (m : ℕ) → IsSound D.tells D.past w →
+        D.tells d ≡ D.tells w.disk →
+        (IsTrue (D.tells w.disk) → IsOutside w.queues.items w.header (now (D.past w.disk)) m
+        × IsRemoving (now (D.past w.disk)) (log_of m) (now (D.past d))) →
+        IsSound D.tells D.past (record w { disk = d }) }
 {
     the_log_has_a_format();
 }

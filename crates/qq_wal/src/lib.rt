@@ -24,7 +24,7 @@ mod wal;
 pub use batch::{BATCH_BYTES, BATCH_OPS};
 pub use fault::WalFault;
 pub use laws::{
-    a_sync_counts_what_was_appended, calls_keep_what_was_promised,
+    a_file_that_is_not_read_may_go, a_sync_counts_what_was_appended, calls_keep_what_was_promised,
     entries_lie_where_they_were_written, notices_are_of_their_ops, other_files_keep_the_log_sound,
     the_log_tells_why_it_refuses, what_counts_as_synced_is_in_every_image,
     what_is_appended_and_synced_is_kept,
