@@ -5,7 +5,7 @@ use Rattle.std.proofs.lemmas.List.Elements.{All-head}
 use Rattle.std.proofs.lemmas.List.{take-map, drop-drop, drop-map, drop-take, length-drop}
 use Rattle.std.specs.Global.{Vec}
 use Rattle.std.specs.Prelude.{IsTrue, nat_lt}
-use Rattle.qq_base.proofs.Fronts.{front-more}
+use Rattle.qq_base.proofs.Fronts.{front-more, front-refl}
 use Rattle.qq_base.specs.declared.ids.QueueId.{QueueId}
 use Rattle.qq_base.specs.declared.memory.Memory.TheVariants.{Want, Spent}
 use Rattle.qq_disk.specs.Disk.{Disk, now}
@@ -16,6 +16,7 @@ use Rattle.qq_wal_chain.specs.Laws.{HoldsOps, KeepsPromise, op_records}
 use Rattle.qq_log.specs.declared.op.Op.{Op}
 use Rattle.qq_wal_chain.specs.Promise.{Promises}
 use Rattle.qq_wal_chain.specs.Wal.{wal}
+use Rattle.qq_wal_chain.proofs.Gives.{promise-weaker}
 use Rattle.qq_wal.specs.Running.{top, Stays, StaysGiving, HoldsAlso}
 use Rattle.qq_wal.specs.Batch.{AllFitBatch, FitsBatch, IsBatch, encodings}
 use Rattle.qq_wal.specs.declared.batch.TheConstants.{BATCH_BYTES, BATCH_OPS}
@@ -28,7 +29,6 @@ use Rattle.qq_wal_record.specs.declared.record.LogRecord.{LogRecord}
 use Rattle.qq_wal_record.specs.declared.record.LogRecord.TheVariants.{Op as OpRecord}
 use Rattle.qq_wal_record.specs.Encoding.{record_encoding}
 use Rattle.qq_wal_record.specs.Record.{payload_length}
-use Rattle.qq_node_laws.proofs.Promises.{more-given}
 use Rattle.qq_node.specs.Log.{AppendsAll, AppendsFirst, AppendsSome, IsBatchOf, IsLogCaused}
 
 -- what was promised is promised in one part of a call, and then in another
@@ -49,11 +49,12 @@ giving-then queues first second old mid new stays also then_stays noticed given 
     (adds-then (KeepsPromise queues top noticed ((given ++ first) ++ second)) old mid new
     (adds-weaker (KeepsPromise queues top noticed (given ++ first))
     (KeepsPromise queues top noticed ((given ++ first) ++ second)) old mid
-    (λ d keeps. more-given queues noticed (given ++ first) ((given ++ first) ++ second) d
-    (front-more (given ++ first) second) keeps) early)
+    (λ d keeps. promise-weaker queues top noticed noticed (given ++ first) ((given ++ first) ++ second) d
+    (front-refl noticed) (front-more (given ++ first) second) keeps) early)
     (then_stays noticed (given ++ first)
     (adds-now (KeepsPromise queues top noticed (given ++ first)) old mid early
-    (more-given queues noticed given (given ++ first) (now old) (front-more given first) keeps))
+    (promise-weaker queues top noticed noticed given (given ++ first) (now old) (front-refl noticed)
+    (front-more given first) keeps))
     (also given holds)))
   where
     early : Adds (KeepsPromise queues top noticed (given ++ first)) old mid

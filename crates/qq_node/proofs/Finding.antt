@@ -39,8 +39,9 @@ use Rattle.qq_world.specs.Promise.{MayTakeUp, state_of}
 use Rattle.qq_world.specs.Server.{may_restart}
 use Rattle.qq_world.specs.World.{World, Finds, find, happens}
 use Rattle.qq_world.proofs.Ops.{take-all}
-use Rattle.qq_node_laws.specs.Linked.{IsPromised, IsTied, IsWritten, KeepsPromised}
-use Rattle.qq_node_laws.specs.Reads.{IsReached, AllTakeUp, ops_at, ops_found, queue_at, queues_of, state_in}
+use Rattle.qq_lots.proofs.Writes.{new-promised as new-log, new-tied}
+use Rattle.qq_node_laws.specs.Linked.{IsTied, KeepsPromised}
+use Rattle.qq_node_laws.specs.Reads.{IsReached, AllTakeUp, lot_of, ops_found, queue_at, queues_of, state_in}
 use Rattle.qq_node_laws.specs.Traced.{LeavesImage}
 use Rattle.qq_node_laws.proofs.Finds.{all-take_up, found-linked}
 use Rattle.qq_node_laws.proofs.Promises.{promised-of, sound-at}
@@ -199,25 +200,15 @@ finds-linked queues lanes old new read stays settles setup n same r down l =
               ≡ Some (state_in lanes (queue_at setup place))) (λ place may. may.1) setup.places taken;
         },
         (stays-keeps setup n old new r p (subst (λ (ids : List QueueId). Stays ids old new) same stays)).0,
-      ) (λ fair. found-linked setup n p.noticed p.given lanes (now new) r p.each settled taken);
+      ) (λ fair. found-linked setup n p.noticed p.given lanes (now new) p.each settled taken);
     }
 
 -- a new disk keeps the promise of no ops
 pub new-promised : (setup : Setup) (old : List Disk) → IsNew old → KeepsPromised setup (new_node setup) (now old)
-new-promised setup old fresh = record {
-  noticed = [];
-  given = [];
-  each = all-promised setup.places;
-  promise = subst (λ (past : List Disk). KeepsPromise (queues_of setup) top [] [] (now past)) (sym fresh)
-      (empty-keeps (queues_of setup) top);
-}
-  where
-    all-promised : (places : List ℕ)
-        → AllByRecursion
-        (λ (place : ℕ). IsPromised ((new_node setup).queue place) (ops_at setup place []) (ops_at setup place [])) places
-    all-promised [] = tt
-    all-promised (place ∷ places) =
-        (record { front = front-refl []; covers = omega arith }, all-promised places)
+new-promised setup old fresh =
+    new-log (lot_of setup) (now old)
+    (subst (λ (past : List Disk). KeepsPromise (queues_of setup) top [] [] (now past)) (sym fresh)
+    (empty-keeps (queues_of setup) top))
 
 -- nothing is found on it
 pub begins-linked : (queues : List QueueId) (lanes : Lanes) (old new : List Disk) → Stays queues old new
@@ -232,32 +223,22 @@ begins-linked queues lanes old new stays settles setup same fresh =
     let r : IsReached setup n = ([], refl) in
     let p : KeepsPromised setup n (now old) = new-promised setup old fresh in
     let t : IsTied setup n (now new) =
-    record {
-      noticed = [];
-      given = [];
-      each = all-written setup.places;
-      holds = subst (λ (ids : List QueueId). HoldsOps ids top [] (now new)) same
-          (subst (λ (ops : List Op). HoldsOps queues top ops (now new)) none settled.holds);
-      promise = subst (λ (ids : List QueueId). KeepsPromise ids top [] [] (now new)) same
-          (subst (λ (ops : List Op). KeepsPromise queues top ops ops (now new)) none settled.promise);
-    } in
+    new-tied (lot_of setup) (now new)
+    (subst (λ (ids : List QueueId). HoldsOps ids top [] (now new)) same
+    (subst (λ (ops : List Op). HoldsOps queues top ops (now new)) none settled.holds))
+    (subst (λ (ids : List QueueId). KeepsPromise ids top [] [] (now new)) same
+    (subst (λ (ops : List Op). KeepsPromise queues top ops ops (now new)) none settled.promise)) in
     record {
       none = λ id. lane-none settled.ops none id (lanes id) (settled.each id);
       traced = (
         (stays-keeps setup n old new r p (subst (λ (ids : List QueueId). Stays ids old new) same stays)).0,
-        record { promised = promised-of setup n (now new) r t; tied = λ up. t },
+        record { promised = promised-of setup n (now new) t; tied = λ up. t },
       );
     }
   where
     front-none : (ops : List Op) → IsFront ops [] → ops ≡ []
     front-none [] f = refl
     front-none (op ∷ ops) f = absurd (cc f.is)
-
-    all-written : (places : List ℕ)
-        → AllByRecursion
-        (λ (place : ℕ). IsWritten ((new_node setup).queue place) (ops_at setup place []) (ops_at setup place [])) places
-    all-written [] = tt
-    all-written (place ∷ places) = (record { written = refl; synced = refl }, all-written places)
 
     lane-none : (ops : List Op) → ops ≡ [] → (id : ℕ) (lane : Option Stable) → IsStateOf (of_queue id ops) lane
         → lane ≡ None

@@ -16,15 +16,16 @@ use Rattle.qq_world.specs.Node.{Setup, Node, Alike, Crashes, Fails, node_happens
 use Rattle.qq_world.specs.NodeLaws.{has_failure}
 use Rattle.qq_world.specs.Rules.{IsSync, IsSynced as IsSyncedBy, MayRoll, if_so, is_node_up, some_queue, waits_synced, waits_written}
 use Rattle.qq_world.specs.World.{World, Writes, Syncs, is_up}
-use Rattle.qq_node_laws.specs.Linked.{IsLinked, IsTied, KeepsPromised, LacksRest}
-use Rattle.qq_node_laws.specs.Reads.{IsReached, HasAudits, queues_of}
+use Rattle.qq_lots.proofs.Writes.{batch-lacks, rolled-tied}
+use Rattle.qq_node_laws.specs.Linked.{IsLinked, IsTied, KeepsPromised, LacksRest, parts_handed, parts_written}
+use Rattle.qq_node_laws.specs.Reads.{IsReached, HasAudits, lot_of, queues_of}
 use Rattle.qq_node_laws.specs.Traced.{HasNoCrash, KeepsAudits, LeavesImage, IsTraced}
 use Rattle.qq_node_laws.specs.Waiting.{AreApart, waiting}
 use Rattle.qq_node_laws.proofs.Promises.{promised-of, reached-after}
 use Rattle.qq_node_laws.proofs.Stops.{crashed-linked, failed-linked}
 use Rattle.qq_node_laws.proofs.Traces.{traced-one, traced-then}
 use Rattle.qq_node_laws.proofs.Waiting.{all-wait}
-use Rattle.qq_node_laws.proofs.Writes.{batch-keeps, batch-lacks, lacks-first, lacks-none, rolled-tied, stays-keeps, synced-tied}
+use Rattle.qq_node_laws.proofs.Writes.{batch-keeps, lacks-first, lacks-none, stays-keeps, synced-tied}
 use Rattle.qq_node.specs.declared.log.SyncOutcome.{SyncOutcome}
 use Rattle.qq_node.specs.declared.log.SyncOutcome.TheVariants.{Whole, NoFile, Nothing}
 use Rattle.qq_node.specs.Log.{AppendsAll, FailsBehind, FailsByCount, GoesOnBehind, HasCome, sync_events}
@@ -44,8 +45,8 @@ some-up setup n test up some = by setup.places up some
         ap (λ (b : Bool). b || list_any (λ (place : ℕ). is_up (n.queue place)) places)
         (and_parts (is_up (n.queue place)) (list_all (λ (place : ℕ). is_up (n.queue place)) places) all).0
 
-linked-of : (setup : Setup) (n : Node) (d : Disk) → IsReached setup n → IsTied setup n d → IsLinked setup n d
-linked-of setup n d r t = record { promised = promised-of setup n d r t; tied = λ up. t }
+linked-of : (setup : Setup) (n : Node) (d : Disk) → IsTied setup n d → IsLinked setup n d
+linked-of setup n d t = record { promised = promised-of setup n d t; tied = λ up. t }
 
 -- ---- writes
 
@@ -68,10 +69,10 @@ writes-traced setup n old new r apart up some appends l =
     (waits-first setup n (now old) r apart up some l) in
     let given : StaysGiving (queues_of setup) ops old new × HoldsAlso (queues_of setup) ops (now old) (now new) =
     appends ops refl in
-    let later : Node = node_happens n (Alike Writes) in
     traced-one setup n (Alike Writes) old new (batch-keeps setup n ops [] old new r all given.0).0
-    (λ fair. linked-of setup later (now new) (reached-after setup n (Alike Writes ∷ []) r)
-    (lacks-none setup n (now new) up (batch-lacks setup n ops [] old new all given.0 given.1)))
+    (λ fair. linked-of setup (node_happens n (Alike Writes)) (now new)
+    (lacks-none setup n (now new) up
+    (batch-lacks (lot_of setup) (parts_handed n) ops [] old new all given.0 given.1)))
 
 -- or some of it
 pub appending-keeps : (setup : Setup) (n : Node) (old new : List Disk) → IsReached setup n
@@ -128,8 +129,9 @@ rolls-traced setup n old new r g l =
       keeps.0,
       record {
         promised = keeps.1;
-        tied = λ up. rolled-tied setup n g.mid new
-            (rolled-tied setup n old g.mid (l.tied up) g.synced.stays g.synced.holds) g.stays g.holds;
+        tied = λ up. rolled-tied (lot_of setup) (parts_written n) g.mid new
+            (rolled-tied (lot_of setup) (parts_written n) old g.mid (l.tied up) g.synced.stays g.synced.holds)
+            g.stays g.holds;
       },
     )
 
@@ -147,12 +149,12 @@ syncs-traced : (setup : Setup) (n : Node) (old new : List Disk) → IsReached se
 syncs-traced setup n old new r up some g l =
     let later : Node = node_happens n (Alike Syncs) in
     let tied : IsTied setup later (now g.mid) =
-    synced-tied setup n (now old) (now g.mid) up (l.tied (some-up setup n waits_synced up some)) g.synced.noticed
+    synced-tied setup n (now old) (now g.mid) r up (l.tied (some-up setup n waits_synced up some)) g.synced.noticed
     g.synced.holds in
     traced-one setup n (Alike Syncs) old new
     (both-keep setup n old g.mid new r l.promised g.synced.stays g.stays).0
-    (λ fair. linked-of setup later (now new) (reached-after setup n (Alike Syncs ∷ []) r)
-    (rolled-tied setup later g.mid new tied g.stays g.holds))
+    (λ fair. linked-of setup later (now new)
+    (rolled-tied (lot_of setup) (parts_written later) g.mid new tied g.stays g.holds))
 
 sync_fails-traced : (setup : Setup) (n : Node) (old new : List Disk) → IsReached setup n → is_node_up setup n ≡ true
     → some_queue setup waits_synced n ≡ true → FailsBehind (queues_of setup) old new → IsLinked setup n (now old)
@@ -161,11 +163,11 @@ sync_fails-traced setup n old new r up some g l =
     let later : Node = node_happens n (Alike Syncs) in
     let reached : IsReached setup later = reached-after setup n (Alike Syncs ∷ []) r in
     let tied : IsTied setup later (now g.mid) =
-    synced-tied setup n (now old) (now g.mid) up (l.tied (some-up setup n waits_synced up some)) g.synced.noticed
+    synced-tied setup n (now old) (now g.mid) r up (l.tied (some-up setup n waits_synced up some)) g.synced.noticed
     g.synced.holds in
     traced-then setup n (Alike Syncs ∷ []) (Fails ∷ []) old g.mid new
     (traced-one setup n (Alike Syncs) old g.mid (stays-keeps setup n old g.mid r l.promised g.synced.stays).0
-    (λ fair. linked-of setup later (now g.mid) reached tied))
+    (λ fair. linked-of setup later (now g.mid) tied))
     (λ linked. fails-traced setup later g.mid new reached linked.promised g.stays)
 
 -- however far it came
