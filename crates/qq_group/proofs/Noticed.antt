@@ -1,5 +1,6 @@
 -- What a server was noticed of never falls.
-use Rattle.std.proofs.Common.{◌≡◌, ℕ, ◌≤◌, ◌-◌, ◌+◌, Bool, true, false, cond, ◌&&◌, ltb, leb, List, [], ◌∷◌, ◌++◌, map, drop, Option, Some, None, refl, ◌∙◌, arith}
+use Rattle.std.specs.List.{list_any}
+use Rattle.std.proofs.Common.{◌≡◌, ℕ, zero, suc, ◌≤◌, ◌-◌, ◌+◌, Bool, true, false, cond, ◌&&◌, ltb, leb, List, [], ◌∷◌, ◌++◌, map, drop, Option, Some, None, refl, ◌∙◌, arith}
 use Rattle.std.proofs.lemmas.Bool.{cond_both, ltb-true}
 use Rattle.qq_base.specs.declared.ids.NodeId.{NodeId}
 use Rattle.qq_base.specs.declared.ids.Term.{Term}
@@ -14,9 +15,9 @@ use Rattle.qq_raft_msg.specs.declared.rpc.VotedMsg.{VotedMsg}
 use Rattle.qq_raft_msg.specs.Rpc.{envelope}
 use Rattle.qq_raft_msg.specs.declared.state.Role.TheVariants.{Leader}
 use Rattle.qq_raft_model.specs.declared.peer.Peer.{Peer}
-use Rattle.qq_raft_model.specs.Leading.{add_entry, advance, ask, become_candidate, commit_within, everyone, is_elected, lead, lead_if_elected, next_term, noop, send, stand, start_peer}
-use Rattle.qq_raft_model.specs.Server.{Input, accept, at_peer, back_peer, give_vote, grant_peer, greater, has_agreed, is_match, is_peer, is_ready, lacks, match_peer, may_grant, notice, receive, receive_append, receive_appended, receive_vote, receive_voted, refuse, refuse_entries, send_again, step, step_back, submit, take_ack, take_entries, take_notice, take_reply, tick, voted, write}
-use Rattle.qq_raft_model.specs.Server.Input.{Tick, Receive, Submit, Notice}
+use Rattle.qq_raft_model.specs.Leading.{add_entry, advance, append_entry, ask, become_candidate, commit_within, everyone, flush, flush_within, is_elected, lags, lead, lead_if_elected, next_term, noop, send, stand, start_peer}
+use Rattle.qq_raft_model.specs.Server.{Input, accept, add, at_peer, back_peer, give_vote, grant_peer, greater, has_agreed, is_match, is_peer, is_ready, lacks, match_peer, may_grant, notice, receive, receive_append, receive_appended, receive_vote, receive_voted, refuse, refuse_entries, send_again, step, step_back, submit, take_ack, take_entries, take_notice, take_reply, tick, voted, write}
+use Rattle.qq_raft_model.specs.Server.Input.{Tick, Receive, Submit, Add, Flush, Notice}
 use Rattle.qq_raft_model.specs.State.{Server, last, is_candidate, is_leader, change, enter, follow, leader_in, say, say_all, vote_in, wait}
 
 either : (b : Bool) (s t : Server) (n : ℕ) → s.noticed ≡ n → t.noticed ≡ n → (cond b s t).noticed ≡ n
@@ -32,6 +33,13 @@ say-same rpcs s =
 send-same : (picks : Peer → Bool) (s : Server) → (send picks s).noticed ≡ s.noticed
 unfolding send
 send-same picks s = refl
+
+flush-same : (n : ℕ) (s : Server) → (flush_within n s).noticed ≡ s.noticed
+flush-same zero s = refl
+flush-same (suc n) s =
+    let picks = lags (last s) in
+    either (list_any picks s.peers) (flush_within n (send picks s)) s s.noticed
+    (flush-same n (send picks s) ∙ send-same picks s) refl
 
 change-same : (term : Term) (vote : Option NodeId) (keep : ℕ) (entries : List Entry) (s : Server)
     → (change term vote keep entries s).noticed ≡ s.noticed
@@ -176,12 +184,19 @@ greater-rises a b =
     cond_both (ltb a b) b a (λ (n : ℕ). a ≤ n) (λ e. let lt = ltb-true a b e in omega (arith, lt)) (λ _. omega arith)
 
 pub noticed-rises : (s : Server) (input : Input) → s.noticed ≤ (step s input).noticed
-unfolding submit
+unfolding submit add flush
 noticed-rises s Tick = let e = tick-same s in omega (arith, e)
 noticed-rises s (Receive rpc) = let e = receive-same rpc s in omega (arith, e)
 noticed-rises s (Submit time command) =
     let entry : Entry = record { term = s.term; time = time; command = command } in
     let e = submit-same time entry (is_ready s) s in
+    omega (arith, e)
+noticed-rises s (Add time command) =
+    let entry : Entry = record { term = s.term; time = time; command = command } in
+    let e = either (is_ready s) (append_entry entry s) s s.noticed (change-same s.term s.vote (last s) (entry ∷ []) s) refl in
+    omega (arith, e)
+noticed-rises s Flush =
+    let e = either (is_leader s.role) (flush_within (last s + 1) s) s s.noticed (flush-same (last s + 1) s) refl in
     omega (arith, e)
 noticed-rises s (Notice op) =
     let e = notice-same op s in
