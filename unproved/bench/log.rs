@@ -29,7 +29,7 @@ struct Times {
 }
 
 // A log of queue 1 on an empty disk, whose file is never full.
-fn new_log(alloc: Global) -> Result<Wal<MemDisk>> {
+pub fn new_log(alloc: Global) -> Result<Wal<MemDisk>> {
     let mut queues = Vec::new(alloc);
     queues.push(QueueId(1))?;
     let ranges = FileRanges::new(alloc, &queues)?;

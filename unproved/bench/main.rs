@@ -2,6 +2,7 @@
 //! the top of the repository run each load some times, and print the best run.
 
 mod definitions;
+mod group;
 mod inbox;
 mod log;
 mod machine;
@@ -16,6 +17,7 @@ use anyhow::Result;
 use std::env;
 
 const USAGE: &str = "usage: bench definitions FILE
+       bench group MEMBERS WINDOW ENTRIES BODY logs|none keep|purge
        bench inbox ops BYTES COUNT ROUNDS | marks COUNT
        bench log BODY RECORDS BATCHES
        bench machine parts|plain READY CONSUMERS ENTRIES
@@ -34,6 +36,7 @@ fn main(rt: HostRuntime) -> Result<()> {
     };
     match name.as_str() {
         "definitions" => definitions::run(rt, load),
+        "group" => group::run(rt, load),
         "inbox" => inbox::run(&rt, rt.alloc(), load),
         "log" => log::run(rt, load),
         "machine" => machine::run(rt, load),

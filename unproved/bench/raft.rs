@@ -1,7 +1,7 @@
 //! Commits entries by a group of Raft servers with counting machines, in memory.
 //!
 //! A group of 1, 3 or 5 members commits ENTRIES commands, which publish messages with a body of BODY bytes, WINDOW
-//! commands at once. Prints how many entries they were, how many nanoseconds that took, and how many of these
+//! commands at once: the leader adds them all, and then sends. Prints how many entries they were, how many nanoseconds that took, and how many of these
 //! submits, deliveries of messages, writing of ops and notices took.
 use crate::made::{publish, stamp};
 use crate::words::number;
@@ -152,13 +152,15 @@ impl Bench {
         for command in commands {
             self.group.step(
                 rt.alloc(),
-                Event::Submit {
+                Event::Add {
                     node: NodeId(1),
                     time: 0,
                     command,
                 },
             )?;
         }
+        self.group
+            .step(rt.alloc(), Event::Flush { node: NodeId(1) })?;
         self.times.submit += start.elapsed(&rt)?.as_nanos();
         self.settle(rt)
     }

@@ -3,7 +3,8 @@
 //!
 //! - `group COUNT`: from here on a new group of COUNT members over new disks, all of them up;
 //! - `tick N`, `crash N`: time passes at a member, or it crashes;
-//! - `publish N [COUNT [SIZE]]`: COUNT commands reach a member, each with a body of SIZE bytes;
+//! - `publish N [COUNT [SIZE]]`: COUNT commands reach a member, each with a body of SIZE bytes; `add N [COUNT
+//!   [SIZE]]`: the same, but that they aren't sent before the next `flush N`;
 //! - `deliver PLACE`, `lose PLACE`, `copy PLACE`: what becomes of a message; `to N`: all messages that are on
 //!   their way to a member reach it; `drop`: all messages are lost;
 //! - `write N`: all ops of a member that wait are written to its disk; `notice N [OP]`: it learns that they are
@@ -74,7 +75,12 @@ impl Stage {
                 let node = NodeId(words.number()?);
                 self.party.step(Event::Crash { node })?
             }
-            "publish" => self.publish(words)?,
+            "publish" => self.publish(words, true)?,
+            "add" => self.publish(words, false)?,
+            "flush" => {
+                let node = NodeId(words.number()?);
+                self.party.step(Event::Flush { node })?
+            }
             "notice" => self.notice(words)?,
             "deliver" => self.party.deliver(words.number()?)?,
             "lose" => {
@@ -109,8 +115,9 @@ impl Stage {
         Ok(String::new(self.alloc))
     }
 
-    /// Commands reach a member, each at the time that is its number. The outcome of the last one.
-    fn publish(&mut self, words: &mut Words) -> Result<Shown> {
+    /// Commands reach a member, each at the time that is its number, and are sent at once or not. The outcome of
+    /// the last one.
+    fn publish(&mut self, words: &mut Words, sent: bool) -> Result<Shown> {
         let node = words.number()?;
         let counts: Vec<u64> = words.numbers(self.alloc)?;
         let count = counts.first().copied().unwrap_or(1);
@@ -118,7 +125,7 @@ impl Stage {
         let mut shown = None;
         for _ in 0..count {
             self.submitted += 1;
-            shown = Some(self.party.publish(node, self.submitted, size)?);
+            shown = Some(self.party.publish(node, self.submitted, size, sent)?);
         }
         shown.context("no command")
     }

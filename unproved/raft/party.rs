@@ -128,14 +128,23 @@ impl Party {
         self.step(Event::Tick { node: NodeId(node) })
     }
 
-    /// A command that publishes a message with a body of `size` bytes reaches a member.
-    pub fn publish(&mut self, node: u8, time: u64, size: usize) -> Result<Shown> {
+    /// A command that publishes a message with a body of `size` bytes reaches a member, and is sent at once or not.
+    pub fn publish(&mut self, node: u8, time: u64, size: usize, sent: bool) -> Result<Shown> {
         let command = publish(self.alloc, size)?;
-        self.step(Event::Submit {
-            node: NodeId(node),
-            time,
-            command,
-        })
+        let node = NodeId(node);
+        if sent {
+            self.step(Event::Submit {
+                node,
+                time,
+                command,
+            })
+        } else {
+            self.step(Event::Add {
+                node,
+                time,
+                command,
+            })
+        }
     }
 
     /// The message at a place reaches its member.

@@ -37,7 +37,7 @@ fn happen(random: &mut Random, party: &mut Party, time: u64) -> Result<Shown> {
     let node = random.below(u64::from(party.count)) as u8 + 1;
     match random.below(256) {
         0..2 => party.tick(node),
-        2..26 => party.publish(node, time, random.below(100) as usize),
+        2..26 => party.publish(node, time, random.below(100) as usize, true),
         26..154 => party.deliver(place_of(random, party)),
         154..210 => {
             party.write(node)?;

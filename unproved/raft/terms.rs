@@ -7,7 +7,7 @@ use anyhow::{Context, Result, bail, ensure};
 use qq_raft_msg::{MemberState, Role};
 
 /// The commands of term 1, more than one message holds.
-const COMMANDS: u64 = 100;
+const COMMANDS: u64 = 300;
 
 /// The entries of all terms: each of the two leaders adds one of its own.
 const ALL: u64 = COMMANDS + 2;
@@ -43,7 +43,7 @@ fn lead_first_term(party: &mut Party) -> Result<()> {
     stand(party)?;
     settle(party)?;
     for time in 0..COMMANDS {
-        party.publish(1, time, 0)?;
+        party.publish(1, time, 0, true)?;
     }
     party.write_all()?;
     party.reopen()

@@ -13,7 +13,6 @@ mod Reached
 mod Restarting
 mod Returning
 mod Seats
-mod Settles
 mod Starting
 mod Stepped
 mod Taking

@@ -16,7 +16,7 @@ use Rattle.qq_raft_msg.specs.declared.rpc.Rpc.{Rpc}
 use Rattle.qq_raft_model.specs.Server.{Input}
 use Rattle.qq_raft_model.specs.State.{Server}
 use Rattle.qq_raft_model.specs.Group.{Event, Group, deliver_by, feed, feed_by, from_new, group_after, happens, may_restart, new_group, restart_by, take_by, take_op}
-use Rattle.qq_raft_model.specs.Group.Event.{Tick, Submit, Deliver, Lose, Copy, Take, Notice, Crash, Restart}
+use Rattle.qq_raft_model.specs.Group.Event.{Tick, Submit, Add, Flush, Deliver, Lose, Copy, Take, Notice, Crash, Restart}
 use Rattle.qq_raft_model.specs.Promises.{AreDistinct, IsUp}
 use Rattle.qq_group.specs.Group.{IsReached}
 use Rattle.qq_group.specs.Step.{extended}
@@ -113,6 +113,8 @@ restart-nodes k op (Some state) g = refl
 event-nodes : (e : Event) (g : Group) → (happens e g).nodes ≡ g.nodes
 event-nodes (Tick k) g = feed-nodes k Input.Tick (g.seat k).server g
 event-nodes (Submit k time command) g = feed-nodes k (Input.Submit time command) (g.seat k).server g
+event-nodes (Add k time command) g = feed-nodes k (Input.Add time command) (g.seat k).server g
+event-nodes (Flush k) g = feed-nodes k Input.Flush (g.seat k).server g
 event-nodes (Deliver at) g = deliver-nodes (take at g.bag) (drop at g.bag) g
 event-nodes (Lose at) g = refl
 event-nodes (Copy at) g = refl

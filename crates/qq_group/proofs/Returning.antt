@@ -2,7 +2,6 @@
 use Rattle.std.proofs.Common.{◌≡◌, ◌⊎◌, ℕ, ◌<◌, Bool, true, false, List, length, Option, Some, None, refl, sym, ap, subst, ◌∙◌, inl, inr}
 use Rattle.std.specs.Prelude.{◌&&◌, is_some, IfSome, slice_get, slice_set}
 use Rattle.std.proofs.lemmas.Bool.{cases_eq, false≢true}
-use Rattle.std.proofs.lemmas.Option.{slice_get_cases}
 use Rattle.qq_log.specs.Log.{LogState}
 use Rattle.qq_log.specs.Writable.{MayWrite}
 use Rattle.qq_log.specs.declared.op.Op.{Op}
@@ -11,20 +10,11 @@ use Rattle.qq_raft.specs.declared.server.Server.{Server}
 use Rattle.qq_group.specs.Follows.{KeepsQueue}
 use Rattle.qq_group.specs.Group.{IsReturned, server_at, server_by}
 use Rattle.qq_group.specs.Handing.{given_back, handed_seat, has_returned, next_by, reseated, returned_at, with_returned, IsHandedOver, IsReseated, KeepsReturned, Refills, StaysAt}
-use Rattle.qq_group.specs.Step.{ChangesSeat, IsSettled, IsTaken, IsUndone, emptied, seated}
+use Rattle.qq_group.specs.Step.{ChangesSeat, IsTaken, emptied}
 use Rattle.qq_group.specs.declared.group.Group.{Group}
 use Rattle.qq_group.specs.declared.seat.Seat.{Seat}
 use Rattle.qq_group.proofs.Seats.{set-other, set-own}
 use Rattle.qq_group.proofs.Stepped.{changed-other, changed-own, taken-at}
-
--- what is true of a seat alone says that it is there
-pub there-of : {A : Type 0} (xs : List A) (k : ℕ) (f : Option A → Bool) → f None ≡ false
-    → f (slice_get xs k) ≡ true → k < length xs
-there-of xs k f none is =
-    elim (slice_get_cases xs k).1 [
-      | inl found ↦ found.1
-      | inr beyond ↦ absurd (false≢true (sym none ∙ ap f (sym beyond.1) ∙ is))
-    ]
 
 pub refills : {Q L : Type 0} (k : ℕ) (returned after : Option Op) (seat : Seat Q L) (old new : Group Q L)
     → k < length old.seats.items → slice_get old.seats.items k ≡ Some seat → after ≡ returned
@@ -57,7 +47,7 @@ given false op seat is = absurd (false≢true is)
 
 -- ---- what leaves it there
 
-changes-returned : {Q L : Type 0} (k : ℕ) (was now : Seat Q L) (old new : Group Q L) → ChangesSeat k was now old new
+pub changes-returned : {Q L : Type 0} (k : ℕ) (was now : Seat Q L) (old new : Group Q L) → ChangesSeat k was now old new
     → now.returned ≡ was.returned → KeepsReturned old new
 changes-returned {Q = Q} {L = L} k was now old new c same = λ q. by q (cases_eq q k)
   where
@@ -71,18 +61,6 @@ changes-returned {Q = Q} {L = L} k was now old new c same = λ q. by q (cases_eq
 pub taken-returned : {Q L : Type 0} (k : ℕ) (s : Server Q L) (old mid : Group Q L) → IsTaken k s old mid
     → KeepsReturned old mid
 taken-returned k s old mid t = changes-returned k t.seat (emptied t.seat) old mid t.changes refl
-
-pub settled-returned : {Q L : Type 0} (log : L → LogState) (k : ℕ) (s t : Server Q L) (old mid new : Group Q L)
-    → IsTaken k s old mid → IsSettled log k t mid new → KeepsReturned old new
-settled-returned log k s t old mid new taken settled = λ q.
-    changes-returned k settled.seat (seated (server_of log t.raft).noticed settled.left settled.seat) mid new
-    settled.changes refl q
-    ∙ taken-returned k s old mid taken q
-
-pub undone-returned : {Q L : Type 0} (k : ℕ) (s : Server Q L) (old mid new : Group Q L) → IsTaken k s old mid
-    → IsUndone mid new → KeepsReturned old new
-undone-returned k s old mid new taken u = λ q.
-    ap (λ v. returned_at (slice_get v.items q)) u.seats ∙ taken-returned k s old mid taken q
 
 pub reseated-returned : {Q L : Type 0} (k : ℕ) (s t : Server Q L) (old mid new : Group Q L) → IsTaken k s old mid
     → IsReseated k t mid new → KeepsReturned old new

@@ -1,8 +1,8 @@
 -- What a change of one seat leaves of the others.
-use Rattle.std.proofs.Common.{◌≡◌, ◌⊎◌, ℕ, zero, suc, ◌<◌, List, [], ◌∷◌, length, Option, Some, None, refl, ap, ◌∙◌, sym, subst, arith, inl, inr}
+use Rattle.std.proofs.Common.{◌≡◌, ◌⊎◌, ℕ, zero, suc, ◌<◌, Bool, true, false, List, [], ◌∷◌, length, Option, Some, None, refl, ap, ◌∙◌, sym, subst, arith, inl, inr}
 use Rattle.std.specs.Prelude.{is_some, IfNone, slice_get, slice_set}
-use Rattle.std.proofs.lemmas.Bool.{cases_eq, ltb-false}
-use Rattle.std.proofs.lemmas.Option.{slice_get_past}
+use Rattle.std.proofs.lemmas.Bool.{cases_eq, false≢true, ltb-false}
+use Rattle.std.proofs.lemmas.Option.{slice_get_cases, slice_get_past}
 use Rattle.std.proofs.Math.Dec.{ltb}
 use Rattle.qq_log.specs.Log.{LogState}
 use Rattle.qq_group.specs.Group.{server_by, IsServed, IsReturned, HasReturned}
@@ -59,3 +59,12 @@ pub none-past : {A B : Type 0} (r : Option B) (xs ys : List A) (k : ℕ) → is_
 none-past (Some x) xs ys k there same = tt
 none-past None xs ys k there same =
     slice_get_past xs k (ltb-false k (length xs) (sym (there ∙ ap (λ l. ltb k (length l)) same)))
+
+-- what is true of a seat alone says that it is there
+pub there-of : {A : Type 0} (xs : List A) (k : ℕ) (f : Option A → Bool) → f None ≡ false
+    → f (slice_get xs k) ≡ true → k < length xs
+there-of xs k f none is =
+    elim (slice_get_cases xs k).1 [
+      | inl found ↦ found.1
+      | inr beyond ↦ absurd (false≢true (sym none ∙ ap f (sym beyond.1) ∙ is))
+    ]

@@ -1,6 +1,6 @@
 -- What each piece of a step makes of the states that a group stands for.
-use Rattle.std.proofs.Common.{◌≡◌, ℕ, ◌+◌, ◌<◌, ◌≤◌, inr, List, [], ◌++◌, length, Option, Some, None, refl, sym, ap, subst, ◌∙◌, arith}
-use Rattle.std.specs.Prelude.{slice_get}
+use Rattle.std.proofs.Common.{◌≡◌, ℕ, ◌<◌, ◌≤◌, Bool, true, List, [], ◌++◌, length, Option, Some, None, refl, sym, ap, subst, ◌∙◌, arith}
+use Rattle.std.specs.Prelude.{is_some, slice_get}
 use Rattle.std.proofs.lemmas.Option.{slice_get_within}
 use Rattle.qq_base.specs.Fronts.{IsFront, put}
 use Rattle.qq_base.proofs.Puts.{put-each, put-same}
@@ -8,32 +8,28 @@ use Rattle.qq_entry.specs.declared.command.Entry.{Entry}
 use Rattle.qq_log.specs.Log.{LogState}
 use Rattle.qq_raft_core.specs.Raft.{server_of}
 use Rattle.qq_raft_msg.specs.declared.rpc.Rpc.{Rpc}
-use Rattle.qq_raft_model.specs.Server.{Input as Event, step, step as step_raft}
+use Rattle.qq_raft_model.specs.Server.{Input as Event, step as step_raft}
 use Rattle.qq_raft_model.specs.State.{Server as Raft}
-use Rattle.qq_base.specs.Causes.{SpentOnlyWhere}
 use Rattle.qq_base.specs.declared.ids.Index.{Index}
-use Rattle.qq_base.specs.declared.memory.Memory.{Memory}
 use Rattle.qq_raft_msg.specs.Queue.{Applied}
-use Rattle.qq_raft_msg.specs.declared.bag.TheConstants.{BAG_LIMIT}
-use Rattle.qq_raft.specs.Stands.{Does, state_of}
+use Rattle.qq_raft.specs.Stands.{state_of}
 use Rattle.qq_raft.specs.Step.{ServerState}
 use Rattle.qq_raft.specs.declared.row.AppliedRow.{AppliedRow}
 use Rattle.qq_raft.specs.declared.server.Server.{Server}
 use Rattle.qq_raft_model.specs.Group.{Group as GroupState, Seat as SeatState, after_step, feed, feed_by, happens}
 use Rattle.qq_raft_model.specs.Group.Event.{Crash}
-use Rattle.qq_group.specs.Follows.{Feeds, HasShown, HasShownBy, Makes, OthersStay}
-use Rattle.qq_group.specs.Group.{IsReached, IsSeat, IsSeatBy, Represents, server_at, server_by}
-use Rattle.qq_group.specs.Step.{ChangesSeat, IsSettled, IsTaken, IsUndone, emptied, extended, known_by, seated}
-use Rattle.qq_group_history.specs.History.{IsHistory}
-use Rattle.qq_group.specs.Input.{IsFeedCaused, input_of}
+use Rattle.qq_group.specs.Follows.{AddsStep, Feeds, HasShown, HasShownBy, Makes, OthersStay}
+use Rattle.qq_group.specs.Group.{HasState, IsReached, IsSeat, IsSeatBy, IsServed, IsSound, Represents, server_at, server_by}
+use Rattle.qq_group.specs.Step.{ChangesSeat, IsDropped, IsFed, IsTaken, emptied, extended, known_by, seated}
+use Rattle.qq_group.specs.Input.{acts, input_of}
 use Rattle.qq_group.specs.declared.group.Group.{Group}
-use Rattle.qq_group_history.specs.declared.history.History.{History}
 use Rattle.qq_group.specs.declared.input.Input.{Input}
 use Rattle.qq_group.specs.declared.seat.Seat.{Seat}
 use Rattle.qq_group_history.proofs.Histories.{history-later}
+use Rattle.qq_group.proofs.Inputs.{does-step}
 use Rattle.qq_raft_model.proofs.Noticed.{noticed-rises}
 use Rattle.qq_group.proofs.Reached.{KnownLaw, extended-is, known-front}
-use Rattle.qq_group.proofs.Seats.{set-other, set-own}
+use Rattle.qq_group.proofs.Seats.{set-other, set-own, there-of}
 
 -- ---- seats
 
@@ -109,23 +105,11 @@ taken-crashes log k s old new t = λ g r.
     )
     (r.bag ∙ sym t.bag) (r.audit ∙ ap (λ a. a.items) (sym t.audit))
 
-pub undone-makes : {Q L : Type 0} (log : L → LogState) (f : GroupState → GroupState) (old mid new : Group Q L)
-    → Makes log f old mid → IsUndone mid new → Makes log f old new
-undone-makes log f old mid new makes u = λ g r.
-    let m = makes g r in
-    record {
-      queue = m.queue ∙ sym u.queue;
-      nodes = m.nodes ∙ ap (λ v. v.items) (sym u.nodes);
-      bag = m.bag ∙ sym u.bag;
-      audit = m.audit ∙ sym u.audit;
-      seats = λ k. subst (λ v. IsSeat log ((f g).seat k) (slice_get v.items k)) (sym u.seats) (m.seats k);
-    }
-
 -- ---- and put back
 
-fed : (k : ℕ) (input : Event) (s t : Raft) (g : GroupState) → (g.seat k).server ≡ Some s → t ≡ step s input
+fed-is : (k : ℕ) (input : Event) (s t : Raft) (g : GroupState) → (g.seat k).server ≡ Some s → t ≡ step_raft s input
     → feed k input g ≡ after_step k t g
-fed k input s t g up is = ap (λ o. feed_by k input o g) up ∙ ap (λ u. after_step k u g) (sym is)
+fed-is k input s t g up is = ap (λ o. feed_by k input o g) up ∙ ap (λ u. after_step k u g) (sym is)
 
 after-audit : KnownLaw → (k : ℕ) (t : Raft) (g : GroupState) (audit : List Entry) → audit ≡ g.audit
     → IsReached (after_step k t g) → IsFront g.audit (after_step k t g).audit
@@ -135,44 +119,67 @@ after-audit law k t g audit is reached grows =
     (known-front law (after_step k t g) k (record t { out = [] }) reached (ap (λ x. x.server) (put-same k _ g.seat)))
     ∙ ap (λ a. extended a (known_by t)) (sym is)
 
+-- what a member's machine stands for
+pub has-state : {P Q L : Type 0} (stands : P → Q → Type 0) (log : L → LogState) (index_of : Q → ℕ) (k : ℕ)
+    (seat : Seat Q L) (group : Group Q L) → IsSound stands log index_of group
+    → slice_get group.seats.items k ≡ Some seat → (s : Server Q L) → seat.server ≡ Some s → HasState stands s.machine
+has-state stands log index_of k seat group sound there s up =
+    (subst (IsServed stands log index_of) up
+    (subst (λ o. IsServed stands log index_of (server_by o)) there (sound.servers k))).state
+
 -- the step is the definition's
-pub stepped : {Q L : Type 0} (log : L → LogState) → KnownLaw → (k : ℕ) (input : Event) (s t : Server Q L)
-    (old mid new : Group Q L) → IsTaken k s old mid → server_of log t.raft ≡ step (server_of log s.raft) input
-    → IsSettled log k t mid new → Feeds log k input old new
-stepped log law k input s t old mid new taken made settled = λ g r reached grows.
+pub stepped : {P Q L : Type 0} (stands : P → Q → Type 0) (step : P → Index → Entry → Applied P) (log : L → LogState)
+    → KnownLaw → (k : ℕ) (input : Input) (seat now : Seat Q L) (rows : List AppliedRow) (old new : Group Q L)
+    → ChangesSeat k seat now old new → ((s : Server Q L) → seat.server ≡ Some s → HasState stands s.machine)
+    → IsFed stands log (acts step input) seat now old.bag new.bag old.audit.items new.audit.items rows
+    → Feeds log k (input_of input) old new
+stepped stands step log law k input seat now rows old new c has fed = λ g r reached grows.
+    let s = fed.was in
+    let t = fed.stepped.made in
+    let settles = fed.stepped.settles in
     let view = server_of log t.raft in
-    let up = is-up log g k taken.seat s old r taken.changes.there taken.up in
-    let same : feed k input g ≡ after_step k view g = fed k input (server_of log s.raft) view g up.0 made in
-    let crashed = taken-crashes log k s old mid taken g r in
-    let seat_is : settled.seat ≡ emptied taken.seat =
-    some-is settled.seat (emptied taken.seat)
-    (sym settled.changes.there ∙ changed-own k taken.seat (emptied taken.seat) old mid taken.changes) in
+    let made = does-step stands step log input s t (has s fed.up) fed.stepped.does in
+    let up = is-up log g k seat s old r c.there fed.up in
+    let event = input_of input in
+    let same : feed k event g ≡ after_step k view g = fed-is k event (server_of log s.raft) view g up.0 made in
     let state : SeatState = record { server = Some (record view { out = [] }); ops = (g.seat k).ops; noticed = view.noticed } in
-    let now = seated view.noticed settled.left settled.seat in
-    let rises = noticed-rises (server_of log s.raft) input in
-    let told : view.noticed ≡ (step (server_of log s.raft) input).noticed = ap (λ (x : Raft). x.noticed) made in
+    let told : view.noticed ≡ (step_raft (server_of log s.raft) event).noticed = ap (λ (x : Raft). x.noticed) made in
+    let rises = noticed-rises (server_of log s.raft) event in
     let le : (g.seat k).noticed ≤ view.noticed = omega (arith, up.1.noticed, up.2, rises, told) in
-    let history : IsHistory (g.seat k).ops view.noticed settled.seat.history =
-    subst (λ (h : History). IsHistory (g.seat k).ops view.noticed h) (sym (ap (λ (x : Seat _ _). x.history) seat_is))
-    (history-later (g.seat k).ops (g.seat k).noticed view.noticed taken.seat.history up.1.history le) in
-    subst (λ h. Represents log h new) (sym same)
-    (represents-with log g k state settled.seat now (g.bag ++ view.out) (after_step k view g).audit mid new crashed.queue
-    crashed.nodes
-    (λ i other.
-    subst (IsSeat log (g.seat i)) (sym (changed-other k i taken.seat (emptied taken.seat) old mid taken.changes other))
-    (r.seats i))
-    settled.changes (
-      ap Some (sym settled.drained.raft),
+    let own : IsSeatBy log state (seated (server_of log fed.now.raft).noticed fed.now seat) (Some fed.now) = (
+      ap Some (sym settles.raft),
       record {
-        noticed = refl;
-        handed = up.1.handed ∙ ap (λ (x : Seat _ _). x.handed) (sym seat_is);
-        history = history;
+        noticed = sym (ap (λ (x : Raft). x.noticed) settles.raft);
+        handed = up.1.handed;
+        history = history-later (g.seat k).ops (g.seat k).noticed view.noticed seat.history up.1.history le;
       },
-      sym (ap (λ (x : Raft). x.noticed) settled.drained.raft),
-    )
-    (ap (λ l. l ++ view.out) crashed.bag ∙ sym settled.bag)
-    (after-audit law k view g mid.audit.items (sym crashed.audit) (subst IsReached same reached)
-    (subst (λ h. IsFront g.audit h.audit) same grows) ∙ sym settled.audit))
+      refl,
+    ) in
+    subst (λ h. Represents log h new) (sym same)
+    (represents-put log g k state seat now (g.bag ++ view.out) (after_step k view g).audit old new r c
+    (subst (λ (x : Seat _ _). IsSeatBy log state x x.server) (sym fed.seat) own)
+    (ap (λ l. l ++ view.out) r.bag ∙ sym settles.bag_is)
+    (after-audit law k view g old.audit.items (sym r.audit) (subst IsReached same reached)
+    (subst (λ h. IsFront g.audit h.audit) same grows) ∙ sym settles.audit_is))
+
+-- a member whose server is gone has crashed
+pub dropped-crashes : {Q L : Type 0} (log : L → LogState) (k : ℕ) (seat now : Seat Q L) (old new : Group Q L)
+    → ChangesSeat k seat now old new → IsDropped seat now old.bag new.bag old.audit.items new.audit.items
+    → Makes log (happens (Crash k)) old new
+dropped-crashes log k seat now old new c d = λ g r.
+    let state : SeatState = record { server = None; ops = (g.seat k).ops; noticed = (g.seat k).noticed } in
+    let up = is-up log g k seat d.was old r c.there d.up in
+    let own : IsSeatBy log state (emptied seat) None = (
+      refl,
+      λ _. record {
+        noticed = up.1.noticed;
+        handed = up.1.handed;
+        history = up.1.history;
+      },
+    ) in
+    represents-put log g k state seat now g.bag g.audit old new r c
+    (subst (λ (x : Seat _ _). IsSeatBy log state x x.server) (sym d.seat) own) (r.bag ∙ sym d.bag_is)
+    (r.audit ∙ sym d.audit_is)
 
 -- ---- where a member is down
 
@@ -184,10 +191,11 @@ down-feeds log k input old new same down = λ g r reached grows.
 
 -- ---- the rest of what a step says
 
-pub taken-within : {Q L : Type 0} (k : ℕ) (s : Server Q L) (old mid : Group Q L) → IsTaken k s old mid
-    → k < length mid.seats.items
-taken-within k s old mid t =
-    slice_get_within mid.seats.items k (emptied t.seat) (changed-own k t.seat (emptied t.seat) old mid t.changes)
+-- a member that is up has a seat
+pub up_within : {Q L : Type 0} (k : ℕ) (group : Group Q L) (r : Bool) → r ≡ is_some (server_at k group) → r ≡ true
+    → k < length group.seats.items
+up_within k group r is up =
+    there-of group.seats.items k (λ (o : Option (Seat _ _)). is_some (server_by o)) refl (sym is ∙ up)
 
 pub taken-at : {Q L : Type 0} (k : ℕ) (s : Server Q L) (old mid : Group Q L) → IsTaken k s old mid
     → server_at k old ≡ Some s
@@ -197,46 +205,47 @@ pub taken-others : {Q L : Type 0} (k : ℕ) (s : Server Q L) (old mid : Group Q 
     → OthersStay k old mid
 taken-others k s old mid t = λ q other. changed-other k q t.seat (emptied t.seat) old mid t.changes other
 
-pub undone-others : {Q L : Type 0} (k : ℕ) (old mid new : Group Q L) → OthersStay k old mid → IsUndone mid new
+pub changed-others : {Q L : Type 0} (k : ℕ) (was now : Seat Q L) (old new : Group Q L) → ChangesSeat k was now old new
     → OthersStay k old new
-undone-others k old mid new stay u = λ q other. ap (λ v. slice_get v.items q) u.seats ∙ stay q other
-
-pub settled-others : {Q L : Type 0} (log : L → LogState) (k : ℕ) (t : Server Q L) (old mid new : Group Q L)
-    → OthersStay k old mid → IsSettled log k t mid new → OthersStay k old new
-settled-others log k t old mid new stay s = λ q other.
-    changed-other k q s.seat (seated (server_of log t.raft).noticed s.left s.seat) mid new s.changes other ∙ stay q other
+changed-others k was now old new c = λ q other. changed-other k q was now old new c other
 
 -- the server shows the rows of its step
 pub shown : {P Q L : Type 0} (stands : P → Q → Type 0) (log : L → LogState) (f : ServerState P → ServerState P)
-    (k : ℕ) (s t : Server Q L) (old mid new : Group Q L) (rows : List AppliedRow) → IsTaken k s old mid
-    → Does stands log f s t → IsSettled log k t mid new → rows ≡ t.rows.items
+    (k : ℕ) (seat now : Seat Q L) (rows : List AppliedRow) (old new : Group Q L) → ChangesSeat k seat now old new
+    → IsFed stands log f seat now old.bag new.bag old.audit.items new.audit.items rows
     → HasShownBy stands log f (server_at k old) (server_at k new) rows
-shown {Q = Q} {L = L} stands log f k s t old mid new rows taken does settled is =
-    let now = seated (server_of log t.raft).noticed settled.left settled.seat in
-    let here : server_at k new ≡ Some settled.left =
-    ap server_by (changed-own k settled.seat now mid new settled.changes) in
-    subst (λ (o : Option (Server Q L)). HasShownBy stands log f o (server_at k new) rows)
-    (sym (taken-at k s old mid taken))
+shown {Q = Q} {L = L} stands log f k seat now rows old new c fed =
+    let s = fed.was in
+    let settles = fed.stepped.settles in
+    let does = fed.stepped.does in
+    let before : server_at k old ≡ Some s = ap server_by c.there ∙ fed.up in
+    let here : server_at k new ≡ Some fed.now =
+    ap server_by (changed-own k seat now old new c) ∙ ap (λ (x : Seat Q L). x.server) fed.seat in
+    subst (λ (o : Option (Server Q L)). HasShownBy stands log f o (server_at k new) rows) (sym before)
     (subst (λ (o : Option (Server Q L)). HasShown stands log f s o rows) (sym here)
     (λ queue stood.
     record {
-      raft = settled.drained.raft ∙ ap (λ (r : Raft). record r { out = [] }) (does queue stood).raft;
-      queue = subst (stands (f (state_of log queue s)).queue) (sym settled.drained.machine) (does queue stood).queue;
-      applied = settled.drained.applied ∙ (does queue stood).applied;
-      rows_are = is ∙ (does queue stood).rows;
-      none = settled.drained.rows;
+      raft = settles.raft ∙ ap (λ (r : Raft). record r { out = [] }) (does queue stood).raft;
+      queue = subst (stands (f (state_of log queue s)).queue) (sym settles.machine) (does queue stood).queue;
+      applied = settles.applied ∙ (does queue stood).applied;
+      rows_are = settles.rows_are ∙ (does queue stood).rows;
+      none = settles.none;
     }))
 
--- a bag that would be full
-pub full-caused : {P Q L : Type 0} (stands : P → Q → Type 0) (step : P → Index → Entry → Applied P)
-    (passes : P → Index → Entry → Type 0) (log : L → LogState) (input : Input) (k : ℕ) (s t : Server Q L)
-    (old mid : Group Q L) (e : Memory) → IsTaken k s old mid
-    → server_of log t.raft ≡ step_raft (server_of log s.raft) (input_of input)
-    → SpentOnlyWhere e BAG_LIMIT (BAG_LIMIT < length mid.bag + length (server_of log t.raft).out)
-    → IsFeedCaused stands step passes log input old (server_at k old) e
-full-caused {Q = Q} {L = L} stands step passes log input k s t old mid e taken made cause =
-    subst (λ (o : Option (Server Q L)). IsFeedCaused stands step passes log input old o e)
-    (sym (taken-at k s old mid taken))
-    (inr (subst (λ (r : Raft). SpentOnlyWhere e BAG_LIMIT (BAG_LIMIT < length old.bag + length r.out)) made
-    (subst (λ (bag : List Rpc). SpentOnlyWhere e BAG_LIMIT (BAG_LIMIT < length bag + length (server_of log t.raft).out))
-    taken.bag cause)))
+-- what it sends and knows is put behind what was there
+pub adds-step : {P Q L : Type 0} (stands : P → Q → Type 0) (step : P → Index → Entry → Applied P) (log : L → LogState)
+    (k : ℕ) (input : Input) (seat now : Seat Q L) (rows : List AppliedRow) (old new : Group Q L)
+    → ChangesSeat k seat now old new → ((s : Server Q L) → seat.server ≡ Some s → HasState stands s.machine)
+    → IsFed stands log (acts step input) seat now old.bag new.bag old.audit.items new.audit.items rows
+    → AddsStep log (input_of input) old.bag old.audit.items (server_at k old) new
+adds-step {Q = Q} {L = L} stands step log k input seat now rows old new c has fed =
+    let s = fed.was in
+    let t = fed.stepped.made in
+    let settles = fed.stepped.settles in
+    let made = does-step stands step log input s t (has s fed.up) fed.stepped.does in
+    subst (λ (o : Option (Server Q L)). AddsStep log (input_of input) old.bag old.audit.items o new)
+    (sym (ap server_by c.there ∙ fed.up))
+    (record {
+      bag_is = settles.bag_is ∙ ap (λ (r : Raft). old.bag ++ r.out) made;
+      audit_is = settles.audit_is ∙ ap (λ (r : Raft). extended old.audit.items (known_by r)) made;
+    })

@@ -14,8 +14,8 @@ use Rattle.qq_raft_model.specs.Server.{Input}
 use Rattle.qq_raft.specs.declared.server.Server.{Server}
 use Rattle.qq_raft_model.specs.Group.{Group as GroupState, Seat as SeatState, deliver_by, feed, happens}
 use Rattle.qq_raft_model.specs.Group.Event.{Deliver, Lose, Crash}
-use Rattle.qq_group.specs.Events.{OneOf, copies, crash_on, delivers, delivery, loses, refuses, takes, takes_at}
-use Rattle.qq_group.specs.Follows.{Feeds, Follows, Makes}
+use Rattle.qq_group.specs.Events.{OneOf, copies, crash_on, delivers, delivery, loses, refuses, takes, takes_at, with_copy, AddsDelivery}
+use Rattle.qq_group.specs.Follows.{AddsNothing, Feeds, Follows, Makes}
 use Rattle.qq_group.specs.Group.{IsReached, IsSeat, IsSeatBy, Represents, server_at, server_by}
 use Rattle.qq_group.specs.declared.group.Group.{Group}
 use Rattle.qq_group.specs.declared.seat.Seat.{Seat}
@@ -184,3 +184,24 @@ pub refused : {Q L : Type 0} (log : L → LogState) (place : ℕ) (rpc : Rpc) (o
 refused log place rpc old mid new here is crashes = λ g r.
     subst (λ o. Represents log (crash_on o (loses place g)) new) (sym (ap (at_place place) r.bag ∙ here))
     (crashes (loses place g) (lost-makes log place old mid is g r))
+
+-- ---- what is left in the bag, and what the audit gains
+
+pub adds-delivered : {Q L : Type 0} (log : L → LogState) (place : ℕ) (rpc : Rpc) (old mid new : Group Q L)
+    → at_place place old.bag ≡ Some rpc → mid ≡ record old { bag = without place old.bag }
+    → AddsDelivery log (Some rpc) mid.bag mid new
+    → AddsDelivery log (at_place place old.bag) (without place old.bag) old new
+adds-delivered {Q = Q} {L = L} log place rpc old mid new here is made =
+    subst (λ (o : Option Rpc). AddsDelivery log o (without place old.bag) old new) (sym here)
+    (subst (λ (m : Group Q L). AddsDelivery log (Some rpc) m.bag m new) is made)
+
+pub adds-refused : {Q L : Type 0} (place : ℕ) (old mid new : Group Q L)
+    → mid ≡ record old { bag = without place old.bag } → AddsNothing mid.bag mid.audit.items new
+    → AddsNothing (without place old.bag) old.audit.items new
+adds-refused {Q = Q} {L = L} place old mid new is made =
+    subst (λ (m : Group Q L). AddsNothing m.bag m.audit.items new) is made
+
+pub copy-added : (o : Option Rpc) (bag new : List Rpc) → IsSomeAnd o (λ rpc. new ≡ bag ++ rpc ∷ [])
+    → new ≡ with_copy o bag
+copy-added None bag new is = absurd is
+copy-added (Some rpc) bag new is = is

@@ -1,5 +1,5 @@
 -- What each event is to a group. Places of messages are counted from 1.
-use Rattle.std.specs.Prelude.{◌≡◌, ℕ, zero, suc, Bool, true, false, List, [], Option, Some, None, is_some, nat_lt, ◌&&◌, if◌then◌else◌, slice_get}
+use Rattle.std.specs.Prelude.{◌≡◌, ◌++◌, ◌∷◌, ℕ, zero, suc, Bool, true, false, List, [], Option, Some, None, is_some, nat_lt, ◌&&◌, if◌then◌else◌, slice_get}
 use Rattle.qq_base.specs.declared.ids.Index.{Index}
 use Rattle.qq_base.specs.declared.memory.Memory.{Memory}
 use Rattle.qq_entry.specs.declared.command.Entry.{Entry}
@@ -10,12 +10,13 @@ use Rattle.qq_raft_msg.specs.Bag.{at_place}
 use Rattle.qq_raft_msg.specs.Queue.{Applied}
 use Rattle.qq_raft_msg.specs.Rpc.{envelope}
 use Rattle.qq_raft_msg.specs.declared.rpc.Rpc.{Rpc}
+use Rattle.qq_raft_model.specs.Server.{Input}
 use Rattle.qq_raft_model.specs.State.{Server as Raft}
 use Rattle.qq_raft.specs.declared.row.AppliedRow.{AppliedRow}
 use Rattle.qq_raft.specs.declared.server.Server.{Server}
 use Rattle.qq_raft_model.specs.Group.{Group as GroupState, happens}
 use Rattle.qq_raft_model.specs.Group.Event.{Deliver, Lose, Copy, Crash, Notice as Notify}
-use Rattle.qq_group.specs.Follows.{HasShownBy, OthersStay, ShowsNothing}
+use Rattle.qq_group.specs.Follows.{AddsNothing, AddsStep, HasShownBy, OthersStay, ShowsNothing}
 use Rattle.qq_group.specs.Group.{server_at}
 use Rattle.qq_group.specs.Handing.{held}
 use Rattle.qq_group.specs.Input.{acts, IsFeedCaused}
@@ -134,3 +135,25 @@ abbrev pub HasShownNotice :
     → Option (Server Q L) → Option (Server Q L) → List AppliedRow → Type 0
 HasShownNotice stands step log op lacks old new rows =
     OneOf lacks (ShowsNothing old new rows) (HasShownBy stands log (acts step (Notice op)) old new rows)
+
+-- ---- what is left in the bag, and what the audit gains
+
+-- a message is taken out, and its receiver makes its step, where it takes the message
+abbrev pub AddsDelivery :
+    {Q L : Type 0} → (L → LogState) → Option Rpc → List Rpc → Group Q L → Group Q L → Type 0
+AddsDelivery log None bag old new = AddsNothing bag old.audit.items new
+AddsDelivery log (Some rpc) bag old new =
+    let server = server_at (envelope rpc).to.0 old in
+    let audit = old.audit.items in
+    OneOf (takes_at log rpc server) (AddsStep log (Input.Receive rpc) bag audit server new)
+    (AddsNothing bag audit new)
+
+abbrev pub with_copy : Option Rpc → List Rpc → List Rpc
+with_copy None bag = bag
+with_copy (Some rpc) bag = bag ++ rpc ∷ []
+
+abbrev pub AddsNotice :
+    {Q L : Type 0} → (L → LogState) → ℕ → Bool → Option (Server Q L) → Group Q L → Group Q L → Type 0
+AddsNotice log op lacks server old new =
+    let audit = old.audit.items in
+    OneOf lacks (AddsNothing old.bag audit new) (AddsStep log (Input.Notice op) old.bag audit server new)

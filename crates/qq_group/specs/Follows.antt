@@ -1,8 +1,11 @@
 -- What a call does to each state that the group stands for.
-use Rattle.std.specs.Prelude.{◌≡◌, ℕ, List, [], Option, Some, None, slice_get}
+use Rattle.std.specs.Prelude.{◌≡◌, ◌++◌, ℕ, List, [], length, take, drop, Option, Some, None, slice_get}
 use Rattle.qq_base.specs.Fronts.{IsFront}
 use Rattle.qq_log.specs.Log.{LogState}
-use Rattle.qq_raft_model.specs.Server.{Input}
+use Rattle.qq_entry.specs.declared.command.Entry.{Entry}
+use Rattle.qq_raft_msg.specs.declared.rpc.Rpc.{Rpc}
+use Rattle.qq_raft_model.specs.Server.{Input, step}
+use Rattle.qq_raft_model.specs.State.{Server as RaftState}
 use Rattle.qq_raft_core.specs.Raft.{server_of}
 use Rattle.qq_raft.specs.Stands.{state_of}
 use Rattle.qq_raft.specs.Step.{ServerState}
@@ -66,3 +69,22 @@ KeepsQueue (Some old) (Some new) = new ≡ record old { raft = new.raft }
 abbrev pub OthersStay : {Q L : Type 0} → ℕ → Group Q L → Group Q L → Type 0
 OthersStay k old new =
     (q : ℕ) → (q ≡ k → ⊥) → slice_get new.seats.items q ≡ slice_get old.seats.items q
+
+-- ---- the bag and the audit
+
+-- the bag and the audit are these
+pub record AddsNothing {Q L : Type 0} (bag : List Rpc) (audit : List Entry) (new : Group Q L) : Type 0 where
+  pub bag_is : new.bag ≡ bag
+  pub audit_is : new.audit.items ≡ audit
+
+-- what a server sends goes behind this bag, and what it knows to be committed behind this audit
+pub record Adds {Q L : Type 0} (bag : List Rpc) (audit : List Entry) (made : RaftState) (new : Group Q L) : Type 0
+  where
+    pub bag_is : new.bag ≡ bag ++ made.out
+    pub audit_is : new.audit.items ≡ audit ++ drop (length audit) (take made.commit made.log)
+
+-- a server that is up makes this step
+abbrev pub AddsStep :
+    {Q L : Type 0} → (L → LogState) → Input → List Rpc → List Entry → Option (Server Q L) → Group Q L → Type 0
+AddsStep log input bag audit None new = AddsNothing bag audit new
+AddsStep log input bag audit (Some s) new = Adds bag audit (step (server_of log s.raft) input) new

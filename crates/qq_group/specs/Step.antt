@@ -4,6 +4,10 @@ use Rattle.qq_entry.specs.declared.command.Entry.{Entry}
 use Rattle.qq_log.specs.Log.{LogState}
 use Rattle.qq_raft_core.specs.Raft.{server_of}
 use Rattle.qq_raft_model.specs.State.{Server as Raft}
+use Rattle.qq_raft_msg.specs.declared.rpc.Rpc.{Rpc}
+use Rattle.qq_raft.specs.Stands.{Does}
+use Rattle.qq_raft.specs.Step.{ServerState}
+use Rattle.qq_raft.specs.declared.row.AppliedRow.{AppliedRow}
 use Rattle.qq_raft.specs.declared.server.Server.{Server}
 use Rattle.qq_group.specs.declared.group.Group.{Group}
 use Rattle.qq_group.specs.declared.seat.Seat.{Seat}
@@ -30,47 +34,69 @@ pub record IsTaken {Q L : Type 0} (k : ℕ) (server : Server Q L) (old new : Gro
   pub bag : new.bag ≡ old.bag
   pub audit : new.audit ≡ old.audit
 
--- a server has handed its messages and its rows out
-pub record IsDrained {Q L : Type 0} (log : L → LogState) (old new : Server Q L) : Type 0 where
-  pub raft : server_of log new.raft ≡ record (server_of log old.raft) { out = [] }
-  pub machine : new.machine ≡ old.machine
-  pub applied : new.applied ≡ old.applied
-  pub rows : new.rows.items ≡ []
-
 abbrev pub known_by : Raft → List Entry
 known_by s = take s.commit s.log
 
--- a server's messages are in the bag, and what it knows to be committed in the audit
-pub record Publishes {Q L : Type 0} (log : L → LogState) (was now : Server Q L) (old new : Group Q L) : Type 0 where
+-- a server's messages are in the bag, and what it knows to be committed is in the audit
+pub record Publishes {Q L : Type 0} (log : L → LogState) (was now : Server Q L) (bag bag_now : List Rpc)
+    (audit audit_now : List Entry) : Type 0 where
   pub server : now ≡ record was { raft = now.raft }
   pub raft : server_of log now.raft ≡ record (server_of log was.raft) { out = [] }
-  pub bag : new.bag ≡ old.bag ++ (server_of log was.raft).out
-  pub audit : new.audit.items ≡ extended old.audit.items (known_by (server_of log was.raft))
+  pub bag_is : bag_now ≡ bag ++ (server_of log was.raft).out
+  pub audit_is : audit_now ≡ extended audit (known_by (server_of log was.raft))
+
+-- and its rows were handed out
+pub record Settles {Q L : Type 0} (log : L → LogState) (was now : Server Q L) (bag bag_now : List Rpc)
+    (audit audit_now : List Entry) (rows : List AppliedRow) : Type 0 where
+  pub raft : server_of log now.raft ≡ record (server_of log was.raft) { out = [] }
+  pub machine : now.machine ≡ was.machine
+  pub applied : now.applied ≡ was.applied
+  pub none : now.rows.items ≡ []
+  pub rows_are : rows ≡ was.rows.items
+  pub bag_is : bag_now ≡ bag ++ (server_of log was.raft).out
+  pub audit_is : audit_now ≡ extended audit (known_by (server_of log was.raft))
+
+-- a server has made a step, and what that leaves is handed out
+pub record IsStepped {P Q L : Type 0} (stands : P → Q → Type 0) (log : L → LogState)
+    (f : ServerState P → ServerState P) (was now : Server Q L) (bag bag_now : List Rpc)
+    (audit audit_now : List Entry) (rows : List AppliedRow) : Type 0 where
+  pub made : Server Q L
+  pub does : Does stands log f was made
+  pub settles : Settles log made now bag bag_now audit audit_now rows
 
 abbrev pub seated : {Q L : Type 0} → ℕ → Server Q L → Seat Q L → Seat Q L
 seated noticed server seat = record seat { server = Some server; noticed = noticed }
 
--- a server is put into its seat
-pub record IsPut {Q L : Type 0} (log : L → LogState) (k : ℕ) (server : Server Q L) (old new : Group Q L) : Type 0 where
-  pub seat : Seat Q L
-  pub changes : ChangesSeat k seat (seated (server_of log server.raft).noticed server seat) old new
-  pub bag : new.bag ≡ old.bag
-  pub audit : new.audit ≡ old.audit
-
--- a server is put back behind a step
-pub record IsSettled {Q L : Type 0} (log : L → LogState) (k : ℕ) (server : Server Q L) (old new : Group Q L) : Type 0
+-- the server of a seat has made a step
+pub record IsFed {P Q L : Type 0} (stands : P → Q → Type 0) (log : L → LogState) (f : ServerState P → ServerState P)
+    (old new : Seat Q L) (bag bag_now : List Rpc) (audit audit_now : List Entry) (rows : List AppliedRow) : Type 0
   where
-    pub seat : Seat Q L
-    pub left : Server Q L
-    pub drained : IsDrained log server left
-    pub changes : ChangesSeat k seat (seated (server_of log server.raft).noticed left seat) old new
-    pub bag : new.bag ≡ old.bag ++ (server_of log server.raft).out
-    pub audit : new.audit.items ≡ extended old.audit.items (known_by (server_of log server.raft))
+    pub was : Server Q L
+    pub now : Server Q L
+    pub up : old.server ≡ Some was
+    pub seat : new ≡ seated (server_of log now.raft).noticed now old
+    pub stepped : IsStepped stands log f was now bag bag_now audit audit_now rows
 
--- nothing has changed
-pub record IsUndone {Q L : Type 0} (old new : Group Q L) : Type 0 where
-  pub seats : new.seats ≡ old.seats
-  pub queue : new.queue ≡ old.queue
-  pub nodes : new.nodes ≡ old.nodes
-  pub bag : new.bag ≡ old.bag
-  pub audit : new.audit.items ≡ old.audit.items
+-- the server of a seat is gone, and nothing else has changed
+pub record IsDropped {Q L : Type 0} (old new : Seat Q L) (bag bag_now : List Rpc) (audit audit_now : List Entry)
+    : Type 0 where
+  pub was : Server Q L
+  pub up : old.server ≡ Some was
+  pub seat : new ≡ emptied old
+  pub bag_is : bag_now ≡ bag
+  pub audit_is : audit_now ≡ audit
+
+-- an input has reached a member
+pub record IsFedAt {P Q L : Type 0} (stands : P → Q → Type 0) (log : L → LogState)
+    (f : ServerState P → ServerState P) (k : ℕ) (old new : Group Q L) (rows : List AppliedRow) : Type 0 where
+  pub seat : Seat Q L
+  pub now : Seat Q L
+  pub changes : ChangesSeat k seat now old new
+  pub fed : IsFed stands log f seat now old.bag new.bag old.audit.items new.audit.items rows
+
+-- a member's server is gone, and nothing else has changed
+pub record IsDroppedAt {Q L : Type 0} (k : ℕ) (old new : Group Q L) : Type 0 where
+  pub seat : Seat Q L
+  pub now : Seat Q L
+  pub changes : ChangesSeat k seat now old new
+  pub dropped : IsDropped seat now old.bag new.bag old.audit.items new.audit.items

@@ -1,9 +1,9 @@
 //! One call for whatever may happen in a group.
 ghost use Rattle.std.specs.Prelude.{◌≡◌, [], IfOk, IfErr, OnOk, OnErr};
-ghost use Rattle.qq_group.specs.Follows.{Follows, Makes};
+ghost use Rattle.qq_group.specs.Follows.{AddsNothing, Follows, Makes};
 ghost use Rattle.qq_group.specs.Group.{IsSound};
 ghost use Rattle.qq_group.specs.Handing.{KeepsReturned};
-ghost use Rattle.qq_group.specs.Steps.{made_by, outcome_by, refused_by, HasShownEvent, IsEventCaused, MayHappen, ReachesAtMost};
+ghost use Rattle.qq_group.specs.Steps.{kept_bag, made_by, outcome_by, refused_by, AddsEvent, HasShownEvent, IsEventCaused, MayHappen, ReachesAtMost};
 
 use crate::group::Group;
 use crate::outcome::{Outcome, Shown};
@@ -24,6 +24,16 @@ pub enum Event {
         node: NodeId,
         time: u64,
         command: Command,
+    },
+    /// The same, but that its entry isn't sent before the member's next `Flush`.
+    Add {
+        node: NodeId,
+        time: u64,
+        command: Command,
+    },
+    /// A member that leads sends each of the others the entries that it wasn't sent.
+    Flush {
+        node: NodeId,
     },
     /// The message at a place reaches the member that it is for.
     Deliver {
@@ -76,6 +86,9 @@ impl<Q: Queue, L: LogView> Group<Q, L> {
             self.new shown.rows.items) }
         ensures others { ReachesAtMost event self.old self.new }
         ensures returned { KeepsReturned self.old self.new }
+        ensures adds { OnOk result (AddsEvent L.log event self.old self.new) }
+        ensures adds_err { OnErr result
+            (AddsNothing (kept_bag event self.old.bag) self.old.audit.items self.new) }
         ensures cause { IfErr result (IsEventCaused Q.stands Q.step Q.passes_end L.log event
             self.old) }
     {
@@ -86,6 +99,12 @@ impl<Q: Queue, L: LogView> Group<Q, L> {
                 time,
                 command,
             } => self.submit(alloc, node, time, command),
+            Event::Add {
+                node,
+                time,
+                command,
+            } => self.add(alloc, node, time, command),
+            Event::Flush { node } => self.flush(alloc, node),
             Event::Deliver { place } => self.deliver(alloc, place),
             Event::Lose { place } => Ok(Shown::nothing(alloc, self.lose(place))),
             Event::Copy { place } => match self.copy(alloc, place) {

@@ -128,6 +128,7 @@ impl<Q: Queue, L: LogView> Group<Q, L> {
         ensures queue { OnOk result (KeepsQueue (server_at node.0 self.old)
             (server_at node.0 self.new)) }
         ensures audit { self.new.audit ≡ self.old.audit }
+        ensures bag { self.new.bag ≡ self.old.bag }
         ensures others { OthersStay node.0 self.old self.new }
         ensures returned { KeepsReturned self.old self.new }
     {
@@ -167,6 +168,7 @@ impl<Q: Queue, L: LogView> Group<Q, L> {
         ensures queue { OnOk result (KeepsQueue (server_at node.0 self.old)
             (server_at node.0 self.new)) }
         ensures audit { self.new.audit ≡ self.old.audit }
+        ensures bag { self.new.bag ≡ self.old.bag }
         ensures others { OthersStay node.0 self.old self.new }
         ensures left { IfOk result (λ next. IfSome next (λ _.
             returned_at (slice_get self.new.seats.items node.0) ≡ None)) }

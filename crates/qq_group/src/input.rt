@@ -21,6 +21,10 @@ pub(crate) enum Input {
     Receive(Rpc),
     /// A client's command reaches it, at this time.
     Submit { time: u64, command: Command },
+    /// The same, but that its entry isn't sent before the next `Flush`.
+    Add { time: u64, command: Command },
+    /// It sends what it hasn't sent.
+    Flush,
     /// It is told that its log is durable up to an op.
     Notice { op: u64 },
 }
@@ -53,6 +57,15 @@ pub(crate) fn act<Q: Queue, L: LogView>(
             Ok(_) => Ok(Outcome::Done),
             Err(SubmitFault::NotLeader { hint }) => Ok(Outcome::NotLeader { hint }),
             Err(SubmitFault::Memory(cause)) => Err(cause),
+        },
+        Input::Add { time, command } => match server.add(alloc, time, &command) {
+            Ok(_) => Ok(Outcome::Done),
+            Err(SubmitFault::NotLeader { hint }) => Ok(Outcome::NotLeader { hint }),
+            Err(SubmitFault::Memory(cause)) => Err(cause),
+        },
+        Input::Flush => match server.flush(alloc) {
+            Ok(()) => Ok(Outcome::Done),
+            Err(cause) => Err(cause),
         },
         Input::Notice { op } => match server.notice(alloc, op) {
             Ok(()) => Ok(Outcome::Done),

@@ -3,8 +3,8 @@ ghost use Rattle.std.specs.Prelude.{◌≡◌, None, Some, IfOk, IfErr, IfSome, 
 ghost use Rattle.qq_log.specs.Writable.{MayWrite};
 ghost use Rattle.qq_raft.specs.Step.{notice};
 ghost use Rattle.qq_raft_model.specs.Group.{happens, Event as GroupEvent};
-ghost use Rattle.qq_group.specs.Events.{crash_outcome, lacks_op, notice_outcome, notices, HasShownNotice};
-ghost use Rattle.qq_group.specs.Follows.{Follows, Makes, OthersStay};
+ghost use Rattle.qq_group.specs.Events.{crash_outcome, lacks_op, notice_outcome, notices, AddsNotice, HasShownNotice};
+ghost use Rattle.qq_group.specs.Follows.{AddsNothing, Follows, Makes, OthersStay};
 ghost use Rattle.qq_group.specs.Group.{IsSound, server_at};
 ghost use Rattle.qq_group.specs.Handing.{KeepsReturned};
 ghost use Rattle.qq_group.specs.Input.{IsFeedCaused};
@@ -57,6 +57,9 @@ impl<Q: Queue, L: LogView> Group<Q, L> {
             shown.rows.items) }
         ensures others { OthersStay node.0 self.old self.new }
         ensures returned { KeepsReturned self.old self.new }
+        ensures adds { OnOk result (AddsNotice L.log op (lacks_op node.0 op self.old)
+            (server_at node.0 self.old) self.old self.new) }
+        ensures adds_err { OnErr result (AddsNothing self.old.bag self.old.audit.items self.new) }
         ensures cause { IfErr result (IsFeedCaused Q.stands Q.step Q.passes_end L.log (Notice op)
             self.old (server_at node.0 self.old)) }
     {
@@ -81,6 +84,7 @@ impl<Q: Queue, L: LogView> Group<Q, L> {
         ensures down { server_at node.0 self.new ≡ None }
         ensures others { OthersStay node.0 self.old self.new }
         ensures returned { KeepsReturned self.old self.new }
+        ensures adds { AddsNothing self.old.bag self.old.audit.items self.new }
     {
         let Some(_) = self.take_server(node) else {
             return Outcome::Down;

@@ -7,8 +7,8 @@ ghost use Rattle.qq_raft_msg.specs.Rpc.{IsWritable, envelope};
 ghost use Rattle.qq_raft_msg.specs.declared.bag.TheConstants.{BAG_LIMIT};
 ghost use Rattle.qq_raft_model.specs.Server.{Input as GroupInput};
 ghost use Rattle.qq_raft_model.specs.Group.{happens, Event as GroupEvent};
-ghost use Rattle.qq_group.specs.Events.{OneOf, taken_outcome, copies, delivers, delivery_outcome, loses, place_outcome, refuses, takes_at, HasShownMessage, IsDeliveryCaused, ReachesOne};
-ghost use Rattle.qq_group.specs.Follows.{Feeds, Follows, Makes, OthersStay};
+ghost use Rattle.qq_group.specs.Events.{OneOf, taken_outcome, with_copy, copies, delivers, delivery_outcome, loses, place_outcome, refuses, takes_at, AddsDelivery, HasShownMessage, IsDeliveryCaused, ReachesOne};
+ghost use Rattle.qq_group.specs.Follows.{AddsNothing, Feeds, Follows, Makes, OthersStay};
 ghost use Rattle.qq_group.specs.Group.{IsSound, server_at};
 ghost use Rattle.qq_group.specs.Handing.{KeepsReturned};
 
@@ -45,6 +45,8 @@ impl<Q: Queue, L: LogView> Group<Q, L> {
         ensures made { Makes L.log (loses place) self.old self.new }
         ensures outcome { result ≡ place_outcome (at_place place self.old.bag) }
         ensures same { self.new ≡ record self.old { bag = self.new.bag } }
+        ensures adds { AddsNothing (without place self.old.bag) self.old.audit.items
+            self.new }
     {
         match self.take_message(place) {
             Some(_) => Outcome::Done,
@@ -62,6 +64,8 @@ impl<Q: Queue, L: LogView> Group<Q, L> {
         ensures outcome { IfOk result (λ outcome.
             outcome ≡ place_outcome (at_place place self.old.bag)) }
         ensures same { self.new ≡ record self.old { bag = self.new.bag } }
+        ensures adds { OnOk result (AddsNothing
+            (with_copy (at_place place self.old.bag) self.old.bag) self.old.audit.items self.new) }
         ensures err { OnErr result (self.new ≡ self.old) }
         ensures cause { IfErr result (λ e. SpentOnlyWhere e BAG_LIMIT
             (IsSome (at_place place self.old.bag) × (length self.old.bag ≡ BAG_LIMIT))) }
@@ -104,6 +108,8 @@ impl<Q: Queue, L: LogView> Group<Q, L> {
             (Some rpc) self.old self.new shown.rows.items) }
         ensures others { OthersStay (envelope rpc).to.0 self.old self.new }
         ensures returned { KeepsReturned self.old self.new }
+        ensures adds { OnOk result (AddsDelivery L.log (Some rpc) self.old.bag self.old self.new) }
+        ensures adds_err { OnErr result (AddsNothing self.old.bag self.old.audit.items self.new) }
         ensures cause { IfErr result (IsDeliveryCaused Q.stands Q.step Q.passes_end L.log
             (Some rpc) self.old) }
     {
@@ -133,6 +139,11 @@ impl<Q: Queue, L: LogView> Group<Q, L> {
             (at_place place self.old.bag) self.old self.new shown.rows.items) }
         ensures others { ReachesOne (at_place place self.old.bag) self.old self.new }
         ensures returned { KeepsReturned self.old self.new }
+        ensures adds { OnOk result (AddsDelivery L.log (at_place place self.old.bag)
+            (without place self.old.bag) self.old self.new) }
+        ensures adds_err { OnErr result
+            (AddsNothing (without place self.old.bag) self.old.audit.items
+            self.new) }
         ensures cause { IfErr result (IsDeliveryCaused Q.stands Q.step Q.passes_end L.log
             (at_place place self.old.bag) (record self.old { bag = without place self.old.bag })) }
     {

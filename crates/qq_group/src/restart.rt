@@ -113,6 +113,7 @@ impl<Q: Queue, L: LogView> Group<Q, L> {
         ensures ok { OnOk result (Restarts L.log node.0 (L.log log) self.old self.new) }
         ensures started { OnOk result (HasStarted Q.stands machine (server_at node.0 self.new)) }
         ensures audit { self.new.audit ≡ self.old.audit }
+        ensures bag { self.new.bag ≡ self.old.bag }
         ensures others { OthersStay node.0 self.old self.new }
         ensures found { OnOk result (Finds L.log node.0 (L.log log) self.old) }
         ensures err { OnErr result (self.new ≡ self.old) }

@@ -15,8 +15,9 @@ use Rattle.qq_raft_msg.specs.Bag.{at_place}
 use Rattle.qq_raft_msg.specs.Queue.{Applied}
 use Rattle.qq_raft_msg.specs.Rpc.{envelope}
 use Rattle.qq_raft_msg.specs.declared.rpc.Rpc.{Rpc}
-use Rattle.qq_raft_model.specs.Server.{notice as notice_raft, receive as receive_raft, submit as submit_raft, tick as tick_raft}
-use Rattle.qq_raft.specs.Step.{notice, receive, submit, tick}
+use Rattle.qq_raft_model.specs.Server.{notice as notice_raft, receive as receive_raft, submit as submit_raft, add as add_raft, tick as tick_raft}
+use Rattle.qq_raft_model.specs.Leading.{flush as flush_raft}
+use Rattle.qq_raft.specs.Step.{add, flush, notice, receive, submit, tick}
 use Rattle.qq_raft.specs.declared.row.AppliedRow.{AppliedRow}
 use Rattle.qq_raft.specs.declared.server.Server.{Server}
 use Rattle.qq_raft_model.specs.Group.{Event as GroupEvent, Group as GroupState, Seat as SeatState, group_after, happens}
@@ -27,7 +28,7 @@ use Rattle.qq_group.specs.Opening.{HasStartedBy, HaveStarted, IsUnnamed, Start}
 use Rattle.qq_group.specs.Restarts.{HasStarted}
 use Rattle.qq_group.specs.Steps.{HasShownEvent, ReachesAtMost, made_by}
 use Rattle.qq_group.specs.declared.event.Event.{Event}
-use Rattle.qq_group.specs.declared.event.Event.TheVariants.{Tick, Submit, Deliver, Lose, Copy, Notice, Crash}
+use Rattle.qq_group.specs.declared.event.Event.TheVariants.{Tick, Submit, Add, Flush, Deliver, Lose, Copy, Notice, Crash}
 use Rattle.qq_group.specs.declared.group.Group.{Group}
 use Rattle.qq_group.specs.declared.seat.Seat.{Seat}
 use Rattle.qq_group_laws.specs.Audited.{AreAudited, AreOfAudit, IsAudited, IsAuditedBy, IsMachine, queue_after}
@@ -61,6 +62,8 @@ made-notice k op false g = made-one g (GroupEvent.Notice k op)
 pub made-event : {Q L : Type 0} (event : Event) (old : Group Q L) (g : GroupState) → IsMade g (made_by event old g)
 made-event (Tick node) old g = made-one g (GroupEvent.Tick node.0)
 made-event (Submit node time command) old g = made-one g (GroupEvent.Submit node.0 time command)
+made-event (Add node time command) old g = made-one g (GroupEvent.Add node.0 time command)
+made-event (Flush node) old g = made-one g (GroupEvent.Flush node.0)
 made-event (Deliver zero) old g = made-none g
 made-event (Deliver (suc at)) old g = made-delivery at (slice_get g.bag at) g
 made-event (Lose zero) old g = made-none g
@@ -175,6 +178,14 @@ event-keeps stands step start log (Submit node time command) old new rows all fr
     by-one stands step start node.0 old new rows all front reach
     (shown-still stands step start log (submit time command) (submit_raft time command) (λ t. refl)
     (server_at node.0 old) (server_at node.0 new) rows (all node.0) front s)
+event-keeps stands step start log (Add node time command) old new rows all front known s reach down =
+    by-one stands step start node.0 old new rows all front reach
+    (shown-still stands step start log (add time command) (add_raft time command) (λ t. refl)
+    (server_at node.0 old) (server_at node.0 new) rows (all node.0) front s)
+event-keeps stands step start log (Flush node) old new rows all front known s reach down =
+    by-one stands step start node.0 old new rows all front reach
+    (shown-still stands step start log flush flush_raft (λ t. refl) (server_at node.0 old) (server_at node.0 new) rows
+    (all node.0) front s)
 event-keeps stands step start log (Deliver place) old new rows all front known s reach down =
     message stands step start log (at_place place old.bag) old new rows all front known s reach
 event-keeps stands step start log (Lose place) old new rows all front known s reach down =
@@ -212,6 +223,8 @@ pub down-after : {Q L : Type 0} (log : L → LogState) (event : Event) (g : Grou
 down-after log (Crash node) g old new r = crash-down log node.0 g new r
 down-after log (Tick node) g old new r = tt
 down-after log (Submit node time command) g old new r = tt
+down-after log (Add node time command) g old new r = tt
+down-after log (Flush node) g old new r = tt
 down-after log (Deliver place) g old new r = tt
 down-after log (Lose place) g old new r = tt
 down-after log (Copy place) g old new r = tt

@@ -18,7 +18,7 @@ use Rattle.qq_raft_model.specs.Server.{Input, is_peer, new_peer, restart, step}
 use Rattle.qq_raft_model.specs.State.{Server}
 use Rattle.qq_raft_model.specs.declared.peer.Peer.{Peer}
 use Rattle.qq_raft_model.specs.Group.{Event, Group, Seat, after_step, deliver_by, feed, feed_by, from_new, group_after, happens, has_node, is_down, lane_with, may_restart, new_group, restart_by, take_by, take_op}
-use Rattle.qq_raft_model.specs.Group.Event.{Tick, Submit, Deliver, Lose, Copy, Take, Notice, Crash, Restart}
+use Rattle.qq_raft_model.specs.Group.Event.{Tick, Submit, Add, Flush, Deliver, Lose, Copy, Take, Notice, Crash, Restart}
 use Rattle.qq_group_laws.specs.Addressed.{IsBetween, others}
 use Rattle.qq_group_laws.proofs.Sending.{IsAddressed, IsFromPeer, Keeps, keeps-step, nodes_of}
 
@@ -202,6 +202,8 @@ happened : {nodes : List NodeId} (e : Event) (g : Group) → IsBetweenMembers no
     → IsBetweenMembers nodes (happens e g)
 happened (Tick k) g fine = fed k Input.Tick (g.seat k).server g fine refl tt
 happened (Submit k time command) g fine = fed k (Input.Submit time command) (g.seat k).server g fine refl tt
+happened (Add k time command) g fine = fed k (Input.Add time command) (g.seat k).server g fine refl tt
+happened (Flush k) g fine = fed k Input.Flush (g.seat k).server g fine refl tt
 happened {nodes} (Deliver at) g fine =
     delivered (take at g.bag) (drop at g.bag) g fine (all-take (IsBetween nodes) at g.bag fine.bag)
     (all-drop (IsBetween nodes) at g.bag fine.bag)

@@ -17,7 +17,7 @@ use Rattle.qq_group.specs.Follows.{OthersStay}
 use Rattle.qq_group.specs.Group.{Represents}
 use Rattle.qq_group.specs.Steps.{IsEventCaused, ReachesAtMost, refused_by}
 use Rattle.qq_group.specs.declared.event.Event.{Event}
-use Rattle.qq_group.specs.declared.event.Event.TheVariants.{Tick, Submit, Deliver, Lose, Copy, Notice, Crash}
+use Rattle.qq_group.specs.declared.event.Event.TheVariants.{Tick, Submit, Add, Flush, Deliver, Lose, Copy, Notice, Crash}
 use Rattle.qq_group.specs.declared.group.Group.{Group}
 use Rattle.qq_group_laws.specs.Audited.{AreAudited, IsAuditedBy}
 use Rattle.qq_group_laws.proofs.Events.{all-audited, crash-down, none-audited}
@@ -59,6 +59,10 @@ pub refused : {P Q L : Type 0} (stands : P → Q → Type 0) (step : P → Index
 refused stands step passes start log (Tick node) g old new e was now stay cause all =
     by-crash stands step start log node.0 g g old new was now refl stay all
 refused stands step passes start log (Submit node time command) g old new e was now stay cause all =
+    by-crash stands step start log node.0 g g old new was now refl stay all
+refused stands step passes start log (Add node time command) g old new e was now stay cause all =
+    by-crash stands step start log node.0 g g old new was now refl stay all
+refused stands step passes start log (Flush node) g old new e was now stay cause all =
     by-crash stands step start log node.0 g g old new was now refl stay all
 refused stands step passes start log (Deliver place) g old new e was now stay cause all =
     by-message stands step start log (at_place place old.bag) g (loses place g) old new was

@@ -1,7 +1,7 @@
 -- What a server sends is from itself to one of its peers.
-use Rattle.std.proofs.Common.{◌≡◌, ℕ, ◌+◌, ◌-◌, Bool, true, false, List, [], ◌∷◌, ◌++◌, map, Option, Some, None, refl, subst, ◌∙◌, inl, inr}
+use Rattle.std.proofs.Common.{◌≡◌, ℕ, zero, suc, ◌+◌, ◌-◌, Bool, true, false, List, [], ◌∷◌, ◌++◌, map, Option, Some, None, refl, subst, ◌∙◌, inl, inr}
 use Rattle.std.specs.Prelude.{◌&&◌, drop, filter, min, nat_le, nat_lt, if◌then◌else◌}
-use Rattle.std.specs.List.{AllByRecursion}
+use Rattle.std.specs.List.{AllByRecursion, list_any}
 use Rattle.std.proofs.lemmas.Bool.{cond_both}
 use Rattle.qq_base.proofs.Lists.{AllByRecursion-append, AllByRecursion-filter, AllByRecursion-map}
 use Rattle.qq_base.specs.declared.ids.NodeId.{NodeId}
@@ -18,8 +18,8 @@ use Rattle.qq_raft_msg.specs.declared.rpc.VoteMsg.{VoteMsg}
 use Rattle.qq_raft_msg.specs.declared.rpc.VotedMsg.{VotedMsg}
 use Rattle.qq_raft_msg.specs.declared.state.Role.TheVariants.{Leader}
 use Rattle.qq_log.specs.Same.{same_vote}
-use Rattle.qq_raft_model.specs.Leading.{add_entry, advance, commit_within, append_to, ask, become_candidate, clear_vote, everyone, is_elected, lead, lead_if_elected, noop, pass, send, stand, start_peer}
-use Rattle.qq_raft_model.specs.Server.{Input, accept, appended, at_peer, back_peer, end, free, give_vote, grant_peer, greater, has_agreed, installed, is_match, is_peer, is_ready, lacks, learn, match_peer, may_grant, notice, receive, receive_append, receive_appended, receive_vote, receive_voted, refuse, refuse_entries, say_voted, send_again, step, step_back, still_waiting, submit, take_ack, take_entries, take_notice, tick, voted, write, write_missing}
+use Rattle.qq_raft_model.specs.Leading.{add_entry, advance, append_entry, commit_within, append_to, ask, become_candidate, clear_vote, everyone, flush, flush_within, is_elected, lags, lead, lead_if_elected, noop, pass, send, stand, start_peer}
+use Rattle.qq_raft_model.specs.Server.{Input, accept, add, appended, at_peer, back_peer, end, free, give_vote, grant_peer, greater, has_agreed, installed, is_match, is_peer, is_ready, lacks, learn, match_peer, may_grant, notice, receive, receive_append, receive_appended, receive_vote, receive_voted, refuse, refuse_entries, say_voted, send_again, step, step_back, still_waiting, submit, take_ack, take_entries, take_notice, tick, voted, write, write_missing}
 use Rattle.qq_raft_model.specs.State.{Server, change, enter, follow, is_candidate, is_leader, is_later, last, leader_in, say, say_all, vote_in, wait}
 use Rattle.qq_raft_model.specs.declared.peer.Peer.{Peer}
 use Rattle.qq_raft_model.specs.declared.peer.Waiting.{Waiting}
@@ -317,6 +317,28 @@ keeps-submit {node} {rest} time command s k =
     cond_both (is_ready s) (add_entry (record { term = s.term; time = time; command = command }) s) s (Keeps node rest)
     (λ _. keeps-add (record { term = s.term; time = time; command = command }) s k) (λ _. k)
 
+keeps-append : {node : NodeId} {rest : List NodeId} (time : ℕ) (command : Command) (s : Server) → Keeps node rest s
+    → Keeps node rest (add time command s)
+unfolding add
+keeps-append {node} {rest} time command s k =
+    let entry : Entry = record { term = s.term; time = time; command = command } in
+    cond_both (is_ready s) (append_entry entry s) s (Keeps node rest)
+    (λ _. keeps-change s.term s.vote (last s) (entry ∷ []) s k) (λ _. k)
+
+keeps-within : {node : NodeId} {rest : List NodeId} (n : ℕ) (s : Server) → Keeps node rest s
+    → Keeps node rest (flush_within n s)
+keeps-within zero s k = k
+keeps-within {node} {rest} (suc n) s k =
+    let next = send (lags (last s)) s in
+    cond_both (list_any (lags (last s)) s.peers) (flush_within n next) s (Keeps node rest)
+    (λ _. keeps-within n next (keeps-send (lags (last s)) s k)) (λ _. k)
+
+keeps-flush : {node : NodeId} {rest : List NodeId} (s : Server) → Keeps node rest s → Keeps node rest (flush s)
+unfolding flush
+keeps-flush {node} {rest} s k =
+    cond_both (is_leader s.role) (flush_within (last s + 1) s) s (Keeps node rest)
+    (λ _. keeps-within (last s + 1) s k) (λ _. k)
+
 free-all : (P : Rpc → Type 0) (op : ℕ) (ws : List Waiting) → AllByRecursion (λ (w : Waiting). P w.rpc) ws
     → AllByRecursion P (free op ws)
 free-all P op [] all = tt
@@ -353,4 +375,6 @@ pub keeps-step : {node : NodeId} {rest : List NodeId} (s : Server) (input : Inpu
 keeps-step s Input.Tick from k = keeps-tick s k
 keeps-step s (Input.Receive rpc) from k = keeps-receive rpc s from k
 keeps-step s (Input.Submit time command) from k = keeps-submit time command s k
+keeps-step s (Input.Add time command) from k = keeps-append time command s k
+keeps-step s Input.Flush from k = keeps-flush s k
 keeps-step s (Input.Notice op) from k = keeps-notice op s k

@@ -1,6 +1,7 @@
 -- Which number stands at its end where a refusal tells one.
 use Rattle.std.proofs.Common.{◌≡◌, ◌⊎◌, ◌^◌, List, ◌∷◌, ◌++◌, length, sym, subst, inl, inr, arith}
 use Rattle.qq_base.specs.declared.ids.Index.{Index}
+use Rattle.qq_base.specs.declared.memory.Memory.TheVariants.{Spent, Want}
 use Rattle.qq_base.specs.declared.memory.TheConstants.{NUMBER_END}
 use Rattle.qq_entry.specs.declared.command.Entry.{Entry}
 use Rattle.qq_raft_core.specs.Raft.{IsAtEnd}
@@ -27,6 +28,11 @@ pub queue-end : {P : Type 0} (S A : P → Type 0) (B : Type 0) (plain : P) → S
     → ((p : P) → S p → (NUMBER_END ≡ NUMBER_END) × A p) ⊎ ((NUMBER_END ≡ BAG_LIMIT) × B) → A plain
 queue-end S A B plain stood (inl own) = (own plain stood).1
 queue-end S A B plain stood (inr full) = absurd (limit-apart full.0)
+
+-- no number had a part in what only wants memory
+pub want-end : (B : Type 0) → (Spent NUMBER_END ≡ Want) ⊎ ((NUMBER_END ≡ BAG_LIMIT) × B) → ⊥
+want-end B (inl want) = absurd cc
+want-end B (inr full) = limit-apart full.0
 
 -- an entry raises a number of the queue past its end, once those before it are applied
 abbrev HasPassing :
@@ -62,3 +68,7 @@ pub queue-limit : {P : Type 0} (S A : P → Type 0) (B : Type 0) (plain : P) →
     → ((p : P) → S p → (BAG_LIMIT ≡ NUMBER_END) × A p) ⊎ ((BAG_LIMIT ≡ BAG_LIMIT) × B) → B
 queue-limit S A B plain stood (inl own) = absurd (end-apart (own plain stood).0)
 queue-limit S A B plain stood (inr full) = full.1
+
+pub want-limit : (B : Type 0) → (Spent BAG_LIMIT ≡ Want) ⊎ ((BAG_LIMIT ≡ BAG_LIMIT) × B) → B
+want-limit B (inl want) = absurd cc
+want-limit B (inr full) = full.1

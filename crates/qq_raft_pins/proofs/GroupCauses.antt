@@ -24,7 +24,7 @@ use Rattle.qq_group.specs.Events.{IsDeliveryCaused}
 use Rattle.qq_group.specs.Group.{HasState, IsServed, IsSound, server_at}
 use Rattle.qq_group.specs.Steps.{IsEventCaused}
 use Rattle.qq_group.specs.declared.event.Event.{Event}
-use Rattle.qq_group.specs.declared.event.Event.TheVariants.{Copy, Crash, Deliver, Lose, Notice, Submit, Tick}
+use Rattle.qq_group.specs.declared.event.Event.TheVariants.{Add, Copy, Crash, Deliver, Flush, Lose, Notice, Submit, Tick}
 use Rattle.qq_group.specs.declared.group.Group.{Group}
 
 -- ---- out of memory, or a number
@@ -46,6 +46,11 @@ told-limit (Spent number) P cause = inr (inr (ap Spent cause.0))
 told-own : (e : Memory) (A B : Type 0) → SpentOnlyWhere e NUMBER_END A ⊎ SpentOnlyWhere e BAG_LIMIT B → IsTold e
 told-own e A B (inl cause) = told-end e A cause
 told-own e A B (inr cause) = told-limit e B cause
+
+-- memory alone, or the bag
+told-want : (e : Memory) (B : Type 0) → (e ≡ Want) ⊎ SpentOnlyWhere e BAG_LIMIT B → IsTold e
+told-want e B (inl want) = inl want
+told-want e B (inr cause) = told-limit e B cause
 
 -- a number of the server or of its queue, or the bag
 told-queued : {P Q L : Type 0} (stands : P → Q → Type 0) (step : P → Index → Entry → Applied P)
@@ -97,6 +102,19 @@ told-event stands step passes log index_of (Submit node time command) old e soun
       | inl none ↦ absurd (rw none at cause)
       | inr up ↦ told-own e (IsAtEnd (server_of log up.0.raft))
           (BAG_LIMIT < length old.bag + length (step_raft (server_of log up.0.raft) (Input.Submit time command)).out)
+          (rw up.1 at cause)
+    ]
+told-event stands step passes log index_of (Add node time command) old e sound cause =
+    elim (cases-of (server_at node.0 old)) [
+      | inl none ↦ absurd (rw none at cause)
+      | inr up ↦ told-own e (IsAtEnd (server_of log up.0.raft))
+          (BAG_LIMIT < length old.bag + length (step_raft (server_of log up.0.raft) (Input.Add time command)).out)
+          (rw up.1 at cause)
+    ]
+told-event stands step passes log index_of (Flush node) old e sound cause =
+    elim (cases-of (server_at node.0 old)) [
+      | inl none ↦ absurd (rw none at cause)
+      | inr up ↦ told-want e (BAG_LIMIT < length old.bag + length (step_raft (server_of log up.0.raft) Input.Flush).out)
           (rw up.1 at cause)
     ]
 told-event stands step passes log index_of (Deliver place) old e sound cause =

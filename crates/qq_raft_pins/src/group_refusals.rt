@@ -10,7 +10,7 @@ ghost use Rattle.qq_raft_msg.specs.declared.rpc.Rpc.{Rpc};
 ghost use Rattle.qq_group.specs.Group.{IsSound, server_at};
 ghost use Rattle.qq_group.specs.Steps.{IsEventCaused};
 ghost use Rattle.qq_group.specs.declared.event.Event.{Event};
-ghost use Rattle.qq_group.specs.declared.event.Event.TheVariants.{Copy, Crash, Deliver, Lose, Notice, Submit, Tick};
+ghost use Rattle.qq_group.specs.declared.event.Event.TheVariants.{Add, Copy, Crash, Deliver, Flush, Lose, Notice, Submit, Tick};
 ghost use Rattle.qq_group.specs.declared.group.Group.{Group};
 
 use qq_raft_msg::{LogView, Queue};
@@ -25,7 +25,7 @@ pub fn a_loss_is_never_refused<Q: Queue, L: LogView>()
 
 /// A law: an event that reaches no server is never refused.
 ///
-/// - `tick`, `command`, `notice`: its member is down.
+/// - `tick`, `command`, `add`, `flush`, `notice`: its member is down.
 /// - `message`: so is the member that the message is for.
 /// - `nothing`: there is no such message.
 pub fn an_event_of_a_member_that_is_down_is_never_refused<Q: Queue, L: LogView>()
@@ -34,6 +34,11 @@ pub fn an_event_of_a_member_that_is_down_is_never_refused<Q: Queue, L: LogView>(
     ensures command { (node : NodeId) (time : ℕ) (command : Command) (old : Group Q L)
         (e : Memory) → server_at node.0 old ≡ None → IsEventCaused Q.stands Q.step Q.passes_end
         L.log (Submit node time command) old e → ⊥ }
+    ensures add { (node : NodeId) (time : ℕ) (command : Command) (old : Group Q L)
+        (e : Memory) → server_at node.0 old ≡ None → IsEventCaused Q.stands Q.step Q.passes_end
+        L.log (Add node time command) old e → ⊥ }
+    ensures flush { (node : NodeId) (old : Group Q L) (e : Memory) → server_at node.0 old ≡ None →
+        IsEventCaused Q.stands Q.step Q.passes_end L.log (Flush node) old e → ⊥ }
     ensures notice { (node : NodeId) (op : ℕ) (old : Group Q L) (e : Memory) →
         server_at node.0 old ≡ None →
         IsEventCaused Q.stands Q.step Q.passes_end L.log (Notice node op) old e → ⊥ }

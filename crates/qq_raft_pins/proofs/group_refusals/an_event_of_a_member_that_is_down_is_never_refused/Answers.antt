@@ -16,3 +16,9 @@ returns-clause-message g c = λ place old rpc e there down cause.
 
 pub returns-clause-nothing : goal.returns-clause-nothing
 returns-clause-nothing g c = λ place old e none cause. rw none at cause
+
+pub returns-clause-add : goal.returns-clause-add
+returns-clause-add g c = λ node time command old e down cause. rw down at cause
+
+pub returns-clause-flush : goal.returns-clause-flush
+returns-clause-flush g c = λ node old e down cause. rw down at cause

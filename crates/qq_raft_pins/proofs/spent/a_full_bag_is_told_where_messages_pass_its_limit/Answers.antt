@@ -1,7 +1,7 @@
 use Rattle.qq_raft_msg.specs.Rpc.{envelope}
 use Rattle.qq_group.specs.Group.{server_at}
 use Rattle.qq_raft_pins.proofs.GroupCauses.{served-state}
-use Rattle.qq_raft_pins.proofs.Ends.{own-limit, queue-limit}
+use Rattle.qq_raft_pins.proofs.Ends.{own-limit, queue-limit, want-limit}
 use Rattle.qq_raft_pins.proofs.spent.a_full_bag_is_told_where_messages_pass_its_limit.Goals as goal
 
 pub returns-clause-tick : goal.returns-clause-tick
@@ -23,3 +23,9 @@ returns-clause-notice g c = λ node op old s sound up cause.
     let has = served-state g.Q.Queue.stands g.L.LogView.log g.Q.Queue.applied (server_at node.0 old) s up
     (sound.servers node.0) in
     queue-limit (λ p. g.Q.Queue.stands p s.machine) _ _ has.0 has.1 (rw up at cause)
+
+pub returns-clause-add : goal.returns-clause-add
+returns-clause-add g c = λ node time command old s up cause. own-limit _ _ (rw up at cause)
+
+pub returns-clause-flush : goal.returns-clause-flush
+returns-clause-flush g c = λ node old s up cause. want-limit _ (rw up at cause)

@@ -2,7 +2,7 @@ use Rattle.qq_raft_core.specs.Raft.{server_of}
 use Rattle.qq_raft_model.specs.Server.{notice, receive}
 use Rattle.qq_raft.specs.Stands.{state_of}
 use Rattle.qq_raft.specs.Step.{with_raft}
-use Rattle.qq_raft_pins.proofs.Ends.{end-or-passing, own-end, queue-end}
+use Rattle.qq_raft_pins.proofs.Ends.{end-or-passing, own-end, queue-end, want-end}
 use Rattle.qq_raft_pins.proofs.spent.an_end_is_told_where_a_number_stands_at_it.Goals as goal
 
 pub returns-clause-tick : goal.returns-clause-tick
@@ -23,3 +23,9 @@ returns-clause-notice g c = λ node op old s plain made up stood is cause.
     end-or-passing g.Q.Queue.step g.Q.Queue.passes_end (server_of g.L.LogView.log s.raft)
     (with_raft (notice op (server_of g.L.LogView.log s.raft)) (state_of g.L.LogView.log plain s)) made is
     (queue-end (λ p. g.Q.Queue.stands p s.machine) _ _ plain stood (rw up at cause))
+
+pub returns-clause-add : goal.returns-clause-add
+returns-clause-add g c = λ node time command old s up cause. own-end _ _ (rw up at cause)
+
+pub returns-clause-flush : goal.returns-clause-flush
+returns-clause-flush g c = λ node old s up cause. want-end _ (rw up at cause)

@@ -1,3 +1,4 @@
+use Rattle.std.proofs.Common.{ap}
 use Rattle.qq_group.proofs.Notices.{down-crashes, taken-down}
 use Rattle.qq_group.proofs.Returning.{taken-returned}
 use Rattle.qq_group.proofs.Stepped.{taken-crashes, taken-others}
@@ -24,3 +25,8 @@ returns-clause-others g c =
 pub returns-clause-returned : goal.returns-clause-returned
 returns-clause-returned g c =
     taken-returned c.args.node.0 c.in-Some.field-0 c.args.self.now c.take_server.new.self c.in-Some.ensures.taken
+
+pub returns-clause-adds : goal.returns-clause-adds
+returns-clause-adds g c =
+    let taken = c.in-Some.ensures.taken in
+    record { bag_is = taken.bag; audit_is = ap (λ a. a.items) taken.audit }

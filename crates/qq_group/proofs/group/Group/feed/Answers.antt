@@ -1,72 +1,66 @@
-use Rattle.qq_group.specs.Input.{acts, input_of}
-use Rattle.qq_group.proofs.Inputs.{does-step}
-use Rattle.qq_group.proofs.Returning.{settled-returned, taken-returned, undone-returned}
-use Rattle.qq_group.proofs.Stepped.{full-caused, settled-others, shown, stepped, taken-crashes, taken-others, taken-within, undone-makes, undone-others}
+use Rattle.std.proofs.Common.{ap}
+use Rattle.qq_group.specs.Input.{acts}
+use Rattle.qq_group.proofs.Returning.{changes-returned}
+use Rattle.qq_group.proofs.Stepped.{adds-step, changed-others, dropped-crashes, has-state, shown, stepped}
 use Rattle.qq_group.proofs.group.Group.feed.Goals as goal
+
+pub returns-in-Ok-clause-ok : goal.returns-in-Ok-clause-ok
+returns-in-Ok-clause-ok g c =
+    let made = c.in-Ok.ensures.ok in
+    stepped g.Q.Queue.stands g.Q.Queue.step g.L.LogView.log c.what_a_group_committed_stays.ensures.known c.args.node.0
+    c.args.input made.seat made.now c.in-Ok.shown.rows.items c.args.self.now c.feed_seat.new.self made.changes
+    (has-state g.Q.Queue.stands g.L.LogView.log g.Q.Queue.applied c.args.node.0 made.seat c.args.self.now
+    c.requires.sound made.changes.there) made.fed
+
+pub returns-in-Ok-clause-rows : goal.returns-in-Ok-clause-rows
+returns-in-Ok-clause-rows g c =
+    let made = c.in-Ok.ensures.ok in
+    shown g.Q.Queue.stands g.L.LogView.log (acts g.Q.Queue.step c.args.input) c.args.node.0 made.seat made.now
+    c.in-Ok.shown.rows.items c.args.self.now c.feed_seat.new.self made.changes made.fed
+
+pub returns-in-Ok-clause-nodes : goal.returns-in-Ok-clause-nodes
+returns-in-Ok-clause-nodes g c = c.in-Ok.ensures.ok.changes.nodes
+
+pub returns-in-Ok-clause-others : goal.returns-in-Ok-clause-others
+returns-in-Ok-clause-others g c =
+    let made = c.in-Ok.ensures.ok in
+    changed-others c.args.node.0 made.seat made.now c.args.self.now c.feed_seat.new.self made.changes
+
+pub returns-in-Ok-clause-returned : goal.returns-in-Ok-clause-returned
+returns-in-Ok-clause-returned g c =
+    let made = c.in-Ok.ensures.ok in
+    changes-returned c.args.node.0 made.seat made.now c.args.self.now c.feed_seat.new.self made.changes
+    (ap (λ x. x.returned) made.fed.seat)
 
 pub returns-in-Err-clause-err : goal.returns-in-Err-clause-err
 returns-in-Err-clause-err g c =
-    taken-crashes g.L.LogView.log c.args.node.0 c.in-Some.server c.args.self.now c.take_server.new.self
-    c.in-Some.ensures.taken
+    let made = c.in-Err.ensures.err in
+    dropped-crashes g.L.LogView.log c.args.node.0 made.seat made.now c.args.self.now c.feed_seat.new.self made.changes
+    made.dropped
+
+pub returns-in-Err-clause-nodes : goal.returns-in-Err-clause-nodes
+returns-in-Err-clause-nodes g c = c.in-Err.ensures.err.changes.nodes
 
 pub returns-in-Err-clause-others : goal.returns-in-Err-clause-others
 returns-in-Err-clause-others g c =
-    taken-others c.args.node.0 c.in-Some.server c.args.self.now c.take_server.new.self c.in-Some.ensures.taken
-
-pub settle-requires-clause-there : goal.settle-requires-clause-there
-settle-requires-clause-there g c =
-    taken-within c.args.node.0 c.in-Some.server c.args.self.now c.take_server.new.self c.in-Some.ensures.taken
-
-pub returns-in-Ok-settle-clause-ok : goal.returns-in-Ok-settle-clause-ok
-returns-in-Ok-settle-clause-ok g c =
-    let log = g.L.LogView.log in
-    stepped log c.what_a_group_committed_stays.ensures.known c.args.node.0 (input_of c.args.input) c.in-Some.server
-    c.act.new.server c.args.self.now c.take_server.new.self c.settle.new.self c.in-Some.ensures.taken
-    (does-step g.Q.Queue.stands g.Q.Queue.step log c.args.input c.in-Some.server c.act.new.server
-    c.in-Some.ensures.serving.state c.in-Ok.ensures.ok) c.in-Ok-settle.ensures.ok
-
-pub returns-in-Ok-settle-clause-rows : goal.returns-in-Ok-settle-clause-rows
-returns-in-Ok-settle-clause-rows g c =
-    shown g.Q.Queue.stands g.L.LogView.log (acts g.Q.Queue.step c.args.input) c.args.node.0 c.in-Some.server
-    c.act.new.server c.args.self.now c.take_server.new.self c.settle.new.self c.in-Ok-settle.rows.items
-    c.in-Some.ensures.taken c.in-Ok.ensures.ok c.in-Ok-settle.ensures.ok c.in-Ok-settle.ensures.rows
-
-pub returns-in-Ok-settle-clause-others : goal.returns-in-Ok-settle-clause-others
-returns-in-Ok-settle-clause-others g c =
-    settled-others g.L.LogView.log c.args.node.0 c.act.new.server c.args.self.now c.take_server.new.self c.settle.new.self
-    (taken-others c.args.node.0 c.in-Some.server c.args.self.now c.take_server.new.self c.in-Some.ensures.taken)
-    c.in-Ok-settle.ensures.ok
-
-pub returns-in-Err-settle-clause-err : goal.returns-in-Err-settle-clause-err
-returns-in-Err-settle-clause-err g c =
-    undone-makes g.L.LogView.log _ c.args.self.now c.take_server.new.self c.settle.new.self
-    (taken-crashes g.L.LogView.log c.args.node.0 c.in-Some.server c.args.self.now c.take_server.new.self
-    c.in-Some.ensures.taken) c.in-Err-settle.ensures.err
-
-pub returns-in-Err-settle-clause-others : goal.returns-in-Err-settle-clause-others
-returns-in-Err-settle-clause-others g c =
-    undone-others c.args.node.0 c.args.self.now c.take_server.new.self c.settle.new.self
-    (taken-others c.args.node.0 c.in-Some.server c.args.self.now c.take_server.new.self c.in-Some.ensures.taken)
-    c.in-Err-settle.ensures.err
-
-pub returns-in-Err-settle-clause-cause : goal.returns-in-Err-settle-clause-cause
-returns-in-Err-settle-clause-cause g c =
-    let log = g.L.LogView.log in
-    full-caused g.Q.Queue.stands g.Q.Queue.step g.Q.Queue.passes_end log c.args.input c.args.node.0 c.in-Some.server
-    c.act.new.server c.args.self.now c.take_server.new.self c.in-Err-settle.cause c.in-Some.ensures.taken
-    (does-step g.Q.Queue.stands g.Q.Queue.step log c.args.input c.in-Some.server c.act.new.server
-    c.in-Some.ensures.serving.state c.in-Ok.ensures.ok) c.in-Err-settle.ensures.cause
+    let made = c.in-Err.ensures.err in
+    changed-others c.args.node.0 made.seat made.now c.args.self.now c.feed_seat.new.self made.changes
 
 pub returns-in-Err-clause-returned : goal.returns-in-Err-clause-returned
 returns-in-Err-clause-returned g c =
-    taken-returned c.args.node.0 c.in-Some.server c.args.self.now c.take_server.new.self c.in-Some.ensures.taken
+    let made = c.in-Err.ensures.err in
+    changes-returned c.args.node.0 made.seat made.now c.args.self.now c.feed_seat.new.self made.changes
+    (ap (λ x. x.returned) made.dropped.seat)
 
-pub returns-in-Ok-settle-clause-returned : goal.returns-in-Ok-settle-clause-returned
-returns-in-Ok-settle-clause-returned g c =
-    settled-returned g.L.LogView.log c.args.node.0 c.in-Some.server c.act.new.server c.args.self.now
-    c.take_server.new.self c.settle.new.self c.in-Some.ensures.taken c.in-Ok-settle.ensures.ok
+pub returns-in-Ok-clause-adds : goal.returns-in-Ok-clause-adds
+returns-in-Ok-clause-adds g c =
+    let made = c.in-Ok.ensures.ok in
+    adds-step g.Q.Queue.stands g.Q.Queue.step g.L.LogView.log c.args.node.0 c.args.input made.seat made.now
+    c.in-Ok.shown.rows.items c.args.self.now c.feed_seat.new.self made.changes
+    (has-state g.Q.Queue.stands g.L.LogView.log g.Q.Queue.applied c.args.node.0 made.seat c.args.self.now
+    c.requires.sound made.changes.there) made.fed
 
-pub returns-in-Err-settle-clause-returned : goal.returns-in-Err-settle-clause-returned
-returns-in-Err-settle-clause-returned g c =
-    undone-returned c.args.node.0 c.in-Some.server c.args.self.now c.take_server.new.self c.settle.new.self
-    c.in-Some.ensures.taken c.in-Err-settle.ensures.err
+pub returns-in-Err-clause-adds_err : goal.returns-in-Err-clause-adds_err
+returns-in-Err-clause-adds_err g c =
+    let made = c.in-Err.ensures.err in
+    record { bag_is = made.dropped.bag_is; audit_is = made.dropped.audit_is }

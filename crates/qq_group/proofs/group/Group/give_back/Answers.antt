@@ -1,7 +1,8 @@
 use Rattle.std.proofs.Common.{refl, sym, Some, ◌∙◌}
 use Rattle.std.specs.Prelude.{slice_get}
 use Rattle.qq_group.specs.Handing.{takes_back}
-use Rattle.qq_group.proofs.Returning.{given, there-of}
+use Rattle.qq_group.proofs.Returning.{given}
+use Rattle.qq_group.proofs.Seats.{there-of}
 use Rattle.qq_group.proofs.Taking.{refilled}
 use Rattle.qq_group.proofs.group.Group.give_back.Goals as goal
 

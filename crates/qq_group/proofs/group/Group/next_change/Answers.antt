@@ -88,3 +88,15 @@ returns-in-Ok-clause-audit g c = c.in-Ok.ensures.ok.audit ∙ c.in-Some.ensures.
 
 pub returns-in-Err-clause-audit : goal.returns-in-Err-clause-audit
 returns-in-Err-clause-audit g c = c.in-Err.ensures.err.only.audit ∙ c.in-Some.ensures.taken.audit
+
+pub returns-in_default-clause-bag : goal.returns-in_default-clause-bag
+returns-in_default-clause-bag g c = ap (λ (x : Group _ _). x.bag) c.in_default.ensures.none.0
+
+pub returns-in-None-clause-bag : goal.returns-in-None-clause-bag
+returns-in-None-clause-bag g c = c.reseat.ensures.put.bag ∙ c.in-Some.ensures.taken.bag
+
+pub returns-in-Ok-clause-bag : goal.returns-in-Ok-clause-bag
+returns-in-Ok-clause-bag g c = c.in-Ok.ensures.ok.bag ∙ c.in-Some.ensures.taken.bag
+
+pub returns-in-Err-clause-bag : goal.returns-in-Err-clause-bag
+returns-in-Err-clause-bag g c = c.in-Err.ensures.err.only.bag ∙ c.in-Some.ensures.taken.bag

@@ -16,6 +16,16 @@ returns-in-Submit-clause-err g c =
     (Makes g.L.LogView.log (refused_by e) c.args.self.now c.submit.new.self)) (sym c.in-Submit.is)
     c.submit.ensures.err
 
+pub returns-in-Add-clause-err : goal.returns-in-Add-clause-err
+returns-in-Add-clause-err g c =
+    subst (λ (e : Event). OnErr c.add.result
+    (Makes g.L.LogView.log (refused_by e) c.args.self.now c.add.new.self)) (sym c.in-Add.is) c.add.ensures.err
+
+pub returns-in-Flush-clause-err : goal.returns-in-Flush-clause-err
+returns-in-Flush-clause-err g c =
+    subst (λ (e : Event). OnErr c.flush.result
+    (Makes g.L.LogView.log (refused_by e) c.args.self.now c.flush.new.self)) (sym c.in-Flush.is) c.flush.ensures.err
+
 pub returns-in-Notice-clause-err : goal.returns-in-Notice-clause-err
 returns-in-Notice-clause-err g c =
     subst (λ (e : Event). OnErr c.notice.result

@@ -4,7 +4,8 @@ use Rattle.std.proofs.lemmas.Result.{IfOk-weaker, on_ok_weaker}
 use Rattle.qq_log.specs.declared.op.Op.{Op}
 use Rattle.qq_group.specs.Group.{server_by}
 use Rattle.qq_group.specs.Handing.{has_returned, next_at, next_by, returned_at}
-use Rattle.qq_group.proofs.Returning.{any-some, left-after, left-none, none-returned, refilled-queue, there-of}
+use Rattle.qq_group.proofs.Returning.{any-some, left-after, left-none, none-returned, refilled-queue}
+use Rattle.qq_group.proofs.Seats.{there-of}
 use Rattle.qq_group.proofs.Taking.{again-handed, first-handed, returned-next, server-next}
 use Rattle.qq_group.proofs.group.Group.waiting.Goals as goal
 
@@ -62,3 +63,6 @@ returns-then-has_returned-clause-queue g c =
 
 pub returns-then-has_returned-clause-audit : goal.returns-then-has_returned-clause-audit
 returns-then-has_returned-clause-audit g c = c.refill.ensures.refills.only.audit
+
+pub returns-then-has_returned-clause-bag : goal.returns-then-has_returned-clause-bag
+returns-then-has_returned-clause-bag g c = c.refill.ensures.refills.only.bag

@@ -1,0 +1,108 @@
+use Rattle.std.proofs.Common.{◌≡◌, length, Some, refl, ap, subst, sym, ◌∙◌}
+use Rattle.std.specs.Prelude.{slice_get, is_some}
+use Rattle.std.proofs.lemmas.List.{length-set}
+use Rattle.std.proofs.lemmas.Option.{slice_get_read}
+use Rattle.qq_group.specs.Group.{IsReturned, IsServed, server_by}
+use Rattle.qq_group.specs.Input.{fed_outcome, IsInputCaused, MayReach}
+use Rattle.qq_group.proofs.Seats.{served-put, returned-put, returned-at}
+use Rattle.qq_group.proofs.group.Group.feed_seat.Goals as goal
+
+pub feed-requires-clause-up : goal.feed-requires-clause-up
+feed-requires-clause-up g c =
+    sym (ap (λ o. is_some (server_by o)) (
+    slice_get_read c.args.self.now.seats.items (length c.args.self.now.seats.items) c.args.node.0 c.in-Some.seat.now refl
+    c.requires.there c.in-Some.ensures.value))
+    ∙ c.requires.up
+
+pub feed-requires-clause-served : goal.feed-requires-clause-served
+feed-requires-clause-served g c =
+    subst (λ o. IsServed g.Q.Queue.stands g.L.LogView.log g.Q.Queue.applied (server_by o)) (
+    slice_get_read c.args.self.now.seats.items (length c.args.self.now.seats.items) c.args.node.0 c.in-Some.seat.now refl
+    c.requires.there c.in-Some.ensures.value)
+    (c.requires.sound.servers c.args.node.0)
+
+pub feed-requires-clause-input : goal.feed-requires-clause-input
+feed-requires-clause-input g c =
+    subst (λ o. MayReach g.L.LogView.log c.args.input (server_by o)) (
+    slice_get_read c.args.self.now.seats.items (length c.args.self.now.seats.items) c.args.node.0 c.in-Some.seat.now refl
+    c.requires.there c.in-Some.ensures.value)
+    c.requires.input
+
+pub returns-in-Ok-clause-ok : goal.returns-in-Ok-clause-ok
+returns-in-Ok-clause-ok g c = record {
+  seat = c.in-Some.seat.now;
+  now = c.feed.new.self;
+  changes = record {
+    there = slice_get_read c.args.self.now.seats.items (length c.args.self.now.seats.items) c.args.node.0 c.in-Some.seat.now refl
+        c.requires.there c.in-Some.ensures.value;
+    seats = refl;
+    queue = refl;
+    nodes = refl;
+  };
+  fed = c.in-Ok.ensures.ok;
+}
+
+pub returns-in-Err-clause-err : goal.returns-in-Err-clause-err
+returns-in-Err-clause-err g c = record {
+  seat = c.in-Some.seat.now;
+  now = c.feed.new.self;
+  changes = record {
+    there = slice_get_read c.args.self.now.seats.items (length c.args.self.now.seats.items) c.args.node.0 c.in-Some.seat.now refl
+        c.requires.there c.in-Some.ensures.value;
+    seats = refl;
+    queue = refl;
+    nodes = refl;
+  };
+  dropped = c.in-Err.ensures.err;
+}
+
+pub returns-in-Ok-clause-outcome : goal.returns-in-Ok-clause-outcome
+returns-in-Ok-clause-outcome g c =
+    c.in-Ok.ensures.outcome
+    ∙ ap (λ o. fed_outcome g.L.LogView.log c.args.input (server_by o)) (sym (
+    slice_get_read c.args.self.now.seats.items (length c.args.self.now.seats.items) c.args.node.0 c.in-Some.seat.now refl
+    c.requires.there c.in-Some.ensures.value))
+
+pub returns-in-Err-clause-cause : goal.returns-in-Err-clause-cause
+returns-in-Err-clause-cause g c =
+    subst (λ o. IsInputCaused g.Q.Queue.stands g.Q.Queue.step g.Q.Queue.passes_end g.L.LogView.log c.args.input
+    c.args.self.now.bag (server_by o) c.in-Err.cause) (sym (
+    slice_get_read c.args.self.now.seats.items (length c.args.self.now.seats.items) c.args.node.0 c.in-Some.seat.now refl
+    c.requires.there c.in-Some.ensures.value))
+    c.in-Err.ensures.cause
+
+pub returns-in-Ok-clause-sound : goal.returns-in-Ok-clause-sound
+returns-in-Ok-clause-sound g c =
+    let seats = c.args.self.now.seats.items in
+    let k = c.args.node.0 in
+    let there : slice_get seats k ≡ Some c.in-Some.seat.now =
+    slice_get_read seats (length seats) k c.in-Some.seat.now refl c.requires.there c.in-Some.ensures.value in
+    record {
+      servers = served-put g.Q.Queue.stands g.L.LogView.log g.Q.Queue.applied seats k c.feed.new.self c.requires.there
+          c.feed.ensures.served c.requires.sound.servers;
+      returned = returned-put seats k c.feed.new.self c.requires.there
+          (subst IsReturned (sym c.feed.ensures.returned)
+          (returned-at seats k c.in-Some.seat.now there c.requires.sound.returned)) c.requires.sound.returned;
+      bag = c.feed.ensures.bag;
+      nodes = c.requires.sound.nodes;
+      count = c.requires.sound.count;
+      seats = length-set seats k c.feed.new.self ∙ c.requires.sound.seats;
+    }
+
+pub returns-in-Err-clause-sound : goal.returns-in-Err-clause-sound
+returns-in-Err-clause-sound g c =
+    let seats = c.args.self.now.seats.items in
+    let k = c.args.node.0 in
+    let there : slice_get seats k ≡ Some c.in-Some.seat.now =
+    slice_get_read seats (length seats) k c.in-Some.seat.now refl c.requires.there c.in-Some.ensures.value in
+    record {
+      servers = served-put g.Q.Queue.stands g.L.LogView.log g.Q.Queue.applied seats k c.feed.new.self c.requires.there
+          c.feed.ensures.served c.requires.sound.servers;
+      returned = returned-put seats k c.feed.new.self c.requires.there
+          (subst IsReturned (sym c.feed.ensures.returned)
+          (returned-at seats k c.in-Some.seat.now there c.requires.sound.returned)) c.requires.sound.returned;
+      bag = c.feed.ensures.bag;
+      nodes = c.requires.sound.nodes;
+      count = c.requires.sound.count;
+      seats = length-set seats k c.feed.new.self ∙ c.requires.sound.seats;
+    }
