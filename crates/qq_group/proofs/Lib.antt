@@ -17,5 +17,6 @@ mod Seats
 mod Settles
 mod Starting
 mod Stepped
+mod Supported
 mod Taking
 mod Travel
