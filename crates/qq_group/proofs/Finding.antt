@@ -52,29 +52,29 @@ idle-length (suc m) =
     let is : length (idle m) ≡ m = idle-length m in
     omega (arith, more, is)
 
-abbrev ops_by : ℕ → LogState → List Op
+abbrev pub ops_by : ℕ → LogState → List Op
 ops_by zero l = []
 ops_by (suc m) l = idle m ++ set_log (suc m) l.term l.vote l.entries ∷ []
 
-abbrev state_by : ℕ → LogState → Stable
+abbrev pub state_by : ℕ → LogState → Stable
 state_by zero l = new_state
 state_by (suc m) l = made (suc m) l.term l.vote l.entries
 
-by-stable : (n : ℕ) (l : LogState) → stable (ops_by n l) ≡ Some (state_by n l)
+pub by-stable : (n : ℕ) (l : LogState) → stable (ops_by n l) ≡ Some (state_by n l)
 by-stable zero l = refl
 by-stable (suc m) l =
     fold-append then_apply (Some new_state) (idle m) (set_log (suc m) l.term l.vote l.entries ∷ [])
     ∙ ap (λ o. then_apply o (set_log (suc m) l.term l.vote l.entries)) (idle-state m)
     ∙ next-op m l.term l.vote l.entries
 
-by-length : (n : ℕ) (l : LogState) → length (ops_by n l) ≡ n
+pub by-length : (n : ℕ) (l : LogState) → length (ops_by n l) ≡ n
 by-length zero l = refl
 by-length (suc m) l =
     let more : length (ops_by (suc m) l) ≡ length (idle m) + 1 = length-append (idle m) _ in
     let is : length (idle m) ≡ m = idle-length m in
     omega (arith, more, is)
 
-by-plain : (n : ℕ) (l : LogState) → (n ≡ 0 → IsUnused l)
+pub by-plain : (n : ℕ) (l : LogState) → (n ≡ 0 → IsUnused l)
     → state_by n l ≡ plain_state n l.term l.vote l.entries
 by-plain zero l unused =
     let u = unused refl in
@@ -113,7 +113,7 @@ abbrev seats_of : {Q L : Type 0} → (L → LogState) → List (Start Q L) → �
 seats_of log [] = λ k. empty_seat
 seats_of log (s ∷ starts) = put s.0.0 (left_by log s.1) (seats_of log starts)
 
-abbrev group_of : QueueId → List NodeId → List Entry → (ℕ → SeatState) → GroupState
+abbrev pub group_of : QueueId → List NodeId → List Entry → (ℕ → SeatState) → GroupState
 group_of queue nodes audit seats =
     record { queue = queue; nodes = nodes; seat = seats; bag = []; audit = audit }
 

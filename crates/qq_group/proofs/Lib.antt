@@ -15,5 +15,6 @@ mod Returning
 mod Seats
 mod Starting
 mod Stepped
+mod Supported
 mod Taking
 mod Travel

@@ -5,19 +5,19 @@ use Rattle.std.proofs.Math.Seq.{drop-append_seam}
 use Rattle.std.proofs.Math.ListN.{drop_of_length-le}
 use Rattle.qq_base.specs.Fronts.{IsFront}
 use Rattle.qq_base.proofs.Fronts.{front-shorter}
-use Rattle.qq_base.specs.declared.ids.NodeId.{NodeId}
-use Rattle.qq_base.specs.declared.ids.QueueId.{QueueId}
 use Rattle.qq_entry.specs.declared.command.Entry.{Entry}
+use Rattle.qq_base.specs.declared.ids.NodeId.{NodeId}
 use Rattle.qq_raft_protocol.specs.Moves.{longer}
+use Rattle.qq_raft_protocol.specs.Safe.{IsSupported}
 use Rattle.qq_log.specs.Stable.{Stable, stable}
 use Rattle.qq_log.specs.declared.op.Op.{Op}
 use Rattle.qq_raft_msg.specs.Rpc.{envelope}
 use Rattle.qq_raft_msg.specs.declared.rpc.Rpc.{Rpc}
 use Rattle.qq_raft_model.specs.Server.{Input}
 use Rattle.qq_raft_model.specs.State.{Server}
-use Rattle.qq_raft_model.specs.Group.{Event, Group, deliver_by, feed, feed_by, from_new, group_after, happens, may_restart, new_group, restart_by, take_by, take_op}
+use Rattle.qq_raft_model.specs.Group.{Event, Group, deliver_by, feed, feed_by, group_after, happens, may_restart, restart_by, take_by, take_op}
 use Rattle.qq_raft_model.specs.Group.Event.{Tick, Submit, Add, Flush, Deliver, Lose, Copy, Take, Notice, Crash, Restart}
-use Rattle.qq_raft_model.specs.Promises.{AreDistinct, IsUp}
+use Rattle.qq_raft_model.specs.Promises.{AreDistinct, IsLeft, IsOpened, IsUp, members_of, whole_audit}
 use Rattle.qq_group.specs.Group.{IsReached}
 use Rattle.qq_group.specs.Step.{extended}
 
@@ -28,42 +28,46 @@ after-append g (e ∷ xs) ys = after-append (happens e g) xs ys
 -- further events lead on
 pub reached-after : (g : Group) (more : List Event) → IsReached g → IsReached (group_after g more)
 reached-after g more r = record {
-  queue = r.queue;
-  nodes = r.nodes;
-  events = r.events ++ more;
+  start = r.start;
+  whole = r.whole;
   distinct = r.distinct;
-  is = ap (λ (h : Group). group_after h more) r.is
-      ∙ sym (after-append (from_new r.queue r.nodes []) r.events more);
+  opened = r.opened;
+  events = r.events ++ more;
+  is = ap (λ (h : Group). group_after h more) r.is ∙ sym (after-append r.start r.events more);
 }
+
+pub reached-opened : (g : Group) (whole : List Entry) → AreDistinct g.nodes → IsOpened g whole → IsReached g
+reached-opened g whole distinct opened =
+    record { start = g; whole = whole; distinct = distinct; opened = opened; events = []; is = refl }
 
 pub reached-next : (g : Group) (e : Event) → IsReached g → IsReached (happens e g)
 reached-next g e r = reached-after g (e ∷ []) r
 
--- ---- the laws of what was committed (`what_a_group_committed_stays` of `qq_group_model`)
+-- ---- the laws of what was committed (`what_a_group_committed_stays` of `qq_raft_model`)
 
 abbrev pub KnownLaw : Type 0
 KnownLaw =
-    (queue : QueueId) (nodes : List NodeId) (events : List Event) (k : ℕ) (s : Server) → AreDistinct nodes
-    → IsUp (from_new queue nodes events) k s → IsFront (take s.commit s.log) (from_new queue nodes events).audit
+    (g : Group) (whole : List Entry) (events : List Event) (k : ℕ) (s : Server) → AreDistinct g.nodes
+    → IsOpened g whole → IsUp (group_after g events) k s → IsFront (take s.commit s.log) (group_after g events).audit
 
 abbrev pub AuditLaw : Type 0
 AuditLaw =
-    (queue : QueueId) (nodes : List NodeId) (first second : List Event) → AreDistinct nodes
-    → IsFront (from_new queue nodes first).audit (group_after (from_new queue nodes first) second).audit
+    (g : Group) (whole : List Entry) (first second : List Event) → AreDistinct g.nodes → IsOpened g whole
+    → IsFront (group_after g first).audit (group_after (group_after g first) second).audit
 
 -- what a server knows to be committed begins the audit
 pub known-front : KnownLaw → (g : Group) (k : ℕ) (s : Server) → IsReached g → IsUp g k s
     → IsFront (take s.commit s.log) g.audit
 known-front law g k s r up =
     subst (λ (h : Group). IsFront (take s.commit s.log) h.audit) (sym r.is)
-    (law r.queue r.nodes r.events k s r.distinct (subst (λ (h : Group). IsUp h k s) r.is up))
+    (law r.start r.whole r.events k s r.distinct r.opened (subst (λ (h : Group). IsUp h k s) r.is up))
 
 -- the audit only grows
 pub audit-front : AuditLaw → (g : Group) (more : List Event) → IsReached g
     → IsFront g.audit (group_after g more).audit
 audit-front law g more r =
     subst (λ (h : Group). IsFront h.audit (group_after h more).audit) (sym r.is)
-    (law r.queue r.nodes r.events more r.distinct)
+    (law r.start r.whole r.events more r.distinct r.opened)
 
 -- ---- the longer of two fronts
 
@@ -131,5 +135,32 @@ events-nodes : (events : List Event) (g : Group) → (group_after g events).node
 events-nodes [] g = refl
 events-nodes (e ∷ es) g = events-nodes es (happens e g) ∙ event-nodes e g
 
-pub reached-nodes : (g : Group) (r : IsReached g) → r.nodes ≡ g.nodes
-reached-nodes g r = sym (ap (λ (h : Group). h.nodes) r.is ∙ events-nodes r.events (new_group r.queue r.nodes))
+pub reached-nodes : (g : Group) (r : IsReached g) → r.start.nodes ≡ g.nodes
+reached-nodes g r = sym (ap (λ (h : Group). h.nodes) r.is ∙ events-nodes r.events r.start)
+
+-- ---- what the logs of a reached group support
+
+abbrev pub SupportLaw : Type 0
+SupportLaw =
+    (g : Group) (whole : List Entry) (events : List Event) → AreDistinct g.nodes → IsOpened g whole
+    → IsSupported (members_of g.nodes) (IsLeft (group_after g events)) (whole_audit whole (group_after g events))
+
+abbrev pub WholeLaw : Type 0
+WholeLaw =
+    (g : Group) (whole : List Entry) (events : List Event) → AreDistinct g.nodes → IsOpened g whole
+    → IsFront whole (whole_audit whole (group_after g events))
+    × IsFront (group_after g events).audit (whole_audit whole (group_after g events))
+
+pub reached-supported : SupportLaw → (g : Group) (r : IsReached g)
+    → IsSupported (members_of g.nodes) (IsLeft g) (whole_audit r.whole g)
+reached-supported law g r =
+    subst (λ (nodes : List NodeId). IsSupported (members_of nodes) (IsLeft g) (whole_audit r.whole g))
+    (reached-nodes g r)
+    (subst (λ (h : Group). IsSupported (members_of r.start.nodes) (IsLeft h) (whole_audit r.whole h)) (sym r.is)
+    (law r.start r.whole r.events r.distinct r.opened))
+
+pub reached-whole : WholeLaw → (g : Group) (r : IsReached g)
+    → IsFront r.whole (whole_audit r.whole g) × IsFront g.audit (whole_audit r.whole g)
+reached-whole law g r =
+    subst (λ (h : Group). IsFront r.whole (whole_audit r.whole h) × IsFront h.audit (whole_audit r.whole h)) (sym r.is)
+    (law r.start r.whole r.events r.distinct r.opened)

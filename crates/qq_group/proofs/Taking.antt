@@ -3,17 +3,16 @@ use Rattle.std.proofs.Common.{◌≡◌, ◌⊎◌, ℕ, ◌+◌, ◌≤◌, Lis
 use Rattle.std.specs.Prelude.{◌&&◌, is_some, slice_get}
 use Rattle.std.proofs.lemmas.Bool.{cases_eq, false≢true}
 use Rattle.std.proofs.lemmas.Option.{none-some}
-use Rattle.qq_base.specs.declared.ids.NodeId.{NodeId}
-use Rattle.qq_base.specs.declared.ids.QueueId.{QueueId}
 use Rattle.qq_base.specs.declared.memory.TheConstants.{NUMBER_END}
+use Rattle.qq_entry.specs.declared.command.Entry.{Entry}
 use Rattle.qq_log.specs.Log.{LogState}
 use Rattle.qq_log.specs.declared.op.Op.{Op}
 use Rattle.qq_raft_core.specs.Raft.{server_of}
 use Rattle.qq_raft_model.specs.State.{Server as Raft}
 use Rattle.qq_raft.specs.declared.server.Server.{Server}
-use Rattle.qq_raft_model.specs.Group.{Event, Group as GroupState, Seat as SeatState, from_new, happens, take_by, take_op}
+use Rattle.qq_raft_model.specs.Group.{Event, Group as GroupState, Seat as SeatState, group_after, happens, take_by, take_op}
 use Rattle.qq_raft_model.specs.Group.Event.{Take}
-use Rattle.qq_raft_model.specs.Promises.{AreDistinct, IsUp}
+use Rattle.qq_raft_model.specs.Promises.{AreDistinct, IsOpened, IsUp}
 use Rattle.qq_group.specs.Follows.{Follows, Makes, OthersStay}
 use Rattle.qq_group.specs.Group.{IsReached, IsSeat, IsSeatBy, Represents, server_at, server_by}
 use Rattle.qq_group.specs.Handing.{handed_seat, hands, has_returned, next_at, next_by, returned_at, with_returned, IsHandedOver, IsReseated, Refills, StaysAt, reseated}
@@ -25,18 +24,18 @@ use Rattle.qq_group.specs.declared.seat.Seat.{Seat}
 use Rattle.qq_group_history.proofs.Histories.{history-more}
 use Rattle.qq_group.proofs.Stepped.{changed-other, changed-own, is-down, is-up, represents-with, taken-crashes}
 
--- `a_log_was_handed_the_changes_of_its_server` of `qq_group_model`
+-- `a_log_was_handed_the_changes_of_its_server` of `qq_raft_model`
 abbrev pub CountLaw : Type 0
 CountLaw =
-    (queue : QueueId) (nodes : List NodeId) (events : List Event) (k : ℕ) (s : Raft) → AreDistinct nodes
-    → IsUp (from_new queue nodes events) k s
-    → s.op ≡ length ((from_new queue nodes events).seat k).ops + length s.ops
+    (g : GroupState) (whole : List Entry) (events : List Event) (k : ℕ) (s : Raft) → AreDistinct g.nodes
+    → IsOpened g whole → IsUp (group_after g events) k s
+    → s.op ≡ length ((group_after g events).seat k).ops + length s.ops
 
 pub handed-count : CountLaw → (g : GroupState) (k : ℕ) (s : Raft) → IsReached g → IsUp g k s
     → s.op ≡ length (g.seat k).ops + length s.ops
 handed-count law g k s r up =
     subst (λ (h : GroupState). s.op ≡ length (h.seat k).ops + length s.ops) (sym r.is)
-    (law r.queue r.nodes r.events k s r.distinct (subst (λ (h : GroupState). IsUp h k s) r.is up))
+    (law r.start r.whole r.events k s r.distinct r.opened (subst (λ (h : GroupState). IsUp h k s) r.is up))
 
 some-is : {A : Type 0} (x y : A) → Some x ≡ Some y → x ≡ y
 some-is x y e = grind (arith, e)

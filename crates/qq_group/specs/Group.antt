@@ -1,7 +1,6 @@
 -- What a group's code keeps, as the definition of a group has it.
 use Rattle.std.specs.Prelude.{◌≡◌, ◌+◌, ◌<◌, ◌^◌, ⊤, ℕ, true, List, length, All, Option, Some, None, slice_get}
-use Rattle.qq_base.specs.declared.ids.NodeId.{NodeId}
-use Rattle.qq_base.specs.declared.ids.QueueId.{QueueId}
+use Rattle.qq_entry.specs.declared.command.Entry.{Entry}
 use Rattle.qq_log.specs.Log.{LogState}
 use Rattle.qq_log.specs.Writable.{MayWrite}
 use Rattle.qq_log.specs.declared.limits.TheConstants.{NODE_LIMIT}
@@ -11,8 +10,8 @@ use Rattle.qq_raft_core.specs.Raft.{server_of}
 use Rattle.qq_raft_msg.specs.Rpc.{IsNode}
 use Rattle.qq_raft.specs.Stands.{IsSound as IsSoundServer}
 use Rattle.qq_raft.specs.declared.server.Server.{Server}
-use Rattle.qq_raft_model.specs.Group.{Event, Group as GroupState, Seat as SeatState, from_new}
-use Rattle.qq_raft_model.specs.Promises.{AreDistinct}
+use Rattle.qq_raft_model.specs.Group.{Event, Group as GroupState, Seat as SeatState, group_after}
+use Rattle.qq_raft_model.specs.Promises.{AreDistinct, IsOpened}
 use Rattle.qq_group_history.specs.History.{IsHistory}
 use Rattle.qq_group.specs.declared.group.Group.{Group}
 use Rattle.qq_group.specs.declared.seat.Seat.{Seat}
@@ -53,13 +52,14 @@ pub record Represents {Q L : Type 0} (log : L → LogState) (g : GroupState) (gr
   pub audit : g.audit ≡ group.audit.items
   pub seats : (k : ℕ) → IsSeat log (g.seat k) (slice_get group.seats.items k)
 
--- events lead to it, of a new group whose nodes differ
+-- events lead to it, of a group whose nodes differ and that was opened over logs that support an audit
 pub record IsReached (g : GroupState) : Type 0 where
-  pub queue : QueueId
-  pub nodes : List NodeId
+  pub start : GroupState
+  pub whole : List Entry
+  pub distinct : AreDistinct start.nodes
+  pub opened : IsOpened start whole
   pub events : List Event
-  pub distinct : AreDistinct nodes
-  pub is : g ≡ from_new queue nodes events
+  pub is : g ≡ group_after start events
 
 -- ---- what each call asks for and gives back
 

@@ -1,5 +1,5 @@
 -- Groups that are opened over the disks of their members.
-use Rattle.std.specs.Prelude.{◌≡◌, ◌+◌, ◌<◌, ⊤, ℕ, Bool, false, not, List, [], ◌∷◌, length, All, Option, Some, None, true, min, nat_eq, slice_get}
+use Rattle.std.specs.Prelude.{◌≡◌, ◌+◌, ◌<◌, ⊤, ℕ, Bool, false, not, List, [], ◌∷◌, length, All, Option, Some, None, true, min, nat_eq, option_map, slice_get}
 use Rattle.std.specs.List.{AllByRecursion, count_by, list_any}
 use Rattle.qq_base.specs.declared.ids.NodeId.{NodeId}
 use Rattle.qq_base.specs.declared.ids.QueueId.{QueueId}
@@ -10,9 +10,11 @@ use Rattle.qq_log.specs.Stable.{no_snapshot}
 use Rattle.qq_log.specs.declared.limits.TheConstants.{NODE_LIMIT}
 use Rattle.qq_raft_core.specs.Raft.{IsWithinEnds}
 use Rattle.qq_raft_msg.specs.Rpc.{IsNode}
+use Rattle.qq_raft_protocol.specs.World.{Lane}
 use Rattle.qq_raft.specs.declared.server.Server.{Server}
 use Rattle.qq_raft_model.specs.Group.{Event, Group as GroupState, group_after, has_node}
 use Rattle.qq_raft_model.specs.Group.Event.{Restart}
+use Rattle.qq_raft_model.specs.Refines.{number}
 use Rattle.qq_group.specs.Group.{HasState, Represents, server_at}
 use Rattle.qq_group.specs.Restarts.{HasStarted, IsFound, is_known}
 use Rattle.qq_group.specs.declared.group.Group.{Group}
@@ -147,6 +149,18 @@ pub record IsUnused (l : LogState) : Type 0 where
   pub term : l.term ≡ record { 0 = 0 }
   pub vote : l.vote ≡ None
   pub entries : l.entries ≡ []
+
+-- what a log holds, as the protocol's lane
+abbrev pub log_lane : LogState → Lane
+log_lane l = record { op = l.op; term = l.term.0; vote = option_map number l.vote; log = l.entries }
+
+abbrev pub IsLaneBy : {Q L : Type 0} → (L → LogState) → Lane → Option (Q × L) → Type 0
+IsLaneBy log lane None = ⊤
+IsLaneBy log lane (Some s) = log_lane (log s.1) ≡ lane
+
+-- each log that is given is its member's lane
+abbrev pub AreLanes : {Q L : Type 0} → (L → LogState) → (ℕ → Lane) → List (Start Q L) → Type 0
+AreLanes log lane starts = AllByRecursion (λ (s : Start _ _). IsLaneBy log (lane s.0.0) s.1) starts
 
 abbrev pub MayBeFound : LogState → Type 0
 MayBeFound l = l.op ≡ 0 → IsUnused l

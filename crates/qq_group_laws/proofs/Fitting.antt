@@ -17,7 +17,7 @@ use Rattle.qq_raft_model.specs.Group.{Group as GroupState, Seat as SeatState}
 use Rattle.qq_group.specs.Group.{IsReached, IsSeat, IsSeatBy, Represents, server_at, server_by}
 use Rattle.qq_group.specs.declared.group.Group.{Group}
 use Rattle.qq_group.specs.declared.seat.Seat.{Seat}
-use Rattle.qq_group_laws.proofs.Groups.{IsBetweenMembers, IsForServer, all-in, from-events, received}
+use Rattle.qq_group_laws.proofs.Groups.{IsBetweenMembers, IsForServer, all-in, from-opened, received}
 
 fits-is : (s : Raft) (rpc : Rpc) → IsForServer rpc s → HasEnds rpc → fits s rpc ≡ true
 unfolding fits
@@ -44,8 +44,9 @@ pub message-fits : {Q L : Type 0} (log : L → LogState) (g : GroupState) (group
     → server_at (envelope rpc).to.0 group ≡ Some s → fits (server_of log s.raft) rpc ≡ true
 message-fits log g group rpc s reached r all here up =
     let k = (envelope rpc).to.0 in
-    let fine : IsBetweenMembers reached.nodes g =
-    subst (IsBetweenMembers reached.nodes) (sym reached.is) (from-events reached.queue reached.nodes reached.events) in
+    let fine : IsBetweenMembers reached.start.nodes g =
+    subst (IsBetweenMembers reached.start.nodes) (sym reached.is)
+    (from-opened reached.start reached.whole reached.events reached.opened) in
     let sent : IsSendable rpc = all-in IsSendable rpc group.bag (recursion_from_All IsSendable group.bag all) here in
     fits-is (server_of log s.raft) rpc
     (received g rpc (server_of log s.raft) fine (subst (λ bag. In rpc bag) (sym r.bag) here)

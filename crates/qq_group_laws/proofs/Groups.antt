@@ -7,7 +7,7 @@ use Rattle.std.proofs.lemmas.Bool.Decides.{eqb_tells}
 use Rattle.qq_base.proofs.Puts.{put-each}
 use Rattle.qq_base.proofs.Lists.{AllByRecursion-append, AllByRecursion-weaker}
 use Rattle.qq_base.specs.declared.ids.NodeId.{NodeId}
-use Rattle.qq_base.specs.declared.ids.QueueId.{QueueId}
+use Rattle.qq_entry.specs.declared.command.Entry.{Entry}
 use Rattle.qq_log.specs.declared.lane.Lane.{Lane}
 use Rattle.qq_log.specs.declared.op.Op.{Op}
 use Rattle.qq_log.specs.Stable.{Stable, stable}
@@ -17,8 +17,9 @@ use Rattle.qq_raft_msg.specs.declared.rpc.Rpc.{Rpc}
 use Rattle.qq_raft_model.specs.Server.{Input, is_peer, new_peer, restart, step}
 use Rattle.qq_raft_model.specs.State.{Server}
 use Rattle.qq_raft_model.specs.declared.peer.Peer.{Peer}
-use Rattle.qq_raft_model.specs.Group.{Event, Group, Seat, after_step, deliver_by, feed, feed_by, from_new, group_after, happens, has_node, is_down, lane_with, may_restart, new_group, restart_by, take_by, take_op}
+use Rattle.qq_raft_model.specs.Group.{Event, Group, Seat, after_step, deliver_by, feed, feed_by, group_after, happens, has_node, is_down, lane_with, may_restart, restart_by, take_by, take_op}
 use Rattle.qq_raft_model.specs.Group.Event.{Tick, Submit, Add, Flush, Deliver, Lose, Copy, Take, Notice, Crash, Restart}
+use Rattle.qq_raft_model.specs.Promises.{IsOpened}
 use Rattle.qq_group_laws.specs.Addressed.{IsBetween, others}
 use Rattle.qq_group_laws.proofs.Sending.{IsAddressed, IsFromPeer, Keeps, keeps-step, nodes_of}
 
@@ -238,11 +239,17 @@ after-all : {nodes : List NodeId} (events : List Event) (g : Group) → IsBetwee
 after-all [] g fine = fine
 after-all (e ∷ events) g fine = after-all events (happens e g) (happened e g fine)
 
-pub from-events : (queue : QueueId) (nodes : List NodeId) (events : List Event)
-    → IsBetweenMembers nodes (from_new queue nodes events)
-from-events queue nodes events =
-    after-all events (new_group queue nodes)
-    (record { nodes_are = refl; seats = λ k. tt; bag = tt })
+-- a group that was opened has no messages, and its members are down
+opened-between : (g : Group) (whole : List Entry) → IsOpened g whole → IsBetweenMembers g.nodes g
+opened-between g whole o = record {
+  nodes_are = refl;
+  seats = λ k. subst (IsSeatOf g.nodes k) (sym (o.down.down k)) tt;
+  bag = subst (AllByRecursion (IsBetween g.nodes)) (sym o.down.bag) tt;
+}
+
+pub from-opened : (g : Group) (whole : List Entry) (events : List Event) → IsOpened g whole
+    → IsBetweenMembers g.nodes (group_after g events)
+from-opened g whole events o = after-all events g (opened-between g whole o)
 
 -- ---- who gets a message
 

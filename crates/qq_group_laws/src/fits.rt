@@ -1,24 +1,24 @@
 //! The messages that are on their way in a group.
 ghost use Rattle.std.specs.Prelude.{◌≡◌, List, Some, true};
-ghost use Rattle.qq_base.specs.declared.ids.NodeId.{NodeId};
-ghost use Rattle.qq_base.specs.declared.ids.QueueId.{QueueId};
+ghost use Rattle.qq_entry.specs.declared.command.Entry.{Entry};
 ghost use Rattle.qq_raft_core.specs.Fits.{fits};
 ghost use Rattle.qq_raft_core.specs.Raft.{server_of};
 ghost use Rattle.qq_raft_protocol.specs.Facts.{In};
 ghost use Rattle.qq_raft_msg.specs.Rpc.{envelope};
 ghost use Rattle.qq_raft_msg.specs.declared.rpc.Rpc.{Rpc};
 ghost use Rattle.qq_raft.specs.declared.server.Server.{Server};
-ghost use Rattle.qq_raft_model.specs.Group.{Event, from_new, Group as GroupState};
+ghost use Rattle.qq_raft_model.specs.Group.{Event, Group as GroupState, group_after};
+ghost use Rattle.qq_raft_model.specs.Promises.{IsOpened};
 ghost use Rattle.qq_group.specs.Group.{IsReached, IsSound, Represents, server_at};
 ghost use Rattle.qq_group.specs.declared.group.Group.{Group};
 ghost use Rattle.qq_group_laws.specs.Addressed.{IsBetween};
 
 use qq_raft_msg::{LogView, Queue};
 
-/// A law: whatever happens in a group, each message that is on its way is from one member to another.
+/// A law: whatever happens in a group that was opened, each message that is on its way is from one member to another.
 pub fn a_message_is_from_one_member_to_another()
-    ensures { (queue : QueueId) (nodes : List NodeId) (events : List Event) (rpc : Rpc) →
-        In rpc (from_new queue nodes events).bag → IsBetween nodes rpc }
+    ensures { (g : GroupState) (whole : List Entry) (events : List Event) (rpc : Rpc) →
+        IsOpened g whole → In rpc (group_after g events).bag → IsBetween g.nodes rpc }
 {}
 
 /// A law: a message that is on its way fits the server that it reaches: it is for that server, from one of

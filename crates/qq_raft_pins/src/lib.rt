@@ -10,6 +10,7 @@ mod messages;
 mod openings;
 mod refusals;
 mod restarts;
+mod sources;
 mod spent;
 mod steps;
 
@@ -32,6 +33,7 @@ pub use restarts::{
     a_log_that_is_found_restarts, a_lost_log_is_told_as_it_was_found,
     a_seat_has_noticed_what_its_server_has,
 };
+pub use sources::where_an_entry_comes_from;
 pub use spent::{
     a_full_bag_is_told_where_messages_pass_its_limit, an_end_is_told_where_a_number_stands_at_it,
 };

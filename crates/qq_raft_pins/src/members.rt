@@ -5,7 +5,8 @@ ghost use Rattle.qq_base.specs.Fronts.{IsFront};
 ghost use Rattle.qq_entry.specs.declared.command.Entry.{Entry};
 ghost use Rattle.qq_raft_protocol.specs.Facts.{add, In, Elects, Most};
 ghost use Rattle.qq_raft_protocol.specs.Moves.{Move, AreAllowed, run};
-ghost use Rattle.qq_raft_protocol.specs.World.{Ack, Lane, lanes, new_world};
+ghost use Rattle.qq_raft_protocol.specs.Starts.{IsStart};
+ghost use Rattle.qq_raft_protocol.specs.World.{Ack, Lane, Member, World, lanes, start_world};
 ghost use Rattle.qq_raft_protocol.specs.World.Role.{Candidate, Leader};
 
 use qq_raft_protocol::{a_leader_has_all_of_its_term, servers_agree};
@@ -15,28 +16,30 @@ use qq_raft_protocol::{a_leader_has_all_of_its_term, servers_agree};
 /// - `acks`: no acknowledgement of its term passes a leader's log.
 /// - `first`: a candidate that a majority elected has no entry of its term yet.
 pub fn a_leader_has_the_entries_of_its_term()
-    ensures acks { (members : List ℕ) (moves : List Move) (q : ℕ) (ack : Ack) →
-        AreAllowed members new_world moves → (run new_world moves).role q ≡ Leader →
-        In ack (run new_world moves).acks →
-        ack.term ≡ ((run new_world moves).member q).mine.term →
-        ack.upto ≤ length ((run new_world moves).member q).mine.log }
-    ensures first { (members : List ℕ) (moves : List Move) (q : ℕ) (before : List Entry)
-        (entry : Entry) → AreAllowed members new_world moves →
-        (run new_world moves).role q ≡ Candidate →
-        Most members (Elects (run new_world moves) ((run new_world moves).member q).mine.term q) →
-        IsFront (add before entry) ((run new_world moves).member q).mine.log →
-        entry.term.0 ≡ ((run new_world moves).member q).mine.term → ⊥ }
+    ensures acks { (members : List ℕ) (member : ℕ → Member) (audit : List Entry) (moves : List Move)
+        (w : World) (q : ℕ) (ack : Ack) → IsStart members member audit →
+        AreAllowed members (start_world member audit) moves →
+        w ≡ run (start_world member audit) moves → w.role q ≡ Leader → In ack w.acks →
+        ack.term ≡ (w.member q).mine.term → ack.upto ≤ length (w.member q).mine.log }
+    ensures first { (members : List ℕ) (member : ℕ → Member) (audit : List Entry) (moves : List Move)
+        (w : World) (q : ℕ) (before : List Entry) (entry : Entry) → IsStart members member audit →
+        AreAllowed members (start_world member audit) moves →
+        w ≡ run (start_world member audit) moves → w.role q ≡ Candidate →
+        Most members (Elects w (w.member q).mine.term q) →
+        IsFront (add before entry) (w.member q).mine.log →
+        entry.term.0 ≡ (w.member q).mine.term → ⊥ }
 {
     a_leader_has_all_of_its_term();
 }
 
 /// A law: a majority of the members has each committed entry, with all before it, in the log of every lane that a
-/// crash may leave of them.
+/// crash may leave of them, whichever disks that support an audit the group began with.
 pub fn what_is_committed_is_on_a_majority_of_disks()
-    ensures { (members : List ℕ) (moves : List Move) (before : List Entry) (entry : Entry) →
-        AreAllowed members new_world moves →
-        IsFront (add before entry) (run new_world moves).audit →
-        Most members (λ (q : ℕ). (lane : Lane) → In lane (lanes ((run new_world moves).member q)) →
+    ensures { (members : List ℕ) (member : ℕ → Member) (audit : List Entry) (moves : List Move)
+        (w : World) (before : List Entry) (entry : Entry) → IsStart members member audit →
+        AreAllowed members (start_world member audit) moves →
+        w ≡ run (start_world member audit) moves → IsFront (add before entry) w.audit →
+        Most members (λ (q : ℕ). (lane : Lane) → In lane (lanes (w.member q)) →
         IsFront (add before entry) lane.log) }
 {
     servers_agree();

@@ -17,7 +17,7 @@ returns g c = λ h events old new k p time command s t reached before after up r
     subst (λ (a : List Entry). IsFront (add mine.log e) a) after.audit
     (subst (λ (x : Group). IsFront (add mine.log e) (group_after (happens (Event.Submit k time command) x) events).audit)
     (sym reached.is)
-    (c.an_answered_command_stays.ensures reached.queue reached.nodes reached.events events k p time command mine theirs
-    reached.distinct (subst (λ (x : Group). IsUp x k mine) reached.is (up-in log h k s old before up)) ready
+    (c.an_answered_command_stays.ensures reached.start reached.whole reached.events events k p time command mine theirs
+    reached.distinct reached.opened (subst (λ (x : Group). IsUp x k mine) reached.is (up-in log h k s old before up)) ready
     (subst (λ (x : Group). IsUp (group_after (happens (Event.Submit k time command) x) events) p theirs) reached.is
     (up-in log (group_after (happens (Event.Submit k time command) h) events) p t new after there)) leads same reaches))
