@@ -1,0 +1,32 @@
+-- What the log of each node of a cluster was given of the cluster's queues, and has promised.
+use Rattle.std.specs.Prelude.{◌≡◌, ℕ, true, filter}
+use Rattle.qq_disk.specs.Disk.{Disk}
+use Rattle.qq_lots.specs.Kept.{IsTied, KeepsPromised}
+use Rattle.qq_lots.specs.Lots.{Lot, Part, Parts}
+use Rattle.qq_raft_model.specs.Group.{has_node}
+use Rattle.qq_cluster.specs.Cluster.{Cluster, Setup, members}
+use Rattle.qq_cluster.specs.Queue.{Queue}
+
+-- the queues of which a node has a member
+abbrev pub lot_of : Setup → ℕ → Lot
+lot_of setup k =
+    record {
+      places = filter (λ place. has_node k (members setup place)) setup.places;
+      id = λ place. (setup.args place).queue;
+    }
+
+-- what a node's log knows of a queue
+abbrev pub part_at : ℕ → Queue → Part
+part_at k q = record { ops = (q.group.seat k).ops; synced = q.synced k }
+
+abbrev pub parts_at : Cluster → ℕ → Parts
+parts_at c k = λ place. part_at k (c.queue place)
+
+-- a node's disk keeps what its log promised of each queue
+abbrev pub IsPromised : Setup → Cluster → ℕ → Disk → Type 0
+IsPromised setup c k d = KeepsPromised (lot_of setup k) (parts_at c k) d
+
+-- and while the node is up its log has all that it was given
+pub record IsLinked (setup : Setup) (c : Cluster) (k : ℕ) (d : Disk) : Type 0 where
+  pub promised : IsPromised setup c k d
+  pub tied : c.up k ≡ true → IsTied (lot_of setup k) (parts_at c k) d
