@@ -352,8 +352,11 @@ node-line-said s word words =
     (either (SaysIf s) (bytes_eq word (codes "sync")) _ _ (any_made (SaysIf s) _ (one_node s words) (λ node. tt))
     (either (SaysIf s) (bytes_eq word (codes "notice")) _ _ (ok_made (SaysIf s) _ (one_member s words) member)
     (either (SaysIf s) (bytes_eq word (codes "tick")) _ _ (ok_made (SaysIf s) _ (one_member s words) member)
+    (either (SaysIf s) (bytes_eq word (codes "deliver")) _ _ (any_made (SaysIf s) _ (one_message s words) (λ p. tt))
+    (either (SaysIf s) (bytes_eq word (codes "lose")) _ _ (any_made (SaysIf s) _ (one_message s words) (λ p. tt))
+    (either (SaysIf s) (bytes_eq word (codes "copy")) _ _ (any_made (SaysIf s) _ (one_message s words) (λ p. tt))
     (either (SaysIf s) (bytes_eq word (codes "restart")) _ _ (any_made (SaysIf s) _ (some_nodes s words) (λ of. tt))
-    (either (SaysIf s) (bytes_eq word (codes "show")) _ _ (ok_made (SaysIf s) _ (one_queue s words) queue) tt)))))
+    (either (SaysIf s) (bytes_eq word (codes "show")) _ _ (ok_made (SaysIf s) _ (one_queue s words) queue) tt))))))))
   where
     member : IfOk (one_member s words) (IsMemberAt s)
     member = one-member-said s words
