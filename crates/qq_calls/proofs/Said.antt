@@ -24,7 +24,7 @@ use Rattle.qq_script_lines.specs.declared.line.Place.{Place}
 use Rattle.qq_script_lines.specs.declared.line.ScriptLine.{ScriptLine}
 use Rattle.qq_script_lines.specs.declared.line.ScriptLine.TheVariants as lines
 use Rattle.qq_script_lines.specs.Bodies.{limited, body_of}
-use Rattle.qq_script_lines.specs.Arguments.{queue_of, first_queue, no_word, one_session, one_queue, one_node, nodes_of, some_nodes, served_at, queue_at, one_member, crash, key_of, send}
+use Rattle.qq_script_lines.specs.Arguments.{one_message, queue_of, first_queue, no_word, one_session, one_queue, one_node, nodes_of, some_nodes, served_at, queue_at, one_member, crash, key_of, send}
 use Rattle.qq_script_lines.specs.Commands.{bare, bare_or_none, one_tag, deliveries, subscribe, is_drain, amount_of, credit, plain_command, command_of, client_at, client_line}
 use Rattle.qq_script_lines.specs.Images.{image_of}
 use Rattle.qq_script_lines.specs.Lines.{is_nothing, publish_text, node_line, plain_line, or_client, read, may_stand, in_place, read_words, text_in, read_text, read_bytes, parse_line}
