@@ -150,6 +150,15 @@ impl fmt::Display for Said<'_> {
                 write!(f, "notice node {} queue {}", node.0, queue.0)
             }
             ScriptLine::Tick { node, queue } => write!(f, "tick node {} queue {}", node.0, queue.0),
+            ScriptLine::Deliver { queue, message } => {
+                write!(f, "deliver queue {} message {message}", queue.0)
+            }
+            ScriptLine::Lose { queue, message } => {
+                write!(f, "lose queue {} message {message}", queue.0)
+            }
+            ScriptLine::Copy { queue, message } => {
+                write!(f, "copy queue {} message {message}", queue.0)
+            }
             ScriptLine::Crash { nodes, image } => write!(f, "{}", Crash(nodes, image)),
             ScriptLine::Restart { nodes } => write!(f, "restart {}", Which(nodes)),
             ScriptLine::Show { queue } => write!(f, "show queue {}", queue.0),

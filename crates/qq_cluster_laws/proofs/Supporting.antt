@@ -59,7 +59,7 @@ module _ (between : Between) (supports : SupportsAudits) (setup : Setup) (groups
     (events : List ClusterEvent) (disks : ℕ → Disk)
     (promised : (k : ℕ) → In k setup.nodes
     → IsPromised setup (cluster_after (new_cluster setup) events) k (disks k)) where
-  c : Cluster
+  abbrev c : Cluster
   c = cluster_after (new_cluster setup) events
 
   -- a queue's own events make it

@@ -317,10 +317,10 @@ keeps-submit {node} {rest} time command s k =
     cond_both (is_ready s) (add_entry (record { term = s.term; time = time; command = command }) s) s (Keeps node rest)
     (λ _. keeps-add (record { term = s.term; time = time; command = command }) s k) (λ _. k)
 
-keeps-append : {node : NodeId} {rest : List NodeId} (time : ℕ) (command : Command) (s : Server) → Keeps node rest s
+keeps-adding : {node : NodeId} {rest : List NodeId} (time : ℕ) (command : Command) (s : Server) → Keeps node rest s
     → Keeps node rest (add time command s)
 unfolding add
-keeps-append {node} {rest} time command s k =
+keeps-adding {node} {rest} time command s k =
     let entry : Entry = record { term = s.term; time = time; command = command } in
     cond_both (is_ready s) (append_entry entry s) s (Keeps node rest)
     (λ _. keeps-change s.term s.vote (last s) (entry ∷ []) s k) (λ _. k)
@@ -375,6 +375,6 @@ pub keeps-step : {node : NodeId} {rest : List NodeId} (s : Server) (input : Inpu
 keeps-step s Input.Tick from k = keeps-tick s k
 keeps-step s (Input.Receive rpc) from k = keeps-receive rpc s from k
 keeps-step s (Input.Submit time command) from k = keeps-submit time command s k
-keeps-step s (Input.Add time command) from k = keeps-append time command s k
+keeps-step s (Input.Add time command) from k = keeps-adding time command s k
 keeps-step s Input.Flush from k = keeps-flush s k
 keeps-step s (Input.Notice op) from k = keeps-notice op s k

@@ -14,7 +14,7 @@ returns-clause-first c = λ e is. (ap (λ (x : Entry). x.time) is, ap (λ (x : E
 
 pub returns-clause-submitted : goal.returns-clause-submitted
 returns-clause-submitted c = λ g events a e x.
-    (x.first, x.node, x.rest, x.server, x.is, x.up, x.ready, x.term, x.log)
+    (x.first, x.node, x.event, x.rest, x.server, x.is, x.gives, x.up, x.ready, x.term, x.log)
 
 pub returns-clause-left : goal.returns-clause-left
 returns-clause-left c = λ g a e x. (
