@@ -1,10 +1,19 @@
 -- Who takes commands, and who is told of the end of a session.
-use Rattle.std.proofs.Common.{◌≡◌, ◌≤◌, ◌<◌, ℕ, Bool, true, false, List, [], ◌∷◌, Option, Some, None, length, map, refl, ap, ◌∙◌}
-use Rattle.std.specs.Prelude.{is_some}
-use Rattle.std.proofs.lemmas.Bool.{cond-true, cond-false, lt-ltb, le-ltb}
+use Rattle.std.proofs.Common.{cond, take, drop, ◌≡◌, ◌≤◌, ◌<◌, ℕ, Bool, true, false, List, [], ◌∷◌, Option, Some, None, length, map, refl, ap, ◌∙◌}
+use Rattle.std.specs.Prelude.{filter, is_some, nat_eq}
+use Rattle.std.specs.List.{AllByRecursion}
+use Rattle.std.proofs.lemmas.Bool.{and_parts, eqb-true, cond-true, cond-false, lt-ltb, le-ltb}
 use Rattle.qq_base.proofs.Puts.{put-same}
 use Rattle.qq_base.specs.Fronts.{put}
+use Rattle.qq_base.proofs.Lists.{AllByRecursion-weaker}
 use Rattle.qq_base.specs.Ids.{client}
+use Rattle.qq_entry.specs.declared.audit.AuditRow.{AuditRow}
+use Rattle.qq_entry.specs.declared.command.Entry.{Entry}
+use Rattle.qq_entry.specs.declared.queue.QueueArgs.{QueueArgs}
+use Rattle.qq_model.specs.Audit.{audit_of, state_after}
+use Rattle.qq_model.specs.State.{empty_queue}
+use Rattle.qq_raft_model.specs.Server.{is_ready}
+use Rattle.qq_raft_model.specs.State.{Server}
 use Rattle.qq_entry.specs.declared.command.Command.{Command}
 use Rattle.qq_entry.specs.declared.command.Command.TheVariants.{Down}
 use Rattle.qq_entry.specs.declared.command.Unstamped.{Unstamped}
@@ -12,9 +21,9 @@ use Rattle.qq_model.specs.declared.TheConstants.{WINDOW}
 use Rattle.qq_raft_model.specs.Group.{Event as Move, group_after}
 use Rattle.qq_raft_model.specs.Group.Event.{Submit}
 use Rattle.qq_session.specs.Publishing.{Numbers, next_command, hand, open_commands}
-use Rattle.qq_world.specs.World.{Client, Clients, NoLeader, WindowFull, is_used, may_hand, said_of}
-use Rattle.qq_cluster.specs.Laws.{LeaderIsTold, NobodyIsTold, TellsOfEnd}
-use Rattle.qq_cluster.specs.Queue.{Queue, Submits, Resends, Downs, acts, happens, leader, moves, offered, said, submits}
+use Rattle.qq_world.specs.World.{Client, Clients, NoLeader, WindowFull, effects_of_term, is_used, may_hand, said_of}
+use Rattle.qq_cluster.specs.Laws.{IsOwnTo, LeaderIsTold, NobodyIsTold, TellsOfEnd}
+use Rattle.qq_cluster.specs.Queue.{Queue, Submits, Resends, Downs, acts, happens, is_shown, leader, moves, offered, own_effects, own_rows, said, submits}
 
 -- a queue whose window for a session isn't full
 record Hands (session : ℕ) (body : Unstamped) (q : Queue) : Type 0 where
@@ -163,3 +172,27 @@ tells-of_end session q = (
   (λ more. leader-told session q (lt-ltb 1 (q.clients session).numbers.next more)),
   (λ first. nobody-told session q (le-ltb 1 (q.clients session).numbers.next first)),
 )
+
+-- ---- who answers
+
+all-filtered : (p : AuditRow → Bool) (rows : List AuditRow) → AllByRecursion (λ row. p row ≡ true) (filter p rows)
+all-filtered p [] = tt
+all-filtered p (row ∷ rows) = by (p row) refl (all-filtered p rows)
+  where
+    by : (b : Bool) → p row ≡ b → AllByRecursion (λ r. p r ≡ true) (filter p rows)
+        → AllByRecursion (λ r. p r ≡ true) (cond b (row ∷ filter p rows) (filter p rows))
+    by true is rest = (is, rest)
+    by false is rest = rest
+
+pub rows-own : (args : QueueArgs) (s t : Server) → AllByRecursion (IsOwnTo t) (own_rows args s t)
+rows-own args s t =
+    AllByRecursion-weaker (λ (row : AuditRow). is_shown t row ≡ true) (IsOwnTo t)
+    (λ row is. (let both = and_parts (is_ready t) (nat_eq row.entry.term.0 t.term.0) is in
+    record { ready = both.0; term = eqb-true row.entry.term.0 t.term.0 both.1 })) (own_rows args s t)
+    (all-filtered (is_shown t) (drop s.commit (audit_of (empty_queue args) (take t.commit t.log))))
+
+pub no-effects : (args : QueueArgs) (s t : Server) → is_ready t ≡ false → own_effects args s t ≡ []
+no-effects args s t none' =
+    let all : List Entry = take t.commit t.log in
+    cond-false (is_ready t)
+    (effects_of_term t.term (state_after (empty_queue args) (take s.commit all)) (drop s.commit all)) [] none'

@@ -2,6 +2,7 @@
 use Rattle.std.specs.Prelude.{◌≡◌, ◌≤◌, ◌<◌, ℕ, List, [], ◌∷◌, ◌++◌, true, Some, None, length, nat_eq, Contains, if◌then◌else◌}
 use Rattle.qq_base.specs.Fronts.{IsFront}
 use Rattle.qq_base.specs.Ids.{client}
+use Rattle.qq_entry.specs.declared.audit.AuditRow.{AuditRow}
 use Rattle.qq_entry.specs.declared.audit.Effect.TheVariants.{Deliver}
 use Rattle.qq_entry.specs.declared.command.Command.{Command}
 use Rattle.qq_entry.specs.declared.command.Command.TheVariants.{Down}
@@ -12,6 +13,8 @@ use Rattle.qq_model.specs.State.{empty_queue}
 use Rattle.qq_raft_model.specs.Group.{Event as Move, Group}
 use Rattle.qq_raft_model.specs.Group.Event.{Submit}
 use Rattle.qq_raft_model.specs.Promises.{AreDistinct, IsOpened}
+use Rattle.qq_raft_model.specs.Server.{is_ready}
+use Rattle.qq_raft_model.specs.State.{Server}
 use Rattle.qq_session.specs.Arriving.{Deed, Hands, handed}
 use Rattle.qq_session.specs.Publishing.{new_numbers}
 use Rattle.qq_world.specs.Laws.{takes_of}
@@ -43,6 +46,11 @@ abbrev pub IsMade : Queue → Shown → Type 0
 IsMade q (Delivered consumer delivery) =
     Contains (effects_of (empty_queue q.args) q.group.audit) (Deliver consumer delivery)
 IsMade q _ = Unit {0}
+
+-- a row that a server answers: it leads and takes commands, and the row's entry is of its own term
+pub record IsOwnTo (s : Server) (row : AuditRow) : Type 0 where
+  pub ready : is_ready s ≡ true
+  pub term : row.entry.term.0 ≡ s.term.0
 
 -- ---- a session's commands
 

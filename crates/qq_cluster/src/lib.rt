@@ -17,8 +17,8 @@ pub use clusters::{
 pub use ended::{an_ended_session_gives_no_commands, ends_go_to_the_leader};
 pub use examples::worked_scripts_print;
 pub use queues::{
-    a_queue_is_its_group, a_queue_may_begin_with_new_logs, an_audit_is_serial,
-    commands_go_to_the_leader, ops_are_noticed_once_synced,
+    a_leader_answers_its_own_term, a_queue_is_its_group, a_queue_may_begin_with_new_logs,
+    an_audit_is_serial, commands_go_to_the_leader, ops_are_noticed_once_synced,
 };
 pub use sessions::{answers_are_printed_once, sessions_go_on, what_is_printed_is_audited};
 pub use texts::{a_cluster_tells_its_state, a_lost_command_is_told};

@@ -1,5 +1,6 @@
 //! The laws of a queue of a cluster, whatever happens to it.
-ghost use Rattle.std.specs.Prelude.{◌≡◌, ◌≤◌, ◌<◌, ◌∷◌, [], List, ℕ, Some, None, length, map};
+ghost use Rattle.std.specs.Prelude.{◌≡◌, ◌≤◌, ◌<◌, ◌∷◌, [], List, ℕ, false, Some, None, length, map};
+ghost use Rattle.std.specs.List.{AllByRecursion};
 ghost use Rattle.qq_base.specs.declared.ids.NodeId.{NodeId};
 ghost use Rattle.qq_base.specs.declared.ids.QueueId.{QueueId};
 ghost use Rattle.qq_entry.specs.declared.command.Command.{Command};
@@ -11,10 +12,12 @@ ghost use Rattle.qq_model.specs.declared.TheConstants.{WINDOW};
 ghost use Rattle.qq_raft_model.specs.Group.{Group, group_after, new_group};
 ghost use Rattle.qq_raft_model.specs.Group.Event.{Submit};
 ghost use Rattle.qq_raft_model.specs.Promises.{AreDistinct};
+ghost use Rattle.qq_raft_model.specs.Server.{is_ready};
+ghost use Rattle.qq_raft_model.specs.State.{Server};
 ghost use Rattle.qq_session.specs.Publishing.{next_command, hand, open_commands};
 ghost use Rattle.qq_world.specs.World.{NoLeader, WindowFull};
-ghost use Rattle.qq_cluster.specs.Laws.{CountsRise, IsBegun, KeepsAudit, all_moves, queue_after};
-ghost use Rattle.qq_cluster.specs.Queue.{Event, Queue, Submits, Resends, audit_rows, begin, happens, leader, moves, said};
+ghost use Rattle.qq_cluster.specs.Laws.{CountsRise, IsBegun, IsOwnTo, KeepsAudit, all_moves, queue_after};
+ghost use Rattle.qq_cluster.specs.Queue.{Event, Queue, Submits, Resends, audit_rows, begin, happens, leader, moves, own_effects, own_rows, said};
 
 use qq_raft_model::{groups_are_opened, what_a_group_committed_stays};
 
@@ -49,6 +52,15 @@ pub fn an_audit_is_serial()
 pub fn ops_are_noticed_once_synced()
     ensures { (args : QueueArgs) (group : Group) (events : List Event) (k : ℕ) →
         IsBegun group → CountsRise (queue_after args group events) k }
+{}
+
+/// A law: a member answers rows only where it leads and takes commands, and those of its own term alone
+/// (Ongaro's dissertation, section 6.4). Another one shows no effects either.
+pub fn a_leader_answers_its_own_term()
+    ensures rows { (args : QueueArgs) (s t : Server) →
+        AllByRecursion (IsOwnTo t) (own_rows args s t) }
+    ensures effects { (args : QueueArgs) (s t : Server) → is_ready t ≡ false →
+        own_effects args s t ≡ [] }
 {}
 
 /// A law: a command that gets a number goes to the leader. Where there is none, and only there, the
