@@ -131,7 +131,7 @@ faulty-script = record {
   };
 }
 
--- the queues of a setup whose nodes are as many as these begin with new logs
+-- a script may ask for the fault at the sync: each line allows its events
 pub faulty-run : ((queue : QueueId) (nodes : List NodeId) → IsOpened (new_group queue nodes) [])
     → IsRun (setup_of 1 1) with_a_fault (new_cluster (setup_of 1 1)) (opened (setup_of 1 1) ++ at_the_fault)
 faulty-run new = record {

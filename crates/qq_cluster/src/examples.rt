@@ -16,8 +16,8 @@ use qq_raft_model::groups_are_opened;
 ///   and the message is sent again; the first one restarts, and its own entry gives way.
 /// - `muted`: a session publishes, and sends that twice again. Once it hears an answer, that is
 ///   printed once.
-/// - `lost`, `first_kept`: a message to each of two queues is appended, and a crash leaves nothing of
-///   them, or the first one's. Sent again, each is confirmed.
+/// - `lost`, `first_kept`: a message to each of two queues is appended, the node crashes, and the
+///   restart finds nothing of them, or the first one's. Sent again, each is confirmed.
 /// - `fault`, `fault_run`: the disk fails at the sync of a message. The node stops, and a later command
 ///   finds no leader; the script asks for these events.
 pub fn worked_scripts_print()
