@@ -1,0 +1,133 @@
+-- What waits is gathered, and then appended: what that leaves of the log's parts.
+use Rattle.std.proofs.Common.{◌≡◌, ◌≤◌, ◌++◌, ℕ, Bool, true, List, [], refl, sym, ap, ◌∙◌, subst, arith}
+use Rattle.std.specs.Global.{Vec}
+use Rattle.std.specs.Prelude.{All, IsTrue, fold}
+use Rattle.std.proofs.lemmas.List.Elements.{recursion_from_All}
+use Rattle.qq_base.specs.declared.ids.QueueId.{QueueId}
+use Rattle.qq_base.proofs.Fronts.{front-more}
+use Rattle.qq_disk.specs.Disk.{Disk, now}
+use Rattle.qq_disk.specs.Moments.{Adds}
+use Rattle.qq_disk.proofs.Moments.{adds-none}
+use Rattle.qq_log.specs.Carries.{Carries, add_op, is_listed}
+use Rattle.qq_log.specs.declared.op.Op.{Op}
+use Rattle.qq_log.specs.Op.{queue}
+use Rattle.qq_log.specs.Writable.{MayWrite}
+use Rattle.qq_lots.specs.Kept.{IsTied, KeepsPromised}
+use Rattle.qq_lots.specs.Lots.{Lot, Parts, give_batch, ids_of, ops_at}
+use Rattle.qq_lots.proofs.Writes.{promised-later, promised-now, tied-promised}
+use Rattle.qq_wal.specs.declared.wal.Wal.{Wal}
+use Rattle.qq_wal.specs.Running.{StaysWhole}
+use Rattle.qq_wal.specs.Wal.{IsSound, carries_ahead}
+use Rattle.qq_wal_chain.specs.Laws.{op_records}
+use Rattle.qq_wal_record.specs.declared.record.LogRecord.{LogRecord}
+use Rattle.qq_node_log.specs.declared.node_log.NodeLog.TheVariants.{Open}
+use Rattle.qq_node_log.specs.Batches.{HasWritten, StaysGiven, StaysWriting}
+use Rattle.qq_node_log.specs.Ends.{CarriesAre}
+use Rattle.qq_node_log.specs.Giving.{AllGoOn, MayGive}
+use Rattle.qq_node_log.specs.Log.{IsWhole}
+use Rattle.qq_node_log.specs.Steps.{KeepsAt, KeepsDisk, MayAppend, RunsOn}
+use Rattle.qq_node_log.proofs.Goes.{all-go, carries-given}
+
+-- a log that may be given ops takes them
+pub ops-go : {D : Type 0} (tells : D → Bool) (past : D → List Disk) (ops : List Op) (wal : Wal D)
+    → MayAppend tells past ops (Open wal) → AllGoOn wal.queues.items (carries_ahead wal) ops
+ops-go tells past ops wal (lot, parts, run, give) =
+    subst (λ (ids : List QueueId). AllGoOn ids (carries_ahead wal) ops) (sym run.queues_are)
+    (all-go lot ops parts (carries_ahead wal) (recursion_from_All MayWrite ops give.write)
+    (recursion_from_All (λ (op : Op). is_listed (ids_of lot) (queue op) ≡ true) ops give.listed) give.sound run.carries)
+
+-- ---- whatever the answer is
+
+-- a promise of parts is one with ops more
+given-promised : (lot : Lot) (parts : Parts) (ops : List Op) (d : Disk) → KeepsPromised lot parts d
+    → KeepsPromised lot (give_batch lot ops parts) d
+given-promised lot parts ops d p =
+    promised-later lot parts (give_batch lot ops parts) d
+    (λ place. (front-more (parts place).ops (ops_at lot place ops), omega arith)) p
+
+keeps-given : {D : Type 0} (tells : D → Bool) (past : D → List Disk) (ops : List Op) (old new : Wal D)
+    → (IsTrue (tells old.disk) → old.waiting.items ≡ []
+    → StaysGiven old.queues.items ops (past old.disk) (past new.disk))
+    → KeepsAt tells past (λ (lot : Lot). give_batch lot ops) (Open old) (Open new)
+keeps-given tells past ops old new stays lot parts run tell tied =
+    let adds : Adds (KeepsPromised lot (give_batch lot ops parts)) (past old.disk) (past new.disk) =
+    stays tell run.waiting lot parts run.queues_are tied in (
+      adds,
+      promised-now lot (give_batch lot ops parts) (past old.disk) (past new.disk)
+          (given-promised lot parts ops (now (past old.disk)) (tied-promised lot parts (now (past old.disk)) tied)) adds,
+    )
+
+-- ops were gathered
+pub record Gave {D : Type 0} (ops : List Op) (old mid : Wal D) : Type 0 where
+  pub waiting : mid.waiting.items ≡ old.waiting.items ++ op_records ops
+  pub ahead : carries_ahead mid ≡ fold add_op (carries_ahead old) ops
+  pub same : mid ≡ record old { waiting = mid.waiting }
+
+-- where there was no memory for them nothing was done to the disk
+pub gather-keeps : {D : Type 0} (tells : D → Bool) (past : D → List Disk) (ops : List Op) (old new : Wal D)
+    → new ≡ record old { waiting = new.waiting }
+    → KeepsAt tells past (λ (lot : Lot). give_batch lot ops) (Open old) (Open new)
+gather-keeps {D} tells past ops old new same =
+    keeps-given tells past ops old new
+    (λ tell none lot parts is tied.
+    subst (λ (w : Wal D). Adds (KeepsPromised lot (give_batch lot ops parts)) (past old.disk) (past w.disk)) (sym same)
+    (adds-none (KeepsPromised lot (give_batch lot ops parts)) (past old.disk)))
+
+pub gather-same : {D : Type 0} (tells : D → Bool) (past : D → List Disk) (faults : D → ℕ) (old new : Wal D)
+    → new ≡ record old { waiting = new.waiting } → KeepsDisk tells past faults (Open old) (Open new)
+gather-same {D} tells past faults old new same lot parts run = record {
+  told = ap (λ (w : Wal D). tells w.disk) same;
+  later = omega (arith, ap (λ (w : Wal D). faults w.disk) same);
+  whole = subst (λ (w : Wal D). IsWhole tells past (ids_of lot) old.disk → IsWhole tells past (ids_of lot) w.disk)
+      (sym same) (λ is. is);
+}
+
+-- what a write does to the log that ops were gathered for
+pub record Wrote {D : Type 0} (tells : D → Bool) (past : D → List Disk) (faults : D → ℕ) (mid new : Wal D) : Type 0 where
+  pub sound : IsSound tells past new
+  pub stays : IsTrue (tells mid.disk)
+      → StaysWriting mid.queues.items mid.waiting.items (past mid.disk) (past new.disk)
+  pub ahead : carries_ahead new ≡ carries_ahead mid
+  pub queues : new.queues ≡ mid.queues
+  pub told : tells new.disk ≡ tells mid.disk
+  pub later : faults mid.disk ≤ faults new.disk
+  pub whole : IsTrue (tells mid.disk) → StaysWhole (past mid.disk) (past new.disk)
+
+module _ {D : Type 0} (tells : D → Bool) (past : D → List Disk) (faults : D → ℕ) (ops : List Op) (old mid new : Wal D)
+    (gave : Gave ops old mid) (wrote : Wrote tells past faults mid new) where
+  was : Wrote tells past faults (record old { waiting = mid.waiting }) new
+  was = subst (λ (w : Wal D). Wrote tells past faults w new) gave.same wrote
+
+  waits : old.waiting.items ≡ [] → op_records ops ≡ mid.waiting.items
+  waits none = sym (gave.waiting ∙ ap (λ (l : List LogRecord). l ++ op_records ops) none)
+
+  pub write-keeps : KeepsAt tells past (λ (lot : Lot). give_batch lot ops) (Open old) (Open new)
+  write-keeps = keeps-given tells past ops old new (λ tell none. was.stays tell ops (waits none))
+
+  pub write-same : KeepsDisk tells past faults (Open old) (Open new)
+  write-same lot parts run = record {
+    told = was.told;
+    later = was.later;
+    whole = λ is tell. (let before : IsTrue (tells old.disk) = subst IsTrue was.told tell in
+        was.whole before (is before));
+  }
+
+  -- ---- a log that goes on
+
+  pub write-runs : AllGoOn old.queues.items (carries_ahead old) ops → HasWritten tells past mid new
+      → RunsOn tells past (λ (lot : Lot). give_batch lot ops) (Open old) (Open new)
+  write-runs goes done =
+      let h : HasWritten tells past (record old { waiting = mid.waiting }) new =
+      subst (λ (w : Wal D). HasWritten tells past w new) gave.same done in
+      record {
+        running = λ lot parts run. record {
+          sound = was.sound;
+          queues_are = ap (λ (q : Vec QueueId). q.items) was.queues ∙ run.queues_are;
+          waiting = h.waiting;
+          going = h.going;
+          carries = subst (CarriesAre lot (give_batch lot ops parts))
+              (sym (wrote.ahead ∙ gave.ahead))
+              (carries-given lot ops parts old.queues.items (carries_ahead old) goes run.carries);
+        };
+        tied = λ lot parts run tell tied. h.holds tell ops (waits run.waiting) lot parts run.queues_are tied;
+      }

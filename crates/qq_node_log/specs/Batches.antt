@@ -1,0 +1,86 @@
+-- What batches, one after the other, make of a log of some queues.
+use Rattle.std.specs.Prelude.{◌≡◌, ◌<◌, ◌+◌, ◌^◌, ℕ, Bool, true, false, List, [], length, drop, take, IsTrue}
+use Rattle.qq_base.specs.Causes.{Rose, SpentOnlyWhere}
+use Rattle.qq_base.specs.declared.ids.QueueId.{QueueId}
+use Rattle.qq_base.specs.declared.memory.Memory.{Memory}
+use Rattle.qq_disk.specs.Disk.{Disk, now}
+use Rattle.qq_disk.specs.Moments.{Adds}
+use Rattle.qq_log.specs.declared.op.Op.{Op}
+use Rattle.qq_lots.specs.Kept.{IsTied, KeepsPromised}
+use Rattle.qq_lots.specs.Lots.{Lot, Parts, give_batch, ids_of}
+use Rattle.qq_wal.specs.declared.batch.TheConstants.{BATCH_BYTES}
+use Rattle.qq_wal.specs.declared.fault.WalFault.{WalFault}
+use Rattle.qq_wal.specs.declared.fault.WalFault.TheVariants.{Disk as DiskFailed, Stopped, TooLarge, Memory as OfMemory}
+use Rattle.qq_wal.specs.declared.wal.Wal.{Wal}
+use Rattle.qq_wal.specs.Running.{StaysGiving, HoldsAlso}
+use Rattle.qq_wal_chain.specs.Laws.{op_records}
+use Rattle.qq_wal_record.specs.declared.record.LogRecord.{LogRecord}
+use Rattle.qq_node_log.specs.declared.node_log.NodeLog.{NodeLog}
+use Rattle.qq_node_log.specs.declared.node_log.NodeLog.TheVariants.{Open, Closed}
+
+-- ---- one batch
+
+-- so many of the records that wait are appended: at each moment their ops are among the given ones, and then on the disk
+abbrev pub AppendsFirst : List QueueId → ℕ → List LogRecord → List Disk → List Disk → Type 0
+AppendsFirst queues count waiting old new =
+    (batch : List Op) → op_records batch ≡ take count waiting
+    → StaysGiving queues batch old new × HoldsAlso queues batch (now old) (now new)
+
+-- nothing waited, or a batch of what waits was appended
+abbrev pub IsBatchOf : Bool → List LogRecord → ℕ → Type 0
+IsBatchOf true waiting count = length (drop count waiting) < length waiting
+IsBatchOf false waiting count = waiting ≡ []
+
+pub record AppendsSome {D : Type 0} (tells : D → Bool) (past : D → List Disk) (more : Bool) (old new : Wal D) : Type 0
+  where
+    pub count : ℕ
+    pub batch : IsBatchOf more old.waiting.items count
+    pub waiting : new.waiting.items ≡ drop count old.waiting.items
+    pub appended : IsTrue (tells old.disk)
+        → AppendsFirst old.queues.items count old.waiting.items (past old.disk) (past new.disk)
+    pub going : new.stopped ≡ false
+
+-- ---- all of them
+
+-- of whatever parts the disk held, at each moment it keeps what was promised of them with these ops
+abbrev pub StaysGiven : List QueueId → List Op → List Disk → List Disk → Type 0
+StaysGiven queues ops old new =
+    (lot : Lot) (parts : Parts) → queues ≡ ids_of lot → IsTied lot parts (now old)
+    → Adds (KeepsPromised lot (give_batch lot ops parts)) old new
+
+-- and then holds them with these ops
+abbrev pub HoldsGiven : List QueueId → List Op → List Disk → List Disk → Type 0
+HoldsGiven queues ops old new =
+    (lot : Lot) (parts : Parts) → queues ≡ ids_of lot → IsTied lot parts (now old)
+    → IsTied lot (give_batch lot ops parts) (now new)
+
+-- of the ops that wait
+abbrev pub StaysWriting : List QueueId → List LogRecord → List Disk → List Disk → Type 0
+StaysWriting queues waiting old new = (ops : List Op) → op_records ops ≡ waiting → StaysGiven queues ops old new
+
+abbrev pub HoldsWritten : List QueueId → List LogRecord → List Disk → List Disk → Type 0
+HoldsWritten queues waiting old new = (ops : List Op) → op_records ops ≡ waiting → HoldsGiven queues ops old new
+
+-- all that waited is appended, and the log goes on
+pub record HasWritten {D : Type 0} (tells : D → Bool) (past : D → List Disk) (old new : Wal D) : Type 0 where
+  pub waiting : new.waiting.items ≡ []
+  pub going : new.stopped ≡ false
+  pub holds : IsTrue (tells old.disk)
+      → HoldsWritten old.queues.items old.waiting.items (past old.disk) (past new.disk)
+
+-- ---- why it gave up
+
+-- one batch more could make the log's file longer than a number of 64 bits tells
+abbrev pub IsLong : {D : Type 0} → Wal D → Memory → Type 0
+IsLong wal memory = SpentOnlyWhere memory wal.size (2 ^ 64 - 1 < wal.size + BATCH_BYTES)
+
+abbrev pub IsLongIn : {D : Type 0} → NodeLog D → Memory → Type 0
+IsLongIn (Open wal) memory = IsLong wal memory
+IsLongIn (Closed disk) memory = ⊥
+
+-- the disk's count rose, or there was no memory, or the file is too long
+abbrev pub IsWriteCaused : {D : Type 0} → (D → ℕ) → Wal D → Wal D → WalFault → Type 0
+IsWriteCaused faults old new DiskFailed = Rose (faults old.disk) (faults new.disk)
+IsWriteCaused faults old new Stopped = ⊥
+IsWriteCaused faults old new TooLarge = ⊥
+IsWriteCaused faults old new (OfMemory memory) = IsLong new memory

@@ -1,0 +1,34 @@
+-- What a log has of each queue: where its ops end, so that the next ones go on there.
+use Rattle.std.specs.Prelude.{◌≡◌, ℕ, List, Option, Some, option_map}
+use Rattle.std.specs.List.{AllByRecursion}
+use Rattle.qq_base.specs.declared.ids.QueueId.{QueueId}
+use Rattle.qq_log.specs.Carries.{Carries, carry_or_new}
+use Rattle.qq_log.specs.declared.lane.Carry.{Carry}
+use Rattle.qq_log.specs.declared.op.Op.{Op}
+use Rattle.qq_log.specs.Stable.{Stable, last_index, stable}
+use Rattle.qq_lots.specs.Lots.{Lot, Parts}
+
+-- the number of a queue's last op, the index of its base, and that of its last entry
+pub record End : Type 0 where
+  pub op : ℕ
+  pub base : ℕ
+  pub last : ℕ
+
+abbrev pub end_of : Stable → End
+end_of s = record { op = s.op; base = s.base.index.0; last = last_index s }
+
+abbrev pub carry_end : Carry → End
+carry_end c = record { op = c.op; base = c.base.index.0; last = c.last.0 }
+
+-- where ops end, None where one of them isn't sound
+abbrev pub ends : List Op → Option End
+ends ops = option_map end_of (stable ops)
+
+-- a queue's carry tells where its ops end; before the first it is a new queue's
+abbrev pub IsCarryOf : QueueId → Carries → List Op → Type 0
+IsCarryOf id carries ops = ends ops ≡ Some (carry_end (carry_or_new (carries id.0) id))
+
+-- and so of each queue of a lot
+abbrev pub CarriesAre : Lot → Parts → Carries → Type 0
+CarriesAre lot parts carries =
+    AllByRecursion (λ (place : ℕ). IsCarryOf (lot.id place) carries (parts place).ops) lot.places

@@ -1,0 +1,43 @@
+-- A node's log as its calls see it: of which parts it goes on.
+use Rattle.std.specs.Prelude.{◌≡◌, Bool, true, false, List, [], IsTrue}
+use Rattle.qq_base.specs.declared.ids.QueueId.{QueueId}
+use Rattle.qq_disk.specs.Disk.{Disk, now}
+use Rattle.qq_lots.specs.Lots.{Lot, Parts, ids_of}
+use Rattle.qq_wal.specs.Running.{NoneRemoved}
+use Rattle.qq_wal.specs.Wal.{IsSound, carries_ahead}
+use Rattle.qq_wal.specs.declared.wal.Wal.{Wal}
+use Rattle.qq_node_log.specs.declared.node_log.NodeLog.{NodeLog}
+use Rattle.qq_node_log.specs.declared.node_log.NodeLog.TheVariants.{Open, Closed}
+use Rattle.qq_node_log.specs.Ends.{CarriesAre}
+
+-- the disk, in the log that is written to or held alone
+abbrev pub disk_in : {D : Type 0} → NodeLog D → D
+disk_in (Open wal) = wal.disk
+disk_in (Closed disk) = disk
+
+abbrev pub is_open : {D : Type 0} → NodeLog D → Bool
+is_open (Open wal) = true
+is_open (Closed disk) = false
+
+-- a disk that tells its contents may be recovered as the log of these queues: none of its log files is removed
+abbrev pub IsWhole : {D : Type 0} → (D → Bool) → (D → List Disk) → List QueueId → D → Type 0
+IsWhole tells past queues disk = IsTrue (tells disk) → NoneRemoved (now (past disk))
+
+-- The log is of the lot's queues, goes on where their parts end, and nothing waits in it.
+pub record IsRunning {D : Type 0} (tells : D → Bool) (past : D → List Disk) (lot : Lot) (parts : Parts) (wal : Wal D)
+    : Type 0 where
+  pub sound : IsSound tells past wal
+  pub queues_are : wal.queues.items ≡ ids_of lot
+  pub waiting : wal.waiting.items ≡ []
+  pub going : wal.stopped ≡ false
+  pub carries : CarriesAre lot parts (carries_ahead wal)
+
+abbrev pub IsRunningIn : {D : Type 0} → (D → Bool) → (D → List Disk) → Lot → Parts → NodeLog D → Type 0
+IsRunningIn tells past lot parts (Open wal) = IsRunning tells past lot parts wal
+IsRunningIn tells past lot parts (Closed disk) = ⊥
+
+-- the log of a node that is up goes on, and that of any node has a disk that may be recovered
+pub record Stands {D : Type 0} (tells : D → Bool) (past : D → List Disk) (lot : Lot) (parts : Parts) (up : Bool)
+    (log : NodeLog D) : Type 0 where
+  pub running : up ≡ true → IsRunningIn tells past lot parts log
+  pub whole : IsWhole tells past (ids_of lot) (disk_in log)

@@ -1,0 +1,87 @@
+//! What was gathered is appended, in as many batches as it takes.
+ghost use Rattle.std.specs.Prelude.{◌≡◌, ◌≤◌, false, true, IsTrue, IfErr, IfOk, OnOk};
+ghost use Rattle.qq_base.specs.Causes.{Rose};
+ghost use Rattle.qq_wal.specs.Running.{StaysWhole};
+ghost use Rattle.qq_wal.specs.Wal.{IsSound, StaysAppending, carries_ahead};
+ghost use Rattle.qq_node_log.specs.Batches.{AppendsSome, HasWritten, IsLong, IsWriteCaused, StaysWriting};
+
+use qq_base::Memory;
+use qq_disk::NodeDisk;
+use qq_wal::{Wal, WalFault};
+use qq_wal_record::encodings_have_lengths;
+use std::alloc::Global;
+
+/// Appends a batch of what was gathered, and answers whether anything waited.
+fn append_some<D: NodeDisk>(wal: &mut Wal<D>, alloc: Global) -> Result<bool, WalFault>
+    requires sound { IsSound D.tells D.past wal.old }
+    requires going { wal.old.stopped ≡ false }
+    ensures sound { IsSound D.tells D.past wal.new }
+    ensures ok { IfOk result (λ more. AppendsSome D.tells D.past more wal.old wal.new) }
+    ensures stays { IsTrue (D.tells wal.old.disk) → StaysAppending wal.old.queues.items
+        wal.old.waiting.items (D.past wal.old.disk) (D.past wal.new.disk) }
+    ensures ahead { carries_ahead wal.new ≡ carries_ahead wal.old }
+    ensures queues { wal.new.queues ≡ wal.old.queues }
+    ensures whole { IsTrue (D.tells wal.old.disk) →
+        StaysWhole (D.past wal.old.disk) (D.past wal.new.disk) }
+    ensures told { D.tells wal.new.disk ≡ D.tells wal.old.disk }
+    ensures later { D.faults wal.old.disk ≤ D.faults wal.new.disk }
+    ensures cause { IfErr result (IsWriteCaused D.faults wal.old wal.new) }
+{
+    encodings_have_lengths();
+    match wal.append_batch(alloc) {
+        Ok(count) => Ok(count > 0),
+        Err(fault) => Err(fault),
+    }
+}
+
+/// Appends all that was gathered.
+fn append_all<D: NodeDisk>(wal: &mut Wal<D>, alloc: Global) -> Result<(), WalFault>
+    requires sound { IsSound D.tells D.past wal.old }
+    requires going { wal.old.stopped ≡ false }
+    ensures sound { IsSound D.tells D.past wal.new }
+    ensures ok { OnOk result (HasWritten D.tells D.past wal.old wal.new) }
+    ensures stays { IsTrue (D.tells wal.old.disk) → StaysWriting wal.old.queues.items
+        wal.old.waiting.items (D.past wal.old.disk) (D.past wal.new.disk) }
+    ensures ahead { carries_ahead wal.new ≡ carries_ahead wal.old }
+    ensures queues { wal.new.queues ≡ wal.old.queues }
+    ensures whole { IsTrue (D.tells wal.old.disk) →
+        StaysWhole (D.past wal.old.disk) (D.past wal.new.disk) }
+    ensures told { D.tells wal.new.disk ≡ D.tells wal.old.disk }
+    ensures later { D.faults wal.old.disk ≤ D.faults wal.new.disk }
+    ensures cause { IfErr result (IsWriteCaused D.faults wal.old wal.new) }
+{
+    'batches: while append_some(wal, alloc)? {}
+    Ok(())
+}
+
+/// Appends all that was gathered. It answers whether the log goes on: if not, the disk failed, which it
+/// counts.
+///
+/// - `ok`: nothing waits any more, and over a disk that tells its contents all of it is on the disk.
+/// - `stays`: at each moment, also where it fails, what was promised is, with these ops among the given ones.
+/// - `cause`: `Spent` comes only where a batch more could make the file longer than 2^64 - 1 bytes.
+pub(crate) fn write_log<D: NodeDisk>(wal: &mut Wal<D>, alloc: Global) -> Result<bool, Memory>
+    requires sound { IsSound D.tells D.past wal.old }
+    requires going { wal.old.stopped ≡ false }
+    ensures sound { IsSound D.tells D.past wal.new }
+    ensures ok { IfOk result (λ more. more ≡ true → HasWritten D.tells D.past wal.old wal.new) }
+    ensures stays { IsTrue (D.tells wal.old.disk) → StaysWriting wal.old.queues.items
+        wal.old.waiting.items (D.past wal.old.disk) (D.past wal.new.disk) }
+    ensures failed { IfOk result (λ more. more ≡ false →
+        Rose (D.faults wal.old.disk) (D.faults wal.new.disk)) }
+    ensures ahead { carries_ahead wal.new ≡ carries_ahead wal.old }
+    ensures queues { wal.new.queues ≡ wal.old.queues }
+    ensures whole { IsTrue (D.tells wal.old.disk) →
+        StaysWhole (D.past wal.old.disk) (D.past wal.new.disk) }
+    ensures told { D.tells wal.new.disk ≡ D.tells wal.old.disk }
+    ensures later { D.faults wal.old.disk ≤ D.faults wal.new.disk }
+    ensures cause { IfErr result (IsLong wal.new) }
+{
+    match append_all(wal, alloc) {
+        Ok(()) => Ok(true),
+        Err(WalFault::Disk) => Ok(false),
+        Err(WalFault::Memory(memory)) => Err(memory),
+        Err(WalFault::Stopped) => unreachable!(),
+        Err(WalFault::TooLarge) => unreachable!(),
+    }
+}

@@ -1,0 +1,154 @@
+//! One node's log, and its calls.
+ghost use Rattle.std.specs.Prelude.{◌≡◌, true, false, IsTrue, IfOk, IfErr};
+ghost use Rattle.qq_base.specs.Causes.{Rose};
+ghost use Rattle.qq_disk.specs.Disk.{now};
+ghost use Rattle.qq_lots.specs.Lots.{Lot, Parts, give_batch, keep_all};
+ghost use Rattle.qq_node_log.specs.declared.syncing.SyncOutcome.TheVariants.{Whole};
+ghost use Rattle.qq_node_log.specs.Batches.{IsLong, IsLongIn};
+ghost use Rattle.qq_node_log.specs.Log.{IsRunningIn, disk_in, is_open};
+ghost use Rattle.qq_node_log.specs.Steps.{GoesOn, KeepsAt, KeepsDisk, MayAppend, RunsOn};
+ghost use Rattle.qq_node_log.specs.Syncing.{FailsByCount, IsLast, IsLastIn, SyncsIn};
+
+use crate::batches::write_log;
+use crate::gathering::gather_all;
+use crate::syncing::{SyncOutcome, sync_log};
+use qq_base::Memory;
+use qq_disk::NodeDisk;
+use qq_log::Op;
+use qq_wal::Wal;
+use std::alloc::Global;
+
+/// A node's log, or its disk alone.
+///
+/// Contracts speak of a *lot*, the queues of which the node is a member, and of each queue's *part*: the ops
+/// that the log was given, and how many of them a sync has kept (`qq_lots`). A log goes on with some parts
+/// (`IsRunningIn`); what a call says of them, it says of whatever parts these are.
+///
+/// After an error, which is want of memory or a number at its end, the log is used no more: its disk keeps what
+/// was promised.
+#[derive(Drop)]
+pub enum NodeLog<D: NodeDisk> {
+    /// The log is written to. After a failure of the disk it holds the disk, and takes nothing more.
+    Open(Wal<D>),
+    /// The node was crashed: this is left of its disk.
+    Closed(D),
+}
+
+fn append_open<D: NodeDisk>(
+    wal: &mut Wal<D>,
+    alloc: Global,
+    ops: Vec<Op>,
+) -> Result<bool, Memory>
+    requires { MayAppend D.tells D.past ops.items (NodeLog.Open wal.old) }
+    ensures same { KeepsDisk D.tells D.past D.faults (NodeLog.Open wal.old)
+        (NodeLog.Open wal.new) }
+    ensures ok { IfOk result (λ more. more ≡ true →
+        RunsOn D.tells D.past (λ (lot : Lot). give_batch lot ops.items)
+        (NodeLog.Open wal.old) (NodeLog.Open wal.new)) }
+    ensures moments { KeepsAt D.tells D.past (λ (lot : Lot). give_batch lot ops.items)
+        (NodeLog.Open wal.old) (NodeLog.Open wal.new) }
+    ensures failed { IfOk result (λ more. more ≡ false →
+        Rose (D.faults wal.old.disk) (D.faults wal.new.disk)) }
+    ensures spent { IfErr result (IsLong wal.new) }
+{
+    match gather_all(wal, ops) {
+        Ok(()) => {}
+        Err(memory) => return Err(memory),
+    }
+    match write_log(wal, alloc) {
+        Ok(more) => Ok(more),
+        Err(memory) => Err(memory),
+    }
+}
+
+fn sync_open<D: NodeDisk>(wal: &mut Wal<D>, alloc: Global) -> Result<SyncOutcome, Memory>
+    requires { GoesOn D.tells D.past (NodeLog.Open wal.old) }
+    ensures same { KeepsDisk D.tells D.past D.faults (NodeLog.Open wal.old)
+        (NodeLog.Open wal.new) }
+    ensures ok { IfOk result (λ outcome. outcome ≡ Whole →
+        RunsOn D.tells D.past (λ (lot : Lot). keep_all)
+        (NodeLog.Open wal.old) (NodeLog.Open wal.new)) }
+    ensures come { IfOk result (λ outcome. SyncsIn D.tells D.past outcome
+        (NodeLog.Open wal.old) (NodeLog.Open wal.new)) }
+    ensures moments { KeepsAt D.tells D.past (λ (lot : Lot) (parts : Parts). parts)
+        (NodeLog.Open wal.old) (NodeLog.Open wal.new) }
+    ensures failed { IfOk result
+        (FailsByCount (D.faults wal.old.disk) (D.faults wal.new.disk)) }
+    ensures spent { IfErr result (IsLast wal.new) }
+{
+    match sync_log(wal, alloc) {
+        Ok(outcome) => Ok(outcome),
+        Err(memory) => Err(memory),
+    }
+}
+
+impl<D: NodeDisk> NodeLog<D> {
+    /// Whether the log is written to.
+    pub fn is_open(&self) -> bool
+        ensures { result ≡ is_open self.now }
+    {
+        match self {
+            NodeLog::Open(_) => true,
+            NodeLog::Closed(_) => false,
+        }
+    }
+
+    /// The disk, once the log isn't written to any more.
+    pub fn into_disk(self) -> D
+        ensures { result ≡ disk_in self }
+    {
+        match self {
+            NodeLog::Open(wal) => wal.into_disk(),
+            NodeLog::Closed(disk) => disk,
+        }
+    }
+
+    /// Appends ops of its queues, in as many batches as it takes. It answers whether the disk did so: if not,
+    /// it failed, which it counts, and the log takes nothing more.
+    ///
+    /// - `ok`: the log goes on with these ops, and a disk that tells its contents holds them.
+    /// - `moments`: at each moment, whatever the answer is, the disk keeps what was promised, with these ops
+    ///   among the given ones.
+    /// - `spent`: there was no memory, or one batch more could make the log's file longer than 2^64 - 1 bytes.
+    pub fn append(&mut self, alloc: Global, ops: Vec<Op>) -> Result<bool, Memory>
+        requires { MayAppend D.tells D.past ops.items self.old }
+        ensures same { KeepsDisk D.tells D.past D.faults self.old self.new }
+        ensures ok { IfOk result (λ more. more ≡ true →
+            RunsOn D.tells D.past (λ (lot : Lot). give_batch lot ops.items) self.old self.new) }
+        ensures moments { KeepsAt D.tells D.past (λ (lot : Lot). give_batch lot ops.items)
+            self.old self.new }
+        ensures failed { IfOk result (λ more. more ≡ false →
+            Rose (D.faults (disk_in self.old)) (D.faults (disk_in self.new))) }
+        ensures spent { IfErr result (IsLongIn self.new) }
+    {
+        match self {
+            NodeLog::Open(wal) => append_open(wal, alloc, ops),
+            NodeLog::Closed(_) => unreachable!(),
+        }
+    }
+
+    /// Syncs what was appended, and begins a new file where the old one is full.
+    ///
+    /// - `ok`: where the answer is `Whole`, the log goes on with all of its parts synced.
+    /// - `come`: how far it came on a disk that tells its contents.
+    /// - `moments`: at each moment, whatever the answer is, the disk keeps what was promised.
+    /// - `failed`: where it didn't come to its end, the disk's count of faults rose.
+    /// - `spent`: there was no memory, or the greatest number of a log file is at its end.
+    pub fn sync(&mut self, alloc: Global) -> Result<SyncOutcome, Memory>
+        requires { GoesOn D.tells D.past self.old }
+        ensures same { KeepsDisk D.tells D.past D.faults self.old self.new }
+        ensures ok { IfOk result (λ outcome. outcome ≡ Whole →
+            RunsOn D.tells D.past (λ (lot : Lot). keep_all) self.old self.new) }
+        ensures come { IfOk result (λ outcome. SyncsIn D.tells D.past outcome self.old self.new) }
+        ensures moments { KeepsAt D.tells D.past (λ (lot : Lot) (parts : Parts). parts)
+            self.old self.new }
+        ensures failed { IfOk result (FailsByCount (D.faults (disk_in self.old))
+            (D.faults (disk_in self.new))) }
+        ensures spent { IfErr result (IsLastIn self.new) }
+    {
+        match self {
+            NodeLog::Open(wal) => sync_open(wal, alloc),
+            NodeLog::Closed(_) => unreachable!(),
+        }
+    }
+}

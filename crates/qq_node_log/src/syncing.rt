@@ -1,0 +1,104 @@
+//! What was appended is synced, and a full file is replaced.
+ghost use Rattle.std.specs.Prelude.{◌≡◌, ◌≤◌, false, true, IsTrue, IfOk, IfErr, OnOk};
+ghost use Rattle.qq_base.specs.Causes.{Rose};
+ghost use Rattle.qq_disk.specs.Disk.{now};
+ghost use Rattle.qq_wal.specs.Running.{Stays, StaysWhole, StillHolds};
+ghost use Rattle.qq_wal.specs.Wal.{IsSound, carries_ahead, is_full};
+ghost use Rattle.qq_node_log.specs.declared.syncing.SyncOutcome.TheVariants.{Whole};
+ghost use Rattle.qq_node_log.specs.Syncing.{Comes, FailsByCount, GoesOnAs, IsLast, IsNextFile};
+
+use qq_base::Memory;
+use qq_disk::NodeDisk;
+use qq_wal::{Wal, WalFault};
+use std::alloc::Global;
+
+/// How far a sync of a node's log came.
+#[derive(Clone, Copy, Debug, PartialEq, Eq)]
+pub enum SyncOutcome {
+    /// All that was appended is synced, and the log goes on, in a new file where the old one was full.
+    Whole,
+    /// All that was appended is synced, and then the disk failed where a new file was begun.
+    NoFile,
+    /// The disk failed in the sync.
+    Nothing,
+}
+
+/// Begins a new file where the old one is full, and only there. It answers whether the log goes on: if not,
+/// the disk failed, which it counts. Nothing that was appended may wait for a sync. `Spent` comes only where
+/// the greatest number of a log file is at its end.
+fn begin_next<D: NodeDisk>(wal: &mut Wal<D>, alloc: Global) -> Result<bool, Memory>
+    requires sound { IsSound D.tells D.past wal.old }
+    requires synced { wal.old.dirty ≡ false }
+    requires going { wal.old.stopped ≡ false }
+    ensures sound { IsSound D.tells D.past wal.new }
+    ensures stays { IsTrue (D.tells wal.old.disk) → Stays wal.old.queues.items
+        (D.past wal.old.disk) (D.past wal.new.disk) }
+    ensures holds { IsTrue (D.tells wal.old.disk) → IfOk result (λ more. more ≡ true →
+        StillHolds wal.old.queues.items (now (D.past wal.old.disk)) (now (D.past wal.new.disk))) }
+    ensures file { IfOk result (λ more. more ≡ true →
+        IsNextFile (is_full wal.old) wal.old wal.new) }
+    ensures goes_on { IfOk result (λ more. more ≡ true → GoesOnAs wal.old wal.new) }
+    ensures failed { IfOk result (λ more. more ≡ false →
+        Rose (D.faults wal.old.disk) (D.faults wal.new.disk)) }
+    ensures ahead { carries_ahead wal.new ≡ carries_ahead wal.old }
+    ensures queues { wal.new.queues ≡ wal.old.queues }
+    ensures whole { IsTrue (D.tells wal.old.disk) →
+        StaysWhole (D.past wal.old.disk) (D.past wal.new.disk) }
+    ensures told { D.tells wal.new.disk ≡ D.tells wal.old.disk }
+    ensures later { D.faults wal.old.disk ≤ D.faults wal.new.disk }
+    ensures cause { IfErr result (IsLast wal.new) }
+{
+    if !wal.full() {
+        return Ok(true);
+    }
+    match wal.roll(alloc) {
+        Ok(_) => Ok(true),
+        Err(WalFault::Disk) => Ok(false),
+        Err(WalFault::Memory(memory)) => Err(memory),
+        Err(WalFault::Stopped) => unreachable!(),
+        Err(WalFault::TooLarge) => unreachable!(),
+    }
+}
+
+/// Syncs what was appended, and begins a new file where the old one is full.
+///
+/// - `come`: over a disk that tells its contents and held what the log was given, all of that is synced once
+///   the answer is `Whole` or `NoFile`.
+/// - `stays`: at each moment, also where there is no memory, what was promised is promised.
+/// - `failed`: where it didn't come to its end, the disk's count of faults rose.
+/// - `cause`: `Spent` comes only where the greatest number of a log file is at its end.
+pub(crate) fn sync_log<D: NodeDisk>(
+    wal: &mut Wal<D>,
+    alloc: Global,
+) -> Result<SyncOutcome, Memory>
+    requires sound { IsSound D.tells D.past wal.old }
+    requires going { wal.old.stopped ≡ false }
+    ensures sound { IsSound D.tells D.past wal.new }
+    ensures come { IsTrue (D.tells wal.old.disk) → IfOk result (λ outcome.
+        Comes outcome wal.old.queues.items (D.past wal.old.disk) (D.past wal.new.disk)) }
+    ensures stays { IsTrue (D.tells wal.old.disk) → Stays wal.old.queues.items
+        (D.past wal.old.disk) (D.past wal.new.disk) }
+    ensures goes_on { IfOk result (λ outcome. outcome ≡ Whole → GoesOnAs wal.old wal.new) }
+    ensures failed { IfOk result
+        (FailsByCount (D.faults wal.old.disk) (D.faults wal.new.disk)) }
+    ensures ahead { carries_ahead wal.new ≡ carries_ahead wal.old }
+    ensures queues { wal.new.queues ≡ wal.old.queues }
+    ensures whole { IsTrue (D.tells wal.old.disk) →
+        StaysWhole (D.past wal.old.disk) (D.past wal.new.disk) }
+    ensures told { D.tells wal.new.disk ≡ D.tells wal.old.disk }
+    ensures later { D.faults wal.old.disk ≤ D.faults wal.new.disk }
+    ensures cause { IfErr result (IsLast wal.new) }
+{
+    match wal.sync_batch(alloc) {
+        Ok(_) => {}
+        Err(WalFault::Disk) => return Ok(SyncOutcome::Nothing),
+        Err(WalFault::Memory(memory)) => return Err(memory),
+        Err(WalFault::Stopped) => unreachable!(),
+        Err(WalFault::TooLarge) => unreachable!(),
+    }
+    match begin_next(wal, alloc) {
+        Ok(true) => Ok(SyncOutcome::Whole),
+        Ok(false) => Ok(SyncOutcome::NoFile),
+        Err(memory) => Err(memory),
+    }
+}
