@@ -1,30 +1,31 @@
 -- What waits is gathered, and then appended: what that leaves of the log's parts.
-use Rattle.std.proofs.Common.{◌≡◌, ◌≤◌, ◌++◌, ℕ, Bool, true, List, [], refl, sym, ap, ◌∙◌, subst, arith}
+use Rattle.std.proofs.Common.{◌≡◌, ◌≤◌, ◌++◌, ℕ, Bool, true, List, [], sym, ap, ◌∙◌, subst, arith}
 use Rattle.std.specs.Global.{Vec}
-use Rattle.std.specs.Prelude.{All, IsTrue, fold}
+use Rattle.std.specs.Prelude.{IsTrue, fold}
 use Rattle.std.proofs.lemmas.List.Elements.{recursion_from_All}
 use Rattle.qq_base.specs.declared.ids.QueueId.{QueueId}
+use Rattle.qq_base.specs.declared.memory.Memory.{Memory}
+use Rattle.qq_base.specs.declared.memory.Memory.TheVariants.{Want}
 use Rattle.qq_base.proofs.Fronts.{front-more}
 use Rattle.qq_disk.specs.Disk.{Disk, now}
 use Rattle.qq_disk.specs.Moments.{Adds}
 use Rattle.qq_disk.proofs.Moments.{adds-none}
-use Rattle.qq_log.specs.Carries.{Carries, add_op, is_listed}
+use Rattle.qq_log.specs.Carries.{add_op, is_listed}
 use Rattle.qq_log.specs.declared.op.Op.{Op}
 use Rattle.qq_log.specs.Op.{queue}
 use Rattle.qq_log.specs.Writable.{MayWrite}
-use Rattle.qq_lots.specs.Kept.{IsTied, KeepsPromised}
+use Rattle.qq_lots.specs.Kept.{KeepsPromised}
 use Rattle.qq_lots.specs.Lots.{Lot, Parts, give_batch, ids_of, ops_at}
 use Rattle.qq_lots.proofs.Writes.{promised-later, promised-now, tied-promised}
 use Rattle.qq_wal.specs.declared.wal.Wal.{Wal}
-use Rattle.qq_wal.specs.Running.{StaysWhole}
 use Rattle.qq_wal.specs.Wal.{IsSound, carries_ahead}
 use Rattle.qq_wal_chain.specs.Laws.{op_records}
 use Rattle.qq_wal_record.specs.declared.record.LogRecord.{LogRecord}
 use Rattle.qq_node_log.specs.declared.node_log.NodeLog.TheVariants.{Open}
-use Rattle.qq_node_log.specs.Batches.{HasWritten, StaysGiven, StaysWriting}
+use Rattle.qq_node_log.specs.Batches.{HasWritten, IsLong, StaysGiven, StaysWriting}
 use Rattle.qq_node_log.specs.Ends.{CarriesAre}
-use Rattle.qq_node_log.specs.Giving.{AllGoOn, MayGive}
-use Rattle.qq_node_log.specs.Log.{IsWhole}
+use Rattle.qq_node_log.specs.Giving.{AllGoOn}
+use Rattle.qq_node_log.specs.Log.{IsWhole, StillWhole}
 use Rattle.qq_node_log.specs.Steps.{KeepsAt, KeepsDisk, MayAppend, RunsOn}
 use Rattle.qq_node_log.proofs.Goes.{all-go, carries-given}
 
@@ -91,7 +92,7 @@ pub record Wrote {D : Type 0} (tells : D → Bool) (past : D → List Disk) (fau
   pub queues : new.queues ≡ mid.queues
   pub told : tells new.disk ≡ tells mid.disk
   pub later : faults mid.disk ≤ faults new.disk
-  pub whole : IsTrue (tells mid.disk) → StaysWhole (past mid.disk) (past new.disk)
+  pub whole : StillWhole tells past mid.queues.items mid.disk new.disk
 
 module _ {D : Type 0} (tells : D → Bool) (past : D → List Disk) (faults : D → ℕ) (ops : List Op) (old mid new : Wal D)
     (gave : Gave ops old mid) (wrote : Wrote tells past faults mid new) where
@@ -109,7 +110,7 @@ module _ {D : Type 0} (tells : D → Bool) (past : D → List Disk) (faults : D 
     told = was.told;
     later = was.later;
     whole = λ is tell. (let before : IsTrue (tells old.disk) = subst IsTrue was.told tell in
-        was.whole before (is before));
+        subst (λ (ids : List QueueId). StillWhole tells past ids old.disk new.disk) run.queues_are was.whole before (is before));
   }
 
   -- ---- a log that goes on
@@ -131,3 +132,7 @@ module _ {D : Type 0} (tells : D → Bool) (past : D → List Disk) (faults : D 
         };
         tied = λ lot parts run tell tied. h.holds tell ops (waits run.waiting) lot parts run.queues_are tied;
       }
+
+-- want of memory is no number at its end
+pub want-long : {D : Type 0} (wal : Wal D) (memory : Memory) → memory ≡ Want → IsLong wal memory
+want-long wal memory is = subst (IsLong wal) (sym is) tt

@@ -1,9 +1,10 @@
 -- What recovery gives, in the words of a log's parts.
-use Rattle.std.proofs.Common.{◌≡◌, ◌||◌, ℕ, Bool, true, false, List, [], ◌∷◌, Option, Some, None, eqb, map, option_map, refl, sym, ap, ◌∙◌, subst, take}
+use Rattle.std.proofs.Common.{◌≡◌, ◌+◌, ◌||◌, ℕ, Bool, true, false, List, [], ◌∷◌, Option, Some, None, eqb, map, option_map, refl, sym, ap, ◌∙◌, subst, take, length, arith, unwrap_or}
 use Rattle.std.specs.Global.{Vec}
 use Rattle.std.specs.Prelude.{Ok, IfSome, IsTrue}
 use Rattle.std.specs.List.{AllByRecursion}
 use Rattle.std.proofs.lemmas.Bool.{eq-eqb, or_right}
+use Rattle.std.proofs.lemmas.List.{length-map}
 use Rattle.qq_base.proofs.Lists.{AllByRecursion-weaker}
 use Rattle.qq_base.specs.Fronts.{IsFront}
 use Rattle.qq_base.specs.declared.ids.QueueId.{QueueId}
@@ -17,19 +18,21 @@ use Rattle.qq_log.specs.Carries.{carry_or_new}
 use Rattle.qq_log.specs.declared.lane.Carry.{Carry}
 use Rattle.qq_log.specs.declared.lane.Lane.{Lane}
 use Rattle.qq_log.specs.declared.op.Op.{Op}
-use Rattle.qq_log.specs.Stable.{carry_of}
-use Rattle.qq_lots.specs.Kept.{IsTied, KeepsPromised}
+use Rattle.qq_log.specs.Lane.{IsLaneOf}
+use Rattle.qq_log.specs.Stable.{Stable, carry_of, new_state}
+use Rattle.qq_log.specs.declared.head.SnapshotHead.{SnapshotHead}
+use Rattle.qq_lots.specs.Kept.{KeepsPromised}
 use Rattle.qq_lots.specs.Left.{AllBetween, IsBetween, ops_found, state_in}
-use Rattle.qq_lots.specs.Lots.{Lot, Parts, find_each, ids_of}
+use Rattle.qq_lots.specs.Lots.{Lot, Parts, find_each, ids_of, new_part}
 use Rattle.qq_lots.proofs.Each.{all-both}
 use Rattle.qq_lots.proofs.Finds.{found-tied, settled-at}
-use Rattle.qq_lots.proofs.Writes.{crashed-keeps, stays-keeps}
+use Rattle.qq_lots.proofs.Writes.{crashed-keeps, new-promised as no-promise, stays-keeps}
 use Rattle.qq_ports.specs.Yard.{IsAfterCrash, IsNew}
 use Rattle.qq_recover.specs.declared.fault.RecoverFault.{RecoverFault}
 use Rattle.qq_recover.specs.declared.fault.RecoverFault.TheVariants.{Memory as OfMemory}
 use Rattle.qq_recover.specs.declared.recovered.Recovered.{Recovered}
 use Rattle.qq_recover.specs.Reading.{lanes_read, shown}
-use Rattle.qq_recover.specs.Recovered.{IsNewLog, IsNoRefusal, KnowsLanes, lanes_left, wal_of}
+use Rattle.qq_recover.specs.Recovered.{IsLaneFor, IsNewLog, IsNoRefusal, KnowsLanes, lanes_left, wal_of}
 use Rattle.qq_recover.specs.Recovery.{SettlesLanes}
 use Rattle.qq_recover.specs.State.{IsWithinEnds}
 use Rattle.qq_wal.specs.declared.wal.Wal.{Wal}
@@ -40,7 +43,7 @@ use Rattle.qq_wal_chain.specs.Image.{is_removed}
 use Rattle.qq_wal_chain.specs.Lanes.{Lanes, IsStateOf, is_listed, of_queue}
 use Rattle.qq_wal_chain.specs.Laws.{KeepsPromise}
 use Rattle.qq_wal_chain.proofs.Promised.{empty-keeps}
-use Rattle.qq_node_log.specs.Ends.{IsCarryOf, carry_end, end_of, ends}
+use Rattle.qq_node_log.specs.Ends.{IsCarryOf, carry_end, end_of, ends, lane_end}
 use Rattle.qq_node_log.specs.Found.{AllEnd, AreLanes, FailsKeeping, HasFound, HasHonestImage, Settles}
 use Rattle.qq_node_log.specs.Log.{IsRunning}
 
@@ -52,6 +55,22 @@ between-ends lot parts lanes between =
     AllByRecursion-weaker (λ (place : ℕ). IsBetween (parts place) (state_in lanes (lot.id place)))
     (λ (place : ℕ). ends (take (ops_found lot lanes place) (parts place).ops) ≡ Some (end_of (state_in lanes (lot.id place))))
     (λ place is. ap (option_map end_of) is.is) lot.places between
+
+-- a lane tells where its state ends
+pub lane-ends : (id : QueueId) (lanes : Lanes) (lane : Option Lane) → IsLaneFor id (lanes id.0) lane
+    → lane_end lane ≡ end_of (state_in lanes id)
+lane-ends id lanes lane is = by (lanes id.0) lane is
+  where
+    by : (o : Option Stable) (lane : Option Lane) → IsLaneFor id o lane → lane_end lane ≡ end_of (unwrap_or o new_state)
+    by None None is = refl
+    by (Some s) (Some lane) is =
+        let own : IsLaneOf s lane = is.1.state in
+        let base : lane.base.index.0 ≡ s.base.index.0 = ap (λ (h : SnapshotHead). h.index.0) own.base in
+        let many : lane.base.index.0 + length lane.entries ≡ s.base.index.0 + length s.log =
+        omega (arith, base, ap length own.entries, length-map lane.entries Some) in
+        λ i. record { op = own.op i; base = base i; last = many i }
+    by None (Some lane) is = absurd is
+    by (Some s) None is = absurd is
 
 -- the queues of a lot are listed
 all-listed : (lot : Lot) → AllByRecursion (λ (place : ℕ). is_listed (ids_of lot) (lot.id place) ≡ true) lot.places
@@ -181,6 +200,16 @@ reopened i n = by (i (log_of n))
 pub crashed-whole : (image : Image) (old new : List Disk) → IsAfterCrash image old new → NoneRemoved (now new)
 crashed-whole image old new after =
     subst NoneRemoved (sym after.left.left) (reopened (image_of image after.left.newest (now old)))
+
+-- nor one of a new disk
+pub new-whole : (past : List Disk) → IsNew past → NoneRemoved (now past)
+new-whole past fresh = subst (λ (p : List Disk). NoneRemoved (now p)) (sym fresh) (λ n. refl)
+
+-- which has promised nothing
+pub new-promised : (lot : Lot) (past : List Disk) → IsNew past → KeepsPromised lot (λ place. new_part) (now past)
+new-promised lot past fresh =
+    no-promise lot (now past)
+    (subst (λ (p : List Disk). KeepsPromise (ids_of lot) top [] [] (now p)) (sym fresh) (empty-keeps (ids_of lot) top))
 
 pub crashed-promised : (lot : Lot) (parts : Parts) (image : Image) (old new : List Disk)
     → KeepsPromised lot parts (now old) → IsAfterCrash image old new → HasHonestImage lot image (now old)

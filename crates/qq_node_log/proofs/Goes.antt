@@ -1,8 +1,8 @@
 -- Where a queue's ops end the next one goes on.
-use Rattle.std.proofs.Common.{◌≡◌, ◌≤◌, ◌+◌, ◌-◌, ◌||◌, ◌&&◌, ℕ, Bool, true, false, cond, eqb, leb, List, [], ◌∷◌, ◌++◌, map, length, Option, Some, None, option_map, refl, sym, ap, subst, ◌∙◌, arith, append_assoc, append-nil, length-append, length-take}
+use Rattle.std.proofs.Common.{◌≡◌, ◌+◌, ◌-◌, ◌||◌, ◌&&◌, ℕ, Bool, true, false, cond, eqb, leb, List, [], ◌∷◌, ◌++◌, map, length, Option, Some, None, option_map, refl, sym, ap, subst, ◌∙◌, arith, append_assoc, append-nil, length-append, length-take}
 use Rattle.std.specs.Prelude.{IsSome, fold}
 use Rattle.std.specs.List.{AllByRecursion}
-use Rattle.std.proofs.lemmas.Bool.{eq-eqb, eqb-true, and_parts, leb-true}
+use Rattle.std.proofs.lemmas.Bool.{eq-eqb, eqb-true, and_parts, false≢true, leb-true}
 use Rattle.std.proofs.lemmas.List.{length-map}
 use Rattle.qq_base.specs.declared.ids.QueueId.{QueueId}
 use Rattle.qq_base.proofs.Lists.{AllByRecursion-weaker}
@@ -15,9 +15,7 @@ use Rattle.qq_log.specs.Op.{queue}
 use Rattle.qq_log.specs.Stable.{Stable, apply_op, change, last_index, may_keep, stable, then_apply}
 use Rattle.qq_log.specs.Writable.{IsChange, MayWrite}
 use Rattle.qq_lots.specs.Lots.{Lot, Parts, give_batch, ids_of, ops_at}
-use Rattle.qq_lots.proofs.Each.{all-both}
 use Rattle.qq_lots.proofs.Writes.{ops_at-both}
-use Rattle.qq_wal.specs.Marks.{GoesOn}
 use Rattle.qq_wal.proofs.Follows.{same_queue}
 use Rattle.qq_node_log.specs.Ends.{End, CarriesAre, IsCarryOf, carry_end, end_of, ends}
 use Rattle.qq_node_log.specs.Giving.{AllGoOn}
@@ -41,7 +39,7 @@ front-some : (a b : List Op) → IsSome (stable (a ++ b)) → IsSome (stable a)
 front-some a b some = by (stable a) refl
   where
     by : (o : Option Stable) → stable a ≡ o → IsSome o
-    by (Some s) is = tt
+    by (Some s) is = refl
     by None is =
         subst IsSome (fold-more (stable []) a b ∙ ap (λ (o : Option Stable). fold then_apply o b) is ∙ fold-none b) some
 
@@ -60,8 +58,8 @@ followed s c (Change q n term vote keep entries) is same some =
         → IsSome (cond a (cond b (Some (change (record s { op = n }) term vote keep.0 entries)) None) None)
         → follows_carry c (Change q n term vote keep entries) ≡ true
     by true next true may some = carried ∙ ap (λ (t : Bool). t && may_keep s keep.0) next ∙ may
-    by true next false may some = absurd some
-    by false next b may some = absurd some
+    by true next false may some = absurd (false≢true some)
+    by false next b may some = absurd (false≢true some)
 followed s c (SnapshotMade q n head file) is same some = absurd is
 followed s c (SegmentMade q n file first last) is same some = absurd is
 
@@ -110,7 +108,7 @@ goes-on c ops op is same some = by (stable ops) same (subst IsSome (stable-more 
   where
     by : (o : Option Stable) → option_map end_of o ≡ Some (carry_end c) → IsSome (then_apply o op)
         → follows_carry c op ≡ true
-    by None same some = absurd some
+    by None same some = absurd (false≢true some)
     by (Some s) same some = followed s c op is (let e : end_of s ≡ carry_end c = cc in e) some
 
 ends-behind : (c : Carry) (ops : List Op) (op : Op) → ends ops ≡ Some (carry_end c) → follows_carry c op ≡ true
@@ -130,9 +128,6 @@ carry-next : (lot : Lot) (place : ℕ) (carries : Carries) (own : List Op) (op :
     → IsCarryOf (lot.id place) (add_op carries op) (own ++ ops_at lot place (op ∷ []))
 carry-next lot place carries own op follows is = by (eqb (queue op).0 (lot.id place).0) refl
   where
-    id : QueueId
-    id = lot.id place
-
     by : (t : Bool) → eqb (queue op).0 (lot.id place).0 ≡ t
         → ends (own ++ cond t (op ∷ []) [])
         ≡ Some (carry_end (carry_or_new (cond t (Some (carry_behind (carry_before carries op) op)) (carries (lot.id place).0))
@@ -193,9 +188,6 @@ first-goes lot parts carries op ops (place ∷ places) change listed sound is =
     by (eqb (lot.id place).0 (queue op).0) refl listed
     (λ rest. first-goes lot parts carries op ops places change rest sound.1 is.1)
   where
-    own : List Op
-    own = (parts place).ops
-
     here : lot.id place ≡ queue op → follows_carry (carry_before carries op) op ≡ true
     here one =
         let mine : eqb (queue op).0 (lot.id place).0 ≡ true = subst (λ (q : QueueId). eqb q.0 (lot.id place).0 ≡ true) one

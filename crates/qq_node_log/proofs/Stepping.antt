@@ -1,16 +1,16 @@
 -- A sync, and then a new file.
-use Rattle.std.proofs.Common.{◌≡◌, ◌≤◌, ℕ, Bool, true, List, sym, ap, ◌∙◌, subst}
+use Rattle.std.proofs.Common.{◌≡◌, ◌≤◌, ℕ, Bool, List, sym, ap, ◌∙◌, subst}
 use Rattle.std.specs.Global.{Vec}
 use Rattle.std.specs.Prelude.{IsTrue}
 use Rattle.qq_base.specs.declared.ids.QueueId.{QueueId}
 use Rattle.qq_disk.specs.Disk.{Disk, now}
 use Rattle.qq_disk.specs.Moments.{Adds}
 use Rattle.qq_disk.proofs.Moments.{adds-now, adds-then}
-use Rattle.qq_lots.specs.Kept.{IsTied, KeepsPromised}
+use Rattle.qq_lots.specs.Kept.{IsTied}
 use Rattle.qq_lots.specs.Lots.{Lot, Parts, ids_of, keep_all}
 use Rattle.qq_lots.proofs.Writes.{rolled-tied, stays-keeps, synced-tied, tied-promised}
 use Rattle.qq_wal.specs.declared.wal.Wal.{Wal}
-use Rattle.qq_wal.specs.Running.{top, Stays, StaysWhole, StillHolds}
+use Rattle.qq_wal.specs.Running.{top, Stays, StillHolds}
 use Rattle.qq_wal.specs.Wal.{IsSound, carries_ahead}
 use Rattle.qq_wal_chain.specs.Promise.{Promises}
 use Rattle.qq_wal_chain.specs.Wal.{wal}
@@ -18,9 +18,9 @@ use Rattle.qq_node_log.specs.declared.node_log.NodeLog.TheVariants.{Open}
 use Rattle.qq_node_log.specs.declared.syncing.SyncOutcome.{SyncOutcome}
 use Rattle.qq_node_log.specs.declared.syncing.SyncOutcome.TheVariants.{Whole, NoFile, Nothing}
 use Rattle.qq_node_log.specs.Ends.{CarriesAre}
-use Rattle.qq_node_log.specs.Log.{IsWhole}
+use Rattle.qq_node_log.specs.Log.{StillWhole}
 use Rattle.qq_node_log.specs.Steps.{KeepsAt, KeepsDisk, RunsOn}
-use Rattle.qq_node_log.specs.Syncing.{Comes, GoesOnAs, HasCome, IsSynced, IsSyncedBetween, SyncsIn}
+use Rattle.qq_node_log.specs.Syncing.{Comes, GoesOnAs, IsSynced, IsSyncedBetween, SyncsIn}
 
 -- what was promised is promised in one part of a call, and then in another
 pub stays-then : (queues : List QueueId) (old mid new : List Disk) → Stays queues old mid → Stays queues mid new
@@ -83,7 +83,7 @@ pub record Synced {D : Type 0} (tells : D → Bool) (past : D → List Disk) (fa
   pub queues : new.queues ≡ old.queues
   pub told : tells new.disk ≡ tells old.disk
   pub later : faults old.disk ≤ faults new.disk
-  pub whole : IsTrue (tells old.disk) → StaysWhole (past old.disk) (past new.disk)
+  pub whole : StillWhole tells past old.queues.items old.disk new.disk
 
 module _ {D : Type 0} (tells : D → Bool) (past : D → List Disk) (faults : D → ℕ) (old new : Wal D)
     (synced : Synced tells past faults old new) where
@@ -92,7 +92,7 @@ module _ {D : Type 0} (tells : D → Bool) (past : D → List Disk) (faults : D 
     told = synced.told;
     later = synced.later;
     whole = λ is tell. (let before : IsTrue (tells old.disk) = subst IsTrue synced.told tell in
-        synced.whole before (is before));
+        subst (λ (ids : List QueueId). StillWhole tells past ids old.disk new.disk) run.queues_are synced.whole before (is before));
   }
 
   pub sync-keeps : KeepsAt tells past (λ (lot : Lot) (parts : Parts). parts) (Open old) (Open new)
@@ -105,10 +105,10 @@ module _ {D : Type 0} (tells : D → Bool) (past : D → List Disk) (faults : D 
       → SyncsIn tells past outcome (Open old) (Open new)
   sync-comes outcome comes lot parts run tell tied = comes tell lot parts run.queues_are tied
 
-  pub sync-runs : GoesOnAs old new
+  pub sync-runs : (full : Bool) → GoesOnAs full old new
       → (IsTrue (tells old.disk) → Comes Whole old.queues.items (past old.disk) (past new.disk))
       → RunsOn tells past (λ (lot : Lot). keep_all) (Open old) (Open new)
-  sync-runs goes comes = record {
+  sync-runs full goes comes = record {
     running = λ lot parts run. record {
       sound = synced.sound;
       queues_are = ap (λ (q : Vec QueueId). q.items) synced.queues ∙ run.queues_are;

@@ -1,5 +1,5 @@
 -- What batches, one after the other, make of a log of some queues.
-use Rattle.std.specs.Prelude.{◌≡◌, ◌<◌, ◌+◌, ◌^◌, ℕ, Bool, true, false, List, [], length, drop, take, IsTrue}
+use Rattle.std.specs.Prelude.{◌≡◌, ◌<◌, ◌+◌, ◌-◌, ◌^◌, ℕ, Bool, true, false, List, [], length, drop, take, IsTrue}
 use Rattle.qq_base.specs.Causes.{Rose, SpentOnlyWhere}
 use Rattle.qq_base.specs.declared.ids.QueueId.{QueueId}
 use Rattle.qq_base.specs.declared.memory.Memory.{Memory}

@@ -1,11 +1,12 @@
 -- What a log has of each queue: where its ops end, so that the next ones go on there.
-use Rattle.std.specs.Prelude.{◌≡◌, ℕ, List, Option, Some, option_map}
+use Rattle.std.specs.Prelude.{◌≡◌, ◌+◌, ℕ, List, length, Option, Some, None, option_map}
 use Rattle.std.specs.List.{AllByRecursion}
 use Rattle.qq_base.specs.declared.ids.QueueId.{QueueId}
 use Rattle.qq_log.specs.Carries.{Carries, carry_or_new}
 use Rattle.qq_log.specs.declared.lane.Carry.{Carry}
+use Rattle.qq_log.specs.declared.lane.Lane.{Lane}
 use Rattle.qq_log.specs.declared.op.Op.{Op}
-use Rattle.qq_log.specs.Stable.{Stable, last_index, stable}
+use Rattle.qq_log.specs.Stable.{Stable, last_index, new_state, stable}
 use Rattle.qq_lots.specs.Lots.{Lot, Parts}
 
 -- the number of a queue's last op, the index of its base, and that of its last entry
@@ -19,6 +20,12 @@ end_of s = record { op = s.op; base = s.base.index.0; last = last_index s }
 
 abbrev pub carry_end : Carry → End
 carry_end c = record { op = c.op; base = c.base.index.0; last = c.last.0 }
+
+-- a queue without ops has no lane
+abbrev pub lane_end : Option Lane → End
+lane_end None = end_of new_state
+lane_end (Some lane) =
+    record { op = lane.op; base = lane.base.index.0; last = lane.base.index.0 + length lane.entries }
 
 -- where ops end, None where one of them isn't sound
 abbrev pub ends : List Op → Option End

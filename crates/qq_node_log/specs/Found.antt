@@ -16,7 +16,6 @@ use Rattle.qq_recover.specs.declared.fault.RecoverFault.{RecoverFault}
 use Rattle.qq_recover.specs.Reading.{lanes_read, shown}
 use Rattle.qq_recover.specs.Recovered.{IsLaneFor, IsNoRefusal}
 use Rattle.qq_recover.specs.State.{IsWithinEnds}
-use Rattle.qq_wal.specs.declared.wal.Wal.{Wal}
 use Rattle.qq_wal_chain.specs.Lanes.{Lanes}
 use Rattle.qq_wal_chain.specs.Laws.{IsHonestImage}
 use Rattle.qq_node_log.specs.declared.recovering.Found.{Found}

@@ -3,7 +3,7 @@ use Rattle.std.specs.Prelude.{◌≡◌, Bool, true, false, List, [], IsTrue}
 use Rattle.qq_base.specs.declared.ids.QueueId.{QueueId}
 use Rattle.qq_disk.specs.Disk.{Disk, now}
 use Rattle.qq_lots.specs.Lots.{Lot, Parts, ids_of}
-use Rattle.qq_wal.specs.Running.{NoneRemoved}
+use Rattle.qq_wal.specs.Running.{NoneRemoved, StaysWhole}
 use Rattle.qq_wal.specs.Wal.{IsSound, carries_ahead}
 use Rattle.qq_wal.specs.declared.wal.Wal.{Wal}
 use Rattle.qq_node_log.specs.declared.node_log.NodeLog.{NodeLog}
@@ -22,6 +22,10 @@ is_open (Closed disk) = false
 -- a disk that tells its contents may be recovered as the log of these queues: none of its log files is removed
 abbrev pub IsWhole : {D : Type 0} → (D → Bool) → (D → List Disk) → List QueueId → D → Type 0
 IsWhole tells past queues disk = IsTrue (tells disk) → NoneRemoved (now (past disk))
+
+-- and so may what a call leaves of it
+abbrev pub StillWhole : {D : Type 0} → (D → Bool) → (D → List Disk) → List QueueId → D → D → Type 0
+StillWhole tells past queues old new = IsTrue (tells old) → StaysWhole (past old) (past new)
 
 -- The log is of the lot's queues, goes on where their parts end, and nothing waits in it.
 pub record IsRunning {D : Type 0} (tells : D → Bool) (past : D → List Disk) (lot : Lot) (parts : Parts) (wal : Wal D)

@@ -11,8 +11,8 @@ use Rattle.qq_node_log.specs.Giving.{MayGive}
 use Rattle.qq_node_log.specs.Log.{IsRunningIn, IsWhole, disk_in}
 
 -- the log goes on with some parts
-abbrev pub GoesOn : {D : Type 0} → (D → Bool) → (D → List Disk) → NodeLog D → Type 0
-GoesOn tells past log = (lot : Lot) × (parts : Parts) × IsRunningIn tells past lot parts log
+abbrev pub MaySync : {D : Type 0} → (D → Bool) → (D → List Disk) → NodeLog D → Type 0
+MaySync tells past log = (lot : Lot) × (parts : Parts) × IsRunningIn tells past lot parts log
 
 -- and may be given these ops
 abbrev pub MayAppend : {D : Type 0} → (D → Bool) → (D → List Disk) → List Op → NodeLog D → Type 0

@@ -1,5 +1,5 @@
 -- What a sync of a node's log does, and how far it comes.
-use Rattle.std.specs.Prelude.{◌≡◌, ◌≤◌, ℕ, Bool, true, false, List, IsTrue}
+use Rattle.std.specs.Prelude.{◌≡◌, ◌+◌, ◌≤◌, ℕ, Bool, true, false, List, IsTrue}
 use Rattle.qq_base.specs.Causes.{Rose, SpentOnlyWhere}
 use Rattle.qq_base.specs.declared.ids.QueueId.{QueueId}
 use Rattle.qq_base.specs.declared.memory.Memory.{Memory}
@@ -10,6 +10,7 @@ use Rattle.qq_lots.specs.Kept.{IsTied, KeepsPromised}
 use Rattle.qq_lots.specs.Lots.{Lot, Parts, ids_of, keep_all}
 use Rattle.qq_wal.specs.declared.wal.Wal.{Wal}
 use Rattle.qq_wal.specs.Running.{MayNotice, Stays, StillHolds}
+use Rattle.qq_wal.specs.Wal.{is_full}
 use Rattle.qq_node_log.specs.declared.node_log.NodeLog.{NodeLog}
 use Rattle.qq_node_log.specs.declared.node_log.NodeLog.TheVariants.{Open, Closed}
 use Rattle.qq_node_log.specs.declared.syncing.SyncOutcome.{SyncOutcome}
@@ -56,16 +57,20 @@ pub record IsSynced (queues : List QueueId) (old new : List Disk) : Type 0 where
   pub noticed : MayNotice queues (now old) (now new)
   pub holds : StillHolds queues (now old) (now new)
 
--- the log goes on, with what was gathered
-pub record GoesOnAs {D : Type 0} (old new : Wal D) : Type 0 where
-  pub going : new.stopped ≡ false
-  pub waiting : new.waiting.items ≡ old.waiting.items
-  pub limit : new.log_bytes ≡ old.log_bytes
-
 -- a full file is replaced by the next one, and no other
 abbrev pub IsNextFile : {D : Type 0} → Bool → Wal D → Wal D → Type 0
 IsNextFile true old new = new.header.file ≡ old.numbers.log + 1
 IsNextFile false old new = new.header ≡ old.header
+
+-- the log goes on with what was gathered, in the next file where the old one was full
+pub record GoesOnAs {D : Type 0} (full : Bool) (old new : Wal D) : Type 0 where
+  pub going : new.stopped ≡ false
+  pub waiting : new.waiting.items ≡ old.waiting.items
+  pub file : IsNextFile full old new
+
+abbrev pub Replaces : {D : Type 0} → NodeLog D → NodeLog D → Type 0
+Replaces (Open old) (Open new) = IsNextFile (is_full old) old new
+Replaces _ _ = ⊥
 
 -- ---- why it gave up
 

@@ -1,9 +1,9 @@
 //! What was gathered is appended, in as many batches as it takes.
 ghost use Rattle.std.specs.Prelude.{◌≡◌, ◌≤◌, false, true, IsTrue, IfErr, IfOk, OnOk};
 ghost use Rattle.qq_base.specs.Causes.{Rose};
-ghost use Rattle.qq_wal.specs.Running.{StaysWhole};
 ghost use Rattle.qq_wal.specs.Wal.{IsSound, StaysAppending, carries_ahead};
 ghost use Rattle.qq_node_log.specs.Batches.{AppendsSome, HasWritten, IsLong, IsWriteCaused, StaysWriting};
+ghost use Rattle.qq_node_log.specs.Log.{StillWhole};
 
 use qq_base::Memory;
 use qq_disk::NodeDisk;
@@ -21,8 +21,7 @@ fn append_some<D: NodeDisk>(wal: &mut Wal<D>, alloc: Global) -> Result<bool, Wal
         wal.old.waiting.items (D.past wal.old.disk) (D.past wal.new.disk) }
     ensures ahead { carries_ahead wal.new ≡ carries_ahead wal.old }
     ensures queues { wal.new.queues ≡ wal.old.queues }
-    ensures whole { IsTrue (D.tells wal.old.disk) →
-        StaysWhole (D.past wal.old.disk) (D.past wal.new.disk) }
+    ensures whole { StillWhole D.tells D.past wal.old.queues.items wal.old.disk wal.new.disk }
     ensures told { D.tells wal.new.disk ≡ D.tells wal.old.disk }
     ensures later { D.faults wal.old.disk ≤ D.faults wal.new.disk }
     ensures cause { IfErr result (IsWriteCaused D.faults wal.old wal.new) }
@@ -44,8 +43,7 @@ fn append_all<D: NodeDisk>(wal: &mut Wal<D>, alloc: Global) -> Result<(), WalFau
         wal.old.waiting.items (D.past wal.old.disk) (D.past wal.new.disk) }
     ensures ahead { carries_ahead wal.new ≡ carries_ahead wal.old }
     ensures queues { wal.new.queues ≡ wal.old.queues }
-    ensures whole { IsTrue (D.tells wal.old.disk) →
-        StaysWhole (D.past wal.old.disk) (D.past wal.new.disk) }
+    ensures whole { StillWhole D.tells D.past wal.old.queues.items wal.old.disk wal.new.disk }
     ensures told { D.tells wal.new.disk ≡ D.tells wal.old.disk }
     ensures later { D.faults wal.old.disk ≤ D.faults wal.new.disk }
     ensures cause { IfErr result (IsWriteCaused D.faults wal.old wal.new) }
@@ -71,8 +69,7 @@ pub(crate) fn write_log<D: NodeDisk>(wal: &mut Wal<D>, alloc: Global) -> Result<
         Rose (D.faults wal.old.disk) (D.faults wal.new.disk)) }
     ensures ahead { carries_ahead wal.new ≡ carries_ahead wal.old }
     ensures queues { wal.new.queues ≡ wal.old.queues }
-    ensures whole { IsTrue (D.tells wal.old.disk) →
-        StaysWhole (D.past wal.old.disk) (D.past wal.new.disk) }
+    ensures whole { StillWhole D.tells D.past wal.old.queues.items wal.old.disk wal.new.disk }
     ensures told { D.tells wal.new.disk ≡ D.tells wal.old.disk }
     ensures later { D.faults wal.old.disk ≤ D.faults wal.new.disk }
     ensures cause { IfErr result (IsLong wal.new) }

@@ -11,7 +11,10 @@ mod recovering;
 mod syncing;
 
 pub use crashing::crash_log;
-pub use laws::{parts_that_are_found_go_on, what_is_left_after_a_crash_is_promised};
+pub use laws::{
+    a_new_disk_holds_nothing, parts_are_compared_at_their_places,
+    the_log_goes_on_where_its_ops_end, what_is_left_after_a_crash_is_promised,
+};
 pub use node_log::NodeLog;
 pub use recovering::{Found, recover_log};
 pub use syncing::SyncOutcome;

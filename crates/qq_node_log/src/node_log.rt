@@ -6,8 +6,8 @@ ghost use Rattle.qq_lots.specs.Lots.{Lot, Parts, give_batch, keep_all};
 ghost use Rattle.qq_node_log.specs.declared.syncing.SyncOutcome.TheVariants.{Whole};
 ghost use Rattle.qq_node_log.specs.Batches.{IsLong, IsLongIn};
 ghost use Rattle.qq_node_log.specs.Log.{IsRunningIn, disk_in, is_open};
-ghost use Rattle.qq_node_log.specs.Steps.{GoesOn, KeepsAt, KeepsDisk, MayAppend, RunsOn};
-ghost use Rattle.qq_node_log.specs.Syncing.{FailsByCount, IsLast, IsLastIn, SyncsIn};
+ghost use Rattle.qq_node_log.specs.Steps.{KeepsAt, KeepsDisk, MayAppend, MaySync, RunsOn};
+ghost use Rattle.qq_node_log.specs.Syncing.{FailsByCount, IsLast, IsLastIn, Replaces, SyncsIn};
 
 use crate::batches::write_log;
 use crate::gathering::gather_all;
@@ -34,11 +34,7 @@ pub enum NodeLog<D: NodeDisk> {
     Closed(D),
 }
 
-fn append_open<D: NodeDisk>(
-    wal: &mut Wal<D>,
-    alloc: Global,
-    ops: Vec<Op>,
-) -> Result<bool, Memory>
+fn append_open<D: NodeDisk>(wal: &mut Wal<D>, alloc: Global, ops: Vec<Op>) -> Result<bool, Memory>
     requires { MayAppend D.tells D.past ops.items (NodeLog.Open wal.old) }
     ensures same { KeepsDisk D.tells D.past D.faults (NodeLog.Open wal.old)
         (NodeLog.Open wal.new) }
@@ -51,9 +47,8 @@ fn append_open<D: NodeDisk>(
         Rose (D.faults wal.old.disk) (D.faults wal.new.disk)) }
     ensures spent { IfErr result (IsLong wal.new) }
 {
-    match gather_all(wal, ops) {
-        Ok(()) => {}
-        Err(memory) => return Err(memory),
+    if let Err(memory) = gather_all(wal, ops) {
+        return Err(memory);
     }
     match write_log(wal, alloc) {
         Ok(more) => Ok(more),
@@ -62,12 +57,14 @@ fn append_open<D: NodeDisk>(
 }
 
 fn sync_open<D: NodeDisk>(wal: &mut Wal<D>, alloc: Global) -> Result<SyncOutcome, Memory>
-    requires { GoesOn D.tells D.past (NodeLog.Open wal.old) }
+    requires { MaySync D.tells D.past (NodeLog.Open wal.old) }
     ensures same { KeepsDisk D.tells D.past D.faults (NodeLog.Open wal.old)
         (NodeLog.Open wal.new) }
     ensures ok { IfOk result (λ outcome. outcome ≡ Whole →
         RunsOn D.tells D.past (λ (lot : Lot). keep_all)
         (NodeLog.Open wal.old) (NodeLog.Open wal.new)) }
+    ensures file { IfOk result (λ outcome. outcome ≡ Whole →
+        Replaces (NodeLog.Open wal.old) (NodeLog.Open wal.new)) }
     ensures come { IfOk result (λ outcome. SyncsIn D.tells D.past outcome
         (NodeLog.Open wal.old) (NodeLog.Open wal.new)) }
     ensures moments { KeepsAt D.tells D.past (λ (lot : Lot) (parts : Parts). parts)
@@ -130,15 +127,17 @@ impl<D: NodeDisk> NodeLog<D> {
     /// Syncs what was appended, and begins a new file where the old one is full.
     ///
     /// - `ok`: where the answer is `Whole`, the log goes on with all of its parts synced.
+    /// - `file`: then a file that was full is replaced by the next one, and no other.
     /// - `come`: how far it came on a disk that tells its contents.
     /// - `moments`: at each moment, whatever the answer is, the disk keeps what was promised.
     /// - `failed`: where it didn't come to its end, the disk's count of faults rose.
     /// - `spent`: there was no memory, or the greatest number of a log file is at its end.
     pub fn sync(&mut self, alloc: Global) -> Result<SyncOutcome, Memory>
-        requires { GoesOn D.tells D.past self.old }
+        requires { MaySync D.tells D.past self.old }
         ensures same { KeepsDisk D.tells D.past D.faults self.old self.new }
         ensures ok { IfOk result (λ outcome. outcome ≡ Whole →
             RunsOn D.tells D.past (λ (lot : Lot). keep_all) self.old self.new) }
+        ensures file { IfOk result (λ outcome. outcome ≡ Whole → Replaces self.old self.new) }
         ensures come { IfOk result (λ outcome. SyncsIn D.tells D.past outcome self.old self.new) }
         ensures moments { KeepsAt D.tells D.past (λ (lot : Lot) (parts : Parts). parts)
             self.old self.new }

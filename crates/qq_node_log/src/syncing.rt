@@ -2,10 +2,11 @@
 ghost use Rattle.std.specs.Prelude.{◌≡◌, ◌≤◌, false, true, IsTrue, IfOk, IfErr, OnOk};
 ghost use Rattle.qq_base.specs.Causes.{Rose};
 ghost use Rattle.qq_disk.specs.Disk.{now};
-ghost use Rattle.qq_wal.specs.Running.{Stays, StaysWhole, StillHolds};
+ghost use Rattle.qq_wal.specs.Running.{Stays, StillHolds};
 ghost use Rattle.qq_wal.specs.Wal.{IsSound, carries_ahead, is_full};
 ghost use Rattle.qq_node_log.specs.declared.syncing.SyncOutcome.TheVariants.{Whole};
-ghost use Rattle.qq_node_log.specs.Syncing.{Comes, FailsByCount, GoesOnAs, IsLast, IsNextFile};
+ghost use Rattle.qq_node_log.specs.Log.{StillWhole};
+ghost use Rattle.qq_node_log.specs.Syncing.{Comes, FailsByCount, GoesOnAs, IsLast};
 
 use qq_base::Memory;
 use qq_disk::NodeDisk;
@@ -23,10 +24,10 @@ pub enum SyncOutcome {
     Nothing,
 }
 
-/// Begins a new file where the old one is full, and only there. It answers whether the log goes on: if not,
+/// Begins a new file where the old one was full, and only there. It answers whether the log goes on: if not,
 /// the disk failed, which it counts. Nothing that was appended may wait for a sync. `Spent` comes only where
 /// the greatest number of a log file is at its end.
-fn begin_next<D: NodeDisk>(wal: &mut Wal<D>, alloc: Global) -> Result<bool, Memory>
+fn begin_next<D: NodeDisk>(wal: &mut Wal<D>, alloc: Global, full: bool) -> Result<bool, Memory>
     requires sound { IsSound D.tells D.past wal.old }
     requires synced { wal.old.dirty ≡ false }
     requires going { wal.old.stopped ≡ false }
@@ -35,20 +36,17 @@ fn begin_next<D: NodeDisk>(wal: &mut Wal<D>, alloc: Global) -> Result<bool, Memo
         (D.past wal.old.disk) (D.past wal.new.disk) }
     ensures holds { IsTrue (D.tells wal.old.disk) → IfOk result (λ more. more ≡ true →
         StillHolds wal.old.queues.items (now (D.past wal.old.disk)) (now (D.past wal.new.disk))) }
-    ensures file { IfOk result (λ more. more ≡ true →
-        IsNextFile (is_full wal.old) wal.old wal.new) }
-    ensures goes_on { IfOk result (λ more. more ≡ true → GoesOnAs wal.old wal.new) }
+    ensures goes_on { IfOk result (λ more. more ≡ true → GoesOnAs full wal.old wal.new) }
     ensures failed { IfOk result (λ more. more ≡ false →
         Rose (D.faults wal.old.disk) (D.faults wal.new.disk)) }
     ensures ahead { carries_ahead wal.new ≡ carries_ahead wal.old }
     ensures queues { wal.new.queues ≡ wal.old.queues }
-    ensures whole { IsTrue (D.tells wal.old.disk) →
-        StaysWhole (D.past wal.old.disk) (D.past wal.new.disk) }
+    ensures whole { StillWhole D.tells D.past wal.old.queues.items wal.old.disk wal.new.disk }
     ensures told { D.tells wal.new.disk ≡ D.tells wal.old.disk }
     ensures later { D.faults wal.old.disk ≤ D.faults wal.new.disk }
     ensures cause { IfErr result (IsLast wal.new) }
 {
-    if !wal.full() {
+    if !full {
         return Ok(true);
     }
     match wal.roll(alloc) {
@@ -65,12 +63,10 @@ fn begin_next<D: NodeDisk>(wal: &mut Wal<D>, alloc: Global) -> Result<bool, Memo
 /// - `come`: over a disk that tells its contents and held what the log was given, all of that is synced once
 ///   the answer is `Whole` or `NoFile`.
 /// - `stays`: at each moment, also where there is no memory, what was promised is promised.
+/// - `goes_on`: where the answer is `Whole`, a file that was full is replaced, and no other.
 /// - `failed`: where it didn't come to its end, the disk's count of faults rose.
 /// - `cause`: `Spent` comes only where the greatest number of a log file is at its end.
-pub(crate) fn sync_log<D: NodeDisk>(
-    wal: &mut Wal<D>,
-    alloc: Global,
-) -> Result<SyncOutcome, Memory>
+pub(crate) fn sync_log<D: NodeDisk>(wal: &mut Wal<D>, alloc: Global) -> Result<SyncOutcome, Memory>
     requires sound { IsSound D.tells D.past wal.old }
     requires going { wal.old.stopped ≡ false }
     ensures sound { IsSound D.tells D.past wal.new }
@@ -78,17 +74,18 @@ pub(crate) fn sync_log<D: NodeDisk>(
         Comes outcome wal.old.queues.items (D.past wal.old.disk) (D.past wal.new.disk)) }
     ensures stays { IsTrue (D.tells wal.old.disk) → Stays wal.old.queues.items
         (D.past wal.old.disk) (D.past wal.new.disk) }
-    ensures goes_on { IfOk result (λ outcome. outcome ≡ Whole → GoesOnAs wal.old wal.new) }
+    ensures goes_on { IfOk result (λ outcome. outcome ≡ Whole →
+        GoesOnAs (is_full wal.old) wal.old wal.new) }
     ensures failed { IfOk result
         (FailsByCount (D.faults wal.old.disk) (D.faults wal.new.disk)) }
     ensures ahead { carries_ahead wal.new ≡ carries_ahead wal.old }
     ensures queues { wal.new.queues ≡ wal.old.queues }
-    ensures whole { IsTrue (D.tells wal.old.disk) →
-        StaysWhole (D.past wal.old.disk) (D.past wal.new.disk) }
+    ensures whole { StillWhole D.tells D.past wal.old.queues.items wal.old.disk wal.new.disk }
     ensures told { D.tells wal.new.disk ≡ D.tells wal.old.disk }
     ensures later { D.faults wal.old.disk ≤ D.faults wal.new.disk }
     ensures cause { IfErr result (IsLast wal.new) }
 {
+    let full = wal.full();
     match wal.sync_batch(alloc) {
         Ok(_) => {}
         Err(WalFault::Disk) => return Ok(SyncOutcome::Nothing),
@@ -96,7 +93,7 @@ pub(crate) fn sync_log<D: NodeDisk>(
         Err(WalFault::Stopped) => unreachable!(),
         Err(WalFault::TooLarge) => unreachable!(),
     }
-    match begin_next(wal, alloc) {
+    match begin_next(wal, alloc, full) {
         Ok(true) => Ok(SyncOutcome::Whole),
         Ok(false) => Ok(SyncOutcome::NoFile),
         Err(memory) => Err(memory),

@@ -1,6 +1,6 @@
 use Rattle.std.proofs.Common.{arith, rules, ◌∙◌}
 use Rattle.qq_disk.proofs.Stored.{still_tells}
-use Rattle.qq_node_log.proofs.Batching.{begun-all, begun-more, begun-none, begun-some, begun-stays, later-caused, less-waits, nothing-waits}
+use Rattle.qq_node_log.proofs.Batching.{begun-all, begun-more, begun-none, begun-some, begun-stays, less-waits, nothing-waits}
 use Rattle.qq_node_log.proofs.batches.append_all.Goals as goal
 
 pub batches-init : goal.batches-init
@@ -44,11 +44,6 @@ returns-in_err-append_some-clause-stays g c = λ told.
 pub returns-in_err-append_some-clause-whole : goal.returns-in_err-append_some-clause-whole
 returns-in_err-append_some-clause-whole g c = λ told none.
     c.append_some.ensures.whole (still_tells c.batches.invariant.told told) (c.batches.invariant.whole told none)
-
-pub returns-in_err-append_some-clause-cause : goal.returns-in_err-append_some-clause-cause
-returns-in_err-append_some-clause-cause g c =
-    later-caused g.D.NodeDisk.faults c.args.wal.now c.batches.wal c.append_some.new.wal c.in_err-append_some.field-0
-    c.batches.invariant.later c.in_err-append_some.ensures.cause
 
 pub returns-clause-ok : goal.returns-clause-ok
 returns-clause-ok g c =

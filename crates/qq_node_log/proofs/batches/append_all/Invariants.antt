@@ -1,6 +1,6 @@
-use Rattle.std.proofs.Common.{◌≡◌, ◌≤◌, false, length, IsTrue}
-use Rattle.qq_wal.specs.Running.{StaysWhole}
+use Rattle.std.proofs.Common.{◌≡◌, ◌≤◌, false, length}
 use Rattle.qq_wal.specs.Wal.{IsSound, carries_ahead}
+use Rattle.qq_node_log.specs.Log.{StillWhole}
 use Rattle.qq_node_log.proofs.Batching.{Begun}
 use Rattle.qq_node_log.proofs.batches.append_all.Given as goal
 
@@ -15,7 +15,7 @@ invariant-batches g l =
       begun : Begun tells past l.fn.wal l.wal;
       ahead : carries_ahead l.wal ≡ carries_ahead l.fn.wal;
       queues : l.wal.queues ≡ l.fn.wal.queues;
-      whole : IsTrue (tells l.fn.wal.disk) → StaysWhole (past l.fn.wal.disk) (past l.wal.disk);
+      whole : StillWhole tells past l.fn.wal.queues.items l.fn.wal.disk l.wal.disk;
       told : tells l.wal.disk ≡ tells l.fn.wal.disk;
       later : g.D.NodeDisk.faults l.fn.wal.disk ≤ g.D.NodeDisk.faults l.wal.disk;
     }

@@ -1,4 +1,4 @@
-use Rattle.qq_node_log.proofs.Gathering.{gathered-all, gathered-more, gathered-none, next-op, waits-all}
+use Rattle.qq_node_log.proofs.Gathers.{gathered-more, gathered-none, next-op}
 use Rattle.qq_node_log.proofs.gathering.gather_all.Goals as goal
 
 pub ops-init : goal.ops-init

@@ -1,4 +1,4 @@
-use Rattle.qq_node_log.proofs.Gathering.{Gathered}
+use Rattle.qq_node_log.proofs.Gathers.{Gathered}
 use Rattle.qq_node_log.proofs.gathering.gather_all.Given as goal
 
 -- with the rest all ops are gathered

@@ -1,4 +1,4 @@
-use Rattle.qq_node_log.proofs.Appending.{gather-keeps, gather-same, ops-go, write-keeps, write-runs, write-same}
+use Rattle.qq_node_log.proofs.Appending.{gather-keeps, gather-same, ops-go, want-long, write-keeps, write-runs, write-same}
 use Rattle.qq_node_log.proofs.node_log.append_open.Goals as goal
 
 pub gather_all-requires-clause-goes_on : goal.gather_all-requires-clause-goes_on
@@ -14,3 +14,83 @@ pub returns-in-Err-clause-moments : goal.returns-in-Err-clause-moments
 returns-in-Err-clause-moments g c =
     gather-keeps g.D.NodeDisk.tells g.D.NodeDisk.past c.args.ops.items c.args.wal.now c.gather_all.new.wal
     c.gather_all.ensures.same
+
+pub returns-in-Err-clause-spent : goal.returns-in-Err-clause-spent
+returns-in-Err-clause-spent g c = want-long c.gather_all.new.wal c.in-Err.memory c.in-Err.ensures.want
+
+pub returns-in-Ok-clause-same : goal.returns-in-Ok-clause-same
+returns-in-Ok-clause-same g c =
+    write-same g.D.NodeDisk.tells g.D.NodeDisk.past g.D.NodeDisk.faults c.args.ops.items c.args.wal.now
+    c.gather_all.new.wal c.write_log.new.wal
+    (record { waiting = c.in_default.ensures.ok; ahead = c.in_default.ensures.ahead; same = c.gather_all.ensures.same })
+    (record {
+      sound = c.write_log.ensures.sound;
+      stays = λ tell. c.write_log.ensures.stays tell;
+      ahead = c.write_log.ensures.ahead;
+      queues = c.write_log.ensures.queues;
+      told = c.write_log.ensures.told;
+      later = c.write_log.ensures.later;
+      whole = λ tell. c.write_log.ensures.whole tell;
+    })
+
+pub returns-in-Err-write_log-clause-same : goal.returns-in-Err-write_log-clause-same
+returns-in-Err-write_log-clause-same g c =
+    write-same g.D.NodeDisk.tells g.D.NodeDisk.past g.D.NodeDisk.faults c.args.ops.items c.args.wal.now
+    c.gather_all.new.wal c.write_log.new.wal
+    (record { waiting = c.in_default.ensures.ok; ahead = c.in_default.ensures.ahead; same = c.gather_all.ensures.same })
+    (record {
+      sound = c.write_log.ensures.sound;
+      stays = λ tell. c.write_log.ensures.stays tell;
+      ahead = c.write_log.ensures.ahead;
+      queues = c.write_log.ensures.queues;
+      told = c.write_log.ensures.told;
+      later = c.write_log.ensures.later;
+      whole = λ tell. c.write_log.ensures.whole tell;
+    })
+
+pub returns-in-Ok-clause-moments : goal.returns-in-Ok-clause-moments
+returns-in-Ok-clause-moments g c =
+    write-keeps g.D.NodeDisk.tells g.D.NodeDisk.past g.D.NodeDisk.faults c.args.ops.items c.args.wal.now
+    c.gather_all.new.wal c.write_log.new.wal
+    (record { waiting = c.in_default.ensures.ok; ahead = c.in_default.ensures.ahead; same = c.gather_all.ensures.same })
+    (record {
+      sound = c.write_log.ensures.sound;
+      stays = λ tell. c.write_log.ensures.stays tell;
+      ahead = c.write_log.ensures.ahead;
+      queues = c.write_log.ensures.queues;
+      told = c.write_log.ensures.told;
+      later = c.write_log.ensures.later;
+      whole = λ tell. c.write_log.ensures.whole tell;
+    })
+
+pub returns-in-Err-write_log-clause-moments : goal.returns-in-Err-write_log-clause-moments
+returns-in-Err-write_log-clause-moments g c =
+    write-keeps g.D.NodeDisk.tells g.D.NodeDisk.past g.D.NodeDisk.faults c.args.ops.items c.args.wal.now
+    c.gather_all.new.wal c.write_log.new.wal
+    (record { waiting = c.in_default.ensures.ok; ahead = c.in_default.ensures.ahead; same = c.gather_all.ensures.same })
+    (record {
+      sound = c.write_log.ensures.sound;
+      stays = λ tell. c.write_log.ensures.stays tell;
+      ahead = c.write_log.ensures.ahead;
+      queues = c.write_log.ensures.queues;
+      told = c.write_log.ensures.told;
+      later = c.write_log.ensures.later;
+      whole = λ tell. c.write_log.ensures.whole tell;
+    })
+
+pub returns-in-Ok-clause-ok : goal.returns-in-Ok-clause-ok
+returns-in-Ok-clause-ok g c = λ is.
+    write-runs g.D.NodeDisk.tells g.D.NodeDisk.past g.D.NodeDisk.faults c.args.ops.items c.args.wal.now
+    c.gather_all.new.wal c.write_log.new.wal
+    (record { waiting = c.in_default.ensures.ok; ahead = c.in_default.ensures.ahead; same = c.gather_all.ensures.same })
+    (record {
+      sound = c.write_log.ensures.sound;
+      stays = λ tell. c.write_log.ensures.stays tell;
+      ahead = c.write_log.ensures.ahead;
+      queues = c.write_log.ensures.queues;
+      told = c.write_log.ensures.told;
+      later = c.write_log.ensures.later;
+      whole = λ tell. c.write_log.ensures.whole tell;
+    })
+    (ops-go g.D.NodeDisk.tells g.D.NodeDisk.past c.args.ops.items c.args.wal.now c.requires)
+    (c.in-Ok.ensures.ok is)

@@ -1,0 +1,82 @@
+use Rattle.std.proofs.Common.{List, ap, subst}
+use Rattle.std.specs.Global.{Vec}
+use Rattle.qq_base.specs.declared.ids.QueueId.{QueueId}
+use Rattle.qq_disk.specs.Disk.{now}
+use Rattle.qq_disk.proofs.Stored.{still_tells}
+use Rattle.qq_wal.specs.Running.{Stays, StillHolds}
+use Rattle.qq_node_log.proofs.Stepping.{comes-no_file, comes-nothing, comes-whole, stays-then}
+use Rattle.qq_node_log.proofs.syncing.sync_log.Goals as goal
+
+pub returns-in-Ok-true-clause-come : goal.returns-in-Ok-true-clause-come
+returns-in-Ok-true-clause-come g c = λ told.
+    let past = g.D.NodeDisk.past in
+    let tells = still_tells c.sync_batch.ensures.told told in
+    let same = ap (λ (q : Vec QueueId). q.items) c.sync_batch.ensures.file.queues in
+    comes-whole c.args.wal.now.queues.items (past c.args.wal.now.disk) (past c.sync_batch.new.self.disk)
+    (past c.begin_next.new.wal.disk)
+    (record {
+      stays = c.sync_batch.ensures.stays told;
+      noticed = c.in-Ok.ensures.noticed told;
+      holds = c.in-Ok.ensures.holds told;
+    })
+    (subst (λ (l : List QueueId). Stays l (past c.sync_batch.new.self.disk) (past c.begin_next.new.wal.disk)) same
+    (c.begin_next.ensures.stays tells))
+    (subst (λ (l : List QueueId). StillHolds l (now (past c.sync_batch.new.self.disk))
+    (now (past c.begin_next.new.wal.disk))) same (c.in-Ok-true.ensures.holds tells c.in-Ok-true.field-0-test))
+
+pub returns-in-Ok-false-clause-come : goal.returns-in-Ok-false-clause-come
+returns-in-Ok-false-clause-come g c = λ told.
+    let past = g.D.NodeDisk.past in
+    let same = ap (λ (q : Vec QueueId). q.items) c.sync_batch.ensures.file.queues in
+    comes-no_file c.args.wal.now.queues.items (past c.args.wal.now.disk) (past c.sync_batch.new.self.disk)
+    (past c.begin_next.new.wal.disk)
+    (record {
+      stays = c.sync_batch.ensures.stays told;
+      noticed = c.in-Ok.ensures.noticed told;
+      holds = c.in-Ok.ensures.holds told;
+    })
+    (subst (λ (l : List QueueId). Stays l (past c.sync_batch.new.self.disk) (past c.begin_next.new.wal.disk)) same
+    (c.begin_next.ensures.stays (still_tells c.sync_batch.ensures.told told)))
+
+pub returns-in-Err-Disk-clause-come : goal.returns-in-Err-Disk-clause-come
+returns-in-Err-Disk-clause-come g c = λ told.
+    comes-nothing c.args.wal.now.queues.items (g.D.NodeDisk.past c.args.wal.now.disk)
+    (g.D.NodeDisk.past c.sync_batch.new.self.disk) (c.sync_batch.ensures.stays told)
+
+pub returns-in-Ok-true-clause-whole : goal.returns-in-Ok-true-clause-whole
+returns-in-Ok-true-clause-whole g c = λ told none.
+    c.begin_next.ensures.whole (still_tells c.sync_batch.ensures.told told) (c.sync_batch.ensures.whole told none)
+
+pub returns-in-Ok-false-clause-whole : goal.returns-in-Ok-false-clause-whole
+returns-in-Ok-false-clause-whole g c = λ told none.
+    c.begin_next.ensures.whole (still_tells c.sync_batch.ensures.told told) (c.sync_batch.ensures.whole told none)
+
+pub returns-in-Ok-true-clause-stays : goal.returns-in-Ok-true-clause-stays
+returns-in-Ok-true-clause-stays g c =
+    λ told.
+    (let past = g.D.NodeDisk.past in
+    let same = ap (λ (q : Vec QueueId). q.items) c.sync_batch.ensures.file.queues in
+    stays-then c.args.wal.now.queues.items (past c.args.wal.now.disk) (past c.sync_batch.new.self.disk)
+    (past c.begin_next.new.wal.disk) (c.sync_batch.ensures.stays told)
+    (subst (λ (l : List QueueId). Stays l (past c.sync_batch.new.self.disk) (past c.begin_next.new.wal.disk))
+    same (c.begin_next.ensures.stays (still_tells c.sync_batch.ensures.told told))))
+
+pub returns-in-Ok-false-clause-stays : goal.returns-in-Ok-false-clause-stays
+returns-in-Ok-false-clause-stays g c =
+    λ told.
+    (let past = g.D.NodeDisk.past in
+    let same = ap (λ (q : Vec QueueId). q.items) c.sync_batch.ensures.file.queues in
+    stays-then c.args.wal.now.queues.items (past c.args.wal.now.disk) (past c.sync_batch.new.self.disk)
+    (past c.begin_next.new.wal.disk) (c.sync_batch.ensures.stays told)
+    (subst (λ (l : List QueueId). Stays l (past c.sync_batch.new.self.disk) (past c.begin_next.new.wal.disk))
+    same (c.begin_next.ensures.stays (still_tells c.sync_batch.ensures.told told))))
+
+pub returns-in-Err-clause-stays : goal.returns-in-Err-clause-stays
+returns-in-Err-clause-stays g c =
+    λ told.
+    (let past = g.D.NodeDisk.past in
+    let same = ap (λ (q : Vec QueueId). q.items) c.sync_batch.ensures.file.queues in
+    stays-then c.args.wal.now.queues.items (past c.args.wal.now.disk) (past c.sync_batch.new.self.disk)
+    (past c.begin_next.new.wal.disk) (c.sync_batch.ensures.stays told)
+    (subst (λ (l : List QueueId). Stays l (past c.sync_batch.new.self.disk) (past c.begin_next.new.wal.disk))
+    same (c.begin_next.ensures.stays (still_tells c.sync_batch.ensures.told told))))
