@@ -68,9 +68,15 @@ pub record GoesOnAs {D : Type 0} (full : Bool) (old new : Wal D) : Type 0 where
   pub waiting : new.waiting.items ≡ old.waiting.items
   pub file : IsNextFile full old new
 
-abbrev pub Replaces : {D : Type 0} → NodeLog D → NodeLog D → Type 0
-Replaces (Open old) (Open new) = IsNextFile (is_full old) old new
-Replaces _ _ = ⊥
+-- What a sync leaves of the log as far as it came: where nothing was synced, nothing counts as synced.
+abbrev pub Leaves : {D : Type 0} → SyncOutcome → Wal D → Wal D → Type 0
+Leaves Whole old new = GoesOnAs (is_full old) old new
+Leaves NoFile old new = new.dirty ≡ false
+Leaves Nothing old new = new ≡ record old { disk = new.disk; stopped = new.stopped }
+
+abbrev pub LeavesIn : {D : Type 0} → SyncOutcome → NodeLog D → NodeLog D → Type 0
+LeavesIn outcome (Open old) (Open new) = Leaves outcome old new
+LeavesIn outcome _ _ = ⊥
 
 -- ---- why it gave up
 

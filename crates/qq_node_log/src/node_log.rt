@@ -7,7 +7,7 @@ ghost use Rattle.qq_node_log.specs.declared.syncing.SyncOutcome.TheVariants.{Who
 ghost use Rattle.qq_node_log.specs.Batches.{IsLong, IsLongIn};
 ghost use Rattle.qq_node_log.specs.Log.{IsRunningIn, disk_in, is_open};
 ghost use Rattle.qq_node_log.specs.Steps.{KeepsAt, KeepsDisk, MayAppend, MaySync, RunsOn};
-ghost use Rattle.qq_node_log.specs.Syncing.{FailsByCount, IsLast, IsLastIn, Replaces, SyncsIn};
+ghost use Rattle.qq_node_log.specs.Syncing.{FailsByCount, IsLast, IsLastIn, Leaves, LeavesIn, SyncsIn};
 
 use crate::batches::write_log;
 use crate::gathering::gather_all;
@@ -63,8 +63,7 @@ fn sync_open<D: NodeDisk>(wal: &mut Wal<D>, alloc: Global) -> Result<SyncOutcome
     ensures ok { IfOk result (λ outcome. outcome ≡ Whole →
         RunsOn D.tells D.past (λ (lot : Lot). keep_all)
         (NodeLog.Open wal.old) (NodeLog.Open wal.new)) }
-    ensures file { IfOk result (λ outcome. outcome ≡ Whole →
-        Replaces (NodeLog.Open wal.old) (NodeLog.Open wal.new)) }
+    ensures leaves { IfOk result (λ outcome. Leaves outcome wal.old wal.new) }
     ensures come { IfOk result (λ outcome. SyncsIn D.tells D.past outcome
         (NodeLog.Open wal.old) (NodeLog.Open wal.new)) }
     ensures moments { KeepsAt D.tells D.past (λ (lot : Lot) (parts : Parts). parts)
@@ -127,7 +126,8 @@ impl<D: NodeDisk> NodeLog<D> {
     /// Syncs what was appended, and begins a new file where the old one is full.
     ///
     /// - `ok`: where the answer is `Whole`, the log goes on with all of its parts synced.
-    /// - `file`: then a file that was full is replaced by the next one, and no other.
+    /// - `leaves`: then a file that was full is replaced by the next one, and no other. Where it is `Nothing`,
+    ///   nothing counts as synced that didn't before.
     /// - `come`: how far it came on a disk that tells its contents.
     /// - `moments`: at each moment, whatever the answer is, the disk keeps what was promised.
     /// - `failed`: where it didn't come to its end, the disk's count of faults rose.
@@ -137,7 +137,7 @@ impl<D: NodeDisk> NodeLog<D> {
         ensures same { KeepsDisk D.tells D.past D.faults self.old self.new }
         ensures ok { IfOk result (λ outcome. outcome ≡ Whole →
             RunsOn D.tells D.past (λ (lot : Lot). keep_all) self.old self.new) }
-        ensures file { IfOk result (λ outcome. outcome ≡ Whole → Replaces self.old self.new) }
+        ensures leaves { IfOk result (λ outcome. LeavesIn outcome self.old self.new) }
         ensures come { IfOk result (λ outcome. SyncsIn D.tells D.past outcome self.old self.new) }
         ensures moments { KeepsAt D.tells D.past (λ (lot : Lot) (parts : Parts). parts)
             self.old self.new }

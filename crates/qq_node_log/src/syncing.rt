@@ -3,10 +3,9 @@ ghost use Rattle.std.specs.Prelude.{◌≡◌, ◌≤◌, false, true, IsTrue, I
 ghost use Rattle.qq_base.specs.Causes.{Rose};
 ghost use Rattle.qq_disk.specs.Disk.{now};
 ghost use Rattle.qq_wal.specs.Running.{Stays, StillHolds};
-ghost use Rattle.qq_wal.specs.Wal.{IsSound, carries_ahead, is_full};
-ghost use Rattle.qq_node_log.specs.declared.syncing.SyncOutcome.TheVariants.{Whole};
+ghost use Rattle.qq_wal.specs.Wal.{IsSound, carries_ahead};
 ghost use Rattle.qq_node_log.specs.Log.{StillWhole};
-ghost use Rattle.qq_node_log.specs.Syncing.{Comes, FailsByCount, GoesOnAs, IsLast};
+ghost use Rattle.qq_node_log.specs.Syncing.{Comes, FailsByCount, GoesOnAs, IsLast, Leaves};
 
 use qq_base::Memory;
 use qq_disk::NodeDisk;
@@ -37,6 +36,7 @@ fn begin_next<D: NodeDisk>(wal: &mut Wal<D>, alloc: Global, full: bool) -> Resul
     ensures holds { IsTrue (D.tells wal.old.disk) → IfOk result (λ more. more ≡ true →
         StillHolds wal.old.queues.items (now (D.past wal.old.disk)) (now (D.past wal.new.disk))) }
     ensures goes_on { IfOk result (λ more. more ≡ true → GoesOnAs full wal.old wal.new) }
+    ensures clean { wal.new.dirty ≡ false }
     ensures failed { IfOk result (λ more. more ≡ false →
         Rose (D.faults wal.old.disk) (D.faults wal.new.disk)) }
     ensures ahead { carries_ahead wal.new ≡ carries_ahead wal.old }
@@ -63,7 +63,8 @@ fn begin_next<D: NodeDisk>(wal: &mut Wal<D>, alloc: Global, full: bool) -> Resul
 /// - `come`: over a disk that tells its contents and held what the log was given, all of that is synced once
 ///   the answer is `Whole` or `NoFile`.
 /// - `stays`: at each moment, also where there is no memory, what was promised is promised.
-/// - `goes_on`: where the answer is `Whole`, a file that was full is replaced, and no other.
+/// - `leaves`: where the answer is `Whole`, a file that was full is replaced, and no other; where it is `Nothing`,
+///   nothing counts as synced that didn't before.
 /// - `failed`: where it didn't come to its end, the disk's count of faults rose.
 /// - `cause`: `Spent` comes only where the greatest number of a log file is at its end.
 pub(crate) fn sync_log<D: NodeDisk>(wal: &mut Wal<D>, alloc: Global) -> Result<SyncOutcome, Memory>
@@ -74,8 +75,7 @@ pub(crate) fn sync_log<D: NodeDisk>(wal: &mut Wal<D>, alloc: Global) -> Result<S
         Comes outcome wal.old.queues.items (D.past wal.old.disk) (D.past wal.new.disk)) }
     ensures stays { IsTrue (D.tells wal.old.disk) → Stays wal.old.queues.items
         (D.past wal.old.disk) (D.past wal.new.disk) }
-    ensures goes_on { IfOk result (λ outcome. outcome ≡ Whole →
-        GoesOnAs (is_full wal.old) wal.old wal.new) }
+    ensures leaves { IfOk result (λ outcome. Leaves outcome wal.old wal.new) }
     ensures failed { IfOk result
         (FailsByCount (D.faults wal.old.disk) (D.faults wal.new.disk)) }
     ensures ahead { carries_ahead wal.new ≡ carries_ahead wal.old }

@@ -1,6 +1,6 @@
 use Rattle.std.proofs.Common.{subst}
 use Rattle.qq_node_log.specs.declared.syncing.SyncOutcome.{SyncOutcome}
-use Rattle.qq_node_log.specs.Syncing.{Comes}
+use Rattle.qq_node_log.specs.Syncing.{Comes, Leaves}
 use Rattle.qq_wal.specs.Wal.{is_full}
 use Rattle.qq_node_log.proofs.Stepping.{sync-keeps, sync-runs}
 use Rattle.qq_node_log.proofs.node_log.sync_open.Goals as goal
@@ -17,7 +17,7 @@ returns-in-Ok-clause-ok g c = λ is.
       told = c.sync_log.ensures.told;
       later = c.sync_log.ensures.later;
       whole = λ tell. c.sync_log.ensures.whole tell;
-    }) (is_full c.args.wal.now) (c.in-Ok.ensures.goes_on is)
+    }) (is_full c.args.wal.now) (subst (λ (o : SyncOutcome). Leaves o c.args.wal.now c.sync_log.new.wal) is c.in-Ok.ensures.leaves)
     (λ tell. subst (λ (o : SyncOutcome). Comes o c.args.wal.now.queues.items (past c.args.wal.now.disk)
     (past c.sync_log.new.wal.disk)) is (c.in-Ok.ensures.come tell))
 
