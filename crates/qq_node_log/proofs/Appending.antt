@@ -26,7 +26,7 @@ use Rattle.qq_node_log.specs.Batches.{HasWritten, IsLong, StaysGiven, StaysWriti
 use Rattle.qq_node_log.specs.Ends.{CarriesAre}
 use Rattle.qq_node_log.specs.Giving.{AllGoOn}
 use Rattle.qq_node_log.specs.Log.{IsWhole, StillWhole}
-use Rattle.qq_node_log.specs.Steps.{KeepsAt, KeepsDisk, MayAppend, RunsOn}
+use Rattle.qq_node_log.specs.Steps.{CallKeeps, KeepsDisk, MayAppend, RunsOn}
 use Rattle.qq_node_log.proofs.Goes.{all-go, carries-given}
 
 -- a log that may be given ops takes them
@@ -49,7 +49,7 @@ given-promised lot parts ops d p =
 keeps-given : {D : Type 0} (tells : D → Bool) (past : D → List Disk) (ops : List Op) (old new : Wal D)
     → (IsTrue (tells old.disk) → old.waiting.items ≡ []
     → StaysGiven old.queues.items ops (past old.disk) (past new.disk))
-    → KeepsAt tells past (λ (lot : Lot). give_batch lot ops) (Open old) (Open new)
+    → CallKeeps tells past (λ (lot : Lot). give_batch lot ops) (Open old) (Open new)
 keeps-given tells past ops old new stays lot parts run tell tied =
     let adds : Adds (KeepsPromised lot (give_batch lot ops parts)) (past old.disk) (past new.disk) =
     stays tell run.waiting lot parts run.queues_are tied in (
@@ -67,7 +67,7 @@ pub record Gave {D : Type 0} (ops : List Op) (old mid : Wal D) : Type 0 where
 -- where there was no memory for them nothing was done to the disk
 pub gather-keeps : {D : Type 0} (tells : D → Bool) (past : D → List Disk) (ops : List Op) (old new : Wal D)
     → new ≡ record old { waiting = new.waiting }
-    → KeepsAt tells past (λ (lot : Lot). give_batch lot ops) (Open old) (Open new)
+    → CallKeeps tells past (λ (lot : Lot). give_batch lot ops) (Open old) (Open new)
 gather-keeps {D} tells past ops old new same =
     keeps-given tells past ops old new
     (λ tell none lot parts is tied.
@@ -102,7 +102,7 @@ module _ {D : Type 0} (tells : D → Bool) (past : D → List Disk) (faults : D 
   waits : old.waiting.items ≡ [] → op_records ops ≡ mid.waiting.items
   waits none = sym (gave.waiting ∙ ap (λ (l : List LogRecord). l ++ op_records ops) none)
 
-  pub write-keeps : KeepsAt tells past (λ (lot : Lot). give_batch lot ops) (Open old) (Open new)
+  pub write-keeps : CallKeeps tells past (λ (lot : Lot). give_batch lot ops) (Open old) (Open new)
   write-keeps = keeps-given tells past ops old new (λ tell none. was.stays tell ops (waits none))
 
   pub write-same : KeepsDisk tells past faults (Open old) (Open new)

@@ -44,7 +44,7 @@ use Rattle.qq_wal_chain.specs.Lanes.{Lanes, IsStateOf, is_listed, of_queue}
 use Rattle.qq_wal_chain.specs.Laws.{KeepsPromise}
 use Rattle.qq_wal_chain.proofs.Promised.{empty-keeps}
 use Rattle.qq_node_log.specs.Ends.{IsCarryOf, carry_end, end_of, ends, lane_end}
-use Rattle.qq_node_log.specs.Found.{AllEnd, AreLanes, FailsKeeping, HasFound, HasHonestImage, Settles}
+use Rattle.qq_node_log.specs.Found.{AllEnd, AreLanes, FailsKeeping, HasFound, MeetsPremise, Settles}
 use Rattle.qq_node_log.specs.Log.{IsRunning}
 
 -- ---- what was found goes on
@@ -212,7 +212,7 @@ new-promised lot past fresh =
     (subst (λ (p : List Disk). KeepsPromise (ids_of lot) top [] [] (now p)) (sym fresh) (empty-keeps (ids_of lot) top))
 
 pub crashed-promised : (lot : Lot) (parts : Parts) (image : Image) (old new : List Disk)
-    → KeepsPromised lot parts (now old) → IsAfterCrash image old new → HasHonestImage lot image (now old)
+    → KeepsPromised lot parts (now old) → IsAfterCrash image old new → MeetsPremise lot image (now old)
     → KeepsPromised lot parts (now new)
 crashed-promised lot parts image old new p after honest =
     let remains : Remains = image_of image after.left.newest (now old) in

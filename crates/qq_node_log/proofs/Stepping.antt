@@ -19,7 +19,7 @@ use Rattle.qq_node_log.specs.declared.syncing.SyncOutcome.{SyncOutcome}
 use Rattle.qq_node_log.specs.declared.syncing.SyncOutcome.TheVariants.{Whole, NoFile, Nothing}
 use Rattle.qq_node_log.specs.Ends.{CarriesAre}
 use Rattle.qq_node_log.specs.Log.{StillWhole}
-use Rattle.qq_node_log.specs.Steps.{KeepsAt, KeepsDisk, RunsOn}
+use Rattle.qq_node_log.specs.Steps.{CallKeeps, KeepsDisk, RunsOn}
 use Rattle.qq_node_log.specs.Syncing.{Comes, GoesOnAs, IsSynced, IsSyncedBetween, SyncsIn}
 
 -- what was promised is promised in one part of a call, and then in another
@@ -95,7 +95,7 @@ module _ {D : Type 0} (tells : D → Bool) (past : D → List Disk) (faults : D 
         subst (λ (ids : List QueueId). StillWhole tells past ids old.disk new.disk) run.queues_are synced.whole before (is before));
   }
 
-  pub sync-keeps : KeepsAt tells past (λ (lot : Lot) (parts : Parts). parts) (Open old) (Open new)
+  pub sync-keeps : CallKeeps tells past (λ (lot : Lot) (parts : Parts). parts) (Open old) (Open new)
   sync-keeps lot parts run tell tied =
       stays-keeps lot parts (past old.disk) (past new.disk) (tied-promised lot parts (now (past old.disk)) tied)
       (subst (λ (ids : List QueueId). Stays ids (past old.disk) (past new.disk)) run.queues_are (synced.stays tell))

@@ -21,13 +21,13 @@ use Rattle.qq_wal_chain.specs.Laws.{IsHonestImage}
 use Rattle.qq_node_log.specs.declared.recovering.Found.{Found}
 use Rattle.qq_node_log.specs.Ends.{end_of, ends}
 use Rattle.qq_node_log.specs.Log.{IsRunning}
-use Rattle.qq_node_log.specs.Steps.{StaysPromised}
+use Rattle.qq_node_log.specs.Steps.{AlwaysKeeps}
 
 -- ---- a crash
 
 -- the image that a crash names meets the log's premise on what crashes leave
-abbrev pub HasHonestImage : Lot → Image → Disk → Type 0
-HasHonestImage lot image d =
+abbrev pub MeetsPremise : Lot → Image → Disk → Type 0
+MeetsPremise lot image d =
     (newest : Option FileName) → IsNewestLog d image.removed_back newest
     → IsHonestImage (ids_of lot) d (image_of image newest d)
 
@@ -80,4 +80,4 @@ pub record HasFound {D : Type 0} (tells : D → Bool) (past : D → List Disk) (
 abbrev pub FailsKeeping : List QueueId → List Disk → List Disk → RecoverFault → Type 0
 FailsKeeping queues old new fault =
     (lot : Lot) (parts : Parts) → queues ≡ ids_of lot → KeepsPromised lot parts (now old)
-    → IsNoRefusal fault × StaysPromised lot parts old new
+    → IsNoRefusal fault × AlwaysKeeps lot parts old new

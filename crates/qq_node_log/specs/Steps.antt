@@ -34,15 +34,15 @@ KeepsDisk tells past faults old new =
     → SameDisk tells past faults (ids_of lot) (disk_in old) (disk_in new)
 
 -- at each moment since, and now, the disk keeps what was promised of these parts
-abbrev pub StaysPromised : Lot → Parts → List Disk → List Disk → Type 0
-StaysPromised lot parts old new = Adds (KeepsPromised lot parts) old new × KeepsPromised lot parts (now new)
+abbrev pub AlwaysKeeps : Lot → Parts → List Disk → List Disk → Type 0
+AlwaysKeeps lot parts old new = Adds (KeepsPromised lot parts) old new × KeepsPromised lot parts (now new)
 
 -- over a disk that tells, and held what the log was given, at each moment it keeps what was promised of these parts
-abbrev pub KeepsAt : {D : Type 0} → (D → Bool) → (D → List Disk) → (Lot → Parts → Parts) → NodeLog D → NodeLog D → Type 0
-KeepsAt tells past later old new =
+abbrev pub CallKeeps : {D : Type 0} → (D → Bool) → (D → List Disk) → (Lot → Parts → Parts) → NodeLog D → NodeLog D → Type 0
+CallKeeps tells past later old new =
     (lot : Lot) (parts : Parts) → IsRunningIn tells past lot parts old → IsTrue (tells (disk_in old))
     → IsTied lot parts (now (past (disk_in old)))
-    → StaysPromised lot (later lot parts) (past (disk_in old)) (past (disk_in new))
+    → AlwaysKeeps lot (later lot parts) (past (disk_in old)) (past (disk_in new))
 
 -- ---- a log that goes on
 

@@ -15,7 +15,7 @@ ghost use Rattle.qq_wal_chain.specs.Image.{HasNoJunk};
 ghost use Rattle.qq_wal_chain.specs.Lanes.{Lanes};
 ghost use Rattle.qq_node_log.specs.declared.node_log.NodeLog.{NodeLog as LogOf};
 ghost use Rattle.qq_node_log.specs.Ends.{end_of, lane_end};
-ghost use Rattle.qq_node_log.specs.Found.{AllEnd, HasHonestImage};
+ghost use Rattle.qq_node_log.specs.Found.{AllEnd, MeetsPremise};
 ghost use Rattle.qq_node_log.specs.Log.{IsRunningIn, IsWhole};
 
 use qq_disk::NodeDisk;
@@ -63,9 +63,9 @@ pub fn a_new_disk_holds_nothing<D: NodeDisk>()
 pub fn what_is_left_after_a_crash_is_promised()
     ensures promised { (lot : Lot) (parts : Parts) (image : Image) (old new : List Disk) →
         KeepsPromised lot parts (now old) → IsAfterCrash image old new →
-        HasHonestImage lot image (now old) → KeepsPromised lot parts (now new) }
+        MeetsPremise lot image (now old) → KeepsPromised lot parts (now new) }
     ensures honest { (lot : Lot) (image : Image) (d : Disk) → HasNoJunk image →
-        HasHonestImage lot image d }
+        MeetsPremise lot image d }
 {
     a_crash_without_junk_keeps_the_promise();
 }

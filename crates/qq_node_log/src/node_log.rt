@@ -6,7 +6,7 @@ ghost use Rattle.qq_lots.specs.Lots.{Lot, Parts, give_batch, keep_all};
 ghost use Rattle.qq_node_log.specs.declared.syncing.SyncOutcome.TheVariants.{Whole};
 ghost use Rattle.qq_node_log.specs.Batches.{IsLong, IsLongIn};
 ghost use Rattle.qq_node_log.specs.Log.{IsRunningIn, disk_in, is_open};
-ghost use Rattle.qq_node_log.specs.Steps.{KeepsAt, KeepsDisk, MayAppend, MaySync, RunsOn};
+ghost use Rattle.qq_node_log.specs.Steps.{CallKeeps, KeepsDisk, MayAppend, MaySync, RunsOn};
 ghost use Rattle.qq_node_log.specs.Syncing.{FailsByCount, IsLast, IsLastIn, Leaves, LeavesIn, SyncsIn};
 
 use crate::batches::write_log;
@@ -41,7 +41,7 @@ fn append_open<D: NodeDisk>(wal: &mut Wal<D>, alloc: Global, ops: Vec<Op>) -> Re
     ensures ok { IfOk result (λ more. more ≡ true →
         RunsOn D.tells D.past (λ (lot : Lot). give_batch lot ops.items)
         (NodeLog.Open wal.old) (NodeLog.Open wal.new)) }
-    ensures moments { KeepsAt D.tells D.past (λ (lot : Lot). give_batch lot ops.items)
+    ensures moments { CallKeeps D.tells D.past (λ (lot : Lot). give_batch lot ops.items)
         (NodeLog.Open wal.old) (NodeLog.Open wal.new) }
     ensures failed { IfOk result (λ more. more ≡ false →
         Rose (D.faults wal.old.disk) (D.faults wal.new.disk)) }
@@ -66,7 +66,7 @@ fn sync_open<D: NodeDisk>(wal: &mut Wal<D>, alloc: Global) -> Result<SyncOutcome
     ensures leaves { IfOk result (λ outcome. Leaves outcome wal.old wal.new) }
     ensures come { IfOk result (λ outcome. SyncsIn D.tells D.past outcome
         (NodeLog.Open wal.old) (NodeLog.Open wal.new)) }
-    ensures moments { KeepsAt D.tells D.past (λ (lot : Lot) (parts : Parts). parts)
+    ensures moments { CallKeeps D.tells D.past (λ (lot : Lot) (parts : Parts). parts)
         (NodeLog.Open wal.old) (NodeLog.Open wal.new) }
     ensures failed { IfOk result
         (FailsByCount (D.faults wal.old.disk) (D.faults wal.new.disk)) }
@@ -111,7 +111,7 @@ impl<D: NodeDisk> NodeLog<D> {
         ensures same { KeepsDisk D.tells D.past D.faults self.old self.new }
         ensures ok { IfOk result (λ more. more ≡ true →
             RunsOn D.tells D.past (λ (lot : Lot). give_batch lot ops.items) self.old self.new) }
-        ensures moments { KeepsAt D.tells D.past (λ (lot : Lot). give_batch lot ops.items)
+        ensures moments { CallKeeps D.tells D.past (λ (lot : Lot). give_batch lot ops.items)
             self.old self.new }
         ensures failed { IfOk result (λ more. more ≡ false →
             Rose (D.faults (disk_in self.old)) (D.faults (disk_in self.new))) }
@@ -139,7 +139,7 @@ impl<D: NodeDisk> NodeLog<D> {
             RunsOn D.tells D.past (λ (lot : Lot). keep_all) self.old self.new) }
         ensures leaves { IfOk result (λ outcome. LeavesIn outcome self.old self.new) }
         ensures come { IfOk result (λ outcome. SyncsIn D.tells D.past outcome self.old self.new) }
-        ensures moments { KeepsAt D.tells D.past (λ (lot : Lot) (parts : Parts). parts)
+        ensures moments { CallKeeps D.tells D.past (λ (lot : Lot) (parts : Parts). parts)
             self.old self.new }
         ensures failed { IfOk result (FailsByCount (D.faults (disk_in self.old))
             (D.faults (disk_in self.new))) }
