@@ -1,5 +1,5 @@
 -- What waits is gathered, and then appended: what that leaves of the log's parts.
-use Rattle.std.proofs.Common.{◌≡◌, ◌≤◌, ◌++◌, ℕ, Bool, true, List, [], sym, ap, ◌∙◌, subst, arith}
+use Rattle.std.proofs.Common.{◌≡◌, ◌++◌, ℕ, Bool, true, List, [], sym, ap, ◌∙◌, subst, arith}
 use Rattle.std.specs.Global.{Vec}
 use Rattle.std.specs.Prelude.{IsTrue, fold}
 use Rattle.std.proofs.lemmas.List.Elements.{recursion_from_All}
@@ -18,16 +18,17 @@ use Rattle.qq_lots.specs.Kept.{KeepsPromised}
 use Rattle.qq_lots.specs.Lots.{Lot, Parts, give_batch, ids_of, ops_at}
 use Rattle.qq_lots.proofs.Writes.{promised-later, promised-now, tied-promised}
 use Rattle.qq_wal.specs.declared.wal.Wal.{Wal}
-use Rattle.qq_wal.specs.Wal.{IsSound, carries_ahead}
+use Rattle.qq_wal.specs.Wal.{carries_ahead}
 use Rattle.qq_wal_chain.specs.Laws.{op_records}
 use Rattle.qq_wal_record.specs.declared.record.LogRecord.{LogRecord}
 use Rattle.qq_node_log.specs.declared.node_log.NodeLog.TheVariants.{Open}
 use Rattle.qq_node_log.specs.Batches.{HasWritten, IsLong, StaysGiven, StaysWriting}
 use Rattle.qq_node_log.specs.Ends.{CarriesAre}
 use Rattle.qq_node_log.specs.Giving.{AllGoOn}
-use Rattle.qq_node_log.specs.Log.{IsWhole, StillWhole}
+use Rattle.qq_node_log.specs.Log.{IsWhole, SameLog}
 use Rattle.qq_node_log.specs.Steps.{CallKeeps, KeepsDisk, MayAppend, RunsOn}
 use Rattle.qq_node_log.proofs.Goes.{all-go, carries-given}
+use Rattle.qq_node_log.proofs.Same.{same-disk}
 
 -- a log that may be given ops takes them
 pub ops-go : {D : Type 0} (tells : D → Bool) (past : D → List Disk) (ops : List Op) (wal : Wal D)
@@ -85,14 +86,9 @@ gather-same {D} tells past faults old new same lot parts run = record {
 
 -- what a write does to the log that ops were gathered for
 pub record Wrote {D : Type 0} (tells : D → Bool) (past : D → List Disk) (faults : D → ℕ) (mid new : Wal D) : Type 0 where
-  pub sound : IsSound tells past new
+  pub same : SameLog tells past faults mid new
   pub stays : IsTrue (tells mid.disk)
       → StaysWriting mid.queues.items mid.waiting.items (past mid.disk) (past new.disk)
-  pub ahead : carries_ahead new ≡ carries_ahead mid
-  pub queues : new.queues ≡ mid.queues
-  pub told : tells new.disk ≡ tells mid.disk
-  pub later : faults mid.disk ≤ faults new.disk
-  pub whole : StillWhole tells past mid.queues.items mid.disk new.disk
 
 module _ {D : Type 0} (tells : D → Bool) (past : D → List Disk) (faults : D → ℕ) (ops : List Op) (old mid new : Wal D)
     (gave : Gave ops old mid) (wrote : Wrote tells past faults mid new) where
@@ -106,12 +102,8 @@ module _ {D : Type 0} (tells : D → Bool) (past : D → List Disk) (faults : D 
   write-keeps = keeps-given tells past ops old new (λ tell none. was.stays tell ops (waits none))
 
   pub write-same : KeepsDisk tells past faults (Open old) (Open new)
-  write-same lot parts run = record {
-    told = was.told;
-    later = was.later;
-    whole = λ is tell. (let before : IsTrue (tells old.disk) = subst IsTrue was.told tell in
-        subst (λ (ids : List QueueId). StillWhole tells past ids old.disk new.disk) run.queues_are was.whole before (is before));
-  }
+  write-same lot parts run =
+      same-disk tells past faults (ids_of lot) (record old { waiting = mid.waiting }) new was.same run.queues_are
 
   -- ---- a log that goes on
 
@@ -122,12 +114,12 @@ module _ {D : Type 0} (tells : D → Bool) (past : D → List Disk) (faults : D 
       subst (λ (w : Wal D). HasWritten tells past w new) gave.same done in
       record {
         running = λ lot parts run. record {
-          sound = was.sound;
-          queues_are = ap (λ (q : Vec QueueId). q.items) was.queues ∙ run.queues_are;
+          sound = was.same.sound;
+          queues_are = ap (λ (q : Vec QueueId). q.items) was.same.queues ∙ run.queues_are;
           waiting = h.waiting;
           going = h.going;
           carries = subst (CarriesAre lot (give_batch lot ops parts))
-              (sym (wrote.ahead ∙ gave.ahead))
+              (sym (wrote.same.ahead ∙ gave.ahead))
               (carries-given lot ops parts old.queues.items (carries_ahead old) goes run.carries);
         };
         tied = λ lot parts run tell tied. h.holds tell ops (waits run.waiting) lot parts run.queues_are tied;

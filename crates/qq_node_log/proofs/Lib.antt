@@ -6,3 +6,4 @@ pub mod Stepping
 pub mod Lanes
 pub mod Finding
 pub mod Running
+pub mod Same

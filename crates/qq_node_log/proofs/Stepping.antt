@@ -1,5 +1,5 @@
 -- A sync, and then a new file.
-use Rattle.std.proofs.Common.{◌≡◌, ◌≤◌, ℕ, Bool, List, sym, ap, ◌∙◌, subst}
+use Rattle.std.proofs.Common.{◌≡◌, ℕ, Bool, List, sym, ap, ◌∙◌, subst}
 use Rattle.std.specs.Global.{Vec}
 use Rattle.std.specs.Prelude.{IsTrue}
 use Rattle.qq_base.specs.declared.ids.QueueId.{QueueId}
@@ -11,15 +11,14 @@ use Rattle.qq_lots.specs.Lots.{Lot, Parts, ids_of, keep_all}
 use Rattle.qq_lots.proofs.Writes.{rolled-tied, stays-keeps, synced-tied, tied-promised}
 use Rattle.qq_wal.specs.declared.wal.Wal.{Wal}
 use Rattle.qq_wal.specs.Running.{top, Stays, StillHolds}
-use Rattle.qq_wal.specs.Wal.{IsSound, carries_ahead}
 use Rattle.qq_wal_chain.specs.Promise.{Promises}
 use Rattle.qq_wal_chain.specs.Wal.{wal}
 use Rattle.qq_node_log.specs.declared.node_log.NodeLog.TheVariants.{Open}
 use Rattle.qq_node_log.specs.declared.syncing.SyncOutcome.{SyncOutcome}
 use Rattle.qq_node_log.specs.declared.syncing.SyncOutcome.TheVariants.{Whole, NoFile, Nothing}
 use Rattle.qq_node_log.specs.Ends.{CarriesAre}
-use Rattle.qq_node_log.specs.Log.{StillWhole}
-use Rattle.qq_node_log.specs.Steps.{CallKeeps, KeepsDisk, RunsOn}
+use Rattle.qq_node_log.specs.Log.{SameLog}
+use Rattle.qq_node_log.specs.Steps.{CallKeeps, RunsOn}
 use Rattle.qq_node_log.specs.Syncing.{Comes, GoesOnAs, IsSynced, IsSyncedBetween, SyncsIn}
 
 -- what was promised is promised in one part of a call, and then in another
@@ -75,30 +74,13 @@ comes-nothing queues old new stays lot parts same tied =
 
 -- ---- what it leaves of the parts
 
--- what a sync does, whatever the answer is
-pub record Synced {D : Type 0} (tells : D → Bool) (past : D → List Disk) (faults : D → ℕ) (old new : Wal D) : Type 0 where
-  pub sound : IsSound tells past new
-  pub stays : IsTrue (tells old.disk) → Stays old.queues.items (past old.disk) (past new.disk)
-  pub ahead : carries_ahead new ≡ carries_ahead old
-  pub queues : new.queues ≡ old.queues
-  pub told : tells new.disk ≡ tells old.disk
-  pub later : faults old.disk ≤ faults new.disk
-  pub whole : StillWhole tells past old.queues.items old.disk new.disk
-
 module _ {D : Type 0} (tells : D → Bool) (past : D → List Disk) (faults : D → ℕ) (old new : Wal D)
-    (synced : Synced tells past faults old new) where
-  pub sync-same : KeepsDisk tells past faults (Open old) (Open new)
-  sync-same lot parts run = record {
-    told = synced.told;
-    later = synced.later;
-    whole = λ is tell. (let before : IsTrue (tells old.disk) = subst IsTrue synced.told tell in
-        subst (λ (ids : List QueueId). StillWhole tells past ids old.disk new.disk) run.queues_are synced.whole before (is before));
-  }
-
-  pub sync-keeps : CallKeeps tells past (λ (lot : Lot) (parts : Parts). parts) (Open old) (Open new)
-  sync-keeps lot parts run tell tied =
+    (same : SameLog tells past faults old new) where
+  pub sync-keeps : (IsTrue (tells old.disk) → Stays old.queues.items (past old.disk) (past new.disk))
+      → CallKeeps tells past (λ (lot : Lot) (parts : Parts). parts) (Open old) (Open new)
+  sync-keeps stays lot parts run tell tied =
       stays-keeps lot parts (past old.disk) (past new.disk) (tied-promised lot parts (now (past old.disk)) tied)
-      (subst (λ (ids : List QueueId). Stays ids (past old.disk) (past new.disk)) run.queues_are (synced.stays tell))
+      (subst (λ (ids : List QueueId). Stays ids (past old.disk) (past new.disk)) run.queues_are (stays tell))
 
   pub sync-comes : (outcome : SyncOutcome)
       → (IsTrue (tells old.disk) → Comes outcome old.queues.items (past old.disk) (past new.disk))
@@ -110,11 +92,11 @@ module _ {D : Type 0} (tells : D → Bool) (past : D → List Disk) (faults : D 
       → RunsOn tells past (λ (lot : Lot). keep_all) (Open old) (Open new)
   sync-runs full goes comes = record {
     running = λ lot parts run. record {
-      sound = synced.sound;
-      queues_are = ap (λ (q : Vec QueueId). q.items) synced.queues ∙ run.queues_are;
+      sound = same.sound;
+      queues_are = ap (λ (q : Vec QueueId). q.items) same.queues ∙ run.queues_are;
       waiting = goes.waiting ∙ run.waiting;
       going = goes.going;
-      carries = subst (CarriesAre lot parts) (sym synced.ahead) run.carries;
+      carries = subst (CarriesAre lot parts) (sym same.ahead) run.carries;
     };
     tied = λ lot parts run tell tied. (comes tell lot parts run.queues_are tied).1;
   }

@@ -1,5 +1,5 @@
 -- A node's log as its calls see it: of which parts it goes on.
-use Rattle.std.specs.Prelude.{◌≡◌, Bool, true, false, List, [], IsTrue}
+use Rattle.std.specs.Prelude.{◌≡◌, ◌≤◌, ℕ, Bool, true, false, List, [], IsTrue}
 use Rattle.qq_base.specs.declared.ids.QueueId.{QueueId}
 use Rattle.qq_disk.specs.Disk.{Disk, now}
 use Rattle.qq_lots.specs.Lots.{Lot, Parts, ids_of}
@@ -26,6 +26,17 @@ IsWhole tells past queues disk = IsTrue (tells disk) → NoneRemoved (now (past 
 -- and so may what a call leaves of it
 abbrev pub StillWhole : {D : Type 0} → (D → Bool) → (D → List Disk) → List QueueId → D → D → Type 0
 StillWhole tells past queues old new = IsTrue (tells old) → StaysWhole (past old) (past new)
+
+-- What each call of the log leaves: it is sound, of the same queues, which end with what waits where they ended, over a
+-- disk that tells as before, counts no fewer faults, and may be recovered as before.
+pub record SameLog {D : Type 0} (tells : D → Bool) (past : D → List Disk) (faults : D → ℕ) (old new : Wal D) : Type 0
+  where
+    pub sound : IsSound tells past new
+    pub queues : new.queues ≡ old.queues
+    pub ahead : carries_ahead new ≡ carries_ahead old
+    pub told : tells new.disk ≡ tells old.disk
+    pub later : faults old.disk ≤ faults new.disk
+    pub whole : StillWhole tells past old.queues.items old.disk new.disk
 
 -- The log is of the lot's queues, goes on where their parts end, and nothing waits in it.
 pub record IsRunning {D : Type 0} (tells : D → Bool) (past : D → List Disk) (lot : Lot) (parts : Parts) (wal : Wal D)

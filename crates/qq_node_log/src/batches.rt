@@ -1,9 +1,9 @@
 //! What was gathered is appended, in as many batches as it takes.
-ghost use Rattle.std.specs.Prelude.{◌≡◌, ◌≤◌, false, true, IsTrue, IfErr, IfOk, OnOk};
+ghost use Rattle.std.specs.Prelude.{◌≡◌, false, true, IsTrue, IfErr, IfOk, OnOk};
 ghost use Rattle.qq_base.specs.Causes.{Rose};
-ghost use Rattle.qq_wal.specs.Wal.{IsSound, StaysAppending, carries_ahead};
+ghost use Rattle.qq_wal.specs.Wal.{IsSound, StaysAppending};
 ghost use Rattle.qq_node_log.specs.Batches.{AppendsSome, HasWritten, IsLong, IsWriteCaused, StaysWriting};
-ghost use Rattle.qq_node_log.specs.Log.{StillWhole};
+ghost use Rattle.qq_node_log.specs.Log.{SameLog};
 
 use qq_base::Memory;
 use qq_disk::NodeDisk;
@@ -15,15 +15,10 @@ use std::alloc::Global;
 fn append_some<D: NodeDisk>(wal: &mut Wal<D>, alloc: Global) -> Result<bool, WalFault>
     requires sound { IsSound D.tells D.past wal.old }
     requires going { wal.old.stopped ≡ false }
-    ensures sound { IsSound D.tells D.past wal.new }
+    ensures same { SameLog D.tells D.past D.faults wal.old wal.new }
     ensures ok { IfOk result (λ more. AppendsSome D.tells D.past more wal.old wal.new) }
     ensures stays { IsTrue (D.tells wal.old.disk) → StaysAppending wal.old.queues.items
         wal.old.waiting.items (D.past wal.old.disk) (D.past wal.new.disk) }
-    ensures ahead { carries_ahead wal.new ≡ carries_ahead wal.old }
-    ensures queues { wal.new.queues ≡ wal.old.queues }
-    ensures whole { StillWhole D.tells D.past wal.old.queues.items wal.old.disk wal.new.disk }
-    ensures told { D.tells wal.new.disk ≡ D.tells wal.old.disk }
-    ensures later { D.faults wal.old.disk ≤ D.faults wal.new.disk }
     ensures cause { IfErr result (IsWriteCaused D.faults wal.old wal.new) }
 {
     encodings_have_lengths();
@@ -37,15 +32,10 @@ fn append_some<D: NodeDisk>(wal: &mut Wal<D>, alloc: Global) -> Result<bool, Wal
 fn append_all<D: NodeDisk>(wal: &mut Wal<D>, alloc: Global) -> Result<(), WalFault>
     requires sound { IsSound D.tells D.past wal.old }
     requires going { wal.old.stopped ≡ false }
-    ensures sound { IsSound D.tells D.past wal.new }
+    ensures same { SameLog D.tells D.past D.faults wal.old wal.new }
     ensures ok { OnOk result (HasWritten D.tells D.past wal.old wal.new) }
     ensures stays { IsTrue (D.tells wal.old.disk) → StaysWriting wal.old.queues.items
         wal.old.waiting.items (D.past wal.old.disk) (D.past wal.new.disk) }
-    ensures ahead { carries_ahead wal.new ≡ carries_ahead wal.old }
-    ensures queues { wal.new.queues ≡ wal.old.queues }
-    ensures whole { StillWhole D.tells D.past wal.old.queues.items wal.old.disk wal.new.disk }
-    ensures told { D.tells wal.new.disk ≡ D.tells wal.old.disk }
-    ensures later { D.faults wal.old.disk ≤ D.faults wal.new.disk }
     ensures cause { IfErr result (IsWriteCaused D.faults wal.old wal.new) }
 {
     'batches: while append_some(wal, alloc)? {}
@@ -61,17 +51,12 @@ fn append_all<D: NodeDisk>(wal: &mut Wal<D>, alloc: Global) -> Result<(), WalFau
 pub(crate) fn write_log<D: NodeDisk>(wal: &mut Wal<D>, alloc: Global) -> Result<bool, Memory>
     requires sound { IsSound D.tells D.past wal.old }
     requires going { wal.old.stopped ≡ false }
-    ensures sound { IsSound D.tells D.past wal.new }
+    ensures same { SameLog D.tells D.past D.faults wal.old wal.new }
     ensures ok { IfOk result (λ more. more ≡ true → HasWritten D.tells D.past wal.old wal.new) }
     ensures stays { IsTrue (D.tells wal.old.disk) → StaysWriting wal.old.queues.items
         wal.old.waiting.items (D.past wal.old.disk) (D.past wal.new.disk) }
     ensures failed { IfOk result (λ more. more ≡ false →
         Rose (D.faults wal.old.disk) (D.faults wal.new.disk)) }
-    ensures ahead { carries_ahead wal.new ≡ carries_ahead wal.old }
-    ensures queues { wal.new.queues ≡ wal.old.queues }
-    ensures whole { StillWhole D.tells D.past wal.old.queues.items wal.old.disk wal.new.disk }
-    ensures told { D.tells wal.new.disk ≡ D.tells wal.old.disk }
-    ensures later { D.faults wal.old.disk ≤ D.faults wal.new.disk }
     ensures cause { IfErr result (IsLong wal.new) }
 {
     match append_all(wal, alloc) {

@@ -1,10 +1,10 @@
 //! What was appended is synced, and a full file is replaced.
-ghost use Rattle.std.specs.Prelude.{◌≡◌, ◌≤◌, false, true, IsTrue, IfOk, IfErr, OnOk};
+ghost use Rattle.std.specs.Prelude.{◌≡◌, false, true, IsTrue, IfOk, IfErr, OnOk};
 ghost use Rattle.qq_base.specs.Causes.{Rose};
 ghost use Rattle.qq_disk.specs.Disk.{now};
 ghost use Rattle.qq_wal.specs.Running.{Stays, StillHolds};
-ghost use Rattle.qq_wal.specs.Wal.{IsSound, carries_ahead};
-ghost use Rattle.qq_node_log.specs.Log.{StillWhole};
+ghost use Rattle.qq_wal.specs.Wal.{IsSound};
+ghost use Rattle.qq_node_log.specs.Log.{SameLog};
 ghost use Rattle.qq_node_log.specs.Syncing.{Comes, FailsByCount, GoesOnAs, IsLast, Leaves};
 
 use qq_base::Memory;
@@ -30,7 +30,7 @@ fn begin_next<D: NodeDisk>(wal: &mut Wal<D>, alloc: Global, full: bool) -> Resul
     requires sound { IsSound D.tells D.past wal.old }
     requires synced { wal.old.dirty ≡ false }
     requires going { wal.old.stopped ≡ false }
-    ensures sound { IsSound D.tells D.past wal.new }
+    ensures same { SameLog D.tells D.past D.faults wal.old wal.new }
     ensures stays { IsTrue (D.tells wal.old.disk) → Stays wal.old.queues.items
         (D.past wal.old.disk) (D.past wal.new.disk) }
     ensures holds { IsTrue (D.tells wal.old.disk) → IfOk result (λ more. more ≡ true →
@@ -39,11 +39,6 @@ fn begin_next<D: NodeDisk>(wal: &mut Wal<D>, alloc: Global, full: bool) -> Resul
     ensures clean { wal.new.dirty ≡ false }
     ensures failed { IfOk result (λ more. more ≡ false →
         Rose (D.faults wal.old.disk) (D.faults wal.new.disk)) }
-    ensures ahead { carries_ahead wal.new ≡ carries_ahead wal.old }
-    ensures queues { wal.new.queues ≡ wal.old.queues }
-    ensures whole { StillWhole D.tells D.past wal.old.queues.items wal.old.disk wal.new.disk }
-    ensures told { D.tells wal.new.disk ≡ D.tells wal.old.disk }
-    ensures later { D.faults wal.old.disk ≤ D.faults wal.new.disk }
     ensures cause { IfErr result (IsLast wal.new) }
 {
     if !full {
@@ -70,7 +65,7 @@ fn begin_next<D: NodeDisk>(wal: &mut Wal<D>, alloc: Global, full: bool) -> Resul
 pub(crate) fn sync_log<D: NodeDisk>(wal: &mut Wal<D>, alloc: Global) -> Result<SyncOutcome, Memory>
     requires sound { IsSound D.tells D.past wal.old }
     requires going { wal.old.stopped ≡ false }
-    ensures sound { IsSound D.tells D.past wal.new }
+    ensures same { SameLog D.tells D.past D.faults wal.old wal.new }
     ensures come { IsTrue (D.tells wal.old.disk) → IfOk result (λ outcome.
         Comes outcome wal.old.queues.items (D.past wal.old.disk) (D.past wal.new.disk)) }
     ensures stays { IsTrue (D.tells wal.old.disk) → Stays wal.old.queues.items
@@ -78,11 +73,6 @@ pub(crate) fn sync_log<D: NodeDisk>(wal: &mut Wal<D>, alloc: Global) -> Result<S
     ensures leaves { IfOk result (λ outcome. Leaves outcome wal.old wal.new) }
     ensures failed { IfOk result
         (FailsByCount (D.faults wal.old.disk) (D.faults wal.new.disk)) }
-    ensures ahead { carries_ahead wal.new ≡ carries_ahead wal.old }
-    ensures queues { wal.new.queues ≡ wal.old.queues }
-    ensures whole { StillWhole D.tells D.past wal.old.queues.items wal.old.disk wal.new.disk }
-    ensures told { D.tells wal.new.disk ≡ D.tells wal.old.disk }
-    ensures later { D.faults wal.old.disk ≤ D.faults wal.new.disk }
     ensures cause { IfErr result (IsLast wal.new) }
 {
     let full = wal.full();

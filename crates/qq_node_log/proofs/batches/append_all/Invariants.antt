@@ -1,6 +1,5 @@
-use Rattle.std.proofs.Common.{◌≡◌, ◌≤◌, false, length}
-use Rattle.qq_wal.specs.Wal.{IsSound, carries_ahead}
-use Rattle.qq_node_log.specs.Log.{StillWhole}
+use Rattle.std.proofs.Common.{◌≡◌, false, length}
+use Rattle.qq_node_log.specs.Log.{SameLog}
 use Rattle.qq_node_log.proofs.Batching.{Begun}
 use Rattle.qq_node_log.proofs.batches.append_all.Given as goal
 
@@ -10,14 +9,9 @@ invariant-batches g l =
     let tells = g.D.NodeDisk.tells in
     let past = g.D.NodeDisk.past in
     record {
-      sound : IsSound tells past l.wal;
+      same : SameLog tells past g.D.NodeDisk.faults l.fn.wal l.wal;
       going : l.wal.stopped ≡ false;
       begun : Begun tells past l.fn.wal l.wal;
-      ahead : carries_ahead l.wal ≡ carries_ahead l.fn.wal;
-      queues : l.wal.queues ≡ l.fn.wal.queues;
-      whole : StillWhole tells past l.fn.wal.queues.items l.fn.wal.disk l.wal.disk;
-      told : tells l.wal.disk ≡ tells l.fn.wal.disk;
-      later : g.D.NodeDisk.faults l.fn.wal.disk ≤ g.D.NodeDisk.faults l.wal.disk;
     }
 
 abbrev pub decreases-batches : goal.decreases-batches

@@ -23,74 +23,34 @@ returns-in-Ok-clause-same g c =
     write-same g.D.NodeDisk.tells g.D.NodeDisk.past g.D.NodeDisk.faults c.args.ops.items c.args.wal.now
     c.gather_all.new.wal c.write_log.new.wal
     (record { waiting = c.in_default.ensures.ok; ahead = c.in_default.ensures.ahead; same = c.gather_all.ensures.same })
-    (record {
-      sound = c.write_log.ensures.sound;
-      stays = λ tell. c.write_log.ensures.stays tell;
-      ahead = c.write_log.ensures.ahead;
-      queues = c.write_log.ensures.queues;
-      told = c.write_log.ensures.told;
-      later = c.write_log.ensures.later;
-      whole = λ tell. c.write_log.ensures.whole tell;
-    })
+    (record { same = c.write_log.ensures.same; stays = λ tell. c.write_log.ensures.stays tell })
 
 pub returns-in-Err-write_log-clause-same : goal.returns-in-Err-write_log-clause-same
 returns-in-Err-write_log-clause-same g c =
     write-same g.D.NodeDisk.tells g.D.NodeDisk.past g.D.NodeDisk.faults c.args.ops.items c.args.wal.now
     c.gather_all.new.wal c.write_log.new.wal
     (record { waiting = c.in_default.ensures.ok; ahead = c.in_default.ensures.ahead; same = c.gather_all.ensures.same })
-    (record {
-      sound = c.write_log.ensures.sound;
-      stays = λ tell. c.write_log.ensures.stays tell;
-      ahead = c.write_log.ensures.ahead;
-      queues = c.write_log.ensures.queues;
-      told = c.write_log.ensures.told;
-      later = c.write_log.ensures.later;
-      whole = λ tell. c.write_log.ensures.whole tell;
-    })
+    (record { same = c.write_log.ensures.same; stays = λ tell. c.write_log.ensures.stays tell })
 
 pub returns-in-Ok-clause-moments : goal.returns-in-Ok-clause-moments
 returns-in-Ok-clause-moments g c =
     write-keeps g.D.NodeDisk.tells g.D.NodeDisk.past g.D.NodeDisk.faults c.args.ops.items c.args.wal.now
     c.gather_all.new.wal c.write_log.new.wal
     (record { waiting = c.in_default.ensures.ok; ahead = c.in_default.ensures.ahead; same = c.gather_all.ensures.same })
-    (record {
-      sound = c.write_log.ensures.sound;
-      stays = λ tell. c.write_log.ensures.stays tell;
-      ahead = c.write_log.ensures.ahead;
-      queues = c.write_log.ensures.queues;
-      told = c.write_log.ensures.told;
-      later = c.write_log.ensures.later;
-      whole = λ tell. c.write_log.ensures.whole tell;
-    })
+    (record { same = c.write_log.ensures.same; stays = λ tell. c.write_log.ensures.stays tell })
 
 pub returns-in-Err-write_log-clause-moments : goal.returns-in-Err-write_log-clause-moments
 returns-in-Err-write_log-clause-moments g c =
     write-keeps g.D.NodeDisk.tells g.D.NodeDisk.past g.D.NodeDisk.faults c.args.ops.items c.args.wal.now
     c.gather_all.new.wal c.write_log.new.wal
     (record { waiting = c.in_default.ensures.ok; ahead = c.in_default.ensures.ahead; same = c.gather_all.ensures.same })
-    (record {
-      sound = c.write_log.ensures.sound;
-      stays = λ tell. c.write_log.ensures.stays tell;
-      ahead = c.write_log.ensures.ahead;
-      queues = c.write_log.ensures.queues;
-      told = c.write_log.ensures.told;
-      later = c.write_log.ensures.later;
-      whole = λ tell. c.write_log.ensures.whole tell;
-    })
+    (record { same = c.write_log.ensures.same; stays = λ tell. c.write_log.ensures.stays tell })
 
 pub returns-in-Ok-clause-ok : goal.returns-in-Ok-clause-ok
 returns-in-Ok-clause-ok g c = λ is.
     write-runs g.D.NodeDisk.tells g.D.NodeDisk.past g.D.NodeDisk.faults c.args.ops.items c.args.wal.now
     c.gather_all.new.wal c.write_log.new.wal
     (record { waiting = c.in_default.ensures.ok; ahead = c.in_default.ensures.ahead; same = c.gather_all.ensures.same })
-    (record {
-      sound = c.write_log.ensures.sound;
-      stays = λ tell. c.write_log.ensures.stays tell;
-      ahead = c.write_log.ensures.ahead;
-      queues = c.write_log.ensures.queues;
-      told = c.write_log.ensures.told;
-      later = c.write_log.ensures.later;
-      whole = λ tell. c.write_log.ensures.whole tell;
-    })
+    (record { same = c.write_log.ensures.same; stays = λ tell. c.write_log.ensures.stays tell })
     (ops-go g.D.NodeDisk.tells g.D.NodeDisk.past c.args.ops.items c.args.wal.now c.requires)
     (c.in-Ok.ensures.ok is)

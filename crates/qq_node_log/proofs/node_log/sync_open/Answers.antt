@@ -9,40 +9,16 @@ pub returns-in-Ok-clause-ok : goal.returns-in-Ok-clause-ok
 returns-in-Ok-clause-ok g c = λ is.
     let past = g.D.NodeDisk.past in
     sync-runs g.D.NodeDisk.tells past g.D.NodeDisk.faults c.args.wal.now c.sync_log.new.wal
-    (record {
-      sound = c.sync_log.ensures.sound;
-      stays = λ tell. c.sync_log.ensures.stays tell;
-      ahead = c.sync_log.ensures.ahead;
-      queues = c.sync_log.ensures.queues;
-      told = c.sync_log.ensures.told;
-      later = c.sync_log.ensures.later;
-      whole = λ tell. c.sync_log.ensures.whole tell;
-    }) (is_full c.args.wal.now) (subst (λ (o : SyncOutcome). Leaves o c.args.wal.now c.sync_log.new.wal) is c.in-Ok.ensures.leaves)
+    c.sync_log.ensures.same (is_full c.args.wal.now) (subst (λ (o : SyncOutcome). Leaves o c.args.wal.now c.sync_log.new.wal) is c.in-Ok.ensures.leaves)
     (λ tell. subst (λ (o : SyncOutcome). Comes o c.args.wal.now.queues.items (past c.args.wal.now.disk)
     (past c.sync_log.new.wal.disk)) is (c.in-Ok.ensures.come tell))
 
 pub returns-in-Ok-clause-moments : goal.returns-in-Ok-clause-moments
 returns-in-Ok-clause-moments g c =
     sync-keeps g.D.NodeDisk.tells g.D.NodeDisk.past g.D.NodeDisk.faults c.args.wal.now c.sync_log.new.wal
-    (record {
-      sound = c.sync_log.ensures.sound;
-      stays = λ tell. c.sync_log.ensures.stays tell;
-      ahead = c.sync_log.ensures.ahead;
-      queues = c.sync_log.ensures.queues;
-      told = c.sync_log.ensures.told;
-      later = c.sync_log.ensures.later;
-      whole = λ tell. c.sync_log.ensures.whole tell;
-    })
+    c.sync_log.ensures.same (λ tell. c.sync_log.ensures.stays tell)
 
 pub returns-in-Err-clause-moments : goal.returns-in-Err-clause-moments
 returns-in-Err-clause-moments g c =
     sync-keeps g.D.NodeDisk.tells g.D.NodeDisk.past g.D.NodeDisk.faults c.args.wal.now c.sync_log.new.wal
-    (record {
-      sound = c.sync_log.ensures.sound;
-      stays = λ tell. c.sync_log.ensures.stays tell;
-      ahead = c.sync_log.ensures.ahead;
-      queues = c.sync_log.ensures.queues;
-      told = c.sync_log.ensures.told;
-      later = c.sync_log.ensures.later;
-      whole = λ tell. c.sync_log.ensures.whole tell;
-    })
+    c.sync_log.ensures.same (λ tell. c.sync_log.ensures.stays tell)

@@ -4,6 +4,7 @@ use Rattle.qq_base.specs.declared.ids.QueueId.{QueueId}
 use Rattle.qq_disk.specs.Disk.{now}
 use Rattle.qq_disk.proofs.Stored.{still_tells}
 use Rattle.qq_wal.specs.Running.{Stays, StillHolds}
+use Rattle.qq_node_log.proofs.Same.{same-then}
 use Rattle.qq_node_log.proofs.Stepping.{comes-no_file, comes-nothing, comes-whole, stays-then}
 use Rattle.qq_node_log.proofs.syncing.sync_log.Goals as goal
 
@@ -43,14 +44,6 @@ returns-in-Err-Disk-clause-come g c = λ told.
     comes-nothing c.args.wal.now.queues.items (g.D.NodeDisk.past c.args.wal.now.disk)
     (g.D.NodeDisk.past c.sync_batch.new.self.disk) (c.sync_batch.ensures.stays told)
 
-pub returns-in-Ok-true-clause-whole : goal.returns-in-Ok-true-clause-whole
-returns-in-Ok-true-clause-whole g c = λ told none.
-    c.begin_next.ensures.whole (still_tells c.sync_batch.ensures.told told) (c.sync_batch.ensures.whole told none)
-
-pub returns-in-Ok-false-clause-whole : goal.returns-in-Ok-false-clause-whole
-returns-in-Ok-false-clause-whole g c = λ told none.
-    c.begin_next.ensures.whole (still_tells c.sync_batch.ensures.told told) (c.sync_batch.ensures.whole told none)
-
 pub returns-in-Ok-true-clause-stays : goal.returns-in-Ok-true-clause-stays
 returns-in-Ok-true-clause-stays g c =
     λ told.
@@ -80,3 +73,39 @@ returns-in-Err-clause-stays g c =
     (past c.begin_next.new.wal.disk) (c.sync_batch.ensures.stays told)
     (subst (λ (l : List QueueId). Stays l (past c.sync_batch.new.self.disk) (past c.begin_next.new.wal.disk))
     same (c.begin_next.ensures.stays (still_tells c.sync_batch.ensures.told told))))
+
+pub returns-in-Ok-true-clause-same : goal.returns-in-Ok-true-clause-same
+returns-in-Ok-true-clause-same g c =
+    same-then g.D.NodeDisk.tells g.D.NodeDisk.past g.D.NodeDisk.faults c.args.wal.now c.sync_batch.new.self
+    c.begin_next.new.wal (record {
+      sound = c.sync_batch.ensures.sound;
+      queues = c.sync_batch.ensures.file.queues;
+      ahead = c.sync_batch.ensures.ahead;
+      told = c.sync_batch.ensures.told;
+      later = c.sync_batch.ensures.cause.later;
+      whole = λ tell. c.sync_batch.ensures.whole tell;
+    }) c.begin_next.ensures.same
+
+pub returns-in-Ok-false-clause-same : goal.returns-in-Ok-false-clause-same
+returns-in-Ok-false-clause-same g c =
+    same-then g.D.NodeDisk.tells g.D.NodeDisk.past g.D.NodeDisk.faults c.args.wal.now c.sync_batch.new.self
+    c.begin_next.new.wal (record {
+      sound = c.sync_batch.ensures.sound;
+      queues = c.sync_batch.ensures.file.queues;
+      ahead = c.sync_batch.ensures.ahead;
+      told = c.sync_batch.ensures.told;
+      later = c.sync_batch.ensures.cause.later;
+      whole = λ tell. c.sync_batch.ensures.whole tell;
+    }) c.begin_next.ensures.same
+
+pub returns-in-Err-clause-same : goal.returns-in-Err-clause-same
+returns-in-Err-clause-same g c =
+    same-then g.D.NodeDisk.tells g.D.NodeDisk.past g.D.NodeDisk.faults c.args.wal.now c.sync_batch.new.self
+    c.begin_next.new.wal (record {
+      sound = c.sync_batch.ensures.sound;
+      queues = c.sync_batch.ensures.file.queues;
+      ahead = c.sync_batch.ensures.ahead;
+      told = c.sync_batch.ensures.told;
+      later = c.sync_batch.ensures.cause.later;
+      whole = λ tell. c.sync_batch.ensures.whole tell;
+    }) c.begin_next.ensures.same
