@@ -1,6 +1,7 @@
 pub mod Groups
 mod Told
 mod Numbers
+mod Given
 mod PrintedOnce
 mod Leads
 mod SessionLaws

@@ -20,5 +20,8 @@ pub use queues::{
     a_leader_answers_its_own_term, a_queue_is_its_group, a_queue_may_begin_with_new_logs,
     an_audit_is_serial, commands_go_to_the_leader, ops_are_noticed_once_synced,
 };
-pub use sessions::{answers_are_printed_once, sessions_go_on, what_is_printed_is_audited};
+pub use sessions::{
+    answers_are_printed_once, carried_out_commands_were_given, sessions_go_on,
+    what_is_printed_is_audited,
+};
 pub use texts::{a_cluster_tells_its_state, a_lost_command_is_told};

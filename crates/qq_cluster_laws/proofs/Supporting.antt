@@ -1,16 +1,14 @@
 -- What disks keep of a log's promise supports each audit.
-use Rattle.std.proofs.Common.{◌≡◌, ◌≤◌, ℕ, Bool, true, List, [], ◌∷◌, Option, Some, length, take, refl, sym, ap, ◌∙◌, subst, inl, inr, arith}
+use Rattle.std.proofs.Common.{◌≡◌, ◌≤◌, ℕ, Bool, true, List, [], ◌∷◌, Some, sym, ap, ◌∙◌, subst, inl, inr, arith}
 use Rattle.std.specs.List.{AllByRecursion}
 use Rattle.std.specs.Prelude.{filter}
 use Rattle.std.proofs.lemmas.Bool.{cond_both, cond-true}
 use Rattle.qq_raft_protocol.specs.Facts.{In}
-use Rattle.qq_disk.specs.Crash.{Remains, IsImage}
 use Rattle.qq_disk.specs.Disk.{Disk}
 use Rattle.qq_entry.specs.declared.command.Entry.{Entry}
-use Rattle.qq_log.specs.Stable.{Stable}
 use Rattle.qq_lots.specs.Kept.{KeepsPromised}
 use Rattle.qq_lots.specs.Left.{IsBetween, LeavesBetween, ReadsBetween, state_in}
-use Rattle.qq_lots.specs.Lots.{Lot, Parts, ids_of}
+use Rattle.qq_lots.specs.Lots.{Lot, Parts}
 use Rattle.qq_raft_model.specs.Group.{Event as Move, Group, group_after, has_node}
 use Rattle.qq_raft_model.specs.Handing.{lane_in}
 use Rattle.qq_raft_model.specs.Promises.{AreDistinct, IsLeft, IsOpened, members_of, whole_audit}

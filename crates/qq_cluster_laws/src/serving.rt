@@ -1,0 +1,80 @@
+//! What a call of a cluster leaves of its nodes' disks.
+ghost use Rattle.std.specs.Prelude.{◌≡◌, ◌≤◌, ◌++◌, true, ℕ, List, IsTrue};
+ghost use Rattle.qq_base.specs.Causes.{Rose};
+ghost use Rattle.qq_disk.specs.Disk.{Disk, now};
+ghost use Rattle.qq_disk.specs.Moments.{Adds};
+ghost use Rattle.qq_raft_protocol.specs.Facts.{In};
+ghost use Rattle.qq_cluster.specs.Cluster.{Cluster, ClusterEvent, Setup, cluster_after, new_cluster};
+ghost use Rattle.qq_cluster.specs.ClusterLaws.{HasGroups};
+ghost use Rattle.qq_cluster.specs.Texts.{text_of};
+ghost use Rattle.qq_cluster_laws.specs.Answers.{KeepsAnswers};
+ghost use Rattle.qq_cluster_laws.specs.Linked.{IsLinked, IsPromised};
+ghost use Rattle.qq_cluster_laws.specs.Serves.{GivesUp, Happened, Seen, Serves, fails_at};
+ghost use Rattle.qq_cluster_laws.specs.Traced.{ArePromised, HasNoCrash, IsPromisedSince, IsTracedAt};
+
+use qq_cluster::a_cluster_prints_what_is_true;
+use qq_lots::whatever_is_left_lies_between;
+use qq_raft_model::{the_disks_support_the_audit, what_a_group_committed_stays};
+
+/// A law: of a call by which these events happened, so that this cluster stands.
+///
+/// - `text`: the cluster is as they leave it, and what they print was added to the text.
+/// - `disks`: each disk tells what it told. Where it tells, and its log was linked, the events are traced on it.
+pub fn what_happened_is_on_the_disks()
+    ensures text { (setup : Setup) (c last : Cluster) (done : List ClusterEvent) (a b : ℕ → Seen)
+        (before later : List ℕ) →
+        Happened setup c (λ events. events ≡ done) (λ d. d ≡ last) a b before later →
+        (last ≡ cluster_after c done) × (later ≡ before ++ text_of setup c done) }
+    ensures disks { (setup : Setup) (c last : Cluster) (done : List ClusterEvent) (a b : ℕ → Seen)
+        (before later : List ℕ) (k : ℕ) →
+        Happened setup c (λ events. events ≡ done) (λ d. d ≡ last) a b before later →
+        ((b k).tells ≡ (a k).tells) × (In k setup.nodes → IsTrue (a k).tells →
+        IsLinked setup c k (now (a k).past) →
+        IsTracedAt setup c k done (a k).past (b k).past) }
+{}
+
+/// A law: of a call that served these events, so that this cluster stands.
+///
+/// - `faults`: none of them is a crash, and no disk's count of faults falls; where a call of a disk failed
+///   its count rose.
+/// - `moments`: over a disk that tells, where the log was linked, the disk keeps at each moment what its
+///   log had promised by then, and the log is linked to the cluster that stands now.
+pub fn what_was_served_keeps_the_promises()
+    ensures faults { (setup : Setup) (c last : Cluster) (done : List ClusterEvent) (a b : ℕ → Seen)
+        (before later : List ℕ) (k : ℕ) →
+        Serves setup c (λ events. events ≡ done) (λ d. d ≡ last) a b before later →
+        HasNoCrash k done × ((a k).faults ≤ (b k).faults)
+        × (fails_at k done ≡ true → Rose (a k).faults (b k).faults) }
+    ensures moments { (setup : Setup) (c last : Cluster) (done : List ClusterEvent) (a b : ℕ → Seen)
+        (before later : List ℕ) (k : ℕ) →
+        Serves setup c (λ events. events ≡ done) (λ d. d ≡ last) a b before later →
+        In k setup.nodes → IsTrue (a k).tells → IsLinked setup c k (now (a k).past) →
+        Adds (IsPromisedSince setup c k done) (a k).past (b k).past
+        × IsLinked setup last k (now (b k).past) }
+{}
+
+/// A law: a call that is given up leaves disks that tell what they told, whose counts of faults don't fall.
+/// While some events happened, each disk that tells kept what its log had promised by then, where that
+/// was linked, and it does so now.
+pub fn what_was_given_up_keeps_the_promises()
+    ensures disks { (setup : Setup) (c : Cluster) (a b : ℕ → Seen) (k : ℕ) → GivesUp setup c a b →
+        ((b k).tells ≡ (a k).tells) × ((a k).faults ≤ (b k).faults) }
+    ensures moments { (setup : Setup) (c : Cluster) (a b : ℕ → Seen) → GivesUp setup c a b →
+        (events : List ClusterEvent) × ((k : ℕ) → In k setup.nodes → IsTrue (a k).tells →
+        IsLinked setup c k (now (a k).past) →
+        Adds (IsPromisedSince setup c k events) (a k).past (b k).past
+        × IsPromised setup (cluster_after c events) k (now (b k).past)) }
+{}
+
+/// A law: where each node's disk keeps what its log promised, since the cluster's beginning, whatever
+/// crashes leave of the disks has the entry of each answer that was printed in the logs of a majority.
+pub fn what_was_answered_is_kept()
+    ensures { (setup : Setup) (events : List ClusterEvent) (disks : ℕ → Disk) → HasGroups setup →
+        ArePromised setup (cluster_after (new_cluster setup) events) disks →
+        KeepsAnswers setup events disks }
+{
+    a_cluster_prints_what_is_true();
+    whatever_is_left_lies_between();
+    the_disks_support_the_audit();
+    what_a_group_committed_stays();
+}
