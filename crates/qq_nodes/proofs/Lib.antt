@@ -1,0 +1,4 @@
+pub mod Rising
+pub mod Quiet
+pub mod Walks
+pub mod Outside
