@@ -97,7 +97,7 @@ yard-told options s ended = by ((is-fault 7 options s (told 7 options s ended)).
           setup,
           is_setup,
           (λ k there. AllByRecursion-in (λ (j : ℕ). Met s (DiskFails j)) k (range_with_len 1 setup.nodes) disks
-          (in_contains (range_with_len 1 setup.nodes) k there)),
+              (in_contains (range_with_len 1 setup.nodes) k there)),
           rest,
           grown,
         )

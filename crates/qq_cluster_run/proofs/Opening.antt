@@ -45,6 +45,18 @@ recovered setup k nodes events are opens fine =
     (ap findings (sym (append_assoc all.early all.late opens.late)
     ∙ ap (λ (l : List ClusterEvent). l ++ opens.late) (sym all.is) ∙ sym opens.is) ∙ none)
 
+-- a run goes on only then
+front-none : (early late : List ClusterEvent) → findings (early ++ late) ≡ [] → findings early ≡ []
+front-none early late none = both-none (findings early) (sym (flat_map-append finding early late) ∙ none)
+  where
+    both-none : (first : List (ℕ → ℕ)) → first ++ findings late ≡ [] → first ≡ []
+    both-none [] is = refl
+    both-none (ops ∷ first) is = absurd cc
+
+pub has-node : (s : Setup) (all left : List Input) (b : Behind AnyDisks s all left) → findings b.events ≡ [] → ⊥
+has-node s all left b none =
+    b.opened (front-none b.allowed.early b.allowed.late (ap findings (sym b.allowed.is) ∙ none))
+
 first-node : (n : ℕ) → 0 < n → (k : ℕ) × ((nodes : List ℕ) × (range_with_len 1 n ≡ k ∷ nodes))
 first-node zero some = absurd (omega (arith, some))
 first-node (suc n) some = (1, (range_with_len 2 n, refl))

@@ -1,11 +1,13 @@
 -- What a sink has of a text that is written piece by piece.
-use Rattle.std.proofs.Common.{◌≡◌, ℕ, List, [], ◌++◌, Option, take, drop, refl, sym, ap, subst, ◌∙◌, append_assoc, append-nil, length, take-append-drop, suc, ◌+◌, ◌<◌, ◌≤◌, get_or, flat_map, add-one}
+use Rattle.std.proofs.Common.{◌≡◌, ℕ, List, [], ◌++◌, Option, Some, take, drop, refl, sym, ap, subst, ◌∙◌, append_assoc, append-nil, length, take-append-drop, suc, ◌+◌, ◌<◌, ◌≤◌, get_or, flat_map, add-one}
 use Rattle.std.proofs.lemmas.List.{drop_all}
 use Rattle.std.proofs.Math.Seq.{drop-cons}
 use Rattle.std.specs.Io.KnownBytes.{Appends}
 use Rattle.std.proofs.KnownBytes.{Appends-trans, Appends-nil}
 use Rattle.qq_ports.specs.Faults.{AppendsPrefix}
-use Rattle.qq_cluster_run.specs.Pieces.{HasPrefix, HasSomePrefix}
+use Rattle.qq_entry.specs.declared.audit.AuditRow.{AuditRow}
+use Rattle.qq_script.specs.Audit.{row_text}
+use Rattle.qq_cluster_run.specs.Pieces.{HasPrefix, HasSomePrefix, IsNextRow}
 
 -- nothing was written yet
 pub nothing : (a : Option (List ℕ)) (text : List ℕ) → HasPrefix a a text text
@@ -86,3 +88,25 @@ some_rest a b c text said so (n, le, grown) = (
     written = Appends-trans a b c so.prefix (take n said) so.written grown;
   },
 )
+
+-- ---- rows that are handed out one after another
+
+-- the next row moves from what is left to the text
+pub next_row : (a b : Option (List ℕ)) (text said : List ℕ) (old new : List AuditRow) (row : AuditRow)
+    → IsNextRow old (Some row) new → HasPrefix a b text (said ++ flat_map row_text old)
+    → HasPrefix a b text ((said ++ row_text row) ++ flat_map row_text new)
+next_row a b text said old new row is so =
+    subst (λ l. HasPrefix a b text l)
+    (ap (λ (rows : List AuditRow). said ++ flat_map row_text rows) is
+    ∙ sym (append_assoc said (row_text row) (flat_map row_text new))) so
+
+-- where no row is left all was added
+pub no_row : (a b : Option (List ℕ)) (text said : List ℕ) (old : List AuditRow) → old ≡ []
+    → HasPrefix a b text (said ++ flat_map row_text old) → HasPrefix a b text said
+no_row a b text said old is so =
+    subst (λ l. HasPrefix a b text l)
+    (ap (λ (rows : List AuditRow). said ++ flat_map row_text rows) is ∙ append-nil said) so
+
+-- what was prepared is left out
+pub some_left : (a b : Option (List ℕ)) (text rest : List ℕ) → HasPrefix a b text rest → HasSomePrefix a b text
+some_left a b text rest so = (rest, so)

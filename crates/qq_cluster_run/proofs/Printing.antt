@@ -16,7 +16,7 @@ use Rattle.qq_cluster_run.specs.declared.ending.TheConstants.{LINES_LIMIT}
 use Rattle.qq_cluster_run.specs.Endings.{limit_lines}
 use Rattle.qq_cluster_run.specs.Inputs.{Input, inputs_of}
 use Rattle.qq_cluster_run.specs.Reading.{Asks, Ends, read_input, says_by, says, AskFor}
-use Rattle.qq_cluster_run.specs.Serving.{AnyDisks, Histories, Behind, text_behind, audits_behind}
+use Rattle.qq_cluster_run.specs.Serving.{AnyDisks, Behind, setup_behind, text_behind, audits_behind}
 use Rattle.qq_cluster_run.specs.Setup.{Logs, cluster_over}
 use Rattle.qq_cluster_run.specs.Troubles.{Trouble, YardFails, DiskFails}
 use Rattle.qq_cluster_run.specs.Runs.{IsSetup}
@@ -193,7 +193,7 @@ abbrev PrintsAll : Options → Streams → Type 0
 PrintsAll options s =
     (setup : Setup) × IsSetup options setup
     × ((b : Behind (Had s) setup (inputs_of s.bytes) []) × (s.rest ≡ [])
-    × (s.new ≡ s.old ++ (text_behind b ++ audits_behind b)))
+    × Contains s.histories (setup_behind b, b.events) × (s.new ≡ s.old ++ (text_behind b ++ audits_behind b)))
 
 -- what is left is nothing
 record AllServed (options : Options) (s : Streams) (setup : Setup) (left : List Input)
@@ -226,7 +226,7 @@ prints_all options s ended = by (told 0 options s ended)
         let all = all-served options s so.over.setup so.over.served.left so.over.served.behind so.all in (
           so.over.setup,
           so.over.is_setup,
-          (all.behind, so.read, so.prints ∙ ap (λ (l : List ℕ). s.old ++ l) all.text),
+          (all.behind, so.read, all.behind.disks, so.prints ∙ ap (λ (l : List ℕ). s.old ++ l) all.text),
         )
     by (Refused is so) = absurd (omega (arith, is))
     by (ReadFault is so) = absurd (omega (arith, is))

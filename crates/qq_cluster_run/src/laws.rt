@@ -1,5 +1,5 @@
 //! Laws of runs: the functions do nothing, and their contracts are the laws.
-ghost use Rattle.std.specs.Prelude.{◌≡◌, ◌⊎◌, ◌≤◌, ◌<◌, ◌+◌, ◌++◌, [], ℕ, List, false, codes};
+ghost use Rattle.std.specs.Prelude.{◌≡◌, ◌⊎◌, ◌≤◌, ◌<◌, ◌+◌, ◌++◌, [], ℕ, List, false, codes, Contains};
 ghost use Rattle.std.specs.Fmt.{decimal};
 ghost use Rattle.qq_setup.specs.declared.setup.Setup.{Setup};
 ghost use Rattle.qq_script_lines.specs.declared.options.Options.{Options};
@@ -50,6 +50,7 @@ pub fn scripts_are_served()
     ensures printed { (options : Options) (s : Streams) → HasEnded 0 options s →
         (setup : Setup) × IsSetup options setup
         × ((b : Behind (Had s) setup (inputs_of s.bytes) []) × (s.rest ≡ [])
+        × Contains s.histories (setup_behind b, b.events)
         × (s.new ≡ s.old ++ (text_behind b ++ audits_behind b))) }
 {}
 

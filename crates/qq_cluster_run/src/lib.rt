@@ -28,7 +28,7 @@ pub use laws::{
 };
 pub use named::{a_line_names_what_is_there, a_message_may_go_nowhere};
 pub use queues::{audits_are_serial, what_was_printed_is_there_once};
-pub use serving::{idle_lines_print_that, lines_may_be_served};
+pub use serving::{idle_lines_print_that, lines_may_be_served, runs_have_a_node};
 pub use setups::{
     a_cluster_has_the_queues_of_its_setup, a_cluster_routes_by_its_setup,
     clusters_begin_with_new_logs,

@@ -7,7 +7,7 @@ ghost use Rattle.qq_setup.specs.declared.setup.Setup.{Setup};
 ghost use Rattle.qq_script_lines.specs.declared.line.ScriptLine.{ScriptLine};
 ghost use Rattle.qq_script_lines.specs.declared.line.ScriptLine.TheVariants.{Pump, Write, Sync, Notice, Tick};
 ghost use Rattle.qq_cluster.specs.Cluster.{Setup as ClusterSetup, Cluster, ClusterEvent};
-ghost use Rattle.qq_cluster.specs.ClusterLaws.{has_failure};
+ghost use Rattle.qq_cluster.specs.ClusterLaws.{has_failure, findings};
 ghost use Rattle.qq_cluster.specs.Lines.{IsLine};
 ghost use Rattle.qq_cluster.specs.Rules.{is_idle};
 ghost use Rattle.qq_cluster.specs.Texts.{text_of};
@@ -28,6 +28,12 @@ pub fn lines_may_be_served()
     clusters_begin_with_new_logs();
     scripts_may_be_served();
 }
+
+/// A law: a run goes on only where some node was recovered at its opening.
+pub fn runs_have_a_node()
+    ensures { (s : Setup) (all left : List Input) (b : Behind AnyDisks s all left) →
+        findings b.events ≡ [] → ⊥ }
+{}
 
 /// A law: what a line prints that has nothing to do. One that writes, syncs, notices or ticks at a node that is
 /// down prints that it is; a pump prints nothing where no op waits and no message is on its way.
