@@ -93,7 +93,7 @@ lost_earlier met met' f setup nodes events ending so = record {
   member = so.member;
   lane = so.lane;
   found = f (QueueIsFound setup (events ++ so.at.early) so.at.node so.place so.lane) so.found;
-  lost = so.lost;
+  refused = so.refused;
   is = so.is;
 }
 

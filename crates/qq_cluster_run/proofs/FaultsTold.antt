@@ -205,7 +205,7 @@ lost-told options s ended = by ((is-fault 9 options s (told 9 options s ended)).
                   so.lost.lane,
                   so.lost.found,
                   so.lost.at.down,
-                  so.lost.lost,
+                  so.lost.refused,
                   so.prints ∙ ap (λ (e : Ending). s.old ++ (text_behind so.over.served.behind ++ e.text)) so.lost.is,
                 ),
               ),

@@ -7,13 +7,13 @@ pub mod Feeds
 pub mod Going
 pub mod InputLines
 pub mod Looping
-pub mod Named
+pub mod Naming
 pub mod Opening
 pub mod Pieces
 pub mod Prefixes
 pub mod PrintedOnce
 pub mod Printing
-pub mod Queues
+pub mod PlainRows
 pub mod Said
 pub mod Says
 pub mod Serial

@@ -137,7 +137,7 @@ pub confirmed-once : IsTrue' → (s : Setup) (all left : List Input) (b : Behind
 confirmed-once law s all left b place row by groups there is answer =
     let so = true-of law s all left b place (Answered row) groups there in
     passes-one (is_confirmed_publish by.session by.seq) (IsConfirmedPublish by.session by.seq)
-    (passes-from by.session by.seq) (passes-to by.session by.seq) (audit_behind b place) (so.1.0 by is answer)
+    (passes-from by.session by.seq) (passes-to by.session by.seq) (audit_behind b place) (so.1 by is answer)
 
 pub delivery-there : IsTrue' → (s : Setup) (all left : List Input) (b : Behind AnyDisks s all left) (place : ℕ)
     (consumer : ConsumerId) (delivery : Delivery) → HasGroups (setup_behind b)
@@ -145,4 +145,4 @@ pub delivery-there : IsTrue' → (s : Setup) (all left : List Input) (b : Behind
     → Contains (effects_of (empty_queue (queue_behind b place).args) (queue_behind b place).group.audit)
     (Deliver consumer delivery)
 delivery-there law s all left b place consumer delivery groups there =
-    (true-of law s all left b place (Delivered consumer delivery) groups there).1.1
+    (true-of law s all left b place (Delivered consumer delivery) groups there).2

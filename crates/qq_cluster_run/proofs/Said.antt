@@ -1,5 +1,5 @@
 -- What a line that is read says: it names queues and nodes of the setup and clients' sessions, and its command is in range.
-use Rattle.std.proofs.Common.{◌≡◌, ◌≤◌, ◌<◌, ◌^◌, ◌-◌, ℕ, zero, suc, Bool, true, false, cond, List, [], ◌∷◌, Option, Some, None, Result, Ok, Err, length, map, refl, sym, ap, subst, ◌∙◌, ◌||◌, ◌==◌, inl, inr, arith}
+use Rattle.std.proofs.Common.{◌≡◌, ◌≤◌, ◌<◌, ◌^◌, ◌+◌, ◌-◌, ℕ, zero, suc, Bool, true, false, cond, List, [], ◌∷◌, Option, Some, None, Result, Ok, Err, length, map, refl, sym, ap, subst, ◌∙◌, ◌||◌, ◌==◌, inl, inr, arith}
 use Rattle.std.specs.Prelude.{nat_le, nat_lt, slice_get, Contains, codes, IfOk, IfSome}
 use Rattle.std.specs.List.{AllByRecursion, find, list_any, range_with_len, slice_split}
 use Rattle.std.specs.Option.{option_map, option_and_then}
@@ -278,7 +278,7 @@ client-at-said : (s : Setup) (words : List (List ℕ)) → AreRows s.queues → 
 unfolding client_at
 client-at-said s [] are =
     ok_then (IsFirst s.queues) (IsClientAt s) (first_queue s.queues) _ (first-said s.queues are)
-    (λ at here. (here.1.1, (refl, (omega arith, omega arith))))
+    (λ at here. (here.2, (refl, (omega arith, omega arith))))
 client-at-said s (session ∷ queue ∷ words) are =
     ok_then IsClient (IsClientAt s) (or_fault Number (session_of session)) _ (session-said session)
     (λ by positive. ok_then (IsAt s) (IsClientAt s) (queue_of s queue) _ (queue-said s queue)
@@ -370,14 +370,14 @@ some-nodes-said s logs (node ∷ []) = nodes-said s logs node
 some-nodes-said s logs _ = tt
 
 abbrev IsMemberAt : Setup → NodeId × QueueId → Type 0
-IsMemberAt s p = IsNodeOf s p.0 × IsMemberIn s p.0 p.1
+IsMemberAt s p = IsNodeOf s p.0 × IsAt s p.1 × Contains (members_by (row_at s.queues p.1.0)) p.0
 
 one-member-said : (s : Setup) (words : List (List ℕ)) → AreRows s.queues → IfOk (one_member s words) (IsMemberAt s)
 unfolding one_member
 one-member-said s (node ∷ queue ∷ []) are =
     ok_then (IsNodeOf s) (IsMemberAt s) (node_of s node) _ (node-said s node)
     (λ by is. ok_then (IsMemberIn s by) (IsMemberAt s) (queue_at s by queue) _ (member-said s by queue are)
-    (λ at here. (is, here)))
+    (λ at here. (is, here.0, here.1)))
 one-member-said s _ are = tt
 
 abbrev IsMessageAt : Setup → QueueId × ℕ → Type 0
@@ -418,14 +418,14 @@ send-said s logs line (session ∷ exchange ∷ key ∷ first ∷ more) =
     ok_then IsKey (Names s logs) (or_fault Words (key_of key)) _ (key-said key)
     (λ short is. ok_then IsClient (Names s logs) (or_fault Number (session_of session)) _ (session-said session)
     (λ by client'. ok_then IsFit (Names s logs) (limited (body_of (behind_four line))) _
-    (body-said (body_of (behind_four line))) (λ body fits. (client', is, fits))))
+    (body-said (body_of (behind_four line))) (λ body fits. (client', (is, fits)))))
 send-said s logs line _ = tt
 
 publish-said : (s : Setup) (logs : Logs) (text : List ℕ) → AreRows s.queues → IfOk (publish s text) (Names s logs)
 publish-said s logs text are =
     ok_then (IsFirst s.queues) (Names s logs) (first_queue s.queues) _ (first-said s.queues are)
     (λ at here. ok_then IsFit (Names s logs) (limited (body_of text)) _ (body-said (body_of text))
-    (λ body fits. (here.0, here.1.0, fits)))
+    (λ body fits. (here.0, (here.1, fits))))
 
 crash-said : (s : Setup) (logs : Logs) (words : List (List ℕ)) → IfOk (crash s words) (Names s logs)
 unfolding crash

@@ -111,7 +111,7 @@ pub record EndsLost (met : Trouble → Type 0) (setup : ClusterSetup) (nodes : L
   pub member : Contains (members setup place) (record { 0 = at.node })
   pub lane : Stable
   pub found : met (QueueIsFound setup (events ++ at.early) at.node place lane)
-  pub lost : MayTakeUp at.node ((after_all setup (events ++ at.early)).queue place) lane → ⊥
+  pub refused : MayTakeUp at.node ((after_all setup (events ++ at.early)).queue place) lane → ⊥
   pub is :
       ending
       ≡ lost at.node (setup.name place)

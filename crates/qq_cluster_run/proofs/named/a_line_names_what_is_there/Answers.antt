@@ -1,4 +1,4 @@
-use Rattle.qq_cluster_run.proofs.Named.{plain-are}
+use Rattle.qq_cluster_run.proofs.Naming.{plain-are}
 use Rattle.qq_cluster_run.proofs.Said.{read-named}
 use Rattle.qq_cluster_run.proofs.named.a_line_names_what_is_there.Goals as goal
 

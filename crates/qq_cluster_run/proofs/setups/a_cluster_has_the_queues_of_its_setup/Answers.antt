@@ -1,5 +1,5 @@
 use Rattle.std.proofs.Common.{refl}
-use Rattle.qq_cluster_run.proofs.Queues.{places, first_is, name_is, args_is, group_is}
+use Rattle.qq_cluster_run.proofs.PlainRows.{places, first_is, name_is, args_is, group_is}
 use Rattle.qq_cluster_run.proofs.setups.a_cluster_has_the_queues_of_its_setup.Goals as goal
 
 pub returns-clause-nodes : goal.returns-clause-nodes

@@ -15,7 +15,7 @@ use Rattle.qq_cluster_run.specs.Endings.{Ending, refusal, limit_body, limit_line
 use Rattle.qq_cluster_run.specs.Named.{AreRows, HasFirstKey, IsNamed}
 use Rattle.qq_cluster_run.specs.Reading.{Says, Asks, Ends, read_line, says_by, says}
 use Rattle.qq_cluster_run.specs.Setup.{IsPlain, Logs, cluster_over, place_of, row_at}
-use Rattle.qq_cluster_run.proofs.Queues.{row_is}
+use Rattle.qq_cluster_run.proofs.PlainRows.{row_is}
 use Rattle.qq_cluster_run.proofs.Said.{read-named}
 use Rattle.qq_cluster_run.proofs.Says.{says_within, says_past}
 

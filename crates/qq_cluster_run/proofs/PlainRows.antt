@@ -1,9 +1,9 @@
 -- The queues of a setup without arguments, as a cluster has them.
-use Rattle.std.proofs.Common.{◌≡◌, ◌⊎◌, ℕ, ◌+◌, ◌%◌, ◌<◌, ◌≤◌, zero, suc, List, [], ◌∷◌, ◌++◌, map, Some, None, refl, sym, ap, subst, ◌∙◌, inl, inr, codes, arith}
+use Rattle.std.proofs.Common.{◌≡◌, ◌⊎◌, ℕ, ◌+◌, ◌*◌, ◌/◌, ◌%◌, ◌<◌, ◌≤◌, zero, suc, List, [], ◌∷◌, ◌++◌, map, Some, None, refl, sym, ap, subst, ◌∙◌, inl, inr, codes, arith}
 use Rattle.std.specs.Prelude.{nat_eq, find, min}
 use Rattle.std.specs.List.{range_with_len}
 use Rattle.std.specs.Fmt.{decimal}
-use Rattle.std.proofs.Math.Nat.{div-add-mod, min-le_right}
+use Rattle.std.proofs.Math.Nat.{div-add-mod, min-le_right, mul-le-mul_left, mul-suc}
 use Rattle.std.proofs.lemmas.Bool.{cases_lt, cond-true, cond-false, cond_both}
 use Rattle.std.proofs.lemmas.Bool.Decides.{eqb_tells}
 use Rattle.qq_base.specs.declared.ids.NodeId.{NodeId}
@@ -85,12 +85,12 @@ mod-apart n before a b lt small same =
     let y : n * ((before + b) / n) + (before + b) % n ≡ before + b = div-add-mod (before + b) n in
     elim (cases_lt ((before + a) / n) ((before + b) / n)) [
       | inl less ↦
-          let more : n * ((before + a) / n + 1) ≤ n * ((before + b) / n) =
-          mul-le_mul_left n (omega (arith, less)) in
-          let sum : n * ((before + a) / n + 1) ≡ n * ((before + a) / n) + n = mul-add-one n ((before + a) / n) in
+          let more : n * suc ((before + a) / n) ≤ n * ((before + b) / n) =
+          mul-le-mul_left n (omega (arith, less)) in
+          let sum : n * suc ((before + a) / n) ≡ n * ((before + a) / n) + n = mul-suc n ((before + a) / n) in
           omega (arith, x, y, same, more, sum, lt, small)
       | inr least ↦
-          let more : n * ((before + b) / n) ≤ n * ((before + a) / n) = mul-le_mul_left n least in
+          let more : n * ((before + b) / n) ≤ n * ((before + a) / n) = mul-le-mul_left n least in
           omega (arith, x, y, same, more, lt)
     ]
 
