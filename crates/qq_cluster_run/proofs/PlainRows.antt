@@ -1,5 +1,5 @@
 -- The queues of a setup without arguments, as a cluster has them.
-use Rattle.std.proofs.Common.{◌≡◌, ◌⊎◌, ℕ, ◌+◌, ◌*◌, ◌/◌, ◌%◌, ◌<◌, ◌≤◌, zero, suc, List, [], ◌∷◌, ◌++◌, map, Some, None, refl, sym, ap, subst, ◌∙◌, inl, inr, codes, arith}
+use Rattle.std.proofs.Common.{◌≡◌, ◌⊎◌, ℕ, ◌+◌, ◌*◌, ◌/◌, ◌%◌, ◌<◌, ◌≤◌, zero, suc, List, [], ◌∷◌, ◌++◌, map, Option, Some, None, refl, sym, ap, subst, ◌∙◌, inl, inr, codes, arith}
 use Rattle.std.specs.Prelude.{nat_eq, find, min}
 use Rattle.std.specs.List.{range_with_len}
 use Rattle.std.specs.Fmt.{decimal}
@@ -114,7 +114,7 @@ members-apart nodes before a (suc n) le = (
         apart (b + 1) k m there (omega (arith, lt)) (omega (arith, most)) same
 
 pub members-distinct : (nodes group before : ℕ) → AreDistinct (members nodes group before)
-members-distinct nodes group before = members-apart nodes before 0 (min group nodes) (min-le_right group nodes)
+members-distinct nodes group before = members-apart nodes before 0 (min group nodes) (omega (arith, min-le_right group nodes))
 
 rows-distinct : (nodes group a n place : ℕ)
     → AreDistinct (members_by (row_at (map (plain_row nodes group) (range_with_len a n)) place))

@@ -53,7 +53,7 @@ IsOne s = (log_bytes : ℕ) × (state_of s ≡ plain_setup 1 1 1 log_bytes)
 pub one_of : (options : Options) (setup : Setup) → IsSetup options setup → options.queues ≡ 1 → IsOne setup
 one_of options setup is one = (options.log_bytes, is ∙ ap (λ (n : ℕ). plain_setup 1 1 n options.log_bytes) one)
 
-rows-of : (s : Setup) → IsOne s → s.queues ≡ plain_rows 1 1 1
+pub rows-of : (s : Setup) → IsOne s → s.queues ≡ plain_rows 1 1 1
 rows-of s (log_bytes, is) = ap (λ (v : SetupState). v.queues) is
 
 over-new : (s : Setup) → IsOne s → cluster_over s new_logs ≡ of_one
@@ -349,7 +349,7 @@ limited-prints law options s so one bytes quiet =
 -- at most one line
 data IsPiece (inputs : List Input) : Type 0 where
   IsNone : inputs ≡ [] → IsPiece inputs
-  IsOne : (input : Input) → inputs ≡ input ∷ [] → IsPiece inputs
+  IsSingle : (input : Input) → inputs ≡ input ∷ [] → IsPiece inputs
 
 data IsRaw (raws : List (List ℕ)) : Type 0 where
   NoRaw : raws ≡ [] → IsRaw raws
@@ -367,7 +367,7 @@ by-raw : (raws lines : List (List ℕ)) → IsRaw raws → IsPiece (inputs_by ra
 by-raw raws lines (NoRaw is) = IsNone (ap (λ (r : List (List ℕ)). inputs_by r lines) is)
 by-raw raws [] (OneRaw raw is) = IsNone (ap (λ (r : List (List ℕ)). inputs_by r []) is)
 by-raw raws (line ∷ lines) (OneRaw raw is) =
-    IsOne (input_of raw line) (ap (λ (r : List (List ℕ)). inputs_by r (line ∷ lines)) is)
+    IsSingle (input_of raw line) (ap (λ (r : List (List ℕ)). inputs_by r (line ∷ lines)) is)
 
 piece-inputs : (piece : List ℕ) → HasNoFeed piece → IsPiece (inputs_of piece)
 piece-inputs piece none = by-raw (raw_lines_of piece) (lines_of piece) (raw-piece piece none)
@@ -411,7 +411,7 @@ fault-read had s all left b is (IsNone none) =
     let whole_read : b.read ≡ publish ∷ Some (codes "publish") ∷ [] =
     sym (b.is ∙ ap (λ (l : List Input). b.read ++ l) none ∙ append-nil b.read) ∙ is in
     absurd (not-both s b.read b.lines whole_read b.asked)
-fault-read had s all left b is (IsOne input one) =
+fault-read had s all left b is (IsSingle input one) =
     let parts : publish ∷ Some (codes "publish") ∷ [] ≡ b.read ++ input ∷ [] =
     sym is ∙ b.is ∙ ap (λ (l : List Input). b.read ++ l) one in
     read-first b.read input parts (splits publish (Some (codes "publish")) b.read input [] parts)

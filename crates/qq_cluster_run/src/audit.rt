@@ -1,6 +1,7 @@
 ghost use Rattle.std.specs.Prelude.{◌≡◌, ◌≤◌, ◌++◌, List, length, flat_map, IfOk, IfErr, OnOk, OnErr, IsOkUnless};
 ghost use Rattle.std.specs.Io.KnownBytes.{Appends};
 ghost use Rattle.qq_base.specs.Causes.{Rose, HasCause};
+ghost use Rattle.qq_entry.specs.declared.audit.AuditRow.{AuditRow};
 ghost use Rattle.qq_ports.specs.Faults.{IsCaused};
 ghost use Rattle.qq_script.specs.Audit.{audit_text, row_text};
 ghost use Rattle.qq_cluster_run.specs.Pieces.{HasPrefix, HasSomePrefix, HasPrintCause, IsNextRow};
