@@ -69,6 +69,25 @@ impl Party {
         })
     }
 
+    /// A group over these disks, which goes on with an audit of the first disk's first entries.
+    pub fn over(alloc: Global, disks: Vec<Disk>, audited: usize) -> Result<Party> {
+        let first = disks.first().context("no disk")?;
+        let audited = first
+            .entries()
+            .get(..audited)
+            .context("an entry is missing")?;
+        let audit: Vec<Entry> = audited
+            .iter()
+            .map(|entry| entry.copy(alloc))
+            .try_collect(alloc)?;
+        Ok(Party {
+            count: disks.len() as u8,
+            alloc,
+            group: open(alloc, Entries::from_vec(audit), &disks)?,
+            disks,
+        })
+    }
+
     /// All members crash, and start again over their disks as they stand. What is on its way is lost.
     pub fn reopen(&mut self) -> Result<()> {
         let audit: Vec<Entry> = self

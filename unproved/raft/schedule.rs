@@ -33,7 +33,7 @@ fn disturb(random: &mut Random, party: &mut Party, node: u8) -> Result<Shown> {
 }
 
 /// What happens next, at this time.
-fn happen(random: &mut Random, party: &mut Party, time: u64) -> Result<Shown> {
+pub fn happen(random: &mut Random, party: &mut Party, time: u64) -> Result<Shown> {
     let node = random.below(u64::from(party.count)) as u8 + 1;
     match random.below(256) {
         0..2 => party.tick(node),
