@@ -1,6 +1,6 @@
 -- Each command of a session that reaches the group was given a number by that session.
-use Rattle.std.proofs.Common.{◌≡◌, ◌⊎◌, ℕ, zero, suc, Bool, true, false, cond, List, [], ◌∷◌, ◌++◌, Option, Some, None, length, take, ◌+◌, ◌≤◌, refl, sym, ap, ◌∙◌, subst, inl, inr, arith, append_assoc, append-nil, length-append}
-use Rattle.std.specs.Prelude.{Contains, filter_map, nat_eq, replicate}
+use Rattle.std.proofs.Common.{◌≡◌, ◌⊎◌, ℕ, zero, suc, Bool, true, cond, List, [], ◌∷◌, ◌++◌, Option, Some, None, length, take, ◌+◌, ◌≤◌, refl, sym, ap, ◌∙◌, subst, inl, inr, arith, append_assoc, length-append}
+use Rattle.std.specs.Prelude.{Contains, filter_map, replicate}
 use Rattle.std.specs.List.{AllByRecursion}
 use Rattle.std.specs.Map.{values_of}
 use lib.Seq.{take-nil}
@@ -30,14 +30,14 @@ use Rattle.qq_raft_model.specs.Promises.{AreDistinct, IsOpened, IsSubmitted, Was
 use Rattle.qq_raft_model.specs.Refines.{IsNoop}
 use Rattle.qq_raft_protocol.specs.World.{Lane}
 use Rattle.qq_session.specs.Arriving.{ArriveInOrder, Deed, Hands, WasHanded, fresh_command, handed}
-use Rattle.qq_session.specs.Publishing.{Numbers, OpenCommand, new_numbers, next_command, open_commands}
+use Rattle.qq_session.specs.Publishing.{Numbers, OpenCommand, next_command}
 use Rattle.qq_session.proofs.AuditRows.{Contains-middle}
 use Rattle.qq_world.specs.Laws.{after_deeds, takes_of}
 use Rattle.qq_world.specs.World.{is_used, may_hand}
 use Rattle.qq_world.proofs.Deeds.{deeds-append}
 use Rattle.qq_world.proofs.Handed.{AreOpen, IsOfSession, client-same, deeds-open, deeds-session, first_numbers, handed-append, next-own}
-use Rattle.qq_cluster.specs.Laws.{IsBegun, all_moves, commands_of, deeds, deeds_at, hands_at, queue_after}
-use Rattle.qq_cluster.specs.Queue.{Queue, Event, Mutes, Ends, Submits, TellsEnded, Resends, Downs, Ticks, Delivers, Loses, Copies, Writes, Syncs, Notices, Stops, Finds, acts, after, audit_rows, begin, happens, leader, moves, offered, rows_told, submits, waiting}
+use Rattle.qq_cluster.specs.Laws.{IsBegun, all_moves, commands_of, deeds, deeds_at, queue_after}
+use Rattle.qq_cluster.specs.Queue.{Queue, Event, Mutes, Ends, Submits, TellsEnded, Resends, Downs, Ticks, Delivers, Loses, Copies, Writes, Syncs, Notices, Stops, Finds, acts, audit_rows, begin, happens, leader, moves, offered, rows_told, submits, waiting}
 use Rattle.qq_cluster.proofs.Groups.{args-are, group-is}
 use Rattle.qq_cluster.proofs.Numbers.{event-numbers}
 

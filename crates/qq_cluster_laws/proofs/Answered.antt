@@ -72,7 +72,7 @@ module _ (knows : KnowsWhole) (setup : Setup) (groups : HasGroups setup) (events
       (front-trans at.front whole) at.before e refl in
       Most-map
       (λ q has lane may. Contains-in e lane.log (front-in e at.before lane.log
-      (front-trans carried.front (has lane may)))) carried.majority
+      (front-trans {b = add carried.before carried.entry} carried.front (has lane may)))) carried.majority
 
   one : (printed : Printed) → IsTrueOf c printed → IsKept setup disks printed
   one (Of place (Answered row)) own = λ within.
