@@ -1,7 +1,7 @@
 -- A queue that begins.
-use Rattle.std.proofs.Common.{◌≡◌, ◌⊎◌, ℕ, ◌<◌, Bool, true, false, ◌||◌, not, List, [], ◌∷◌, length, map, Option, Some, None, refl, sym, ap, subst, ◌∙◌, inl, inr, arith}
+use Rattle.std.proofs.Common.{◌≡◌, ℕ, ◌<◌, Bool, true, false, ◌||◌, not, List, [], ◌∷◌, map, Option, None, refl, sym, ap, subst, ◌∙◌, inl, inr, arith}
 use Rattle.std.specs.Prelude.{All, nat_eq}
-use Rattle.std.specs.List.{AllByRecursion, count_by, list_any}
+use Rattle.std.specs.List.{AllByRecursion, count_by}
 use Rattle.std.proofs.lemmas.Bool.{eq-eqb}
 use Rattle.std.proofs.lemmas.Option.{none-some}
 use Rattle.std.proofs.lemmas.List.Elements.{recursion_from_All}
@@ -16,11 +16,10 @@ use Rattle.qq_raft_model.specs.Promises.{AreDistinct}
 use Rattle.qq_raft_msg.specs.Rpc.{IsNode}
 use Rattle.qq_raft_protocol.specs.Facts.{In}
 use Rattle.qq_raft_queues.specs.declared.machine_queue.MachineQueue.{MachineQueue}
-use Rattle.qq_group.specs.Group.{IsReached, Represents, server_at}
-use Rattle.qq_group.specs.Opening.{AreApart, AreFound, IsAllDown, IsStart, IsUnnamed, OpensOver, Start, is_named, missing, restarts_of}
-use Rattle.qq_group_laws.specs.Audited.{AreAudited, IsAuditedBy}
-use Rattle.qq_cluster.specs.Queue.{begin}
-use Rattle.qq_cluster_queue.specs.ClusterQueue.{Opens, Stands, all_present}
+use Rattle.qq_group.specs.Group.{Represents, server_at}
+use Rattle.qq_group.specs.Opening.{AreApart, AreFound, IsStart, IsUnnamed, OpensOver, Start, is_named, missing, restarts_of}
+use Rattle.qq_group_laws.specs.Audited.{IsAuditedBy}
+use Rattle.qq_cluster_queue.specs.ClusterQueue.{Opens, all_present}
 use Rattle.qq_cluster_queue.specs.Members.{IsGroupOf, Member, Members, OpensGroup, down_start, own_log, queue_applied, queue_stands, queue_step}
 use Rattle.qq_cluster_queue.specs.Sessions.{clients_of, numbers_of}
 use Rattle.qq_cluster_queue.specs.declared.cluster_queue.ClusterQueue.{ClusterQueue}

@@ -1,11 +1,11 @@
 -- What a server knows to be committed stays as it is at a tick and at a command.
-use Rattle.std.proofs.Common.{◌≡◌, ℕ, zero, suc, ◌+◌, Bool, true, false, cond, leb, List, ◌++◌, map, Some, refl, ◌∙◌}
+use Rattle.std.proofs.Common.{◌≡◌, ℕ, zero, suc, ◌+◌, Bool, true, false, cond, leb, List, ◌++◌, map, refl, ◌∙◌}
 use Rattle.std.specs.List.{list_any}
 use Rattle.qq_entry.specs.declared.command.Command.{Command}
 use Rattle.qq_entry.specs.declared.command.Entry.{Entry}
 use Rattle.qq_raft_msg.specs.declared.rpc.Rpc.{Rpc}
 use Rattle.qq_raft_model.specs.declared.peer.Peer.{Peer}
-use Rattle.qq_raft_model.specs.Leading.{add_entry, append_entry, ask, become_candidate, everyone, flush, flush_within, lags, next_term, send, stand}
+use Rattle.qq_raft_model.specs.Leading.{add_entry, append_entry, ask, become_candidate, everyone, flush, flush_within, lags, send, stand}
 use Rattle.qq_raft_model.specs.Server.{add, is_ready, send_again, submit, tick}
 use Rattle.qq_raft_model.specs.State.{Server, change, is_leader, last, say_all, wait}
 

@@ -1,5 +1,5 @@
 -- What a sync and a restart make of a queue.
-use Rattle.std.proofs.Common.{◌≡◌, ◌⊎◌, ℕ, ◌<◌, ◌≤◌, ◌-◌, Bool, true, false, cond, ◌&&◌, List, [], length, take, Option, Some, None, refl, sym, ap, subst, ◌∙◌, inl, inr, arith}
+use Rattle.std.proofs.Common.{◌≡◌, ◌⊎◌, ℕ, ◌-◌, true, false, cond, ◌&&◌, length, take, Option, Some, None, refl, sym, ap, subst, ◌∙◌, inl, inr}
 use Rattle.std.specs.Prelude.{is_some, nat_le, slice_get}
 use Rattle.std.proofs.lemmas.Bool.{and_from, cases_Bool, cases_eq, cond-true, cond-false, false≢true, le-leb}
 use Rattle.std.proofs.lemmas.Option.{none-some}
@@ -25,12 +25,12 @@ use Rattle.qq_group.specs.Reads.{handed_at}
 use Rattle.qq_group.specs.Restarts.{Finds, HasStarted, IsFound, Restarts, is_known}
 use Rattle.qq_group.specs.declared.seat.Seat.{Seat}
 use Rattle.qq_group_laws.specs.Audited.{AreAudited}
-use Rattle.qq_cluster.specs.Queue.{Finds as FindsOps, Queue, Syncs, happens, said, synced_after}
+use Rattle.qq_cluster.specs.Queue.{Finds as FindsOps, Queue, Syncs, happens}
 use Rattle.qq_cluster_queue.specs.ClusterQueue.{Becomes, Stands, count_at}
 use Rattle.qq_cluster_queue.specs.Members.{IsCurrent, IsGroupOf, Member, Members, own_log, queue_stands, queue_step}
 use Rattle.qq_cluster_queue.specs.Sessions.{Standings, clients_of, numbers_of}
 use Rattle.qq_cluster_queue.specs.declared.cluster_queue.ClusterQueue.{ClusterQueue}
-use Rattle.qq_cluster_queue.proofs.Members.{log-is, raft-none, raft_of, seat-is}
+use Rattle.qq_cluster_queue.proofs.Members.{log-is, raft_of, seat-is}
 
 -- two functions that are put the same at a number, and agree where it counts
 put-both : (k : ℕ) (x : ℕ) (f h : ℕ → ℕ) (i : ℕ) → ((i ≡ k → ⊥) → f i ≡ h i) → put k x f i ≡ put k x h i

@@ -1,12 +1,10 @@
 -- An event of the code is that of the definition, and the members are as they should be behind it.
-use Rattle.std.proofs.Common.{◌≡◌, ◌⊎◌, ℕ, zero, suc, ◌+◌, ◌-◌, ◌<◌, ◌≤◌, Bool, true, false, cond, List, [], ◌∷◌, ◌++◌, length, take, drop, Option, Some, None, refl, sym, ap, subst, ◌∙◌, inl, inr, arith}
+use Rattle.std.proofs.Common.{◌≡◌, ◌⊎◌, ℕ, zero, suc, ◌+◌, ◌-◌, ◌<◌, ◌≤◌, Bool, true, false, cond, List, [], ◌∷◌, length, take, drop, Option, Some, None, refl, sym, ap, subst, ◌∙◌, inl, inr, arith}
 use Rattle.std.specs.Prelude.{◌&&◌, is_some, nat_le, nat_lt, slice_get}
-use Rattle.std.proofs.Math.ListN.{drop_of_length-le}
-use Rattle.std.proofs.lemmas.Bool.{and_parts, cases_eq, cond-true, cond-false, false≢true, lt-leb, ltb-true}
-use Rattle.std.proofs.lemmas.Option.{none-some, slice_get_cases}
+use Rattle.std.proofs.lemmas.Bool.{cases_eq, cond-true, cond-false, false≢true, lt-leb, ltb-true}
+use Rattle.std.proofs.lemmas.Option.{none-some}
 use Rattle.qq_base.proofs.Puts.{put-same}
 use Rattle.qq_base.specs.Fronts.{IsFront}
-use Rattle.qq_base.specs.declared.ids.Index.{Index}
 use Rattle.qq_entry.specs.declared.command.Entry.{Entry}
 use Rattle.qq_entry.specs.declared.queue.QueueArgs.{QueueArgs}
 use Rattle.qq_log.specs.Log.{LogState}
@@ -30,7 +28,7 @@ use Rattle.qq_raft.specs.Stands.{state_of}
 use Rattle.qq_raft.specs.declared.row.AppliedRow.{AppliedRow}
 use Rattle.qq_raft_queues.specs.declared.machine_queue.MachineQueue.{MachineQueue}
 use Rattle.qq_group.specs.Events.{HasShownMessage, HasShownNotice, OneOf, ReachesOne, delivery, lacks_by, lacks_op, notices, takes, takes_at}
-use Rattle.qq_group.specs.Follows.{Follows, HasShown, HasShownBy, OthersStay, Shows, ShowsNothing}
+use Rattle.qq_group.specs.Follows.{Follows, HasShownBy, OthersStay, Shows, ShowsNothing}
 use Rattle.qq_group.specs.Group.{IsReached, IsSeat, IsSeatBy, Represents, server_at, server_by}
 use Rattle.qq_group.specs.Handing.{KeepsReturned, held, returned_at}
 use Rattle.qq_group.specs.Reads.{receiver_of}
@@ -38,7 +36,7 @@ use Rattle.qq_group.specs.Steps.{HasShownEvent, ReachesAtMost, made_by}
 use Rattle.qq_group.specs.declared.event.Event.{Event}
 use Rattle.qq_group.specs.declared.event.Event.TheVariants as events
 use Rattle.qq_group.specs.declared.seat.Seat.{Seat}
-use Rattle.qq_group_laws.specs.Audited.{AreAudited, IsAudited, IsAuditedBy, queue_after}
+use Rattle.qq_group_laws.specs.Audited.{AreAudited, IsAuditedBy, queue_after}
 use Rattle.qq_cluster_queue.specs.Members.{audit_rows_of, effects_in, AreSound, AreTold, IsCurrent, IsGroupOf, Member, Members, StayDown, moves_of, number_of, own_log, queue_stands, queue_step, teller}
 use Rattle.qq_cluster_queue.proofs.Current.{add-same, flush-same, submit-same, tick-same}
 use Rattle.qq_cluster_queue.proofs.Rows.{Applies, HasTold, all-applied, all-raft, applied-all, applies-told, at_rest, none-told, raft-is}

@@ -1,5 +1,5 @@
 -- Commands that are offered to the leader.
-use Rattle.std.proofs.Common.{◌≡◌, ◌⊎◌, ℕ, ◌<◌, Bool, true, false, cond, List, [], ◌∷◌, ◌++◌, drop, length, map, Option, Some, None, refl, sym, ap, subst, ◌∙◌, inl, inr, arith, append-nil, append_assoc}
+use Rattle.std.proofs.Common.{◌≡◌, ◌⊎◌, ℕ, ◌<◌, Bool, true, false, cond, List, [], ◌∷◌, ◌++◌, drop, length, Option, Some, None, refl, sym, ap, subst, ◌∙◌, inl, inr, arith, append-nil, append_assoc}
 use Rattle.std.specs.Prelude.{is_some, nat_eq, nat_lt}
 use Rattle.std.specs.List.{flat_map, fold}
 use Rattle.std.proofs.Math.Path.{fun_ext}
@@ -16,7 +16,6 @@ use Rattle.qq_model.specs.declared.TheConstants.{WINDOW}
 use Rattle.qq_raft_core.specs.Raft.{server_of}
 use Rattle.qq_raft_model.specs.Group.{Event as Move, Group as GroupState, group_after}
 use Rattle.qq_raft_model.specs.Server.{is_ready}
-use Rattle.qq_raft_model.specs.State.{Server as Raft}
 use Rattle.qq_group.specs.Group.{Represents, server_at}
 use Rattle.qq_group.specs.Reads.{later as later_code, leader_of, leading_at, node_of as node_in}
 use Rattle.qq_session.specs.Publishing.{Numbers, hand, next_command, open_commands}
@@ -24,7 +23,7 @@ use Rattle.qq_world.specs.World.{Client, Clients, Shown, WindowFull, HasEnded, i
 use Rattle.qq_cluster.specs.Queue.{Queue, Event, Leading, Submits, Resends, Downs, TellsEnded, acts, group_then, happens, has_leader, later, leader, leading, moves, node_of, offered, said, submit_to, submits, synced_after}
 use Rattle.qq_cluster.proofs.Groups.{group-append}
 use Rattle.qq_cluster_queue.specs.ClusterQueue.{HasRefused, IsOfferCaused, Stands, text_as}
-use Rattle.qq_cluster_queue.specs.Members.{IsGroupOf, Makes, Member, Members, StayDown, number_of, own_log}
+use Rattle.qq_cluster_queue.specs.Members.{IsGroupOf, Makes, Member, Members, number_of, own_log}
 use Rattle.qq_cluster_queue.specs.Sessions.{Standings, clients_of, numbers_of}
 use Rattle.qq_cluster_queue.specs.declared.cluster_queue.ClusterQueue.{ClusterQueue}
 use Rattle.qq_cluster_queue.proofs.Members.{raft_of, seat-is}

@@ -14,13 +14,13 @@ use Rattle.qq_group.specs.Group.{server_at, server_by}
 use Rattle.qq_group.specs.Handing.{held}
 use Rattle.qq_group.specs.Reads.{handed_at, member_at}
 use Rattle.qq_group.specs.declared.seat.Seat.{Seat}
-use Rattle.qq_cluster.specs.Queue.{Queue, waiting_by}
-use Rattle.qq_cluster.specs.Rules.{is_quiet_at, is_settled, waits_noticed, waits_synced, waits_written}
+use Rattle.qq_cluster.specs.Queue.{Queue}
+use Rattle.qq_cluster.specs.Rules.{is_quiet_at, is_settled, waits_synced}
 use Rattle.qq_cluster_queue.specs.ClusterQueue.{Stands, count_at, is_up_at}
 use Rattle.qq_cluster_queue.specs.Members.{IsGroupOf, Member, Members, own_log}
 use Rattle.qq_cluster_queue.specs.Sessions.{Standings}
 use Rattle.qq_cluster_queue.specs.declared.cluster_queue.ClusterQueue.{ClusterQueue}
-use Rattle.qq_cluster_queue.proofs.Members.{log-is, raft_of, seat-is}
+use Rattle.qq_cluster_queue.proofs.Members.{raft_of, seat-is}
 use Rattle.qq_cluster_queue.proofs.Finding.{handed-is, noticed-is}
 
 -- what the law of the changes that a log was handed says

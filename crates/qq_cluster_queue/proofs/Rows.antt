@@ -1,20 +1,17 @@
 -- The rows that a step of a member shows are those that the definition tells, and so are their effects.
 use Rattle.std.proofs.Common.{◌≡◌, ◌⊎◌, ℕ, zero, suc, ◌+◌, ◌-◌, ◌≤◌, Bool, true, false, cond, ◌&&◌, List, [], ◌∷◌, ◌++◌, Option, Some, None, length, take, drop, map, refl, sym, ap, subst, ◌∙◌, inl, inr, arith, append_assoc, append-nil, length-drop, length-take}
 use Rattle.std.specs.Prelude.{filter, nat_eq}
-use Rattle.std.specs.List.{flat_map}
 use Rattle.std.proofs.Math.ListN.{drop_of_length-le}
 use Rattle.std.proofs.lemmas.Bool.{cases_lt}
 use Rattle.std.proofs.lemmas.Grind.{flat_map-append}
 use Rattle.std.proofs.lemmas.List.{map-append, length-take-le, take-append-le}
 use Rattle.qq_base.specs.Fronts.{IsFront}
-use Rattle.qq_base.proofs.Fronts.{front-length}
 use Rattle.qq_base.specs.declared.ids.Index.{Index}
-use Rattle.qq_base.specs.declared.ids.Term.{Term}
 use Rattle.qq_entry.specs.declared.audit.AuditRow.{AuditRow}
 use Rattle.qq_entry.specs.declared.audit.Effect.{Effect}
 use Rattle.qq_entry.specs.declared.command.Entry.{Entry}
 use Rattle.qq_entry.specs.declared.queue.QueueArgs.{QueueArgs}
-use Rattle.qq_model.specs.Audit.{audit_of, next_index, next_step, row_of, state_after}
+use Rattle.qq_model.specs.Audit.{audit_of, next_index, next_step, state_after}
 use Rattle.qq_model.specs.State.{State, empty_queue}
 use Rattle.qq_raft_core.specs.Raft.{server_of}
 use Rattle.qq_raft_model.specs.Server.{is_ready}

@@ -1,4 +1,3 @@
-use Rattle.std.proofs.Common.{sym, subst}
 use Rattle.qq_model.specs.State.{empty_queue}
 use Rattle.qq_cluster_queue.proofs.Members.{HasLaws, happened}
 use Rattle.qq_cluster_queue.proofs.moves.happen.Goals as goal

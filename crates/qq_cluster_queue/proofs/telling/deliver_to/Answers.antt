@@ -1,4 +1,4 @@
-use Rattle.std.proofs.Common.{◌≡◌, ◌++◌, List, ℕ, sym, ap, ◌∙◌, append-nil}
+use Rattle.std.proofs.Common.{◌++◌, List, ℕ, sym, ap, ◌∙◌, append-nil}
 use Rattle.qq_cluster.specs.Texts.{shown_text_as}
 use Rattle.qq_cluster_queue.specs.Sessions.{no_numbers, standings}
 use Rattle.qq_cluster_queue.proofs.Hearing.{delivered-away, delivered-here}

@@ -1,4 +1,4 @@
-use Rattle.std.proofs.Common.{◌∷◌, [], refl}
+use Rattle.std.proofs.Common.{refl}
 use Rattle.std.proofs.Common.{◌-◌}
 use Rattle.qq_cluster.specs.Queue.{Loses}
 use Rattle.qq_raft_model.specs.Group.Event.{Lose}

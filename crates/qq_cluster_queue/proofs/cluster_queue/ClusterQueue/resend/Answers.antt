@@ -1,4 +1,4 @@
-use Rattle.std.proofs.Common.{◌≡◌, ◌∷◌, [], ◌++◌, ℕ, List, refl, sym, ap, subst, ◌∙◌, append-nil, inr}
+use Rattle.std.proofs.Common.{◌≡◌, ◌∷◌, [], ◌++◌, ℕ, List, sym, ap, subst, ◌∙◌, append-nil, inr}
 use Rattle.std.specs.Prelude.{is_some}
 use Rattle.std.specs.List.{AllByRecursion, flat_map}
 use Rattle.qq_base.specs.Fronts.{IsFront}
@@ -9,7 +9,7 @@ use Rattle.qq_world.specs.World.{Shown, said_of}
 use Rattle.qq_cluster_queue.specs.ClusterQueue.{HasRefused, text_as}
 use Rattle.qq_cluster_queue.specs.Range.{HasBytes}
 use Rattle.qq_cluster_queue.specs.declared.cluster_queue.ClusterQueue.{ClusterQueue}
-use Rattle.qq_cluster_queue.proofs.Offering.{Resending, nil-of, resend-does, resending-more, resending-none, resending-all, resending-refused, said-none, said-then}
+use Rattle.qq_cluster_queue.proofs.Offering.{Resending, nil-of, resend-does, resending-more, resending-all, resending-refused, said-none, said-then}
 use Rattle.qq_cluster_queue.proofs.cluster_queue.ClusterQueue.resend.Goals as goal
 
 pub offer-requires-clause-bytes : goal.offer-requires-clause-bytes

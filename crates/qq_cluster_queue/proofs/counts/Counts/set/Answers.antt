@@ -1,4 +1,4 @@
-use Rattle.std.proofs.Common.{◌≡◌, ◌<◌, ◌≤◌, arith}
+use Rattle.std.proofs.Common.{arith}
 use Rattle.qq_cluster_queue.proofs.Counting.{count-set}
 use Rattle.qq_cluster_queue.proofs.counts.Counts.set.Goals as goal
 

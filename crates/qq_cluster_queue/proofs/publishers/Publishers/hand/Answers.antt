@@ -1,4 +1,4 @@
-use Rattle.std.proofs.Common.{◌≡◌, ◌<◌, ℕ, length, IfOk, IfErr, OnOk, ap, subst, ◌∙◌}
+use Rattle.std.proofs.Common.{◌≡◌, ◌<◌, length, IfOk, IfErr, OnOk, ap, subst, ◌∙◌}
 use Rattle.std.proofs.lemmas.Result.{on_ok_weaker, on_err_weaker}
 use Rattle.qq_base.specs.Ids.{client}
 use Rattle.qq_base.specs.declared.memory.TheConstants.{NUMBER_END}

@@ -1,4 +1,4 @@
-use Rattle.std.proofs.Common.{◌≡◌, ℕ, Option, false, true, sym, ap, ◌∙◌}
+use Rattle.std.proofs.Common.{ℕ, Option, sym, ap, ◌∙◌}
 use Rattle.qq_base.specs.Ids.{client}
 use Rattle.qq_script.specs.Text.{seq_of}
 use Rattle.qq_session.specs.Publishing.{answer, new_numbers}
