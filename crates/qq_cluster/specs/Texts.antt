@@ -16,18 +16,20 @@ abbrev pub is_first : Setup → ℕ → Bool
 is_first setup place = nat_eq place setup.first
 
 -- a line is about session 1 and the first queue, or says whom it is about
-abbrev pub prefix_of : Setup → ℕ → ℕ → List ℕ
-prefix_of setup place session = line_prefix (is_first setup place) (Some (client session)) (setup.name place)
+abbrev pub prefix_as : Bool → List ℕ → ℕ → List ℕ
+prefix_as first name session = line_prefix first (Some (client session)) name
+
+-- the text of what is shown of a queue of this name, the first one or not
+abbrev pub shown_text_as : Bool → List ℕ → Shown → List ℕ
+shown_text_as first name (Answered row) = answer_text first row.entry.command name row.answer
+shown_text_as first name (Delivered consumer delivery) = delivery_text first name consumer delivery
+shown_text_as first name (NoLeader session) =
+    prefix_as first name session ++ codes "no leader " ++ name ++ codes "\n"
+shown_text_as first name (WindowFull session) = prefix_as first name session ++ codes "window full\n"
+shown_text_as first name (HasEnded session) = prefix_as first name session ++ codes "ended\n"
 
 abbrev pub shown_text : Setup → ℕ → Shown → List ℕ
-shown_text setup place (Answered row) =
-    answer_text (is_first setup place) row.entry.command (setup.name place) row.answer
-shown_text setup place (Delivered consumer delivery) =
-    delivery_text (is_first setup place) (setup.name place) consumer delivery
-shown_text setup place (NoLeader session) =
-    prefix_of setup place session ++ codes "no leader " ++ setup.name place ++ codes "\n"
-shown_text setup place (WindowFull session) = prefix_of setup place session ++ codes "window full\n"
-shown_text setup place (HasEnded session) = prefix_of setup place session ++ codes "ended\n"
+shown_text setup place shown = shown_text_as (is_first setup place) (setup.name place) shown
 
 abbrev pub role_text : Role → List ℕ
 role_text Follower = codes "follower"
@@ -41,6 +43,11 @@ state_text (Some s) =
     role_text s.role ++ codes " term " ++ decimal s.term.0 ++ codes " last " ++ decimal (length s.log)
     ++ codes " commit " ++ decimal s.commit
 
+-- the line of a queue's server on a node
+abbrev pub state_line : List ℕ → ℕ → Option Server → List ℕ
+state_line name k server =
+    name ++ codes " " ++ decimal k ++ codes " " ++ state_text server ++ codes "\n"
+
 abbrev pub printed_text : Setup → Printed → List ℕ
 printed_text setup (Of place shown) = shown_text setup place shown
 printed_text setup (Stopped k) = codes "node " ++ decimal k ++ codes " stopped\n"
@@ -49,8 +56,7 @@ printed_text setup NoSuch = codes "no such\n"
 printed_text setup Unroutable = codes "unroutable\n"
 printed_text setup Busy = codes "busy\n"
 printed_text setup Ended = codes "ended\n"
-printed_text setup (State place k server) =
-    setup.name place ++ codes " " ++ decimal k ++ codes " " ++ state_text server ++ codes "\n"
+printed_text setup (State place k server) = state_line (setup.name place) k server
 
 abbrev pub text_of : Setup → Cluster → List ClusterEvent → List ℕ
 text_of setup c events = flat_map (printed_text setup) (all_prints setup c events)

@@ -36,6 +36,15 @@ abbrev pub handed_at : {Q L : Type 0} → Option (Seat Q L) → ℕ
 handed_at None = 0
 handed_at (Some seat) = if is_some seat.server then held seat else 0
 
+-- the number of the last change of a member that is up, and the op up to which it was told that its log is durable
+abbrev pub op_at : {Q L : Type 0} → (L → LogState) → Option (Server Q L) → ℕ
+op_at log None = 0
+op_at log (Some s) = (server_of log s.raft).op
+
+abbrev pub noticed_by : {Q L : Type 0} → (L → LogState) → Option (Server Q L) → ℕ
+noticed_by log None = 0
+noticed_by log (Some s) = (server_of log s.raft).noticed
+
 -- ---- idle
 
 -- a member that is down, or all of whose changes its log was handed and are durable, as far as it was told

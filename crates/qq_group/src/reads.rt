@@ -5,7 +5,7 @@ ghost use Rattle.std.specs.Option.{option_copied};
 ghost use Rattle.qq_raft_msg.specs.Bag.{at_place};
 ghost use Rattle.qq_group.specs.Group.{IsSound, server_at};
 ghost use Rattle.qq_group.specs.declared.seat.Seat.{Seat};
-ghost use Rattle.qq_group.specs.Reads.{handed_at, has_settled, is_idle, machine_at, member_at, receiver_of};
+ghost use Rattle.qq_group.specs.Reads.{handed_at, has_settled, is_idle, machine_at, member_at, noticed_by, op_at, receiver_of};
 
 use crate::group::Group;
 use qq_base::{Index, NodeId};
@@ -75,6 +75,27 @@ impl<Q: Queue, L: LogView> Group<Q, L> {
         match self.seat(node) {
             None => 0,
             Some(seat) => seat.handed_up(),
+        }
+    }
+
+    /// The number of a member's last change, which its log may not have been handed yet. 0 where the member is
+    /// down.
+    pub fn op(&self, node: NodeId) -> u64
+        ensures { result ≡ op_at L.log (server_at node.0 self.now) }
+    {
+        match self.server(node) {
+            None => 0,
+            Some(server) => server.op(),
+        }
+    }
+
+    /// The op up to which a member was told that its log is durable. 0 where the member is down.
+    pub fn noticed(&self, node: NodeId) -> u64
+        ensures { result ≡ noticed_by L.log (server_at node.0 self.now) }
+    {
+        match self.server(node) {
+            None => 0,
+            Some(server) => server.noticed(),
         }
     }
 

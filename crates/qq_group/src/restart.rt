@@ -7,6 +7,7 @@ ghost use Rattle.qq_raft_msg.specs.Rpc.{IsNode};
 ghost use Rattle.qq_raft_model.specs.Group.{has_node};
 ghost use Rattle.qq_group.specs.Follows.{OthersStay};
 ghost use Rattle.qq_group.specs.Group.{HasState, IsServing, IsSound, server_at};
+ghost use Rattle.qq_group.specs.Handing.{returned_at};
 ghost use Rattle.qq_group.specs.Restarts.{disk_of, Finds, HasStarted, IsIntactAt, IsStarted, noticed_at, IsRestartCaused, Restarts};
 ghost use Rattle.qq_group.specs.declared.restart.RestartFault.TheVariants.{Lost};
 
@@ -115,6 +116,8 @@ impl<Q: Queue, L: LogView> Group<Q, L> {
         ensures audit { self.new.audit ≡ self.old.audit }
         ensures bag { self.new.bag ≡ self.old.bag }
         ensures others { OthersStay node.0 self.old self.new }
+        ensures returned { OnOk result
+            (returned_at (slice_get self.new.seats.items node.0) ≡ None) }
         ensures found { OnOk result (Finds L.log node.0 (L.log log) self.old) }
         ensures err { OnErr result (self.new ≡ self.old) }
         ensures cause { IfErr result (IsRestartCaused L.log node.0 (L.log log) self.old) }

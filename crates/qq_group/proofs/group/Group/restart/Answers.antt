@@ -5,7 +5,9 @@ use Rattle.qq_base.specs.declared.ids.NodeId.{NodeId}
 use Rattle.qq_group_history.specs.declared.state.DiskState.{DiskState}
 use Rattle.qq_raft_core.specs.Raft.{lane_of}
 use Rattle.qq_raft_model.specs.Server.{restart}
+use Rattle.qq_group.specs.Handing.{returned_at}
 use Rattle.qq_group.specs.Restarts.{IsIntactAt, IsRestartCaused, IsStarted}
+use Rattle.qq_group.proofs.Stepped.{changed-own}
 use Rattle.qq_group.proofs.Restarting.{finds, has-started, loses, restarts, started-others}
 use Rattle.qq_group.proofs.group.Group.restart.Goals as goal
 
@@ -59,3 +61,9 @@ pub returns-clause-others : goal.returns-clause-others
 returns-clause-others g c =
     started-others c.args.node.0 c.in-Ok.found c.in-Ok-new.server c.args.self.now c.start.new.self
     c.start.ensures.started
+
+pub returns-clause-returned : goal.returns-clause-returned
+returns-clause-returned g c =
+    ap returned_at
+    (changed-own c.args.node.0 c.start.ensures.started.was _ c.args.self.now c.start.new.self
+    c.start.ensures.started.changes)

@@ -1,0 +1,206 @@
+-- What an event makes of a queue that its code stands for.
+use Rattle.std.proofs.Common.{◌≡◌, ℕ, zero, suc, ◌-◌, ◌<◌, List, [], ◌∷◌, ◌++◌, length, drop, map, Option, Some, None, refl, sym, ap, subst, ◌∙◌, arith}
+use Rattle.std.specs.Prelude.{nat_le, slice_get}
+use Rattle.std.specs.List.{flat_map}
+use Rattle.std.proofs.lemmas.Bool.{cond_both}
+use Rattle.std.proofs.lemmas.Option.{none-some}
+use Rattle.qq_entry.specs.declared.audit.AuditRow.{AuditRow}
+use Rattle.qq_entry.specs.declared.audit.Effect.{Effect}
+use Rattle.qq_entry.specs.declared.queue.QueueArgs.{QueueArgs}
+use Rattle.qq_raft_model.specs.Group.{Event as Move, Group as GroupState, feed, feed_by, group_after, happens as moved}
+use Rattle.qq_raft_model.specs.Group.Event.{Copy, Deliver, Lose, Notice}
+use Rattle.qq_raft_model.specs.Server.{Input}
+use Rattle.qq_raft_model.specs.State.{Server as Raft}
+use Rattle.qq_raft_msg.specs.Bag.{at_place}
+use Rattle.qq_raft_msg.specs.declared.rpc.Rpc.{Rpc}
+use Rattle.qq_raft.specs.declared.row.AppliedRow.{AppliedRow}
+use Rattle.qq_group.specs.Group.{Represents, server_at}
+use Rattle.qq_group.specs.Reads.{receiver_of}
+use Rattle.qq_world.specs.World.{Answered, Clients, Shown, delivered, hear_all, printed}
+use Rattle.qq_cluster.specs.Queue.{Queue, Event, Copies, Delivers, Loses, Notices, acts, effects_told, group_then, happens, moves, receiver_by, rows_told, said, stepping, synced_after, told}
+use Rattle.qq_cluster_queue.specs.ClusterQueue.{Becomes, Stands, count_at, text_as}
+use Rattle.qq_cluster_queue.specs.Members.{AreTold, IsGroupOf, Makes, Member, Members, StayDown, audit_rows_of, effects_in, move_at, number_of, own_log}
+use Rattle.qq_cluster_queue.specs.Sessions.{Standings, clients_of, numbers_of}
+use Rattle.qq_cluster_queue.specs.declared.cluster_queue.ClusterQueue.{ClusterQueue}
+use Rattle.qq_cluster_queue.proofs.Members.{raft_of, seat-is}
+
+-- ---- any event that syncs and finds nothing
+
+-- who is up behind such an event was up before
+was-up : (old new : Members) → StayDown old new → (k : ℕ) (t : Member) → server_at k new ≡ Some t
+    → (s : Member) × (server_at k old ≡ Some s)
+was-up old new stay k t up = by (server_at k old) refl
+  where
+    by : (o : Option Member) → server_at k old ≡ o → (s : Member) × (server_at k old ≡ Some s)
+    by None is = absurd (none-some t (sym (stay k is) ∙ up))
+    by (Some s) is = (s, is)
+
+pub stands-then : (sessions : Standings) (old new : ClusterQueue) (q : Queue) (event : Event) → Stands sessions old q
+    → IsGroupOf old.args (group_then q event) new.group × StayDown old.group new.group → new.args ≡ old.args
+    → (happens q event).clients ≡ clients_of sessions (numbers_of new.publishers) → new.synced ≡ old.synced
+    → synced_after q event ≡ q.synced → Stands sessions new (happens q event)
+stands-then sessions old new q event st group args clients synced same = record {
+  args = st.args ∙ sym args;
+  clients = clients;
+  group = subst (λ (a : QueueArgs). IsGroupOf a (group_then q event) new.group) (sym args) group.0;
+  synced = λ k t up.
+      let s = was-up old.group new.group group.1 k t up in
+      ap (λ (f : ℕ → ℕ). f k) same ∙ st.synced k s.0 s.1
+      ∙ ap (λ (c : _). count_at c.each k) (sym synced);
+}
+
+-- ---- events that show nothing, and that no client hears
+
+-- an event is these moves of the group, and nothing else
+pub record IsPlain (event : Event) (made : List Move) : Type 0 where
+  pub moves_are : (q : Queue) → moves q event ≡ made
+  pub clients_are : (q : Queue) → (happens q event).clients ≡ q.clients
+  pub synced_is : (q : Queue) → synced_after q event ≡ q.synced
+  pub silent : (q : Queue) → said q event ≡ []
+
+pub plain-becomes : (event : Event) (made : List Move) (old new : ClusterQueue) → IsPlain event made
+    → Makes made old.group new.group → new.args ≡ old.args → new.publishers ≡ old.publishers
+    → new.synced ≡ old.synced → Becomes event old new
+plain-becomes event made old new plain makes args publishers synced = λ sessions q st.
+    let group = makes old.args q.group st.group in (
+      stands-then sessions old new q event st (
+        subst (λ (l : List Move). IsGroupOf old.args (group_after q.group l) new.group) (sym (plain.moves_are q)) group.0,
+        group.1,
+      ) args
+          (plain.clients_are q ∙ st.clients ∙ ap (λ (p : _). clients_of sessions (numbers_of p)) (sym publishers)) synced
+          (plain.synced_is q),
+      plain.silent q,
+    )
+
+pub lose-plain : (place : ℕ) → 0 < place → IsPlain (Loses (place - 1)) (move_at Lose place)
+lose-plain zero positive = absurd (omega (arith, positive))
+lose-plain (suc at) positive =
+    let same : suc at - 1 ≡ at = omega arith in
+    subst (λ (n : ℕ). IsPlain (Loses n) (Lose at ∷ [])) (sym same)
+    (record { moves_are = λ q. refl; clients_are = λ q. refl; synced_is = λ q. refl; silent = λ q. refl })
+
+pub copy-plain : (place : ℕ) → 0 < place → IsPlain (Copies (place - 1)) (move_at Copy place)
+copy-plain zero positive = absurd (omega (arith, positive))
+copy-plain (suc at) positive =
+    let same : suc at - 1 ≡ at = omega arith in
+    subst (λ (n : ℕ). IsPlain (Copies n) (Copy at ∷ [])) (sym same)
+    (record { moves_are = λ q. refl; clients_are = λ q. refl; synced_is = λ q. refl; silent = λ q. refl })
+
+-- ---- events that tell
+
+-- an event that tells the clients what a member applies
+pub record IsTelling (event : Event) (q : Queue) (made : List Move) (k : Option ℕ) : Type 0 where
+  pub group_is : group_then q event ≡ group_after q.group made
+  pub member : stepping q event ≡ k
+  pub acts_none : acts event q.clients ≡ q.clients
+  pub synced_is : synced_after q event ≡ q.synced
+  pub says : said q event ≡ told q event
+
+rows-are : (sessions : Standings) (old : ClusterQueue) (q : Queue) (event : Event) (made : List Move) (k : Option ℕ)
+    (rows : List AppliedRow) → Stands sessions old q → IsTelling event q made k
+    → AreTold k old.args q.group (group_after q.group made) rows
+    → AreTold (stepping q event) q.args q.group (group_then q event) rows
+rows-are sessions old q event made k rows st t a =
+    subst (λ (args : QueueArgs). AreTold (stepping q event) args q.group (group_then q event) rows) (sym st.args)
+    (subst (λ (j : Option ℕ). AreTold j old.args q.group (group_then q event) rows) (sym t.member)
+    (subst (λ (h : GroupState). AreTold k old.args q.group h rows) (sym t.group_is) a))
+
+pub telling-does : (sessions : Standings) (old new : ClusterQueue) (q : Queue) (event : Event) (made : List Move)
+    (k : Option ℕ) (rows slice : List AppliedRow) (before after : List ℕ) → Stands sessions old q
+    → IsTelling event q made k → Makes made old.group new.group → slice ≡ rows
+    → AreTold k old.args q.group (group_after q.group made) rows → new.args ≡ old.args → new.synced ≡ old.synced
+    → clients_of sessions (numbers_of new.publishers)
+    ≡ hear_all (audit_rows_of slice) (clients_of sessions (numbers_of old.publishers))
+    → after ≡ before ++ text_as old
+    (map Answered (printed (audit_rows_of slice) (clients_of sessions (numbers_of old.publishers)))
+    ++ flat_map (delivered (clients_of sessions (numbers_of old.publishers))) (effects_in slice))
+    → Stands sessions new (happens q event) × (after ≡ before ++ text_as old (said q event))
+telling-does sessions old new q event made k rows slice before after st t makes is a args synced heard said' =
+    let group = makes old.args q.group st.group in
+    let rows' : AreTold (stepping q event) q.args q.group (group_then q event) rows =
+    rows-are sessions old q event made k rows st t a in
+    let shown : Clients → List Shown = λ c.
+    map Answered (printed (rows_told q event) c) ++ flat_map (delivered c) (effects_told q event) in
+    let own : Clients = clients_of sessions (numbers_of old.publishers) in
+    let all : List AppliedRow → List ℕ = λ l. before ++ text_as old
+    (map Answered (printed (audit_rows_of l) own) ++ flat_map (delivered own) (effects_in l)) in (
+      stands-then sessions old new q event st
+          (subst (λ (h : GroupState). IsGroupOf old.args h new.group) (sym t.group_is) group.0, group.1) args
+          (ap (hear_all (rows_told q event)) (t.acts_none ∙ st.clients)
+          ∙ ap (λ (l : List AuditRow). hear_all l own) (sym rows'.rows_are)
+          ∙ ap (λ (l : List AppliedRow). hear_all (audit_rows_of l) own) (sym is) ∙ sym heard) synced t.synced_is,
+      said' ∙ ap all is
+          ∙ ap (λ (l : List AuditRow). before ++ text_as old
+          (map Answered (printed l own) ++ flat_map (delivered own) (effects_in rows))) rows'.rows_are
+          ∙ ap (λ (l : List Effect). before ++ text_as old
+          (map Answered (printed (rows_told q event) own) ++ flat_map (delivered own) l)) rows'.effects_are
+          ∙ ap (λ (c : Clients). before ++ text_as old (shown c)) (sym st.clients)
+          ∙ ap (λ (l : List Shown). before ++ text_as old l) (sym t.says),
+    )
+
+-- ---- notices
+
+feed-none : (k : ℕ) (input : Input) (g : GroupState) → (g.seat k).server ≡ None → feed k input g ≡ g
+feed-none k input g down = ap (λ (o : Option Raft). feed_by k input o g) down
+
+notice-none : (k op : ℕ) (g : GroupState) → (g.seat k).server ≡ None → moved (Notice k op) g ≡ g
+notice-none k op g down =
+    cond_both (nat_le op (length (g.seat k).ops)) (feed k (Input.Notice op) g) g (λ (h : GroupState). h ≡ g)
+    (λ _. feed-none k (Input.Notice op) g down) (λ _. refl)
+
+-- a member that is down notices nothing
+pub same-notice : (sessions : Standings) (old : ClusterQueue) (q : Queue) (k : ℕ) → Stands sessions old q
+    → moved (Notice k (q.synced k)) q.group ≡ moved (Notice k (count_at old.synced.each k)) q.group
+same-notice sessions old q k st = by (server_at k old.group) refl
+  where
+    by : (o : Option Member) → server_at k old.group ≡ o
+        → moved (Notice k (q.synced k)) q.group ≡ moved (Notice k (count_at old.synced.each k)) q.group
+    by None is =
+        let down : (q.group.seat k).server ≡ None =
+        seat-is q.group old.group k st.group.represents ∙ ap raft_of is in
+        notice-none k (q.synced k) q.group down ∙ sym (notice-none k (count_at old.synced.each k) q.group down)
+    by (Some s) is = ap (λ (op : ℕ). moved (Notice k op) q.group) (st.synced k s is)
+
+pub notice-telling : (sessions : Standings) (old : ClusterQueue) (q : Queue) (k op : ℕ) → Stands sessions old q
+    → op ≡ count_at old.synced.each k → IsTelling (Notices k) q (Notice k op ∷ []) (Some k)
+notice-telling sessions old q k op st is = record {
+  group_is = same-notice sessions old q k st ∙ ap (λ (n : ℕ). moved (Notice k n) q.group) (sym is);
+  member = refl;
+  acts_none = refl;
+  synced_is = refl;
+  says = refl;
+}
+
+-- ---- deliveries
+
+receiver-is : (bag : List Rpc) (at : ℕ) → receiver_by (drop at bag) ≡ number_of (receiver_of (slice_get bag at))
+receiver-is [] zero = refl
+receiver-is [] (suc at) = refl
+receiver-is (rpc ∷ bag) zero = refl
+receiver-is (rpc ∷ bag) (suc at) = receiver-is bag at
+
+pub receiver-at : (g : GroupState) (group : Members) (place : ℕ) → Represents own_log g group → 0 < place
+    → number_of (receiver_of (at_place place group.bag)) ≡ receiver_by (drop (place - 1) g.bag)
+receiver-at g group zero r positive = absurd (omega (arith, positive))
+receiver-at g group (suc at) r positive =
+    let same : suc at - 1 ≡ at = omega arith in
+    ap (λ (bag : List Rpc). number_of (receiver_of (slice_get bag at))) (sym r.bag) ∙ sym (receiver-is g.bag at)
+    ∙ ap (λ (n : ℕ). receiver_by (drop n g.bag)) (sym same)
+
+pub deliver-telling : (sessions : Standings) (old : ClusterQueue) (q : Queue) (place : ℕ) → Stands sessions old q
+    → 0 < place
+    → IsTelling (Delivers (place - 1)) q (move_at Deliver place)
+    (number_of (receiver_of (at_place place old.group.bag)))
+deliver-telling sessions old q zero st positive = absurd (omega (arith, positive))
+deliver-telling sessions old q (suc at) st positive =
+    let same : suc at - 1 ≡ at = omega arith in
+    subst (λ (n : ℕ). IsTelling (Delivers n) q (Deliver at ∷ [])
+    (number_of (receiver_of (slice_get old.group.bag at)))) (sym same)
+    (record {
+      group_is = refl;
+      member = receiver-is q.group.bag at
+          ∙ ap (λ (bag : List Rpc). number_of (receiver_of (slice_get bag at))) st.group.represents.bag;
+      acts_none = refl;
+      synced_is = refl;
+      says = refl;
+    })

@@ -1,0 +1,14 @@
+mod Auditing
+mod Rows
+mod Current
+mod Members
+mod Happening
+mod Offering
+mod Known
+mod Hearing
+mod Finding
+mod Ranges
+mod Muting
+mod Reading
+mod Beginning
+mod Counting

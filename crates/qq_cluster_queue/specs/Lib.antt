@@ -1,0 +1,4 @@
+pub mod Range
+pub mod Sessions
+pub mod Members
+pub mod ClusterQueue

@@ -1,0 +1,25 @@
+//! One queue of a cluster: the group of servers that replicates it, its clients' numbers, and how much of each node's
+//! log is synced of it. Whatever happens to it is an event of the definition of a queue (`qq_cluster`).
+#![tactic(auto)]
+
+mod answers;
+mod audit;
+mod cluster_queue;
+mod counts;
+mod events;
+mod label;
+mod laws;
+mod moves;
+mod opening;
+mod publisher;
+mod publishers;
+mod reads;
+mod sending;
+mod sessions;
+mod states;
+mod storing;
+mod telling;
+
+pub use cluster_queue::ClusterQueue;
+pub use laws::sessions_are_those_of_each_queue;
+pub use sessions::{Sessions, Standing};

@@ -1,0 +1,87 @@
+//! How a queue begins.
+ghost use Rattle.std.specs.Prelude.{◌≡◌, ◌<◌, ◌^◌, All, None, length, map, IfOk, IsOkUnless};
+ghost use Rattle.qq_base.specs.declared.ids.NodeId.{NodeId};
+ghost use Rattle.qq_raft_model.specs.Promises.{AreDistinct};
+ghost use Rattle.qq_raft_msg.specs.Rpc.{IsNode};
+ghost use Rattle.qq_cluster_queue.specs.ClusterQueue.{Opens};
+ghost use Rattle.qq_cluster_queue.specs.Members.{down_start, AreSound, OpensGroup};
+
+use crate::cluster_queue::ClusterQueue;
+use crate::counts::Counts;
+use crate::label::Label;
+use crate::moves::Members;
+use crate::publishers::Publishers;
+use qq_base::{Memory, NodeId, Text};
+use qq_entry::QueueArgs;
+use qq_group::{Group, GroupFault};
+use qq_log::Log;
+use qq_raft_queues::MachineQueue;
+use std::alloc::Global;
+
+/// A node, and the machine and the log that its member starts with.
+type Start = (NodeId, Option<(MachineQueue, Log)>);
+
+// Each node's member is down.
+fn all_down(alloc: Global, nodes: &[NodeId]) -> Result<Vec<Start>, Memory>
+    ensures ok { IfOk result (λ starts. starts.items ≡ map down_start nodes.now) }
+    ensures want { IsOkUnless result Memory.Want }
+{
+    let mut starts = Vec::new(alloc);
+    'nodes: for node in nodes {
+        starts.push((*node, None))?;
+    }
+    Ok(starts)
+}
+
+// A group of these nodes, whose members are down.
+fn down_group(alloc: Global, args: &QueueArgs, nodes: &[NodeId]) -> Result<Members, Memory>
+    requires nodes { All IsNode nodes.now }
+    requires count { length nodes.now < 2 ^ 32 }
+    requires distinct { AreDistinct nodes.now }
+
+    ensures sound { IfOk result AreSound }
+    ensures ok { IfOk result (OpensGroup args.now.queue nodes.now) }
+    ensures nodes { IfOk result (λ group. group.nodes.items ≡ nodes.now) }
+    ensures want { IsOkUnless result Memory.Want }
+{
+    let starts = all_down(alloc, nodes)?;
+    let group = match Group::new(alloc, args.queue, nodes, starts) {
+        Ok(group) => group,
+        Err(GroupFault::Short { .. }) => unreachable!(),
+        Err(GroupFault::Memory(cause)) => return Err(cause),
+    };
+    Ok(group)
+}
+
+impl ClusterQueue {
+    /// A queue whose members are down, on these nodes, its first member first: nothing was written, read or told.
+    /// The only error is `Memory::Want`, out of memory.
+    pub fn new(
+        alloc: Global,
+        args: QueueArgs,
+        name: Text,
+        first: bool,
+        nodes: &[NodeId],
+    ) -> Result<Self, Memory>
+        requires nodes { All IsNode nodes.now }
+        requires count { length nodes.now < 2 ^ 32 }
+        requires distinct { AreDistinct nodes.now }
+
+        ensures sound { IfOk result (λ queue. AreSound queue.group) }
+        ensures ok { IfOk result (Opens args nodes.now) }
+        ensures label { IfOk result (λ queue.
+            (queue.label.name ≡ name) × (queue.label.first ≡ first)) }
+        ensures nodes { IfOk result (λ queue. queue.group.nodes.items ≡ nodes.now) }
+        ensures want { IsOkUnless result Memory.Want }
+    {
+        let group = down_group(alloc, &args, nodes)?;
+        let publishers = Publishers::new(alloc, args.queue);
+        Ok(ClusterQueue {
+            label: Label { name, first },
+            args,
+            publishers,
+            group,
+            synced: Counts::new(),
+        })
+    }
+}

@@ -1,0 +1,81 @@
+//! What a queue tells of itself.
+ghost use Rattle.std.specs.Prelude.{◌≡◌, ◌<◌, ◌-◌, ◌&&◌, drop, is_some, length, option_map};
+ghost use Rattle.std.specs.Bool.{Decides};
+ghost use Rattle.qq_cluster.specs.Queue.{leader, receiver_by};
+ghost use Rattle.qq_cluster.specs.Rules.{waits_synced};
+ghost use Rattle.qq_group.specs.Group.{server_at};
+ghost use Rattle.qq_group.specs.Reads.{IsIdle};
+ghost use Rattle.qq_raft_core.specs.Raft.{state_of};
+ghost use Rattle.qq_cluster_queue.specs.ClusterQueue.{is_up_at, OfItsQueue};
+ghost use Rattle.qq_cluster_queue.specs.Members.{number_of, AreSound};
+
+use crate::cluster_queue::ClusterQueue;
+use qq_base::NodeId;
+use qq_group::an_idle_group_has_nothing_open;
+use qq_log::Log;
+use qq_raft_msg::MemberState;
+use qq_raft_queues::MachineQueue;
+
+impl ClusterQueue {
+    /// The member that leads and takes commands, of several the one of the latest term. None exactly where there
+    /// is none.
+    pub fn leader(&self) -> Option<NodeId>
+        requires { AreSound self.now.group }
+
+        ensures { OfItsQueue self.now (λ q. leader q.group ≡ number_of result) }
+    {
+        self.group.leader()
+    }
+
+    /// What the member on a node tells of itself. None exactly where it is down.
+    pub fn member(&self, node: NodeId) -> Option<MemberState>
+        requires { AreSound self.now.group }
+
+        ensures { OfItsQueue self.now (λ q.
+            result ≡ option_map state_of (q.group.seat node.0).server) }
+    {
+        self.group.member(node)
+    }
+
+    /// How many messages are on their way.
+    pub fn messages(&self) -> u32
+        ensures { OfItsQueue self.now (λ q. result ≡ length q.group.bag) }
+    {
+        self.group.messages()
+    }
+
+    /// Whom the message at a place, from 1, is for. None exactly where there is none.
+    pub fn receiver(&self, place: u32) -> Option<NodeId>
+        requires { 0 < place }
+
+        ensures { OfItsQueue self.now (λ q.
+            number_of result ≡ receiver_by (drop (place - 1) q.group.bag)) }
+    {
+        self.group.receiver(place)
+    }
+
+    /// Whether an op that was given to a node's log waits to be synced, where the member is up.
+    pub fn waits_synced(&self, node: NodeId) -> bool
+        requires { AreSound self.now.group }
+
+        ensures { OfItsQueue self.now (λ q.
+            result ≡ is_up_at node.0 q && waits_synced node.0 q) }
+    {
+        let up = self.is_up(node);
+        if !up {
+            return false;
+        }
+        self.synced.at(node) < self.group.handed(node)
+    }
+
+    /// Whether no message is on its way, and all that the members that are up have handed out was given to
+    /// their logs, synced and noticed.
+    pub fn is_quiet(&self) -> bool
+        requires { AreSound self.now.group }
+
+        ensures { OfItsQueue self.now (λ q. Decides result (IsIdle q.group)) }
+    {
+        an_idle_group_has_nothing_open::<MachineQueue, Log>();
+        self.group.idle()
+    }
+}

@@ -1,0 +1,179 @@
+//! What the clients send to a queue.
+ghost use Rattle.std.specs.Prelude.{◌≡◌, ◌<◌, ◌++◌, ◌∷◌, [], is_some, IfErr, OnOk, OnErr, IsOkUnless};
+ghost use Rattle.qq_base.specs.Fronts.{IsFront};
+ghost use Rattle.qq_base.specs.Ids.{client};
+ghost use Rattle.qq_entry.specs.declared.command.Command.TheVariants.{Down};
+ghost use Rattle.qq_cluster.specs.Queue.{Downs, Resends, Submits, TellsEnded, submit_to};
+ghost use Rattle.qq_group.specs.Reads.{leader_of};
+ghost use Rattle.qq_world.specs.World.{WindowFull, said_of};
+ghost use Rattle.qq_cluster_queue.specs.ClusterQueue.{text_as, DoesAlways, IsOfferCaused, IsResendCaused, IsSameQueue, IsSubmitCaused};
+ghost use Rattle.qq_cluster_queue.specs.Members.{AreSound, Makes, number_of, own_log};
+ghost use Rattle.qq_cluster_queue.specs.Range.{HasBytes, MayStamp};
+
+use crate::cluster_queue::ClusterQueue;
+use crate::moves::happen;
+use qq_base::{Memory, NodeId, SessionId};
+use qq_entry::{Command, Unstamped};
+use qq_group::Event;
+use qq_session::HandFault;
+use std::alloc::Global;
+use std::collections::VecDeque;
+
+impl ClusterQueue {
+    // A command goes to the leader, at time 0; where there is none the session is told so.
+    fn offer(
+        &mut self,
+        alloc: Global,
+        session: u64,
+        leader: Option<NodeId>,
+        command: Command,
+        out: &mut Vec<u8>,
+    ) -> Result<(), Memory>
+        requires sound { AreSound self.old.group }
+        requires bytes { HasBytes command }
+
+        ensures sound { AreSound self.new.group }
+        ensures same { IsSameQueue self.old self.new }
+        ensures rest { self.new ≡ record self.old { group = self.new.group } }
+        ensures ok { OnOk result
+            (Makes (submit_to (number_of leader) command) self.old.group self.new.group) }
+        ensures said { OnOk result (out.new.items ≡ out.old.items
+            ++ text_as self.old (said_of (is_some leader) session (command ∷ []))) }
+        ensures err { OnErr result (IsFront out.old.items out.new.items) }
+        ensures audit { OnErr result (self.new.group.audit.items ≡ self.old.group.audit.items) }
+        ensures cause { IfErr result (IsOfferCaused leader command self.old.group) }
+    {
+        let Some(node) = leader else {
+            return self.label.no_leader(alloc, session, out);
+        };
+        let event = Event::Submit {
+            node,
+            time: 0,
+            command,
+        };
+        if let Err(cause) = happen(alloc, &mut self.group, event) {
+            return Err(cause);
+        }
+        Ok(())
+    }
+
+    // A session is told that as many of its numbers are open as may be.
+    fn tell_full(&self, alloc: Global, session: u64, out: &mut Vec<u8>) -> Result<(), Memory>
+        ensures ok { OnOk result (out.new.items ≡ out.old.items
+            ++ text_as self.now (WindowFull session ∷ [])) }
+        ensures err { OnErr result (out.new.items ≡ out.old.items) }
+        ensures want { IsOkUnless result Memory.Want }
+    {
+        self.label.window_full(alloc, session, out)
+    }
+
+    /// A client, numbered from 1, gives a command in range the next number and sends it to the leader, and `out`
+    /// grows by what it is told: that its window is full, or that there is no leader. `Spent` comes only where a
+    /// number would be past its end. After an error `out` begins with what it had.
+    pub fn submit(
+        &mut self,
+        alloc: Global,
+        session: u64,
+        body: Unstamped,
+        out: &mut Vec<u8>,
+    ) -> Result<(), Memory>
+        requires sound { AreSound self.old.group }
+        requires session { 0 < session }
+        requires range { MayStamp body }
+
+        ensures sound { AreSound self.new.group }
+        ensures same { IsSameQueue self.old self.new }
+        ensures ok { OnOk result (DoesAlways (Submits session body) self.old self.new
+            out.old.items out.new.items) }
+        ensures err { OnErr result (IsFront out.old.items out.new.items) }
+        ensures audit { OnErr result (self.new.group.audit.items ≡ self.old.group.audit.items) }
+        ensures cause { IfErr result (IsSubmitCaused session body self.old) }
+    {
+        let leader = self.group.leader();
+        let command = match self.publishers.hand(alloc, session, body) {
+            Ok(command) => command,
+            Err(HandFault::WindowFull) => return self.tell_full(alloc, session, out),
+            Err(HandFault::Memory(cause)) => return Err(cause),
+        };
+        if let Err(cause) = self.offer(alloc, session, leader, command, out) {
+            return Err(cause);
+        }
+        Ok(())
+    }
+
+    /// A session that has ended is to give a command, and `out` grows by that. The only error is
+    /// `Memory::Want`, out of memory, after which `out` is as it was.
+    pub fn tell_ended(
+        &mut self,
+        alloc: Global,
+        session: u64,
+        out: &mut Vec<u8>,
+    ) -> Result<(), Memory>
+        requires { AreSound self.old.group }
+
+        ensures same { self.new ≡ self.old }
+        ensures ok { OnOk result (DoesAlways (TellsEnded session) self.old self.new
+            out.old.items out.new.items) }
+        ensures err { OnErr result (out.new.items ≡ out.old.items) }
+        ensures want { IsOkUnless result Memory.Want }
+    {
+        if let Err(cause) = self.label.has_ended(alloc, session, out) {
+            return Err(cause);
+        }
+        Ok(())
+    }
+
+    /// The queue is told that a session, numbered from 1, has ended, where it has given commands, and `out`
+    /// grows by what becomes of that. After an error `out` begins with what it had.
+    pub fn down(&mut self, alloc: Global, session: u64, out: &mut Vec<u8>) -> Result<(), Memory>
+        requires sound { AreSound self.old.group }
+        requires session { 0 < session }
+
+        ensures sound { AreSound self.new.group }
+        ensures same { IsSameQueue self.old self.new }
+        ensures ok { OnOk result (DoesAlways (Downs session) self.old self.new
+            out.old.items out.new.items) }
+        ensures err { OnErr result (IsFront out.old.items out.new.items) }
+        ensures audit { OnErr result (self.new.group.audit.items ≡ self.old.group.audit.items) }
+        ensures cause { IfErr result (IsOfferCaused (leader_of own_log self.old.group)
+            (Down (client session)) self.old.group) }
+    {
+        let used = self.publishers.is_used(session);
+        if !used {
+            return Ok(());
+        }
+        let command = Command::Down {
+            session: SessionId::client(session),
+        };
+        let leader = self.group.leader();
+        if let Err(cause) = self.offer(alloc, session, leader, command, out) {
+            return Err(cause);
+        }
+        Ok(())
+    }
+
+    /// A client sends its open commands again, and `out` grows by what it is told. After an error `out` begins
+    /// with what it had, and some of the commands may have reached the leader.
+    pub fn resend(&mut self, alloc: Global, session: u64, out: &mut Vec<u8>) -> Result<(), Memory>
+        requires { AreSound self.old.group }
+
+        ensures sound { AreSound self.new.group }
+        ensures same { IsSameQueue self.old self.new }
+        ensures ok { OnOk result (DoesAlways (Resends session) self.old self.new
+            out.old.items out.new.items) }
+        ensures err { OnErr result (IsFront out.old.items out.new.items) }
+        ensures cause { IfErr result (IsResendCaused session self.old) }
+    {
+        let leader = self.group.leader();
+        let mut commands = match self.publishers.resend(alloc, session) {
+            Ok(commands) => VecDeque::from_vec(commands),
+            Err(cause) => return Err(cause),
+        };
+        'commands: while let Some(command) = commands.pop_front() {
+            if let Err(cause) = self.offer(alloc, session, leader, command, out) {
+                return Err(cause);
+            }
+        }
+        Ok(())
+    }
+}
