@@ -12,10 +12,10 @@ use Rattle.qq_raft_model.specs.State.{Server as Raft}
 use Rattle.qq_raft_queues.specs.declared.machine_queue.MachineQueue.{MachineQueue}
 use Rattle.qq_group.specs.Group.{server_at, server_by}
 use Rattle.qq_group.specs.Handing.{held}
-use Rattle.qq_group.specs.Reads.{handed_at, member_at}
+use Rattle.qq_group.specs.Reads.{handed_at, member_at, noticed_by, op_at}
 use Rattle.qq_group.specs.declared.seat.Seat.{Seat}
-use Rattle.qq_cluster.specs.Queue.{Queue}
-use Rattle.qq_cluster.specs.Rules.{is_quiet_at, is_settled, waits_synced}
+use Rattle.qq_cluster.specs.Queue.{Queue, waiting_by}
+use Rattle.qq_cluster.specs.Rules.{is_quiet_at, is_settled, waits_noticed, waits_synced, waits_written}
 use Rattle.qq_cluster_queue.specs.ClusterQueue.{Stands, count_at, is_up_at}
 use Rattle.qq_cluster_queue.specs.Members.{IsGroupOf, Member, Members, own_log}
 use Rattle.qq_cluster_queue.specs.Sessions.{Standings}
@@ -73,6 +73,26 @@ down-at : (args : QueueArgs) (g : GroupState) (group : Members) (k : ℕ) → Is
     → server_at k group ≡ None → (g.seat k).server ≡ None
 down-at args g group k it down = seat-is g group k it.represents ∙ ap raft_of down
 
+pub written-is : CountsOps → (sessions : Standings) (d : ClusterQueue) (q : Queue) (k : ℕ) → Stands sessions d q
+    → nat_lt (handed_at (slice_get d.group.seats.items k)) (op_at own_log (server_at k d.group)) ≡ waits_written k q
+written-is law sessions d q k st = by (server_at k d.group) refl
+  where
+    by : (o : Option Member) → server_at k d.group ≡ o
+        → nat_lt (handed_at (slice_get d.group.seats.items k)) (op_at own_log (server_at k d.group)) ≡ waits_written k q
+    by None down =
+        ap (λ (n : ℕ). nat_lt n (op_at own_log (server_at k d.group)))
+        (handed-none (slice_get d.group.seats.items k) down)
+        ∙ ap (λ (o : Option Member). nat_lt 0 (op_at own_log o)) down
+        ∙ sym (ap (λ (o : Option Raft). nat_lt 0 (waiting_by o)) (down-at d.args q.group d.group k st.group down))
+    by (Some s) up =
+        let c = counted law d.args q.group d.group k s st.group up in
+        let raft : Raft = server_of own_log s.raft in
+        ap (λ (n : ℕ). nat_lt n (op_at own_log (server_at k d.group))) c.handed
+        ∙ ap (λ (o : Option Member). nat_lt (length (q.group.seat k).ops) (op_at own_log o)) up
+        ∙ ap (nat_lt (length (q.group.seat k).ops)) c.op
+        ∙ less-behind (length (q.group.seat k).ops) (length raft.ops)
+        ∙ sym (ap (λ (o : Option Raft). nat_lt 0 (waiting_by o)) c.up)
+
 pub nothing-waits : (sessions : Standings) (d : ClusterQueue) (q : Queue) (k : ℕ) (b : Bool) → Stands sessions d q
     → server_at k d.group ≡ None → false ≡ (is_up_at k q && b)
 nothing-waits sessions d q k b st down =
@@ -91,8 +111,36 @@ synced-is sessions d q k s st up =
     ∙ ap (nat_lt (q.synced k)) (handed-is d.args q.group d.group k s st.group up)
     ∙ sym (ap (λ (b : Bool). b && waits_synced k q) (up-at sessions d q k s st up))
 
+pub told-is : (sessions : Standings) (d : ClusterQueue) (q : Queue) (k : ℕ) (s : Member) → Stands sessions d q
+    → server_at k d.group ≡ Some s
+    → nat_lt (noticed_by own_log (server_at k d.group)) (count_at d.synced.each k)
+    ≡ (is_up_at k q && waits_noticed k q)
+told-is sessions d q k s st up =
+    ap (λ (o : Option Member). nat_lt (noticed_by own_log o) (count_at d.synced.each k)) up
+    ∙ ap (λ (n : ℕ). nat_lt n (count_at d.synced.each k)) (sym (noticed-is q.group d.group k s st.group.represents up))
+    ∙ ap (nat_lt (q.group.seat k).noticed) (sym (st.synced k s up))
+    ∙ sym (ap (λ (b : Bool). b && waits_noticed k q) (up-at sessions d q k s st up))
+
 pub settled-none : (sessions : Standings) (d : ClusterQueue) (q : Queue) (k : ℕ) → Stands sessions d q
     → server_at k d.group ≡ None → true ≡ is_quiet_at q (λ (i : ℕ). is_up_at i q) k
 settled-none sessions d q k st down =
     sym (ap (λ (o : Option Raft). cond (is_some o) (is_settled k q) true)
     (down-at d.args q.group d.group k st.group down))
+
+pub settled-is : CountsOps → (sessions : Standings) (d : ClusterQueue) (q : Queue) (k : ℕ) (s : Member)
+    → Stands sessions d q → server_at k d.group ≡ Some s
+    → (nat_eq (op_at own_log (server_at k d.group)) (handed_at (slice_get d.group.seats.items k))
+    && nat_eq (noticed_by own_log (server_at k d.group)) (handed_at (slice_get d.group.seats.items k)))
+    ≡ is_quiet_at q (λ (i : ℕ). is_up_at i q) k
+settled-is law sessions d q k s st up =
+    let c = counted law d.args q.group d.group k s st.group up in
+    let raft : Raft = server_of own_log s.raft in
+    let long : ℕ = length (q.group.seat k).ops in
+    ap (λ (n : ℕ). nat_eq (op_at own_log (server_at k d.group)) n && nat_eq (noticed_by own_log (server_at k d.group)) n)
+    c.handed
+    ∙ ap (λ (o : Option Member). nat_eq (op_at own_log o) long && nat_eq (noticed_by own_log o) long) up
+    ∙ ap (λ (n : ℕ). nat_eq n long && nat_eq s.raft.noticed long) c.op
+    ∙ ap (λ (b : Bool). b && nat_eq s.raft.noticed long) (same-behind long (length raft.ops))
+    ∙ ap (λ (n : ℕ). nat_eq (length raft.ops) 0 && nat_eq n long) (sym c.noticed)
+    ∙ sym (ap (λ (o : Option Raft). cond (is_some o)
+    (nat_eq (waiting_by o) 0 && nat_eq (q.group.seat k).noticed long) true) c.up)

@@ -2,7 +2,7 @@
 ghost use Rattle.std.specs.Prelude.{◌≡◌, ◌<◌, ◌-◌, ◌&&◌, drop, is_some, length, option_map};
 ghost use Rattle.std.specs.Bool.{Decides};
 ghost use Rattle.qq_cluster.specs.Queue.{leader, receiver_by};
-ghost use Rattle.qq_cluster.specs.Rules.{waits_synced};
+ghost use Rattle.qq_cluster.specs.Rules.{is_quiet_at, waits_noticed, waits_synced, waits_written};
 ghost use Rattle.qq_group.specs.Group.{server_at};
 ghost use Rattle.qq_group.specs.Reads.{IsIdle};
 ghost use Rattle.qq_raft_core.specs.Raft.{state_of};
@@ -13,6 +13,7 @@ use crate::cluster_queue::ClusterQueue;
 use qq_base::NodeId;
 use qq_group::an_idle_group_has_nothing_open;
 use qq_log::Log;
+use qq_raft_model::a_log_was_handed_the_changes_of_its_server;
 use qq_raft_msg::MemberState;
 use qq_raft_queues::MachineQueue;
 
@@ -54,6 +55,16 @@ impl ClusterQueue {
         self.group.receiver(place)
     }
 
+    /// Whether an op of the member on a node waits to be given to the node's log.
+    pub fn waits_written(&self, node: NodeId) -> bool
+        requires { AreSound self.now.group }
+
+        ensures { OfItsQueue self.now (λ q. result ≡ waits_written node.0 q) }
+    {
+        a_log_was_handed_the_changes_of_its_server();
+        self.group.handed(node) < self.group.op(node)
+    }
+
     /// Whether an op that was given to a node's log waits to be synced, where the member is up.
     pub fn waits_synced(&self, node: NodeId) -> bool
         requires { AreSound self.now.group }
@@ -66,6 +77,37 @@ impl ClusterQueue {
             return false;
         }
         self.synced.at(node) < self.group.handed(node)
+    }
+
+    /// Whether the member on a node is up, and wasn't told yet of all that is synced.
+    pub fn waits_noticed(&self, node: NodeId) -> bool
+        requires { AreSound self.now.group }
+
+        ensures { OfItsQueue self.now (λ q.
+            result ≡ is_up_at node.0 q && waits_noticed node.0 q) }
+    {
+        let up = self.is_up(node);
+        if !up {
+            return false;
+        }
+        self.group.noticed(node) < self.synced.at(node)
+    }
+
+    /// Whether the member on a node is down, or all that it has handed out was given to the log, synced and
+    /// noticed.
+    pub fn is_settled(&self, node: NodeId) -> bool
+        requires { AreSound self.now.group }
+
+        ensures { OfItsQueue self.now (λ q.
+            result ≡ is_quiet_at q (λ k. is_up_at k q) node.0) }
+    {
+        a_log_was_handed_the_changes_of_its_server();
+        let up = self.is_up(node);
+        if !up {
+            return true;
+        }
+        let handed = self.group.handed(node);
+        self.group.op(node) == handed && self.group.noticed(node) == handed
     }
 
     /// Whether no message is on its way, and all that the members that are up have handed out was given to

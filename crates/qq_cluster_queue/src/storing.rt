@@ -1,12 +1,22 @@
 //! What the nodes' logs keep of a queue, and what they give back.
-ghost use Rattle.std.specs.Prelude.{◌≡◌, is_some};
-ghost use Rattle.qq_cluster.specs.Queue.{Syncs};
+ghost use Rattle.std.specs.Prelude.{◌≡◌, None, false, is_some, true, IfErr, OnOk, OnErr, slice_get};
+ghost use Rattle.qq_cluster.specs.Queue.{Finds, Queue, Syncs, happens};
 ghost use Rattle.qq_group.specs.Group.{server_at};
-ghost use Rattle.qq_cluster_queue.specs.ClusterQueue.{Becomes, IsSameQueue};
-ghost use Rattle.qq_cluster_queue.specs.Members.{AreSound};
+ghost use Rattle.qq_group.specs.Restarts.{is_known, Finds as FindsLog, IsFound, IsRestartCaused};
+ghost use Rattle.qq_log.specs.Stable.{no_snapshot};
+ghost use Rattle.qq_raft_core.specs.Raft.{IsWithinEnds};
+ghost use Rattle.qq_raft_model.specs.Group.{has_node};
+ghost use Rattle.qq_raft_msg.specs.Rpc.{IsNode};
+ghost use Rattle.qq_cluster_queue.specs.ClusterQueue.{Becomes, IsSameQueue, Stands};
+ghost use Rattle.qq_cluster_queue.specs.Members.{own_log, AreSound};
+ghost use Rattle.qq_cluster_queue.specs.Sessions.{Standings};
 
 use crate::cluster_queue::ClusterQueue;
+use crate::moves::restart;
 use qq_base::NodeId;
+use qq_group::RestartFault;
+use qq_log::Log;
+use std::alloc::Global;
 
 impl ClusterQueue {
     // Whether the queue has a member on a node that is up.
@@ -32,5 +42,34 @@ impl ClusterQueue {
         }
         let count = self.group.handed(node);
         self.synced.set(node, count);
+    }
+
+    /// A node is restarted, and recovery found this log of the queue's member on it, which is down. `Lost` comes
+    /// exactly where it is known what the log was handed, and this isn't what that comes to, up to an op that
+    /// isn't older than what was noticed. After an error the queue is as it was.
+    pub fn find(&mut self, alloc: Global, node: NodeId, log: Log) -> Result<(), RestartFault>
+        requires sound { AreSound self.old.group }
+        requires node { IsNode node }
+        requires member { has_node node.0 self.old.group.nodes.items ≡ true }
+        requires down { server_at node.0 self.old.group ≡ None }
+        requires whole { log.base ≡ no_snapshot }
+        requires ends { IsWithinEnds log }
+
+        ensures sound { AreSound self.new.group }
+        ensures same { IsSameQueue self.old self.new }
+        ensures ok { OnOk result ((sessions : Standings) (q : Queue) → Stands sessions self.old q →
+            (is_known (slice_get self.old.group.seats.items node.0) ≡ false →
+            IsFound q.group node.0 log) →
+            Stands sessions self.new (happens q (Finds node.0 log.op))) }
+        ensures found { OnOk result (FindsLog own_log node.0 log self.old.group) }
+        ensures err { OnErr result (self.new ≡ self.old) }
+        ensures cause { IfErr result (IsRestartCaused own_log node.0 log self.old.group) }
+    {
+        let (op, _, _) = log.start();
+        if let Err(cause) = restart(alloc, &mut self.group, node, &self.args, log) {
+            return Err(cause);
+        }
+        self.synced.set(node, op);
+        Ok(())
     }
 }
