@@ -162,6 +162,7 @@ Waiting had s (Some bytes) (Some rest) run a b pending = WaitsOver had s bytes r
 pub waiting_start : (had : Histories) (s : Setup) (left : Option (List ℕ)) (Stands : Run → Type 0) (a : Option (List ℕ))
     (pending : List ℕ) → (o : HasOpened had s Stands [] pending)
     → Waiting had s left (prepend_known [] left) (first_run o) a a pending
+unfolding opened
 waiting_start had s None Stands a pending o = led had s [] [] (first_run o) (opened had s [] Stands [] pending o) refl
 waiting_start had s (Some bytes) Stands a pending o = record {
   waits = record {
