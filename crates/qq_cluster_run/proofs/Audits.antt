@@ -11,7 +11,7 @@ use Rattle.qq_script.specs.Audit.{audit_text}
 use Rattle.qq_cluster.specs.Cluster.{Cluster}
 use Rattle.qq_cluster.specs.Queue.{audit_rows}
 use Rattle.qq_cluster.specs.Texts.{audits_text}
-use Rattle.qq_cluster_run.specs.Setup.{IsPlain, Logs, cluster_of, cluster_over, name_by, place_of, row_at}
+use Rattle.qq_cluster_run.specs.Setup.{IsPlain, Logs, cluster_over, name_by, place_of, row_at}
 use Rattle.qq_cluster_run.proofs.PlainRows.{name_is}
 
 -- the audit of a row's queue

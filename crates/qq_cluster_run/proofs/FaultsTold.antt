@@ -1,9 +1,8 @@
 -- What the statuses of a fault tell.
-use Rattle.std.proofs.Common.{◌≡◌, ◌⊎◌, ◌≤◌, ◌^◌, ℕ, zero, suc, false, List, [], ◌∷◌, ◌++◌, length, inl, inr, refl, sym, ap, subst, ◌∙◌, append_assoc, codes, arith}
+use Rattle.std.proofs.Common.{◌≡◌, ◌⊎◌, ◌≤◌, ◌^◌, ℕ, false, List, [], ◌∷◌, ◌++◌, length, inl, inr, refl, sym, ap, subst, ◌∙◌, codes, arith}
 use Rattle.std.specs.Prelude.{Contains}
 use Rattle.std.specs.Fmt.{decimal}
 use Rattle.std.specs.List.{range_with_len}
-use Rattle.std.proofs.lemmas.List.Elements.{Contains-get_or}
 use Rattle.qq_base.proofs.Lists.{AllByRecursion-in}
 use Rattle.qq_model.proofs.Soundness.{in_contains}
 use Rattle.qq_setup.specs.declared.setup.Setup.{Setup}
@@ -17,7 +16,7 @@ use Rattle.qq_cluster_run.specs.Endings.{Ending}
 use Rattle.qq_cluster_run.specs.Inputs.{Input, inputs_of}
 use Rattle.qq_cluster_run.specs.Reading.{Asks, says}
 use Rattle.qq_cluster_run.specs.Runs.{IsSetup}
-use Rattle.qq_cluster_run.specs.Serving.{Behind, EndsDamaged, EndsLost, MayTakeUp, RestartsTo, after_all, run_behind, setup_behind, text_behind}
+use Rattle.qq_cluster_run.specs.Serving.{Behind, EndsDamaged, MayTakeUp, RestartsTo, after_all, run_behind, setup_behind, text_behind}
 use Rattle.qq_cluster_run.specs.Setup.{cluster_over}
 use Rattle.qq_cluster_run.specs.Statuses.{Streams, Met, Had, HasEnded, Over, NextAsks, IsYardFault, NoDisk, AtCrash, MeetsDamage, DamagedAtOpening, DamagedAtRestart, HasLost, IsSpent, SpentAtOpening, SpentAtLine, Told, Done, Refused, ReadFault, WriteFault, YardFault, Damaged, Lost, Limited, NoMemory, Spent}
 use Rattle.qq_cluster_run.specs.Troubles.{Damage, damage_ending, YardFails, DiskFails, FilesBreak, QueueIsFound, NumberEnds}

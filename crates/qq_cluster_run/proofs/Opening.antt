@@ -1,14 +1,14 @@
 -- An opening at which no disk fails recovers a node.
 use Rattle.std.proofs.Common.{◌≡◌, ℕ, zero, suc, false, true, List, [], ◌∷◌, ◌++◌, inl, inr, refl, sym, ap, subst, ◌∙◌, append-nil, append_assoc, arith}
-use Rattle.std.specs.List.{list_any, range_with_len}
+use Rattle.std.specs.List.{range_with_len}
 use Rattle.std.specs.Prelude.{◌<◌}
 use Rattle.std.proofs.lemmas.Bool.{false≢true}
 use Rattle.std.proofs.lemmas.Grind.{flat_map-append}
 use Rattle.qq_setup.specs.declared.setup.Setup.{Setup}
 use Rattle.qq_script_lines.specs.declared.line.ScriptLine.{ScriptLine}
 use Rattle.qq_cluster.specs.Cluster.{Setup as ClusterSetup, ClusterEvent, Fails, FindsEach, new_cluster}
-use Rattle.qq_cluster.specs.ClusterLaws.{IsServedBy, finding, findings, has_failure, is_failure}
-use Rattle.qq_cluster.specs.Rules.{FindsLanes, ForEach, IsFound, IsOpening, IsRestart}
+use Rattle.qq_cluster.specs.ClusterLaws.{IsServedBy, finding, findings, has_failure}
+use Rattle.qq_cluster.specs.Rules.{ForEach, IsOpening, IsRestart}
 use Rattle.qq_cluster_run.specs.Inputs.{Input}
 use Rattle.qq_cluster_run.specs.Reading.{AskFor}
 use Rattle.qq_cluster_run.specs.Serving.{AnyDisks, Behind, HasRecovered}

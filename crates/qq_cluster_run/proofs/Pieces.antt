@@ -99,14 +99,3 @@ next_row a b text said old new row is so =
     subst (λ l. HasPrefix a b text l)
     (ap (λ (rows : List AuditRow). said ++ flat_map row_text rows) is
     ∙ sym (append_assoc said (row_text row) (flat_map row_text new))) so
-
--- where no row is left all was added
-pub no_row : (a b : Option (List ℕ)) (text said : List ℕ) (old : List AuditRow) → old ≡ []
-    → HasPrefix a b text (said ++ flat_map row_text old) → HasPrefix a b text said
-no_row a b text said old is so =
-    subst (λ l. HasPrefix a b text l)
-    (ap (λ (rows : List AuditRow). said ++ flat_map row_text rows) is ∙ append-nil said) so
-
--- what was prepared is left out
-pub some_left : (a b : Option (List ℕ)) (text rest : List ℕ) → HasPrefix a b text rest → HasSomePrefix a b text
-some_left a b text rest so = (rest, so)

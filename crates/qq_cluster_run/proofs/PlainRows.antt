@@ -1,6 +1,6 @@
 -- The queues of a setup without arguments, as a cluster has them.
-use Rattle.std.proofs.Common.{◌≡◌, ◌⊎◌, ℕ, ◌+◌, ◌*◌, ◌/◌, ◌%◌, ◌<◌, ◌≤◌, zero, suc, List, [], ◌∷◌, ◌++◌, map, Option, Some, None, refl, sym, ap, subst, ◌∙◌, inl, inr, codes, arith}
-use Rattle.std.specs.Prelude.{nat_eq, find, min}
+use Rattle.std.proofs.Common.{◌≡◌, ℕ, ◌+◌, ◌*◌, ◌/◌, ◌%◌, ◌<◌, ◌≤◌, zero, suc, List, [], ◌∷◌, ◌++◌, map, Option, Some, refl, sym, ap, subst, ◌∙◌, inl, inr, codes, arith}
+use Rattle.std.specs.Prelude.{nat_eq, min}
 use Rattle.std.specs.List.{range_with_len}
 use Rattle.std.specs.Fmt.{decimal}
 use Rattle.std.proofs.Math.Nat.{div-add-mod, min-le_right, mul-le-mul_left, mul-suc}
@@ -15,8 +15,7 @@ use Rattle.qq_raft_model.specs.Promises.{AreDistinct, IsOpened}
 use Rattle.qq_setup.specs.declared.queue_row.QueueRow.{QueueRow}
 use Rattle.qq_setup.specs.declared.setup.Setup.{Setup}
 use Rattle.qq_setup.specs.Members.{member, members}
-use Rattle.qq_setup.specs.Setup.{SetupState, plain_row, plain_rows, plain_setup, state_of}
-use Rattle.qq_cluster.specs.ClusterLaws.{HasGroups}
+use Rattle.qq_setup.specs.Setup.{SetupState, plain_row, plain_rows, state_of}
 use Rattle.qq_cluster.specs.Laws.{IsBegun}
 use Rattle.qq_cluster_run.specs.Setup.{IsPlain, args_by, cluster_of, first_place, group_over, members_by, name_by, new_logs, place_of, row_at}
 

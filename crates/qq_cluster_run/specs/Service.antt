@@ -1,5 +1,5 @@
 -- What a cluster does that serves the lines of a script.
-use Rattle.std.specs.Prelude.{◌≡◌, ℕ, List, [], ◌++◌}
+use Rattle.std.specs.Prelude.{◌≡◌, ℕ, List, ◌++◌}
 use Rattle.qq_setup.specs.declared.setup.Setup.{Setup}
 use Rattle.qq_script_lines.specs.declared.line.ScriptLine.{ScriptLine}
 use Rattle.qq_cluster.specs.Cluster.{Setup as ClusterSetup, ClusterEvent, new_cluster}
@@ -8,7 +8,7 @@ use Rattle.qq_cluster.specs.Rules.{IsOpening}
 use Rattle.qq_cluster.specs.Texts.{text_of}
 use Rattle.qq_cluster_run.specs.declared.stop.AskStop.{AskStop}
 use Rattle.qq_cluster_run.specs.declared.stop.AskStop.TheVariants.{Ended, NoMemory}
-use Rattle.qq_cluster_run.specs.Serving.{Histories, HasRecovered, MayStop, Run, after_all, all_text, cluster_in, setup_in}
+use Rattle.qq_cluster_run.specs.Serving.{Histories, HasRecovered, MayStop, Run, after_all, all_text}
 use Rattle.qq_cluster_run.specs.Setup.{Logs, cluster_over}
 use Rattle.qq_cluster_run.specs.Troubles.{Trouble}
 

@@ -1,5 +1,5 @@
 -- What an exit status tells of a run, where source and sink tell their bytes.
-use Rattle.std.specs.Prelude.{◌≡◌, ◌⊎◌, ℕ, ◌+◌, ◌^◌, ◌≤◌, List, [], ◌∷◌, ◌++◌, Some, None, Err, take, codes, Contains}
+use Rattle.std.specs.Prelude.{◌≡◌, ◌⊎◌, ℕ, ◌+◌, ◌≤◌, List, [], ◌∷◌, ◌++◌, Some, None, Err, take, codes, Contains}
 use Rattle.std.specs.Fmt.{decimal}
 use Rattle.qq_base.specs.Causes.{Rose}
 use Rattle.qq_disk.specs.declared.image.Image.{Image}
@@ -18,7 +18,7 @@ use Rattle.qq_cluster_run.specs.declared.stop.Stop.{Stop}
 use Rattle.qq_cluster_run.specs.Endings.{Ending, fault_text, no_memory}
 use Rattle.qq_cluster_run.specs.Inputs.{Input, feed_count}
 use Rattle.qq_cluster_run.specs.Reading.{Asks, read_input, says}
-use Rattle.qq_cluster_run.specs.Serving.{Histories, Run, EndsSpent, EndsDamaged, EndsLost, run_behind, setup_behind, text_behind, audits_behind, Served}
+use Rattle.qq_cluster_run.specs.Serving.{Run, EndsSpent, EndsDamaged, EndsLost, run_behind, setup_behind, text_behind, audits_behind, Served}
 use Rattle.qq_cluster_run.specs.Runs.{BreaksOff, HasNoDisk, HasStopped, ending_of, IsSetup, MayNotOpen, RunEnds}
 use Rattle.qq_cluster_run.specs.Setup.{Logs, cluster_over}
 use Rattle.qq_cluster_run.specs.Troubles.{Trouble, YardFails}
