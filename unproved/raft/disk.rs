@@ -1,8 +1,10 @@
 //! The disk of a member.
 
+use crate::party::publish;
+use crate::starts::Start;
 use anyhow::{Result, bail, ensure};
-use qq_base::{Duplicate, QueueId};
-use qq_entry::Entries;
+use qq_base::{Duplicate, NodeId, QueueId, Term};
+use qq_entry::{Entries, Entry};
 use qq_log::{Lane, Log, Op};
 use std::alloc::Global;
 use std::mem;
@@ -22,6 +24,33 @@ impl Disk {
         Disk {
             lane: Lane::empty(alloc, QUEUE),
         }
+    }
+
+    /// A disk that holds this, after one op where it holds anything. Each entry's time is its index, and its body
+    /// has so many bytes.
+    pub fn of(alloc: Global, start: &Start, size: usize) -> Result<Self> {
+        let mut lane = Lane::empty(alloc, QUEUE);
+        if start.term == 0 {
+            return Ok(Disk { lane });
+        }
+        let mut entries = Vec::new(alloc);
+        for term in &start.log {
+            entries.push(Entry {
+                term: Term(*term),
+                time: entries.len() as u64 + 1,
+                command: publish(alloc, size)?,
+            })?;
+        }
+        lane.op = 1;
+        lane.term = Term(start.term);
+        lane.vote = (start.vote > 0).then_some(NodeId(start.vote));
+        lane.entries = Entries::from_vec(entries);
+        Ok(Disk { lane })
+    }
+
+    /// Its entries.
+    pub fn entries(&self) -> &[Entry] {
+        self.lane.entries.as_slice()
     }
 
     /// The same disk once more.

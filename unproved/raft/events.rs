@@ -2,6 +2,9 @@
 //! lines are
 //!
 //! - `group COUNT`: from here on a new group of COUNT members over new disks, all of them up;
+//! - `disk TERM VOTE TERM..`: what the next disk holds: its term, the node that it voted for or 0, and the terms of
+//!   its entries. `open COUNT`: from here on a group over these disks, whose audit has the first COUNT entries of
+//!   the first one. The answer says whether the disks support it. Each of their entries fills a message;
 //! - `tick N`, `crash N`: time passes at a member, or it crashes;
 //! - `publish N [COUNT [SIZE]]`: COUNT commands reach a member, each with a body of SIZE bytes; `add N [COUNT
 //!   [SIZE]]`: the same, but that they aren't sent before the next `flush N`;
@@ -11,18 +14,25 @@
 //!   durable, all that its disk holds or those up to an op;
 //! - `restart N OP`: a member that is down restarts over what its disk held when an op was the last on it;
 //! - `settle`: messages are delivered, ops written and noticed, until nothing is left;
-//! - `state`, `audit`, `bag`: each member, the terms of the committed entries, and whom messages are for.
+//! - `state`, `audit`, `log N`, `bag`: each member, the terms of the committed entries and of a member's, and whom
+//!   messages are for.
 //!
 //! An answer says that the event didn't happen, and why, or which entries a leader answers by it.
 
 use crate::disk::Disk;
 use crate::party::Party;
+use crate::starts::{self, Start, are_supported};
 use anyhow::{Context, Result, bail};
 use cases::{Words, answer_lines};
 use qq_base::NodeId;
+use qq_entry::Entry;
 use qq_group::{Event, Outcome, Shown};
 use qq_raft_msg::Role;
 use std::alloc::Global;
+use std::mem;
+
+/// The bytes of a body of which a message holds one.
+const FULL: usize = 600_000;
 
 /// The rounds after which nothing may be on its way.
 const ROUNDS: u32 = 1_000;
@@ -33,6 +43,7 @@ struct Stage {
     alloc: Global,
     party: Party,
     older: Vec<(u8, Disk)>,
+    starts: Vec<Start>,
     submitted: u64,
 }
 
@@ -56,12 +67,22 @@ fn text(alloc: Global, shown: &Shown) -> Result<String> {
     Ok(text)
 }
 
+/// The terms of entries, in order.
+fn terms(alloc: Global, entries: &[Entry]) -> Result<String> {
+    let mut text = String::from_str(alloc, "terms")?;
+    for entry in entries {
+        write!(text, " {}", entry.term.0)?;
+    }
+    Ok(text)
+}
+
 impl Stage {
     fn new(alloc: Global, count: u8) -> Result<Stage> {
         Ok(Stage {
             alloc,
             party: Party::new(alloc, count)?,
             older: Vec::new(alloc),
+            starts: Vec::new(alloc),
             submitted: 0,
         })
     }
@@ -100,6 +121,8 @@ impl Stage {
     fn many_events(&mut self, word: &str, words: &mut Words) -> Result<String> {
         match word {
             "group" => *self = Stage::new(self.alloc, words.number()?)?,
+            "disk" => self.add_start(words)?,
+            "open" => return self.open(words.number()?),
             "to" => self.deliver_to(words.number()?)?,
             "drop" => self.party.lose_all()?,
             "write" => {
@@ -108,11 +131,36 @@ impl Stage {
             "settle" => self.settle()?,
             "restart" => return self.restart(words.number()?, words.number()?),
             "state" => return self.state(),
-            "audit" => return self.audit(),
+            "audit" => return terms(self.alloc, self.party.audit()),
+            "log" => return self.log(words.number()?),
             "bag" => return self.bag(),
             _ => bail!("no such line"),
         }
         Ok(String::new(self.alloc))
+    }
+
+    fn add_start(&mut self, words: &mut Words) -> Result<()> {
+        let (term, vote) = (words.number()?, words.number()?);
+        let log = words.numbers(self.alloc)?;
+        self.starts.push(Start { term, vote, log })?;
+        Ok(())
+    }
+
+    /// A group over the disks that were told, whether or not they support its audit.
+    fn open(&mut self, audited: usize) -> Result<String> {
+        let starts = mem::replace(&mut self.starts, Vec::new(self.alloc));
+        let audit = starts.first().and_then(|start| start.log.get(..audited));
+        let supported = are_supported(audit.context("no such entries")?, &starts);
+        *self = Stage {
+            party: starts::open(self.alloc, &starts, audited, FULL)?,
+            ..Stage::new(self.alloc, 1)?
+        };
+        let answer = if supported {
+            "supported"
+        } else {
+            "not supported"
+        };
+        Ok(String::from_str(self.alloc, answer)?)
     }
 
     /// Commands reach a member, each at the time that is its number, and are sent at once or not. The outcome of
@@ -219,13 +267,11 @@ impl Stage {
         Ok(text)
     }
 
-    /// The terms of the entries that were committed, in order.
-    fn audit(&self) -> Result<String> {
-        let mut text = String::from_str(self.alloc, "terms")?;
-        for entry in self.party.audit() {
-            write!(text, " {}", entry.term.0)?;
-        }
-        Ok(text)
+    /// The terms of a member's entries, in order.
+    fn log(&self, node: u8) -> Result<String> {
+        let state = self.party.member(node).context("the member is down")?;
+        let entries = self.party.entries(node, 1, state.last.0)?;
+        terms(self.alloc, entries.as_slice())
     }
 
     /// Whom the messages are for, in order.

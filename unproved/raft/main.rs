@@ -2,6 +2,7 @@
 //!
 //! - `events`: cases of a group's events (`events.rs`);
 //! - `schedule SEED STEPS`: a random schedule of events (`schedule.rs`);
+//! - `starts SEED DRAWS STEPS`: random schedules over random disks that support an audit (`starts.rs`);
 //! - `terms`: entries of an older term are committed (`terms.rs`);
 //! - `trials`: checks by name.
 #![tactic(auto)]
@@ -12,6 +13,7 @@ mod events;
 mod messages;
 mod party;
 mod schedule;
+mod starts;
 mod terms;
 mod watch;
 
@@ -19,7 +21,8 @@ use anyhow::{Context, Result, bail};
 use cases::Trials;
 use std::env;
 
-const USAGE: &str = "usage: raft events | schedule SEED STEPS | terms | trials";
+const USAGE: &str =
+    "usage: raft events | schedule SEED STEPS | starts SEED DRAWS STEPS | terms | trials";
 
 fn check_all(rt: HostRuntime) -> Result<()> {
     let mut trials = Trials::new(rt);
@@ -40,6 +43,12 @@ fn main(rt: HostRuntime) -> Result<()> {
         ("schedule", [seed, steps]) => {
             schedule::run(rt, number(seed.as_str())?, number(steps.as_str())?)
         }
+        ("starts", [seed, draws, steps]) => starts::run(
+            rt,
+            number(seed.as_str())?,
+            number(draws.as_str())?,
+            number(steps.as_str())?,
+        ),
         ("terms", []) => terms::run(rt),
         ("trials", []) => check_all(rt),
         _ => bail!("{USAGE}"),

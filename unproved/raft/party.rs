@@ -69,6 +69,25 @@ impl Party {
         })
     }
 
+    /// A group over these disks, which goes on with an audit of the first disk's first entries.
+    pub fn over(alloc: Global, disks: Vec<Disk>, audited: usize) -> Result<Party> {
+        let first = disks.first().context("no disk")?;
+        let audited = first
+            .entries()
+            .get(..audited)
+            .context("an entry is missing")?;
+        let audit: Vec<Entry> = audited
+            .iter()
+            .map(|entry| entry.copy(alloc))
+            .try_collect(alloc)?;
+        Ok(Party {
+            count: disks.len() as u8,
+            alloc,
+            group: open(alloc, Entries::from_vec(audit), &disks)?,
+            disks,
+        })
+    }
+
     /// All members crash, and start again over their disks as they stand. What is on its way is lost.
     pub fn reopen(&mut self) -> Result<()> {
         let audit: Vec<Entry> = self
@@ -169,11 +188,36 @@ impl Party {
     /// The next op of a member is written to its disk. Returns whether there was one.
     pub fn write(&mut self, node: u8) -> Result<bool> {
         let alloc = self.alloc;
-        let Some(op) = self.group.waiting(alloc, NodeId(node))? else {
+        let Some(op) = self.group.waiting(NodeId(node)) else {
             return Ok(false);
         };
         self.disk(node)?.write(alloc, op)?;
         Ok(true)
+    }
+
+    /// All ops of a member that wait are written to its disk, at once.
+    pub fn write_each(&mut self, node: u8) -> Result<Shown> {
+        let alloc = self.alloc;
+        for op in self.group.take_ops(alloc, NodeId(node))? {
+            self.disk(node)?.write(alloc, op)?;
+        }
+        self.notice(node)
+    }
+
+    /// The next op of a member is given back, and so is the next one again.
+    pub fn hesitate(&mut self, node: u8) -> Result<Shown> {
+        for _ in 0..2 {
+            let before = self.group.handed(NodeId(node));
+            let Some(op) = self.group.waiting(NodeId(node)) else {
+                break;
+            };
+            self.group.give_back(NodeId(node), op);
+            ensure!(
+                self.group.handed(NodeId(node)) == before,
+                "an op isn't taken back"
+            );
+        }
+        self.notice_op(node, 0)
     }
 
     /// All messages that are on their way reach their members. Returns how many they were.

@@ -1,8 +1,0 @@
-use Rattle.qq_raft_pins.proofs.Causes.{comes-past, found-past}
-use Rattle.qq_raft_pins.proofs.applying.a_number_of_the_queue_passes_its_end.Goals as goal
-
-pub returns-clause-found : goal.returns-clause-found
-returns-clause-found g c = found-past g.Q.Queue.step g.Q.Queue.passes_end
-
-pub returns-clause-comes : goal.returns-clause-comes
-returns-clause-comes g c = comes-past g.Q.Queue.step g.Q.Queue.passes_end
