@@ -15,7 +15,6 @@ use Rattle.qq_disk.specs.Crash.{Remains, reopen}
 use Rattle.qq_disk.specs.Disk.{Disk, now, whole}
 use Rattle.qq_disk.specs.Image.{image_of, log_of}
 use Rattle.qq_disk.specs.declared.image.Image.{Image}
-use Rattle.qq_wal_chain.specs.Image.{is_removed}
 use Rattle.qq_wal_chain.specs.Lanes.{Lanes, IsStateOf, is_listed, of_queue}
 use Rattle.qq_wal_chain.specs.Laws.{HoldsOps, KeepsPromise}
 use Rattle.qq_wal_chain.proofs.Promised.{empty-keeps}
@@ -29,9 +28,10 @@ use Rattle.qq_recover.specs.declared.fault.RecoverFault.{RecoverFault}
 use Rattle.qq_recover.specs.declared.fault.RecoverFault.TheVariants.{Memory as OfMemory}
 use Rattle.qq_recover.specs.Recovered.{IsLaneFor, IsNewLog, IsNoRefusal, KnowsLanes, lanes_left, wal_of}
 use Rattle.qq_recover.specs.Recovery.{SettlesLanes}
+use Rattle.qq_recover.proofs.Promised.{opened-may}
 use Rattle.qq_wal.proofs.Agreeing.{or-new}
 use Rattle.qq_wal.specs.Marks.{carry_or_new}
-use Rattle.qq_wal.specs.Running.{top, NoneRemoved, Stays}
+use Rattle.qq_wal.specs.Running.{top, MayRecover, Stays}
 use Rattle.qq_wal.specs.declared.wal.Wal.{Wal}
 use Rattle.qq_wal.specs.Wal.{IsSound, carries_ahead}
 use Rattle.qq_world.specs.Node.{Setup, Node, FindsEach, new_node}
@@ -246,21 +246,16 @@ begins-linked queues lanes old new stays settles setup same fresh =
 
 -- ---- disks that may be recovered
 
-reopened : (i : Remains) → NoneRemoved (reopen i)
-reopened i n = by (i (log_of n))
-  where
-    by : (left : Option (List ℕ)) → is_removed (option_map whole left) ≡ false
-    by None = refl
-    by (Some bytes) = refl
-
 -- a disk that was crashed
-pub crashed-whole : (image : Image) (old new : List Disk) → LeavesImage image old new → NoneRemoved (now new)
-crashed-whole image old new (left, alone) =
-    subst NoneRemoved (sym left.left) (reopened (image_of image left.newest (now old)))
+pub crashed-may : (queues : List QueueId) (image : Image) (old new : List Disk) → LeavesImage image old new
+    → MayRecover queues (now new)
+crashed-may queues image old new (left, alone) =
+    subst (MayRecover queues) (sym left.left) (opened-may queues (image_of image left.newest (now old)))
 
 -- and a new one
-pub new-whole : (past : List Disk) → IsNew past → NoneRemoved (now past)
-new-whole past fresh = subst (λ (p : List Disk). NoneRemoved (now p)) (sym fresh) (λ n. refl)
+pub new-may : (queues : List QueueId) (past : List Disk) → IsNew past → MayRecover queues (now past)
+new-may queues past fresh =
+    subst (λ (p : List Disk). MayRecover queues (now p)) (sym fresh) (opened-may queues (λ file. None))
 
 -- ---- what recovery gives, and where it fails
 

@@ -19,8 +19,14 @@ use Rattle.qq_wal.proofs.wal.Wal.sync_batch.Goals as goal
 pub returns-in-Err-sync_file-clause-stays : goal.returns-in-Err-sync_file-clause-stays
 returns-in-Err-sync_file-clause-stays g c = λ told. c.sync_file.ensures.stays told c.args.self.now.queues.items
 
+pub returns-in-Err-sync_file-clause-may : goal.returns-in-Err-sync_file-clause-may
+returns-in-Err-sync_file-clause-may g c = λ told. c.sync_file.ensures.may told c.args.self.now.queues.items
+
 pub returns-clause-stays : goal.returns-clause-stays
 returns-clause-stays g c = λ told. c.sync_file.ensures.stays told c.args.self.now.queues.items
+
+pub returns-clause-may : goal.returns-clause-may
+returns-clause-may g c = λ told. c.sync_file.ensures.may told c.args.self.now.queues.items
 
 pub returns-clause-noticed : goal.returns-clause-noticed
 returns-clause-noticed g c = λ told.
