@@ -1,1 +1,3 @@
-mod Supporting
+pub mod Reached
+pub mod Seats
+pub mod Unseen

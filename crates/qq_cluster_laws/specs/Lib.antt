@@ -1,2 +1,5 @@
 pub mod Linked
-pub mod Held
+pub mod Unseen
+pub mod Traced
+pub mod Serves
+pub mod Waiting

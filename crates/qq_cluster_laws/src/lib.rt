@@ -1,6 +1,6 @@
-//! What the disks of a cluster's nodes keep of its queues, whatever happens. It has no code.
+//! Laws.
 #![tactic(auto)]
 
 mod laws;
 
-pub use laws::disks_support_the_audits;
+pub use laws::none;

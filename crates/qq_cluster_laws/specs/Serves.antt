@@ -1,0 +1,58 @@
+-- What a call of a cluster has done, by a rule, and what one leaves that is given up.
+use Rattle.std.specs.Prelude.{◌≡◌, ◌≤◌, ℕ, Bool, true, false, List, ◌++◌, IsTrue, nat_eq}
+use Rattle.std.specs.List.{list_any}
+use Rattle.qq_base.specs.Causes.{Rose}
+use Rattle.qq_disk.specs.Disk.{Disk, now}
+use Rattle.qq_raft_protocol.specs.Facts.{In}
+use Rattle.qq_cluster.specs.Cluster.{Cluster, ClusterEvent, Setup, Fails, cluster_after}
+use Rattle.qq_cluster.specs.Texts.{text_of}
+use Rattle.qq_cluster_laws.specs.Linked.{IsLinked}
+use Rattle.qq_cluster_laws.specs.Traced.{HasNoCrash, IsBrokenAt, IsTracedAt}
+
+-- what a clause sees of a node's disk: whether it tells its contents, what it was so far, and how often it failed
+pub record Seen : Type 0 where
+  pub tells : Bool
+  pub past : List Disk
+  pub faults : ℕ
+
+abbrev pub seen_of : {D : Type 0} → (D → Bool) → (D → List Disk) → (D → ℕ) → D → Seen
+seen_of tells past faults d = record { tells = tells d; past = past d; faults = faults d }
+
+-- a call of a node's disk has failed
+abbrev pub is_failure_at : ℕ → ClusterEvent → Bool
+is_failure_at k (Fails j) = nat_eq j k
+is_failure_at k _ = false
+
+abbrev pub fails_at : ℕ → List ClusterEvent → Bool
+fails_at k events = list_any (is_failure_at k) events
+
+-- Some events happened, which the rule allows, and no crash: the cluster is as they leave it, what they print was added
+-- to the text, and each node's disk was at each moment what they say, where its log was linked before. A disk failed only
+-- where its count rose.
+pub record Serves (setup : Setup) (c : Cluster) (Allowed : List ClusterEvent → Type 0) (Stands : Cluster → Type 0)
+    (a b : ℕ → Seen) (before later : List ℕ) : Type 0 where
+  pub events : List ClusterEvent
+  pub means : Allowed events
+  pub no_crash : (k : ℕ) → HasNoCrash k events
+  pub stands : Stands (cluster_after c events)
+  pub says : later ≡ before ++ text_of setup c events
+  pub told : (k : ℕ) → (b k).tells ≡ (a k).tells
+  pub rises : (k : ℕ) → (a k).faults ≤ (b k).faults
+  pub cause : (k : ℕ) → fails_at k events ≡ true → Rose (a k).faults (b k).faults
+  pub moments : (k : ℕ) → In k setup.nodes → IsTrue (a k).tells → IsLinked setup c k (now (a k).past)
+      → IsTracedAt setup c k events (a k).past (b k).past
+
+-- There was no memory, or a number is at its end. Some events happened, and no crash, the last of them perhaps in part:
+-- at each moment of the call each node's disk keeps what its log had promised by then, where the log was linked before.
+pub record GivesUp (setup : Setup) (c : Cluster) (a b : ℕ → Seen) : Type 0 where
+  pub events : List ClusterEvent
+  pub no_crash : (k : ℕ) → HasNoCrash k events
+  pub told : (k : ℕ) → (b k).tells ≡ (a k).tells
+  pub rises : (k : ℕ) → (a k).faults ≤ (b k).faults
+  pub moments : (k : ℕ) → In k setup.nodes → IsTrue (a k).tells → IsLinked setup c k (now (a k).past)
+      → IsBrokenAt setup c k events (a k).past (b k).past
+
+-- what follows by the rest of a rule, the whole rule allows
+abbrev pub Leads : (Cluster → List ClusterEvent → Type 0) → (Cluster → List ClusterEvent → Type 0) → Cluster
+    → List ClusterEvent → Type 0
+Leads Rest Whole c events = (late : List ClusterEvent) → Rest (cluster_after c events) late → Whole c (events ++ late)

@@ -1,0 +1,12 @@
+pub mod Rising
+pub mod Traces
+pub mod Serves
+pub mod Quiet
+pub mod Walks
+pub mod Outside
+pub mod Causes
+pub mod Items
+pub mod Stands
+pub mod OneQueue
+pub mod Pumping
+pub mod LineRules

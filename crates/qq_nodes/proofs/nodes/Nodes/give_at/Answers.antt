@@ -1,0 +1,16 @@
+use Rattle.std.proofs.Common.{sym, ◌∙◌}
+use Rattle.std.proofs.lemmas.Result.{on_ok_weaker}
+use Rattle.qq_nodes.proofs.LineRules.{gives, gives-ended}
+use Rattle.qq_nodes.proofs.nodes.Nodes.give_at.Goals as goal
+
+pub returns-then-ended-clause-ok : goal.returns-then-ended-clause-ok
+returns-then-ended-clause-ok g c =
+    on_ok_weaker c.ask.result
+    (λ served. gives-ended c.args.at c.args.session c.args.body c.requires.place
+    (sym c.if-ended.true ∙ c.is_ended-ended.ensures) served) c.ask.ensures.ok
+
+pub returns-clause-ok : goal.returns-clause-ok
+returns-clause-ok g c =
+    on_ok_weaker c.ask-2.result
+    (λ served. gives c.args.at c.args.session c.args.body c.requires.place
+    (sym c.if-ended.false ∙ c.is_ended-ended.ensures) served) c.ask-2.ensures.ok
