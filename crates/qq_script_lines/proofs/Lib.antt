@@ -1,4 +1,5 @@
 mod Causes
 mod Counts
+mod Limits
 mod Reading
 mod Writings

@@ -1,11 +1,11 @@
 -- What the words of the command `script` say.
-use Rattle.std.specs.Prelude.{ℕ, ◌==◌, List, [], ◌∷◌, Bool, length, codes, nat_eq, Option, Some, None, if◌then◌else◌}
+use Rattle.std.specs.Prelude.{ℕ, ◌≤◌, ◌==◌, List, [], ◌∷◌, Bool, length, codes, nat_eq, Option, Some, None, if◌then◌else◌}
 use Rattle.std.specs.List.{position_or_len, before_first, after_first}
 use Rattle.std.specs.Option.{is_some, option_map, option_and_then}
 use Rattle.std.specs.Str.{bytes_eq}
 use Rattle.qq_script_lines.specs.Numbers.{number_in}
 use Rattle.qq_script_lines.specs.declared.options.Options.{Options}
-use Rattle.qq_script_lines.specs.declared.options.TheConstants.{QUEUES_MOST, LOG_BYTES, LOG_BYTES_LEAST, LOG_BYTES_MOST}
+use Rattle.qq_script_lines.specs.declared.options.TheConstants.{NODES_MOST, GROUP, QUEUES_MOST, LOG_BYTES, LOG_BYTES_LEAST, LOG_BYTES_MOST}
 use Rattle.qq_script_lines.specs.declared.option_words.Draft.{Draft}
 use Rattle.qq_script_lines.specs.declared.option_words.Name.{Name}
 use Rattle.qq_script_lines.specs.declared.option_words.Name.TheVariants as names
@@ -14,11 +14,23 @@ use Rattle.qq_script_lines.specs.declared.option_words.Name.TheVariants as names
 
 abbrev pub name_of : List ℕ → Option Name
 name_of word =
-    if bytes_eq word (codes "--queues") then Some names.Queues
+    if bytes_eq word (codes "--nodes") then Some names.Nodes
+    else if bytes_eq word (codes "--group") then Some names.Group
+    else if bytes_eq word (codes "--queues") then Some names.Queues
     else if bytes_eq word (codes "--log-bytes") then Some names.LogBytes
     else None
 
 -- an option's value, which is a number in its range; each option has one at most
+abbrev pub set_nodes : List ℕ → Draft → Option Draft
+set_nodes value d =
+    if is_some d.nodes then None
+    else option_map (λ number. record d { nodes = Some number; name = None }) (number_in 1 NODES_MOST value)
+
+abbrev pub set_group : List ℕ → Draft → Option Draft
+set_group value d =
+    if is_some d.group then None
+    else option_map (λ number. record d { group = Some number; name = None }) (number_in 1 NODES_MOST value)
+
 abbrev pub set_queues : List ℕ → Draft → Option Draft
 set_queues value d =
     if is_some d.queues then None
@@ -31,6 +43,8 @@ set_log_bytes value d =
     (number_in LOG_BYTES_LEAST LOG_BYTES_MOST value)
 
 abbrev pub set : Name → List ℕ → Draft → Option Draft
+set names.Nodes value d = set_nodes value d
+set names.Group value d = set_group value d
 set names.Queues value d = set_queues value d
 set names.LogBytes value d = set_log_bytes value d
 
@@ -70,14 +84,20 @@ abbrev pub or_else : Option ℕ → ℕ → ℕ
 or_else None other = other
 or_else (Some number) other = number
 
--- no option is left without its value; what isn't said is one queue, and log files of 4 MiB
+-- No option is left without its value. What isn't said is one node, groups of three, one queue, and log files of 4 MiB.
 abbrev pub options_of : Draft → Option Options
 options_of d =
     if is_some d.name then None
-    else Some (record { queues = or_else d.queues 1; log_bytes = or_else d.log_bytes LOG_BYTES })
+    else
+    Some (record {
+      nodes = or_else d.nodes 1;
+      group = or_else d.group GROUP;
+      queues = or_else d.queues 1;
+      log_bytes = or_else d.log_bytes LOG_BYTES;
+    })
 
 abbrev pub no_options : Draft
-no_options = record { queues = None; log_bytes = None; name = None }
+no_options = record { nodes = None; group = None; queues = None; log_bytes = None; name = None }
 
 abbrev pub options_in : List (List ℕ) → Option Options
 options_in words = option_and_then options_of (read_words no_options words)
@@ -86,3 +106,6 @@ options_in words = option_and_then options_of (read_words no_options words)
 unfoldable pub read_options : List (List ℕ) → Option Options
 read_options [] = None
 read_options (word ∷ words) = if bytes_eq word (codes "script") then options_in words else None
+
+abbrev pub IsWithin : ℕ → ℕ → ℕ → Type 0
+IsWithin first last n = (first ≤ n) × (n ≤ last)

@@ -20,8 +20,10 @@ pub use fault::ScriptFault;
 pub use laws::{faults_of_lines_have_causes, numbers_are_decimal_texts};
 pub use line::{LINE_LIMIT, Nodes, Place, ScriptLine};
 pub use numbers::number_in;
-pub use option_laws::options_stand_in_any_order;
+pub use option_laws::{options_are_within_limits, options_stand_in_any_order};
 pub use option_words::read_options;
-pub use options::{LOG_BYTES, LOG_BYTES_LEAST, LOG_BYTES_MOST, Options, QUEUES_MOST};
+pub use options::{
+    GROUP, LOG_BYTES, LOG_BYTES_LEAST, LOG_BYTES_MOST, NODES_MOST, Options, QUEUES_MOST,
+};
 pub use parse::{parse_line, text_in};
 pub use words::{parts_of, text_of};

@@ -1,13 +1,17 @@
 ghost use Rattle.std.specs.Prelude.{◌≡◌, map, string_bytes};
 ghost use Rattle.std.specs.Option.{option_map};
-ghost use Rattle.qq_script_lines.specs.Options.{name_of, set_queues, set_log_bytes, set, name_in, value_in, begin, read_word, read_words, options_of, no_options, options_in, read_options};
+ghost use Rattle.qq_script_lines.specs.Options.{name_of, set_nodes, set_group, set_queues, set_log_bytes, set, name_in, value_in, begin, read_word, read_words, options_of, no_options, options_in, read_options};
 
 use crate::number_in;
-use crate::options::{LOG_BYTES, LOG_BYTES_LEAST, LOG_BYTES_MOST, Options, QUEUES_MOST};
+use crate::options::{
+    GROUP, LOG_BYTES, LOG_BYTES_LEAST, LOG_BYTES_MOST, NODES_MOST, Options, QUEUES_MOST,
+};
 
 /// An option.
 #[derive(Clone, Copy)]
 pub enum Name {
+    Nodes,
+    Group,
     Queues,
     LogBytes,
 }
@@ -15,6 +19,8 @@ pub enum Name {
 /// What the words so far have said, and the option whose value is the next word.
 #[derive(Clone, Copy)]
 pub struct Draft {
+    nodes: Option<u8>,
+    group: Option<u8>,
     queues: Option<u32>,
     log_bytes: Option<u64>,
     name: Option<Name>,
@@ -24,6 +30,8 @@ fn name_of(word: &str) -> Option<Name>
     ensures { result ≡ name_of word.now }
 {
     match word {
+        "--nodes" => Some(Name::Nodes),
+        "--group" => Some(Name::Group),
         "--queues" => Some(Name::Queues),
         "--log-bytes" => Some(Name::LogBytes),
         _ => None,
@@ -46,9 +54,43 @@ impl Draft {
         ensures { result ≡ no_options }
     {
         Draft {
+            nodes: None,
+            group: None,
             queues: None,
             log_bytes: None,
             name: None,
+        }
+    }
+
+    fn set_nodes(self, value: &str) -> Option<Draft>
+        ensures { result ≡ set_nodes value.now self }
+    {
+        if self.nodes.is_some() {
+            return None;
+        }
+        match number_in(1, NODES_MOST, value) {
+            Some(number) => Some(Draft {
+                nodes: Some(number as u8),
+                name: None,
+                ..self
+            }),
+            None => None,
+        }
+    }
+
+    fn set_group(self, value: &str) -> Option<Draft>
+        ensures { result ≡ set_group value.now self }
+    {
+        if self.group.is_some() {
+            return None;
+        }
+        match number_in(1, NODES_MOST, value) {
+            Some(number) => Some(Draft {
+                group: Some(number as u8),
+                name: None,
+                ..self
+            }),
+            None => None,
         }
     }
 
@@ -88,6 +130,8 @@ impl Draft {
         ensures { result ≡ set name value.now self }
     {
         match name {
+            Name::Nodes => self.set_nodes(value),
+            Name::Group => self.set_group(value),
             Name::Queues => self.set_queues(value),
             Name::LogBytes => self.set_log_bytes(value),
         }
@@ -126,6 +170,8 @@ impl Draft {
             return None;
         }
         Some(Options {
+            nodes: self.nodes.unwrap_or(1),
+            group: self.group.unwrap_or(GROUP),
             queues: self.queues.unwrap_or(1),
             log_bytes: self.log_bytes.unwrap_or(LOG_BYTES),
         })
@@ -145,8 +191,9 @@ fn options_in(words: &[String]) -> Option<Options>
     draft.options()
 }
 
-/// Reads the words of the command `script`: `--queues N`, from 1 to 1,024, and `--log-bytes N`, from 65,536 to
-/// 67,108,864, in any order, each once at most, as two words or as `--queues=N`.
+/// Reads the words of the command `script`: `--nodes N` and `--group N`, from 1 to 7, `--queues N`, from 1 to
+/// 1,024, and `--log-bytes N`, from 65,536 to 67,108,864, in any order, each once at most, as two words or as
+/// `--queues=N`.
 ///
 /// - `value`: it is what the words say; None where they say anything else.
 #[tactic(auto, unfolding(crate::specs::Options::read_options))]

@@ -1,9 +1,15 @@
-ghost use Rattle.std.specs.Prelude.{◌≡◌, IfOk, IsOkUnless};
+ghost use Rattle.std.specs.Prelude.{◌≡◌, ◌<◌, IfOk, IsOkUnless};
 ghost use Rattle.qq_setup.specs.Setup.{state_of, plain_setup};
 
 use qq_base::Memory;
 use qq_setup::Setup;
 use std::alloc::Global;
+
+/// The most nodes that a script may have, and the most members of a group.
+pub const NODES_MOST: u64 = 7;
+
+/// How many members a group has, where the words don't say it and there are as many nodes.
+pub const GROUP: u8 = 3;
 
 /// The most queues that a script may have.
 pub const QUEUES_MOST: u64 = 1_024;
@@ -20,6 +26,10 @@ pub const LOG_BYTES_MOST: u64 = 67_108_864;
 /// What a script is run with.
 #[derive(Clone, Copy)]
 pub struct Options {
+    /// How many nodes there are, from 1 to `NODES_MOST`.
+    pub nodes: u8,
+    /// How many members each queue's group has, from 1 to `NODES_MOST`; at most one on each node.
+    pub group: u8,
     /// How many queues there are, from 1 to `QUEUES_MOST`.
     pub queues: u32,
     /// How many bytes a log file may have before a new one begins.
@@ -27,12 +37,13 @@ pub struct Options {
 }
 
 impl Options {
-    /// The setup of one node: queues `q1`, `q2` and so on with no arguments, each alone in its group.
+    /// The setup of these nodes: queues `q1`, `q2` and so on with no arguments, in groups of this size.
     pub fn setup(self, alloc: Global) -> Result<Setup, Memory>
-        ensures ok { IfOk result (λ setup.
-            state_of setup ≡ plain_setup 1 1 self.queues self.log_bytes) }
+        requires { 0 < self.nodes }
+        ensures ok { IfOk result (λ setup. state_of setup
+            ≡ plain_setup self.nodes self.group self.queues self.log_bytes) }
         ensures want { IsOkUnless result Memory.Want }
     {
-        Setup::plain(alloc, 1, 1, self.queues, self.log_bytes)
+        Setup::plain(alloc, self.nodes, self.group, self.queues, self.log_bytes)
     }
 }

@@ -49,3 +49,31 @@ returns-clause-other c = refl
 pub returns-clause-no_words : goal.returns-clause-no_words
 unfolding read_options
 returns-clause-no_words c = refl
+
+pub returns-clause-nodes : goal.returns-clause-nodes
+unfolding read_options
+returns-clause-nodes c = refl
+
+pub returns-clause-alone : goal.returns-clause-alone
+unfolding read_options
+returns-clause-alone c = refl
+
+pub returns-clause-nodes_twice : goal.returns-clause-nodes_twice
+unfolding read_options
+returns-clause-nodes_twice c = refl
+
+pub returns-clause-no_node : goal.returns-clause-no_node
+unfolding read_options
+returns-clause-no_node c = refl
+
+pub returns-clause-no_member : goal.returns-clause-no_member
+unfolding read_options
+returns-clause-no_member c = refl
+
+pub returns-clause-many_nodes : goal.returns-clause-many_nodes
+unfolding read_options
+returns-clause-many_nodes c = refl
+
+pub returns-clause-many_members : goal.returns-clause-many_members
+unfolding read_options
+returns-clause-many_members c = refl

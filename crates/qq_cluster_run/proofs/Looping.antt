@@ -1,0 +1,89 @@
+-- Between two lines of a run: so many were served, and what the last one printed isn't written yet.
+use Rattle.std.proofs.Common.{◌≡◌, ℕ, ◌+◌, List, [], ◌++◌, Option, Some, refl, sym, ap, subst, ◌∙◌}
+use Rattle.std.specs.Prelude.{IfSome}
+use Rattle.std.specs.Io.KnownBytes.{Appends, IsAtEnd, prepend_known}
+use Rattle.std.proofs.lemmas.Option.{IfSome_then}
+use Rattle.qq_setup.specs.declared.setup.Setup.{Setup}
+use Rattle.qq_ports.specs.Lines.{first_line, ahead, TakesLine, FirstLineLeads}
+use Rattle.qq_cluster.specs.Texts.{audits_text}
+use Rattle.qq_cluster_run.specs.declared.status.TheConstants.{DONE}
+use Rattle.qq_cluster_run.specs.Answers.{Answers, IsServedToEnd}
+use Rattle.qq_cluster_run.specs.Pieces.{HasSomePrefix}
+use Rattle.qq_cluster_run.specs.Runs.{BreaksOff, IsDone}
+use Rattle.qq_cluster_run.specs.Service.{HasOpened}
+use Rattle.qq_cluster_run.specs.Serving.{Histories, Run, cluster_in, setup_in}
+use Rattle.qq_cluster_run.proofs.Ahead.{Going, Waiting, first_run, waiting_start, waiting_written, waiting_line, going_done, ahead_ends, done_over, done_breaks}
+
+-- the audits of a run's queues
+abbrev pub audits_in : Setup → Run → List ℕ
+audits_in s run = audits_text (setup_in s run) (cluster_in s run)
+
+pub record LoopsOn (had : Histories) (s : Setup) (Stands : Run → Type 0) (start now a b : Option (List ℕ))
+    (served : ℕ) (pending : List ℕ) : Type 0 where
+  pub run : Run
+  pub lines : run.lines ≡ served
+  pub stands : Stands run
+  pub waits : Waiting had s start now run a b pending
+
+pub loops_start : (had : Histories) (s : Setup) (Stands : Run → Type 0) (left a : Option (List ℕ)) (own text : List ℕ)
+    → own ≡ [] → HasOpened had s Stands [] text → LoopsOn had s Stands left (ahead own left) a a 0 text
+loops_start had s Stands left a own text none so = record {
+  run = first_run so;
+  lines = refl;
+  stands = so.stands;
+  waits = subst (λ (p : List ℕ). Waiting had s left (prepend_known p left) (first_run so) a a text) (sym none)
+      (waiting_start had s left Stands a text so);
+}
+
+-- what was pending is written
+pub loops_written : (had : Histories) (s : Setup) (Stands : Run → Type 0) (start now a b c : Option (List ℕ))
+    (served : ℕ) (pending piece : List ℕ) → (so : LoopsOn had s Stands start now a b served pending) → piece ≡ pending
+    → Appends b c piece → Going had s start now so.run a c
+loops_written had s Stands start now a b c served pending piece so is grown =
+    waiting_written had s start now so.run a b c pending so.waits (subst (Appends b c) is grown)
+
+-- a line more is served
+pub loops_line : (had : Histories) (s : Setup) (Stands : Run → Type 0) (start now next a b : Option (List ℕ))
+    (served : ℕ) (run : Run) (line before later : List ℕ) → ((bytes : List ℕ) → FirstLineLeads bytes (first_line bytes))
+    → run.lines ≡ served → Going had s start now run a b → TakesLine now next line → before ≡ []
+    → Answers had s run (Some line) Stands before later → LoopsOn had s Stands start next a b (served + 1) later
+loops_line had s Stands start now next a b served run line before later law lines going takes none so = record {
+  run = so.next;
+  lines = ap (λ (r : Run). r.lines) so.serves.next_is ∙ ap (λ (n : ℕ). n + 1) lines;
+  stands = so.stands;
+  waits = subst (Waiting had s start next so.next a b) (sym (so.says ∙ ap (λ (l : List ℕ). l ++ so.said) none))
+      (waiting_line had s start now next run so.next line so.said a b law going takes so.serves);
+}
+
+-- nothing is ahead
+pub loops_end : (had : Histories) (s : Setup) (Stands : Run → Type 0) (start now a b left : Option (List ℕ))
+    (run : Run) (own : List ℕ) → Stands run → Going had s start now run a b → IsAtEnd now → IsAtEnd (ahead own left)
+    → IsServedToEnd had s Stands start left a b
+loops_end had s Stands start now a b left run own stands going end stays = record {
+  run = run;
+  stands = stands;
+  ended = ahead_ends own left stays;
+  goes = going_done had s start now run a b going end;
+}
+
+-- ---- behind the last line
+
+-- the audits were written
+pub served_done : (had : Histories) (s : Setup) (Stands : Run → Type 0) (left rest a b c : Option (List ℕ))
+    → (so : IsServedToEnd had s Stands left rest a b) → Appends b c (audits_in s so.run) → IsDone DONE had s left rest a c
+served_done had s Stands left rest a b c so grown = record {
+  status_is = refl;
+  ended = so.ended;
+  over = IfSome_then left so.goes
+      (λ bytes goes. done_over had s bytes so.run rest a b c goes so.ended
+      (subst (λ (r : Run). Appends b c (audits_in s r)) goes.run_is grown));
+}
+
+-- a part of them was
+pub served_breaks : (had : Histories) (s : Setup) (Stands : Run → Type 0) (left rest a b c : Option (List ℕ))
+    → (so : IsServedToEnd had s Stands left rest a b) → HasSomePrefix b c (audits_in s so.run)
+    → IfSome left (λ bytes. BreaksOff had s bytes rest a c [])
+served_breaks had s Stands left rest a b c so (unsaid, part) =
+    IfSome_then left so.goes
+    (λ bytes goes. done_breaks had s bytes so.run rest a b c part.prefix unsaid goes so.ended
+    (ap (audits_in s) (sym goes.run_is) ∙ part.is) part.written)

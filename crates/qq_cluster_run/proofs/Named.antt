@@ -1,0 +1,93 @@
+-- The setups of runs have names and numbers, so what their lines ask for names queues, nodes and sessions.
+use Rattle.std.proofs.Common.{◌≡◌, ◌<◌, ◌+◌, ℕ, zero, suc, Bool, true, false, List, [], ◌∷◌, Some, Result, Ok, Err, inl, inr, map, refl, sym, ap, subst, ◌∙◌, arith}
+use Rattle.std.specs.Prelude.{Contains}
+use Rattle.std.specs.Fmt.{digits}
+use Rattle.std.specs.List.{range_with_len}
+use Rattle.std.proofs.lemmas.Bool.{cases_lt, false≢true}
+use Rattle.qq_setup.specs.declared.queue_row.QueueRow.{QueueRow}
+use Rattle.qq_setup.specs.declared.setup.Setup.{Setup}
+use Rattle.qq_setup.specs.Setup.{SetupState, plain_row, plain_rows}
+use Rattle.qq_script_lines.specs.declared.fault.ScriptFault.{ScriptFault}
+use Rattle.qq_script_lines.specs.declared.fault.ScriptFault.TheVariants.{Body, NoSuch, Number, Words, TooLong, Unknown, Session, Memory}
+use Rattle.qq_script_lines.specs.declared.line.ScriptLine.{ScriptLine}
+use Rattle.qq_cluster_run.specs.declared.ending.TheConstants.{LINES_LIMIT}
+use Rattle.qq_cluster_run.specs.Endings.{Ending, refusal, limit_body, limit_lines}
+use Rattle.qq_cluster_run.specs.Named.{AreRows, HasFirstKey, IsNamed}
+use Rattle.qq_cluster_run.specs.Reading.{Says, Asks, Ends, read_line, says_by, says}
+use Rattle.qq_cluster_run.specs.Setup.{IsPlain, Logs, cluster_over, place_of, row_at}
+use Rattle.qq_cluster_run.proofs.Queues.{row_is}
+use Rattle.qq_cluster_run.proofs.Said.{read-named}
+use Rattle.qq_cluster_run.proofs.Says.{says_within, says_past}
+
+abbrev asks : Says → Bool
+asks (Asks line) = true
+asks (Ends ending) = false
+
+abbrev line_or : ScriptLine → Says → ScriptLine
+line_or other (Asks line) = line
+line_or other (Ends ending) = other
+
+ends-asks : (ending : Ending) (asked : ScriptLine) → Ends ending ≡ Asks asked → ⊥
+ends-asks ending asked is = false≢true (ap asks is)
+
+asked-line : (line asked : ScriptLine) → Asks line ≡ Asks asked → line ≡ asked
+asked-line line asked is = ap (line_or line) is
+
+-- ---- plain setups
+
+-- one of these rows, by how many stand before it
+record IsRow (nodes group a n : ℕ) (row : QueueRow) : Type 0 where
+  before : ℕ
+  most : before < a + n
+  is : plain_row nodes group before ≡ row
+
+row-of : (nodes group a n : ℕ) (row : QueueRow) → Contains (map (plain_row nodes group) (range_with_len a n)) row
+    → IsRow nodes group a n row
+row-of nodes group a zero row (k, lt, is) = absurd (omega (arith, lt))
+row-of nodes group a (suc n) row (zero, lt, is) = record { before = a; most = omega arith; is = is }
+row-of nodes group a (suc n) row (suc k, lt, is) =
+    let later = row-of nodes group (a + 1) n row (k, omega (arith, lt), is) in
+    record { before = later.before; most = omega (arith, later.most); is = later.is }
+
+first-key : (nodes group count : ℕ) → HasFirstKey (plain_rows nodes group count)
+unfolding digits
+first-key nodes group zero = tt
+first-key nodes group (suc k) = omega arith
+
+plain-rows : (nodes group count : ℕ) → AreRows (plain_rows nodes group count)
+plain-rows nodes group count = record {
+  first = first-key nodes group count;
+  numbers = λ row there.
+      let so = row-of nodes group 0 count row there in
+      subst (λ (r : QueueRow). row_at (plain_rows nodes group count) (place_of r) ≡ Some r) so.is
+      (row_is nodes group count so.before (omega (arith, so.most)));
+}
+
+pub plain-are : (s : Setup) → IsPlain s → AreRows s.queues
+plain-are s plain =
+    subst AreRows (sym (ap (λ (v : SetupState). v.queues) plain.is)) (plain-rows plain.nodes plain.group plain.count)
+
+-- ---- lines
+
+-- a line that asks for something was read
+asks-read : (number : ℕ) (read : Result ScriptLine ScriptFault) (asked : ScriptLine) → says_by number read ≡ Asks asked
+    → read ≡ Ok asked
+asks-read number (Ok line) asked is =
+    let same : line ≡ asked = asked-line line asked is in ap (λ (l : ScriptLine). Ok l) same
+asks-read number (Err (Body size)) asked is = absurd (ends-asks (limit_body size) asked is)
+asks-read number (Err (Memory memory)) asked is = absurd (ends-asks (refusal number (Memory memory)) asked is)
+asks-read number (Err TooLong) asked is = absurd (ends-asks (refusal number TooLong) asked is)
+asks-read number (Err Unknown) asked is = absurd (ends-asks (refusal number Unknown) asked is)
+asks-read number (Err Words) asked is = absurd (ends-asks (refusal number Words) asked is)
+asks-read number (Err Number) asked is = absurd (ends-asks (refusal number Number) asked is)
+asks-read number (Err NoSuch) asked is = absurd (ends-asks (refusal number NoSuch) asked is)
+asks-read number (Err Session) asked is = absurd (ends-asks (refusal number Session) asked is)
+
+-- what a line of a run asks for names what is there
+pub asked-named : (s : Setup) (logs : Logs) (before : ℕ) (line : List ℕ) (asked : ScriptLine) → AreRows s.queues
+    → says s before (Some line) ≡ Asks asked → IsNamed (cluster_over s logs) asked
+asked-named s logs before line asked are is = elim (cases_lt before LINES_LIMIT) [
+  | inl lt ↦ read-named s logs (before + 1) line asked are
+      (asks-read (before + 1) (read_line s (before + 1) line) asked (sym (says_within s before (Some line) lt) ∙ is))
+  | inr le ↦ absurd (ends-asks limit_lines asked (sym (says_past s before (Some line) le) ∙ is))
+]

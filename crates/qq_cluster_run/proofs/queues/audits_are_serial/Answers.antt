@@ -1,0 +1,19 @@
+use Rattle.qq_cluster_run.proofs.Serial.{serial-at, stays-at, once-at, counts-at}
+use Rattle.qq_cluster_run.proofs.queues.audits_are_serial.Goals as goal
+
+pub returns-clause-serial : goal.returns-clause-serial
+returns-clause-serial c = serial-at c.each_queue_is_its_own.ensures
+
+pub returns-clause-stays : goal.returns-clause-stays
+returns-clause-stays c = stays-at c.each_queue_is_its_own.ensures c.an_audit_is_serial.ensures.stays
+
+pub returns-clause-once : goal.returns-clause-once
+returns-clause-once c = once-at c.each_queue_is_its_own.ensures c.sessions_go_on.ensures.answered
+
+pub returns-clause-noticed : goal.returns-clause-noticed
+returns-clause-noticed c = λ s all left b place k groups.
+    (counts-at c.each_queue_is_its_own.ensures c.ops_are_noticed_once_synced.ensures s all left b place k groups).noticed
+
+pub returns-clause-synced : goal.returns-clause-synced
+returns-clause-synced c = λ s all left b place k groups.
+    (counts-at c.each_queue_is_its_own.ensures c.ops_are_noticed_once_synced.ensures s all left b place k groups).synced

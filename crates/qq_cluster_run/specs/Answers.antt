@@ -1,0 +1,31 @@
+-- What serving a script's lines over a cluster has come to.
+use Rattle.std.specs.Prelude.{◌≡◌, ℕ, List, [], ◌++◌, Option, IfSome}
+use Rattle.std.specs.Io.KnownBytes.{IsAtEnd}
+use Rattle.qq_setup.specs.declared.setup.Setup.{Setup}
+use Rattle.qq_cluster_run.specs.declared.stop.AskStop.{AskStop}
+use Rattle.qq_cluster_run.specs.declared.stop.AskStop.TheVariants as asks
+use Rattle.qq_cluster_run.specs.Inputs.{Input, inputs_of}
+use Rattle.qq_cluster_run.specs.Serving.{Histories, Run, Serves, EndsRun, Goes}
+use Rattle.qq_cluster_run.specs.Troubles.{Trouble}
+
+-- A line was served, and a text grows by what it prints. `Stands` says what represents a run.
+pub record Answers (had : Histories) (s : Setup) (run : Run) (input : Input) (Stands : Run → Type 0)
+    (before later : List ℕ) : Type 0 where
+  pub next : Run
+  pub stands : Stands next
+  pub said : List ℕ
+  pub serves : Serves had s run input said next
+  pub says : later ≡ before ++ said
+
+-- why a line has no answer
+abbrev pub HasAnswerCause : (Trouble → Type 0) → Setup → Run → Input → AskStop → Type 0
+HasAnswerCause met s run input (asks.Ended ending) = EndsRun met s run input ending
+HasAnswerCause met s run input asks.NoMemory = Unit {0}
+
+-- all lines were served, and all that they print was written
+pub record IsServedToEnd (had : Histories) (s : Setup) (Stands : Run → Type 0) (left rest old new : Option (List ℕ))
+    : Type 0 where
+  pub run : Run
+  pub stands : Stands run
+  pub ended : IsAtEnd rest
+  pub goes : IfSome left (λ bytes. Goes had s (inputs_of bytes) run [] old new)

@@ -1,0 +1,14 @@
+pub mod Answers
+pub mod Asking
+pub mod Endings
+pub mod Inputs
+pub mod Named
+pub mod Pieces
+pub mod Printing
+pub mod Reading
+pub mod Runs
+pub mod Service
+pub mod Serving
+pub mod Setup
+pub mod Statuses
+pub mod Troubles

@@ -1,0 +1,201 @@
+-- What an exit status tells of a run, where source and sink tell their bytes.
+use Rattle.std.specs.Prelude.{◌≡◌, ◌⊎◌, ℕ, ◌+◌, ◌^◌, ◌≤◌, List, [], ◌∷◌, ◌++◌, Some, None, Err, take, codes, Contains}
+use Rattle.std.specs.Fmt.{decimal}
+use Rattle.qq_base.specs.Causes.{Rose}
+use Rattle.qq_disk.specs.declared.image.Image.{Image}
+use Rattle.qq_setup.specs.declared.setup.Setup.{Setup}
+use Rattle.qq_script_lines.specs.declared.fault.ScriptFault.{ScriptFault}
+use Rattle.qq_script_lines.specs.declared.fault.ScriptFault.TheVariants.{Body}
+use Rattle.qq_script_lines.specs.declared.line.Nodes.{Nodes}
+use Rattle.qq_script_lines.specs.declared.line.ScriptLine.{ScriptLine}
+use Rattle.qq_script_lines.specs.declared.line.ScriptLine.TheVariants.{Crash, Restart}
+use Rattle.qq_script_lines.specs.declared.options.Options.{Options}
+use Rattle.qq_ports.specs.Lines.{HasNoFeed}
+use Rattle.qq_cluster.specs.Cluster.{Setup as ClusterSetup, ClusterEvent}
+use Rattle.qq_cluster.specs.Lines.{IsLine, nodes_of}
+use Rattle.qq_cluster.specs.Rules.{IsOpening}
+use Rattle.qq_cluster_run.specs.declared.stop.Stop.{Stop}
+use Rattle.qq_cluster_run.specs.Endings.{Ending, fault_text, no_memory}
+use Rattle.qq_cluster_run.specs.Inputs.{Input, feed_count}
+use Rattle.qq_cluster_run.specs.Reading.{Asks, read_input, says}
+use Rattle.qq_cluster_run.specs.Serving.{Histories, Run, EndsSpent, EndsDamaged, EndsLost, run_behind, setup_behind, text_behind, audits_behind, Served}
+use Rattle.qq_cluster_run.specs.Runs.{BreaksOff, HasNoDisk, HasStopped, ending_of, IsSetup, MayNotOpen, RunEnds}
+use Rattle.qq_cluster_run.specs.Setup.{Logs, cluster_over}
+use Rattle.qq_cluster_run.specs.Troubles.{Trouble, YardFails}
+
+-- What the source had and has, what the sink had and has, and their counts of faults before and after; what went wrong
+-- below; and what may have happened by then to the clusters whose disks these were.
+pub record Streams : Type 0 where
+  pub bytes : List ℕ
+  pub rest : List ℕ
+  pub old : List ℕ
+  pub new : List ℕ
+  pub source_before : ℕ
+  pub source_after : ℕ
+  pub sink_before : ℕ
+  pub sink_after : ℕ
+  pub troubles : List Trouble
+  pub histories : List (ClusterSetup × List ClusterEvent)
+
+abbrev pub SourceRose : Streams → Type 0
+SourceRose s = Rose s.source_before s.source_after
+
+abbrev pub SinkRose : Streams → Type 0
+SinkRose s = Rose s.sink_before s.sink_after
+
+abbrev pub Met : Streams → Trouble → Type 0
+Met s trouble = Contains s.troubles trouble
+
+abbrev pub Had : Streams → ClusterSetup → List ClusterEvent → Type 0
+Had s setup events = Contains s.histories (setup, events)
+
+-- a script with these options has ended with this status
+abbrev pub HasEnded : ℕ → Options → Streams → Type 0
+HasEnded status options s =
+    RunEnds status (Some options) (Some s.bytes) (Some s.rest) (Some s.old) (Some s.new) (SourceRose s) (SinkRose s)
+    (Met s) (Had s)
+
+-- words that are no command have ended with this status
+abbrev pub HasEndedAtWords : ℕ → Streams → Type 0
+HasEndedAtWords status s =
+    RunEnds status None (Some s.bytes) (Some s.rest) (Some s.old) (Some s.new) (SourceRose s) (SinkRose s) (Met s)
+    (Had s)
+
+-- ---- some lines were served, and more was printed
+
+pub record Over (options : Options) (s : Streams) : Type 0 where
+  pub setup : Setup
+  pub is_setup : IsSetup options setup
+  pub served : Served (Had s) setup s.bytes (Some s.rest)
+
+abbrev pub run_over : {options : Options} {s : Streams} → Over options s → Run
+run_over over = run_behind over.served.behind
+
+abbrev pub setup_over : {options : Options} {s : Streams} → Over options s → ClusterSetup
+setup_over over = setup_behind over.served.behind
+
+-- behind the text so far stands this
+abbrev pub Prints : {options : Options} {s : Streams} → Over options s → List ℕ → Type 0
+Prints {options} {s} over more = s.new ≡ s.old ++ (text_behind over.served.behind ++ more)
+
+-- this line stands behind them
+abbrev pub IsNext : {options : Options} {s : Streams} → Over options s → Input → Type 0
+IsNext over input = (more : List Input) × (over.served.left ≡ input ∷ more)
+
+-- the next line asks for this
+abbrev pub NextAsks : {options : Options} {s : Streams} → Over options s → ScriptLine → Type 0
+NextAsks over line = (input : Input) × IsNext over input × (says over.setup (run_over over).lines input ≡ Asks line)
+
+-- nothing was read, and this alone was printed
+abbrev pub PrintsAlone : Streams → List ℕ → Type 0
+PrintsAlone s text = (s.rest ≡ s.bytes) × (s.new ≡ s.old ++ text)
+
+-- ---- what each status tells
+
+-- 0: all lines were served, and then the audits were printed.
+pub record IsServed (options : Options) (s : Streams) : Type 0 where
+  pub over : Over options s
+  pub all : over.served.left ≡ []
+  pub read : s.rest ≡ []
+  pub prints : Prints over (audits_behind over.served.behind)
+
+-- 4: the next line is refused, by its number and its fault.
+pub record IsRefused (options : Options) (s : Streams) : Type 0 where
+  pub over : Over options s
+  pub input : Input
+  pub is_next : IsNext over input
+  pub fault : ScriptFault
+  pub reads : read_input over.setup ((run_over over).lines + 1) input ≡ Err fault
+  pub prints : Prints over
+      (codes "line " ++ decimal ((run_over over).lines + 1) ++ codes ": " ++ fault_text fault ++ codes "\n")
+
+-- 5: the source has failed. All lines that were read whole were served: as many as end within what was read.
+pub record IsReadFault (options : Options) (s : Streams) : Type 0 where
+  pub rose : SourceRose s
+  pub over : Over options s
+  pub piece : HasNoFeed over.served.piece
+  pub all : (read : List ℕ) → s.bytes ≡ read ++ s.rest → feed_count read ≤ (run_over over).lines
+  pub prints : Prints over (codes "read fault\n")
+
+-- 6: the sink has failed, in what the lines and audits print, or in a closing line.
+pub data IsCutOff (options : Options) (s : Streams) : Type 0 where
+  CutWithin : (setup : Setup) → IsSetup options setup
+      → BreaksOff (Had s) setup s.bytes (Some s.rest) (Some s.old) (Some s.new) [] → IsCutOff options s
+  CutAtClosing : (setup : Setup) → IsSetup options setup → (stop : Stop) (count : ℕ)
+      → HasStopped stop setup (Some s.bytes) (Some s.rest) (Some s.old) (Some s.new) (SourceRose s) (SinkRose s)
+      (Met s) (Had s) (take count (ending_of stop).text) → IsCutOff options s
+  CutAtOpening : (setup : Setup) → IsSetup options setup → (ending : Ending) → MayNotOpen (Met s) setup ending
+      → (count : ℕ) → PrintsAlone s (take count ending.text) → IsCutOff options s
+  CutBeforeSetup : (count : ℕ) → PrintsAlone s (take count no_memory.text) → IsCutOff options s
+
+-- 7: when the cluster was opened the yard has failed, or each node's disk has; or the yard has failed at a crash.
+pub data IsYardFault (options : Options) (s : Streams) : Type 0 where
+  NoDisk : (setup : Setup) → IsSetup options setup → (logs : Logs) → HasNoDisk (Met s) (cluster_over setup logs)
+      → PrintsAlone s (codes "yard fault\n") → IsYardFault options s
+  AtCrash : Met s YardFails → (over : Over options s) (nodes : Nodes) (image : Image)
+      → NextAsks over (Crash nodes image) → Prints over (codes "yard fault\n") → IsYardFault options s
+
+-- 8: nodes are recovered in order, and the log files of one break their rules: of all nodes, when the cluster is opened,
+-- or of those that are restarted.
+pub data MeetsDamage (options : Options) (s : Streams) : Type 0 where
+  DamagedAtOpening : (setup : Setup) → IsSetup options setup → (logs : Logs) (ending : Ending)
+      → EndsDamaged (Met s) (cluster_over setup logs) (cluster_over setup logs).nodes [] ending
+      → PrintsAlone s ending.text → MeetsDamage options s
+  DamagedAtRestart : (over : Over options s) (nodes : Nodes) (ending : Ending)
+      → EndsDamaged (Met s) (setup_over over) (nodes_of (setup_over over) nodes) (run_over over).events ending
+      → NextAsks over (Restart nodes) → Prints over ending.text → MeetsDamage options s
+
+-- 9: a restart finds of a queue what its member may not take up.
+pub record HasLost (options : Options) (s : Streams) : Type 0 where
+  pub over : Over options s
+  pub nodes : Nodes
+  pub ending : Ending
+  pub lost : EndsLost (Met s) (setup_over over) (nodes_of (setup_over over) nodes) (run_over over).events ending
+  pub asks : NextAsks over (Restart nodes)
+  pub prints : Prints over ending.text
+
+-- what is printed of a limit that a line passes: it is behind the 10,000,000th, or its body is too long
+abbrev pub PassesLimit : Setup → ℕ → Input → List ℕ → Type 0
+PassesLimit setup lines input text =
+    ((10000000 ≤ lines) × (text ≡ codes "limit lines " ++ decimal 10000001 ++ codes "\n"))
+    ⊎ ((size : ℕ) × (read_input setup (lines + 1) input ≡ Err (Body size))
+    × (text ≡ codes "limit body " ++ decimal size ++ codes "\n"))
+
+-- 11: the next line passes a limit.
+pub record IsLimited (options : Options) (s : Streams) : Type 0 where
+  pub over : Over options s
+  pub input : Input
+  pub is_next : IsNext over input
+  pub text : List ℕ
+  pub passes : PassesLimit over.setup (run_over over).lines input text
+  pub prints : Prints over text
+
+-- 12: there was no memory, and a first part of what is printed was written.
+pub data HasNoMemory (options : Options) (s : Streams) : Type 0 where
+  NoneAtOpening : PrintsAlone s (codes "memory\n") → HasNoMemory options s
+  NoneWithin : (setup : Setup) → IsSetup options setup
+      → BreaksOff (Had s) setup s.bytes (Some s.rest) (Some s.old) (Some s.new) (codes "memory\n")
+      → HasNoMemory options s
+
+-- 20: a number stands at its end.
+pub data IsSpent (options : Options) (s : Streams) : Type 0 where
+  SpentAtOpening : (setup : Setup) → IsSetup options setup → (logs : Logs) (ending : Ending)
+      → EndsSpent (Met s) (cluster_over setup logs) (IsOpening (cluster_over setup logs)) [] ending
+      → PrintsAlone s ending.text → IsSpent options s
+  SpentAtLine : (over : Over options s) (line : ScriptLine) (ending : Ending)
+      → EndsSpent (Met s) (setup_over over) (IsLine (setup_over over) line) (run_over over).events ending
+      → NextAsks over line → Prints over ending.text → IsSpent options s
+
+-- ---- all of them
+
+pub data Told (status : ℕ) (options : Options) (s : Streams) : Type 0 where
+  Done : status ≡ 0 → IsServed options s → Told status options s
+  Refused : status ≡ 4 → IsRefused options s → Told status options s
+  ReadFault : status ≡ 5 → IsReadFault options s → Told status options s
+  WriteFault : status ≡ 6 → SinkRose s → IsCutOff options s → Told status options s
+  YardFault : status ≡ 7 → IsYardFault options s → Told status options s
+  Damaged : status ≡ 8 → MeetsDamage options s → Told status options s
+  Lost : status ≡ 9 → HasLost options s → Told status options s
+  Limited : status ≡ 11 → IsLimited options s → Told status options s
+  NoMemory : status ≡ 12 → HasNoMemory options s → Told status options s
+  Spent : status ≡ 20 → IsSpent options s → Told status options s
