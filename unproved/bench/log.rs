@@ -2,11 +2,13 @@
 //!
 //! BATCHES batches of RECORDS ops each are gathered, appended and synced, each op with one entry, which publishes a
 //! message with a body of BODY bytes. Prints how many ops of how many bytes that was, and how many nanoseconds
-//! gathering, appending and syncing took, and SHA-256 of as many records by itself.
+//! gathering, appending and syncing took, and SHA-256 of as many records by itself: one after the other, and as the
+//! log has it, many at once.
 use crate::made::{entry, publish, stamp};
 use crate::words::number;
-use anyhow::{Result, bail};
+use anyhow::{Result, bail, ensure};
 use qq_base::{Index, NodeId, QueueId, Term};
+use qq_digests::digests;
 use qq_entry::Entries;
 use qq_log::Op;
 use qq_mem_disk::MemDisk;
@@ -26,6 +28,7 @@ struct Times {
     append: u128,
     sync: u128,
     sha: u128,
+    digests: u128,
 }
 
 // A log of queue 1 on an empty disk, whose file is never full.
@@ -110,6 +113,19 @@ fn time_hashes(rt: HostRuntime, records: u64, record: &mut Vec<u8>) -> Result<u1
     Ok(start.elapsed(&rt)?.as_nanos())
 }
 
+// Nanoseconds of the same digests, asked for at once.
+fn time_digests(rt: HostRuntime, records: u64, record: &[u8]) -> Result<u128> {
+    let mut messages = Vec::new(rt.alloc());
+    for _ in 0..records {
+        messages.push(record)?;
+    }
+    let start = Instant::now(&rt)?;
+    let found = digests(rt.alloc(), &records.to_be_bytes(), &messages)?;
+    let taken = start.elapsed(&rt)?.as_nanos();
+    ensure!(found.len() as u64 == records);
+    Ok(taken)
+}
+
 pub fn run(rt: HostRuntime, words: &[String]) -> Result<()> {
     let body = usize::try_from(number(words, 0)?)?;
     let (records, batches) = (number(words, 1)?, number(words, 2)?);
@@ -120,17 +136,19 @@ pub fn run(rt: HostRuntime, words: &[String]) -> Result<()> {
         append: 0,
         sync: 0,
         sha: 0,
+        digests: 0,
     };
     for number in 0..batches {
         let ops = batch(rt.alloc(), number * records, records, body)?;
         write_batch(rt, &mut wal, ops, &mut times)?;
         times.sha += time_hashes(rt, records, &mut record)?;
+        times.digests += time_digests(rt, records, &record)?;
     }
     let ops = records * batches;
     let bytes = ops * (body + BESIDE_BODY) as u64;
     println!(rt;
-        "{ops} {bytes} {} {} {} {}",
-        times.gather, times.append, times.sync, times.sha
+        "{ops} {bytes} {} {} {} {} {}",
+        times.gather, times.append, times.sync, times.sha, times.digests
     )?;
     Ok(())
 }

@@ -14,6 +14,7 @@ mod call;
 mod calls;
 mod crashes;
 mod cuts;
+mod digests;
 mod encodings;
 mod files;
 mod lanes;
@@ -38,6 +39,7 @@ fn check_all(rt: HostRuntime) -> Result<()> {
     let mut trials = Trials::new(rt);
     crashes::check(&mut trials)?;
     cuts::check(&mut trials)?;
+    digests::check(&mut trials)?;
     encodings::check(&mut trials)?;
     new_files::check(&mut trials)?;
     trials.end()

@@ -2,6 +2,7 @@ pub mod Agreeing
 pub mod Batches
 pub mod Beginning
 pub mod Beside
+pub mod Bodies
 pub mod Follows
 pub mod Kept
 pub mod Lying

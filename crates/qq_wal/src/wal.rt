@@ -225,7 +225,7 @@ impl<D: NodeDisk> Wal<D> {
             return Err(WalFault::Stopped);
         }
         let mut bytes = Vec::new(alloc);
-        let count = match put_batch(self.header.file, &self.waiting, &mut bytes) {
+        let count = match put_batch(alloc, self.header.file, &self.waiting, &mut bytes) {
             Ok(count) => count,
             Err(memory) => return Err(WalFault::Memory(memory)),
         };

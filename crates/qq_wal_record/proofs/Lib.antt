@@ -1,5 +1,6 @@
 mod FieldLaws
 mod HeaderLaws
 mod Lengths
+pub mod Marks
 mod Numbers
 mod RecordLaws

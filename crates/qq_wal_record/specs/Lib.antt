@@ -1,4 +1,5 @@
 pub mod Encoding
 pub mod Mark
+pub mod Marked
 pub mod Reading
 pub mod Record

@@ -6,6 +6,7 @@ mod fields;
 mod header;
 mod laws;
 mod mark;
+mod marking;
 mod reading;
 mod record;
 mod writing;
@@ -14,6 +15,8 @@ pub use header::{Header, NoHeader, read_header, write_header};
 pub use laws::{
     encodings_have_lengths, headers_read_back, no_record_begins_another, records_read_back,
 };
+pub use mark::MARK_LEN;
+pub use marking::write_marked;
 pub use reading::read_record;
 pub use record::{LogRecord, NoRecord};
-pub use writing::write_record;
+pub use writing::{put_body, write_record};

@@ -1,9 +1,12 @@
 //! Marks: the first 8 bytes of a digest under SHA-256.
-ghost use Rattle.std.specs.Prelude.{◌≡◌, take};
+ghost use Rattle.std.specs.Prelude.{◌≡◌, IfOk, IsOkUnless, map, take};
 ghost use Rattle.qq_wal_record.specs.Encoding.{record_mark};
 ghost use Rattle.qq_wal_record.specs.Mark.{mark};
 
+use qq_base::Memory;
+use qq_digests::digests;
 use sha2::{Digest, Sha256};
+use std::alloc::Global;
 
 /// The bytes of a mark.
 pub const MARK_LEN: usize = 8;
@@ -35,4 +38,19 @@ pub fn record_mark(file: u64, bytes: &[u8]) -> [u8; 8]
     hasher.update(&file.to_be_bytes());
     hasher.update(bytes);
     first_bytes(hasher.finalize())
+}
+
+/// The mark of each of some records' bytes in a file. The only error is that there is no memory.
+#[tactic(auto, unfolding(crate::specs::Mark::mark, crate::specs::Encoding::record_mark))]
+pub fn record_marks(alloc: Global, file: u64, bodies: &[&[u8]]) -> Result<Vec<[u8; 8]>, Memory>
+    ensures ok { IfOk result
+        (λ marks. marks.items ≡ map (λ body. record_mark file body.now) bodies.now) }
+    ensures want { IsOkUnless result Memory.Want }
+{
+    let digests = digests(alloc, &file.to_be_bytes(), bodies)?;
+    let mut marks = Vec::new(alloc);
+    'marks: for digest in digests.as_slice() {
+        marks.push(first_bytes(*digest))?;
+    }
+    Ok(marks)
 }

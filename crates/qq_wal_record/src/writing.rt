@@ -165,9 +165,9 @@ fn put_inside(out: &mut Vec<u8>, r: &LogRecord) -> Result<(), Memory>
     Ok(())
 }
 
-/// A record before its mark. Its payload's length is set when its payload stands there.
+/// Adds a record before its mark. Its payload's length is set when its payload stands there.
 #[tactic(auto, using(qq_fields::proofs::Appends::prefix_rules), unfolding(crate::specs::Encoding::body))]
-fn put_body(out: &mut Vec<u8>, r: &LogRecord) -> Result<(), Memory>
+pub fn put_body(out: &mut Vec<u8>, r: &LogRecord) -> Result<(), Memory>
     requires { IsWritable r.now }
     ensures ok { OnOk result (out.new.items ≡ out.old.items ++ body r.now) }
     ensures err { OnErr result (IsPrefix out.old.items out.new.items) }

@@ -1,0 +1,8 @@
+use Rattle.std.proofs.Common.{◌≡◌, ◌*◌, ◌++◌, map, take}
+use Rattle.sha2.specs.Sha256.{sha256}
+use Rattle.qq_digests.specs.Lanes.{with_prefix}
+use Rattle.qq_digests.proofs.put_digests.Given as goal
+
+abbrev pub invariant-fours : goal.invariant-fours
+invariant-fours l =
+    l.out.items ≡ l.initial.out.items ++ map sha256 (with_prefix l.prefix (take (4 * l.i) l.messages))

@@ -1,0 +1,12 @@
+use Rattle.std.proofs.Common.{refl}
+use Rattle.qq_digests.proofs.words.maj.Goals as goal
+
+pub returns : goal.returns
+returns c = λ j lt.
+    rw (
+      c.xor-2.ensures j lt,
+      c.xor.ensures j lt,
+      c.and.ensures j lt,
+      c.and-2.ensures j lt,
+      c.and-3.ensures j lt,
+    ) refl

@@ -1,0 +1,15 @@
+use Rattle.std.proofs.Common.{◌≡◌, ℕ, ◌/◌, ◌^◌, bit_xor, slice_index, ◌∙◌, arith}
+use Rattle.qq_digests.proofs.Bytes.{word_fits}
+use Rattle.qq_digests.proofs.Shifts.{left_two, right_three, rotated_two, shl}
+use Rattle.qq_digests.proofs.words.small_sigma0.Goals as goal
+
+pub returns : goal.returns
+returns c = λ j lt.
+    let x : ℕ = slice_index c.args.x j in
+    let low : slice_index c.right-low.result j ≡ bit_xor (bit_xor (x / 2 ^ 18) (x / 2 ^ 7)) (x / 2 ^ 3) =
+    rw (c.right-low.ensures j lt, c.xor-2.ensures j lt, c.right-2.ensures j lt, c.xor.ensures j lt, c.right.ensures j lt)
+    (right_three x 11 4 3) in
+    let high : slice_index c.left-high.result j ≡ bit_xor (shl x 25) (shl x 14) =
+    rw (c.left-high.ensures j lt, c.xor-3.ensures j lt, c.left.ensures j lt) (left_two x 11 14) in
+    c.xor-4.ensures j lt
+    ∙ rotated_two x 7 18 3 25 14 _ _ (word_fits c.args.x j c.fits-x.0 c.fits-x.1 lt) (omega arith) (omega arith) low high
