@@ -7,7 +7,8 @@ use qq_base::{Index, NodeId, QueueId, Term};
 use qq_command::{Entries, decode};
 use qq_log::{Carry, Op, Places, SnapshotHead, Span};
 use qq_wal_record::{
-    Header, LogRecord, NoHeader, NoRecord, read_header, read_record, write_header, write_record,
+    Header, LogRecord, NoHeader, NoRecord, put_body, read_header, read_record, write_carry,
+    write_header, write_marked,
 };
 use std::alloc::Global;
 
@@ -71,10 +72,22 @@ fn stand_for(alloc: Global, file: u64, digits: &str, wanted: LogRecord) -> Resul
     let (record, taken) = read_record(alloc, file, &longer)?;
     ensure!(taken == bytes.len());
     ensure!(record == wanted);
-    let mut out = Vec::new(alloc);
-    write_record(file, &wanted, &mut out)?;
-    ensure!(out == bytes);
+    ensure!(written(alloc, file, &wanted)? == bytes);
     Ok(())
+}
+
+/// A record's bytes as the log writes them: a carry by itself, an op in a batch, which is of one record here.
+fn written(alloc: Global, file: u64, record: &LogRecord) -> Result<Vec<u8>> {
+    let mut out = Vec::new(alloc);
+    if let LogRecord::Carry(carry) = record {
+        write_carry(file, carry, &mut out)?;
+        return Ok(out);
+    }
+    let mut body = Vec::new(alloc);
+    put_body(&mut body, record)?;
+    let length = body.len();
+    write_marked(&mut out, alloc, file, &body, &[length])?;
+    Ok(out)
 }
 
 fn a_change_has_its_bytes(rt: HostRuntime) -> Result<()> {

@@ -3,7 +3,7 @@
 use crate::files::log_file;
 use anyhow::{Result, bail};
 use qq_base::{Memory, QueueId};
-use qq_disk::{FileKind, NodeDisk};
+use qq_disk::{FileKind, FileName, NodeDisk};
 use qq_log::Lane;
 use qq_mem_disk::MemDisk;
 use qq_recover::{RecoverFault, Recovered, inspect, recover};
@@ -99,19 +99,21 @@ pub fn recovered_lanes(alloc: Global, disk: MemDisk, queues: &[QueueId]) -> Resu
     }
 }
 
-/// The lines of `recovered_lanes`, and then one for each log file that has entries of a queue and one for the
-/// file that recovery begins; and the disk.
+/// The lines of `recovered_lanes`, and then one for each log file that has entries of a queue, one for the file
+/// that recovery begins, and one for each file that it removes; and the disk.
 pub fn recovered_log(
     alloc: Global,
-    disk: MemDisk,
+    mut disk: MemDisk,
     queues: &[QueueId],
 ) -> Result<(String, MemDisk)> {
+    let before = disk.names(alloc)?;
     match recover(disk, alloc, queues, LOG_BYTES) {
         Ok(mut recovered) => {
             let mut text = handed_out(alloc, &mut recovered, queues)?;
             let mut wal = recovered.into_wal();
             add_ranges(alloc, &mut text, &mut wal, queues)?;
             add_newest(alloc, &mut text, wal.disk())?;
+            add_removed(alloc, &mut text, &before, wal.disk())?;
             Ok((text, wal.into_disk()))
         }
         Err((fault, disk)) => Ok((fault_line(alloc, fault)?, disk)),
@@ -136,6 +138,20 @@ fn add_ranges(
                 )?;
             }
         }
+    }
+    Ok(())
+}
+
+/// Adds a line for each log file that is there no more.
+fn add_removed(
+    alloc: Global,
+    text: &mut String,
+    before: &[FileName],
+    disk: &mut MemDisk,
+) -> Result<()> {
+    let names = disk.names(alloc)?;
+    for name in before.iter().filter(|name| !names.contains(name)) {
+        writeln!(text, "log {} is removed", name.number)?;
     }
     Ok(())
 }

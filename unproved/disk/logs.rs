@@ -5,7 +5,7 @@
 //! - `waiting N BYTES`: the same, but these bytes wait for a sync;
 //! - `lanes QUEUE..`: what recovery reads of the disk where these queues are listed, and changes nothing;
 //! - `recover QUEUE..`: recovery of the disk: the lanes that it gives, which log files have entries of which
-//!   queue, and the file that it begins;
+//!   queue, the file that it begins, and those that it removes;
 //! - `cuts QUEUE..`: the lanes that recovery gives after a crash that leaves the first K bytes of those that
 //!   wait for a sync, for each K, printed where they change, and after one that leaves other bytes there;
 //! - `stops QUEUE..`: recovery of the disk as it was written, where each call of the disk in turn fails

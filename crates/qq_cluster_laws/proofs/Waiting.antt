@@ -10,6 +10,7 @@ use Rattle.qq_base.specs.declared.ids.QueueId.{QueueId}
 use Rattle.qq_base.proofs.Lists.{AllByRecursion-append, AllByRecursion-filter, AllByRecursion-weaker, In as InList, In-map}
 use Rattle.qq_base.proofs.Puts.{put-same}
 use Rattle.qq_entry.specs.declared.command.Entry.{Entry}
+use Rattle.qq_log.specs.Carries.{is_listed}
 use Rattle.qq_log.specs.declared.op.Op.{Op}
 use Rattle.qq_log.specs.declared.op.Op.TheVariants.{Change, SnapshotMade, SegmentMade}
 use Rattle.qq_log.specs.Op.{queue}
@@ -22,7 +23,7 @@ use Rattle.qq_raft_model.specs.Group.Event.{Take}
 use Rattle.qq_raft_model.specs.Promises.{AreDistinct, IsLeft, IsOpened}
 use Rattle.qq_raft_model.specs.State.{Server}
 use Rattle.qq_raft_protocol.specs.World.{Lane}
-use Rattle.qq_wal_chain.specs.Lanes.{is_listed, of_queue}
+use Rattle.qq_wal_chain.specs.Lanes.{of_queue}
 use Rattle.qq_cluster.specs.Cluster.{Cluster, NodeWrites, Setup, cluster_happens, members}
 use Rattle.qq_cluster.specs.ClusterLaws.{HasGroups}
 use Rattle.qq_cluster.specs.Laws.{CountsRise}

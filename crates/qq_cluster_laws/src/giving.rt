@@ -1,11 +1,11 @@
 //! What waits at a node for its write.
 ghost use Rattle.std.specs.Prelude.{◌≡◌, ℕ, List, Some, true, All, IsSome};
 ghost use Rattle.std.specs.List.{AllByRecursion};
+ghost use Rattle.qq_log.specs.Carries.{is_listed};
 ghost use Rattle.qq_log.specs.declared.op.Op.{Op};
 ghost use Rattle.qq_log.specs.Op.{queue};
 ghost use Rattle.qq_log.specs.Stable.{Stable, stable};
 ghost use Rattle.qq_lots.specs.Lots.{give, give_batch, ids_of};
-ghost use Rattle.qq_wal_chain.specs.Lanes.{is_listed};
 ghost use Rattle.qq_cluster.specs.Cluster.{Cluster, Setup};
 ghost use Rattle.qq_cluster.specs.ClusterLaws.{HasGroups};
 ghost use Rattle.qq_cluster.specs.Queue.{Queue, Writes, happens};

@@ -5,12 +5,13 @@ use Rattle.std.proofs.lemmas.Bool.{eq-eqb, eqb-true}
 use Rattle.std.proofs.lemmas.List.{length-map}
 use Rattle.qq_base.specs.declared.ids.QueueId.{QueueId}
 use Rattle.qq_base.proofs.Lists.{AllByRecursion-weaker}
+use Rattle.qq_log.specs.Carries.{is_listed}
 use Rattle.qq_log.specs.declared.head.SnapshotHead.{SnapshotHead}
 use Rattle.qq_log.specs.declared.lane.Lane.{Lane}
 use Rattle.qq_log.specs.Log.{last_of, log_of}
 use Rattle.qq_log.specs.Stable.{Stable, last_index}
 use Rattle.qq_wal_chain.specs.Image.{put}
-use Rattle.qq_wal_chain.specs.Lanes.{Lanes, is_listed}
+use Rattle.qq_wal_chain.specs.Lanes.{Lanes}
 use Rattle.qq_recover.specs.Lanes.{AreLanes, Begins}
 use Rattle.qq_recover.specs.Recovered.{IsLaneFor}
 use Rattle.qq_recover.specs.State.{IsPlainLaneOf}

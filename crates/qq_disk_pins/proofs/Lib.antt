@@ -8,4 +8,5 @@ mod Named
 mod Numbers
 mod Runs
 mod Sizes
+mod Torn
 mod Worn

@@ -3,11 +3,12 @@ use Rattle.std.proofs.Common.{◌≡◌, ℕ, Bool, true, false, cond, eqb, List
 use Rattle.std.specs.List.{fold}
 use Rattle.std.proofs.lemmas.Bool.{cases_eq, eq-eqb, eqb-true}
 use Rattle.qq_base.specs.declared.ids.QueueId.{QueueId}
+use Rattle.qq_log.specs.Carries.{is_listed}
 use Rattle.qq_log.specs.declared.head.Span.{Span}
 use Rattle.qq_log.specs.declared.op.Op.{Op}
 use Rattle.qq_log.specs.declared.op.Op.TheVariants.{Change, SnapshotMade, SegmentMade}
 use Rattle.qq_log.specs.Op.{queue}
-use Rattle.qq_wal_chain.specs.Lanes.{is_listed, of_queue}
+use Rattle.qq_wal_chain.specs.Lanes.{of_queue}
 use Rattle.qq_wal_chain.specs.Laws.{op_records}
 use Rattle.qq_wal.specs.declared.ranges.QueueRanges.{QueueRanges}
 use Rattle.qq_wal.specs.Entries.{LieAs}

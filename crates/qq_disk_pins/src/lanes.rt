@@ -2,10 +2,11 @@
 ghost use Rattle.std.specs.Prelude.{◌≡◌, [], ℕ, List, Option, Some, None, map, nat_eq, true};
 ghost use Rattle.std.specs.List.{AllByRecursion, list_any};
 ghost use Rattle.qq_base.specs.declared.ids.QueueId.{QueueId};
+ghost use Rattle.qq_log.specs.Carries.{is_listed};
 ghost use Rattle.qq_log.specs.declared.lane.Lane.{Lane};
 ghost use Rattle.qq_log.specs.Log.{last_of, log_of};
 ghost use Rattle.qq_log.specs.Stable.{Stable, last_index};
-ghost use Rattle.qq_wal_chain.specs.Lanes.{Lanes, is_listed};
+ghost use Rattle.qq_wal_chain.specs.Lanes.{Lanes};
 ghost use Rattle.qq_recover.specs.Lanes.{AreLanes};
 ghost use Rattle.qq_recover.specs.Recovered.{IsLaneFor};
 ghost use Rattle.qq_recover.specs.State.{IsPlainLaneOf};

@@ -11,6 +11,7 @@ mod lanes;
 mod moments;
 mod read;
 mod readings;
+mod unread;
 mod worn_disk;
 
 pub use begun::{a_new_log_is_ready, a_recovered_log_goes_on_behind_what_was_read};
@@ -38,4 +39,5 @@ pub use read::{
     each_image_gives_what_was_promised,
 };
 pub use readings::{a_listing_has_each_file_once, a_read_fills_the_front};
+pub use unread::recovery_removes_the_logs_that_it_does_not_read;
 pub use worn_disk::WornDisk;

@@ -17,7 +17,7 @@ use Rattle.qq_log.specs.declared.op.Op.{Op}
 use Rattle.qq_wal_chain.specs.Promise.{Promises}
 use Rattle.qq_wal_chain.specs.Wal.{wal}
 use Rattle.qq_wal_chain.proofs.Gives.{promise-weaker}
-use Rattle.qq_wal.specs.Running.{top, Stays, StaysGiving, HoldsAlso}
+use Rattle.qq_wal.specs.Running.{top, Stays, StaysGiving, StillMayRecover, HoldsAlso}
 use Rattle.qq_wal.specs.Batch.{AllFitBatch, FitsBatch, IsBatch, encodings}
 use Rattle.qq_wal.specs.declared.batch.TheConstants.{BATCH_BYTES, BATCH_OPS}
 use Rattle.qq_wal.specs.Fault.{IsAppendCaused}
@@ -38,6 +38,12 @@ stays-then queues old mid new first second noticed given keeps =
     let P : Disk → Type 0 = λ d. Promises (wal queues) top noticed given d in
     let early : Adds P old mid = first noticed given keeps in
     adds-then P old mid new early (second noticed given (adds-now P old mid early keeps))
+
+-- so of what may be recovered, where the log is of the same queues
+pub may-then : (queues others : Vec QueueId) (old mid new : List Disk) → others ≡ queues
+    → StillMayRecover queues.items old mid → StillMayRecover others.items mid new → StillMayRecover queues.items old new
+may-then queues others old mid new same first second may =
+    subst (λ (v : Vec QueueId). StillMayRecover v.items mid new) same second (first may)
 
 -- one batch is given, and then another
 pub giving-then : (queues : List QueueId) (first second : List Op) (old mid new : List Disk)

@@ -6,14 +6,14 @@ use Rattle.qq_base.proofs.Lists.{AllByRecursion-weaker}
 use Rattle.qq_base.specs.Fronts.{IsFront}
 use Rattle.qq_base.specs.declared.ids.QueueId.{QueueId}
 use Rattle.qq_wal_chain.specs.Image.{put}
-use Rattle.qq_wal_chain.specs.Lanes.{Lanes, is_listed}
+use Rattle.qq_wal_chain.specs.Lanes.{Lanes}
 use Rattle.qq_wal_chain.proofs.Walk.{put-at, put-other}
+use Rattle.qq_log.specs.Carries.{Carries, GoesOn, add_op, carry_behind, carry_or_new, follows_carry, is_listed}
 use Rattle.qq_log.specs.declared.lane.Carry.{Carry}
 use Rattle.qq_log.specs.declared.op.Op.{Op}
 use Rattle.qq_log.specs.declared.op.Op.TheVariants.{Change, SnapshotMade, SegmentMade}
 use Rattle.qq_log.specs.Op.{queue}
 use Rattle.qq_log.specs.Stable.{Stable, carry_of}
-use Rattle.qq_wal.specs.Marks.{Carries, GoesOn, add_op, carry_behind, carry_or_new, follows_carry}
 use Rattle.qq_world.specs.Node.{Setup, Node, NodeEvent, Alike, node_happens}
 use Rattle.qq_world.specs.Promise.{MayTakeUp, state_of}
 use Rattle.qq_world.specs.Rules.{is_node_up}

@@ -7,11 +7,11 @@ use Rattle.qq_wal_chain.specs.Laws.{KeepsPromise, op_records}
 use Rattle.qq_node_queue.specs.NodeQueue.{NodeQueueState, world_of}
 use Rattle.qq_disk.specs.Disk.{Disk}
 use Rattle.qq_disk.proofs.Moments.{adds-none}
+use Rattle.qq_log.specs.Carries.{Carries}
 use Rattle.qq_log.specs.declared.op.Op.{Op}
 use Rattle.qq_node_laws.specs.Waiting.{ops_waiting}
-use Rattle.qq_wal.specs.Running.{StaysWhole, top}
+use Rattle.qq_wal.specs.Running.{StillMayRecover, top}
 use Rattle.qq_wal.specs.Wal.{IsSound, StaysAppending, carries_ahead}
-use Rattle.qq_wal.specs.Marks.{Carries}
 use Rattle.qq_wal.specs.declared.wal.Wal.{Wal}
 use Rattle.qq_wal_record.specs.declared.record.LogRecord.{LogRecord}
 use Rattle.qq_node.specs.NodeQueues.{all_waiting}
@@ -140,7 +140,7 @@ pub record WroteFrom {D : Type 0} (tells : D → Bool) (past : D → List Disk) 
   pub queues : new.queues ≡ mid.queues
   pub told : tells new.disk ≡ tells mid.disk
   pub later : faults mid.disk ≤ faults new.disk
-  pub whole : IsTrue (tells mid.disk) → StaysWhole (past mid.disk) (past new.disk)
+  pub may : IsTrue (tells mid.disk) → StillMayRecover mid.queues.items (past mid.disk) (past new.disk)
 
 pub appended : {D : Type 0} (tells : D → Bool) (past : D → List Disk) (faults : D → ℕ) (ops : List Op) (more : Bool)
     (old mid new : Wal D) → old.waiting.items ≡ [] → mid.waiting.items ≡ old.waiting.items ++ op_records ops
@@ -155,7 +155,7 @@ appended {D} tells past faults ops more old mid new none waits ahead same wrote 
         queues = w.queues;
         told = w.told;
         later = w.later;
-        whole = w.whole;
+        may = w.may;
       };
       done = λ is. (let h = w.done is in record {
         waiting = h.waiting;

@@ -1,5 +1,5 @@
 -- What recovery gives, in the words of a node.
-use Rattle.std.proofs.Common.{◌≡◌, ℕ, Bool, true, false, List, [], ◌∷◌, Option, Some, None, map, take, refl, sym, ap, ◌∙◌, subst, arith, option_map}
+use Rattle.std.proofs.Common.{◌≡◌, ℕ, Bool, true, List, [], ◌∷◌, Option, Some, None, map, take, refl, sym, ap, ◌∙◌, subst, arith}
 use Rattle.std.specs.Global.{Vec}
 use Rattle.std.specs.Prelude.{Ok, IsTrue, unwrap_or}
 use Rattle.std.specs.List.{AllByRecursion}
@@ -7,18 +7,16 @@ use Rattle.std.proofs.lemmas.Bool.{cond-true}
 use Rattle.std.proofs.lemmas.List.{length-take}
 use Rattle.qq_base.proofs.Lists.{AllByRecursion-weaker}
 use Rattle.qq_base.specs.Fronts.{IsFront}
-use Rattle.qq_base.proofs.Fronts.{front-refl}
 use Rattle.qq_base.specs.declared.ids.QueueId.{QueueId}
 use Rattle.qq_base.specs.declared.memory.Memory.{Memory}
 use Rattle.qq_node_queue.specs.Taking.{told}
-use Rattle.qq_disk.specs.Crash.{Remains, reopen}
-use Rattle.qq_disk.specs.Disk.{Disk, now, whole}
-use Rattle.qq_disk.specs.Image.{image_of, log_of}
+use Rattle.qq_disk.specs.Disk.{Disk, now}
+use Rattle.qq_disk.specs.Image.{image_of}
 use Rattle.qq_disk.specs.declared.image.Image.{Image}
-use Rattle.qq_wal_chain.specs.Image.{is_removed}
-use Rattle.qq_wal_chain.specs.Lanes.{Lanes, IsStateOf, is_listed, of_queue}
+use Rattle.qq_wal_chain.specs.Lanes.{Lanes, IsStateOf, of_queue}
 use Rattle.qq_wal_chain.specs.Laws.{HoldsOps, KeepsPromise}
 use Rattle.qq_wal_chain.proofs.Promised.{empty-keeps}
+use Rattle.qq_log.specs.Carries.{carry_or_new, is_listed}
 use Rattle.qq_log.specs.declared.lane.Carry.{Carry}
 use Rattle.qq_log.specs.declared.lane.Lane.{Lane}
 use Rattle.qq_log.specs.declared.op.Op.{Op}
@@ -29,9 +27,9 @@ use Rattle.qq_recover.specs.declared.fault.RecoverFault.{RecoverFault}
 use Rattle.qq_recover.specs.declared.fault.RecoverFault.TheVariants.{Memory as OfMemory}
 use Rattle.qq_recover.specs.Recovered.{IsLaneFor, IsNewLog, IsNoRefusal, KnowsLanes, lanes_left, wal_of}
 use Rattle.qq_recover.specs.Recovery.{SettlesLanes}
+use Rattle.qq_recover.proofs.Promised.{opened-may}
 use Rattle.qq_wal.proofs.Agreeing.{or-new}
-use Rattle.qq_wal.specs.Marks.{carry_or_new}
-use Rattle.qq_wal.specs.Running.{top, NoneRemoved, Stays}
+use Rattle.qq_wal.specs.Running.{top, MayRecover, Stays}
 use Rattle.qq_wal.specs.declared.wal.Wal.{Wal}
 use Rattle.qq_wal.specs.Wal.{IsSound, carries_ahead}
 use Rattle.qq_world.specs.Node.{Setup, Node, FindsEach, new_node}
@@ -246,21 +244,16 @@ begins-linked queues lanes old new stays settles setup same fresh =
 
 -- ---- disks that may be recovered
 
-reopened : (i : Remains) → NoneRemoved (reopen i)
-reopened i n = by (i (log_of n))
-  where
-    by : (left : Option (List ℕ)) → is_removed (option_map whole left) ≡ false
-    by None = refl
-    by (Some bytes) = refl
-
 -- a disk that was crashed
-pub crashed-whole : (image : Image) (old new : List Disk) → LeavesImage image old new → NoneRemoved (now new)
-crashed-whole image old new (left, alone) =
-    subst NoneRemoved (sym left.left) (reopened (image_of image left.newest (now old)))
+pub crashed-may : (queues : List QueueId) (image : Image) (old new : List Disk) → LeavesImage image old new
+    → MayRecover queues (now new)
+crashed-may queues image old new (left, alone) =
+    subst (MayRecover queues) (sym left.left) (opened-may queues (image_of image left.newest (now old)))
 
 -- and a new one
-pub new-whole : (past : List Disk) → IsNew past → NoneRemoved (now past)
-new-whole past fresh = subst (λ (p : List Disk). NoneRemoved (now p)) (sym fresh) (λ n. refl)
+pub new-may : (queues : List QueueId) (past : List Disk) → IsNew past → MayRecover queues (now past)
+new-may queues past fresh =
+    subst (λ (p : List Disk). MayRecover queues (now p)) (sym fresh) (opened-may queues (λ file. None))
 
 -- ---- what recovery gives, and where it fails
 

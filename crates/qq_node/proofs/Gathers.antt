@@ -8,6 +8,7 @@ use Rattle.qq_command.specs.Encoding.{encoding}
 use Rattle.qq_command.specs.Laws.{HasShortEncoding}
 use Rattle.qq_entry.specs.declared.command.Entry.{Entry}
 use Rattle.qq_entry.specs.Range.{IsWritable as IsEntry}
+use Rattle.qq_log.specs.Carries.{Carries, GoesOn, add_op}
 use Rattle.qq_log.specs.declared.limits.TheConstants.{RECORD_LIMIT}
 use Rattle.qq_log.specs.declared.op.Op.{Op}
 use Rattle.qq_log.specs.declared.op.Op.TheVariants.{Change, SnapshotMade, SegmentMade}
@@ -17,7 +18,6 @@ use Rattle.qq_wal.specs.Batch.{is_short}
 use Rattle.qq_wal.specs.declared.fault.WalFault.{WalFault}
 use Rattle.qq_wal.specs.declared.fault.WalFault.TheVariants.{TooLarge}
 use Rattle.qq_wal.specs.Fault.{IsGatherCaused}
-use Rattle.qq_wal.specs.Marks.{Carries, GoesOn, add_op}
 use Rattle.qq_wal_record.specs.declared.record.LogRecord.{LogRecord}
 use Rattle.qq_node.specs.Gather.{AllGoOn, AllMayTake, MayTake, add_ops}
 

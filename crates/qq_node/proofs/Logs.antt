@@ -10,7 +10,7 @@ use Rattle.qq_disk.specs.Disk.{Disk, now}
 use Rattle.qq_wal_chain.specs.Laws.{op_records}
 use Rattle.qq_node_queue.specs.NodeQueue.{NodeQueueState, world_of}
 use Rattle.qq_log.specs.declared.op.Op.{Op}
-use Rattle.qq_wal.specs.Running.{Stays}
+use Rattle.qq_wal.specs.Running.{Stays, StillMayRecover}
 use Rattle.qq_wal.specs.Wal.{StaysAppending, carries_ahead}
 use Rattle.qq_wal.specs.declared.wal.Wal.{Wal}
 use Rattle.qq_world.specs.Node.{Setup, Node, NodeEvent, Alike, Fails, node_happens, node_after, text_of}
@@ -32,7 +32,7 @@ use Rattle.qq_node.specs.declared.node.NodeLog.TheVariants.{Open, Closed}
 use Rattle.qq_node.specs.Carried.{CarriesAre}
 use Rattle.qq_node.specs.NodeQueues.{AllDo, HasSettled, all_waiting}
 use Rattle.qq_node.specs.Gather.{AllGoOn, add_ops}
-use Rattle.qq_node.specs.Log.{AppendsAll, HasCome, IsWhole, sync_events}
+use Rattle.qq_node.specs.Log.{AppendsAll, CanRecover, HasCome, sync_events}
 use Rattle.qq_node.specs.Node.{AreNodeQueues, GaveUp, IsLogAt, IsRunning, Served, Stands, disk_in}
 use Rattle.qq_node.specs.Writing.{AppendsIn, BreaksOffIn, HasAppended, MayAppendIn, MaySyncIn, SameLog, StaysGivingSome, Syncs as SyncsLog, SyncsIn}
 use Rattle.qq_node.proofs.Carried.{carries-synced, carries-written, goes_on-waiting}
@@ -124,7 +124,8 @@ module _ {D : Type 0} (tells : D → Bool) (past : D → List Disk) (faults : D 
     pub told : tells (disk_in is) ≡ tells (disk_in was)
     pub rises : faults (disk_in was) ≤ faults (disk_in is)
     pub cause : has_failure events ≡ true → Rose (faults (disk_in was)) (faults (disk_in is))
-    pub whole : IsWhole tells past (disk_in was) → IsWhole tells past (disk_in is)
+    pub may : CanRecover tells past (queues_of setup) (disk_in was)
+        → CanRecover tells past (queues_of setup) (disk_in is)
     pub moments : IsTrue (tells (disk_in was)) → IsLinked setup n (now (past (disk_in was)))
         → IsTraced setup n events (past (disk_in was)) (past (disk_in is))
 
@@ -155,7 +156,7 @@ module _ {D : Type 0} (tells : D → Bool) (past : D → List Disk) (faults : D 
           queues = ap (λ (v : Vec QueueId). v.items) queues ∙ st.queues;
           auto = d.auto;
           log = d.log.log;
-          whole = d.log.whole st.whole;
+          may = d.log.may st.may;
         };
         says = d.says;
         told = d.log.told;
@@ -164,10 +165,11 @@ module _ {D : Type 0} (tells : D → Bool) (past : D → List Disk) (faults : D 
         moments = d.log.moments;
       }
 
-  still-whole : (old new : Wal D) → SameLog tells past faults old new → IsWhole tells past old.disk
-      → IsWhole tells past new.disk
-  still-whole old new same whole tell =
-      let told : IsTrue (tells old.disk) = subst (λ (b : Bool). IsTrue b) same.told tell in same.whole told (whole told)
+  still-may : (queues : List QueueId) (old new : Wal D) → old.queues.items ≡ queues → SameLog tells past faults old new
+      → CanRecover tells past queues old.disk → CanRecover tells past queues new.disk
+  still-may queues old new are same may tell =
+      let told : IsTrue (tells old.disk) = subst (λ (b : Bool). IsTrue b) same.told tell in
+      subst (λ (l : List QueueId). StillMayRecover l (past old.disk) (past new.disk)) are (same.may told) (may told)
 
   -- ---- a write
 
@@ -215,7 +217,7 @@ module _ {D : Type 0} (tells : D → Bool) (past : D → List Disk) (faults : D 
         told = a.same.told;
         rises = a.same.later;
         cause = λ failed. absurd (false≢true failed);
-        whole = still-whole old new a.same;
+        may = still-may (queues_of setup) old new run.queues_are a.same;
         moments = λ tell linked. writes-traced setup n (past old.disk) (past new.disk) r apart up waits
             (subst (λ (l : List Op). AppendsAll (queues_of setup) (op_records l) (past old.disk) (past new.disk)) all
             (subst (λ (ids : List QueueId). AppendsAll ids (op_records ops) (past old.disk) (past new.disk))
@@ -234,7 +236,7 @@ module _ {D : Type 0} (tells : D → Bool) (past : D → List Disk) (faults : D 
         told = a.same.told;
         rises = a.same.later;
         cause = λ failed. a.failed refl;
-        whole = still-whole old new a.same;
+        may = still-may (queues_of setup) old new run.queues_are a.same;
         moments = λ tell linked. write_fails-traced setup n (past old.disk) (past new.disk) r apart up waits
             (subst (λ (l : List Op). StaysAppending (queues_of setup) (op_records l) (past old.disk) (past new.disk)) all
             (subst (λ (ids : List QueueId). StaysAppending ids (op_records ops) (past old.disk) (past new.disk))
@@ -340,7 +342,7 @@ module _ {D : Type 0} (tells : D → Bool) (past : D → List Disk) (faults : D 
         told = did.same.told;
         rises = did.same.later;
         cause = sync-caused (some_queue setup waits_synced n) s (faults old.disk) (faults new.disk) did.failed;
-        whole = still-whole old new did.same;
+        may = still-may (queues_of setup) old new run.queues_are did.same;
         moments = λ tell linked. synced-traced setup n s (past old.disk) (past new.disk) r up
             (subst (λ (ids : List QueueId). HasCome ids s (past old.disk) (past new.disk)) run.queues_are
             (did.come tell)) linked;

@@ -12,11 +12,11 @@ use Rattle.qq_log.specs.Stable.{Stable}
 use Rattle.qq_recover.specs.declared.fault.RecoverFault.{RecoverFault}
 use Rattle.qq_recover.specs.declared.fault.RecoverFault.TheVariants as recover_fault
 use Rattle.qq_recover.specs.Recovered.{IsAtEnd, IsLaneFor, IsNoRefusal, IsRecoverCaused}
-use Rattle.qq_wal.specs.Running.{StaysWhole}
+use Rattle.qq_wal.specs.Running.{StillMayRecover}
 use Rattle.qq_world.specs.Node.{Setup, Node, NodeEvent, Crashes, Fails, new_node, node_happens}
 use Rattle.qq_world.specs.Rules.{Then, some_queue}
 use Rattle.qq_world.specs.World.{World, Stops, is_up}
-use Rattle.qq_node_laws.specs.Reads.{IsReached}
+use Rattle.qq_node_laws.specs.Reads.{IsReached, queues_of}
 use Rattle.qq_node_laws.specs.Serves.{Serves, seen_of}
 use Rattle.qq_node_laws.specs.Traced.{LeavesImage, IsTraced}
 use Rattle.qq_node_laws.proofs.Both.{none-any}
@@ -31,12 +31,12 @@ use Rattle.qq_node.specs.declared.opening.OpenFault.TheVariants as open_fault
 use Rattle.qq_node.specs.declared.recovering.Found.{Found}
 use Rattle.qq_node.specs.NodeQueues.{AllDo}
 use Rattle.qq_node.specs.Found.{AreDistinct, AreLanes, FailsLinked, HasFound}
-use Rattle.qq_node.specs.Log.{IsWhole}
+use Rattle.qq_node.specs.Log.{CanRecover}
 use Rattle.qq_node.specs.Node.{GaveUp, IsLogAt, IsRunning, Served, Stands, disk_in, seen}
 use Rattle.qq_node.specs.Restarting.{HasBegun, HasCrashed, IsOpenCaused, IsSetFor, TellsFirstFound, opening_fault}
 use Rattle.qq_node.proofs.Carried.{apart-distinct}
 use Rattle.qq_node.proofs.EachNodeQueue.{all-done}
-use Rattle.qq_node.proofs.Finding.{new-promised, new-whole, none-found}
+use Rattle.qq_node.proofs.Finding.{new-may, new-promised, none-found}
 use Rattle.qq_node.proofs.Moments.{crashed-traced}
 use Rattle.qq_node.proofs.NoneFound.{AreNone, FoundAt, found-at}
 
@@ -52,8 +52,8 @@ module _ {D : Type 0} (tells : D → Bool) (past : D → List Disk) (faults : D 
       → Stands tells past setup old n → new.queues ≡ old.queues → new.auto ≡ old.auto
       → AllDo Stops old.node_queues new.node_queues → new.log ≡ Closed left → given ≡ disk_in old.log
       → tells left ≡ tells given → (IsTrue (tells given) → LeavesImage image (past given) (past left))
-      → IsWhole tells past left → HasCrashed tells past image setup n old new
-  crashed image setup n old new given left r st queues auto done log same told leaves whole =
+      → ((queues : List QueueId) → CanRecover tells past queues left) → HasCrashed tells past image setup n old new
+  crashed image setup n old new given left r st queues auto done log same told leaves may =
       let later : Node = node_happens n (Crashes image) in
       let image_is : IsTrue (tells (disk_in old.log)) → LeavesImage image (past (disk_in old.log)) (past (disk_in new.log)) =
       λ tell. subst (λ (l : NodeLog D). LeavesImage image (past (disk_in old.log)) (past (disk_in l))) (sym log)
@@ -66,7 +66,8 @@ module _ {D : Type 0} (tells : D → Bool) (past : D → List Disk) (faults : D 
           queues = ap (λ (v : Vec QueueId). v.items) queues ∙ st.queues;
           auto = auto ∙ st.auto;
           log = subst (IsLogAt tells past setup later) (sym log) (crashes-down setup n image);
-          whole = subst (λ (l : NodeLog D). IsWhole tells past (disk_in l)) (sym log) whole;
+          may = subst (λ (l : NodeLog D). CanRecover tells past (queues_of setup) (disk_in l)) (sym log)
+              (may (queues_of setup));
         };
         told = ap (λ (l : NodeLog D). tells (disk_in l)) log ∙ told ∙ ap tells same;
         image_is = image_is;
@@ -85,10 +86,10 @@ module _ {D : Type 0} (tells : D → Bool) (past : D → List Disk) (faults : D 
   pub begun : (setup : Setup) (queues : List QueueId) (log_bytes : ℕ) (disk : D) (f : Found D) (new : Held D)
       → IsSetFor setup queues new.node_queues → (IsTrue (tells disk) → IsNew (past disk))
       → HasFound tells past queues log_bytes disk f → AreNone f.lanes.items
-      → (IsTrue (tells disk) → StaysWhole (past disk) (past f.wal.disk)) → tells f.wal.disk ≡ tells disk
+      → (IsTrue (tells disk) → StillMayRecover queues (past disk) (past f.wal.disk)) → tells f.wal.disk ≡ tells disk
       → faults disk ≤ faults f.wal.disk → new.queues.items ≡ queues → new.auto ≡ true → new.log ≡ Open f.wal
       → HasBegun tells past faults setup disk new
-  begun setup queues log_bytes disk f new set fresh found none whole told later same auto log =
+  begun setup queues log_bytes disk f new set fresh found none may told later same auto log =
       let running : IsRunning tells past setup (new_node setup) f.wal =
       record {
         sound = found.sound;
@@ -98,9 +99,10 @@ module _ {D : Type 0} (tells : D → Bool) (past : D → List Disk) (faults : D 
         carries = found.goes_on_new setup set.queues_are
             (none-found queues found.lanes f.lanes.items found.each none);
       } in
-      let still : IsWhole tells past f.wal.disk =
-      λ tell. (let before : IsTrue (tells disk) = subst (λ (b : Bool). IsTrue b) told tell in
-      whole before (new-whole (past disk) (fresh before))) in
+      let still : CanRecover tells past (queues_of setup) f.wal.disk =
+      subst (λ (l : List QueueId). CanRecover tells past l f.wal.disk) set.queues_are
+      (λ tell. (let before : IsTrue (tells disk) = subst (λ (b : Bool). IsTrue b) told tell in
+      may before (new-may queues (past disk) (fresh before)))) in
       record {
         stands = record {
           apart = set.apart;
@@ -108,7 +110,7 @@ module _ {D : Type 0} (tells : D → Bool) (past : D → List Disk) (faults : D 
           queues = same ∙ set.queues_are;
           auto = auto;
           log = subst (IsLogAt tells past setup (new_node setup)) (sym log) (λ up. running);
-          whole = subst (λ (l : NodeLog D). IsWhole tells past (disk_in l)) (sym log) still;
+          may = subst (λ (l : NodeLog D). CanRecover tells past (queues_of setup) (disk_in l)) (sym log) still;
         };
         told = ap (λ (l : NodeLog D). tells (disk_in l)) log ∙ told;
         rises = subst (λ (l : NodeLog D). faults disk ≤ faults (disk_in l)) (sym log) later;

@@ -11,7 +11,7 @@ use Rattle.qq_world.specs.Rules.{Is, Then, is_node_up, is_idle, is_settled}
 use Rattle.qq_wal.specs.Wal.{carries_ahead}
 use Rattle.qq_world.specs.World.{World, Event, is_up, after, happens}
 use Rattle.qq_node_laws.specs.Quiet.{IsQuiet, IsUnseen}
-use Rattle.qq_node_laws.specs.Reads.{IsReached}
+use Rattle.qq_node_laws.specs.Reads.{IsReached, queues_of}
 use Rattle.qq_node_laws.specs.Serves.{GivesUp, Seen, Serves}
 use Rattle.qq_node_laws.proofs.Promises.{reached-after}
 use Rattle.qq_node_laws.proofs.Quiet.{still-up}
@@ -23,7 +23,7 @@ use Rattle.qq_node.specs.declared.node.Node.{Node as Held}
 use Rattle.qq_node.specs.declared.node.NodeLog.{NodeLog}
 use Rattle.qq_node.specs.declared.node.NodeLog.TheVariants.{Open, Closed}
 use Rattle.qq_node.specs.NodeQueues.{AllDo, DoesAt, asked}
-use Rattle.qq_node.specs.Log.{IsWhole}
+use Rattle.qq_node.specs.Log.{CanRecover}
 use Rattle.qq_node.specs.Node.{AreNodeQueues, AtIndex, CanServe, GaveUp, HasPlace, IsAt, IsNodeQueue, IsLogAt, Served, Stands, disk_in, seen}
 use Rattle.qq_node.proofs.Carried.{carries-unseen}
 use Rattle.qq_node.proofs.EachNodeQueue.{all-node_queues, all-done, any-node_queues, as-many, node_queue-at, drop-at, one-done, one-said}
@@ -104,7 +104,7 @@ module _ {D : Type 0} (tells : D → Bool) (past : D → List Disk) (faults : D 
     auto = auto ∙ ap (auto_after event) st.auto;
     log = subst (IsLogAt tells past setup (node_happens n event)) (sym log)
         (log-quiet tells past setup n event old.log r quiet st.log);
-    whole = subst (λ (l : NodeLog D). IsWhole tells past (disk_in l)) (sym log) st.whole;
+    may = subst (λ (l : NodeLog D). CanRecover tells past (queues_of setup) (disk_in l)) (sym log) st.may;
   }
 
   -- ---- calls, one after the other

@@ -18,7 +18,7 @@ use Rattle.qq_recover.specs.declared.fault.RecoverFault.{RecoverFault}
 use Rattle.qq_recover.specs.Answer.{Answer}
 use Rattle.qq_recover.specs.Reading.{lanes_read, shown}
 use Rattle.qq_recover.specs.Recovered.{IsAtEnd, IsLaneFor}
-use Rattle.qq_wal.specs.Running.{StaysWhole}
+use Rattle.qq_wal.specs.Running.{StillMayRecover}
 use Rattle.qq_world.specs.Node.{Setup, Node, NodeEvent, Fails, FindsEach, node_happens}
 use Rattle.qq_world.specs.Promise.{MayTakeUp}
 use Rattle.qq_world.specs.Rules.{FindsLanes, IsNothing, IsRestart, if_so, is_node_up, some_queue}
@@ -36,7 +36,7 @@ use Rattle.qq_node.specs.declared.restarting.RestartFault.{RestartFault}
 use Rattle.qq_node.specs.declared.restarting.RestartFault.TheVariants as restart_fault
 use Rattle.qq_node.specs.Found.{AllTakeUpTold, AreLanes, FailsLinked, HasFound, as_told}
 use Rattle.qq_node.specs.Node.{AreNodeQueues, Served, Stands, disk_in}
-use Rattle.qq_node.specs.Log.{IsWhole}
+use Rattle.qq_node.specs.Log.{CanRecover}
 use Rattle.qq_node.specs.Restarting.{AllTake, GoesOnWith, HandsBack, IsLinkedTo, IsLostAsRead, IsLostIn, IsLostOf, IsOfMemory, IsRefusedBy, IsRestartCaused, IsTakeAllCaused, SomeIsLost, StopsWith, TakesUp, lanes_in}
 use Rattle.qq_node.proofs.Carried.{may_restart-all}
 use Rattle.qq_node.proofs.EachNodeQueue.{all-done, as-many}
@@ -146,7 +146,7 @@ module _ {D : Type 0} (tells : D → Bool) (past : D → List Disk) (faults : D 
   -- what recovery has done with a disk
   abbrev pub Recovers : List QueueId → ℕ → Found D → D → Type 0
   Recovers queues log_bytes f disk =
-      HasFound tells past queues log_bytes disk f × (IsTrue (tells disk) → StaysWhole (past disk) (past f.wal.disk))
+      HasFound tells past queues log_bytes disk f × (IsTrue (tells disk) → StillMayRecover queues (past disk) (past f.wal.disk))
       × (tells f.wal.disk ≡ tells disk) × (faults disk ≤ faults f.wal.disk)
 
   goes-on : (old new : Held D) (f : Found D) (log_bytes : ℕ) (text : List ℕ)
@@ -171,8 +171,10 @@ module _ {D : Type 0} (tells : D → Bool) (past : D → List Disk) (faults : D 
         told = rec.2;
         rises = rec.3;
         cause = λ failed. absurd (false≢true failed);
-        whole = λ before tell. (let tell_before : IsTrue (tells (disk_in old.log)) =
-            subst (λ (b : Bool). IsTrue b) rec.2 tell in rec.1 tell_before (before tell_before));
+        may = λ before tell. (let tell_before : IsTrue (tells (disk_in old.log)) =
+            subst (λ (b : Bool). IsTrue b) rec.2 tell in
+            subst (λ (l : List QueueId). StillMayRecover l (past (disk_in old.log)) (past f.wal.disk)) st.queues
+            (rec.1 tell_before) (before tell_before));
         moments = λ tell linked.
             (found.finds tell setup n st.queues r (taken-down setup n found.lanes both.0) linked).traced;
       } in
@@ -205,7 +207,7 @@ module _ {D : Type 0} (tells : D → Bool) (past : D → List Disk) (faults : D 
   abbrev pub FailsWith : List QueueId → D → RecoverFault → D → Type 0
   FailsWith queues left fault disk =
       (IsTrue (tells disk) → FailsLinked queues (past disk) (past left) fault)
-      × (IsTrue (tells disk) → StaysWhole (past disk) (past left)) × (tells left ≡ tells disk)
+      × (IsTrue (tells disk) → StillMayRecover queues (past disk) (past left)) × (tells left ≡ tells disk)
       × (faults disk ≤ faults left) × Rose (faults disk) (faults left)
 
   fails-down : (setup : Setup) (n : Node) → some_queue setup is_up (node_happens n Fails) ≡ false
@@ -226,8 +228,10 @@ module _ {D : Type 0} (tells : D → Bool) (past : D → List Disk) (faults : D 
         told = f.2;
         rises = f.3;
         cause = λ failed. f.4;
-        whole = λ whole tell. (let tell_before : IsTrue (tells (disk_in old.log)) =
-            subst (λ (b : Bool). IsTrue b) f.2 tell in f.1 tell_before (whole tell_before));
+        may = λ may tell. (let tell_before : IsTrue (tells (disk_in old.log)) =
+            subst (λ (b : Bool). IsTrue b) f.2 tell in
+            subst (λ (l : List QueueId). StillMayRecover l (past (disk_in old.log)) (past left)) st.queues
+            (f.1 tell_before) (may tell_before));
         moments = λ tell linked. (f.0 tell setup n st.queues r linked).traced;
       } in
       record {
@@ -252,14 +256,19 @@ module _ {D : Type 0} (tells : D → Bool) (past : D → List Disk) (faults : D 
 
   -- ---- an error hands the disk back
 
-  hands-over : (old : Held D) (left : D) → IsWhole tells past (disk_in old.log)
-      → (IsTrue (tells (disk_in old.log)) → StaysWhole (past (disk_in old.log)) (past left))
+  pub recovers-own : (setup : Setup) (n : Node) (node : Held D) → Stands tells past setup node n
+      → CanRecover tells past node.queues.items (disk_in node.log)
+  recovers-own setup n node st =
+      subst (λ (l : List QueueId). CanRecover tells past l (disk_in node.log)) (sym st.queues) st.may
+
+  hands-over : (old : Held D) (left : D) → CanRecover tells past old.queues.items (disk_in old.log)
+      → (IsTrue (tells (disk_in old.log)) → StillMayRecover old.queues.items (past (disk_in old.log)) (past left))
       → tells left ≡ tells (disk_in old.log) → faults (disk_in old.log) ≤ faults left
       → ((setup : Setup) (n : Node) → IsReached setup n → Stands tells past setup old n → AreDown setup n
       → IsLinkedTo tells past setup n old → KeepsAudits setup n (past (disk_in old.log)) (past left))
       → HandsBack tells past faults old left
   hands-over old left was stays same later moments = record {
-    whole = λ tell. (let before : IsTrue (tells (disk_in old.log)) = subst (λ (b : Bool). IsTrue b) same tell in
+    may = λ tell. (let before : IsTrue (tells (disk_in old.log)) = subst (λ (b : Bool). IsTrue b) same tell in
         stays before (was before));
     given_up = λ setup n r st down. record {
       told = same;
@@ -272,10 +281,10 @@ module _ {D : Type 0} (tells : D → Bool) (past : D → List Disk) (faults : D 
   abbrev pub Refuses : List QueueId → D → RecoverFault → D → Type 0
   Refuses queues left fault disk =
       (IsTrue (tells disk) → FailsLinked queues (past disk) (past left) fault)
-      × (IsTrue (tells disk) → StaysWhole (past disk) (past left)) × (tells left ≡ tells disk)
+      × (IsTrue (tells disk) → StillMayRecover queues (past disk) (past left)) × (tells left ≡ tells disk)
       × (faults disk ≤ faults left)
 
-  back-refused : (old : Held D) (left : D) (fault : RecoverFault) → IsWhole tells past (disk_in old.log)
+  back-refused : (old : Held D) (left : D) (fault : RecoverFault) → CanRecover tells past old.queues.items (disk_in old.log)
       → Refuses old.queues.items left fault (disk_in old.log) → HandsBack tells past faults old left
   back-refused old left fault was h =
       hands-over old left was h.1 h.2 h.3 (λ setup n r st down linked.
@@ -283,14 +292,14 @@ module _ {D : Type 0} (tells : D → Bool) (past : D → List Disk) (faults : D 
       (h.0 linked.0 setup n st.queues r linked.1).traced)
 
   pub refused-back : (old : Held D) (given left : D) (fault : RecoverFault) (queues : List QueueId)
-      → given ≡ disk_in old.log → queues ≡ old.queues.items → IsWhole tells past (disk_in old.log)
+      → given ≡ disk_in old.log → queues ≡ old.queues.items → CanRecover tells past old.queues.items (disk_in old.log)
       → Refuses queues left fault given → HandsBack tells past faults old left
   refused-back old given left fault queues disk ids was h =
       back-refused old left fault was
       (subst (Refuses old.queues.items left fault) disk
       (subst (λ (l : List QueueId). Refuses l left fault given) ids h))
 
-  back-found : (old : Held D) (f : Found D) (log_bytes : ℕ) → IsWhole tells past (disk_in old.log)
+  back-found : (old : Held D) (f : Found D) (log_bytes : ℕ) → CanRecover tells past old.queues.items (disk_in old.log)
       → Recovers old.queues.items log_bytes f (disk_in old.log) → HandsBack tells past faults old f.wal.disk
   back-found old f log_bytes was rec =
       hands-over old f.wal.disk was rec.1 rec.2 rec.3 (λ setup n r st down linked.
@@ -299,7 +308,7 @@ module _ {D : Type 0} (tells : D → Bool) (past : D → List Disk) (faults : D 
       (past f.wal.disk) r (tt, tt) (found.finds linked.0 setup n st.queues r down linked.1).traced))
 
   pub found-back : (old : Held D) (given left : D) (f : Found D) (queues : List QueueId) (log_bytes : ℕ)
-      → given ≡ disk_in old.log → queues ≡ old.queues.items → IsWhole tells past (disk_in old.log)
+      → given ≡ disk_in old.log → queues ≡ old.queues.items → CanRecover tells past old.queues.items (disk_in old.log)
       → Recovers queues log_bytes f given → left ≡ f.wal.disk → HandsBack tells past faults old left
   found-back old given left f queues log_bytes disk ids was rec same =
       subst (HandsBack tells past faults old) (sym same)

@@ -1,10 +1,10 @@
 -- What a node's log has of each queue: where the ops end that are written.
 use Rattle.std.specs.Prelude.{◌≡◌, ℕ, List, take}
 use Rattle.std.specs.List.{AllByRecursion}
+use Rattle.qq_log.specs.Carries.{Carries, carry_or_new}
 use Rattle.qq_log.specs.declared.lane.Carry.{Carry}
 use Rattle.qq_log.specs.declared.op.Op.{Op}
 use Rattle.qq_log.specs.Stable.{Stable, last_index}
-use Rattle.qq_wal.specs.Marks.{Carries, carry_or_new}
 use Rattle.qq_world.specs.Node.{Setup, Node}
 use Rattle.qq_world.specs.Promise.{state_of}
 use Rattle.qq_world.specs.World.{World}

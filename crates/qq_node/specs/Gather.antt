@@ -2,9 +2,9 @@
 use Rattle.std.specs.Prelude.{◌≤◌, List, [], ◌∷◌, length}
 use Rattle.std.specs.List.{AllByRecursion}
 use Rattle.qq_base.specs.declared.ids.QueueId.{QueueId}
+use Rattle.qq_log.specs.Carries.{Carries, GoesOn, add_op}
 use Rattle.qq_log.specs.declared.op.Op.{Op}
 use Rattle.qq_log.specs.Writable.{MayGather}
-use Rattle.qq_wal.specs.Marks.{Carries, GoesOn, add_op}
 use Rattle.qq_world.specs.Server.{entries_in}
 
 -- the log takes the op: it may be gathered, and has one entry at most, so that its record is short enough for a batch

@@ -9,16 +9,16 @@ use Rattle.qq_recover.specs.Recovered.{IsAtEnd}
 use Rattle.qq_wal.specs.declared.fault.WalFault.{WalFault}
 use Rattle.qq_wal.specs.declared.fault.WalFault.TheVariants.{Disk as DiskFailed, Stopped, TooLarge, Memory}
 use Rattle.qq_wal.specs.declared.wal.Wal.{Wal}
-use Rattle.qq_wal.specs.Running.{StaysGiving, HoldsAlso, MayNotice, NoneRemoved, Stays, StillHolds}
+use Rattle.qq_wal.specs.Running.{StaysGiving, HoldsAlso, MayNotice, MayRecover, Stays, StillHolds}
 use Rattle.qq_wal_record.specs.declared.record.LogRecord.{LogRecord}
 use Rattle.qq_world.specs.Node.{NodeEvent, Alike, Fails}
 use Rattle.qq_world.specs.World.{Syncs}
 use Rattle.qq_node.specs.declared.log.SyncOutcome.{SyncOutcome}
 use Rattle.qq_node.specs.declared.log.SyncOutcome.TheVariants.{Whole, NoFile, Nothing}
 
--- a disk that tells its contents has no log file removed, so that it may be recovered
-abbrev pub IsWhole : {D : Type 0} → (D → Bool) → (D → List Disk) → D → Type 0
-IsWhole tells past disk = IsTrue (tells disk) → NoneRemoved (now (past disk))
+-- a disk that shows its contents may be recovered, as the log of these queues
+abbrev pub CanRecover : {D : Type 0} → (D → Bool) → (D → List Disk) → List QueueId → D → Type 0
+CanRecover tells past queues disk = IsTrue (tells disk) → MayRecover queues (now (past disk))
 
 -- so many of the records that wait are appended: at each moment their ops are among the given ones, and then on the disk
 abbrev pub AppendsFirst : List QueueId → ℕ → List LogRecord → List Disk → List Disk → Type 0

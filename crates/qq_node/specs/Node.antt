@@ -15,7 +15,7 @@ use Rattle.qq_node.specs.declared.node.Node.{Node as Held}
 use Rattle.qq_node.specs.declared.node.NodeLog.{NodeLog}
 use Rattle.qq_node.specs.declared.node.NodeLog.TheVariants.{Open, Closed}
 use Rattle.qq_node.specs.Carried.{CarriesAre}
-use Rattle.qq_node.specs.Log.{IsWhole}
+use Rattle.qq_node.specs.Log.{CanRecover}
 
 -- ---- the disk
 
@@ -66,7 +66,7 @@ pub record Stands {D : Type 0} (tells : D → Bool) (past : D → List Disk) (se
   pub queues : node.queues.items ≡ queues_of setup
   pub auto : node.auto ≡ n.auto
   pub log : IsLogAt tells past setup n node.log
-  pub whole : IsWhole tells past (disk_in node.log)
+  pub may : CanRecover tells past (queues_of setup) (disk_in node.log)
 
 -- it stands for a node that something may have led to
 abbrev pub CanServe : {D : Type 0} → (D → Bool) → (D → List Disk) → Held D → Type 0

@@ -34,7 +34,7 @@ use Rattle.qq_node.specs.declared.restarting.RestartFault.{RestartFault}
 use Rattle.qq_node.specs.declared.restarting.RestartFault.TheVariants as restart_fault
 use Rattle.qq_node.specs.NodeQueues.{AllDo}
 use Rattle.qq_node.specs.Found.{as_told}
-use Rattle.qq_node.specs.Log.{IsWhole}
+use Rattle.qq_node.specs.Log.{CanRecover}
 use Rattle.qq_node.specs.Node.{AreNodeQueues, Stands, disk_in, seen}
 
 -- ---- a crash
@@ -204,7 +204,7 @@ IsLinkedTo tells past setup n node =
 -- A restart that is given up hands the disk back, which may be recovered again.
 pub record HandsBack {D : Type 0} (tells : D → Bool) (past : D → List Disk) (faults : D → ℕ) (old : Held D) (new : D)
     : Type 0 where
-  pub whole : IsWhole tells past new
+  pub may : CanRecover tells past old.queues.items new
   pub given_up : (setup : Setup) (n : Node) → IsReached setup n → Stands tells past setup old n → AreDown setup n
       → GivesUp setup n (seen tells past faults old) (seen_of tells past faults new)
 

@@ -6,7 +6,7 @@ use Rattle.qq_disk.specs.Disk.{Disk}
 use Rattle.qq_wal_chain.specs.Laws.{op_records}
 use Rattle.qq_node_queue.specs.NodeQueue.{NodeQueueState}
 use Rattle.qq_log.specs.declared.op.Op.{Op}
-use Rattle.qq_wal.specs.Running.{Stays, StaysWhole}
+use Rattle.qq_wal.specs.Running.{Stays, StillMayRecover}
 use Rattle.qq_wal.specs.Wal.{IsSound, StaysAppending, carries_ahead}
 use Rattle.qq_wal.specs.declared.wal.Wal.{Wal}
 use Rattle.qq_node.specs.declared.log.SyncOutcome.{SyncOutcome}
@@ -25,7 +25,7 @@ pub record SameLog {D : Type 0} (tells : D → Bool) (past : D → List Disk) (f
     pub queues : new.queues ≡ old.queues
     pub told : tells new.disk ≡ tells old.disk
     pub later : faults old.disk ≤ faults new.disk
-    pub whole : IsTrue (tells old.disk) → StaysWhole (past old.disk) (past new.disk)
+    pub may : IsTrue (tells old.disk) → StillMayRecover old.queues.items (past old.disk) (past new.disk)
 
 -- It was given up: the disk tells as before, and at each moment of it this holds.
 pub record BreaksOff {D : Type 0} (tells : D → Bool) (past : D → List Disk) (faults : D → ℕ)

@@ -1,11 +1,11 @@
 //! A crash of a node's disk.
-ghost use Rattle.std.specs.Prelude.{◌≡◌, IsTrue, IfOk};
+ghost use Rattle.std.specs.Prelude.{◌≡◌, List, IsTrue, IfOk};
+ghost use Rattle.qq_base.specs.declared.ids.QueueId.{QueueId};
 ghost use Rattle.qq_base.specs.Causes.{HasCause};
 ghost use Rattle.qq_disk.specs.Disk.{now};
-ghost use Rattle.qq_wal.specs.Running.{NoneRemoved};
 ghost use Rattle.qq_node_laws.specs.Traced.{LeavesImage};
 ghost use Rattle.qq_ports.specs.Yard.{IsYardCaused};
-ghost use Rattle.qq_node.specs.Log.{IsWhole};
+ghost use Rattle.qq_node.specs.Log.{CanRecover};
 
 use qq_disk::Image;
 use qq_ports::{Yard, YardFault};
@@ -14,7 +14,7 @@ use std::alloc::Global;
 /// The disk after a crash. Where the call is refused, the disk is given up.
 ///
 /// - `left`: a disk that tells its contents holds what the image names, and no moment came before.
-/// - `whole`: it may be recovered.
+/// - `may`: it may be recovered.
 /// - `cause`: it fails only at a counted fault of the yard, or there was no memory.
 pub fn crash_disk<Y: Yard>(
     yard: &mut Y,
@@ -25,7 +25,8 @@ pub fn crash_disk<Y: Yard>(
     ensures left { IsTrue (Y.Disk.tells disk) → IfOk result (λ after.
         LeavesImage image.now (Y.Disk.past disk) (Y.Disk.past after)) }
     ensures told { IfOk result (λ after. Y.Disk.tells after ≡ Y.Disk.tells disk) }
-    ensures whole { IfOk result (IsWhole Y.Disk.tells Y.Disk.past) }
+    ensures may { IfOk result (λ after. (queues : List QueueId) →
+        CanRecover Y.Disk.tells Y.Disk.past queues after) }
     ensures cause { HasCause IsYardCaused (Y.faults yard.old) (Y.faults yard.new) result }
 {
     match yard.crash(alloc, disk, image) {

@@ -1,8 +1,8 @@
 //! Ops that wait are gathered for the log.
 ghost use Rattle.std.specs.Prelude.{◌≡◌, ◌++◌, ◌∷◌, [], false, IfOk, OnOk, IsOkUnless};
+ghost use Rattle.qq_log.specs.Carries.{GoesOn, add_op};
 ghost use Rattle.qq_log.specs.Writable.{IsChange};
 ghost use Rattle.qq_wal_chain.specs.Laws.{op_records};
-ghost use Rattle.qq_wal.specs.Marks.{GoesOn, add_op};
 ghost use Rattle.qq_wal.specs.Wal.{IsSound, carries_ahead};
 ghost use Rattle.qq_node.specs.Gather.{AllGoOn, AllMayTake, MayTake, add_ops};
 

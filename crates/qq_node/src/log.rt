@@ -3,7 +3,7 @@ ghost use Rattle.std.specs.Prelude.{◌≡◌, ◌≤◌, false, true, [], IsTru
 ghost use Rattle.qq_base.specs.Causes.{HasCause, Rose};
 ghost use Rattle.qq_disk.specs.Disk.{now};
 ghost use Rattle.qq_recover.specs.Recovered.{IsAtEnd};
-ghost use Rattle.qq_wal.specs.Running.{Stays, StaysWhole, StillHolds};
+ghost use Rattle.qq_wal.specs.Running.{Stays, StillHolds, StillMayRecover};
 ghost use Rattle.qq_wal.specs.Wal.{IsSound, StaysAppending, carries_ahead, is_full};
 ghost use Rattle.qq_node.specs.Log.{AppendsAll, AppendsSome, FailsByCount, GoesOnAt, HasCome, HasWritten, IsLogCaused, IsNextFile, KeepsLimit, KeepsWaiting};
 
@@ -24,8 +24,8 @@ fn append_some<D: NodeDisk>(wal: &mut Wal<D>, alloc: Global) -> Result<bool, Wal
     ensures ahead { carries_ahead wal.new ≡ carries_ahead wal.old }
     ensures queues { wal.new.queues ≡ wal.old.queues }
     ensures limit { wal.new.log_bytes ≡ wal.old.log_bytes }
-    ensures whole { IsTrue (D.tells wal.old.disk) →
-        StaysWhole (D.past wal.old.disk) (D.past wal.new.disk) }
+    ensures may { IsTrue (D.tells wal.old.disk) → StillMayRecover wal.old.queues.items
+        (D.past wal.old.disk) (D.past wal.new.disk) }
     ensures told { D.tells wal.new.disk ≡ D.tells wal.old.disk }
     ensures cause { HasCause IsLogCaused (D.faults wal.old.disk) (D.faults wal.new.disk) result }
 {
@@ -47,8 +47,8 @@ fn append_all<D: NodeDisk>(wal: &mut Wal<D>, alloc: Global) -> Result<(), WalFau
     ensures ahead { carries_ahead wal.new ≡ carries_ahead wal.old }
     ensures queues { wal.new.queues ≡ wal.old.queues }
     ensures limit { wal.new.log_bytes ≡ wal.old.log_bytes }
-    ensures whole { IsTrue (D.tells wal.old.disk) →
-        StaysWhole (D.past wal.old.disk) (D.past wal.new.disk) }
+    ensures may { IsTrue (D.tells wal.old.disk) → StillMayRecover wal.old.queues.items
+        (D.past wal.old.disk) (D.past wal.new.disk) }
     ensures told { D.tells wal.new.disk ≡ D.tells wal.old.disk }
     ensures cause { HasCause IsLogCaused (D.faults wal.old.disk) (D.faults wal.new.disk) result }
 {
@@ -74,8 +74,8 @@ pub fn write_log<D: NodeDisk>(wal: &mut Wal<D>, alloc: Global) -> Result<bool, M
     ensures ahead { carries_ahead wal.new ≡ carries_ahead wal.old }
     ensures queues { wal.new.queues ≡ wal.old.queues }
     ensures limit { wal.new.log_bytes ≡ wal.old.log_bytes }
-    ensures whole { IsTrue (D.tells wal.old.disk) →
-        StaysWhole (D.past wal.old.disk) (D.past wal.new.disk) }
+    ensures may { IsTrue (D.tells wal.old.disk) → StillMayRecover wal.old.queues.items
+        (D.past wal.old.disk) (D.past wal.new.disk) }
     ensures told { D.tells wal.new.disk ≡ D.tells wal.old.disk }
     ensures later { D.faults wal.old.disk ≤ D.faults wal.new.disk }
     ensures cause { IfErr result IsAtEnd }
@@ -123,8 +123,8 @@ pub fn begin_next<D: NodeDisk>(wal: &mut Wal<D>, alloc: Global) -> Result<bool, 
         wal.new.log_bytes ≡ wal.old.log_bytes) }
     ensures ahead { carries_ahead wal.new ≡ carries_ahead wal.old }
     ensures queues { wal.new.queues ≡ wal.old.queues }
-    ensures whole { IsTrue (D.tells wal.old.disk) →
-        StaysWhole (D.past wal.old.disk) (D.past wal.new.disk) }
+    ensures may { IsTrue (D.tells wal.old.disk) → StillMayRecover wal.old.queues.items
+        (D.past wal.old.disk) (D.past wal.new.disk) }
     ensures told { D.tells wal.new.disk ≡ D.tells wal.old.disk }
     ensures later { D.faults wal.old.disk ≤ D.faults wal.new.disk }
     ensures cause { IfErr result IsAtEnd }
@@ -162,8 +162,8 @@ pub fn sync_log<D: NodeDisk>(wal: &mut Wal<D>, alloc: Global) -> Result<SyncOutc
         FailsByCount (D.faults wal.old.disk) (D.faults wal.new.disk) s) }
     ensures ahead { carries_ahead wal.new ≡ carries_ahead wal.old }
     ensures queues { wal.new.queues ≡ wal.old.queues }
-    ensures whole { IsTrue (D.tells wal.old.disk) →
-        StaysWhole (D.past wal.old.disk) (D.past wal.new.disk) }
+    ensures may { IsTrue (D.tells wal.old.disk) → StillMayRecover wal.old.queues.items
+        (D.past wal.old.disk) (D.past wal.new.disk) }
     ensures told { D.tells wal.new.disk ≡ D.tells wal.old.disk }
     ensures later { D.faults wal.old.disk ≤ D.faults wal.new.disk }
     ensures cause { IfErr result IsAtEnd }

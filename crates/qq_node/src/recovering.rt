@@ -4,9 +4,9 @@ ghost use Rattle.qq_disk.specs.Disk.{now};
 ghost use Rattle.qq_recover.specs.Answer.{Fails};
 ghost use Rattle.qq_recover.specs.Reading.{lanes_read, shown};
 ghost use Rattle.qq_recover.specs.Recovered.{IsRecoverCaused, IsSpentOn, lanes_left, wal_of};
-ghost use Rattle.qq_wal.specs.Running.{StaysWhole};
+ghost use Rattle.qq_wal.specs.Running.{StillMayRecover};
 ghost use Rattle.qq_node.specs.Found.{AreDistinct, AreLanes, FailsLinked, HasFound, disk_of};
-ghost use Rattle.qq_node.specs.Log.{IsWhole};
+ghost use Rattle.qq_node.specs.Log.{CanRecover};
 
 use qq_base::{Memory, QueueId};
 use qq_disk::NodeDisk;
@@ -56,14 +56,14 @@ fn take_lanes<D: NodeDisk>(
 /// - `refused`: `Damaged` and `Version` come exactly where the log's files break its rules, at the first
 ///   place. `spent`: a listed log file's number is at its end, and the greatest is told.
 /// - `cause`: `Disk` comes only where the disk's count of faults rose; else there was no memory.
-/// - `whole`: the disk may be recovered again, also where it was refused.
+/// - `may`: the disk may be recovered again, also where it was refused.
 pub fn recover_log<D: NodeDisk>(
     disk: D,
     alloc: Global,
     queues: &[QueueId],
     log_bytes: u64,
 ) -> Result<Found<D>, (RecoverFault, D)>
-    requires whole { IsWhole D.tells D.past disk }
+    requires may { CanRecover D.tells D.past queues.now disk }
     requires apart { AreDistinct queues.now }
     ensures ok { IfOk result (HasFound D.tells D.past queues.now log_bytes disk) }
     ensures fails { IsTrue (D.tells disk) → IfErr result (λ e.
@@ -72,8 +72,8 @@ pub fn recover_log<D: NodeDisk>(
         Fails e.0 (lanes_read queues.now (shown (now (D.past disk))))) }
     ensures spent { IsTrue (D.tells disk) →
         IfErr result (λ e. IsSpentOn (now (D.past disk)) e.0) }
-    ensures whole { IsTrue (D.tells disk) →
-        StaysWhole (D.past disk) (D.past (disk_of result)) }
+    ensures may { IsTrue (D.tells disk) →
+        StillMayRecover queues.now (D.past disk) (D.past (disk_of result)) }
     ensures told { D.tells (disk_of result) ≡ D.tells disk }
     ensures later { D.faults disk ≤ D.faults (disk_of result) }
     ensures cause { IfErr result (λ e. IsRecoverCaused (D.faults disk) (D.faults e.1) e.0) }

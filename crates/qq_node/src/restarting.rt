@@ -8,7 +8,7 @@ ghost use Rattle.qq_world.specs.Rules.{IsRestart, is_node_up};
 ghost use Rattle.qq_world.specs.World.{is_up};
 ghost use Rattle.qq_node_laws.specs.Reads.{IsReached, AreDown};
 ghost use Rattle.qq_node_laws.specs.Serves.{GivesUp, seen_of};
-ghost use Rattle.qq_node.specs.Log.{IsWhole};
+ghost use Rattle.qq_node.specs.Log.{CanRecover};
 ghost use Rattle.qq_node.specs.Node.{CanServe, Served, Stands, disk_in, seen};
 ghost use Rattle.qq_node.specs.Restarting.{AllTake, IsLinkedTo, IsLostAsRead, IsOfMemory, IsRefusedBy, IsRestartCaused, IsTakeAllCaused, IsTakeCaused, GoesOnWith, HandsBack, StopsWith, TakesUp, lanes_in};
 
@@ -222,7 +222,7 @@ fn recover_node<D: NodeDisk>(
 
 /// Restarts a node: its log is recovered, and each queue takes up what was found of it. If the disk fails,
 /// the node stays stopped and says so. A node that is up stays as it is. An error hands the disk back, which may be
-/// recovered again (`whole`), and at each moment of the call whatever a crash leaves has each queue's audit, where
+/// recovered again (`may`), and at each moment of the call whatever a crash leaves has each queue's audit, where
 /// the queues were stopped together (`given_up`).
 ///
 /// `Damaged` and `Version` come where the log's files break its rules, at the first place, `Lost` where a queue
@@ -248,7 +248,7 @@ pub fn restart_node<D: NodeDisk>(
     ensures lost { (setup : Setup) (n : World) → Stands D.tells D.past setup node n →
         IsTrue (D.tells (disk_in node.log)) →
         IfErr result (λ e. IsLostAsRead setup n (lanes_in D.past node) e.0) }
-    ensures whole { IfErr result (λ e. IsWhole D.tells D.past e.1) }
+    ensures may { IfErr result (λ e. CanRecover D.tells D.past node.queues.items e.1) }
     ensures given_up { (setup : Setup) (n : World) → IsReached setup n →
         Stands D.tells D.past setup node n → (is_node_up setup n ≡ false → AreDown setup n) →
         IfErr result (λ e. GivesUp setup n (seen D.tells D.past D.faults node)

@@ -13,6 +13,7 @@ use Rattle.qq_base.specs.declared.ids.QueueId.{QueueId}
 use Rattle.qq_base.specs.declared.ids.Term.{Term}
 use Rattle.qq_base.proofs.Fronts.{front-more, front-trans}
 use Rattle.qq_entry.specs.declared.command.Entry.{Entry}
+use Rattle.qq_log.specs.Carries.{carry_behind}
 use Rattle.qq_log.specs.Above.{take_above}
 use Rattle.qq_log.specs.declared.op.Op.{Op}
 use Rattle.qq_log.specs.declared.op.Op.TheVariants.{Change, SnapshotMade, SegmentMade}
@@ -20,7 +21,6 @@ use Rattle.qq_log.specs.Op.{queue}
 use Rattle.qq_log.specs.Stable.{Stable, new_state, no_snapshot, stable, then_apply, apply_op, change, carry_of, last_index}
 use Rattle.qq_lots.proofs.Between.{first-items}
 use Rattle.qq_wal_chain.specs.Lanes.{of_queue}
-use Rattle.qq_wal.specs.Marks.{carry_behind}
 use Rattle.qq_world.specs.Node.{Setup, Node}
 use Rattle.qq_world.specs.Promise.{state_of}
 use Rattle.qq_world.proofs.Ops.{AreSound}

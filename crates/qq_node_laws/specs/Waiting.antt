@@ -2,10 +2,10 @@
 use Rattle.std.specs.Prelude.{◌≡◌, ◌≢◌, ℕ, List, [], ◌∷◌, ◌++◌, true, drop}
 use Rattle.std.specs.List.{AllByRecursion, flat_map}
 use Rattle.qq_base.specs.declared.ids.QueueId.{QueueId}
+use Rattle.qq_log.specs.Carries.{carry_behind, follows_carry}
 use Rattle.qq_log.specs.declared.op.Op.{Op}
 use Rattle.qq_log.specs.declared.op.Op.TheVariants.{Change, SnapshotMade, SegmentMade}
 use Rattle.qq_log.specs.Stable.{carry_of}
-use Rattle.qq_wal.specs.Marks.{carry_behind, follows_carry}
 use Rattle.qq_world.specs.Node.{Setup, Node}
 use Rattle.qq_world.specs.Promise.{state_of}
 use Rattle.qq_world.specs.World.{World}

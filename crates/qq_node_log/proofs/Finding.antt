@@ -1,5 +1,5 @@
 -- What recovery gives, in the words of a log's parts.
-use Rattle.std.proofs.Common.{◌≡◌, ◌+◌, ◌||◌, ℕ, Bool, true, false, List, [], ◌∷◌, Option, Some, None, eqb, map, option_map, refl, sym, ap, ◌∙◌, subst, take, length, arith, unwrap_or}
+use Rattle.std.proofs.Common.{◌≡◌, ◌+◌, ◌||◌, ℕ, Bool, true, List, [], ◌∷◌, Option, Some, None, eqb, map, option_map, refl, sym, ap, ◌∙◌, subst, take, length, arith, unwrap_or}
 use Rattle.std.specs.Global.{Vec}
 use Rattle.std.specs.Prelude.{Ok, IfSome, IsTrue}
 use Rattle.std.specs.List.{AllByRecursion}
@@ -9,12 +9,12 @@ use Rattle.qq_base.proofs.Lists.{AllByRecursion-weaker}
 use Rattle.qq_base.specs.Fronts.{IsFront}
 use Rattle.qq_base.specs.declared.ids.QueueId.{QueueId}
 use Rattle.qq_base.specs.declared.memory.Memory.{Memory}
-use Rattle.qq_disk.specs.Crash.{Remains, reopen}
+use Rattle.qq_disk.specs.Crash.{Remains}
 use Rattle.qq_disk.specs.declared.image.Image.{Image}
-use Rattle.qq_disk.specs.Disk.{Disk, now, whole}
-use Rattle.qq_disk.specs.Image.{image_of, log_of}
+use Rattle.qq_disk.specs.Disk.{Disk, now}
+use Rattle.qq_disk.specs.Image.{image_of}
 use Rattle.qq_disk.proofs.Named.{named}
-use Rattle.qq_log.specs.Carries.{carry_or_new}
+use Rattle.qq_log.specs.Carries.{carry_or_new, is_listed}
 use Rattle.qq_log.specs.declared.lane.Carry.{Carry}
 use Rattle.qq_log.specs.declared.lane.Lane.{Lane}
 use Rattle.qq_log.specs.declared.op.Op.{Op}
@@ -35,12 +35,12 @@ use Rattle.qq_recover.specs.Reading.{lanes_read, shown}
 use Rattle.qq_recover.specs.Recovered.{IsLaneFor, IsNewLog, IsNoRefusal, KnowsLanes, lanes_left, wal_of}
 use Rattle.qq_recover.specs.Recovery.{SettlesLanes}
 use Rattle.qq_recover.specs.State.{IsWithinEnds}
+use Rattle.qq_recover.proofs.Promised.{opened-may}
 use Rattle.qq_wal.specs.declared.wal.Wal.{Wal}
-use Rattle.qq_wal.specs.Running.{top, NoneRemoved, Stays}
+use Rattle.qq_wal.specs.Running.{top, MayRecover, Stays}
 use Rattle.qq_wal.specs.Wal.{IsSound, carries_ahead}
 use Rattle.qq_wal.proofs.Agreeing.{or-new}
-use Rattle.qq_wal_chain.specs.Image.{is_removed}
-use Rattle.qq_wal_chain.specs.Lanes.{Lanes, IsStateOf, is_listed, of_queue}
+use Rattle.qq_wal_chain.specs.Lanes.{Lanes, IsStateOf, of_queue}
 use Rattle.qq_wal_chain.specs.Laws.{KeepsPromise}
 use Rattle.qq_wal_chain.proofs.Promised.{empty-keeps}
 use Rattle.qq_node_log.specs.Ends.{IsCarryOf, carry_end, end_of, ends, lane_end}
@@ -189,21 +189,17 @@ has-found tells past queues log_bytes disk r w taken same lanes within sound kno
 
 -- ---- crashes
 
-reopened : (i : Remains) → NoneRemoved (reopen i)
-reopened i n = by (i (log_of n))
-  where
-    by : (left : Option (List ℕ)) → is_removed (option_map whole left) ≡ false
-    by None = refl
-    by (Some bytes) = refl
+-- a disk that was crashed may be recovered
+pub crashed-whole : (queues : List QueueId) (image : Image) (old new : List Disk) → IsAfterCrash image old new
+    → MayRecover queues (now new)
+crashed-whole queues image old new after =
+    subst (MayRecover queues) (sym after.left.left)
+    (opened-may queues (image_of image after.left.newest (now old)))
 
--- no file of a disk that was crashed is removed
-pub crashed-whole : (image : Image) (old new : List Disk) → IsAfterCrash image old new → NoneRemoved (now new)
-crashed-whole image old new after =
-    subst NoneRemoved (sym after.left.left) (reopened (image_of image after.left.newest (now old)))
-
--- nor one of a new disk
-pub new-whole : (past : List Disk) → IsNew past → NoneRemoved (now past)
-new-whole past fresh = subst (λ (p : List Disk). NoneRemoved (now p)) (sym fresh) (λ n. refl)
+-- and so may a new one
+pub new-whole : (queues : List QueueId) (past : List Disk) → IsNew past → MayRecover queues (now past)
+new-whole queues past fresh =
+    subst (λ (p : List Disk). MayRecover queues (now p)) (sym fresh) (opened-may queues (λ file. None))
 
 -- which has promised nothing
 pub new-promised : (lot : Lot) (past : List Disk) → IsNew past → KeepsPromised lot (λ place. new_part) (now past)

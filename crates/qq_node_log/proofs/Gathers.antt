@@ -5,13 +5,12 @@ use Rattle.std.proofs.lemmas.Bool.{false≢true, le-leb}
 use Rattle.std.proofs.lemmas.List.Elements.{All-head, All-tail}
 use Rattle.qq_base.specs.declared.ids.QueueId.{QueueId}
 use Rattle.qq_disk.specs.Disk.{Disk}
-use Rattle.qq_log.specs.Carries.{Carries, add_op}
+use Rattle.qq_log.specs.Carries.{Carries, GoesOn, add_op}
 use Rattle.qq_log.specs.declared.limits.TheConstants.{RECORD_LIMIT}
 use Rattle.qq_log.specs.declared.op.Op.{Op}
 use Rattle.qq_log.specs.Writable.{MayWrite, record_length}
 use Rattle.qq_wal.specs.Batch.{is_short}
 use Rattle.qq_wal.specs.declared.wal.Wal.{Wal}
-use Rattle.qq_wal.specs.Marks.{GoesOn}
 use Rattle.qq_wal.specs.Wal.{IsSound, carries_ahead}
 use Rattle.qq_wal_chain.specs.Laws.{op_records}
 use Rattle.qq_wal_record.specs.declared.record.LogRecord.{LogRecord}

@@ -1,5 +1,5 @@
 -- What each call leaves of the log, call after call.
-use Rattle.std.proofs.Common.{◌≡◌, ℕ, Bool, List, refl, ap, ◌∙◌, subst, arith}
+use Rattle.std.proofs.Common.{◌≡◌, ◌≤◌, ℕ, Bool, List, refl, ap, ◌∙◌, subst, arith}
 use Rattle.std.specs.Global.{Vec}
 use Rattle.std.specs.Prelude.{IsTrue}
 use Rattle.qq_base.specs.declared.ids.QueueId.{QueueId}
@@ -34,13 +34,20 @@ same-then tells past faults old mid new first second = record {
       (first.whole tell whole);
 }
 
--- so its disk is the same
+-- the disk, where it may be recovered as before
+pub disk-same : {D : Type 0} (tells : D → Bool) (past : D → List Disk) (faults : D → ℕ) (queues : List QueueId)
+    (old new : D) → tells new ≡ tells old → faults old ≤ faults new → StillWhole tells past queues old new
+    → SameDisk tells past faults queues old new
+disk-same tells past faults queues old new told later still = record {
+  told = told;
+  later = later;
+  whole = λ is tell. (let before : IsTrue (tells old) = subst IsTrue told tell in still before (is before));
+}
+
+-- so that of the log is the same
 pub same-disk : {D : Type 0} (tells : D → Bool) (past : D → List Disk) (faults : D → ℕ) (queues : List QueueId)
     (old new : Wal D) → SameLog tells past faults old new → old.queues.items ≡ queues
     → SameDisk tells past faults queues old.disk new.disk
-same-disk tells past faults queues old new same are = record {
-  told = same.told;
-  later = same.later;
-  whole = λ is tell. (let before : IsTrue (tells old.disk) = subst IsTrue same.told tell in
-      subst (λ (ids : List QueueId). StillWhole tells past ids old.disk new.disk) are same.whole before (is before));
-}
+same-disk tells past faults queues old new same are =
+    disk-same tells past faults queues old.disk new.disk same.told same.later
+    (subst (λ (ids : List QueueId). StillWhole tells past ids old.disk new.disk) are same.whole)

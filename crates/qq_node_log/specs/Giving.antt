@@ -2,13 +2,12 @@
 use Rattle.std.specs.Prelude.{◌≡◌, ℕ, true, List, [], ◌∷◌, All, IsSome}
 use Rattle.std.specs.List.{AllByRecursion}
 use Rattle.qq_base.specs.declared.ids.QueueId.{QueueId}
-use Rattle.qq_log.specs.Carries.{Carries, add_op, is_listed}
+use Rattle.qq_log.specs.Carries.{Carries, GoesOn, add_op, is_listed}
 use Rattle.qq_log.specs.declared.op.Op.{Op}
 use Rattle.qq_log.specs.Op.{queue}
 use Rattle.qq_log.specs.Stable.{stable}
 use Rattle.qq_log.specs.Writable.{MayWrite}
 use Rattle.qq_lots.specs.Lots.{Lot, Parts, give_batch, ids_of}
-use Rattle.qq_wal.specs.Marks.{GoesOn}
 
 -- each op goes on after those before it
 abbrev pub AllGoOn : List QueueId → Carries → List Op → Type 0

@@ -3,7 +3,7 @@ use Rattle.std.specs.Prelude.{◌≡◌, ◌≤◌, ℕ, Bool, true, false, List
 use Rattle.qq_base.specs.declared.ids.QueueId.{QueueId}
 use Rattle.qq_disk.specs.Disk.{Disk, now}
 use Rattle.qq_lots.specs.Lots.{Lot, Parts, ids_of}
-use Rattle.qq_wal.specs.Running.{NoneRemoved, StaysWhole}
+use Rattle.qq_wal.specs.Running.{MayRecover, StillMayRecover}
 use Rattle.qq_wal.specs.Wal.{IsSound, carries_ahead}
 use Rattle.qq_wal.specs.declared.wal.Wal.{Wal}
 use Rattle.qq_node_log.specs.declared.node_log.NodeLog.{NodeLog}
@@ -19,13 +19,13 @@ abbrev pub is_open : {D : Type 0} → NodeLog D → Bool
 is_open (Open wal) = true
 is_open (Closed disk) = false
 
--- a disk that tells its contents may be recovered as the log of these queues: none of its log files is removed
+-- a disk that tells its contents may be recovered as the log of these queues: no removed file has a say in it
 abbrev pub IsWhole : {D : Type 0} → (D → Bool) → (D → List Disk) → List QueueId → D → Type 0
-IsWhole tells past queues disk = IsTrue (tells disk) → NoneRemoved (now (past disk))
+IsWhole tells past queues disk = IsTrue (tells disk) → MayRecover queues (now (past disk))
 
 -- and so may what a call leaves of it
 abbrev pub StillWhole : {D : Type 0} → (D → Bool) → (D → List Disk) → List QueueId → D → D → Type 0
-StillWhole tells past queues old new = IsTrue (tells old) → StaysWhole (past old) (past new)
+StillWhole tells past queues old new = IsTrue (tells old) → StillMayRecover queues (past old) (past new)
 
 -- What each call of the log leaves: it is sound, of the same queues, which end with what waits where they ended, over a
 -- disk that tells as before, counts no fewer faults, and may be recovered as before.

@@ -1,9 +1,8 @@
 //! Ops are gathered for the log.
 ghost use Rattle.std.specs.Prelude.{◌≡◌, ◌++◌, ◌∷◌, [], All, false, IsOkUnless, OnOk};
 ghost use Rattle.std.specs.List.{fold};
-ghost use Rattle.qq_log.specs.Carries.{add_op};
+ghost use Rattle.qq_log.specs.Carries.{GoesOn, add_op};
 ghost use Rattle.qq_log.specs.Writable.{MayWrite};
-ghost use Rattle.qq_wal.specs.Marks.{GoesOn};
 ghost use Rattle.qq_wal.specs.Wal.{IsSound, carries_ahead};
 ghost use Rattle.qq_wal_chain.specs.Laws.{op_records};
 ghost use Rattle.qq_node_log.specs.Giving.{AllGoOn};

@@ -5,11 +5,12 @@ use Rattle.std.specs.Global.{Vec}
 use Rattle.qq_base.specs.declared.ids.QueueId.{QueueId}
 use Rattle.qq_disk.specs.declared.name.FileKind.TheVariants.{Log as OfLog}
 use Rattle.qq_disk.specs.declared.name.FileName.{FileName}
+use Rattle.qq_log.specs.Carries.{is_listed}
 use Rattle.qq_log.specs.declared.lane.Carry.{Carry}
 use Rattle.qq_log.specs.Stable.{Stable, carry_of}
 use Rattle.qq_wal_record.specs.declared.header.Header.{Header}
 use Rattle.qq_wal_record.specs.declared.record.LogRecord.{LogRecord}
-use Rattle.qq_wal_chain.specs.Lanes.{Lanes, is_listed}
+use Rattle.qq_wal_chain.specs.Lanes.{Lanes}
 use Rattle.qq_wal.specs.declared.marks.Mark.{Mark}
 use Rattle.qq_wal.specs.declared.wal.Wal.{Wal}
 use Rattle.qq_wal.specs.Marks.{Agree, add_records, carries_of, carry_for, known}

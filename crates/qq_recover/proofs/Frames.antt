@@ -42,7 +42,7 @@ again f = by f.removed refl
         ap (λ (b : Bool). cond b f (whole (f.kept ++ f.pending))) is in
         ap keep same ∙ ap whole (append-nil (f.kept ++ f.pending)) ∙ sym same
 
-kept-again : (o : Option FileState) → option_map keep (option_map keep o) ≡ option_map keep o
+pub kept-again : (o : Option FileState) → option_map keep (option_map keep o) ≡ option_map keep o
 kept-again None = refl
 kept-again (Some f) = ap (λ (f : FileState). Some f) (again f)
 

@@ -8,14 +8,14 @@ use Rattle.qq_base.specs.declared.ids.QueueId.{QueueId}
 use Rattle.qq_base.specs.declared.ids.Term.{Term}
 use Rattle.qq_entry.specs.declared.command.Entry.{Entry}
 use Rattle.qq_disk.specs.Disk.{Disk}
+use Rattle.qq_log.specs.Carries.{GoesOn, carry_or_new, follows_carry, is_listed}
 use Rattle.qq_log.specs.declared.lane.Carry.{Carry}
 use Rattle.qq_log.specs.declared.op.Op.{Op}
 use Rattle.qq_log.specs.declared.op.Op.TheVariants.{Change}
 use Rattle.qq_log.specs.Stable.{Stable, last_index, new_state, stable}
-use Rattle.qq_wal_chain.specs.Lanes.{Lanes, is_listed, of_queue}
+use Rattle.qq_wal_chain.specs.Lanes.{Lanes, of_queue}
 use Rattle.qq_wal_chain.specs.Laws.{HoldsOps, KeepsPromise}
 use Rattle.qq_wal_chain.proofs.Gives.{state-given}
-use Rattle.qq_wal.specs.Marks.{GoesOn, carry_or_new, follows_carry}
 use Rattle.qq_wal.specs.Notices.{synced_in}
 use Rattle.qq_wal.specs.Running.{top}
 use Rattle.qq_wal.specs.Wal.{carries_ahead}

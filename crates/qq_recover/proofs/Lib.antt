@@ -1,7 +1,13 @@
 mod Records
 mod Counted
 mod ChainLaws
+mod Again
+mod Cleared
+mod Removed
+mod Numbered
+mod Passing
 mod Way
+mod WayEnds
 mod Quiet
 mod NewestLaws
 mod States
@@ -11,7 +17,7 @@ mod Lying
 mod Handed
 mod Settled
 mod Starts
-mod Promised
+pub mod Promised
 mod Begun
 mod Carries
 mod Prepared

@@ -1,5 +1,5 @@
 -- The newest file and how far it is good.
-use Rattle.std.proofs.Common.{◌≡◌, ◌≤◌, ◌<◌, ℕ, zero, suc, Bool, true, false, cond, eqb, List, [], ◌∷◌, Option, Some, None, Ok, Err, refl, sym, ap, subst, ◌∙◌, arith}
+use Rattle.std.proofs.Common.{◌≡◌, ◌≤◌, ◌<◌, ℕ, zero, suc, Bool, true, false, cond, eqb, List, [], ◌∷◌, map, Option, Some, None, Ok, Err, refl, sym, ap, subst, ◌∙◌, arith}
 use Rattle.std.proofs.lemmas.Bool.{eqb-true}
 use Rattle.std.specs.Prelude.{IfOk}
 use Rattle.qq_base.specs.declared.ids.QueueId.{QueueId}
@@ -20,6 +20,7 @@ use Rattle.qq_recover.specs.Files.{header_of, file_of, ends_at, file_at, chain_f
 use Rattle.qq_recover.specs.Log.{good_of, IsNewest}
 use Rattle.qq_wal.specs.Ranges.{AllRanges, ranges_in, ranges_of}
 use Rattle.qq_wal.specs.Running.{top}
+use Rattle.qq_recover.specs.Ends.{end_of_file}
 use Rattle.qq_recover.specs.Entries.{find_files, ranges_read}
 use Rattle.qq_recover.specs.Reading.{newest_file, lanes_read}
 use Rattle.qq_recover.proofs.Counted.{fails-then}
@@ -29,7 +30,7 @@ abbrev nothing : Answer (List ChainFile)
 nothing = Ok []
 
 module _ (queues : List QueueId) where
-  file-end : (n good : ℕ) (bytes : List ℕ) (h : Header) (file : ChainFile) → file_at queues n good bytes ≡ Ok (h, file)
+  pub file-end : (n good : ℕ) (bytes : List ℕ) (h : Header) (file : ChainFile) → file_at queues n good bytes ≡ Ok (h, file)
       → file.end ≡ good
   unfolding file_at
   file-end n good bytes h file e = by (header_of n (header_at bytes)) e
@@ -51,7 +52,8 @@ module _ (queues : List QueueId) where
 
   -- the first of the files is the newest
   first-good : (b : ℕ) (logs : Logs) (m good : ℕ) (bytes : List ℕ) (files : List ChainFile) → suc m ≤ b
-      → logs (suc m) ≡ Some bytes → chain_files queues b logs (suc m) good ≡ Ok files → good_of files ≡ good
+      → logs (suc m) ≡ Some bytes → chain_files queues b logs (suc m) good ≡ Ok files
+      → good_of (map end_of_file files) ≡ good
   first-good b logs m good bytes files h here e =
       read (file_at queues (suc m) good bytes) refl
       (sym (files-at queues b logs m good h
@@ -59,20 +61,20 @@ module _ (queues : List QueueId) where
     where
       read : (o : Answer (Header × ChainFile)) → file_at queues (suc m) good bytes ≡ o
           → (o >>= λ file. (chain_files queues m logs file.0.previous file.0.good >>= λ files. Ok (file.1 ∷ files)))
-          ≡ Ok files → good_of files ≡ good
+          ≡ Ok files → good_of (map end_of_file files) ≡ good
       read (Err refusal) is e = absurd cc
       read (Ok file) is e = older (chain_files queues m logs file.0.previous file.0.good) e
         where
-          older : (o : Answer (List ChainFile)) → (o >>= λ files. Ok (file.1 ∷ files)) ≡ Ok files → good_of files ≡ good
+          older : (o : Answer (List ChainFile)) → (o >>= λ files. Ok (file.1 ∷ files)) ≡ Ok files → good_of (map end_of_file files) ≡ good
           older (Err refusal) e = absurd cc
           older (Ok rest) e =
               let same : file.1 ∷ rest ≡ files = cc in
-              sym (ap good_of same) ∙ file-end (suc m) good bytes file.0 file.1 is
+              sym (ap (λ (fs : List ChainFile). good_of (map end_of_file fs)) same) ∙ file-end (suc m) good bytes file.0 file.1 is
 
   pub is-newest : (logs : Logs) (files : List ChainFile)
       → chain_files queues top logs (newest_file queues logs)
       (good_length (wal queues) (newest_file queues logs) (logs (newest_file queues logs))) ≡ Ok files
-      → IsNewest queues logs (newest_file queues logs) (good_of files)
+      → IsNewest queues logs (newest_file queues logs) (good_of (map end_of_file files))
   is-newest logs files e = record {
     file_is = refl;
     good_is =
@@ -81,16 +83,17 @@ module _ (queues : List QueueId) where
     where
       by : (n : ℕ) → n ≤ top → (0 < n → has_header (wal queues) (logs n) ≡ true)
           → chain_files queues top logs n (good_length (wal queues) n (logs n)) ≡ Ok files
-          → good_of files ≡ good_length (wal queues) n (logs n)
+          → good_of (map end_of_file files) ≡ good_length (wal queues) n (logs n)
       by zero within has e = none (logs 0) (sym (files-none queues top logs (good_length (wal queues) 0 (logs 0))) ∙ e)
         where
-          none : (o : Option (List ℕ)) → nothing ≡ Ok files → good_of files ≡ good_length (wal queues) 0 o
-          none None e = let same : [] ≡ files = cc in sym (ap good_of same)
-          none (Some bytes) e = let same : [] ≡ files = cc in sym (ap good_of same)
+          none : (o : Option (List ℕ)) → nothing ≡ Ok files
+              → good_of (map end_of_file files) ≡ good_length (wal queues) 0 o
+          none None e = let same : [] ≡ files = cc in sym (ap (λ (fs : List ChainFile). good_of (map end_of_file fs)) same)
+          none (Some bytes) e = let same : [] ≡ files = cc in sym (ap (λ (fs : List ChainFile). good_of (map end_of_file fs)) same)
       by (suc m) within has e = some (logs (suc m)) refl (has (omega arith))
         where
           some : (o : Option (List ℕ)) → logs (suc m) ≡ o → has_header (wal queues) o ≡ true
-              → good_of files ≡ good_length (wal queues) (suc m) (logs (suc m))
+              → good_of (map end_of_file files) ≡ good_length (wal queues) (suc m) (logs (suc m))
           some None here whole = absurd cc
           some (Some bytes) here whole =
               first-good top logs m (good_length (wal queues) (suc m) (logs (suc m))) bytes files within here e
@@ -121,9 +124,9 @@ module _ (queues : List QueueId) where
       (ap (newest_files logs) (sym is) ∙ read)
 
   pub newest-read : (logs : Logs) (n : ℕ) (files : List ChainFile) → n ≡ newest_file queues logs
-      → newest_files logs n ≡ Ok files → IsNewest queues logs n (good_of files)
+      → newest_files logs n ≡ Ok files → IsNewest queues logs n (good_of (map end_of_file files))
   newest-read logs n files is read =
-      subst (λ (n : ℕ). IsNewest queues logs n (good_of files)) (sym is)
+      subst (λ (n : ℕ). IsNewest queues logs n (good_of (map end_of_file files))) (sym is)
       (is-newest logs files (ap (newest_files logs) (sym is) ∙ read))
 
 pub ranges-kept : (read : Answer AllRanges) (all : AllRanges) (r : Answer Log) → read ≡ Ok all

@@ -1,9 +1,14 @@
 -- From what was begun to what recovery answers.
 use Rattle.std.proofs.Common.{◌≡◌, ℕ, List, Result, Ok, Err, sym, ap, subst, ◌∙◌}
-use Rattle.std.specs.Prelude.{IfErr, IfOk, OnOk}
+use Rattle.std.specs.Prelude.{IfErr, IfOk, IsErrAnd, OnOk}
+use Rattle.qq_base.specs.Causes.{SpentOnlyWhere}
+use Rattle.qq_base.specs.declared.memory.Memory.{Memory as MemoryFault}
+use Rattle.qq_disk.specs.declared.name.FileKind.TheVariants.{Log as OfLog}
+use Rattle.qq_disk.specs.declared.name.FileName.{FileName}
+use Rattle.qq_wal.specs.Numbers.{greatest_number}
 use Rattle.qq_base.specs.declared.ids.QueueId.{QueueId}
 use Rattle.qq_base.specs.declared.memory.Memory.TheVariants.{Spent, Want}
-use Rattle.qq_disk.specs.Disk.{Disk, now}
+use Rattle.qq_disk.specs.Disk.{Disk, IsListing, now}
 use Rattle.qq_log.specs.declared.op.Op.{Op}
 use Rattle.qq_wal_record.specs.declared.header.Header.{Header}
 use Rattle.qq_wal_chain.specs.Lanes.{Lanes}
@@ -42,6 +47,17 @@ disk-unspent before now d (Memory Want) cause = tt
 disk-unspent before now d (Memory (Spent n)) cause = absurd (cc cause)
 disk-unspent before now d (Damaged file place) cause = absurd cause
 disk-unspent before now d (Version file byte) cause = absurd cause
+
+-- a number of a log file that is spent is the greatest that is listed
+pub spent-told : {A : Type 0} (r : Result A RecoverFault) (m : MemoryFault) (d : Disk) (names : List FileName) (P : Type 0)
+    → IsErrAnd r (λ e. e ≡ Memory m) → IsListing d names → SpentOnlyWhere m (greatest_number OfLog names) P
+    → IfErr r (IsSpentOn d)
+spent-told (Ok x) m d names P is listing cause = tt
+spent-told (Err e) m d names P is listing cause = subst (IsSpentOn d) (sym is) (by m cause)
+  where
+    by : (m : MemoryFault) → SpentOnlyWhere m (greatest_number OfLog names) P → IsSpentOn d (Memory m)
+    by Want cause = tt
+    by (Spent number) cause = record { names = names; listing = listing; is = cause.0 }
 
 pub err-weaker : {A E : Type 0} (P Q : E → Type 0) (r : Result A E) → IfErr r P → ((e : E) → P e → Q e) → IfErr r Q
 err-weaker P Q (Ok x) h w = tt

@@ -3,10 +3,12 @@ use Rattle.std.proofs.Common.{◌≡◌, List, Ok, sym, ap, subst, ◌∙◌}
 use Rattle.qq_base.specs.declared.ids.QueueId.{QueueId}
 use Rattle.qq_disk.specs.declared.name.FileName.{FileName}
 use Rattle.qq_disk.specs.Disk.{Disk, IsListing, now}
-use Rattle.qq_wal_chain.specs.Chain.{Logs}
+use Rattle.qq_wal_chain.specs.Chain.{Logs, reading}
+use Rattle.qq_wal_chain.specs.Wal.{wal}
 use Rattle.qq_wal_chain.specs.Promise.{sync_all}
 use Rattle.qq_wal_chain.proofs.Settling.{shown-sync_all}
-use Rattle.qq_wal.specs.Running.{Stays}
+use Rattle.qq_wal.specs.Running.{MayRecover, Stays, StillMayRecover, numbers_in, numbers_read, top}
+use Rattle.qq_recover.specs.Clearing.{numbers_of_ends}
 use Rattle.qq_recover.specs.declared.log.Log.{Log}
 use Rattle.qq_recover.specs.declared.start.Start.{Start}
 use Rattle.qq_recover.specs.declared.table.Table.{Table}
@@ -26,6 +28,13 @@ prepared-stays queues old named settled new same stays still =
     subst (λ (p : List Disk). Stays queues old p) (sym still)
     (subst (λ (p : List Disk). Stays queues p settled) same stays)
 
+-- what could be recovered can be, likewise
+pub may-through : (queues : List QueueId) (old named settled new : List Disk) → named ≡ old
+    → StillMayRecover queues named settled → new ≡ settled → StillMayRecover queues old new
+may-through queues old named settled new same stays still may =
+    subst (λ (p : List Disk). MayRecover queues (now p)) (sym still)
+    (stays (subst (λ (p : List Disk). MayRecover queues (now p)) (sym same) may))
+
 -- the moments before the names are asked for, behind that, and once all are synced
 module _ (queues : List QueueId) (old named settled : List Disk) (names : List FileName) (same : named ≡ old)
     (listing : IsListing (now old) names) (synced : now settled ≡ sync_all (now named) names) where
@@ -42,10 +51,12 @@ module _ (queues : List QueueId) (old named settled : List Disk) (names : List F
   pub read-of : (new : List Disk) (log : Log) (s : Start) → new ≡ settled
       → lanes_read queues (shown (now settled)) ≡ Ok (lanes_of log.table)
       → IsNewest queues (shown (now settled)) log.file log.good
-      → ranges_read queues (shown (now settled)) ≡ Ok (ranges_in log.ranges) → s.ranges ≡ log.ranges
+      → ranges_read queues (shown (now settled)) ≡ Ok (ranges_in log.ranges)
+      → numbers_read queues (now settled) ≡ numbers_of_ends log.chain.items → s.ranges ≡ log.ranges
       → s.table ≡ log.table → s.names.items ≡ names → s.header.previous ≡ log.file → s.header.good ≡ log.good
+      → s.chain.items ≡ log.chain.items
       → IsReadOf queues (now old) (now new) s
-  read-of new log s still lanes newest ranges same_ranges table named_so previous good = record {
+  read-of new log s still lanes newest ranges chain same_ranges table named_so previous good same_chain = record {
     listing = subst (λ (l : List FileName). IsListing (now old) l) (sym named_so) listing;
     synced = ap now still ∙ all-synced ∙ ap (λ (l : List FileName). sync_all (now old) l) (sym named_so);
     lanes = ap (λ (logs : Logs). lanes_read queues logs) (sym still-shown) ∙ lanes
@@ -55,4 +66,6 @@ module _ (queues : List QueueId) (old named settled : List Disk) (names : List F
     newest =
         let here = subst (λ (logs : Logs). IsNewest queues logs log.file log.good) still-shown newest in
         record { file_is = previous ∙ here.file_is; good_is = good ∙ here.good_is };
+    chain = ap (λ (logs : Logs). numbers_in queues ((reading (wal queues) top logs).found)) (sym still-shown) ∙ chain
+        ∙ ap numbers_of_ends (sym same_chain);
   }

@@ -5,23 +5,19 @@ use Rattle.qq_disk.specs.Crash.{IsImage, Remains, reopen}
 use Rattle.qq_disk.specs.Disk.{Disk, now}
 use Rattle.qq_disk.proofs.Moments.{adds-now}
 use Rattle.qq_log.specs.declared.op.Op.{Op}
-use Rattle.qq_wal_record.specs.declared.header.Header.{Header}
-use Rattle.qq_wal_record.specs.declared.record.LogRecord.{LogRecord}
-use Rattle.qq_wal_chain.specs.Chain.{Found, Logs, reading}
+use Rattle.qq_wal_chain.specs.Chain.{Logs, reading}
 use Rattle.qq_wal_chain.specs.Format.{IsFormat}
 use Rattle.qq_wal_chain.specs.Image.{files_of, is_removed, logs_of}
 use Rattle.qq_wal_chain.specs.Lanes.{IsStateOf, Lanes, RecoversLanes, of_queue}
 use Rattle.qq_wal_chain.specs.Laws.{IsHonestImage, KeepsPromise, SettlesOn, op_records}
-use Rattle.qq_wal_chain.specs.Promise.{found_behind, found_world, kept_records, pending_records}
-use Rattle.qq_wal_chain.specs.Records.{encode_all}
-use Rattle.qq_wal_chain.specs.Wal.{wal, Ours}
+use Rattle.qq_wal_chain.specs.Promise.{found_world}
+use Rattle.qq_wal_chain.specs.Wal.{wal}
 use Rattle.qq_base.proofs.Fronts.{front-refl, front-same}
 use Rattle.qq_wal_chain.proofs.Images.{shown-image}
 use Rattle.qq_wal_chain.proofs.Promised.{crash-keeps}
 use Rattle.qq_wal_chain.proofs.Queues.{recovers-lanes}
 use Rattle.qq_wal_chain.proofs.Recovery.{reopened-image}
-use Rattle.qq_wal_chain.proofs.Running.{log-here, log-reads, log_reading}
-use Rattle.qq_wal.specs.Running.{IsWrittenTo, StillHolds, Stays, lanes_shown, top}
+use Rattle.qq_wal.specs.Running.{StillHolds, Stays, lanes_shown, top}
 use Rattle.qq_recover.specs.declared.fault.RecoverFault.{RecoverFault}
 use Rattle.qq_recover.specs.declared.fault.RecoverFault.TheVariants.{Disk as DiskFailed, Damaged, Version, Memory}
 use Rattle.qq_recover.specs.Answer.{Answer, Fails, answered}
@@ -113,15 +109,3 @@ pub crash-readable : (queues : List QueueId) (laws : IsFormat (wal queues)) (not
     → IsReadable queues noticed given (reopen i)
 crash-readable queues laws noticed given d i keeps image honest =
     readable queues laws noticed given (reopen i) (crash-keeps queues top noticed given d i keeps image honest)
-
--- a log that goes on reads as its own file says, which isn't removed
-pub running-may : (queues : List QueueId) → IsFormat (wal queues) → (h : Header) (d : Disk) → IsWrittenTo queues h d
-    → MayRecover queues d
-running-may queues laws h d running one other first second same =
-    let before : Found (wal queues) = found_behind (wal queues) top (Ours h) (files_of d) in
-    let kept : List LogRecord = kept_records (wal queues) h.file (files_of d) in
-    let pending : List ℕ = encode_all (wal queues) h.file (pending_records (wal queues) h.file (files_of d)) in
-    log-reads (wal queues) laws top h.file (Ours h) before kept pending (files_of d) running.log one first
-    ∙ ap (λ (o : Option (List ℕ)). log_reading (wal queues) laws h.file before o)
-    (same h.file (log-here (wal queues) laws top h.file (Ours h) before kept pending (files_of d) running.log))
-    ∙ sym (log-reads (wal queues) laws top h.file (Ours h) before kept pending (files_of d) running.log other second)

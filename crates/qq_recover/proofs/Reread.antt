@@ -10,6 +10,7 @@ use Rattle.qq_base.specs.declared.ids.Term.{Term}
 use Rattle.qq_entry.specs.declared.command.Entry.{Entry}
 use Rattle.qq_disk.specs.Disk.{Disk}
 use Rattle.qq_disk.specs.Image.{log_of}
+use Rattle.qq_log.specs.Carries.{is_listed}
 use Rattle.qq_log.specs.Above.{take_above}
 use Rattle.qq_log.specs.declared.head.SnapshotHead.{SnapshotHead}
 use Rattle.qq_log.specs.declared.lane.Carry.{Carry}
@@ -22,7 +23,7 @@ use Rattle.qq_wal_record.specs.declared.record.LogRecord.{LogRecord}
 use Rattle.qq_wal_record.specs.declared.record.LogRecord.TheVariants.{Op as OpRecord, Carry as CarryRecord}
 use Rattle.qq_wal_chain.specs.Chain.{Logs, good_length}
 use Rattle.qq_wal_chain.specs.Image.{put}
-use Rattle.qq_wal_chain.specs.Lanes.{Lanes, add_carry, add_op, add_record, has_entries, is_carry_within_ends, is_change, is_listed, is_op_within_ends, is_plain, is_within_end, put_lane}
+use Rattle.qq_wal_chain.specs.Lanes.{Lanes, add_carry, add_op, add_record, has_entries, is_carry_within_ends, is_change, is_op_within_ends, is_plain, is_within_end, put_lane}
 use Rattle.qq_wal_chain.specs.Wal.{no_lanes, wal}
 use Rattle.qq_wal_chain.proofs.Walk.{put-at, put-other}
 use Rattle.qq_wal.specs.declared.ranges.QueueRanges.{QueueRanges}

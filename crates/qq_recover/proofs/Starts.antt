@@ -17,10 +17,11 @@ use Rattle.qq_wal_chain.proofs.Settling.{shown-sync_all}
 use Rattle.qq_wal_chain.proofs.Walk.{newest-has}
 use Rattle.qq_wal.specs.Marks.{carries_of}
 use Rattle.qq_wal.specs.Numbers.{greatest_number}
-use Rattle.qq_wal.specs.Running.{MayBegin, lanes_shown, reading_of, top}
+use Rattle.qq_wal.specs.Running.{MayBegin, lanes_shown, numbers_in, numbers_read, reading_of, top}
 use Rattle.qq_wal.proofs.OnDisk.{above-listed}
 use Rattle.qq_recover.specs.declared.start.Start.{Start}
 use Rattle.qq_recover.specs.Answer.{answered}
+use Rattle.qq_recover.specs.Clearing.{numbers_of_ends}
 use Rattle.qq_recover.specs.Reading.{shown}
 use Rattle.qq_recover.specs.Recovery.{MayRecover}
 use Rattle.qq_recover.specs.Start.{IsReadOf, IsStart}
@@ -105,6 +106,9 @@ module _ (queues : List QueueId) (laws : IsFormat (wal queues)) (old new : Disk)
         good = read.newest.good_is ∙ sym (ap (λ (r : Reading (wal queues)). r.good) same-reading);
         carries_are = start.carries_are ∙ ap (carries_of queues) (sym f.world);
       }
+
+  pub same-numbers : numbers_read queues new ≡ numbers_of_ends s.chain.items
+  same-numbers = ap (λ (r : Reading (wal queues)). numbers_in queues r.found) same-reading ∙ read.chain
 
   -- where a listed file's number is at its end, there is no next one
   pub none-at-end : (number : ℕ) → NUMBER_END ≤ number → IsListed old (log_of number) → ⊥

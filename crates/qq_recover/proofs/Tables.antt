@@ -3,13 +3,14 @@ use Rattle.std.proofs.Common.{◌≡◌, ℕ, Bool, true, false, cond, eqb, ◌&
 use Rattle.std.specs.Prelude.{unwrap_or}
 use Rattle.std.proofs.lemmas.Bool.Decides.{nat_tests}
 use Rattle.qq_base.specs.declared.ids.QueueId.{QueueId}
+use Rattle.qq_log.specs.Carries.{is_listed}
 use Rattle.qq_log.specs.declared.lane.Carry.{Carry}
 use Rattle.qq_log.specs.declared.op.Op.{Op}
 use Rattle.qq_log.specs.Op.{queue}
 use Rattle.qq_log.specs.Stable.{Stable, new_state, apply_op, take_carry}
 use Rattle.qq_wal_record.specs.declared.record.LogRecord.TheVariants.{Op as OpRecord, Carry as CarryRecord}
 use Rattle.qq_wal_chain.specs.Image.{put}
-use Rattle.qq_wal_chain.specs.Lanes.{Lanes, is_listed, is_op_within_ends, is_carry_within_ends, is_change, is_plain, has_entries, put_lane, add_record}
+use Rattle.qq_wal_chain.specs.Lanes.{Lanes, is_op_within_ends, is_carry_within_ends, is_change, is_plain, has_entries, put_lane, add_record}
 use Rattle.qq_disk.specs.Image.{log_of}
 use Rattle.qq_recover.specs.declared.fault.RecoverFault.TheVariants.{Damaged}
 use Rattle.qq_recover.specs.declared.file.ChainFile.{ChainFile}

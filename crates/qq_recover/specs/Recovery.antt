@@ -2,30 +2,18 @@
 use Rattle.std.specs.Prelude.{◌≡◌, ◌<◌, ◌⊎◌, ℕ, false, List, Some, Ok, option_map}
 use Rattle.qq_base.specs.declared.ids.QueueId.{QueueId}
 use Rattle.qq_disk.specs.declared.name.FileName.{FileName}
-use Rattle.qq_disk.specs.Disk.{Disk, IsListed, keep, now}
+use Rattle.qq_disk.specs.declared.name.FileKind.TheVariants.{Log as OfLog}
+use Rattle.qq_disk.specs.Disk.{Disk, IsListed, keep, mark_removed, now}
 use Rattle.qq_disk.specs.Image.{log_of}
 use Rattle.qq_disk.specs.Moments.{Adds}
 use Rattle.qq_disk.specs.Name.{same_name}
 use Rattle.qq_log.specs.declared.op.Op.{Op}
 use Rattle.qq_base.specs.Fronts.{IsFront}
-use Rattle.qq_wal_chain.specs.Chain.{Logs, reading}
-use Rattle.qq_wal_chain.specs.Image.{Files, IsLogImage, files_of, is_removed}
 use Rattle.qq_wal_chain.specs.Lanes.{Lanes, IsStateOf, RecoversLanes, of_queue}
 use Rattle.qq_wal_chain.specs.Laws.{HoldsOps, KeepsPromise}
-use Rattle.qq_wal_chain.specs.Wal.{wal}
-use Rattle.qq_wal.specs.Running.{top}
+pub use Rattle.qq_wal.specs.Running.{MayRecover}
+use Rattle.qq_wal.specs.Running.{IsNoneOf, numbers_read, top}
 use Rattle.qq_recover.specs.Reading.{shown, lanes_read}
-
--- what a crash leaves of removed files has no say in what is read
-abbrev pub IgnoresRemoved : List QueueId → Files → Type 0
-IgnoresRemoved queues files =
-    (one other : Logs) → IsLogImage (wal queues) files one → IsLogImage (wal queues) files other
-    → ((n : ℕ) → is_removed (files n) ≡ false → one n ≡ other n)
-    → reading (wal queues) top one ≡ reading (wal queues) top other
-
--- a disk that was just opened is such a disk, and one that keeps a promise
-abbrev pub MayRecover : List QueueId → Disk → Type 0
-MayRecover queues d = IgnoresRemoved queues (files_of d)
 
 -- ---- what it leaves as it is
 
@@ -47,6 +35,28 @@ pub record BeginsOne (old new : List Disk) : Type 0 where
   pub number : ℕ
   pub above : (m : ℕ) → IsListed (now old) (log_of m) → m < number
   pub each : Adds (SyncsOthers (log_of number) (now old)) old new
+
+-- a log file that is listed, and that isn't one of those which are read
+pub record IsUnread (queues : List QueueId) (d : Disk) (file : FileName) : Type 0 where
+  pub kind : file.kind ≡ OfLog
+  pub listed : IsListed d file
+  pub outside : IsNoneOf (numbers_read queues d) file.number
+
+-- of each file the disk holds the same, or it is one that isn't read on the disk d, and was removed
+abbrev pub LacksUnread : List QueueId → Disk → Disk → Disk → Type 0
+LacksUnread queues d begun e = (file : FileName)
+    → (e file ≡ begun file) ⊎ (IsUnread queues d file × (e file ≡ option_map mark_removed (begun file)))
+
+-- each file that is listed was synced, and holds nothing that waits for a sync
+abbrev pub IsAllSynced : Disk → Type 0
+IsAllSynced d = (file : FileName) → IsListed d file → d file ≡ option_map keep (d file)
+
+-- once the new file stands and all is synced, files that aren't read were removed, and nothing else was changed
+pub record RemovesUnread (queues : List QueueId) (old new : List Disk) : Type 0 where
+  pub begun : List Disk
+  pub begins : BeginsOne old begun
+  pub synced : IsAllSynced (now begun)
+  pub each : Adds (LacksUnread queues (now old) (now begun)) begun new
 
 -- Recovery has settled on some of the given ops, from the first on, with all the noticed ones among them: each lane is
 -- what its queue's ops among these come to, they are on the disk, and from now on each image has them all.

@@ -8,7 +8,9 @@ use Rattle.qq_wal_chain.specs.Promise.{sync_all}
 use Rattle.qq_wal.specs.Marks.{IsCarry, carries_of}
 use Rattle.qq_wal.specs.Numbers.{greatest_number}
 use Rattle.qq_wal.specs.Ranges.{ranges_in}
+use Rattle.qq_wal.specs.Running.{numbers_read}
 use Rattle.qq_recover.specs.declared.start.Start.{Start}
+use Rattle.qq_recover.specs.Clearing.{numbers_of_ends}
 use Rattle.qq_recover.specs.Entries.{ranges_read}
 use Rattle.qq_recover.specs.Log.{IsNewest}
 use Rattle.qq_recover.specs.Reading.{shown, lanes_read}
@@ -28,3 +30,4 @@ pub record IsReadOf (queues : List QueueId) (old new : Disk) (s : Start) : Type 
   pub lanes : lanes_read queues (shown old) ≡ Ok (lanes_of s.table)
   pub ranges : ranges_read queues (shown old) ≡ Ok (ranges_in s.ranges)
   pub newest : IsNewest queues (shown old) s.header.previous s.header.good
+  pub chain : numbers_read queues old ≡ numbers_of_ends s.chain.items

@@ -3,8 +3,9 @@ use Rattle.std.specs.Prelude.{◌≡◌, ℕ, Bool, true, false, List, Option, S
 use Rattle.std.specs.Ordering.{nat_cmp, is_eq}
 use Rattle.std.specs.BTreeMap.{get}
 use Rattle.qq_base.specs.declared.ids.QueueId.{QueueId}
+use Rattle.qq_log.specs.Carries.{is_listed}
 use Rattle.qq_log.specs.Stable.{Stable}
-use Rattle.qq_wal_chain.specs.Lanes.{Lanes, is_listed}
+use Rattle.qq_wal_chain.specs.Lanes.{Lanes}
 use Rattle.qq_recover.specs.declared.table.Table.{Table}
 
 -- a row: None where the queue isn't listed

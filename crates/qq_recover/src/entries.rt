@@ -1,15 +1,14 @@
 //! Where the entries lie that are read.
-ghost use Rattle.std.specs.Prelude.{◌≡◌, ◌<◌, length, slice_index_or, IfOk, OnOk, IsOkUnless};
+ghost use Rattle.std.specs.Prelude.{◌≡◌, OnOk, IsOkUnless};
 ghost use Rattle.std.specs.List.{fold};
 ghost use Rattle.qq_wal_chain.specs.Lanes.{is_within_end};
 ghost use Rattle.qq_wal.specs.Notices.{last_index};
-ghost use Rattle.qq_wal.specs.Ranges.{ranges_in, ranges_of};
-ghost use Rattle.qq_recover.specs.declared.file.ChainFile.{ChainFile};
-ghost use Rattle.qq_recover.specs.Entries.{find_op, find_in, find_record, find_files};
+ghost use Rattle.qq_wal.specs.Ranges.{ranges_in};
+ghost use Rattle.qq_recover.specs.Entries.{find_op, find_in, find_record};
 
 use crate::file::ChainFile;
 use crate::state::is_last_within_end;
-use qq_base::{Memory, QueueId};
+use qq_base::Memory;
 use qq_log::Op;
 use qq_wal::FileRanges;
 use qq_wal_record::LogRecord;
@@ -51,7 +50,12 @@ fn find_in(
     }
 }
 
-fn find_file(alloc: Global, ranges: &mut FileRanges, file: &ChainFile) -> Result<(), Memory>
+/// A file's records, from the first on.
+pub(crate) fn find_file(
+    alloc: Global,
+    ranges: &mut FileRanges,
+    file: &ChainFile,
+) -> Result<(), Memory>
     ensures ok { OnOk result
         (ranges_in ranges.new
         ≡ fold (find_record file.now.number) (ranges_in ranges.old) file.now.records) }
@@ -61,46 +65,4 @@ fn find_file(alloc: Global, ranges: &mut FileRanges, file: &ChainFile) -> Result
         find_in(alloc, ranges, file.number, record.entry())?;
     }
     Ok(())
-}
-
-fn find_file_at(
-    alloc: Global,
-    ranges: &mut FileRanges,
-    files: &[ChainFile],
-    place: usize,
-) -> Result<(), Memory>
-    requires { place < length files.now }
-    ensures ok { (other : ChainFile)
-        → let file = slice_index_or files.now place other in OnOk result (
-        ranges_in ranges.new ≡ fold (find_record file.number) (ranges_in ranges.old) file.records) }
-    ensures want { IsOkUnless result Memory.Want }
-{
-    find_file(alloc, ranges, &files[place])
-}
-
-fn find_files(alloc: Global, ranges: &mut FileRanges, files: &[ChainFile]) -> Result<(), Memory>
-    ensures ok { OnOk result (ranges_in ranges.new ≡ find_files files.now (ranges_in ranges.old)) }
-    ensures want { IsOkUnless result Memory.Want }
-{
-    let mut left = files.len();
-    'files: while left > 0 {
-        left -= 1;
-        find_file_at(alloc, ranges, files, left)?;
-    }
-    Ok(())
-}
-
-/// Where the entries lie of files that have the newest first.
-pub(crate) fn read_ranges(
-    alloc: Global,
-    queues: &[QueueId],
-    files: &[ChainFile],
-) -> Result<FileRanges, Memory>
-    ensures ok { IfOk result (λ all.
-        ranges_in all ≡ find_files files.now (ranges_of queues.now)) }
-    ensures want { IsOkUnless result Memory.Want }
-{
-    let mut ranges = FileRanges::new(alloc, queues)?;
-    find_files(alloc, &mut ranges, files)?;
-    Ok(ranges)
 }

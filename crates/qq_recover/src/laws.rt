@@ -13,7 +13,9 @@ ghost use Rattle.qq_disk.specs.Crash.{IsImage, Remains, reopen};
 ghost use Rattle.qq_disk.specs.Disk.{Disk, IsListed, contents, now};
 ghost use Rattle.qq_disk.specs.Name.{same_name};
 ghost use Rattle.qq_disk.specs.Image.{log_of};
+ghost use Rattle.qq_disk.specs.declared.name.FileKind.TheVariants.{Log as OfLog};
 ghost use Rattle.qq_disk.specs.declared.name.FileName.{FileName};
+ghost use Rattle.qq_log.specs.Carries.{GoesOn, is_listed};
 ghost use Rattle.qq_log.specs.declared.op.Op.{Op};
 ghost use Rattle.qq_log.specs.declared.op.Op.TheVariants.{Change};
 ghost use Rattle.qq_wal_chain.specs.Chain.{Logs, reading};
@@ -21,14 +23,13 @@ ghost use Rattle.qq_wal_chain.specs.Image.{files_of, is_removed};
 ghost use Rattle.qq_wal_chain.specs.Laws.{HoldsOps, IsHonestImage, KeepsPromise};
 ghost use Rattle.qq_wal_chain.specs.Promise.{found_world};
 ghost use Rattle.qq_wal_chain.specs.Wal.{wal};
-ghost use Rattle.qq_wal_chain.specs.Lanes.{Lanes, is_listed, of_queue};
+ghost use Rattle.qq_wal_chain.specs.Lanes.{Lanes, of_queue};
 ghost use Rattle.qq_recover.specs.Answer.{Answer, Fails, answered};
 ghost use Rattle.qq_recover.specs.Fault.{IsCaused};
 ghost use Rattle.qq_recover.specs.declared.fault.RecoverFault.{RecoverFault};
 ghost use Rattle.qq_recover.specs.declared.fault.RecoverFault.TheVariants.{Disk as DiskFailed, Damaged, Version, Memory as OfMemory};
-ghost use Rattle.qq_wal.specs.Running.{NoneRemoved, StaysWhole, top};
+ghost use Rattle.qq_wal.specs.Running.{IsNoneOf, numbers_read, top};
 ghost use Rattle.qq_log.specs.Stable.{Stable, last_index, new_state, stable};
-ghost use Rattle.qq_wal.specs.Marks.{GoesOn};
 ghost use Rattle.qq_wal.specs.Notices.{synced_in};
 ghost use Rattle.qq_wal.specs.Wal.{IsSound, carries_ahead};
 ghost use Rattle.qq_wal.specs.declared.wal.Wal.{Wal};
@@ -45,7 +46,7 @@ ghost use Rattle.qq_entry.specs.Range.{IsWritable as IsEntry};
 ghost use Rattle.qq_log.specs.declared.lane.Lane.{Lane};
 ghost use Rattle.qq_log.specs.Writable.{IsVote};
 ghost use Rattle.qq_recover.specs.State.{IsWithinEnds};
-ghost use Rattle.qq_recover.specs.Recovery.{BeginsOne, IsReadable, MayRecover, SettlesLanes, StaysSyncing};
+ghost use Rattle.qq_recover.specs.Recovery.{BeginsOne, IsReadable, MayRecover, RemovesUnread, SettlesLanes, StaysSyncing};
 
 use qq_disk::NodeDisk;
 use qq_wal_chain::the_log_has_a_format;
@@ -60,15 +61,13 @@ pub fn lanes_are_those_of_the_chain()
 }
 
 /// Which disks may be recovered: one that keeps a promise of the log, one of which no log file is removed,
-/// and so one that was just opened; and what calls of the log leave of such a one.
+/// and so one that was just opened. Each call of the log and of recovery leaves such a one such a one.
 pub fn these_disks_may_be_recovered()
     ensures promised { (queues : List QueueId) (noticed given : List Op) (d : Disk) →
         KeepsPromise queues top noticed given d → MayRecover queues d }
     ensures whole { (queues : List QueueId) (d : Disk) →
         ((n : ℕ) → is_removed (files_of d n) ≡ false) → MayRecover queues d }
     ensures opened { (queues : List QueueId) (i : Remains) → MayRecover queues (reopen i) }
-    ensures later { (queues : List QueueId) (old new : List Disk) → NoneRemoved (now old) →
-        StaysWhole old new → MayRecover queues (now new) }
 {}
 
 /// The disk of a log that goes on may be recovered, whatever files were removed from it: none that is removed has a
@@ -116,8 +115,12 @@ pub fn a_recovered_queue_goes_on<D: NodeDisk>()
         synced_in (wal_of r).marks id ≡ (unwrap_or (lanes_left r id.0) new_state).op }
 {}
 
-/// What recovery leaves of the files that are there: whatever it answers, each file shows what it showed, of whatever
-/// kind, but for one log file, whose number is above that of each log file that was listed.
+/// What recovery leaves of the files that are there, whatever it answers.
+///
+/// - `synced`, `begun`: each file shows what it showed, of whatever kind, but for one log file, whose number is above
+///   that of each log file that was listed.
+/// - `removed`: so it is of files of other kinds and of log files that are read, where others were removed.
+/// - `settled`: from the moment on at which that begins, a crash leaves each file that is there whole.
 pub fn recovery_leaves_other_files_their_bytes()
     ensures synced { (old new : List Disk) (file : FileName) → StaysSyncing old new →
         contents (now new) file ≡ contents (now old) file }
@@ -125,6 +128,15 @@ pub fn recovery_leaves_other_files_their_bytes()
         × ((m : ℕ) → IsListed (now old) (log_of m) → m < number)
         × ((file : FileName) → same_name (log_of number) file ≡ false →
         contents (now new) file ≡ contents (now old) file) }
+    ensures removed { (queues : List QueueId) (old new : List Disk) →
+        RemovesUnread queues old new → (number : ℕ)
+        × ((m : ℕ) → IsListed (now old) (log_of m) → m < number)
+        × ((file : FileName) → same_name (log_of number) file ≡ false →
+        (contents (now new) file ≡ contents (now old) file)
+        ⊎ ((file.kind ≡ OfLog) × IsNoneOf (numbers_read queues (now old)) file.number)) }
+    ensures settled { (queues : List QueueId) (old new : List Disk) (r : RemovesUnread queues old new)
+        (i : Remains) (file : FileName) → IsImage (now r.begun) i →
+        IsListed (now r.begun) file → i file ≡ contents (now r.begun) file }
 {}
 
 /// What a lane is that recovery hands out, whatever the disk tells. `IsWithinEnds` is a clause of

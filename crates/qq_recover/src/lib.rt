@@ -1,6 +1,7 @@
 //! Recovery of a node's shared log from what its disk holds.
 #![tactic(auto)]
 
+mod clear;
 mod entries;
 mod fault;
 mod file;

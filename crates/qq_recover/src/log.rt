@@ -1,28 +1,32 @@
 //! What a disk's log files come to.
-ghost use Rattle.std.specs.Prelude.{◌≡◌, List, Ok, IsTrue, IfOk, IfErr};
+ghost use Rattle.std.specs.Prelude.{◌≡◌, List, map, Ok, IsTrue, IfOk};
+ghost use Rattle.std.specs.List.{AllByRecursion};
 ghost use Rattle.qq_base.specs.declared.ids.QueueId.{QueueId};
 ghost use Rattle.qq_base.specs.Causes.{HasCause};
 ghost use Rattle.qq_disk.specs.Disk.{now, IsListing};
 ghost use Rattle.qq_recover.specs.Answer.{Gives};
 ghost use Rattle.qq_wal.specs.Ranges.{ranges_in, ranges_of};
+ghost use Rattle.qq_wal.specs.Running.{numbers_read};
+ghost use Rattle.qq_recover.specs.declared.file.ChainFile.{ChainFile};
+ghost use Rattle.qq_recover.specs.Clearing.{numbers_of_ends};
+ghost use Rattle.qq_recover.specs.Ends.{IsReadAgain, end_of_file};
 ghost use Rattle.qq_recover.specs.Entries.{find_files, ranges_read};
-ghost use Rattle.qq_recover.specs.Fault.{IsCaused, IsOfBytes};
+ghost use Rattle.qq_recover.specs.Fault.{IsCaused};
 ghost use Rattle.qq_recover.specs.Replay.{replay_files};
 ghost use Rattle.qq_recover.specs.Log.{good_of, IsNewest};
 ghost use Rattle.qq_recover.specs.Reading.{shown, lanes_read};
 ghost use Rattle.qq_recover.specs.ReadOnly.{OnlyReads};
 ghost use Rattle.qq_recover.specs.Table.{lanes_of, Lists};
 
-use crate::entries::read_ranges;
 use crate::fault::RecoverFault;
-use crate::file::ChainFile;
 use crate::read::newest_file;
-use crate::replay::replay_files;
+use crate::replay::replay_chain;
 use crate::table::Table;
-use crate::walk::chain_files;
+use crate::walk::{FileEnd, chain_ends};
 use qq_base::QueueId;
 use qq_disk::{FileName, NodeDisk};
 use qq_wal::FileRanges;
+use qq_wal_chain::the_log_has_a_format;
 use std::alloc::Global;
 
 /// What the log files of a disk come to.
@@ -32,47 +36,56 @@ pub(crate) struct Log {
     pub(crate) file: u64,
     /// How many of its bytes are good.
     pub(crate) good: u64,
+    /// The files that were read, the newest first.
+    pub(crate) chain: Vec<FileEnd>,
     pub(crate) table: Table,
     /// Where the entries lie.
     pub(crate) ranges: FileRanges,
 }
 
 /// Where the newest file is good.
-fn good_of(files: &[ChainFile]) -> u64
-    ensures { result ≡ good_of files.now }
+fn good_of(chain: &[FileEnd]) -> u64
+    ensures { result ≡ good_of chain.now }
 {
-    match files.first() {
-        Some(file) => file.end,
+    match chain.first() {
+        Some(file) => file.end(),
         None => 0,
     }
 }
 
-/// Puts the records of files together.
-fn put_together(
+/// Puts the records of the chain together.
+fn put_together<D: NodeDisk>(
+    disk: &mut D,
     alloc: Global,
     table: Table,
     queues: &[QueueId],
     file: u64,
-    files: Vec<ChainFile>,
+    chain: Vec<FileEnd>,
 ) -> Result<Log, RecoverFault>
-    ensures gives { (listed : List QueueId) → Lists listed table →
-        Gives (λ log. lanes_of log.table) result
-        (replay_files listed files.items (lanes_of table)) }
+    ensures gives { IsTrue (D.tells disk.old) → (listed : List QueueId) (files : List ChainFile) →
+        Lists listed table → map end_of_file files ≡ chain.items →
+        AllByRecursion (IsReadAgain listed (shown (now (D.past disk.old)))) files →
+        Gives (λ log. lanes_of log.table) result (replay_files listed files (lanes_of table)) }
     ensures lists { (listed : List QueueId) → Lists listed table →
         IfOk result (λ log. Lists listed log.table) }
     ensures file { IfOk result (λ log. log.file ≡ file) }
-    ensures good { IfOk result (λ log. log.good ≡ good_of files.items) }
-    ensures ranges { IfOk result (λ log.
-        ranges_in log.ranges ≡ find_files files.items (ranges_of queues.now)) }
-    ensures cause { IfErr result IsOfBytes }
+    ensures good { IfOk result (λ log. log.good ≡ good_of chain.items) }
+    ensures chain { IfOk result (λ log. log.chain ≡ chain) }
+    ensures ranges { IsTrue (D.tells disk.old) → (listed : List QueueId)
+        (files : List ChainFile) → map end_of_file files ≡ chain.items →
+        AllByRecursion (IsReadAgain listed (shown (now (D.past disk.old)))) files → IfOk result (λ log.
+        ranges_in log.ranges ≡ find_files files (ranges_of queues.now)) }
+    ensures reads { OnlyReads D.tells D.past disk.old disk.new }
+    ensures cause { HasCause IsCaused (D.faults disk.old) (D.faults disk.new) result }
 {
     let mut table = table;
-    let good = good_of(files.as_slice());
-    let ranges = read_ranges(alloc, queues, files.as_slice())?;
-    match replay_files(alloc, &mut table, files) {
+    let mut ranges = FileRanges::new(alloc, queues)?;
+    let good = good_of(chain.as_slice());
+    match replay_chain(disk, alloc, chain.as_slice(), &mut table, &mut ranges) {
         Ok(()) => Ok(Log {
             file,
             good,
+            chain,
             table,
             ranges,
         }),
@@ -80,7 +93,8 @@ fn put_together(
     }
 }
 
-/// Reads the log files that are listed.
+/// Reads the log files that are listed: back along the chain, to find where each file ends, and then each once
+/// more, the oldest first.
 pub(crate) fn read_log<D: NodeDisk>(
     disk: &mut D,
     alloc: Global,
@@ -92,6 +106,9 @@ pub(crate) fn read_log<D: NodeDisk>(
         (lanes_read queues.now (shown (now (D.past disk.old)))) }
     ensures newest { IsTrue (D.tells disk.old) → IsListing (now (D.past disk.old)) names.now →
         IfOk result (λ log. IsNewest queues.now (shown (now (D.past disk.old))) log.file log.good) }
+    ensures chain { IsTrue (D.tells disk.old) → IsListing (now (D.past disk.old)) names.now →
+        IfOk result (λ log. numbers_read queues.now (now (D.past disk.old))
+        ≡ numbers_of_ends log.chain.items) }
     ensures lists { IfOk result (λ log. Lists queues.now log.table) }
     ensures ranges { IsTrue (D.tells disk.old) → IsListing (now (D.past disk.old)) names.now →
         IfOk result (λ log.
@@ -99,10 +116,11 @@ pub(crate) fn read_log<D: NodeDisk>(
     ensures reads { OnlyReads D.tells D.past disk.old disk.new }
     ensures cause { HasCause IsCaused (D.faults disk.old) (D.faults disk.new) result }
 {
+    the_log_has_a_format();
     let table = Table::new(alloc, queues)?;
     let file = newest_file(disk, alloc, names)?;
-    match chain_files(disk, alloc, names, file) {
-        Ok(files) => put_together(alloc, table, queues, file, files),
+    match chain_ends(disk, alloc, names, file) {
+        Ok(chain) => put_together(disk, alloc, table, queues, file, chain),
         Err(fault) => Err(fault),
     }
 }

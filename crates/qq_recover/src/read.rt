@@ -43,7 +43,11 @@ pub(crate) fn has_whole_header<D: NodeDisk>(
 }
 
 /// All bytes of a file.
-fn read_file<D: NodeDisk>(disk: &mut D, alloc: Global, file: FileName) -> Result<Vec<u8>, DiskFault>
+pub(crate) fn read_file<D: NodeDisk>(
+    disk: &mut D,
+    alloc: Global,
+    file: FileName,
+) -> Result<Vec<u8>, DiskFault>
     ensures ok { IsTrue (D.tells disk.old) → IfOk result (λ bytes.
         bytes.items ≡ content (now (D.past disk.old)) file) }
     ensures reads { OnlyReads D.tells D.past disk.old disk.new }

@@ -1,21 +1,24 @@
 //! Recovery: what is read is kept, and a new file goes on behind it.
-ghost use Rattle.std.specs.Prelude.{◌≡◌, ◌≤◌, ◌⊎◌, ℕ, List, Ok, false, IsTrue, IfOk, IfErr, OnOk};
+ghost use Rattle.std.specs.Prelude.{◌≡◌, ◌≤◌, ◌⊎◌, ℕ, List, None, Ok, true, false, Contains, IsTrue, IfOk, IfErr, OnOk};
 ghost use Rattle.qq_base.specs.declared.memory.TheConstants.{NUMBER_END};
-ghost use Rattle.qq_disk.specs.Disk.{now, IsListed};
+ghost use Rattle.qq_disk.specs.declared.name.FileName.{FileName};
+ghost use Rattle.qq_disk.specs.Disk.{contents, now, IsListed};
 ghost use Rattle.qq_disk.specs.Image.{log_of};
 ghost use Rattle.qq_log.specs.declared.op.Op.{Op};
 ghost use Rattle.qq_wal_chain.specs.Laws.{KeepsPromise};
 ghost use Rattle.qq_wal.specs.Fault.{IsCaused as IsWalCaused};
 ghost use Rattle.qq_wal.specs.Ranges.{ranges_in};
-ghost use Rattle.qq_wal.specs.Running.{MayBegin, StillHolds, Stays, StaysBeside, StaysWhole, top};
+ghost use Rattle.qq_wal.specs.Running.{StaysBeside, MayBegin, StillHolds, StillMayRecover, Stays, numbers_read, top};
 ghost use Rattle.qq_wal.specs.Wal.{IsSound};
 ghost use Rattle.qq_recover.specs.Answer.{Fails};
 ghost use Rattle.qq_recover.specs.Reading.{shown, lanes_read};
 ghost use Rattle.qq_recover.specs.Recovered.{IsBeginFault, IsBegunAbove, IsBegunBehind, IsDiskCaused, IsNewLog, IsNoRefusal, IsRecoverCaused, IsSpentOn, KnowsLanes, disk_of, lanes_left, wal_of};
-ghost use Rattle.qq_recover.specs.Recovery.{BeginsOne, MayRecover, SettlesLanes, StaysSyncing};
+ghost use Rattle.qq_recover.specs.Recovery.{BeginsOne, IsUnread, MayRecover, RemovesUnread, SettlesLanes, StaysSyncing};
+ghost use Rattle.qq_recover.specs.Clearing.{BeginsAndClears, is_unread, numbers_of_ends};
 ghost use Rattle.qq_recover.specs.Start.{IsStart};
 ghost use Rattle.qq_recover.specs.Table.{lanes_of};
 
+use crate::clear::remove_unread;
 use crate::fault::RecoverFault;
 use crate::recovered::Recovered;
 use crate::start::{Start, prepare};
@@ -38,7 +41,7 @@ fn fault_at_begin(fault: WalFault) -> RecoverFault
     }
 }
 
-/// Begins a new file behind what was read.
+/// Begins a new file behind what was read, and then removes the log files that aren't read.
 fn begin_behind<D: NodeDisk>(
     disk: D,
     alloc: Global,
@@ -49,6 +52,8 @@ fn begin_behind<D: NodeDisk>(
     requires start { IsStart queues.now start }
     requires goes_on { IsTrue (D.tells disk) → MayBegin queues.now start.header start.carries.items
         start.names.items (now (D.past disk)) }
+    requires chain { IsTrue (D.tells disk) →
+        numbers_read queues.now (now (D.past disk)) ≡ numbers_of_ends start.chain.items }
     ensures sound { IfOk result (λ r. IsSound D.tells D.past (wal_of r)) }
     ensures begun { IfOk result (
         IsBegunAbove queues.now start.names.items (ranges_in start.ranges) log_bytes) }
@@ -58,10 +63,15 @@ fn begin_behind<D: NodeDisk>(
         Stays queues.now (D.past disk) (D.past (disk_of result)) }
     ensures holds { IsTrue (D.tells disk) → OnOk result (
         StillHolds queues.now (now (D.past disk)) (now (D.past (disk_of result)))) }
-    ensures beside { IsTrue (D.tells disk) → StaysBeside (log_of start.header.file)
+    ensures others { IsTrue (D.tells disk) →
+        StaysBeside (log_of start.header.file) (D.past disk) (D.past (disk_of result))
+        ⊎ BeginsAndClears start.names.items start.chain.items (log_of start.header.file)
         (D.past disk) (D.past (disk_of result)) }
-    ensures whole { IsTrue (D.tells disk) →
-        StaysWhole (D.past disk) (D.past (disk_of result)) }
+    ensures removed { IsTrue (D.tells disk) → OnOk result ((file : FileName) →
+        Contains start.names.items file → is_unread start.chain.items file ≡ true →
+        contents (now (D.past (disk_of result))) file ≡ None) }
+    ensures may { IsTrue (D.tells disk) →
+        StillMayRecover queues.now (D.past disk) (D.past (disk_of result)) }
     ensures told { D.tells (disk_of result) ≡ D.tells disk }
     ensures later { D.faults disk ≤ D.faults (disk_of result) }
     ensures cause { IfErr result (λ e. IsDiskCaused (D.faults disk) (D.faults e.1) e.0) }
@@ -70,6 +80,7 @@ fn begin_behind<D: NodeDisk>(
         header,
         carries,
         names,
+        chain,
         table,
         ranges,
     } = start;
@@ -87,15 +98,23 @@ fn begin_behind<D: NodeDisk>(
         &ranges,
         log_bytes,
     ) {
-        Ok(wal) => Ok(Recovered { wal, table }),
+        Ok(wal) => {
+            let mut wal = wal;
+            match remove_unread(&mut wal, alloc, chain.as_slice(), names.as_slice()) {
+                Ok(()) => Ok(Recovered { wal, table }),
+                Err(fault) => Err((fault_at_begin(fault), wal.into_disk())),
+            }
+        }
         Err((fault, disk)) => Err((fault_at_begin(fault), disk)),
     }
 }
 
 /// Recovers a node's log: it syncs all that the disk lists, reads the chain of files from the newest whole
 /// header back, and begins a new file behind it, which names how far the newest one is good and carries
-/// each queue that has ops. Nothing is removed. What follows the first place without a whole record is
-/// dropped in the newest file. The disk is handed back on each refusal.
+/// each queue that has ops. What follows the first place without a whole record is dropped in the newest file.
+/// Once the new file is synced, each listed log file that isn't one of the chain is removed: one without a whole
+/// header that a crash left, and one behind a file of the chain that is absent. A crash may bring it back, and it
+/// isn't read then either. The disk is handed back on each refusal.
 ///
 /// `Damaged` and `Version` come exactly where the log files that the disk shows break the rules of the log,
 /// and tell the first place. `Disk` comes only where the disk's count of faults rose, `Spent` exactly where
@@ -103,7 +122,9 @@ fn begin_behind<D: NodeDisk>(
 /// disk that this log wrote, and whatever a crash left of one, is never refused.
 ///
 /// Of the files that are there, of whatever kind, none loses or gains a byte: each is as it was or synced, and
-/// one log file is begun, of a number above theirs.
+/// one log file is begun, of a number above theirs. Nothing is removed before that stands and all else is synced.
+/// Recovery holds the records of one file at a time: it reads each file of the chain twice, on the way back to find
+/// where it ends, and then for its records, the oldest first.
 ///
 /// What a crash leaves of removed files may have no say in the reading: so it is on a disk that was just
 /// opened, and on one that keeps a promise of the log.
@@ -136,9 +157,13 @@ pub fn recover<D: NodeDisk>(
     ensures end { IsTrue (D.tells disk) → (number : ℕ) → NUMBER_END ≤ number →
         IsListed (now (D.past disk)) (log_of number) → OnOk result ⊥ }
     ensures others { IsTrue (D.tells disk) → StaysSyncing (D.past disk) (D.past (disk_of result))
-        ⊎ BeginsOne (D.past disk) (D.past (disk_of result)) }
-    ensures whole { IsTrue (D.tells disk) →
-        StaysWhole (D.past disk) (D.past (disk_of result)) }
+        ⊎ (BeginsOne (D.past disk) (D.past (disk_of result))
+        ⊎ RemovesUnread queues.now (D.past disk) (D.past (disk_of result))) }
+    ensures removed { IsTrue (D.tells disk) → OnOk result ((file : FileName) →
+        IsUnread queues.now (now (D.past disk)) file →
+        contents (now (D.past (disk_of result))) file ≡ None) }
+    ensures may { IsTrue (D.tells disk) →
+        StillMayRecover queues.now (D.past disk) (D.past (disk_of result)) }
     ensures told { D.tells (disk_of result) ≡ D.tells disk }
     ensures later { D.faults disk ≤ D.faults (disk_of result) }
     ensures cause { IfErr result (λ e. IsRecoverCaused (D.faults disk) (D.faults e.1) e.0) }

@@ -5,7 +5,7 @@ ghost use Rattle.qq_base.specs.Causes.{HasCause};
 ghost use Rattle.qq_disk.specs.Disk.{now, sync};
 ghost use Rattle.qq_disk.specs.Fault.{IsCaused};
 ghost use Rattle.qq_wal_chain.specs.Promise.{sync_all};
-ghost use Rattle.qq_wal.specs.Running.{Stays, StaysWhole};
+ghost use Rattle.qq_wal.specs.Running.{Stays, StillMayRecover};
 ghost use Rattle.qq_recover.specs.Recovery.{StaysSyncing};
 
 use qq_disk::{DiskFault, FileName, NodeDisk};
@@ -19,8 +19,8 @@ fn sync_one<D: NodeDisk>(disk: &mut D, alloc: Global, file: FileName) -> Result<
     ensures stays { IsTrue (D.tells disk.old) → (queues : List QueueId) →
         Stays queues (D.past disk.old) (D.past disk.new) }
     ensures only { IsTrue (D.tells disk.old) → StaysSyncing (D.past disk.old) (D.past disk.new) }
-    ensures whole { IsTrue (D.tells disk.old) →
-        StaysWhole (D.past disk.old) (D.past disk.new) }
+    ensures may { IsTrue (D.tells disk.old) → (queues : List QueueId) →
+        StillMayRecover queues (D.past disk.old) (D.past disk.new) }
     ensures told { D.tells disk.new ≡ D.tells disk.old }
     ensures cause { HasCause IsCaused (D.faults disk.old) (D.faults disk.new) result }
 {
@@ -39,8 +39,8 @@ pub(crate) fn settle_all<D: NodeDisk>(
     ensures stays { IsTrue (D.tells disk.old) → (queues : List QueueId) →
         Stays queues (D.past disk.old) (D.past disk.new) }
     ensures only { IsTrue (D.tells disk.old) → StaysSyncing (D.past disk.old) (D.past disk.new) }
-    ensures whole { IsTrue (D.tells disk.old) →
-        StaysWhole (D.past disk.old) (D.past disk.new) }
+    ensures may { IsTrue (D.tells disk.old) → (queues : List QueueId) →
+        StillMayRecover queues (D.past disk.old) (D.past disk.new) }
     ensures told { D.tells disk.new ≡ D.tells disk.old }
     ensures cause { HasCause IsCaused (D.faults disk.old) (D.faults disk.new) result }
 {

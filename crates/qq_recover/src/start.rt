@@ -8,7 +8,7 @@ ghost use Rattle.qq_disk.specs.declared.name.FileKind.TheVariants.{Log as OfLog}
 ghost use Rattle.qq_disk.specs.Disk.{now};
 ghost use Rattle.qq_wal.specs.Marks.{IsCarry, carries_of, carry_in};
 ghost use Rattle.qq_wal.specs.Numbers.{greatest_number};
-ghost use Rattle.qq_wal.specs.Running.{Stays, StaysWhole};
+ghost use Rattle.qq_wal.specs.Running.{Stays, StillMayRecover};
 ghost use Rattle.qq_recover.specs.Answer.{Gives};
 ghost use Rattle.qq_recover.specs.Reading.{shown, lanes_read};
 ghost use Rattle.qq_recover.specs.Recovered.{IsRecoverCaused, IsSpentOn};
@@ -20,6 +20,7 @@ use crate::fault::RecoverFault;
 use crate::log::{Log, read_log};
 use crate::settle::settle_all;
 use crate::table::Table;
+use crate::walk::FileEnd;
 use qq_base::{Memory, NUMBER_END, QueueId};
 use qq_disk::{FileKind, FileName, NodeDisk};
 use qq_log::Carry;
@@ -35,6 +36,8 @@ pub(crate) struct Start {
     pub(crate) carries: Vec<Carry>,
     /// Of the files that the disk lists.
     pub(crate) names: Vec<FileName>,
+    /// The files that were read, the newest first.
+    pub(crate) chain: Vec<FileEnd>,
     pub(crate) table: Table,
     /// Where the entries lie.
     pub(crate) ranges: FileRanges,
@@ -102,6 +105,7 @@ fn start_behind(
     ensures table { IfOk result (λ s. s.table ≡ log.table) }
     ensures ranges { IfOk result (λ s. s.ranges ≡ log.ranges) }
     ensures names { IfOk result (λ s. s.names ≡ names) }
+    ensures chain { IfOk result (λ s. s.chain ≡ log.chain) }
     ensures previous { IfOk result (λ s. s.header.previous ≡ log.file) }
     ensures good { IfOk result (λ s. s.header.good ≡ log.good) }
     ensures cause { IfErr result (λ e. SpentOnlyWhere e (greatest_number OfLog names.items)
@@ -112,6 +116,7 @@ fn start_behind(
     let Log {
         file: previous,
         good,
+        chain,
         table,
         ranges,
     } = log;
@@ -124,6 +129,7 @@ fn start_behind(
         header,
         carries,
         names,
+        chain,
         table,
         ranges,
     })
@@ -144,8 +150,8 @@ pub(crate) fn prepare<D: NodeDisk>(
     ensures stays { IsTrue (D.tells disk.old) →
         Stays queues.now (D.past disk.old) (D.past disk.new) }
     ensures only { IsTrue (D.tells disk.old) → StaysSyncing (D.past disk.old) (D.past disk.new) }
-    ensures whole { IsTrue (D.tells disk.old) →
-        StaysWhole (D.past disk.old) (D.past disk.new) }
+    ensures may { IsTrue (D.tells disk.old) →
+        StillMayRecover queues.now (D.past disk.old) (D.past disk.new) }
     ensures told { D.tells disk.new ≡ D.tells disk.old }
     ensures later { D.faults disk.old ≤ D.faults disk.new }
     ensures cause { IfErr result (IsRecoverCaused (D.faults disk.old) (D.faults disk.new)) }

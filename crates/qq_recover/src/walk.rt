@@ -1,54 +1,95 @@
 //! The way back along the chain.
-ghost use Rattle.std.specs.Prelude.{◌≡◌, List, IsTrue};
+ghost use Rattle.std.specs.Prelude.{◌≡◌, ◌<◌, List, IsTrue};
 ghost use Rattle.qq_base.specs.declared.ids.QueueId.{QueueId};
 ghost use Rattle.qq_base.specs.Causes.{HasCause};
 ghost use Rattle.qq_disk.specs.Disk.{now, IsListing};
 ghost use Rattle.qq_wal_chain.specs.Chain.{good_length};
 ghost use Rattle.qq_wal_chain.specs.Wal.{wal};
 ghost use Rattle.qq_recover.specs.Answer.{Gives};
+ghost use Rattle.qq_recover.specs.Ends.{chain_ends};
 ghost use Rattle.qq_recover.specs.Fault.{IsCaused};
-ghost use Rattle.qq_recover.specs.Files.{chain_files};
 ghost use Rattle.qq_wal.specs.Running.{top};
 ghost use Rattle.qq_recover.specs.Reading.{shown};
 ghost use Rattle.qq_recover.specs.ReadOnly.{OnlyReads};
 
 use crate::fault::RecoverFault;
-use crate::file::{ChainFile, file_at};
+use crate::file::file_at;
 use crate::read::read_listed;
 use qq_disk::{FileName, NodeDisk};
 use qq_wal_chain::the_log_has_a_format;
 use std::alloc::Global;
+use std::marker::Model;
 
-/// The files of the chain from one back, the newest first, each with its records as far as it is good.
-pub(crate) fn chain_files<D: NodeDisk>(
+/// A file of the chain, by where its records end. They aren't kept: no more than one file's are held at once.
+#[derive(Drop)]
+pub(crate) struct FileEnd {
+    number: u64,
+    end: u64,
+}
+
+impl Model for FileEnd {
+    ghost use Rattle.std.specs.Prelude.{◌<◌};
+    ghost use Rattle.qq_recover.specs.Ends.{End};
+
+    ghost Value = { End };
+
+    ghost view = { λ f. record { number = f.number; end = f.end } };
+
+    ghost invariant = { λ f. 0 < f.number };
+}
+
+impl FileEnd {
+    fn new(number: u64, end: u64) -> Self
+        requires { 0 < number }
+        ensures { result ≡ record { number = number; end = end } }
+    {
+        FileEnd { number, end }
+    }
+
+    pub(crate) fn number(&self) -> u64
+        ensures value { result ≡ self.now.number }
+        ensures some { 0 < result }
+    {
+        self.number
+    }
+
+    pub(crate) fn end(&self) -> u64
+        ensures { result ≡ self.now.end }
+    {
+        self.end
+    }
+}
+
+/// Where the files of the chain end, from one back, the newest first.
+pub(crate) fn chain_ends<D: NodeDisk>(
     disk: &mut D,
     alloc: Global,
     names: &[FileName],
     newest: u64,
-) -> Result<Vec<ChainFile>, RecoverFault>
+) -> Result<Vec<FileEnd>, RecoverFault>
     ensures gives { IsTrue (D.tells disk.old) → IsListing (now (D.past disk.old)) names.now →
         (queues : List QueueId) → let logs = shown (now (D.past disk.old)) in
-        Gives (λ files. files.items) result
-        (chain_files queues top logs newest (good_length (wal queues) newest (logs newest))) }
+        Gives (λ ends. ends.items) result
+        (chain_ends queues top logs newest (good_length (wal queues) newest (logs newest))) }
     ensures reads { OnlyReads D.tells D.past disk.old disk.new }
     ensures cause { HasCause IsCaused (D.faults disk.old) (D.faults disk.new) result }
 {
     the_log_has_a_format();
-    let mut files = Vec::new(alloc);
+    let mut ends = Vec::new(alloc);
     let mut number = newest;
     let mut good = None;
     'files: while number != 0 {
         let Some(bytes) = read_listed(disk, alloc, names, number)? else {
-            return Ok(files);
+            return Ok(ends);
         };
         match file_at(alloc, number, good, &bytes) {
             Ok((header, file)) => {
-                files.push(file)?;
+                ends.push(FileEnd::new(number, file.end))?;
                 number = header.previous;
                 good = Some(header.good);
             }
             Err(fault) => return Err(fault),
         }
     }
-    Ok(files)
+    Ok(ends)
 }

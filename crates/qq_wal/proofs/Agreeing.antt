@@ -6,6 +6,7 @@ use Rattle.std.proofs.lemmas.Bool.{eqb-true, eqb-false, eq-eqb, and_parts, and_f
 use Rattle.std.proofs.lemmas.List.{length-map}
 use Rattle.qq_base.specs.declared.ids.QueueId.{QueueId}
 use Rattle.qq_base.proofs.Lists.{AllByRecursion-append}
+use Rattle.qq_log.specs.Carries.{Carries, add_op, carry_behind, carry_or_new, follows_carry, is_listed}
 use Rattle.qq_log.specs.declared.head.Span.{Span}
 use Rattle.qq_log.specs.declared.lane.Carry.{Carry}
 use Rattle.qq_log.specs.declared.op.Op.{Op}
@@ -16,14 +17,14 @@ use Rattle.qq_log.specs.Stable.{Stable, new_state, carry_of, apply_op, change, s
 use Rattle.qq_wal_record.specs.declared.record.LogRecord.{LogRecord}
 use Rattle.qq_wal_record.specs.declared.record.LogRecord.TheVariants.{Op as OpRecord, Carry as CarryRecord}
 use Rattle.qq_wal_chain.specs.Image.{put}
-use Rattle.qq_wal_chain.specs.Lanes.{Lanes, is_listed, is_op_within_ends, is_change, put_lane, add_record}
+use Rattle.qq_wal_chain.specs.Lanes.{Lanes, is_op_within_ends, is_change, put_lane, add_record}
 use Rattle.qq_wal_chain.specs.Records.{Restate, replay}
 use Rattle.qq_wal_chain.specs.Wal.{wal}
 use Rattle.qq_wal_chain.proofs.Queues.{carry-restates}
 use Rattle.qq_wal_chain.proofs.Walk.{put-at, put-other}
 use Rattle.qq_wal.specs.declared.marks.Mark.{Mark}
 use Rattle.qq_wal.specs.Batch.{FitsBatch}
-use Rattle.qq_wal.specs.Marks.{Carries, IsCarry, MayFollow, AllFollow, HasCarry, Agree, add_op, carry_behind, carry_or_new, follows_carry, known, queues_in, carries_in, carries_of, carry_in, carry_for}
+use Rattle.qq_wal.specs.Marks.{IsCarry, MayFollow, AllFollow, HasCarry, Agree, known, queues_in, carries_in, carries_of, carry_in, carry_for}
 use Rattle.qq_wal.specs.Notices.{note_all, note_record, sync_mark, new_mark}
 use Rattle.qq_wal.proofs.Follows.{noted, same_queue, known-note, note-queues, note-carries}
 

@@ -4,6 +4,7 @@ use Rattle.std.specs.Prelude.{All}
 use Rattle.std.specs.List.{AllByRecursion, fold}
 use Rattle.std.proofs.lemmas.List.Elements.{recursion_from_All}
 use Rattle.qq_base.specs.declared.ids.QueueId.{QueueId}
+use Rattle.qq_log.specs.Carries.{Carries}
 use Rattle.qq_log.specs.declared.lane.Carry.{Carry}
 use Rattle.qq_log.specs.declared.op.Op.{Op}
 use Rattle.qq_log.specs.declared.op.Op.TheVariants.{Change, SnapshotMade, SegmentMade}
@@ -12,7 +13,7 @@ use Rattle.qq_log.specs.Writable.{IsChange}
 use Rattle.qq_wal_chain.specs.Image.{put}
 use Rattle.qq_wal_chain.specs.Laws.{op_records}
 use Rattle.qq_wal.specs.declared.marks.Mark.{Mark}
-use Rattle.qq_wal.specs.Marks.{Carries, known}
+use Rattle.qq_wal.specs.Marks.{known}
 use Rattle.qq_wal.specs.Notices.{AreCounted, carried_op, new_mark, note_all, note_record, sync_mark, synced_in, synced_of}
 use Rattle.qq_wal.proofs.Follows.{noted}
 

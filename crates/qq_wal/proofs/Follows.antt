@@ -7,6 +7,7 @@ use Rattle.std.proofs.lemmas.Bool.{cases_eq, eqb-true, eqb-false, eq-eqb, ne_eqb
 use Rattle.qq_base.specs.declared.ids.QueueId.{QueueId}
 use Rattle.qq_base.specs.declared.memory.TheConstants.{NUMBER_END}
 use Rattle.qq_entry.specs.declared.command.Entry.{Entry}
+use Rattle.qq_log.specs.Carries.{Carries, add_op, carry_behind, carry_or_new, is_listed, new_carry}
 use Rattle.qq_log.specs.declared.lane.Carry.{Carry}
 use Rattle.qq_log.specs.declared.op.Op.{Op}
 use Rattle.qq_log.specs.declared.op.Op.TheVariants.{Change, SnapshotMade, SegmentMade}
@@ -15,11 +16,11 @@ use Rattle.qq_log.specs.Writable.{HasFields, IsQueue, IsSegment}
 use Rattle.qq_wal_record.specs.declared.record.LogRecord.{LogRecord}
 use Rattle.qq_wal_record.specs.declared.record.LogRecord.TheVariants.{Op as OpRecord, Carry as CarryRecord}
 use Rattle.qq_wal_chain.specs.Image.{put}
-use Rattle.qq_wal_chain.specs.Lanes.{is_listed, is_op_within_ends, is_within_end, is_head_within_ends}
+use Rattle.qq_wal_chain.specs.Lanes.{is_op_within_ends, is_within_end, is_head_within_ends}
 use Rattle.qq_wal_chain.proofs.Walk.{put-at, put-other}
 use Rattle.qq_wal.specs.declared.marks.Mark.{Mark}
 use Rattle.qq_wal.specs.Batch.{FitsBatch}
-use Rattle.qq_wal.specs.Marks.{Carries, IsCarry, MayFollow, AllFollow, HasCarry, add_op, add_records, carry_behind, carry_or_new, known, new_carry, queues_in}
+use Rattle.qq_wal.specs.Marks.{IsCarry, MayFollow, AllFollow, HasCarry, add_records, known, queues_in}
 use Rattle.qq_wal.specs.Notices.{note_all, note_mark, note_op, note_record, sync_mark}
 
 -- ---- lists of records that follow

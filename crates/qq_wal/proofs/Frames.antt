@@ -1,9 +1,9 @@
 -- Files that a call doesn't write to are left as they are.
 use Rattle.std.proofs.Common.{◌≡◌, ℕ, List, take, Some, option_map, refl, ap, subst, ◌∙◌, inl, inr}
 use Rattle.qq_disk.specs.declared.name.FileName.{FileName}
-use Rattle.qq_disk.specs.Disk.{Disk, append_target, grow, keep, now}
+use Rattle.qq_disk.specs.Disk.{Disk, append_target, grow, keep, mark_removed, now}
 use Rattle.qq_disk.specs.Image.{log_of}
-use Rattle.qq_disk.specs.Moments.{Adds, IsAppending, IsSyncing}
+use Rattle.qq_disk.specs.Moments.{Adds, IsAppending, IsRemoving, IsSyncing}
 use Rattle.qq_disk.proofs.Moments.{adds-now, adds-step, adds-weaker}
 use Rattle.qq_disk.proofs.Names.{set-other}
 use Rattle.qq_wal.specs.Running.{KeepsOthers, StaysBeside}
@@ -22,6 +22,11 @@ syncing d e file (inl same) other apart = ap (λ (d : Disk). d other) same
 syncing d e file (inr same) other apart =
     ap (λ (d : Disk). d other) same ∙ set-other d file other (option_map keep (d file)) apart
 
+removing : (d e : Disk) (file : FileName) → IsRemoving d file e → KeepsOthers file d e
+removing d e file (inl same) other apart = ap (λ (d : Disk). d other) same
+removing d e file (inr same) other apart =
+    ap (λ (d : Disk). d other) same ∙ set-other d file other (option_map mark_removed (d file)) apart
+
 pub append-beside : (old new : List Disk) (file : FileName) (bytes : List ℕ)
     → Adds (IsAppending (now old) file bytes) old new → StaysBeside file old new
 append-beside old new file bytes a =
@@ -32,6 +37,12 @@ pub sync-beside : (old new : List Disk) (file : FileName) → Adds (IsSyncing (n
     → StaysBeside file old new
 sync-beside old new file a =
     adds-weaker (IsSyncing (now old) file) (KeepsOthers file (now old)) old new (λ e is. syncing (now old) e file is) a
+
+pub remove-beside : (old new : List Disk) (file : FileName) → Adds (IsRemoving (now old) file) old new
+    → StaysBeside file old new
+remove-beside old new file a =
+    adds-weaker (IsRemoving (now old) file) (KeepsOthers file (now old)) old new
+    (λ e is. removing (now old) e file is) a
 
 pub beside-then : (old mid new : List Disk) (file : FileName) → StaysBeside file old mid → StaysBeside file mid new
     → StaysBeside file old new

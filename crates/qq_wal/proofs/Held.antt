@@ -8,6 +8,7 @@ use Rattle.std.specs.List.{AllByRecursion, fold}
 use Rattle.qq_base.specs.Fronts.{IsFront}
 use Rattle.qq_base.specs.declared.ids.QueueId.{QueueId}
 use Rattle.qq_disk.specs.Disk.{Disk}
+use Rattle.qq_log.specs.Carries.{Carries, add_op, is_listed}
 use Rattle.qq_log.specs.declared.lane.Carry.{Carry}
 use Rattle.qq_log.specs.declared.op.Op.{Op}
 use Rattle.qq_log.specs.declared.op.Op.TheVariants.{Change, SnapshotMade, SegmentMade}
@@ -19,7 +20,7 @@ use Rattle.qq_wal_record.specs.declared.record.LogRecord.TheVariants.{Op as OpRe
 use Rattle.qq_wal_chain.specs.Format.{IsFormat}
 use Rattle.qq_wal_chain.specs.Chain.{Found, Logs, Reading, reading}
 use Rattle.qq_wal_chain.specs.Image.{IsLogImage, files_of, put}
-use Rattle.qq_wal_chain.specs.Lanes.{Lanes, add_record, has_entries, is_carry_within_ends, is_change, is_listed, is_op_within_ends, is_plain, put_lane}
+use Rattle.qq_wal_chain.specs.Lanes.{Lanes, add_record, has_entries, is_carry_within_ends, is_change, is_op_within_ends, is_plain, put_lane}
 use Rattle.qq_wal_chain.specs.Promise.{found_behind, found_world, kept_records, pending_records}
 use Rattle.qq_wal_chain.specs.Records.{encode_all, file_records, replay}
 use Rattle.qq_wal_chain.specs.Wal.{wal, Ours}
@@ -28,7 +29,7 @@ use Rattle.qq_wal_chain.proofs.Replays.{IsSome, replay-append, replay-front, rep
 use Rattle.qq_wal_chain.proofs.Running.{log-reads, log-shown, log_reading, world-added}
 use Rattle.qq_wal.specs.declared.marks.Mark.{Mark}
 use Rattle.qq_wal.specs.declared.notices.Notice.{Notice}
-use Rattle.qq_wal.specs.Marks.{Agree, AllFollow, Carries, add_op, carry_in, queues_in}
+use Rattle.qq_wal.specs.Marks.{Agree, AllFollow, carry_in, queues_in}
 use Rattle.qq_wal.specs.Notices.{AreCounted, AreNamed, carried_op, new_mark, note_all, note_record, notices_in, sync_mark, synced_in, synced_of}
 use Rattle.qq_wal.specs.Running.{top, IsSynced, IsWrittenTo, lanes_kept, lanes_shown, op_in}
 use Rattle.qq_wal.specs.Wal.{IsKept}

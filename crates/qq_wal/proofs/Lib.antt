@@ -14,7 +14,6 @@ pub mod Taking
 pub mod Told
 pub mod Causes
 pub mod Counted
-pub mod Unremoved
 pub mod Runs
 pub mod Refusing
 pub mod Held

@@ -122,7 +122,7 @@ greatest-grows (name ∷ names) greatest = by (same_kind Log name.kind) (greates
     by true later = omega (arith, later (max greatest name.number))
     by false later = later greatest
 
-listed-below : (names : List FileName) (k greatest n : ℕ) → k < length names
+pub listed-below : (names : List FileName) (k greatest n : ℕ) → k < length names
     → slice_index_or names k (log_of n) ≡ log_of n → n ≤ fold (greater Log) greatest names
 listed-below [] k greatest n less is = absurd (omega arith)
 listed-below (name ∷ names) zero greatest n less is =

@@ -3,7 +3,7 @@ use Rattle.std.proofs.Common.{◌≡◌, ℕ, Bool, true, false, cond, List, ◌
 use Rattle.qq_disk.specs.declared.fault.DiskFault.{DiskFault}
 use Rattle.qq_disk.specs.declared.fault.DiskFault.TheVariants.{Failed, Memory as OfMemory}
 use Rattle.qq_disk.specs.declared.name.FileName.{FileName}
-use Rattle.qq_disk.specs.Disk.{Disk, FileState, IsListed, append, append_target, file_content, grow, now}
+use Rattle.qq_disk.specs.Disk.{Disk, FileState, IsListed, append, append_target, file_content, grow, new_file, now}
 use Rattle.qq_disk.specs.Fault.{IsCaused as IsDiskCaused}
 use Rattle.qq_disk.specs.Image.{log_of}
 use Rattle.qq_disk.specs.Moments.{StaysAtWant}
@@ -15,7 +15,6 @@ use Rattle.qq_wal.specs.Fault.{IsHalfBegun, StopsAtRoll, fault_of, is_failure, s
 use Rattle.qq_wal.specs.Running.{IsSynced}
 use Rattle.qq_wal.specs.Wal.{IsKept, IsOnDisk, IsSound}
 use Rattle.qq_wal.proofs.Batches.{told_before}
-use Rattle.qq_wal.proofs.Unremoved.{target-whole}
 
 -- it is sound behind it, stopped or over a disk that is as it was
 pub still-sound : {D : Type 0} (tells : D → Bool) (past : D → List Disk) (w : Wal D) (d : D) (stopped : Bool)
@@ -62,6 +61,15 @@ stops T before stopped fault e same was is =
     (stops-at T before stopped fault was is)
 
 -- ---- a new file
+
+-- the file to which an append adds isn't removed
+target-whole : (o : Option FileState) → (append_target o).removed ≡ false
+target-whole None = refl
+target-whole (Some f) = by f.removed refl
+  where
+    by : (t : Bool) → f.removed ≡ t → (cond t new_file f).removed ≡ false
+    by true e = refl
+    by false e = e
 
 appended-listed : (d : Disk) (file : FileName) (bytes : List ℕ) → IsListed (append d file bytes) file
 appended-listed d file bytes =

@@ -1,27 +1,31 @@
 -- A file that isn't read may go, and the log stays as it is.
-use Rattle.std.proofs.Common.{◌≡◌, ℕ, Bool, true, false, cond, eqb, List, [], length, Option, Some, None, option_map, refl, sym, ap, ◌∙◌, inl, inr, unwrap_or}
+use Rattle.std.proofs.Common.{◌≡◌, ℕ, Bool, true, false, cond, eqb, List, [], length, Option, Some, None, option_map, refl, sym, ap, ◌∙◌, inl, inr, subst, unwrap_or, IsTrue}
 use Rattle.qq_base.specs.declared.ids.QueueId.{QueueId}
-use Rattle.qq_disk.specs.Disk.{Disk, FileState, file_content, mark_removed}
+use Rattle.qq_disk.specs.Disk.{Disk, FileState, file_content, mark_removed, now}
 use Rattle.qq_disk.specs.Image.{log_of}
-use Rattle.qq_disk.specs.Moments.{IsRemoving}
+use Rattle.qq_disk.specs.Moments.{Adds, IsRemoving}
+use Rattle.qq_disk.proofs.Moments.{adds-weaker}
 use Rattle.qq_wal_record.specs.declared.header.Header.{Header}
 use Rattle.qq_wal_record.specs.declared.record.LogRecord.{LogRecord}
 use Rattle.qq_wal_chain.specs.Chain.{Found}
 use Rattle.qq_wal_chain.specs.Format.{IsFormat}
 use Rattle.qq_wal_chain.specs.Image.{Files, files_of}
-use Rattle.qq_wal_chain.specs.Promise.{IsRunning, found_behind, kept_records, pending_records}
+use Rattle.qq_wal_chain.specs.Promise.{IsRunning, Promises, found_behind, kept_records, pending_records}
 use Rattle.qq_wal_chain.specs.Records.{encode_all, replay}
 use Rattle.qq_wal_chain.specs.Wal.{wal, Ours}
 use Rattle.qq_wal_chain.proofs.Alone.{before-told, kept-told, pending-told, running-told}
 use Rattle.qq_wal_chain.proofs.Bridge.{remove-of-log}
-use Rattle.qq_wal_chain.proofs.Calls.{remove-done}
+use Rattle.qq_wal_chain.proofs.Calls.{remove-done, remove-moment}
 use Rattle.qq_wal_chain.proofs.Growing.{log-shows-world}
 use Rattle.qq_wal_chain.proofs.Walk.{put-other}
 use Rattle.qq_wal.specs.declared.marks.Mark.{Mark}
 use Rattle.qq_wal.specs.declared.numbers.Numbers.{Numbers}
-use Rattle.qq_wal.specs.Running.{top, IsOutside, IsSynced, IsWrittenTo, lanes_shown}
-use Rattle.qq_wal.specs.Wal.{IsKept, IsOnDisk}
+use Rattle.qq_wal.specs.Running.{top, IsNoneOf, IsOutside, IsSynced, IsWrittenTo, MayRecover, Stays, lanes_shown}
+use Rattle.qq_wal.specs.Wal.{IsKept, IsOnDisk, IsSound}
+use Rattle.qq_wal.specs.declared.wal.Wal.{Wal}
+use Rattle.qq_wal.proofs.Batches.{told_before}
 use Rattle.qq_wal.proofs.Held.{kept-as}
+use Rattle.qq_wal.proofs.Steps.{running-may}
 
 marked-none : (o : Option FileState) → file_content (option_map mark_removed o) ≡ None
 marked-none None = refl
@@ -45,10 +49,20 @@ module _ (queues : List QueueId) (laws : IsFormat (wal queues)) (h : Header) (d 
     fit = written.fit;
   }
 
+  pub still-outside : (k : ℕ) → IsOutside queues h d k → IsOutside queues h e k
+  still-outside k is = (
+    is.0,
+    subst (λ (f : Found (wal queues)). IsNoneOf f.files k)
+        (sym (before-told (wal queues) laws top h.file (Ours h) behind kept pending e running)) is.1,
+  )
+
   pub still-written : IsWrittenTo queues h e
   still-written = running-told (wal queues) laws top h.file (Ours h) behind kept pending e running
 
-  still-shown : lanes_shown queues e ≡ lanes_shown queues d
+  pub still-may : MayRecover queues e
+  still-may = running-may queues laws h e still-written
+
+  pub still-shown : lanes_shown queues e ≡ lanes_shown queues d
   still-shown =
       log-shows-world (wal queues) laws top h.file (Ours h) behind kept pending (files_of e) running.log running.fit
       ∙ sym (log-shows-world (wal queues) laws top h.file (Ours h) behind kept pending (files_of d) written.log
@@ -102,3 +116,50 @@ module _ (queues : List QueueId) (laws : IsFormat (wal queues)) (h : Header) (d 
 
   pub still-synced : IsSynced queues h d → IsSynced queues h e
   still-synced clean = pending-told (wal queues) laws top h.file (Ours h) behind kept pending e running ∙ clean
+
+-- what was promised stays so meanwhile
+pub removed-stays : (queues : List QueueId) → IsFormat (wal queues) → (h : Header) (m : ℕ) (old new : List Disk)
+    → IsWrittenTo queues h (now old) → IsOutside queues h (now old) m
+    → Adds (IsRemoving (now old) (log_of m)) old new → Stays queues old new
+removed-stays queues laws h m old new written out a noticed given keeps =
+    let files : Files = files_of (now old) in
+    adds-weaker (IsRemoving (now old) (log_of m)) (Promises (wal queues) top noticed given) old new
+    (λ e is. remove-moment (wal queues) laws top h.file (Ours h) (found_behind (wal queues) top (Ours h) files)
+    (kept_records (wal queues) h.file files)
+    (encode_all (wal queues) h.file (pending_records (wal queues) h.file files)) (now old) written.log m out.0 out.1
+    noticed given e keeps is) a
+
+-- and the log is sound
+pub removed-sound : {D : Type 0} (tells : D → Bool) (past : D → List Disk) (w : Wal D) (d : D) (m : ℕ)
+    → IsFormat (wal w.queues.items) → IsSound tells past w → tells d ≡ tells w.disk
+    → (IsTrue (tells w.disk) → w.stopped ≡ false → IsOutside w.queues.items w.header (now (past w.disk)) m
+    × IsRemoving (now (past w.disk)) (log_of m) (now (past d)))
+    → IsSound tells past (record w { disk = d })
+removed-sound tells past w d m laws is same removes =
+    let queues = w.queues.items in
+    let before = now (past w.disk) in
+    let after = now (past d) in
+    record {
+      waiting = is.waiting;
+      follow = is.follow;
+      queues_are = is.queues_are;
+      carries = is.carries;
+      number = is.number;
+      counted = is.counted;
+      named = is.named;
+      on_disk = λ told going.
+          let old = told_before same told in
+          let r = removes old going in
+          let on = is.on_disk old going in
+          still-on_disk queues laws w.header before after m on.log r.0 r.1 w.marks w.size w.numbers on;
+      synced = λ told going clean.
+          let old = told_before same told in
+          let r = removes old going in
+          still-synced queues laws w.header before after m (is.on_disk old going).log r.0 r.1
+          (is.synced old going clean);
+      kept = λ told going.
+          let old = told_before same told in
+          let r = removes old going in
+          still-kept queues laws w.header before after m (is.on_disk old going).log r.0 r.1 w.marks
+          (is.kept old going);
+    }

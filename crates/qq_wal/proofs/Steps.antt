@@ -1,7 +1,8 @@
 -- What the calls of a disk keep of the promise, for a log that is written to.
-use Rattle.std.proofs.Common.{◌≡◌, ◌≤◌, ◌<◌, ◌^◌, ◌+◌, arith, ℕ, List, [], ◌++◌, length, Option, Some, refl, sym, ap, subst, ◌∙◌, append-nil, append_assoc, length-append, option_map, unwrap_or}
+use Rattle.std.proofs.Common.{◌≡◌, ◌≤◌, ◌<◌, ◌^◌, ◌+◌, arith, inl, ℕ, List, [], ◌++◌, length, Option, Some, refl, sym, ap, subst, ◌∙◌, append-nil, append_assoc, length-append, option_map, unwrap_or}
 use Rattle.std.proofs.lemmas.List.{map-append}
 use Rattle.qq_base.specs.declared.ids.QueueId.{QueueId}
+use Rattle.qq_disk.specs.declared.name.FileName.{FileName}
 use Rattle.qq_disk.specs.Disk.{Disk, FileState, now, append, sync, append_target, content, file_content, grow, keep}
 use Rattle.qq_disk.specs.Image.{log_of}
 use Rattle.qq_disk.specs.Moments.{Adds, IsAppending, IsSyncing}
@@ -21,12 +22,13 @@ use Rattle.qq_wal_chain.specs.Laws.{AreSound, op_records, first_bytes}
 use Rattle.qq_wal_chain.specs.Wal.{wal, Ours, encode_header, no_lanes}
 use Rattle.qq_wal_chain.proofs.Alone.{before-told, kept-told, running-told, pending-told}
 use Rattle.qq_wal_chain.proofs.Bridge.{append-log as append-files, sync-of-log}
-use Rattle.qq_wal_chain.proofs.Calls.{begin-stays, begin-done, sync-stays, sync-done, sync-noticed}
+use Rattle.qq_wal_chain.proofs.Calls.{begin-ignoring, begin-stays, begin-done, ignores-appending, ignores-syncing, sync-stays, sync-done, sync-noticed}
 use Rattle.qq_wal_chain.proofs.Growing.{log-shows-world}
+use Rattle.qq_wal_chain.proofs.Keeping.{log-ignores}
 use Rattle.qq_wal_chain.proofs.Promised.{append-promised, append-runs}
 use Rattle.qq_wal_chain.proofs.Replays.{replay-append, restated}
 use Rattle.qq_wal_chain.proofs.Walk.{put-other}
-use Rattle.qq_wal.specs.Running.{top, IsWrittenTo, IsSynced, Stays, StaysGiving, HoldsAlso, StillHolds, MayNotice, IsBatchOf, MayAdd, SameOthers, lanes_kept, lanes_shown}
+use Rattle.qq_wal.specs.Running.{top, IsWrittenTo, IsSynced, Stays, StaysGiving, HoldsAlso, StillHolds, StillMayRecover, MayNotice, MayRecover, IsBatchOf, MayAdd, SameOthers, lanes_kept, lanes_shown, numbers_behind}
 
 -- a number of 64 bits is no file's that is too great
 pub in_top : (n : ℕ) → n < 2 ^ 64 → n ≤ top
@@ -80,6 +82,13 @@ stays-then queues old mid new first second noticed given keeps =
     let a : Adds P old mid = first noticed given keeps in
     adds-then P old mid new a (second noticed given (adds-now P old mid a keeps))
 
+-- a sync leaves a disk that may be recovered such a one
+pub sync-may : (queues : List QueueId) → IsFormat (wal queues) → (old new : List Disk) (file : FileName)
+    → Adds (IsSyncing (now old) file) old new → StillMayRecover queues old new
+sync-may queues laws old new file a may =
+    ignores-syncing (wal queues) laws top (now old) (now new) file may
+    (adds-now (IsSyncing (now old) file) old new a (inl refl))
+
 module _ (queues : List QueueId) (laws : IsFormat (wal queues)) (h : Header) where
   abbrev behind : Disk → Found (wal queues)
   behind d = found_behind (wal queues) top (Ours h) (files_of d)
@@ -95,6 +104,20 @@ module _ (queues : List QueueId) (laws : IsFormat (wal queues)) (h : Header) whe
       → lanes_shown queues d ≡ replay (wal queues) (kept ++ pending) (Some before.world)
   shows d before kept pending running =
       log-shows-world (wal queues) laws top h.file (Ours h) before kept pending (files_of d) running.log running.fit
+
+  -- ---- what a crash leaves of removed files
+
+  pub running-may : (d : Disk) → IsWrittenTo queues h d → MayRecover queues d
+  running-may d running =
+      log-ignores (wal queues) laws top h.file (Ours h) (behind d) (kept d)
+      (encode_all (wal queues) h.file (pending d)) (files_of d) running.log
+
+  pub append-may : (bytes : List ℕ) (old new : List Disk) → IsWrittenTo queues h (now old)
+      → Adds (IsAppending (now old) (log_of h.file) bytes) old new → MayRecover queues (now new)
+  append-may bytes old new running a =
+      ignores-appending (wal queues) laws top h.file (Ours h) (behind (now old)) (kept (now old)) (pending (now old))
+      (now old) running.log running.fit bytes (now new)
+      (adds-now (IsAppending (now old) (log_of h.file) bytes) old new a (inl refl))
 
   -- ---- a batch is appended
 
@@ -192,6 +215,17 @@ module _ (queues : List QueueId) (laws : IsFormat (wal queues)) (h : Header) whe
         stays-then queues old mid new (first-stays mid a)
         (sync-stays (wal queues) laws top mid new (log_of h.file) s)
 
+    pub first-may : (mid : List Disk) → Adds (IsAppending (now old) (log_of h.file) bytes) old mid
+        → MayRecover queues (now mid)
+    first-may mid a =
+        begin-ignoring (wal queues) laws top before h.file (Ours h) carries (now old) goes_on (now mid)
+        (subst (λ (bs : List ℕ). IsAppending (now old) (log_of h.file) bs (now mid)) is
+        (adds-now (IsAppending (now old) (log_of h.file) bytes) old mid a (inl refl)))
+
+    pub new-may : (mid new : List Disk) → Adds (IsAppending (now old) (log_of h.file) bytes) old mid
+        → Adds (IsSyncing (now mid) (log_of h.file)) mid new → MayRecover queues (now new)
+    new-may mid new a s = sync-may queues laws mid new (log_of h.file) s (first-may mid a)
+
     module _ (mid e : Disk) (first : mid ≡ append (now old) (log_of h.file) bytes)
         (second : e ≡ sync mid (log_of h.file)) where
       begun : IsRunning (wal queues) top h.file (Ours h) before carries [] e
@@ -206,6 +240,11 @@ module _ (queues : List QueueId) (laws : IsFormat (wal queues)) (h : Header) whe
         running-told (wal queues) laws top h.file (Ours h) before carries [] e begun,
         pending-told (wal queues) laws top h.file (Ours h) before carries [] e begun,
       )
+
+      pub new-behind : numbers_behind queues h e ≡ before.files
+      new-behind =
+          ap (λ (f : Found (wal queues)). f.files)
+          (before-told (wal queues) laws top h.file (Ours h) before carries [] e begun)
 
       pub new-shows : lanes_shown queues e ≡ lanes_shown queues (now old)
       new-shows =

@@ -7,6 +7,7 @@ use Rattle.qq_base.specs.declared.ids.QueueId.{QueueId}
 use Rattle.qq_base.specs.declared.memory.TheConstants.{NUMBER_END}
 use Rattle.qq_base.proofs.Lists.{AllByRecursion-append}
 use Rattle.qq_entry.specs.declared.command.Entry.{Entry}
+use Rattle.qq_log.specs.Carries.{Carries, GoesOn, add_op}
 use Rattle.qq_log.specs.declared.op.Op.{Op}
 use Rattle.qq_log.specs.declared.op.Op.TheVariants.{Change, SnapshotMade, SegmentMade}
 use Rattle.qq_log.specs.Writable.{IsWithinEnd, MayGather, payload_length}
@@ -16,7 +17,7 @@ use Rattle.qq_wal.specs.declared.batch.TheConstants.{BATCH_BYTES}
 use Rattle.qq_wal_record.specs.declared.record.LogRecord.{LogRecord}
 use Rattle.qq_wal.specs.declared.marks.Mark.{Mark}
 use Rattle.qq_wal.specs.Batch.{FitsBatch, AllFitBatch, is_short}
-use Rattle.qq_wal.specs.Marks.{Carries, AllFollow, GoesOn, HasCarry, MayFollow, add_op, add_records, known, queues_in}
+use Rattle.qq_wal.specs.Marks.{AllFollow, HasCarry, MayFollow, add_records, known, queues_in}
 use Rattle.qq_wal.specs.Notices.{last_index, note_record}
 use Rattle.qq_wal.proofs.Follows.{follow-more, follow-take, follow-drop, add-more, add-split, noted-known, noted-carries}
 

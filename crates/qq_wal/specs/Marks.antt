@@ -1,18 +1,18 @@
 -- What the log keeps of each queue: the carry with which a new file restates it.
-use Rattle.std.specs.Prelude.{◌≡◌, ◌+◌, ℕ, Bool, true, false, List, [], ◌∷◌, length, map, Option, Some, None, option_map, option_to_list, unwrap_or, IfSome, nat_eq, nat_le, nat_lt, ◌==◌, ◌&&◌, if◌then◌else◌}
+use Rattle.std.specs.Prelude.{◌≡◌, ℕ, Bool, true, false, List, [], ◌∷◌, map, Option, Some, None, option_map, option_to_list, IfSome, nat_eq, nat_lt, ◌&&◌, if◌then◌else◌}
 use Rattle.std.specs.List.{AllByRecursion, flat_map}
 use Rattle.std.specs.List.Sorted.{IsPartitionPoint}
 use Rattle.qq_base.specs.declared.ids.QueueId.{QueueId}
 use Rattle.qq_log.specs.declared.lane.Carry.{Carry}
 use Rattle.qq_log.specs.declared.op.Op.{Op}
-use Rattle.qq_log.specs.declared.op.Op.TheVariants.{Change, SnapshotMade, SegmentMade}
 use Rattle.qq_log.specs.Op.{queue}
-use Rattle.qq_log.specs.Stable.{new_state, carry_of}
+use Rattle.qq_log.specs.Carries.{Carries, add_op, carry_or_new, follows_carry, is_listed}
+use Rattle.qq_log.specs.Stable.{carry_of}
 use Rattle.qq_log.specs.Writable.{IsWritableCarry}
 use Rattle.qq_wal_record.specs.declared.record.LogRecord.{LogRecord}
 use Rattle.qq_wal_record.specs.declared.record.LogRecord.TheVariants.{Op as OpRecord, Carry as CarryRecord}
 use Rattle.qq_wal_chain.specs.Image.{put}
-use Rattle.qq_wal_chain.specs.Lanes.{Lanes, is_listed, is_op_within_ends, is_carry_within_ends, is_change, is_plain}
+use Rattle.qq_wal_chain.specs.Lanes.{Lanes, is_op_within_ends, is_carry_within_ends, is_change, is_plain}
 use Rattle.qq_wal.specs.declared.marks.Mark.{Mark}
 
 -- ---- a queue's carry
@@ -23,49 +23,13 @@ pub record IsCarry (c : Carry) : Type 0 where
   pub ends : is_carry_within_ends c ≡ true
   pub plain : is_plain c ≡ true
 
--- that of a queue without ops
-abbrev pub new_carry : QueueId → Carry
-new_carry id = carry_of id new_state
-
--- the carry behind an op more
-abbrev pub carry_behind : Carry → Op → Carry
-carry_behind c (Change id op term vote keep entries) =
-    record c { op = op; term = term; vote = vote; last = record { 0 = keep.0 + length entries } }
-carry_behind c (SnapshotMade id op head file) = c
-carry_behind c (SegmentMade id op file first last) = c
-
--- whether an op goes on behind a carry: its number is the next, and its cut lies between the base and the end
-abbrev pub follows_carry : Carry → Op → Bool
-follows_carry c (Change id op term vote keep entries) =
-    (op == c.op + 1) && (nat_le c.base.index.0 keep.0 && nat_le keep.0 c.last.0)
-follows_carry c (SnapshotMade id op head file) = false
-follows_carry c (SegmentMade id op file first last) = false
-
 -- ---- the carries of all queues
-
--- the carry of each queue by its number, None before its first op
-abbrev pub Carries : Type 0
-Carries = ℕ → Option Carry
-
-abbrev pub carry_or_new : Option Carry → QueueId → Carry
-carry_or_new carry id = unwrap_or carry (new_carry id)
-
--- with an op more
-abbrev pub add_op : Carries → Op → Carries
-add_op carries op =
-    put carries (queue op).0 (Some (carry_behind (carry_or_new (carries (queue op).0) (queue op)) op))
 
 -- with records more
 abbrev pub add_records : Carries → List LogRecord → Carries
 add_records carries [] = carries
 add_records carries (OpRecord op ∷ rs) = add_records (add_op carries op) rs
 add_records carries (CarryRecord c ∷ rs) = add_records carries rs
-
--- An op goes on where its queue stands: it is of one of these queues, its number is the next, and its cut lies between
--- the base and the end.
-pub record GoesOn (queues : List QueueId) (carries : Carries) (op : Op) : Type 0 where
-  pub listed : is_listed queues (queue op) ≡ true
-  pub follows : follows_carry (carry_or_new (carries (queue op).0) (queue op)) op ≡ true
 
 -- An op may be handed in next: it is a change of one of these queues, with no number past its end, and follows what
 -- the queue has.

@@ -2,6 +2,7 @@
 use Rattle.std.specs.Prelude.{◌≡◌, ◌+◌, ℕ, zero, suc, List, [], ◌∷◌, length, map, min, Option, Some, None, option_map, option_to_list, unwrap_or, IfSome, nat_eq, if◌then◌else◌}
 use Rattle.std.specs.List.{AllByRecursion, fold, flat_map, last_or}
 use Rattle.qq_base.specs.declared.ids.QueueId.{QueueId}
+use Rattle.qq_log.specs.Carries.{carry_behind, carry_or_new}
 use Rattle.qq_log.specs.declared.lane.Carry.{Carry}
 use Rattle.qq_log.specs.declared.op.Op.{Op}
 use Rattle.qq_log.specs.declared.op.Op.TheVariants.{Change, SnapshotMade, SegmentMade}
@@ -11,7 +12,7 @@ use Rattle.qq_wal_record.specs.declared.record.LogRecord.TheVariants.{Op as OpRe
 use Rattle.qq_wal_chain.specs.Lanes.{of_queue}
 use Rattle.qq_wal.specs.declared.notices.Notice.{Notice}
 use Rattle.qq_wal.specs.declared.marks.Mark.{Mark}
-use Rattle.qq_wal.specs.Marks.{carry_behind, carry_or_new, carry_for}
+use Rattle.qq_wal.specs.Marks.{carry_for}
 
 -- the server's term from the op on
 abbrev pub op_term : Op → ℕ

@@ -1,5 +1,5 @@
 -- What a log that is written to keeps of its promise, from call to call.
-use Rattle.std.specs.Prelude.{◌≡◌, ◌≢◌, ◌-◌, ◌^◌, ◌<◌, ℕ, false, List, [], ◌++◌, Option, Some, unwrap_or, nat_eq}
+use Rattle.std.specs.Prelude.{◌≡◌, ◌≢◌, ◌-◌, ◌^◌, ◌<◌, ℕ, false, List, [], ◌++◌, Option, Some, None, unwrap_or, nat_eq}
 use Rattle.std.specs.List.{AllByRecursion}
 use Rattle.qq_base.specs.declared.ids.QueueId.{QueueId}
 use Rattle.qq_disk.specs.declared.name.FileName.{FileName}
@@ -13,8 +13,8 @@ use Rattle.qq_wal_record.specs.declared.header.Header.{Header}
 use Rattle.qq_wal_chain.specs.Lanes.{Lanes}
 use Rattle.qq_wal_chain.specs.Records.{replay}
 use Rattle.qq_wal_chain.specs.Chain.{Found, Reading, reading}
-use Rattle.qq_wal_chain.specs.Image.{files_of, is_removed, shown_logs}
-use Rattle.qq_wal_chain.specs.Promise.{IsRunningLog, StaysPromised, found_behind, found_world, kept_records, pending_records}
+use Rattle.qq_wal_chain.specs.Image.{files_of, shown_logs}
+use Rattle.qq_wal_chain.specs.Promise.{IgnoresRemoved, IsRunningLog, StaysPromised, found_behind, found_world, kept_records, pending_records}
 use Rattle.qq_wal_chain.specs.Laws.{KeepsPromise, HoldsOps, AreWritable, IsSettledDisk, batch_bytes, op_records}
 use Rattle.qq_wal_chain.specs.Wal.{wal, Ours}
 use Rattle.qq_wal.specs.Marks.{carries_of}
@@ -71,13 +71,14 @@ abbrev pub MayNotice : List QueueId → Disk → Disk → Type 0
 MayNotice queues d e = (noticed given : List Op) → KeepsPromise queues top noticed given d → HoldsOps queues top given d
     → KeepsPromise queues top given given e
 
--- none of the log files is removed
-abbrev pub NoneRemoved : Disk → Type 0
-NoneRemoved d = (n : ℕ) → is_removed (files_of d n) ≡ false
+-- What a crash leaves of removed log files has no say in what is read. So it is on a disk that was just opened, on one
+-- that keeps a promise of the log, and on that of a log that goes on.
+abbrev pub MayRecover : List QueueId → Disk → Type 0
+MayRecover queues d = IgnoresRemoved (wal queues) top (files_of d)
 
--- nor is any in the end
-abbrev pub StaysWhole : List Disk → List Disk → Type 0
-StaysWhole old new = NoneRemoved (now old) → NoneRemoved (now new)
+-- nor has it in the end
+abbrev pub StillMayRecover : List QueueId → List Disk → List Disk → Type 0
+StillMayRecover queues old new = MayRecover queues (now old) → MayRecover queues (now new)
 
 -- these bytes are a batch of ops for the log's file
 pub record IsBatchOf (queues : List QueueId) (h : Header) (batch : List Op) (bytes : List ℕ) : Type 0 where
@@ -93,11 +94,25 @@ MayAdd queues batch d =
 abbrev pub SameOthers : ℕ → Disk → Disk → Type 0
 SameOthers n d e = (m : ℕ) → n ≢ m → files_of e m ≡ files_of d m
 
+-- the numbers of the files that are read, the newest first
+abbrev pub numbers_in : (queues : List QueueId) → Option (Found (wal queues)) → List ℕ
+numbers_in queues None = []
+numbers_in queues (Some found) = found.files
+
+abbrev pub numbers_read : List QueueId → Disk → List ℕ
+numbers_read queues d = numbers_in queues (reading_of queues d).found
+
+-- and of those behind the one to which the log is written
+abbrev pub numbers_behind : List QueueId → Header → Disk → List ℕ
+numbers_behind queues h d = (found_behind (wal queues) top (Ours h) (files_of d)).files
+
+-- not one of these numbers
+abbrev pub IsNoneOf : List ℕ → ℕ → Type 0
+IsNoneOf numbers m = AllByRecursion (λ (k : ℕ). nat_eq m k ≡ false) numbers
+
 -- a log file that isn't read: neither the one to which the log is written, nor one of the chain behind it
 abbrev pub IsOutside : List QueueId → Header → Disk → ℕ → Type 0
-IsOutside queues h d m =
-    (m ≢ h.file)
-    × AllByRecursion (λ (k : ℕ). nat_eq m k ≡ false) (found_behind (wal queues) top (Ours h) (files_of d)).files
+IsOutside queues h d m = (m ≢ h.file) × IsNoneOf (numbers_behind queues h d) m
 
 -- of every file but this one, of whatever kind, the disk holds the same
 abbrev pub KeepsOthers : FileName → Disk → Disk → Type 0

@@ -7,6 +7,7 @@ use Rattle.qq_disk.specs.declared.name.FileKind.TheVariants.{Log}
 use Rattle.qq_disk.specs.declared.name.FileName.{FileName}
 use Rattle.qq_disk.specs.Disk.{Disk, now, content, file_content}
 use Rattle.qq_disk.specs.Image.{log_of}
+use Rattle.qq_log.specs.Carries.{Carries}
 use Rattle.qq_log.specs.declared.lane.Carry.{Carry}
 use Rattle.qq_log.specs.declared.op.Op.{Op}
 use Rattle.qq_wal_record.specs.declared.header.Header.{Header}
@@ -17,7 +18,7 @@ use Rattle.qq_wal_chain.specs.Image.{files_of}
 use Rattle.qq_wal_chain.specs.Lanes.{Lanes}
 use Rattle.qq_wal_chain.specs.Laws.{op_records}
 use Rattle.qq_wal.specs.Batch.{AllFitBatch, IsBatch, encodings}
-use Rattle.qq_wal.specs.Marks.{Carries, AllFollow, HasCarry, Agree, known, queues_in, carries_in, add_records}
+use Rattle.qq_wal.specs.Marks.{AllFollow, HasCarry, Agree, known, queues_in, carries_in, add_records}
 use Rattle.qq_wal.specs.Notices.{AreCounted, AreNamed, note_record, new_mark}
 use Rattle.qq_wal.specs.Numbers.{first_numbers, raise}
 use Rattle.qq_wal.specs.Ranges.{AllRanges, begin_files, ranges_in, write_record}

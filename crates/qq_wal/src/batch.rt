@@ -2,14 +2,16 @@
 ghost use Rattle.std.specs.Prelude.{◌≡◌, ◌++◌, ◌+◌, ◌≤◌, ℕ, [], All, flat_map, length, map, take, IfOk, OnOk, IsOkUnless};
 ghost use Rattle.std.specs.List.{AllByRecursion};
 ghost use Rattle.qq_base.specs.Fields.{AreBytes};
+ghost use Rattle.qq_log.specs.Writable.{IsWritableCarry};
+ghost use Rattle.qq_wal_record.specs.declared.record.LogRecord.TheVariants.{Carry as CarryRecord};
 ghost use Rattle.qq_wal_record.specs.Encoding.{body, record_encoding};
 ghost use Rattle.qq_wal_record.specs.Marked.{body_length};
-ghost use Rattle.qq_wal_record.specs.Record.{IsWritable};
 ghost use Rattle.qq_wal_chain.specs.Wal.{RecordFits};
 ghost use Rattle.qq_wal.specs.Batch.{encodings, AllFitBatch, IsBatch};
 
 use qq_base::Memory;
-use qq_wal_record::{LogRecord, MARK_LEN, put_body, write_marked, write_record};
+use qq_log::Carry;
+use qq_wal_record::{LogRecord, MARK_LEN, put_body, write_carry, write_marked};
 use std::alloc::Global;
 use std::collections::VecDeque;
 
@@ -23,15 +25,16 @@ fn are_bytes(bytes: &[u8])
     ensures { AreBytes bytes.now }
 {}
 
-/// Adds a record. Its encoding is of bytes.
-pub(crate) fn put_record(file: u64, r: &LogRecord, out: &mut Vec<u8>) -> Result<(), Memory>
-    requires { IsWritable r.now }
-    ensures ok { OnOk result (out.new.items ≡ out.old.items ++ record_encoding file r.now) }
-    ensures fits { OnOk result (RecordFits file r.now) }
+/// Adds a carry's record. Its encoding is of bytes.
+pub(crate) fn put_carry_record(file: u64, carry: &Carry, out: &mut Vec<u8>) -> Result<(), Memory>
+    requires { IsWritableCarry carry.now }
+    ensures ok { OnOk result
+        (out.new.items ≡ out.old.items ++ record_encoding file (CarryRecord carry.now)) }
+    ensures fits { OnOk result (RecordFits file (CarryRecord carry.now)) }
     ensures want { IsOkUnless result Memory.Want }
 {
     let place = out.len();
-    write_record(file, r, out)?;
+    write_carry(file, carry, out)?;
     are_bytes(out.as_slice().split_at(place).1);
     Ok(())
 }

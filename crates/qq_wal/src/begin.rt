@@ -9,14 +9,14 @@ ghost use Rattle.qq_wal.specs.Batch.{encodings};
 ghost use Rattle.qq_wal.specs.Marks.{HasCarry, carries_in};
 ghost use Rattle.qq_wal.specs.Wal.{first_length};
 
-use crate::batch::put_record;
-use crate::marks::{Mark, copy_carry};
+use crate::batch::put_carry_record;
+use crate::marks::Mark;
 use qq_base::Memory;
-use qq_wal_record::{Header, LogRecord, write_header};
+use qq_wal_record::{Header, write_header};
 use std::alloc::Global;
 
 /// Adds a record of a queue's carry, where it has one.
-fn put_carry(alloc: Global, file: u64, mark: &Mark, out: &mut Vec<u8>) -> Result<(), Memory>
+fn put_carry(file: u64, mark: &Mark, out: &mut Vec<u8>) -> Result<(), Memory>
     requires { HasCarry mark.now }
     ensures ok { OnOk result (out.new.items
         ≡ out.old.items ++ encodings file (map CarryRecord (option_to_list mark.now.carry))) }
@@ -26,12 +26,12 @@ fn put_carry(alloc: Global, file: u64, mark: &Mark, out: &mut Vec<u8>) -> Result
 {
     match &mark.carry {
         None => Ok(()),
-        Some(carry) => put_record(file, &LogRecord::Carry(copy_carry(alloc, carry)?), out),
+        Some(carry) => put_carry_record(file, carry, out),
     }
 }
 
 /// Adds a record of each carry.
-fn put_carries(alloc: Global, file: u64, marks: &[Mark], out: &mut Vec<u8>) -> Result<(), Memory>
+fn put_carries(file: u64, marks: &[Mark], out: &mut Vec<u8>) -> Result<(), Memory>
     requires { AllByRecursion HasCarry marks.now }
     ensures ok { OnOk result (out.new.items
         ≡ out.old.items ++ encodings file (map CarryRecord (carries_in marks.now))) }
@@ -40,7 +40,7 @@ fn put_carries(alloc: Global, file: u64, marks: &[Mark], out: &mut Vec<u8>) -> R
     ensures want { IsOkUnless result Memory.Want }
 {
     'marks: for mark in marks {
-        put_carry(alloc, file, mark, out)?;
+        put_carry(file, mark, out)?;
     }
     Ok(())
 }
@@ -57,6 +57,6 @@ pub(crate) fn first_bytes(alloc: Global, header: Header, marks: &[Mark]) -> Resu
 {
     let mut bytes = Vec::new(alloc);
     write_header(&header, &mut bytes)?;
-    put_carries(alloc, header.file, marks, &mut bytes)?;
+    put_carries(header.file, marks, &mut bytes)?;
     Ok(bytes)
 }

@@ -16,7 +16,7 @@ ghost use Rattle.qq_wal_chain.specs.Records.{replay};
 ghost use Rattle.qq_wal_chain.specs.Laws.{first_bytes, op_records};
 ghost use Rattle.qq_wal_chain.specs.Wal.{wal, Ours};
 ghost use Rattle.qq_wal.specs.Fault.{IsHalfBegun, IsBeginCaused};
-ghost use Rattle.qq_wal.specs.Running.{top, IsWrittenTo, IsSynced, IsBatchOf, MayAdd, Stays, StaysBeside, StaysGiving, StaysWhole, SameOthers, MayNotice, lanes_kept, lanes_shown};
+ghost use Rattle.qq_wal.specs.Running.{top, IsWrittenTo, IsSynced, IsBatchOf, MayAdd, MayRecover, Stays, StaysBeside, StaysGiving, StillMayRecover, SameOthers, MayNotice, lanes_kept, lanes_shown, numbers_behind};
 
 use crate::fault::is_failure;
 use qq_disk::{DiskFault, FileKind, FileName, NodeDisk};
@@ -67,8 +67,18 @@ pub(crate) fn begin_file<D: NodeDisk>(
         OnOk result (SameOthers header.file (now (D.past disk.old)) (now (D.past disk.new))) }
     ensures beside { IsTrue (D.tells disk.old) →
         StaysBeside (log_of header.file) (D.past disk.old) (D.past disk.new) }
-    ensures whole { IsTrue (D.tells disk.old) →
-        StaysWhole (D.past disk.old) (D.past disk.new) }
+    ensures may { IsTrue (D.tells disk.old) → (queues : List QueueId)
+        (before : Found (wal queues)) (carries : List LogRecord) →
+        Continues (wal queues) top before header.file (Ours header) carries
+        (files_of (now (D.past disk.old))) →
+        bytes.now ≡ first_bytes queues header.file (Ours header) carries →
+        MayRecover queues (now (D.past disk.new)) }
+    ensures behind { IsTrue (D.tells disk.old) → (queues : List QueueId)
+        (before : Found (wal queues)) (carries : List LogRecord) →
+        Continues (wal queues) top before header.file (Ours header) carries
+        (files_of (now (D.past disk.old))) →
+        bytes.now ≡ first_bytes queues header.file (Ours header) carries →
+        OnOk result (numbers_behind queues header (now (D.past disk.new)) ≡ before.files) }
     ensures half { IsTrue (D.tells disk.old) → IfErr result (λ e. e.1 ≡ true →
         IsHalfBegun header.file e.0 (now (D.past disk.new))) }
     ensures failed { IfErr result (λ e. e.0 ≡ DiskFault.Failed → e.1 ≡ true) }
@@ -126,8 +136,9 @@ pub(crate) fn append_file<D: NodeDisk>(
         OnOk result (SameOthers header.file (now (D.past disk.old)) (now (D.past disk.new))) }
     ensures beside { IsTrue (D.tells disk.old) →
         StaysBeside (log_of header.file) (D.past disk.old) (D.past disk.new) }
-    ensures whole { IsTrue (D.tells disk.old) →
-        StaysWhole (D.past disk.old) (D.past disk.new) }
+    ensures may { IsTrue (D.tells disk.old) → (queues : List QueueId) →
+        IsWrittenTo queues header (now (D.past disk.old)) →
+        MayRecover queues (now (D.past disk.new)) }
     ensures want { IsTrue (D.tells disk.old) →
         IfErr result (StaysAtWant (D.past disk.old) (D.past disk.new)) }
     ensures told { D.tells disk.new ≡ D.tells disk.old }
@@ -164,8 +175,8 @@ pub(crate) fn sync_file<D: NodeDisk>(
         OnOk result (MayNotice queues (now (D.past disk.old)) (now (D.past disk.new))) }
     ensures beside { IsTrue (D.tells disk.old) →
         StaysBeside (log_of header.file) (D.past disk.old) (D.past disk.new) }
-    ensures whole { IsTrue (D.tells disk.old) →
-        StaysWhole (D.past disk.old) (D.past disk.new) }
+    ensures may { IsTrue (D.tells disk.old) → (queues : List QueueId) →
+        StillMayRecover queues (D.past disk.old) (D.past disk.new) }
     ensures want { IsTrue (D.tells disk.old) →
         IfErr result (StaysAtWant (D.past disk.old) (D.past disk.new)) }
     ensures told { D.tells disk.new ≡ D.tells disk.old }

@@ -1,6 +1,7 @@
 //! What is kept of each queue.
 ghost use Rattle.std.specs.Prelude.{◌≡◌, ◌≤◌, ◌-◌, ◌^◌, map, true, IfOk, IsOkUnless};
-ghost use Rattle.qq_wal.specs.Marks.{carry_behind, carry_or_new, carry_for, is_below, is_rising, numbers_in, numbers_of, IsPlaceOf, new_carry};
+ghost use Rattle.qq_log.specs.Carries.{carry_behind, carry_or_new, new_carry};
+ghost use Rattle.qq_wal.specs.Marks.{carry_for, is_below, is_rising, numbers_in, numbers_of, IsPlaceOf};
 ghost use Rattle.qq_wal.specs.Notices.{last_index, new_mark, carried_op, synced_in};
 
 use crate::notices::Notice;
@@ -82,7 +83,7 @@ pub(crate) fn add_op(alloc: Global, carry: Option<Carry>, queue: QueueId, op: &O
 }
 
 /// An equal carry.
-pub(crate) fn copy_carry(alloc: Global, carry: &Carry) -> Result<Carry, Memory>
+fn copy_carry(alloc: Global, carry: &Carry) -> Result<Carry, Memory>
     ensures ok { IfOk result (λ twin. twin ≡ carry.now) }
     ensures want { IsOkUnless result Memory.Want }
 {

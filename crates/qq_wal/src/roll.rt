@@ -6,7 +6,7 @@ ghost use Rattle.qq_disk.specs.Disk.{now};
 ghost use Rattle.qq_disk.specs.Image.{log_of};
 ghost use Rattle.qq_wal.specs.Fault.{IsRollCaused, StopsAtRoll};
 ghost use Rattle.qq_wal.specs.Numbers.{number_of, raise};
-ghost use Rattle.qq_wal.specs.Running.{Stays, StaysBeside, StaysWhole, StillHolds};
+ghost use Rattle.qq_wal.specs.Running.{Stays, StaysBeside, StillHolds, StillMayRecover};
 ghost use Rattle.qq_wal.specs.Wal.{IsSound, IsRolled, carries_ahead, is_full};
 
 use crate::begin::first_bytes;
@@ -64,8 +64,8 @@ impl<D: NodeDisk> Wal<D> {
         ensures beside { IsTrue (D.tells self.old.disk) →
             StaysBeside (log_of (self.old.numbers.log + 1))
             (D.past self.old.disk) (D.past self.new.disk) }
-        ensures whole { IsTrue (D.tells self.old.disk) →
-            StaysWhole (D.past self.old.disk) (D.past self.new.disk) }
+        ensures may { IsTrue (D.tells self.old.disk) → StillMayRecover self.old.queues.items
+            (D.past self.old.disk) (D.past self.new.disk) }
         ensures told { D.tells self.new.disk ≡ D.tells self.old.disk }
         ensures cause { HasCause (IsRollCaused self.old.stopped self.old.numbers.log)
             (D.faults self.old.disk) (D.faults self.new.disk) result }

@@ -6,17 +6,18 @@ ghost use Rattle.qq_base.specs.Causes.{HasCause};
 ghost use Rattle.qq_disk.specs.Disk.{now};
 ghost use Rattle.qq_disk.specs.Image.{log_of};
 ghost use Rattle.qq_disk.specs.declared.name.FileKind.TheVariants.{Log};
+ghost use Rattle.qq_log.specs.Carries.{GoesOn, add_op};
 ghost use Rattle.qq_log.specs.declared.op.Op.{Op};
 ghost use Rattle.qq_log.specs.Writable.{MayGather};
 ghost use Rattle.qq_wal_record.specs.declared.record.LogRecord.TheVariants.{Op as OpRecord};
 ghost use Rattle.qq_wal_chain.specs.Laws.{op_records};
 ghost use Rattle.qq_wal.specs.Batch.{is_short};
 ghost use Rattle.qq_wal.specs.Fault.{IsCaused, IsGatherCaused, IsAppendCaused, stops_at};
-ghost use Rattle.qq_wal.specs.Marks.{IsCarry, GoesOn, add_op};
+ghost use Rattle.qq_wal.specs.Marks.{IsCarry};
 ghost use Rattle.qq_wal.specs.Notices.{notices_in, sync_mark, synced_in};
 ghost use Rattle.qq_wal.specs.Numbers.{greatest_number};
 ghost use Rattle.qq_wal.specs.Ranges.{ranges_in};
-ghost use Rattle.qq_wal.specs.Running.{MayBegin, Stays, StaysBeside, StaysGiving, StaysWhole, HoldsAlso, StillHolds, MayNotice};
+ghost use Rattle.qq_wal.specs.Running.{MayBegin, Stays, StaysBeside, StaysGiving, StillMayRecover, HoldsAlso, StillHolds, MayNotice, numbers_behind, numbers_read};
 ghost use Rattle.qq_wal.specs.Wal.{IsSound, IsBegun, carries_ahead, disk_of, SameFile, Appends, StaysAppending};
 
 use crate::batch::{BATCH_BYTES, put_batch};
@@ -95,8 +96,11 @@ impl<D: NodeDisk> Wal<D> {
             StillHolds queues.items (now (D.past disk)) (now (D.past (disk_of result)))) }
         ensures beside { IsTrue (D.tells disk) → StaysBeside (log_of header.file)
             (D.past disk) (D.past (disk_of result)) }
-        ensures whole { IsTrue (D.tells disk) →
-            StaysWhole (D.past disk) (D.past (disk_of result)) }
+        ensures may { IsTrue (D.tells disk) →
+            StillMayRecover queues.items (D.past disk) (D.past (disk_of result)) }
+        ensures behind { IsTrue (D.tells disk) → OnOk result (
+            numbers_behind queues.items header (now (D.past (disk_of result)))
+            ≡ numbers_read queues.items (now (D.past disk))) }
         ensures told { D.tells (disk_of result) ≡ D.tells disk }
         ensures later { D.faults disk ≤ D.faults (disk_of result) }
         ensures cause { IfErr result (λ e.
@@ -215,8 +219,8 @@ impl<D: NodeDisk> Wal<D> {
         ensures file { SameFile self.old self.new }
         ensures beside { IsTrue (D.tells self.old.disk) → StaysBeside (log_of self.old.header.file)
             (D.past self.old.disk) (D.past self.new.disk) }
-        ensures whole { IsTrue (D.tells self.old.disk) →
-            StaysWhole (D.past self.old.disk) (D.past self.new.disk) }
+        ensures may { IsTrue (D.tells self.old.disk) → StillMayRecover self.old.queues.items
+            (D.past self.old.disk) (D.past self.new.disk) }
         ensures told { D.tells self.new.disk ≡ D.tells self.old.disk }
         ensures cause { HasCause (IsAppendCaused self.old.stopped self.old.size)
             (D.faults self.old.disk) (D.faults self.new.disk) result }
@@ -279,8 +283,8 @@ impl<D: NodeDisk> Wal<D> {
         ensures file { SameFile self.old self.new }
         ensures beside { IsTrue (D.tells self.old.disk) → StaysBeside (log_of self.old.header.file)
             (D.past self.old.disk) (D.past self.new.disk) }
-        ensures whole { IsTrue (D.tells self.old.disk) →
-            StaysWhole (D.past self.old.disk) (D.past self.new.disk) }
+        ensures may { IsTrue (D.tells self.old.disk) → StillMayRecover self.old.queues.items
+            (D.past self.old.disk) (D.past self.new.disk) }
         ensures told { D.tells self.new.disk ≡ D.tells self.old.disk }
         ensures cause { HasCause (IsCaused self.old.stopped)
             (D.faults self.old.disk) (D.faults self.new.disk) result }

@@ -8,7 +8,7 @@ use Rattle.qq_wal_chain.specs.Format.{Format, IsFormat}
 use Rattle.qq_wal_chain.specs.Records.{Restate, end_of, file_records}
 use Rattle.qq_wal_chain.specs.Chain.{Logs, Found, Reading, has_header, newest, good_length, add_file, chain, read_chain, reading}
 use Rattle.qq_wal_chain.specs.Image.{Files, IsLogImage, MayLeaveLog, is_removed, put, shown_logs}
-use Rattle.qq_wal_chain.specs.Promise.{Recovers, found_world, Keeps, IsSteady, IsLog, Continues}
+use Rattle.qq_wal_chain.specs.Promise.{Recovers, found_world, IgnoresRemoved, Keeps, IsSteady, IsLog, Continues}
 use Rattle.qq_base.proofs.Fronts.{front-refl, front-trans}
 use Rattle.qq_wal_chain.proofs.Runs.{records-nil}
 use Rattle.qq_wal_chain.proofs.Honest.{header-front, trusted-header, trusted-front}
@@ -51,13 +51,16 @@ module _ (F : Format) where
   pub reading-chain : (b : ℕ) (L : Logs) (r : Reading F) → reading F b L ≡ r → chain F b L r.file r.good ≡ r.found
   reading-chain b L r e = subst (λ (r : Reading F). chain F b L r.file r.good ≡ r.found) e refl
 
+  pub steady-ignores : (b : ℕ) (r : Reading F) (files : Files) → IsSteady F b r files → IgnoresRemoved F b files
+  steady-ignores b r files steady L K one other same = steady L one ∙ sym (steady K other)
+
   -- where each image reads the same, the promise is kept
   pub steady-keeps : (b : ℕ) (r : Reading F) (noticed given : List F.Record) (files : Files) → IsSteady F b r files
       → Recovers F noticed given (found_world F r.found) → Keeps F b noticed given files
   steady-keeps b r noticed given files steady here = record {
     recovers = λ L image. subst (λ (r : Reading F). Recovers F noticed given (found_world F r.found))
         (sym (steady L image)) here;
-    alike = λ L K one other same. steady L one ∙ sym (steady K other);
+    alike = steady-ignores b r files steady;
   }
 
 -- what a new file goes on from, where each image reads the same
@@ -205,18 +208,23 @@ module _ (F : Format) (laws : IsFormat F) (b : ℕ) (r : Reading F) (before : Fo
           headed others (F.read_header others) is (subst
           (λ (o : Option (List ℕ)). MayLeaveLog F n (Some (new_log bytes)) o) is left) refl
 
-  -- while the file is begun, the promise is kept
+  -- while the file is begun, removed files have no say
+  pub begin-ignores : (bytes : List ℕ) → IsFront bytes (file_bytes F laws n h carries)
+      → IgnoresRemoved F b (put files n (Some (new_log bytes)))
+  begin-ignores bytes front L K one other same =
+      (begun bytes L front one).reads
+      ∙ ap (λ (o : Option (List ℕ)). cond (has_header F o) (log_reading F laws n before o) r)
+      (same n (ap is_removed (put-at files n (Some (new_log bytes)))))
+      ∙ sym ((begun bytes K front other).reads)
+
+  -- and the promise is kept
   pub begin-keeps : (noticed given : List F.Record) (bytes : List ℕ) → IsFront bytes (file_bytes F laws n h carries)
       → Recovers F noticed given (found_world F r.found)
       → Keeps F b noticed given (put files n (Some (new_log bytes)))
   begin-keeps noticed given bytes front here = record {
     recovers = λ L image. subst (λ (w : Option F.World). Recovers F noticed given w)
         (old-world ∙ sym ((begun bytes L front image).world)) here;
-    alike = λ L K one other same.
-        (begun bytes L front one).reads
-        ∙ ap (λ (o : Option (List ℕ)). cond (has_header F o) (log_reading F laws n before o) r)
-        (same n (ap is_removed (put-at files n (Some (new_log bytes)))))
-        ∙ sym ((begun bytes K front other).reads);
+    alike = begin-ignores bytes front;
   }
 
   -- once it is synced, the log goes on there

@@ -11,16 +11,16 @@ use Rattle.qq_wal_chain.specs.Format.{Format, IsFormat}
 use Rattle.qq_wal_chain.specs.Records.{Restate, encode_all, end_of, replay}
 use Rattle.qq_wal_chain.specs.Chain.{Found, Reading, add_file, reading}
 use Rattle.qq_wal_chain.specs.Image.{Files, files_of, put, shown_logs}
-use Rattle.qq_wal_chain.specs.Promise.{Continues, Holds, IsLog, IsRunning, IsSteady, Keeps, Promises, Recovers, StaysPromised, found_world, log_file}
+use Rattle.qq_wal_chain.specs.Promise.{Continues, Holds, IgnoresRemoved, IsLog, IsRunning, IsSteady, Keeps, Promises, Recovers, StaysPromised, found_world, log_file}
 use Rattle.qq_base.proofs.Fronts.{front-refl, front-more, front-take}
 use Rattle.qq_wal_chain.proofs.Replays.{replay-append, restated, IsSome}
 use Rattle.qq_wal_chain.proofs.Walk.{put-at}
 use Rattle.qq_wal_chain.proofs.Images.{shown-image}
-use Rattle.qq_wal_chain.proofs.Running.{file_bytes}
-use Rattle.qq_wal_chain.proofs.Keeping.{keeps-weaker, log-steady}
+use Rattle.qq_wal_chain.proofs.Running.{file_bytes, log-put}
+use Rattle.qq_wal_chain.proofs.Keeping.{keeps-weaker, log-ignores, log-steady}
 use Rattle.qq_wal_chain.proofs.Growing.{grow-keeps, grow-log, sync-log, sync-notices, log-shows-world}
-use Rattle.qq_wal_chain.proofs.Beginning.{begins, new_log, begin-keeps, begin-log}
-use Rattle.qq_wal_chain.proofs.Recovery.{sync-keeps, remove-log, remove-keeps}
+use Rattle.qq_wal_chain.proofs.Beginning.{begins, new_log, begin-ignores, begin-keeps, begin-log, steady-ignores}
+use Rattle.qq_wal_chain.proofs.Recovery.{sync-ignores, sync-keeps, remove-log, remove-keeps}
 use Rattle.qq_wal_chain.proofs.Bridge.{append-log, sync-of-log, remove-of-log, which-kind, IsLogName, set-other-kind}
 
 put-put : {A : Type 0} (f : ℕ → A) (n : ℕ) (a b : A) → put (put f n a) n b ≡ put f n b
@@ -69,6 +69,27 @@ module _ (F : Format) (laws : IsFormat F) (b : ℕ) where
   sync-moment noticed given d e file keeps (inr same) =
       subst (λ (d : Disk). Promises F b noticed given d) (sym same) (sync-any noticed given d file keeps)
 
+  -- and removed files have no say after it
+  pub ignores-sync : (d : Disk) (file : FileName) → IgnoresRemoved F b (files_of d)
+      → IgnoresRemoved F b (files_of (sync d file))
+  ignores-sync d file ignores = by (which-kind file)
+    where
+      by : IsLogName file ⊎ ((n : ℕ) → same_name file (log_of n) ≡ false) → IgnoresRemoved F b (files_of (sync d file))
+      by (inl log) =
+          subst (λ (file : FileName). IgnoresRemoved F b (files_of (sync d file))) (sym log.is)
+          (subst (λ (files : Files). IgnoresRemoved F b files) (sym (sync-of-log d log.number))
+          (sync-ignores F laws b log.number (files_of d) ignores))
+      by (inr apart) =
+          subst (λ (files : Files). IgnoresRemoved F b files)
+          (sym (set-other-kind d file (option_map keep (d file)) apart)) ignores
+
+  pub ignores-syncing : (d e : Disk) (file : FileName) → IgnoresRemoved F b (files_of d) → IsSyncing d file e
+      → IgnoresRemoved F b (files_of e)
+  ignores-syncing d e file ignores (inl same) =
+      subst (λ (d : Disk). IgnoresRemoved F b (files_of d)) (sym same) ignores
+  ignores-syncing d e file ignores (inr same) =
+      subst (λ (d : Disk). IgnoresRemoved F b (files_of d)) (sym same) (ignores-sync d file ignores)
+
   -- a sync of any file keeps what was promised
   pub sync-stays : (old new : List Disk) (file : FileName) → Adds (IsSyncing (now old) file) old new
       → StaysPromised F b old new
@@ -111,6 +132,18 @@ module _ (F : Format) (laws : IsFormat F) (b n : ℕ) (h : F.Header) (before : F
       (grow-keeps F laws b n h before kept pending (files_of d) log fit noticed given batch
       (take count (encode_all F n batch)) keeps (holds-world given holds) some fits
       (front-take count (encode_all F n batch)))
+
+  pub ignores-appending : (bytes : List ℕ) (e : Disk) → IsAppending d (log_of n) bytes e
+      → IgnoresRemoved F b (files_of e)
+  ignores-appending bytes e (inl same) =
+      subst (λ (d : Disk). IgnoresRemoved F b (files_of d)) (sym same)
+      (log-ignores F laws b n h before kept (encode_all F n pending) (files_of d) log)
+  ignores-appending bytes e (inr (count, same)) =
+      let more : List ℕ = encode_all F n pending ++ take count bytes in
+      let files : Files = put (files_of d) n (Some (log_file (file_bytes F laws n h kept) more)) in
+      subst (λ (files : Files). IgnoresRemoved F b files) (sym (ap files_of same ∙ append-files (take count bytes)))
+      (log-ignores F laws b n h before kept more files
+      (log-put F laws b n h before kept (encode_all F n pending) (files_of d) log kept more log.fit))
 
   -- once a batch is appended
   pub append-done : (batch : List F.Record) (e : Disk) → e ≡ append d (log_of n) (encode_all F n batch)
@@ -237,6 +270,18 @@ module _ (F : Format) (laws : IsFormat F) (b : ℕ) (before : Found F) (n : ℕ)
       (begins F b before n h carries (files_of d) goes_on) noticed given
       (take count (file_bytes F laws n h carries)) (front-take count (file_bytes F laws n h carries))
       (steady-recovers noticed given keeps))
+
+  pub begin-ignoring : (e : Disk) → IsAppending d (log_of n) (file_bytes F laws n h carries) e
+      → IgnoresRemoved F b (files_of e)
+  begin-ignoring e (inl same) =
+      subst (λ (d : Disk). IgnoresRemoved F b (files_of d)) (sym same)
+      (steady-ignores F b (reading F b (shown_logs (files_of d))) (files_of d) goes_on.settled)
+  begin-ignoring e (inr (count, same)) =
+      subst (λ (files : Files). IgnoresRemoved F b files)
+      (sym (ap files_of same ∙ begin-files (take count (file_bytes F laws n h carries))))
+      (begin-ignores F laws b (reading F b (shown_logs (files_of d))) before n h carries (files_of d)
+      (begins F b before n h carries (files_of d) goes_on)
+      (take count (file_bytes F laws n h carries)) (front-take count (file_bytes F laws n h carries)))
 
   pub begin-stays : (old new : List Disk) → now old ≡ d
       → Adds (IsAppending (now old) (log_of n) (file_bytes F laws n h carries)) old new → StaysPromised F b old new

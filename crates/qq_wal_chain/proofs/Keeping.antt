@@ -8,7 +8,7 @@ use Rattle.qq_wal_chain.specs.Format.{Format, IsFormat}
 use Rattle.qq_wal_chain.specs.Records.{encode_all, records, file_records, end_of, replay}
 use Rattle.qq_wal_chain.specs.Chain.{Found, Reading, add_file, reading}
 use Rattle.qq_wal_chain.specs.Image.{Files, put, MayLeaveLog, shown_logs}
-use Rattle.qq_wal_chain.specs.Promise.{Recovers, found_world, Keeps, IsSteady, log_file, IsLog}
+use Rattle.qq_wal_chain.specs.Promise.{Recovers, found_world, IgnoresRemoved, Keeps, IsSteady, log_file, IsLog}
 use Rattle.qq_base.proofs.Fronts.{front-trans, all-front}
 use Rattle.qq_wal_chain.proofs.Runs.{stand, encode-append, written-again, records-nil}
 use Rattle.qq_wal_chain.proofs.Honest.{cut-honest}
@@ -44,6 +44,14 @@ module _ (F : Format) where
 
 module _ (F : Format) (laws : IsFormat F) (b n : ℕ) (h : F.Header) (before : Found F) (kept : List F.Record)
     (pending : List ℕ) (files : Files) (log : IsLog F b n h before kept pending files) where
+  -- it reads as its own file says, which isn't removed
+  pub log-ignores : IgnoresRemoved F b files
+  log-ignores L K one other same =
+      log-reads F laws b n h before kept pending files log L one
+      ∙ ap (λ (o : Option (List ℕ)). log_reading F laws n before o)
+      (same n (log-here F laws b n h before kept pending files log))
+      ∙ sym (log-reads F laws b n h before kept pending files log K other)
+
   -- each image recovers, where the records do
   pub log-keeps : (noticed given all : List F.Record)
       → IsFront (file_records F n (file_bytes F laws n h kept ++ pending)) all
@@ -59,11 +67,7 @@ module _ (F : Format) (laws : IsFormat F) (b n : ℕ) (h : F.Header) (before : F
         ∙ world-added F laws n (file_records F n s.bytes) before))
         (follows.each (file_records F n s.bytes) s.held
         (front-trans s.front within));
-    alike = λ L K one other same.
-        log-reads F laws b n h before kept pending files log L one
-        ∙ ap (λ (o : Option (List ℕ)). log_reading F laws n before o)
-        (same n (log-here F laws b n h before kept pending files log))
-        ∙ sym (log-reads F laws b n h before kept pending files log K other);
+    alike = log-ignores;
   }
 
   -- and the records do, where each image recovers: a crash may cut anywhere

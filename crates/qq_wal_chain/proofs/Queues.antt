@@ -2,6 +2,7 @@
 use Rattle.std.proofs.Common.{◌≡◌, ◌&&◌, ℕ, Bool, true, false, cond, eqb, List, [], ◌∷◌, ◌++◌, map, filter, fold, Option, Some, None, refl, sym, ap, subst, ◌∙◌, inl, inr, ◌⊎◌, unwrap_or}
 use Rattle.std.proofs.lemmas.Bool.{and_from, cases_eq, eq-eqb, ne_eqb}
 use Rattle.qq_base.specs.declared.ids.QueueId.{QueueId}
+use Rattle.qq_log.specs.Carries.{is_listed}
 use Rattle.qq_log.specs.declared.lane.Carry.{Carry}
 use Rattle.qq_log.specs.declared.op.Op.{Op}
 use Rattle.qq_log.specs.Op.{queue}
@@ -12,7 +13,7 @@ use Rattle.qq_base.specs.Fronts.{IsFront}
 use Rattle.qq_wal_chain.specs.Records.{replay}
 use Rattle.qq_wal_chain.specs.Image.{put}
 use Rattle.qq_wal_chain.specs.Promise.{Recovers}
-use Rattle.qq_wal_chain.specs.Lanes.{Lanes, put_lane, is_listed, is_op_within_ends, is_carry_within_ends, is_plain, has_entries, is_change, add_record, of_queue, IsStateOf, RecoversLanes}
+use Rattle.qq_wal_chain.specs.Lanes.{Lanes, put_lane, is_op_within_ends, is_carry_within_ends, is_plain, has_entries, is_change, add_record, of_queue, IsStateOf, RecoversLanes}
 use Rattle.qq_wal_chain.specs.Wal.{wal, no_lanes}
 use Rattle.qq_wal_chain.proofs.Replays.{replay-none}
 use Rattle.qq_wal_chain.proofs.Walk.{put-at, put-other}

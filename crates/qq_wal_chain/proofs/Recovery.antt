@@ -8,7 +8,7 @@ use Rattle.qq_wal_chain.specs.Format.{Format, IsFormat}
 use Rattle.qq_wal_chain.specs.Records.{file_records}
 use Rattle.qq_wal_chain.specs.Chain.{Logs, Found, has_header, chain, reading}
 use Rattle.qq_wal_chain.specs.Image.{Files, put, all_bytes, MayLeaveLog, IsLogImage, is_removed, shown_logs}
-use Rattle.qq_wal_chain.specs.Promise.{Recovers, found_world, Keeps, IsSteady, IsLog, IsSettled}
+use Rattle.qq_wal_chain.specs.Promise.{Recovers, found_world, IgnoresRemoved, Keeps, IsSteady, IsLog, IsSettled}
 use Rattle.qq_base.proofs.Fronts.{front-refl}
 use Rattle.qq_wal_chain.proofs.Walk.{put-at, put-other, chain-same, chain-without, Misses}
 use Rattle.qq_wal_chain.proofs.Images.{image-back, image-here, whole-log-left, all-left, shown-image}
@@ -91,13 +91,18 @@ module _ (F : Format) (laws : IsFormat F) where
           (ap is_removed (put-at files n (option_map keep (files n))) ∙ sync-removed (files n))
       by (inr apart) = ap is_removed (put-other files n m (option_map keep (files n)) apart)
 
+  pub sync-ignores : (b n : ℕ) (files : Files) → IgnoresRemoved F b files
+      → IgnoresRemoved F b (put files n (option_map keep (files n)))
+  sync-ignores b n files ignores L K one other same =
+      ignores L K (sync-image files n L one) (sync-image files n K other)
+      (λ m here. same m (put-removed files n m ∙ here))
+
   -- a sync keeps what was promised
   pub sync-keeps : (b n : ℕ) (noticed given : List F.Record) (files : Files) → Keeps F b noticed given files
       → Keeps F b noticed given (put files n (option_map keep (files n)))
   sync-keeps b n noticed given files keeps = record {
     recovers = λ L image. keeps.recovers L (sync-image files n L image);
-    alike = λ L K one other same. keeps.alike L K (sync-image files n L one) (sync-image files n K other)
-        (λ m here. same m (put-removed files n m ∙ here));
+    alike = sync-ignores b n files keeps.alike;
   }
 
   -- ---- what is settled

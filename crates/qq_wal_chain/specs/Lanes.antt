@@ -1,8 +1,9 @@
 -- The queues of a log, and what its records make of them.
 use Rattle.std.specs.Prelude.{◌≡◌, ◌≤◌, ◌+◌, ℕ, Bool, true, false, List, [], ◌∷◌, length, filter, take, Option, Some, None, option_map, unwrap_or, nat_eq, nat_le, ◌&&◌, if◌then◌else◌}
 use Rattle.qq_base.specs.declared.ids.QueueId.{QueueId}
-use Rattle.std.specs.List.{list_any, list_all}
+use Rattle.std.specs.List.{list_all}
 use Rattle.qq_base.specs.declared.memory.TheConstants.{NUMBER_END}
+use Rattle.qq_log.specs.Carries.{is_listed}
 use Rattle.qq_log.specs.declared.head.SnapshotHead.{SnapshotHead}
 use Rattle.qq_log.specs.declared.lane.Carry.{Carry}
 use Rattle.qq_log.specs.declared.op.Op.{Op}
@@ -43,9 +44,6 @@ abbrev pub is_carry_within_ends : Carry → Bool
 is_carry_within_ends c =
     is_within_end c.op && is_within_end c.term.0 && is_head_within_ends c.base && is_within_end c.snapshot
     && is_within_end c.last.0
-
-abbrev pub is_listed : List QueueId → QueueId → Bool
-is_listed queues id = list_any (λ other. nat_eq other.0 id.0) queues
 
 -- as long as there are neither snapshots nor segments, an op that names one fits nowhere
 abbrev pub is_change : Op → Bool

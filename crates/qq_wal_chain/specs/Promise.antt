@@ -22,13 +22,17 @@ pub record Recovers (F : Format) (noticed given : List F.Record) (found : Option
 abbrev pub found_world : (F : Format) → Option (Found F) → Option F.World
 found_world F found = option_map (λ f. f.world) found
 
+-- what a crash leaves of removed files has no say in what is read
+abbrev pub IgnoresRemoved : (F : Format) → ℕ → Files → Type 0
+IgnoresRemoved F bound files =
+    (one other : Logs) → IsLogImage F files one → IsLogImage F files other
+    → ((n : ℕ) → is_removed (files n) ≡ false → one n ≡ other n) → reading F bound one ≡ reading F bound other
+
 -- every image recovers, and files that were removed play no part
 pub record Keeps (F : Format) (bound : ℕ) (noticed given : List F.Record) (files : Files) : Type 0 where
   pub recovers : (logs : Logs) → IsLogImage F files logs
       → Recovers F noticed given (found_world F ((reading F bound logs).found))
-  pub alike : (logs others : Logs) → IsLogImage F files logs → IsLogImage F files others
-      → ((n : ℕ) → is_removed (files n) ≡ false → logs n ≡ others n)
-      → reading F bound logs ≡ reading F bound others
+  pub alike : IgnoresRemoved F bound files
 
 -- every image reads the same
 abbrev pub IsSteady : (F : Format) → ℕ → Reading F → Files → Type 0

@@ -19,4 +19,4 @@ pub use mark::MARK_LEN;
 pub use marking::write_marked;
 pub use reading::read_record;
 pub use record::{LogRecord, NoRecord};
-pub use writing::{put_body, write_record};
+pub use writing::{put_body, write_carry};

@@ -7,9 +7,10 @@ ghost use Rattle.qq_command.specs.Encoding.{entries};
 ghost use Rattle.qq_log.specs.Writable.{IsSegment, IsWritable as IsWritableOp, IsWritableCarry};
 ghost use Rattle.qq_wal_record.specs.Encoding.{vote, head, segment, segments, change_payload, op_payload, carry_payload, payload, inside, body, record_encoding};
 ghost use Rattle.qq_wal_record.specs.Record.{IsWritable};
+ghost use Rattle.qq_wal_record.specs.declared.record.LogRecord.TheVariants.{Carry as CarryRecord};
 
 use crate::mark::record_mark;
-use crate::record::{HEAD_LEN, LogRecord, NoRecord};
+use crate::record::{CARRY, HEAD_LEN, LogRecord, NoRecord};
 use qq_base::{Index, Memory, NodeId, Term, put_u8, put_u32, put_u64};
 use qq_command::{Entry, put_entries};
 use qq_fields::{put_list, set_length};
@@ -181,30 +182,63 @@ pub fn put_body(out: &mut Vec<u8>, r: &LogRecord) -> Result<(), Memory>
     Ok(())
 }
 
-#[tactic(auto, using(qq_fields::proofs::Appends::prefix_rules), unfolding(crate::specs::Encoding::record_encoding))]
-fn put_record(out: &mut Vec<u8>, file: u64, r: &LogRecord) -> Result<(), Memory>
-    requires { IsWritable r.now }
-    ensures ok { OnOk result (out.new.items ≡ out.old.items ++ record_encoding file r.now) }
+/// What follows the length of a carry's payload.
+#[tactic(auto, using(qq_fields::proofs::Appends::prefix_rules), unfolding(crate::specs::Encoding::inside))]
+fn put_carry_inside(out: &mut Vec<u8>, carry: &Carry) -> Result<(), Memory>
+    requires { IsWritableCarry carry.now }
+    ensures ok { OnOk result (out.new.items ≡ out.old.items ++ inside (CarryRecord carry.now)) }
+    ensures err { OnErr result (IsPrefix out.old.items out.new.items) }
+    ensures want { IsOkUnless result Memory.Want }
+{
+    put_u8(out, CARRY)?;
+    put_u32(out, carry.queue.0)?;
+    put_u64(out, carry.op)?;
+    put_carry(out, carry)?;
+    Ok(())
+}
+
+/// Adds a carry's record before its mark.
+#[tactic(auto, using(qq_fields::proofs::Appends::prefix_rules), unfolding(crate::specs::Encoding::body))]
+fn put_carry_body(out: &mut Vec<u8>, carry: &Carry) -> Result<(), Memory>
+    requires { IsWritableCarry carry.now }
+    ensures ok { OnOk result (out.new.items ≡ out.old.items ++ body (CarryRecord carry.now)) }
     ensures err { OnErr result (IsPrefix out.old.items out.new.items) }
     ensures want { IsOkUnless result Memory.Want }
 {
     let place = out.len();
-    put_body(out, r)?;
+    put_u32(out, 0)?;
+    put_carry_inside(out, carry)?;
+    let length = (out.len() - place - HEAD_LEN) as u32;
+    set_length(out, place, length);
+    Ok(())
+}
+
+#[tactic(auto, using(qq_fields::proofs::Appends::prefix_rules), unfolding(crate::specs::Encoding::record_encoding))]
+fn put_carry_record(out: &mut Vec<u8>, file: u64, carry: &Carry) -> Result<(), Memory>
+    requires { IsWritableCarry carry.now }
+    ensures ok { OnOk result
+        (out.new.items ≡ out.old.items ++ record_encoding file (CarryRecord carry.now)) }
+    ensures err { OnErr result (IsPrefix out.old.items out.new.items) }
+    ensures want { IsOkUnless result Memory.Want }
+{
+    let place = out.len();
+    put_carry_body(out, carry)?;
     let mark = record_mark(file, out.as_slice().split_at(place).1);
     out.extend_from_slice(&mark)?;
     Ok(())
 }
 
-/// Adds a record's encoding in the file of this number at the end of `out`. Out of memory, `out` is as
-/// before.
-pub fn write_record(file: u64, r: &LogRecord, out: &mut Vec<u8>) -> Result<(), Memory>
-    requires { IsWritable r.now }
-    ensures ok { OnOk result (out.new.items ≡ out.old.items ++ record_encoding file r.now) }
+/// Adds the encoding of a carry's record in the file of this number at the end of `out`. Out of memory, `out` is
+/// as before.
+pub fn write_carry(file: u64, carry: &Carry, out: &mut Vec<u8>) -> Result<(), Memory>
+    requires { IsWritableCarry carry.now }
+    ensures ok { OnOk result
+        (out.new.items ≡ out.old.items ++ record_encoding file (CarryRecord carry.now)) }
     ensures err { OnErr result (out.new.items ≡ out.old.items) }
     ensures want { IsOkUnless result Memory.Want }
 {
     let len = out.len();
-    let result = put_record(out, file, r);
+    let result = put_carry_record(out, file, carry);
     if result.is_err() {
         out.truncate(len);
     }

@@ -2,7 +2,7 @@ use Rattle.std.proofs.Common.{ℕ, ap, sym, subst, leb}
 use Rattle.std.specs.Global.{Vec}
 use Rattle.qq_base.specs.declared.ids.QueueId.{QueueId}
 use Rattle.qq_wal.specs.declared.numbers.Numbers.{Numbers}
-use Rattle.qq_wal.specs.Marks.{GoesOn}
+use Rattle.qq_log.specs.Carries.{GoesOn}
 use Rattle.qq_wal.specs.Numbers.{number_of}
 use Rattle.qq_disk_pins.proofs.calls.appends_and_syncs_stay_in_their_file.Goals as goal
 

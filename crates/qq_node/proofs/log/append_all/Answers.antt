@@ -1,6 +1,6 @@
 use Rattle.std.proofs.Common.{◌∙◌, arith, rules}
 use Rattle.qq_disk.proofs.Stored.{still_tells}
-use Rattle.qq_node.proofs.Appends.{begun-all, begun-more, begun-none, begun-some, less-waits, nothing-waits}
+use Rattle.qq_node.proofs.Appends.{begun-all, begun-more, begun-none, begun-some, less-waits, may-then, nothing-waits}
 use Rattle.qq_node.proofs.log.append_all.Goals as goal
 
 pub batches-init : goal.batches-init
@@ -11,7 +11,7 @@ batches-init g c = record {
   ahead = search rules;
   queues = search rules;
   limit = search rules;
-  whole = λ told none. none;
+  may = λ told may. may;
   told = search rules;
   later = omega arith;
 }
@@ -31,8 +31,9 @@ batches-preserved g c = record {
   ahead = c.append_some.ensures.ahead ∙ c.batches.invariant.ahead;
   queues = c.append_some.ensures.queues ∙ c.batches.invariant.queues;
   limit = c.append_some.ensures.limit ∙ c.batches.invariant.limit;
-  whole = λ told none. c.append_some.ensures.whole (still_tells c.batches.invariant.told told)
-      (c.batches.invariant.whole told none);
+  may = λ told. may-then c.args.wal.now.queues c.batches.wal.queues (g.D.NodeDisk.past c.args.wal.now.disk)
+      (g.D.NodeDisk.past c.batches.wal.disk) (g.D.NodeDisk.past c.append_some.new.wal.disk) c.batches.invariant.queues
+      (c.batches.invariant.may told) (c.append_some.ensures.may (still_tells c.batches.invariant.told told));
   told = c.append_some.ensures.told ∙ c.batches.invariant.told;
   later = omega (arith, c.batches.invariant.later, c.append_some.ensures.cause.later);
 }
@@ -43,9 +44,11 @@ returns-in_err-append_some-clause-stays g c = λ told.
     c.batches.invariant.queues c.batches.invariant.begun told
     (c.append_some.ensures.stays (still_tells c.batches.invariant.told told))
 
-pub returns-in_err-append_some-clause-whole : goal.returns-in_err-append_some-clause-whole
-returns-in_err-append_some-clause-whole g c = λ told none.
-    c.append_some.ensures.whole (still_tells c.batches.invariant.told told) (c.batches.invariant.whole told none)
+pub returns-in_err-append_some-clause-may : goal.returns-in_err-append_some-clause-may
+returns-in_err-append_some-clause-may g c = λ told.
+    may-then c.args.wal.now.queues c.batches.wal.queues (g.D.NodeDisk.past c.args.wal.now.disk)
+    (g.D.NodeDisk.past c.batches.wal.disk) (g.D.NodeDisk.past c.append_some.new.wal.disk) c.batches.invariant.queues
+    (c.batches.invariant.may told) (c.append_some.ensures.may (still_tells c.batches.invariant.told told))
 
 pub returns-clause-ok : goal.returns-clause-ok
 returns-clause-ok g c =
@@ -68,6 +71,8 @@ returns-clause-stays g c = λ told.
     c.batches.invariant.queues c.batches.invariant.begun told
     (c.append_some.ensures.stays (still_tells c.batches.invariant.told told))
 
-pub returns-clause-whole : goal.returns-clause-whole
-returns-clause-whole g c = λ told none.
-    c.append_some.ensures.whole (still_tells c.batches.invariant.told told) (c.batches.invariant.whole told none)
+pub returns-clause-may : goal.returns-clause-may
+returns-clause-may g c = λ told.
+    may-then c.args.wal.now.queues c.batches.wal.queues (g.D.NodeDisk.past c.args.wal.now.disk)
+    (g.D.NodeDisk.past c.batches.wal.disk) (g.D.NodeDisk.past c.append_some.new.wal.disk) c.batches.invariant.queues
+    (c.batches.invariant.may told) (c.append_some.ensures.may (still_tells c.batches.invariant.told told))

@@ -1,5 +1,5 @@
 use Rattle.std.proofs.Common.{◌≡◌, ◌≤◌, false, length, IsTrue}
-use Rattle.qq_wal.specs.Running.{StaysWhole}
+use Rattle.qq_wal.specs.Running.{StillMayRecover}
 use Rattle.qq_wal.specs.Wal.{IsSound, carries_ahead}
 use Rattle.qq_node.proofs.Appends.{Begun}
 use Rattle.qq_node.proofs.log.append_all.Given as goal
@@ -16,7 +16,9 @@ invariant-batches g l =
       ahead : carries_ahead l.wal ≡ carries_ahead l.fn.wal;
       queues : l.wal.queues ≡ l.fn.wal.queues;
       limit : l.wal.log_bytes ≡ l.fn.wal.log_bytes;
-      whole : IsTrue (tells l.fn.wal.disk) → StaysWhole (past l.fn.wal.disk) (past l.wal.disk);
+      may :
+          IsTrue (tells l.fn.wal.disk)
+          → StillMayRecover l.fn.wal.queues.items (past l.fn.wal.disk) (past l.wal.disk);
       told : tells l.wal.disk ≡ tells l.fn.wal.disk;
       later : g.D.NodeDisk.faults l.fn.wal.disk ≤ g.D.NodeDisk.faults l.wal.disk;
     }

@@ -4,7 +4,7 @@ use Rattle.qq_base.specs.declared.ids.QueueId.{QueueId}
 use Rattle.qq_disk.specs.Disk.{now}
 use Rattle.qq_disk.proofs.Stored.{still_tells}
 use Rattle.qq_wal.specs.Running.{Stays, StillHolds}
-use Rattle.qq_node.proofs.Appends.{stays-then}
+use Rattle.qq_node.proofs.Appends.{may-then, stays-then}
 use Rattle.qq_node.proofs.log.sync_log.Goals as goal
 
 pub returns-in-Ok-true-clause-come : goal.returns-in-Ok-true-clause-come
@@ -40,13 +40,19 @@ returns-in-Ok-false-clause-come g c = λ told.
           same (c.begin_next.ensures.stays (still_tells c.sync_batch.ensures.told told));
     }
 
-pub returns-in-Ok-true-clause-whole : goal.returns-in-Ok-true-clause-whole
-returns-in-Ok-true-clause-whole g c = λ told none.
-    c.begin_next.ensures.whole (still_tells c.sync_batch.ensures.told told) (c.sync_batch.ensures.whole told none)
+pub returns-in-Ok-true-clause-may : goal.returns-in-Ok-true-clause-may
+returns-in-Ok-true-clause-may g c = λ told.
+    let past = g.D.NodeDisk.past in
+    may-then c.args.wal.now.queues c.sync_batch.new.self.queues (past c.args.wal.now.disk)
+    (past c.sync_batch.new.self.disk) (past c.begin_next.new.wal.disk) c.sync_batch.ensures.file.queues
+    (c.sync_batch.ensures.may told) (c.begin_next.ensures.may (still_tells c.sync_batch.ensures.told told))
 
-pub returns-in-Ok-false-clause-whole : goal.returns-in-Ok-false-clause-whole
-returns-in-Ok-false-clause-whole g c = λ told none.
-    c.begin_next.ensures.whole (still_tells c.sync_batch.ensures.told told) (c.sync_batch.ensures.whole told none)
+pub returns-in-Ok-false-clause-may : goal.returns-in-Ok-false-clause-may
+returns-in-Ok-false-clause-may g c = λ told.
+    let past = g.D.NodeDisk.past in
+    may-then c.args.wal.now.queues c.sync_batch.new.self.queues (past c.args.wal.now.disk)
+    (past c.sync_batch.new.self.disk) (past c.begin_next.new.wal.disk) c.sync_batch.ensures.file.queues
+    (c.sync_batch.ensures.may told) (c.begin_next.ensures.may (still_tells c.sync_batch.ensures.told told))
 
 pub returns-in-Ok-true-clause-stays : goal.returns-in-Ok-true-clause-stays
 returns-in-Ok-true-clause-stays g c =
@@ -77,3 +83,10 @@ returns-in-Err-clause-stays g c =
     (past c.begin_next.new.wal.disk) (c.sync_batch.ensures.stays told)
     (subst (λ (l : List QueueId). Stays l (past c.sync_batch.new.self.disk) (past c.begin_next.new.wal.disk))
     same (c.begin_next.ensures.stays (still_tells c.sync_batch.ensures.told told))))
+
+pub returns-in-Err-clause-may : goal.returns-in-Err-clause-may
+returns-in-Err-clause-may g c = λ told.
+    let past = g.D.NodeDisk.past in
+    may-then c.args.wal.now.queues c.sync_batch.new.self.queues (past c.args.wal.now.disk)
+    (past c.sync_batch.new.self.disk) (past c.begin_next.new.wal.disk) c.sync_batch.ensures.file.queues
+    (c.sync_batch.ensures.may told) (c.begin_next.ensures.may (still_tells c.sync_batch.ensures.told told))

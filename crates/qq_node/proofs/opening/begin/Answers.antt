@@ -4,6 +4,8 @@ use Rattle.qq_log.specs.declared.lane.Lane.{Lane}
 use Rattle.qq_world.specs.Node.{new_node}
 use Rattle.qq_node.specs.Found.{AreDistinct, FailsLinked, HasFound}
 use Rattle.qq_node.specs.Restarting.{IsOpenCaused, TellsFirstFound}
+use Rattle.qq_wal.specs.Running.{StillMayRecover}
+use Rattle.qq_node.proofs.Finding.{new-may}
 use Rattle.qq_node.proofs.NoneFound.{AreNone}
 use Rattle.qq_node.proofs.Restarts.{begun, found-caused, may-begin, open-caused}
 use Rattle.qq_node.proofs.TakenUp.{lanes-many}
@@ -14,6 +16,10 @@ recover_log-requires-clause-apart g c =
     subst AreDistinct (sym c.deref.ensures.value)
     (may-begin g.D.NodeDisk.tells g.D.NodeDisk.past g.D.NodeDisk.faults c.requires.set.0 c.args.queues.items c.args.node_queues
     c.requires.set.1)
+
+pub recover_log-requires-clause-may : goal.recover_log-requires-clause-may
+recover_log-requires-clause-may g c = λ tell.
+    new-may c.deref.result.now (g.D.NodeDisk.past c.args.disk) (c.requires.fresh tell)
 
 pub returns-in-Err-clause-cause : goal.returns-in-Err-clause-cause
 returns-in-Err-clause-cause g c = λ setup set.
@@ -56,5 +62,7 @@ returns-clause-ok g c = λ setup set.
     c.requires.fresh
     (subst (λ (ids : List QueueId). HasFound tells past ids c.args.log_bytes c.args.disk c.in-Ok.found)
     c.deref.ensures.value c.in-Ok.ensures.ok)
-    (subst AreNone c.deref-2.ensures.value c.in_default.ensures.ok) (λ tell. c.in-Ok.ensures.whole tell)
+    (subst AreNone c.deref-2.ensures.value c.in_default.ensures.ok) (λ tell.
+    subst (λ (ids : List QueueId). StillMayRecover ids (past c.args.disk) (past c.in-Ok.found.wal.disk))
+    c.deref.ensures.value (c.in-Ok.ensures.may tell))
     c.in-Ok.ensures.told c.in-Ok.ensures.later refl refl refl)

@@ -1,5 +1,6 @@
-use Rattle.std.proofs.Common.{◌∙◌, ap}
+use Rattle.std.proofs.Common.{◌∙◌, ap, subst, sym}
 use Rattle.qq_wal.specs.declared.wal.Wal.{Wal}
+use Rattle.qq_wal.specs.Running.{StillMayRecover}
 use Rattle.qq_node.proofs.Finding.{fails-linked, has-found, wants-linked}
 use Rattle.qq_node.proofs.recovering.recover_log.Goals as goal
 
@@ -21,3 +22,16 @@ returns-in-Err-take_lanes-clause-fails g c = λ told.
     c.into_disk.result c.in-Ok.recovered
     (c.into_disk.ensures ∙ ap (λ (w : Wal _). w.disk) (c.into_wal-in-Err-take_lanes.ensures ∙ c.take_lanes.ensures.wal))
     (c.in-Ok.ensures.stays told)
+
+pub returns-in-Ok-take_lanes-clause-may : goal.returns-in-Ok-take_lanes-clause-may
+returns-in-Ok-take_lanes-clause-may g c = λ told.
+    let past = g.D.NodeDisk.past in
+    subst (λ (w : Wal _). StillMayRecover c.args.queues.now (past c.args.disk) (past w.disk))
+    (sym (c.into_wal.ensures ∙ c.take_lanes.ensures.wal)) (c.in-Ok.ensures.may told)
+
+pub returns-in-Err-take_lanes-clause-may : goal.returns-in-Err-take_lanes-clause-may
+returns-in-Err-take_lanes-clause-may g c = λ told.
+    let past = g.D.NodeDisk.past in
+    subst (λ disk. StillMayRecover c.args.queues.now (past c.args.disk) (past disk))
+    (sym (c.into_disk.ensures ∙ ap (λ (w : Wal _). w.disk) (c.into_wal-in-Err-take_lanes.ensures ∙ c.take_lanes.ensures.wal)))
+    (c.in-Ok.ensures.may told)

@@ -17,7 +17,7 @@ returns-in-Ok-clause-ok g c =
       queues = c.write_log.ensures.queues;
       told = c.write_log.ensures.told;
       later = c.write_log.ensures.later;
-      whole = λ tell. c.write_log.ensures.whole tell;
+      may = λ tell. c.write_log.ensures.may tell;
     })
 
 pub returns-in-Err-clause-err : goal.returns-in-Err-clause-err

@@ -2,6 +2,8 @@ use Rattle.std.proofs.Common.{subst}
 use Rattle.qq_node_log.specs.declared.syncing.SyncOutcome.{SyncOutcome}
 use Rattle.qq_node_log.specs.Syncing.{Comes, Leaves}
 use Rattle.qq_wal.specs.Wal.{is_full}
+use Rattle.qq_lots.specs.Lots.{ids_of}
+use Rattle.qq_node_log.proofs.Same.{same-disk}
 use Rattle.qq_node_log.proofs.Stepping.{sync-keeps, sync-runs}
 use Rattle.qq_node_log.proofs.node_log.sync_open.Goals as goal
 
@@ -22,3 +24,13 @@ pub returns-in-Err-clause-moments : goal.returns-in-Err-clause-moments
 returns-in-Err-clause-moments g c =
     sync-keeps g.D.NodeDisk.tells g.D.NodeDisk.past g.D.NodeDisk.faults c.args.wal.now c.sync_log.new.wal
     c.sync_log.ensures.same (λ tell. c.sync_log.ensures.stays tell)
+
+pub returns-in-Ok-clause-same : goal.returns-in-Ok-clause-same
+returns-in-Ok-clause-same g c = λ lot parts run.
+    same-disk g.D.NodeDisk.tells g.D.NodeDisk.past g.D.NodeDisk.faults (ids_of lot) c.args.wal.now c.sync_log.new.wal
+    c.sync_log.ensures.same run.queues_are
+
+pub returns-in-Err-clause-same : goal.returns-in-Err-clause-same
+returns-in-Err-clause-same g c = λ lot parts run.
+    same-disk g.D.NodeDisk.tells g.D.NodeDisk.past g.D.NodeDisk.faults (ids_of lot) c.args.wal.now c.sync_log.new.wal
+    c.sync_log.ensures.same run.queues_are

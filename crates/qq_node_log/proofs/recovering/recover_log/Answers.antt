@@ -1,6 +1,9 @@
-use Rattle.std.proofs.Common.{◌∙◌, ap}
+use Rattle.std.proofs.Common.{◌∙◌, ap, subst, sym}
 use Rattle.qq_wal.specs.declared.wal.Wal.{Wal}
+use Rattle.qq_recover.specs.Recovered.{wal_of}
+use Rattle.qq_node_log.specs.Steps.{SameDisk}
 use Rattle.qq_node_log.proofs.Finding.{fails-keeping, has-found, wants-keeping}
+use Rattle.qq_node_log.proofs.Same.{disk-same}
 use Rattle.qq_node_log.proofs.recovering.recover_log.Goals as goal
 
 pub returns-in-Err-clause-fails : goal.returns-in-Err-clause-fails
@@ -22,3 +25,28 @@ returns-in-Err-take_lanes-clause-fails g c = λ told.
     c.into_disk.result c.in-Ok.recovered
     (c.into_disk.ensures ∙ ap (λ (w : Wal _). w.disk) (c.into_wal-in-Err-take_lanes.ensures ∙ c.take_lanes.ensures.wal))
     (c.in-Ok.ensures.stays told)
+
+pub returns-in-Err-clause-same : goal.returns-in-Err-clause-same
+returns-in-Err-clause-same g c =
+    disk-same g.D.NodeDisk.tells g.D.NodeDisk.past g.D.NodeDisk.faults c.args.queues.now c.args.disk c.in-Err.refusal.1
+    c.in-Err.ensures.told c.in-Err.ensures.later (λ told. c.in-Err.ensures.may told)
+
+pub returns-in-Ok-take_lanes-clause-same : goal.returns-in-Ok-take_lanes-clause-same
+returns-in-Ok-take_lanes-clause-same g c =
+    let tells = g.D.NodeDisk.tells in
+    let past = g.D.NodeDisk.past in
+    let faults = g.D.NodeDisk.faults in
+    subst (λ (w : Wal _). SameDisk tells past faults c.args.queues.now c.args.disk w.disk)
+    (sym (c.into_wal.ensures ∙ c.take_lanes.ensures.wal))
+    (disk-same tells past faults c.args.queues.now c.args.disk (wal_of c.in-Ok.recovered).disk
+    c.in-Ok.ensures.told c.in-Ok.ensures.later (λ told. c.in-Ok.ensures.may told))
+
+pub returns-in-Err-take_lanes-clause-same : goal.returns-in-Err-take_lanes-clause-same
+returns-in-Err-take_lanes-clause-same g c =
+    let tells = g.D.NodeDisk.tells in
+    let past = g.D.NodeDisk.past in
+    let faults = g.D.NodeDisk.faults in
+    subst (SameDisk tells past faults c.args.queues.now c.args.disk)
+    (sym (c.into_disk.ensures ∙ ap (λ (w : Wal _). w.disk) (c.into_wal-in-Err-take_lanes.ensures ∙ c.take_lanes.ensures.wal)))
+    (disk-same tells past faults c.args.queues.now c.args.disk (wal_of c.in-Ok.recovered).disk
+    c.in-Ok.ensures.told c.in-Ok.ensures.later (λ told. c.in-Ok.ensures.may told))

@@ -83,7 +83,7 @@ returns-in-Ok-true-clause-same g c =
       ahead = c.sync_batch.ensures.ahead;
       told = c.sync_batch.ensures.told;
       later = c.sync_batch.ensures.cause.later;
-      whole = λ tell. c.sync_batch.ensures.whole tell;
+      whole = λ tell. c.sync_batch.ensures.may tell;
     }) c.begin_next.ensures.same
 
 pub returns-in-Ok-false-clause-same : goal.returns-in-Ok-false-clause-same
@@ -95,7 +95,7 @@ returns-in-Ok-false-clause-same g c =
       ahead = c.sync_batch.ensures.ahead;
       told = c.sync_batch.ensures.told;
       later = c.sync_batch.ensures.cause.later;
-      whole = λ tell. c.sync_batch.ensures.whole tell;
+      whole = λ tell. c.sync_batch.ensures.may tell;
     }) c.begin_next.ensures.same
 
 pub returns-in-Err-clause-same : goal.returns-in-Err-clause-same
@@ -107,5 +107,5 @@ returns-in-Err-clause-same g c =
       ahead = c.sync_batch.ensures.ahead;
       told = c.sync_batch.ensures.told;
       later = c.sync_batch.ensures.cause.later;
-      whole = λ tell. c.sync_batch.ensures.whole tell;
+      whole = λ tell. c.sync_batch.ensures.may tell;
     }) c.begin_next.ensures.same

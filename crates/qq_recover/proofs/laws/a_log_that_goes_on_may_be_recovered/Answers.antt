@@ -1,5 +1,5 @@
 use Rattle.qq_disk.specs.Disk.{now}
-use Rattle.qq_recover.proofs.Promised.{running-may}
+use Rattle.qq_wal.proofs.Steps.{running-may}
 use Rattle.qq_recover.proofs.laws.a_log_that_goes_on_may_be_recovered.Goals as goal
 
 pub returns : goal.returns

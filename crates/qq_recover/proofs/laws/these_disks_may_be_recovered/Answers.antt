@@ -1,4 +1,3 @@
-use Rattle.qq_disk.specs.Disk.{now}
 use Rattle.qq_recover.proofs.Promised.{opened-may, promised-may, whole-may}
 use Rattle.qq_recover.proofs.laws.these_disks_may_be_recovered.Goals as goal
 
@@ -10,6 +9,3 @@ returns-clause-whole c = whole-may
 
 pub returns-clause-opened : goal.returns-clause-opened
 returns-clause-opened c = opened-may
-
-pub returns-clause-later : goal.returns-clause-later
-returns-clause-later c = λ queues old new none stays. whole-may queues (now new) (stays none)

@@ -1,4 +1,5 @@
 use Rattle.std.proofs.Common.{Bool, IsTrue, arith, inl, inr, sym, subst}
+use Rattle.std.proofs.lemmas.Result.{on_ok_weaker}
 use Rattle.qq_disk.specs.Disk.{Disk, now}
 use Rattle.qq_wal_chain.specs.Laws.{SettlesOn}
 use Rattle.qq_wal.specs.Running.{StillHolds, top}
@@ -6,10 +7,10 @@ use Rattle.qq_wal.proofs.Steps.{stays-then}
 use Rattle.qq_recover.specs.Reading.{lanes_read, shown}
 use Rattle.qq_recover.specs.Recovered.{disk_of}
 use Rattle.qq_recover.specs.Table.{lanes_of}
-use Rattle.qq_recover.proofs.Frames.{begins-one}
+use Rattle.qq_recover.proofs.Removed.{others-begun, unread-is}
 use Rattle.qq_recover.proofs.Outcomes.{begun-ok, disk-fails, disk-no-refusal, disk-unspent, err-weaker, knows-ok, lanes-ok, never-ok, new-ok, settles-ok}
 use Rattle.qq_recover.proofs.Promised.{no-refusal, readable, settles-lanes}
-use Rattle.qq_recover.proofs.Starts.{listed-within, may-begin, none-at-end, shows-lanes}
+use Rattle.qq_recover.proofs.Starts.{listed-within, may-begin, none-at-end, same-numbers, shows-lanes}
 use Rattle.qq_recover.proofs.recovery.recover.Goals as goal
 
 pub begin_behind-requires-clause-goes_on : goal.begin_behind-requires-clause-goes_on
@@ -101,25 +102,44 @@ returns-in-Err-clause-never_refused g c = λ told noticed given keeps.
     let r = readable queues (c.the_log_has_a_format.ensures queues) noticed given d keeps in
     no-refusal c.in-Err.fault (lanes_read queues (shown d)) r.lanes r.read (c.in-Err.ensures.lanes told)
 
-pub returns-in-Ok-clause-whole : goal.returns-in-Ok-clause-whole
-returns-in-Ok-clause-whole g c = λ told none.
-    c.begin_behind.ensures.whole (subst (λ (t : Bool). IsTrue t) (sym c.prepare.ensures.told) told)
-    (c.prepare.ensures.whole told none)
+pub begin_behind-requires-clause-chain : goal.begin_behind-requires-clause-chain
+begin_behind-requires-clause-chain g c = λ told.
+    let past = g.D.NodeDisk.past in
+    let before : IsTrue (g.D.NodeDisk.tells c.args.disk) =
+    subst (λ (t : Bool). IsTrue t) c.prepare.ensures.told told in
+    same-numbers c.args.queues.now (c.the_log_has_a_format.ensures c.args.queues.now) (now (past c.args.disk))
+    (now (past c.prepare.new.disk)) c.in-Ok.start c.in-Ok.ensures.start (c.in-Ok.ensures.read before)
+
+pub returns-in-Ok-clause-may : goal.returns-in-Ok-clause-may
+returns-in-Ok-clause-may g c = λ told may.
+    c.begin_behind.ensures.may (subst (λ (t : Bool). IsTrue t) (sym c.prepare.ensures.told) told)
+    (c.prepare.ensures.may told may)
+
+pub returns-in-Ok-clause-removed : goal.returns-in-Ok-clause-removed
+returns-in-Ok-clause-removed g c = λ told.
+    let past = g.D.NodeDisk.past in
+    let read = c.in-Ok.ensures.read told in
+    on_ok_weaker c.begin_behind.result
+    (λ gone file unread. (let is = unread-is c.args.queues.now (past c.args.disk) (past c.prepare.new.disk)
+    (past (disk_of c.begin_behind.result)) c.in-Ok.start.names.items c.in-Ok.start.chain.items read.listing read.chain
+    file unread in gone file is.0 is.1))
+    (c.begin_behind.ensures.removed (subst (λ (t : Bool). IsTrue t) (sym c.prepare.ensures.told) told))
 
 pub returns-in-Ok-clause-others : goal.returns-in-Ok-clause-others
 returns-in-Ok-clause-others g c = λ told.
     let past = g.D.NodeDisk.past in
     let start = c.in-Ok.ensures.start in
     let read = c.in-Ok.ensures.read told in
-    inr (begins-one (past c.args.disk) (past c.prepare.new.disk) (past (disk_of c.begin_behind.result))
+    inr (others-begun c.args.queues.now (past c.args.disk) (past c.prepare.new.disk)
+    (past (disk_of c.begin_behind.result)) c.in-Ok.start.names.items c.in-Ok.start.chain.items read.listing read.chain
     c.in-Ok.start.header.file
     (λ m listed. omega (
       arith,
       start.number,
       listed-within (now (past c.args.disk)) c.in-Ok.start.names.items read.listing m listed,
     ))
-    (c.prepare.ensures.only told)
-    (c.begin_behind.ensures.beside (subst (λ (t : Bool). IsTrue t) (sym c.prepare.ensures.told) told)))
+    (c.prepare.ensures.only told) read.synced
+    (c.begin_behind.ensures.others (subst (λ (t : Bool). IsTrue t) (sym c.prepare.ensures.told) told)))
 
 pub returns-in-Err-clause-others : goal.returns-in-Err-clause-others
 returns-in-Err-clause-others g c = λ told. inl (c.prepare.ensures.only told)

@@ -20,10 +20,10 @@ returns-in_err-sync_one-clause-only g c = λ told.
     (c.loop-name.invariant.only told)
     (c.sync_one.ensures.only (subst (λ (t : Bool). IsTrue t) (sym c.loop-name.invariant.told) told))
 
-pub returns-in_err-sync_one-clause-whole : goal.returns-in_err-sync_one-clause-whole
-returns-in_err-sync_one-clause-whole g c = λ told none.
-    c.sync_one.ensures.whole (subst (λ (t : Bool). IsTrue t) (sym c.loop-name.invariant.told) told)
-    (c.loop-name.invariant.whole told none)
+pub returns-in_err-sync_one-clause-may : goal.returns-in_err-sync_one-clause-may
+returns-in_err-sync_one-clause-may g c = λ told queues may.
+    c.sync_one.ensures.may (subst (λ (t : Bool). IsTrue t) (sym c.loop-name.invariant.told) told) queues
+    (c.loop-name.invariant.may told queues may)
 
 pub loop-name-preserved : goal.loop-name-preserved
 loop-name-preserved g c =
@@ -46,9 +46,9 @@ loop-name-preserved g c =
           only-then (past c.args.disk.now) (past c.loop-name.disk) (past c.sync_one.new.disk)
           (c.loop-name.invariant.only told)
           (c.sync_one.ensures.only (subst (λ (t : Bool). IsTrue t) (sym c.loop-name.invariant.told) told));
-      whole = λ told none.
-          c.sync_one.ensures.whole (subst (λ (t : Bool). IsTrue t) (sym c.loop-name.invariant.told) told)
-          (c.loop-name.invariant.whole told none);
+      may = λ told queues may.
+          c.sync_one.ensures.may (subst (λ (t : Bool). IsTrue t) (sym c.loop-name.invariant.told) told) queues
+          (c.loop-name.invariant.may told queues may);
       told = c.sync_one.ensures.told ∙ c.loop-name.invariant.told;
       later = omega (arith, c.loop-name.invariant.later, c.sync_one.ensures.cause.later);
     }

@@ -2,7 +2,7 @@ use Rattle.std.proofs.Common.{◌≡◌, ◌≤◌, List, drop, IsTrue}
 use Rattle.qq_base.specs.declared.ids.QueueId.{QueueId}
 use Rattle.qq_disk.specs.Disk.{now}
 use Rattle.qq_wal_chain.specs.Promise.{sync_all}
-use Rattle.qq_wal.specs.Running.{Stays, StaysWhole}
+use Rattle.qq_wal.specs.Running.{Stays, StillMayRecover}
 use Rattle.qq_recover.specs.Recovery.{StaysSyncing}
 use Rattle.qq_recover.proofs.settle.settle_all.Given as goal
 
@@ -17,7 +17,9 @@ invariant-loop-name g l =
           IsTrue (g.D.NodeDisk.tells l.fn.disk) → (queues : List QueueId)
           → Stays queues (past l.fn.disk) (past l.disk);
       only : IsTrue (g.D.NodeDisk.tells l.fn.disk) → StaysSyncing (past l.fn.disk) (past l.disk);
-      whole : IsTrue (g.D.NodeDisk.tells l.fn.disk) → StaysWhole (past l.fn.disk) (past l.disk);
+      may :
+          IsTrue (g.D.NodeDisk.tells l.fn.disk) → (queues : List QueueId)
+          → StillMayRecover queues (past l.fn.disk) (past l.disk);
       told : g.D.NodeDisk.tells l.disk ≡ g.D.NodeDisk.tells l.fn.disk;
       later : g.D.NodeDisk.faults l.fn.disk ≤ g.D.NodeDisk.faults l.disk;
     }

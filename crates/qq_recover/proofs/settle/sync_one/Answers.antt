@@ -1,7 +1,7 @@
 use Rattle.qq_wal_chain.proofs.Calls.{sync-stays}
 use Rattle.qq_wal_chain.specs.Wal.{wal}
 use Rattle.qq_wal.specs.Running.{top}
-use Rattle.qq_wal.proofs.Unremoved.{synced-whole}
+use Rattle.qq_wal.proofs.Steps.{sync-may}
 use Rattle.qq_recover.proofs.Frames.{sync-only}
 use Rattle.qq_recover.proofs.settle.sync_one.Goals as goal
 
@@ -15,7 +15,7 @@ returns-clause-only g c = λ told.
     sync-only (g.D.NodeDisk.past c.args.disk.now) (g.D.NodeDisk.past c.sync.new.self) c.args.file
     (c.sync.ensures.moments told)
 
-pub returns-clause-whole : goal.returns-clause-whole
-returns-clause-whole g c = λ told.
-    synced-whole (g.D.NodeDisk.past c.args.disk.now) (g.D.NodeDisk.past c.sync.new.self) c.args.file
-    (c.sync.ensures.moments told)
+pub returns-clause-may : goal.returns-clause-may
+returns-clause-may g c = λ told queues.
+    sync-may queues (c.the_log_has_a_format.ensures queues) (g.D.NodeDisk.past c.args.disk.now)
+    (g.D.NodeDisk.past c.sync.new.self) c.args.file (c.sync.ensures.moments told)

@@ -7,8 +7,7 @@ use Rattle.qq_recover.specs.declared.start.Start.{Start}
 use Rattle.qq_recover.specs.Answer.{Fails}
 use Rattle.qq_recover.specs.Reading.{lanes_read}
 use Rattle.qq_recover.proofs.Frames.{only-through}
-use Rattle.qq_recover.proofs.Prepared.{prepared-stays, read-of, still-listed, still-shown}
-use Rattle.qq_wal.proofs.Unremoved.{whole-through}
+use Rattle.qq_recover.proofs.Prepared.{may-through, prepared-stays, read-of, still-listed, still-shown}
 use Rattle.qq_recover.proofs.start.prepare.Goals as goal
 
 pub returns-in-Err-clause-stays : goal.returns-in-Err-clause-stays
@@ -66,9 +65,10 @@ returns-in_ok-start_behind-in-Ok-clause-read g c = λ told.
     names (c.names.ensures.same told) (c.in_ok-names.ensures.ok told) synced (past c.read_log.new.disk) c.in-Ok.log
     s (c.read_log.ensures.reads.same settled) (c.in-Ok.ensures.lanes settled listed)
     (c.in-Ok.ensures.newest settled listed) (c.in-Ok.ensures.ranges settled listed)
+    (c.in-Ok.ensures.chain settled listed)
     c.in_ok-start_behind-in-Ok.ensures.ranges c.in_ok-start_behind-in-Ok.ensures.table
     (ap (λ v. v.items) c.in_ok-start_behind-in-Ok.ensures.names) c.in_ok-start_behind-in-Ok.ensures.previous
-    c.in_ok-start_behind-in-Ok.ensures.good
+    c.in_ok-start_behind-in-Ok.ensures.good (ap (λ v. v.items) c.in_ok-start_behind-in-Ok.ensures.chain)
 
 pub returns-in_ok-start_behind-in-Ok-clause-lanes :
     goal.returns-in_ok-start_behind-in-Ok-clause-lanes
@@ -93,36 +93,36 @@ returns-in-Err-read_log-clause-lanes g c = λ told.
     names (c.names.ensures.same told) (c.in_ok-names.ensures.ok told) synced)
     (c.in-Err-read_log.ensures.lanes settled listed)
 
-pub returns-in-Err-clause-whole : goal.returns-in-Err-clause-whole
-returns-in-Err-clause-whole g c = λ told.
+pub returns-in-Err-clause-may : goal.returns-in-Err-clause-may
+returns-in-Err-clause-may g c = λ told.
     let past = g.D.NodeDisk.past in
     let named = subst (λ (t : Bool). IsTrue t) (sym c.names.ensures.told) told in
-    whole-through (past c.args.disk.now) (past c.names.new.self) (past c.settle_all.new.disk)
-    (past c.settle_all.new.disk) (c.names.ensures.same told) (c.settle_all.ensures.whole named) refl
+    may-through c.args.queues.now (past c.args.disk.now) (past c.names.new.self) (past c.settle_all.new.disk)
+    (past c.settle_all.new.disk) (c.names.ensures.same told) (c.settle_all.ensures.may named c.args.queues.now) refl
 
-pub returns-in_err-start_behind-in-Ok-clause-whole : goal.returns-in_err-start_behind-in-Ok-clause-whole
-returns-in_err-start_behind-in-Ok-clause-whole g c = λ told.
+pub returns-in_err-start_behind-in-Ok-clause-may : goal.returns-in_err-start_behind-in-Ok-clause-may
+returns-in_err-start_behind-in-Ok-clause-may g c = λ told.
     let past = g.D.NodeDisk.past in
     let named = subst (λ (t : Bool). IsTrue t) (sym c.names.ensures.told) told in
     let settled = subst (λ (t : Bool). IsTrue t) (sym c.settle_all.ensures.told) named in
-    whole-through (past c.args.disk.now) (past c.names.new.self) (past c.settle_all.new.disk)
-    (past c.read_log.new.disk) (c.names.ensures.same told) (c.settle_all.ensures.whole named) (c.read_log.ensures.reads.same settled)
+    may-through c.args.queues.now (past c.args.disk.now) (past c.names.new.self) (past c.settle_all.new.disk)
+    (past c.read_log.new.disk) (c.names.ensures.same told) (c.settle_all.ensures.may named c.args.queues.now) (c.read_log.ensures.reads.same settled)
 
-pub returns-in_ok-start_behind-in-Ok-clause-whole : goal.returns-in_ok-start_behind-in-Ok-clause-whole
-returns-in_ok-start_behind-in-Ok-clause-whole g c = λ told.
+pub returns-in_ok-start_behind-in-Ok-clause-may : goal.returns-in_ok-start_behind-in-Ok-clause-may
+returns-in_ok-start_behind-in-Ok-clause-may g c = λ told.
     let past = g.D.NodeDisk.past in
     let named = subst (λ (t : Bool). IsTrue t) (sym c.names.ensures.told) told in
     let settled = subst (λ (t : Bool). IsTrue t) (sym c.settle_all.ensures.told) named in
-    whole-through (past c.args.disk.now) (past c.names.new.self) (past c.settle_all.new.disk)
-    (past c.read_log.new.disk) (c.names.ensures.same told) (c.settle_all.ensures.whole named) (c.read_log.ensures.reads.same settled)
+    may-through c.args.queues.now (past c.args.disk.now) (past c.names.new.self) (past c.settle_all.new.disk)
+    (past c.read_log.new.disk) (c.names.ensures.same told) (c.settle_all.ensures.may named c.args.queues.now) (c.read_log.ensures.reads.same settled)
 
-pub returns-in-Err-read_log-clause-whole : goal.returns-in-Err-read_log-clause-whole
-returns-in-Err-read_log-clause-whole g c = λ told.
+pub returns-in-Err-read_log-clause-may : goal.returns-in-Err-read_log-clause-may
+returns-in-Err-read_log-clause-may g c = λ told.
     let past = g.D.NodeDisk.past in
     let named = subst (λ (t : Bool). IsTrue t) (sym c.names.ensures.told) told in
     let settled = subst (λ (t : Bool). IsTrue t) (sym c.settle_all.ensures.told) named in
-    whole-through (past c.args.disk.now) (past c.names.new.self) (past c.settle_all.new.disk)
-    (past c.read_log.new.disk) (c.names.ensures.same told) (c.settle_all.ensures.whole named) (c.read_log.ensures.reads.same settled)
+    may-through c.args.queues.now (past c.args.disk.now) (past c.names.new.self) (past c.settle_all.new.disk)
+    (past c.read_log.new.disk) (c.names.ensures.same told) (c.settle_all.ensures.may named c.args.queues.now) (c.read_log.ensures.reads.same settled)
 
 pub returns-in-Err-clause-only : goal.returns-in-Err-clause-only
 returns-in-Err-clause-only g c = λ told.

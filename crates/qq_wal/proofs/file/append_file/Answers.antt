@@ -1,9 +1,8 @@
 use Rattle.std.proofs.lemmas.Result.{on_ok_weaker}
 use Rattle.qq_disk.specs.Disk.{now}
-use Rattle.qq_wal.proofs.Steps.{append-stays, append-log, append-shows, append-kept, append-length, append-others}
+use Rattle.qq_wal.proofs.Steps.{append-may, append-stays, append-log, append-shows, append-kept, append-length, append-others}
 use Rattle.qq_disk.specs.Image.{log_of}
 use Rattle.qq_wal.proofs.Frames.{append-beside}
-use Rattle.qq_wal.proofs.Unremoved.{appended-whole}
 use Rattle.qq_wal.proofs.file.append_file.Goals as goal
 
 pub returns-clause-stays : goal.returns-clause-stays
@@ -39,10 +38,10 @@ returns-clause-others g c = λ told.
     (λ is. append-others c.args.header.file c.args.bytes.now (now (g.D.NodeDisk.past c.args.disk.now))
     (now (g.D.NodeDisk.past c.append.new.self)) is) (c.append.ensures.ok told)
 
-pub returns-clause-whole : goal.returns-clause-whole
-returns-clause-whole g c = λ told.
-    appended-whole (g.D.NodeDisk.past c.args.disk.now) (g.D.NodeDisk.past c.append.new.self)
-    (log_of c.args.header.file) c.args.bytes.now (c.append.ensures.moments told)
+pub returns-clause-may : goal.returns-clause-may
+returns-clause-may g c = λ told queues running.
+    append-may queues (c.the_log_has_a_format.ensures queues) c.args.header c.args.bytes.now
+    (g.D.NodeDisk.past c.args.disk.now) (g.D.NodeDisk.past c.append.new.self) running (c.append.ensures.moments told)
 
 pub returns-clause-kept : goal.returns-clause-kept
 returns-clause-kept g c = λ told queues batch running b.

@@ -1,10 +1,9 @@
 use Rattle.std.proofs.Common.{subst, sym, IsTrue}
 use Rattle.qq_disk.specs.Disk.{now}
-use Rattle.qq_wal.proofs.Steps.{first-stays, new-stays, new-log, new-shows, new-length, new-others}
+use Rattle.qq_wal.proofs.Steps.{first-may, first-stays, new-behind, new-may, new-stays, new-log, new-shows, new-length, new-others}
 use Rattle.qq_disk.specs.Image.{log_of}
 use Rattle.qq_wal.proofs.Frames.{append-beside, beside-then, sync-beside}
 use Rattle.qq_wal.proofs.Refusing.{failed-at-append, half-at-append, half-at-sync, stays-at-want}
-use Rattle.qq_wal.proofs.Unremoved.{appended-whole, synced-whole}
 use Rattle.qq_wal.proofs.file.begin_file.Goals as goal
 
 -- ---- the bytes aren't written
@@ -20,10 +19,11 @@ returns-in-Err-clause-beside g c = λ told.
     append-beside (g.D.NodeDisk.past c.args.disk.now) (g.D.NodeDisk.past c.append.new.self)
     (log_of c.args.header.file) c.args.bytes.now (c.append.ensures.moments told)
 
-pub returns-in-Err-clause-whole : goal.returns-in-Err-clause-whole
-returns-in-Err-clause-whole g c = λ told.
-    appended-whole (g.D.NodeDisk.past c.args.disk.now) (g.D.NodeDisk.past c.append.new.self)
-    (log_of c.args.header.file) c.args.bytes.now (c.append.ensures.moments told)
+pub returns-in-Err-clause-may : goal.returns-in-Err-clause-may
+returns-in-Err-clause-may g c = λ told queues before carries goes_on is.
+    first-may queues (c.the_log_has_a_format.ensures queues) c.args.header before carries c.args.bytes.now
+    (g.D.NodeDisk.past c.args.disk.now) goes_on is
+    (g.D.NodeDisk.past c.append.new.self) (c.append.ensures.moments told)
 
 pub returns-in-Err-clause-half : goal.returns-in-Err-clause-half
 returns-in-Err-clause-half g c = λ told.
@@ -50,6 +50,14 @@ returns-in-Ok-clause-stays g c = λ told queues before carries goes_on is.
 pub returns-in-Ok-clause-log : goal.returns-in-Ok-clause-log
 returns-in-Ok-clause-log g c = λ told queues before carries goes_on is.
     new-log queues (c.the_log_has_a_format.ensures queues) c.args.header before carries c.args.bytes.now
+    (g.D.NodeDisk.past c.args.disk.now) goes_on is
+    (now (g.D.NodeDisk.past c.append.new.self)) (now (g.D.NodeDisk.past c.sync.new.self))
+    (c.in_default.ensures.ok told)
+    (c.in-Ok.ensures.ok (subst (λ t. IsTrue t) (sym c.append.ensures.told) told))
+
+pub returns-in-Ok-clause-behind : goal.returns-in-Ok-clause-behind
+returns-in-Ok-clause-behind g c = λ told queues before carries goes_on is.
+    new-behind queues (c.the_log_has_a_format.ensures queues) c.args.header before carries c.args.bytes.now
     (g.D.NodeDisk.past c.args.disk.now) goes_on is
     (now (g.D.NodeDisk.past c.append.new.self)) (now (g.D.NodeDisk.past c.sync.new.self))
     (c.in_default.ensures.ok told)
@@ -88,14 +96,12 @@ returns-in-Ok-clause-beside g c = λ told.
     (sync-beside (past c.append.new.self) (past c.sync.new.self) file
     (c.sync.ensures.moments (subst (λ t. IsTrue t) (sym c.append.ensures.told) told)))
 
-pub returns-in-Ok-clause-whole : goal.returns-in-Ok-clause-whole
-returns-in-Ok-clause-whole g c = λ told none.
-    let past = g.D.NodeDisk.past in
-    let file = log_of c.args.header.file in
-    synced-whole (past c.append.new.self) (past c.sync.new.self) file
+pub returns-in-Ok-clause-may : goal.returns-in-Ok-clause-may
+returns-in-Ok-clause-may g c = λ told queues before carries goes_on is.
+    new-may queues (c.the_log_has_a_format.ensures queues) c.args.header before carries c.args.bytes.now
+    (g.D.NodeDisk.past c.args.disk.now) goes_on is
+    (g.D.NodeDisk.past c.append.new.self) (g.D.NodeDisk.past c.sync.new.self) (c.append.ensures.moments told)
     (c.sync.ensures.moments (subst (λ t. IsTrue t) (sym c.append.ensures.told) told))
-    (appended-whole (past c.args.disk.now) (past c.append.new.self) file c.args.bytes.now
-    (c.append.ensures.moments told) none)
 
 -- ---- they are written, and not synced
 
@@ -121,11 +127,9 @@ returns-in-Err-sync-clause-beside g c = λ told.
     (sync-beside (past c.append.new.self) (past c.sync.new.self) file
     (c.sync.ensures.moments (subst (λ t. IsTrue t) (sym c.append.ensures.told) told)))
 
-pub returns-in-Err-sync-clause-whole : goal.returns-in-Err-sync-clause-whole
-returns-in-Err-sync-clause-whole g c = λ told none.
-    let past = g.D.NodeDisk.past in
-    let file = log_of c.args.header.file in
-    synced-whole (past c.append.new.self) (past c.sync.new.self) file
+pub returns-in-Err-sync-clause-may : goal.returns-in-Err-sync-clause-may
+returns-in-Err-sync-clause-may g c = λ told queues before carries goes_on is.
+    new-may queues (c.the_log_has_a_format.ensures queues) c.args.header before carries c.args.bytes.now
+    (g.D.NodeDisk.past c.args.disk.now) goes_on is
+    (g.D.NodeDisk.past c.append.new.self) (g.D.NodeDisk.past c.sync.new.self) (c.append.ensures.moments told)
     (c.sync.ensures.moments (subst (λ t. IsTrue t) (sym c.append.ensures.told) told))
-    (appended-whole (past c.args.disk.now) (past c.append.new.self) file c.args.bytes.now
-    (c.append.ensures.moments told) none)

@@ -7,10 +7,9 @@ use Rattle.qq_wal_chain.specs.Wal.{wal}
 use Rattle.qq_wal_chain.proofs.Calls.{sync-stays}
 use Rattle.qq_wal_chain.proofs.Settling.{shown-sync}
 use Rattle.qq_wal.specs.Running.{top}
-use Rattle.qq_wal.proofs.Steps.{sync-log, sync-notices}
+use Rattle.qq_wal.proofs.Steps.{sync-log, sync-may, sync-notices}
 use Rattle.qq_wal.proofs.Batches.{clean-notices}
 use Rattle.qq_wal.proofs.Frames.{sync-beside}
-use Rattle.qq_wal.proofs.Unremoved.{synced-whole}
 use Rattle.qq_wal.proofs.file.sync_file.Goals as goal
 
 pub returns-clause-stays : goal.returns-clause-stays
@@ -44,10 +43,10 @@ returns-then-not-dirty-clause-noticed g c = λ told queues running clean.
     clean-notices queues (c.the_log_has_a_format.ensures queues) c.args.header
     (now (g.D.NodeDisk.past c.args.disk.now)) running (clean (search rules))
 
-pub returns-clause-whole : goal.returns-clause-whole
-returns-clause-whole g c = λ told.
-    synced-whole (g.D.NodeDisk.past c.args.disk.now) (g.D.NodeDisk.past c.sync.new.self)
-    (log_of c.args.header.file) (c.sync.ensures.moments told)
+pub returns-clause-may : goal.returns-clause-may
+returns-clause-may g c = λ told queues.
+    sync-may queues (c.the_log_has_a_format.ensures queues) (g.D.NodeDisk.past c.args.disk.now)
+    (g.D.NodeDisk.past c.sync.new.self) (log_of c.args.header.file) (c.sync.ensures.moments told)
 
 pub returns-clause-beside : goal.returns-clause-beside
 returns-clause-beside g c = λ told.

@@ -1,7 +1,7 @@
 use Rattle.std.proofs.Common.{◌∙◌, ◌<◌, ◌||◌, ℕ, List, suc, drop, length, is_some, ap, sym, arith, add-one, drop-cons, nat_cmp}
 use Rattle.std.specs.BTreeMap.{get}
 use Rattle.qq_base.specs.declared.ids.QueueId.{QueueId}
-use Rattle.qq_wal_chain.specs.Lanes.{is_listed}
+use Rattle.qq_log.specs.Carries.{is_listed}
 use Rattle.qq_recover.proofs.Tables.{listed-more, empty-more}
 use Rattle.qq_recover.proofs.table.Table.new.Goals as goal
 

@@ -2,7 +2,7 @@ use Rattle.std.proofs.Common.{◌≡◌, ℕ, None, is_some, ◌||◌, drop}
 use Rattle.qq_base.specs.declared.ids.QueueId.{QueueId}
 use Rattle.std.specs.Ordering.{nat_cmp}
 use Rattle.std.specs.BTreeMap.{get}
-use Rattle.qq_wal_chain.specs.Lanes.{is_listed}
+use Rattle.qq_log.specs.Carries.{is_listed}
 use Rattle.qq_recover.specs.Table.{state_in}
 use Rattle.qq_recover.proofs.table.Table.new.Given as goal
 

@@ -154,3 +154,11 @@ returns-in-Err-append_file-clause-moments g c = λ told.
     let past = g.D.NodeDisk.past in
     stays-at-want (past c.args.self.now.disk) (past c.append_file.new.disk) c.in-Err-append_file.fault
     c.is_failure-self.result c.is_failure-self.ensures (c.in-Err-append_file.ensures.want told)
+
+pub returns-in-Err-append_file-clause-may : goal.returns-in-Err-append_file-clause-may
+returns-in-Err-append_file-clause-may g c = λ told may.
+    c.append_file.ensures.may told c.args.self.now.queues.items (c.requires.on_disk told c.if-self.false).log
+
+pub returns-clause-may : goal.returns-clause-may
+returns-clause-may g c = λ told may.
+    c.append_file.ensures.may told c.args.self.now.queues.items (c.requires.on_disk told c.if-self.false).log

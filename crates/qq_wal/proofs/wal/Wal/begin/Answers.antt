@@ -11,6 +11,7 @@ use Rattle.qq_wal.specs.Batch.{AllFitBatch}
 use Rattle.qq_wal.specs.Marks.{AllFollow, HasCarry, IsCarry, carries_in, known, queues_in}
 use Rattle.qq_wal.specs.Notices.{AreCounted, AreNamed, new_mark}
 use Rattle.qq_wal.specs.Ranges.{begin_files, ranges_in}
+use Rattle.qq_wal.specs.Running.{numbers_in}
 use Rattle.qq_wal.specs.Wal.{first_length}
 use Rattle.qq_wal.proofs.Agreeing.{begun-carries, begun-queues}
 use Rattle.qq_wal_chain.specs.Chain.{Found}
@@ -42,10 +43,50 @@ returns-in-Err-begin_file-clause-stays g c = λ told.
     (search rules) (in_top c.args.header.file (search rules)) c.in-Ok-first_bytes.ensures.fits)
     (c.as_slice-3.ensures.value ∙ c.in-Ok-first_bytes.ensures.ok c.args.queues.items)
 
+pub returns-in-Err-begin_file-clause-may : goal.returns-in-Err-begin_file-clause-may
+returns-in-Err-begin_file-clause-may g c = λ told before.
+    let may = c.requires.goes_on told in
+    c.begin_file.ensures.may told c.args.queues.items may.before
+    (map CarryRecord (carries_in c.as_slice-2.result.now))
+    (begin-continues (λ id s. (c.carries_restate.ensures.exact (carry_of id s) s).1 refl) c.args.queues.items
+    c.args.header c.args.carries.now c.args.names.now (now (g.D.NodeDisk.past c.args.disk)) may c.requires.number
+    (recursion_from_All IsCarry c.args.carries.now c.requires.carries) c.as_slice-2.result.now
+    (c.as_slice-2.ensures ∙ c.in-Ok.ensures.ok
+    ∙ ap (λ (l : List QueueId). map (new_mark c.args.carries.now) l) c.as_slice.ensures.value)
+    (search rules) (in_top c.args.header.file (search rules)) c.in-Ok-first_bytes.ensures.fits)
+    (c.as_slice-3.ensures.value ∙ c.in-Ok-first_bytes.ensures.ok c.args.queues.items)
+
 pub returns-clause-stays : goal.returns-clause-stays
 returns-clause-stays g c = λ told.
     let may = c.requires.goes_on told in
     c.begin_file.ensures.stays told c.args.queues.items may.before
+    (map CarryRecord (carries_in c.as_slice-2.result.now))
+    (begin-continues (λ id s. (c.carries_restate.ensures.exact (carry_of id s) s).1 refl) c.args.queues.items
+    c.args.header c.args.carries.now c.args.names.now (now (g.D.NodeDisk.past c.args.disk)) may c.requires.number
+    (recursion_from_All IsCarry c.args.carries.now c.requires.carries) c.as_slice-2.result.now
+    (c.as_slice-2.ensures ∙ c.in-Ok.ensures.ok
+    ∙ ap (λ (l : List QueueId). map (new_mark c.args.carries.now) l) c.as_slice.ensures.value)
+    (search rules) (in_top c.args.header.file (search rules)) c.in-Ok-first_bytes.ensures.fits)
+    (c.as_slice-3.ensures.value ∙ c.in-Ok-first_bytes.ensures.ok c.args.queues.items)
+
+pub returns-clause-behind : goal.returns-clause-behind
+returns-clause-behind g c = λ told.
+    let may = c.requires.goes_on told in
+    c.in_default.ensures.behind told c.args.queues.items may.before
+    (map CarryRecord (carries_in c.as_slice-2.result.now))
+    (begin-continues (λ id s. (c.carries_restate.ensures.exact (carry_of id s) s).1 refl) c.args.queues.items
+    c.args.header c.args.carries.now c.args.names.now (now (g.D.NodeDisk.past c.args.disk)) may c.requires.number
+    (recursion_from_All IsCarry c.args.carries.now c.requires.carries) c.as_slice-2.result.now
+    (c.as_slice-2.ensures ∙ c.in-Ok.ensures.ok
+    ∙ ap (λ (l : List QueueId). map (new_mark c.args.carries.now) l) c.as_slice.ensures.value)
+    (search rules) (in_top c.args.header.file (search rules)) c.in-Ok-first_bytes.ensures.fits)
+    (c.as_slice-3.ensures.value ∙ c.in-Ok-first_bytes.ensures.ok c.args.queues.items)
+    ∙ sym (ap (λ (f : Option (Found (wal c.args.queues.items))). numbers_in c.args.queues.items f) may.found)
+
+pub returns-clause-may : goal.returns-clause-may
+returns-clause-may g c = λ told before.
+    let may = c.requires.goes_on told in
+    c.begin_file.ensures.may told c.args.queues.items may.before
     (map CarryRecord (carries_in c.as_slice-2.result.now))
     (begin-continues (λ id s. (c.carries_restate.ensures.exact (carry_of id s) s).1 refl) c.args.queues.items
     c.args.header c.args.carries.now c.args.names.now (now (g.D.NodeDisk.past c.args.disk)) may c.requires.number

@@ -41,12 +41,50 @@ returns-in-Err-begin_file-clause-stays g c = λ told.
     c.begin_file.ensures.range (in_top c.in-Ok.number c.begin_file.ensures.range.0) c.in-Ok-first_bytes.ensures.fits)
     (c.as_slice-2.ensures.value ∙ c.in-Ok-first_bytes.ensures.ok was.queues.items)
 
+pub returns-in-Err-begin_file-clause-may : goal.returns-in-Err-begin_file-clause-may
+returns-in-Err-begin_file-clause-may g c = λ told before.
+    let was = c.args.self.now in
+    let header : Header = record { file = c.in-Ok.number; previous = was.header.file; good = was.size } in
+    let on = c.requires.sound.on_disk told c.if-self.false in
+    c.begin_file.ensures.may told was.queues.items
+    (record {
+      files = was.header.file ∷ (found_behind (wal was.queues.items) top (Ours was.header)
+          (files_of (now (g.D.NodeDisk.past was.disk)))).files;
+      world = on.lanes;
+    }) (map CarryRecord (carries_in c.as_slice.result.now))
+    (next-file was.queues.items (c.the_log_has_a_format.ensures was.queues.items) was.header header
+    was.marks was.size was.numbers (now (g.D.NodeDisk.past was.disk)) on
+    (c.requires.sound.synced told c.if-self.false c.requires.synced) c.requires.sound.queues_are
+    c.requires.sound.carries (λ id s. (c.carries_restate.ensures.exact (carry_of id s) s).1 refl)
+    c.as_slice.result.now c.as_slice.ensures c.requires.sound.number c.in-Ok.ensures.ok refl refl
+    c.begin_file.ensures.range (in_top c.in-Ok.number c.begin_file.ensures.range.0) c.in-Ok-first_bytes.ensures.fits)
+    (c.as_slice-2.ensures.value ∙ c.in-Ok-first_bytes.ensures.ok was.queues.items)
+
 pub returns-clause-stays : goal.returns-clause-stays
 returns-clause-stays g c = λ told.
     let was = c.args.self.now in
     let header : Header = record { file = c.in-Ok.number; previous = was.header.file; good = was.size } in
     let on = c.requires.sound.on_disk told c.if-self.false in
     c.begin_file.ensures.stays told was.queues.items
+    (record {
+      files = was.header.file ∷ (found_behind (wal was.queues.items) top (Ours was.header)
+          (files_of (now (g.D.NodeDisk.past was.disk)))).files;
+      world = on.lanes;
+    }) (map CarryRecord (carries_in c.as_slice.result.now))
+    (next-file was.queues.items (c.the_log_has_a_format.ensures was.queues.items) was.header header
+    was.marks was.size was.numbers (now (g.D.NodeDisk.past was.disk)) on
+    (c.requires.sound.synced told c.if-self.false c.requires.synced) c.requires.sound.queues_are
+    c.requires.sound.carries (λ id s. (c.carries_restate.ensures.exact (carry_of id s) s).1 refl)
+    c.as_slice.result.now c.as_slice.ensures c.requires.sound.number c.in-Ok.ensures.ok refl refl
+    c.begin_file.ensures.range (in_top c.in-Ok.number c.begin_file.ensures.range.0) c.in-Ok-first_bytes.ensures.fits)
+    (c.as_slice-2.ensures.value ∙ c.in-Ok-first_bytes.ensures.ok was.queues.items)
+
+pub returns-clause-may : goal.returns-clause-may
+returns-clause-may g c = λ told before.
+    let was = c.args.self.now in
+    let header : Header = record { file = c.in-Ok.number; previous = was.header.file; good = was.size } in
+    let on = c.requires.sound.on_disk told c.if-self.false in
+    c.begin_file.ensures.may told was.queues.items
     (record {
       files = was.header.file ∷ (found_behind (wal was.queues.items) top (Ours was.header)
           (files_of (now (g.D.NodeDisk.past was.disk)))).files;

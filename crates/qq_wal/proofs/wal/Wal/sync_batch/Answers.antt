@@ -4,7 +4,8 @@ use Rattle.std.specs.Global.{Vec}
 use Rattle.std.specs.List.{AllByRecursion}
 use Rattle.qq_disk.specs.Disk.{now}
 use Rattle.qq_wal.specs.declared.marks.Mark.{Mark}
-use Rattle.qq_wal.specs.Marks.{AllFollow, Carries, HasCarry, add_records, known, queues_in}
+use Rattle.qq_log.specs.Carries.{Carries}
+use Rattle.qq_wal.specs.Marks.{AllFollow, HasCarry, add_records, known, queues_in}
 use Rattle.qq_wal.specs.declared.notices.Notice.{Notice}
 use Rattle.qq_wal.specs.Notices.{AreCounted, AreNamed, notices_in, sync_mark, synced_in}
 use Rattle.qq_wal.specs.Wal.{IsKept, IsOnDisk}
@@ -19,8 +20,14 @@ use Rattle.qq_wal.proofs.wal.Wal.sync_batch.Goals as goal
 pub returns-in-Err-sync_file-clause-stays : goal.returns-in-Err-sync_file-clause-stays
 returns-in-Err-sync_file-clause-stays g c = λ told. c.sync_file.ensures.stays told c.args.self.now.queues.items
 
+pub returns-in-Err-sync_file-clause-may : goal.returns-in-Err-sync_file-clause-may
+returns-in-Err-sync_file-clause-may g c = λ told. c.sync_file.ensures.may told c.args.self.now.queues.items
+
 pub returns-clause-stays : goal.returns-clause-stays
 returns-clause-stays g c = λ told. c.sync_file.ensures.stays told c.args.self.now.queues.items
+
+pub returns-clause-may : goal.returns-clause-may
+returns-clause-may g c = λ told. c.sync_file.ensures.may told c.args.self.now.queues.items
 
 pub returns-clause-noticed : goal.returns-clause-noticed
 returns-clause-noticed g c = λ told.
