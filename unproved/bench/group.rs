@@ -39,7 +39,7 @@ impl Member {
     // How many ops waited, which are all written.
     fn write(&mut self, alloc: Global, group: &mut Group<MachineQueue, Log>) -> Result<u64> {
         let mut count = 0;
-        while let Some(op) = group.waiting(alloc, self.node)? {
+        for op in group.take_ops(alloc, self.node)? {
             if let Some(log) = &mut self.log {
                 if let Err((fault, _)) = log.gather(op) {
                     bail!("{fault}");

@@ -107,7 +107,7 @@ impl Bench {
     fn write(&mut self, alloc: Global) -> Result<u32> {
         let mut count = 0;
         for (disk, number) in self.disks.iter_mut().zip(1u8..) {
-            while let Some(op) = self.group.waiting(alloc, NodeId(number))? {
+            for op in self.group.take_ops(alloc, NodeId(number))? {
                 disk.push(op)?;
                 count += 1;
             }

@@ -188,11 +188,36 @@ impl Party {
     /// The next op of a member is written to its disk. Returns whether there was one.
     pub fn write(&mut self, node: u8) -> Result<bool> {
         let alloc = self.alloc;
-        let Some(op) = self.group.waiting(alloc, NodeId(node))? else {
+        let Some(op) = self.group.waiting(NodeId(node)) else {
             return Ok(false);
         };
         self.disk(node)?.write(alloc, op)?;
         Ok(true)
+    }
+
+    /// All ops of a member that wait are written to its disk, at once.
+    pub fn write_each(&mut self, node: u8) -> Result<Shown> {
+        let alloc = self.alloc;
+        for op in self.group.take_ops(alloc, NodeId(node))? {
+            self.disk(node)?.write(alloc, op)?;
+        }
+        self.notice(node)
+    }
+
+    /// The next op of a member is given back, and so is the next one again.
+    pub fn hesitate(&mut self, node: u8) -> Result<Shown> {
+        for _ in 0..2 {
+            let before = self.group.handed(NodeId(node));
+            let Some(op) = self.group.waiting(NodeId(node)) else {
+                break;
+            };
+            self.group.give_back(NodeId(node), op);
+            ensure!(
+                self.group.handed(NodeId(node)) == before,
+                "an op isn't taken back"
+            );
+        }
+        self.notice_op(node, 0)
     }
 
     /// All messages that are on their way reach their members. Returns how many they were.

@@ -39,10 +39,12 @@ pub fn happen(random: &mut Random, party: &mut Party, time: u64) -> Result<Shown
         0..2 => party.tick(node),
         2..26 => party.publish(node, time, random.below(100) as usize, true),
         26..154 => party.deliver(place_of(random, party)),
-        154..210 => {
+        154..190 => {
             party.write(node)?;
             party.notice(node)
         }
+        190..205 => party.write_each(node),
+        205..210 => party.hesitate(node),
         210..216 => {
             party.start_again(node)?;
             party.notice_op(node, 0)

@@ -10,7 +10,6 @@ use Rattle.qq_base.specs.declared.memory.Memory.{Memory}
 use Rattle.qq_base.specs.declared.memory.Memory.TheVariants.{Want, Spent}
 use Rattle.qq_raft_msg.specs.declared.bag.TheConstants.{BAG_LIMIT}
 use Rattle.qq_raft_msg.specs.declared.rpc.Rpc.{Rpc}
-use Rattle.qq_raft_model.specs.State.{Server as Raft}
 use Rattle.qq_raft.specs.declared.server.Server.{Server}
 
 pub all-more : {A : Type 0} (P : A → Type 0) (old new : List A) (x : A) → new ≡ old ++ x ∷ [] → All P old → P x
@@ -33,11 +32,12 @@ moved bag now out left all rpc put first rest is =
     ∙ ap (λ (l : List Rpc). bag ++ rpc ∷ l) rest ∙ ap (λ (l : List Rpc). bag ++ l) (sym (first-is out rpc first)) ∙ is
 
 -- nothing but its messages has changed
-pub only-out : (first old new : Raft) → old ≡ record first { out = old.out }
-    → new ≡ record old { out = drop 1 old.out } → new ≡ record first { out = new.out }
-only-out first old new was rest =
-    rest ∙ ap (λ (s : Raft). record s { out = drop 1 old.out }) was
-    ∙ ap (λ (out : List Rpc). record first { out = out }) (sym (ap (λ (s : Raft). s.out) rest))
+pub out-again : {Q L : Type 0} (first old new : Server Q L)
+    → old ≡ record first { raft = record first.raft { out = old.raft.out } }
+    → new ≡ record old { raft = record old.raft { out = new.raft.out } }
+    → new ≡ record first { raft = record first.raft { out = new.raft.out } }
+out-again first old new was rest =
+    rest ∙ ap (λ (s : Server _ _). record s { raft = record s.raft { out = new.raft.out } }) was
 
 -- a bag is full while a message is left
 pub full-with : (e : Memory) (bag out : List Rpc) (rpc : Rpc) (n : ℕ) → Some rpc ≡ slice_get out 0
@@ -46,8 +46,3 @@ pub full-with : (e : Memory) (bag out : List Rpc) (rpc : Rpc) (n : ℕ) → Some
 full-with Want bag out rpc n first count cause = tt
 full-with (Spent number) bag out rpc n first count cause =
     (cause.0, omega (arith, cause.1, count, ap length (first-is out rpc first)))
-
--- nothing but its Raft part has changed
-pub only-raft : {Q L : Type 0} (first old new : Server Q L) → old ≡ record first { raft = old.raft }
-    → new ≡ record old { raft = new.raft } → new ≡ record first { raft = new.raft }
-only-raft first old new was rest = rest ∙ ap (λ (s : Server _ _). record s { raft = new.raft }) was

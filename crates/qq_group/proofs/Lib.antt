@@ -1,12 +1,12 @@
 mod Audits
 mod Bags
-mod Copies
 mod Finding
 mod Following
 mod Idle
 mod Inputs
 mod Intact
 mod Leaders
+mod LeadsTo
 mod Notices
 mod Promises
 mod Reached

@@ -12,12 +12,11 @@ use Rattle.qq_raft_model.specs.Group.{Group as GroupState, Seat as SeatState, fe
 use Rattle.qq_raft_model.specs.Group.Event.{Crash, Notice}
 use Rattle.qq_group.specs.Events.{lacks_by, lacks_op, notices}
 use Rattle.qq_group.specs.Follows.{Follows, Makes, OthersStay}
-use Rattle.qq_group.specs.Group.{IsSeat, IsSeatBy, Represents, server_at, server_by}
+use Rattle.qq_raft_core.specs.declared.lanes.Lanes.{Lanes}
+use Rattle.qq_group.specs.Group.{IsSeat, IsSeatBy, KnowsLeft, Represents, server_at, server_by}
 use Rattle.qq_group.specs.Handing.{held}
-use Rattle.qq_group.specs.Step.{IsTaken, emptied}
 use Rattle.qq_group.specs.declared.group.Group.{Group}
 use Rattle.qq_group.specs.declared.seat.Seat.{Seat}
-use Rattle.qq_group.proofs.Stepped.{changed-own}
 
 -- ---- notices
 
@@ -60,15 +59,12 @@ notice-lacks log k op lacks old new is same = λ g reached r.
 
 crashed-by : {Q L : Type 0} (log : L → LogState) (state : SeatState) (seat : Seat Q L)
     → IsSeatBy log state seat None → IsSeatBy log (record state { server = None }) seat None
-crashed-by log state seat is = (
-  refl,
-  λ known.
-      record {
-        noticed = (is.1 known).noticed;
-        handed = (is.1 known).handed;
-        history = (is.1 known).history;
-      },
-)
+crashed-by {Q = Q} {L = L} log state seat is = (refl, λ known. by seat.left (is.1 known))
+  where
+    by : (o : Option (Lanes L)) → KnowsLeft log state seat o → KnowsLeft log (record state { server = None }) seat o
+    by None knows = elim knows [ ]
+    by (Some lanes) knows =
+        record { noticed = knows.noticed; handed = knows.handed; leads = knows.leads }
 
 crashed-seat : {Q L : Type 0} (log : L → LogState) (state : SeatState) (o : Option (Seat Q L)) → IsSeat log state o
     → server_by o ≡ None → IsSeat log (record state { server = None }) o
@@ -91,10 +87,6 @@ down-crashes {Q = Q} {L = L} log k old new same down = λ g r.
       seats = put-each (λ i x. IsSeat log x (slice_get old.seats.items i)) k state g.seat
           (crashed-seat log (g.seat k) (slice_get old.seats.items k) (r.seats k) down) (λ i other. r.seats i);
     })
-
-pub taken-down : {Q L : Type 0} (k : ℕ) (s : Server Q L) (old mid : Group Q L) → IsTaken k s old mid
-    → server_at k mid ≡ None
-taken-down k s old mid t = ap server_by (changed-own k t.seat (emptied t.seat) old mid t.changes)
 
 pub same-others : {Q L : Type 0} (k : ℕ) (old new : Group Q L) → new ≡ old → OthersStay k old new
 same-others k old new same = λ q other. ap (λ x. slice_get x.seats.items q) same

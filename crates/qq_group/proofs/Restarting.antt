@@ -1,9 +1,9 @@
 -- What a restart makes of the states that a group stands for, and groups without servers.
-use Rattle.std.proofs.Common.{◌≡◌, ℕ, ◌≤◌, ◌&&◌, Bool, true, false, leb, List, length, take, Option, Some, None, refl, sym, ap, subst, ◌∙◌, arith, inl, inr}
+use Rattle.std.proofs.Common.{◌≡◌, ℕ, ◌≤◌, ◌&&◌, ◌++◌, Bool, true, false, leb, List, [], length, take, Option, Some, None, refl, sym, ap, subst, ◌∙◌, arith, inl, inr}
 use Rattle.std.specs.Bool.{Decides}
 use Rattle.std.specs.Prelude.{slice_get}
 use Rattle.std.proofs.lemmas.Bool.{cond-true, false≢true, le-leb}
-use Rattle.std.proofs.lemmas.List.{length-take}
+use Rattle.std.proofs.lemmas.List.{append-nil, length-take}
 use Rattle.std.proofs.lemmas.List.Elements.{All-get_or}
 use Rattle.std.proofs.lemmas.Option.{slice_get_cases}
 use Rattle.qq_base.specs.declared.ids.NodeId.{NodeId}
@@ -12,7 +12,11 @@ use Rattle.qq_base.specs.declared.ids.Term.{Term}
 use Rattle.qq_entry.specs.declared.command.Entry.{Entry}
 use Rattle.qq_log.specs.Log.{LogState}
 use Rattle.qq_log.specs.Stable.{Stable, stable}
+use Rattle.qq_log.specs.declared.op.Op.{Op}
 use Rattle.qq_raft_core.specs.Raft.{server_of, lane_of}
+use Rattle.qq_raft_core.specs.Undone.{Held, found, held_after, held_by, newest, stable_of}
+use Rattle.qq_raft_core.specs.declared.lanes.Lanes.{Lanes}
+use Rattle.qq_raft_core.specs.declared.undo.Undo.{Undo}
 use Rattle.qq_raft_model.proofs.Handing.{known-all}
 use Rattle.qq_raft_model.specs.Handing.{plain_state}
 use Rattle.qq_raft_model.specs.Server.{restart}
@@ -23,13 +27,13 @@ use Rattle.qq_raft_model.specs.Group.Event.{Restart}
 use Rattle.qq_raft.specs.Stands.{StandsFor}
 use Rattle.qq_raft.specs.Step.{new_state}
 use Rattle.qq_group.specs.Follows.{OthersStay}
-use Rattle.qq_group.specs.Group.{IsSeat, IsSeatBy, IsServed, HasReturned, IsReturned, KnowsLog, Represents, server_at, server_by}
+use Rattle.qq_group.specs.Group.{HasLeft, HasMade, IsLeft, IsSeat, IsSeatBy, IsServed, HasReturned, IsReturned, KnowsLeft, LeadsTo, Represents, server_at, server_by}
 use Rattle.qq_group.specs.Opening.{AreEmpty, IsAllDown, IsEmpty, IsFresh, IsOpened, OpensOver, Start, Starts}
-use Rattle.qq_group.specs.Restarts.{Finds, HasStarted, IsFound, IsIntactAt, IsLost, IsStarted, Restarts, disk_of, is_known, started_seat}
+use Rattle.qq_group.specs.Restarts.{Finds, HasStarted, Holds, IsFound, IsIntactAt, IsLost, IsStarted, Restarts, is_known, started_seat}
 use Rattle.qq_group.specs.declared.group.Group.{Group}
-use Rattle.qq_group_history.specs.declared.state.DiskState.{DiskState}
 use Rattle.qq_group.specs.declared.seat.Seat.{Seat}
-use Rattle.qq_group_history.proofs.Histories.{history-at, history-new}
+use Rattle.qq_group.proofs.Intact.{same-state}
+use Rattle.qq_group.proofs.LeadsTo.{held_of, leads-new}
 use Rattle.qq_group.proofs.Stepped.{changed-other, changed-own, is-down, represents-put}
 
 -- ---- groups without servers
@@ -52,6 +56,10 @@ empty-served stands log index_of xs all =
 pub empty-returned : {Q L : Type 0} (xs : List (Seat Q L)) → AreEmpty xs → (k : ℕ) → HasReturned (slice_get xs k)
 empty-returned xs all =
     each-seat xs (λ o. HasReturned o) all tt (λ s e. subst IsReturned (sym e.returned) tt)
+
+pub empty-left : {Q L : Type 0} (log : L → LogState) (xs : List (Seat Q L)) → AreEmpty xs → (k : ℕ)
+    → HasLeft log (slice_get xs k)
+empty-left log xs all = each-seat xs (λ o. HasLeft log o) all tt (λ s e. subst (IsLeft log) (sym e.left) tt)
 
 empty-seat : {Q L : Type 0} (log : L → LogState) (state : SeatState) (s : Seat Q L) → IsEmpty s
     → state.server ≡ None → IsSeatBy log state s s.server
@@ -103,43 +111,62 @@ and-true false b p q = absurd (false≢true p)
 
 -- what is known of the log of a member that is down
 known-log : {Q L : Type 0} (log : L → LogState) (state : SeatState) (seat : Seat Q L) → IsSeatBy log state seat seat.server
-    → seat.server ≡ None → seat.known ≡ true → KnowsLog state seat
+    → seat.server ≡ None → seat.known ≡ true → KnowsLeft log state seat seat.left
 known-log log state seat is down known = (subst (IsSeatBy log state seat) down is).1 known
 
-intact-by : {Q L : Type 0} (log : L → LogState) (g : GroupState) (k : ℕ) (l : LogState) (o : Option (Seat Q L))
-    → IsSeat log (g.seat k) o → server_by o ≡ None → IsIntactAt o (disk_of l) → is_known o ≡ true → IsFound g k l
-intact-by log g k l None is down intact known = absurd (false≢true known)
-intact-by log g k l (Some seat) is down intact known =
-    let knows = known-log log (g.seat k) seat is down known in
-    let i = intact known in
-    let le : (g.seat k).noticed ≤ l.op = omega (arith, knows.noticed, i.0) in
+intact-left : {Q L : Type 0} (log : L → LogState) (g : GroupState) (k : ℕ) (l : LogState) (seat : Seat Q L)
+    (o : Option (Lanes L)) → KnowsLeft log (g.seat k) seat o → seat.noticed ≤ l.op → l.op ≤ seat.handed → Holds log l o
+    → IsFound g k l
+intact-left {Q = Q} {L = L} log g k l seat None knows from to holds = elim knows [ ]
+intact-left log g k l seat (Some lanes) knows from to holds =
+    let le : (g.seat k).noticed ≤ l.op = omega (arith, knows.noticed, from) in
+    let within : l.op ≤ length (g.seat k).ops = omega (arith, knows.handed, to) in
     record {
       noticed = le;
-      handed = omega (arith, knows.handed, i.1);
-      is = history-at (g.seat k).ops (g.seat k).noticed seat.history l.op knows.history le ∙ i.2;
+      handed = within;
+      is = knows.leads l.op le within ∙ ap (λ (h : Held). Some (stable_of h)) holds;
     }
+
+intact-by : {Q L : Type 0} (log : L → LogState) (g : GroupState) (k : ℕ) (l : LogState) (o : Option (Seat Q L))
+    → IsSeat log (g.seat k) o → server_by o ≡ None → IsIntactAt log o l → is_known o ≡ true → IsFound g k l
+intact-by log g k l None is down intact known = absurd (false≢true known)
+intact-by log g k l (Some seat) is down intact known =
+    let i = intact known in
+    intact-left log g k l seat seat.left (known-log log (g.seat k) seat is down known) i.0 i.1 i.2
 
 -- a log that is intact is found
 pub finds : {Q L : Type 0} (log : L → LogState) (k : ℕ) (l : LogState) (old : Group Q L)
-    → IsIntactAt (slice_get old.seats.items k) (disk_of l) → server_at k old ≡ None → Finds log k l old
+    → IsIntactAt log (slice_get old.seats.items k) l → server_at k old ≡ None → Finds log k l old
 finds log k l old intact down = λ g r known.
     intact-by log g k l (slice_get old.seats.items k) (r.seats k) down intact known
 
-found-by : {Q L : Type 0} (log : L → LogState) (g : GroupState) (k : ℕ) (l : LogState) (o : Option (Seat Q L))
-    → IsSeat log (g.seat k) o → server_by o ≡ None → IsFound g k l → IsIntactAt o (disk_of l)
-found-by log g k l None is down f = tt
-found-by log g k l (Some seat) is down f = λ known.
-    let knows = known-log log (g.seat k) seat is down known in
+some-is : {A : Type 0} (x y : A) → Some x ≡ Some y → x ≡ y
+some-is x y e = grind (arith, e)
+
+found-left : {Q L : Type 0} (log : L → LogState) (g : GroupState) (k : ℕ) (l : LogState) (seat : Seat Q L)
+    (o : Option (Lanes L)) → KnowsLeft log (g.seat k) seat o → IsFound g k l
+    → (seat.noticed ≤ l.op) × (l.op ≤ seat.handed) × Holds log l o
+found-left {Q = Q} {L = L} log g k l seat None knows f = elim knows [ ]
+found-left log g k l seat (Some lanes) knows f =
     let noticed = f.noticed in
-    let handed = f.handed in (
+    let handed = f.handed in
+    let held = held_after l.op lanes.undos.items (newest log lanes) in (
       omega (arith, knows.noticed, noticed),
       omega (arith, knows.handed, handed),
-      sym (history-at (g.seat k).ops (g.seat k).noticed seat.history l.op knows.history f.noticed) ∙ f.is,
+      same-state held (found l)
+          (some-is (stable_of held) (stable_of (found l)) (sym (knows.leads l.op f.noticed f.handed) ∙ f.is)),
     )
 
-unknown-intact : {Q L : Type 0} (o : Option (Seat Q L)) (d : DiskState) → is_known o ≡ false → IsIntactAt o d
-unknown-intact None d unknown = tt
-unknown-intact (Some seat) d unknown = λ known. absurd (false≢true (sym unknown ∙ known))
+found-by : {Q L : Type 0} (log : L → LogState) (g : GroupState) (k : ℕ) (l : LogState) (o : Option (Seat Q L))
+    → IsSeat log (g.seat k) o → server_by o ≡ None → IsFound g k l → IsIntactAt log o l
+found-by log g k l None is down f = tt
+found-by log g k l (Some seat) is down f = λ known.
+    found-left log g k l seat seat.left (known-log log (g.seat k) seat is down known) f
+
+unknown-intact : {Q L : Type 0} (log : L → LogState) (o : Option (Seat Q L)) (l : LogState) → is_known o ≡ false
+    → IsIntactAt log o l
+unknown-intact log None l unknown = tt
+unknown-intact log (Some seat) l unknown = λ known. absurd (false≢true (sym unknown ∙ known))
 
 known-cases : (b : Bool) → (b ≡ false → ⊥) → b ≡ true
 known-cases true other = refl
@@ -147,13 +174,13 @@ known-cases false other = absurd (other refl)
 
 -- and one that isn't intact is lost
 pub loses : {Q L : Type 0} (log : L → LogState) (k : ℕ) (l : LogState) (old : Group Q L) (intact : Bool)
-    → Decides intact (IsIntactAt (slice_get old.seats.items k) (disk_of l)) → intact ≡ false
+    → Decides intact (IsIntactAt log (slice_get old.seats.items k) l) → intact ≡ false
     → server_at k old ≡ None → IsLost log k l old
 loses log k l old intact decides not_intact down =
     let seat = slice_get old.seats.items k in
     record {
       known = known-cases (is_known seat) (λ unknown.
-          false≢true (sym not_intact ∙ decides.1 (unknown-intact seat (disk_of l) unknown)));
+          false≢true (sym not_intact ∙ decides.1 (unknown-intact log seat l unknown)));
       other = λ g r f.
           false≢true (sym not_intact ∙ decides.1 (found-by log g k l seat (r.seats k) down f));
     }
@@ -167,8 +194,8 @@ found-or log g k l old false known r finds_it unknown = unknown known
 pub restarts : {Q L : Type 0} (log : L → LogState) (node : NodeId) (l : LogState) (s : Server Q L)
     (old new : Group Q L) → has_node node.0 old.nodes.items ≡ true → server_at node.0 old ≡ None
     → Finds log node.0 l old → server_of log s.raft ≡ restart node old.nodes.items (lane_of old.queue l)
-    → IsStarted node.0 (disk_of l) s old new → Restarts log node.0 l old new
-restarts {Q = Q} {L = L} log node l s old new member down finds_it made t = λ g r unknown.
+    → s.raft.undos.items ≡ [] → IsStarted node.0 s.raft.op s old new → Restarts log node.0 l old new
+restarts {Q = Q} {L = L} log node l s old new member down finds_it made none t = λ g r unknown.
     let k = node.0 in
     let f : IsFound g k l =
     found-or log g k l old (is_known (slice_get old.seats.items k)) refl r finds_it unknown in
@@ -177,17 +204,24 @@ restarts {Q = Q} {L = L} log node l s old new member down finds_it made t = λ g
     (and-true (has_node k g.nodes) _ (ap (has_node k) r.nodes ∙ member)
     (and-true (leb (g.seat k).noticed l.op) _ (le-leb (g.seat k).noticed l.op f.noticed)
     (le-leb l.op (length (g.seat k).ops) f.handed))) in
-    let found : Stable = plain_state l.op l.term l.vote l.entries in
+    let state_found : Stable = plain_state l.op l.term l.vote l.entries in
     let state : SeatState = record {
-      server = Some (restart (record { 0 = k }) g.nodes (lane_with g.queue found));
+      server = Some (restart (record { 0 = k }) g.nodes (lane_with g.queue state_found));
       ops = take l.op (g.seat k).ops;
       noticed = l.op;
     } in
-    let now : Seat Q L = started_seat (disk_of l) t.history s in
-    let same : happens (Restart k l.op) g ≡ restart_by k l.op (Some found) g =
+    let now : Seat Q L = started_seat s.raft.op s t.was in
+    let op : s.raft.op ≡ l.op = ap (λ (x : Raft). x.op) made in
+    let none_wait : s.raft.ops.items ≡ [] = ap (λ (x : Raft). x.ops) made in
+    let held : held_by log s.raft ≡ found l = ap held_of made in
+    let ops = take l.op (g.seat k).ops in
+    let all : ops ++ s.raft.ops.items ≡ ops =
+    ap (λ (os : List Op). ops ++ os) none_wait ∙ append-nil ops in
+    let count : length ops ≡ l.op = omega (arith, length-take l.op (g.seat k).ops, f.handed) in
+    let same : happens (Restart k l.op) g ≡ restart_by k l.op (Some state_found) g =
     cond-true (may_restart k l.op g) (restart_by k l.op (stable (take l.op (g.seat k).ops)) g) g may
     ∙ ap (λ o. restart_by k l.op o g) f.is in
-    let server : restart node g.nodes (lane_with g.queue found) ≡ server_of log s.raft =
+    let server : restart node g.nodes (lane_with g.queue state_found) ≡ server_of log s.raft =
     restarted node g l
     ∙ ap (λ q. restart node g.nodes (lane_of q l)) r.queue
     ∙ ap (λ ns. restart node ns (lane_of old.queue l)) r.nodes ∙ sym made in
@@ -195,23 +229,28 @@ restarts {Q = Q} {L = L} log node l s old new member down finds_it made t = λ g
     (represents-put log g k state t.was now g.bag g.audit old new r t.changes (
       ap Some server,
       record {
-        noticed = refl;
-        handed = omega (arith, length-take l.op (g.seat k).ops, f.handed);
-        history = history-new (g.seat k).ops (disk_of l) t.history f.handed f.is t.start t.none;
+        noticed = sym op;
+        handed = count ∙ sym op;
+        leads = subst (LeadsTo l.op (ops ++ s.raft.ops.items) s.raft.undos.items) (sym held)
+            (subst (λ (us : List Undo). LeadsTo l.op (ops ++ s.raft.ops.items) us (found l)) (sym none)
+            (subst (λ (os : List Op). LeadsTo l.op os [] (found l)) (sym all)
+            (leads-new (g.seat k).ops (found l) f.handed f.is)));
       },
-      sym (ap (λ (x : Raft). x.noticed) made),
+      op ∙ sym (ap (λ (x : Raft). x.noticed) made),
+      subst (HasMade (ops ++ s.raft.ops.items)) (sym held)
+          (subst (λ (os : List Op). HasMade os (found l)) (sym all) (record { count = sym count; is = f.is })),
     )
     (r.bag ∙ sym t.bag) (r.audit ∙ ap (λ a. a.items) (sym t.audit)))
 
-pub started-others : {Q L : Type 0} (k : ℕ) (d : DiskState) (s : Server Q L) (old new : Group Q L)
-    → IsStarted k d s old new → OthersStay k old new
-started-others k d s old new t = λ q other. changed-other k q t.was _ old new t.changes other
+pub started-others : {Q L : Type 0} (k op : ℕ) (s : Server Q L) (old new : Group Q L)
+    → IsStarted k op s old new → OthersStay k old new
+started-others k op s old new t = λ q other. changed-other k q t.was _ old new t.changes other
 
 pub has-started : {P Q L : Type 0} (stands : P → Q → Type 0) (log : L → LogState) (raft : Raft) (machine : Q)
-    (k : ℕ) (d : DiskState) (s : Server Q L) (old new : Group Q L) → IsStarted k d s old new
+    (k op : ℕ) (s : Server Q L) (old new : Group Q L) → IsStarted k op s old new
     → ((queue : P) → stands queue machine → StandsFor stands log (new_state raft queue) s)
     → HasStarted stands machine (server_at k new)
-has-started {Q = Q} {L = L} stands log raft machine k d s old new t made =
+has-started {Q = Q} {L = L} stands log raft machine k op s old new t made =
     subst (λ (o : Option (Server Q L)). HasStarted stands machine o)
     (sym (ap server_by (changed-own k t.was _ old new t.changes)))
     (λ queue stood. ((made queue stood).queue, (made queue stood).applied, (made queue stood).rows))

@@ -1,20 +1,21 @@
 -- Ops that are given back.
 use Rattle.std.proofs.Common.{◌≡◌, ◌⊎◌, ℕ, ◌<◌, Bool, true, false, List, length, Option, Some, None, refl, sym, ap, subst, ◌∙◌, inl, inr}
-use Rattle.std.specs.Prelude.{◌&&◌, is_some, IfSome, slice_get, slice_set}
+use Rattle.std.specs.Prelude.{◌&&◌, if◌then◌else◌, is_some, IfSome, slice_get, slice_set}
 use Rattle.std.proofs.lemmas.Bool.{cases_eq, false≢true}
 use Rattle.qq_log.specs.Log.{LogState}
 use Rattle.qq_log.specs.Writable.{MayWrite}
 use Rattle.qq_log.specs.declared.op.Op.{Op}
 use Rattle.qq_raft_core.specs.Raft.{server_of}
+use Rattle.qq_raft_core.specs.declared.raft.Raft.{Raft}
 use Rattle.qq_raft.specs.declared.server.Server.{Server}
 use Rattle.qq_group.specs.Follows.{KeepsQueue}
 use Rattle.qq_group.specs.Group.{IsReturned, server_at, server_by}
-use Rattle.qq_group.specs.Handing.{given_back, handed_seat, has_returned, next_by, reseated, returned_at, with_returned, IsHandedOver, IsReseated, KeepsReturned, Refills, StaysAt}
-use Rattle.qq_group.specs.Step.{ChangesSeat, IsTaken, emptied}
+use Rattle.qq_group.specs.Handing.{given_back, has_returned, next_by, returned_at, with_returned, IsHandedOutAt, KeepsReturned, Refills}
+use Rattle.qq_group.specs.Step.{ChangesSeat}
 use Rattle.qq_group.specs.declared.group.Group.{Group}
 use Rattle.qq_group.specs.declared.seat.Seat.{Seat}
 use Rattle.qq_group.proofs.Seats.{set-other, set-own}
-use Rattle.qq_group.proofs.Stepped.{changed-other, changed-own, taken-at}
+use Rattle.qq_group.proofs.Stepped.{changed-other, changed-own}
 
 pub refills : {Q L : Type 0} (k : ℕ) (returned after : Option Op) (seat : Seat Q L) (old new : Group Q L)
     → k < length old.seats.items → slice_get old.seats.items k ≡ Some seat → after ≡ returned
@@ -40,6 +41,17 @@ pub may-write : (returned : Option Op) → IsReturned returned → IfSome return
 may-write None is = tt
 may-write (Some op) is = is
 
+pub may-return : (ok : Bool) (returned : Option Op) → IsReturned returned → IsReturned (if ok then None else returned)
+may-return true returned is = tt
+may-return false returned is = is
+
+pub returned-there : {Q L : Type 0} (o : Option (Seat Q L)) (seat : Seat Q L) → o ≡ Some seat
+    → is_some seat.server ≡ true → is_some seat.returned ≡ true → has_returned o ≡ true
+returned-there {Q = Q} {L = L} o seat there up some =
+    ap (λ (p : Option (Seat Q L)). has_returned p) there
+    ∙ ap (λ b. b && is_some seat.returned) up
+    ∙ ap (λ b. true && b) some
+
 pub given : {Q L : Type 0} (takes : Bool) (op : Op) (seat : Option (Seat Q L)) → takes ≡ true
     → with_returned (Some op) seat ≡ given_back takes op seat
 given true op seat is = refl
@@ -57,33 +69,6 @@ changes-returned {Q = Q} {L = L} k was now old new c same = λ q. by q (cases_eq
         subst (λ (j : ℕ). returned_at (slice_get new.seats.items j) ≡ returned_at (slice_get old.seats.items j))
         (sym is) (ap returned_at (changed-own k was now old new c) ∙ same ∙ sym (ap returned_at c.there))
     by q (inr other) = ap returned_at (changed-other k q was now old new c other)
-
-pub taken-returned : {Q L : Type 0} (k : ℕ) (s : Server Q L) (old mid : Group Q L) → IsTaken k s old mid
-    → KeepsReturned old mid
-taken-returned k s old mid t = changes-returned k t.seat (emptied t.seat) old mid t.changes refl
-
-pub reseated-returned : {Q L : Type 0} (k : ℕ) (s t : Server Q L) (old mid new : Group Q L) → IsTaken k s old mid
-    → IsReseated k t mid new → KeepsReturned old new
-reseated-returned k s t old mid new taken put = λ q.
-    changes-returned k put.seat (reseated t put.seat) mid new put.changes refl q
-    ∙ taken-returned k s old mid taken q
-
-pub handed-returned : {Q L : Type 0} (k : ℕ) (s t : Server Q L) (op : Op) (old mid new : Group Q L)
-    → IsTaken k s old mid → IsHandedOver k t op mid new → KeepsReturned old new
-handed-returned k s t op old mid new taken put = λ q.
-    changes-returned k put.seat (handed_seat t put.history put.seat) mid new put.changes refl q
-    ∙ taken-returned k s old mid taken q
-
-pub stays-returned : {Q L : Type 0} (k : ℕ) (old mid new : Group Q L) → KeepsReturned old mid → StaysAt k mid new
-    → KeepsReturned old new
-stays-returned {Q = Q} {L = L} k old mid new keep s = λ q. by q (cases_eq q k) ∙ keep q
-  where
-    by : (q : ℕ) → (q ≡ k) ⊎ (q ≡ k → ⊥)
-        → returned_at (slice_get new.seats.items q) ≡ returned_at (slice_get mid.seats.items q)
-    by q (inl is) =
-        subst (λ (j : ℕ). returned_at (slice_get new.seats.items j) ≡ returned_at (slice_get mid.seats.items j))
-        (sym is) (ap returned_at s.seat)
-    by q (inr other) = ap returned_at (s.only.others q other)
 
 -- ---- and what takes it
 
@@ -115,7 +100,7 @@ left-after (Some op) next old new is same left =
 
 -- ---- the queues of those that hand ops out
 
-keeps-same : {Q L : Type 0} (o : Option (Server Q L)) → KeepsQueue o o
+pub keeps-same : {Q L : Type 0} (o : Option (Server Q L)) → KeepsQueue o o
 keeps-same None = refl
 keeps-same (Some s) = refl
 
@@ -131,18 +116,15 @@ keeps-up {Q = Q} {L = L} k s t old new was now same =
     subst (λ (o : Option (Server Q L)). KeepsQueue o (server_at k new)) (sym was)
     (subst (λ (o : Option (Server Q L)). KeepsQueue (Some s) o) (sym now) same)
 
-pub reseated-queue : {Q L : Type 0} (k : ℕ) (s t : Server Q L) (old mid new : Group Q L) → IsTaken k s old mid
-    → IsReseated k t mid new → t ≡ record s { raft = t.raft } → KeepsQueue (server_at k old) (server_at k new)
-reseated-queue k s t old mid new taken put same =
-    keeps-up k s t old new (taken-at k s old mid taken)
-    (ap server_by (changed-own k put.seat (reseated t put.seat) mid new put.changes)) same
+keeps-at : {Q L : Type 0} (s : Server Q L) (r : Raft L) (t : Server Q L) → t ≡ record s { raft = r } → t ≡ record s { raft = t.raft }
+keeps-at {Q = Q} {L = L} s r t is = is ∙ ap (λ (x : Server Q L). record s { raft = x.raft }) (sym is)
 
-pub handed-queue : {Q L : Type 0} (k : ℕ) (s t : Server Q L) (op : Op) (old mid new : Group Q L)
-    → IsTaken k s old mid → IsHandedOver k t op mid new → t ≡ record s { raft = t.raft }
+pub handed-queue : {Q L : Type 0} (n k : ℕ) (old new : Group Q L) → IsHandedOutAt n k old new
     → KeepsQueue (server_at k old) (server_at k new)
-handed-queue k s t op old mid new taken put same =
-    keeps-up k s t old new (taken-at k s old mid taken)
-    (ap server_by (changed-own k put.seat (handed_seat t put.history put.seat) mid new put.changes)) same
+handed-queue {Q = Q} {L = L} n k old new d =
+    keeps-up k d.out.was d.out.now old new (ap server_by d.changes.there ∙ d.out.up)
+    (ap server_by (changed-own k d.seat d.now old new d.changes) ∙ ap (λ (x : Seat Q L). x.server) d.out.seat)
+    (keeps-at d.out.was (record d.out.was.raft { ops = d.out.now.raft.ops }) d.out.now d.out.same)
 
 refilled-server : {Q L : Type 0} (returned : Option Op) (seat : Option (Seat Q L))
     → server_by (with_returned returned seat) ≡ server_by seat

@@ -6,7 +6,14 @@ use Rattle.qq_base.specs.Fronts.{IsFront, put}
 use Rattle.qq_base.proofs.Puts.{put-each, put-same}
 use Rattle.qq_entry.specs.declared.command.Entry.{Entry}
 use Rattle.qq_log.specs.Log.{LogState}
+use Rattle.qq_log.specs.Stable.{no_snapshot}
+use Rattle.qq_log.specs.declared.op.Op.{Op}
 use Rattle.qq_raft_core.specs.Raft.{server_of}
+use Rattle.qq_raft_core.specs.Undone.{Held, held_by, leads_back, unnoticed}
+use Rattle.qq_raft_core.specs.declared.undo.Undo.{Undo}
+use Rattle.qq_raft_core.proofs.Undoing.{led, same-base, still-leads}
+use Rattle.qq_raft_model.proofs.Handing.{continues-step}
+use Rattle.qq_raft_model.specs.Handing.{Continues}
 use Rattle.qq_raft_msg.specs.declared.rpc.Rpc.{Rpc}
 use Rattle.qq_raft_model.specs.Server.{Input as Event, step as step_raft}
 use Rattle.qq_raft_model.specs.State.{Server as Raft}
@@ -19,14 +26,14 @@ use Rattle.qq_raft.specs.declared.server.Server.{Server}
 use Rattle.qq_raft_model.specs.Group.{Group as GroupState, Seat as SeatState, after_step, feed, feed_by, happens}
 use Rattle.qq_raft_model.specs.Group.Event.{Crash}
 use Rattle.qq_group.specs.Follows.{AddsStep, Feeds, HasShown, HasShownBy, Makes, OthersStay}
-use Rattle.qq_group.specs.Group.{HasState, IsReached, IsSeat, IsSeatBy, IsServed, IsSound, Represents, server_at, server_by}
-use Rattle.qq_group.specs.Step.{ChangesSeat, IsDropped, IsFed, IsTaken, emptied, extended, known_by, seated}
+use Rattle.qq_group.specs.Group.{HasMade, HasState, IsLeft, IsReached, IsSeat, IsSeatBy, IsServed, IsSound, LeadsTo, Represents, server_at, server_by}
+use Rattle.qq_group.specs.Step.{ChangesSeat, IsDropped, IsDroppedAt, IsFed, extended, known_by, seated}
 use Rattle.qq_group.specs.Input.{acts, input_of}
 use Rattle.qq_group.specs.declared.group.Group.{Group}
 use Rattle.qq_group.specs.declared.input.Input.{Input}
 use Rattle.qq_group.specs.declared.seat.Seat.{Seat}
-use Rattle.qq_group_history.proofs.Histories.{history-later}
 use Rattle.qq_group.proofs.Inputs.{does-step}
+use Rattle.qq_group.proofs.LeadsTo.{held_of, leads-after, leads-handed, leads-later, leads-on, step-leads}
 use Rattle.qq_raft_model.proofs.Noticed.{noticed-rises}
 use Rattle.qq_group.proofs.Reached.{KnownLaw, extended-is, known-front}
 use Rattle.qq_group.proofs.Seats.{set-other, set-own, there-of}
@@ -44,8 +51,8 @@ pub changed-other : {Q L : Type 0} (k i : ℕ) (was now : Seat Q L) (old new : G
 changed-other k i was now old new c other =
     ap (λ (l : List (Seat _ _)). slice_get l i) c.seats ∙ set-other old.seats.items k i now other
 
-some-is : {A : Type 0} (x y : A) → Some x ≡ Some y → x ≡ y
-some-is x y e = grind (arith, e)
+pub same-some : {A : Type 0} (x y : A) → Some x ≡ Some y → x ≡ y
+same-some x y e = grind (arith, e)
 
 pub down-by : {Q L : Type 0} (log : L → LogState) (state : SeatState) (o : Option (Seat Q L)) → IsSeat log state o
     → server_by o ≡ None → state.server ≡ None
@@ -88,24 +95,7 @@ pub represents-put : {Q L : Type 0} (log : L → LogState) (g : GroupState) (k :
 represents-put log g k state was now bag audit old new r c own bag_is audit_is =
     represents-with log g k state was now bag audit old new r.queue r.nodes (λ i other. r.seats i) c own bag_is audit_is
 
--- ---- a server is taken out
-
--- the member has crashed
-pub taken-crashes : {Q L : Type 0} (log : L → LogState) (k : ℕ) (s : Server Q L) (old new : Group Q L)
-    → IsTaken k s old new → Makes log (happens (Crash k)) old new
-taken-crashes log k s old new t = λ g r.
-    represents-put log g k (record { server = None; ops = (g.seat k).ops; noticed = (g.seat k).noticed }) t.seat
-    (emptied t.seat) g.bag g.audit old new r t.changes (
-      refl,
-      λ _. record {
-        noticed = (is-up log g k t.seat s old r t.changes.there t.up).1.noticed;
-        handed = (is-up log g k t.seat s old r t.changes.there t.up).1.handed;
-        history = (is-up log g k t.seat s old r t.changes.there t.up).1.history;
-      },
-    )
-    (r.bag ∙ sym t.bag) (r.audit ∙ ap (λ a. a.items) (sym t.audit))
-
--- ---- and put back
+-- ---- a server makes a step
 
 fed-is : (k : ℕ) (input : Event) (s t : Raft) (g : GroupState) → (g.seat k).server ≡ Some s → t ≡ step_raft s input
     → feed k input g ≡ after_step k t g
@@ -127,13 +117,42 @@ has-state stands log index_of k seat group sound there s up =
     (subst (IsServed stands log index_of) up
     (subst (λ o. IsServed stands log index_of (server_by o)) there (sound.servers k))).state
 
+-- and its undos lead back
+abbrev pub CanLead : {Q L : Type 0} → (L → LogState) → Server Q L → Type 0
+CanLead log s = leads_back s.raft.op s.raft.undos.items (log s.raft.log).entries ≡ true
+
+pub can-lead : {P Q L : Type 0} (stands : P → Q → Type 0) (log : L → LogState) (index_of : Q → ℕ) (k : ℕ)
+    (seat : Seat Q L) (group : Group Q L) → IsSound stands log index_of group
+    → slice_get group.seats.items k ≡ Some seat → (s : Server Q L) → seat.server ≡ Some s → CanLead log s
+can-lead stands log index_of k seat group sound there s up =
+    (subst (IsServed stands log index_of) up
+    (subst (λ o. IsServed stands log index_of (server_by o)) there (sound.servers k))).sound.raft.undos
+
+-- what it leaves leads back too
+pub left-dropped : {Q L : Type 0} (log : L → LogState) (old new : Seat Q L) → (d : IsDropped log old new)
+    → CanLead log d.was → (log d.was.raft.log).base ≡ no_snapshot → IsLeft log new.left
+left-dropped {Q = Q} {L = L} log old new d leads whole =
+    let lanes = d.leaves.lanes in
+    let last = d.last.raft in
+    let op = ap (λ (h : Held). h.op) d.leaves.newest_is in
+    let entries = ap (λ (h : Held). h.log) d.leaves.newest_is in
+    subst (IsLeft log) (sym (ap (λ (x : Seat Q L). x.left) d.leaves.seat)) (
+      ap (λ (l : L). (log l).base) d.leaves.log_is ∙ same-base log d.was.raft last d.back ∙ whole,
+      ap (λ (n : ℕ). leads_back n lanes.undos.items (log lanes.log).entries) op
+          ∙ ap (λ (us : List Undo). leads_back last.op us (log lanes.log).entries) d.leaves.undos
+          ∙ ap (λ (es : List Entry). leads_back last.op last.undos.items es) entries
+          ∙ still-leads log d.was.raft last d.back
+          ∙ leads,
+    )
+
 -- the step is the definition's
 pub stepped : {P Q L : Type 0} (stands : P → Q → Type 0) (step : P → Index → Entry → Applied P) (log : L → LogState)
     → KnownLaw → (k : ℕ) (input : Input) (seat now : Seat Q L) (rows : List AppliedRow) (old new : Group Q L)
     → ChangesSeat k seat now old new → ((s : Server Q L) → seat.server ≡ Some s → HasState stands s.machine)
+    → ((s : Server Q L) → seat.server ≡ Some s → CanLead log s)
     → IsFed stands log (acts step input) seat now old.bag new.bag old.audit.items new.audit.items rows
     → Feeds log k (input_of input) old new
-stepped stands step log law k input seat now rows old new c has fed = λ g r reached grows.
+stepped stands step log law k input seat now rows old new c has leads fed = λ g r reached grows.
     let s = fed.was in
     let t = fed.stepped.made in
     let settles = fed.stepped.settles in
@@ -146,14 +165,28 @@ stepped stands step log law k input seat now rows old new c has fed = λ g r rea
     let told : view.noticed ≡ (step_raft (server_of log s.raft) event).noticed = ap (λ (x : Raft). x.noticed) made in
     let rises = noticed-rises (server_of log s.raft) event in
     let le : (g.seat k).noticed ≤ view.noticed = omega (arith, up.1.noticed, up.2, rises, told) in
+    let ops = (g.seat k).ops in
+    let on = step-leads ops (g.seat k).noticed (server_of log s.raft) view s.raft.undos.items t.raft.undos.items
+    (subst (Continues (server_of log s.raft)) (sym made) (continues-step (server_of log s.raft) event)) up.3
+    (led log s.raft t.raft fed.stepped.back (leads s fed.up)) up.1.leads in
+    let left = unnoticed t.raft in
+    let given = leads-on view.noticed (ops ++ view.ops) t.raft.undos.items (held_of view) (sym on.1.count)
+    (leads-later (g.seat k).noticed view.noticed (ops ++ view.ops) t.raft.undos.items (held_of view) le on.0) in
+    let now_ops : fed.now.raft.ops.items ≡ view.ops = ap (λ (x : Raft). x.ops) settles.raft in
+    let now_held : held_by log fed.now.raft ≡ held_of view = ap held_of settles.raft in
     let own : IsSeatBy log state (seated (server_of log fed.now.raft).noticed fed.now seat) (Some fed.now) = (
       ap Some (sym settles.raft),
       record {
         noticed = sym (ap (λ (x : Raft). x.noticed) settles.raft);
         handed = up.1.handed;
-        history = history-later (g.seat k).ops (g.seat k).noticed view.noticed seat.history up.1.history le;
+        leads = subst (LeadsTo view.noticed (ops ++ fed.now.raft.ops.items) fed.now.raft.undos.items) (sym now_held)
+            (subst (λ (us : List Undo). LeadsTo view.noticed (ops ++ fed.now.raft.ops.items) us (held_of view))
+            (sym settles.undos)
+            (subst (λ (l : List Op). LeadsTo view.noticed (ops ++ l) left (held_of view)) (sym now_ops) given));
       },
       refl,
+      subst (HasMade (ops ++ fed.now.raft.ops.items)) (sym now_held)
+          (subst (λ (l : List Op). HasMade (ops ++ l) (held_of view)) (sym now_ops) on.1),
     ) in
     subst (λ h. Represents log h new) (sym same)
     (represents-put log g k state seat now (g.bag ++ view.out) (after_step k view g).audit old new r c
@@ -163,23 +196,33 @@ stepped stands step log law k input seat now rows old new c has fed = λ g r rea
     (subst (λ h. IsFront g.audit h.audit) same grows) ∙ sym settles.audit_is))
 
 -- a member whose server is gone has crashed
-pub dropped-crashes : {Q L : Type 0} (log : L → LogState) (k : ℕ) (seat now : Seat Q L) (old new : Group Q L)
-    → ChangesSeat k seat now old new → IsDropped seat now old.bag new.bag old.audit.items new.audit.items
-    → Makes log (happens (Crash k)) old new
-dropped-crashes log k seat now old new c d = λ g r.
+pub dropped-crashes : {Q L : Type 0} (log : L → LogState) (k : ℕ) (old new : Group Q L)
+    → (d : IsDroppedAt log k old new) → CanLead log d.dropped.was → Makes log (happens (Crash k)) old new
+dropped-crashes log k old new d leads = λ g r.
     let state : SeatState = record { server = None; ops = (g.seat k).ops; noticed = (g.seat k).noticed } in
-    let up = is-up log g k seat d.was old r c.there d.up in
-    let own : IsSeatBy log state (emptied seat) None = (
+    let s = d.dropped.was in
+    let last = d.dropped.last in
+    let lanes = d.dropped.leaves.lanes in
+    let ops = (g.seat k).ops in
+    let up = is-up log g k d.seat s old r d.changes.there d.dropped.up in
+    let count = up.3.count in
+    let on = leads-handed (g.seat k).noticed ops s.raft.ops.items last.raft.undos.items (held_by log last.raft)
+    (leads-after (g.seat k).noticed (ops ++ s.raft.ops.items) s.raft.undos.items last.raft.undos.items
+    (held_by log s.raft) (held_by log last.raft) (omega (arith, count)) (led log s.raft last.raft d.dropped.back leads)
+    up.1.leads) in
+    let own : IsSeatBy log state (record d.seat { server = None; left = Some lanes }) None = (
       refl,
       λ _. record {
         noticed = up.1.noticed;
         handed = up.1.handed;
-        history = up.1.history;
+        leads = subst (LeadsTo (g.seat k).noticed ops lanes.undos.items) (sym d.dropped.leaves.newest_is)
+            (subst (λ (us : List Undo). LeadsTo (g.seat k).noticed ops us (held_by log last.raft))
+            (sym d.dropped.leaves.undos) on);
       },
     ) in
-    represents-put log g k state seat now g.bag g.audit old new r c
-    (subst (λ (x : Seat _ _). IsSeatBy log state x x.server) (sym d.seat) own) (r.bag ∙ sym d.bag_is)
-    (r.audit ∙ sym d.audit_is)
+    represents-put log g k state d.seat d.now g.bag g.audit old new r d.changes
+    (subst (λ (x : Seat _ _). IsSeatBy log state x x.server) (sym d.dropped.leaves.seat) own) (r.bag ∙ sym d.bag)
+    (r.audit ∙ sym d.audit)
 
 -- ---- where a member is down
 
@@ -196,14 +239,6 @@ pub up_within : {Q L : Type 0} (k : ℕ) (group : Group Q L) (r : Bool) → r �
     → k < length group.seats.items
 up_within k group r is up =
     there-of group.seats.items k (λ (o : Option (Seat _ _)). is_some (server_by o)) refl (sym is ∙ up)
-
-pub taken-at : {Q L : Type 0} (k : ℕ) (s : Server Q L) (old mid : Group Q L) → IsTaken k s old mid
-    → server_at k old ≡ Some s
-taken-at k s old mid t = ap server_by t.changes.there ∙ t.up
-
-pub taken-others : {Q L : Type 0} (k : ℕ) (s : Server Q L) (old mid : Group Q L) → IsTaken k s old mid
-    → OthersStay k old mid
-taken-others k s old mid t = λ q other. changed-other k q t.seat (emptied t.seat) old mid t.changes other
 
 pub changed-others : {Q L : Type 0} (k : ℕ) (was now : Seat Q L) (old new : Group Q L) → ChangesSeat k was now old new
     → OthersStay k old new

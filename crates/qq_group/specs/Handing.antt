@@ -1,41 +1,36 @@
 -- How ops leave a group for the members' logs.
-use Rattle.std.specs.Prelude.{◌≡◌, ◌+◌, ◌-◌, ◌^◌, ◌&&◌, ◌++◌, ◌∷◌, [], ℕ, Bool, true, false, Option, Some, None, is_none, is_some, min, if◌then◌else◌, slice_get}
+use Rattle.std.specs.Prelude.{◌≡◌, ◌⊎◌, ◌+◌, ◌-◌, ◌≤◌, ◌^◌, ◌&&◌, ◌++◌, [], ℕ, zero, suc, Bool, true, false, List, length, drop, Option, Some, None, is_none, is_some, min, if◌then◌else◌, slice_get}
+use Rattle.std.specs.Option.{option_to_list}
 use Rattle.qq_log.specs.Log.{LogState}
 use Rattle.qq_log.specs.declared.op.Op.{Op}
 use Rattle.qq_raft_core.specs.Raft.{server_of}
+use Rattle.qq_raft_core.specs.Undone.{last_handed}
 use Rattle.qq_raft.specs.declared.server.Server.{Server}
 use Rattle.qq_raft_model.specs.Group.{Group as GroupState, happens}
 use Rattle.qq_raft_model.specs.Group.Event.{Take}
-use Rattle.qq_group_history.specs.History.{last_op, ops_of}
 use Rattle.qq_group.specs.Step.{ChangesSeat}
 use Rattle.qq_group.specs.declared.group.Group.{Group}
-use Rattle.qq_group_history.specs.declared.history.History.{History}
 use Rattle.qq_group.specs.declared.seat.Seat.{Seat}
 
-abbrev pub reseated : {Q L : Type 0} → Server Q L → Seat Q L → Seat Q L
-reseated server seat = record seat { server = Some server }
+-- a server has handed out so many changes
+pub record IsHandedOut {Q L : Type 0} (n : ℕ) (old new : Seat Q L) : Type 0 where
+  pub was : Server Q L
+  pub now : Server Q L
+  pub up : old.server ≡ Some was
+  pub seat : new ≡ record old { server = Some now; handed = new.handed; returned = new.returned }
+  pub count : (new.handed ≡ min (old.handed + n) (2 ^ 64 - 1)) ⊎ ((n ≡ 0) × (new.handed ≡ old.handed))
+  pub same : now ≡ record was { raft = record was.raft { ops = now.raft.ops } }
+  pub there : n ≤ length was.raft.ops.items
+  pub rest : now.raft.ops.items ≡ drop n was.raft.ops.items
 
--- a server is put back into its seat
-pub record IsReseated {Q L : Type 0} (k : ℕ) (server : Server Q L) (old new : Group Q L) : Type 0 where
+-- and nothing else has changed
+pub record IsHandedOutAt {Q L : Type 0} (n k : ℕ) (old new : Group Q L) : Type 0 where
   pub seat : Seat Q L
-  pub changes : ChangesSeat k seat (reseated server seat) old new
+  pub now : Seat Q L
+  pub changes : ChangesSeat k seat now old new
+  pub out : IsHandedOut n seat now
   pub bag : new.bag ≡ old.bag
   pub audit : new.audit ≡ old.audit
-
-abbrev pub handed_seat : {Q L : Type 0} → Server Q L → History → Seat Q L → Seat Q L
-handed_seat server history seat =
-    record seat { server = Some server; handed = min (seat.handed + 1) (2 ^ 64 - 1); history = history }
-
--- a server that has handed out an op is put back into its seat, which keeps a copy of the op
-pub record IsHandedOver {Q L : Type 0} (k : ℕ) (server : Server Q L) (op : Op) (old new : Group Q L) : Type 0
-  where
-    pub seat : Seat Q L
-    pub history : History
-    pub start : history.start ≡ seat.history.start
-    pub more : ops_of history ≡ ops_of seat.history ++ op ∷ []
-    pub changes : ChangesSeat k seat (handed_seat server history seat) old new
-    pub bag : new.bag ≡ old.bag
-    pub audit : new.audit ≡ old.audit
 
 -- ---- ops that are given back
 
@@ -66,10 +61,14 @@ abbrev pub given_back : {Q L : Type 0} → Bool → Op → Option (Seat Q L) →
 given_back true op seat = with_returned (Some op) seat
 given_back false op seat = seat
 
--- the op that a log was handed last, since its member started
-abbrev pub IsLastOf : {Q L : Type 0} → Op → Option (Seat Q L) → Type 0
-IsLastOf op None = ⊥
-IsLastOf op (Some seat) = last_op seat.history ≡ Some op
+-- the op that a server handed out last, where it isn't noticed
+abbrev pub IsLastBy : {Q L : Type 0} → (L → LogState) → Op → Option (Server Q L) → Type 0
+IsLastBy log op None = ⊥
+IsLastBy log op (Some s) = last_handed log s.raft ≡ Some op
+
+abbrev pub IsLastOf : {Q L : Type 0} → (L → LogState) → Op → Option (Seat Q L) → Type 0
+IsLastOf log op None = ⊥
+IsLastOf log op (Some seat) = IsLastBy log op seat.server
 
 -- all but one seat, and all but the seats, is as it was
 pub record ChangesOnly {Q L : Type 0} (k : ℕ) (old new : Group Q L) : Type 0 where
@@ -78,11 +77,6 @@ pub record ChangesOnly {Q L : Type 0} (k : ℕ) (old new : Group Q L) : Type 0 w
   pub nodes : new.nodes ≡ old.nodes
   pub bag : new.bag ≡ old.bag
   pub audit : new.audit ≡ old.audit
-
--- nothing that can be told has changed
-pub record StaysAt {Q L : Type 0} (k : ℕ) (old new : Group Q L) : Type 0 where
-  pub seat : slice_get new.seats.items k ≡ slice_get old.seats.items k
-  pub only : ChangesOnly k old new
 
 -- what the members were given back stays
 abbrev pub KeepsReturned : {Q L : Type 0} → Group Q L → Group Q L → Type 0
@@ -110,3 +104,23 @@ next_at log (Some seat) = next_by log seat.returned seat.server
 abbrev pub hands : ℕ → Bool → GroupState → GroupState
 hands k true g = g
 hands k false g = happens (Take k) g
+
+-- ---- all ops that wait
+
+abbrev pub waiting_by : {Q L : Type 0} → Option Op → Option (Server Q L) → List Op
+waiting_by returned None = []
+waiting_by returned (Some s) = option_to_list returned ++ s.raft.ops.items
+
+-- of a member that is up: one that was given back, and then those that its server hasn't handed out
+abbrev pub waiting_at : {Q L : Type 0} → Option (Seat Q L) → List Op
+waiting_at None = []
+waiting_at (Some seat) = waiting_by seat.returned seat.server
+
+abbrev pub count_by : {Q L : Type 0} → Option (Server Q L) → ℕ
+count_by None = 0
+count_by (Some s) = length s.raft.ops.items
+
+-- a server's next ops are handed to its log, so many
+abbrev pub takes : ℕ → ℕ → GroupState → GroupState
+takes k zero g = g
+takes k (suc n) g = happens (Take k) (takes k n g)

@@ -28,6 +28,7 @@ use Rattle.qq_group.specs.declared.seat.Seat.{Seat}
 pub record IsEmpty {Q L : Type 0} (seat : Seat Q L) : Type 0 where
   pub server : seat.server ≡ None
   pub unknown : seat.known ≡ false
+  pub left : seat.left ≡ None
   pub returned : seat.returned ≡ None
 
 pub record AreEmpty {Q L : Type 0} (seats : List (Seat Q L)) : Type 0 where

@@ -3,16 +3,15 @@ use Rattle.std.specs.Prelude.{◌≡◌, ◌≤◌, ⊤, ℕ, Bool, true, false,
 use Rattle.qq_base.specs.declared.memory.Memory.TheVariants.{Want}
 use Rattle.qq_log.specs.Log.{LogState}
 use Rattle.qq_log.specs.Stable.{stable}
+use Rattle.qq_raft_core.specs.Undone.{found, held_after, newest}
+use Rattle.qq_raft_core.specs.declared.lanes.Lanes.{Lanes}
 use Rattle.qq_raft_model.specs.Handing.{plain_state}
 use Rattle.qq_raft.specs.declared.server.Server.{Server}
 use Rattle.qq_raft_model.specs.Group.{Group as GroupState, happens}
 use Rattle.qq_raft_model.specs.Group.Event.{Restart}
 use Rattle.qq_group.specs.Group.{Represents}
-use Rattle.qq_group_history.specs.History.{ops_of, stable_of, state_at}
 use Rattle.qq_group.specs.Step.{ChangesSeat}
 use Rattle.qq_group.specs.declared.group.Group.{Group}
-use Rattle.qq_group_history.specs.declared.state.DiskState.{DiskState}
-use Rattle.qq_group_history.specs.declared.history.History.{History}
 use Rattle.qq_group.specs.declared.restart.RestartFault.{RestartFault}
 use Rattle.qq_group.specs.declared.restart.RestartFault.TheVariants.{Lost, Memory}
 use Rattle.qq_group.specs.declared.seat.Seat.{Seat}
@@ -35,18 +34,18 @@ Restarts log k l old new =
     (g : GroupState) → Represents log g old → (is_known (slice_get old.seats.items k) ≡ false → IsFound g k l)
     → Represents log (happens (Restart k l.op) g) new
 
--- what a server that restarts with a log works on
-abbrev pub disk_of : LogState → DiskState
-disk_of l = record { op = l.op; term = l.term; vote = l.vote; entries = l.entries }
+-- a server's last changes lead back to a log
+abbrev pub Holds : {L : Type 0} → (L → LogState) → LogState → Option (Lanes L) → Type 0
+Holds log l None = ⊥
+Holds log l (Some lanes) = held_after l.op lanes.undos.items (newest log lanes) ≡ found l
 
 -- what was found is what the ops of a member's log come to, as far as these are known
-abbrev pub IsIntact : {Q L : Type 0} → Seat Q L → DiskState → Type 0
-IsIntact seat d =
-    (seat.noticed ≤ d.op) × (d.op ≤ seat.handed) × (state_at d.op seat.history ≡ Some (stable_of d))
+abbrev pub IsIntact : {Q L : Type 0} → (L → LogState) → Seat Q L → LogState → Type 0
+IsIntact log seat l = (seat.noticed ≤ l.op) × (l.op ≤ seat.handed) × Holds log l seat.left
 
-abbrev pub IsIntactAt : {Q L : Type 0} → Option (Seat Q L) → DiskState → Type 0
-IsIntactAt None d = ⊤
-IsIntactAt (Some seat) d = seat.known ≡ true → IsIntact seat d
+abbrev pub IsIntactAt : {Q L : Type 0} → (L → LogState) → Option (Seat Q L) → LogState → Type 0
+IsIntactAt log None l = ⊤
+IsIntactAt log (Some seat) l = seat.known ≡ true → IsIntact log seat l
 
 -- whichever state the group stands for, where it is known what the log was handed, this is what that comes to
 abbrev pub Finds : {Q L : Type 0} → (L → LogState) → ℕ → LogState → Group Q L → Type 0
@@ -68,25 +67,15 @@ IsRestartCaused log k l old (Lost noticed found) =
     IsLost log k l old × (noticed ≡ noticed_at (slice_get old.seats.items k)) × (found ≡ l.op)
 IsRestartCaused log k l old (Memory e) = e ≡ Want
 
--- the seat of a member that has started
-abbrev pub started_seat : {Q L : Type 0} → DiskState → History → Server Q L → Seat Q L
-started_seat d history server =
-    record {
-      server = Some server;
-      known = true;
-      noticed = d.op;
-      handed = d.op;
-      history = history;
-      returned = None;
-    }
+-- the seat of a member that has started after an op
+abbrev pub started_seat : {Q L : Type 0} → ℕ → Server Q L → Seat Q L → Seat Q L
+started_seat op server seat =
+    record { server = Some server; known = true; noticed = op; handed = op; left = None; returned = None }
 
--- a server is put into its seat, whose history begins with what its log holds
-pub record IsStarted {Q L : Type 0} (k : ℕ) (d : DiskState) (server : Server Q L) (old new : Group Q L) : Type 0 where
+-- a server is put into its seat
+pub record IsStarted {Q L : Type 0} (k op : ℕ) (server : Server Q L) (old new : Group Q L) : Type 0 where
   pub was : Seat Q L
-  pub history : History
-  pub start : history.start ≡ d
-  pub none : ops_of history ≡ []
-  pub changes : ChangesSeat k was (started_seat d history server) old new
+  pub changes : ChangesSeat k was (started_seat op server was) old new
   pub bag : new.bag ≡ old.bag
   pub audit : new.audit ≡ old.audit
 

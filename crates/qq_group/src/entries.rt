@@ -1,42 +1,17 @@
 //! Copies of a member's entries.
-ghost use Rattle.std.specs.Prelude.{◌≡◌, ◌≤◌, drop, take, length, IfOk, IsOkUnless};
-ghost use Rattle.qq_log.specs.Stable.{no_snapshot};
+ghost use Rattle.std.specs.Prelude.{◌≡◌, IfOk, IsOkUnless};
 ghost use Rattle.qq_raft_core.specs.Raft.{server_of};
 ghost use Rattle.qq_raft.specs.Stands.{IsSound as IsSoundServer};
 ghost use Rattle.qq_group.specs.Group.{IsSound, server_at};
 ghost use Rattle.qq_group.specs.Reads.{entries_at, entries_from};
 
 use crate::group::Group;
-use qq_base::{Duplicate, Index, Memory, NodeId};
-use qq_entry::{Entries, Entry};
+use qq_base::{Index, Memory, NodeId};
+use qq_entry::Entries;
 use qq_raft::Server;
+use qq_raft_core::copy_behind;
 use qq_raft_msg::{LogView, Queue};
 use std::alloc::Global;
-
-/// Copies of a log's entries behind one index, up to another.
-pub(crate) fn copy_behind<L: LogView>(
-    alloc: Global,
-    log: &L,
-    first: u64,
-    end: u64,
-) -> Result<Vec<Entry>, Memory>
-    requires whole { (L.log log.now).base ≡ no_snapshot }
-    requires order { first ≤ end }
-    requires within { end ≤ length (L.log log.now).entries }
-
-    ensures ok { IfOk result (λ copied.
-        copied.items ≡ drop first (take end (L.log log.now).entries)) }
-    ensures want { IsOkUnless result Memory.Want }
-{
-    let mut copied = Vec::new(alloc);
-    'entries: for index in first..end {
-        let Some(entry) = log.entry(Index(index + 1)) else {
-            unreachable!()
-        };
-        copied.push(entry.copy(alloc)?)?;
-    }
-    Ok(copied)
-}
 
 /// Copies of a server's entries from one index to another. None exactly where its log lacks one of them.
 fn copy_entries<Q: Queue, L: LogView>(

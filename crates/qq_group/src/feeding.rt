@@ -4,12 +4,13 @@ ghost use Rattle.qq_base.specs.Causes.{SpentOnlyWhere};
 ghost use Rattle.qq_base.specs.Fronts.{IsFront};
 ghost use Rattle.qq_raft_core.specs.Ends.{IsSendable};
 ghost use Rattle.qq_raft_core.specs.Raft.{server_of};
+ghost use Rattle.qq_raft_core.specs.Undone.{LeadsBack};
 ghost use Rattle.qq_raft_msg.specs.declared.bag.TheConstants.{BAG_LIMIT};
 ghost use Rattle.qq_raft.specs.Stands.{IsSound as IsSoundServer};
 ghost use Rattle.qq_raft_model.specs.Group.{happens};
 ghost use Rattle.qq_raft_model.specs.Group.Event.{Crash};
 ghost use Rattle.qq_group.specs.Follows.{AddsNothing, AddsStep, Feeds, HasShownBy, Makes, OthersStay};
-ghost use Rattle.qq_group.specs.Group.{IsServed, IsServing, IsSound, server_at};
+ghost use Rattle.qq_group.specs.Group.{IsLeft, IsServed, IsServing, IsSound, server_at};
 ghost use Rattle.qq_group.specs.Handing.{KeepsReturned};
 ghost use Rattle.qq_group.specs.Input.{acts, fed_outcome, input_of, outcome_of, sent_on, IsActCaused, IsFeedCaused, IsInputCaused, MayCome, MayReach};
 ghost use Rattle.qq_group.specs.Step.{IsDropped, IsDroppedAt, IsFed, IsFedAt, IsStepped, Publishes, Settles};
@@ -40,6 +41,8 @@ fn publish<Q: Queue, L: LogView>(
     ensures bag { All IsSendable bag.new }
     ensures bag_front { IsFront bag.old bag.new }
     ensures audit_front { IsFront audit.old.items audit.new.items }
+    ensures same { server.new
+        ≡ record server.old { raft = record server.old.raft { out = server.new.raft.out } } }
     ensures cause { IfErr result (λ e. SpentOnlyWhere e BAG_LIMIT
         (BAG_LIMIT < length bag.old + length (server_of L.log server.old.raft).out)) }
 {
@@ -52,7 +55,7 @@ fn publish<Q: Queue, L: LogView>(
 }
 
 /// What a step left is handed out: messages, entries that are known to be committed, and the rows that the
-/// server shows. After an error bag and audit are as they were.
+/// server shows. What leads back from noticed changes is given up. After an error bag and audit are as they were.
 fn settle<Q: Queue, L: LogView>(
     alloc: Global,
     server: &mut Server<Q, L>,
@@ -67,6 +70,8 @@ fn settle<Q: Queue, L: LogView>(
     ensures bag { All IsSendable bag.new }
     ensures bag_err { OnErr result (bag.new ≡ bag.old) }
     ensures audit_err { OnErr result (audit.new.items ≡ audit.old.items) }
+    ensures raft_err { OnErr result (server.new.raft
+        ≡ record server.old.raft { out = server.new.raft.out }) }
     ensures cause { IfErr result (λ e. SpentOnlyWhere e BAG_LIMIT
         (BAG_LIMIT < length bag.old + length (server_of L.log server.old.raft).out)) }
 {
@@ -77,10 +82,12 @@ fn settle<Q: Queue, L: LogView>(
         cut_bag(bag, carried);
         return Err(cause);
     }
+    server.forget_noticed();
     Ok(rows)
 }
 
-/// An input reaches a server. After an error bag and audit are as they were.
+/// An input reaches a server. After an error bag and audit are as they were, and what is left of the server
+/// leads back to what its log was to hold.
 fn feed_server<Q: Queue, L: LogView>(
     alloc: Global,
     server: &mut Server<Q, L>,
@@ -97,6 +104,7 @@ fn feed_server<Q: Queue, L: LogView>(
     ensures bag { All IsSendable bag.new }
     ensures bag_err { OnErr result (bag.new ≡ bag.old) }
     ensures audit_err { OnErr result (audit.new.items ≡ audit.old.items) }
+    ensures back { OnErr result (LeadsBack L.log server.old.raft server.new.raft) }
     ensures outcome { IfOk result (λ shown.
         shown.outcome ≡ outcome_of input (server_of L.log server.old.raft)) }
     ensures cause { IfErr result (λ e.
@@ -115,7 +123,8 @@ fn feed_server<Q: Queue, L: LogView>(
 }
 
 impl<Q: Queue, L: LogView> Seat<Q, L> {
-    /// An input reaches its server. After an error the server is gone, and bag and audit are as they were.
+    /// An input reaches its server. After an error the server is gone, and has left its log; bag and audit are as
+    /// they were.
     fn feed(
         &mut self,
         alloc: Global,
@@ -127,12 +136,15 @@ impl<Q: Queue, L: LogView> Seat<Q, L> {
         requires served { IsServed Q.stands L.log Q.applied self.old.server }
         requires input { MayReach L.log input self.old.server }
         requires bag { All IsSendable bag.old }
+        requires left { IsLeft L.log self.old.left }
         ensures served { IsServed Q.stands L.log Q.applied self.new.server }
+        ensures left { IsLeft L.log self.new.left }
         ensures returned { self.new.returned ≡ self.old.returned }
         ensures ok { IfOk result (λ shown. IsFed Q.stands L.log (acts Q.step input) self.old
             self.new bag.old bag.new audit.old.items audit.new.items shown.rows.items) }
-        ensures err { OnErr result (IsDropped self.old self.new bag.old bag.new
-            audit.old.items audit.new.items) }
+        ensures err { OnErr result (IsDropped L.log self.old self.new) }
+        ensures bag_err { OnErr result (bag.new ≡ bag.old) }
+        ensures audit_err { OnErr result (audit.new.items ≡ audit.old.items) }
         ensures bag { All IsSendable bag.new }
         ensures outcome { IfOk result (λ shown.
             shown.outcome ≡ fed_outcome L.log input self.old.server) }
@@ -148,7 +160,10 @@ impl<Q: Queue, L: LogView> Seat<Q, L> {
                 Ok(shown)
             }
             Err(cause) => {
-                drop(self.server.take());
+                let Some(server) = self.server.take() else {
+                    unreachable!()
+                };
+                self.leave(server);
                 Err(cause)
             }
         }
@@ -167,7 +182,7 @@ impl<Q: Queue, L: LogView> Group<Q, L> {
         ensures sound { IsSound Q.stands L.log Q.applied self.new }
         ensures ok { IfOk result (λ shown. IsFedAt Q.stands L.log (acts Q.step input) node.0
             self.old self.new shown.rows.items) }
-        ensures err { OnErr result (IsDroppedAt node.0 self.old self.new) }
+        ensures err { OnErr result (IsDroppedAt L.log node.0 self.old self.new) }
         ensures outcome { IfOk result (λ shown.
             shown.outcome ≡ fed_outcome L.log input (server_at node.0 self.old)) }
         ensures cause { IfErr result (IsFeedCaused Q.stands Q.step Q.passes_end L.log input self.old

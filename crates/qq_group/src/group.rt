@@ -82,7 +82,8 @@ pub(crate) fn send_all<Q: Queue, L: LogView>(
     ensures none { OnOk result (server_of L.log server.new.raft
         ≡ record (server_of L.log server.old.raft) { out = [] }) }
     ensures sound { IsSoundServer L.log Q.applied server.new }
-    ensures same { server.new ≡ record server.old { raft = server.new.raft } }
+    ensures same { server.new
+        ≡ record server.old { raft = record server.old.raft { out = server.new.raft.out } } }
     ensures err { IsFront bag.old bag.new }
     ensures bag { All IsSendable bag.new }
     ensures cause { IfErr result (λ e. SpentOnlyWhere e BAG_LIMIT

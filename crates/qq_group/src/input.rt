@@ -1,6 +1,7 @@
 //! What comes to a server, and what it makes of it.
 ghost use Rattle.std.specs.Prelude.{◌≡◌, IfOk, IfErr, OnOk};
 ghost use Rattle.qq_raft_core.specs.Raft.{server_of};
+ghost use Rattle.qq_raft_core.specs.Undone.{LeadsBack};
 ghost use Rattle.qq_raft.specs.Stands.{Does, IsSound as IsSoundServer};
 ghost use Rattle.qq_group.specs.Group.{IsServing};
 ghost use Rattle.qq_group.specs.Input.{acts, outcome_of, IsActCaused, MayCome};
@@ -40,6 +41,7 @@ pub(crate) fn act<Q: Queue, L: LogView>(
 
     ensures sound { OnOk result (IsSoundServer L.log Q.applied server.new) }
     ensures ok { OnOk result (Does Q.stands L.log (acts Q.step input) server.old server.new) }
+    ensures back { LeadsBack L.log server.old.raft server.new.raft }
     ensures outcome { IfOk result (λ outcome.
         outcome ≡ outcome_of input (server_of L.log server.old.raft)) }
     ensures cause { IfErr result (IsActCaused Q.stands Q.step Q.passes_end L.log input server.old) }

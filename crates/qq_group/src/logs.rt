@@ -1,5 +1,5 @@
 //! What the members' logs are handed, and what they tell.
-ghost use Rattle.std.specs.Prelude.{◌≡◌, None, Some, IfOk, IfErr, IfSome, IfNone, OnOk, OnErr, slice_get};
+ghost use Rattle.std.specs.Prelude.{◌≡◌, ◌<◌, None, Some, is_some, length, true, IfOk, IfErr, IfSome, IfNone, OnOk, OnErr, slice_get};
 ghost use Rattle.qq_log.specs.Writable.{MayWrite};
 ghost use Rattle.qq_raft.specs.Step.{notice};
 ghost use Rattle.qq_raft_model.specs.Group.{happens, Event as GroupEvent};
@@ -8,6 +8,7 @@ ghost use Rattle.qq_group.specs.Follows.{AddsNothing, Follows, Makes, OthersStay
 ghost use Rattle.qq_group.specs.Group.{IsSound, server_at};
 ghost use Rattle.qq_group.specs.Handing.{KeepsReturned};
 ghost use Rattle.qq_group.specs.Input.{IsFeedCaused};
+ghost use Rattle.qq_group.specs.Step.{IsDroppedAt};
 ghost use Rattle.qq_group.specs.declared.input.Input.TheVariants.{Notice};
 
 use crate::group::Group;
@@ -86,9 +87,26 @@ impl<Q: Queue, L: LogView> Group<Q, L> {
         ensures returned { KeepsReturned self.old self.new }
         ensures adds { AddsNothing self.old.bag self.old.audit.items self.new }
     {
-        let Some(_) = self.take_server(node) else {
+        let up = self.is_up(node);
+        if !up {
             return Outcome::Down;
-        };
+        }
+        self.crash_seat(node);
         Outcome::Done
+    }
+
+    /// The server of a member that is up is gone.
+    fn crash_seat(&mut self, node: NodeId)
+        requires sound { IsSound Q.stands L.log Q.applied self.old }
+        requires there { node.0 < length self.old.seats.items }
+        requires up { is_some (server_at node.0 self.old) ≡ true }
+        ensures sound { IsSound Q.stands L.log Q.applied self.new }
+        ensures nodes { self.new.nodes ≡ self.old.nodes }
+        ensures dropped { IsDroppedAt L.log node.0 self.old self.new }
+    {
+        let Some(seat) = self.seats.get_mut(node.0 as usize) else {
+            unreachable!()
+        };
+        seat.crash();
     }
 }

@@ -12,7 +12,6 @@ use crate::restart::RestartFault;
 use crate::seat::Seat;
 use qq_base::{Memory, NodeId, QueueId};
 use qq_entry::{Entries, Entry};
-use qq_group_history::{DiskState, History};
 use qq_log::NODE_LIMIT;
 use qq_raft_msg::{Bag, LogView, Queue};
 use std::alloc::Global;
@@ -61,7 +60,7 @@ fn empty_seats<Q: Queue, L: LogView>(alloc: Global) -> Result<Vec<Seat<Q, L>>, M
             known: false,
             noticed: 0,
             handed: 0,
-            history: History::from_state(alloc, DiskState::new(alloc)),
+            left: None,
             returned: None,
         })?;
     }

@@ -1,5 +1,6 @@
 //! Members that restart.
-ghost use Rattle.std.specs.Prelude.{◌≡◌, ◌<◌, ◌^◌, All, None, length, true, IfOk, IfErr, OnOk, OnErr, IsOkUnless, slice_get};
+ghost use Rattle.qq_base.specs.declared.memory.TheConstants.{NUMBER_END};
+ghost use Rattle.std.specs.Prelude.{◌≡◌, ◌<◌, ◌≤◌, ◌^◌, All, None, length, true, IfOk, IfErr, OnOk, OnErr, IsOkUnless, slice_get};
 ghost use Rattle.std.specs.Bool.{Decides};
 ghost use Rattle.qq_log.specs.Stable.{no_snapshot};
 ghost use Rattle.qq_raft_core.specs.Raft.{IsWithinEnds};
@@ -8,15 +9,12 @@ ghost use Rattle.qq_raft_model.specs.Group.{has_node};
 ghost use Rattle.qq_group.specs.Follows.{OthersStay};
 ghost use Rattle.qq_group.specs.Group.{HasState, IsServing, IsSound, server_at};
 ghost use Rattle.qq_group.specs.Handing.{returned_at};
-ghost use Rattle.qq_group.specs.Restarts.{disk_of, Finds, HasStarted, IsIntactAt, IsStarted, noticed_at, IsRestartCaused, Restarts};
+ghost use Rattle.qq_group.specs.Restarts.{Finds, HasStarted, IsIntactAt, IsStarted, noticed_at, IsRestartCaused, Restarts};
 ghost use Rattle.qq_group.specs.declared.restart.RestartFault.TheVariants.{Lost};
 
-use crate::entries::copy_behind;
 use crate::group::Group;
 use crate::seat::Seat;
 use qq_base::{Memory, NodeId};
-use qq_entry::Entries;
-use qq_group_history::{DiskState, History};
 use qq_raft::Server;
 use qq_raft_msg::{LogView, Queue};
 use std::alloc::Global;
@@ -48,36 +46,18 @@ impl From<Memory> for RestartFault {
     }
 }
 
-/// What a log holds that a server restarts with.
-fn state_of<L: LogView>(alloc: Global, log: &L) -> Result<DiskState, Memory>
-    requires { (L.log log.now).base ≡ no_snapshot }
-
-    ensures ok { IfOk result (λ state. state ≡ disk_of (L.log log.now)) }
-    ensures want { IsOkUnless result Memory.Want }
-{
-    let (op, term, vote) = log.start();
-    let entries = Entries::from_vec(copy_behind(alloc, log, 0, log.last().0)?);
-    Ok(DiskState {
-        op,
-        term,
-        vote,
-        entries,
-    })
-}
-
 impl<Q: Queue, L: LogView> Group<Q, L> {
-    /// Puts a server that starts with what its log holds into its seat.
-    fn start(&mut self, alloc: Global, node: NodeId, found: DiskState, server: Server<Q, L>)
+    /// Puts a server that has just started into its seat.
+    fn start(&mut self, node: NodeId, server: Server<Q, L>)
         requires sound { IsSound Q.stands L.log Q.applied self.old }
         requires server { IsServing Q.stands L.log Q.applied server }
         requires there { node.0 < length self.old.seats.items }
 
         ensures sound { IsSound Q.stands L.log Q.applied self.new }
         ensures nodes { self.new.nodes ≡ self.old.nodes }
-        ensures started { IsStarted node.0 found server self.old self.new }
+        ensures started { IsStarted node.0 server.raft.op server self.old self.new }
     {
-        let op = found.op;
-        let history = History::from_state(alloc, found);
+        let op = server.op();
         let Some(seat) = self.seats.get_mut(node.0 as usize) else {
             unreachable!()
         };
@@ -85,7 +65,7 @@ impl<Q: Queue, L: LogView> Group<Q, L> {
         seat.known = true;
         seat.noticed = op;
         seat.handed = op;
-        seat.history = history;
+        seat.left = None;
         seat.returned = None;
     }
 
@@ -122,14 +102,8 @@ impl<Q: Queue, L: LogView> Group<Q, L> {
         ensures err { OnErr result (self.new ≡ self.old) }
         ensures cause { IfErr result (IsRestartCaused L.log node.0 (L.log log) self.old) }
     {
-        let found = match state_of(alloc, &log) {
-            Ok(found) => found,
-            Err(cause) => return Err(RestartFault::Memory(cause)),
-        };
-        match self.is_intact(alloc, node, &found) {
-            Err(cause) => return Err(RestartFault::Memory(cause)),
-            Ok(false) => return Err(self.lost(node, &found)),
-            Ok(true) => {}
+        if !self.is_intact(node, &log) {
+            return Err(self.lost(node, &log));
         }
         let server = match Server::new(
             alloc,
@@ -142,37 +116,38 @@ impl<Q: Queue, L: LogView> Group<Q, L> {
             Ok(server) => server,
             Err(cause) => return Err(RestartFault::Memory(cause)),
         };
-        self.start(alloc, node, found, server);
+        self.start(node, server);
         Ok(())
     }
 
     /// Whether a log was found to hold what a member's ops come to, as far as these are known.
-    fn is_intact(&self, alloc: Global, node: NodeId, found: &DiskState) -> Result<bool, Memory>
-        ensures ok { IfOk result (λ intact.
-            Decides intact (IsIntactAt (slice_get self.now.seats.items node.0) found.now)) }
-        ensures want { IsOkUnless result Memory.Want }
+    fn is_intact(&self, node: NodeId, log: &L) -> bool
+        requires sound { IsSound Q.stands L.log Q.applied self.now }
+        requires whole { (L.log log.now).base ≡ no_snapshot }
+        requires last { length (L.log log.now).entries ≤ NUMBER_END }
+        ensures { Decides result
+            (IsIntactAt L.log (slice_get self.now.seats.items node.0) (L.log log.now)) }
     {
         let Some(seat) = self.seat(node) else {
-            return Ok(true);
+            return true;
         };
         if !seat.known {
-            return Ok(true);
+            return true;
         }
-        seat.is_intact(alloc, found)
+        seat.is_intact(log)
     }
 
     /// What is told of a log that lost something.
-    fn lost(&self, node: NodeId, found: &DiskState) -> RestartFault
-        ensures { result ≡ Lost (noticed_at (slice_get self.now.seats.items node.0)) found.now.op }
+    fn lost(&self, node: NodeId, log: &L) -> RestartFault
+        ensures { result ≡ Lost (noticed_at (slice_get self.now.seats.items node.0))
+            (L.log log.now).op }
     {
+        let (found, _, _) = log.start();
         match self.seat(node) {
-            None => RestartFault::Lost {
-                noticed: 0,
-                found: found.op,
-            },
+            None => RestartFault::Lost { noticed: 0, found },
             Some(seat) => RestartFault::Lost {
                 noticed: seat.noticed,
-                found: found.op,
+                found,
             },
         }
     }

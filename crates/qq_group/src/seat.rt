@@ -1,15 +1,18 @@
-ghost use Rattle.std.specs.Prelude.{◌≡◌, ◌&&◌, is_none, is_some, nat_lt, if◌then◌else◌, IfOk, IsOkUnless};
+ghost use Rattle.std.specs.Prelude.{◌≡◌, ◌≤◌, ◌&&◌, None, is_none, is_some, length, nat_lt, true, if◌then◌else◌};
 ghost use Rattle.std.specs.Bool.{Decides};
-ghost use Rattle.qq_group.specs.Handing.{held};
+ghost use Rattle.qq_group.specs.Handing.{held, IsLastBy};
 ghost use Rattle.qq_group.specs.Reads.{has_settled};
+ghost use Rattle.qq_base.specs.declared.memory.TheConstants.{NUMBER_END};
+ghost use Rattle.qq_log.specs.Stable.{no_snapshot};
+ghost use Rattle.qq_log.specs.Writable.{MayWrite};
+ghost use Rattle.qq_group.specs.Group.{IsLeft, IsServed};
 ghost use Rattle.qq_group.specs.Restarts.{IsIntact};
+ghost use Rattle.qq_group.specs.Step.{IsDropped, IsLeaving};
 
-use qq_base::Memory;
-use qq_group_history::{DiskState, History};
 use qq_log::Op;
 use qq_raft::Server;
+use qq_raft_core::Lanes;
 use qq_raft_msg::{LogView, Queue};
-use std::alloc::Global;
 
 /// A member of a group.
 #[derive(Drop)]
@@ -23,9 +26,9 @@ pub(crate) struct Seat<Q: Drop, L: LogView> {
     pub(crate) noticed: u64,
     /// How many ops the log was handed, from the first on.
     pub(crate) handed: u64,
-    /// What it was handed.
-    pub(crate) history: History,
-    /// The last of these, where it was given back.
+    /// What its last server left, from which it is known what its log may hold.
+    pub(crate) left: Option<Lanes<L>>,
+    /// The last op that its log was handed, where it was given back.
     pub(crate) returned: Option<Op>,
 }
 
@@ -61,26 +64,6 @@ impl<Q: Drop, L: LogView> Seat<Q, L> {
         self.server.is_some() && self.returned.is_none()
     }
 
-    /// Whether what a log was found to hold is what its ops come to, up to one that isn't older than what
-    /// was noticed.
-    pub(crate) fn is_intact(&self, alloc: Global, found: &DiskState) -> Result<bool, Memory>
-        ensures ok { IfOk result (λ intact. Decides intact (IsIntact self.now found.now)) }
-        ensures want { IsOkUnless result Memory.Want }
-    {
-        let lacks_noticed = found.op < self.noticed;
-        if lacks_noticed {
-            return Ok(false);
-        }
-        let passes_handed = self.handed < found.op;
-        if passes_handed {
-            return Ok(false);
-        }
-        match self.history.state_at(alloc, found.op)? {
-            None => Ok(false),
-            Some(state) => Ok(state.is_same(found)),
-        }
-    }
-
     /// How many ops its log was handed, 0 while it is down.
     pub(crate) fn handed_up(&self) -> u64
         ensures { result ≡ if is_some self.now.server then held self.now else 0 }
@@ -93,6 +76,58 @@ impl<Q: Drop, L: LogView> Seat<Q, L> {
 }
 
 impl<Q: Queue, L: LogView> Seat<Q, L> {
+    /// Whether a log that was found is what its ops come to, up to one that isn't older than what was noticed.
+    pub(crate) fn is_intact(&self, log: &L) -> bool
+        requires left { IsLeft L.log self.now.left }
+        requires whole { (L.log log.now).base ≡ no_snapshot }
+        requires last { length (L.log log.now).entries ≤ NUMBER_END }
+        ensures { Decides result (IsIntact L.log self.now (L.log log.now)) }
+    {
+        let (op, _, _) = log.start();
+        let lacks_noticed = op < self.noticed;
+        if lacks_noticed {
+            return false;
+        }
+        let passes_handed = self.handed < op;
+        if passes_handed {
+            return false;
+        }
+        match &self.left {
+            None => false,
+            Some(lanes) => lanes.holds(log),
+        }
+    }
+
+    /// Whether an op is the last one that its server handed out, and isn't noticed.
+    pub(crate) fn was_last(&self, op: &Op) -> bool
+        requires served { IsServed Q.stands L.log Q.applied self.now.server }
+        requires op { MayWrite op.now }
+        ensures { Decides result (IsLastBy L.log op.now self.now.server) }
+    {
+        match &self.server {
+            None => false,
+            Some(server) => server.was_last(op),
+        }
+    }
+
+    /// A server that is gone leaves its log.
+    pub(crate) fn leave(&mut self, server: Server<Q, L>)
+        ensures { IsLeaving L.log server self.old self.new }
+    {
+        self.left = Some(server.into_lanes());
+    }
+
+    /// Its server, which is up, is gone, and leaves its log.
+    pub(crate) fn crash(&mut self)
+        requires { is_some self.old.server ≡ true }
+        ensures { IsDropped L.log self.old self.new }
+    {
+        let Some(server) = self.server.take() else {
+            unreachable!()
+        };
+        self.leave(server);
+    }
+
     /// Whether it is down, or its log was handed all changes of its server, and all are durable, as far as
     /// that was told.
     pub(crate) fn has_settled(&self) -> bool

@@ -1,8 +1,7 @@
 //! The server of a member.
-ghost use Rattle.std.specs.Prelude.{◌≡◌, ◌<◌, None, is_some, length, true, IfSome, IfNone};
+ghost use Rattle.std.specs.Prelude.{◌≡◌, ◌<◌, is_some, length, true};
 ghost use Rattle.std.specs.Option.{option_copied};
-ghost use Rattle.qq_group.specs.Group.{IsServing, IsSound, server_at};
-ghost use Rattle.qq_group.specs.Step.{IsTaken};
+ghost use Rattle.qq_group.specs.Group.{server_at};
 
 use crate::group::Group;
 use qq_base::NodeId;
@@ -26,24 +25,5 @@ impl<Q: Queue, L: LogView> Group<Q, L> {
         ensures there { result ≡ true → node.0 < length self.now.seats.items }
     {
         self.server(node).is_some()
-    }
-
-    /// Takes a member's server out of its seat, so that the member counts as down. None exactly where it is.
-    pub(crate) fn take_server(&mut self, node: NodeId) -> Option<Server<Q, L>>
-        requires { IsSound Q.stands L.log Q.applied self.old }
-
-        ensures sound { IsSound Q.stands L.log Q.applied self.new }
-        ensures nodes { self.new.nodes ≡ self.old.nodes }
-        ensures serving { IfSome result (IsServing Q.stands L.log Q.applied) }
-        ensures taken { IfSome result (λ server. IsTaken node.0 server self.old self.new) }
-        ensures none { IfNone result ((self.new ≡ self.old) × (server_at node.0 self.old ≡ None)) }
-    {
-        if !self.is_up(node) {
-            return None;
-        }
-        match self.seats.get_mut(node.0 as usize) {
-            None => None,
-            Some(seat) => seat.server.take(),
-        }
     }
 }

@@ -3,6 +3,7 @@ use Rattle.std.proofs.Common.{◌≡◌, ℕ, true, Option, Some, None, refl, sy
 use Rattle.std.specs.Prelude.{slice_get}
 use Rattle.std.proofs.lemmas.Bool.{false≢true}
 use Rattle.qq_log.specs.Log.{LogState}
+use Rattle.qq_raft_core.specs.declared.lanes.Lanes.{Lanes}
 use Rattle.qq_raft_protocol.specs.World.{Lane}
 use Rattle.qq_raft_model.proofs.Handing.{known-all}
 use Rattle.qq_raft_model.specs.Handing.{lane_in, plain_state}
@@ -10,22 +11,27 @@ use Rattle.qq_raft.specs.declared.server.Server.{Server}
 use Rattle.qq_raft_model.specs.Group.{Group as GroupState, Seat as SeatState, happens}
 use Rattle.qq_raft_model.specs.Group.Event.{Restart}
 use Rattle.qq_raft_model.specs.Promises.{IsLeft}
-use Rattle.qq_group.specs.Group.{IsSeat, IsSeatBy, KnowsLog, Represents}
+use Rattle.qq_group.specs.Group.{IsSeat, IsSeatBy, KnowsLeft, Represents}
 use Rattle.qq_group.specs.Restarts.{Finds, IsFound, Restarts, is_known, noticed_at}
 use Rattle.qq_group.specs.declared.group.Group.{Group}
 use Rattle.qq_group.specs.declared.seat.Seat.{Seat}
 
 -- ---- what is known
 
-knows : {Q L : Type 0} (log : L → LogState) (state : SeatState) (seat : Seat Q L) (o : Option (Server Q L))
-    → IsSeatBy log state seat o → seat.known ≡ true → KnowsLog state seat
-knows log state seat None is known = is.1 known
-knows log state seat (Some s) is known = is.1
+left-noticed : {Q L : Type 0} (log : L → LogState) (state : SeatState) (seat : Seat Q L) (o : Option (Lanes L))
+    → KnowsLeft log state seat o → state.noticed ≡ seat.noticed
+left-noticed {Q = Q} {L = L} log state seat None knows = elim knows [ ]
+left-noticed log state seat (Some lanes) knows = knows.noticed
+
+has-told : {Q L : Type 0} (log : L → LogState) (state : SeatState) (seat : Seat Q L) (o : Option (Server Q L))
+    → IsSeatBy log state seat o → seat.known ≡ true → state.noticed ≡ seat.noticed
+has-told log state seat None is known = left-noticed log state seat seat.left (is.1 known)
+has-told log state seat (Some s) is known = is.1.noticed
 
 pub noticed-told : {Q L : Type 0} (log : L → LogState) (state : SeatState) (o : Option (Seat Q L))
     → IsSeat log state o → is_known o ≡ true → noticed_at o ≡ state.noticed
 noticed-told log state None is known = absurd (false≢true known)
-noticed-told log state (Some seat) is known = sym (knows log state seat seat.server is known).noticed
+noticed-told log state (Some seat) is known = sym (has-told log state seat seat.server is known)
 
 pub known-seat : {Q L : Type 0} (o : Option (Seat Q L)) → is_known o ≡ true
     → (seat : Seat Q L) × (o ≡ Some seat) × (seat.known ≡ true)

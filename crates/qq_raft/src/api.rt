@@ -1,5 +1,5 @@
 //! What the layer above calls.
-ghost use Rattle.std.specs.Prelude.{◌≡◌, ◌+◌, ◌<◌, ◌^◌, Err, [], All, drop, length, slice_get, true, false, IfOk, IfErr, IfSome, OnOk, OnErr, IsOkUnless};
+ghost use Rattle.std.specs.Prelude.{◌≡◌, ◌+◌, ◌<◌, ◌^◌, Err, Some, [], ◌∷◌, All, drop, length, slice_get, true, false, IfOk, IfErr, IfSome, OnOk, OnErr, IsOkUnless};
 ghost use Rattle.qq_entry.specs.Range.{IsCommand, HasContent};
 ghost use Rattle.qq_log.specs.Stable.{no_snapshot};
 ghost use Rattle.qq_log.specs.Writable.{MayWrite};
@@ -9,6 +9,8 @@ ghost use Rattle.qq_raft_model.specs.Server.{is_ready, restart, tick as tick_raf
 ghost use Rattle.qq_raft_core.specs.Ends.{IsSendable};
 ghost use Rattle.qq_raft_core.specs.Fits.{fits};
 ghost use Rattle.qq_raft_core.specs.Raft.{server_of, lane_of, state_of as member_state, IsCaused as IsRaftCaused, IsWithinEnds};
+ghost use Rattle.std.specs.Bool.{Decides};
+ghost use Rattle.qq_raft_core.specs.Undone.{held_by, last_handed, LeadsBack, newest, unnoticed};
 ghost use Rattle.qq_raft.specs.Step.{new_state, with_raft, tick, receive, submit, add, flush, notice};
 ghost use Rattle.qq_raft.specs.Stands.{state_of, StandsFor, Does, IsSound, IsCaused, HandsNothingOut, IsAdded, IsLeftBy, IsRefused};
 ghost use Rattle.qq_raft.specs.declared.fault.SubmitFault.TheVariants.{NotLeader};
@@ -19,7 +21,7 @@ use crate::server::Server;
 use qq_base::{Index, Memory, NodeId, QueueId};
 use qq_entry::Command;
 use qq_log::Op;
-use qq_raft_core::Raft;
+use qq_raft_core::{Lanes, Raft};
 use qq_raft_msg::{LogView, MemberState, Queue, Rpc};
 use std::alloc::Global;
 use std::collections::VecDeque;
@@ -46,6 +48,7 @@ impl<Q: Queue, L: LogView> Server<Q, L> {
             StandsFor Q.stands L.log
             (new_state (restart node members.now (lane_of queue (L.log log))) state)
             server) }
+        ensures undos { IfOk result (λ server. server.raft.undos.items ≡ []) }
         ensures want { IsOkUnless result Memory.Want }
     {
         let raft = Raft::new(alloc, queue, node, members, log)?;
@@ -66,6 +69,7 @@ impl<Q: Queue, L: LogView> Server<Q, L> {
         ensures sound { OnOk result (IsSound L.log Q.applied self.new) }
         ensures ok { OnOk result (Does Q.stands L.log tick self.old self.new) }
         ensures err { OnErr result (HandsNothingOut L.log self.new) }
+        ensures back { LeadsBack L.log self.old.raft self.new.raft }
         ensures cause { IfErr result (IsRaftCaused (server_of L.log self.old.raft)) }
     {
         if let Err(cause) = self.raft.tick(alloc) {
@@ -95,6 +99,7 @@ impl<Q: Queue, L: LogView> Server<Q, L> {
         ensures sound { OnOk result (IsSound L.log Q.applied self.new) }
         ensures ok { OnOk result (Does Q.stands L.log (receive Q.step rpc) self.old self.new) }
         ensures err { OnErr result (HandsNothingOut L.log self.new) }
+        ensures back { LeadsBack L.log self.old.raft self.new.raft }
         ensures cause { IfErr result (λ e. (queue : Q.Plain) → Q.stands queue self.old.machine →
             IsCaused Q.step Q.passes_end (receive_raft rpc) (state_of L.log queue self.old) e) }
     {
@@ -121,6 +126,7 @@ impl<Q: Queue, L: LogView> Server<Q, L> {
         ensures ok { OnOk result (Does Q.stands L.log (submit time command.now) self.old self.new) }
         ensures index { IfOk result (λ index. IsAdded (server_of L.log self.old.raft) index) }
         ensures err { IfErr result (IsLeftBy L.log self.old self.new) }
+        ensures back { LeadsBack L.log self.old.raft self.new.raft }
         ensures cause { IfErr result (IsRefused (server_of L.log self.old.raft)) }
     {
         if !self.raft.ready() {
@@ -145,6 +151,7 @@ impl<Q: Queue, L: LogView> Server<Q, L> {
         ensures ok { OnOk result (Does Q.stands L.log (add time command.now) self.old self.new) }
         ensures index { IfOk result (λ index. IsAdded (server_of L.log self.old.raft) index) }
         ensures err { IfErr result (IsLeftBy L.log self.old self.new) }
+        ensures back { LeadsBack L.log self.old.raft self.new.raft }
         ensures cause { IfErr result (IsRefused (server_of L.log self.old.raft)) }
     {
         if !self.raft.ready() {
@@ -167,6 +174,7 @@ impl<Q: Queue, L: LogView> Server<Q, L> {
         ensures sound { OnOk result (IsSound L.log Q.applied self.new) }
         ensures ok { OnOk result (Does Q.stands L.log flush self.old self.new) }
         ensures err { OnErr result (HandsNothingOut L.log self.new) }
+        ensures back { LeadsBack L.log self.old.raft self.new.raft }
         ensures want { IsOkUnless result Memory.Want }
     {
         if let Err(cause) = self.raft.flush(alloc) {
@@ -184,6 +192,7 @@ impl<Q: Queue, L: LogView> Server<Q, L> {
         ensures sound { OnOk result (IsSound L.log Q.applied self.new) }
         ensures ok { OnOk result (Does Q.stands L.log (notice Q.step op) self.old self.new) }
         ensures err { OnErr result (HandsNothingOut L.log self.new) }
+        ensures back { LeadsBack L.log self.old.raft self.new.raft }
         ensures cause { IfErr result (λ e. (queue : Q.Plain) → Q.stands queue self.old.machine →
             IsCaused Q.step Q.passes_end (notice_raft op) (state_of L.log queue self.old) e) }
     {
@@ -200,6 +209,7 @@ impl<Q: Queue, L: LogView> Server<Q, L> {
         requires fits { fits (server_of L.log self.old.raft) rpc ≡ true }
         ensures sound { OnOk result (IsSound L.log Q.applied self.new) }
         ensures ok { OnOk result (Does Q.stands L.log (receive Q.step rpc) self.old self.new) }
+        ensures back { LeadsBack L.log self.old.raft self.new.raft }
         ensures cause { IfErr result (λ e. (queue : Q.Plain) → Q.stands queue self.old.machine →
             IsCaused Q.step Q.passes_end (receive_raft rpc) (state_of L.log queue self.old) e) }
     {
@@ -214,6 +224,7 @@ impl<Q: Queue, L: LogView> Server<Q, L> {
         requires { IsSound L.log Q.applied self.old }
         ensures sound { OnOk result (IsSound L.log Q.applied self.new) }
         ensures ok { OnOk result (Does Q.stands L.log (notice Q.step op) self.old self.new) }
+        ensures back { LeadsBack L.log self.old.raft self.new.raft }
         ensures cause { IfErr result (λ e. (queue : Q.Plain) → Q.stands queue self.old.machine →
             IsCaused Q.step Q.passes_end (notice_raft op) (state_of L.log queue self.old) e) }
     {
@@ -225,7 +236,12 @@ impl<Q: Queue, L: LogView> Server<Q, L> {
     }
 
     fn clear(&mut self)
-        ensures { HandsNothingOut L.log self.new }
+        ensures none { HandsNothingOut L.log self.new }
+        ensures same { self.new.raft ≡ record self.old.raft {
+          waiting = self.new.raft.waiting;
+          ops = self.new.raft.ops;
+          out = self.new.raft.out;
+        } }
     {
         self.raft.clear();
         self.rows.clear();
@@ -238,12 +254,80 @@ impl<Q: Queue, L: LogView> Server<Q, L> {
         ensures may { IfSome result MayWrite }
         ensures sound { IsSound L.log Q.applied self.new }
         ensures value { result ≡ slice_get (server_of L.log self.old.raft).ops 0 }
-        ensures rest { server_of L.log self.new.raft ≡ record (server_of L.log self.old.raft) {
-          ops = drop 1 (server_of L.log self.old.raft).ops;
-        } }
-        ensures same { self.new ≡ record self.old { raft = self.new.raft } }
+        ensures rest { self.new.raft.ops.items ≡ drop 1 self.old.raft.ops.items }
+        ensures same { self.new
+            ≡ record self.old { raft = record self.old.raft { ops = self.new.raft.ops } } }
     {
         self.raft.next_op()
+    }
+
+    /// All changes for the log's disk, in order, which the log takes and writes.
+    pub fn take_ops(&mut self, alloc: Global) -> VecDeque<Op>
+        requires { IsSound L.log Q.applied self.old }
+
+        ensures may { All MayWrite result.items }
+        ensures sound { IsSound L.log Q.applied self.new }
+        ensures value { result.items ≡ (server_of L.log self.old.raft).ops }
+        ensures rest { self.new.raft.ops.items ≡ [] }
+        ensures same { self.new
+            ≡ record self.old { raft = record self.old.raft { ops = self.new.raft.ops } } }
+    {
+        self.raft.take_ops(alloc)
+    }
+
+    /// How many changes wait for the log's disk.
+    pub fn waiting(&self) -> usize
+        ensures { result ≡ length self.now.raft.ops.items }
+    {
+        self.raft.waiting()
+    }
+
+    /// Puts an op before the changes that wait for the log's disk. Without memory it is handed back.
+    pub fn put_first(&mut self, op: Op) -> Result<(), Op>
+        requires sound { IsSound L.log Q.applied self.old }
+        requires op { MayWrite op }
+
+        ensures sound { IsSound L.log Q.applied self.new }
+        ensures ok { OnOk result (self.new.raft.ops.items ≡ op ∷ self.old.raft.ops.items) }
+        ensures err { OnErr result (self.new.raft.ops.items ≡ self.old.raft.ops.items) }
+        ensures back { IfErr result (λ returned. returned ≡ op) }
+        ensures same { self.new
+            ≡ record self.old { raft = record self.old.raft { ops = self.new.raft.ops } } }
+    {
+        self.raft.put_first(op)
+    }
+
+    /// Whether an op is the change that it handed out last. What leads back from it has to be there still.
+    pub fn was_last(&self, op: &Op) -> bool
+        requires sound { IsSound L.log Q.applied self.now }
+        requires op { MayWrite op.now }
+
+        ensures { Decides result (last_handed L.log self.now.raft ≡ Some op.now) }
+    {
+        self.raft.was_last(op)
+    }
+
+    /// It gives up what leads back from changes that were noticed.
+    pub fn forget_noticed(&mut self)
+        requires { IsSound L.log Q.applied self.old }
+
+        ensures sound { IsSound L.log Q.applied self.new }
+        ensures server { server_of L.log self.new.raft ≡ server_of L.log self.old.raft }
+        ensures undos { self.new.raft.undos.items ≡ unnoticed self.old.raft }
+        ensures same { self.new ≡ record self.old {
+          raft = record self.old.raft { undos = self.new.raft.undos; mark = 0 };
+        } }
+    {
+        self.raft.forget_noticed();
+    }
+
+    /// What it leaves where it crashes.
+    pub fn into_lanes(self) -> Lanes<L>
+        ensures newest { newest L.log result ≡ held_by L.log self.raft }
+        ensures undos { result.undos ≡ self.raft.undos }
+        ensures log { result.log ≡ self.raft.log }
+    {
+        self.raft.into_lanes()
     }
 
     /// The next message that may leave: it has bytes, and fits whoever gets it by its numbers. None exactly
@@ -254,10 +338,9 @@ impl<Q: Queue, L: LogView> Server<Q, L> {
         ensures rpc { IfSome result IsSendable }
         ensures sound { IsSound L.log Q.applied self.new }
         ensures value { result ≡ slice_get (server_of L.log self.old.raft).out 0 }
-        ensures rest { server_of L.log self.new.raft ≡ record (server_of L.log self.old.raft) {
-          out = drop 1 (server_of L.log self.old.raft).out;
-        } }
-        ensures same { self.new ≡ record self.old { raft = self.new.raft } }
+        ensures rest { self.new.raft.out.items ≡ drop 1 self.old.raft.out.items }
+        ensures same { self.new
+            ≡ record self.old { raft = record self.old.raft { out = self.new.raft.out } } }
     {
         self.raft.next_rpc()
     }

@@ -133,6 +133,7 @@ impl<Q: Queue, L: LogView> Server<Q, L> {
     pub(crate) fn apply_committed(&mut self, alloc: Global) -> Result<(), Memory>
         requires { IsSound L.log Q.applied self.old }
         ensures sound { OnOk result (IsSound L.log Q.applied self.new) }
+        ensures raft { self.new.raft ≡ self.old.raft }
         ensures ok { OnOk result (Does Q.stands L.log (apply_committed Q.step) self.old self.new) }
         ensures cause { IfErr result (λ m. (queue : Q.Plain) → Q.stands queue self.old.machine →
             SpentOnlyWhere m NUMBER_END (PassesEnd Q.step Q.passes_end

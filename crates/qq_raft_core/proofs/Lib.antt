@@ -1,4 +1,5 @@
 mod Commits
+mod Copies
 pub mod Entries
 mod Fitting
 mod Flushes
@@ -9,3 +10,4 @@ mod Ranges
 mod Said
 mod Sendable
 mod Waits
+pub mod Undoing

@@ -3,3 +3,4 @@ pub mod Fits
 pub mod Held
 pub mod Peers
 pub mod Raft
+pub mod Undone

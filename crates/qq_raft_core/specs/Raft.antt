@@ -1,5 +1,5 @@
 -- What a server holds, as Raft's definition has it.
-use Rattle.std.specs.Prelude.{◌≡◌, ◌+◌, ◌⊎◌, ◌<◌, ◌≤◌, ◌^◌, ℕ, [], All, length}
+use Rattle.std.specs.Prelude.{◌≡◌, ◌+◌, ◌⊎◌, ◌<◌, ◌≤◌, ◌^◌, ℕ, [], All, length, true}
 use Rattle.qq_entry.specs.Range.{IsWritable as IsEntry}
 use Rattle.qq_entry.specs.declared.command.Entry.{Entry}
 use Rattle.qq_log.specs.Writable.{IsQueue, IsVote, MayWrite}
@@ -18,6 +18,7 @@ use Rattle.qq_raft_msg.specs.declared.state.MemberState.{MemberState}
 use Rattle.qq_raft_model.specs.declared.peer.Peer.{Peer}
 use Rattle.qq_raft_model.specs.State.{Server, last}
 use Rattle.qq_raft_core.specs.Ends.{IsSendable}
+use Rattle.qq_raft_core.specs.Undone.{leads_back}
 use Rattle.qq_raft_core.specs.declared.raft.Raft.{Raft}
 
 abbrev pub server_of : {L : Type 0} → (L → LogState) → Raft L → Server
@@ -72,6 +73,8 @@ pub record IsSound {L : Type 0} (log : L → LogState) (r : Raft L) : Type 0 whe
   pub commit : r.commit ≤ NUMBER_END
   pub out : All IsSendable r.out.items
   pub waiting : All IsWaiting r.waiting.items
+  pub undos : leads_back r.op r.undos.items (log r.log).entries ≡ true
+  pub mark : r.mark ≤ length r.undos.items
 
 -- a number of the server stands at its end
 abbrev pub IsAtEnd : Server → Type 0

@@ -1,5 +1,5 @@
 //! What the layer above calls.
-ghost use Rattle.std.specs.Prelude.{◌≡◌, ◌<◌, ◌^◌, [], Ok, true, false, not, All, drop, filter, map, length, nat_eq, slice_get, IfOk, IfErr, IfSome, OnOk, OnErr, IsOkUnless};
+ghost use Rattle.std.specs.Prelude.{◌≡◌, ◌<◌, ◌^◌, [], ◌∷◌, Ok, Some, true, false, not, All, drop, filter, map, length, nat_eq, slice_get, IfOk, IfErr, IfSome, OnOk, OnErr, IsOkUnless};
 ghost use Rattle.qq_log.specs.Stable.{no_snapshot};
 ghost use Rattle.qq_raft_model.specs.State.{last};
 ghost use Rattle.qq_raft_model.specs.Leading.{flush};
@@ -9,10 +9,13 @@ ghost use Rattle.qq_log.specs.Writable.{MayWrite};
 ghost use Rattle.qq_raft_msg.specs.Rpc.{IsNode, IsWritable};
 ghost use Rattle.qq_raft_core.specs.Ends.{IsSendable};
 ghost use Rattle.qq_raft_core.specs.Fits.{fits};
+ghost use Rattle.std.specs.Bool.{Decides};
+ghost use Rattle.qq_raft_core.specs.Undone.{before, last_handed, LeadsBack, unnoticed};
 ghost use Rattle.qq_raft_core.specs.Raft.{server_of, lane_of, IsSound, IsCaused, IsWithinEnds, HandsNothingOut, state_of};
 
 use crate::fits::{has_indices, has_peer, has_size, is_within};
 use crate::raft::Raft;
+use crate::undo::drop_front;
 use qq_base::{Index, Memory, NodeId, QueueId};
 use qq_entry::Command;
 use qq_log::Op;
@@ -20,6 +23,7 @@ use qq_raft_model::Peer;
 use qq_raft_msg::{LogView, MemberState, Role, Rpc};
 use std::alloc::Global;
 use std::collections::VecDeque;
+use std::mem;
 
 /// The other members.
 fn new_peers(alloc: Global, node: NodeId, members: &[NodeId]) -> Result<Vec<Peer>, Memory>
@@ -59,6 +63,7 @@ impl<L: LogView> Raft<L> {
         ensures sound { IfOk result (IsSound L.log) }
         ensures ok { IfOk result (λ server. server_of L.log server
             ≡ restart node members.now (lane_of queue (L.log log))) }
+        ensures undos { IfOk result (λ server. server.undos.items ≡ []) }
         ensures want { IsOkUnless result Memory.Want }
     {
         let peers = new_peers(alloc, node, members)?;
@@ -66,6 +71,7 @@ impl<L: LogView> Raft<L> {
         let waiting = VecDeque::new(alloc);
         let ops = VecDeque::new(alloc);
         let out = VecDeque::new(alloc);
+        let undos = Vec::new(alloc);
         Ok(Raft {
             queue,
             node,
@@ -81,6 +87,8 @@ impl<L: LogView> Raft<L> {
             waiting,
             ops,
             out,
+            undos,
+            mark: 0,
         })
     }
 
@@ -92,8 +100,10 @@ impl<L: LogView> Raft<L> {
         ensures sound { OnOk result (IsSound L.log self.new) }
         ensures ok { OnOk result (server_of L.log self.new ≡ tick (server_of L.log self.old)) }
         ensures err { OnErr result (HandsNothingOut (server_of L.log self.new)) }
+        ensures back { LeadsBack L.log self.old self.new }
         ensures cause { IfErr result (IsCaused (server_of L.log self.old)) }
     {
+        self.begin();
         if let Err(cause) = self.try_tick(alloc) {
             self.clear();
             return Err(cause);
@@ -127,8 +137,10 @@ impl<L: LogView> Raft<L> {
         ensures ok { OnOk result (server_of L.log self.new
             ≡ receive rpc (server_of L.log self.old)) }
         ensures err { OnErr result (HandsNothingOut (server_of L.log self.new)) }
+        ensures back { LeadsBack L.log self.old self.new }
         ensures cause { IfErr result (IsCaused (server_of L.log self.old)) }
     {
+        self.begin();
         if let Err(cause) = self.try_receive(alloc, rpc) {
             self.clear();
             return Err(cause);
@@ -147,8 +159,10 @@ impl<L: LogView> Raft<L> {
         ensures ok { OnOk result (server_of L.log self.new
             ≡ submit time command.now (server_of L.log self.old)) }
         ensures err { OnErr result (HandsNothingOut (server_of L.log self.new)) }
+        ensures back { LeadsBack L.log self.old self.new }
         ensures cause { IfErr result (IsCaused (server_of L.log self.old)) }
     {
+        self.begin();
         if let Err(cause) = self.try_submit(alloc, time, command) {
             self.clear();
             return Err(cause);
@@ -167,8 +181,10 @@ impl<L: LogView> Raft<L> {
         ensures ok { OnOk result (server_of L.log self.new
             ≡ add time command.now (server_of L.log self.old)) }
         ensures err { OnErr result (HandsNothingOut (server_of L.log self.new)) }
+        ensures back { LeadsBack L.log self.old self.new }
         ensures cause { IfErr result (IsCaused (server_of L.log self.old)) }
     {
+        self.begin();
         if let Err(cause) = self.try_add(alloc, time, command) {
             self.clear();
             return Err(cause);
@@ -184,8 +200,10 @@ impl<L: LogView> Raft<L> {
         ensures sound { OnOk result (IsSound L.log self.new) }
         ensures ok { OnOk result (server_of L.log self.new ≡ flush (server_of L.log self.old)) }
         ensures err { OnErr result (HandsNothingOut (server_of L.log self.new)) }
+        ensures back { LeadsBack L.log self.old self.new }
         ensures want { IsOkUnless result Memory.Want }
     {
+        self.begin();
         if let Err(cause) = self.try_flush(alloc) {
             self.clear();
             return Err(cause);
@@ -201,8 +219,10 @@ impl<L: LogView> Raft<L> {
         ensures sound { OnOk result (IsSound L.log self.new) }
         ensures ok { OnOk result (server_of L.log self.new ≡ notice op (server_of L.log self.old)) }
         ensures err { OnErr result (HandsNothingOut (server_of L.log self.new)) }
+        ensures back { LeadsBack L.log self.old self.new }
         ensures cause { IfErr result (IsCaused (server_of L.log self.old)) }
     {
+        self.begin();
         if let Err(cause) = self.try_notice(alloc, op) {
             self.clear();
             return Err(cause);
@@ -213,11 +233,12 @@ impl<L: LogView> Raft<L> {
     /// It gives up what it would hand out, as after a refused call. All else stays.
     pub fn clear(&mut self)
         ensures none { HandsNothingOut (server_of L.log self.new) }
-        ensures rest { server_of L.log self.new ≡ record (server_of L.log self.old) {
-          waiting = [];
-          ops = [];
-          out = [];
+        ensures same { self.new ≡ record self.old {
+          waiting = self.new.waiting;
+          ops = self.new.ops;
+          out = self.new.out;
         } }
+        ensures before { before L.log self.new ≡ before L.log self.old }
     {
         self.waiting.clear();
         self.ops.clear();
@@ -232,11 +253,77 @@ impl<L: LogView> Raft<L> {
         ensures may { IfSome result MayWrite }
         ensures sound { IsSound L.log self.new }
         ensures value { result ≡ slice_get (server_of L.log self.old).ops 0 }
-        ensures rest { server_of L.log self.new ≡ record (server_of L.log self.old) {
-          ops = drop 1 (server_of L.log self.old).ops;
-        } }
+        ensures rest { self.new.ops.items ≡ drop 1 self.old.ops.items }
+        ensures same { self.new ≡ record self.old { ops = self.new.ops } }
     {
         self.ops.pop_front()
+    }
+
+    /// All changes for the log's disk, in order, which the log takes and writes.
+    pub fn take_ops(&mut self, alloc: Global) -> VecDeque<Op>
+        requires { IsSound L.log self.old }
+
+        ensures may { All MayWrite result.items }
+        ensures sound { IsSound L.log self.new }
+        ensures value { result.items ≡ (server_of L.log self.old).ops }
+        ensures rest { self.new.ops.items ≡ [] }
+        ensures same { self.new ≡ record self.old { ops = self.new.ops } }
+    {
+        mem::replace(&mut self.ops, VecDeque::new(alloc))
+    }
+
+    /// How many changes wait for the log's disk.
+    pub fn waiting(&self) -> usize
+        ensures { result ≡ length self.now.ops.items }
+    {
+        self.ops.len()
+    }
+
+    /// Puts an op before the changes that wait for the log's disk. Without memory it is handed back.
+    pub fn put_first(&mut self, op: Op) -> Result<(), Op>
+        requires sound { IsSound L.log self.old }
+        requires op { MayWrite op }
+
+        ensures sound { IsSound L.log self.new }
+        ensures ok { OnOk result (self.new.ops.items ≡ op ∷ self.old.ops.items) }
+        ensures err { OnErr result (self.new.ops.items ≡ self.old.ops.items) }
+        ensures back { IfErr result (λ returned. returned ≡ op) }
+        ensures same { self.new ≡ record self.old { ops = self.new.ops } }
+    {
+        match self.ops.push_front(op) {
+            Ok(()) => Ok(()),
+            Err(failed) => Err(failed.value),
+        }
+    }
+
+    /// Whether an op is the change that it handed out last. What leads back from it has to be there still, as
+    /// it is until it is given up once the change is noticed.
+    pub fn was_last(&self, op: &Op) -> bool
+        requires sound { IsSound L.log self.now }
+        requires op { MayWrite op.now }
+
+        ensures { Decides result (last_handed L.log self.now ≡ Some op.now) }
+    {
+        let place = self.undos.len().saturating_sub(self.ops.len());
+        if place == 0 {
+            return false;
+        }
+        self.is_change(place, op)
+    }
+
+    /// It gives up what leads back from changes that were noticed.
+    pub fn forget_noticed(&mut self)
+        requires { IsSound L.log self.old }
+
+        ensures sound { IsSound L.log self.new }
+        ensures server { server_of L.log self.new ≡ server_of L.log self.old }
+        ensures undos { self.new.undos.items ≡ unnoticed self.old }
+        ensures same { self.new ≡ record self.old { undos = self.new.undos; mark = 0 } }
+    {
+        let open = self.op.saturating_sub(self.noticed);
+        let count = (self.undos.len() as u64).saturating_sub(open);
+        self.mark = 0;
+        drop_front(&mut self.undos, count as usize);
     }
 
     /// The next message that may leave: it has bytes, and fits whoever gets it by its numbers. None exactly
@@ -248,9 +335,8 @@ impl<L: LogView> Raft<L> {
         ensures rpc { IfSome result IsSendable }
         ensures sound { IsSound L.log self.new }
         ensures value { result ≡ slice_get (server_of L.log self.old).out 0 }
-        ensures rest { server_of L.log self.new ≡ record (server_of L.log self.old) {
-          out = drop 1 (server_of L.log self.old).out;
-        } }
+        ensures rest { self.new.out.items ≡ drop 1 self.old.out.items }
+        ensures same { self.new ≡ record self.old { out = self.new.out } }
     {
         self.out.pop_front()
     }

@@ -4,6 +4,7 @@ ghost use Rattle.qq_base.specs.declared.memory.TheConstants.{NUMBER_END};
 ghost use Rattle.qq_raft_model.specs.State.{last};
 ghost use Rattle.qq_raft_model.specs.Leading.{durable, may_commit, commit_within, advance};
 ghost use Rattle.qq_raft_core.specs.Held.{is_held};
+ghost use Rattle.qq_raft_core.specs.Undone.{before};
 ghost use Rattle.qq_raft_core.specs.Raft.{server_of, IsSound};
 
 use crate::batch::term_at;
@@ -96,6 +97,7 @@ impl<L: LogView> Raft<L> {
     pub(crate) fn advance(&mut self)
         requires { IsSound L.log self.old }
         ensures sound { IsSound L.log self.new }
+        ensures before { before L.log self.new ≡ before L.log self.old }
         ensures value { server_of L.log self.new ≡ advance (server_of L.log self.old) }
     {
         if self.role != Role::Leader {

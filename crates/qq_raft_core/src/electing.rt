@@ -6,6 +6,7 @@ ghost use Rattle.qq_raft_model.specs.State.{last, say_all};
 ghost use Rattle.qq_raft_model.specs.Leading.{is_majority, ask, stand, lead, noop, is_elected, lead_if_elected};
 ghost use Rattle.qq_raft_msg.specs.Rpc.{IsWritable};
 ghost use Rattle.qq_raft_core.specs.Ends.{HasEnds};
+ghost use Rattle.qq_raft_core.specs.Undone.{before};
 ghost use Rattle.qq_raft_core.specs.Raft.{server_of, IsSound, IsPeer, IsInLog, IsCaused};
 
 use crate::batch::term_at;
@@ -42,6 +43,7 @@ impl<L: LogView> Raft<L> {
         ensures ok { OnOk result (server_of L.log self.new ≡ say_all
             (map (ask (server_of L.log self.old)) (server_of L.log self.old).peers)
             (server_of L.log self.old)) }
+        ensures before { before L.log self.new ≡ before L.log self.old }
         ensures want { IsOkUnless result Memory.Want }
     {
         'peers: for place in 0..self.peers.len() {
@@ -57,6 +59,7 @@ impl<L: LogView> Raft<L> {
         requires { IsSound L.log self.old }
         ensures sound { OnOk result (IsSound L.log self.new) }
         ensures ok { OnOk result (server_of L.log self.new ≡ stand (server_of L.log self.old)) }
+        ensures before { before L.log self.new ≡ before L.log self.old }
         ensures cause { IfErr result (IsCaused (server_of L.log self.old)) }
     {
         if self.term.0 >= NUMBER_END {
@@ -92,6 +95,7 @@ impl<L: LogView> Raft<L> {
         requires { IsSound L.log self.old }
         ensures sound { OnOk result (IsSound L.log self.new) }
         ensures ok { OnOk result (server_of L.log self.new ≡ lead (server_of L.log self.old)) }
+        ensures before { before L.log self.new ≡ before L.log self.old }
         ensures cause { IfErr result (IsCaused (server_of L.log self.old)) }
     {
         let next = self.last() + 1;
@@ -120,6 +124,7 @@ impl<L: LogView> Raft<L> {
         ensures sound { OnOk result (IsSound L.log self.new) }
         ensures ok { OnOk result (server_of L.log self.new
             ≡ lead_if_elected (server_of L.log self.old)) }
+        ensures before { before L.log self.new ≡ before L.log self.old }
         ensures cause { IfErr result (IsCaused (server_of L.log self.old)) }
     {
         if !self.is_elected() {

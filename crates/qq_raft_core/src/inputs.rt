@@ -4,6 +4,7 @@ ghost use Rattle.std.specs.Option.{option_map_or};
 ghost use Rattle.qq_raft_model.specs.Server.{add, tick, is_ready, submit, free, still_waiting, notice};
 ghost use Rattle.qq_entry.specs.Range.{IsCommand, HasContent};
 ghost use Rattle.qq_raft_core.specs.Ends.{IsSendable};
+ghost use Rattle.qq_raft_core.specs.Undone.{before};
 ghost use Rattle.qq_raft_core.specs.Raft.{server_of, IsSound, IsInLog, IsWaiting, IsCaused};
 
 use crate::batch::term_at;
@@ -54,6 +55,7 @@ impl<L: LogView> Raft<L> {
         requires { IsSound L.log self.old }
         ensures sound { OnOk result (IsSound L.log self.new) }
         ensures ok { OnOk result (server_of L.log self.new ≡ tick (server_of L.log self.old)) }
+        ensures before { before L.log self.new ≡ before L.log self.old }
         ensures cause { IfErr result (IsCaused (server_of L.log self.old)) }
     {
         if self.role != Role::Leader {
@@ -103,6 +105,7 @@ impl<L: LogView> Raft<L> {
         ensures sound { OnOk result (IsSound L.log self.new) }
         ensures ok { OnOk result (server_of L.log self.new
             ≡ submit time command.now (server_of L.log self.old)) }
+        ensures before { before L.log self.new ≡ before L.log self.old }
         ensures cause { IfErr result (IsCaused (server_of L.log self.old)) }
     {
         if !self.is_ready() {
@@ -125,6 +128,7 @@ impl<L: LogView> Raft<L> {
         ensures sound { OnOk result (IsSound L.log self.new) }
         ensures ok { OnOk result (server_of L.log self.new
             ≡ add time command.now (server_of L.log self.old)) }
+        ensures before { before L.log self.new ≡ before L.log self.old }
         ensures cause { IfErr result (IsCaused (server_of L.log self.old)) }
     {
         if !self.is_ready() {
@@ -141,6 +145,7 @@ impl<L: LogView> Raft<L> {
         ensures sound { OnOk result (IsSound L.log self.new) }
         ensures ok { OnOk result (server_of L.log self.new
             ≡ notice op (server_of L.log self.old)) }
+        ensures before { before L.log self.new ≡ before L.log self.old }
         ensures cause { IfErr result (IsCaused (server_of L.log self.old)) }
     {
         self.noticed = greater(self.noticed, op);

@@ -7,12 +7,17 @@ mod batch;
 mod committing;
 mod electing;
 mod fits;
+mod handed;
 mod inputs;
+mod lanes;
 mod laws;
 mod peers;
 mod raft;
 mod receiving;
 mod sending;
+mod undo;
 
+pub use lanes::Lanes;
 pub use laws::the_entries_of_a_message_fit;
-pub use raft::Raft;
+pub use raft::{Raft, copy_behind};
+pub use undo::Undo;

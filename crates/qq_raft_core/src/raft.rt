@@ -1,5 +1,7 @@
 //! What a server holds beside its machine, and how it changes.
-ghost use Rattle.std.specs.Prelude.{◌≡◌, ◌+◌, ◌≤◌, ◌<◌, ◌++◌, ◌∷◌, [], All, take, length, IfErr, OnOk, IsOkUnless};
+ghost use Rattle.std.specs.Prelude.{◌≡◌, ◌+◌, ◌≤◌, ◌<◌, ◌++◌, ◌∷◌, [], All, take, drop, length, IfOk, IfErr, OnOk, OnErr, IsOkUnless};
+ghost use Rattle.qq_base.specs.Fronts.{IsFront};
+ghost use Rattle.qq_raft_core.specs.Undone.{before, begun, undo_of};
 ghost use Rattle.qq_base.specs.declared.memory.TheConstants.{NUMBER_END};
 ghost use Rattle.qq_log.specs.Stable.{no_snapshot};
 ghost use Rattle.qq_raft_model.specs.State.{last, change, enter, wait, say};
@@ -10,6 +12,7 @@ ghost use Rattle.qq_raft_core.specs.Fits.{IsShort};
 ghost use Rattle.qq_raft_core.specs.Raft.{server_of, IsSound, IsInLog, IsWaiting, IsCaused};
 ghost use Rattle.qq_base.specs.Causes.{SpentOnlyWhere};
 
+use crate::undo::Undo;
 use qq_base::{Duplicate, Index, Memory, NUMBER_END, NodeId, QueueId, Term};
 use qq_entry::{Entries, Entry};
 use qq_log::Op;
@@ -43,6 +46,35 @@ pub struct Raft<L: LogView> {
     pub(crate) ops: VecDeque<Op>,
     /// Messages that are to be taken away.
     pub(crate) out: VecDeque<Rpc>,
+    /// What leads back from the last changes, from the first that isn't noticed on.
+    pub(crate) undos: Vec<Undo>,
+    /// How many of them there were when the call began that is under way.
+    pub(crate) mark: usize,
+}
+
+/// Copies of a log's entries behind one index, up to another.
+pub fn copy_behind<L: LogView>(
+    alloc: Global,
+    log: &L,
+    first: u64,
+    end: u64,
+) -> Result<Vec<Entry>, Memory>
+    requires whole { (L.log log.now).base ≡ no_snapshot }
+    requires order { first ≤ end }
+    requires within { end ≤ length (L.log log.now).entries }
+
+    ensures ok { IfOk result (λ copied.
+        copied.items ≡ drop first (take end (L.log log.now).entries)) }
+    ensures want { IsOkUnless result Memory.Want }
+{
+    let mut copied = Vec::new(alloc);
+    'entries: for index in first..end {
+        let Some(entry) = log.entry(Index(index + 1)) else {
+            unreachable!()
+        };
+        copied.push(entry.copy(alloc)?)?;
+    }
+    Ok(copied)
 }
 
 /// Adds copies of entries to a log that has room for them.
@@ -51,6 +83,7 @@ fn append_all<L: LogView>(alloc: Global, log: &mut L, entries: &[Entry]) -> Resu
     ensures base { (L.log log.new).base ≡ (L.log log.old).base }
     ensures ok { OnOk result ((L.log log.new).entries
         ≡ (L.log log.old).entries ++ entries.now) }
+    ensures front { IsFront (L.log log.old).entries (L.log log.new).entries }
     ensures want { IsOkUnless result Memory.Want }
 {
     'entries: for entry in entries {
@@ -75,6 +108,7 @@ fn replace_tail<L: LogView>(
     ensures base { (L.log log.new).base ≡ no_snapshot }
     ensures ok { OnOk result ((L.log log.new).entries
         ≡ take keep (L.log log.old).entries ++ entries.now) }
+    ensures kept { take keep (L.log log.new).entries ≡ take keep (L.log log.old).entries }
     ensures last { OnOk result (length (L.log log.new).entries ≤ NUMBER_END) }
     ensures entries { OnOk result (All IsInLog (L.log log.new).entries) }
     ensures end { OnOk result (keep + length entries.now ≤ NUMBER_END) }
@@ -115,6 +149,15 @@ fn change_op(
         keep: Index(keep),
         entries,
     }
+}
+
+fn push_undo(undos: &mut Vec<Undo>, undo: Undo) -> Result<(), Memory>
+    ensures ok { OnOk result (undos.new.items ≡ undos.old.items ++ undo ∷ []) }
+    ensures err { OnErr result (undos.new.items ≡ undos.old.items) }
+    ensures want { IsOkUnless result Memory.Want }
+{
+    undos.push(undo)?;
+    Ok(())
 }
 
 #[tactic(auto, using(crate::proofs::Ranges::all_more))]
@@ -172,6 +215,32 @@ impl<L: LogView> Raft<L> {
         self.log.last().0
     }
 
+    /// A call begins.
+    pub(crate) fn begin(&mut self)
+        requires { IsSound L.log self.old }
+        ensures sound { IsSound L.log self.new }
+        ensures same { self.new ≡ record self.old { mark = self.new.mark } }
+        ensures before { before L.log self.new ≡ begun L.log self.old }
+    {
+        self.mark = self.undos.len();
+    }
+
+    /// What leads back from a change that keeps so many entries.
+    fn undo_of(&self, alloc: Global, keep: u64) -> Result<Undo, Memory>
+        requires whole { (L.log self.now.log).base ≡ no_snapshot }
+        requires keep { keep ≤ last (server_of L.log self.now) }
+        ensures ok { IfOk result (λ undo. undo ≡ undo_of L.log keep self.now) }
+        ensures want { IsOkUnless result Memory.Want }
+    {
+        let cut = copy_behind(alloc, &self.log, keep, self.last())?;
+        Ok(Undo {
+            term: self.term,
+            vote: self.vote,
+            keep,
+            cut: Entries::from_vec(cut),
+        })
+    }
+
     /// Hands a change out and works on it at once.
     #[tactic(auto, unfolding(qq_raft_model::specs::State::change))]
     pub(crate) fn change(
@@ -192,16 +261,19 @@ impl<L: LogView> Raft<L> {
         ensures sound { OnOk result (IsSound L.log self.new) }
         ensures ok { OnOk result (server_of L.log self.new
             ≡ change term vote keep entries (server_of L.log self.old)) }
+        ensures before { before L.log self.new ≡ before L.log self.old }
         ensures cause { IfErr result (IsCaused (server_of L.log self.old)) }
     {
-        if self.op >= NUMBER_END {
+        let full = self.op >= NUMBER_END;
+        if full {
             return Err(Memory::Spent { number: self.op });
         }
+        let undo = self.undo_of(alloc, keep)?;
+        push_undo(&mut self.undos, undo)?;
+        self.op += 1;
         replace_tail(alloc, &mut self.log, keep, entries.as_slice())?;
-        let op = self.op + 1;
-        let change = change_op(self.queue, op, term, vote, keep, entries);
+        let change = change_op(self.queue, self.op, term, vote, keep, entries);
         push_op(&mut self.ops, change)?;
-        self.op = op;
         self.term = term;
         self.vote = vote;
         Ok(())
@@ -215,6 +287,7 @@ impl<L: LogView> Raft<L> {
         ensures sound { OnOk result (IsSound L.log self.new) }
         ensures ok { OnOk result (server_of L.log self.new
             ≡ enter term (server_of L.log self.old)) }
+        ensures before { before L.log self.new ≡ before L.log self.old }
         ensures cause { IfErr result (IsCaused (server_of L.log self.old)) }
     {
         if term.0 <= self.term.0 {
@@ -235,6 +308,7 @@ impl<L: LogView> Raft<L> {
         ensures sound { OnOk result (IsSound L.log self.new) }
         ensures ok { OnOk result (server_of L.log self.new
             ≡ say rpc (server_of L.log self.old)) }
+        ensures before { before L.log self.new ≡ before L.log self.old }
         ensures want { IsOkUnless result Memory.Want }
     {
         if self.op <= self.noticed {

@@ -9,6 +9,7 @@ ghost use Rattle.qq_raft_model.specs.Server.{voted, appended, installed, refuse,
 ghost use Rattle.qq_raft_msg.specs.Rpc.{IsNode, IsWritable, envelope};
 ghost use Rattle.qq_raft_core.specs.Ends.{HasEnds};
 ghost use Rattle.qq_log.specs.Writable.{IsVote};
+ghost use Rattle.qq_raft_core.specs.Undone.{before};
 ghost use Rattle.qq_raft_core.specs.Raft.{server_of, IsSound, IsInLog, IsCaused};
 ghost use Rattle.qq_raft_core.specs.Fits.{IsShort, IsWithin, AppendFits};
 
@@ -80,6 +81,7 @@ impl<L: LogView> Raft<L> {
         ensures sound { OnOk result (IsSound L.log self.new) }
         ensures ok { OnOk result (server_of L.log self.new
             ≡ refuse rpc.now (server_of L.log self.old)) }
+        ensures before { before L.log self.new ≡ before L.log self.old }
         ensures want { IsOkUnless result Memory.Want }
     {
         match rpc {
@@ -145,6 +147,7 @@ impl<L: LogView> Raft<L> {
         ensures sound { OnOk result (IsSound L.log self.new) }
         ensures ok { OnOk result (server_of L.log self.new
             ≡ give_vote m.now (server_of L.log self.old)) }
+        ensures before { before L.log self.new ≡ before L.log self.old }
         ensures cause { IfErr result (IsCaused (server_of L.log self.old)) }
     {
         if is_vote(self.vote_in(m.term), m.from) {
@@ -165,6 +168,7 @@ impl<L: LogView> Raft<L> {
         ensures sound { OnOk result (IsSound L.log self.new) }
         ensures ok { OnOk result (server_of L.log self.new
             ≡ receive_vote m.now (server_of L.log self.old)) }
+        ensures before { before L.log self.new ≡ before L.log self.old }
         ensures cause { IfErr result (IsCaused (server_of L.log self.old)) }
     {
         let granted = self.may_grant(m);
@@ -185,6 +189,7 @@ impl<L: LogView> Raft<L> {
         ensures sound { OnOk result (IsSound L.log self.new) }
         ensures ok { OnOk result (server_of L.log self.new
             ≡ receive_voted m.now (server_of L.log self.old)) }
+        ensures before { before L.log self.new ≡ before L.log self.old }
         ensures cause { IfErr result (IsCaused (server_of L.log self.old)) }
     {
         if self.term.0 < m.term.0 {
@@ -220,6 +225,7 @@ impl<L: LogView> Raft<L> {
         ensures sound { OnOk result (IsSound L.log self.new) }
         ensures ok { OnOk result (server_of L.log self.new
             ≡ write m (drop agreed m.entries) (server_of L.log self.old)) }
+        ensures before { before L.log self.new ≡ before L.log self.old }
         ensures cause { IfErr result (IsCaused (server_of L.log self.old)) }
     {
         let (term, vote) = (m.term, self.vote_in(m.term));
@@ -241,6 +247,7 @@ impl<L: LogView> Raft<L> {
         ensures sound { OnOk result (IsSound L.log self.new) }
         ensures ok { OnOk result (server_of L.log self.new
             ≡ take_entries m (server_of L.log self.old)) }
+        ensures before { before L.log self.new ≡ before L.log self.old }
         ensures cause { IfErr result (IsCaused (server_of L.log self.old)) }
     {
         let count = agreed(&self.log, m.prev_index.0, m.entries.as_slice());
@@ -262,6 +269,7 @@ impl<L: LogView> Raft<L> {
         ensures sound { OnOk result (IsSound L.log self.new) }
         ensures ok { OnOk result (server_of L.log self.new
             ≡ refuse_entries m.now (server_of L.log self.old)) }
+        ensures before { before L.log self.new ≡ before L.log self.old }
         ensures cause { IfErr result (IsCaused (server_of L.log self.old)) }
     {
         let index = m.prev_index.0.saturating_sub(1).min(self.last());
@@ -281,6 +289,7 @@ impl<L: LogView> Raft<L> {
         ensures sound { OnOk result (IsSound L.log self.new) }
         ensures ok { OnOk result (server_of L.log self.new
             ≡ receive_append m (server_of L.log self.old)) }
+        ensures before { before L.log self.new ≡ before L.log self.old }
         ensures cause { IfErr result (IsCaused (server_of L.log self.old)) }
     {
         if self.is_match(&m) {
@@ -297,6 +306,7 @@ impl<L: LogView> Raft<L> {
         ensures sound { OnOk result (IsSound L.log self.new) }
         ensures ok { OnOk result (server_of L.log self.new
             ≡ take_ack m.now (server_of L.log self.old)) }
+        ensures before { before L.log self.new ≡ before L.log self.old }
         ensures want { IsOkUnless result Memory.Want }
     {
         let (node, index) = (m.from, m.index.0);
@@ -313,6 +323,7 @@ impl<L: LogView> Raft<L> {
         ensures sound { OnOk result (IsSound L.log self.new) }
         ensures ok { OnOk result (server_of L.log self.new
             ≡ step_back m.now (server_of L.log self.old)) }
+        ensures before { before L.log self.new ≡ before L.log self.old }
         ensures want { IsOkUnless result Memory.Want }
     {
         let (node, index) = (m.from, m.index.0);
@@ -328,6 +339,7 @@ impl<L: LogView> Raft<L> {
         ensures sound { OnOk result (IsSound L.log self.new) }
         ensures ok { OnOk result (server_of L.log self.new
             ≡ receive_appended m.now (server_of L.log self.old)) }
+        ensures before { before L.log self.new ≡ before L.log self.old }
         ensures cause { IfErr result (IsCaused (server_of L.log self.old)) }
     {
         if self.term.0 < m.term.0 {
@@ -350,6 +362,7 @@ impl<L: LogView> Raft<L> {
         ensures sound { OnOk result (IsSound L.log self.new) }
         ensures ok { OnOk result (server_of L.log self.new
             ≡ accept rpc (server_of L.log self.old)) }
+        ensures before { before L.log self.new ≡ before L.log self.old }
         ensures cause { IfErr result (IsCaused (server_of L.log self.old)) }
     {
         match rpc {
@@ -370,6 +383,7 @@ impl<L: LogView> Raft<L> {
         ensures sound { OnOk result (IsSound L.log self.new) }
         ensures ok { OnOk result (server_of L.log self.new
             ≡ receive rpc (server_of L.log self.old)) }
+        ensures before { before L.log self.new ≡ before L.log self.old }
         ensures cause { IfErr result (IsCaused (server_of L.log self.old)) }
     {
         if rpc.envelope().term.0 < self.term.0 {

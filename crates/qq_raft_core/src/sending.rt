@@ -11,6 +11,7 @@ ghost use Rattle.qq_raft_core.specs.Fits.{IsShort};
 ghost use Rattle.qq_raft_core.specs.Peers.{picks, append_from, sent_to, passed};
 ghost use Rattle.qq_raft_msg.specs.Rpc.{IsWritable};
 ghost use Rattle.qq_raft_core.specs.Ends.{HasEnds, IsSendable};
+ghost use Rattle.qq_raft_core.specs.Undone.{before};
 ghost use Rattle.qq_raft_core.specs.Raft.{IsSender};
 ghost use Rattle.qq_raft_core.specs.Raft.{server_of, IsSound, IsInLog, IsPeer, IsCaused};
 
@@ -174,6 +175,7 @@ impl<L: LogView> Raft<L> {
         ensures sound { OnOk result (IsSound L.log self.new) }
         ensures ok { OnOk result (server_of L.log self.new
             ≡ send (picks target (last (server_of L.log self.old))) (server_of L.log self.old)) }
+        ensures before { before L.log self.new ≡ before L.log self.old }
         ensures want { IsOkUnless result Memory.Want }
     {
         let sender = Sender {
@@ -198,6 +200,7 @@ impl<L: LogView> Raft<L> {
         ensures sound { OnOk result (IsSound L.log self.new) }
         ensures ok { OnOk result (server_of L.log self.new
             ≡ append_entry entry (server_of L.log self.old)) }
+        ensures before { before L.log self.new ≡ before L.log self.old }
         ensures cause { IfErr result (IsCaused (server_of L.log self.old)) }
     {
         let entries = one_entry(alloc, entry)?;
@@ -213,6 +216,7 @@ impl<L: LogView> Raft<L> {
         ensures sound { OnOk result (IsSound L.log self.new) }
         ensures ok { OnOk result (server_of L.log self.new
             ≡ add_entry entry (server_of L.log self.old)) }
+        ensures before { before L.log self.new ≡ before L.log self.old }
         ensures cause { IfErr result (IsCaused (server_of L.log self.old)) }
     {
         self.append_entry(alloc, entry)?;
@@ -235,6 +239,7 @@ impl<L: LogView> Raft<L> {
         ensures sound { OnOk result (IsSound L.log self.new) }
         ensures ok { OnOk result (server_of L.log self.new
             ≡ flush_within rounds (server_of L.log self.old)) }
+        ensures before { before L.log self.new ≡ before L.log self.old }
         ensures want { IsOkUnless result Memory.Want }
     {
         'sends: for round in 0..rounds {
@@ -254,6 +259,7 @@ impl<L: LogView> Raft<L> {
         ensures sound { OnOk result (IsSound L.log self.new) }
         ensures ok { OnOk result (server_of L.log self.new
             ≡ flush (server_of L.log self.old)) }
+        ensures before { before L.log self.new ≡ before L.log self.old }
         ensures want { IsOkUnless result Memory.Want }
     {
         if self.role != Role::Leader {

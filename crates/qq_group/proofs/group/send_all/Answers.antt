@@ -1,8 +1,8 @@
 use Rattle.std.proofs.Common.{◌+◌, ◌++◌, length, sym, ap, ◌∙◌, length-append}
 use Rattle.qq_raft_core.specs.Ends.{IsSendable}
 use Rattle.qq_raft_core.specs.Raft.{server_of}
-use Rattle.qq_raft_model.specs.State.{Server as Raft}
-use Rattle.qq_group.proofs.Bags.{all-more, front-one, moved, only-out, only-raft, full-with}
+use Rattle.qq_raft.specs.declared.server.Server.{Server}
+use Rattle.qq_group.proofs.Bags.{all-more, front-one, full-with, moved, out-again}
 use Rattle.qq_group.proofs.group.send_all.Goals as goal
 
 pub messages-preserved : goal.messages-preserved
@@ -10,19 +10,18 @@ messages-preserved g c =
     let log = g.L.LogView.log in
     let inv = c.messages.invariant in
     let sent = c.in-Some.ensures in
-    let rest = ap (λ (s : Raft). s.out) sent.rest in
+    let same = out-again c.args.server.now c.messages.server c.next_rpc.new.self inv.same sent.same in
     record {
       bag = moved c.messages.bag c.put.new.self (server_of log c.messages.server.raft).out
           (server_of log c.next_rpc.new.self.raft).out
           (c.args.bag.now ++ (server_of log c.args.server.now.raft).out) c.in-Some.rpc
-          c.in_default-put.ensures.ok sent.value rest inv.bag;
+          c.in_default-put.ensures.ok sent.value sent.rest inv.bag;
       sendable = all-more IsSendable c.messages.bag c.put.new.self c.in-Some.rpc c.in_default-put.ensures.ok inv.sendable
           sent.rpc;
       front = front-one c.args.bag.now c.messages.bag c.put.new.self c.in-Some.rpc inv.front c.in_default-put.ensures.ok;
-      raft = only-out (server_of log c.args.server.now.raft) (server_of log c.messages.server.raft)
-          (server_of log c.next_rpc.new.self.raft) inv.raft sent.rest;
+      raft = ap (λ (s : Server _ _). server_of log s.raft) same;
       sound = sent.sound;
-      same = only-raft c.args.server.now c.messages.server c.next_rpc.new.self inv.same sent.same;
+      same = same;
     }
 
 pub returns-in-Err-clause-cause : goal.returns-in-Err-clause-cause

@@ -17,7 +17,7 @@ invariant-messages g l =
       raft : server_of log l.server.raft
           ≡ record (server_of log l.fn.server.raft) { out = (server_of log l.server.raft).out };
       sound : IsSound log g.Q.Queue.applied l.server;
-      same : l.server ≡ record l.fn.server { raft = l.server.raft };
+      same : l.server ≡ record l.fn.server { raft = record l.fn.server.raft { out = l.server.raft.out } };
     }
 
 abbrev pub decreases-messages : goal.decreases-messages

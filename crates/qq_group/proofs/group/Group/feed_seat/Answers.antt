@@ -1,10 +1,9 @@
 use Rattle.std.proofs.Common.{◌≡◌, length, Some, refl, ap, subst, sym, ◌∙◌}
 use Rattle.std.specs.Prelude.{slice_get, is_some}
-use Rattle.std.proofs.lemmas.List.{length-set}
 use Rattle.std.proofs.lemmas.Option.{slice_get_read}
 use Rattle.qq_group.specs.Group.{IsReturned, IsServed, server_by}
 use Rattle.qq_group.specs.Input.{fed_outcome, IsInputCaused, MayReach}
-use Rattle.qq_group.proofs.Seats.{served-put, returned-put, returned-at}
+use Rattle.qq_group.proofs.Seats.{left-at, returned-at, sound-put}
 use Rattle.qq_group.proofs.group.Group.feed_seat.Goals as goal
 
 pub feed-requires-clause-up : goal.feed-requires-clause-up
@@ -27,6 +26,14 @@ feed-requires-clause-input g c =
     slice_get_read c.args.self.now.seats.items (length c.args.self.now.seats.items) c.args.node.0 c.in-Some.seat.now refl
     c.requires.there c.in-Some.ensures.value)
     c.requires.input
+
+pub feed-requires-clause-left : goal.feed-requires-clause-left
+feed-requires-clause-left g c =
+    let seats = c.args.self.now.seats.items in
+    let k = c.args.node.0 in
+    let there : slice_get seats k ≡ Some c.in-Some.seat.now =
+    slice_get_read seats (length seats) k c.in-Some.seat.now refl c.requires.there c.in-Some.ensures.value in
+    left-at g.L.LogView.log seats k c.in-Some.seat.now there c.requires.sound.left
 
 pub returns-in-Ok-clause-ok : goal.returns-in-Ok-clause-ok
 returns-in-Ok-clause-ok g c = record {
@@ -54,6 +61,8 @@ returns-in-Err-clause-err g c = record {
     nodes = refl;
   };
   dropped = c.in-Err.ensures.err;
+  bag = c.in-Err.ensures.bag_err;
+  audit = c.in-Err.ensures.audit_err;
 }
 
 pub returns-in-Ok-clause-outcome : goal.returns-in-Ok-clause-outcome
@@ -77,17 +86,11 @@ returns-in-Ok-clause-sound g c =
     let k = c.args.node.0 in
     let there : slice_get seats k ≡ Some c.in-Some.seat.now =
     slice_get_read seats (length seats) k c.in-Some.seat.now refl c.requires.there c.in-Some.ensures.value in
-    record {
-      servers = served-put g.Q.Queue.stands g.L.LogView.log g.Q.Queue.applied seats k c.feed.new.self c.requires.there
-          c.feed.ensures.served c.requires.sound.servers;
-      returned = returned-put seats k c.feed.new.self c.requires.there
-          (subst IsReturned (sym c.feed.ensures.returned)
-          (returned-at seats k c.in-Some.seat.now there c.requires.sound.returned)) c.requires.sound.returned;
-      bag = c.feed.ensures.bag;
-      nodes = c.requires.sound.nodes;
-      count = c.requires.sound.count;
-      seats = length-set seats k c.feed.new.self ∙ c.requires.sound.seats;
-    }
+    sound-put g.Q.Queue.stands g.L.LogView.log g.Q.Queue.applied k c.feed.new.self c.args.self.now _ c.requires.there
+    c.feed.ensures.served
+    (subst IsReturned (sym c.feed.ensures.returned)
+    (returned-at seats k c.in-Some.seat.now there c.requires.sound.returned)) c.feed.ensures.left refl
+    c.feed.ensures.bag refl c.requires.sound
 
 pub returns-in-Err-clause-sound : goal.returns-in-Err-clause-sound
 returns-in-Err-clause-sound g c =
@@ -95,14 +98,8 @@ returns-in-Err-clause-sound g c =
     let k = c.args.node.0 in
     let there : slice_get seats k ≡ Some c.in-Some.seat.now =
     slice_get_read seats (length seats) k c.in-Some.seat.now refl c.requires.there c.in-Some.ensures.value in
-    record {
-      servers = served-put g.Q.Queue.stands g.L.LogView.log g.Q.Queue.applied seats k c.feed.new.self c.requires.there
-          c.feed.ensures.served c.requires.sound.servers;
-      returned = returned-put seats k c.feed.new.self c.requires.there
-          (subst IsReturned (sym c.feed.ensures.returned)
-          (returned-at seats k c.in-Some.seat.now there c.requires.sound.returned)) c.requires.sound.returned;
-      bag = c.feed.ensures.bag;
-      nodes = c.requires.sound.nodes;
-      count = c.requires.sound.count;
-      seats = length-set seats k c.feed.new.self ∙ c.requires.sound.seats;
-    }
+    sound-put g.Q.Queue.stands g.L.LogView.log g.Q.Queue.applied k c.feed.new.self c.args.self.now _ c.requires.there
+    c.feed.ensures.served
+    (subst IsReturned (sym c.feed.ensures.returned)
+    (returned-at seats k c.in-Some.seat.now there c.requires.sound.returned)) c.feed.ensures.left refl
+    c.feed.ensures.bag refl c.requires.sound

@@ -9,6 +9,7 @@ pub returns-in-Ok-clause-sound : goal.returns-in-Ok-clause-sound
 returns-in-Ok-clause-sound g c = record {
   servers = c.requires.servers;
   returned = c.requires.returned;
+  left = c.requires.left;
   bag = subst (λ (bag : List Rpc). All IsSendable bag) (sym c.deliver.ensures.rest)
       (all-without IsSendable c.args.place c.args.self.now.bag c.requires.bag);
   nodes = c.requires.nodes;
@@ -20,6 +21,7 @@ pub returns-in-Err-clause-sound : goal.returns-in-Err-clause-sound
 returns-in-Err-clause-sound g c = record {
   servers = c.requires.servers;
   returned = c.requires.returned;
+  left = c.requires.left;
   bag = subst (λ (bag : List Rpc). All IsSendable bag) (sym c.deliver.ensures.rest)
       (all-without IsSendable c.args.place c.args.self.now.bag c.requires.bag);
   nodes = c.requires.nodes;

@@ -1,3 +1,5 @@
+use Rattle.std.proofs.Common.{subst, sym}
+use Rattle.qq_raft_core.specs.Undone.{LeadsBack}
 use Rattle.std.proofs.lemmas.Result.{err_from_is_err_and}
 use Rattle.qq_raft_model.specs.Server.{notice as notice_raft}
 use Rattle.qq_raft.specs.Stands.{state_of}
@@ -20,3 +22,11 @@ pub returns-clause-ok : goal.returns-clause-ok
 returns-clause-ok g c =
     does-after g.Q.Queue.stands g.L.LogView.log g.Q.Queue.step (notice_raft c.args.op) c.args.self.now c.notice.new.self
     c.apply_committed.new.self c.in_ok-notice.ensures.ok c.in_default.ensures.ok
+
+pub returns-in-Err-clause-back : goal.returns-in-Err-clause-back
+returns-in-Err-clause-back g c =
+    subst (LeadsBack g.L.LogView.log c.args.self.now.raft) (sym c.apply_committed.ensures.raft) c.notice.ensures.back
+
+pub returns-clause-back : goal.returns-clause-back
+returns-clause-back g c =
+    subst (LeadsBack g.L.LogView.log c.args.self.now.raft) (sym c.apply_committed.ensures.raft) c.notice.ensures.back

@@ -1,4 +1,4 @@
-use Rattle.std.proofs.Common.{sym, take, map, arith}
+use Rattle.std.proofs.Common.{◌∙◌, refl, sym, take, map, arith}
 use Rattle.qq_raft_msg.specs.declared.rpc.Rpc.TheVariants.{Vote}
 use Rattle.qq_raft_model.specs.Leading.{ask}
 use Rattle.qq_raft_core.specs.Raft.{server_of, IsPeer}
@@ -9,6 +9,7 @@ use Rattle.qq_raft_core.proofs.raft.Raft.ask_all.Goals as goal
 pub peers-init : goal.peers-init
 peers-init g c = record {
   sound = c.requires;
+  before = refl;
   server = sym (nothing-said (server_of g.L.LogView.log c.args.self.now));
 }
 
@@ -33,6 +34,7 @@ peers-preserved g c =
     let now = server_of g.L.LogView.log c.peers.self in
     record {
       sound = c.in_ok-say.ensures.sound;
+      before = c.say.ensures.before ∙ c.peers.invariant.before;
       server = asked-more first now (server_of g.L.LogView.log c.say.new.self) c.peers.place c.index.result.now
           (Vote c.ask-message.result) c.peers.invariant.server c.in_ok-say.ensures.ok c.ask-message.ensures.value
           c.index.ensures (omega (arith, c.peers-test.true, c.len-place-end.ensures));

@@ -9,6 +9,7 @@ sends-preserved g c =
     let s = server_of g.L.LogView.log c.sends.self in
     record {
       sound = c.in_ok-send.ensures.sound;
+      before = c.send.ensures.before ∙ c.sends.invariant.before;
       rest = ap (λ t. flush_within (c.args.rounds - (c.sends.round + 1)) t) c.in_ok-send.ensures.ok
           ∙ sym (one-round s c.args.rounds c.sends.round c.sends-test.true (sym c.some_lag-lag.ensures ∙ c.if-not-lag.false))
           ∙ c.sends.invariant.rest;

@@ -1,10 +1,12 @@
-use Rattle.std.proofs.Common.{◌<◌, ◌^◌, length, sym, subst, arith}
+use Rattle.std.proofs.Common.{◌<◌, ◌^◌, ◌∙◌, ◌&&◌, true, length, ap, sym, subst, arith}
+use Rattle.std.proofs.lemmas.Bool.{le-leb}
 use Rattle.std.specs.Prelude.{All}
 use Rattle.qq_raft_core.proofs.Members.{new-each, new-count}
 use Rattle.qq_log.specs.Writable.{MayWrite}
 use Rattle.qq_raft_core.specs.Ends.{IsSendable}
 use Rattle.qq_raft_core.proofs.Ranges.{all_none}
 use Rattle.qq_raft_core.specs.Raft.{IsPeer, IsWaiting}
+use Rattle.qq_raft_core.specs.Undone.{leads_back}
 use Rattle.qq_raft_core.proofs.raft.Raft.new.Goals as goal
 
 pub returns-clause-sound : goal.returns-clause-sound
@@ -26,4 +28,7 @@ returns-clause-sound g c =
       ops = all_none MayWrite _ c.new-ops.ensures.items;
       out = all_none IsSendable _ c.new-out.ensures.items;
       waiting = all_none IsWaiting _ c.new-waiting.ensures.items;
+      undos = ap (λ us. leads_back c.start-op.result.0 us (g.L.LogView.log c.args.log).entries) c.new-undos.ensures.items
+          ∙ ap (λ b. b && true) (le-leb 0 c.start-op.result.0 (omega arith));
+      mark = omega arith;
     }
