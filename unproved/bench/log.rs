@@ -3,13 +3,17 @@
 //! BATCHES batches of RECORDS ops each are gathered, appended and synced, each op with one entry, which publishes a
 //! message with a body of BODY bytes. Prints how many ops of how many bytes that was, and how many nanoseconds
 //! gathering, appending and syncing took, and SHA-256 of as many records by itself.
+//!
+//! With `recover`, LOGS logs of RECORDS such ops each are written, and then recovered. Prints how many ops of how many
+//! bytes that was, and how many nanoseconds recovery took.
 use crate::made::{entry, publish, stamp};
-use crate::words::number;
-use anyhow::{Result, bail};
+use crate::words::{number, word};
+use anyhow::{Result, bail, ensure};
 use qq_base::{Index, NodeId, QueueId, Term};
 use qq_entry::Entries;
 use qq_log::Op;
 use qq_mem_disk::MemDisk;
+use qq_recover::recover;
 use qq_wal::{FileRanges, Wal};
 use qq_wal_record::Header;
 use sha2::{Digest, Sha256};
@@ -110,7 +114,54 @@ fn time_hashes(rt: HostRuntime, records: u64, record: &mut Vec<u8>) -> Result<u1
     Ok(start.elapsed(&rt)?.as_nanos())
 }
 
+// The disk of a log of so many ops, in batches of at most 256.
+fn written(rt: HostRuntime, records: u64, body: usize) -> Result<MemDisk> {
+    let mut wal = new_log(rt.alloc())?;
+    let mut times = Times {
+        gather: 0,
+        append: 0,
+        sync: 0,
+        sha: 0,
+    };
+    let mut before = 0;
+    while before < records {
+        let count = (records - before).min(256);
+        let ops = batch(rt.alloc(), before, count, body)?;
+        write_batch(rt, &mut wal, ops, &mut times)?;
+        before += count;
+    }
+    Ok(wal.into_disk())
+}
+
+// Nanoseconds of recovery of a log of so many ops.
+fn recovered(rt: HostRuntime, records: u64, body: usize) -> Result<u128> {
+    let disk = written(rt, records, body)?;
+    let start = Instant::now(&rt)?;
+    let Ok(mut recovered) = recover(disk, rt.alloc(), &[QueueId(1)], u64::MAX) else {
+        bail!("the log isn't recovered");
+    };
+    let took = start.elapsed(&rt)?.as_nanos();
+    let lane = recovered.lane(rt.alloc(), QueueId(1));
+    ensure!(lane.is_some_and(|lane| lane.entries.as_slice().len() as u64 == records));
+    Ok(took)
+}
+
+fn run_recovery(rt: HostRuntime, words: &[String]) -> Result<()> {
+    let body = usize::try_from(number(words, 0)?)?;
+    let (records, logs) = (number(words, 1)?, number(words, 2)?);
+    let mut took = 0;
+    for _ in 0..logs {
+        took += recovered(rt, records, body)?;
+    }
+    let ops = records * logs;
+    println!(rt; "{ops} {} {took}", ops * (body + BESIDE_BODY) as u64)?;
+    Ok(())
+}
+
 pub fn run(rt: HostRuntime, words: &[String]) -> Result<()> {
+    if word(words, 0)? == "recover" {
+        return run_recovery(rt, &words[1..]);
+    }
     let body = usize::try_from(number(words, 0)?)?;
     let (records, batches) = (number(words, 1)?, number(words, 2)?);
     let mut wal = new_log(rt.alloc())?;

@@ -20,6 +20,7 @@ const USAGE: &str = "usage: bench definitions FILE
        bench group MEMBERS WINDOW ENTRIES BODY logs|none keep|purge
        bench inbox ops BYTES COUNT ROUNDS | marks COUNT
        bench log BODY RECORDS BATCHES
+       bench log recover BODY RECORDS LOGS
        bench machine parts|plain READY CONSUMERS ENTRIES
        bench node BODY SENDS MESSAGES
        bench raft MEMBERS WINDOW ENTRIES BODY

@@ -1,4 +1,5 @@
 mod Records
+mod Marks
 mod Counted
 mod ChainLaws
 mod Again

@@ -1,6 +1,7 @@
 //! A file of the chain: its header, and its records as far as it is good.
-ghost use Rattle.std.specs.Prelude.{◌≡◌, ◌+◌, ◌≤◌, ◌<◌, ◌^◌, List, length, take, drop, option_map, IfOk, IfErr, IfSome, IsOkUnless};
+ghost use Rattle.std.specs.Prelude.{◌≡◌, ◌+◌, ◌≤◌, ◌<◌, ◌^◌, List, length, take, drop, option_map, IfOk, IfErr, IfSome, IsOkUnless, OnOk};
 ghost use Rattle.qq_base.specs.declared.ids.QueueId.{QueueId};
+ghost use Rattle.qq_wal_record.specs.Ahead.{AreMarks};
 ghost use Rattle.qq_wal_record.specs.Record.{IsWritable};
 ghost use Rattle.qq_wal_record.specs.declared.header.TheConstants.{HEADER_LEN};
 ghost use Rattle.qq_wal_chain.specs.Records.{encode_all, records};
@@ -16,8 +17,11 @@ use crate::fault::RecoverFault;
 use qq_base::{Items, Memory};
 use qq_disk::{FileKind, FileName};
 use qq_wal_chain::the_log_has_a_format;
-use qq_wal_record::{Header, LogRecord, NoHeader, NoRecord, read_header, read_record};
+use qq_wal_record::{
+    Header, LogRecord, NoHeader, NoRecord, marks_ahead, read_header, read_record_with,
+};
 use std::alloc::Global;
+use std::collections::VecDeque;
 use std::marker::Model;
 
 /// The bytes of a header.
@@ -101,15 +105,44 @@ fn header_of(number: u64, read: Result<Header, NoHeader>) -> Result<Header, Reco
     }
 }
 
-/// The record at the front, and how many bytes it takes. None where no whole record stands there.
-fn record_at(alloc: Global, number: u64, bytes: &[u8]) -> Result<Option<(LogRecord, usize)>, Memory>
+/// Makes the marks of the records ahead, where none is left.
+fn refill(
+    alloc: Global,
+    number: u64,
+    ahead: &mut VecDeque<[u8; 8]>,
+    bytes: &[u8],
+) -> Result<(), Memory>
+    requires { AreMarks number ahead.old.items bytes.now }
+    ensures ok { OnOk result (AreMarks number ahead.new.items bytes.now) }
+    ensures want { IsOkUnless result Memory.Want }
+{
+    if !ahead.is_empty() {
+        return Ok(());
+    }
+    *ahead = VecDeque::from_vec(marks_ahead(alloc, number, bytes)?);
+    Ok(())
+}
+
+/// The record at the front, and how many bytes it takes. None where no whole record stands there. `ahead` has the
+/// marks of some records from here on.
+fn record_at(
+    alloc: Global,
+    number: u64,
+    ahead: &mut VecDeque<[u8; 8]>,
+    bytes: &[u8],
+) -> Result<Option<(LogRecord, usize)>, Memory>
+    requires { AreMarks number ahead.old.items bytes.now }
     ensures read { IfOk result (λ found.
         option_map (λ x. x.0) found ≡ read_record number bytes.now) }
     ensures found { IfOk result (λ found. IfSome found (IsRecordAt number bytes.now)) }
     ensures within { IfOk result (λ found. IfSome found (λ x. x.1 ≤ length bytes.now)) }
+    ensures ahead { IfOk result (λ found. IfSome found (λ x.
+        AreMarks number ahead.new.items (drop x.1 bytes.now))) }
     ensures want { IsOkUnless result Memory.Want }
 {
-    match read_record(alloc, number, bytes) {
+    refill(alloc, number, ahead, bytes)?;
+    let known = ahead.pop_front();
+    match read_record_with(alloc, number, known, bytes) {
         Ok((entry, taken)) => Ok(Some((entry, taken))),
         Err(NoRecord::Memory) => Err(Memory::Want),
         Err(NoRecord::Short) => Ok(None),
@@ -135,9 +168,10 @@ fn records_at(
 {
     the_log_has_a_format();
     let mut found = Vec::new(alloc);
+    let mut ahead = VecDeque::new(alloc);
     let mut rest = bytes;
     let mut place = start;
-    'records: while let Some((entry, taken)) = record_at(alloc, number, rest)? {
+    'records: while let Some((entry, taken)) = record_at(alloc, number, &mut ahead, rest)? {
         found.push(PlacedRecord::new(place, entry))?;
         place += taken as u64;
         rest = rest.split_at(taken).1;

@@ -3,4 +3,5 @@ mod HeaderLaws
 mod Lengths
 pub mod Marks
 mod Numbers
+mod Places
 mod RecordLaws

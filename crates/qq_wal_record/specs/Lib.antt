@@ -1,3 +1,4 @@
+pub mod Ahead
 pub mod Encoding
 pub mod Mark
 pub mod Marked

@@ -2,6 +2,7 @@
 //! whatever follows it. A mark tells bytes that were written from others.
 #![tactic(auto)]
 
+mod ahead;
 mod fields;
 mod header;
 mod laws;
@@ -11,12 +12,13 @@ mod reading;
 mod record;
 mod writing;
 
+pub use ahead::marks_ahead;
 pub use header::{Header, NoHeader, read_header, write_header};
 pub use laws::{
     encodings_have_lengths, headers_read_back, no_record_begins_another, records_read_back,
 };
 pub use mark::MARK_LEN;
 pub use marking::write_marked;
-pub use reading::read_record;
+pub use reading::{read_record, read_record_with};
 pub use record::{LogRecord, NoRecord};
 pub use writing::{put_body, write_carry};

@@ -1,6 +1,7 @@
 //! Reading a record from the front of bytes.
-ghost use Rattle.std.specs.Prelude.{◌≡◌, ◌++◌, ◌+◌, ◌≤◌, List, ℕ, length, IfOk, Ok, Err};
-ghost use Rattle.qq_wal_record.specs.Encoding.{record_encoding};
+ghost use Rattle.std.specs.Prelude.{◌≡◌, ◌++◌, ◌+◌, ◌≤◌, List, ℕ, length, take, IfOk, IfSome, Ok, Err};
+ghost use Rattle.qq_wal_record.specs.Ahead.{IsMarkAt, mark_place};
+ghost use Rattle.qq_wal_record.specs.Encoding.{record_encoding, record_mark};
 ghost use Rattle.qq_wal_record.specs.Reading.{Gives, change_at, snapshot_made_at, segment_made_at, carry_at, payload_at, whole_payload_at, inside_at, is_too_long, marked_at, record_at, IsRecordAt};
 ghost use Rattle.qq_wal_record.specs.Record.{IsWritable};
 ghost use Rattle.qq_wal_record.specs.declared.record.LogRecord.{LogRecord};
@@ -148,20 +149,33 @@ fn inside_at(alloc: Global, len: usize, bytes: &[u8]) -> Result<LogRecord, NoRec
     whole_payload_at(alloc, kind, QueueId(queue), op, payload)
 }
 
+/// The mark of a record's bytes in a file, where it isn't known.
+fn mark_of(file: u64, known: Option<[u8; 8]>, body: &[u8]) -> [u8; 8]
+    requires { IfSome known (λ mark. mark ≡ record_mark file body.now) }
+    ensures { result ≡ record_mark file body.now }
+{
+    match known {
+        Some(mark) => mark,
+        None => record_mark(file, body),
+    }
+}
+
 /// The record of a payload's length, if its mark is right.
 #[tactic(auto, unfolding(crate::specs::Reading::marked_at))]
 fn marked_at(
     alloc: Global,
     file: u64,
+    known: Option<[u8; 8]>,
     len: usize,
     bytes: &[u8],
 ) -> Result<(LogRecord, usize), NoRecord>
-    requires { 17 + len + 8 ≤ length bytes.now }
+    requires there { 17 + len + 8 ≤ length bytes.now }
+    requires known { IfSome known (λ mark. mark ≡ record_mark file (take (17 + len) bytes.now)) }
     ensures { Gives (λ x. x) result (marked_at file len bytes.now) }
 {
     let end = HEAD_LEN + len;
     let (body, rest) = bytes.split_at(end);
-    if record_mark(file, body).as_slice() != rest.split_at(MARK_LEN).0 {
+    if mark_of(file, known, body).as_slice() != rest.split_at(MARK_LEN).0 {
         return Err(NoRecord::Mark);
     }
     let record = inside_at(alloc, len, bytes)?;
@@ -175,7 +189,13 @@ fn is_too_long(kind: u8, len: usize) -> bool
 }
 
 #[tactic(auto, unfolding(crate::specs::Reading::record_at))]
-fn record_at(alloc: Global, file: u64, bytes: &[u8]) -> Result<(LogRecord, usize), NoRecord>
+fn record_at(
+    alloc: Global,
+    file: u64,
+    known: Option<[u8; 8]>,
+    bytes: &[u8],
+) -> Result<(LogRecord, usize), NoRecord>
+    requires { IfSome known (IsMarkAt file bytes.now) }
     ensures { Gives (λ x. x) result (record_at file bytes.now) }
 {
     if bytes.len() < HEAD_LEN {
@@ -190,7 +210,30 @@ fn record_at(alloc: Global, file: u64, bytes: &[u8]) -> Result<(LogRecord, usize
     if bytes.len() < HEAD_LEN + len + MARK_LEN {
         return Err(NoRecord::Short);
     }
-    marked_at(alloc, file, len, bytes)
+    marked_at(alloc, file, known, len, bytes)
+}
+
+/// The same as `read_record`, where the mark that the record has to have may be known.
+pub fn read_record_with(
+    alloc: Global,
+    file: u64,
+    known: Option<[u8; 8]>,
+    bytes: &[u8],
+) -> Result<(LogRecord, usize), NoRecord>
+    requires { IfSome known (IsMarkAt file bytes.now) }
+    // Which answer it is.
+    ensures exact { Gives (λ x. x) result (record_at file bytes.now) }
+    // What is read may be written, and its encoding is what stands at the front.
+    ensures found { IfOk result (λ x. IsRecordAt file bytes.now x) }
+    // A record whose encoding stands at the front is read, whatever follows it.
+    ensures only { (r : LogRecord) (rest : List ℕ) → IsWritable r →
+        bytes.now ≡ record_encoding file r ++ rest →
+        Gives (λ x. x) result (Ok (r, length (record_encoding file r))) }
+    ensures within { IfOk result (λ x. x.1 ≤ length bytes.now) }
+    // The next record begins behind its mark.
+    ensures next { IfOk result (λ x. x.1 ≡ mark_place bytes.now + 8) }
+{
+    record_at(alloc, file, known, bytes)
 }
 
 /// The record of the file of this number at the front of the bytes, and how many bytes it takes. What
@@ -210,5 +253,5 @@ pub fn read_record(alloc: Global, file: u64, bytes: &[u8]) -> Result<(LogRecord,
         Gives (λ x. x) result (Ok (r, length (record_encoding file r))) }
     ensures within { IfOk result (λ x. x.1 ≤ length bytes.now) }
 {
-    record_at(alloc, file, bytes)
+    read_record_with(alloc, file, None, bytes)
 }

@@ -1,6 +1,7 @@
-use Rattle.std.proofs.Common.{◌≡◌, ◌≤◌, ◌∙◌, ◌+◌, ℕ, List, [], ◌∷◌, ◌++◌, Option, Some, option_map, length, length-drop, ap, sym, subst, subst₂, arith}
+use Rattle.std.proofs.Common.{◌≡◌, ◌≤◌, ◌∙◌, ◌+◌, ℕ, List, [], ◌∷◌, ◌++◌, Option, Some, option_map, length, drop, length-drop, ap, sym, subst, subst₂, arith}
 use Rattle.std.specs.Prelude.{IfSome}
 use Rattle.qq_wal_record.specs.declared.record.LogRecord.{LogRecord}
+use Rattle.qq_wal_record.specs.Ahead.{AreMarks}
 use Rattle.qq_wal_record.specs.Reading.{IsRecordAt}
 use Rattle.qq_wal_chain.specs.Wal.{read_record}
 use Rattle.qq_recover.specs.Placed.{Placed}
@@ -49,6 +50,11 @@ records-preserved c =
         c.records.invariant.long,
         within,
       );
+      marks = subst (λ (rest : List ℕ). AreMarks c.args.number c.record_at.new.ahead.items rest)
+          (sym c.split_at.ensures.back)
+          (subst (λ (o : Option (LogRecord × ℕ)). IfSome o (λ x.
+          AreMarks c.args.number c.record_at.new.ahead.items (drop x.1 c.records.rest.now))) c.in-Some.is
+          c.in_ok-entry.ensures.ahead);
     }
 
 pub returns-clause-records : goal.returns-clause-records
