@@ -12,3 +12,5 @@ mod Muting
 mod Reading
 mod Beginning
 mod Counting
+mod Taking
+mod Refusing

@@ -187,7 +187,7 @@ made-is laws args g (events.Crash node) old sound it = refl
 -- ---- the member that an event reaches
 
 -- a member that a step reaches has applied what it knows to be committed, and it isn't up if it wasn't
-record Reaches (o p : Option Member) : Type 0 where
+pub record Reaches (o p : Option Member) : Type 0 where
   pub applied : (t : Member) → p ≡ Some t → t.applied ≡ t.raft.commit
   pub down : o ≡ None → p ≡ None
 
@@ -300,7 +300,7 @@ pub record Leaves (args : QueueArgs) (k : Option ℕ) (g h : GroupState) (old ne
   pub told : AreTold k args g h rows
 
 -- what is known of the group behind an event
-record Follow (args : QueueArgs) (g h : GroupState) (old new : Members) : Type 0 where
+pub record Follow (args : QueueArgs) (g h : GroupState) (old new : Members) : Type 0 where
   pub was : IsGroupOf args g old
   pub reached : IsReached h
   pub represents : Represents own_log h new
@@ -312,7 +312,7 @@ up-before : (o p : Option Member) (t : Member) → Reaches o p → p ≡ Some t 
 up-before None p t reach up = absurd (none-some t (sym (reach.down refl) ∙ up))
 up-before (Some s) p t reach up = (s, refl)
 
-one-current : (args : QueueArgs) (g h : GroupState) (old new : Members) (k : ℕ) → Follow args g h old new
+pub one-current : (args : QueueArgs) (g h : GroupState) (old new : Members) (k : ℕ) → Follow args g h old new
     → OthersStay k old new → Reaches (server_at k old) (server_at k new) → (q : ℕ) (t : Member)
     → server_at q new ≡ Some t → IsCurrent q t new
 one-current args g h old new k f stay reach q t up = by (cases_eq q k)
@@ -332,7 +332,7 @@ one-current args g h old new k f stay reach q t up = by (cases_eq q k)
         let was : IsCurrent q t old = f.was.current q t (sym (ap server_by (stay q other)) ∙ up) in
         record { applied = was.applied; kept = ap returned_at (stay q other) ∙ was.kept }
 
-one-down : (k : ℕ) (old new : Members) → OthersStay k old new → Reaches (server_at k old) (server_at k new)
+pub one-down : (k : ℕ) (old new : Members) → OthersStay k old new → Reaches (server_at k old) (server_at k new)
     → StayDown old new
 one-down k old new stay reach q down = by (cases_eq q k)
   where
@@ -342,7 +342,7 @@ one-down k old new stay reach q down = by (cases_eq q k)
         (reach.down (subst (λ (j : ℕ). server_at j old ≡ None) same down))
     by (inr other) = ap server_by (stay q other) ∙ down
 
-group-then : (args : QueueArgs) (g h : GroupState) (old new : Members) → Follow args g h old new
+pub group-then : (args : QueueArgs) (g h : GroupState) (old new : Members) → Follow args g h old new
     → ((q : ℕ) (t : Member) → server_at q new ≡ Some t → IsCurrent q t new) → IsGroupOf args h new
 group-then args g h old new f current =
     record { reached = f.reached; represents = f.represents; audited = f.audited; current = current }

@@ -23,7 +23,7 @@ use Rattle.qq_world.specs.World.{Client, Clients, Shown, WindowFull, HasEnded, i
 use Rattle.qq_cluster.specs.Queue.{Queue, Event, Leading, Submits, Resends, Downs, TellsEnded, acts, group_then, happens, has_leader, later, leader, leading, moves, node_of, offered, said, submit_to, submits, synced_after}
 use Rattle.qq_cluster.proofs.Groups.{group-append}
 use Rattle.qq_cluster_queue.specs.ClusterQueue.{HasRefused, IsOfferCaused, Stands, text_as}
-use Rattle.qq_cluster_queue.specs.Members.{IsGroupOf, Makes, Member, Members, number_of, own_log}
+use Rattle.qq_cluster_queue.specs.Members.{AreSound, IsGroupOf, Makes, Member, Members, number_of, own_log}
 use Rattle.qq_cluster_queue.specs.Sessions.{Standings, clients_of, numbers_of}
 use Rattle.qq_cluster_queue.specs.declared.cluster_queue.ClusterQueue.{ClusterQueue}
 use Rattle.qq_cluster_queue.proofs.Members.{raft_of, seat-is}
@@ -459,8 +459,8 @@ resending-all o all rest old new r none args g it =
 -- the leader has refused one of them
 pub resending-refused : (o : Option NodeId) (all rest : List Command) (command : Command) (old mid : ClusterQueue)
     (e : Memory) → Resending o all (command ∷ rest) old mid → o ≡ leader_of own_log old.group
-    → IsOfferCaused o command mid.group e → HasRefused all old e
-resending-refused o all rest command old mid e r lead cause =
+    → AreSound mid.group → IsOfferCaused o command mid.group e → HasRefused all old e
+resending-refused o all rest command old mid e r lead sound cause =
     subst (λ (x : Option NodeId). Makes (submits (number_of x) r.done) old.group mid.group
     → IsOfferCaused x command mid.group e → HasRefused all old e) (sym lead)
     (λ made because. record {
@@ -470,6 +470,7 @@ resending-refused o all rest command old mid e r lead cause =
       is = r.all_is;
       group = mid.group;
       made = made;
+      sound = sound;
       cause = because;
     }) r.made cause
 

@@ -1,5 +1,5 @@
 -- What a queue tells of itself is so of the queue that it stands for.
-use Rattle.std.proofs.Common.{◌≡◌, ℕ, zero, suc, ◌+◌, Bool, true, false, cond, ◌&&◌, List, length, Option, Some, None, refl, sym, ap, subst, ◌∙◌, arith}
+use Rattle.std.proofs.Common.{◌≡◌, ℕ, zero, suc, ◌+◌, ◌-◌, Bool, true, false, cond, ◌&&◌, List, length, Option, Some, None, refl, sym, ap, subst, ◌∙◌, arith}
 use Rattle.std.specs.Prelude.{is_some, nat_eq, nat_lt, option_map, slice_get}
 use Rattle.std.proofs.lemmas.Bool.{eq-eqb, le-ltb, lt-ltb, ne_eqb}
 use Rattle.qq_entry.specs.declared.command.Entry.{Entry}
@@ -14,7 +14,7 @@ use Rattle.qq_group.specs.Group.{server_at, server_by}
 use Rattle.qq_group.specs.Handing.{held}
 use Rattle.qq_group.specs.Reads.{handed_at, member_at, noticed_by, op_at}
 use Rattle.qq_group.specs.declared.seat.Seat.{Seat}
-use Rattle.qq_cluster.specs.Queue.{Queue, waiting_by}
+use Rattle.qq_cluster.specs.Queue.{Queue, waiting, waiting_by}
 use Rattle.qq_cluster.specs.Rules.{is_quiet_at, is_settled, waits_noticed, waits_synced, waits_written}
 use Rattle.qq_cluster_queue.specs.ClusterQueue.{Stands, count_at, is_up_at}
 use Rattle.qq_cluster_queue.specs.Members.{IsGroupOf, Member, Members, own_log}
@@ -92,6 +92,26 @@ written-is law sessions d q k st = by (server_at k d.group) refl
         ∙ ap (nat_lt (length (q.group.seat k).ops)) c.op
         ∙ less-behind (length (q.group.seat k).ops) (length raft.ops)
         ∙ sym (ap (λ (o : Option Raft). nat_lt 0 (waiting_by o)) c.up)
+
+pub waiting-is : CountsOps → (sessions : Standings) (d : ClusterQueue) (q : Queue) (k : ℕ) → Stands sessions d q
+    → op_at own_log (server_at k d.group) - handed_at (slice_get d.group.seats.items k) ≡ waiting k q.group
+waiting-is law sessions d q k st = by (server_at k d.group) refl
+  where
+    by : (o : Option Member) → server_at k d.group ≡ o
+        → op_at own_log (server_at k d.group) - handed_at (slice_get d.group.seats.items k) ≡ waiting k q.group
+    by None down =
+        ap (λ (n : ℕ). op_at own_log (server_at k d.group) - n) (handed-none (slice_get d.group.seats.items k) down)
+        ∙ ap (λ (o : Option Member). op_at own_log o - 0) down
+        ∙ sym (ap waiting_by (down-at d.args q.group d.group k st.group down))
+    by (Some s) up =
+        let c = counted law d.args q.group d.group k s st.group up in
+        let raft : Raft = server_of own_log s.raft in
+        let op : op_at own_log (server_at k d.group) ≡ length (q.group.seat k).ops + length raft.ops =
+        ap (op_at own_log) up ∙ c.op in
+        let handed = c.handed in
+        let less : op_at own_log (server_at k d.group) - handed_at (slice_get d.group.seats.items k)
+        ≡ length raft.ops = omega (arith, op, handed) in
+        less ∙ sym (ap waiting_by c.up)
 
 pub nothing-waits : (sessions : Standings) (d : ClusterQueue) (q : Queue) (k : ℕ) (b : Bool) → Stands sessions d q
     → server_at k d.group ≡ None → false ≡ (is_up_at k q && b)

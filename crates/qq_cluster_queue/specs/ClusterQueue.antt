@@ -7,7 +7,9 @@ use Rattle.qq_base.specs.declared.memory.Memory.TheVariants.{Want}
 use Rattle.qq_entry.specs.declared.command.Command.{Command}
 use Rattle.qq_entry.specs.declared.command.Unstamped.{Unstamped}
 use Rattle.qq_entry.specs.declared.queue.QueueArgs.{QueueArgs}
+use Rattle.qq_log.specs.declared.op.Op.{Op}
 use Rattle.qq_raft_model.specs.Group.{Group as GroupState}
+use Rattle.qq_raft_model.specs.State.{Server}
 use Rattle.qq_group.specs.Group.{IsReached, server_at}
 use Rattle.qq_group.specs.Opening.{IsAllDown}
 use Rattle.qq_group.specs.Reads.{leader_of}
@@ -17,7 +19,7 @@ use Rattle.qq_session.specs.declared.publishing.HandFault.TheVariants as faults
 use Rattle.qq_cluster.specs.Queue.{Queue, Event, begin, happens, said, submits}
 use Rattle.qq_cluster.specs.Texts.{shown_text_as}
 use Rattle.qq_world.specs.World.{Shown}
-use Rattle.qq_cluster_queue.specs.Members.{Member, Members, IsGroupOf, IsStepCaused, Makes, number_of, own_log}
+use Rattle.qq_cluster_queue.specs.Members.{AreSound, Member, Members, IsGroupOf, IsStepCaused, Makes, number_of, own_log}
 use Rattle.qq_cluster_queue.specs.Sessions.{Standings, clients_of, numbers_of, present}
 use Rattle.qq_cluster_queue.specs.declared.cluster_queue.ClusterQueue.{ClusterQueue}
 
@@ -81,6 +83,7 @@ pub record HasRefused (given : List Command) (d : ClusterQueue) (e : Memory) : T
   pub is : given ≡ before ++ command ∷ behind
   pub group : Members
   pub made : Makes (submits (number_of (leader_of own_log d.group)) before) d.group group
+  pub sound : AreSound group
   pub cause : IsOfferCaused (leader_of own_log d.group) command group e
 
 abbrev pub IsResendCaused : ℕ → ClusterQueue → Memory → Type 0
@@ -94,6 +97,11 @@ OfItsQueue d Holds = (sessions : Standings) (q : Queue) → Stands sessions d q 
 
 abbrev pub is_up_at : ℕ → Queue → Bool
 is_up_at k q = is_some (q.group.seat k).server
+
+-- the ops that a member has handed out, and its node's log wasn't given
+abbrev pub waiting_ops : Option Server → List Op
+waiting_ops None = []
+waiting_ops (Some s) = s.ops
 
 -- ---- how it begins
 

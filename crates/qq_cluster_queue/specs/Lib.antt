@@ -2,3 +2,4 @@ pub mod Range
 pub mod Sessions
 pub mod Members
 pub mod ClusterQueue
+pub mod Handing

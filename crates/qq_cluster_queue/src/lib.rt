@@ -7,6 +7,7 @@ mod audit;
 mod cluster_queue;
 mod counts;
 mod events;
+mod handing;
 mod label;
 mod laws;
 mod moves;
@@ -21,5 +22,5 @@ mod storing;
 mod telling;
 
 pub use cluster_queue::ClusterQueue;
-pub use laws::sessions_are_those_of_each_queue;
+pub use laws::{a_refusal_tells_an_end, sessions_are_those_of_each_queue};
 pub use sessions::{Sessions, Standing};

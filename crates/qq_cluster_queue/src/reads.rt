@@ -18,6 +18,13 @@ use qq_raft_msg::MemberState;
 use qq_raft_queues::MachineQueue;
 
 impl ClusterQueue {
+    /// The nodes of its members, the first member first.
+    pub fn members(&self) -> &[NodeId]
+        ensures { result.now ≡ self.now.group.nodes.items }
+    {
+        self.group.members()
+    }
+
     /// The member that leads and takes commands, of several the one of the latest term. None exactly where there
     /// is none.
     pub fn leader(&self) -> Option<NodeId>

@@ -1,8 +1,8 @@
 //! What the nodes' logs keep of a queue, and what they give back.
-ghost use Rattle.std.specs.Prelude.{◌≡◌, None, false, is_some, true, IfErr, OnOk, OnErr, slice_get};
+ghost use Rattle.std.specs.Prelude.{◌≡◌, None, false, is_some, true, IfErr, IfSome, OnOk, OnErr, slice_get};
 ghost use Rattle.qq_cluster.specs.Queue.{Finds, Queue, Syncs, happens};
 ghost use Rattle.qq_group.specs.Group.{server_at};
-ghost use Rattle.qq_group.specs.Restarts.{is_known, Finds as FindsLog, IsFound, IsRestartCaused};
+ghost use Rattle.qq_group.specs.Restarts.{is_known, noticed_at, Finds as FindsLog, IsFound, IsRestartCaused};
 ghost use Rattle.qq_log.specs.Stable.{no_snapshot};
 ghost use Rattle.qq_raft_core.specs.Raft.{IsWithinEnds};
 ghost use Rattle.qq_raft_model.specs.Group.{has_node};
@@ -42,6 +42,16 @@ impl ClusterQueue {
         }
         let count = self.group.handed(node);
         self.synced.set(node, count);
+    }
+
+    /// The op up to which the member on a node was ever told that its log is durable, also where it is down. None
+    /// exactly where it isn't known what that log was handed, which it is from the first restart on.
+    pub fn last_noticed(&self, node: NodeId) -> Option<u64>
+        ensures known { is_some result ≡ is_known (slice_get self.now.group.seats.items node.0) }
+        ensures noticed { IfSome result (λ op.
+            op ≡ noticed_at (slice_get self.now.group.seats.items node.0)) }
+    {
+        self.group.last_noticed(node)
     }
 
     /// A node is restarted, and recovery found this log of the queue's member on it, which is down. `Lost` comes

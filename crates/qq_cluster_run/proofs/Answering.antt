@@ -83,7 +83,7 @@ damaged_earlier met met' f setup nodes events ending so = record {
   is = so.is;
 }
 
-lost_earlier : (met met' : Trouble → Type 0) → IsEarlier met met' → (setup : ClusterSetup) (nodes : List ℕ)
+pub lost_earlier : (met met' : Trouble → Type 0) → IsEarlier met met' → (setup : ClusterSetup) (nodes : List ℕ)
     (events : List ClusterEvent) (ending : Ending) → EndsLost met setup nodes events ending
     → EndsLost met' setup nodes events ending
 lost_earlier met met' f setup nodes events ending so = record {

@@ -6,22 +6,22 @@ use Rattle.std.specs.List.{range_with_len}
 use Rattle.qq_base.proofs.Lists.{AllByRecursion-in}
 use Rattle.qq_model.proofs.Soundness.{in_contains}
 use Rattle.qq_setup.specs.declared.setup.Setup.{Setup}
-use Rattle.qq_setup.specs.Setup.{SetupState}
+use Rattle.qq_setup.specs.Setup.{SetupState, plain_rows}
 use Rattle.qq_log.specs.Stable.{Stable}
 use Rattle.qq_script_lines.specs.declared.line.ScriptLine.{ScriptLine}
-use Rattle.qq_script_lines.specs.declared.options.Options.{Options}
+use Rattle.qq_cluster_run.specs.declared.options.Options.{Options}
 use Rattle.qq_cluster.specs.Cluster.{Setup as ClusterSetup, ClusterEvent}
 use Rattle.qq_cluster.specs.Rules.{ForEach, IsRestart}
-use Rattle.qq_cluster_run.specs.Endings.{Ending}
+use Rattle.qq_cluster_run.specs.Endings.{Ending, lost}
 use Rattle.qq_cluster_run.specs.Inputs.{Input, inputs_of}
 use Rattle.qq_cluster_run.specs.Reading.{Asks, says}
 use Rattle.qq_cluster_run.specs.Runs.{IsSetup}
 use Rattle.qq_cluster_run.specs.Serving.{Behind, EndsDamaged, MayTakeUp, RestartsTo, after_all, run_behind, setup_behind, text_behind}
-use Rattle.qq_cluster_run.specs.Setup.{cluster_over}
-use Rattle.qq_cluster_run.specs.Statuses.{Streams, Met, Had, HasEnded, Over, NextAsks, IsYardFault, NoDisk, AtCrash, MeetsDamage, DamagedAtOpening, DamagedAtRestart, HasLost, IsSpent, SpentAtOpening, SpentAtLine, Told, Done, Refused, ReadFault, WriteFault, YardFault, Damaged, Lost, Limited, NoMemory, Spent}
+use Rattle.qq_cluster_run.specs.Setup.{Logs, cluster_over}
+use Rattle.qq_cluster_run.specs.Statuses.{Streams, Met, Had, HasEnded, Over, NextAsks, IsYardFault, NoDisk, AtCrash, MeetsDamage, DamagedAtOpening, DamagedAtRestart, HasLost, LostAtOpening, LostAtRestart, IsSpent, SpentAtOpening, SpentAtLine, Told, Done, Refused, ReadFault, WriteFault, YardFault, Damaged, Lost, Limited, NoMemory, Spent}
 use Rattle.qq_cluster_run.specs.Troubles.{Damage, damage_ending, YardFails, DiskFails, FilesBreak, QueueIsFound, NumberEnds}
 use Rattle.qq_cluster_run.proofs.Statuses.{told}
-use Rattle.qq_cluster_run.proofs.Worked.{one_of, publish, rows-of, said, asks-publish}
+use Rattle.qq_cluster_run.proofs.Worked.{publish, said, asks-publish}
 
 -- ---- which fault a status is of
 
@@ -91,7 +91,7 @@ yard-told options s ended = by ((is-fault 7 options s (told 7 options s ended)).
   where
     by : IsYardFault options s → YardTold options s
     by (NoDisk setup is_setup logs (inl yard) (rest, grown)) = inl (yard, ([], grown))
-    by (NoDisk setup is_setup logs (inr disks) (rest, grown)) =
+    by (NoDisk setup is_setup logs (inr (some, disks)) (rest, grown)) =
         inr (
           setup,
           is_setup,
@@ -136,7 +136,7 @@ damage-told options s ended = by ((is-fault 8 options s (told 8 options s ended)
 
 abbrev SpentTold : Streams → Type 0
 SpentTold s =
-    (setup : ClusterSetup) × ((events : List ClusterEvent) × ((number : ℕ) × (2 ^ 63 ≤ number)
+    (setup : ClusterSetup) × ((events : List ClusterEvent) × ((number : ℕ) × ((number ≡ 4294967295) ⊎ (2 ^ 63 ≤ number))
     × Contains s.troubles (NumberEnds setup events number)
     × ((said : List ℕ) × (s.new ≡ s.old ++ (said ++ (codes "spent " ++ decimal number ++ codes "\n"))))))
 
@@ -171,7 +171,15 @@ spent-told options s ended = by ((is-fault 20 options s (told 20 options s ended
 
 abbrev LostTold : Options → Streams → Type 0
 LostTold options s =
-    (setup : Setup) × IsSetup options setup × ((left : List Input)
+    (setup : Setup) × IsSetup options setup × (((logs : Logs) × ((early : List ClusterEvent) × ((node : ℕ)
+    × ((place : ℕ) × Contains (cluster_over setup logs).places place × ((lane : Stable)
+    × Contains s.troubles (QueueIsFound (cluster_over setup logs) early node place lane)
+    × ((after_all (cluster_over setup logs) early).up node ≡ false)
+    × (MayTakeUp node ((after_all (cluster_over setup logs) early).queue place) lane → ⊥) × (s.rest ≡ s.bytes)
+    × (s.new ≡ s.old ++ (codes "lost node " ++ decimal node ++ codes " " ++ (cluster_over setup logs).name place
+    ++ codes " noticed " ++ decimal (((after_all (cluster_over setup logs) early).queue place).group.seat node).noticed
+    ++ codes " found " ++ decimal lane.op ++ codes "\n")))))))
+    ⊎ ((left : List Input)
     × ((b : Behind (Had s) setup (inputs_of s.bytes) left) × ((early : List ClusterEvent)
     × ((node : ℕ) × ((place : ℕ) × Contains (setup_behind b).places place × ((lane : Stable)
     × Contains s.troubles (QueueIsFound (setup_behind b) (b.events ++ early) node place lane)
@@ -180,32 +188,50 @@ LostTold options s =
     × (s.new ≡ s.old ++ (text_behind b ++ (codes "lost node " ++ decimal node ++ codes " "
     ++ (setup_behind b).name place ++ codes " noticed "
     ++ decimal (((after_all (setup_behind b) (b.events ++ early)).queue place).group.seat node).noticed
-    ++ codes " found " ++ decimal lane.op ++ codes "\n")))))))))
+    ++ codes " found " ++ decimal lane.op ++ codes "\n"))))))))))
 
 pub lost-told : (options : Options) (s : Streams) → HasEnded 9 options s → LostTold options s
 lost-told options s ended = by ((is-fault 9 options s (told 9 options s ended)).lost refl)
   where
     by : HasLost options s → LostTold options s
-    by so = (
-      so.over.setup,
-      so.over.is_setup,
-      (
-        so.over.served.left,
+    by (LostAtOpening setup is_setup logs ending so (rest, grown)) = (
+      setup,
+      is_setup,
+      inl (
+        logs,
         (
-          so.over.served.behind,
+          so.at.early,
           (
-            so.lost.at.early,
+            so.at.node,
             (
-              so.lost.at.node,
+              so.place,
+              so.among,
+              (so.lane, so.found, so.at.down, so.refused, rest, grown ∙ ap (λ (e : Ending). s.old ++ e.text) so.is),
+            ),
+          ),
+        ),
+      ),
+    )
+    by (LostAtRestart over nodes ending so asks grown) = (
+      over.setup,
+      over.is_setup,
+      inr (
+        over.served.left,
+        (
+          over.served.behind,
+          (
+            so.at.early,
+            (
+              so.at.node,
               (
-                so.lost.place,
-                so.lost.among,
+                so.place,
+                so.among,
                 (
-                  so.lost.lane,
-                  so.lost.found,
-                  so.lost.at.down,
-                  so.lost.refused,
-                  so.prints ∙ ap (λ (e : Ending). s.old ++ (text_behind so.over.served.behind ++ e.text)) so.lost.is,
+                  so.lane,
+                  so.found,
+                  so.at.down,
+                  so.refused,
+                  grown ∙ ap (λ (e : Ending). s.old ++ (text_behind over.served.behind ++ e.text)) so.is,
                 ),
               ),
             ),
@@ -229,9 +255,10 @@ asks-that options s one bytes over line (input, (more, is), asks) =
     let parts : publish ∷ [] ≡ b.read ++ input ∷ more =
     sym (ap inputs_of bytes) ∙ b.is ∙ ap (λ (l : List Input). b.read ++ l) is in
     let split = splits-alone b.read input more parts in
-    let rows = rows-of over.setup (one_of options over.setup over.is_setup one) in
+    let rows : over.setup.queues ≡ plain_rows options.nodes options.group 1 =
+    ap (λ (v : SetupState). v.queues) over.is_setup ∙ ap (plain_rows options.nodes options.group) one in
     let same : Asks said ≡ Asks line =
-    sym (asks-publish over.setup rows)
+    sym (asks-publish over.setup options.nodes options.group rows)
     ∙ sym (ap (λ (r : List Input). says over.setup (length r) publish) split.0)
     ∙ sym (ap (says over.setup (length b.read)) split.1) ∙ asks in
     cc
@@ -275,9 +302,9 @@ first-node setup nodes one at = by at.before (sym one ∙ at.are) at.restarted
     by (k ∷ []) are rest = absurd cc
     by (k ∷ j ∷ before) are rest = absurd cc
 
-pub damage-unopened : (options : Options) (s : Streams) → HasEnded 8 options s → options.queues ≡ 1
+pub damage-unopened : (options : Options) (s : Streams) → HasEnded 8 options s → options.nodes ≡ 1 → options.queues ≡ 1
     → s.bytes ≡ codes "publish a\n" → DamagedFirst s
-damage-unopened options s ended one bytes = by ((is-fault 8 options s (told 8 options s ended)).damaged refl)
+damage-unopened options s ended nodes one bytes = by ((is-fault 8 options s (told 8 options s ended)).damaged refl)
   where
     told-by : (setup : ClusterSetup) (nodes : List ℕ) (ending : Ending) → nodes ≡ 1 ∷ []
         → EndsDamaged (Met s) setup nodes [] ending → (s.rest ≡ s.bytes) × (s.new ≡ s.old ++ ending.text)
@@ -300,23 +327,41 @@ damage-unopened options s ended one bytes = by ((is-fault 8 options s (told 8 op
     by : MeetsDamage options s → DamagedFirst s
     by (DamagedAtOpening setup is_setup logs ending so alone) =
         told-by (cluster_over setup logs) _ ending
-        (ap (λ (v : SetupState). range_with_len 1 v.nodes) is_setup) so alone
+        (ap (range_with_len 1) (ap (λ (v : SetupState). v.nodes) is_setup ∙ nodes)) so alone
     by (DamagedAtRestart over nodes ending so asks grown) =
         absurd (let e = asks-that options s one bytes over _ asks in cc)
 
+abbrev LostFirst : Streams → Type 0
+LostFirst s =
+    (s.rest ≡ s.bytes) × ((setup : ClusterSetup) × ((early : List ClusterEvent) × ((node : ℕ) × ((place : ℕ)
+    × ((lane : Stable) × Contains s.troubles (QueueIsFound setup early node place lane) × ((noticed : ℕ)
+    × (s.new ≡ s.old ++ (lost node (setup.name place) noticed lane.op).text)))))))
+
 pub lost-unopened : (options : Options) (s : Streams) → HasEnded 9 options s → options.queues ≡ 1
-    → s.bytes ≡ codes "publish a\n" → ⊥
-lost-unopened options s ended one bytes =
-    let so = (is-fault 9 options s (told 9 options s ended)).lost refl in
-    let e = asks-that options s one bytes so.over _ so.asks in cc
+    → s.bytes ≡ codes "publish a\n" → LostFirst s
+lost-unopened options s ended one bytes = by ((is-fault 9 options s (told 9 options s ended)).lost refl)
+  where
+    by : HasLost options s → LostFirst s
+    by (LostAtOpening setup is_setup logs ending so (rest, grown)) = (
+      rest,
+      (
+        _,
+        (
+          so.at.early,
+          (so.at.node, (so.place, (so.lane, so.found, (_, grown ∙ ap (λ (e : Ending). s.old ++ e.text) so.is)))),
+        ),
+      ),
+    )
+    by (LostAtRestart over nodes ending so asks grown) =
+        absurd (let e = asks-that options s one bytes over _ asks in cc)
 
 pub spent-unopened : (options : Options) (s : Streams) → HasEnded 20 options s → s.bytes ≡ []
-    → (s.rest ≡ []) × ((number : ℕ) × (2 ^ 63 ≤ number)
+    → (s.rest ≡ []) × ((number : ℕ) × ((number ≡ 4294967295) ⊎ (2 ^ 63 ≤ number))
     × (s.new ≡ s.old ++ (codes "spent " ++ decimal number ++ codes "\n")))
 spent-unopened options s ended bytes = by ((is-fault 20 options s (told 20 options s ended)).spent refl)
   where
     by : IsSpent options s
-        → (s.rest ≡ []) × ((number : ℕ) × (2 ^ 63 ≤ number)
+        → (s.rest ≡ []) × ((number : ℕ) × ((number ≡ 4294967295) ⊎ (2 ^ 63 ≤ number))
         × (s.new ≡ s.old ++ (codes "spent " ++ decimal number ++ codes "\n")))
     by (SpentAtOpening setup is_setup logs ending so (rest, grown)) =
         (rest ∙ bytes, (so.number, so.past, grown ∙ ap (λ (e : Ending). s.old ++ e.text) so.is))

@@ -6,6 +6,7 @@ pub mod FaultsTold
 pub mod Feeds
 pub mod Going
 pub mod InputLines
+pub mod Limits
 pub mod Looping
 pub mod Naming
 pub mod Opening

@@ -1,5 +1,5 @@
 -- The queues of a setup without arguments, as a cluster has them.
-use Rattle.std.proofs.Common.{◌≡◌, ℕ, ◌+◌, ◌*◌, ◌/◌, ◌%◌, ◌<◌, ◌≤◌, zero, suc, List, [], ◌∷◌, ◌++◌, map, Option, Some, refl, sym, ap, subst, ◌∙◌, inl, inr, codes, arith}
+use Rattle.std.proofs.Common.{◌≡◌, ℕ, ◌+◌, ◌*◌, ◌/◌, ◌%◌, ◌<◌, ◌≤◌, zero, suc, List, [], ◌∷◌, ◌++◌, length, map, Option, Some, refl, sym, ap, subst, ◌∙◌, inl, inr, codes, arith}
 use Rattle.std.specs.Prelude.{nat_eq, min}
 use Rattle.std.specs.List.{range_with_len}
 use Rattle.std.specs.Fmt.{decimal}
@@ -15,7 +15,7 @@ use Rattle.qq_raft_model.specs.Promises.{AreDistinct, IsOpened}
 use Rattle.qq_setup.specs.declared.queue_row.QueueRow.{QueueRow}
 use Rattle.qq_setup.specs.declared.setup.Setup.{Setup}
 use Rattle.qq_setup.specs.Members.{member, members}
-use Rattle.qq_setup.specs.Setup.{SetupState, plain_row, plain_rows, state_of}
+use Rattle.qq_setup.specs.Setup.{SetupState, plain_row, plain_rows, plain_setup, state_of}
 use Rattle.qq_cluster.specs.Laws.{IsBegun}
 use Rattle.qq_cluster_run.specs.Setup.{IsPlain, args_by, cluster_of, first_place, group_over, members_by, name_by, new_logs, place_of, row_at}
 
@@ -74,6 +74,17 @@ pub group_is : (nodes group count before : ℕ) → before < count
 group_is nodes group count before lt =
     ap (λ row. group_over (record { 0 = before + 1 }) (members_by row) (new_logs (before + 1)))
     (row_is nodes group count before lt)
+
+-- there are as many as are asked for
+rows-count : (nodes group count : ℕ) → 0 < count → 0 < length (plain_rows nodes group count)
+rows-count nodes group zero some = some
+rows-count nodes group (suc n) some = omega arith
+
+pub rows-some : (nodes group count log_bytes : ℕ) (s : Setup) → state_of s ≡ plain_setup nodes group count log_bytes
+    → 0 < count → 0 < length s.queues
+rows-some nodes group count log_bytes s is some =
+    subst (λ (rows : List QueueRow). 0 < length rows) (sym (ap (λ (v : SetupState). v.queues) is))
+    (rows-count nodes group count some)
 
 -- ---- members
 

@@ -1,13 +1,12 @@
 -- What runs print, and which statuses are left where all lines are served.
-use Rattle.std.proofs.Common.{◌≡◌, ◌⊎◌, ℕ, ◌+◌, suc, false, List, [], ◌∷◌, ◌++◌, length, Err, inl, inr, refl, sym, ap, subst, ◌∙◌, append-nil, zero-add, arith}
+use Rattle.std.proofs.Common.{◌≡◌, ◌⊎◌, ℕ, ◌+◌, zero, suc, false, List, [], ◌∷◌, ◌++◌, length, Err, inl, inr, refl, sym, ap, subst, ◌∙◌, append-nil, zero-add, arith}
 use Rattle.std.specs.Prelude.{Contains}
 use Rattle.std.specs.List.{AllByRecursion, range_with_len}
 use Rattle.std.proofs.lemmas.Bool.{cases_lt}
 use Rattle.qq_script_lines.specs.declared.fault.ScriptFault.{ScriptFault}
 use Rattle.qq_script_lines.specs.declared.fault.ScriptFault.TheVariants as faults
 use Rattle.qq_setup.specs.declared.setup.Setup.{Setup}
-use Rattle.qq_setup.specs.Setup.{SetupState}
-use Rattle.qq_script_lines.specs.declared.options.Options.{Options}
+use Rattle.qq_cluster_run.specs.declared.options.Options.{Options}
 use Rattle.qq_script_lines.specs.declared.line.ScriptLine.{ScriptLine}
 use Rattle.qq_cluster.specs.Cluster.{Setup as ClusterSetup, new_cluster}
 use Rattle.qq_cluster.specs.ClusterLaws.{LeavesNoChoice, has_failure, findings}
@@ -20,7 +19,7 @@ use Rattle.qq_cluster_run.specs.Serving.{AnyDisks, Behind, setup_behind, text_be
 use Rattle.qq_cluster_run.specs.Setup.{Logs, cluster_over}
 use Rattle.qq_cluster_run.specs.Troubles.{Trouble, YardFails, DiskFails}
 use Rattle.qq_cluster_run.specs.Runs.{IsSetup}
-use Rattle.qq_cluster_run.specs.Statuses.{Streams, Met, Had, HasEnded, Over, run_over, IsNext, IsYardFault, NoDisk, AtCrash, MeetsDamage, DamagedAtOpening, DamagedAtRestart, IsSpent, SpentAtOpening, SpentAtLine, PassesLimit, Told, Done, Refused, ReadFault, WriteFault, YardFault, Damaged, Lost, Limited, NoMemory, Spent}
+use Rattle.qq_cluster_run.specs.Statuses.{Streams, Met, Had, HasEnded, Over, run_over, IsNext, IsYardFault, NoDisk, AtCrash, MeetsDamage, DamagedAtOpening, DamagedAtRestart, HasLost, LostAtOpening, LostAtRestart, IsSpent, SpentAtOpening, SpentAtLine, PassesLimit, Told, Done, Refused, ReadFault, WriteFault, YardFault, Damaged, Lost, Limited, NoMemory, Spent}
 use Rattle.qq_cluster_run.specs.Printing.{HasNoFault}
 use Rattle.qq_cluster_run.proofs.Says.{says_within, says_past}
 use Rattle.qq_cluster_run.proofs.Statuses.{told}
@@ -149,18 +148,22 @@ IsFineStatus n = (n ≡ 0) ⊎ (n ≡ 12)
 
 no-yard : (options : Options) (s : Streams) → s.troubles ≡ [] → IsYardFault options s → ⊥
 no-yard options s none (NoDisk setup is_setup logs (inl yard) alone) = has-none s.troubles YardFails none yard
-no-yard options s none (NoDisk setup is_setup logs (inr disks) alone) =
-    has-none s.troubles (DiskFails 1) none
-    (first-of setup.nodes (ap (λ (v : SetupState). v.nodes) is_setup) disks)
+no-yard options s none (NoDisk setup is_setup logs (inr (some, disks)) alone) =
+    has-none s.troubles (DiskFails 1) none (first-of setup.nodes some disks)
   where
-    first-of : (n : ℕ) → n ≡ 1 → AllByRecursion (λ (k : ℕ). Met s (DiskFails k)) (range_with_len 1 n) → Met s (DiskFails 1)
-    first-of n one each =
-        (subst (λ (k : ℕ). AllByRecursion (λ (j : ℕ). Contains s.troubles (DiskFails j)) (range_with_len 1 k)) one each).0
+    first-of : (n : ℕ) → (range_with_len 1 n ≡ [] → ⊥)
+        → AllByRecursion (λ (k : ℕ). Met s (DiskFails k)) (range_with_len 1 n) → Met s (DiskFails 1)
+    first-of zero some each = absurd (some refl)
+    first-of (suc n) some each = each.0
 no-yard options s none (AtCrash yard over nodes image asks prints) = has-none s.troubles YardFails none yard
 
 no-damage : (options : Options) (s : Streams) → s.troubles ≡ [] → MeetsDamage options s → ⊥
 no-damage options s none (DamagedAtOpening setup is_setup logs ending so alone) = has-none s.troubles _ none so.broken
 no-damage options s none (DamagedAtRestart over nodes ending so asks prints) = has-none s.troubles _ none so.broken
+
+no-lost : (options : Options) (s : Streams) → s.troubles ≡ [] → HasLost options s → ⊥
+no-lost options s none (LostAtOpening setup is_setup logs ending so alone) = has-none s.troubles _ none so.found
+no-lost options s none (LostAtRestart over nodes ending so asks prints) = has-none s.troubles _ none so.found
 
 no-spent : (options : Options) (s : Streams) → s.troubles ≡ [] → IsSpent options s → ⊥
 no-spent options s none (SpentAtOpening setup is_setup logs ending so alone) = has-none s.troubles _ none so.stands
@@ -179,7 +182,7 @@ fine_status n options s ended fine none = by (told n options s ended)
     by (WriteFault is rose so) = absurd (fine.written rose)
     by (YardFault is so) = absurd (no-yard options s none so)
     by (Damaged is so) = absurd (no-damage options s none so)
-    by (Lost is so) = absurd (has-none s.troubles _ none so.lost.found)
+    by (Lost is so) = absurd (no-lost options s none so)
     by (Limited is so) =
         absurd (passes-none so.over.setup (run_over so.over).lines so.input so.text so.passes
         (next-asks options s fine so.over so.input so.is_next))

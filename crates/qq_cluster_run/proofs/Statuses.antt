@@ -6,7 +6,7 @@ use Rattle.qq_script_lines.specs.declared.fault.ScriptFault.TheVariants as fault
 use Rattle.qq_script_lines.specs.declared.line.ScriptLine.{ScriptLine}
 use Rattle.qq_script_lines.specs.declared.line.ScriptLine.TheVariants.{Crash, Restart}
 use Rattle.qq_setup.specs.declared.setup.Setup.{Setup}
-use Rattle.qq_script_lines.specs.declared.options.Options.{Options}
+use Rattle.qq_cluster_run.specs.declared.options.Options.{Options}
 use Rattle.qq_cluster_run.specs.declared.ending.TheConstants.{LINES_LIMIT}
 use Rattle.qq_cluster_run.specs.declared.stop.Stop.{Stop}
 use Rattle.qq_cluster_run.specs.declared.stop.Stop.TheVariants as stops
@@ -18,7 +18,7 @@ use Rattle.qq_cluster_run.specs.Runs.{HasStopped, ending_of, IsSetup, MayNotOpen
 use Rattle.qq_cluster_run.proofs.Says.{says_within, says_past}
 use Rattle.qq_cluster_run.proofs.Feeds.{all-served}
 use Rattle.qq_cluster_run.specs.Troubles.{Damage, AtPlace, OfVersion, damage_ending}
-use Rattle.qq_cluster_run.specs.Statuses.{Streams, SourceRose, SinkRose, HasEnded, HasEndedAtWords, Over, run_over, setup_over, Prints, IsNext, Met, Had, PrintsAlone, CutWithin, CutAtClosing, CutAtOpening, CutBeforeSetup, NoDisk, AtCrash, DamagedAtOpening, DamagedAtRestart, PassesLimit, NoneAtOpening, NoneWithin, SpentAtOpening, SpentAtLine, Told, Done, Refused, ReadFault, WriteFault, YardFault, Damaged, Lost, Limited, NoMemory, Spent}
+use Rattle.qq_cluster_run.specs.Statuses.{Streams, SourceRose, SinkRose, HasEnded, HasEndedAtWords, Over, run_over, setup_over, Prints, IsNext, Met, Had, PrintsAlone, CutWithin, CutAtClosing, CutAtOpening, CutBeforeSetup, NoDisk, AtCrash, DamagedAtOpening, DamagedAtRestart, LostAtOpening, LostAtRestart, PassesLimit, NoneAtOpening, NoneWithin, SpentAtOpening, SpentAtLine, Told, Done, Refused, ReadFault, WriteFault, YardFault, Damaged, Lost, Limited, NoMemory, Spent}
 
 -- ---- before a line is read
 
@@ -48,7 +48,9 @@ unopened_told n options s setup is_setup ending (logs, inr (inl (cause, e))) is 
 unopened_told n options s setup is_setup ending (logs, inr (inr (inl so))) is rest grown =
     Damaged (is ∙ ap (λ (e : Ending). e.status) so.is ∙ damage_status so.at.node so.damage)
     (DamagedAtOpening setup is_setup logs ending so (rest, grown))
-unopened_told n options s setup is_setup ending (logs, inr (inr (inr so))) is rest grown =
+unopened_told n options s setup is_setup ending (logs, inr (inr (inr (inl so)))) is rest grown =
+    Lost (is ∙ ap (λ (e : Ending). e.status) so.is) (LostAtOpening setup is_setup logs ending so (rest, grown))
+unopened_told n options s setup is_setup ending (logs, inr (inr (inr (inr so)))) is rest grown =
     Spent (is ∙ ap (λ (e : Ending). e.status) so.is) (SpentAtOpening setup is_setup logs ending so (rest, grown))
 
 -- ---- a line ends the run
@@ -121,8 +123,7 @@ stops_told n options s over input (Restart nodes) ending next asks is grown (inl
     Damaged (is ∙ ap (λ (e : Ending). e.status) so.is ∙ damage_status so.at.node so.damage)
     (DamagedAtRestart over nodes ending so (input, next, asks) grown)
 stops_told n options s over input (Restart nodes) ending next asks is grown (inr so) =
-    Lost (is ∙ ap (λ (e : Ending). e.status) so.is)
-    (record { over = over; nodes = nodes; ending = ending; lost = so; asks = (input, next, asks); prints = grown })
+    Lost (is ∙ ap (λ (e : Ending). e.status) so.is) (LostAtRestart over nodes ending so (input, next, asks) grown)
 stops_told n options s over input _ ending next asks is grown stops = absurd stops
 
 may_stop_told : (n : ℕ) (options : Options) (s : Streams) (over : Over options s) (input : Input) (line : ScriptLine)

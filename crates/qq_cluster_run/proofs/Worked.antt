@@ -17,7 +17,7 @@ use Rattle.qq_ports.specs.Lines.{HasNoFeed, lines_of, onto_first}
 use Rattle.qq_setup.specs.declared.queue_row.QueueRow.{QueueRow}
 use Rattle.qq_setup.specs.declared.setup.Setup.{Setup}
 use Rattle.qq_setup.specs.Setup.{SetupState, plain_rows, plain_setup, state_of}
-use Rattle.qq_script_lines.specs.declared.options.Options.{Options}
+use Rattle.qq_cluster_run.specs.declared.options.Options.{Options}
 use Rattle.qq_script_lines.specs.declared.fault.ScriptFault.{ScriptFault}
 use Rattle.qq_script_lines.specs.declared.fault.ScriptFault.TheVariants.{Words, Body}
 use Rattle.qq_script_lines.specs.declared.line.ScriptLine.{ScriptLine}
@@ -50,10 +50,16 @@ of_one = cluster_of (plain_setup 1 1 1 0) new_logs
 abbrev pub IsOne : Setup → Type 0
 IsOne s = (log_bytes : ℕ) × (state_of s ≡ plain_setup 1 1 1 log_bytes)
 
-pub one_of : (options : Options) (setup : Setup) → IsSetup options setup → options.queues ≡ 1 → IsOne setup
-one_of options setup is one = (options.log_bytes, is ∙ ap (λ (n : ℕ). plain_setup 1 1 n options.log_bytes) one)
+one_of : (options : Options) (setup : Setup) → IsSetup options setup → options.nodes ≡ 1 → options.group ≡ 3
+    → options.queues ≡ 1 → IsOne setup
+one_of options setup is nodes group one = (
+  options.log_bytes,
+  is ∙ ap (λ (n : ℕ). plain_setup n options.group options.queues options.log_bytes) nodes
+      ∙ ap (λ (n : ℕ). plain_setup 1 n options.queues options.log_bytes) group
+      ∙ ap (λ (n : ℕ). plain_setup 1 3 n options.log_bytes) one,
+)
 
-pub rows-of : (s : Setup) → IsOne s → s.queues ≡ plain_rows 1 1 1
+rows-of : (s : Setup) → IsOne s → s.queues ≡ plain_rows 1 1 1
 rows-of s (log_bytes, is) = ap (λ (v : SetupState). v.queues) is
 
 over-new : (s : Setup) → IsOne s → cluster_over s new_logs ≡ of_one
@@ -74,13 +80,14 @@ abbrev with_rows : Setup → List QueueRow → Setup
 with_rows s rows =
     record { nodes = s.nodes; queues = rows; routes = s.routes; log_bytes = s.log_bytes; made = s.made }
 
-reads-publish : (s : Setup) → s.queues ≡ plain_rows 1 1 1 → read_line s 1 (codes "publish a") ≡ Ok said
+reads-publish : (s : Setup) (nodes group : ℕ) → s.queues ≡ plain_rows nodes group 1
+    → read_line s 1 (codes "publish a") ≡ Ok said
 unfolding is_utf8 chars encode_utf8 digits read
-reads-publish s rows =
+reads-publish s nodes group rows =
     subst (λ (r : List QueueRow). read_line (with_rows s r) 1 (codes "publish a") ≡ Ok said) (sym rows) refl
 
-pub asks-publish : (s : Setup) → s.queues ≡ plain_rows 1 1 1 → says s 0 publish ≡ Asks said
-asks-publish s rows = asks_for s 0 (codes "publish a") said (omega arith) (reads-publish s rows)
+pub asks-publish : (s : Setup) (nodes group : ℕ) → s.queues ≡ plain_rows nodes group 1 → says s 0 publish ≡ Asks said
+asks-publish s nodes group rows = asks_for s 0 (codes "publish a") said (omega arith) (reads-publish s nodes group rows)
 
 reads-bare : (s : Setup) → read_line s 2 (codes "publish") ≡ Err Words
 unfolding is_utf8 chars encode_utf8 digits read
@@ -173,7 +180,7 @@ lines-one : (had : Histories) (s : Setup) → IsOne s → (all left : List Input
     → b.read ≡ publish ∷ [] → b.lines ≡ said ∷ []
 lines-one had s one all left b read =
     asked-once s 0 (publish ∷ []) b.lines (said ∷ [])
-    (subst (λ (r : List Input). AskFor s 0 r b.lines) read b.asked) (asks-publish s (rows-of s one), tt)
+    (subst (λ (r : List Input). AskFor s 0 r b.lines) read b.asked) (asks-publish s 1 1 (rows-of s one), tt)
 
 text-of : (had : Histories) (s : Setup) → IsOne s → (all left : List Input) (b : Behind had s all left)
     → b.logs ≡ new_logs → (events : List ClusterEvent) → b.events ≡ events
@@ -230,11 +237,11 @@ read-all : (had : Histories) (s : Setup) (bytes : List ℕ) (left : List Input) 
 read-all had s bytes left b none is =
     sym (b.is ∙ ap (λ (l : List Input). b.read ++ l) none ∙ append-nil b.read) ∙ ap inputs_of is
 
-pub served-prints : Knows → (options : Options) (s : Streams) (done : IsServed options s) → options.queues ≡ 1
+pub served-prints : Knows → (options : Options) (s : Streams) (done : IsServed options s) → options.nodes ≡ 1 → options.group ≡ 3 → options.queues ≡ 1
     → s.bytes ≡ codes "publish a\n" → IsQuiet done.over.served.behind → s.new ≡ s.old ++ whole
-served-prints law options s done one bytes quiet =
+served-prints law options s done nodes group one bytes quiet =
     let over = done.over in
-    let rows = one_of options over.setup over.is_setup one in
+    let rows = one_of options over.setup over.is_setup nodes group one in
     let read = read-all (Had s) over.setup s.bytes over.served.left over.served.behind done.all bytes in
     done.prints ∙ ap (λ (l : List ℕ). s.old ++ l)
     (both-one law (Had s) over.setup rows (inputs_of s.bytes) over.served.left over.served.behind quiet read)
@@ -269,7 +276,7 @@ no-fault : (s : Setup) (input : Input) (fault : ScriptFault) → s.queues ≡ pl
     → read_input s 1 input ≡ Err fault → ⊥
 no-fault s input fault rows is reads =
     let e : Ok said ≡ Err fault =
-    sym (reads-publish s rows) ∙ sym (ap (read_input s 1) is) ∙ reads in absurd cc
+    sym (reads-publish s 1 1 rows) ∙ sym (ap (read_input s 1) is) ∙ reads in absurd cc
 
 refused-text : (fault : ScriptFault) (lines : ℕ) → fault ≡ Words → lines ≡ 1
     → codes "line " ++ decimal (lines + 1) ++ codes ": " ++ fault_text fault ++ codes "\n" ≡ codes "line 2: words\n"
@@ -299,11 +306,11 @@ refused-by law options s so rows quiet (AtSecond read is) =
     ∙ ap (λ (l : List ℕ). codes "confirmed 1\n" ++ l)
     (refused-text so.fault (length so.over.served.behind.read) words lines))
 
-pub refused-prints : Knows → (options : Options) (s : Streams) (so : IsRefused options s) → options.queues ≡ 1
+pub refused-prints : Knows → (options : Options) (s : Streams) (so : IsRefused options s) → options.nodes ≡ 1 → options.group ≡ 3 → options.queues ≡ 1
     → s.bytes ≡ codes "publish a\npublish\n" → IsQuiet so.over.served.behind
     → s.new ≡ s.old ++ codes "confirmed 1\nline 2: words\n"
-refused-prints law options s so one bytes quiet =
-    refused-by law options s so (one_of options so.over.setup so.over.is_setup one) quiet
+refused-prints law options s so nodes group one bytes quiet =
+    refused-by law options s so (one_of options so.over.setup so.over.is_setup nodes group one) quiet
     (split-of (Had s) so.over.setup s.bytes so.over.served.left so.over.served.behind so.input so.is_next.0
     (Some (codes "publish")) so.is_next.1 (ap inputs_of bytes))
 
@@ -336,11 +343,11 @@ limited-by law options s so rows quiet (AtSecond read is) (inr (size, reads, tex
     ∙ ap (λ (l : List ℕ). codes "confirmed 1\n" ++ l)
     (text ∙ ap (λ (n : ℕ). codes "limit body " ++ decimal n ++ codes "\n") sized))
 
-pub limited-prints : Knows → (options : Options) (s : Streams) (so : IsLimited options s) → options.queues ≡ 1
+pub limited-prints : Knows → (options : Options) (s : Streams) (so : IsLimited options s) → options.nodes ≡ 1 → options.group ≡ 3 → options.queues ≡ 1
     → s.bytes ≡ codes "publish a\npublish =65537\n" → IsQuiet so.over.served.behind
     → s.new ≡ s.old ++ codes "confirmed 1\nlimit body 65537\n"
-limited-prints law options s so one bytes quiet =
-    limited-by law options s so (one_of options so.over.setup so.over.is_setup one) quiet
+limited-prints law options s so nodes group one bytes quiet =
+    limited-by law options s so (one_of options so.over.setup so.over.is_setup nodes group one) quiet
     (split-of (Had s) so.over.setup s.bytes so.over.served.left so.over.served.behind so.input so.is_next.0
     (Some (codes "publish =65537")) so.is_next.1 (ap inputs_of bytes)) so.passes
 
@@ -416,12 +423,12 @@ fault-read had s all left b is (IsSingle input one) =
     sym is ∙ b.is ∙ ap (λ (l : List Input). b.read ++ l) one in
     read-first b.read input parts (splits publish (Some (codes "publish")) b.read input [] parts)
 
-pub fault-prints : Knows → (options : Options) (s : Streams) (so : IsReadFault options s) → options.queues ≡ 1
+pub fault-prints : Knows → (options : Options) (s : Streams) (so : IsReadFault options s) → options.nodes ≡ 1 → options.group ≡ 3 → options.queues ≡ 1
     → s.bytes ≡ codes "publish a\npublish" → s.rest ≡ [] → IsQuiet so.over.served.behind
     → s.new ≡ s.old ++ codes "confirmed 1\nread fault\n"
-fault-prints law options s so one bytes rest quiet =
+fault-prints law options s so nodes group one bytes rest quiet =
     let served = so.over.served in
-    let rows = one_of options so.over.setup so.over.is_setup one in
+    let rows = one_of options so.over.setup so.over.is_setup nodes group one in
     let unread : served.left ≡ inputs_of served.piece =
     served.unread ∙ ap (λ (l : List ℕ). inputs_of (served.piece ++ l)) rest
     ∙ ap inputs_of (append-nil served.piece) in
@@ -481,12 +488,12 @@ reads-one read left (ReadNone none input more is) some =
     let empty : length read ≡ 0 = ap length none in absurd (omega (arith, empty, some))
 reads-one read left (ReadOne is) some = is
 
-pub whole-fault-prints : Knows → (options : Options) (s : Streams) (so : IsReadFault options s) → options.queues ≡ 1
+pub whole-fault-prints : Knows → (options : Options) (s : Streams) (so : IsReadFault options s) → options.nodes ≡ 1 → options.group ≡ 3 → options.queues ≡ 1
     → s.bytes ≡ codes "publish a\n" → s.rest ≡ [] → IsQuiet so.over.served.behind
     → s.new ≡ s.old ++ codes "confirmed 1\nread fault\n"
-whole-fault-prints law options s so one bytes rest quiet =
+whole-fault-prints law options s so nodes group one bytes rest quiet =
     let served = so.over.served in
-    let rows = one_of options so.over.setup so.over.is_setup one in
+    let rows = one_of options so.over.setup so.over.is_setup nodes group one in
     let read : s.bytes ≡ s.bytes ++ s.rest =
     sym (append-nil s.bytes) ∙ ap (λ (l : List ℕ). s.bytes ++ l) (sym rest) in
     let feeds : feed_count s.bytes ≡ 1 = ap feed_count bytes in
@@ -499,10 +506,10 @@ whole-fault-prints law options s so one bytes rest quiet =
 
 pub cut-prints : Knows → (options : Options) (s : Streams) (setup : Setup) → IsSetup options setup
     → (more : List ℕ) (so : BreaksOff (Had s) setup s.bytes (Some s.rest) (Some s.old) (Some s.new) more)
-    → options.queues ≡ 1 → s.bytes ≡ codes "publish a\n" → IsQuiet so.served.behind
+    → options.nodes ≡ 1 → options.group ≡ 3 → options.queues ≡ 1 → s.bytes ≡ codes "publish a\n" → IsQuiet so.served.behind
     → (said : List ℕ) × (s.new ≡ s.old ++ (said ++ more)) × IsFront said whole
-cut-prints law options s setup is more so one bytes quiet =
-    let rows = one_of options setup is one in
+cut-prints law options s setup is more so nodes group one bytes quiet =
+    let rows = one_of options setup is nodes group one in
     let parts : publish ∷ [] ≡ so.served.behind.read ++ so.served.left =
     sym (ap inputs_of bytes) ∙ so.served.behind.is in (
       so.said,

@@ -3,6 +3,7 @@ pub mod Asking
 pub mod Endings
 pub mod Inputs
 pub mod Named
+pub mod Options
 pub mod Pieces
 pub mod Printing
 pub mod Reading

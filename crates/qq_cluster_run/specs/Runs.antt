@@ -4,7 +4,7 @@ use Rattle.std.specs.List.{AllByRecursion}
 use Rattle.std.specs.Io.KnownBytes.{Appends, Keeps, IsAtEnd}
 use Rattle.qq_setup.specs.declared.setup.Setup.{Setup}
 use Rattle.qq_setup.specs.Setup.{state_of, plain_setup}
-use Rattle.qq_script_lines.specs.declared.options.Options.{Options}
+use Rattle.qq_cluster_run.specs.declared.options.Options.{Options}
 use Rattle.qq_cluster.specs.Cluster.{Setup as ClusterSetup}
 use Rattle.qq_cluster.specs.Rules.{IsOpening}
 use Rattle.qq_ports.specs.Lines.{HasNoFeed}
@@ -15,7 +15,7 @@ use Rattle.qq_cluster_run.specs.declared.stop.Stop.{Stop}
 use Rattle.qq_cluster_run.specs.declared.stop.Stop.TheVariants as stops
 use Rattle.qq_cluster_run.specs.Endings.{Ending, usage, read_fault, write_fault, yard_fault, no_memory}
 use Rattle.qq_cluster_run.specs.Inputs.{Input}
-use Rattle.qq_cluster_run.specs.Serving.{Histories, Behind, EndsRun, NextEnds, EndsSpent, EndsDamaged, run_behind, text_behind, audits_behind, Served, IsText}
+use Rattle.qq_cluster_run.specs.Serving.{Histories, Behind, EndsRun, NextEnds, EndsSpent, EndsDamaged, EndsLost, run_behind, text_behind, audits_behind, Served, IsText}
 use Rattle.qq_cluster_run.specs.Setup.{Logs, cluster_over}
 use Rattle.qq_cluster_run.specs.Troubles.{Trouble, YardFails, DiskFails}
 
@@ -101,17 +101,20 @@ pub record IsDone (status : ℕ) (had : Histories) (s : Setup) (left rest old ne
 
 -- the queues of a run with these options
 abbrev pub IsSetup : Options → Setup → Type 0
-IsSetup options s = state_of s ≡ plain_setup 1 1 options.queues options.log_bytes
+IsSetup options s =
+    state_of s ≡ plain_setup options.nodes options.group options.queues options.log_bytes
 
 -- the yard has failed, or each node's disk has
 abbrev pub HasNoDisk : (Trouble → Type 0) → ClusterSetup → Type 0
-HasNoDisk met setup = met YardFails ⊎ AllByRecursion (λ k. met (DiskFails k)) setup.nodes
+HasNoDisk met setup =
+    met YardFails ⊎ ((setup.nodes ≡ [] → ⊥) × AllByRecursion (λ k. met (DiskFails k)) setup.nodes)
 
 -- Why a cluster of a setup, over these logs, can't be opened.
 abbrev pub MayNotOpenOver : (Trouble → Type 0) → ClusterSetup → Ending → Type 0
 MayNotOpenOver met setup ending =
     (ending ≡ no_memory) ⊎ ((HasNoDisk met setup × (ending ≡ yard_fault))
-    ⊎ (EndsDamaged met setup setup.nodes [] ending ⊎ EndsSpent met setup (IsOpening setup) [] ending))
+    ⊎ (EndsDamaged met setup setup.nodes [] ending
+    ⊎ (EndsLost met setup setup.nodes [] ending ⊎ EndsSpent met setup (IsOpening setup) [] ending)))
 
 abbrev pub MayNotOpen : (Trouble → Type 0) → Setup → Ending → Type 0
 MayNotOpen met s ending = (logs : Logs) × MayNotOpenOver met (cluster_over s logs) ending

@@ -3,6 +3,7 @@ use Rattle.std.specs.Prelude.{◌≡◌, ◌⊎◌, ◌≤◌, ℕ, ◌+◌, tru
 use Rattle.std.specs.Io.KnownBytes.{Appends}
 use Rattle.qq_base.specs.declared.memory.TheConstants.{NUMBER_END}
 use Rattle.qq_log.specs.Stable.{Stable, stable}
+use Rattle.qq_raft_msg.specs.declared.bag.TheConstants.{BAG_LIMIT}
 use Rattle.qq_raft_model.specs.Group.{may_restart}
 use Rattle.qq_setup.specs.declared.setup.Setup.{Setup}
 use Rattle.qq_script_lines.specs.declared.line.ScriptLine.{ScriptLine}
@@ -69,13 +70,17 @@ pub record Begins (Allows : Cluster → List ClusterEvent → Type 0) (c : Clust
     pub rest : List ClusterEvent
     pub allowed : Allows c (events ++ rest)
 
+-- it is the most messages that a bag holds, or 2^63 or more, where all other numbers end
+abbrev pub IsAtEnd : ℕ → Type 0
+IsAtEnd number = (number ≡ BAG_LIMIT) ⊎ (NUMBER_END ≤ number)
+
 -- In the midst of what a rule allows behind these events a number would have to rise, and stands at its end.
 pub record EndsSpent (met : Trouble → Type 0) (setup : ClusterSetup)
     (Allows : Cluster → List ClusterEvent → Type 0) (events : List ClusterEvent) (ending : Ending) : Type 0 where
   pub early : List ClusterEvent
   pub begins : Begins Allows (after_all setup events) early
   pub number : ℕ
-  pub past : NUMBER_END ≤ number
+  pub past : IsAtEnd number
   pub stands : met (NumberEnds setup (events ++ early) number)
   pub is : ending ≡ spent number
 

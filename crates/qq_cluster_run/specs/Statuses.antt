@@ -9,7 +9,7 @@ use Rattle.qq_script_lines.specs.declared.fault.ScriptFault.TheVariants.{Body}
 use Rattle.qq_script_lines.specs.declared.line.Nodes.{Nodes}
 use Rattle.qq_script_lines.specs.declared.line.ScriptLine.{ScriptLine}
 use Rattle.qq_script_lines.specs.declared.line.ScriptLine.TheVariants.{Crash, Restart}
-use Rattle.qq_script_lines.specs.declared.options.Options.{Options}
+use Rattle.qq_cluster_run.specs.declared.options.Options.{Options}
 use Rattle.qq_ports.specs.Lines.{HasNoFeed}
 use Rattle.qq_cluster.specs.Cluster.{Setup as ClusterSetup, ClusterEvent}
 use Rattle.qq_cluster.specs.Lines.{IsLine, nodes_of}
@@ -145,14 +145,14 @@ pub data MeetsDamage (options : Options) (s : Streams) : Type 0 where
       → EndsDamaged (Met s) (setup_over over) (nodes_of (setup_over over) nodes) (run_over over).events ending
       → NextAsks over (Restart nodes) → Prints over ending.text → MeetsDamage options s
 
--- 9: a restart finds of a queue what its member may not take up.
-pub record HasLost (options : Options) (s : Streams) : Type 0 where
-  pub over : Over options s
-  pub nodes : Nodes
-  pub ending : Ending
-  pub lost : EndsLost (Met s) (setup_over over) (nodes_of (setup_over over) nodes) (run_over over).events ending
-  pub asks : NextAsks over (Restart nodes)
-  pub prints : Prints over ending.text
+-- 9: recovery finds of a queue what its member may not take up, when the cluster is opened or at a restart.
+pub data HasLost (options : Options) (s : Streams) : Type 0 where
+  LostAtOpening : (setup : Setup) → IsSetup options setup → (logs : Logs) (ending : Ending)
+      → EndsLost (Met s) (cluster_over setup logs) (cluster_over setup logs).nodes [] ending
+      → PrintsAlone s ending.text → HasLost options s
+  LostAtRestart : (over : Over options s) (nodes : Nodes) (ending : Ending)
+      → EndsLost (Met s) (setup_over over) (nodes_of (setup_over over) nodes) (run_over over).events ending
+      → NextAsks over (Restart nodes) → Prints over ending.text → HasLost options s
 
 -- what is printed of a limit that a line passes: it is behind the 10,000,000th, or its body is too long
 abbrev pub PassesLimit : Setup → ℕ → Input → List ℕ → Type 0

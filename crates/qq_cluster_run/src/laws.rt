@@ -2,7 +2,7 @@
 ghost use Rattle.std.specs.Prelude.{◌≡◌, ◌⊎◌, ◌≤◌, ◌<◌, ◌+◌, ◌++◌, [], ℕ, List, false, codes, Contains};
 ghost use Rattle.std.specs.Fmt.{decimal};
 ghost use Rattle.qq_setup.specs.declared.setup.Setup.{Setup};
-ghost use Rattle.qq_script_lines.specs.declared.options.Options.{Options};
+ghost use Rattle.qq_cluster_run.specs.declared.options.Options.{Options};
 ghost use Rattle.qq_cluster.specs.ClusterLaws.{HasGroups, PrintsWhatIsTrue, has_failure, findings};
 ghost use Rattle.qq_cluster_run.specs.Endings.{usage};
 ghost use Rattle.qq_cluster_run.specs.Inputs.{Input, inputs_of};
@@ -21,11 +21,11 @@ use qq_cluster::{a_cluster_prints_what_is_true, lines_settle};
 ///   that end within what was read were served. 6, the sink has failed, and what it has is a first part
 ///   of what is printed. 7, the yard has failed at the opening or at a crash, or each node's disk has at
 ///   the opening. 8, nodes were recovered in order, at the opening or at a restart, and the log files of
-///   the printed one break the rules at the printed place. 9, a restart finds of a queue what its member
-///   may not take up. 11, the next line is behind the 10,000,000th, or its body is too long. 12, there was
-///   no memory, and what was written is a first part of what is printed, and then `memory`. 20, in the
-///   midst of a line or of the opening the printed number would rise, and stands at its end, 2^63 or more.
-///   There is no other status.
+///   the printed one break the rules at the printed place. 9, there recovery finds of a queue what its
+///   member may not take up. 11, the next line is behind the 10,000,000th, or its body is too long. 12,
+///   there was no memory, and what was written is a first part of what is printed, and then `memory`. 20,
+///   in the midst of a line or of the opening the printed number would rise, and stands at its end, 2^63 or
+///   more, or the most messages that a bag holds. There is no other status.
 /// - `usage`: nothing was read, and the usage was printed.
 pub fn a_status_tells_what_was_done()
     ensures told { (status : ℕ) (options : Options) (s : Streams) → HasEnded status options s

@@ -1,10 +1,11 @@
 //! What a group tells of itself.
-ghost use Rattle.std.specs.Prelude.{◌≡◌, length, slice_get};
+ghost use Rattle.std.specs.Prelude.{◌≡◌, IfSome, is_some, length, slice_get};
 ghost use Rattle.std.specs.List.{list_all};
 ghost use Rattle.std.specs.Option.{option_copied};
 ghost use Rattle.qq_raft_msg.specs.Bag.{at_place};
 ghost use Rattle.qq_group.specs.Group.{IsSound, server_at};
 ghost use Rattle.qq_group.specs.declared.seat.Seat.{Seat};
+ghost use Rattle.qq_group.specs.Restarts.{is_known, noticed_at};
 ghost use Rattle.qq_group.specs.Reads.{handed_at, has_settled, is_idle, machine_at, member_at, noticed_by, op_at, receiver_of};
 
 use crate::group::Group;
@@ -25,6 +26,13 @@ impl<Q: Queue, L: LogView> Group<Q, L> {
         ensures { result.0 ≡ length self.now.audit.items }
     {
         Index(self.audit.len() as u64)
+    }
+
+    /// The nodes of its members, the first member first.
+    pub fn members(&self) -> &[NodeId]
+        ensures { result.now ≡ self.now.nodes.items }
+    {
+        self.nodes.as_slice()
     }
 
     /// How many messages are on their way.
@@ -96,6 +104,24 @@ impl<Q: Queue, L: LogView> Group<Q, L> {
         match self.server(node) {
             None => 0,
             Some(server) => server.noticed(),
+        }
+    }
+
+    /// The op up to which a member was ever told that its log is durable, also where it is down. None exactly where it
+    /// isn't known what its log was handed, which it is from its first restart on.
+    pub fn last_noticed(&self, node: NodeId) -> Option<u64>
+        ensures known { is_some result ≡ is_known (slice_get self.now.seats.items node.0) }
+        ensures noticed { IfSome result (λ op.
+            op ≡ noticed_at (slice_get self.now.seats.items node.0)) }
+    {
+        match self.seat(node) {
+            None => None,
+            Some(seat) => {
+                if !seat.known {
+                    return None;
+                }
+                Some(seat.noticed)
+            }
         }
     }
 

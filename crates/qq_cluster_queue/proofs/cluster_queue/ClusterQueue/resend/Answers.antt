@@ -78,4 +78,4 @@ returns-in-Err-offer-clause-cause c =
     (resending-refused c.leader-leader.result given c.pop_front.new.self.items c.in-Some.command first c.commands.self
     c.in-Err-offer.cause
     (subst (λ (l : List Command). Resending c.leader-leader.result given l first c.commands.self) (sym here)
-    c.commands.invariant.so) c.leader-leader.ensures c.in-Err-offer.ensures.cause))
+    c.commands.invariant.so) c.leader-leader.ensures c.commands.invariant.sound c.in-Err-offer.ensures.cause))
