@@ -1,0 +1,452 @@
+-- Two rounds of a cluster commit a command.
+use Rattle.std.proofs.Common.{map, ◌≡◌, ℕ, zero, suc, Bool, true, false, cond, ◌||◌, List, [], ◌∷◌, ◌++◌, length, Option, refl, sym, ap, ◌∙◌, subst, arith, append-nil, append_assoc}
+use Rattle.std.proofs.Math.Path.{fun_ext}
+use Rattle.std.specs.Prelude.{Contains, nat_eq, replicate, take}
+use Rattle.std.specs.List.{AllByRecursion, flat_map, list_any}
+use Rattle.std.proofs.lemmas.Bool.{cond-true, eq-eqb}
+use Rattle.std.proofs.lemmas.List.{take_all}
+use Rattle.std.proofs.lemmas.List.Elements.{Contains-append_right}
+use Rattle.std.proofs.lemmas.List.Folds.{list_any-append}
+use Rattle.qq_base.specs.Fronts.{IsFront, put}
+use Rattle.qq_base.specs.Ids.{client}
+use Rattle.qq_base.proofs.Puts.{put-same}
+use Rattle.qq_entry.specs.declared.audit.AuditRow.{AuditRow}
+use Rattle.qq_entry.specs.declared.command.Command.{Command}
+use Rattle.qq_entry.specs.declared.command.Entry.{Entry}
+use Rattle.qq_entry.specs.declared.command.Unstamped.{Unstamped}
+use Rattle.qq_entry.specs.declared.queue.QueueArgs.{QueueArgs}
+use Rattle.qq_model.specs.Audit.{audit_of}
+use Rattle.qq_model.specs.State.{empty_queue}
+use Rattle.qq_raft_protocol.specs.Facts.{In}
+use Rattle.qq_raft_model.specs.Group.{Group}
+use Rattle.qq_raft_model.specs.Promises.{AreDistinct, IsOpened, IsUp, whole_audit}
+use Rattle.qq_raft_model.specs.Refines.{entry_of}
+use Rattle.qq_raft_model.specs.Server.{submit}
+use Rattle.qq_raft_model.specs.State.{Server}
+use Rattle.qq_script_lines.specs.declared.line.ScriptLine.{ScriptLine}
+use Rattle.qq_session.specs.Publishing.{Numbers, OpenCommand, hand, is_open, next_stamp}
+use Rattle.qq_world.specs.World.{Answered, Client, Clients, Shown, may_hand}
+use Rattle.qq_world.proofs.Audits.{audit-front}
+use Rattle.qq_session.proofs.NumberingLemmas.{stamped-stamp}
+use Rattle.qq_world.proofs.Printed.{front-contains}
+use Rattle.qq_cluster.specs.Cluster.{Cluster, ClusterEvent, At, Of, Setup, all_prints, cluster_after, cluster_happens, members, new_cluster, parts_of, prints}
+use Rattle.qq_cluster.specs.ClusterLaws.{HasGroups, has_failure}
+use Rattle.qq_cluster.specs.Lines.{IsLine}
+use Rattle.qq_cluster.specs.Queue.{Queue, Event, Submits, after, Delivers, Notices, Syncs, Writes, all_said, audit_rows, begin, happens, leader, moves, submit_to, waiting}
+use Rattle.qq_cluster.specs.Rules.{IsNothing, IsRound, Then, if_so, is_idle, is_quiet, most_rounds, waits_noticed}
+use Rattle.qq_cluster.proofs.Groups.{KnowsCommits, after-append, group-append, group-is, known-in}
+use Rattle.qq_cluster.specs.Laws.{all_moves}
+use Rattle.qq_raft_model.specs.Group.{Event as Move, group_after}
+use Rattle.qq_raft_model.specs.Group.Event.{Submit, Take}
+use Rattle.qq_progress.proofs.Numbers.{AllBelow, BringsBelow, all-below, numbered-begin}
+use Rattle.qq_progress.proofs.Earlier.{IsSilent, WereSubmitted, all-other}
+use Rattle.qq_base.proofs.Fronts.{front-trans}
+use Rattle.qq_base.proofs.Lists.{AllByRecursion-append}
+use Rattle.qq_progress.specs.Alone.{round_alone, turn, turn_where, turns}
+use Rattle.qq_progress.specs.Rounds.{Rounds}
+use Rattle.qq_progress.specs.Soon.{AreNodes, AreOnce, GivesOne, IsCommittedSoon, IsNewTo, LeadsMost, MayGive, command_of}
+use Rattle.qq_progress.proofs.Asking.{Asks, asks-sends, commit-is, own-commit, submits-asks}
+use Rattle.qq_progress.proofs.Committing.{HasCommitted, HasRun, IsSending, first-busy, first-run, second-run}
+use Rattle.qq_progress.proofs.Delivering.{Plan}
+use Rattle.qq_progress.proofs.Hearing.{IsGiven}
+use Rattle.qq_progress.proofs.Line.{AreWithin, can-commit, counted-at, line-asked, pumps-two}
+use Rattle.qq_progress.proofs.Playing.{AreCounted, Plays, at-own, counted-after, parts-fine, played, plays-print, plays-then, queue-is, round-plays}
+use Rattle.qq_progress.proofs.Printing.{Awaits, IsOther, row_after, audit-more}
+use Rattle.qq_progress.proofs.Rounds.{IsSettled, said-append}
+use Rattle.qq_progress.proofs.Sending.{CanCommit, plan_of, with_entry}
+use Rattle.qq_raft_model.specs.Leading.{append_to}
+use Rattle.qq_raft_msg.specs.declared.rpc.Rpc.{Rpc}
+use Rattle.qq_progress.proofs.Soon.{all-in, counted_by, quiet-bag, quiet-settled, round-same, runs, runs-up}
+use Rattle.qq_progress.proofs.Sound.{AreHanded, IsSound, sound-all, sound-event}
+
+-- ---- the number
+
+-- a session that hears answers awaits that of the command that it has just given
+gives-awaits : (q : Queue) (session : ℕ) (given : Unstamped) → MayGive session q → (q.clients session).muted ≡ false
+    → Awaits session (q.clients session).numbers.next (happens q (Submits session given)).clients
+gives-awaits q session given may hears =
+    let n : Numbers = (q.clients session).numbers in
+    let new : Client = record (q.clients session) { numbers = hand given n } in
+    let is : (happens q (Submits session given)).clients session ≡ new =
+    ap (λ (f : Clients). f session)
+    (cond-true (may_hand n) (put session new q.clients) q.clients may.window) ∙ put-same session new q.clients in
+    record {
+      hears = ap (λ (x : Client). x.muted) is ∙ hears;
+      opened = ap (λ (x : Client). is_open n.next x.numbers) is
+          ∙ list_any-append (λ (o : OpenCommand). nat_eq o.0 n.next) n.opened ((n.next, _) ∷ [])
+          ∙ by (list_any (λ (o : OpenCommand). nat_eq o.0 n.next) n.opened)
+          (ap (λ (b : Bool). b || false) (eq-eqb n.next n.next refl));
+    }
+  where
+    by : (a : Bool) {b : Bool} → b ≡ true → (a || b) ≡ true
+    by true is = refl
+    by false is = is
+
+-- what the law of groups says of the audit
+abbrev pub KnowsWhole : Type 0
+KnowsWhole =
+    (g : Group) (whole : List Entry) (made : List Move) → AreDistinct g.nodes → IsOpened g whole
+    → IsFront whole (whole_audit whole (group_after g made))
+    × IsFront (group_after g made).audit (whole_audit whole (group_after g made))
+
+-- ---- moves
+
+moves-append : (q : Queue) (first second : List Event)
+    → all_moves q (first ++ second) ≡ all_moves q first ++ all_moves (after q first) second
+moves-append q [] second = refl
+moves-append q (event ∷ first) second =
+    ap (λ (l : List Move). moves q event ++ l) (moves-append (happens q event) first second)
+    ∙ sym (append_assoc (moves q event) (all_moves (happens q event) first)
+    (all_moves (after (happens q event) first) second))
+
+abbrev AreSilent : Queue → List Event → Type 0
+AreSilent q events = AllByRecursion IsSilent (all_moves q events)
+
+silent-then : (q : Queue) (first second : List Event) → AreSilent q first → AreSilent (after q first) second
+    → AreSilent q (first ++ second)
+silent-then q first second a b =
+    subst (AllByRecursion IsSilent) (sym (moves-append q first second))
+    (AllByRecursion-append IsSilent (all_moves q first) (all_moves (after q first) second) a b)
+
+silent-takes : (j n : ℕ) → AllByRecursion IsSilent (replicate n (Take j))
+silent-takes j zero = tt
+silent-takes j (suc n) = (tt, silent-takes j n)
+
+silent-turn : (j : ℕ) (q : Queue) → AreSilent q (turn j q)
+silent-turn j q =
+    AllByRecursion-append IsSilent (moves q (Writes j)) _ (silent-takes j (waiting j q.group))
+    (by (waits_noticed j (happens (happens q (Writes j)) (Syncs j))))
+  where
+    by : (b : Bool) → AreSilent (happens (happens q (Writes j)) (Syncs j)) (cond b (Notices j ∷ []) [])
+    by true = (tt, tt)
+    by false = tt
+
+silent-where : (b : Bool) (j : ℕ) (q : Queue) → AreSilent q (turn_where b j q)
+silent-where true j q = silent-turn j q
+silent-where false j q = tt
+
+silent-turns : (up : ℕ → Bool) (nodes : List ℕ) (q : Queue) → AreSilent q (turns up nodes q)
+silent-turns up [] q = tt
+silent-turns up (j ∷ nodes) q =
+    silent-then q (turn_where (up j) j q) (turns up nodes (after q (turn_where (up j) j q))) (silent-where (up j) j q)
+    (silent-turns up nodes (after q (turn_where (up j) j q)))
+
+silent-delivers : (n : ℕ) (q : Queue) → AreSilent q (replicate n (Delivers 0))
+silent-delivers zero q = tt
+silent-delivers (suc n) q = (tt, silent-delivers n (happens q (Delivers 0)))
+
+silent-round : (up : ℕ → Bool) (nodes : List ℕ) (q : Queue) → AreSilent q (round_alone up nodes q)
+silent-round up nodes q =
+    silent-then q (turns up nodes q) (replicate (length (after q (turns up nodes q)).group.bag) (Delivers 0))
+    (silent-turns up nodes q) (silent-delivers (length (after q (turns up nodes q)).group.bag) (after q (turns up nodes q)))
+
+-- ---- two rounds
+
+module _ (handed : AreHanded) (knows : KnowsCommits) (within : AreWithin) (whole : KnowsWhole)
+    (submitted : WereSubmitted) (setup : Setup) (made : List ClusterEvent)
+    (place session : ℕ) (given : Unstamped) (k : ℕ) (s : Server) (groups : HasGroups setup)
+    (once : AreOnce setup.places) (nodes : AreNodes setup) (here : In place setup.places)
+    (idle : is_idle setup (cluster_after (new_cluster setup) made) ≡ true)
+    (leads : LeadsMost setup (cluster_after (new_cluster setup) made) place k s)
+    (may : MayGive session ((cluster_after (new_cluster setup) made).queue place)) where
+  abbrev c : Cluster
+  c = cluster_after (new_cluster setup) made
+
+  abbrev q : Queue
+  q = c.queue place
+
+  abbrev up : ℕ → Bool
+  up = runs setup c
+
+  abbrev most : ℕ → Bool
+  most = counted_by (members setup place) leads.most.counts
+
+  abbrev command : Command
+  command = command_of session given q
+
+  abbrev e : Entry
+  e = entry_of 0 command s
+
+  abbrev plan : Plan
+  plan = plan_of up most k s
+
+  can : CanCommit (members setup place) up most q k s
+  can = can-commit within setup made place k s groups nodes here idle leads
+
+  abbrev one : Queue
+  one = happens q (Submits session given)
+
+  sound-one : IsSound (members setup place) one
+  sound-one = sound-event (members setup place) q (Submits session given) can.sound
+
+  asks : Asks q one k s (submit 0 command s)
+  asks = submits-asks q session given k s may leads.leads leads.up
+
+  abbrev first : Server
+  first = record (submit 0 command s) { out = [] }
+
+  abbrev messages : List Rpc
+  messages = map (append_to (with_entry e s)) s.peers
+
+  sends : IsSending (members setup place) plan e one first messages
+  sends = asks-sends handed (members setup place) up most q k s can one command sound-one asks
+
+  among : (j : ℕ) → up j ≡ true → In j setup.nodes
+  among j j_up = (runs-up setup c j j_up).1
+
+  -- the cluster with the command
+  abbrev c1 : Cluster
+  c1 = cluster_happens c (At place (Submits session given))
+
+  one-is : c1.queue place ≡ one
+  one-is = ap (after q) (at-own place (Submits session given))
+
+  counted-one : AreCounted c1
+  counted-one = counted-after c (At place (Submits session given) ∷ []) (counted-at setup made groups)
+
+  abbrev turn_round : Queue → List Event
+  turn_round = round_alone up setup.nodes
+
+  -- a round of the cluster
+  a-round : (d : Cluster) (events : List ClusterEvent) → d.up ≡ c.up → AreCounted d → IsRound setup d events
+      → has_failure events ≡ false → Plays setup d events (λ p. turn_round (d.queue p))
+  a-round d events same counted is fine =
+      subst (λ (f : Queue → List Event). Plays setup d events (λ p. f (d.queue p)))
+      (ap (λ (u : ℕ → Bool). λ (r : Queue). round_alone u setup.nodes r) same
+      ∙ fun_ext (λ r. sym (round-same setup c r)))
+      (round-plays setup once d events counted is fine)
+
+  -- where something is left to do there
+  busy : is_idle setup c1 ≡ true → ⊥
+  busy quiet =
+      let still : is_quiet setup c.up (c1.queue place) ≡ true =
+      all-in (λ (p : ℕ). is_quiet setup c.up (c1.queue p)) setup.places place quiet here in
+      let settled : IsSettled k (c1.queue place) =
+      quiet-settled setup c.up (c1.queue place) k (counted-one place) (among k can.node_up) leads.node_up still in
+      first-busy handed (members setup place) setup.nodes plan e one first messages sends among
+      (subst (λ (r : Queue). IsSettled k r) one-is settled)
+
+  record Ends (early : List ClusterEvent) : Type 0 where
+    alone : Queue → List Event
+    plays : Plays setup c1 early (λ p. alone (c1.queue p))
+    done : HasCommitted plan e first one (after one (alone one)) (all_said one (alone one))
+    silent : AreSilent one (alone one)
+
+  ends : (early : List ClusterEvent) → has_failure early ≡ false → Rounds 2 setup c1 early → Ends early
+  ends early fine is = by (is_idle setup c1) refl is
+    where
+      ran : HasRun plan e first one (after one (turn_round one)) (all_said one (turn_round one))
+      ran = first-run handed (members setup place) setup.nodes plan e one first messages sends among
+
+      idle-ends : (es fs : List ClusterEvent) → early ≡ es ++ fs → fs ≡ []
+          → Plays setup c1 es (λ p. turn_round (c1.queue p)) → is_idle setup (cluster_after c1 es) ≡ true → Ends early
+      idle-ends es fs split none plays quiet =
+          let c2 : Cluster = cluster_after c1 es in
+          let r_is : c2.queue place ≡ after one (turn_round one) =
+          played setup c1 es (λ p. turn_round (c1.queue p)) place here plays
+          ∙ ap (λ (r : Queue). after r (turn_round r)) one-is in
+          let still : is_quiet setup c.up (c2.queue place) ≡ true =
+          ap (λ (u : ℕ → Bool). is_quiet setup u (c2.queue place)) (sym plays.up)
+          ∙ all-in (λ (p : ℕ). is_quiet setup c2.up (c2.queue p)) setup.places place quiet here in
+          let all : early ≡ es = split ∙ ap (λ l. es ++ l) none ∙ append-nil es in
+          record {
+            alone = turn_round;
+            plays = subst (λ l. Plays setup c1 l (λ p. turn_round (c1.queue p))) (sym all) plays;
+            done = record {
+              reaches = ran.reaches;
+              committed = ran.enough
+                  (ap (λ (r : Queue). r.group.bag) (sym r_is) ∙ quiet-bag setup c.up (c2.queue place) still)
+                  (λ j j_up. subst (IsSettled j) r_is (let u = runs-up setup c j j_up in
+                  quiet-settled setup c.up (c2.queue place) j (counted-after c1 es counted-one place) u.1 u.0 still));
+            };
+            silent = silent-round up setup.nodes one;
+          }
+
+      more-ends : (es fs : List ClusterEvent) → early ≡ es ++ fs → Plays setup c1 es (λ p. turn_round (c1.queue p))
+          → Plays setup (cluster_after c1 es) fs (λ p. turn_round ((cluster_after c1 es).queue p)) → Ends early
+      more-ends es fs split begun next =
+          let r : Queue = after one (turn_round one) in
+          record {
+            alone = λ x. turn_round x ++ turn_round (after x (turn_round x));
+            plays = plays-then setup c1 early es fs (λ p. turn_round (c1.queue p)) turn_round split begun next;
+            done =
+                subst (λ (x : Queue). HasCommitted plan e first one x
+                (all_said one (turn_round one ++ turn_round r))) (sym (after-append one (turn_round one) (turn_round r)))
+                (subst (HasCommitted plan e first one (after r (turn_round r)))
+                (sym (said-append one (turn_round one) (turn_round r)))
+                (second-run handed (members setup place) setup.nodes plan e one first messages sends among));
+            silent = silent-then one (turn_round one) (turn_round r) (silent-round up setup.nodes one)
+                (silent-round up setup.nodes r);
+          }
+
+      then-ends : (es fs : List ClusterEvent) → early ≡ es ++ fs → has_failure fs ≡ false
+          → Plays setup c1 es (λ p. turn_round (c1.queue p)) → (b : Bool) → is_idle setup (cluster_after c1 es) ≡ b
+          → if_so b IsNothing (Then (IsRound setup) (Rounds 0 setup)) (cluster_after c1 es) fs → Ends early
+      then-ends es fs split fine_fs plays true quiet none = idle-ends es fs split none plays quiet
+      then-ends es fs split fine_fs plays false busy' some =
+          let whole : fs ≡ some.early = some.is ∙ ap (λ l. some.early ++ l) some.second ∙ append-nil some.early in
+          more-ends es fs split plays
+          (subst (λ l. Plays setup (cluster_after c1 es) l (λ p. turn_round ((cluster_after c1 es).queue p))) (sym whole)
+          (a-round (cluster_after c1 es) some.early plays.up (counted-after c1 es counted-one) some.first
+          (ap has_failure (sym whole) ∙ fine_fs)))
+
+      by : (b : Bool) → is_idle setup c1 ≡ b → if_so b IsNothing (Then (IsRound setup) (Rounds 1 setup)) c1 early
+          → Ends early
+      by true quiet none = absurd (busy quiet)
+      by false some begun =
+          let both = parts-fine early begun.early begun.late begun.is fine in
+          let plays = a-round c1 begun.early refl counted-one begun.first both.0 in
+          then-ends begun.early begun.late begun.is both.1 plays (is_idle setup (cluster_after c1 begun.early)) refl
+          begun.second
+
+  -- ---- the whole line
+
+  abbrev row : AuditRow
+  row = row_after q.args s.log e
+
+  -- the log and the entry begin the group's entries in the end
+  begins-audit : (r : Queue) (shown : List Shown) → IsSound (members setup place) r
+      → HasCommitted plan e first one r shown → IsFront (s.log ++ e ∷ []) r.group.audit
+  begins-audit r shown sound done =
+      let leader = done.reaches.is in
+      let t = done.reaches.server in
+      let within' = leader.waits.may.within in
+      let reaches = done.committed in
+      let long = leader.waits.may.last_is in
+      let all : take t.commit t.log ≡ s.log ++ e ∷ [] =
+      take_all t.commit t.log (omega (arith, within', reaches, long)) ∙ leader.log in
+      subst (λ (l : List Entry). IsFront l r.group.audit) all (known-in knows r sound.reached k t leader.up)
+
+  -- a row of the audit in the end
+  audited : (r : Queue) (shown : List Shown) → IsSound (members setup place) r → HasCommitted plan e first one r shown
+      → Contains (audit_rows r) row
+  audited r shown sound done =
+      front-contains (audit_of (empty_queue r.args) (s.log ++ e ∷ [])) (audit_rows r) row
+      (audit-front (empty_queue r.args) (s.log ++ e ∷ []) r.group.audit (begins-audit r shown sound done))
+      (subst (λ (args : QueueArgs). Contains (audit_of (empty_queue args) (s.log ++ e ∷ [])) row) (sym done.reaches.args)
+      (subst (λ (l : List AuditRow). Contains l row) (sym (audit-more (empty_queue q.args) s.log e))
+      (Contains-append_right (audit_of (empty_queue q.args) s.log) (row ∷ []) row (0, omega arith, refl))))
+
+  abbrev group : Group
+  group = setup.group place
+
+  abbrev start : Queue
+  start = begin (setup.args place) group
+
+  abbrev past : List Event
+  past = parts_of place made
+
+  q-is : q ≡ after start past
+  q-is = queue-is (new_cluster setup) made place
+
+  below : AllBelow session start past
+  below = all-below session start past (numbered-begin (setup.args place) group)
+
+  own-session : (q.clients session).numbers.session ≡ client session
+  own-session = ap (λ (r : Queue). (r.clients session).numbers.session) q-is ∙ (below.numbered session).session
+
+  abbrev seq : ℕ
+  seq = (q.clients session).numbers.next
+
+  group-then : q.group ≡ group_after group (all_moves start past)
+  group-then = ap (λ (r : Queue). r.group) q-is ∙ group-is start past
+
+  asks-moves : moves q (Submits session given) ≡ Submit k 0 command ∷ []
+  asks-moves =
+      ap (λ (l : List Command). flat_map (submit_to (leader q.group)) l)
+      (cond-true (may_hand (q.clients session).numbers) (command ∷ []) [] may.window)
+      ∙ ap (λ (o : Option ℕ). submit_to o command ++ []) leads.leads
+
+  -- each entry of the log has another number
+  others : (early : List ClusterEvent) (end : Ends early) → IsNewTo session group
+      → AllByRecursion (IsOther session seq) s.log
+  others early end new =
+      let b = groups place in
+      let r : Queue = after one (end.alone one) in
+      let behind : List Move = all_moves one (end.alone one) in
+      let before : List Move = all_moves start past in
+      let r_is : r.group ≡ group_after group (before ++ Submit k 0 command ∷ behind) =
+      group-is one (end.alone one)
+      ∙ ap (λ (l : List Move). group_after (group_after q.group l) behind) asks-moves
+      ∙ ap (λ (g : Group). group_after g (Submit k 0 command ∷ behind)) group-then
+      ∙ sym (group-append group before (Submit k 0 command ∷ behind)) in
+      let sound : IsSound (members setup place) r =
+      sound-all (members setup place) one (end.alone one) sound-one in
+      let front : IsFront s.log (whole_audit b.whole r.group) =
+      front-trans (record { rest = e ∷ []; is = refl })
+      (front-trans (begins-audit r (all_said one (end.alone one)) sound end.done)
+      (subst (λ (g : Group). IsFront g.audit (whole_audit b.whole g)) (sym r_is)
+      (whole group b.whole (before ++ Submit k 0 command ∷ behind) b.distinct b.opened).1)) in
+      all-other submitted group b.whole b.distinct b.opened session seq new before behind k command s
+      (subst (λ (n : ℕ). AllByRecursion (BringsBelow session n) before)
+      (ap (λ (x : Queue). (x.clients session).numbers.next) (sym q-is)) below.moves) end.silent
+      (subst (λ (g : Group). IsUp g k s) group-then leads.up)
+      (subst (λ (g : Group). IsFront s.log (whole_audit b.whole g)) r_is front)
+
+  pub committed-soon : (line : ScriptLine) (events : List ClusterEvent) → c.auto ≡ true
+      → IsNewTo session group → GivesOne setup line session place given → IsLine setup line c events → has_failure events ≡ false
+      → IsCommittedSoon setup c place session given s events
+  unfolding most_rounds
+  committed-soon line events auto new gives is fine =
+      let a = line-asked setup c line place session given events auto may.ended gives is in
+      let x = pumps-two 9998 setup c1 a.rest a.pumps in
+      let both =
+      parts-fine events (At place (Submits session given) ∷ x.early) x.late
+      (a.is ∙ ap (λ es. At place (Submits session given) ∷ es) x.is) fine in
+      let end = ends x.early both.0 x.rounds in
+      let r : Queue = after one (end.alone one) in
+      let r_is : (cluster_after c1 x.early).queue place ≡ r =
+      played setup c1 x.early (λ p. end.alone (c1.queue p)) place here end.plays
+      ∙ ap (λ (y : Queue). after y (end.alone y)) one-is in
+      let known : IsGiven plan e session (q.clients session).numbers.next =
+      record {
+        others = others x.early end new;
+        asked = record {
+          by = next_stamp (q.clients session).numbers;
+          is = stamped-stamp (next_stamp (q.clients session).numbers) given;
+          session_is = own-session;
+          seq_is = refl;
+        };
+      } in
+      record {
+        early = At place (Submits session given) ∷ x.early;
+        late = x.late;
+        is = a.is ∙ ap (λ es. At place (Submits session given) ∷ es) x.is;
+        rounds = record {
+          early = At place (Submits session given) ∷ [];
+          late = x.early;
+          is = refl;
+          first = refl;
+          second = x.rounds;
+        };
+        row = row;
+        entry = refl;
+        audited = subst (λ (y : Queue). Contains (audit_rows y) row) (sym r_is)
+            (audited r (all_said one (end.alone one))
+            (sound-all (members setup place) one (end.alone one) sound-one) end.done);
+        printed = λ hears.
+            Contains-append_right (prints setup c (At place (Submits session given))) (all_prints setup c1 x.early)
+            (Of place (Answered row))
+            (plays-print setup c1 x.early place (Answered row) end.plays.plain
+            (subst (λ (l : List Shown). Contains l (Answered row)) (sym ((end.plays.each place here).said_is))
+            (subst (λ (y : Queue). Contains (all_said y (end.alone y)) (Answered row)) (sym one-is)
+            ((end.done.reaches.shows session (q.clients session).numbers.next known
+            (own-commit handed (members setup place) up most q k s can one command sound-one asks)).tells
+            (let w = can.within in let c = commit-is handed (members setup place) up most q k s can one command sound-one
+            asks in omega (arith, w, c)) end.done.committed (gives-awaits q session given may hears)))));
+      }
+
+pub line-commits : AreHanded → KnowsCommits → AreWithin → KnowsWhole → WereSubmitted → (setup : Setup)
+    (made : List ClusterEvent) (line : ScriptLine) (session place : ℕ) (given : Unstamped) (k : ℕ) (s : Server)
+    (events : List ClusterEvent) → HasGroups setup → AreOnce setup.places → AreNodes setup → In place setup.places
+    → IsNewTo session (setup.group place) → (cluster_after (new_cluster setup) made).auto ≡ true
+    → is_idle setup (cluster_after (new_cluster setup) made) ≡ true
+    → LeadsMost setup (cluster_after (new_cluster setup) made) place k s
+    → MayGive session ((cluster_after (new_cluster setup) made).queue place)
+    → GivesOne setup line session place given → IsLine setup line (cluster_after (new_cluster setup) made) events
+    → has_failure events ≡ false
+    → IsCommittedSoon setup (cluster_after (new_cluster setup) made) place session given s events
+line-commits handed knows within whole submitted setup made line session place given k s events groups once nodes here
+    new auto idle leads may gives is fine =
+    committed-soon handed knows within whole submitted setup made place session given k s groups once nodes here idle
+    leads may line events auto new gives is fine

@@ -1,0 +1,4 @@
+pub mod Rounds
+pub mod Alone
+pub mod Soon
+pub mod Opened

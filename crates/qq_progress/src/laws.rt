@@ -1,0 +1,54 @@
+//! The laws of progress. They rest on a majority of a queue's members being up, on nothing else going on, and on
+//! no call of a disk failing.
+ghost use Rattle.std.specs.Prelude.{◌≡◌, ℕ, List, true, false};
+ghost use Rattle.qq_entry.specs.declared.command.Unstamped.{Unstamped};
+ghost use Rattle.qq_raft_model.specs.State.{Server};
+ghost use Rattle.qq_raft_protocol.specs.Facts.{In};
+ghost use Rattle.qq_script_lines.specs.declared.line.ScriptLine.{ScriptLine};
+ghost use Rattle.qq_cluster.specs.Cluster.{Cluster, ClusterEvent, Setup, cluster_after, new_cluster};
+ghost use Rattle.qq_cluster.specs.ClusterLaws.{HasGroups, has_failure};
+ghost use Rattle.qq_cluster.specs.Lines.{IsLine};
+ghost use Rattle.qq_cluster.specs.Rules.{IsOpening, is_idle};
+ghost use Rattle.qq_progress.specs.Opened.{AreNewGroups, HasOpened};
+ghost use Rattle.qq_progress.specs.Soon.{AreOnce, AreNodes, GivesOne, IsCommittedSoon, IsNewTo, LeadsMost, MayGive};
+
+use qq_raft_model::{
+    a_log_was_handed_the_changes_of_its_server, each_row_was_submitted,
+    what_a_group_committed_stays,
+};
+
+/// A law: two rounds commit a command. Where nothing is left to do in the whole cluster, and a queue's leader
+/// takes commands, a majority of the members is up with its log, it sends each of these the entry
+/// after its last one next, and no member that is up has a later term: then a line that gives that queue one
+/// command makes a row of it after two rounds of the line's pump, if no call of a disk fails. Its answer is
+/// printed, unless the session is muted.
+pub fn a_command_is_committed_soon()
+    ensures { (setup : Setup) (made : List ClusterEvent) (line : ScriptLine) (session place : ℕ)
+        (given : Unstamped) (k : ℕ) (s : Server) (events : List ClusterEvent) → HasGroups setup →
+        AreOnce setup.places → AreNodes setup → In place setup.places →
+        IsNewTo session (setup.group place) →
+        (cluster_after (new_cluster setup) made).auto ≡ true →
+        is_idle setup (cluster_after (new_cluster setup) made) ≡ true →
+        LeadsMost setup (cluster_after (new_cluster setup) made) place k s →
+        MayGive session ((cluster_after (new_cluster setup) made).queue place) →
+        GivesOne setup line session place given →
+        IsLine setup line (cluster_after (new_cluster setup) made) events →
+        has_failure events ≡ false →
+        IsCommittedSoon setup (cluster_after (new_cluster setup) made) place session given s events }
+{
+    a_log_was_handed_the_changes_of_its_server();
+    what_a_group_committed_stays();
+    each_row_was_submitted();
+}
+
+/// A law: an opening over new disks gives each queue its first member as a leader that takes commands. The
+/// restarts leave each node up, and the pump ends with nothing left to do, if no call of a disk fails. This holds
+/// whatever the number of nodes, and of members of each queue.
+pub fn an_opening_gives_each_queue_a_leader()
+    ensures { (setup : Setup) (events : List ClusterEvent) → HasGroups setup → AreOnce setup.places →
+        AreOnce setup.nodes → AreNodes setup → AreNewGroups setup →
+        IsOpening setup (new_cluster setup) events → has_failure events ≡ false →
+        HasOpened setup (cluster_after (new_cluster setup) events) }
+{
+    a_log_was_handed_the_changes_of_its_server();
+}
