@@ -88,6 +88,33 @@ fn push_rows(
 }
 
 impl ClusterQueue {
+    // Adds the head of the audit and its rows, as a machine gives them that stands for a new queue.
+    fn push_audit(
+        &self,
+        alloc: Global,
+        machine: &mut MachineQueue,
+        out: &mut Vec<u8>,
+    ) -> Result<(), Memory>
+        requires stands { queue_stands (empty_queue self.now.args) machine.old }
+        requires applied { queue_applied machine.old ≡ 0 }
+
+        ensures ok { OnOk result (OfItsQueue self.now (λ q.
+            out.new.items ≡ out.old.items ++ audit_text self.now.label.name 0 (audit_rows q))) }
+        ensures err { OnErr result (IsFront out.old.items out.new.items) }
+        ensures cause { IfErr result (λ e. SpentOnlyWhere e NUMBER_END
+            (stays_within (empty_queue self.now.args) self.now.group.audit.items ≡ false)) }
+    {
+        let entries = self.group.audit();
+        let count = entries.len() as u64;
+        if let Err(cause) = audit_head_text(alloc, &self.label.name, Index(0), count, out) {
+            return Err(cause);
+        }
+        if let Err(cause) = push_rows(alloc, machine, entries, out) {
+            return Err(cause);
+        }
+        Ok(())
+    }
+
     /// Adds the text of the audit: the row of each entry that the members have known to be committed, as a new
     /// queue with the same arguments gives it. `Spent` comes only where a number of that would be past its end.
     /// After an error `out` begins with what it had.
@@ -103,14 +130,8 @@ impl ClusterQueue {
             Err(cause) => return Err(cause),
         };
         let mut machine = MachineQueue::new(alloc, args);
-        let entries = self.group.audit();
-        let count = entries.len() as u64;
-        if let Err(cause) = audit_head_text(alloc, &self.label.name, Index(0), count, out) {
-            return Err(cause);
-        }
-        if let Err(cause) = push_rows(alloc, &mut machine, entries, out) {
-            return Err(cause);
-        }
-        Ok(())
+        let told = self.push_audit(alloc, &mut machine, out);
+        drop(machine);
+        told
     }
 }

@@ -28,11 +28,11 @@ all-from test (x ∷ xs) each =
     and_from (test x) (list_all test xs) (each x (inl refl)) (all-from test xs (λ y later. each y (inr later)))
 
 -- nothing waits at a node that is up
-record IsDone (k : ℕ) (q : Queue) : Type 0 where
+pub record IsDone (k : ℕ) (q : Queue) : Type 0 where
   pub written : waiting k q.group ≡ 0
   pub noticed : (q.group.seat k).noticed ≡ length (q.group.seat k).ops
 
-done : (setup : Setup) (up : ℕ → Bool) (q : Queue) (k : ℕ) → In k setup.nodes → up k ≡ true
+pub done : (setup : Setup) (up : ℕ → Bool) (q : Queue) (k : ℕ) → In k setup.nodes → up k ≡ true
     → is_quiet setup up q ≡ true → IsDone k q
 done setup up q k node is quiet =
     let all = (and_parts (nat_eq (length q.group.bag) 0) (list_all (is_quiet_at q up) setup.nodes) quiet).1 in

@@ -1,7 +1,17 @@
-//! The nodes of a cluster and its queues as code. So far the list of the queues that may have something to do, and what
-//! lets a walk over these stand for one over all queues.
+//! The nodes of a cluster as code: queues and logs side by side.
 #![tactic(auto)]
 
 mod active;
+mod asking;
+mod lines;
+mod logs;
+mod messages;
+mod node;
+mod nodes;
+mod rounds;
+mod sending;
+mod turning;
+mod writing;
 
-pub use active::Active;
+pub use nodes::Nodes;
+pub use rounds::MOST_ROUNDS;

@@ -1,0 +1,113 @@
+-- A call of a node's log, as one of the node.
+use Rattle.std.proofs.Common.{◌≡◌, ◌<◌, ℕ, Bool, true, false, List, ◌++◌, Some, None, drop, get_or, length, take, refl, sym, ap, ◌∙◌, subst}
+use Rattle.std.proofs.Math.Seq.{take-append_seam}
+use Rattle.std.specs.Prelude.{Result, Ok, Err, IfOk, IfErr, slice_get, slice_set}
+use Rattle.std.proofs.lemmas.Option.{slice_get-get_or}
+use Rattle.qq_base.specs.Causes.{Rose}
+use Rattle.qq_base.specs.declared.memory.Memory.{Memory}
+use Rattle.qq_disk.specs.Disk.{Disk}
+use Rattle.qq_log.specs.declared.op.Op.{Op}
+use Rattle.qq_lots.specs.Lots.{Lot, Parts, give_batch, keep_all}
+use Rattle.qq_node_log.specs.Batches.{IsLongIn}
+use Rattle.qq_node_log.specs.Log.{disk_in}
+use Rattle.qq_node_log.specs.Steps.{CallKeeps, KeepsDisk, MayAppend, MaySync, RunsOn}
+use Rattle.qq_node_log.specs.Syncing.{FailsByCount, IsLastIn, SyncsIn}
+use Rattle.qq_node_log.specs.declared.node_log.NodeLog.{NodeLog}
+use Rattle.qq_node_log.specs.declared.syncing.SyncOutcome.{SyncOutcome}
+use Rattle.qq_node_log.specs.declared.syncing.SyncOutcome.TheVariants.{Whole}
+use Rattle.qq_nodes.specs.Logs.{Appends, AppendsInPart, ChangesLog, MayAppendAt, MaySyncAt, NodeTurns, Syncs, SyncsInPart}
+use Rattle.qq_nodes.specs.declared.node.Node.{Node}
+use Rattle.qq_nodes.proofs.OneQueue.{set-long}
+
+some-log : {A : Type 0} (x y : A) → Some x ≡ Some y → x ≡ y
+some-log x y e = cc
+
+module _ {D : Type 0} {tells : D → Bool} {past : D → List Disk} where
+  pub own-append : (ops : List Op) (x : Node D) (log : NodeLog D) → MayAppendAt tells past ops x → x.log ≡ Some log
+      → MayAppend tells past ops log
+  own-append ops x log may is = subst (MayAppend tells past ops) (some-log may.own log (sym may.is ∙ is)) may.may
+
+  pub own-sync : (x : Node D) (log : NodeLog D) → MaySyncAt tells past x → x.log ≡ Some log → MaySync tells past log
+  own-sync x log may is = subst (MaySync tells past) (some-log may.own log (sym may.is ∙ is)) may.may
+
+  pub no-append : (ops : List Op) (x : Node D) → MayAppendAt tells past ops x → x.log ≡ None → ⊥
+  no-append ops x may is = absurd (let e : Some may.own ≡ None = sym may.is ∙ is in cc)
+
+  pub no-sync : (x : Node D) → MaySyncAt tells past x → x.log ≡ None → ⊥
+  no-sync x may is = absurd (let e : Some may.own ≡ None = sym may.is ∙ is in cc)
+
+module _ {D : Type 0} {tells : D → Bool} {past : D → List Disk} {faults : D → ℕ} where
+  pub appended : (ops : List Op) (x : Node D) (before behind : NodeLog D) (result : Result Bool Memory)
+      → x.log ≡ Some before → KeepsDisk tells past faults before behind
+      → CallKeeps tells past (λ (lot : Lot). give_batch lot ops) before behind
+      → IfOk result (λ (more : Bool). more ≡ true → RunsOn tells past (λ (lot : Lot). give_batch lot ops) before behind)
+      → IfOk result (λ (more : Bool). more ≡ false → Rose (faults (disk_in before)) (faults (disk_in behind)))
+      → IfOk result (λ (more : Bool). Appends tells past faults ops more x (record x { log = Some behind }))
+  appended ops x before behind (Ok more) was same moments runs failed = record {
+    change = record { before = before; behind = behind; was = was; is = refl; same = same; moments = moments };
+    runs = runs;
+    failed = failed;
+  }
+  appended ops x before behind (Err memory) was same moments runs failed = tt
+
+  pub appended-spent : (ops : List Op) (x : Node D) (before behind : NodeLog D) (result : Result Bool Memory)
+      → x.log ≡ Some before → KeepsDisk tells past faults before behind
+      → CallKeeps tells past (λ (lot : Lot). give_batch lot ops) before behind → IfErr result (IsLongIn behind)
+      → IfErr result (λ (memory : Memory). AppendsInPart tells past faults ops memory x (record x { log = Some behind }))
+  appended-spent ops x before behind (Ok more) was same moments long = tt
+  appended-spent ops x before behind (Err memory) was same moments long = record {
+    change = record { before = before; behind = behind; was = was; is = refl; same = same; moments = moments };
+    long = long;
+  }
+
+  pub synced : (x : Node D) (before behind : NodeLog D) (result : Result SyncOutcome Memory) → x.log ≡ Some before
+      → KeepsDisk tells past faults before behind → CallKeeps tells past (λ (lot : Lot) (parts : Parts). parts) before behind
+      → IfOk result (λ (outcome : SyncOutcome). outcome ≡ Whole → RunsOn tells past (λ (lot : Lot). keep_all) before behind)
+      → IfOk result (λ (outcome : SyncOutcome). SyncsIn tells past outcome before behind)
+      → IfOk result (FailsByCount (faults (disk_in before)) (faults (disk_in behind)))
+      → IfOk result (λ (outcome : SyncOutcome). Syncs tells past faults outcome x (record x { log = Some behind }))
+  synced x before behind (Ok outcome) was same moments runs come failed = record {
+    change = record { before = before; behind = behind; was = was; is = refl; same = same; moments = moments };
+    runs = runs;
+    come = come;
+    failed = failed;
+  }
+  synced x before behind (Err memory) was same moments runs come failed = tt
+
+  pub synced-spent : (x : Node D) (before behind : NodeLog D) (result : Result SyncOutcome Memory) → x.log ≡ Some before
+      → KeepsDisk tells past faults before behind → CallKeeps tells past (λ (lot : Lot) (parts : Parts). parts) before behind
+      → IfErr result (IsLastIn behind)
+      → IfErr result (λ (memory : Memory). SyncsInPart tells past faults memory x (record x { log = Some behind }))
+  synced-spent x before behind (Ok outcome) was same moments last = tt
+  synced-spent x before behind (Err memory) was same moments last = record {
+    change = record { before = before; behind = behind; was = was; is = refl; same = same; moments = moments };
+    last = last;
+  }
+
+-- ---- the node at an index
+
+pub node-turns : {D : Type 0} (P : Node D → Node D → Type 0) (at : ℕ) (nodes : List (Node D)) (x new : Node D)
+    → at < length nodes → P (get_or nodes at x) new → NodeTurns P at nodes (slice_set nodes at new)
+node-turns P at nodes x new lt turns = record {
+  old = get_or nodes at x;
+  new = new;
+  here = slice_get-get_or nodes at x lt;
+  is = refl;
+  turns = turns;
+}
+
+take-whole : {A : Type 0} (n : ℕ) (xs ys : List A) → length xs ≡ n → take n (xs ++ ys) ≡ xs
+take-whole n xs ys e = subst (λ (m : ℕ). take m (xs ++ ys) ≡ xs) e (take-append_seam xs ys)
+
+-- a vector's nodes are those of its slice
+pub turns-back : {D : Type 0} (P : Node D → Node D → Type 0) (at : ℕ) (items nodes news : List (Node D)) (count : ℕ)
+    → nodes ≡ items → length nodes ≡ count → NodeTurns P at nodes news
+    → NodeTurns P at items (take count (news ++ drop (length news) items))
+turns-back P at items nodes news count is many turn = record {
+  old = turn.old;
+  new = turn.new;
+  here = subst (λ (l : List (Node _)). slice_get l at ≡ Some turn.old) is turn.here;
+  is = take-whole count news (drop (length news) items) (ap length turn.is ∙ set-long nodes at turn.new ∙ many)
+      ∙ turn.is ∙ ap (λ (l : List (Node _)). slice_set l at turn.new) is;
+  turns = turn.turns;
+}

@@ -1,0 +1,219 @@
+-- Commands that go to several queues.
+use Rattle.std.proofs.Common.{◌≡◌, ◌⊎◌, ◌<◌, ◌≤◌, ◌+◌, ◌-◌, ℕ, zero, suc, Bool, true, false, ◌||◌, List, [], ◌∷◌, Option, Some, None, get_or, length, map, drop, refl, sym, ap, ◌∙◌, subst, inl, inr, arith}
+use Rattle.std.specs.Prelude.{All, slice_get}
+use Rattle.std.specs.List.{list_any, range_with_len}
+use Rattle.std.proofs.lemmas.Bool.{or_from}
+use Rattle.qq_base.specs.declared.ids.QueueId.{QueueId}
+use Rattle.qq_base.specs.declared.memory.Memory.{Memory}
+use Rattle.qq_base.specs.declared.memory.Memory.TheVariants.{Want}
+use Rattle.qq_disk.specs.Disk.{Disk}
+use Rattle.qq_entry.specs.declared.command.Unstamped.{Unstamped}
+use Rattle.qq_cluster.specs.Cluster.{At, Cluster, ClusterEvent, SaysEnded, SaysUnroutable, Setup}
+use Rattle.qq_cluster.specs.Lines.{IsRouted}
+use Rattle.qq_cluster.specs.Queue.{Resends}
+use Rattle.qq_cluster.specs.Rules.{ForEach, Is, IsGiven, IsNothing, IsResend, is_ended, some_queue}
+use Rattle.qq_cluster_laws.specs.Serves.{Leads}
+use Rattle.qq_cluster_queue.specs.Sessions.{standings}
+use Rattle.qq_nodes.specs.Nodes.{CanServe, GaveUp, IsQueueAt, LeadsIn, Served, Stands}
+use Rattle.qq_nodes.specs.Sending.{GivesTo, numbers_of}
+use Rattle.qq_nodes.specs.declared.nodes.Nodes.{Nodes as Held}
+use Rattle.qq_nodes.proofs.LineRules.{at-queue, at-queue_gave_up, ended-at}
+use Rattle.qq_nodes.proofs.Pumping.{many-after, rule-else, rule-if}
+use Rattle.qq_nodes.proofs.Stands.{each-end, each-more, each-start, gave_up-each, gave_up-leads, gave_up-same, gave_up-weaker, served-nothing, served-weaker}
+use Rattle.qq_nodes.proofs.Total.{total-given}
+use Rattle.qq_nodes.proofs.Turned.{within-length}
+use Rattle.qq_nodes.proofs.Walks.{drop-past}
+
+-- ---- the queues of a list
+
+drop-here : (queues : List QueueId) (at : ℕ) (queue : QueueId) → slice_get queues at ≡ Some queue
+    → drop at (numbers_of queues) ≡ queue.0 ∷ drop (at + 1) (numbers_of queues)
+drop-here [] at queue is = absurd (let lt = within-length [] at queue is in omega (arith, lt))
+drop-here (first ∷ queues) zero queue is =
+    ap (λ (q : QueueId). q.0 ∷ numbers_of queues) (let e : Some first ≡ Some queue = is in same first queue e)
+  where
+    same : (x y : QueueId) → Some x ≡ Some y → x ≡ y
+    same x y e = cc
+drop-here (first ∷ queues) (suc at) queue is =
+    drop-here queues at queue is
+    ∙ ap (λ (m : ℕ). queue.0 ∷ drop m (numbers_of (first ∷ queues)))
+    (let e : suc (at + 1) ≡ suc at + 1 = omega arith in e)
+
+long-numbers : (queues : List QueueId) → length (numbers_of queues) ≡ length queues
+long-numbers [] = refl
+long-numbers (queue ∷ queues) = ap suc (long-numbers queues)
+
+routed-some : (session : ℕ) (body : Unstamped) (places : List ℕ) (c : Cluster) (events : List ClusterEvent)
+    → 0 < length places → ForEach places (IsGiven session body) c events → IsRouted session body places c events
+routed-some session body [] c events some given = absurd (omega (arith, some))
+routed-some session body (place ∷ places) c events some given = given
+
+routed-none : (session : ℕ) (body : Unstamped) (places : List ℕ) (c : Cluster) (events : List ClusterEvent)
+    → length places ≡ 0 → Is SaysUnroutable c events → IsRouted session body places c events
+routed-none session body [] c events none said = said
+routed-none session body (place ∷ places) c events none said = absurd (omega (arith, none))
+
+module _ {D : Type 0} {tells : D → Bool} {past : D → List Disk} where
+  ended-places : (setup : Setup) (c : Cluster) (held : Held D) (session : ℕ) (b : Bool) → Stands tells past setup held c
+      → (standings held.sessions session).ended ≡ b → (a n : ℕ) → a + n ≤ length held.queues.items
+      → (n ≡ 0 → b ≡ false)
+      → list_any (λ (place : ℕ). is_ended session (c.queue place)) (range_with_len (a + 1) n) ≡ b
+  ended-places setup c held session b st is a zero within none = sym (none refl)
+  ended-places setup c held session true st is a (suc n) within none =
+      ap (λ (b : Bool). b || list_any (λ (place : ℕ). is_ended session (c.queue place)) (range_with_len (a + 1 + 1) n))
+      (ended-at setup c held a session st (omega (arith, within)) ∙ is)
+  ended-places setup c held session false st is a (suc n) within none =
+      or_from (is_ended session (c.queue (a + 1)))
+      (list_any (λ (place : ℕ). is_ended session (c.queue place)) (range_with_len (a + 1 + 1) n))
+      (ended-at setup c held a session st (omega (arith, within)) ∙ is)
+      (ended-places setup c held session false st is (a + 1) n (omega (arith, within)) (λ e. refl))
+
+  some-ended : (setup : Setup) (c : Cluster) (held : Held D) (session : ℕ) (b : Bool) → Stands tells past setup held c
+      → (standings held.sessions session).ended ≡ b → (length held.queues.items ≡ 0 → b ≡ false)
+      → some_queue setup (is_ended session) c ≡ b
+  some-ended setup c held session b st is none =
+      ap (list_any (λ (place : ℕ). is_ended session (c.queue place))) st.set_up.places
+      ∙ ended-places setup c held session b st is 0 (length held.queues.items) (omega arith) none
+
+module _ {D : Type 0} {tells : D → Bool} {past : D → List Disk} {faults : D → ℕ} where
+  -- the queues are there still
+  pub queues-after : {Rule : Setup → Cluster → List ClusterEvent → Type 0} {old new : Held D} {before later : List ℕ}
+      (queues : List QueueId) → CanServe tells past old → Served tells past faults Rule old new before later
+      → All (λ (queue : QueueId). IsQueueAt queue old) queues → All (λ (queue : QueueId). IsQueueAt queue new) queues
+  queues-after queues can served all k d lt =
+      let is = all k d lt in
+      let many = (many-after can served).0 in
+      (is.0, (let le = is.1 in omega (arith, le, many)))
+
+  pub gives-none : (session : ℕ) (body : Unstamped) (places : List ℕ) (held : Held D) (text : List ℕ)
+      → Served tells past faults (GivesTo session body places 0) held held text text
+  gives-none session body places held text =
+      each-start (λ setup. places) (λ setup. IsGiven session body) held text
+
+  pub gives-more : (session : ℕ) (body : Unstamped) (queues : List QueueId) (at : ℕ) (queue : QueueId)
+      {old mid new : Held D} {before middle later : List ℕ} → slice_get queues at ≡ Some queue → 0 < queue.0
+      → Served tells past faults (GivesTo session body (numbers_of queues) at) old mid before middle
+      → Served tells past faults (λ setup. IsGiven session body ((queue.0 - 1) + 1)) mid new middle later
+      → Served tells past faults (GivesTo session body (numbers_of queues) (at + 1)) old new before later
+  gives-more session body queues at queue here low first second =
+      each-more (λ setup. numbers_of queues) (λ setup. IsGiven session body) at queue.0
+      (λ setup c st. drop-here queues at queue here) first
+      (at-queue (λ k setup. IsGiven session body k) queue low second)
+
+  -- a copy of it
+  pub gives-copy : (session : ℕ) (own body : Unstamped) (queues : List QueueId) (at : ℕ) (queue : QueueId)
+      {old mid new : Held D} {before middle later : List ℕ} → own ≡ body → slice_get queues at ≡ Some queue → 0 < queue.0
+      → Served tells past faults (GivesTo session body (numbers_of queues) at) old mid before middle
+      → Served tells past faults (λ setup. IsGiven session own ((queue.0 - 1) + 1)) mid new middle later
+      → Served tells past faults (GivesTo session body (numbers_of queues) (at + 1)) old new before later
+  gives-copy session own body queues at queue {mid = mid} {new = new} {middle = middle} {later = later} same here low first second =
+      gives-more session body queues at queue here low first
+      (subst (λ (b : Unstamped). Served tells past faults (λ setup. IsGiven session b ((queue.0 - 1) + 1)) mid new middle later)
+      same second)
+
+  -- all of them
+  pub gives-all : (session : ℕ) (body : Unstamped) (queues : List QueueId) (at : ℕ) (queue : QueueId)
+      {old mid new : Held D} {before middle later : List ℕ} → slice_get queues at ≡ Some queue → 0 < queue.0
+      → length queues ≤ at + 1
+      → Served tells past faults (GivesTo session body (numbers_of queues) at) old mid before middle
+      → Served tells past faults (λ setup. IsGiven session body ((queue.0 - 1) + 1)) mid new middle later
+      → Served tells past faults (λ setup. IsRouted session body (numbers_of queues)) old new before later
+  gives-all session body queues at queue here low le first second =
+      served-weaker
+      (each-end (λ setup. numbers_of queues) (λ setup. IsGiven session body) (at + 1)
+      (λ setup c st. drop-past (numbers_of queues) (at + 1)
+      (let long = long-numbers queues in omega (arith, long, le)))
+      (gives-more session body queues at queue here low first second))
+      (λ setup c events r st given. routed-some session body (numbers_of queues) c events
+      (let lt = within-length queues at queue here in let long = long-numbers queues in omega (arith, lt, long)) given)
+
+  pub unrouted : (session : ℕ) (body : Unstamped) (queues : List QueueId) {old new : Held D} {before later : List ℕ}
+      → length queues ≡ 0 → Served tells past faults (λ setup. Is SaysUnroutable) old new before later
+      → Served tells past faults (λ setup. IsRouted session body (numbers_of queues)) old new before later
+  unrouted session body queues none served =
+      served-weaker served
+      (λ setup c events r st said. routed-none session body (numbers_of queues) c events (long-numbers queues ∙ none) said)
+
+  -- ---- it is given up
+
+  pub gives-gave_up : (session : ℕ) (body : Unstamped) (queues : List QueueId) (at : ℕ) (queue : QueueId)
+      {old mid new : Held D} {before middle : List ℕ} {memory : Memory} → slice_get queues at ≡ Some queue
+      → 0 < queue.0 → Served tells past faults (GivesTo session body (numbers_of queues) at) old mid before middle
+      → GaveUp tells past faults (λ setup. IsGiven session body ((queue.0 - 1) + 1)) mid new memory
+      → GaveUp tells past faults (λ setup. ForEach (numbers_of queues) (IsGiven session body)) old new memory
+  gives-gave_up session body queues at queue here low first second =
+      gave_up-each (λ setup. numbers_of queues) (λ setup. IsGiven session body) at queue.0
+      (λ setup place. total-given session body place) (λ setup c st. drop-here queues at queue here) first
+      (at-queue_gave_up (λ k setup. IsGiven session body k) queue low second)
+
+  pub gives-copy_gave_up : (session : ℕ) (own body : Unstamped) (queues : List QueueId) (at : ℕ) (queue : QueueId)
+      {old mid new : Held D} {before middle : List ℕ} {memory : Memory} → own ≡ body → slice_get queues at ≡ Some queue
+      → 0 < queue.0 → Served tells past faults (GivesTo session body (numbers_of queues) at) old mid before middle
+      → GaveUp tells past faults (λ setup. IsGiven session own ((queue.0 - 1) + 1)) mid new memory
+      → GaveUp tells past faults (λ setup. ForEach (numbers_of queues) (IsGiven session body)) old new memory
+  gives-copy_gave_up session own body queues at queue {mid = mid} {new = new} {memory = memory} same here low first second =
+      gives-gave_up session body queues at queue here low first
+      (subst (λ (b : Unstamped). GaveUp tells past faults (λ setup. IsGiven session b ((queue.0 - 1) + 1)) mid new memory)
+      same second)
+
+  pub gives-wants : (session : ℕ) (body : Unstamped) (places : List ℕ) (at : ℕ) {old mid new : Held D}
+      {before middle : List ℕ} {memory : Memory} → new.nodes ≡ mid.nodes → memory ≡ Want
+      → Served tells past faults (GivesTo session body places at) old mid before middle
+      → GaveUp tells past faults (λ setup. ForEach places (IsGiven session body)) old new memory
+  gives-wants session body places at {mid = mid} {new = new} {memory = memory} nodes want first =
+      gave_up-leads {Rest = λ setup. ForEach (drop at places) (IsGiven session body)}
+      {Whole = λ setup. ForEach places (IsGiven session body)} first (gave_up-same mid new memory nodes want)
+
+  pub routed-gave_up : (session : ℕ) (body : Unstamped) (queues : List QueueId) {old new : Held D} {memory : Memory}
+      → 0 < length queues
+      → GaveUp tells past faults (λ setup. ForEach (numbers_of queues) (IsGiven session body)) old new memory
+      → GaveUp tells past faults (λ setup. IsRouted session body (numbers_of queues)) old new memory
+  routed-gave_up session body queues some given =
+      gave_up-weaker
+      (λ setup c events r st allowed. routed-some session body (numbers_of queues) c events
+      (let long = long-numbers queues in omega (arith, some, long)) allowed) given
+
+  -- ---- commands that are sent again
+
+  -- there is no queue
+  pub resends-none : (session : ℕ) (held : Held D) (text : List ℕ) → length held.queues.items ≡ 0
+      → Served tells past faults (λ setup. IsResend setup session) held held text text
+  resends-none session held text none =
+      served-nothing held text
+      (λ setup c r st. rule-else (some_queue setup (is_ended session) c) (Is SaysEnded)
+      (ForEach setup.places (λ place. Is (At place (Resends session)))) c []
+      (ap (list_any (λ (place : ℕ). is_ended session (c.queue place)))
+      (st.set_up.places ∙ ap (range_with_len 1) none))
+      (subst (λ (l : List ℕ). ForEach l (λ place. Is (At place (Resends session))) c [])
+      (sym (st.set_up.places ∙ ap (range_with_len 1) none)) refl))
+
+  pub resends-ended : (session : ℕ) {old new : Held D} {before later : List ℕ}
+      → true ≡ (standings old.sessions session).ended → 0 < length old.queues.items
+      → Served tells past faults (λ setup. Is SaysEnded) old new before later
+      → Served tells past faults (λ setup. IsResend setup session) old new before later
+  resends-ended session {old = old} ended some served =
+      served-weaker served
+      (λ setup c events r st allowed. rule-if (some_queue setup (is_ended session) c) (Is SaysEnded)
+      (ForEach setup.places (λ place. Is (At place (Resends session)))) c events
+      (some-ended setup c old session true st (sym ended) (λ none. absurd (omega (arith, some, none)))) allowed)
+
+  pub resends-each : (session : ℕ) {old new : Held D} {before later : List ℕ}
+      → false ≡ (standings old.sessions session).ended
+      → Served tells past faults (λ setup. ForEach setup.places (λ place. Is (At place (Resends session)))) old new before
+      later
+      → Served tells past faults (λ setup. IsResend setup session) old new before later
+  resends-each session {old = old} not' served =
+      served-weaker served
+      (λ setup c events r st allowed. rule-else (some_queue setup (is_ended session) c) (Is SaysEnded)
+      (ForEach setup.places (λ place. Is (At place (Resends session)))) c events
+      (some-ended setup c old session false st (sym not') (λ none. refl)) allowed)
+
+  pub resends-gave_up : (session : ℕ) {old new : Held D} {memory : Memory}
+      → false ≡ (standings old.sessions session).ended
+      → GaveUp tells past faults (λ setup. ForEach setup.places (λ place. Is (At place (Resends session)))) old new memory
+      → GaveUp tells past faults (λ setup. IsResend setup session) old new memory
+  resends-gave_up session {old = old} not' given =
+      gave_up-weaker
+      (λ setup c events r st allowed. rule-else (some_queue setup (is_ended session) c) (Is SaysEnded)
+      (ForEach setup.places (λ place. Is (At place (Resends session)))) c events
+      (some-ended setup c old session false st (sym not') (λ none. refl)) allowed) given

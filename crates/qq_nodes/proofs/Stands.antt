@@ -1,0 +1,420 @@
+-- Which cluster is stood for after a call, and what the call has served.
+use Rattle.std.proofs.Common.{◌≡◌, ◌≢◌, ◌<◌, ◌≤◌, ◌+◌, ◌-◌, ℕ, Bool, true, false, ◌⊎◌, List, [], ◌∷◌, ◌++◌, Option, Some, None, length, get_or, drop, refl, sym, ap, ◌∙◌, subst, inl, inr, arith, append_assoc, append-nil}
+use Rattle.std.specs.Global.{Vec}
+use Rattle.std.specs.Prelude.{slice_get}
+use Rattle.std.specs.List.{AllByRecursion}
+use Rattle.qq_base.specs.declared.memory.Memory.{Memory}
+use Rattle.qq_base.specs.declared.memory.Memory.TheVariants.{Spent, Want}
+use Rattle.qq_disk.specs.Disk.{Disk}
+use Rattle.qq_cluster.specs.Cluster.{Cluster, ClusterEvent, Setup, cluster_after, cluster_happens}
+use Rattle.qq_cluster.specs.Rules.{ForEach, IsNothing, Then, is_quiet}
+use Rattle.qq_cluster.specs.Texts.{text_of}
+use Rattle.qq_cluster_laws.specs.Linked.{IsReached}
+use Rattle.qq_cluster_laws.specs.Serves.{GivesUp, Leads, Seen, Serves}
+use Rattle.qq_cluster_laws.specs.Unseen.{seen_by}
+use Rattle.qq_cluster_laws.proofs.Reached.{after-both, reached-after}
+use Rattle.qq_cluster_laws.proofs.Serves.{gives_up-behind, gives_up-same, leads-more, leads-start, serves-both, serves-nothing, serves-unseen, serves-weaker}
+use Rattle.qq_nodes.specs.Active.{AreRising}
+use Rattle.qq_nodes.specs.Nodes.{Begins, CanServe, EndsAt, GaveUp, LeadsIn, Served, Stands, node_at, nodes_in, places_in, seen, seen_in}
+use Rattle.qq_nodes.specs.declared.node.Node.{Node}
+use Rattle.qq_nodes.specs.declared.nodes.Nodes.{Nodes as Held}
+use Rattle.qq_nodes.proofs.Total.{Allowed, Total, total-each}
+use Rattle.qq_nodes.proofs.Walks.{all-get, next-above, next-end, next-most, none-before, none-between, none-left, place-at, skip}
+
+-- a rule for a cluster of this setup
+abbrev pub Ruling : Type 1
+Ruling = Setup → Cluster → List ClusterEvent → Type 0
+
+-- where the nodes are the same a clause sees the same of their disks
+pub same-seen : {D : Type 0} (tells : D → Bool) (past : D → List Disk) (faults : D → ℕ) (old new : Held D)
+    → new.nodes ≡ old.nodes → seen tells past faults old ≡ seen tells past faults new
+same-seen {D = D} tells past faults old new nodes =
+    ap (λ (l : Vec (Node D)). λ (k : ℕ). seen_in tells past faults (node_at k l.items)) (sym nodes)
+
+-- a rule that asks for nothing at a quiet queue
+abbrev pub PassesQuiet : {D : Type 0} → (D → Bool) → (D → List Disk)
+    → (Setup → ℕ → Cluster → List ClusterEvent → Type 0) → Held D → Type 0
+PassesQuiet tells past Each held =
+    (setup : Setup) (c : Cluster) (place : ℕ) → IsReached setup c → Stands tells past setup held c
+    → is_quiet setup c.up (c.queue place) ≡ true → Each setup place c []
+
+-- the same call by another rule that allows its events
+pub serves-means : {setup : Setup} {c : Cluster} {First More : List ClusterEvent → Type 0} {Stands : Cluster → Type 0}
+    {a b : ℕ → Seen} {before later : List ℕ} (s : Serves setup c First Stands a b before later) → More s.did.events
+    → Serves setup c More Stands a b before later
+serves-means s more = record {
+  did = record {
+    events = s.did.events;
+    means = more;
+    stands = s.did.stands;
+    says = s.did.says;
+    told = s.did.told;
+    moments = s.did.moments;
+  };
+  no_crash = s.no_crash;
+  rises = s.rises;
+  cause = s.cause;
+}
+
+-- what follows nothing
+after-none : (Rule : Ruling) (setup : Setup) (c : Cluster) (events others : List ClusterEvent) → events ≡ []
+    → Rule setup (cluster_after c events) others → Rule setup c (events ++ others)
+after-none Rule setup c events others one other =
+    subst (λ (l : List ClusterEvent). Rule setup c (l ++ others)) (sym one)
+    (subst (λ (l : List ClusterEvent). Rule setup (cluster_after c l) others) one other)
+
+module _ {D : Type 0} {tells : D → Bool} {past : D → List Disk} {faults : D → ℕ} where
+  -- ---- calls, one after the other
+
+  pub can-after : {Rule : Ruling} {old new : Held D} {before later : List ℕ} → CanServe tells past old
+      → Served tells past faults Rule old new before later → CanServe tells past new
+  can-after can served =
+      let s = served.serves can.0 can.1 can.2 can.3 in
+      (can.0, cluster_after can.1 s.did.events, reached-after can.0 can.1 s.did.events can.2, s.did.stands)
+
+  -- what the first and then the second allow is what the whole allows
+  pub served-both : {First Second Whole : Ruling} {old mid new : Held D} {before middle later : List ℕ}
+      → Served tells past faults First old mid before middle → Served tells past faults Second mid new middle later
+      → ((setup : Setup) (c : Cluster) (events others : List ClusterEvent) → First setup c events
+      → Second setup (cluster_after c events) others → Whole setup c (events ++ others))
+      → Served tells past faults Whole old new before later
+  served-both {First = First} {Second = Second} {Whole = Whole} {old = old} {mid = mid} {new = new} {before = before} {middle = middle} {later = later} first second join = record {
+    serves = λ setup c r st. (let s = first.serves setup c r st in
+        let d : Cluster = cluster_after c s.did.events in
+        let t = second.serves setup d (reached-after setup c s.did.events r) s.did.stands in
+        serves-both setup c (First setup c) (Second setup d) (Whole setup c) (Stands tells past setup mid)
+        (Stands tells past setup new) (seen tells past faults old) (seen tells past faults mid)
+        (seen tells past faults new) before middle later s t (join setup c s.did.events t.did.events s.did.means t.did.means));
+  }
+
+  pub served-then : {First Second : Ruling} {old mid new : Held D} {before middle later : List ℕ}
+      → Served tells past faults First old mid before middle → Served tells past faults Second mid new middle later
+      → Served tells past faults (λ setup. Then (First setup) (Second setup)) old new before later
+  served-then {First = First} {Second = Second} first second =
+      served-both {Whole = λ setup. Then (First setup) (Second setup)} first second
+      (λ setup c events others one other.
+      record { early = events; late = others; is = refl; first = one; second = other })
+
+  -- and then nothing
+  pub served-same : {Rule : Ruling} {old mid new : Held D} {before middle later : List ℕ}
+      → Served tells past faults Rule old mid before middle
+      → Served tells past faults (λ setup. IsNothing) mid new middle later
+      → Served tells past faults Rule old new before later
+  served-same {Rule = Rule} first second =
+      served-both {Whole = Rule} first second
+      (λ setup c events others one other. subst (Rule setup c)
+      (sym (append-nil events) ∙ ap (λ (l : List ClusterEvent). events ++ l) (sym other)) one)
+
+  -- nothing, and then the rest
+  pub after-nothing : {Rule : Ruling} {old mid new : Held D} {before middle later : List ℕ}
+      → Served tells past faults (λ setup. IsNothing) old mid before middle
+      → Served tells past faults Rule mid new middle later → Served tells past faults Rule old new before later
+  after-nothing {Rule = Rule} first second =
+      served-both {Whole = Rule} first second
+      (λ setup c events others one other. after-none Rule setup c events others one other)
+
+  pub served-weaker : {Rule More : Ruling} {old new : Held D} {before later : List ℕ}
+      → Served tells past faults Rule old new before later
+      → ((setup : Setup) (c : Cluster) (events : List ClusterEvent) → IsReached setup c → Stands tells past setup old c
+      → Rule setup c events → More setup c events) → Served tells past faults More old new before later
+  served-weaker {Rule = Rule} {More = More} {old = old} {new = new} {before = before} {later = later} served more = record {
+    serves = λ setup c r st. serves-weaker setup c (Rule setup c) (More setup c) (Stands tells past setup new)
+        (Stands tells past setup new) (seen tells past faults old) (seen tells past faults new) before later
+        (λ events allowed. more setup c events r st allowed) (λ d is. is) (served.serves setup c r st);
+  }
+
+  pub served-nothing : {Rule : Ruling} (held : Held D) (text : List ℕ)
+      → ((setup : Setup) (c : Cluster) → IsReached setup c → Stands tells past setup held c → Rule setup c [])
+      → Served tells past faults Rule held held text text
+  served-nothing {Rule = Rule} held text allowed = record {
+    serves = λ setup c r st. serves-nothing setup c (Rule setup c) (Stands tells past setup held)
+        (seen tells past faults held) text (allowed setup c r st) st;
+  }
+
+  -- ---- calls that are given up
+
+  -- the disks are as they were, and there was no memory
+  pub gave_up-same : {Rule : Ruling} (old new : Held D) (memory : Memory) → new.nodes ≡ old.nodes → memory ≡ Want
+      → GaveUp tells past faults Rule old new memory
+  gave_up-same old new memory nodes want = record {
+    gives_up = λ setup c r st. subst (λ (b : ℕ → Seen). GivesUp setup c (seen tells past faults old) b)
+        (same-seen tells past faults old new nodes)
+        (gives_up-same setup c (seen tells past faults old));
+    spent = λ number is. absurd (let e : Want ≡ Spent number = sym want ∙ is in cc);
+  }
+
+  -- what may begin what one rule allows may begin what another does
+  pub gave_up-by : {First Whole : Ruling} {old new : Held D} {memory : Memory}
+      → ((setup : Setup) (c : Cluster) (early : List ClusterEvent) → IsReached setup c → Stands tells past setup old c
+      → Begins (First setup) c early → Begins (Whole setup) c early)
+      → GaveUp tells past faults First old new memory → GaveUp tells past faults Whole old new memory
+  gave_up-by {First = First} {Whole = Whole} {new = new} begins first = record {
+    gives_up = first.gives_up;
+    spent = λ number is setup c r st. (let e : EndsAt tells past setup (First setup) new c number =
+        first.spent number is setup c r st in
+        record {
+          early = e.early;
+          begins = begins setup c e.early r st e.begins;
+          mid = e.mid;
+          stands = e.stands;
+          at = e.at;
+          end = e.end;
+        });
+  }
+
+  -- what one rule allows another does
+  pub gave_up-weaker : {First Whole : Ruling} {old new : Held D} {memory : Memory}
+      → ((setup : Setup) (c : Cluster) (events : List ClusterEvent) → IsReached setup c → Stands tells past setup old c
+      → First setup c events → Whole setup c events)
+      → GaveUp tells past faults First old new memory → GaveUp tells past faults Whole old new memory
+  gave_up-weaker whole first =
+      gave_up-by (λ setup c early r st b. record {
+        rest = b.rest;
+        allowed = whole setup c (early ++ b.rest) r st b.allowed;
+      }) first
+
+  -- in the first of two
+  pub gave_up-first : {First Second : Ruling} {old new : Held D} {memory : Memory} → ((setup : Setup) → Total (Second setup))
+      → GaveUp tells past faults First old new memory
+      → GaveUp tells past faults (λ setup. Then (First setup) (Second setup)) old new memory
+  gave_up-first {First = First} {Second = Second} total first =
+      gave_up-by (λ setup c early r st b.
+      (let more : Allowed (Second setup) (cluster_after c (early ++ b.rest)) =
+      total setup (cluster_after c (early ++ b.rest)) in
+      record {
+        rest = b.rest ++ more.0;
+        allowed = record {
+          early = early ++ b.rest;
+          late = more.0;
+          is = sym (append_assoc early b.rest more.0);
+          first = b.allowed;
+          second = more.1;
+        };
+      })) first
+
+  -- after a call that was served
+  pub gave_up-after : {First Second Whole : Ruling} {old mid new : Held D} {before middle : List ℕ} {memory : Memory}
+      → ((setup : Setup) (c : Cluster) (events others : List ClusterEvent) → First setup c events
+      → Second setup (cluster_after c events) others → Whole setup c (events ++ others))
+      → Served tells past faults First old mid before middle → GaveUp tells past faults Second mid new memory
+      → GaveUp tells past faults Whole old new memory
+  gave_up-after {First = First} {Second = Second} {Whole = Whole} {old = old} {mid = mid} {new = new} {before = before} {middle = middle} join first second = record {
+    gives_up = λ setup c r st. (let s = first.serves setup c r st in
+        gives_up-behind setup c (First setup c) (Stands tells past setup mid) (seen tells past faults old)
+        (seen tells past faults mid) (seen tells past faults new) before middle s
+        (second.gives_up setup (cluster_after c s.did.events) (reached-after setup c s.did.events r) s.did.stands));
+    spent = λ number is setup c r st. (let s = first.serves setup c r st in
+        let events : List ClusterEvent = s.did.events in
+        let d : Cluster = cluster_after c events in
+        let e : EndsAt tells past setup (Second setup) new d number =
+        second.spent number is setup d (reached-after setup c events r) s.did.stands in
+        record {
+          early = events ++ e.early;
+          begins = record {
+            rest = e.begins.rest;
+            allowed = subst (Whole setup c) (sym (append_assoc events e.early e.begins.rest))
+                (join setup c events (e.early ++ e.begins.rest) s.did.means e.begins.allowed);
+          };
+          mid = e.mid;
+          stands = subst (λ (b : Cluster). Stands tells past setup e.mid b) (sym (after-both c events e.early)) e.stands;
+          at = e.at;
+          end = e.end;
+        });
+  }
+
+  -- in the second of two
+  pub gave_up-second : {First Second : Ruling} {old mid new : Held D} {before middle : List ℕ} {memory : Memory}
+      → Served tells past faults First old mid before middle → GaveUp tells past faults Second mid new memory
+      → GaveUp tells past faults (λ setup. Then (First setup) (Second setup)) old new memory
+  gave_up-second {First = First} {Second = Second} first second =
+      gave_up-after {Whole = λ setup. Then (First setup) (Second setup)}
+      (λ setup c events others one other.
+      record { early = events; late = others; is = refl; first = one; second = other }) first second
+
+  -- after nothing
+  pub gave_up-nothing : {Rule : Ruling} {old mid new : Held D} {before middle : List ℕ} {memory : Memory}
+      → Served tells past faults (λ setup. IsNothing) old mid before middle
+      → GaveUp tells past faults Rule mid new memory → GaveUp tells past faults Rule old new memory
+  gave_up-nothing {Rule = Rule} first second =
+      gave_up-after {Whole = Rule} (λ setup c events others one other. after-none Rule setup c events others one other)
+      first second
+
+  -- within a loop
+  pub gave_up-leads : {Rest Whole : Ruling} {old mid new : Held D} {before middle : List ℕ} {memory : Memory}
+      → Served tells past faults (λ setup. Leads (Rest setup) (Whole setup)) old mid before middle
+      → GaveUp tells past faults Rest mid new memory → GaveUp tells past faults Whole old new memory
+  gave_up-leads {Rest = Rest} {Whole = Whole} first second =
+      gave_up-after {Whole = Whole} (λ setup c events others one other. one others other) first second
+
+  -- the loop's next item
+  pub gave_up-each : (list : Setup → List ℕ) (Each : Setup → ℕ → Cluster → List ClusterEvent → Type 0)
+      {old mid new : Held D} {before middle : List ℕ} {memory : Memory} (at x : ℕ)
+      → ((setup : Setup) (place : ℕ) → Total (Each setup place))
+      → ((setup : Setup) (c : Cluster) → Stands tells past setup mid c
+      → drop at (list setup) ≡ x ∷ drop (at + 1) (list setup))
+      → Served tells past faults (LeadsIn list at Each) old mid before middle
+      → GaveUp tells past faults (λ setup. Each setup x) mid new memory
+      → GaveUp tells past faults (λ setup. ForEach (list setup) (Each setup)) old new memory
+  gave_up-each list Each {memory = memory} at x total here first second =
+      gave_up-leads {Rest = λ setup. ForEach (drop at (list setup)) (Each setup)} {Whole = λ setup. ForEach (list setup) (Each setup)} first
+      (gave_up-by (λ setup c early r st b.
+      subst (λ (l : List ℕ). Begins (ForEach l (Each setup)) c early) (sym (here setup c st)) b)
+      (gave_up-first {First = λ setup. Each setup x} {Second = λ setup. ForEach (drop (at + 1) (list setup)) (Each setup)}
+      (λ setup. total-each (drop (at + 1) (list setup)) (Each setup) (total setup)) second))
+
+  -- ---- single events
+
+  -- nothing happens, and they stand for what they stood for
+  pub served-still : {Rule : Ruling} (old new : Held D) (text : List ℕ) → new.nodes ≡ old.nodes
+      → ((setup : Setup) (c : Cluster) → IsReached setup c → Stands tells past setup old c
+      → Rule setup c [] × Stands tells past setup new c)
+      → Served tells past faults Rule old new text text
+  served-still {Rule = Rule} old new text nodes still = record {
+    serves = λ setup c r st. (let both = still setup c r st in
+        subst (λ (b : ℕ → Seen). Serves setup c (Rule setup c) (Stands tells past setup new)
+        (seen tells past faults old) b text text) (same-seen tells past faults old new nodes)
+        (serves-nothing setup c (Rule setup c) (Stands tells past setup new) (seen tells past faults old) text both.0
+        both.1));
+  }
+
+  -- an event that no node's log sees
+  pub served-unseen : {Rule : Ruling} (event : ClusterEvent) (old new : Held D) (before later : List ℕ)
+      → seen_by event ≡ None → new.nodes ≡ old.nodes
+      → ((setup : Setup) (c : Cluster) → IsReached setup c → Stands tells past setup old c
+      → Rule setup c (event ∷ []) × Stands tells past setup new (cluster_happens c event)
+      × (later ≡ before ++ text_of setup c (event ∷ [])))
+      → Served tells past faults Rule old new before later
+  served-unseen {Rule = Rule} event old new before later unseen nodes does = record {
+    serves = λ setup c r st. (let d = does setup c r st in
+        subst (λ (b : ℕ → Seen). Serves setup c (Rule setup c) (Stands tells past setup new)
+        (seen tells past faults old) b before later) (same-seen tells past faults old new nodes)
+        (serves-unseen setup c event (Rule setup c) (Stands tells past setup new) (seen tells past faults old) before
+        later unseen d.0 d.1 d.2));
+  }
+
+  -- ---- loops
+
+  pub each-start : (list : Setup → List ℕ) (Each : Setup → ℕ → Cluster → List ClusterEvent → Type 0) (held : Held D)
+      (text : List ℕ) → Served tells past faults (LeadsIn list 0 Each) held held text text
+  each-start list Each held text =
+      served-nothing held text (λ setup c r st. leads-start (ForEach (list setup) (Each setup)) c)
+
+  -- one more is served
+  pub each-more : (list : Setup → List ℕ) (Each : Setup → ℕ → Cluster → List ClusterEvent → Type 0)
+      {old mid new : Held D} {before middle later : List ℕ} (at x : ℕ)
+      → ((setup : Setup) (c : Cluster) → Stands tells past setup mid c
+      → drop at (list setup) ≡ x ∷ drop (at + 1) (list setup))
+      → Served tells past faults (LeadsIn list at Each) old mid before middle
+      → Served tells past faults (λ setup. Each setup x) mid new middle later
+      → Served tells past faults (LeadsIn list (at + 1) Each) old new before later
+  each-more list Each {old = old} {mid = mid} {new = new} {before = before} {middle = middle} {later = later} at x here first second = record {
+    serves = λ setup c r st. (let s = first.serves setup c r st in
+        let d : Cluster = cluster_after c s.did.events in
+        let t = second.serves setup d (reached-after setup c s.did.events r) s.did.stands in
+        serves-both setup c (LeadsIn list at Each setup c) (Each setup x d) (LeadsIn list (at + 1) Each setup c)
+        (Stands tells past setup mid) (Stands tells past setup new) (seen tells past faults old)
+        (seen tells past faults mid) (seen tells past faults new) before middle later s t
+        (leads-more (ForEach (drop at (list setup)) (Each setup)) (ForEach (drop (at + 1) (list setup)) (Each setup))
+        (ForEach (list setup) (Each setup)) c s.did.events t.did.events s.did.means
+        (λ late allowed. subst (λ (l : List ℕ). ForEach l (Each setup) d (t.did.events ++ late))
+        (sym (here setup d s.did.stands))
+        (record { early = t.did.events; late = late; is = refl; first = t.did.means; second = allowed }))));
+  }
+
+  -- all of them
+  pub each-end : (list : Setup → List ℕ) (Each : Setup → ℕ → Cluster → List ClusterEvent → Type 0) {old new : Held D}
+      {before later : List ℕ} (at : ℕ)
+      → ((setup : Setup) (c : Cluster) → Stands tells past setup new c → drop at (list setup) ≡ [])
+      → Served tells past faults (LeadsIn list at Each) old new before later
+      → Served tells past faults (λ setup. ForEach (list setup) (Each setup)) old new before later
+  each-end list Each {old = old} {new = new} {before = before} {later = later} at past_all served = record {
+    serves = λ setup c r st. (let s = served.serves setup c r st in
+        let d : Cluster = cluster_after c s.did.events in
+        serves-means s (subst (ForEach (list setup) (Each setup) c) (append-nil s.did.events)
+        (s.did.means [] (subst (λ (l : List ℕ). ForEach l (Each setup) d []) (sym (past_all setup d s.did.stands)) refl))));
+  }
+
+  -- ---- loops over the places that are active
+
+  -- places at which nothing has to happen are passed over
+  pub each-skip : (Each : Setup → ℕ → Cluster → List ClusterEvent → Type 0) {old new : Held D} {before later : List ℕ}
+      (from to : ℕ) → from ≤ to → to ≤ length new.queues.items
+      → ((setup : Setup) (c : Cluster) → IsReached setup c → Stands tells past setup new c → (at : ℕ) → from ≤ at → at < to
+      → Each setup (at + 1) c []) → Served tells past faults (LeadsIn places_in from Each) old new before later
+      → Served tells past faults (LeadsIn places_in to Each) old new before later
+  each-skip Each {old = old} {new = new} {before = before} {later = later} from to low high quiet served = record {
+    serves = λ setup c r st. (let s = served.serves setup c r st in
+        let d : Cluster = cluster_after c s.did.events in
+        serves-means s (λ late allowed. s.did.means late (skip (Each setup) setup.places (length new.queues.items) d late
+        s.did.stands.set_up.places (to - from) from to (omega (arith, low)) high
+        (λ at least most. quiet setup d (reached-after setup c s.did.events r) s.did.stands at least most) allowed)));
+  }
+
+  -- before the first active place
+  pub active-start : (Each : Setup → ℕ → Cluster → List ClusterEvent → Type 0) (held : Held D) (text : List ℕ)
+      → AreRising held.active → PassesQuiet tells past Each held → AllByRecursion (λ (at : ℕ). at < length held.queues.items) held.active
+      → Served tells past faults (LeadsIn places_in (get_or held.active 0 (length held.queues.items)) Each) held held
+      text text
+  active-start Each held text rising passes within =
+      each-skip Each 0 (get_or held.active 0 (length held.queues.items)) (omega arith)
+      (next-most held.active (length held.queues.items) 0 within)
+      (λ setup c r st at low high. passes setup c (at + 1) r st
+      (st.quiet at (let most = next-most held.active (length held.queues.items) 0 within in omega (arith, high, most))
+      (none-before held.active (length held.queues.items) at rising high)))
+      (each-start places_in Each held text)
+
+  -- from one active place to the next
+  pub active-more : (Each : Setup → ℕ → Cluster → List ClusterEvent → Type 0) {old mid new : Held D}
+      {before middle later : List ℕ} (i at : ℕ) → PassesQuiet tells past Each new → AreRising new.active → new.active ≡ mid.active
+      → length new.queues.items ≡ length mid.queues.items
+      → AllByRecursion (λ (n : ℕ). n < length mid.queues.items) mid.active → i < length mid.active
+      → at ≡ get_or mid.active i (length mid.queues.items)
+      → Served tells past faults (LeadsIn places_in (get_or mid.active i (length mid.queues.items)) Each) old mid before
+      middle
+      → Served tells past faults (λ setup. Each setup (at + 1)) mid new middle later
+      → Served tells past faults (LeadsIn places_in (get_or new.active (i + 1) (length new.queues.items)) Each) old new
+      before later
+  active-more Each {old = old} {mid = mid} {new = new} {before = before} {middle = middle} {later = later} i at passes rising same many within lt is first second =
+      each-skip Each (at + 1) next
+      (next-above new.active n i at rising inside (omega (arith, lt, long)) here)
+      (next-most new.active n (i + 1) inside)
+      (λ setup c r st k low high. passes setup c (k + 1) r st
+      (st.quiet k (let most = next-most new.active n (i + 1) inside in omega (arith, high, most))
+      (none-between new.active n i n k rising (omega (arith, lt, long)) (omega (arith, low, here)) high)))
+      (each-more places_in Each at (at + 1)
+      (λ setup c st. place-at setup.places (length mid.queues.items) at st.set_up.places
+      (let below = all-get (λ (x : ℕ). x < length mid.queues.items) mid.active i (length mid.queues.items) within lt in
+      omega (arith, below, is)))
+      (subst (λ (k : ℕ). Served tells past faults (LeadsIn places_in k Each) old mid before middle) (sym is) first)
+      second)
+    where
+      n : ℕ
+      n = length new.queues.items
+
+      next : ℕ
+      next = get_or new.active (i + 1) n
+
+      long : length new.active ≡ length mid.active
+      long = ap length same
+
+      here : at ≡ get_or new.active i n
+      here =
+          is ∙ ap (λ (l : List ℕ). get_or l i (length mid.queues.items)) (sym same)
+          ∙ ap (λ (m : ℕ). get_or new.active i m) (sym many)
+
+      inside : AllByRecursion (λ (k : ℕ). k < length new.queues.items) new.active
+      inside =
+          subst (λ (m : ℕ). AllByRecursion (λ (k : ℕ). k < m) new.active) (sym many)
+          (subst (AllByRecursion (λ (k : ℕ). k < length mid.queues.items)) (sym same) within)
+
+  -- after the last one
+  pub active-end : (Each : Setup → ℕ → Cluster → List ClusterEvent → Type 0) {old new : Held D} {before later : List ℕ}
+      (i : ℕ) → length new.active ≤ i
+      → Served tells past faults (LeadsIn places_in (get_or new.active i (length new.queues.items)) Each) old new before
+      later
+      → Served tells past faults (λ setup. ForEach setup.places (Each setup)) old new before later
+  active-end Each {old = old} {new = new} {before = before} {later = later} i le served =
+      each-end places_in Each (length new.queues.items)
+      (λ setup c st. none-left setup.places (length new.queues.items) st.set_up.places)
+      (subst (λ (k : ℕ). Served tells past faults (LeadsIn places_in k Each) old new before later)
+      (next-end new.active (length new.queues.items) i le) served)

@@ -1,0 +1,98 @@
+-- Whatever a cluster is, each rule allows something there.
+use Rattle.std.proofs.Common.{◌≡◌, ◌⊎◌, ℕ, zero, suc, Bool, true, false, ◌&&◌, List, [], ◌∷◌, ◌++◌, length, refl, inl, inr}
+use Rattle.std.specs.Prelude.{replicate}
+use Rattle.qq_entry.specs.declared.command.Unstamped.{Unstamped}
+use Rattle.qq_cluster.specs.Cluster.{Cluster, ClusterEvent, Setup, Alike, At, NodeSyncs, NodeWrites, SaysBusy, SaysEnded, SaysUnroutable, cluster_after}
+use Rattle.qq_cluster.specs.Lines.{IsRouted}
+use Rattle.qq_cluster.specs.Queue.{Delivers, Downs, Ends, Notices, Resends, Submits, TellsEnded}
+use Rattle.qq_cluster.specs.Rules.{Rule, ForEach, Is, IsEmptied, IsEnd, IsGiven, IsNodeRound, IsNothing, IsNotice, IsPump, IsPumped, IsResend, IsRound, IsSync, IsSynced, IsWrite, IsWritten, MayRoll, Pumps, Then, if_so, is_ended, is_idle, most_rounds, some_queue, waits_noticed, waits_synced, waits_written}
+
+abbrev pub Allowed : (Cluster → List ClusterEvent → Type 0) → Cluster → Type 0
+Allowed Allows c = (events : List ClusterEvent) × Allows c events
+
+abbrev pub Total : (Cluster → List ClusterEvent → Type 0) → Type 0
+Total Allows = (c : Cluster) → Allowed Allows c
+
+-- ---- how rules are put together
+
+pub total-nothing : Total IsNothing
+total-nothing c = ([], refl)
+
+pub total-is : (event : ClusterEvent) → Total (Is event)
+total-is event c = (event ∷ [], refl)
+
+pub total-then : (First Second : Cluster → List ClusterEvent → Type 0) → Total First → Total Second
+    → Total (Then First Second)
+total-then First Second first second c =
+    let one : Allowed First c = first c in
+    let two : Allowed Second (cluster_after c one.0) = second (cluster_after c one.0) in
+    (one.0 ++ two.0, record { early = one.0; late = two.0; is = refl; first = one.1; second = two.1 })
+
+pub total-if : (b : Bool) (First Second : Cluster → List ClusterEvent → Type 0) (c : Cluster) → Allowed First c
+    → Allowed Second c → Allowed (if_so b First Second) c
+total-if true First Second c first second = first
+total-if false First Second c first second = second
+
+pub total-each : {A : Type 0} (xs : List A) (Each : A → Cluster → List ClusterEvent → Type 0)
+    → ((x : A) → Total (Each x)) → Total (ForEach xs Each)
+total-each [] Each each c = total-nothing c
+total-each (x ∷ xs) Each each c = total-then (Each x) (ForEach xs Each) (each x) (total-each xs Each each) c
+
+-- ---- pumps
+
+pub total-write : (setup : Setup) (k : ℕ) → Total (IsWrite setup k)
+total-write setup k c =
+    total-if (c.up k && some_queue setup (waits_written k) c) (IsWritten k) IsNothing c (NodeWrites k ∷ [], inl refl)
+    (total-nothing c)
+
+pub total-sync : (setup : Setup) (k : ℕ) → Total (IsSync setup k)
+total-sync setup k c =
+    total-if (c.up k) (if_so (some_queue setup (waits_synced k) c) (IsSynced k) (MayRoll k)) IsNothing c
+    (total-if (some_queue setup (waits_synced k) c) (IsSynced k) (MayRoll k) c (NodeSyncs k ∷ [], inl refl)
+    ([], inl refl)) (total-nothing c)
+
+pub total-notice : (k place : ℕ) → Total (IsNotice k place)
+total-notice k place c =
+    total-if (c.up k && waits_noticed k (c.queue place)) (Is (At place (Notices k))) IsNothing c
+    (total-is (At place (Notices k)) c) (total-nothing c)
+
+pub total-notices : (setup : Setup) (k : ℕ) → Total (ForEach setup.places (IsNotice k))
+total-notices setup k = total-each setup.places (IsNotice k) (total-notice k)
+
+pub total-node : (setup : Setup) (k : ℕ) → Total (IsNodeRound setup k)
+total-node setup k =
+    total-then (IsWrite setup k) (Then (IsSync setup k) (ForEach setup.places (IsNotice k))) (total-write setup k)
+    (total-then (IsSync setup k) (ForEach setup.places (IsNotice k)) (total-sync setup k) (total-notices setup k))
+
+pub total-emptied : (place : ℕ) → Total (IsEmptied place)
+total-emptied place c = (replicate (length (c.queue place).group.bag) (At place (Delivers 0)), refl)
+
+pub total-empties : (setup : Setup) → Total (ForEach setup.places IsEmptied)
+total-empties setup = total-each setup.places IsEmptied total-emptied
+
+pub total-round : (setup : Setup) → Total (IsRound setup)
+total-round setup =
+    total-then (ForEach setup.nodes (IsNodeRound setup)) (ForEach setup.places IsEmptied)
+    (total-each setup.nodes (IsNodeRound setup) (total-node setup)) (total-empties setup)
+
+pub total-pumps : (left : ℕ) (setup : Setup) → Total (Pumps left setup)
+total-pumps zero setup c =
+    total-if (is_idle setup c) IsNothing (Is SaysBusy) c (total-nothing c) (total-is SaysBusy c)
+total-pumps (suc left) setup c =
+    total-if (is_idle setup c) IsNothing (Then (IsRound setup) (Pumps left setup)) c (total-nothing c)
+    (total-then (IsRound setup) (Pumps left setup) (total-round setup) (total-pumps left setup) c)
+
+pub total-pumped : (setup : Setup) → Total (IsPumped setup)
+total-pumped setup c =
+    total-if c.auto (IsPump setup) IsNothing c (total-pumps most_rounds setup c) (total-nothing c)
+
+-- ---- clients
+
+pub total-given : (session : ℕ) (body : Unstamped) (place : ℕ) → Total (IsGiven session body place)
+total-given session body place c =
+    total-if (is_ended session (c.queue place)) (Is (At place (TellsEnded session))) (Is (At place (Submits session body)))
+    c (total-is (At place (TellsEnded session)) c) (total-is (At place (Submits session body)) c)
+
+pub total-downs : (setup : Setup) (session : ℕ) → Total (ForEach setup.places (λ place. Is (At place (Downs session))))
+total-downs setup session =
+    total-each setup.places (λ place. Is (At place (Downs session))) (λ place. total-is (At place (Downs session)))

@@ -1,0 +1,13 @@
+use Rattle.std.proofs.Common.{◌≡◌, get_or, length}
+use Rattle.qq_cluster.specs.Cluster.{Setup}
+use Rattle.qq_cluster.specs.Rules.{IsEmptied}
+use Rattle.qq_nodes.specs.Nodes.{LeadsIn, Served, places_in}
+use Rattle.qq_nodes.proofs.nodes.Nodes.empty_each.Given as goal
+
+-- the messages of the active queues so far were delivered, and between them there are none
+abbrev pub invariant-active : goal.invariant-active
+invariant-active g l =
+    Served g.D.NodeDisk.tells g.D.NodeDisk.past g.D.NodeDisk.faults
+    (LeadsIn places_in (get_or l.self.active l.place (length l.self.queues.items)) (λ (setup : Setup). IsEmptied))
+    l.fn.self l.self l.fn.text.items l.text.items
+    × (l.self.active ≡ l.fn.self.active)

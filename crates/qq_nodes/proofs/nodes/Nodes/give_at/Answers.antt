@@ -1,0 +1,28 @@
+use Rattle.std.proofs.Common.{sym, ◌∙◌}
+use Rattle.std.proofs.lemmas.Result.{IfErr-weaker, on_ok_weaker}
+use Rattle.qq_nodes.proofs.LineRules.{ended-gave_up, gives, gives-ended, submit-gave_up}
+use Rattle.qq_nodes.proofs.nodes.Nodes.give_at.Goals as goal
+
+pub returns-then-ended-clause-ok : goal.returns-then-ended-clause-ok
+returns-then-ended-clause-ok g c =
+    on_ok_weaker c.ask.result
+    (λ served. gives-ended c.args.at c.args.session c.args.body c.requires.place
+    (sym c.if-ended.true ∙ c.is_ended-ended.ensures) served) c.ask.ensures.ok
+
+pub returns-clause-ok : goal.returns-clause-ok
+returns-clause-ok g c =
+    on_ok_weaker c.ask-2.result
+    (λ served. gives c.args.at c.args.session c.args.body c.requires.place
+    (sym c.if-ended.false ∙ c.is_ended-ended.ensures) served) c.ask-2.ensures.ok
+
+pub returns-then-ended-clause-err : goal.returns-then-ended-clause-err
+returns-then-ended-clause-err g c =
+    IfErr-weaker c.ask.result _ _
+    (λ memory given. ended-gave_up c.args.at c.args.session c.args.body c.requires.place
+    (sym c.if-ended.true ∙ c.is_ended-ended.ensures) given) c.ask.ensures.err
+
+pub returns-clause-err : goal.returns-clause-err
+returns-clause-err g c =
+    IfErr-weaker c.ask-2.result _ _
+    (λ memory given. submit-gave_up c.args.at c.args.session c.args.body c.requires.place
+    (sym c.if-ended.false ∙ c.is_ended-ended.ensures) given) c.ask-2.ensures.err

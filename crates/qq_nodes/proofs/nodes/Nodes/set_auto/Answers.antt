@@ -1,0 +1,7 @@
+use Rattle.std.proofs.Common.{refl}
+use Rattle.qq_cluster.specs.Cluster.{Sets}
+use Rattle.qq_nodes.proofs.OneQueue.{served-auto}
+use Rattle.qq_nodes.proofs.nodes.Nodes.set_auto.Goals as goal
+
+pub returns : goal.returns
+returns g c = λ text. served-auto c.args.auto c.args.self.now text

@@ -1,0 +1,72 @@
+-- What a call of a node's log leaves.
+use Rattle.std.specs.Prelude.{◌≡◌, ℕ, Bool, true, false, List, Some, slice_get, slice_set}
+use Rattle.qq_base.specs.Causes.{Rose}
+use Rattle.qq_base.specs.declared.memory.Memory.{Memory}
+use Rattle.qq_disk.specs.Disk.{Disk}
+use Rattle.qq_log.specs.declared.op.Op.{Op}
+use Rattle.qq_lots.specs.Lots.{Lot, Parts, give_batch, keep_all}
+use Rattle.qq_node_log.specs.Batches.{IsLongIn}
+use Rattle.qq_node_log.specs.Log.{disk_in}
+use Rattle.qq_node_log.specs.Steps.{CallKeeps, KeepsDisk, MayAppend, MaySync, RunsOn}
+use Rattle.qq_node_log.specs.Syncing.{FailsByCount, IsLastIn, SyncsIn}
+use Rattle.qq_node_log.specs.declared.node_log.NodeLog.{NodeLog}
+use Rattle.qq_node_log.specs.declared.syncing.SyncOutcome.{SyncOutcome}
+use Rattle.qq_node_log.specs.declared.syncing.SyncOutcome.TheVariants.{Whole}
+use Rattle.qq_nodes.specs.declared.node.Node.{Node}
+
+-- the log of the node at an index takes the ops
+pub record MayAppendAt {D : Type 0} (tells : D → Bool) (past : D → List Disk) (ops : List Op) (node : Node D) : Type 0
+  where
+    pub own : NodeLog D
+    pub is : node.log ≡ Some own
+    pub may : MayAppend tells past ops own
+
+pub record MaySyncAt {D : Type 0} (tells : D → Bool) (past : D → List Disk) (node : Node D) : Type 0 where
+  pub own : NodeLog D
+  pub is : node.log ≡ Some own
+  pub may : MaySync tells past own
+
+-- A node has another log, and is the same else. At each moment the disk keeps what was promised, with these parts.
+pub record ChangesLog {D : Type 0} (tells : D → Bool) (past : D → List Disk) (faults : D → ℕ)
+    (later : Lot → Parts → Parts) (old new : Node D) : Type 0 where
+  pub before : NodeLog D
+  pub behind : NodeLog D
+  pub was : old.log ≡ Some before
+  pub is : new ≡ record old { log = Some behind }
+  pub same : KeepsDisk tells past faults before behind
+  pub moments : CallKeeps tells past later before behind
+
+-- ops were appended, or the disk failed
+pub record Appends {D : Type 0} (tells : D → Bool) (past : D → List Disk) (faults : D → ℕ) (ops : List Op) (more : Bool)
+    (old new : Node D) : Type 0 where
+  pub change : ChangesLog tells past faults (λ (lot : Lot). give_batch lot ops) old new
+  pub runs : more ≡ true → RunsOn tells past (λ (lot : Lot). give_batch lot ops) change.before change.behind
+  pub failed : more ≡ false → Rose (faults (disk_in change.before)) (faults (disk_in change.behind))
+
+-- some of them were perhaps
+pub record AppendsInPart {D : Type 0} (tells : D → Bool) (past : D → List Disk) (faults : D → ℕ) (ops : List Op)
+    (memory : Memory) (old new : Node D) : Type 0 where
+  pub change : ChangesLog tells past faults (λ (lot : Lot). give_batch lot ops) old new
+  pub long : IsLongIn change.behind memory
+
+-- what was appended is synced, as far as that came
+pub record Syncs {D : Type 0} (tells : D → Bool) (past : D → List Disk) (faults : D → ℕ) (outcome : SyncOutcome)
+    (old new : Node D) : Type 0 where
+  pub change : ChangesLog tells past faults (λ (lot : Lot) (parts : Parts). parts) old new
+  pub runs : outcome ≡ Whole → RunsOn tells past (λ (lot : Lot). keep_all) change.before change.behind
+  pub come : SyncsIn tells past outcome change.before change.behind
+  pub failed : FailsByCount (faults (disk_in change.before)) (faults (disk_in change.behind)) outcome
+
+pub record SyncsInPart {D : Type 0} (tells : D → Bool) (past : D → List Disk) (faults : D → ℕ) (memory : Memory)
+    (old new : Node D) : Type 0 where
+  pub change : ChangesLog tells past faults (λ (lot : Lot) (parts : Parts). parts) old new
+  pub last : IsLastIn change.behind memory
+
+-- ---- the node at an index
+
+pub record NodeTurns {D : Type 0} (P : Node D → Node D → Type 0) (at : ℕ) (olds news : List (Node D)) : Type 0 where
+  pub old : Node D
+  pub new : Node D
+  pub here : slice_get olds at ≡ Some old
+  pub is : news ≡ slice_set olds at new
+  pub turns : P old new

@@ -1,0 +1,157 @@
+-- Nodes as their calls see them: which cluster they stand for, and what a call has done.
+use Rattle.std.specs.Prelude.{◌≡◌, ◌<◌, ◌≤◌, ◌+◌, ℕ, zero, suc, Bool, true, false, List, [], ◌∷◌, ◌++◌, Option, Some, None, drop, length, slice_get}
+use Rattle.std.specs.List.{AllByRecursion, range_with_len}
+use Rattle.qq_base.specs.declared.ids.NodeId.{NodeId}
+use Rattle.qq_base.specs.declared.ids.QueueId.{QueueId}
+use Rattle.qq_base.specs.declared.memory.Memory.{Memory}
+use Rattle.qq_base.specs.declared.memory.Memory.TheVariants.{Spent}
+use Rattle.qq_disk.specs.Disk.{Disk}
+use Rattle.qq_cluster.specs.Cluster.{Cluster, ClusterEvent, Setup, cluster_after, members, new_cluster}
+use Rattle.qq_cluster.specs.ClusterLaws.{HasGroups}
+use Rattle.qq_cluster.specs.Rules.{ForEach, is_quiet}
+use Rattle.qq_cluster.specs.Texts.{is_first}
+use Rattle.qq_cluster_laws.specs.Linked.{IsReached, MembersFollow, lot_of, parts_at}
+use Rattle.qq_cluster_laws.specs.Waiting.{HasOwnGroups}
+use Rattle.qq_cluster_queue.specs.ClusterQueue.{Stands as IsQueue}
+use Rattle.qq_cluster_queue.specs.Members.{AreSound}
+use Rattle.qq_cluster_queue.specs.Sessions.{Standings, standings}
+use Rattle.qq_cluster_queue.specs.declared.cluster_queue.ClusterQueue.{ClusterQueue}
+use Rattle.qq_node_log.specs.Log.{Stands as IsLog, disk_in}
+use Rattle.qq_node_log.specs.declared.node_log.NodeLog.{NodeLog}
+use Rattle.qq_log.specs.declared.limits.TheConstants.{NODE_LIMIT}
+use Rattle.qq_lots.specs.Lots.{ids_of}
+use Rattle.qq_raft_protocol.specs.Facts.{In}
+use Rattle.qq_cluster_laws.specs.Serves.{GivesUp, Leads, Seen, Serves, seen_of}
+use Rattle.qq_nodes.specs.Active.{is_in}
+use Rattle.qq_nodes.specs.Ends.{IsAtEnd, NumberAt}
+use Rattle.qq_nodes.specs.declared.node.Node.{Node}
+use Rattle.qq_nodes.specs.declared.nodes.Nodes.{Nodes as Held}
+
+-- ---- the disks
+
+-- what a clause sees of a node's disk; where there is no log, or no such node, it sees nothing
+abbrev pub seen_log : {D : Type 0} → (D → Bool) → (D → List Disk) → (D → ℕ) → Option (NodeLog D) → Seen
+seen_log tells past faults None = record { tells = false; past = []; faults = 0 }
+seen_log tells past faults (Some log) = seen_of tells past faults (disk_in log)
+
+abbrev pub seen_in : {D : Type 0} → (D → Bool) → (D → List Disk) → (D → ℕ) → Option (Node D) → Seen
+seen_in tells past faults None = record { tells = false; past = []; faults = 0 }
+seen_in tells past faults (Some node) = seen_log tells past faults node.log
+
+-- nodes are numbered from 1
+abbrev pub node_at : {D : Type 0} → ℕ → List (Node D) → Option (Node D)
+node_at zero nodes = None
+node_at (suc at) nodes = slice_get nodes at
+
+abbrev pub seen : {D : Type 0} → (D → Bool) → (D → List Disk) → (D → ℕ) → Held D → ℕ → Seen
+seen tells past faults held k = seen_in tells past faults (node_at k held.nodes.items)
+
+-- ---- the cluster
+
+-- Each queue begins with a group of its own. Places and nodes are numbered from 1, a queue's id is its
+-- place, and its members are among the nodes.
+pub record IsSetUp (setup : Setup) (queue_count node_count : ℕ) : Type 0 where
+  pub groups : HasGroups setup
+  pub own : HasOwnGroups setup
+  pub first : setup.first ≡ 1
+  pub places : setup.places ≡ range_with_len 1 queue_count
+  pub nodes : setup.nodes ≡ range_with_len 1 node_count
+  pub ids : (place : ℕ) → In place setup.places → (setup.args place).queue.0 ≡ place
+  pub among : (place : ℕ) → In place setup.places
+      → AllByRecursion (λ (n : NodeId). In n.0 setup.nodes) (members setup place)
+
+-- a queue is the one at a place, and as it stands there
+pub record IsQueueOf (setup : Setup) (sessions : Standings) (c : Cluster) (place : ℕ) (d : ClusterQueue) : Type 0 where
+  pub stands : IsQueue sessions d (c.queue place)
+  pub sound : AreSound d.group
+  pub name_is : d.label.name ≡ setup.name place
+  pub first_is : d.label.first ≡ is_first setup place
+
+-- a node is the one of this number, and as it stands there
+pub record IsNodeOf {D : Type 0} (tells : D → Bool) (past : D → List Disk) (setup : Setup) (c : Cluster) (k : ℕ)
+    (node : Node D) : Type 0 where
+  pub id_is : node.id.0 ≡ k
+  pub few : k ≤ NODE_LIMIT
+  pub up_is : node.up ≡ c.up k
+  pub fresh : node.started ≡ false → (node.up ≡ false) × (parts_at c k ≡ parts_at (new_cluster setup) k)
+  pub queues_are : node.queues.items ≡ ids_of (lot_of setup k)
+  pub members : MembersFollow setup c k
+  pub own : NodeLog D
+  pub log_is : node.log ≡ Some own
+  pub log : IsLog tells past (lot_of setup k) (parts_at c k) (c.up k) own
+
+-- They stand for a cluster of this setup: its queues and its nodes in their order. Each queue that isn't active is quiet.
+pub record Stands {D : Type 0} (tells : D → Bool) (past : D → List Disk) (setup : Setup) (held : Held D) (c : Cluster)
+    : Type 0 where
+  pub set_up : IsSetUp setup (length held.queues.items) (length held.nodes.items)
+  pub queues : (at : ℕ) (d : ClusterQueue) → slice_get held.queues.items at ≡ Some d
+      → IsQueueOf setup (standings held.sessions) c (at + 1) d
+  pub nodes : (at : ℕ) (node : Node D) → slice_get held.nodes.items at ≡ Some node
+      → IsNodeOf tells past setup c (at + 1) node
+  pub auto : held.auto ≡ c.auto
+  pub within : AllByRecursion (λ (at : ℕ). at < length held.queues.items) held.active
+  pub quiet : (at : ℕ) → at < length held.queues.items → is_in at held.active ≡ false
+      → is_quiet setup c.up (c.queue (at + 1)) ≡ true
+
+-- they stand for a cluster that something may have led to
+abbrev pub CanServe : {D : Type 0} → (D → Bool) → (D → List Disk) → Held D → Type 0
+CanServe tells past held = (setup : Setup) × (c : Cluster) × IsReached setup c × Stands tells past setup held c
+
+-- a node that is there
+abbrev pub IsNodeAt : {D : Type 0} → NodeId → Held D → Type 0
+IsNodeAt node held = (0 < node.0) × (node.0 ≤ length held.nodes.items)
+
+-- a queue that is there
+abbrev pub IsQueueAt : {D : Type 0} → QueueId → Held D → Type 0
+IsQueueAt queue held = (0 < queue.0) × (queue.0 ≤ length held.queues.items)
+
+-- ---- what a call has done
+
+-- of whatever cluster they stood for, what has happened is what a rule allows there, and they stand for the cluster after it
+pub record Served {D : Type 0} (tells : D → Bool) (past : D → List Disk) (faults : D → ℕ)
+    (Rule : Setup → Cluster → List ClusterEvent → Type 0) (old new : Held D) (before later : List ℕ) : Type 0 where
+  pub serves : (setup : Setup) (c : Cluster) → IsReached setup c → Stands tells past setup old c
+      → Serves setup c (Rule setup c) (Stands tells past setup new) (seen tells past faults old)
+      (seen tells past faults new) before later
+
+-- ---- what a call leaves that is given up
+
+-- events with which those may begin that a rule allows
+pub record Begins (Allows : Cluster → List ClusterEvent → Type 0) (c : Cluster) (events : List ClusterEvent) : Type 0
+  where
+    pub rest : List ClusterEvent
+    pub allowed : Allows c (events ++ rest)
+
+-- In the midst of what a rule allows a number would have to rise, and stands at its end: the first events have happened,
+-- nodes that stand for the cluster after them have it, or the log does that is left.
+pub record EndsAt {D : Type 0} (tells : D → Bool) (past : D → List Disk) (setup : Setup)
+    (Allows : Cluster → List ClusterEvent → Type 0) (left : Held D) (c : Cluster) (number : ℕ) : Type 0 where
+  pub early : List ClusterEvent
+  pub begins : Begins Allows c early
+  pub mid : Held D
+  pub stands : Stands tells past setup mid (cluster_after c early)
+  pub at : NumberAt tells past mid left number
+  pub end : IsAtEnd number
+
+-- Of whatever cluster they stood for, each disk keeps at each moment what the events so far promised. Where it isn't that
+-- there was no memory, a number stands at its end.
+pub record GaveUp {D : Type 0} (tells : D → Bool) (past : D → List Disk) (faults : D → ℕ)
+    (Rule : Setup → Cluster → List ClusterEvent → Type 0) (old new : Held D) (memory : Memory) : Type 0 where
+  pub gives_up : (setup : Setup) (c : Cluster) → IsReached setup c → Stands tells past setup old c
+      → GivesUp setup c (seen tells past faults old) (seen tells past faults new)
+  pub spent : (number : ℕ) → memory ≡ Spent number → (setup : Setup) (c : Cluster) → IsReached setup c
+      → Stands tells past setup old c → EndsAt tells past setup (Rule setup) new c number
+
+-- ---- loops
+
+-- the first so many of a list were served, of a rule for each
+abbrev pub LeadsIn : (Setup → List ℕ) → ℕ → (Setup → ℕ → Cluster → List ClusterEvent → Type 0) → Setup → Cluster
+    → List ClusterEvent → Type 0
+LeadsIn list at Each setup c =
+    Leads (ForEach (drop at (list setup)) (Each setup)) (ForEach (list setup) (Each setup)) c
+
+abbrev pub places_in : Setup → List ℕ
+places_in setup = setup.places
+
+abbrev pub nodes_in : Setup → List ℕ
+nodes_in setup = setup.nodes

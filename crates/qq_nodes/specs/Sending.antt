@@ -1,0 +1,15 @@
+-- A command that goes to several queues.
+use Rattle.std.specs.Prelude.{ℕ, List, drop, map}
+use Rattle.qq_base.specs.declared.ids.QueueId.{QueueId}
+use Rattle.qq_entry.specs.declared.command.Unstamped.{Unstamped}
+use Rattle.qq_cluster.specs.Cluster.{Cluster, ClusterEvent, Setup}
+use Rattle.qq_cluster.specs.Rules.{ForEach, IsGiven}
+use Rattle.qq_cluster_laws.specs.Serves.{Leads}
+
+abbrev pub numbers_of : List QueueId → List ℕ
+numbers_of queues = map (λ (queue : QueueId). queue.0) queues
+
+-- it was given at so many of these places
+abbrev pub GivesTo : ℕ → Unstamped → List ℕ → ℕ → Setup → Cluster → List ClusterEvent → Type 0
+GivesTo session body places count setup c =
+    Leads (ForEach (drop count places) (IsGiven session body)) (ForEach places (IsGiven session body)) c

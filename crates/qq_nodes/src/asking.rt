@@ -1,0 +1,104 @@
+//! What is asked of one queue.
+ghost use Rattle.std.specs.Prelude.{◌<◌, All, length, IfErr, OnOk};
+ghost use Rattle.qq_cluster_queue.specs.ClusterQueue.{Does, IsSameQueue};
+ghost use Rattle.qq_cluster_queue.specs.Members.{AreSound};
+ghost use Rattle.qq_cluster_queue.specs.Sessions.{standings};
+ghost use Rattle.qq_nodes.specs.Asking.{DoesAt, MayAsk, asked};
+ghost use Rattle.qq_nodes.specs.Ends.{IsAskCaused, IsRefusedAt};
+
+use qq_base::{Memory, NodeId};
+use qq_cluster_queue::{ClusterQueue, Sessions};
+use qq_entry::Unstamped;
+use std::alloc::Global;
+
+/// What is asked of one queue.
+#[derive(Drop)]
+pub(crate) enum Ask {
+    /// A client gives a command the next number and sends it.
+    Submit { session: u64, body: Unstamped },
+    /// A session that has ended is to give a command.
+    TellEnded { session: u64 },
+    /// A client sends its open commands again.
+    Resend { session: u64 },
+    /// The queue is told that a session has ended.
+    Down { session: u64 },
+    /// Time passes at a member.
+    Tick { node: NodeId },
+    /// A member notices what is synced.
+    Notice { node: NodeId },
+    /// A message of the bag, the first one is 1, is delivered.
+    Deliver { message: u32 },
+    /// It is lost.
+    Lose { message: u32 },
+    /// A copy of it goes to the end of the bag.
+    Copy { message: u32 },
+}
+
+fn ask_queue(
+    queue: &mut ClusterQueue,
+    alloc: Global,
+    sessions: &Sessions,
+    ask: Ask,
+    out: &mut Vec<u8>,
+) -> Result<(), Memory>
+    requires sound { AreSound queue.old.group }
+    requires may { MayAsk ask }
+    ensures sound { AreSound queue.new.group }
+    ensures same { IsSameQueue queue.old queue.new }
+    ensures ok { OnOk result (Does (asked ask) (standings sessions.now) queue.old queue.new
+        out.old.items out.new.items) }
+    ensures cause { IfErr result (IsAskCaused ask queue.old) }
+{
+    match ask {
+        Ask::Submit { session, body } => queue.submit(alloc, session, body, out),
+        Ask::TellEnded { session } => queue.tell_ended(alloc, session, out),
+        Ask::Resend { session } => queue.resend(alloc, session, out),
+        Ask::Down { session } => queue.down(alloc, session, out),
+        Ask::Tick { node } => queue.tick(alloc, node),
+        Ask::Notice { node } => queue.notice(alloc, sessions, node, out),
+        Ask::Deliver { message } => queue.deliver(alloc, sessions, message, out),
+        Ask::Lose { message } => {
+            queue.lose(alloc, message);
+            Ok(())
+        }
+        Ask::Copy { message } => queue.copy(alloc, message),
+    }
+}
+
+/// The queue at an index does what is asked of it.
+pub(crate) fn ask_at(
+    queues: &mut [ClusterQueue],
+    alloc: Global,
+    sessions: &Sessions,
+    at: usize,
+    ask: Ask,
+    out: &mut Vec<u8>,
+) -> Result<(), Memory>
+    requires place { at < length queues.old }
+    requires sound { All (λ (d : ClusterQueue). AreSound d.group) queues.old }
+    requires may { MayAsk ask }
+    ensures ok { OnOk result (DoesAt (asked ask) (standings sessions.now) at queues.old queues.new
+        out.old.items out.new.items) }
+    ensures cause { IfErr result (IsRefusedAt ask at queues.old) }
+{
+    ask_queue(&mut queues[at], alloc, sessions, ask, out)
+}
+
+/// The same of all of them.
+pub(crate) fn ask_in(
+    queues: &mut Vec<ClusterQueue>,
+    alloc: Global,
+    sessions: &Sessions,
+    at: usize,
+    ask: Ask,
+    out: &mut Vec<u8>,
+) -> Result<(), Memory>
+    requires place { at < length queues.old.items }
+    requires sound { All (λ (d : ClusterQueue). AreSound d.group) queues.old.items }
+    requires may { MayAsk ask }
+    ensures ok { OnOk result (DoesAt (asked ask) (standings sessions.now) at queues.old.items
+        queues.new.items out.old.items out.new.items) }
+    ensures cause { IfErr result (IsRefusedAt ask at queues.old.items) }
+{
+    ask_at(queues, alloc, sessions, at, ask, out)
+}

@@ -1,0 +1,19 @@
+//! One node of a cluster.
+use qq_base::{NodeId, QueueId};
+use qq_disk::NodeDisk;
+use qq_node_log::NodeLog;
+
+/// A node: its log, and whether it is up.
+#[derive(Drop)]
+pub struct Node<D: NodeDisk> {
+    /// Its number.
+    pub(crate) id: NodeId,
+    /// Whether it is up: it was restarted, and no call of its disk has failed since.
+    pub(crate) up: bool,
+    /// Whether it was ever up. Until then its members are as the cluster began.
+    pub(crate) started: bool,
+    /// The queues of which it has a member, in the order of their places.
+    pub(crate) queues: Vec<QueueId>,
+    /// Its log, or its disk alone. None only once a yard has refused a crash of it, which ends the run.
+    pub(crate) log: Option<NodeLog<D>>,
+}

@@ -1,0 +1,230 @@
+//! The nodes of a cluster and its queues, side by side.
+ghost use Rattle.std.specs.Prelude.{◌≡◌, ◌<◌, ◌-◌, ◌+◌, ◌++◌, ◌&&◌, ℕ, Some, true, length, List, slice_get, IfErr, IsOkUnless, OnOk};
+ghost use Rattle.std.specs.Fmt.{decimal};
+ghost use Rattle.qq_cluster.specs.Cluster.{Cluster, Setup, At, SaysBusy, SaysDown, SaysEnded, SaysNoSuch, SaysUnroutable, Sets};
+ghost use Rattle.qq_cluster.specs.Rules.{Is, IsNothing, is_quiet_at, waits_noticed};
+ghost use Rattle.qq_cluster_laws.specs.Linked.{IsReached};
+ghost use Rattle.qq_nodes.specs.Active.{is_in};
+ghost use Rattle.qq_nodes.specs.Asking.{MayAsk, asked};
+ghost use Rattle.qq_nodes.specs.Nodes.{CanServe, GaveUp, IsNodeAt, Served, Stands};
+
+use crate::active::Active;
+use crate::asking::{Ask, ask_in};
+use crate::node::Node;
+use qq_base::{Memory, NodeId};
+use qq_cluster_queue::{ClusterQueue, Sessions, a_refusal_tells_an_end};
+use qq_disk::NodeDisk;
+use qq_script::{push_number, push_text};
+use std::alloc::Global;
+
+/// The nodes of a cluster, and the queues that are replicated over them.
+///
+/// A call answers what its line in a script allows (`Served`, by a rule of `qq_cluster`): some events happened,
+/// these stand for the cluster after them, and their text was added. After an error, which is want of memory or
+/// a number at its end, the run ends: these and the text are used no more, each disk keeps what the events so
+/// far promised, and the number that is told stands at its end in a queue or in a node's log (`GaveUp`).
+#[derive(Drop)]
+pub struct Nodes<D: NodeDisk> {
+    // By their numbers, from 1 on.
+    pub(crate) queues: Vec<ClusterQueue>,
+    // By their numbers, from 1 on.
+    pub(crate) nodes: Vec<Node<D>>,
+    // How the clients' sessions stand, for all queues alike.
+    pub(crate) sessions: Sessions,
+    // The indexes of the queues that may have something to do.
+    pub(crate) active: Active,
+    // Whether a pump follows each line of a client.
+    pub(crate) auto: bool,
+    // How many bytes make a log file full.
+    pub(crate) log_bytes: u64,
+}
+
+// A node's number between two words.
+pub(crate) fn add_node_line(
+    first: &str,
+    node: NodeId,
+    last: &str,
+    text: &mut Vec<u8>,
+) -> Result<(), Memory>
+    ensures ok { OnOk result (text.new.items
+        ≡ text.old.items ++ (first.now ++ decimal node.0 ++ last.now)) }
+    ensures want { IsOkUnless result Memory.Want }
+{
+    if let Err(cause) = push_text(text, first) {
+        return Err(cause);
+    }
+    if let Err(cause) = push_number(text, u64::from(node.0)) {
+        return Err(cause);
+    }
+    if let Err(cause) = push_text(text, last) {
+        return Err(cause);
+    }
+    Ok(())
+}
+
+impl<D: NodeDisk> Nodes<D> {
+    /// Whether a node is up.
+    pub fn is_up(&self, node: NodeId) -> bool
+        requires { IsNodeAt node self.now }
+        ensures { (setup : Setup) (c : Cluster) → Stands D.tells D.past setup self.now c →
+            result ≡ c.up node.0 }
+    {
+        self.nodes[node.0 as usize - 1].up
+    }
+
+    // A node's id by its index.
+    pub(crate) fn node_id(&self, at: usize) -> NodeId
+        requires { at < length self.now.nodes.items }
+        ensures { (setup : Setup) (c : Cluster) → Stands D.tells D.past setup self.now c →
+            result.0 ≡ at + 1 }
+    {
+        self.nodes[at].id
+    }
+
+    // How many messages a queue's members have on their way.
+    pub(crate) fn messages(&self, at: usize) -> u32
+        requires serve { CanServe D.tells D.past self.now }
+        requires place { at < length self.now.queues.items }
+        ensures { (setup : Setup) (c : Cluster) → Stands D.tells D.past setup self.now c →
+            result ≡ length (c.queue (at + 1)).group.bag }
+    {
+        self.queues[at].messages()
+    }
+
+    // Whether a node is up, and a queue's member on it has something to notice.
+    pub(crate) fn waits_noticed(&self, at: usize, node: NodeId) -> bool
+        requires serve { CanServe D.tells D.past self.now }
+        requires place { at < length self.now.queues.items }
+        requires node { IsNodeAt node self.now }
+        ensures { (setup : Setup) (c : Cluster) → IsReached setup c →
+            Stands D.tells D.past setup self.now c →
+            result ≡ (c.up node.0 && waits_noticed node.0 (c.queue (at + 1))) }
+    {
+        self.queues[at].waits_noticed(node)
+    }
+
+    // Whether a node is down, or all that a queue's member on it has handed out was written, synced and noticed.
+    pub(crate) fn is_settled(&self, at: usize, node: NodeId) -> bool
+        requires serve { CanServe D.tells D.past self.now }
+        requires place { at < length self.now.queues.items }
+        requires node { IsNodeAt node self.now }
+        ensures { (setup : Setup) (c : Cluster) → IsReached setup c →
+            Stands D.tells D.past setup self.now c →
+            result ≡ is_quiet_at (c.queue (at + 1)) c.up node.0 }
+    {
+        self.queues[at].is_settled(node)
+    }
+
+    // From here on a queue may have something to do.
+    pub(crate) fn wake(&mut self, at: usize) -> Result<(), Memory>
+        requires { at < length self.old.queues.items }
+        ensures ok { OnOk result ((text : List ℕ) → Served D.tells D.past D.faults (λ setup. IsNothing)
+            self.old self.new text text) }
+        ensures active { OnOk result (is_in at self.new.active ≡ true) }
+        ensures err { IfErr result (GaveUp D.tells D.past D.faults
+            (λ setup. IsNothing) self.old self.new) }
+        ensures want { IsOkUnless result Memory.Want }
+    {
+        self.active.add(at)
+    }
+
+    // A queue that is active does what is asked of it.
+    pub(crate) fn ask_active(
+        &mut self,
+        alloc: Global,
+        at: usize,
+        ask: Ask,
+        text: &mut Vec<u8>,
+    ) -> Result<(), Memory>
+        requires serve { CanServe D.tells D.past self.old }
+        requires place { at < length self.old.queues.items }
+        requires active { is_in at self.old.active ≡ true }
+        requires may { MayAsk ask }
+        ensures ok { OnOk result (Served D.tells D.past D.faults (λ setup. Is (At (at + 1) (asked ask)))
+            self.old self.new text.old.items text.new.items) }
+        ensures active { self.new.active ≡ self.old.active }
+        ensures err { IfErr result (GaveUp D.tells D.past D.faults
+            (λ setup. Is (At (at + 1) (asked ask))) self.old self.new) }
+    {
+        a_refusal_tells_an_end();
+        ask_in(&mut self.queues, alloc, &self.sessions, at, ask, text)
+    }
+
+    // A queue does what is asked of it.
+    pub(crate) fn ask(
+        &mut self,
+        alloc: Global,
+        at: usize,
+        ask: Ask,
+        text: &mut Vec<u8>,
+    ) -> Result<(), Memory>
+        requires serve { CanServe D.tells D.past self.old }
+        requires place { at < length self.old.queues.items }
+        requires may { MayAsk ask }
+        ensures ok { OnOk result (Served D.tells D.past D.faults (λ setup. Is (At (at + 1) (asked ask)))
+            self.old self.new text.old.items text.new.items) }
+        ensures err { IfErr result (GaveUp D.tells D.past D.faults
+            (λ setup. Is (At (at + 1) (asked ask))) self.old self.new) }
+    {
+        if let Err(cause) = self.wake(at) {
+            return Err(cause);
+        }
+        if let Err(cause) = self.ask_active(alloc, at, ask, text) {
+            return Err(cause);
+        }
+        Ok(())
+    }
+
+    // A line is for a node that is down.
+    pub(crate) fn say_down(&self, node: NodeId, text: &mut Vec<u8>) -> Result<(), Memory>
+        ensures ok { OnOk result (Served D.tells D.past D.faults (λ setup. Is (SaysDown node.0))
+            self.now self.now text.old.items text.new.items) }
+        ensures want { IsOkUnless result Memory.Want }
+    {
+        add_node_line("down ", node, "\n", text)
+    }
+
+    // A pump has made all its rounds.
+    pub(crate) fn say_busy(&self, text: &mut Vec<u8>) -> Result<(), Memory>
+        ensures ok { OnOk result (Served D.tells D.past D.faults (λ setup. Is SaysBusy)
+            self.now self.now text.old.items text.new.items) }
+        ensures want { IsOkUnless result Memory.Want }
+    {
+        push_text(text, "busy\n")
+    }
+
+    // The commands of a session that has ended are to be sent again.
+    pub(crate) fn say_ended(&self, text: &mut Vec<u8>) -> Result<(), Memory>
+        ensures ok { OnOk result (Served D.tells D.past D.faults (λ setup. Is SaysEnded)
+            self.now self.now text.old.items text.new.items) }
+        ensures want { IsOkUnless result Memory.Want }
+    {
+        push_text(text, "ended\n")
+    }
+
+    // A line is for a message that isn't there.
+    pub(crate) fn say_no_such(&self, text: &mut Vec<u8>) -> Result<(), Memory>
+        ensures ok { OnOk result (Served D.tells D.past D.faults (λ setup. Is SaysNoSuch)
+            self.now self.now text.old.items text.new.items) }
+        ensures want { IsOkUnless result Memory.Want }
+    {
+        push_text(text, "no such\n")
+    }
+
+    // A message is routed to no queue.
+    pub(crate) fn say_unroutable(&self, text: &mut Vec<u8>) -> Result<(), Memory>
+        ensures ok { OnOk result (Served D.tells D.past D.faults (λ setup. Is SaysUnroutable)
+            self.now self.now text.old.items text.new.items) }
+        ensures want { IsOkUnless result Memory.Want }
+    {
+        push_text(text, "unroutable\n")
+    }
+
+    /// Whether a pump follows each line of a client from here on.
+    pub fn set_auto(&mut self, auto: bool)
+        ensures { (text : List ℕ) → Served D.tells D.past D.faults (λ setup. Is (Sets auto))
+            self.old self.new text text }
+    {
+        self.auto = auto;
+    }
+}

@@ -1,0 +1,191 @@
+//! Lines that send commands to several queues.
+ghost use Rattle.std.specs.Prelude.{◌<◌, ◌-◌, ◌≡◌, All, IfErr, OnOk, length, map, slice_get};
+ghost use Rattle.qq_base.specs.declared.ids.QueueId.{QueueId as Id};
+ghost use Rattle.qq_cluster.specs.Cluster.{At, Setup};
+ghost use Rattle.qq_cluster.specs.Lines.{AndPumped, IsRouted};
+ghost use Rattle.qq_cluster.specs.Queue.{Resends};
+ghost use Rattle.qq_cluster.specs.Rules.{ForEach, Is, IsGiven, IsResend};
+ghost use Rattle.qq_cluster_queue.specs.Range.{MayStamp};
+ghost use Rattle.qq_nodes.specs.Nodes.{CanServe, GaveUp, IsQueueAt, Served};
+ghost use Rattle.qq_nodes.specs.Sending.{GivesTo, numbers_of};
+
+use crate::asking::Ask;
+use crate::nodes::Nodes;
+use qq_base::{Duplicate, Memory, QueueId};
+use qq_disk::NodeDisk;
+use qq_entry::Unstamped;
+use std::alloc::Global;
+
+impl<D: NodeDisk> Nodes<D> {
+    // A session gives a copy of a command at the first of these queues, so many of them.
+    fn give_first(
+        &mut self,
+        alloc: Global,
+        queues: &[QueueId],
+        count: usize,
+        session: u64,
+        body: &Unstamped,
+        text: &mut Vec<u8>,
+    ) -> Result<(), Memory>
+        requires serve { CanServe D.tells D.past self.old }
+        requires queues { All (λ queue. IsQueueAt queue self.old) queues.now }
+        requires count { count < length queues.now }
+        requires session { 0 < session }
+        requires range { MayStamp body.now }
+        ensures ok { OnOk result (Served D.tells D.past D.faults
+            (GivesTo session body.now (numbers_of queues.now) count)
+            self.old self.new text.old.items text.new.items) }
+        ensures err { IfErr result (GaveUp D.tells D.past D.faults
+            (λ (setup : Setup). ForEach (numbers_of queues.now) (IsGiven session body.now))
+            self.old self.new) }
+    {
+        'queues: for at in 0..count {
+            let own = match body.copy(alloc) {
+                Ok(own) => own,
+                Err(cause) => return Err(cause),
+            };
+            let queue = queues[at];
+            if let Err(cause) = self.give_at(alloc, queue.0 as usize - 1, session, own, text) {
+                return Err(cause);
+            }
+        }
+        Ok(())
+    }
+
+    // A session gives a command at each of these queues; where there are none that is said.
+    fn route(
+        &mut self,
+        alloc: Global,
+        queues: &[QueueId],
+        session: u64,
+        body: Unstamped,
+        text: &mut Vec<u8>,
+    ) -> Result<(), Memory>
+        requires serve { CanServe D.tells D.past self.old }
+        requires queues { All (λ queue. IsQueueAt queue self.old) queues.now }
+        requires session { 0 < session }
+        requires range { MayStamp body }
+        ensures ok { OnOk result (Served D.tells D.past D.faults
+            (λ (setup : Setup). IsRouted session body (numbers_of queues.now))
+            self.old self.new text.old.items text.new.items) }
+        ensures err { IfErr result (GaveUp D.tells D.past D.faults
+            (λ (setup : Setup). IsRouted session body (numbers_of queues.now)) self.old self.new) }
+    {
+        let count = queues.len();
+        if count == 0 {
+            if let Err(cause) = self.say_unroutable(text) {
+                return Err(cause);
+            }
+            return Ok(());
+        }
+        let last = count - 1;
+        if let Err(cause) = self.give_first(alloc, queues, last, session, &body, text) {
+            return Err(cause);
+        }
+        let queue = queues[last];
+        if let Err(cause) = self.give_at(alloc, queue.0 as usize - 1, session, body, text) {
+            return Err(cause);
+        }
+        Ok(())
+    }
+
+    /// A session's command at each of these queues, in their order; where there are none it is said that it can't
+    /// be routed. A pump follows where one is to.
+    pub fn send(
+        &mut self,
+        alloc: Global,
+        queues: &[QueueId],
+        session: u64,
+        body: Unstamped,
+        text: &mut Vec<u8>,
+    ) -> Result<(), Memory>
+        requires serve { CanServe D.tells D.past self.old }
+        requires queues { All (λ queue. IsQueueAt queue self.old) queues.now }
+        requires session { 0 < session }
+        requires range { MayStamp body }
+        ensures ok { OnOk result (Served D.tells D.past D.faults
+            (λ (setup : Setup). AndPumped setup (IsRouted session body (numbers_of queues.now)))
+            self.old self.new text.old.items text.new.items) }
+        ensures err { IfErr result (GaveUp D.tells D.past D.faults
+            (λ (setup : Setup). AndPumped setup (IsRouted session body (numbers_of queues.now)))
+            self.old self.new) }
+    {
+        if let Err(cause) = self.route(alloc, queues, session, body, text) {
+            return Err(cause);
+        }
+        if let Err(cause) = self.pumped(alloc, text) {
+            return Err(cause);
+        }
+        Ok(())
+    }
+
+    // A session sends its open commands again, at each queue.
+    fn resend_each(&mut self, alloc: Global, session: u64, text: &mut Vec<u8>) -> Result<(), Memory>
+        requires { CanServe D.tells D.past self.old }
+        ensures ok { OnOk result (Served D.tells D.past D.faults
+            (λ (setup : Setup). ForEach setup.places (λ place. Is (At place (Resends session))))
+            self.old self.new text.old.items text.new.items) }
+        ensures err { IfErr result (GaveUp D.tells D.past D.faults
+            (λ (setup : Setup). ForEach setup.places (λ place. Is (At place (Resends session))))
+            self.old self.new) }
+    {
+        let count = self.queues.len();
+        'places: for at in 0..count {
+            if let Err(cause) = self.ask(alloc, at, Ask::Resend { session }, text) {
+                return Err(cause);
+            }
+        }
+        Ok(())
+    }
+
+    // And one that has ended is told so.
+    fn resend_or_tell(
+        &mut self,
+        alloc: Global,
+        session: u64,
+        text: &mut Vec<u8>,
+    ) -> Result<(), Memory>
+        requires { CanServe D.tells D.past self.old }
+        ensures ok { OnOk result (Served D.tells D.past D.faults
+            (λ (setup : Setup). IsResend setup session)
+            self.old self.new text.old.items text.new.items) }
+        ensures err { IfErr result (GaveUp D.tells D.past D.faults
+            (λ (setup : Setup). IsResend setup session) self.old self.new) }
+    {
+        let ended = self.sessions.is_ended(session);
+        let some = self.queues.len() > 0;
+        if ended {
+            // A session ends at queues, so where there is none it hasn't.
+            if !some {
+                return Ok(());
+            }
+            if let Err(cause) = self.say_ended(text) {
+                return Err(cause);
+            }
+            return Ok(());
+        }
+        if let Err(cause) = self.resend_each(alloc, session, text) {
+            return Err(cause);
+        }
+        Ok(())
+    }
+
+    /// A session sends its open commands again, at each queue in order; of one that has ended that is said. A pump
+    /// follows where one is to.
+    pub fn resend(&mut self, alloc: Global, session: u64, text: &mut Vec<u8>) -> Result<(), Memory>
+        requires { CanServe D.tells D.past self.old }
+        ensures ok { OnOk result (Served D.tells D.past D.faults
+            (λ (setup : Setup). AndPumped setup (IsResend setup session))
+            self.old self.new text.old.items text.new.items) }
+        ensures err { IfErr result (GaveUp D.tells D.past D.faults
+            (λ (setup : Setup). AndPumped setup (IsResend setup session)) self.old self.new) }
+    {
+        if let Err(cause) = self.resend_or_tell(alloc, session, text) {
+            return Err(cause);
+        }
+        if let Err(cause) = self.pumped(alloc, text) {
+            return Err(cause);
+        }
+        Ok(())
+    }
+}
