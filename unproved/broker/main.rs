@@ -1,7 +1,6 @@
 //! Checks of whole runs of the broker, by name.
 #![tactic(auto)]
 
-mod rolls;
 mod runs;
 mod script;
 mod stops;
@@ -14,7 +13,6 @@ use cases::Trials;
 fn main(rt: HostRuntime) -> Result<()> {
     let mut trials = Trials::new(rt);
     runs::check(&mut trials)?;
-    rolls::check(&mut trials)?;
     used::check(&mut trials)?;
     stops::check(&mut trials)?;
     trials.end()

@@ -1,4 +1,4 @@
-mod Plain
-mod NodeQueues
-mod Asked
-mod Served
+pub mod Failing
+pub mod Living
+pub mod GoingOn
+pub mod Targets

@@ -20,3 +20,9 @@ pub mod Synced
 pub mod Sent
 pub mod OnTheWay
 pub mod Logged
+pub mod Changing
+pub mod Shown
+pub mod Recovering
+pub mod Crashed
+pub mod CrashedEach
+pub mod Shows
