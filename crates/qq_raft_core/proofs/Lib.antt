@@ -7,6 +7,7 @@ mod Holding
 mod Members
 mod Pushes
 mod Ranges
+mod Falls
 mod Said
 mod Sendable
 mod Waits

@@ -89,6 +89,9 @@ impl<L: LogView> Raft<L> {
     {
         let held = self.held();
         let start = above.min(held.saturating_sub(self.commit));
+        if self.is_earlier(self.commit + start) {
+            return self.commit;
+        }
         self.commit_up_to(start)
     }
 
