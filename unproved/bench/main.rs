@@ -1,6 +1,7 @@
 //! The benches. The first word names one, and those behind it are its load; the scripts of the folder `bench` at
 //! the top of the repository run each load some times, and print the best run.
 
+mod cluster;
 mod definitions;
 mod group;
 mod inbox;
@@ -8,7 +9,6 @@ mod log;
 mod machine;
 mod made;
 mod memory;
-mod node;
 mod raft;
 mod sessions;
 mod words;
@@ -16,13 +16,12 @@ mod words;
 use anyhow::Result;
 use std::env;
 
-const USAGE: &str = "usage: bench definitions FILE
+const USAGE: &str = "usage: bench cluster NODES QUEUES BODY SENDS MESSAGES
+       bench definitions FILE
        bench group MEMBERS WINDOW ENTRIES BODY logs|none keep|purge
        bench inbox ops BYTES COUNT ROUNDS | marks COUNT
        bench log BODY RECORDS BATCHES
-       bench log recover BODY RECORDS LOGS
        bench machine parts|plain READY CONSUMERS ENTRIES
-       bench node BODY SENDS MESSAGES
        bench raft MEMBERS WINDOW ENTRIES BODY
        bench sessions OPEN ENDED";
 
@@ -36,12 +35,12 @@ fn main(rt: HostRuntime) -> Result<()> {
         return Ok(());
     };
     match name.as_str() {
+        "cluster" => cluster::run(rt, load),
         "definitions" => definitions::run(rt, load),
         "group" => group::run(rt, load),
         "inbox" => inbox::run(&rt, rt.alloc(), load),
         "log" => log::run(rt, load),
         "machine" => machine::run(rt, load),
-        "node" => node::run(rt, load),
         "raft" => raft::run(rt, load),
         "sessions" => sessions::run(rt, load),
         _ => anyhow::bail!("no such bench"),

@@ -40,7 +40,7 @@ pub fn serve<Y: Yard>(
     let script = script.as_bytes().to_vec(alloc)?;
     let mut source = MemSource::new(script, vec![in alloc; read]?);
     let mut sink = MemSink::new(alloc, ROOM, vec![in alloc; write]?)?;
-    let status = run(&rt, &words, yard, &mut source, &mut sink);
+    let status = run(&rt, &words, &mut source, &mut sink, yard);
     Ok(Ran { status, sink })
 }
 

@@ -8,11 +8,17 @@ pub fn body_front(alloc: Global, queue: u32, number: u64) -> Result<String> {
     Ok(format!(in alloc; "q{queue}.{number}.")?)
 }
 
-/// Messages to two queues, longer than a log file, a crash, more messages, another crash, and gets of all. After
-/// a crash the node is restarted, and its queues get leaders.
-pub fn script(alloc: Global, image: &str) -> Result<String> {
+/// Messages to two queues, longer than a log file, a crash of all nodes, more messages, another crash, and gets of all.
+/// After a crash the nodes are restarted, and the queues get leaders: each by its first member, or by the second one
+/// where that is down.
+pub fn script(alloc: Global, nodes: usize, image: &str) -> Result<String> {
     let long = "x".repeat(alloc, 40_000)?;
-    let crash = format!(in alloc; "crash 1 {image}\nrestart 1\ntick 1 q1\ntick 1 q2\npump\n")?;
+    let mut crash = format!(in alloc; "crash all {image}\nrestart all\n")?;
+    for node in 1..=nodes.min(2) {
+        for queue in 1..=2 {
+            writeln!(crash, "tick {node} q{queue}\npump")?;
+        }
+    }
     let mut text = String::new(alloc);
     for (queue, number, letters) in [(1, 1, ""), (2, 1, &long), (1, 2, &long), (2, 2, "")] {
         let front = body_front(alloc, queue, number)?;

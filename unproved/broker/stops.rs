@@ -1,8 +1,9 @@
-//! A script for two queues is stopped at each call of its node's disk, and each call fails once.
+//! A script for two queues is stopped at each call of a node's disk, and each call fails once: over one node, and for
+//! each of three.
 //!
-//! A run is stopped on the first disk, before the first crash, or on the second one, within the restart and after
+//! A run is stopped on the node's first disk, before the first crash, or on the second one, within the restart and after
 //! it. In each run, each message that was confirmed has to come by a `get` after the last restart, and has to be,
-//! with its body, in the lane that recovery reads from the disk.
+//! with its body, in the lanes that recovery reads from the disks of a majority.
 
 use crate::runs::{Ran, serve};
 use crate::script::{body_front, script, was_confirmed, was_got};
@@ -13,7 +14,8 @@ use qq_entry::Command;
 use qq_log::Lane;
 use std::alloc::Global;
 
-const OPTIONS: [&str; 2] = ["--queues=2", "--log-bytes=65536"];
+const ONE_NODE: [&str; 2] = ["--queues=2", "--log-bytes=65536"];
+const THREE_NODES: [&str; 3] = ["--nodes=3", "--queues=2", "--log-bytes=65536"];
 
 /// More calls than any run makes of a disk.
 const MOST_CALLS: u64 = 1_000;
@@ -42,6 +44,15 @@ fn is_in_lane(lanes: &[Lane], queue: u32, front: &str) -> bool {
         .any(|entry| publishes(&entry.command, front.as_bytes()))
 }
 
+/// Whether it stands there on the disks of a majority of the nodes.
+fn is_kept(nodes: &[Vec<Lane>], queue: u32, front: &str) -> bool {
+    let holding = nodes
+        .iter()
+        .filter(|lanes| is_in_lane(lanes, queue, front))
+        .count();
+    holding > nodes.len() / 2
+}
+
 /// Checks what was confirmed: all messages, in a run that wasn't stopped. Returns whether it was.
 fn check_run(alloc: Global, ran: &Ran, yard: &StoppingYard) -> Result<bool> {
     let printed = ran.printed()?;
@@ -58,8 +69,8 @@ fn check_run(alloc: Global, ran: &Ran, yard: &StoppingYard) -> Result<bool> {
             let is_got = was_got(alloc, printed, queue, number)?;
             ensure!(is_got, "a confirmed message is lost");
             let front = body_front(alloc, queue, number)?;
-            let is_found = is_in_lane(yard.lanes(), queue, front.as_str());
-            ensure!(is_found, "a confirmed message is in no lane");
+            let is_kept = is_kept(yard.lanes(), queue, front.as_str());
+            ensure!(is_kept, "a majority of the disks lacks a confirmed message");
         } else {
             ensure!(yard.has_failed(), "a message isn't confirmed");
         }
@@ -67,12 +78,19 @@ fn check_run(alloc: Global, ran: &Ran, yard: &StoppingYard) -> Result<bool> {
     Ok(yard.has_failed())
 }
 
-/// Stops runs after more and more calls of a disk, until a run is no longer stopped.
-fn stop_each<F: Fn(u64) -> [Stop; 2]>(rt: HostRuntime, image: &str, stops: F) -> Result<()> {
-    let script = script(rt.alloc(), image)?;
+/// Stops runs after more and more calls of a node's disk, until a run is no longer stopped.
+fn stop_each<F: Fn(u64) -> [Stop; 2]>(
+    rt: HostRuntime,
+    options: &[&str],
+    nodes: usize,
+    stopping: usize,
+    image: &str,
+    stops: F,
+) -> Result<()> {
+    let script = script(rt.alloc(), nodes, image)?;
     for calls in 0..MOST_CALLS {
-        let mut yard = StoppingYard::new(rt.alloc(), stops(calls));
-        let ran = serve(rt, &OPTIONS, &mut yard, script.as_str(), 0, 0)?;
+        let mut yard = StoppingYard::new(rt.alloc(), nodes, stopping, stops(calls))?;
+        let ran = serve(rt, options, &mut yard, script.as_str(), 0, 0)?;
         if !check_run(rt.alloc(), &ran, &yard)? {
             ensure!(calls >= LEAST_CALLS, "too few runs were stopped");
             return Ok(());
@@ -81,24 +99,37 @@ fn stop_each<F: Fn(u64) -> [Stop; 2]>(rt: HostRuntime, image: &str, stops: F) ->
     bail!("a run makes too many calls of its disk")
 }
 
-/// Stops runs on each of the two disks, from a call on and at one call, where crashes leave this image.
-fn stop_both(rt: HostRuntime, image: &str) -> Result<()> {
-    stop_each(rt, image, |calls| [Stop::After(calls), Stop::Never])?;
-    stop_each(rt, image, |calls| [Stop::Once(calls), Stop::Never])?;
-    stop_each(rt, image, |calls| [Stop::Never, Stop::After(calls)])?;
-    stop_each(rt, image, |calls| [Stop::Never, Stop::Once(calls)])
+/// Stops runs on each of the two disks of a node, from a call on and at one call, where crashes leave this image.
+fn stop_both(
+    rt: HostRuntime,
+    options: &[&str],
+    nodes: usize,
+    stopping: usize,
+    image: &str,
+) -> Result<()> {
+    stop_each(rt, options, nodes, stopping, image, |calls| [Stop::After(calls), Stop::Never])?;
+    stop_each(rt, options, nodes, stopping, image, |calls| [Stop::Once(calls), Stop::Never])?;
+    stop_each(rt, options, nodes, stopping, image, |calls| [Stop::Never, Stop::After(calls)])?;
+    stop_each(rt, options, nodes, stopping, image, |calls| [Stop::Never, Stop::Once(calls)])
 }
 
 fn confirmed_messages_survive_crashes_that_leave_nothing(rt: HostRuntime) -> Result<()> {
-    stop_both(rt, "none")
+    stop_both(rt, &ONE_NODE, 1, 1, "none")
 }
 
 fn confirmed_messages_survive_crashes_that_leave_all(rt: HostRuntime) -> Result<()> {
-    stop_both(rt, "whole")
+    stop_both(rt, &ONE_NODE, 1, 1, "whole")
 }
 
 fn confirmed_messages_survive_crashes_that_leave_20_bytes(rt: HostRuntime) -> Result<()> {
-    stop_both(rt, "cut 20")
+    stop_both(rt, &ONE_NODE, 1, 1, "cut 20")
+}
+
+fn confirmed_messages_survive_where_one_of_three_disks_fails(rt: HostRuntime) -> Result<()> {
+    for stopping in 1..=3 {
+        stop_both(rt, &THREE_NODES, 3, stopping, "none")?;
+    }
+    Ok(())
 }
 
 /// What is printed where the sync of a message's batch fails: no answer, and no row of it.
@@ -109,17 +140,17 @@ const UNSYNCED: &str =
 fn a_message_whose_sync_fails_is_not_answered(rt: HostRuntime) -> Result<()> {
     let mut unsynced = 0;
     for calls in 0..40 {
-        let mut yard = StoppingYard::new(rt.alloc(), [Stop::Once(calls), Stop::Never]);
+        let mut yard = StoppingYard::new(rt.alloc(), 1, 1, [Stop::Once(calls), Stop::Never])?;
         let ran = serve(
             rt,
-            &OPTIONS,
+            &ONE_NODE,
             &mut yard,
             "publish a\nget\ncrash 1 none\n",
             0,
             0,
         )?;
-        let was_appended = is_in_lane(yard.lanes_before(), 1, "a");
-        let is_lost = was_appended && !is_in_lane(yard.lanes(), 1, "a");
+        let was_appended = is_kept(yard.lanes_before(), 1, "a");
+        let is_lost = was_appended && !is_kept(yard.lanes(), 1, "a");
         if is_lost {
             ensure!(ran.printed()? == UNSYNCED, "{:?}", ran.printed()?);
             unsynced += 1;
@@ -135,6 +166,7 @@ pub fn check(trials: &mut Trials) -> Result<()> {
         confirmed_messages_survive_crashes_that_leave_nothing,
         confirmed_messages_survive_crashes_that_leave_all,
         confirmed_messages_survive_crashes_that_leave_20_bytes,
+        confirmed_messages_survive_where_one_of_three_disks_fails,
         a_message_whose_sync_fails_is_not_answered,
     );
     Ok(())

@@ -1,65 +1,182 @@
--- What a node's call has done, as its line asks.
-use Rattle.std.proofs.Common.{ℕ, Bool, List, [], Some, None, refl, sym, append-nil}
-use Rattle.std.specs.Prelude.{Contains}
+-- What a call of nodes has done, as its line asks.
+use Rattle.std.proofs.Common.{◌≡◌, ◌+◌, ℕ, Bool, List, [], ◌++◌, Result, refl, sym, subst, append-nil}
+use Rattle.std.specs.Prelude.{IfErr, IsOkUnless, OnOk}
+use Rattle.std.proofs.lemmas.Result.{IfErr-weaker, on_ok_weaker}
+use Rattle.qq_base.specs.Ids.{client}
 use Rattle.qq_base.specs.declared.ids.QueueId.{QueueId}
-use Rattle.qq_calls.specs.Named.{IsBody}
-use Rattle.qq_node_queue.specs.Range.{MayStamp}
+use Rattle.qq_base.specs.declared.ids.SessionId.{SessionId}
+use Rattle.qq_base.specs.declared.memory.Memory.{Memory}
+use Rattle.qq_base.specs.declared.memory.Memory.TheVariants.{Want, Spent}
 use Rattle.qq_disk.specs.Disk.{Disk}
 use Rattle.qq_entry.specs.declared.command.Unstamped.{Unstamped}
-use Rattle.qq_entry.specs.declared.command.Unstamped.TheVariants as bodies
-use Rattle.qq_node.specs.declared.node.Node.{Node as Held}
-use Rattle.qq_node.specs.Node.{AtQueue, Stands}
-use Rattle.qq_node_laws.specs.Serves.{Seen, Serves}
-use Rattle.qq_broker_run.specs.Service.{HasServed}
-use Rattle.qq_world.specs.Node.{Setup, Node}
-use Rattle.qq_world.specs.Rules.{Line, Nothing, IsLine}
-use Rattle.qq_broker.specs.Nodes.{NumbersPlaces, IsNodeOf}
+use Rattle.qq_script_lines.specs.declared.line.ScriptLine.{ScriptLine}
+use Rattle.qq_script_lines.specs.declared.line.ScriptLine.TheVariants.{Nothing, Publish, Send}
+use Rattle.qq_setup.specs.declared.setup.Setup.{Setup}
+use Rattle.qq_setup.specs.Setup.{state_of}
+use Rattle.qq_cluster.specs.Cluster.{Cluster, ClusterEvent, Setup as ClusterSetup}
+use Rattle.qq_cluster.specs.Lines.{AndPumped, IsLine, IsRouted, publish_with}
+use Rattle.qq_cluster_run.specs.Serving.{Run, after_all, cluster_in, setup_in}
+use Rattle.qq_cluster_run.specs.Setup.{places_for}
+use Rattle.qq_cluster_run.specs.Troubles.{Trouble}
+use Rattle.qq_nodes.specs.Nodes.{GaveUp, Served}
+use Rattle.qq_nodes.specs.Sending.{numbers_of}
+use Rattle.qq_nodes.specs.declared.nodes.Nodes.{Nodes}
+use Rattle.qq_broker.specs.Nodes.{Holds, Meets}
+use Rattle.qq_broker.specs.Serving.{IsGivenUp, IsServed, run_after}
+use Rattle.qq_broker.proofs.GoingOn.{given-up, had-so, served}
 
--- a body in range has bytes, whatever stamp it gets
-pub body-stamps : (body : Unstamped) → IsBody body → MayStamp body
-body-stamps (bodies.Enqueue None message) is = λ by counted. ((counted.0, tt, is.0), is.1)
-body-stamps (bodies.Enqueue (Some from) message) is = absurd is
-body-stamps bodies.Get is = λ by counted. (counted, tt)
-body-stamps (bodies.Subscribe tag mode) is = λ by counted. (((counted, is.0), is.1), tt)
-body-stamps (bodies.Cancel tag) is = λ by counted. ((counted, is), tt)
-body-stamps (bodies.Credit tag count credit drain) is = λ by counted. (((counted, is.0), is.1, is.2), tt)
-body-stamps (bodies.Settle tag ids) is = λ by counted. (((counted, is.0), is.1), tt)
-body-stamps (bodies.Return tag ids) is = λ by counted. (((counted, is.0), is.1), tt)
-body-stamps (bodies.Discard tag ids) is = λ by counted. (((counted, is.0), is.1), tt)
-body-stamps bodies.Purge is = λ by counted. (counted, tt)
+-- what may come of a line
+abbrev pub of_line : ScriptLine → ClusterSetup → Cluster → List ClusterEvent → Type 0
+of_line line setup = IsLine setup line
 
--- nothing was asked
-pub has-nothing : (setup : Setup) (n : Node) (Stands' : Node → Type 0) (text : List ℕ) → Stands' n
-    → HasServed setup n Nothing Stands' text text
-has-nothing setup n Stands' text stands = record {
-  events = [];
-  allowed = refl;
-  stands = stands;
-  says = sym (append-nil text);
-}
+-- what may come of a line may come of another
+abbrev pub IsAs : ScriptLine → ScriptLine → ClusterSetup → Type 0
+IsAs line other setup =
+    (c : Cluster) (events : List ClusterEvent) → IsLine setup line c events → IsLine setup other c events
 
--- a line of the whole node
-pub has-served : {D : Type 0} (tells : D → Bool) (past : D → List Disk) (setup : Setup) (n : Node) (line : Line)
-    (node : Held D) (a b : Seen) (before later : List ℕ) → NumbersPlaces setup
-    → Serves setup n (IsLine setup line n) (Stands tells past setup node) a b before later
-    → HasServed setup n line (IsNodeOf tells past setup node) before later
-has-served tells past setup n line node a b before later numbers so = record {
-  events = so.events;
-  allowed = so.means;
-  stands = (so.stands, numbers);
-  says = so.says;
-}
+-- there was no memory
+pub want-given-up : {T : Type 0} (met : Trouble → Type 0) (setup : ClusterSetup) (events : List ClusterEvent)
+    (line : ScriptLine) (r : Result T Memory) → IsOkUnless r Want → IfErr r (IsGivenUp met setup events line)
+want-given-up met setup events line r want =
+    IfErr-weaker r _ (IsGivenUp met setup events line)
+    (λ memory is. subst (IsGivenUp met setup events line) (sym is) tt) want
 
--- a line of one of its queues
-pub has-served-at : {D : Type 0} (tells : D → Bool) (past : D → List Disk) (setup : Setup) (n : Node)
-    (rule : ℕ → Line) (queue : QueueId) (node : Held D) (a b : Seen) (before later : List ℕ) → NumbersPlaces setup
-    → Contains setup.places queue.0
-    → Serves setup n (AtQueue queue (λ (s : Setup) place. IsLine s (rule place)) setup n) (Stands tells past setup node)
-    a b before later
-    → HasServed setup n (rule queue.0) (IsNodeOf tells past setup node) before later
-has-served-at tells past setup n rule queue node a b before later numbers has so = record {
-  events = so.events;
-  allowed = so.means.known queue.0 has (numbers queue.0 has);
-  stands = (so.stands, numbers);
-  says = so.says;
-}
+module _ {D : Type 0} (given : ℕ → D → Bool) (tells : D → Bool) (past : D → List Disk) (faults : D → ℕ)
+    (s : Setup) where
+  -- by a rule that is the line's
+  pub all-served : {T : Type 0} (line : ScriptLine) (r : Result T Memory) (old new : Nodes D) (before later : List ℕ)
+      → OnOk r (Served tells past faults (of_line line) old new before later) → (run : Run)
+      → Holds given tells past faults s old run → OnOk r (IsServed given tells past faults s run line new before later)
+  all-served line r old new before later so = λ run h.
+      on_ok_weaker r
+      (λ sv. served given tells past faults s run line (of_line line) old new before later h (λ events allowed. allowed)
+      sv) so
+
+  -- of a call that has no result
+  pub just-served : (line : ScriptLine) (old new : Nodes D) (before later : List ℕ)
+      → Served tells past faults (of_line line) old new before later → (run : Run)
+      → Holds given tells past faults s old run
+      → IsServed given tells past faults s run line new before later
+  just-served line old new before later so = λ run h.
+      served given tells past faults s run line (of_line line) old new before later h (λ events allowed. allowed) so
+
+  pub all-given-up : {T : Type 0} (line : ScriptLine) (r : Result T Memory) (old left : Nodes D)
+      → IfErr r (GaveUp tells past faults (of_line line) old left) → (run : Run) (before after : ℕ)
+      → Holds given tells past faults s old run
+      → IfErr r (IsGivenUp (Meets given tells past faults before after) (setup_in s run) run.events line)
+  all-given-up line r old left so = λ run before after h.
+      IfErr-weaker r (GaveUp tells past faults (of_line line) old left)
+      (IsGivenUp (Meets given tells past faults before after) (setup_in s run) run.events line)
+      (λ memory sv. given-up given tells past faults s run line (of_line line) old left before after memory h
+      (λ c events allowed. allowed) sv) so
+
+  -- ---- nothing is asked
+
+  same-run : (held : Nodes D) (run : Run) (lines : ℕ) (events : List ClusterEvent) → events ≡ run.events
+      → Holds given tells past faults s held run
+      → Holds given tells past faults s held (record { lines = lines; logs = run.logs; events = events })
+  same-run held run lines events is h =
+      subst (λ (l : List ClusterEvent). Holds given tells past faults s held
+      (record { lines = lines; logs = run.logs; events = l }))
+      (sym is) (record { new = h.new; stands = h.stands; disks = h.disks })
+
+  pub nothing-served : (held : Nodes D) (text : List ℕ) (run : Run) → Holds given tells past faults s held run
+      → IsServed given tells past faults s run Nothing held text text
+  unfolding IsLine
+  nothing-served held text run h =
+      let next = same-run held run (run.lines + 1) (run.events ++ []) (append-nil run.events) h in
+      record {
+        more = [];
+        allowed = refl;
+        disks = had-so given tells past faults s held (run_after run (run.events ++ [])) next;
+        stands = next;
+        says = sym (append-nil text);
+      }
+
+  -- ---- messages
+
+  routed : (run : Run) (by : SessionId) (exchange key body : List ℕ) (command : Unstamped) (queues : List QueueId)
+      → command ≡ publish_with key body → numbers_of queues ≡ places_for (state_of s).table exchange key
+      → (c : Cluster) (events : List ClusterEvent)
+      → AndPumped (setup_in s run) (IsRouted by.number command (numbers_of queues)) c events
+      → IsLine (setup_in s run) (Send by exchange key body) c events
+  unfolding IsLine
+  routed run by exchange key body command queues is are c events allowed =
+      subst
+      (λ (b : Unstamped). AndPumped (setup_in s run) (IsRouted by.number b (places_for (state_of s).table exchange key))
+      c events)
+      is
+      (subst (λ (l : List ℕ). AndPumped (setup_in s run) (IsRouted by.number command l) c events) are allowed)
+
+  -- a message's command is given where it is routed to
+  abbrev Routed : SessionId → Unstamped → List QueueId → ClusterSetup → Cluster → List ClusterEvent → Type 0
+  Routed by command queues setup = AndPumped setup (IsRouted by.number command (numbers_of queues))
+
+  pub sent : {T : Type 0} (by : SessionId) (exchange key body : List ℕ) (command : Unstamped) (queues : List QueueId)
+      (r : Result T Memory) (old new : Nodes D) (before later : List ℕ) → command ≡ publish_with key body
+      → numbers_of queues ≡ places_for (state_of s).table exchange key
+      → OnOk r (Served tells past faults (Routed by command queues) old new before later) → (run : Run)
+      → Holds given tells past faults s old run
+      → OnOk r (IsServed given tells past faults s run (Send by exchange key body) new before later)
+  sent by exchange key body command queues r old new before later is are so = λ run h.
+      on_ok_weaker r
+      (λ sv. served given tells past faults s run (Send by exchange key body) (Routed by command queues) old new before
+      later h (routed run by exchange key body command queues is are _) sv) so
+
+  pub sent-in-vain : {T : Type 0} (by : SessionId) (exchange key body : List ℕ) (command : Unstamped)
+      (queues : List QueueId) (r : Result T Memory) (old left : Nodes D) → command ≡ publish_with key body
+      → numbers_of queues ≡ places_for (state_of s).table exchange key
+      → IfErr r (GaveUp tells past faults (Routed by command queues) old left) → (run : Run) (before after : ℕ)
+      → Holds given tells past faults s old run
+      → IfErr r (IsGivenUp (Meets given tells past faults before after) (setup_in s run) run.events
+      (Send by exchange key body))
+  sent-in-vain by exchange key body command queues r old left is are so = λ run before after h.
+      IfErr-weaker r (GaveUp tells past faults (Routed by command queues) old left)
+      (IsGivenUp (Meets given tells past faults before after) (setup_in s run) run.events (Send by exchange key body))
+      (λ memory sv. given-up given tells past faults s run (Send by exchange key body) (Routed by command queues) old
+      left before after memory h (routed run by exchange key body command queues is are) sv) so
+
+  -- ---- a line that is as another one
+
+  pub served-as : {T : Type 0} (line other : ScriptLine) (r : Result T Memory) (held : Nodes D) (before later : List ℕ)
+      (run : Run) → IsAs line other (setup_in s run) → OnOk r
+      (IsServed given tells past faults s run line held before later)
+      → OnOk r (IsServed given tells past faults s run other held before later)
+  served-as line other r held before later run same =
+      on_ok_weaker r
+      (λ (so : IsServed given tells past faults s run line held before later). record {
+        more = so.more;
+        allowed = same (cluster_in s run) so.more so.allowed;
+        disks = so.disks;
+        stands = so.stands;
+        says = so.says;
+      })
+
+pub given-up-as : {T : Type 0} (line other : ScriptLine) (r : Result T Memory) (met : Trouble → Type 0)
+    (setup : ClusterSetup) (events : List ClusterEvent) → IsAs line other setup
+    → IfErr r (IsGivenUp met setup events line) → IfErr r (IsGivenUp met setup events other)
+given-up-as line other r met setup events same =
+    IfErr-weaker r (IsGivenUp met setup events line) (IsGivenUp met setup events other) by
+  where
+    by : (memory : Memory) → IsGivenUp met setup events line memory → IsGivenUp met setup events other memory
+    by Want so = tt
+    by (Spent number) so = record {
+      early = so.early;
+      begins = record {
+        rest = so.begins.rest;
+        allowed = same (after_all setup events) (so.early ++ so.begins.rest) so.begins.allowed;
+      };
+      number = so.number;
+      past = so.past;
+      stands = so.stands;
+      is = so.is;
+    }
+
+-- a message of session 1, whose key is the first queue's name
+pub publishes : (setup : ClusterSetup) (by : SessionId) (exchange key body : List ℕ) → by ≡ client 1 → exchange ≡ []
+    → key ≡ setup.name setup.first → IsAs (Send by exchange key body) (Publish body) setup
+unfolding IsLine
+publishes setup by exchange key body one none first c events so =
+    subst (λ (k : List ℕ). IsLine setup (Send (client 1) [] k body) c events) first
+    (subst (λ (x : List ℕ). IsLine setup (Send (client 1) x key body) c events) none
+    (subst (λ (session : SessionId). IsLine setup (Send session exchange key body) c events) one so))

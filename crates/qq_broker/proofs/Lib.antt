@@ -1,4 +1,15 @@
-mod Plain
-mod NodeQueues
-mod Asked
-mod Served
+pub mod Failing
+pub mod Living
+pub mod GoingOn
+pub mod Beginning
+pub mod Refusing
+pub mod Crashes
+pub mod Opens
+pub mod Targets
+pub mod Meeting
+pub mod Bodies
+pub mod Rows
+pub mod Asked
+pub mod Audited
+pub mod Looped
+pub mod Closed

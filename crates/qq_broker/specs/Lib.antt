@@ -1,2 +1,3 @@
-pub mod Queues
+pub mod Lives
 pub mod Nodes
+pub mod Serving

@@ -1,103 +1,105 @@
--- A node of a run.
-use Rattle.std.specs.Prelude.{◌≡◌, ℕ, Bool, false, List, Option, Some, None, Ok, Err, IsTrue, Contains}
+-- The nodes of a run: what they had, and what the run meets in its yard and in the disks that it gives.
+use Rattle.std.specs.Prelude.{◌≡◌, ◌<◌, ◌≤◌, ℕ, Bool, true, List, Option, Some, None, Ok, Err, IsTrue, length}
 use Rattle.qq_base.specs.Causes.{Rose}
-use Rattle.qq_base.specs.declared.ids.QueueId.{QueueId}
-use Rattle.qq_base.specs.declared.memory.Memory.TheVariants.{Want, Spent}
-use Rattle.qq_wal_chain.specs.Lanes.{Lanes}
 use Rattle.qq_disk.specs.Disk.{Disk, now}
 use Rattle.qq_log.specs.Stable.{Stable}
-use Rattle.qq_world.specs.Node.{Setup, Node}
-use Rattle.qq_node_laws.specs.Reads.{queue_at, queues_of, state_in}
-use Rattle.qq_node.specs.declared.node.Node.{Node as Held}
-use Rattle.qq_node.specs.declared.opening.OpenFault.{OpenFault}
-use Rattle.qq_node.specs.declared.opening.OpenFault.TheVariants as open_fault
-use Rattle.qq_node.specs.declared.restarting.RestartFault.{RestartFault}
-use Rattle.qq_node.specs.declared.restarting.RestartFault.TheVariants as restart_fault
-use Rattle.qq_node.specs.Found.{as_told}
-use Rattle.qq_node.specs.Node.{Stands}
-use Rattle.qq_broker_run.specs.declared.stop.AskStop.{AskStop}
-use Rattle.qq_broker_run.specs.declared.stop.AskStop.TheVariants.{Ended, NoMemory}
-use Rattle.qq_broker_run.specs.Endings.{Ending, yard_fault, damaged, other_version, lost, no_memory, spent}
-use Rattle.qq_broker_run.specs.Serving.{IsSpentEnd}
-use Rattle.qq_broker_run.specs.Troubles.{Damage, AtPlace, OfVersion, Trouble, YardFails, DiskFails, DiskIsSilent, FilesBreak, QueueIsFound}
-use Rattle.qq_recover.specs.declared.fault.RecoverFault.{RecoverFault}
-use Rattle.qq_recover.specs.declared.fault.RecoverFault.TheVariants as recover_fault
-use Rattle.qq_recover.specs.Reading.{lanes_read, shown}
+use Rattle.qq_lots.specs.Left.{state_in}
+use Rattle.qq_lots.specs.Lots.{ids_of}
 use Rattle.qq_ports.specs.Yard.{IsNew}
+use Rattle.qq_raft_protocol.specs.Facts.{In}
+use Rattle.qq_recover.specs.Reading.{lanes_read, shown}
+use Rattle.qq_recover.specs.declared.fault.RecoverFault.{RecoverFault}
+use Rattle.qq_recover.specs.declared.fault.RecoverFault.TheVariants as recover_faults
+use Rattle.qq_setup.specs.declared.setup.Setup.{Setup}
+use Rattle.qq_wal_chain.specs.Lanes.{Lanes}
+use Rattle.qq_cluster.specs.Cluster.{ClusterEvent, Setup as ClusterSetup}
+use Rattle.qq_cluster_laws.specs.Linked.{lot_of}
+use Rattle.qq_cluster_laws.specs.Serves.{seen_of}
+use Rattle.qq_cluster_run.specs.Serving.{Histories, Run, after_all, cluster_in, setup_in}
+use Rattle.qq_cluster_run.specs.Setup.{IsPlain, new_logs}
+use Rattle.qq_cluster_run.specs.Troubles.{Damage, AtPlace, OfVersion, Trouble, YardFails, DiskFails, FilesBreak, QueueIsFound, NumberEnds}
+use Rattle.qq_nodes.specs.Ends.{NumberAt}
+use Rattle.qq_nodes.specs.Nodes.{Stands, seen}
+use Rattle.qq_nodes.specs.declared.nodes.Nodes.{Nodes}
+use Rattle.qq_broker.specs.Lives.{Became}
 
--- a queue's place is its number
-abbrev pub NumbersPlaces : Setup → Type 0
-NumbersPlaces setup =
-    (place : ℕ) → Contains setup.places place → queue_at setup place ≡ record { 0 = place }
+-- a setup that nodes may be opened with: some queues without arguments, and a few nodes
+pub record MayRun (s : Setup) : Type 0 where
+  pub plain : IsPlain s
+  pub few : s.nodes ≤ 7
+  pub some : 0 < length s.queues
 
--- it stands for a node of such queues
-abbrev pub IsNodeOf : {D : Type 0} → (D → Bool) → (D → List Disk) → Setup → Held D → Node → Type 0
-IsNodeOf tells past setup node n = Stands tells past setup node n × NumbersPlaces setup
+-- ---- what the disks had
 
--- there was no memory, or a number stands at its end
-abbrev pub IsMemoryStop : AskStop → Type 0
-IsMemoryStop (Ended ending) = IsSpentEnd ending
-IsMemoryStop NoMemory = Unit {0}
+-- where these events happened, each node's disk is what has become of one that the yard gave for it
+abbrev pub Had : {D : Type 0} → (ℕ → D → Bool) → (D → Bool) → (D → List Disk) → (D → ℕ) → Histories
+Had {D} given tells past faults setup events =
+    (k : ℕ) → In k setup.nodes → (last : D) × Became given tells past faults setup events k last
+
+-- this is a node's disk as it is
+abbrev pub IsDiskOf : {D : Type 0} → (D → Bool) → (D → List Disk) → (D → ℕ) → Nodes D → ℕ → D → Type 0
+IsDiskOf tells past faults held k disk = seen tells past faults held k ≡ seen_of tells past faults disk
+
+-- Nodes stand for the cluster of a run over new logs, and each one's disk is what has become of one that the yard gave
+-- for it.
+pub record Holds {D : Type 0} (given : ℕ → D → Bool) (tells : D → Bool) (past : D → List Disk) (faults : D → ℕ)
+    (s : Setup) (held : Nodes D) (run : Run) : Type 0 where
+  pub new : run.logs ≡ new_logs
+  pub stands : Stands tells past (setup_in s run) held (cluster_in s run)
+  pub disks : (k : ℕ) → In k (setup_in s run).nodes
+      → (last : D) × IsDiskOf tells past faults held k last
+      × Became given tells past faults (setup_in s run) run.events k last
 
 -- ---- what a run meets in its yard, and in the disks that it gives
 
--- its count of faults rose since nothing was on it
-pub record HasFailed {D : Type 0} (tells : D → Bool) (past : D → List Disk) (faults : D → ℕ) : Type 0 where
-  pub disk : D
-  pub left : D
-  pub fresh : IsTrue (tells disk) → IsNew (past disk)
-  pub told : tells left ≡ tells disk
-  pub rose : Rose (faults disk) (faults left)
-
--- it doesn't tell what it holds
-pub record IsSilent {D : Type 0} (tells : D → Bool) : Type 0 where
-  pub disk : D
-  pub is : tells disk ≡ false
+-- a disk's count of faults rose since the yard gave it for this node
+pub record HasFailed {D : Type 0} (given : ℕ → D → Bool) (tells : D → Bool) (past : D → List Disk) (faults : D → ℕ)
+    (k : ℕ) : Type 0 where
+  pub first : D
+  pub given_is : given k first ≡ true
+  pub last : D
+  pub fresh : IsTrue (tells first) → IsNew (past first)
+  pub told : tells last ≡ tells first
+  pub rose : Rose (faults first) (faults last)
 
 -- where recovery refuses a disk
 abbrev pub damage_of : RecoverFault → Option Damage
-damage_of (recover_fault.Damaged file place) = Some (AtPlace file.number place)
-damage_of (recover_fault.Version file byte) = Some (OfVersion file.number byte)
+damage_of (recover_faults.Damaged file place) = Some (AtPlace file.number place)
+damage_of (recover_faults.Version file byte) = Some (OfVersion file.number byte)
 damage_of _ = None
 
--- the first place where what it holds breaks the rules of the log of these queues
-pub record IsBroken {D : Type 0} (tells : D → Bool) (past : D → List Disk) (queues : List QueueId) (damage : Damage)
-    : Type 0 where
-  pub disk : D
+-- What has become of a node's disk breaks the rules of its log; where the disk shows its contents, recovery reads it so.
+pub record IsBroken {D : Type 0} (given : ℕ → D → Bool) (tells : D → Bool) (past : D → List Disk) (faults : D → ℕ)
+    (setup : ClusterSetup) (events : List ClusterEvent) (k : ℕ) (damage : Damage) : Type 0 where
+  pub last : D
+  pub became : Became given tells past faults setup events k last
   pub fault : RecoverFault
   pub is : damage_of fault ≡ Some damage
-  pub reads : IsTrue (tells disk) → lanes_read queues (shown (now (past disk))) ≡ Err fault
+  pub read : IsTrue (tells last) → lanes_read (ids_of (lot_of setup k)) (shown (now (past last))) ≡ Err fault
 
--- what recovery reads of a queue in it
-pub record HoldsQueue {D : Type 0} (tells : D → Bool) (past : D → List Disk) (setup : Setup) (place : ℕ) (lane : Stable)
-    : Type 0 where
-  pub disk : D
-  pub reads : IsTrue (tells disk) → (lanes : Lanes)
-      × (lanes_read (queues_of setup) (shown (now (past disk))) ≡ Ok lanes)
-      × (lane ≡ as_told (state_in lanes (queue_at setup place)))
+-- what recovery reads of a queue in what has become of a node's disk, where that shows its contents
+pub record HoldsQueue {D : Type 0} (given : ℕ → D → Bool) (tells : D → Bool) (past : D → List Disk) (faults : D → ℕ)
+    (setup : ClusterSetup) (events : List ClusterEvent) (k place : ℕ) (lane : Stable) : Type 0 where
+  pub last : D
+  pub became : Became given tells past faults setup events k last
+  pub read : IsTrue (tells last) → (lanes : Lanes)
+      × (lanes_read (ids_of (lot_of setup k)) (shown (now (past last))) ≡ Ok lanes)
+      × (lane ≡ state_in lanes (setup.args place).queue)
 
-abbrev pub Meets : {D : Type 0} → (D → Bool) → (D → List Disk) → (D → ℕ) → (before after : ℕ) → Trouble → Type 0
-Meets tells past faults before after YardFails = Rose before after
-Meets tells past faults before after DiskFails = HasFailed tells past faults
-Meets tells past faults before after DiskIsSilent = IsSilent tells
-Meets tells past faults before after (FilesBreak setup damage) = IsBroken tells past (queues_of setup) damage
-Meets tells past faults before after (QueueIsFound setup place lane) = HoldsQueue tells past setup place lane
+-- after these events nodes have the number at its end, or the log that a call has left of them
+pub record HasNumber {D : Type 0} (tells : D → Bool) (past : D → List Disk) (setup : ClusterSetup)
+    (events : List ClusterEvent) (number : ℕ) : Type 0 where
+  pub held : Nodes D
+  pub left : Nodes D
+  pub stands : Stands tells past setup held (after_all setup events)
+  pub at : NumberAt tells past held left number
 
--- ---- how a run ends
-
--- whose node isn't opened
-abbrev pub open_ending : OpenFault → Ending
-open_ending open_fault.Disk = yard_fault
-open_ending (open_fault.Damaged file place) = damaged file.number place
-open_ending (open_fault.Version file byte) = other_version file.number byte
-open_ending (open_fault.Lost name noticed found) = lost name noticed found
-open_ending (open_fault.Memory Want) = no_memory
-open_ending (open_fault.Memory (Spent number)) = spent number
-
--- whose node isn't restarted
-abbrev pub restart_stop : RestartFault → AskStop
-restart_stop (restart_fault.Damaged file place) = Ended (damaged file.number place)
-restart_stop (restart_fault.Version file byte) = Ended (other_version file.number byte)
-restart_stop (restart_fault.Lost name noticed found) = Ended (lost name noticed found)
-restart_stop (restart_fault.Memory Want) = NoMemory
-restart_stop (restart_fault.Memory (Spent number)) = Ended (spent number)
+abbrev pub Meets : {D : Type 0} → (ℕ → D → Bool) → (D → Bool) → (D → List Disk) → (D → ℕ) → (before after : ℕ)
+    → Trouble → Type 0
+Meets given tells past faults before after YardFails = Rose before after
+Meets given tells past faults before after (DiskFails k) = HasFailed given tells past faults k
+Meets given tells past faults before after (FilesBreak setup events k damage) =
+    IsBroken given tells past faults setup events k damage
+Meets given tells past faults before after (QueueIsFound setup events k place lane) =
+    HoldsQueue given tells past faults setup events k place lane
+Meets given tells past faults before after (NumberEnds setup events number) = HasNumber tells past setup events number

@@ -1,55 +1,152 @@
-//! What a line asks of a node that neither crashes nor restarts it.
-ghost use Rattle.std.specs.Prelude.{◌≡◌, IfErr, OnOk};
-ghost use Rattle.qq_calls.specs.Calls.{rule_of};
-ghost use Rattle.qq_calls.specs.Named.{IsNamed};
-ghost use Rattle.qq_broker_run.specs.Service.{IsReached, HasServed};
-ghost use Rattle.qq_recover.specs.Recovered.{IsAtEnd};
-ghost use Rattle.qq_world.specs.Node.{Setup, Node as World};
-ghost use Rattle.qq_broker.specs.Nodes.{IsNodeOf};
+//! What a line asks of nodes that neither crashes nor restarts one.
+ghost use Rattle.std.specs.Prelude.{◌≡◌, ◌<◌, ℕ, Bool, IfErr, OnOk};
+ghost use Rattle.qq_base.specs.Ids.{client};
+ghost use Rattle.qq_script_lines.specs.declared.line.ScriptLine.TheVariants.{Publish, Send};
+ghost use Rattle.qq_cluster_run.specs.Named.{IsClient, IsNamed, IsShort};
+ghost use Rattle.qq_cluster_run.specs.Serving.{Run, setup_in};
+ghost use Rattle.qq_broker.specs.Nodes.{Holds, MayRun, Meets};
+ghost use Rattle.qq_broker.specs.Serving.{IsGivenUp, IsServed};
 
-use qq_base::Memory;
-use qq_calls::Call;
+use crate::routing::{publish_with, targets};
+use qq_base::{Bytes, Duplicate, Memory, SessionId, Text};
 use qq_disk::NodeDisk;
-use qq_node::Node;
+use qq_nodes::Nodes;
+use qq_script_lines::ScriptLine;
+use qq_setup::Setup;
 use std::alloc::Global;
 
-/// A node does what a line asks of it, and `text` grows by what that prints. A crash and a restart aren't asked
-/// of it: they are answered as if there were no memory.
-pub fn ask<D: NodeDisk>(
+// A client's message to an exchange.
+fn send<D: NodeDisk>(
     alloc: Global,
-    node: &mut Node<D>,
-    call: Call,
+    setup: &Setup,
+    nodes: &mut Nodes<D>,
+    session: SessionId,
+    exchange: Text,
+    key: Text,
+    body: Bytes,
     text: &mut Vec<u8>,
 ) -> Result<(), Memory>
-    requires { (setup : Setup) × (n : World) × IsReached setup n
-        × IsNodeOf D.tells D.past setup node.old n × IsNamed setup.places (rule_of call) }
-    ensures ok { (setup : Setup) (n : World) → IsReached setup n →
-        IsNodeOf D.tells D.past setup node.old n → IsNamed setup.places (rule_of call) →
-        OnOk result (HasServed setup n (rule_of call) (IsNodeOf D.tells D.past setup node.new)
-        text.old.items text.new.items) }
-    ensures cause { IfErr result IsAtEnd }
+    requires may { MayRun setup.now }
+    requires holds { (given : ℕ → D → Bool) × ((run : Run)
+        × Holds given D.tells D.past D.faults setup.now nodes.old run) }
+    requires client { IsClient session }
+    requires short { IsShort key body }
+    ensures ok { (given : ℕ → D → Bool) (run : Run) →
+        Holds given D.tells D.past D.faults setup.now nodes.old run →
+        OnOk result (IsServed given D.tells D.past D.faults setup.now run
+        (Send session exchange key body) nodes.new text.old.items text.new.items) }
+    ensures cause { (given : ℕ → D → Bool) (run : Run) (before after : ℕ) →
+        Holds given D.tells D.past D.faults setup.now nodes.old run →
+        IfErr result (IsGivenUp (Meets given D.tells D.past D.faults before after)
+        (setup_in setup.now run) run.events (Send session exchange key body)) }
 {
-    match call {
-        Call::Nothing => Ok(()),
-        Call::Send {
-            queue,
+    let queues = match targets(alloc, setup, &exchange, &key) {
+        Ok(queues) => queues,
+        Err(memory) => return Err(memory),
+    };
+    let command = match publish_with(alloc, key, body) {
+        Ok(command) => command,
+        Err(memory) => return Err(memory),
+    };
+    nodes.send(alloc, queues.as_slice(), session.number, command, text)
+}
+
+// A message of session 1 to the first queue.
+fn publish<D: NodeDisk>(
+    alloc: Global,
+    setup: &Setup,
+    nodes: &mut Nodes<D>,
+    body: Bytes,
+    text: &mut Vec<u8>,
+) -> Result<(), Memory>
+    requires may { MayRun setup.now }
+    requires holds { (given : ℕ → D → Bool) × ((run : Run)
+        × Holds given D.tells D.past D.faults setup.now nodes.old run
+        × IsNamed (setup_in setup.now run) (Publish body)) }
+    ensures ok { (given : ℕ → D → Bool) (run : Run) →
+        Holds given D.tells D.past D.faults setup.now nodes.old run →
+        OnOk result (IsServed given D.tells D.past D.faults setup.now run
+        (Publish body) nodes.new text.old.items text.new.items) }
+    ensures cause { (given : ℕ → D → Bool) (run : Run) (before after : ℕ) →
+        Holds given D.tells D.past D.faults setup.now nodes.old run →
+        IfErr result (IsGivenUp (Meets given D.tells D.past D.faults before after)
+        (setup_in setup.now run) run.events (Publish body)) }
+{
+    let first = &setup.queues.as_slice()[0];
+    let key = match first.name.copy(alloc) {
+        Ok(key) => key,
+        Err(memory) => return Err(memory),
+    };
+    let exchange = Text::new(alloc);
+    send(
+        alloc,
+        setup,
+        nodes,
+        SessionId::client(1),
+        exchange,
+        key,
+        body,
+        text,
+    )
+}
+
+/// Nodes do what a line asks of them, and `text` grows by what that prints. A crash and a restart aren't asked
+/// of them: they are answered as if there were no memory.
+///
+/// - `ok`: what happened is what the line allows.
+/// - `cause`: there was no memory, or in the midst of the line a number stands at its end.
+#[tactic(none)]
+pub fn ask<D: NodeDisk>(
+    alloc: Global,
+    setup: &Setup,
+    nodes: &mut Nodes<D>,
+    line: ScriptLine,
+    text: &mut Vec<u8>,
+) -> Result<(), Memory>
+    requires may { MayRun setup.now }
+    requires holds { (given : ℕ → D → Bool) × ((run : Run)
+        × Holds given D.tells D.past D.faults setup.now nodes.old run
+        × IsNamed (setup_in setup.now run) line) }
+    ensures ok { (given : ℕ → D → Bool) (run : Run) →
+        Holds given D.tells D.past D.faults setup.now nodes.old run →
+        OnOk result (IsServed given D.tells D.past D.faults setup.now run
+        line nodes.new text.old.items text.new.items) }
+    ensures cause { (given : ℕ → D → Bool) (run : Run) (before after : ℕ) →
+        Holds given D.tells D.past D.faults setup.now nodes.old run →
+        IfErr result (IsGivenUp (Meets given D.tells D.past D.faults before after)
+        (setup_in setup.now run) run.events line) }
+{
+    match line {
+        ScriptLine::Nothing => Ok(()),
+        ScriptLine::Publish { body } => publish(alloc, setup, nodes, body, text),
+        ScriptLine::Send {
             session,
+            exchange,
+            key,
             body,
-        } => node.send(alloc, queue, session, body, text),
-        Call::Resend { session } => node.resend(alloc, session, text),
-        Call::End { session } => node.end(alloc, session, text),
-        Call::Mute { session, muted } => node.mute(alloc, session, muted),
-        Call::Auto { auto } => {
-            node.set_auto(auto);
+        } => send(alloc, setup, nodes, session, exchange, key, body, text),
+        ScriptLine::Client {
+            session,
+            queue,
+            body,
+        } => nodes.give(alloc, queue, session.number, body, text),
+        ScriptLine::End { session } => nodes.end(alloc, session.number, text),
+        ScriptLine::Resend { session } => nodes.resend(alloc, session.number, text),
+        ScriptLine::Mute { session, muted } => nodes.mute(alloc, session.number, muted),
+        ScriptLine::Pace { auto } => {
+            nodes.set_auto(auto);
             Ok(())
         }
-        Call::Pump => node.pump(alloc, text),
-        Call::Write => node.write(alloc, text),
-        Call::Sync => node.sync(alloc, text),
-        Call::Notice { queue } => node.notice(alloc, queue, text),
-        Call::Tick { queue } => node.tick(alloc, queue, text),
-        Call::Show { queue } => node.show(alloc, queue, text),
-        Call::Crash { .. } => Err(Memory::Want),
-        Call::Restart => Err(Memory::Want),
+        ScriptLine::Pump => nodes.pump(alloc, text),
+        ScriptLine::Write { node } => nodes.write(alloc, node, text),
+        ScriptLine::Sync { node } => nodes.sync(alloc, node, text),
+        ScriptLine::Notice { node, queue } => nodes.notice(alloc, node, queue, text),
+        ScriptLine::Tick { node, queue } => nodes.tick(alloc, node, queue, text),
+        ScriptLine::Deliver { queue, message } => nodes.deliver(alloc, queue, message, text),
+        ScriptLine::Lose { queue, message } => nodes.lose(alloc, queue, message, text),
+        ScriptLine::Copy { queue, message } => nodes.copy(alloc, queue, message, text),
+        ScriptLine::Show { queue } => nodes.show(alloc, queue, text),
+        ScriptLine::Crash { .. } => Err(Memory::Want),
+        ScriptLine::Restart { .. } => Err(Memory::Want),
     }
 }

@@ -1,13 +1,12 @@
-//! The program's top call: a node is opened over a disk of a yard, and serves a script's lines.
+//! The program's top call: the nodes of a cluster are opened over the disks of a yard, and serve a script's lines.
 #![tactic(auto)]
 
 mod asking;
-mod laws;
-mod meets;
+mod auditing;
+mod opening;
 mod program;
-mod queues;
+mod routing;
 mod serving;
+mod stopping;
 
-pub use laws::{runs_carry_out_each_command_once, runs_have_queues_of_their_own};
-pub use meets::troubles_of_a_run_are_met;
 pub use program::run;

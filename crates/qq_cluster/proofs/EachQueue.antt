@@ -10,8 +10,8 @@ use Rattle.qq_laws.specs.Always.{queue_audit}
 use Rattle.qq_laws.specs.Numbers.{CountsCommands}
 use Rattle.qq_model.specs.Gate.{IsNumbered}
 use Rattle.qq_session.specs.Answered.{IsAnswered}
-use Rattle.qq_world.proofs.Handed.{all-front}
-use Rattle.qq_world.proofs.Once.{confirmed-once}
+use Rattle.qq_session.proofs.OpenCommands.{all-front}
+use Rattle.qq_session.proofs.Once.{confirmed-once}
 use Rattle.qq_cluster.specs.Cluster.{Setup, Cluster, ClusterEvent, Sets, Alike, At, NodeWrites, NodeSyncs, Fails, Crashes, FindsEach, Shows, SaysDown, SaysNoSuch, SaysUnroutable, SaysBusy, SaysEnded, Printed, Of, Stopped, IsDown, NoSuch, Unroutable, Busy, Ended, State, new_cluster, cluster_happens, cluster_after, part_of, parts_of, members_in_order, state_at, prints, all_prints}
 use Rattle.qq_cluster.specs.ClusterLaws.{HasGroups, HasItsQueues, IsTrueOf, PrintsWhatIsTrue}
 use Rattle.qq_cluster.specs.Queue.{Queue, Event, after, all_said, happens, said}

@@ -32,10 +32,10 @@ use Rattle.qq_raft_protocol.specs.World.{Lane}
 use Rattle.qq_session.specs.Arriving.{ArriveInOrder, Deed, Hands, WasHanded, fresh_command, handed}
 use Rattle.qq_session.specs.Publishing.{Numbers, OpenCommand, next_command}
 use Rattle.qq_session.proofs.AuditRows.{Contains-middle}
-use Rattle.qq_world.specs.Laws.{after_deeds, takes_of}
-use Rattle.qq_world.specs.World.{is_used, may_hand}
-use Rattle.qq_world.proofs.Deeds.{deeds-append}
-use Rattle.qq_world.proofs.Handed.{AreOpen, IsOfSession, client-same, deeds-open, deeds-session, first_numbers, handed-append, next-own}
+use Rattle.qq_session.specs.Deeds.{after_deeds, takes_of}
+use Rattle.qq_session.specs.Clients.{is_used, may_hand}
+use Rattle.qq_session.proofs.Heard.{deeds-append}
+use Rattle.qq_session.proofs.OpenCommands.{AreOpen, IsOfSession, client-same, deeds-open, deeds-session, first_numbers, handed-append, next-own}
 use Rattle.qq_cluster.specs.Laws.{IsBegun, all_moves, commands_of, deeds, deeds_at, queue_after}
 use Rattle.qq_cluster.specs.Queue.{Queue, Event, Mutes, Ends, Submits, TellsEnded, Resends, Downs, Ticks, Delivers, Loses, Copies, Writes, Syncs, Notices, Stops, Finds, acts, audit_rows, begin, happens, leader, moves, offered, rows_told, submits, waiting}
 use Rattle.qq_cluster.proofs.Groups.{args-are, group-is}

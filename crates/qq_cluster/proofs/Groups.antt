@@ -8,7 +8,7 @@ use Rattle.qq_model.specs.State.{empty_queue}
 use Rattle.qq_raft_model.specs.Group.{Event as Move, Group, group_after, happens as moved}
 use Rattle.qq_raft_model.specs.Promises.{AreDistinct, IsOpened, IsUp}
 use Rattle.qq_raft_model.specs.State.{Server}
-use Rattle.qq_world.proofs.Audits.{audit-front, audit-serial}
+use Rattle.qq_session.proofs.Audits.{audit-front, audit-serial}
 use Rattle.qq_cluster.specs.Laws.{IsBegun, KeepsAudit, all_moves, queue_after}
 use Rattle.qq_cluster.specs.Queue.{Queue, Event, after, audit_rows, begin, happens, moves}
 

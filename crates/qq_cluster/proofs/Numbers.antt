@@ -10,10 +10,10 @@ use Rattle.qq_entry.specs.declared.queue.QueueArgs.{QueueArgs}
 use Rattle.qq_raft_model.specs.Group.{Group}
 use Rattle.qq_session.specs.Arriving.{Deed, Hands}
 use Rattle.qq_session.specs.Publishing.{Numbers, new_numbers, hand}
-use Rattle.qq_world.specs.Laws.{after_deeds, takes_of}
-use Rattle.qq_world.specs.World.{Client, Clients, may_hand}
-use Rattle.qq_world.proofs.Deeds.{deeds-append, heard-numbers}
-use Rattle.qq_world.proofs.Ends.{all-ended}
+use Rattle.qq_session.specs.Deeds.{after_deeds, takes_of}
+use Rattle.qq_session.specs.Clients.{Client, Clients, may_hand}
+use Rattle.qq_session.proofs.Heard.{deeds-append, heard-numbers}
+use Rattle.qq_session.proofs.Ended.{all-ended}
 use Rattle.qq_cluster.specs.Laws.{StaysEnded, deeds, deeds_at, hands_at, queue_after}
 use Rattle.qq_cluster.specs.Queue.{Queue, Event, Mutes, Ends, Submits, TellsEnded, Resends, Downs, Ticks, Delivers, Loses, Copies, Writes, Syncs, Notices, Stops, Finds, acts, after, happens, begin, rows_told}
 

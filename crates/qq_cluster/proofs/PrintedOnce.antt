@@ -10,9 +10,10 @@ use Rattle.qq_entry.specs.declared.queue.QueueArgs.{QueueArgs}
 use Rattle.qq_session.proofs.AuditRows.{filter_map-append}
 use Rattle.qq_raft_model.specs.Group.{Group}
 use Rattle.qq_session.specs.Publishing.{Numbers}
-use Rattle.qq_world.specs.Laws.{closed_number}
-use Rattle.qq_world.specs.World.{Clients, Shown, Answered, WindowFull, delivered, hear_all, may_hand, printed, said_of}
-use Rattle.qq_world.proofs.PrintedOnce.{IsClosed, OpenBelow, closed-deeds, below-deeds, numbers_in, printed_numbers, Distinct, pairs-distinct, printed-distinct, printed-closed, never-printed, offered-none, delivered-none, distinct-append}
+use Rattle.qq_session.specs.Printed.{closed_number}
+use Rattle.qq_session.specs.Clients.{Clients, hear_all, may_hand, printed}
+use Rattle.qq_session.specs.Shown.{Shown, Answered, WindowFull, delivered, said_of}
+use Rattle.qq_session.proofs.PrintedOnce.{IsClosed, OpenBelow, closed-deeds, below-deeds, numbers_in, printed_numbers, Distinct, pairs-distinct, printed-distinct, printed-closed, never-printed, offered-none, delivered-none, distinct-append}
 use Rattle.qq_cluster.specs.Laws.{deeds_at}
 use Rattle.qq_cluster.specs.Queue.{Queue, Event, Mutes, Ends, Submits, TellsEnded, Resends, Downs, Ticks, Delivers, Loses, Copies, Writes, Syncs, Notices, Stops, Finds, all_said, effects_told, happens, has_leader, begin, offered, rows_told, said, told}
 use Rattle.qq_cluster.proofs.Numbers.{event-numbers}

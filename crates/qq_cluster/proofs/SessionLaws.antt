@@ -11,8 +11,8 @@ use Rattle.qq_laws.specs.Numbers.{CountsCommands}
 use Rattle.qq_model.specs.Gate.{IsNumbered}
 use Rattle.qq_raft_model.specs.Group.{Group}
 use Rattle.qq_session.specs.Answered.{IsAnswered}
-use Rattle.qq_world.specs.Laws.{IsAudited, IsConfirmedOnce}
-use Rattle.qq_world.proofs.Once.{confirmed-once}
+use Rattle.qq_session.specs.Printed.{IsAudited, IsConfirmedOnce}
+use Rattle.qq_session.proofs.Once.{confirmed-once}
 use Rattle.qq_cluster.specs.Laws.{IsBegun, IsMade, queue_after}
 use Rattle.qq_cluster.specs.Queue.{Event, Queue, all_said, audit_rows, begin}
 use Rattle.qq_cluster.proofs.Groups.{KeepsCommits, KnowsCommits, reached-new}

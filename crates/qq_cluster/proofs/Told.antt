@@ -20,11 +20,12 @@ use Rattle.qq_raft_model.specs.Promises.{IsUp}
 use Rattle.qq_raft_model.specs.Server.{is_ready}
 use Rattle.qq_raft_model.specs.State.{Server}
 use Rattle.qq_session.specs.Publishing.{Numbers}
-use Rattle.qq_world.specs.Laws.{IsAnswer, IsAudited}
-use Rattle.qq_world.specs.World.{Clients, Shown, Answered, Delivered, NoLeader, WindowFull, HasEnded, printed, effects_of_term, is_delivered_to, delivered, said_of, may_hand}
-use Rattle.qq_world.proofs.Audits.{audit-front}
-use Rattle.qq_world.proofs.Made.{effects-append, of-term}
-use Rattle.qq_world.proofs.Printed.{all-drop, delivered-audited, each-contained, front-contains, later-audited, offered-audited, printed-are}
+use Rattle.qq_session.specs.Printed.{IsAnswer, IsAudited}
+use Rattle.qq_session.specs.Clients.{Clients, printed, may_hand}
+use Rattle.qq_session.specs.Shown.{Shown, Answered, Delivered, NoLeader, WindowFull, HasEnded, effects_of_term, is_delivered_to, delivered, said_of}
+use Rattle.qq_session.proofs.Audits.{audit-front}
+use Rattle.qq_session.proofs.EffectsOfTerm.{effects-append, of-term}
+use Rattle.qq_session.proofs.PrintedAnswers.{all-drop, delivered-audited, each-contained, front-contains, later-audited, offered-audited, printed-are}
 use Rattle.qq_cluster.specs.Laws.{IsMade}
 use Rattle.qq_cluster.specs.Queue.{Queue, Event, Mutes, Ends, Submits, TellsEnded, Resends, Downs, Ticks, Delivers, Loses, Copies, Writes, Syncs, Notices, Stops, Finds, after, all_said, audit_rows, effects_at, effects_by, effects_told, group_then, happens, has_leader, is_shown, offered, rows_at, rows_by, rows_told, said, stepping, told}
 use Rattle.qq_cluster.proofs.Groups.{KnowsCommits, KeepsCommits, Reached, args-are, audit-grows, commits-grow, known-in, reached-next}

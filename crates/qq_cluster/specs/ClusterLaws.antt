@@ -6,7 +6,7 @@ use Rattle.qq_base.specs.declared.ids.QueueId.{QueueId}
 use Rattle.qq_entry.specs.declared.command.Unstamped.{Unstamped}
 use Rattle.qq_script_lines.specs.declared.line.ScriptLine.{ScriptLine}
 use Rattle.qq_script_lines.specs.declared.line.ScriptLine.TheVariants.{Write, Sync, Notice, Tick}
-use Rattle.qq_world.specs.Laws.{IsAudited, IsConfirmedOnce}
+use Rattle.qq_session.specs.Printed.{IsAudited, IsConfirmedOnce}
 use Rattle.qq_cluster.specs.Queue.{Queue, TellsEnded, audit_rows}
 use Rattle.qq_cluster.specs.Cluster.{Setup, Cluster, ClusterEvent, At, Fails, FindsEach, SaysDown, SaysEnded, Printed, Of, new_cluster, cluster_after, parts_of, all_prints}
 use Rattle.qq_cluster.specs.Rules.{Rule, some_queue, is_idle, is_ended, IsPump, IsGiven, IsResend}

@@ -17,8 +17,8 @@ use Rattle.qq_raft_model.specs.Server.{is_ready}
 use Rattle.qq_raft_model.specs.State.{Server}
 use Rattle.qq_session.specs.Arriving.{Deed, Hands, handed}
 use Rattle.qq_session.specs.Publishing.{new_numbers}
-use Rattle.qq_world.specs.Laws.{takes_of}
-use Rattle.qq_world.specs.World.{Shown, Delivered, NoLeader}
+use Rattle.qq_session.specs.Deeds.{takes_of}
+use Rattle.qq_session.specs.Shown.{Shown, Delivered, NoLeader}
 use Rattle.qq_cluster.specs.Queue.{Queue, Event, Submits, Downs, Ends, acts, audit_rows, moves, happens, said, after, begin, leader, rows_told}
 use Rattle.qq_cluster.specs.Rules.{is_ended}
 

@@ -20,7 +20,8 @@ use Rattle.qq_raft_model.specs.State.{Server}
 use Rattle.qq_raft_msg.specs.Rpc.{envelope}
 use Rattle.qq_raft_msg.specs.declared.rpc.Rpc.{Rpc}
 use Rattle.qq_session.specs.Publishing.{Numbers, next_command, hand, open_commands}
-use Rattle.qq_world.specs.World.{Clients, Shown, Answered, WindowFull, HasEnded, new_clients, hear_all, printed, may_hand, is_used, effects_of_term, delivered, said_of}
+use Rattle.qq_session.specs.Clients.{Clients, new_clients, hear_all, printed, may_hand, is_used}
+use Rattle.qq_session.specs.Shown.{Shown, Answered, WindowFull, HasEnded, effects_of_term, delivered, said_of}
 
 -- ---- the leader
 

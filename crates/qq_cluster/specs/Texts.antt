@@ -8,7 +8,7 @@ use Rattle.qq_raft_msg.specs.declared.state.Role.{Role}
 use Rattle.qq_raft_msg.specs.declared.state.Role.TheVariants.{Follower, Candidate, Leader}
 use Rattle.qq_script.specs.Audit.{audit_text}
 use Rattle.qq_script.specs.Text.{line_prefix, answer_text, delivery_text}
-use Rattle.qq_world.specs.World.{Shown, Answered, Delivered, NoLeader, WindowFull, HasEnded}
+use Rattle.qq_session.specs.Shown.{Shown, Answered, Delivered, NoLeader, WindowFull, HasEnded}
 use Rattle.qq_cluster.specs.Queue.{audit_rows}
 use Rattle.qq_cluster.specs.Cluster.{Setup, Cluster, ClusterEvent, Printed, Of, Stopped, IsDown, NoSuch, Unroutable, Busy, Ended, State, all_prints}
 

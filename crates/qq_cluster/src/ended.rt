@@ -1,8 +1,9 @@
 //! The laws of sessions that have ended.
 ghost use Rattle.std.specs.Prelude.{◌≡◌, ℕ, codes};
 ghost use Rattle.qq_entry.specs.declared.audit.AuditRow.{AuditRow};
-ghost use Rattle.qq_world.specs.Ended.{PrintsEnd};
-ghost use Rattle.qq_world.specs.World.{Clients, HasEnded};
+ghost use Rattle.qq_session.specs.Printed.{PrintsEnd};
+ghost use Rattle.qq_session.specs.Clients.{Clients};
+ghost use Rattle.qq_session.specs.Shown.{HasEnded};
 ghost use Rattle.qq_cluster.specs.Cluster.{Cluster, Ended, Setup};
 ghost use Rattle.qq_cluster.specs.ClusterLaws.{GivesNoCommand};
 ghost use Rattle.qq_cluster.specs.Laws.{StaysEnded, TellsOfEnd};

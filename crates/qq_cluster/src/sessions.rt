@@ -11,7 +11,8 @@ ghost use Rattle.qq_raft_model.specs.Promises.{AreDistinct, WasLeft};
 ghost use Rattle.qq_session.specs.Answered.{IsAnswered};
 ghost use Rattle.qq_session.specs.Arriving.{WasHanded, fresh_command};
 ghost use Rattle.qq_session.specs.Publishing.{new_numbers};
-ghost use Rattle.qq_world.specs.Laws.{IsAudited, IsConfirmedOnce, after_deeds, closed_number};
+ghost use Rattle.qq_session.specs.Deeds.{after_deeds};
+ghost use Rattle.qq_session.specs.Printed.{IsAudited, IsConfirmedOnce, closed_number};
 ghost use Rattle.qq_cluster.specs.Laws.{IsBegun, IsMade, commands_of, deeds, queue_after};
 ghost use Rattle.qq_cluster.specs.Queue.{Event, all_said, audit_rows, begin};
 

@@ -1,7 +1,7 @@
 //! What a cluster prints, letter by letter.
 ghost use Rattle.std.specs.Prelude.{◌≡◌, ◌≢◌, ◌++◌, ℕ, None, codes};
 ghost use Rattle.std.specs.Fmt.{decimal};
-ghost use Rattle.qq_world.specs.World.{NoLeader, WindowFull};
+ghost use Rattle.qq_session.specs.Shown.{NoLeader, WindowFull};
 ghost use Rattle.qq_cluster.specs.Cluster.{Busy, IsDown, NoSuch, Setup, State, Stopped, Unroutable};
 ghost use Rattle.qq_cluster.specs.Texts.{printed_text, shown_text};
 

@@ -16,7 +16,8 @@ use Rattle.qq_raft_msg.specs.declared.rpc.Rpc.{Rpc}
 use Rattle.qq_raft.specs.declared.row.AppliedRow.{AppliedRow}
 use Rattle.qq_group.specs.Group.{Represents, server_at}
 use Rattle.qq_group.specs.Reads.{receiver_of}
-use Rattle.qq_world.specs.World.{Answered, Clients, Shown, delivered, hear_all, printed}
+use Rattle.qq_session.specs.Clients.{Clients, hear_all, printed}
+use Rattle.qq_session.specs.Shown.{Answered, Shown, delivered}
 use Rattle.qq_cluster.specs.Queue.{Queue, Event, Copies, Delivers, Loses, Notices, acts, effects_told, group_then, happens, moves, receiver_by, rows_told, said, stepping, synced_after, told}
 use Rattle.qq_cluster_queue.specs.ClusterQueue.{Becomes, Stands, count_at, text_as}
 use Rattle.qq_cluster_queue.specs.Members.{AreTold, IsGroupOf, Makes, Member, Members, StayDown, audit_rows_of, effects_in, move_at, number_of, own_log}

@@ -17,7 +17,8 @@ use Rattle.qq_entry.specs.declared.audit.Effect.{Effect}
 use Rattle.qq_entry.specs.declared.audit.Effect.TheVariants.{Deliver, DeadOnce, Offer}
 use Rattle.qq_script.specs.Text.{seq_of}
 use Rattle.qq_session.specs.Publishing.{Numbers, answer, closes, new_numbers}
-use Rattle.qq_world.specs.World.{Answered, Client, Clients, Delivered, Shown, delivered, hear_all, hear_by, is_delivered_to, is_printed, printed, take_answer}
+use Rattle.qq_session.specs.Clients.{Client, Clients, hear_all, hear_by, is_printed, printed, take_answer}
+use Rattle.qq_session.specs.Shown.{Answered, Delivered, Shown, delivered, is_delivered_to}
 use Rattle.qq_cluster_queue.specs.Sessions.{Standings, clients_of}
 use Rattle.qq_cluster_queue.proofs.Known.{absent-at, at, put-itself}
 use Rattle.qq_cluster_queue.proofs.Offering.{put-numbers}

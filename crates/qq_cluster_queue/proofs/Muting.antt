@@ -5,7 +5,7 @@ use Rattle.std.proofs.Math.Path.{fun_ext}
 use Rattle.std.proofs.lemmas.Bool.{cases_Bool, eqb-true}
 use Rattle.qq_base.specs.Fronts.{put}
 use Rattle.qq_session.specs.Publishing.{Numbers}
-use Rattle.qq_world.specs.World.{Client}
+use Rattle.qq_session.specs.Clients.{Client}
 use Rattle.qq_cluster.specs.Queue.{Queue, Ends, Mutes, acts, happens, said}
 use Rattle.qq_cluster_queue.specs.ClusterQueue.{Stands}
 use Rattle.qq_cluster_queue.specs.Sessions.{Standings, clients_of, numbers_of, set_ended, set_muted}

@@ -19,7 +19,8 @@ use Rattle.qq_raft_model.specs.Server.{is_ready}
 use Rattle.qq_group.specs.Group.{Represents, server_at}
 use Rattle.qq_group.specs.Reads.{later as later_code, leader_of, leading_at, node_of as node_in}
 use Rattle.qq_session.specs.Publishing.{Numbers, hand, next_command, open_commands}
-use Rattle.qq_world.specs.World.{Client, Clients, Shown, WindowFull, HasEnded, is_used, may_hand, said_of}
+use Rattle.qq_session.specs.Clients.{Client, Clients, is_used, may_hand}
+use Rattle.qq_session.specs.Shown.{Shown, WindowFull, HasEnded, said_of}
 use Rattle.qq_cluster.specs.Queue.{Queue, Event, Leading, Submits, Resends, Downs, TellsEnded, acts, group_then, happens, has_leader, later, leader, leading, moves, node_of, offered, said, submit_to, submits, synced_after}
 use Rattle.qq_cluster.proofs.Groups.{group-append}
 use Rattle.qq_cluster_queue.specs.ClusterQueue.{HasRefused, IsOfferCaused, Stands, text_as}

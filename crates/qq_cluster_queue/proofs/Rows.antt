@@ -25,7 +25,7 @@ use Rattle.qq_raft.specs.declared.row.AppliedRow.{AppliedRow}
 use Rattle.qq_group.specs.Follows.{Shows}
 use Rattle.qq_group_laws.specs.Audited.{IsAudited, index_behind, queue_after}
 use Rattle.qq_cluster.specs.Queue.{is_shown, effects_by, own_rows, own_effects, rows_by}
-use Rattle.qq_world.specs.World.{effects_of_term}
+use Rattle.qq_session.specs.Shown.{effects_of_term}
 use Rattle.qq_cluster_queue.specs.Members.{Member, audit_rows_of, effects_in, own_log, queue_stands, queue_step}
 
 -- ---- what entries make of a queue

@@ -18,7 +18,7 @@ use Rattle.qq_session.specs.Publishing.{Numbers, HasHandCause, next_command, ope
 use Rattle.qq_session.specs.declared.publishing.HandFault.TheVariants as faults
 use Rattle.qq_cluster.specs.Queue.{Queue, Event, begin, happens, said, submits}
 use Rattle.qq_cluster.specs.Texts.{shown_text_as}
-use Rattle.qq_world.specs.World.{Shown}
+use Rattle.qq_session.specs.Shown.{Shown}
 use Rattle.qq_cluster_queue.specs.Members.{AreSound, Member, Members, IsGroupOf, IsStepCaused, Makes, number_of, own_log}
 use Rattle.qq_cluster_queue.specs.Sessions.{Standings, clients_of, numbers_of, present}
 use Rattle.qq_cluster_queue.specs.declared.cluster_queue.ClusterQueue.{ClusterQueue}

@@ -5,7 +5,7 @@ use Rattle.std.specs.Map.{lookup}
 use Rattle.qq_base.specs.Ids.{client}
 use Rattle.qq_base.specs.declared.ids.QueueId.{QueueId}
 use Rattle.qq_session.specs.Publishing.{Numbers, new_numbers}
-use Rattle.qq_world.specs.World.{Client, Clients}
+use Rattle.qq_session.specs.Clients.{Client, Clients}
 use Rattle.qq_cluster_queue.specs.declared.sessions.Standing.{Standing}
 
 -- ---- of all queues

@@ -1,6 +1,6 @@
 //! Whose answer a row is.
 ghost use Rattle.std.specs.Prelude.{◌≡◌};
-ghost use Rattle.qq_world.specs.World.{ended_by, sender, sender_by};
+ghost use Rattle.qq_session.specs.Clients.{ended_by, sender, sender_by};
 
 use qq_base::SessionId;
 use qq_entry::{AuditRow, Command, Stamp};

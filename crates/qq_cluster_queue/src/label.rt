@@ -1,7 +1,7 @@
 //! The lines that the queue shows.
 ghost use Rattle.std.specs.Prelude.{◌≡◌, ◌++◌, OnOk, OnErr, IsOkUnless};
 ghost use Rattle.qq_cluster.specs.Texts.{shown_text_as};
-ghost use Rattle.qq_world.specs.World.{Answered, Delivered, HasEnded, NoLeader, WindowFull};
+ghost use Rattle.qq_session.specs.Shown.{Answered, Delivered, HasEnded, NoLeader, WindowFull};
 
 use qq_base::{ConsumerId, Memory, SessionId, Text};
 use qq_entry::{AuditRow, Delivery};

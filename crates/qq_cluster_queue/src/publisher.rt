@@ -6,7 +6,7 @@ ghost use Rattle.qq_base.specs.declared.memory.TheConstants.{NUMBER_END};
 ghost use Rattle.qq_model.specs.declared.TheConstants.{WINDOW};
 ghost use Rattle.qq_script.specs.Text.{seq_of};
 ghost use Rattle.qq_session.specs.Publishing.{answer, hand, is_open, new_numbers, next_command, open_commands, HasHandCause};
-ghost use Rattle.qq_world.specs.World.{is_used, may_hand};
+ghost use Rattle.qq_session.specs.Clients.{is_used, may_hand};
 ghost use Rattle.qq_cluster_queue.specs.Range.{HasBytes, MayStamp};
 
 use qq_base::{Memory, QueueId, SessionId};

@@ -5,7 +5,7 @@ ghost use Rattle.qq_base.specs.Ids.{client};
 ghost use Rattle.qq_entry.specs.declared.command.Command.TheVariants.{Down};
 ghost use Rattle.qq_cluster.specs.Queue.{Downs, Resends, Submits, TellsEnded, submit_to};
 ghost use Rattle.qq_group.specs.Reads.{leader_of};
-ghost use Rattle.qq_world.specs.World.{WindowFull, said_of};
+ghost use Rattle.qq_session.specs.Shown.{WindowFull, said_of};
 ghost use Rattle.qq_cluster_queue.specs.ClusterQueue.{text_as, DoesAlways, IsOfferCaused, IsResendCaused, IsSameQueue, IsSubmitCaused};
 ghost use Rattle.qq_cluster_queue.specs.Members.{AreSound, Makes, number_of, own_log};
 ghost use Rattle.qq_cluster_queue.specs.Range.{HasBytes, MayStamp};

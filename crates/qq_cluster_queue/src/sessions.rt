@@ -4,7 +4,7 @@ ghost use Rattle.std.specs.Map.{lookup};
 ghost use Rattle.std.specs.Option.{option_copied};
 ghost use Rattle.qq_base.specs.Fronts.{put};
 ghost use Rattle.qq_session.specs.Publishing.{Numbers};
-ghost use Rattle.qq_world.specs.World.{is_delivered_to};
+ghost use Rattle.qq_session.specs.Shown.{is_delivered_to};
 ghost use Rattle.qq_cluster_queue.specs.Sessions.{clients_of, set_ended, set_muted, standings};
 
 use indexmap::IndexMap;

@@ -3,7 +3,8 @@ ghost use Rattle.std.specs.Prelude.{◌≡◌, ◌++◌, ◌∷◌, [], map, OnO
 ghost use Rattle.std.specs.List.{flat_map};
 ghost use Rattle.qq_base.specs.Fronts.{IsFront};
 ghost use Rattle.qq_entry.specs.declared.audit.Effect.TheVariants.{Deliver};
-ghost use Rattle.qq_world.specs.World.{Answered, delivered, hear_all, printed};
+ghost use Rattle.qq_session.specs.Clients.{hear_all, printed};
+ghost use Rattle.qq_session.specs.Shown.{Answered, delivered};
 ghost use Rattle.qq_cluster.specs.Texts.{shown_text_as};
 ghost use Rattle.qq_cluster_queue.specs.Members.{audit_rows_of, effects_in};
 ghost use Rattle.qq_cluster_queue.specs.Sessions.{clients_of, no_numbers, numbers_of, standings};

@@ -3,7 +3,7 @@
 #![tactic(auto)]
 
 use qq_broker::run;
-use qq_broker_run::status;
+use qq_cluster_run::status;
 use qq_ports::{FolderYard, StdSink, StdSource, write_all};
 use std::process::ExitCode;
 use std::rt::Env;
@@ -23,7 +23,7 @@ fn main(rt: HostRuntime) -> ExitCode {
     let mut output = StdSink::new(rt.stdout());
     let mut yard = FolderYard::new(rt, rt.alloc());
     let status = match words(&rt) {
-        Ok(words) => run(&rt, &words, &mut yard, &mut input, &mut output),
+        Ok(words) => run(&rt, &words, &mut input, &mut output, &mut yard),
         Err(error) if error.kind() == io::ErrorKind::OutOfMemory => {
             match write_all(&mut output, b"memory\n") {
                 Ok(()) => status::NO_MEMORY,
@@ -31,7 +31,7 @@ fn main(rt: HostRuntime) -> ExitCode {
             }
         }
         // Words that aren't text are no command.
-        Err(_) => run(&rt, &[], &mut yard, &mut input, &mut output),
+        Err(_) => run(&rt, &[], &mut input, &mut output, &mut yard),
     };
     ExitCode::from(status)
 }

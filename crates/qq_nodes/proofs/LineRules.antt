@@ -7,7 +7,7 @@ use Rattle.qq_base.specs.declared.ids.NodeId.{NodeId}
 use Rattle.qq_base.specs.declared.ids.QueueId.{QueueId}
 use Rattle.qq_disk.specs.Disk.{Disk}
 use Rattle.qq_entry.specs.declared.command.Unstamped.{Unstamped}
-use Rattle.qq_world.specs.World.{Clients}
+use Rattle.qq_session.specs.Clients.{Clients}
 use Rattle.qq_cluster.specs.Cluster.{Alike, At, Cluster, ClusterEvent, SaysDown, Setup, cluster_happens}
 use Rattle.qq_cluster.specs.Lines.{WhereUp}
 use Rattle.qq_cluster.specs.Queue.{Event, Queue, Submits, TellsEnded, happens}

@@ -28,7 +28,7 @@ not-member k (n ∷ nodes) is here =
     by (inl same) rest = eqb-false n.0 k (or_parts (nat_eq n.0 k) (has_node k nodes) is).0 (sym same)
     by (inr later) rest = rest later
 
-to-list : (x : ℕ) (xs : List ℕ) → In x xs → InList x xs
+pub to-list : (x : ℕ) (xs : List ℕ) → In x xs → InList x xs
 to-list x [] here = here
 to-list x (y ∷ ys) (inl same) = inl same
 to-list x (y ∷ ys) (inr later) = inr (to-list x ys later)
@@ -65,7 +65,7 @@ module _ (setup : Setup) (c : Cluster) (k place : ℕ) (groups : HasGroups setup
   pub out-ops : IsOut k (c.queue place).group → ops_waiting k (c.queue place) ≡ []
   out-ops out = ap ops_by out.server
 
-  out-settled : IsOut k (c.queue place).group → is_settled k (c.queue place) ≡ true
+  pub out-settled : IsOut k (c.queue place).group → is_settled k (c.queue place) ≡ true
   out-settled out =
       let rise : CountsRise (c.queue place) k = counts-at setup c r place groups k in
       and_from (nat_eq (waiting k (c.queue place).group) 0)

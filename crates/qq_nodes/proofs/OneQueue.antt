@@ -8,7 +8,7 @@ use Rattle.std.proofs.lemmas.Option.{slice_get-get_or}
 use Rattle.qq_cluster_queue.specs.Members.{AreSound}
 use Rattle.qq_disk.specs.Disk.{Disk}
 use Rattle.qq_lots.specs.Lots.{Parts}
-use Rattle.qq_world.specs.World.{Shown}
+use Rattle.qq_session.specs.Shown.{Shown}
 use Rattle.qq_cluster.specs.Cluster.{At, Cluster, ClusterEvent, Of, Sets, Setup, cluster_happens}
 use Rattle.qq_cluster.specs.Queue.{Event, Queue, after, happens, said}
 use Rattle.qq_cluster.specs.Rules.{Is, IsNothing, is_quiet}

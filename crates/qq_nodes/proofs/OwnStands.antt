@@ -208,7 +208,7 @@ module _ {D : Type 0} (tells : D → Bool) (past : D → List Disk) (faults : D 
 
 -- ---- a node stops
 
-set-twice : {A : Type 0} (xs : List A) (at : ℕ) (x y : A) → slice_set (slice_set xs at x) at y ≡ slice_set xs at y
+pub set-twice : {A : Type 0} (xs : List A) (at : ℕ) (x y : A) → slice_set (slice_set xs at x) at y ≡ slice_set xs at y
 set-twice [] zero x y = refl
 set-twice [] (suc at) x y = refl
 set-twice (z ∷ xs) zero x y = refl

@@ -60,7 +60,7 @@ quiet-writes setup up q k node is quiet =
     (done setup up q k node is quiet).written
 
 -- a function that is given the value that it has
-put-own : {A : Type 0} (k : ℕ) (x : A) (f : ℕ → A) → f k ≡ x → put k x f ≡ f
+pub put-own : {A : Type 0} (k : ℕ) (x : A) (f : ℕ → A) → f k ≡ x → put k x f ≡ f
 put-own k x f is =
     fun_ext (λ i. put-each (λ (j : ℕ) y. y ≡ f j) k x f (sym is) (λ j other. refl) i)
 

@@ -73,7 +73,7 @@ none-at test (first ∷ places) place none (inl same) =
 none-at test (first ∷ places) place none (inr later) =
     none-at test places place (or_parts (test first) (list_any test places) none).1 later
 
-from-list : (x : ℕ) (xs : List ℕ) → InList x xs → In x xs
+pub from-list : (x : ℕ) (xs : List ℕ) → InList x xs → In x xs
 from-list x [] here = here
 from-list x (y ∷ ys) (inl same) = inl same
 from-list x (y ∷ ys) (inr later) = inr (from-list x ys later)
@@ -109,7 +109,7 @@ module _ (setup : Setup) (c : Cluster) (k : ℕ) (r : IsReached setup c) where
     kept-none places (λ p here. each p (inr here)),
   )
 
-in-filter : (passes : ℕ → Bool) (x : ℕ) (xs : List ℕ) → InList x (filter passes xs) → InList x xs
+pub in-filter : (passes : ℕ → Bool) (x : ℕ) (xs : List ℕ) → InList x (filter passes xs) → InList x xs
 in-filter passes x [] here = here
 in-filter passes x (y ∷ ys) here = by (passes y) here (λ later. in-filter passes x ys later)
   where

@@ -3,5 +3,9 @@ pub mod Asking
 pub mod Ends
 pub mod Logs
 pub mod Nodes
+pub mod Setting
+pub mod Restarting
+pub mod Taking
+pub mod Showing
 pub mod Sending
 pub mod Turning

@@ -6,7 +6,7 @@ use Rattle.qq_base.specs.declared.ids.QueueId.{QueueId}
 use Rattle.qq_base.specs.declared.memory.Memory.{Memory}
 use Rattle.qq_base.specs.declared.memory.Memory.TheVariants.{Spent}
 use Rattle.qq_disk.specs.Disk.{Disk}
-use Rattle.qq_cluster.specs.Cluster.{Cluster, ClusterEvent, Setup, cluster_after, members, new_cluster}
+use Rattle.qq_cluster.specs.Cluster.{Cluster, ClusterEvent, Setup, cluster_after, members}
 use Rattle.qq_cluster.specs.ClusterLaws.{HasGroups}
 use Rattle.qq_cluster.specs.Rules.{ForEach, is_quiet}
 use Rattle.qq_cluster.specs.Texts.{is_first}
@@ -19,7 +19,7 @@ use Rattle.qq_cluster_queue.specs.declared.cluster_queue.ClusterQueue.{ClusterQu
 use Rattle.qq_node_log.specs.Log.{Stands as IsLog, disk_in}
 use Rattle.qq_node_log.specs.declared.node_log.NodeLog.{NodeLog}
 use Rattle.qq_log.specs.declared.limits.TheConstants.{NODE_LIMIT}
-use Rattle.qq_lots.specs.Lots.{ids_of}
+use Rattle.qq_lots.specs.Lots.{ids_of, new_part}
 use Rattle.qq_raft_protocol.specs.Facts.{In}
 use Rattle.qq_cluster_laws.specs.Serves.{GivesUp, Leads, Seen, Serves, seen_of}
 use Rattle.qq_nodes.specs.Active.{is_in}
@@ -67,13 +67,13 @@ pub record IsQueueOf (setup : Setup) (sessions : Standings) (c : Cluster) (place
   pub name_is : d.label.name ≡ setup.name place
   pub first_is : d.label.first ≡ is_first setup place
 
--- a node is the one of this number, and as it stands there
+-- A node is the one of this number, and as it stands there. Until it was up its log has nothing of its queues.
 pub record IsNodeOf {D : Type 0} (tells : D → Bool) (past : D → List Disk) (setup : Setup) (c : Cluster) (k : ℕ)
     (node : Node D) : Type 0 where
   pub id_is : node.id.0 ≡ k
   pub few : k ≤ NODE_LIMIT
   pub up_is : node.up ≡ c.up k
-  pub fresh : node.started ≡ false → (node.up ≡ false) × (parts_at c k ≡ parts_at (new_cluster setup) k)
+  pub fresh : node.started ≡ false → (node.up ≡ false) × (parts_at c k ≡ (λ (place : ℕ). new_part))
   pub queues_are : node.queues.items ≡ ids_of (lot_of setup k)
   pub members : MembersFollow setup c k
   pub own : NodeLog D

@@ -1,5 +1,5 @@
 //! Calls of one node's log.
-ghost use Rattle.std.specs.Prelude.{◌≡◌, ◌<◌, false, length, IfErr, IfOk, slice_get, Some};
+ghost use Rattle.std.specs.Prelude.{◌≡◌, ◌<◌, false, length, IfErr, IfOk, slice_get, Some, true};
 ghost use Rattle.qq_nodes.specs.Logs.{Appends, AppendsInPart, MayAppendAt, MaySyncAt, NodeTurns, Syncs, SyncsInPart};
 ghost use Rattle.qq_nodes.specs.declared.node.Node.{Node as NodeOf};
 
@@ -125,4 +125,27 @@ pub(crate) fn down_in<D: NodeDisk>(nodes: &mut Vec<Node<D>>, at: usize)
         nodes.new.items }
 {
     down_at(nodes, at);
+}
+
+fn set_up<D: NodeDisk>(node: &mut Node<D>)
+    ensures { node.new ≡ record node.old { up = true; started = true } }
+{
+    node.up = true;
+    node.started = true;
+}
+
+fn up_at<D: NodeDisk>(nodes: &mut [Node<D>], at: usize)
+    requires { at < length nodes.old }
+    ensures { NodeTurns (λ old new. new ≡ record old { up = true; started = true }) at nodes.old nodes.new }
+{
+    set_up(&mut nodes[at]);
+}
+
+/// The node at an index is up from here on.
+pub(crate) fn up_in<D: NodeDisk>(nodes: &mut Vec<Node<D>>, at: usize)
+    requires { at < length nodes.old.items }
+    ensures { NodeTurns (λ old new. new ≡ record old { up = true; started = true }) at nodes.old.items
+        nodes.new.items }
+{
+    up_at(nodes, at);
 }

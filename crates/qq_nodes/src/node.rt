@@ -10,7 +10,7 @@ pub struct Node<D: NodeDisk> {
     pub(crate) id: NodeId,
     /// Whether it is up: it was restarted, and no call of its disk has failed since.
     pub(crate) up: bool,
-    /// Whether it was ever up. Until then its members are as the cluster began.
+    /// Whether it was ever up. Until then its log has nothing of its queues.
     pub(crate) started: bool,
     /// The queues of which it has a member, in the order of their places.
     pub(crate) queues: Vec<QueueId>,

@@ -100,6 +100,8 @@ where
 
     ghost faults = { λ yard. yard.faults };
 
+    ghost is_given = { λ _ _. true };
+
     /// With a root it fails where another process has that locked, and where the system fails.
     fn disk(
         &mut self,

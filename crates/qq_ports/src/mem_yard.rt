@@ -1,4 +1,4 @@
-ghost use Rattle.std.specs.Prelude.{◌≡◌, ℕ, Err, IfOk, IfErr, IfNone, OnOk, OnErr, option_map};
+ghost use Rattle.std.specs.Prelude.{true, ◌≡◌, ℕ, Err, IfOk, IfErr, IfNone, OnOk, OnErr, option_map};
 ghost use Rattle.qq_base.specs.Causes.{HasCause};
 ghost use Rattle.qq_mem_disk.specs.MemDisk.{past_of, counter_of};
 ghost use Rattle.qq_mem_disk.specs.Counter.{IsFresh};
@@ -90,6 +90,8 @@ impl Yard for MemYard {
     type Disk = MemDisk;
 
     ghost faults = { λ yard. yard.faults };
+
+    ghost is_given = { λ _ _. true };
 
     /// The disk that the yard holds for the root and the node, which it then holds no longer, and else a
     /// new one. It takes no memory.

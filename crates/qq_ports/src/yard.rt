@@ -1,4 +1,4 @@
-ghost use Rattle.std.specs.Prelude.{◌≡◌, ℕ, IsTrue, IfOk, IfNone};
+ghost use Rattle.std.specs.Prelude.{◌≡◌, ℕ, Bool, true, IsTrue, IfOk, IfNone};
 ghost use Rattle.qq_base.specs.Causes.{HasCause};
 ghost use Rattle.qq_ports.specs.Yard.{IsYardCaused, IsNew, IsAfterCrash};
 
@@ -15,8 +15,13 @@ pub trait Yard {
     /// How often the yard has failed. The count never falls, and stops at 2^64 - 1.
     ghost faults: { Self → ℕ };
 
+    /// Whether a disk was given for the node of a number. Nobody but the yard can say so: what a disk does later tells
+    /// nothing of it.
+    ghost is_given: { ℕ → Self.Disk → Bool };
+
     /// The disk of a node under a root.
     ///
+    /// - `given`: the disk was given for this node.
     /// - `empty`: without a root nothing was ever on the disk, where it tells its contents.
     /// - `cause`: it fails only at a counted fault.
     fn disk(
@@ -25,6 +30,7 @@ pub trait Yard {
         root: Option<&str>,
         node: NodeId,
     ) -> Result<Self::Disk, YardFault>
+        ensures given { IfOk result (λ disk. is_given node.0 disk ≡ true) }
         ensures empty { IfNone root.entry (IfOk result (λ disk.
             IsTrue (Self.Disk.tells disk) → IsNew (Self.Disk.past disk))) }
         ensures cause { HasCause IsYardCaused (faults self.old) (faults self.new) result };

@@ -13,7 +13,7 @@ use Rattle.qq_raft_model.specs.Server.{notice}
 use Rattle.qq_raft_model.specs.State.{Server}
 use Rattle.qq_cluster.specs.Queue.{Queue, Event, after}
 use Rattle.qq_cluster.proofs.Groups.{after-append}
-use Rattle.qq_world.specs.World.{hear_all}
+use Rattle.qq_session.specs.Clients.{hear_all}
 use Rattle.qq_progress.specs.Alone.{turn, turn_where, turns}
 use Rattle.qq_progress.proofs.Exchange.{Goes, HasHeard, Pends, Replied, Talk, heard-more, none-own, replied-left, replied-right, same_some, some_none}
 use Rattle.qq_progress.proofs.Member.{follower-notice, rpcs_of}

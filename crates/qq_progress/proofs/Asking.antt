@@ -18,7 +18,7 @@ use Rattle.qq_raft_model.specs.Server.{Input, submit}
 use Rattle.qq_raft_model.specs.State.{Server, is_leader, term_at}
 use Rattle.qq_raft_model.proofs.Adding.{is_leader_of}
 use Rattle.qq_cluster.specs.Queue.{Queue, Submits, happens, leader, submit_to}
-use Rattle.qq_world.specs.World.{may_hand}
+use Rattle.qq_session.specs.Clients.{may_hand}
 use Rattle.qq_progress.specs.Soon.{MayGive, command_of}
 use Rattle.qq_progress.proofs.Committing.{IsSending}
 use Rattle.qq_progress.proofs.Delivering.{Plan, talk}
@@ -136,6 +136,6 @@ module _ (handed : AreHanded) (members : List NodeId) (up most : ℕ → Bool) (
     sent = sent-all handed members up most q k s e can;
     once = sent-once handed members up most q k s e can;
     begins = λ j other.
-        subst (Seated (talk plan) messages [] j) (sym (asks.others j other))
+        subst (Seated (talk plan e) messages [] j) (sym (asks.others j other))
         (begins handed members up most q k s e can j other);
   }

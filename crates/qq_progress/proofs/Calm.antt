@@ -1,5 +1,5 @@
 -- A leader that has sent all sends nothing more where each answer has the entry.
-use Rattle.std.proofs.Common.{◌≡◌, ℕ, ◌<◌, ◌+◌, Bool, true, false, cond, ltb, leb, ◌&&◌, List, [], ◌∷◌, ◌++◌, length, map, filter, None, refl, sym, ap, ◌∙◌, subst, inl, inr, arith, append-nil}
+use Rattle.std.proofs.Common.{◌≡◌, ℕ, ◌≤◌, ◌<◌, ◌+◌, Bool, true, false, cond, ltb, leb, ◌&&◌, List, [], ◌∷◌, ◌++◌, length, map, filter, Some, None, refl, sym, ap, ◌∙◌, subst, inl, inr, arith, append-nil}
 use Rattle.std.specs.Prelude.{replicate}
 use Rattle.std.specs.List.{AllByRecursion}
 use Rattle.std.proofs.lemmas.Bool.{cond-true, cond-false, cond_both, le-ltb, lt-leb, ltb-true}
@@ -21,10 +21,7 @@ use Rattle.qq_entry.specs.declared.command.Entry.{Entry}
 use Rattle.qq_progress.proofs.Feeding.{Feeds, FeedsOne, feeds-one}
 use Rattle.qq_progress.proofs.Hearing.{HasHeardAll, LeaderIs, one-heard}
 use Rattle.qq_progress.proofs.Leader.{MayCommit, advances}
-
--- each peer was sent all that there is
-abbrev pub AllPast : Server → Type 0
-AllPast s = (x : Peer) → In x s.peers → last s < x.next
+use Rattle.qq_progress.proofs.Sending.{AllNext, IsNext}
 
 filter-none : {A : Type 0} (test : A → Bool) (xs : List A) → ((x : A) → In x xs → test x ≡ false) → filter test xs ≡ []
 filter-none test [] none = refl
@@ -38,36 +35,45 @@ matching m x = cond (is_peer m.from x) (match_peer m.index.0 x) x
 abbrev passing : AppendedMsg → Server → Peer → Peer
 passing m s x = cond (lacks m.from (last s) x) (pass s.log x) x
 
-past-match : (m : AppendedMsg) (s : Server) → AllPast s → (x : Peer) → In x (map (matching m) s.peers) → last s < x.next
-past-match m s past x here =
+-- an acknowledgement of no more than there is
+next-match : (m : AppendedMsg) (s : Server) → m.index.0 ≤ last s → AllNext s → (x : Peer)
+    → In x (map (matching m) s.peers) → IsNext (last s) x
+next-match m s within all x here =
     let w = In-map (matching m) x s.peers here in
-    let old = past w.item w.here in
-    subst (λ (y : Peer). last s < y.next) (sym w.is)
-    (cond_both (is_peer m.from w.item) (match_peer m.index.0 w.item) w.item (λ (y : Peer). last s < y.next)
-    (λ _. more w.item.next (greater w.item.matched m.index.0 + 1) old) (λ _. old))
+    let old = all w.item w.here in
+    let high = up-to w.item.matched m.index.0 old.1 within in
+    let next = old.0 in
+    subst (IsNext (last s)) (sym w.is)
+    (cond_both (is_peer m.from w.item) (match_peer m.index.0 w.item) w.item (IsNext (last s))
+    (λ _. (still w.item.next (greater w.item.matched m.index.0 + 1) (omega (arith, high, next)) ∙ next, high)) (λ _. old))
   where
-    more : (a b : ℕ) → last s < a → last s < greater a b
-    more a b lt = cond_both (ltb a b) b a (λ (n : ℕ). last s < n) (λ e. (let up = ltb-true a b e in omega (arith, lt, up))) (λ _. lt)
+    up-to : (a b : ℕ) → a ≤ last s → b ≤ last s → greater a b ≤ last s
+    up-to a b first second = cond_both (ltb a b) b a (λ (n : ℕ). n ≤ last s) (λ _. second) (λ _. first)
+
+    still : (a b : ℕ) → b ≤ a → greater a b ≡ a
+    still a b le =
+        cond_both (ltb a b) b a (λ (n : ℕ). n ≡ a) (λ e. (let lt = ltb-true a b e in absurd (omega (arith, lt, le))))
+        (λ _. refl)
 
 -- an acknowledgement makes it send nothing
-ack-calm : (m : AppendedMsg) (s : Server) (i : ℕ) (most : ℕ → Bool) → MayCommit i most s → AllPast s
-    → ((take_ack m s).out ≡ s.out) × AllPast (take_ack m s)
+ack-calm : (m : AppendedMsg) (s : Server) (i : ℕ) (most : ℕ → Bool) → MayCommit i most s → AllNext s
+    → m.index.0 ≤ last s → ((take_ack m s).out ≡ s.out) × AllNext (take_ack m s)
 unfolding take_ack send
-ack-calm m s i most may past =
+ack-calm m s i most may all within =
     let first : Server = at_peer m.from (match_peer m.index.0) s in
     let t : Server = send (lacks m.from (last s)) first in
-    let after : (x : Peer) → In x first.peers → last s < x.next = past-match m s past in
+    let after : (x : Peer) → In x first.peers → IsNext (last s) x = next-match m s within all in
     let none : (x : Peer) → In x first.peers → lacks m.from (last s) x ≡ false =
-    λ x here. lack x (after x here) in
+    λ x here. lack x (let is = (after x here).0 in omega (arith, is)) in
     let a = advances t may.leads in (
       ap (λ (x : Server). x.out) a.is
           ∙ ap (λ (l : List Peer). s.out ++ map (append_to first) l) (filter-none (lacks m.from (last s)) first.peers none)
           ∙ append-nil s.out,
-      subst AllPast (sym a.is) (λ x here.
+      subst AllNext (sym a.is) (λ x here.
           let w = In-map (passing m s) x first.peers here in
           let is : passing m s w.item ≡ w.item =
           cond-false (lacks m.from (last s) w.item) (pass s.log w.item) w.item (none w.item w.here) in
-          subst (λ (y : Peer). last s < y.next) (sym (w.is ∙ is)) (after w.item w.here)),
+          subst (IsNext (last s)) (sym (w.is ∙ is)) (after w.item w.here)),
     )
   where
     lack : (x : Peer) → last s < x.next → lacks m.from (last s) x ≡ false
@@ -77,12 +83,12 @@ ack-calm m s i most may past =
         by true is = is
         by false is = refl
 
-reply-calm : (m : AppendedMsg) (s : Server) (i : ℕ) (most : ℕ → Bool) → MayCommit i most s → AllPast s
-    → m.term.0 ≡ s.term.0 → m.ok ≡ true
-    → ((receive (Appended m) s).out ≡ s.out) × AllPast (receive (Appended m) s)
+reply-calm : (m : AppendedMsg) (s : Server) (i : ℕ) (most : ℕ → Bool) → MayCommit i most s → AllNext s
+    → m.term.0 ≡ s.term.0 → m.ok ≡ true → m.index.0 ≤ last s
+    → ((receive (Appended m) s).out ≡ s.out) × AllNext (receive (Appended m) s)
 unfolding receive accept refuse receive_appended enter
-reply-calm m s i most may past term ok =
-    subst (λ (t : Server). (t.out ≡ s.out) × AllPast t) (sym is) (ack-calm m s i most may past)
+reply-calm m s i most may all term ok within =
+    subst (λ (t : Server). (t.out ≡ s.out) × AllNext t) (sym is) (ack-calm m s i most may all within)
   where
     is : cond (ltb m.term.0 s.term.0) s
         (take_reply m (cond (ltb s.term.0 m.term.0) (follow None (change m.term None (last s) [] s)) s)) ≡ take_ack m s
@@ -98,13 +104,15 @@ reply-calm m s i most may past term ok =
 -- all answers come
 pub all-calm : (p : Plan) (e : Entry) → e.term.0 ≡ p.term → ((j : ℕ) → p.asked j ≡ true → p.most j ≡ true)
     → (rs more : List Rpc) (q : Queue) (s : Server) → LeaderIs p e q s → q.group.bag ≡ rs ++ more
-    → AllByRecursion (IsReply p) rs → AllPast s → s.out ≡ []
-    → (after q (replicate (length rs) (Delivers 0))).group.bag ≡ more
-all-calm p e own all [] more q s leader bag replies past silent = bag
-all-calm p e own all (r ∷ rs) more q s leader bag replies past silent =
+    → AllByRecursion (IsReply p) rs → AllNext s → s.out ≡ []
+    → ((after q (replicate (length rs) (Delivers 0))).group.bag ≡ more)
+    × ((t : Server) → ((after q (replicate (length rs) (Delivers 0))).group.seat p.node).server ≡ Some t → AllNext t)
+all-calm p e own all [] more q s leader bag replies sent silent =
+    (bag, λ t is. subst AllNext (same_some s t (sym leader.up ∙ is)) sent)
+all-calm p e own all (r ∷ rs) more q s leader bag replies sent silent =
     all-calm p e own all rs more next t.server t.is
     (f.bag ∙ ap (λ (l : List Rpc). (rs ++ more) ++ l) (calm.0 ∙ silent) ∙ append-nil (rs ++ more)) replies.1
-    (subst AllPast same (λ x here. calm.1 x here)) (ap (λ (x : Server). x.out) (sym same))
+    (subst AllNext same (λ x here. calm.1 x here)) (ap (λ (x : Server). x.out) (sym same))
   where
     reply : IsReply p r
     reply = replies.0
@@ -132,7 +140,10 @@ all-calm p e own all (r ∷ rs) more q s leader bag replies past silent =
         same_some (record (receive (Appended m) s) { out = [] }) t.server
         (sym (ap (λ (x : Seat). x.server) f.seat) ∙ t.is.up)
 
-    calm : ((receive (Appended m) s).out ≡ s.out) × AllPast (receive (Appended m) s)
+    good : (m.ok ≡ true) × (m.index.0 ≡ p.upto)
+    good = reply.good (all m.from.0 reply.known)
+
+    calm : ((receive (Appended m) s).out ≡ s.out) × AllNext (receive (Appended m) s)
     calm =
-        reply-calm m s p.upto p.most leader.waits.may past (reply.term ∙ sym leader.term)
-        (reply.good (all m.from.0 reply.known)).0
+        reply-calm m s p.upto p.most leader.waits.may sent (reply.term ∙ sym leader.term) good.0
+        (let is = good.1 in let long = leader.waits.may.last_is in omega (arith, is, long))

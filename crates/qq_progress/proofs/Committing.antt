@@ -1,5 +1,5 @@
 -- Two rounds commit an entry.
-use Rattle.std.proofs.Common.{◌≡◌, ◌≢◌, ◌<◌, ℕ, ◌≤◌, ◌+◌, Bool, true, List, [], ◌∷◌, ◌++◌, length, Some, refl, sym, ap, ◌∙◌, subst, inl, inr, arith, append-nil, length-append}
+use Rattle.std.proofs.Common.{◌≡◌, ◌≢◌, ℕ, ◌≤◌, ◌+◌, Bool, true, List, [], ◌∷◌, ◌++◌, length, Some, refl, sym, ap, ◌∙◌, subst, inl, inr, arith, append-nil, length-append}
 use Rattle.std.specs.List.{AllByRecursion}
 use Rattle.std.specs.Prelude.{replicate, take}
 use Rattle.std.proofs.lemmas.Bool.{cases_eq}
@@ -16,24 +16,25 @@ use Rattle.qq_raft_model.specs.Handing.{peer_number}
 use Rattle.qq_raft_msg.specs.declared.rpc.Rpc.{Rpc}
 use Rattle.qq_raft_msg.specs.declared.state.Role.TheVariants.{Follower, Leader}
 use Rattle.qq_raft_model.specs.declared.peer.Peer.{Peer}
-use Rattle.qq_raft_model.specs.Group.{Seat}
+use Rattle.qq_raft_model.specs.Group.{Seat, has_node}
 use Rattle.qq_raft_model.specs.Leading.{is_majority}
 use Rattle.qq_raft_model.specs.Server.{is_ready, notice}
 use Rattle.qq_raft_model.specs.State.{Server, last, term_at}
 use Rattle.qq_cluster.specs.Queue.{Queue, Delivers, after, all_said, own_rows}
 use Rattle.qq_cluster.proofs.Groups.{after-append}
-use Rattle.qq_world.specs.World.{Answered, Clients, Shown, printed}
+use Rattle.qq_session.specs.Clients.{Clients, printed}
+use Rattle.qq_session.specs.Shown.{Answered, Shown}
 use Rattle.qq_progress.specs.Alone.{round_alone, turns}
 use Rattle.qq_progress.proofs.Answering.{HaveAnswered, IsAnswering, all-answered, none-pends, still-busy}
-use Rattle.qq_progress.proofs.Calm.{AllPast, all-calm}
+use Rattle.qq_progress.proofs.Calm.{all-calm}
 use Rattle.qq_progress.proofs.Delivering.{IsSent, Plan, entries-go, talk}
-use Rattle.qq_progress.proofs.Exchange.{IsDelivering, Leaves, Replied, Seated, all-delivered, receivers, same_some}
+use Rattle.qq_progress.proofs.Exchange.{HasHeard, IsDelivering, Leaves, Replied, Seated, all-delivered, receivers, same_some}
 use Rattle.qq_progress.specs.Soon.{AreOnce}
 use Rattle.qq_progress.proofs.Hearing.{HasHeardAll, IsGiven, LeaderIs, Shows, all-heard, leader-tells, leads-ready, shows-nothing, shows-then, shows-told, waits-out}
 use Rattle.qq_progress.proofs.Leader.{HasOwnCommit, Notices, Waits, notice-waits}
 use Rattle.qq_progress.proofs.Printing.{Tells as ToldOf, row_after}
 use Rattle.qq_progress.proofs.Rounds.{IsSettled, OneTells, one-tells, said-append}
-use Rattle.qq_progress.proofs.Sending.{other-in}
+use Rattle.qq_progress.proofs.Sending.{AllNext, IsNext, other-in}
 use Rattle.qq_progress.proofs.Sound.{AreHanded, IsSound, ops-counted, sound-all}
 use Rattle.qq_progress.proofs.Turns.{HasNone, IsEven}
 
@@ -61,9 +62,9 @@ pub record IsSending (members : List NodeId) (p : Plan) (e : Entry) (q : Queue) 
   pub settled : (j : ℕ) → j ≢ p.node → p.up j ≡ true → IsSettled j q
   pub counts_up : (j : ℕ) → p.most j ≡ true → p.up j ≡ true
   pub bag : q.group.bag ≡ messages
-  pub sent : AllByRecursion (IsSent p) messages
+  pub sent : AllByRecursion (IsSent p e) messages
   pub once : AreOnce (receivers messages)
-  pub begins : (j : ℕ) → j ≢ p.node → Seated (talk p) messages [] j (q.group.seat j)
+  pub begins : (j : ℕ) → j ≢ p.node → Seated (talk p e) messages [] j (q.group.seat j)
 
 -- the leader has the entry, and where it is committed by then that is shown, if it took commands before
 pub record Reaches (p : Plan) (e : Entry) (s : Server) (q r : Queue) (shown : List Shown) : Type 0 where
@@ -84,14 +85,18 @@ pub record HasCommitted (p : Plan) (e : Entry) (s : Server) (q r : Queue) (shown
   pub reaches : Reaches p e s q r shown
   pub committed : p.upto ≤ reaches.server.commit
 
--- nothing is left to do, one member leads and takes commands, and the others follow
-pub record IsLedQuietly (up : ℕ → Bool) (k : ℕ) (q : Queue) : Type 0 where
+-- Nothing is left to do, one member leads and takes commands, and the others follow, have its log and are known to.
+pub record IsLedQuietly (members : List NodeId) (up : ℕ → Bool) (k : ℕ) (q : Queue) : Type 0 where
   pub bag : q.group.bag ≡ []
   pub settled : (j : ℕ) → up j ≡ true → IsSettled j q
   pub server : Server
   pub here : (q.group.seat k).server ≡ Some server
   pub ready : is_ready server ≡ true
   pub others : (j : ℕ) → j ≢ k → (t : Server) → (q.group.seat j).server ≡ Some t → t.role ≡ Follower
+  pub terms : (j : ℕ) → j ≢ k → (t : Server) → (q.group.seat j).server ≡ Some t → t.term.0 ≡ server.term.0
+  pub logs : (j : ℕ) → j ≢ k → has_node j members ≡ true
+      → (t : Server) × ((q.group.seat j).server ≡ Some t) × (t.log ≡ server.log)
+  pub next : AllNext server
 
 -- what is committed up to the last entry, which is of the leader's term
 ready-at : (i : ℕ) (most : ℕ → Bool) (s : Server) → Waits i most s → i ≤ s.commit → is_ready s ≡ true
@@ -153,14 +158,14 @@ module _ (handed : AreHanded) (members : List NodeId) (nodes : List ℕ) (plan :
   sent =
       turn.tells.bag ∙ ap (λ (l : List Rpc). one.group.bag ++ l) empty ∙ append-nil one.group.bag ∙ sends.bag
 
-  starts : IsDelivering (talk plan) two messages []
+  starts : IsDelivering (talk plan e) two messages []
   starts = record {
     bag = sent ∙ sym (append-nil messages);
     sent = sends.sent;
     once = sends.once;
     replies = tt;
     seats = λ j other.
-        subst (Seated (talk plan) messages [] j) (sym (turn.tells.others j other)) (sends.begins j other);
+        subst (Seated (talk plan e) messages [] j) (sym (turn.tells.others j other)) (sends.begins j other);
   }
 
   sound-two : IsSound members two
@@ -169,8 +174,8 @@ module _ (handed : AreHanded) (members : List NodeId) (nodes : List ℕ) (plan :
   abbrev three : Queue
   three = after two (replicate (length messages) (Delivers 0))
 
-  pub came : Leaves (talk plan) two three × ((more : List Rpc) × IsDelivering (talk plan) three [] more)
-  came = all-delivered members (talk plan) (entries-go plan) messages [] two sound-two starts
+  pub came : Leaves (talk plan e) two three × ((more : List Rpc) × IsDelivering (talk plan e) three [] more)
+  came = all-delivered members (talk plan e) (entries-go plan e) messages [] two sound-two starts
 
   leader-two : (two.group.seat k).server ≡ Some (record told { out = [] })
   leader-two = ap (λ (x : Seat). x.server) turn.tells.seat
@@ -189,7 +194,7 @@ module _ (handed : AreHanded) (members : List NodeId) (nodes : List ℕ) (plan :
     }
   ]
 
-  pub answering : IsAnswering (talk plan) three came.1.0
+  pub answering : IsAnswering (talk plan e) three came.1.0
   answering = record {
     bag = came.1.1.bag;
     replies = came.1.1.replies;
@@ -273,8 +278,8 @@ module _ (handed : AreHanded) (members : List NodeId) (nodes : List ℕ) (plan :
       let other : j ≢ k = subst (λ (n : ℕ). n ≢ k) is (not-own three server x sound-three leader-three there) in
       absurd (elim ((answering.heard j other).answered counts) [
         | inl replied ↦ subst (λ (l : List Rpc). Replied j l → ⊥) (sym none) (λ r. r.here) replied
-        | inr pends ↦ none-pends handed members (talk plan) (entries-go plan) three j sound-three (idle j (sends.counts_up j counts)).0
-            (idle j (sends.counts_up j counts)).1 pends
+        | inr pends ↦ none-pends handed members (talk plan e) (entries-go plan e) three j sound-three
+            (idle j (sends.counts_up j counts)).0 (idle j (sends.counts_up j counts)).1 pends
       ]))
 
   pub first-run : HasRun plan e first one (after one (round_alone up nodes one))
@@ -292,8 +297,8 @@ module _ (handed : AreHanded) (members : List NodeId) (nodes : List ℕ) (plan :
   abbrev four : Queue
   four = after three (turns up nodes three)
 
-  have : HaveAnswered (talk plan) three four came.1.0 nodes
-  have = all-answered handed members (talk plan) (entries-go plan) nodes three came.1.0 sound-three answering
+  have : HaveAnswered (talk plan e) three four came.1.0 nodes
+  have = all-answered handed members (talk plan e) (entries-go plan e) nodes three came.1.0 sound-three answering
 
   abbrev five : Queue
   five = after four (replicate (length have.more) (Delivers 0))
@@ -399,10 +404,31 @@ module _ (handed : AreHanded) (members : List NodeId) (nodes : List ℕ) (plan :
     λ t is. ap (λ (x : Server). x.ops) (sym (same_some server t (sym leader-three ∙ is))) ∙ noticed.1.ops,
   )
 
+  -- another member, once it has heard
+  has-log : (q : Queue) (rs : List Rpc) (t : Server) → IsSound members q
+      → ((j : ℕ) → j ≢ k → HasHeard (talk plan e) rs j (q.group.seat j))
+      → ((j : ℕ) → has_node j members ≡ true → plan.most j ≡ true) → LeaderIs plan e q t → (j : ℕ) → j ≢ k
+      → has_node j members ≡ true → (u : Server) × ((q.group.seat j).server ≡ Some u) × (u.log ≡ t.log)
+  has-log q rs t sound heard full leader j other is =
+      let h = heard j other in
+      let there = h.alive (full j is) in
+      let node = (sound.fit.each j there.0 there.1).node in (
+        there.0,
+        there.1,
+        (h.since there.0 there.1).log (ap plan.most node ∙ full j is) ∙ sym leader.log,
+      )
+
+  -- what the leader was told leaves what its peers are sent next
+  next-told : AllNext first → AllNext server
+  next-told sent x here =
+      subst (λ (l : List Entry). IsNext (length l) x) (sym noticed.1.log)
+      (sent x (subst (λ (l : List Peer). In x l) noticed.1.peers here))
+
   -- a group of one: one round is enough
-  pub first-quiet : messages ≡ [] → IsLedQuietly up k (after one (round_alone up nodes one))
-  first-quiet none =
-      subst (IsLedQuietly up k) (sym after-first) (record {
+  pub first-quiet : ((j : ℕ) → has_node j members ≡ true → plan.most j ≡ true) → AllNext first → messages ≡ []
+      → IsLedQuietly members up k (after one (round_alone up nodes one))
+  first-quiet full next none =
+      subst (IsLedQuietly members up k) (sym after-first) (record {
         bag = empty-bag;
         settled = settled;
         server = server;
@@ -410,6 +436,10 @@ module _ (handed : AreHanded) (members : List NodeId) (nodes : List ℕ) (plan :
         ready = ready-at plan.upto plan.most server (waits-out plan.upto plan.most told [] noticed.0)
             (first-enough (sym came.1.1.bag ∙ empty-bag) settled);
         others = λ j other t is. (answering.heard j other).follows t is;
+        terms = λ j other t is.
+            ((answering.heard j other).since t is).term ∙ sym (leader-is three leader-three).term;
+        logs = has-log three came.1.0 server sound-three answering.heard full (leader-is three leader-three);
+        next = next-told next;
       })
     where
       empty-bag : three.group.bag ≡ []
@@ -425,7 +455,7 @@ module _ (handed : AreHanded) (members : List NodeId) (nodes : List ℕ) (plan :
   -- where another member counts, something is left to do after one round
   pub first-goes-on : (j : ℕ) → j ≢ k → plan.most j ≡ true → three.group.bag ≡ [] → IsSettled j three → ⊥
   first-goes-on j other counts none settled =
-      still-busy handed members (talk plan) (entries-go plan) three came.1.0 j sound-three answering none other counts
+      still-busy handed members (talk plan e) (entries-go plan e) three came.1.0 j sound-three answering none other counts
       settled
 
   pub first-busy-then : (j : ℕ) → j ≢ k → plan.most j ≡ true
@@ -434,29 +464,35 @@ module _ (handed : AreHanded) (members : List NodeId) (nodes : List ℕ) (plan :
       subst (λ (r : Queue). r.group.bag ≡ [] → IsSettled j r → ⊥) (sym after-first) (first-goes-on j other counts)
 
   -- and two rounds are enough
-  pub second-quiet : ((j : ℕ) → plan.asked j ≡ true → plan.most j ≡ true) → AllPast first
-      → IsLedQuietly up k
+  pub second-quiet : ((j : ℕ) → plan.asked j ≡ true → plan.most j ≡ true)
+      → ((j : ℕ) → has_node j members ≡ true → plan.most j ≡ true) → AllNext first → IsLedQuietly members up k
       (after (after one (round_alone up nodes one)) (round_alone up nodes (after one (round_alone up nodes one))))
-  second-quiet every past =
-      subst (λ (r : Queue). IsLedQuietly up k (after r (round_alone up nodes r))) (sym after-first)
-      (subst (IsLedQuietly up k) (sym after-second) (record {
-        bag = all-calm plan e sends.own every have.more [] four server leader-four
-            (have.answering.bag ∙ sym (append-nil have.more)) have.answering.replies past-told refl;
+  second-quiet every full next =
+      subst (λ (r : Queue). IsLedQuietly members up k (after r (round_alone up nodes r))) (sym after-first)
+      (subst (IsLedQuietly members up k) (sym after-second) (record {
+        bag = calm.0;
         settled = settled;
         server = all.server;
         here = all.is.up;
         ready = ready-at plan.upto plan.most all.server all.is.waits committed;
         others = λ j other t is.
             (have.answering.heard j other).follows t (ap (λ (x : Seat). x.server) (sym (all.others j other)) ∙ is);
+        terms = λ j other t is. ((heard-five j other).since t is).term ∙ sym all.is.term;
+        logs = has-log five have.more all.server sound-five heard-five full all.is;
+        next = calm.1 all.server all.is.up;
       }))
     where
       leader-four : LeaderIs plan e four server
       leader-four = leader-is four (ap (λ (x : Seat). x.server) have.keeps.leader ∙ leader-three)
 
-      past-told : AllPast server
-      past-told x here =
-          subst (λ (l : List Entry). length l < x.next) (sym noticed.1.log)
-          (past x (subst (λ (l : List Peer). In x l) noticed.1.peers here))
+      calm : (five.group.bag ≡ []) × ((t : Server) → (five.group.seat k).server ≡ Some t → AllNext t)
+      calm =
+          all-calm plan e sends.own every have.more [] four server leader-four
+          (have.answering.bag ∙ sym (append-nil have.more)) have.answering.replies (next-told next) refl
+
+      heard-five : (j : ℕ) → j ≢ k → HasHeard (talk plan e) have.more j (five.group.seat j)
+      heard-five j other =
+          subst (HasHeard (talk plan e) have.more j) (sym (all.others j other)) (have.answering.heard j other)
 
       none-five : HasNone k five
       none-five t is =

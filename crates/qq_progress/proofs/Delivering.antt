@@ -1,5 +1,5 @@
 -- A leader's entries come to the other members, and each answers once.
-use Rattle.std.proofs.Common.{◌≡◌, ◌≢◌, ◌⊎◌, ℕ, ◌≤◌, ◌<◌, Bool, true, List, [], ◌∷◌, ◌++◌, Some, refl, sym, ap, ◌∙◌, subst, inl, inr, arith}
+use Rattle.std.proofs.Common.{◌≡◌, ◌≢◌, ◌⊎◌, ℕ, ◌≤◌, ◌<◌, Bool, true, List, [], ◌∷◌, ◌++◌, length, Some, refl, sym, ap, ◌∙◌, subst, inl, inr, arith}
 use Rattle.std.specs.List.{AllByRecursion}
 use Rattle.qq_base.specs.declared.ids.NodeId.{NodeId}
 use Rattle.qq_entry.specs.declared.command.Entry.{Entry}
@@ -30,8 +30,8 @@ pub record Plan : Type 0 where
   pub up : ℕ → Bool
   pub asked : ℕ → Bool
 
--- the leader's message to another member; to one that counts it brings the entry
-pub record IsSent (p : Plan) (r : Rpc) : Type 0 where
+-- the leader's message to another member; to one that counts it brings the entry behind the log
+pub record IsSent (p : Plan) (e : Entry) (r : Rpc) : Type 0 where
   pub msg : AppendMsg
   pub is : r ≡ Append msg
   pub term : msg.term.0 ≡ p.term
@@ -39,6 +39,7 @@ pub record IsSent (p : Plan) (r : Rpc) : Type 0 where
   pub other : msg.to.0 ≢ p.node
   pub known : p.asked msg.to.0 ≡ true
   pub good : p.most msg.to.0 ≡ true → (is_match msg p.log ≡ true) × (end msg ≡ p.upto)
+  pub brings : p.most msg.to.0 ≡ true → (msg.prev_index.0 ≡ length p.log) × (msg.entries ≡ e ∷ [])
 
 -- an answer to it; one that counts has the entry
 pub record IsReply (p : Plan) (r : Rpc) : Type 0 where
@@ -47,7 +48,7 @@ pub record IsReply (p : Plan) (r : Rpc) : Type 0 where
   pub term : msg.term.0 ≡ p.term
   pub to : msg.to.0 ≡ p.node
   pub known : p.asked msg.from.0 ≡ true
-  pub good : p.most msg.from.0 ≡ true → (msg.ok ≡ true) × (p.upto ≤ msg.index.0)
+  pub good : p.most msg.from.0 ≡ true → (msg.ok ≡ true) × (msg.index.0 ≡ p.upto)
 
 -- it hasn't heard of the entry
 pub record IsFresh (p : Plan) (j : ℕ) (seat : Seat) : Type 0 where
@@ -56,10 +57,23 @@ pub record IsFresh (p : Plan) (j : ℕ) (seat : Seat) : Type 0 where
   pub log : (t : Server) → seat.server ≡ Some t → p.most j ≡ true → t.log ≡ p.log
   pub there : p.most j ≡ true → (t : Server) × (seat.server ≡ Some t)
 
+-- it is in the leader's term, and if it counts it has the leader's log
+pub record HasEntry (p : Plan) (e : Entry) (t : Server) : Type 0 where
+  pub term : t.term.0 ≡ p.term
+  pub log : p.most t.node.0 ≡ true → t.log ≡ p.log ++ e ∷ []
+
 -- the talk of it
-abbrev pub talk : Plan → Talk
-talk p =
-    record { node = p.node; most = p.most; up = p.up; Sent = IsSent p; Reply = IsReply p; Fresh = IsFresh p; Since = λ t. Unit {0} }
+abbrev pub talk : Plan → Entry → Talk
+talk p e =
+    record {
+      node = p.node;
+      most = p.most;
+      up = p.up;
+      Sent = IsSent p e;
+      Reply = IsReply p;
+      Fresh = IsFresh p;
+      Since = HasEntry p e;
+    }
 
 -- ---- one message
 
@@ -67,11 +81,12 @@ rpcs-more : (ws : List Waiting) (op : ℕ) (r : Rpc) → rpcs_of (ws ++ wait op 
 rpcs-more [] op r = refl
 rpcs-more (w ∷ ws) op r = ap (λ (l : List Rpc). w.rpc ∷ l) (rpcs-more ws op r)
 
-replies : (p : Plan) (rs : List Rpc) (j : ℕ) (seat : Seat) (t : Server) (m : AppendMsg) → m.to.0 ≡ j
+replies : (p : Plan) (e : Entry) (rs : List Rpc) (j : ℕ) (seat : Seat) (t : Server) (m : AppendMsg) → m.to.0 ≡ j
     → seat.server ≡ Some t → t.node.0 ≡ j → t.out ≡ [] → IsFresh p j seat → m.term.0 ≡ p.term → m.from.0 ≡ p.node
     → p.asked m.to.0 ≡ true → (p.most m.to.0 ≡ true → (is_match m p.log ≡ true) × (end m ≡ p.upto))
-    → Replies (talk p) rs j (fed seat (receive (Append m) t)) (receive (Append m) t).out
-replies p rs j seat t m to up node none fresh term from known good = by a.says
+    → (p.most m.to.0 ≡ true → (m.prev_index.0 ≡ length p.log) × (m.entries ≡ e ∷ []))
+    → Replies (talk p e) rs j (fed seat (receive (Append m) t)) (receive (Append m) t).out
+replies p e rs j seat t m to up node none fresh term from known good brings = by a.says
   where
     le : t.term.0 ≤ m.term.0
     le = let early = fresh.term t up in omega (arith, early, term)
@@ -96,7 +111,7 @@ replies p rs j seat t m to up node none fresh term from known good = by a.says
           let ok = a.good same in
           let reaches = g.1 in
           let index = ok.1 in
-          (ok.0, omega (arith, reaches, index));
+          (ok.0, index ∙ reaches);
     }
 
     own : (rest : List Rpc) → Replied j (rest ++ Appended a.reply ∷ [])
@@ -106,19 +121,34 @@ replies p rs j seat t m to up node none fresh term from known good = by a.says
       from = ap (λ (n : NodeId). n.0) a.from ∙ node;
     }
 
+    held : HasEntry p e u
+    held = record {
+      term = a.term ∙ term;
+      log = λ counts.
+          let at : p.most j ≡ true = subst (λ (n : ℕ). p.most n ≡ true) (ap (λ (n : NodeId). n.0) a.node ∙ node) counts in
+          let old = fresh.log t up at in
+          let b = brings (ap p.most to ∙ at) in
+          a.takes e (ap (is_match m) old ∙ (good (ap p.most to ∙ at)).0) (b.0 ∙ ap length (sym old)) b.1
+          ∙ ap (λ (l : List Entry). l ++ e ∷ []) old;
+    }
+
+    since : (v : Server) → (fed seat u).server ≡ Some v → HasEntry p e v
+    since v is =
+        subst (HasEntry p e) (same_some (record u { out = [] }) v is) (record { term = held.term; log = held.log })
+
     is_u : (v : Server) → (fed seat u).server ≡ Some v → record u { out = [] } ≡ v
     is_u v is = same_some (record u { out = [] }) v is
 
     by : (((u.out ≡ t.out ++ Appended a.reply ∷ []) × (u.waiting ≡ t.waiting))
         ⊎ ((u.noticed < u.op) × (u.out ≡ t.out) × (u.waiting ≡ t.waiting ++ wait u.op (Appended a.reply) ∷ [])))
-        → Replies (talk p) rs j (fed seat u) u.out
+        → Replies (talk p e) rs j (fed seat u) u.out
     by (inl now) =
         let out : u.out ≡ Appended a.reply ∷ [] = now.0 ∙ ap (λ (l : List Rpc). l ++ Appended a.reply ∷ []) none in
         record {
           out_are = subst (AllByRecursion (IsReply p)) (sym out) (reply, tt);
           heard = record {
             follows = λ v is. ap (λ (x : Server). x.role) (sym (is_u v is)) ∙ a.role;
-            since = λ v is. tt;
+            since = since;
             alive = λ counts. (record u { out = [] }, refl);
             waiting = λ v is node_up.
                 subst (λ (l : List Waiting). AllByRecursion (IsReply p) (rpcs_of l))
@@ -132,7 +162,7 @@ replies p rs j seat t m to up node none fresh term from known good = by a.says
           out_are = subst (AllByRecursion (IsReply p)) (sym out) tt;
           heard = record {
             follows = λ v is. ap (λ (x : Server). x.role) (sym (is_u v is)) ∙ a.role;
-            since = λ v is. tt;
+            since = since;
             alive = λ counts. (record u { out = [] }, refl);
             waiting = λ v is node_up.
                 subst (λ (l : List Waiting). AllByRecursion (IsReply p) (rpcs_of l))
@@ -149,13 +179,13 @@ replies p rs j seat t m to up node none fresh term from known good = by a.says
           };
         }
 
-pub entries-go : (p : Plan) → Goes (talk p)
-entries-go p = record {
+pub entries-go : (p : Plan) (e : Entry) → Goes (talk p e)
+entries-go p e = record {
   other = λ r sent same. sent.other (ap (λ (x : Rpc). (envelope x).to.0) (sym sent.is) ∙ same);
   there = λ j seat fresh counts. fresh.there counts;
   answers = λ rs j seat t r sent to up node none fresh.
-      subst (λ (x : Rpc). Replies (talk p) rs j (fed seat (receive x t)) (receive x t).out) (sym sent.is)
-      (replies p rs j seat t sent.msg (ap (λ (x : Rpc). (envelope x).to.0) (sym sent.is) ∙ to) up node none fresh
-      sent.term sent.from sent.known sent.good);
-  keeps = λ t n is. tt;
+      subst (λ (x : Rpc). Replies (talk p e) rs j (fed seat (receive x t)) (receive x t).out) (sym sent.is)
+      (replies p e rs j seat t sent.msg (ap (λ (x : Rpc). (envelope x).to.0) (sym sent.is) ∙ to) up node none fresh
+      sent.term sent.from sent.known sent.good sent.brings);
+  keeps = λ t n is. record { term = is.term; log = is.log };
 }

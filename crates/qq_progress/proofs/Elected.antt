@@ -31,10 +31,9 @@ use Rattle.qq_progress.proofs.Leader.{Advances, advances}
 use Rattle.qq_progress.proofs.Fit.{IsFit, others}
 use Rattle.qq_progress.proofs.Opening.{Stands, asked, tick-stands, ticks-asks}
 use Rattle.qq_progress.proofs.Member.{noticed-all, plain-notice, rpcs_of}
-use Rattle.qq_progress.proofs.Calm.{AllPast}
 use Rattle.qq_progress.proofs.Rising.{IsFreshQueue, asked-receivers, beaten, each-in, first_plan, in-numbers, led-sends, numbers-clear, numbers-start, rpcs-wait}
 use Rattle.qq_progress.proofs.Rounds.{IsSettled, OneTells, one-tells}
-use Rattle.qq_progress.proofs.Sending.{all-noticed, other-in, others-have, others-once, receivers-are, with_entry}
+use Rattle.qq_progress.proofs.Sending.{AllNext, all-noticed, other-in, others-have, others-once, receivers-are, with_entry}
 use Rattle.qq_progress.proofs.Sound.{AreHanded, IsSound, sound-all, sound-event}
 use Rattle.qq_progress.proofs.Turns.{IsEven}
 use Rattle.qq_progress.proofs.Voting.{Ballot, IsAsk, ballot_talk, votes-go}
@@ -361,7 +360,7 @@ module _ (handed : AreHanded) (members : List NodeId) (up : ℕ → Bool) (nodes
         receivers-are (first_entry led.base) (based led.base) (based led.base).peers
         ∙ numbers-start (last led.base + 1) led.base.peers ∙ led.peers
 
-    begins-five : (j : ℕ) → j ≢ k → Seated (talk plan) (first_messages led.base) [] j (five.group.seat j)
+    begins-five : (j : ℕ) → j ≢ k → Seated (talk plan (first_entry led.base)) (first_messages led.base) [] j (five.group.seat j)
     begins-five j other = record {
       fresh = λ _. record {
         term = λ t is. (let v = (heard-five j other).since t is in let w = v.0 in omega (arith, w));
@@ -371,7 +370,7 @@ module _ (handed : AreHanded) (members : List NodeId) (up : ℕ → Bool) (nodes
       };
       heard = λ gone. record {
         follows = (heard-five j other).follows;
-        since = λ t is. tt;
+        since = λ t is. absurd (gone (found t is));
         alive = (heard-five j other).alive;
         waiting = λ t is. absurd (gone (found t is));
         answered = λ counts. (let t = (heard-five j other).alive counts in absurd (gone (found t.0 t.1)));
@@ -392,7 +391,7 @@ module _ (handed : AreHanded) (members : List NodeId) (up : ℕ → Bool) (nodes
     pub second-sends : (b : Server) × (v : Server) × (ms : List Rpc)
         × IsSending members plan (first_entry b)
         (after (after one (round_alone up nodes one)) (round_alone up nodes (after one (round_alone up nodes one)))) v ms
-        × AllPast v
+        × AllNext v
     second-sends = (
       led.base,
       led.server,
@@ -401,7 +400,7 @@ module _ (handed : AreHanded) (members : List NodeId) (up : ℕ → Bool) (nodes
           (first_messages led.base)) (sym after-first)
           (subst (λ (r : Queue). IsSending members plan (first_entry led.base) r led.server (first_messages led.base))
           (sym after-second) sends),
-      led.is.past,
+      led.is.next,
     )
       where
         sends : IsSending members plan (first_entry led.base) five led.server (first_messages led.base)
@@ -410,11 +409,11 @@ module _ (handed : AreHanded) (members : List NodeId) (up : ℕ → Bool) (nodes
             led.node led.peers led.is led.here led.bag even-five settled-five begins-five
 
     -- it takes commands after four rounds, and nothing is left to do
-    pub fourth-leads : IsLedQuietly up k (next (next (next (next one))))
+    pub fourth-leads : IsLedQuietly members up k (next (next (next (next one))))
     fourth-leads =
         let b = second-sends in
         second-quiet handed members nodes plan (first_entry b.0) (next (next one)) b.1 b.2 b.3 (λ j j_up. among j j_up)
-        (λ j is. is) b.4
+        (λ j is. is) (λ j is. is) b.4
 
     -- and no fewer are enough
     pub second-busy : IsSettled k (next (next one)) → ⊥
@@ -511,7 +510,7 @@ module _ (handed : AreHanded) (members : List NodeId) (up : ℕ → Bool) (nodes
           let long = ap length leading.0.log in
           let most = goes.most (omega (arith, within, long)) in omega (arith, most, long));
       waiting = leading.0.waiting;
-      past = leading.0.past;
+      next = leading.0.next;
     }
 
     own-numbers : map peer_number own.peers ≡ map number (others k members)
@@ -544,7 +543,7 @@ module _ (handed : AreHanded) (members : List NodeId) (up : ℕ → Bool) (nodes
           fresh = λ gets. absurd (subst (λ (l : List Rpc). In j (receivers l)) no-messages gets);
           heard = λ gone. record {
             follows = λ t is. absurd (no-others j (sound-own.fit.each j t is).member other);
-            since = λ t is. tt;
+            since = λ t is. absurd (no-others j (sound-own.fit.each j t is).member other);
             alive = λ counts. absurd (no-others j counts other);
             waiting = λ t is. absurd (no-others j (sound-own.fit.each j t is).member other);
             answered = λ counts. absurd (no-others j counts other);
@@ -557,11 +556,11 @@ module _ (handed : AreHanded) (members : List NodeId) (up : ℕ → Bool) (nodes
         ∙ ap (λ (l : List Rpc). after own-two (replicate (length l) (Delivers 0))) own-bag
 
     -- two rounds are enough
-    pub single-leads : IsLedQuietly up k (next (next one))
+    pub single-leads : IsLedQuietly members up k (next (next one))
     single-leads =
-        subst (λ (r : Queue). IsLedQuietly up k (next r)) (sym own-next)
+        subst (λ (r : Queue). IsLedQuietly members up k (next r)) (sym own-next)
         (first-quiet handed members nodes (first_plan members up k) (first_entry own) own-two leads-alone (first_messages own)
-        own-sends (λ j j_up. among j j_up) no-messages)
+        own-sends (λ j j_up. among j j_up) (λ j is. is) own-led.next no-messages)
 
     -- and one isn't
     pub single-busy : IsSettled k (next one) → ⊥

@@ -1,5 +1,5 @@
 -- A candidate of the first term hears the others' votes, and leads.
-use Rattle.std.proofs.Common.{◌≡◌, ◌≢◌, ◌⊎◌, ℕ, suc, ◌≤◌, ◌<◌, ◌+◌, ◌*◌, Bool, true, false, cond, ltb, leb, ◌&&◌, List, [], ◌∷◌, ◌++◌, length, map, count_by, Some, None, refl, sym, ap, ◌∙◌, subst, inl, inr, arith, append-nil, length-append}
+use Rattle.std.proofs.Common.{◌≡◌, ◌≢◌, ◌⊎◌, ℕ, suc, ◌≤◌, ◌+◌, ◌*◌, Bool, true, false, cond, ltb, leb, ◌&&◌, List, [], ◌∷◌, ◌++◌, length, map, count_by, Some, None, refl, sym, ap, ◌∙◌, subst, inl, inr, arith, append-nil, length-append}
 use Rattle.std.specs.Prelude.{replicate}
 use Rattle.std.specs.List.{AllByRecursion}
 use Rattle.std.proofs.lemmas.Bool.{cond-true, cond-false, cond_both, eq-eqb, false≢true, le-ltb, lt-ltb}
@@ -26,7 +26,7 @@ use Rattle.qq_cluster.specs.Queue.{Queue, Delivers, after, happens}
 use Rattle.qq_progress.proofs.Exchange.{Replied, delivers}
 use Rattle.qq_progress.proofs.Feeding.{Feeds, FeedsOne, feeds-one}
 use Rattle.qq_progress.proofs.Leader.{majority-le}
-use Rattle.qq_progress.proofs.Sending.{Added, sent-added, with_entry}
+use Rattle.qq_progress.proofs.Sending.{Added, AllNext, IsNext, sent-added, with_entry}
 use Rattle.qq_progress.proofs.Voting.{Ballot, IsVote}
 
 -- ---- a candidate
@@ -65,7 +65,7 @@ pub record IsLed (base u : Server) : Type 0 where
   pub noticed : u.noticed ≡ 1
   pub commit : u.commit ≤ 1
   pub waiting : u.waiting ≡ []
-  pub past : (x : Peer) → In x u.peers → last u < x.next
+  pub next : AllNext u
 
 pub leads : (s : Server) → IsStanding s → IsLed s (lead s) × ((lead s).out ≡ first_messages s)
 unfolding lead add_entry
@@ -81,10 +81,12 @@ leads s is =
         noticed = a.noticed ∙ is.noticed;
         commit = (let c = a.commit ∙ is.commit in omega (arith, c));
         waiting = a.waiting ∙ is.waiting;
-        past = λ x here. (let more = a.past (λ y there. (let w = In-map (start_peer (last s + 1)) y s.peers there in
-            ap (λ (z : Peer). z.next) w.is)) x here in
-            let long = ap length a.log in let add = length-append s.log (first_entry s ∷ []) in
-            omega (arith, more, long, add));
+        next = λ x here. (let more = a.next (λ y there. (let w = In-map (start_peer (last s + 1)) y s.peers there in
+            let none : y.matched ≡ 0 = ap (λ (z : Peer). z.matched) w.is in
+            (ap (λ (z : Peer). z.next) w.is, omega (arith, none)))) x here in
+            let long : last (lead s) ≡ last s + 1 =
+            ap length a.log ∙ length-append s.log (first_entry s ∷ []) in
+            subst (λ (n : ℕ). IsNext n x) (sym long) more);
       },
       a.out ∙ ap (λ (l : List Rpc). l ++ first_messages s) is.out,
     )
@@ -190,7 +192,7 @@ led-out base s out is = record {
   noticed = is.noticed;
   commit = is.commit;
   waiting = is.waiting;
-  past = is.past;
+  next = is.next;
 }
 
 -- ---- a majority of all

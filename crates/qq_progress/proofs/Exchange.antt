@@ -20,7 +20,7 @@ use Rattle.qq_raft_model.specs.Server.{Input, receive}
 use Rattle.qq_raft_model.specs.State.{Server, is_leader, term_at}
 use Rattle.qq_raft_model.proofs.Noticed.{noticed-is}
 use Rattle.qq_cluster.specs.Queue.{Queue, Delivers, after, happens, is_shown, own_rows, receiver_by}
-use Rattle.qq_world.specs.World.{hear_all}
+use Rattle.qq_session.specs.Clients.{hear_all}
 use Rattle.qq_progress.specs.Soon.{AreOnce}
 use Rattle.qq_progress.proofs.Feeding.{Feeds, FeedsNobody, FeedsOne, fed, feeds-nobody, feeds-one}
 use Rattle.qq_progress.proofs.Fit.{IsFit}

@@ -7,7 +7,7 @@ use Rattle.qq_raft_model.specs.Group.{Group, Seat, after_step, feed, feed_by}
 use Rattle.qq_raft_model.specs.Server.{Input, step}
 use Rattle.qq_raft_model.specs.State.{Server}
 use Rattle.qq_cluster.specs.Queue.{Queue, Event, acts, group_then, happens, own_rows, rows_at, rows_by, rows_told, stepping, synced_after}
-use Rattle.qq_world.specs.World.{hear_all}
+use Rattle.qq_session.specs.Clients.{hear_all}
 
 -- an event gives one member an input, once these messages are left
 pub record Feeds (q : Queue) (event : Event) (j : ℕ) (input : Input) (rest : List Rpc) : Type 0 where

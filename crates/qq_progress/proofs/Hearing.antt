@@ -17,7 +17,8 @@ use Rattle.qq_raft_model.specs.Group.{Seat}
 use Rattle.qq_raft_model.specs.Server.{Input, is_ready, receive}
 use Rattle.qq_raft_model.specs.State.{Server, is_leader, last, term_at}
 use Rattle.qq_cluster.specs.Queue.{Queue, Delivers, after, all_said, happens, own_rows, rows_told, said}
-use Rattle.qq_world.specs.World.{Answered, Clients, Shown, hear_all, printed}
+use Rattle.qq_session.specs.Clients.{Clients, hear_all, printed}
+use Rattle.qq_session.specs.Shown.{Answered, Shown}
 use Rattle.qq_progress.proofs.Delivering.{IsReply, Plan}
 use Rattle.qq_progress.proofs.Exchange.{Replied, delivers}
 use Rattle.qq_progress.proofs.Feeding.{Feeds, FeedsOne, feeds-one, rows-told}
@@ -138,7 +139,7 @@ module _ (p : Plan) (e : Entry) (own : e.term.0 ≡ p.term) where
   -- one answer
   pub one-heard : (q : Queue) (s : Server) (m : AppendedMsg) (rest : List Rpc) → LeaderIs p e q s
       → q.group.bag ≡ Appended m ∷ rest → m.term.0 ≡ p.term → m.to.0 ≡ p.node
-      → (p.most m.from.0 ≡ true → (m.ok ≡ true) × (p.upto ≤ m.index.0))
+      → (p.most m.from.0 ≡ true → (m.ok ≡ true) × (m.index.0 ≡ p.upto))
       → (out : List Rpc) × ((happens q (Delivers 0)).group.bag ≡ rest ++ out)
       × HasHeardAll p e q (happens q (Delivers 0)) s (Appended m ∷ []) (said q (Delivers 0))
   one-heard q s m rest leader bag term to good = (u.out, f.bag, all)
@@ -181,7 +182,7 @@ module _ (p : Plan) (e : Entry) (own : e.term.0 ≡ p.term) where
         gains = λ j counts replied. elim replied.here [
           | inl same ↦ (let from : m.from.0 ≡ j = ap (λ (x : Rpc). (envelope x).from.0) (sym same) ∙ replied.from in
               let g = good (ap p.most from ∙ counts) in
-              subst (λ (n : ℕ). HasUpTo p.upto n u.peers) from (a.2 g.0 g.1))
+              subst (λ (n : ℕ). HasUpTo p.upto n u.peers) from (a.2 g.0 (let is = g.1 in omega (arith, is))))
           | inr later ↦ absurd later
         ];
         args = f.args;

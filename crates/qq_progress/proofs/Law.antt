@@ -25,10 +25,11 @@ use Rattle.qq_raft_model.specs.Server.{submit}
 use Rattle.qq_raft_model.specs.State.{Server}
 use Rattle.qq_script_lines.specs.declared.line.ScriptLine.{ScriptLine}
 use Rattle.qq_session.specs.Publishing.{Numbers, OpenCommand, hand, is_open, next_stamp}
-use Rattle.qq_world.specs.World.{Answered, Client, Clients, Shown, may_hand}
-use Rattle.qq_world.proofs.Audits.{audit-front}
+use Rattle.qq_session.specs.Clients.{Client, Clients, may_hand}
+use Rattle.qq_session.specs.Shown.{Answered, Shown}
+use Rattle.qq_session.proofs.Audits.{audit-front}
 use Rattle.qq_session.proofs.NumberingLemmas.{stamped-stamp}
-use Rattle.qq_world.proofs.Printed.{front-contains}
+use Rattle.qq_session.proofs.PrintedAnswers.{front-contains}
 use Rattle.qq_cluster.specs.Cluster.{Cluster, ClusterEvent, At, Of, Setup, all_prints, cluster_after, cluster_happens, members, new_cluster, parts_of, prints}
 use Rattle.qq_cluster.specs.ClusterLaws.{HasGroups, has_failure}
 use Rattle.qq_cluster.specs.Lines.{IsLine}

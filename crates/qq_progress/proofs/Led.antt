@@ -11,7 +11,7 @@ use Rattle.qq_raft_msg.specs.declared.state.Role.TheVariants.{Follower}
 use Rattle.qq_raft_model.specs.Group.{Group, has_node}
 use Rattle.qq_raft_model.specs.Server.{is_ready}
 use Rattle.qq_raft_model.specs.State.{Server, is_leader, term_at}
-use Rattle.qq_cluster.specs.Cluster.{Cluster, Setup}
+use Rattle.qq_cluster.specs.Cluster.{Cluster, Setup, members}
 use Rattle.qq_cluster.specs.Queue.{Queue, Leading, Delivers, after, later, leader, leading, node_of, waiting, waiting_by}
 use Rattle.qq_cluster.specs.Rules.{is_idle, is_quiet, is_quiet_at, is_settled}
 use Rattle.qq_cluster.proofs.Groups.{after-append}
@@ -73,16 +73,20 @@ module _ (g : Group) (k : ℕ) (s : Server) (here : (g.seat k).server ≡ Some s
 
 -- ---- it stays so
 
-pub quiet-stays : (up : ℕ → Bool) (nodes : List ℕ) (k : ℕ) (q : Queue) → IsLedQuietly up k q
-    → IsLedQuietly up k (after q (round_alone up nodes q))
-quiet-stays up nodes k q led =
-    subst (IsLedQuietly up k) (sym ends) (record {
+pub quiet-stays : (members : List NodeId) (up : ℕ → Bool) (nodes : List ℕ) (k : ℕ) (q : Queue)
+    → IsLedQuietly members up k q → IsLedQuietly members up k (after q (round_alone up nodes q))
+quiet-stays members up nodes k q led =
+    subst (IsLedQuietly members up k) (sym ends) (record {
       bag = bag;
       settled = λ j j_up. settled-rests q r j rests (led.settled j j_up);
       server = led.server;
       here = ap (λ (g : Group). (g.seat k).server) rests.group ∙ led.here;
       ready = led.ready;
       others = λ j other t is. led.others j other t (ap (λ (g : Group). (g.seat j).server) (sym rests.group) ∙ is);
+      terms = λ j other t is. led.terms j other t (ap (λ (g : Group). (g.seat j).server) (sym rests.group) ∙ is);
+      logs = λ j other is. (let l = led.logs j other is in
+          (l.0, ap (λ (g : Group). (g.seat j).server) rests.group ∙ l.1, l.2));
+      next = led.next;
     })
   where
     r : Queue
@@ -126,8 +130,8 @@ quiet-is setup up q none each =
 
 -- where each queue is led quietly
 pub idle-is : (setup : Setup) (c d : Cluster) (first : ℕ → ℕ) → d.up ≡ c.up
-    → ((place : ℕ) → In place setup.places → IsLedQuietly (runs setup c) (first place) (d.queue place))
-    → is_idle setup d ≡ true
+    → ((place : ℕ) → In place setup.places
+    → IsLedQuietly (members setup place) (runs setup c) (first place) (d.queue place)) → is_idle setup d ≡ true
 idle-is setup c d first same each =
     all-from (λ (place : ℕ). is_quiet setup d.up (d.queue place)) setup.places (λ place here.
     let led = each place here in

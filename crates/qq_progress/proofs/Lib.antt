@@ -30,3 +30,5 @@ pub mod Restarting
 pub mod Led
 pub mod Settling
 pub mod Opens
+pub mod Unasked
+pub mod First

@@ -232,7 +232,7 @@ member-in j (n ∷ nodes) is = elim (or_cases (nat_eq n.0 j) (has_node j nodes) 
   | inr more ↦ inr (member-in j nodes more)
 ]
 
-in-member : (j : ℕ) (nodes : List NodeId) → In j (members_of nodes) → has_node j nodes ≡ true
+pub in-member : (j : ℕ) (nodes : List NodeId) → In j (members_of nodes) → has_node j nodes ≡ true
 in-member j [] here = absurd here
 in-member j (n ∷ nodes) (inl own) = ap (λ (b : Bool). b || has_node j nodes) (eq-eqb n.0 j (sym own))
 in-member j (n ∷ nodes) (inr more) = by (nat_eq n.0 j) (in-member j nodes more)
@@ -265,13 +265,13 @@ module _ (within : AreWithin) (setup : Setup) (made : List ClusterEvent) (place 
     distinct = (groups place).distinct;
     here = m.up;
     ready = leader-ready q.group k s m.leads m.up;
-    node_up = runs-from setup c k m.node_up (nodes place k (member-in k (members setup place) fit.member));
+    node_up = runs-from setup c k m.node_up (nodes place k here (member-in k (members setup place) fit.member));
     bag = quiet-bag setup c.up q quiet;
     settled = λ j j_up. (let r = runs-up setup c j j_up in
         quiet-settled setup c.up q j (counted-at setup made groups place) r.1 r.0 quiet);
     latest = λ j t up. m.latest j t up;
     counts_up = λ j counts. (let h = has j counts in
-        runs-from setup c j h.node_up (nodes place j (there j counts)));
+        runs-from setup c j h.node_up (nodes place j here (there j counts)));
     log = λ j counts. (let h = has j counts in (h.server, h.up, h.log));
     next = λ j counts other x peer is. (has j counts).next other x peer is;
     majority = majority-le (λ x. m.most.counts x.node.0) (λ x. counted_by (members setup place) m.most.counts x.node.0)

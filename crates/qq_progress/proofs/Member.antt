@@ -1,7 +1,9 @@
 -- What a member answers a leader, and when the answer leaves.
-use Rattle.std.proofs.Common.{◌≡◌, ◌⊎◌, ℕ, ◌≤◌, ◌<◌, ◌-◌, ◌+◌, true, false, ◌&&◌, ltb, leb, List, [], ◌∷◌, ◌++◌, map, drop, Option, Some, None, refl, sym, ap, ◌∙◌, subst, inl, inr, arith}
+use Rattle.std.proofs.Common.{◌≡◌, ◌⊎◌, ℕ, ◌≤◌, ◌<◌, ◌-◌, ◌+◌, true, false, ◌&&◌, ltb, leb, List, [], ◌∷◌, ◌++◌, length, map, drop, take, Option, Some, None, refl, sym, ap, ◌∙◌, subst, inl, inr, arith}
 use Rattle.std.specs.Prelude.{min}
 use Rattle.std.proofs.lemmas.Bool.{cond_both, cond-true, cond-false, ltb-false, le-ltb, leb-false, le-leb}
+use Rattle.std.proofs.lemmas.List.{take_all}
+use Rattle.std.proofs.Math.Seq.{drop-length}
 use Rattle.qq_base.specs.declared.ids.NodeId.{NodeId}
 use Rattle.qq_entry.specs.declared.command.Entry.{Entry}
 use Rattle.qq_raft_msg.specs.declared.rpc.AppendMsg.{AppendMsg}
@@ -13,7 +15,7 @@ use Rattle.qq_raft_msg.specs.declared.state.Role.TheVariants.{Follower}
 use Rattle.qq_raft_model.specs.declared.peer.Peer.{Peer}
 use Rattle.qq_raft_model.specs.declared.peer.Waiting.{Waiting}
 use Rattle.qq_raft_model.specs.Leading.{advance, commit_within, is_elected, is_majority, lead, lead_if_elected}
-use Rattle.qq_raft_model.specs.Server.{accept, end, free, greater, has_agreed, is_match, learn, notice, receive, receive_append, refuse, refuse_entries, still_waiting, take_entries, take_notice, write, write_missing}
+use Rattle.qq_raft_model.specs.Server.{accept, agreed, end, free, greater, has_agreed, is_match, learn, notice, receive, receive_append, refuse, refuse_entries, still_waiting, take_entries, take_notice, write, write_missing}
 use Rattle.qq_raft_model.specs.State.{Server, change, enter, follow, is_candidate, is_leader, is_later, last, say, say_all, wait}
 use Rattle.qq_progress.proofs.Leader.{greater-high}
 use Rattle.qq_progress.proofs.Waiting.{Rises, WaitsLater}
@@ -44,6 +46,8 @@ pub record Answers (m : AppendMsg) (t u : Server) : Type 0 where
   pub to : reply.to ≡ m.from
   pub term_is : reply.term.0 ≡ m.term.0
   pub good : is_match m t.log ≡ true → (reply.ok ≡ true) × (reply.index.0 ≡ end m)
+  pub takes : (e : Entry) → is_match m t.log ≡ true → m.prev_index.0 ≡ length t.log → m.entries ≡ e ∷ []
+      → u.log ≡ t.log ++ e ∷ []
   pub says : Says t u reply
 
 enter-ready : (m : AppendMsg) (leader : Option NodeId) (t : Server) → t.term.0 ≤ m.term.0
@@ -62,11 +66,27 @@ unfolding change
 write-ready m leader [] t le = enter-ready m leader t le
 write-ready m leader (e ∷ es) t le = record { role = refl; node = refl; term = refl; out = refl; waiting = refl }
 
+-- an entry behind its whole log follows it
+writes : (m : AppendMsg) (t : Server) (e : Entry) → m.prev_index.0 ≡ length t.log → m.entries ≡ e ∷ []
+    → (write_missing m t).log ≡ t.log ++ e ∷ []
+unfolding change
+writes m t e at brings =
+    let none : has_agreed m t.log ≡ 0 =
+    ap (λ (es : List Entry). agreed es (drop m.prev_index.0 t.log)) brings
+    ∙ ap (λ (n : ℕ). agreed (e ∷ []) (drop n t.log)) at ∙ ap (agreed (e ∷ [])) (drop-length t.log) in
+    ap (λ (n : ℕ). (follow (Some m.from) (write m (drop n m.entries) t)).log) none
+    ∙ ap (λ (es : List Entry). (follow (Some m.from) (write m es t)).log) brings
+    ∙ ap (λ (n : ℕ). take (m.prev_index.0 + n) t.log ++ e ∷ []) none
+    ∙ ap (λ (n : ℕ). take (n + 0) t.log ++ e ∷ []) at
+    ∙ ap (λ (l : List Entry). l ++ e ∷ []) (take_all (length t.log + 0) t.log (omega arith))
+
 answers : (m : AppendMsg) (t u : Server) (reply : AppendedMsg) → Ready m t u → reply.from ≡ u.node
     → reply.to ≡ m.from → reply.term ≡ u.term
-    → (is_match m t.log ≡ true → (reply.ok ≡ true) × (reply.index.0 ≡ end m)) → Answers m t (say (Appended reply) u)
+    → (is_match m t.log ≡ true → (reply.ok ≡ true) × (reply.index.0 ≡ end m))
+    → ((e : Entry) → is_match m t.log ≡ true → m.prev_index.0 ≡ length t.log → m.entries ≡ e ∷ []
+    → u.log ≡ t.log ++ e ∷ []) → Answers m t (say (Appended reply) u)
 unfolding say_all
-answers m t u reply ready from to term good =
+answers m t u reply ready from to term good takes =
     cond_both (leb u.op u.noticed) (record u { out = u.out ++ Appended reply ∷ [] })
     (record u { waiting = u.waiting ++ wait u.op (Appended reply) ∷ [] }) (Answers m t)
     (λ _. record {
@@ -78,6 +98,7 @@ answers m t u reply ready from to term good =
       to = to;
       term_is = ap (λ x. x.0) term ∙ ready.term;
       good = good;
+      takes = takes;
       says = inl (ap (λ (l : List Rpc). l ++ Appended reply ∷ []) ready.out, ready.waiting);
     })
     (λ e. record {
@@ -89,6 +110,7 @@ answers m t u reply ready from to term good =
       to = to;
       term_is = ap (λ x. x.0) term ∙ ready.term;
       good = good;
+      takes = takes;
       says = inr (
         leb-false u.op u.noticed e,
         ready.out,
@@ -109,12 +131,13 @@ append-answers m t le =
     (λ _. (let u = learn (min m.commit.0 (end m)) (write_missing m t) in
     answers m t u (record { from = u.node; to = m.from; term = u.term; ok = true; index = record { 0 = end m } })
     (learned m t (write_missing m t) (min m.commit.0 (end m))
-    (write-ready m (Some m.from) (drop (has_agreed m t.log) m.entries) t le)) refl refl refl (λ _. (refl, refl))))
+    (write-ready m (Some m.from) (drop (has_agreed m t.log) m.entries) t le)) refl refl refl (λ _. (refl, refl)) (λ e _ at brings. writes m t e at brings)))
     (λ e. (let u = follow (Some m.from) (enter m.term t) in
     answers m t u
     (record { from = u.node; to = m.from; term = u.term; ok = false; index = record { 0 = min (m.prev_index.0 - 1) (last t) } })
     (enter-ready m (Some m.from) t le) refl refl refl
-    (λ is. absurd (let x : true ≡ false = sym is ∙ e in cc)))))
+    (λ is. absurd (let x : true ≡ false = sym is ∙ e in cc))
+    (λ f is at brings. absurd (let x : true ≡ false = sym is ∙ e in cc)))))
 
 -- ---- its changes are durable
 

@@ -21,10 +21,10 @@ use Rattle.qq_raft_model.specs.Group.Event.{Tick, Submit, Add, Flush, Deliver, L
 use Rattle.qq_script.specs.Text.{seq_of}
 use Rattle.qq_session.proofs.NumberingLemmas.{stamped-stamp}
 use Rattle.qq_session.specs.Publishing.{Numbers, OpenCommand, answer, closes, hand, next_command, next_stamp, without}
-use Rattle.qq_world.specs.Laws.{is_sent_by}
-use Rattle.qq_world.specs.World.{Client, Clients, hear, hear_all, is_used, may_hand, sender}
-use Rattle.qq_world.proofs.Deeds.{heard}
-use Rattle.qq_world.proofs.Handed.{client-same}
+use Rattle.qq_session.specs.Deeds.{is_sent_by}
+use Rattle.qq_session.specs.Clients.{Client, Clients, hear, hear_all, is_used, may_hand, sender}
+use Rattle.qq_session.proofs.Heard.{heard}
+use Rattle.qq_session.proofs.OpenCommands.{client-same}
 use Rattle.qq_cluster.specs.Laws.{all_moves}
 use Rattle.qq_cluster.specs.Queue.{Queue, Event, Mutes, Ends, Submits, TellsEnded, Resends, Downs, Ticks, Delivers, Loses, Copies, Writes, Syncs, Notices, Stops, Finds, acts, after, begin, happens, leader, moves, offered, rows_told, submits, waiting}
 

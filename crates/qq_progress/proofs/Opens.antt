@@ -1,20 +1,23 @@
 -- An opening over new disks gives each queue its first member as its leader.
-use Rattle.std.proofs.Common.{◌≡◌, ◌≢◌, ◌<◌, ◌+◌, ℕ, zero, suc, ◌≤◌, Bool, true, false, ◌||◌, List, [], ◌∷◌, ◌++◌, Some, None, refl, sym, ap, ◌∙◌, subst, inl, inr, arith}
+use Rattle.std.proofs.Common.{◌≡◌, ◌≢◌, ◌<◌, ◌+◌, ℕ, zero, suc, ◌≤◌, Bool, true, false, ◌||◌, List, [], ◌∷◌, ◌++◌, length, Some, None, refl, sym, ap, ◌∙◌, subst, inl, inr, arith}
 use Rattle.std.proofs.Math.Path.{fun_ext}
-use Rattle.std.proofs.lemmas.Bool.{eq-eqb}
+use Rattle.std.proofs.lemmas.Bool.{cases_eq, eq-eqb}
 use Rattle.qq_base.specs.declared.ids.NodeId.{NodeId}
-use Rattle.qq_raft_protocol.specs.Facts.{In}
+use Rattle.qq_raft_protocol.specs.Facts.{In, tally}
 use Rattle.qq_raft_model.specs.Group.{Group, has_node}
+use Rattle.qq_raft_model.specs.Promises.{members_of}
+use Rattle.qq_raft_model.specs.State.{Server}
 use Rattle.qq_cluster.specs.Cluster.{Cluster, ClusterEvent, SaysBusy, Setup, cluster_after, members, new_cluster, parts_of}
 use Rattle.qq_cluster.specs.ClusterLaws.{HasGroups, has_failure}
 use Rattle.qq_cluster.specs.Queue.{Queue, Event, Ticks, after, begin}
 use Rattle.qq_cluster.specs.Rules.{ForEach, Is, IsFirstTick, IsNothing, IsOpening, IsRound, Pumps, Then, if_so, is_idle, is_quiet, most_rounds, tick_at}
 use Rattle.qq_progress.specs.Alone.{round_alone}
 use Rattle.qq_progress.specs.Opened.{AreNewGroups, FirstLeads, HasOpened}
-use Rattle.qq_progress.specs.Soon.{AreNodes, AreOnce}
+use Rattle.qq_progress.specs.Soon.{AreNodes, AreOnce, HasItsLog, LeadsMost}
 use Rattle.qq_progress.proofs.Committing.{IsLedQuietly}
 use Rattle.qq_progress.proofs.Led.{idle-is, is-leader}
-use Rattle.qq_progress.proofs.Line.{counted-at, member-in, sound-at}
+use Rattle.qq_progress.proofs.Exchange.{same_some}
+use Rattle.qq_progress.proofs.Line.{counted-at, in-member, member-in, sound-at}
 use Rattle.qq_progress.proofs.Playing.{AreCounted, Plays, after-both, at-other, at-own, counted-after, parts-fine, played, queue-is, round-plays}
 use Rattle.qq_progress.proofs.Restarting.{HaveRisen, IsRising, all-rise}
 use Rattle.qq_progress.proofs.Rising.{IsFreshQueue}
@@ -88,7 +91,8 @@ all-ticked setup (p ∷ places) once c events is =
 
 record AreLed (setup : Setup) (c d : Cluster) (first : ℕ → ℕ) : Type 0 where
   up : d.up ≡ c.up
-  each : (place : ℕ) → In place setup.places → IsLedQuietly (runs setup c) (first place) (d.queue place)
+  each : (place : ℕ) → In place setup.places
+      → IsLedQuietly (members setup place) (runs setup c) (first place) (d.queue place)
   idle : is_idle setup d ≡ true
 
 pumps-none : (setup : Setup) (n : ℕ) (d : Cluster) (events : List ClusterEvent) → is_idle setup d ≡ true
@@ -99,7 +103,8 @@ pumps-none setup (suc n) d events idle is =
     subst (λ (b : Bool). if_so b IsNothing (Then (IsRound setup) (Pumps n setup)) d events) idle is
 
 module _ (setup : Setup) (once : AreOnce setup.places) (c : Cluster) (first : ℕ → ℕ)
-    (each : (place : ℕ) → In place setup.places → Settles (runs setup c) setup.nodes (first place) (c.queue place)) where
+    (each : (place : ℕ) → In place setup.places
+    → Settles (members setup place) (runs setup c) setup.nodes (first place) (c.queue place)) where
   abbrev up : ℕ → Bool
   up = runs setup c
 
@@ -118,7 +123,8 @@ module _ (setup : Setup) (once : AreOnce setup.places) (c : Cluster) (first : �
   HasPlayed r d = (place : ℕ) → In place setup.places → d.queue place ≡ rounds up setup.nodes r (c.queue place)
 
   led-then : (d : Cluster) → d.up ≡ c.up
-      → ((place : ℕ) → In place setup.places → IsLedQuietly up (first place) (d.queue place)) → AreLed setup c d first
+      → ((place : ℕ) → In place setup.places → IsLedQuietly (members setup place) up (first place) (d.queue place))
+      → AreLed setup c d first
   led-then d same led = record { up = same; each = led; idle = idle-is setup c d first same led }
 
   -- it stops before
@@ -131,7 +137,7 @@ module _ (setup : Setup) (once : AreOnce setup.places) (c : Cluster) (first : �
       ap (λ (u : ℕ → Bool). is_quiet setup u q) (sym same)
       ∙ all-in (λ (p : ℕ). is_quiet setup d.up (d.queue p)) setup.places place idle here in
       let is = played' place here in
-      subst (IsLedQuietly up (first place)) (sym is)
+      subst (IsLedQuietly (members setup place) up (first place)) (sym is)
       ((each place here).early r lt (ap (λ (x : Queue). x.group.bag) (sym is) ∙ quiet-bag setup c.up q still)
       (λ j j_up. subst (IsSettled j) is (let u = runs-up setup c j j_up in
       quiet-settled setup c.up q j (counted place) u.1 u.0 still))))
@@ -142,7 +148,7 @@ module _ (setup : Setup) (once : AreOnce setup.places) (c : Cluster) (first : �
   ends zero r n four le d events same counted played' is fine =
       let all : r ≡ 4 = omega (arith, four) in
       let led : AreLed setup c d first =
-      led-then d same (λ place here. subst (IsLedQuietly up (first place))
+      led-then d same (λ place here. subst (IsLedQuietly (members setup place) up (first place))
       (sym (played' place here ∙ ap (λ (m : ℕ). rounds up setup.nodes m (c.queue place)) all))
       (each place here).then) in
       subst (λ es. AreLed setup c (cluster_after d es) first) (sym (pumps-none setup n d events led.idle is)) led
@@ -168,6 +174,59 @@ module _ (setup : Setup) (once : AreOnce setup.places) (c : Cluster) (first : �
           (rest (cluster_after d begun.early) begun.late (plays.up ∙ same) (counted-after d begun.early counted)
           (λ place here. played setup d begun.early (λ p. turn_round (d.queue p)) place here plays
           ∙ ap (λ (q : Queue). after q (turn_round q)) (played' place here)) begun.second both.1)
+
+-- ---- a queue that is led
+
+-- all members are up with the leader's log
+has-all : (setup : Setup) (c : Cluster) (place k : ℕ) (up : ℕ → Bool)
+    (led : IsLedQuietly (members setup place) up k (c.queue place))
+    → ((j : ℕ) → In j (members_of (members setup place)) → c.up j ≡ true) → (j : ℕ)
+    → In j (members_of (members setup place)) → HasItsLog c place k led.server j
+has-all setup c place k up led members_up j here = elim (cases_eq j k) [
+  | inl same ↦ subst (λ (n : ℕ). HasItsLog c place k led.server n) (sym same) (record {
+    node_up = ap c.up (sym same) ∙ members_up j here;
+    server = led.server;
+    up = led.here;
+    log = refl;
+    next = λ other. absurd (other refl);
+  })
+  | inr other ↦ (let l = led.logs j other (in-member j (members setup place) here) in record {
+    node_up = members_up j here;
+    server = l.0;
+    up = l.1;
+    log = l.2;
+    next = λ _ x peer _. (led.next x peer).0;
+  })
+]
+
+tally-all : (xs : List ℕ) → tally (λ (j : ℕ). true) xs ≡ length xs
+tally-all [] = refl
+tally-all (x ∷ xs) = (let more = tally-all xs in omega (arith, more))
+
+leads-most : (setup : Setup) (c : Cluster) (place k : ℕ) (up : ℕ → Bool)
+    (led : IsLedQuietly (members setup place) up k (c.queue place))
+    → IsSound (members setup place) (c.queue place)
+    → ((j : ℕ) → In j (members_of (members setup place)) → HasItsLog c place k led.server j)
+    → has_node k (members setup place) ≡ true → (first : NodeId) (others : List NodeId)
+    → members setup place ≡ first ∷ others → LeadsMost setup c place k led.server
+leads-most setup c place k up led sound all member first others are = record {
+  leads = is-leader (c.queue place).group k led.server led.here led.ready led.others
+      (ap (has_node k) sound.fit.nodes_are ∙ member);
+  node_up = (all k (member-in k (members setup place) member)).node_up;
+  up = led.here;
+  most = record {
+    counts = λ j. true;
+    majority = (let t = tally-all (members_of (members setup place)) in
+        let some = ap (λ (l : List NodeId). length (members_of l)) are in omega (arith, t, some));
+    each = λ j here _. all j here;
+  };
+  latest = λ j t is. elim (cases_eq j k) [
+    | inl same ↦ (let own : led.server ≡ t =
+        same_some led.server t (sym led.here ∙ ap (λ (n : ℕ). ((c.queue place).group.seat n).server) (sym same) ∙ is) in
+        subst (λ (x : Server). x.term.0 ≤ led.server.term.0) own (omega arith))
+    | inr other ↦ (let term = led.terms j other t is in omega (arith, term))
+  ];
+}
 
 -- ---- an opening
 
@@ -195,7 +254,7 @@ pub opens : AreHanded → (setup : Setup) (events : List ClusterEvent) → HasGr
 unfolding most_rounds
 opens handed setup events groups once nodes_once nodes new is fine =
     subst (HasOpened setup) (sym end) (record {
-      nodes_up = λ k here. ap (λ (f : ℕ → Bool). f k) (led.up ∙ ticks.up) ∙ risen.nodes_up k here;
+      nodes_up = nodes-up;
       each = leads;
       idle = led.idle;
     })
@@ -258,9 +317,10 @@ opens handed setup events groups once nodes_once nodes new is fine =
         ap (has_node n.first.0) (members-are place here)
         ∙ ap (λ (b : Bool). b || has_node n.first.0 n.others) (eq-eqb n.first.0 n.first.0 refl)
 
-    members-up : (place j : ℕ) → has_node j (members setup place) ≡ true → runs setup c2 j ≡ true
-    members-up place j is =
-        let node = nodes place j (member-in j (members setup place) is) in
+    members-up : (place : ℕ) → In place setup.places → (j : ℕ) → has_node j (members setup place) ≡ true
+        → runs setup c2 j ≡ true
+    members-up place here j is =
+        let node = nodes place j here (member-in j (members setup place) is) in
         runs-from setup c2 j (ap (λ (f : ℕ → Bool). f j) ticks.up ∙ risen.nodes_up j node) node
 
     fresh : (place : ℕ) → In place setup.places → IsFreshQueue (members setup place) (runs setup c2) (c1.queue place)
@@ -271,20 +331,20 @@ opens handed setup events groups once nodes_once nodes new is fine =
           distinct = (groups place).distinct;
           bag = r.bag;
           new = λ j t is. (r.seats j).new t is;
-          there = λ j is. r.there j is (risen.nodes_up j (nodes place j (member-in j (members setup place) is)));
+          there = λ j is. r.there j is (risen.nodes_up j (nodes place j here (member-in j (members setup place) is)));
           ops = λ j. (r.seats j).ops;
           noticed = λ j. (r.seats j).noticed;
           synced = r.synced;
-          members_up = members-up place;
+          members_up = members-up place here;
         }
 
     all-settle : (place : ℕ) → In place setup.places
-        → Settles (runs setup c2) setup.nodes (first place) (c2.queue place)
+        → Settles (members setup place) (runs setup c2) setup.nodes (first place) (c2.queue place)
     all-settle place here =
         let n = new place here in
         let who : first place ≡ n.first.0 = ap head_of (members-are place here) in
-        subst (λ (k : ℕ). Settles (runs setup c2) setup.nodes k (c2.queue place)) (sym who)
-        (subst (Settles (runs setup c2) setup.nodes n.first.0)
+        subst (λ (k : ℕ). Settles (members setup place) (runs setup c2) setup.nodes k (c2.queue place)) (sym who)
+        (subst (Settles (members setup place) (runs setup c2) setup.nodes n.first.0)
         (sym (ticks.own place here ∙ ap (λ (l : List NodeId). after (c1.queue place) (first_tick l)) (members-are place here)))
         (settles handed (members setup place) (runs setup c2) setup.nodes (c1.queue place) n.first.0 (fresh place here)
         (is-member place here) among nodes_once))
@@ -298,21 +358,26 @@ opens handed setup events groups once nodes_once nodes new is fine =
     sound-end place =
         subst (λ (c : Cluster). IsSound (members setup place) (c.queue place)) end (sound-at setup events place groups)
 
+    nodes-up : (k : ℕ) → In k setup.nodes → c3.up k ≡ true
+    nodes-up k here = ap (λ (f : ℕ → Bool). f k) (led.up ∙ ticks.up) ∙ risen.nodes_up k here
+
     leads : (place : ℕ) → In place setup.places → FirstLeads setup c3 place
     leads place here =
         let n = new place here in
         let l = led.each place here in
-        let g : Group = (c3.queue place).group in
         let who : first place ≡ n.first.0 = ap head_of (members-are place here) in
+        let all =
+        has-all setup c3 place (first place) (runs setup c2) l (λ j member. nodes-up j (nodes place j here member)) in
         record {
           first = n.first;
           others = n.others;
           members_are = members-are place here;
-          leads = is-leader g (first place) l.server l.here l.ready l.others
-              (ap (has_node (first place)) (sound-end place).fit.nodes_are
-              ∙ ap (λ (k : ℕ). has_node k (members setup place)) who ∙ is-member place here)
-              ∙ ap Some who;
           server = l.server;
-          up = subst (λ (k : ℕ). (g.seat k).server ≡ Some l.server) who l.here;
           ready = l.ready;
+          leads = subst (λ (k : ℕ). LeadsMost setup c3 place k l.server) who
+              (leads-most setup c3 place (first place) (runs setup c2) l (sound-end place) all
+              (ap (λ (k : ℕ). has_node k (members setup place)) who ∙ is-member place here) n.first n.others
+              (members-are place here));
+          all = subst (λ (k : ℕ). (j : ℕ) → In j (members_of (members setup place))
+              → HasItsLog c3 place k l.server j) who all;
         }

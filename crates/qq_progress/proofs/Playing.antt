@@ -19,7 +19,7 @@ use Rattle.qq_cluster.specs.Queue.{Queue, Event, Delivers, Notices, Syncs, Write
 use Rattle.qq_cluster.specs.Rules.{ForEach, Is, IsEmptied, IsNodeRound, IsNothing, IsNotice, IsRound, IsSync, IsSynced, IsWrite, IsWritten, MayRoll, if_so, some_queue, waits_noticed, waits_synced, waits_written}
 use Rattle.qq_cluster.proofs.Counts.{IsCounted, counted-all}
 use Rattle.qq_cluster.proofs.Groups.{after-append}
-use Rattle.qq_world.specs.World.{Shown}
+use Rattle.qq_session.specs.Shown.{Shown}
 use Rattle.qq_progress.specs.Alone.{round_alone, turn_where, turns}
 use Rattle.qq_progress.specs.Soon.{AreOnce}
 use Rattle.qq_progress.proofs.Hearing.{contains-map}

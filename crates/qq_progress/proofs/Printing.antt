@@ -22,11 +22,11 @@ use Rattle.qq_raft_model.specs.Server.{is_ready}
 use Rattle.qq_raft_model.specs.State.{Server}
 use Rattle.qq_script.specs.Text.{seq_of}
 use Rattle.qq_session.specs.Publishing.{Numbers, OpenCommand, answer, closes, is_open, without}
-use Rattle.qq_world.specs.Laws.{is_sent_by}
-use Rattle.qq_world.specs.World.{Clients, hear, hear_all, is_printed, is_printed_by, printed, sender, sender_by, tells_end, ended_by}
-use Rattle.qq_world.proofs.Deeds.{heard}
-use Rattle.qq_world.proofs.Once.{sent-client}
-use Rattle.qq_world.proofs.Printed.{all-drop}
+use Rattle.qq_session.specs.Deeds.{is_sent_by}
+use Rattle.qq_session.specs.Clients.{Clients, hear, hear_all, is_printed, is_printed_by, printed, sender, sender_by, tells_end, ended_by}
+use Rattle.qq_session.proofs.Heard.{heard}
+use Rattle.qq_session.proofs.Once.{sent-client}
+use Rattle.qq_session.proofs.PrintedAnswers.{all-drop}
 use Rattle.qq_cluster.specs.Queue.{is_shown, own_rows}
 
 -- ---- numbers

@@ -115,7 +115,7 @@ pub led-sends : (members : List NodeId) (up : ℕ → Bool) (k : ℕ) (q : Queue
     → IsStanding base → base.node.0 ≡ k → map peer_number base.peers ≡ map number (others k members) → IsLed base u
     → (q.group.seat k).server ≡ Some u → q.group.bag ≡ first_messages base → IsEven k q
     → ((j : ℕ) → j ≢ k → up j ≡ true → IsSettled j q)
-    → ((j : ℕ) → j ≢ k → Seated (talk (first_plan members up k)) (first_messages base) [] j (q.group.seat j))
+    → ((j : ℕ) → j ≢ k → Seated (talk (first_plan members up k) (first_entry base)) (first_messages base) [] j (q.group.seat j))
     → IsSending members (first_plan members up k) (first_entry base) q u (first_messages base)
 led-sends members up k q base u distinct sound members_up member standing node peers led here bag even settled begins =
     record {

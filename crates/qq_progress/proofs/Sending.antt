@@ -1,5 +1,5 @@
 -- A leader is given a command, and sends its entry to all others.
-use Rattle.std.proofs.Common.{◌≡◌, ◌≢◌, ◌<◌, ℕ, zero, suc, ◌≤◌, ◌-◌, ◌+◌, Bool, true, false, not, cond, eqb, leb, ◌&&◌, ◌||◌, List, [], ◌∷◌, ◌++◌, length, map, filter, drop, Some, refl, sym, ap, ◌∙◌, subst, inl, inr, arith}
+use Rattle.std.proofs.Common.{◌≡◌, ◌≢◌, ℕ, zero, suc, ◌≤◌, ◌-◌, ◌+◌, Bool, true, false, not, cond, eqb, leb, ◌&&◌, ◌||◌, List, [], ◌∷◌, ◌++◌, length, map, filter, drop, Some, refl, sym, ap, ◌∙◌, subst, inl, inr, arith}
 use Rattle.std.specs.Prelude.{nat_eq}
 use Rattle.std.specs.List.{AllByRecursion}
 use Rattle.std.proofs.lemmas.Bool.{cond-true, cond_both, eq-eqb, le-leb, false≢true, ne_eqb, or_cases, eqb-true}
@@ -47,6 +47,14 @@ filter-all (x ∷ xs) = ap (λ (l : List Peer). x ∷ l) (filter-all xs)
 abbrev pub with_entry : Entry → Server → Server
 with_entry e s = append_entry e s
 
+-- a peer is sent what comes after these entries next, and isn't known to have more
+abbrev pub IsNext : ℕ → Peer → Type 0
+IsNext n x = (x.next ≡ n + 1) × (x.matched ≤ n)
+
+-- each peer was sent all that there is
+abbrev pub AllNext : Server → Type 0
+AllNext s = (x : Peer) → In x s.peers → IsNext (last s) x
+
 pub record Added (e : Entry) (s u : Server) : Type 0 where
   pub node : u.node ≡ s.node
   pub role : u.role ≡ s.role
@@ -61,7 +69,7 @@ pub record Added (e : Entry) (s u : Server) : Type 0 where
   pub peers : (most : ℕ → Bool) → is_majority true (λ (x : Peer). most x.node.0) s.peers ≡ true
       → is_majority true (λ (x : Peer). most x.node.0) u.peers ≡ true
   pub numbers : map peer_number u.peers ≡ map peer_number s.peers
-  pub past : ((x : Peer) → In x s.peers → x.next ≡ last s + 1) → (x : Peer) → In x u.peers → last s + 1 < x.next
+  pub next : AllNext s → (x : Peer) → In x u.peers → IsNext (last s + 1) x
 
 abbrev passed : Entry → Server → Peer → Peer
 passed e s x = cond (everyone x) (pass (with_entry e s).log x) x
@@ -92,17 +100,20 @@ unfolding change
 with-log e s = sym (whole s.log e)
 
 -- what is sent next to a peer that lacked only the last entry
-passed-past : (e : Entry) (s : Server) → ((x : Peer) → In x s.peers → x.next ≡ last s + 1) → (x : Peer)
-    → In x (map (passed e s) s.peers) → last s + 1 < x.next
-passed-past e s next x here =
+passed-next : (e : Entry) (s : Server) → AllNext s → (x : Peer) → In x (map (passed e s) s.peers)
+    → IsNext (last s + 1) x
+passed-next e s next x here =
     let w = In-map (passed e s) x s.peers here in
     let old = next w.item w.here in
     let sent : length (batch_from w.item.next (with_entry e s).log) ≡ 1 =
-    ap (λ (i : ℕ). length (batch_from i (with_entry e s).log)) old
+    ap (λ (i : ℕ). length (batch_from i (with_entry e s).log)) old.0
     ∙ ap (λ (l : List Entry). length (batch_from (last s + 1) l)) (with-log e s) ∙ ap length (last-batch s.log e) in
     let now : x.next ≡ w.item.next + length (batch_from w.item.next (with_entry e s).log) =
     ap (λ (y : Peer). y.next) w.is in
-    omega (arith, old, sent, now)
+    let was = old.0 in
+    let low = old.1 in
+    let same : x.matched ≡ w.item.matched = ap (λ (y : Peer). y.matched) w.is in
+    (omega (arith, was, sent, now), omega (arith, low, same))
 
 pub sent-added : (e : Entry) (s : Server) → Added e s (send everyone (with_entry e s))
 unfolding send change
@@ -119,7 +130,7 @@ sent-added e s = record {
   out = ap (λ (l : List Peer). s.out ++ map (append_to (with_entry e s)) l) (filter-all s.peers);
   peers = λ most is. majority-map most (passed e s) s.peers (passed-node e s) is;
   numbers = passed-numbers e s s.peers;
-  past = passed-past e s;
+  next = passed-next e s;
 }
 
 pub submits-adds : (time : ℕ) (command : Command) (s : Server) → is_ready s ≡ true
@@ -182,6 +193,15 @@ message-good e s x next = (matches, reaches)
         ∙ ap (λ (l : List Entry). (x.next - 1) + length l) (last-batch s.log e)
         ∙ ap (λ (i : ℕ). i + 1) before
 
+message-brings : (e : Entry) (s : Server) (x : Peer) → x.next ≡ last s + 1
+    → ((message e s x).prev_index.0 ≡ length s.log) × ((message e s x).entries ≡ e ∷ [])
+unfolding message
+message-brings e s x next = (
+  omega (arith, next),
+  ap (λ (i : ℕ). batch_from i (with_entry e s).log) next
+      ∙ ap (λ (l : List Entry). batch_from (last s + 1) l) (with-log e s) ∙ last-batch s.log e,
+)
+
 -- ---- the other members
 
 pub other-in : (k : ℕ) (members : List NodeId) (n : ℕ) → In n (map number (others k members)) → n ≢ k
@@ -232,10 +252,10 @@ pub sent-of : (p : Plan) (e : Entry) (s : Server) → s.node.0 ≡ p.node → s.
     → p.upto ≡ last s + 1 → ((x : Peer) → In x s.peers → x.node.0 ≢ p.node)
     → ((x : Peer) → In x s.peers → p.asked x.node.0 ≡ true)
     → ((x : Peer) → In x s.peers → p.most x.node.0 ≡ true → x.next ≡ last s + 1)
-    → AllByRecursion (IsSent p) (map (append_to (with_entry e s)) s.peers)
+    → AllByRecursion (IsSent p e) (map (append_to (with_entry e s)) s.peers)
 unfolding message
 sent-of p e s node term log upto others known next =
-    AllByRecursion-map (λ (x : Peer). In x s.peers) (IsSent p) (append_to (with_entry e s)) s.peers
+    AllByRecursion-map (λ (x : Peer). In x s.peers) (IsSent p e) (append_to (with_entry e s)) s.peers
     (λ x here. record {
       msg = message e s x;
       is = message-is e s x;
@@ -245,6 +265,7 @@ sent-of p e s node term log upto others known next =
       known = known x here;
       good = λ counts. (let g = message-good e s x (next x here counts) in
           (ap (is_match (message e s x)) (sym log) ∙ g.0, g.1 ∙ sym upto));
+      brings = λ counts. (let b = message-brings e s x (next x here counts) in (b.0 ∙ ap length log, b.1));
     }) (all-in (λ (x : Peer). In x s.peers) s.peers (λ x here. here))
 
 -- ---- a leader that may commit soon
@@ -306,7 +327,7 @@ module _ (handed : AreHanded) (members : List NodeId) (up most : ℕ → Bool) (
   peer-other x here =
       other-in k members x.node.0 (subst (λ (l : List ℕ). In x.node.0 l) fits.peers (map-In peer_number x s.peers here))
 
-  pub sent-all : AllByRecursion (IsSent plan) messages
+  pub sent-all : AllByRecursion (IsSent plan e) messages
   sent-all = sent-of plan e s fits.node refl refl refl peer-other (λ x here. refl) (λ x here counts.
       can.next x.node.0 counts (peer-other x here) x here refl)
 
@@ -322,7 +343,7 @@ module _ (handed : AreHanded) (members : List NodeId) (up most : ℕ → Bool) (
       subst (λ (l : List ℕ). In j l) (sym to-all)
       (others-have k j members (can.sound.fit.each j t up_there).member other)
 
-  pub begins : (j : ℕ) → j ≢ k → Seated (talk plan) messages [] j (q.group.seat j)
+  pub begins : (j : ℕ) → j ≢ k → Seated (talk plan e) messages [] j (q.group.seat j)
   begins j other = record {
     fresh = λ _. record {
       term = can.latest j;
@@ -333,7 +354,7 @@ module _ (handed : AreHanded) (members : List NodeId) (up most : ℕ → Bool) (
     };
     heard = λ gone. record {
       follows = λ t is. absurd (gone (gets j t other is));
-      since = λ t is. tt;
+      since = λ t is. absurd (gone (gets j t other is));
       alive = λ counts. (let l = can.log j counts in (l.0, l.1));
       waiting = λ t is. absurd (gone (gets j t other is));
       answered = λ counts. (let l = can.log j counts in absurd (gone (gets j l.0 other l.1)));

@@ -25,10 +25,10 @@ rounds up nodes zero q = q
 rounds up nodes (suc n) q = let r = rounds up nodes n q in after r (round_alone up nodes r)
 
 -- a pump of the queue alone leaves it so: where it stops before four rounds, and after four
-pub record Settles (up : ℕ → Bool) (nodes : List ℕ) (k : ℕ) (q : Queue) : Type 0 where
+pub record Settles (members : List NodeId) (up : ℕ → Bool) (nodes : List ℕ) (k : ℕ) (q : Queue) : Type 0 where
   pub early : (n : ℕ) → n < 4 → (rounds up nodes n q).group.bag ≡ []
-      → ((j : ℕ) → up j ≡ true → IsSettled j (rounds up nodes n q)) → IsLedQuietly up k (rounds up nodes n q)
-  pub then : IsLedQuietly up k (rounds up nodes 4 q)
+      → ((j : ℕ) → up j ≡ true → IsSettled j (rounds up nodes n q)) → IsLedQuietly members up k (rounds up nodes n q)
+  pub then : IsLedQuietly members up k (rounds up nodes 4 q)
 
 module _ (handed : AreHanded) (members : List NodeId) (up : ℕ → Bool) (nodes : List ℕ) (q : Queue) (k : ℕ)
     (fresh : IsFreshQueue members up q) (member : has_node k members ≡ true)
@@ -42,20 +42,20 @@ module _ (handed : AreHanded) (members : List NodeId) (up : ℕ → Bool) (nodes
   k_up : up k ≡ true
   k_up = fresh.members_up k member
 
-  single : server.peers ≡ [] → Settles up nodes k one
+  single : server.peers ≡ [] → Settles members up nodes k one
   single none = record {
     early = early;
-    then = quiet-stays up nodes k (rounds up nodes 3 one) third;
+    then = quiet-stays members up nodes k (rounds up nodes 3 one) third;
   }
     where
-      second : IsLedQuietly up k (rounds up nodes 2 one)
+      second : IsLedQuietly members up k (rounds up nodes 2 one)
       second = single-leads handed members up nodes q k fresh member (λ j is. among j is) none once
 
-      third : IsLedQuietly up k (rounds up nodes 3 one)
-      third = quiet-stays up nodes k (rounds up nodes 2 one) second
+      third : IsLedQuietly members up k (rounds up nodes 3 one)
+      third = quiet-stays members up nodes k (rounds up nodes 2 one) second
 
       early : (n : ℕ) → n < 4 → (rounds up nodes n one).group.bag ≡ []
-          → ((j : ℕ) → up j ≡ true → IsSettled j (rounds up nodes n one)) → IsLedQuietly up k (rounds up nodes n one)
+          → ((j : ℕ) → up j ≡ true → IsSettled j (rounds up nodes n one)) → IsLedQuietly members up k (rounds up nodes n one)
       early zero lt bag settled =
           absurd (one-busy handed members up nodes q k fresh member (λ j is. among j is) (settled k k_up))
       early (suc zero) lt bag settled =
@@ -64,7 +64,7 @@ module _ (handed : AreHanded) (members : List NodeId) (up : ℕ → Bool) (nodes
       early (suc (suc (suc zero))) lt bag settled = third
       early (suc (suc (suc (suc n)))) lt bag settled = absurd (omega (arith, lt))
 
-  several : (x : Peer) (xs : List Peer) → server.peers ≡ x ∷ xs → Settles up nodes k one
+  several : (x : Peer) (xs : List Peer) → server.peers ≡ x ∷ xs → Settles members up nodes k one
   several x xs some = record {
     early = early;
     then = fourth-leads handed members up nodes q k fresh member (λ j is. among j is) more;
@@ -89,7 +89,7 @@ module _ (handed : AreHanded) (members : List NodeId) (up : ℕ → Bool) (nodes
       j_up = fresh.members_up x.node.0 counts
 
       early : (n : ℕ) → n < 4 → (rounds up nodes n one).group.bag ≡ []
-          → ((j : ℕ) → up j ≡ true → IsSettled j (rounds up nodes n one)) → IsLedQuietly up k (rounds up nodes n one)
+          → ((j : ℕ) → up j ≡ true → IsSettled j (rounds up nodes n one)) → IsLedQuietly members up k (rounds up nodes n one)
       early zero lt bag settled =
           absurd (one-busy handed members up nodes q k fresh member (λ j is. among j is) (settled k k_up))
       early (suc zero) lt bag settled =
@@ -102,9 +102,9 @@ module _ (handed : AreHanded) (members : List NodeId) (up : ℕ → Bool) (nodes
           (settled x.node.0 j_up))
       early (suc (suc (suc (suc n)))) lt bag settled = absurd (omega (arith, lt))
 
-  pub settles : Settles up nodes k one
+  pub settles : Settles members up nodes k one
   settles = by server.peers refl
     where
-      by : (l : List Peer) → server.peers ≡ l → Settles up nodes k one
+      by : (l : List Peer) → server.peers ≡ l → Settles members up nodes k one
       by [] is = single is
       by (x ∷ xs) is = several x xs is

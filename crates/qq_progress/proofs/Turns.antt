@@ -17,7 +17,8 @@ use Rattle.qq_base.specs.declared.ids.NodeId.{NodeId}
 use Rattle.qq_progress.proofs.Leader.{greater-high}
 use Rattle.qq_cluster.specs.Queue.{Queue, Event, Notices, Syncs, Writes, after, all_said, happens, own_rows, rows_told, said, waiting, waiting_by}
 use Rattle.qq_cluster.specs.Rules.{waits_noticed}
-use Rattle.qq_world.specs.World.{Answered, Shown, hear_all, printed}
+use Rattle.qq_session.specs.Clients.{hear_all, printed}
+use Rattle.qq_session.specs.Shown.{Answered, Shown}
 use Rattle.qq_progress.specs.Alone.{turn}
 use Rattle.qq_progress.proofs.Feeding.{Feeds, FeedsOne, fed, feeds-one, rows-told}
 use Rattle.qq_progress.proofs.Sound.{AreHanded, IsSound, ops-counted}

@@ -1,15 +1,15 @@
 -- What an opening over new disks makes of a cluster.
-use Rattle.std.specs.Prelude.{◌≡◌, ℕ, true, List, ◌∷◌, Some}
+use Rattle.std.specs.Prelude.{◌≡◌, ℕ, true, List, ◌∷◌}
 use Rattle.qq_base.specs.declared.ids.NodeId.{NodeId}
 use Rattle.qq_base.specs.declared.ids.QueueId.{QueueId}
 use Rattle.qq_raft_protocol.specs.Facts.{In}
 use Rattle.qq_raft_model.specs.Group.{Group, new_group}
-use Rattle.qq_raft_model.specs.Promises.{IsUp}
+use Rattle.qq_raft_model.specs.Promises.{members_of}
 use Rattle.qq_raft_model.specs.Server.{is_ready}
 use Rattle.qq_raft_model.specs.State.{Server}
 use Rattle.qq_cluster.specs.Cluster.{Cluster, Setup, members}
-use Rattle.qq_cluster.specs.Queue.{leader}
 use Rattle.qq_cluster.specs.Rules.{is_idle}
+use Rattle.qq_progress.specs.Soon.{HasItsLog, LeadsMost}
 
 -- a group of one member or more, all of whose logs are new
 pub record IsNewGroup (group : Group) : Type 0 where
@@ -21,15 +21,16 @@ pub record IsNewGroup (group : Group) : Type 0 where
 abbrev pub AreNewGroups : Setup → Type 0
 AreNewGroups setup = (place : ℕ) → In place setup.places → IsNewGroup (setup.group place)
 
--- a queue's first member leads and takes commands
+-- A queue's first member is its leader, which takes commands. All members are up with its log, and none has a later
+-- term: so a command that it is given is committed soon.
 pub record FirstLeads (setup : Setup) (c : Cluster) (place : ℕ) : Type 0 where
   pub first : NodeId
   pub others : List NodeId
   pub members_are : members setup place ≡ first ∷ others
-  pub leads : leader (c.queue place).group ≡ Some first.0
   pub server : Server
-  pub up : IsUp (c.queue place).group first.0 server
   pub ready : is_ready server ≡ true
+  pub leads : LeadsMost setup c place first.0 server
+  pub all : (j : ℕ) → In j (members_of (members setup place)) → HasItsLog c place first.0 server j
 
 -- all nodes are up, each queue's first member leads, and nothing is left to do
 pub record HasOpened (setup : Setup) (c : Cluster) : Type 0 where

@@ -16,7 +16,8 @@ use Rattle.qq_raft_protocol.specs.Facts.{In, Most}
 use Rattle.qq_script_lines.specs.declared.line.ScriptLine.{ScriptLine}
 use Rattle.qq_script_lines.specs.declared.line.ScriptLine.TheVariants as lines
 use Rattle.qq_session.specs.Publishing.{next_command}
-use Rattle.qq_world.specs.World.{Answered, may_hand}
+use Rattle.qq_session.specs.Clients.{may_hand}
+use Rattle.qq_session.specs.Shown.{Answered}
 use Rattle.qq_cluster.specs.Cluster.{Setup, Cluster, ClusterEvent, At, Of, all_prints, cluster_after, members}
 use Rattle.qq_cluster.specs.Lines.{publish_with}
 use Rattle.qq_cluster.specs.Queue.{Queue, Submits, audit_rows, leader}
@@ -32,7 +33,8 @@ AreOnce (x ∷ xs) = (In x xs → ⊥) × AreOnce xs
 
 -- the members of each queue are nodes of the cluster
 abbrev pub AreNodes : Setup → Type 0
-AreNodes setup = (place k : ℕ) → In k (members_of (members setup place)) → In k setup.nodes
+AreNodes setup =
+    (place k : ℕ) → In place setup.places → In k (members_of (members setup place)) → In k setup.nodes
 
 -- ---- a leader that may commit soon
 

@@ -3,4 +3,6 @@
 
 mod laws;
 
-pub use laws::{a_command_is_committed_soon, an_opening_gives_each_queue_a_leader};
+pub use laws::{
+    a_command_is_committed_soon, a_first_command_is_answered, an_opening_gives_each_queue_a_leader,
+};

@@ -3,3 +3,12 @@ pub mod GateRepeats
 pub mod AnsweredLemmas
 pub mod NumberingLemmas
 pub mod ArrivingLemmas
+pub mod Audits
+pub mod Confirming
+pub mod Once
+pub mod PrintedAnswers
+pub mod EffectsOfTerm
+pub mod Heard
+pub mod OpenCommands
+pub mod PrintedOnce
+pub mod Ended

@@ -2,3 +2,8 @@ pub mod Publishing
 pub mod Numbering
 pub mod Answered
 pub mod Arriving
+pub mod ExactlyOne
+pub mod Clients
+pub mod Shown
+pub mod Deeds
+pub mod Printed

@@ -1,40 +1,42 @@
-use Rattle.std.proofs.lemmas.Result.{IfOk-weaker, IfErr-weaker}
-use Rattle.qq_calls.specs.Calls.{rule_of}
-use Rattle.qq_calls.specs.Queues.{node_setup}
-use Rattle.qq_broker_run.proofs.Answering.{answers_from, stops_from, asks_from}
-use Rattle.qq_broker_run.proofs.Named.{asked-named, plain-names}
-use Rattle.qq_broker.specs.Nodes.{IsNodeOf}
+use Rattle.std.proofs.Common.{◌≡◌, ℕ, Some, sym, subst}
+use Rattle.std.proofs.lemmas.Result.{IfErr-weaker, on_ok_weaker}
+use Rattle.qq_cluster_run.specs.Asking.{HasAskCause}
+use Rattle.qq_cluster_run.specs.Reading.{Asks, says}
+use Rattle.qq_cluster_run.proofs.Answering.{answers_from, asks_from, stops_from}
+use Rattle.qq_cluster_run.proofs.Naming.{asked-named, plain-are}
+use Rattle.qq_broker.specs.Nodes.{Had, Holds}
 use Rattle.qq_broker.proofs.program.answer.Goals as goal
 
-pub serve-requires-clause-asked : goal.serve-requires-clause-asked
-serve-requires-clause-asked g c = λ lifetimes outlive. (
-  node_setup c.args.setup.now.queues,
-  c.requires.stands.0,
-  c.requires.stands.1,
-  c.requires.stands.2,
-  asked-named c.args.setup.now c.args.before c.args.line.now (rule_of c.in-Ok.call) c.requires.plain
-      (λ number read. c.a_line_names_what_is_there.ensures c.args.setup.now number c.args.line.now
-      (rule_of c.in-Ok.call) (plain-names c.args.setup.now c.requires.plain) read) c.in-Ok.ensures.ok,
+pub serve-requires-clause-holds : goal.serve-requires-clause-holds
+serve-requires-clause-holds g c = λ lifetimes outlive. (
+  c.requires.holds.0,
+  c.requires.holds.1,
+  asked-named c.args.setup.now c.requires.holds.0.logs c.args.before c.args.line.now c.in-Ok.said
+      (plain-are c.args.setup.now c.requires.may.plain) c.in-Ok.ensures.ok,
 )
 
 pub returns-in-Ok-clause-ok : goal.returns-in-Ok-clause-ok
-returns-in-Ok-clause-ok g c = λ n reached stands.
-    IfOk-weaker c.serve.result _ _
-    (λ next so. answers_from c.args.setup.now c.args.before n (rule_of c.in-Ok.call) c.args.line.now
-    (IsNodeOf g.Y.Disk.NodeDisk.tells g.Y.Disk.NodeDisk.past (node_setup c.args.setup.now.queues) next) c.args.text.now.items c.serve.new.text.items reached
-    c.in-Ok.ensures.ok so)
-    (c.serve.ensures.ok (node_setup c.args.setup.now.queues) n reached stands
-    (asked-named c.args.setup.now c.args.before c.args.line.now (rule_of c.in-Ok.call) c.requires.plain
-    (λ number read. c.a_line_names_what_is_there.ensures c.args.setup.now number c.args.line.now
-    (rule_of c.in-Ok.call) (plain-names c.args.setup.now c.requires.plain) read) c.in-Ok.ensures.ok))
+returns-in-Ok-clause-ok g c =
+    let s = c.args.setup.now in
+    let disk = g.Y.Disk.NodeDisk in
+    λ run lines h.
+    on_ok_weaker c.serve.result
+    (answers_from (Had g.Y.Yard.is_given disk.tells disk.past disk.faults) s run c.in-Ok.said c.args.line.now
+    (Holds g.Y.Yard.is_given disk.tells disk.past disk.faults s c.serve.new.nodes) c.args.text.now.items
+    c.serve.new.text.items
+    (subst (λ (n : ℕ). says s n (Some c.args.line.now) ≡ Asks c.in-Ok.said) (sym lines) c.in-Ok.ensures.ok))
+    (c.serve.ensures.ok run h)
 
 pub returns-in-Ok-clause-cause : goal.returns-in-Ok-clause-cause
-returns-in-Ok-clause-cause g c = λ n reached stands.
+returns-in-Ok-clause-cause g c =
+    let s = c.args.setup.now in λ run lines h.
     IfErr-weaker c.serve.result _ _
-    (λ stop so. stops_from _ c.args.setup.now c.args.before n (rule_of c.in-Ok.call) c.args.line.now stop
-    c.in-Ok.ensures.ok so)
-    (c.serve.ensures.cause (node_setup c.args.setup.now.queues) n reached stands)
+    (λ stop so. stops_from _ s run c.in-Ok.said c.args.line.now stop
+    (subst (λ (n : ℕ). says s n (Some c.args.line.now) ≡ Asks c.in-Ok.said) (sym lines) c.in-Ok.ensures.ok) so)
+    (c.serve.ensures.cause run h)
 
 pub returns-in-Err-clause-cause : goal.returns-in-Err-clause-cause
-returns-in-Err-clause-cause g c = λ n reached stands.
-    asks_from _ c.args.setup.now c.args.before n c.args.line.now c.in-Err.stop c.in-Err.ensures.cause
+returns-in-Err-clause-cause g c =
+    let s = c.args.setup.now in λ run lines h.
+    asks_from _ s run c.args.line.now c.in-Err.stop
+    (subst (λ (n : ℕ). HasAskCause c.in-Err.stop (says s n (Some c.args.line.now))) (sym lines) c.in-Err.ensures.cause)

@@ -1,18 +1,18 @@
 use Rattle.std.proofs.Common.{◌≤◌, ◌-◌}
-use Rattle.qq_calls.specs.Queues.{node_setup}
 use Rattle.qq_ports.specs.Lines.{ahead}
-use Rattle.qq_broker_run.specs.declared.ending.TheConstants.{LINES_LIMIT}
-use Rattle.qq_broker_run.proofs.Looping.{LoopsOn}
-use Rattle.qq_broker.specs.Nodes.{IsNodeOf}
+use Rattle.qq_cluster_run.specs.declared.ending.TheConstants.{LINES_LIMIT}
+use Rattle.qq_cluster_run.proofs.Looping.{LoopsOn}
+use Rattle.qq_broker.specs.Nodes.{Had, Holds}
 use Rattle.qq_broker.proofs.program.serve_lines.Given as goal
 
 -- the lines so far were served, and what the last one printed stands in the text
 abbrev pub invariant-lines : goal.invariant-lines
 invariant-lines g l = record {
   going :
-      LoopsOn l.setup (IsNodeOf g.Y.Disk.NodeDisk.tells g.Y.Disk.NodeDisk.past (node_setup l.setup.queues) l.node) (g.I.Source.left l.fn.input)
-      (ahead l.lines (g.I.Source.left l.input)) (g.O.Sink.written l.fn.output) (g.O.Sink.written l.output) l.served
-      l.text.items;
+      LoopsOn (Had g.Y.Yard.is_given g.Y.Disk.NodeDisk.tells g.Y.Disk.NodeDisk.past g.Y.Disk.NodeDisk.faults) l.setup
+      (Holds g.Y.Yard.is_given g.Y.Disk.NodeDisk.tells g.Y.Disk.NodeDisk.past g.Y.Disk.NodeDisk.faults l.setup l.nodes)
+      (g.I.Source.left l.fn.input) (ahead l.lines (g.I.Source.left l.input)) (g.O.Sink.written l.fn.output)
+      (g.O.Sink.written l.output) l.served l.text.items;
   within : l.served ≤ LINES_LIMIT;
   source_later : g.I.Source.faults l.fn.input ≤ g.I.Source.faults l.input;
   sink_later : g.O.Sink.faults l.fn.output ≤ g.O.Sink.faults l.output;

@@ -1,22 +1,68 @@
-use Rattle.std.proofs.Common.{sym, subst}
-use Rattle.qq_broker_run.specs.Service.{HasServeCause}
-use Rattle.qq_world.specs.Rules.{Restart}
+use Rattle.std.proofs.Common.{subst, sym}
+use Rattle.qq_script_lines.specs.declared.line.Nodes.{Nodes as Which}
+use Rattle.qq_script_lines.specs.declared.line.ScriptLine.TheVariants.{Restart}
+use Rattle.qq_cluster_run.specs.Named.{AreNodes}
+use Rattle.qq_cluster_run.specs.Service.{HasServeCause}
+use Rattle.qq_cluster_run.specs.Serving.{setup_in}
 use Rattle.qq_broker.specs.Nodes.{Meets}
-use Rattle.qq_broker.proofs.Asked.{has-served}
-use Rattle.qq_broker.proofs.Served.{restart-stops}
+use Rattle.qq_broker.specs.Serving.{IsServed}
+use Rattle.qq_broker.proofs.GoingOn.{node-there}
+use Rattle.qq_broker.proofs.Refusing.{refused-all, refused-one, restarted-all, restarted-one}
 use Rattle.qq_broker.proofs.serving.restart.Goals as goal
 
-pub returns-in-Ok-clause-ok : goal.returns-in-Ok-clause-ok
-returns-in-Ok-clause-ok g c = λ setup n reached stands.
-    has-served g.D.NodeDisk.tells g.D.NodeDisk.past setup n Restart c.in-Ok.next _ _ c.args.text.now.items
-    c.restart_node.new.text.items stands.1 (c.in-Ok.ensures.ok setup n reached stands.0)
+pub restart-requires-clause-node : goal.restart-requires-clause-node
+restart-requires-clause-node g c =
+    node-there c.requires.0 g.D.NodeDisk.tells g.D.NodeDisk.past g.D.NodeDisk.faults c.args.setup.now c.requires.1.0
+    c.args.nodes.now
+    c.in-One.node c.requires.1.1 (subst (AreNodes (setup_in c.args.setup.now c.requires.1.0)) c.in-One.is
+    c.requires.1.2)
 
-pub returns-clause-cause : goal.returns-clause-cause
-returns-clause-cause g c = λ setup n before after reached stands.
+pub returns-in-Ok-clause-ok : goal.returns-in-Ok-clause-ok
+returns-in-Ok-clause-ok g c = λ given run h.
     (let tells = g.D.NodeDisk.tells in
     let past = g.D.NodeDisk.past in
     let faults = g.D.NodeDisk.faults in
-    subst (HasServeCause (Meets tells past faults before after) setup n Restart) (sym c.restart_stop.ensures)
-    (restart-stops tells past faults before after setup n c.args.node c.in-Err.fault stands.0
-    (c.in-Err.ensures.cause setup n reached stands.0) (λ tell. c.in-Err.ensures.refused tell)
-    (λ tell. c.in-Err.ensures.lost setup n stands.0 tell)))
+    subst (λ (w : Which). IsServed given tells past faults c.args.setup.now run (Restart w) c.restart.new.self
+    c.args.text.now.items
+    c.restart.new.text.items) (sym c.in-One.is)
+    (restarted-one given tells past faults c.args.setup.now run c.args.nodes.now c.restart.new.self
+    c.args.text.now.items
+    c.restart.new.text.items h c.in-One.node c.in-Ok.ensures.ok))
+
+pub returns-in-Ok-restart_each-clause-ok : goal.returns-in-Ok-restart_each-clause-ok
+returns-in-Ok-restart_each-clause-ok g c = λ given run h.
+    (let tells = g.D.NodeDisk.tells in
+    let past = g.D.NodeDisk.past in
+    let faults = g.D.NodeDisk.faults in
+    subst (λ (w : Which). IsServed given tells past faults c.args.setup.now run (Restart w) c.restart_each.new.self
+    c.args.text.now.items c.restart_each.new.text.items) (sym c.in-All.is)
+    (restarted-all given tells past faults c.args.setup.now run c.args.nodes.now c.restart_each.new.self
+    c.args.text.now.items
+    c.restart_each.new.text.items h c.in-Ok-restart_each.ensures.ok))
+
+pub returns-in-Err-clause-cause : goal.returns-in-Err-clause-cause
+returns-in-Err-clause-cause g c = λ given run before after h.
+    (let tells = g.D.NodeDisk.tells in
+    let past = g.D.NodeDisk.past in
+    let faults = g.D.NodeDisk.faults in
+    let s = c.args.setup.now in
+    subst (λ (w : Which). HasServeCause (Meets given tells past faults before after) (setup_in s run) run.events
+    (Restart w)
+    c.restart_stop.result) (sym c.in-One.is)
+    (refused-one given tells past faults before after s run c.args.nodes.now c.restart.new.self h c.args.text.now.items
+    c.in-Err.fault c.restart_stop.result c.restart_stop.ensures c.in-One.node
+    (subst (AreNodes (setup_in s c.requires.1.0)) c.in-One.is c.requires.1.2) c.in-Err.ensures.err))
+
+pub returns-in-Err-restart_each-clause-cause : goal.returns-in-Err-restart_each-clause-cause
+returns-in-Err-restart_each-clause-cause g c = λ given run before after h.
+    (let tells = g.D.NodeDisk.tells in
+    let past = g.D.NodeDisk.past in
+    let faults = g.D.NodeDisk.faults in
+    let s = c.args.setup.now in
+    subst (λ (w : Which). HasServeCause (Meets given tells past faults before after) (setup_in s run) run.events
+    (Restart w)
+    c.restart_stop-in-Err-restart_each.result) (sym c.in-All.is)
+    (refused-all given tells past faults before after s run c.args.nodes.now c.restart_each.new.self h
+    c.args.text.now.items
+    c.in-Err-restart_each.fault c.restart_stop-in-Err-restart_each.result c.restart_stop-in-Err-restart_each.ensures
+    c.in-Err-restart_each.ensures.err))

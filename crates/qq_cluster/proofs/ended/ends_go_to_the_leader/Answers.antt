@@ -1,4 +1,4 @@
-use Rattle.qq_world.proofs.Ends.{prints-end}
+use Rattle.qq_session.proofs.Ended.{prints-end}
 use Rattle.qq_cluster.proofs.Leads.{tells-of_end}
 use Rattle.qq_cluster.proofs.ended.ends_go_to_the_leader.Goals as goal
 

@@ -5,7 +5,7 @@ use Rattle.qq_base.specs.Fronts.{IsFront}
 use Rattle.qq_base.proofs.Fronts.{front-more, front-trans}
 use Rattle.qq_cluster.specs.Texts.{shown_text_as}
 use Rattle.qq_entry.specs.declared.audit.Effect.{Effect}
-use Rattle.qq_world.specs.World.{Shown, delivered}
+use Rattle.qq_session.specs.Shown.{Shown, delivered}
 use Rattle.qq_cluster_queue.specs.Sessions.{clients_of, no_numbers, standings}
 use Rattle.qq_cluster_queue.proofs.Hearing.{effects-then}
 use Rattle.qq_cluster_queue.proofs.telling.deliver_each.Goals as goal

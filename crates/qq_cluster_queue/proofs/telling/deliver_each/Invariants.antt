@@ -2,7 +2,7 @@ use Rattle.std.proofs.Common.{◌≡◌, ◌++◌, drop}
 use Rattle.std.specs.List.{flat_map}
 use Rattle.qq_base.specs.Fronts.{IsFront}
 use Rattle.qq_cluster.specs.Texts.{shown_text_as}
-use Rattle.qq_world.specs.World.{delivered}
+use Rattle.qq_session.specs.Shown.{delivered}
 use Rattle.qq_cluster_queue.specs.Sessions.{clients_of, no_numbers, standings}
 use Rattle.qq_cluster_queue.proofs.telling.deliver_each.Given as goal
 

@@ -1,6 +1,7 @@
 use Rattle.std.proofs.Common.{map}
 use Rattle.qq_cluster.specs.Texts.{shown_text_as}
-use Rattle.qq_world.specs.World.{Answered, printed}
+use Rattle.qq_session.specs.Clients.{printed}
+use Rattle.qq_session.specs.Shown.{Answered}
 use Rattle.qq_cluster_queue.specs.Members.{audit_rows_of, effects_in}
 use Rattle.qq_cluster_queue.specs.Sessions.{clients_of, no_numbers, numbers_of, standings}
 use Rattle.qq_cluster_queue.proofs.Hearing.{told-then}

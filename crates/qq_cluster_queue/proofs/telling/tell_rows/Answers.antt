@@ -5,7 +5,8 @@ use Rattle.qq_base.specs.Fronts.{IsFront}
 use Rattle.qq_base.proofs.Fronts.{front-more, front-trans}
 use Rattle.qq_cluster.specs.Texts.{shown_text_as}
 use Rattle.qq_raft.specs.declared.row.AppliedRow.{AppliedRow}
-use Rattle.qq_world.specs.World.{Answered, Clients, Shown, hear_all, printed}
+use Rattle.qq_session.specs.Clients.{Clients, hear_all, printed}
+use Rattle.qq_session.specs.Shown.{Answered, Shown}
 use Rattle.qq_cluster_queue.specs.Members.{audit_rows_of}
 use Rattle.qq_cluster_queue.specs.Sessions.{clients_of, numbers_of, standings}
 use Rattle.qq_cluster_queue.proofs.Hearing.{shown-then}

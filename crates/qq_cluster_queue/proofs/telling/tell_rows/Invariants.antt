@@ -2,7 +2,8 @@ use Rattle.std.proofs.Common.{◌≡◌, ◌++◌, drop, map}
 use Rattle.std.specs.List.{flat_map}
 use Rattle.qq_base.specs.Fronts.{IsFront}
 use Rattle.qq_cluster.specs.Texts.{shown_text_as}
-use Rattle.qq_world.specs.World.{Answered, hear_all, printed}
+use Rattle.qq_session.specs.Clients.{hear_all, printed}
+use Rattle.qq_session.specs.Shown.{Answered}
 use Rattle.qq_cluster_queue.specs.Members.{audit_rows_of}
 use Rattle.qq_cluster_queue.specs.Sessions.{clients_of, numbers_of, standings}
 use Rattle.qq_cluster_queue.proofs.telling.tell_rows.Given as goal

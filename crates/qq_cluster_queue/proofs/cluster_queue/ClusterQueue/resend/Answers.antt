@@ -5,7 +5,7 @@ use Rattle.qq_base.specs.Fronts.{IsFront}
 use Rattle.qq_base.proofs.Fronts.{front-more, front-trans}
 use Rattle.qq_cluster.specs.Texts.{shown_text_as}
 use Rattle.qq_entry.specs.declared.command.Command.{Command}
-use Rattle.qq_world.specs.World.{Shown, said_of}
+use Rattle.qq_session.specs.Shown.{Shown, said_of}
 use Rattle.qq_cluster_queue.specs.ClusterQueue.{HasRefused, text_as}
 use Rattle.qq_cluster_queue.specs.Range.{HasBytes}
 use Rattle.qq_cluster_queue.specs.declared.cluster_queue.ClusterQueue.{ClusterQueue}

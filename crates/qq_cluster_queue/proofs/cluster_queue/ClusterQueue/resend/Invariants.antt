@@ -2,7 +2,7 @@ use Rattle.std.proofs.Common.{◌≡◌, ◌++◌, length}
 use Rattle.std.specs.Prelude.{is_some}
 use Rattle.std.specs.List.{AllByRecursion}
 use Rattle.qq_base.specs.Fronts.{IsFront}
-use Rattle.qq_world.specs.World.{said_of}
+use Rattle.qq_session.specs.Shown.{said_of}
 use Rattle.qq_cluster_queue.specs.ClusterQueue.{IsSameQueue, text_as}
 use Rattle.qq_cluster_queue.specs.Members.{AreSound}
 use Rattle.qq_cluster_queue.specs.Range.{HasBytes}

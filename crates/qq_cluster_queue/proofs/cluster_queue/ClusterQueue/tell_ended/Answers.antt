@@ -1,6 +1,6 @@
 use Rattle.std.proofs.Common.{◌++◌, ℕ, List, refl, sym, ap, ◌∙◌, append-nil}
 use Rattle.qq_cluster.specs.Texts.{shown_text_as}
-use Rattle.qq_world.specs.World.{HasEnded}
+use Rattle.qq_session.specs.Shown.{HasEnded}
 use Rattle.qq_cluster_queue.proofs.Offering.{ended-does}
 use Rattle.qq_cluster_queue.proofs.cluster_queue.ClusterQueue.tell_ended.Goals as goal
 

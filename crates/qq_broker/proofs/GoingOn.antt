@@ -1,0 +1,373 @@
+-- Nodes of a run go on while lines are served.
+use Rattle.std.proofs.Common.{◌≡◌, ◌≢◌, ◌≤◌, ◌<◌, ◌+◌, ◌-◌, ◌⊎◌, ℕ, zero, suc, Bool, false, List, [], ◌∷◌, ◌++◌, length, get_or, Some, None, refl, sym, ap, subst, ◌∙◌, inl, inr, arith}
+use Rattle.std.specs.Prelude.{All, IsTrue, Contains, slice_get}
+use Rattle.std.specs.List.{AllByRecursion, range_with_len}
+use Rattle.std.proofs.lemmas.Bool.{cases_lt, ne_eqb}
+use Rattle.std.proofs.lemmas.Bool.Decides.{eqb_tells}
+use Rattle.std.proofs.lemmas.List.Elements.{All-from_recursion}
+use Rattle.std.proofs.lemmas.Option.{slice_get_cases}
+use Rattle.qq_ports.specs.Yard.{IsAfterCrash}
+use Rattle.qq_base.specs.Causes.{Rose}
+use Rattle.qq_base.specs.declared.ids.NodeId.{NodeId}
+use Rattle.qq_base.specs.declared.ids.QueueId.{QueueId}
+use Rattle.qq_base.specs.declared.memory.Memory.{Memory}
+use Rattle.qq_base.specs.declared.memory.Memory.TheVariants.{Want, Spent}
+use Rattle.qq_disk.specs.declared.image.Image.{Image}
+use Rattle.qq_disk.specs.Disk.{Disk, now}
+use Rattle.qq_disk.proofs.Moments.{adds-none}
+use Rattle.qq_model.proofs.Soundness.{Contains-in}
+use Rattle.qq_raft_protocol.specs.Facts.{In}
+use Rattle.qq_script_lines.specs.declared.line.ScriptLine.{ScriptLine}
+use Rattle.qq_setup.specs.declared.setup.Setup.{Setup}
+use Rattle.qq_cluster.specs.Cluster.{Cluster, ClusterEvent, Crashes, Setup as ClusterSetup, cluster_after, cluster_happens, new_cluster}
+use Rattle.qq_cluster.specs.Lines.{IsLine}
+use Rattle.qq_cluster.specs.Rules.{Is}
+use Rattle.qq_cluster_laws.specs.Linked.{IsLinked, IsPromised, IsReached}
+use Rattle.qq_cluster_laws.specs.Serves.{Seen, Serves, seen_of}
+use Rattle.qq_cluster_laws.specs.Traced.{IsTracedAt, KeepsWhere}
+use Rattle.qq_cluster_laws.proofs.Reached.{after-both}
+use Rattle.qq_cluster_laws.proofs.Unseen.{unseen-linked}
+use Rattle.qq_cluster_laws.specs.Unseen.{sees}
+use Rattle.qq_cluster_run.specs.Endings.{spent}
+use Rattle.qq_cluster_run.specs.Serving.{EndsSpent, Run, after_all, cluster_in, setup_in}
+use Rattle.qq_node_log.specs.Log.{disk_in}
+use Rattle.qq_nodes.specs.Nodes.{CanServe, EndsAt, GaveUp, IsNodeAt, IsQueueAt, Served, Stands, seen}
+use Rattle.qq_nodes.specs.Restarting.{HasHappened, LeavesDisks}
+use Rattle.qq_nodes.specs.declared.node.Node.{Node}
+use Rattle.qq_nodes.specs.declared.nodes.Nodes.{Nodes}
+use Rattle.qq_nodes.proofs.OwnStands.{seen-own}
+use Rattle.qq_broker.specs.Lives.{Became, IsLeft, IsOneDisk, RoseBy, failures}
+use Rattle.qq_broker.specs.Nodes.{Had, Holds, IsDiskOf, Meets}
+use Rattle.qq_broker.specs.Serving.{AreThere, IsGivenUp, IsServed, run_after, with_events}
+use Rattle.qq_broker.proofs.Failing.{line-once}
+use Rattle.qq_broker.proofs.Living.{GoesOn, fails-some, goes-crashed, goes-on, lives-then, rose-once}
+
+-- ---- numbers
+
+pub in-range : (k a n : ℕ) → In k (range_with_len a n) → (a ≤ k) × (k < a + n)
+in-range k a zero there = absurd there
+in-range k a (suc n) (inl is) = (omega (arith, is), omega (arith, is))
+in-range k a (suc n) (inr there) =
+    let rest = in-range k (a + 1) n there in (omega (arith, rest.0), omega (arith, rest.1))
+
+pub range-in : (k a n : ℕ) → a ≤ k → k < a + n → In k (range_with_len a n)
+range-in k a zero le less = absurd (omega (arith, le, less))
+range-in k a (suc n) le less = elim (eqb_tells k a) [
+  | inl (is, same) ↦ inl same
+  | inr (isnt, other) ↦ inr (range-in k (a + 1) n (further k a le other) (omega (arith, less)))
+]
+  where
+    further : (k a : ℕ) → a ≤ k → k ≢ a → a + 1 ≤ k
+    further k a le other = elim (cases_lt a k) [
+      | inl less ↦ omega (arith, less)
+      | inr least ↦ absurd (other (omega (arith, le, least)))
+    ]
+
+pub contains-range : (k a n : ℕ) → Contains (range_with_len a n) k → (a ≤ k) × (k < a + n)
+contains-range k a zero (i, lt, is) = absurd (omega (arith, lt))
+contains-range k a (suc n) (zero, lt, is) =
+    let same : a ≡ k = is in (omega (arith, same), omega (arith, same))
+contains-range k a (suc n) (suc i, lt, is) =
+    let rest = contains-range k (a + 1) n (i, omega (arith, lt), is) in (omega (arith, rest.0), omega (arith, rest.1))
+
+pub node-in : (n before : ℕ) → before < n → Contains (range_with_len 1 n) (before + 1)
+node-in n before less =
+    Contains-in (before + 1) (range_with_len 1 n)
+    (range-in (before + 1) 1 n (omega arith) (omega (arith, less)))
+
+module _ {D : Type 0} (given : ℕ → D → Bool) (tells : D → Bool) (past : D → List Disk) (faults : D → ℕ) where
+  abbrev See : Nodes D → ℕ → Seen
+  See held = seen tells past faults held
+
+  abbrev Of : D → Seen
+  Of d = seen_of tells past faults d
+
+  -- ---- the disks
+
+  pub disk-there : (setup : ClusterSetup) (held : Nodes D) (c : Cluster) → Stands tells past setup held c → (k : ℕ)
+      → In k setup.nodes → (d : D) × IsDiskOf tells past faults held k d
+  disk-there setup held c st k there =
+      let within = in-range k 1 (length held.nodes.items) (subst (In k) st.set_up.nodes there) in
+      at (omega (arith, within.0)) (slice_get_cases held.nodes.items (k - 1)).1 (omega (arith, within.0, within.1))
+    where
+      at : 0 < k → ((x : Node D) × (k - 1 < length held.nodes.items) × (slice_get held.nodes.items (k - 1) ≡ Some x)
+          × (get_or held.nodes.items (k - 1) x ≡ x))
+          ⊎ ((length held.nodes.items ≤ k - 1) × (slice_get held.nodes.items (k - 1) ≡ None))
+          → k - 1 < length held.nodes.items → (d : D) × IsDiskOf tells past faults held k d
+      at low (inl (node, lt, here, is)) within =
+          let n = st.nodes (k - 1) node here in
+          (disk_in n.own, seen-own tells past faults held k node n.own low here n.log_is)
+      at low (inr (out, none)) within = absurd (omega (arith, out, within))
+
+  -- ---- events that a call has served
+
+  -- what a call has done to a node's disk
+  served-disk : (setup : ClusterSetup) (c : Cluster) (Allowed : List ClusterEvent → Type 0) (After : Cluster → Type 0)
+      (old new : Nodes D) (before later : List ℕ) (s : Serves setup c Allowed After (See old) (See new) before later)
+      (k : ℕ) → In k setup.nodes → failures k s.did.events ≤ 1 → (mid last : D) → IsDiskOf tells past faults old k mid
+      → IsDiskOf tells past faults new k last → IsOneDisk tells past faults setup k c s.did.events mid last
+  served-disk setup c Allowed After old new before later s k there few mid last was is = record {
+    told = sym (ap (λ (v : Seen). v.tells) is) ∙ s.did.told k ∙ ap (λ (v : Seen). v.tells) was;
+    rose = elim (fails-some k s.did.events) [
+      | inl none ↦
+          let rises : (See old k).faults ≤ (See new k).faults = s.rises k in
+          let a : (See old k).faults ≡ faults mid = ap (λ (v : Seen). v.faults) was in
+          let b : (See new k).faults ≡ faults last = ap (λ (v : Seen). v.faults) is in
+          inl (omega (arith, none, rises, a, b))
+      | inr some ↦
+          let rose : Rose (faults mid) (faults last) =
+          subst (λ (n : ℕ). Rose n (faults last)) (ap (λ (v : Seen). v.faults) was)
+          (subst (λ (n : ℕ). Rose (See old k).faults n) (ap (λ (v : Seen). v.faults) is) (s.cause k some)) in
+          rose-few (failures k s.did.events) (faults mid) (faults last) few (rose-once (faults mid) (faults last) rose)
+    ];
+    traced = λ tell linked.
+        subst (λ (l : List Disk). IsTracedAt setup c k s.did.events l (past last)) (ap (λ (v : Seen). v.past) was)
+        (subst (λ (l : List Disk). IsTracedAt setup c k s.did.events (See old k).past l) (ap (λ (v : Seen). v.past) is)
+        (s.did.moments k there
+        (subst IsTrue (sym (ap (λ (v : Seen). v.tells) was)) tell)
+        (subst (λ (l : List Disk). IsLinked setup c k (now l)) (sym (ap (λ (v : Seen). v.past) was)) linked)));
+  }
+    where
+      rose-few : (n a b : ℕ) → n ≤ 1 → RoseBy 1 a b → RoseBy n a b
+      rose-few n a b few (inl le) = inl (omega (arith, few, le))
+      rose-few n a b few (inr end) = inr end
+
+  -- a disk has become another one by more events
+  abbrev Grown : ClusterSetup → List ClusterEvent → List ClusterEvent → ℕ → D → Type 0
+  Grown setup events more k last = Became given tells past faults setup (events ++ more) k last
+
+  pub became-served : (setup : ClusterSetup) (events : List ClusterEvent) (Allowed : List ClusterEvent → Type 0)
+      (After : Cluster → Type 0) (old new : Nodes D) (before later : List ℕ)
+      (s : Serves setup (after_all setup events) Allowed After (See old) (See new) before later)
+      (k : ℕ) → In k setup.nodes → failures k s.did.events ≤ 1 → (mid last : D) → IsDiskOf tells past faults old k mid
+      → IsDiskOf tells past faults new k last → Became given tells past faults setup events k mid
+      → Grown setup events s.did.events k last
+  became-served setup events Allowed After old new before later s k there few mid last was is b = record {
+    first = b.first;
+    given_is = b.given_is;
+    fresh = b.fresh;
+    lives = lives-then tells past faults setup k (after_all setup events) (new_cluster setup) [] events s.did.events
+        b.first mid last refl b.lives
+        (goes-on tells past faults setup k (after_all setup events) s.did.events mid last (s.no_crash k)
+        (served-disk setup (after_all setup events) Allowed After old new before later s k there few mid last was is));
+  }
+
+  -- nodes stand for the run with these events more
+  pub holds-more : (s : Setup) (run : Run) (old new : Nodes D) (more : List ClusterEvent) (lines : ℕ)
+      → Holds given tells past faults s old run
+      → Stands tells past (setup_in s run) new (cluster_after (cluster_in s run) more)
+      → ((k : ℕ) → In k (setup_in s run).nodes → (mid last : D) → IsDiskOf tells past faults old k mid
+      → IsDiskOf tells past faults new k last → Became given tells past faults (setup_in s run) run.events k mid
+      → Grown (setup_in s run) run.events more k last)
+      → Holds given tells past faults s new (record { lines = lines; logs = run.logs; events = run.events ++ more })
+  holds-more s run old new more lines h st grows = record {
+    new = h.new;
+    stands = subst (Stands tells past (setup_in s run) new)
+        (sym (after-both (new_cluster (setup_in s run)) run.events more)) st;
+    disks = λ k there.
+        let was = h.disks k there in
+        let there' = disk-there (setup_in s run) new (cluster_after (cluster_in s run) more) st k there in (
+          there'.0,
+          there'.1,
+          grows k there was.0 there'.0 was.1 there'.1 was.2,
+        );
+  }
+
+  pub had-so : (s : Setup) (held : Nodes D) (run : Run) → Holds given tells past faults s held run
+      → Had given tells past faults (setup_in s run) run.events
+  had-so s held run h = λ k there. (let was = h.disks k there in (was.0, was.2))
+
+  pub reached : (s : Setup) (run : Run) → IsReached (setup_in s run) (cluster_in s run)
+  reached s run = (run.events, refl)
+
+  pub can-serve : (s : Setup) (held : Nodes D) (run : Run) → Holds given tells past faults s held run
+      → CanServe tells past held
+  can-serve s held run h = (setup_in s run, cluster_in s run, reached s run, h.stands)
+
+  -- ---- a line
+
+  pub served-line : (s : Setup) (run : Run) (line : ScriptLine) (Allowed : List ClusterEvent → Type 0)
+      (old new : Nodes D) (before later : List ℕ) → Holds given tells past faults s old run
+      → ((events : List ClusterEvent) → Allowed events → IsLine (setup_in s run) line (cluster_in s run) events)
+      → Serves (setup_in s run) (cluster_in s run) Allowed (Stands tells past (setup_in s run) new) (See old) (See new)
+      before later
+      → IsServed given tells past faults s run line new before later
+  served-line s run line Allowed old new before later h lines sv =
+      let allowed = lines sv.did.events sv.did.means in
+      let holds = holds-more s run old new sv.did.events (run.lines + 1) h sv.did.stands
+      (λ k there mid last was is b. became-served (setup_in s run) run.events Allowed
+      (Stands tells past (setup_in s run) new) old new before later sv k there
+      (line-once k (setup_in s run) (length old.nodes.items) h.stands.set_up.nodes line (cluster_in s run) sv.did.events
+      allowed) mid last was is b) in
+      record {
+        more = sv.did.events;
+        allowed = allowed;
+        disks = had-so s new (run_after run (run.events ++ sv.did.events)) holds;
+        stands = holds;
+        says = sv.did.says;
+      }
+
+  pub served : (s : Setup) (run : Run) (line : ScriptLine) (Rule : ClusterSetup → Cluster → List ClusterEvent → Type 0)
+      (old new : Nodes D) (before later : List ℕ) → Holds given tells past faults s old run
+      → ((events : List ClusterEvent) → Rule (setup_in s run) (cluster_in s run) events
+      → IsLine (setup_in s run) line (cluster_in s run) events)
+      → Served tells past faults Rule old new before later
+      → IsServed given tells past faults s run line new before later
+  served s run line Rule old new before later h lines so =
+      served-line s run line (Rule (setup_in s run) (cluster_in s run)) old new before later h lines
+      (so.serves (setup_in s run) (cluster_in s run) (reached s run) h.stands)
+
+  -- ---- a number at its end
+
+  pub ends-spent : (s : Setup) (run : Run) (Rule Allows : Cluster → List ClusterEvent → Type 0) (left : Nodes D)
+      (before after number : ℕ)
+      → ((c : Cluster) (events : List ClusterEvent) → Rule c events → Allows c events)
+      → EndsAt tells past (setup_in s run) Rule left (cluster_in s run) number
+      → EndsSpent (Meets given tells past faults before after) (setup_in s run) Allows run.events (spent number)
+  ends-spent s run Rule Allows left before after number lines so = record {
+    early = so.early;
+    begins = record {
+      rest = so.begins.rest;
+      allowed = lines (cluster_in s run) (so.early ++ so.begins.rest)
+          so.begins.allowed;
+    };
+    number = number;
+    past = so.end;
+    stands = record {
+      held = so.mid;
+      left = left;
+      stands = subst (Stands tells past (setup_in s run) so.mid)
+          (sym (after-both (new_cluster (setup_in s run)) run.events so.early)) so.stands;
+      at = so.at;
+    };
+    is = refl;
+  }
+
+  pub given-up : (s : Setup) (run : Run) (line : ScriptLine)
+      (Rule : ClusterSetup → Cluster → List ClusterEvent → Type 0)
+      (old left : Nodes D) (before after : ℕ) (memory : Memory) → Holds given tells past faults s old run
+      → ((c : Cluster) (events : List ClusterEvent) → Rule (setup_in s run) c events
+      → IsLine (setup_in s run) line c events)
+      → GaveUp tells past faults Rule old left memory
+      → IsGivenUp (Meets given tells past faults before after) (setup_in s run) run.events line memory
+  given-up s run line Rule old left before after Want h lines so = tt
+  given-up s run line Rule old left before after (Spent number) h lines so =
+      ends-spent s run (Rule (setup_in s run)) (IsLine (setup_in s run) line) left before after number lines
+      (so.spent number refl (setup_in s run) (cluster_in s run) (reached s run) h.stands)
+
+  -- ---- what is there
+
+  pub node-there : (s : Setup) (run : Run) (held : Nodes D) (node : NodeId) → Holds given tells past faults s held run
+      → Contains (setup_in s run).nodes node.0 → IsNodeAt node held
+  node-there s run held node h there =
+      let within = contains-range node.0 1 (length held.nodes.items)
+      (subst (λ (l : List ℕ). Contains l node.0) h.stands.set_up.nodes there) in
+      (omega (arith, within.0), omega (arith, within.1))
+
+  pub queue-there : (s : Setup) (run : Run) (held : Nodes D) (queue : QueueId)
+      → Holds given tells past faults s held run
+      → Contains (setup_in s run).places queue.0 → IsQueueAt queue held
+  queue-there s run held queue h there =
+      let within = contains-range queue.0 1 (length held.queues.items)
+      (subst (λ (l : List ℕ). Contains l queue.0) h.stands.set_up.places there) in
+      (omega (arith, within.0), omega (arith, within.1))
+
+  pub target-there : (s : Setup) (run : Run) (held : Nodes D) (queue : QueueId)
+      → Holds given tells past faults s held run
+      → In queue.0 (setup_in s run).places → IsQueueAt queue held
+  target-there s run held queue h there =
+      let within = in-range queue.0 1 (length held.queues.items) (subst (In queue.0) h.stands.set_up.places there) in
+      (omega (arith, within.0), omega (arith, within.1))
+
+  targets-all : (s : Setup) (run : Run) (held : Nodes D) (queues : List QueueId)
+      → Holds given tells past faults s held run
+      → AreThere s queues → AllByRecursion (λ (queue : QueueId). IsQueueAt queue held) queues
+  targets-all s run held [] h there = tt
+  targets-all s run held (queue ∷ queues) h there =
+      (target-there s run held queue h there.0, targets-all s run held queues h there.1)
+
+  pub targets-at : (s : Setup) (run : Run) (held : Nodes D) (queues : List QueueId)
+      → Holds given tells past faults s held run
+      → AreThere s queues → All (λ (queue : QueueId). IsQueueAt queue held) queues
+  targets-at s run held queues h there =
+      All-from_recursion (λ (queue : QueueId). IsQueueAt queue held) queues (targets-all s run held queues h there)
+
+  -- ---- crashes
+
+  unseen-crash : (setup : ClusterSetup) (c : Cluster) (k j : ℕ) (image : Image) (d : D) → k ≢ j
+      → IsOneDisk tells past faults setup j c (Crashes k image ∷ []) d d
+  unseen-crash setup c k j image d other = record {
+    told = refl;
+    rose = inl (omega arith);
+    traced = λ tell linked.
+        (let unseen : sees j (Crashes k image) ≡ false = ne_eqb k j other in (
+          linked.promised,
+          past d,
+          past d,
+          adds-none (IsPromised setup c j) (past d),
+          subst (λ (b : Bool). KeepsWhere b setup c j (Crashes k image) (past d) (past d)) (sym unseen) refl,
+          λ fair.
+              (let later = unseen-linked setup c j (Crashes k image) (now (past d)) unseen linked in (
+                later.promised,
+                adds-none (IsPromised setup (cluster_happens c (Crashes k image)) j) (past d),
+                later,
+              )),
+        ));
+  }
+
+  pub crashed : (s : Setup) (run : Run) (old new : Nodes D) (k : ℕ) (image : Image)
+      → Holds given tells past faults s old run
+      → ((text : List ℕ) → HasHappened tells past faults (λ (setup : ClusterSetup). Is (Crashes k image)) old new
+      text text)
+      → LeavesDisks tells past faults k image old new
+      → Holds given tells past faults s new (with_events run (run.events ++ Crashes k image ∷ []))
+  crashed s run old new k image h happened leaves =
+      let setup = setup_in s run in
+      let c = cluster_in s run in
+      let so = (happened []).happened setup c (reached s run) h.stands in
+      let st : Stands tells past setup new (cluster_after c (Crashes k image ∷ [])) =
+      subst (λ (l : List ClusterEvent). Stands tells past setup new (cluster_after c l)) so.means so.stands in
+      holds-more s run old new (Crashes k image ∷ []) run.lines h st (λ j there mid last was is b. record {
+        first = b.first;
+        given_is = b.given_is;
+        fresh = b.fresh;
+        lives = lives-then tells past faults setup j c (new_cluster setup) [] run.events (Crashes k image ∷ []) b.first
+            mid last refl b.lives (step j mid last was is);
+      })
+    where
+      step : (j : ℕ) (mid last : D) → IsDiskOf tells past faults old j mid → IsDiskOf tells past faults new j last
+          → GoesOn tells past faults (setup_in s run) j (cluster_in s run) (Crashes k image ∷ []) mid last
+      step j mid last was is = elim (eqb_tells k j) [
+        | inl (e, same) ↦
+            subst (λ (i : ℕ). GoesOn tells past faults (setup_in s run) i (cluster_in s run) (Crashes k image ∷ []) mid
+            last) same
+            (goes-crashed tells past faults (setup_in s run) k (cluster_in s run) image mid last (left
+            (subst (λ (i : ℕ). IsDiskOf tells past faults old i mid) (sym same) was)
+            (subst (λ (i : ℕ). IsDiskOf tells past faults new i last) (sym same) is)))
+        | inr (e, other) ↦
+            goes-on tells past faults (setup_in s run) j (cluster_in s run) (Crashes k image ∷ []) mid last (other, tt)
+            (like (unseen-crash (setup_in s run) (cluster_in s run) k j image mid other)
+            (sym was ∙ sym (leaves.others j (λ e. other (sym e))) ∙ is))
+      ]
+        where
+          left : IsDiskOf tells past faults old k mid → IsDiskOf tells past faults new k last
+              → IsLeft tells past image mid last
+          left was is = record {
+            told = sym (ap (λ (v : Seen). v.tells) is) ∙ leaves.told ∙ ap (λ (v : Seen). v.tells) was;
+            left = λ tell.
+                subst (λ (l : List Disk). IsAfterCrash image l (past last)) (ap (λ (v : Seen). v.past) was)
+                (subst (λ (l : List Disk). IsAfterCrash image (See old k).past l) (ap (λ (v : Seen). v.past) is)
+                (leaves.left (subst IsTrue (sym (ap (λ (v : Seen). v.tells) was)) tell)));
+          }
+
+          like : IsOneDisk tells past faults (setup_in s run) j (cluster_in s run) (Crashes k image ∷ []) mid mid
+              → Of mid ≡ Of last
+              → IsOneDisk tells past faults (setup_in s run) j (cluster_in s run) (Crashes k image ∷ []) mid last
+          like one same = record {
+            told = sym (ap (λ (v : Seen). v.tells) same) ∙ one.told;
+            rose = subst (RoseBy (failures j (Crashes k image ∷ [])) (faults mid)) (ap (λ (v : Seen). v.faults) same)
+                one.rose;
+            traced = λ tell linked.
+                subst (IsTracedAt (setup_in s run) (cluster_in s run) j (Crashes k image ∷ []) (past mid))
+                (ap (λ (v : Seen). v.past) same) (one.traced tell linked);
+          }

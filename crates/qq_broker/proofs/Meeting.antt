@@ -1,0 +1,17 @@
+-- What was met since a time was met since an earlier one.
+use Rattle.std.proofs.Common.{◌≤◌, ℕ, Bool, List}
+use Rattle.qq_disk.specs.Disk.{Disk}
+use Rattle.qq_cluster_run.specs.Troubles.{YardFails, DiskFails, FilesBreak, QueueIsFound, NumberEnds}
+use Rattle.qq_cluster_run.proofs.Answering.{IsEarlier}
+use Rattle.qq_cluster_run.proofs.Closings.{Rose_earlier}
+use Rattle.qq_broker.specs.Nodes.{Meets}
+
+pub meets-earlier : {D : Type 0} (given : ℕ → D → Bool) (tells : D → Bool) (past : D → List Disk) (faults : D → ℕ)
+    (first before after : ℕ)
+    → first ≤ before → IsEarlier (Meets given tells past faults before after)
+    (Meets given tells past faults first after)
+meets-earlier given tells past faults first before after le YardFails met = Rose_earlier first before after le met
+meets-earlier given tells past faults first before after le (DiskFails k) met = met
+meets-earlier given tells past faults first before after le (FilesBreak setup events k damage) met = met
+meets-earlier given tells past faults first before after le (QueueIsFound setup events k place lane) met = met
+meets-earlier given tells past faults first before after le (NumberEnds setup events number) met = met

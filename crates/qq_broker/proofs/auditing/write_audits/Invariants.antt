@@ -1,0 +1,12 @@
+use Rattle.std.proofs.Common.{◌≤◌}
+use Rattle.qq_broker.proofs.Audited.{AuditsOn}
+use Rattle.qq_broker.proofs.auditing.write_audits.Given as goal
+
+-- all was written but what stands in the text, and the audits of the queues that are left
+abbrev pub invariant-loop-row : goal.invariant-loop-row
+invariant-loop-row g l = record {
+  so :
+      AuditsOn g.D.NodeDisk.tells g.D.NodeDisk.past g.D.NodeDisk.faults l.setup l.nodes (g.O.Sink.written l.fn.output)
+      (g.O.Sink.written l.output) l.text.items l.rows l.row-index;
+  later : g.O.Sink.faults l.fn.output ≤ g.O.Sink.faults l.output;
+}

@@ -1,0 +1,46 @@
+use Rattle.std.proofs.Common.{◌++◌, arith}
+use Rattle.qq_broker.specs.Serving.{crashes, with_events}
+use Rattle.qq_broker.proofs.Crashes.{crashed-all, crashed-more, crashed-none, yard-earlier}
+use Rattle.qq_broker.proofs.GoingOn.{node-in}
+use Rattle.qq_broker.proofs.serving.crash_first.Goals as goal
+
+pub nodes-init : goal.nodes-init
+nodes-init g c = record {
+  crashed = crashed-none g.Y.Yard.is_given g.Y.Disk.NodeDisk.tells g.Y.Disk.NodeDisk.past g.Y.Disk.NodeDisk.faults
+      c.args.image.now
+      c.args.nodes.now;
+  later = omega arith;
+}
+
+pub crash_one-requires-clause-holds : goal.crash_one-requires-clause-holds
+crash_one-requires-clause-holds g c = λ lifetimes bounds. (
+  c.requires.holds.0,
+  (
+    with_events c.requires.holds.1.0 (c.requires.holds.1.0.events ++ crashes 1 c.nodes.before c.args.image.now),
+    c.nodes.invariant.crashed c.requires.holds.0 c.requires.holds.1.0 c.requires.holds.1.1,
+    node-in c.requires.holds.0.nodes c.nodes.before (omega (arith, c.requires.holds.1.2)),
+  ),
+)
+
+pub returns-in-Err-clause-cause : goal.returns-in-Err-clause-cause
+returns-in-Err-clause-cause g c = record {
+  later = omega (arith, c.nodes.invariant.later, c.crash_one.ensures.cause.later);
+  cause = yard-earlier _ _ _ c.in-Err.fault c.nodes.invariant.later c.in-Err.ensures.cause.cause;
+}
+
+pub nodes-preserved : goal.nodes-preserved
+nodes-preserved g c = record {
+  crashed = crashed-more g.Y.Yard.is_given g.Y.Disk.NodeDisk.tells g.Y.Disk.NodeDisk.past g.Y.Disk.NodeDisk.faults
+      c.args.image.now
+      c.nodes.before c.args.nodes.now _ _ c.nodes.invariant.crashed c.in_default.ensures.ok;
+  later = omega (arith, c.nodes.invariant.later, c.crash_one.ensures.cause.later);
+}
+
+pub returns-clause-ok : goal.returns-clause-ok
+returns-clause-ok g c =
+    crashed-all g.Y.Yard.is_given g.Y.Disk.NodeDisk.tells g.Y.Disk.NodeDisk.past g.Y.Disk.NodeDisk.faults
+    c.args.image.now c.nodes.before
+    c.args.count c.args.nodes.now _ (omega arith) c.nodes.invariant.crashed
+
+pub returns-clause-cause : goal.returns-clause-cause
+returns-clause-cause g c = record { later = c.nodes.invariant.later; cause = tt }

@@ -1,0 +1,61 @@
+-- What becomes of a node's disk while events happen.
+use Rattle.std.specs.Prelude.{◌≡◌, ◌⊎◌, ◌≤◌, ◌+◌, ◌-◌, ◌^◌, ℕ, Bool, true, List, [], ◌∷◌, ◌++◌, Option, Some, None, IsTrue, filter, length, nat_eq, if◌then◌else◌}
+use Rattle.qq_disk.specs.declared.image.Image.{Image}
+use Rattle.qq_disk.specs.Disk.{Disk, now}
+use Rattle.qq_ports.specs.Yard.{IsAfterCrash, IsNew}
+use Rattle.qq_cluster.specs.Cluster.{Cluster, ClusterEvent, Crashes, Setup, cluster_after, cluster_happens, new_cluster}
+use Rattle.qq_cluster_laws.specs.Linked.{IsLinked}
+use Rattle.qq_cluster_laws.specs.Serves.{is_failure_at}
+use Rattle.qq_cluster_laws.specs.Traced.{IsTracedAt}
+
+-- how often calls of a node's disk have failed
+abbrev pub failures : ℕ → List ClusterEvent → ℕ
+failures k events = length (filter (is_failure_at k) events)
+
+-- a count of 64 bits rose so often, or stands at its end
+abbrev pub RoseBy : ℕ → ℕ → ℕ → Type 0
+RoseBy times before now = (before + times ≤ now) ⊎ (2 ^ 64 - 1 ≤ now)
+
+-- Between two crashes it is one disk, the first and then the last. It shows its contents as before, and its count of faults
+-- rose as often as the node has failed. Where it shows its contents, and the node's log was linked, it was at each moment
+-- what the events say.
+pub record IsOneDisk {D : Type 0} (tells : D → Bool) (past : D → List Disk) (faults : D → ℕ) (setup : Setup) (k : ℕ)
+    (c : Cluster) (events : List ClusterEvent) (first last : D) : Type 0 where
+  pub told : tells last ≡ tells first
+  pub rose : RoseBy (failures k events) (faults first) (faults last)
+  pub traced : IsTrue (tells first) → IsLinked setup c k (now (past first))
+      → IsTracedAt setup c k events (past first) (past last)
+
+-- what a crash leaves of a disk
+pub record IsLeft {D : Type 0} (tells : D → Bool) (past : D → List Disk) (image : Image) (old new : D) : Type 0 where
+  pub told : tells new ≡ tells old
+  pub left : IsTrue (tells old) → IsAfterCrash image (past old) (past new)
+
+-- the image that a crash of a node names
+abbrev pub crash_of : ℕ → ClusterEvent → Option Image
+crash_of k (Crashes j image) = if nat_eq j k then Some image else None
+crash_of k _ = None
+
+-- at a crash of the node one disk ends, and what is left of it goes on
+abbrev pub at_crash : {D : Type 0} → Option Image → (Ends : D → Type 0) → (Left : Image → D → D → Type 0)
+    → (GoesOn : D → Type 0) → (Stays : Type 0) → Type 0
+at_crash None Ends Left GoesOn Stays = Stays
+at_crash {D} (Some image) Ends Left GoesOn Stays =
+    (old : D) × ((new : D) × Ends old × Left image old new × GoesOn new)
+
+-- The first disk has become the last one while events happened, after those since the node was crashed last.
+abbrev pub Lives : {D : Type 0} → (D → Bool) → (D → List Disk) → (D → ℕ) → Setup → ℕ → Cluster
+    → (since events : List ClusterEvent) → (first last : D) → Type 0
+Lives tells past faults setup k c since [] first last = IsOneDisk tells past faults setup k c since first last
+Lives tells past faults setup k c since (event ∷ events) first last =
+    at_crash (crash_of k event) (λ old. IsOneDisk tells past faults setup k c since first old) (IsLeft tells past)
+    (λ new. Lives tells past faults setup k (cluster_happens (cluster_after c since) event) [] events new last)
+    (Lives tells past faults setup k c (since ++ event ∷ []) events first last)
+
+-- A yard gave a disk for this node, a new one where it shows its contents, and this has become of it.
+pub record Became {D : Type 0} (given : ℕ → D → Bool) (tells : D → Bool) (past : D → List Disk) (faults : D → ℕ)
+    (setup : Setup) (events : List ClusterEvent) (k : ℕ) (last : D) : Type 0 where
+  pub first : D
+  pub given_is : given k first ≡ true
+  pub fresh : IsTrue (tells first) → IsNew (past first)
+  pub lives : Lives tells past faults setup k (new_cluster setup) [] events first last

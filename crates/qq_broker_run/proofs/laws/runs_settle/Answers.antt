@@ -1,5 +1,0 @@
-use Rattle.qq_broker_run.proofs.Printing.{go_alike}
-use Rattle.qq_broker_run.proofs.laws.runs_settle.Goals as goal
-
-pub returns : goal.returns
-returns c = go_alike c.lines_settle.ensures.run

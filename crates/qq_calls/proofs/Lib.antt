@@ -1,5 +1,0 @@
-pub mod Queues
-mod Examples
-mod Named
-mod Said
-mod Refusals

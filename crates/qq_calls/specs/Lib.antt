@@ -1,5 +1,0 @@
-pub mod Queues
-pub mod Calls
-pub mod Lines
-pub mod Named
-pub mod Examples

@@ -1,0 +1,59 @@
+-- What a call has done, in words.
+use Rattle.std.proofs.Common.{◌≡◌, ℕ, ◌≤◌, ◌<◌, List, ◌++◌, sym, ap, ◌∙◌, subst}
+use Rattle.std.specs.Prelude.{◌⊎◌, ◌-◌, ◌^◌, Contains, IsTrue, true}
+use Rattle.qq_disk.specs.declared.image.Image.{Image}
+use Rattle.qq_disk.specs.Disk.{now}
+use Rattle.qq_cluster.specs.Cluster.{Cluster, ClusterEvent, Crashes, Fails, Setup, cluster_after}
+use Rattle.qq_cluster.specs.Texts.{text_of}
+use Rattle.qq_cluster_laws.specs.Linked.{IsLinked}
+use Rattle.qq_cluster_laws.specs.Serves.{GivesUp, Happened, Seen, Serves, fails_at}
+use Rattle.qq_cluster_laws.specs.Traced.{HasNoCrash, IsBrokenAt, IsTracedAt}
+use Rattle.qq_cluster_pins.proofs.Images.{there}
+use Rattle.qq_cluster_pins.proofs.Times.{fails-there, never-crashes}
+
+module _ (setup : Setup) (c last : Cluster) (done : List ClusterEvent) (a b : ℕ → Seen) (before later : List ℕ) where
+  abbrev These : List ClusterEvent → Type 0
+  These events = events ≡ done
+
+  abbrev Stands : Cluster → Type 0
+  Stands d = d ≡ last
+
+  pub happened-text : Happened setup c These Stands a b before later
+      → (last ≡ cluster_after c done) × (later ≡ before ++ text_of setup c done)
+  happened-text did = (
+    sym did.stands ∙ ap (cluster_after c) did.means,
+    did.says ∙ ap (λ es. before ++ text_of setup c es) did.means,
+  )
+
+  pub happened-disks : Happened setup c These Stands a b before later → (k : ℕ)
+      → ((b k).tells ≡ (a k).tells) × (Contains setup.nodes k → IsTrue (a k).tells → IsLinked setup c k (now (a k).past)
+      → IsTracedAt setup c k done (a k).past (b k).past)
+  happened-disks did k = (
+    did.told k,
+    λ node tells linked. subst (λ es. IsTracedAt setup c k es (a k).past (b k).past) did.means
+        (did.moments k (there setup.nodes k node) tells linked),
+  )
+
+  pub served-faults : Serves setup c These Stands a b before later → (k : ℕ)
+      → ((image : Image) → Contains done (Crashes k image) → ⊥) × ((a k).faults ≤ (b k).faults)
+      × (Contains done (Fails k) → ((a k).faults < (b k).faults) ⊎ ((b k).faults ≡ 2 ^ 64 - 1))
+  served-faults served k = (
+    never-crashes k done (subst (HasNoCrash k) served.did.means (served.no_crash k)),
+    served.rises k,
+    λ fails. served.cause k (subst (λ es. fails_at k es ≡ true) (sym served.did.means) (fails-there k done fails)),
+  )
+
+pub given-up : (setup : Setup) (c : Cluster) (a b : ℕ → Seen) → GivesUp setup c a b
+    → (events : List ClusterEvent) × ((k : ℕ) → ((image : Image) → Contains events (Crashes k image) → ⊥)
+    × ((b k).tells ≡ (a k).tells) × ((a k).faults ≤ (b k).faults)
+    × (Contains setup.nodes k → IsTrue (a k).tells → IsLinked setup c k (now (a k).past)
+    → IsBrokenAt setup c k events (a k).past (b k).past))
+given-up setup c a b gave = (
+  gave.events,
+  λ k. (
+    never-crashes k gave.events (gave.no_crash k),
+    gave.told k,
+    gave.rises k,
+    λ node tells linked. gave.moments k (there setup.nodes k node) tells linked,
+  ),
+)

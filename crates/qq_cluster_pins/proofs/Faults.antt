@@ -1,0 +1,63 @@
+-- Events without a failure of a disk, and without a restart.
+use Rattle.std.proofs.Common.{◌≡◌, ℕ, Bool, false, ◌||◌, List, [], ◌∷◌, ◌++◌, refl, sym, ap, ◌∙◌, inl, inr}
+use Rattle.std.proofs.lemmas.Bool.{false≢true, or_parts}
+use Rattle.qq_base.proofs.Lists.{In}
+use Rattle.qq_cluster.specs.Cluster.{ClusterEvent, Sets, Alike, At, NodeWrites, NodeSyncs, Fails, Crashes, FindsEach, Shows, SaysDown, SaysNoSuch, SaysUnroutable, SaysBusy, SaysEnded}
+use Rattle.qq_cluster.specs.ClusterLaws.{finding, findings, has_failure, is_failure}
+
+abbrev pub HasNoFailure : List ClusterEvent → Type 0
+HasNoFailure events = (k : ℕ) → In (Fails k) events → ⊥
+
+fine-one : (event : ClusterEvent) → ((k : ℕ) → Fails k ≡ event → ⊥) → is_failure event ≡ false
+fine-one (Fails k) none = absurd (none k refl)
+fine-one (Sets auto) none = refl
+fine-one (Alike event) none = refl
+fine-one (At place event) none = refl
+fine-one (NodeWrites k) none = refl
+fine-one (NodeSyncs k) none = refl
+fine-one (Crashes k image) none = refl
+fine-one (FindsEach k ops) none = refl
+fine-one (Shows place) none = refl
+fine-one (SaysDown k) none = refl
+fine-one SaysNoSuch none = refl
+fine-one SaysUnroutable none = refl
+fine-one SaysBusy none = refl
+fine-one SaysEnded none = refl
+
+pub fine-from : (events : List ClusterEvent) → HasNoFailure events → has_failure events ≡ false
+fine-from [] none = refl
+fine-from (event ∷ events) none =
+    ap (λ (b : Bool). b || has_failure events) (fine-one event (λ k same. none k (inl same)))
+    ∙ fine-from events (λ k later. none k (inr later))
+
+pub from-fine : (events : List ClusterEvent) → has_failure events ≡ false → HasNoFailure events
+from-fine [] fine k here = here
+from-fine (event ∷ events) fine k here =
+    let both = or_parts (is_failure event) (has_failure events) fine in
+    elim here [
+      | inl same ↦ false≢true (sym both.0 ∙ ap is_failure (sym same))
+      | inr later ↦ from-fine events both.1 k later
+    ]
+
+found-one : (event : ClusterEvent) → ((k : ℕ) (ops : ℕ → ℕ) → FindsEach k ops ≡ event → ⊥) → finding event ≡ []
+found-one (FindsEach k ops) none = absurd (none k ops refl)
+found-one (Sets auto) none = refl
+found-one (Alike event) none = refl
+found-one (At place event) none = refl
+found-one (NodeWrites k) none = refl
+found-one (NodeSyncs k) none = refl
+found-one (Fails k) none = refl
+found-one (Crashes k image) none = refl
+found-one (Shows place) none = refl
+found-one (SaysDown k) none = refl
+found-one SaysNoSuch none = refl
+found-one SaysUnroutable none = refl
+found-one SaysBusy none = refl
+found-one SaysEnded none = refl
+
+pub found-none : (events : List ClusterEvent) → ((k : ℕ) (ops : ℕ → ℕ) → In (FindsEach k ops) events → ⊥)
+    → findings events ≡ []
+found-none [] none = refl
+found-none (event ∷ events) none =
+    ap (λ (l : List (ℕ → ℕ)). l ++ findings events) (found-one event (λ k ops same. none k ops (inl same)))
+    ∙ found-none events (λ k ops later. none k ops (inr later))

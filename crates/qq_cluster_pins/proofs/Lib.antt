@@ -1,0 +1,11 @@
+mod Leading
+mod Bounds
+mod Faults
+mod Halves
+mod Rounds
+mod Worked
+mod Images
+mod Times
+mod Calls
+mod Own
+mod Fresh

@@ -1,0 +1,45 @@
+-- A pump of two nodes and two queues.
+use Rattle.std.proofs.Common.{◌≡◌, false, List, [], ◌∷◌, refl}
+use Rattle.std.specs.Fmt.{digits}
+use Rattle.qq_base.specs.Fronts.{put}
+use Rattle.qq_command.specs.Encoding.{body, content, death, deaths, encoding, fields, key, origin, payload, session, stamp}
+use Rattle.qq_log.specs.Stable.{apply_op, change as change_log}
+use Rattle.qq_raft_model.specs.Leading.{send, add_entry, stand, lead, lead_if_elected, advance}
+use Rattle.qq_raft_model.specs.Server.{refuse, give_vote, receive_vote, receive_voted, take_entries, refuse_entries, receive_append, take_ack, step_back, receive_appended, accept, receive, tick, submit, notice}
+use Rattle.qq_raft_model.specs.State.{change, enter, say_all}
+use Rattle.qq_script_lines.specs.declared.line.ScriptLine.TheVariants.{Pump}
+use Rattle.qq_cluster.specs.Cluster.{At, Cluster, ClusterEvent, FindsEach, NodeSyncs, NodeWrites, cluster_after, new_cluster}
+use Rattle.qq_cluster.specs.ClusterLaws.{findings, has_failure}
+use Rattle.qq_cluster.specs.Example.{setup_of}
+use Rattle.qq_cluster.specs.Lines.{IsLine}
+use Rattle.qq_cluster.specs.Queue.{Delivers, Notices, Ticks}
+use Rattle.qq_cluster.specs.Rules.{most_rounds}
+use Rattle.qq_cluster.specs.Serving.{pump}
+use Rattle.qq_cluster_pins.proofs.Rounds.{met-pump}
+
+abbrev pub standing : Cluster
+standing =
+    cluster_after (new_cluster (setup_of 2 2))
+    (FindsEach 1 (λ place. 0) ∷ FindsEach 2 (λ place. 0) ∷ At 1 (Ticks 1) ∷ At 2 (Ticks 1) ∷ At 1 (Ticks 2)
+    ∷ At 2 (Ticks 2) ∷ [])
+
+abbrev pub made : List ClusterEvent
+made =
+    NodeWrites 1 ∷ NodeSyncs 1 ∷ At 1 (Notices 1) ∷ At 2 (Notices 1)
+    ∷ NodeWrites 2 ∷ NodeSyncs 2 ∷ At 1 (Notices 2) ∷ At 2 (Notices 2)
+    ∷ At 1 (Delivers 0) ∷ At 1 (Delivers 0) ∷ At 2 (Delivers 0) ∷ At 2 (Delivers 0)
+    ∷ At 1 (Delivers 0) ∷ At 1 (Delivers 0) ∷ At 2 (Delivers 0) ∷ At 2 (Delivers 0) ∷ []
+
+pub pump-is : pump (setup_of 2 2) standing ≡ made
+unfolding digits put most_rounds apply_op change_log send add_entry stand lead lead_if_elected advance refuse give_vote receive_vote receive_voted take_entries refuse_entries receive_append take_ack step_back receive_appended accept receive tick submit notice change enter say_all encoding payload fields session stamp origin body key death deaths content
+pump-is = refl
+
+pub pump-line : IsLine (setup_of 2 2) Pump standing (pump (setup_of 2 2) standing)
+unfolding IsLine
+pump-line = met-pump (setup_of 2 2) standing
+
+pub fine : has_failure made ≡ false
+fine = refl
+
+pub none-found : findings made ≡ []
+none-found = refl

@@ -1,0 +1,20 @@
+use Rattle.std.proofs.Common.{sym, ◌∙◌}
+use Rattle.qq_model.proofs.Soundness.{Contains-in, in_contains}
+use Rattle.qq_cluster.specs.Cluster.{Fails, FindsEach, new_cluster}
+use Rattle.qq_cluster.specs.Serving.{all_given, run}
+use Rattle.qq_cluster_pins.proofs.Faults.{fine-from, found-none, from-fine}
+use Rattle.qq_cluster_pins.proofs.lines.nothing_but_faults_is_left_open.Goals as goal
+
+pub returns-clause-line : goal.returns-clause-line
+returns-clause-line c = λ setup line d events others first second fine found.
+    c.lines_settle.ensures.line setup line d events others first second
+    (fine-from events (λ k here. (fine k).0 (Contains-in (Fails k) events here)))
+    (fine-from others (λ k here. (fine k).1 (Contains-in (Fails k) others here)))
+    (found-none events (λ k ops here. (found k ops).0 (Contains-in (FindsEach k ops) events here))
+    ∙ sym (found-none others (λ k ops here. (found k ops).1 (Contains-in (FindsEach k ops) others here))))
+
+pub returns-clause-served : goal.returns-clause-served
+returns-clause-served c = λ setup lines groups.
+    let events = run setup all_given lines (new_cluster setup) in
+    let served = c.scripts_may_be_served.ensures setup lines groups in
+    (events, served.is, λ k there. from-fine events served.fine k (in_contains events (Fails k) there))

@@ -1,0 +1,8 @@
+use Rattle.qq_cluster.specs.Cluster.{cluster_after, new_cluster}
+use Rattle.qq_cluster_pins.proofs.Fresh.{one-log}
+use Rattle.qq_cluster_pins.proofs.openings.an_opening_leaves_one_log.Goals as goal
+
+pub returns : goal.returns
+returns c = λ setup events place groups once nodes_once nodes new is fine.
+    one-log setup (cluster_after (new_cluster setup) events) place
+    (c.an_opening_gives_each_queue_a_leader.ensures setup events groups once nodes_once nodes new is fine)

@@ -1,0 +1,119 @@
+//! Laws of how many are enough and of what comes after what, in numerals: the functions do nothing, and their
+//! contracts are the laws.
+ghost use Rattle.std.specs.Prelude.{◌≡◌, ◌⊎◌, ◌≤◌, ◌+◌, ◌++◌, ◌∷◌, [], ℕ, Bool, List, Some, true, false, Contains, filter, length, nat_le};
+ghost use Rattle.std.specs.List.{count_by};
+ghost use Rattle.qq_raft_model.specs.declared.peer.Peer.{Peer};
+ghost use Rattle.qq_raft_model.specs.Leading.{is_majority};
+ghost use Rattle.qq_raft_model.specs.State.{Server};
+ghost use Rattle.qq_raft_protocol.specs.Facts.{Most};
+ghost use Rattle.qq_script_lines.specs.declared.line.ScriptLine.TheVariants.{Pump};
+ghost use Rattle.qq_cluster.specs.Cluster.{At, Cluster, ClusterEvent, Fails, FindsEach, NodeSyncs, NodeWrites, SaysBusy, Setup, cluster_after, new_cluster};
+ghost use Rattle.qq_cluster.specs.Example.{setup_of};
+ghost use Rattle.qq_cluster.specs.Lines.{IsLine};
+ghost use Rattle.qq_cluster.specs.Queue.{Delivers, Notices, Ticks};
+ghost use Rattle.qq_cluster.specs.Rules.{ForEach, IsPump, IsRound, is_idle};
+
+use qq_cluster::{lines_settle, pumps_end};
+
+/// A law: how many members a leader or a candidate needs, with itself or without: of one member 1, of 2 2, of 3 2,
+/// of 4 3, of 5 3, of 6 4 and of 7 4.
+pub fn a_majority_is_more_than_half()
+    ensures of_one { (peers : List Peer) (passes : Peer → Bool) → length peers ≡ 0 →
+        (is_majority true passes peers ≡ nat_le 1 (1 + count_by passes peers))
+        × (is_majority false passes peers ≡ nat_le 1 (count_by passes peers)) }
+    ensures of_two { (peers : List Peer) (passes : Peer → Bool) → length peers ≡ 1 →
+        (is_majority true passes peers ≡ nat_le 2 (1 + count_by passes peers))
+        × (is_majority false passes peers ≡ nat_le 2 (count_by passes peers)) }
+    ensures of_three { (peers : List Peer) (passes : Peer → Bool) → length peers ≡ 2 →
+        (is_majority true passes peers ≡ nat_le 2 (1 + count_by passes peers))
+        × (is_majority false passes peers ≡ nat_le 2 (count_by passes peers)) }
+    ensures of_four { (peers : List Peer) (passes : Peer → Bool) → length peers ≡ 3 →
+        (is_majority true passes peers ≡ nat_le 3 (1 + count_by passes peers))
+        × (is_majority false passes peers ≡ nat_le 3 (count_by passes peers)) }
+    ensures of_five { (peers : List Peer) (passes : Peer → Bool) → length peers ≡ 4 →
+        (is_majority true passes peers ≡ nat_le 3 (1 + count_by passes peers))
+        × (is_majority false passes peers ≡ nat_le 3 (count_by passes peers)) }
+    ensures of_six { (peers : List Peer) (passes : Peer → Bool) → length peers ≡ 5 →
+        (is_majority true passes peers ≡ nat_le 4 (1 + count_by passes peers))
+        × (is_majority false passes peers ≡ nat_le 4 (count_by passes peers)) }
+    ensures of_seven { (peers : List Peer) (passes : Peer → Bool) → length peers ≡ 6 →
+        (is_majority true passes peers ≡ nat_le 4 (1 + count_by passes peers))
+        × (is_majority false passes peers ≡ nat_le 4 (count_by passes peers)) }
+{}
+
+/// A law: how many logs are a majority of those of a group, in the same numerals. As many are always enough.
+pub fn a_majority_of_logs_is_more_than_half()
+    ensures of_one { (logs : List ℕ) (test : ℕ → Bool) → length logs ≡ 1 →
+        (Most logs (λ k. test k ≡ true) → 1 ≤ length (filter test logs))
+        × (1 ≤ length (filter test logs) → Most logs (λ k. test k ≡ true)) }
+    ensures of_two { (logs : List ℕ) (test : ℕ → Bool) → length logs ≡ 2 →
+        (Most logs (λ k. test k ≡ true) → 2 ≤ length (filter test logs))
+        × (2 ≤ length (filter test logs) → Most logs (λ k. test k ≡ true)) }
+    ensures of_three { (logs : List ℕ) (test : ℕ → Bool) → length logs ≡ 3 →
+        (Most logs (λ k. test k ≡ true) → 2 ≤ length (filter test logs))
+        × (2 ≤ length (filter test logs) → Most logs (λ k. test k ≡ true)) }
+    ensures of_four { (logs : List ℕ) (test : ℕ → Bool) → length logs ≡ 4 →
+        (Most logs (λ k. test k ≡ true) → 3 ≤ length (filter test logs))
+        × (3 ≤ length (filter test logs) → Most logs (λ k. test k ≡ true)) }
+    ensures of_five { (logs : List ℕ) (test : ℕ → Bool) → length logs ≡ 5 →
+        (Most logs (λ k. test k ≡ true) → 3 ≤ length (filter test logs))
+        × (3 ≤ length (filter test logs) → Most logs (λ k. test k ≡ true)) }
+    ensures of_six { (logs : List ℕ) (test : ℕ → Bool) → length logs ≡ 6 →
+        (Most logs (λ k. test k ≡ true) → 4 ≤ length (filter test logs))
+        × (4 ≤ length (filter test logs) → Most logs (λ k. test k ≡ true)) }
+    ensures of_seven { (logs : List ℕ) (test : ℕ → Bool) → length logs ≡ 7 →
+        (Most logs (λ k. test k ≡ true) → 4 ≤ length (filter test logs))
+        × (4 ≤ length (filter test logs) → Most logs (λ k. test k ≡ true)) }
+{}
+
+/// A law: what a pump is.
+///
+/// - `rounds`: rounds, until nothing is left to do, 10,000 at most; where something is left then it says so.
+/// - `none`: no round, where nothing is left to do before.
+/// - `idle`: nothing is left to do where no message is on its way, and at each node that is up each member has handed
+///   its ops to its log and was noticed of them.
+/// - `busy`: and only there.
+pub fn a_pump_makes_10000_rounds()
+    ensures rounds { (setup : Setup) (c : Cluster) (events : List ClusterEvent) →
+        IsPump setup c events → (rounds : List ℕ) × (early : List ClusterEvent)
+        × (late : List ClusterEvent) × (events ≡ early ++ late) × (length rounds ≤ 10000)
+        × ForEach rounds (λ round. IsRound setup) c early
+        × (((late ≡ []) × (is_idle setup (cluster_after c early) ≡ true))
+        ⊎ ((late ≡ SaysBusy ∷ []) × (length rounds ≡ 10000)
+        × (is_idle setup (cluster_after c early) ≡ false))) }
+    ensures none { (setup : Setup) (c : Cluster) (events : List ClusterEvent) →
+        is_idle setup c ≡ true → IsPump setup c events → events ≡ [] }
+    ensures idle { (setup : Setup) (c : Cluster) (place : ℕ) → is_idle setup c ≡ true →
+        Contains setup.places place → ((c.queue place).group.bag ≡ [])
+        × ((k : ℕ) → Contains setup.nodes k → c.up k ≡ true →
+        (((c.queue place).group.seat k).noticed ≡ length ((c.queue place).group.seat k).ops)
+        × ((s : Server) → ((c.queue place).group.seat k).server ≡ Some s → s.ops ≡ [])) }
+    ensures busy { (setup : Setup) (c : Cluster) → ((place : ℕ) → Contains setup.places place →
+        ((c.queue place).group.bag ≡ [])
+        × ((k : ℕ) → Contains setup.nodes k → c.up k ≡ true →
+        (((c.queue place).group.seat k).noticed ≡ length ((c.queue place).group.seat k).ops)
+        × ((s : Server) → ((c.queue place).group.seat k).server ≡ Some s → s.ops ≡ []))) →
+        is_idle setup c ≡ true }
+{
+    pumps_end();
+}
+
+/// A law: the order of a round. Two new nodes with two queues are restarted, and each member stands for election.
+/// Then a pump in which no disk fails is this: node 1 writes, syncs and notices queue by queue, then node 2 does,
+/// then the messages of queue 1 are delivered, and then those of queue 2. In the second round nothing waits at the
+/// nodes, and the refusals are delivered.
+pub fn a_round_goes_node_by_node()
+    ensures { (events : List ClusterEvent) → let opened = cluster_after (new_cluster (setup_of 2 2))
+        (FindsEach 1 (λ place. 0) ∷ FindsEach 2 (λ place. 0)
+        ∷ At 1 (Ticks 1) ∷ At 2 (Ticks 1) ∷ At 1 (Ticks 2) ∷ At 2 (Ticks 2) ∷ []) in
+        IsLine (setup_of 2 2) Pump opened events →
+        ((k : ℕ) → Contains events (Fails k) → ⊥) →
+        ((k : ℕ) (ops : ℕ → ℕ) → Contains events (FindsEach k ops) → ⊥) →
+        events
+        ≡ NodeWrites 1 ∷ NodeSyncs 1 ∷ At 1 (Notices 1) ∷ At 2 (Notices 1)
+        ∷ NodeWrites 2 ∷ NodeSyncs 2 ∷ At 1 (Notices 2) ∷ At 2 (Notices 2)
+        ∷ At 1 (Delivers 0) ∷ At 1 (Delivers 0) ∷ At 2 (Delivers 0) ∷ At 2 (Delivers 0)
+        ∷ At 1 (Delivers 0) ∷ At 1 (Delivers 0) ∷ At 2 (Delivers 0) ∷ At 2 (Delivers 0) ∷ [] }
+{
+    lines_settle();
+}

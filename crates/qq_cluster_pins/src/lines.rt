@@ -1,0 +1,50 @@
+//! Laws of lines: the functions do nothing, and their contracts are the laws.
+ghost use Rattle.std.specs.Prelude.{◌≡◌, ◌∷◌, [], ℕ, List, Contains, false};
+ghost use Rattle.qq_base.specs.declared.ids.NodeId.{NodeId};
+ghost use Rattle.qq_base.specs.declared.ids.QueueId.{QueueId};
+ghost use Rattle.qq_script_lines.specs.declared.line.ScriptLine.{ScriptLine};
+ghost use Rattle.qq_script_lines.specs.declared.line.ScriptLine.TheVariants.{Notice, Sync, Tick, Write};
+ghost use Rattle.qq_cluster.specs.Cluster.{Cluster, ClusterEvent, Fails, FindsEach, SaysDown, Setup, new_cluster};
+ghost use Rattle.qq_cluster.specs.ClusterLaws.{HasGroups};
+ghost use Rattle.qq_cluster.specs.Lines.{IsLine, IsRun};
+ghost use Rattle.qq_cluster.specs.Serving.{all_given, run};
+
+use qq_cluster::{a_node_that_is_down_says_so, lines_settle, scripts_may_be_served};
+
+/// A law: a line that writes, syncs, notices or ticks at a node that is down says that it is down, and nothing
+/// else happens.
+pub fn a_node_that_is_down_does_nothing()
+    ensures write { (setup : Setup) (node : NodeId) (c : Cluster) (events : List ClusterEvent) →
+        c.up node.0 ≡ false → IsLine setup (Write node) c events → events ≡ SaysDown node.0 ∷ [] }
+    ensures sync { (setup : Setup) (node : NodeId) (c : Cluster) (events : List ClusterEvent) →
+        c.up node.0 ≡ false → IsLine setup (Sync node) c events → events ≡ SaysDown node.0 ∷ [] }
+    ensures notice { (setup : Setup) (node : NodeId) (queue : QueueId) (c : Cluster)
+        (events : List ClusterEvent) → c.up node.0 ≡ false →
+        IsLine setup (Notice node queue) c events → events ≡ SaysDown node.0 ∷ [] }
+    ensures tick { (setup : Setup) (node : NodeId) (queue : QueueId) (c : Cluster)
+        (events : List ClusterEvent) → c.up node.0 ≡ false →
+        IsLine setup (Tick node queue) c events → events ≡ SaysDown node.0 ∷ [] }
+{
+    a_node_that_is_down_says_so();
+}
+
+/// A law: what a line leaves open.
+///
+/// - `line`: of two lists of events by which a line may be carried out, with no failure of a disk and no restart in
+///   them, the one is the other.
+/// - `served`: each script may be carried out, over a new cluster, by events without a failure.
+pub fn nothing_but_faults_is_left_open()
+    ensures line { (setup : Setup) (line : ScriptLine) (c : Cluster)
+        (events others : List ClusterEvent) → IsLine setup line c events →
+        IsLine setup line c others →
+        ((k : ℕ) → (Contains events (Fails k) → ⊥) × (Contains others (Fails k) → ⊥)) →
+        ((k : ℕ) (ops : ℕ → ℕ) →
+        (Contains events (FindsEach k ops) → ⊥) × (Contains others (FindsEach k ops) → ⊥)) →
+        events ≡ others }
+    ensures served { (setup : Setup) (lines : List ScriptLine) → HasGroups setup →
+        (events : List ClusterEvent) × IsRun setup lines (new_cluster setup) events
+        × ((k : ℕ) → Contains events (Fails k) → ⊥) }
+{
+    lines_settle();
+    scripts_may_be_served();
+}

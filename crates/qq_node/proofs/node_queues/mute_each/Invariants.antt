@@ -1,7 +1,0 @@
-use Rattle.qq_world.specs.World.{Mutes}
-use Rattle.qq_node.proofs.EachNodeQueue.{FirstDo}
-use Rattle.qq_node.proofs.node_queues.mute_each.Given as goal
-
--- the first queues have done it
-abbrev pub invariant-node_queues : goal.invariant-node_queues
-invariant-node_queues l = FirstDo (Mutes l.session l.muted) l.fn.node_queues l.node_queues l.node_queue-index

@@ -1,9 +1,0 @@
-mod Audits
-mod KnownClients
-mod Machines
-mod Noticing
-mod Ranges
-mod Sending
-mod ShortOps
-mod Showing
-mod TakenUp

@@ -1,0 +1,108 @@
+-- Nodes are crashed, one after the other.
+use Rattle.std.proofs.Common.{◌≡◌, ◌<◌, ◌≤◌, ◌+◌, ℕ, List, [], ◌∷◌, ◌++◌, Bool, Ok, Err, length, drop, refl, sym, ap, ◌∙◌, subst, inl, inr, arith, append-nil}
+use Rattle.std.proofs.lemmas.List.FromFn.{length-range_with_len}
+use Rattle.qq_base.specs.Causes.{HasCause}
+use Rattle.qq_base.specs.declared.ids.NodeId.{NodeId}
+use Rattle.qq_disk.specs.Disk.{Disk}
+use Rattle.qq_disk.specs.declared.image.Image.{Image}
+use Rattle.qq_ports.specs.Yard.{IsYardCaused}
+use Rattle.qq_ports.specs.declared.yard_fault.YardFault.{YardFault}
+use Rattle.qq_ports.specs.declared.yard_fault.YardFault.TheVariants.{Failed, Memory as OfMemory}
+use Rattle.qq_cluster.specs.Cluster.{Cluster, ClusterEvent, Crashes, Setup, cluster_after}
+use Rattle.qq_cluster.specs.Rules.{ForEach, Is}
+use Rattle.qq_cluster_laws.proofs.Reached.{reached-after}
+use Rattle.qq_cluster_laws.proofs.Serves.{happened-both, leads-more, leads-start, serves-nothing}
+use Rattle.qq_nodes.specs.Nodes.{CanServe, LeadsIn, Stands, nodes_in, seen}
+use Rattle.qq_nodes.specs.Restarting.{HasHappened}
+use Rattle.qq_nodes.specs.declared.nodes.Nodes.{Nodes as Held}
+use Rattle.qq_nodes.proofs.Walks.{drop-past, place-at}
+
+-- ---- why a node isn't crashed
+
+-- a yard's count of faults rose since it was less
+cause-since : (a m b : ℕ) (fault : YardFault) → a ≤ m → IsYardCaused m b fault → IsYardCaused a b fault
+cause-since a m b Failed more (inl less) = inl (omega (arith, less, more))
+cause-since a m b Failed more (inr end) = inr end
+cause-since a m b (OfMemory memory) more want = want
+
+pub cause-later : (a m b : ℕ) (fault : YardFault) → a ≤ m
+    → HasCause {T = Unit {0}} IsYardCaused m b (Err fault) → HasCause {T = Unit {0}} IsYardCaused a b (Err fault)
+cause-later a m b fault more cause = record {
+  later = (let rest = cause.later in omega (arith, more, rest));
+  cause = cause-since a m b fault more cause.cause;
+}
+
+pub cause-none : (a b : ℕ) → a ≤ b → HasCause {T = Unit {0}} {E = YardFault} IsYardCaused a b (Ok tt)
+cause-none a b more = record { later = more; cause = tt }
+
+-- ---- one after the other
+
+abbrev pub Crash : Image → Setup → ℕ → Cluster → List ClusterEvent → Type 0
+Crash image setup k = Is (Crashes k image)
+
+-- the first nodes were crashed
+abbrev pub CrashedTo : {D : Type 0} → (D → Bool) → (D → List Disk) → (D → ℕ) → Image → ℕ → Held D → Held D → Type 0
+CrashedTo tells past faults image at old new =
+    (text : List ℕ) → HasHappened tells past faults (LeadsIn nodes_in at (Crash image)) old new text text
+
+module _ {D : Type 0} {tells : D → Bool} {past : D → List Disk} {faults : D → ℕ} where
+  pub crashed-none : (image : Image) (held : Held D) → CrashedTo tells past faults image 0 held held
+  crashed-none image held text = record {
+    happened = λ setup c r st.
+        (serves-nothing setup c (LeadsIn nodes_in 0 (Crash image) setup c) (Stands tells past setup held)
+        (seen tells past faults held) text (leads-start (ForEach setup.nodes (Crash image setup)) c) st).did;
+  }
+
+  pub crashed-can : (image : Image) (at : ℕ) (old new : Held D) → CanServe tells past old
+      → CrashedTo tells past faults image at old new
+      → CanServe tells past new × (length new.nodes.items ≡ length old.nodes.items)
+  crashed-can image at old new can crashed =
+      let s = (crashed []).happened can.0 can.1 can.2 can.3 in
+      let first = ap length can.3.set_up.nodes in
+      let last = ap length s.stands.set_up.nodes in
+      let long = length-range_with_len 1 (length old.nodes.items) in
+      let wide = length-range_with_len 1 (length new.nodes.items) in (
+        (can.0, cluster_after can.1 s.events, reached-after can.0 can.1 s.events can.2, s.stands),
+        omega (arith, first, last, long, wide),
+      )
+
+  pub crashed-more : (image : Image) (at : ℕ) (node : NodeId) (old mid new : Held D) → at < length mid.nodes.items
+      → ((setup : Setup) (c : Cluster) → Stands tells past setup mid c → node.0 ≡ at + 1)
+      → CrashedTo tells past faults image at old mid
+      → ((text : List ℕ) → HasHappened tells past faults (λ setup. Crash image setup node.0) mid new text text)
+      → CrashedTo tells past faults image (at + 1) old new
+  crashed-more image at node old mid new lt is first second text = record {
+    happened = λ setup c r st. (let s = (first text).happened setup c r st in
+        let d : Cluster = cluster_after c s.events in
+        let t = (second text).happened setup d (reached-after setup c s.events r) s.stands in
+        happened-both setup c (LeadsIn nodes_in at (Crash image) setup c) (Crash image setup node.0 d)
+        (LeadsIn nodes_in (at + 1) (Crash image) setup c) (Stands tells past setup mid) (Stands tells past setup new)
+        (seen tells past faults old) (seen tells past faults mid) (seen tells past faults new) text text text s t
+        (leads-more (ForEach (drop at setup.nodes) (Crash image setup))
+        (ForEach (drop (at + 1) setup.nodes) (Crash image setup)) (ForEach setup.nodes (Crash image setup)) c s.events
+        t.events s.means
+        (λ late allowed. subst (λ (l : List ℕ). ForEach l (Crash image setup) d (t.events ++ late))
+        (sym (place-at setup.nodes (length mid.nodes.items) at s.stands.set_up.nodes lt
+        ∙ ap (λ (k : ℕ). k ∷ drop (at + 1) setup.nodes) (sym (is setup d s.stands))))
+        (record { early = t.events; late = late; is = refl; first = t.means; second = allowed }))));
+  }
+
+  pub crashed-all : (image : Image) (at : ℕ) (old new : Held D) → length new.nodes.items ≤ at
+      → CrashedTo tells past faults image at old new → (text : List ℕ)
+      → HasHappened tells past faults (λ (setup : Setup). ForEach setup.nodes (Crash image setup)) old new text text
+  crashed-all image at old new le crashed text = record {
+    happened = λ setup c r st. (let s = (crashed text).happened setup c r st in
+        let d : Cluster = cluster_after c s.events in
+        record {
+          events = s.events;
+          means = subst (ForEach setup.nodes (Crash image setup) c) (append-nil s.events)
+              (s.means [] (subst (λ (l : List ℕ). ForEach l (Crash image setup) d [])
+              (sym (drop-past setup.nodes at
+              (let e = ap length s.stands.set_up.nodes in let long = length-range_with_len 1 (length new.nodes.items) in
+              omega (arith, e, long, le)))) refl));
+          stands = s.stands;
+          says = s.says;
+          told = s.told;
+          moments = s.moments;
+        });
+  }

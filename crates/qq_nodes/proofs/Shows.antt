@@ -1,0 +1,64 @@
+-- The lines of all members of a queue.
+use Rattle.std.proofs.Common.{◌≡◌, ◌<◌, ◌≤◌, ◌+◌, ℕ, zero, suc, Bool, List, [], ◌∷◌, ◌++◌, get_or, length, take, refl, sym, ap, ◌∙◌, arith}
+use Rattle.std.specs.List.{flat_map}
+use Rattle.std.proofs.lemmas.List.{flat_map_more, take_more}
+use Rattle.std.proofs.lemmas.List.FromFn.{get_or-range_with_len, length-range_with_len}
+use Rattle.qq_disk.specs.Disk.{Disk}
+use Rattle.qq_cluster.specs.Cluster.{Cluster, Setup, Shows}
+use Rattle.qq_cluster.specs.Rules.{Is}
+use Rattle.qq_nodes.specs.Nodes.{Served, Stands}
+use Rattle.qq_nodes.specs.Showing.{member_text}
+use Rattle.qq_nodes.specs.declared.nodes.Nodes.{Nodes as Held}
+use Rattle.qq_nodes.proofs.Shown.{shows-text}
+use Rattle.qq_nodes.proofs.Stands.{served-unseen}
+
+take-whole : (xs : List ℕ) (n : ℕ) → length xs ≤ n → take n xs ≡ xs
+take-whole [] zero le = refl
+take-whole [] (suc n) le = refl
+take-whole (x ∷ xs) zero le = absurd (omega (arith, le))
+take-whole (x ∷ xs) (suc n) le = ap (λ (l : List ℕ). x ∷ l) (take-whole xs n (omega (arith, le)))
+
+-- the lines of the first nodes
+abbrev pub ShownTo : {D : Type 0} → (D → Bool) → (D → List Disk) → ℕ → ℕ → Held D → List ℕ → List ℕ → Type 0
+ShownTo tells past place at held before later =
+    (setup : Setup) (c : Cluster) → Stands tells past setup held c
+    → later ≡ before ++ flat_map (member_text setup c place) (take at setup.nodes)
+
+module _ {D : Type 0} {tells : D → Bool} {past : D → List Disk} where
+  -- one more
+  pub shown-more : (place at : ℕ) (held : Held D) (before mid later : List ℕ) → at < length held.nodes.items
+      → ShownTo tells past place at held before mid
+      → ((setup : Setup) (c : Cluster) → Stands tells past setup held c
+      → later ≡ mid ++ member_text setup c place (at + 1))
+      → ShownTo tells past place (at + 1) held before later
+  shown-more place at held before mid later lt first second setup c st =
+      second setup c st
+      ∙ ap (λ (l : List ℕ). l ++ member_text setup c place (at + 1)) (first setup c st)
+      ∙ flat_map_more (member_text setup c place) before (take at setup.nodes) (at + 1)
+      ∙ ap (λ (l : List ℕ). before ++ flat_map (member_text setup c place) l)
+      (ap (λ (k : ℕ). take at setup.nodes ++ k ∷ []) (sym own)
+      ∙ sym (take_more setup.nodes at 0
+      (let e = ap length st.set_up.nodes in let long = length-range_with_len 1 (length held.nodes.items) in
+      omega (arith, e, long, lt))))
+    where
+      own : get_or setup.nodes at 0 ≡ at + 1
+      own =
+          ap (λ (l : List ℕ). get_or l at 0) st.set_up.nodes
+          ∙ get_or-range_with_len 1 (length held.nodes.items) at 0 lt ∙ (let e : 1 + at ≡ at + 1 = omega arith in e)
+
+  -- all of them
+  pub shown-all : {faults : D → ℕ} (place at : ℕ) (held : Held D) (before later : List ℕ) → length held.nodes.items ≤ at
+      → ShownTo tells past place at held before later
+      → Served tells past faults (λ setup. Is (Shows place)) held held before later
+  shown-all place at held before later le shown =
+      served-unseen (Shows place) held held before later refl refl
+      (λ setup c r st. (
+        refl,
+        st,
+        shown setup c st
+            ∙ ap (λ (l : List ℕ). before ++ flat_map (member_text setup c place) l)
+            (take-whole setup.nodes at
+            (let e = ap length st.set_up.nodes in let long = length-range_with_len 1 (length held.nodes.items) in
+            omega (arith, e, long, le)))
+            ∙ ap (λ (l : List ℕ). before ++ l) (shows-text setup c place),
+      ))
