@@ -31,7 +31,7 @@ use Rattle.qq_cluster_laws.specs.Unseen.{sees}
 use Rattle.qq_cluster_run.specs.Endings.{spent}
 use Rattle.qq_cluster_run.specs.Serving.{EndsSpent, Run, after_all, cluster_in, setup_in}
 use Rattle.qq_node_log.specs.Log.{disk_in}
-use Rattle.qq_nodes.specs.Nodes.{CanServe, EndsAt, GaveUp, IsNodeAt, IsQueueAt, Served, Stands, seen}
+use Rattle.qq_nodes.specs.Nodes.{Begins, CanServe, EndsAt, GaveUp, IsNodeAt, IsQueueAt, Served, Stands, seen}
 use Rattle.qq_nodes.specs.Restarting.{HasHappened, LeavesDisks}
 use Rattle.qq_nodes.specs.declared.node.Node.{Node}
 use Rattle.qq_nodes.specs.declared.nodes.Nodes.{Nodes}
@@ -39,7 +39,7 @@ use Rattle.qq_nodes.proofs.OwnStands.{seen-own}
 use Rattle.qq_broker.specs.Lives.{Became, IsLeft, IsOneDisk, RoseBy, failures}
 use Rattle.qq_broker.specs.Nodes.{Had, Holds, IsDiskOf, Meets}
 use Rattle.qq_broker.specs.Serving.{AreThere, IsGivenUp, IsServed, run_after, with_events}
-use Rattle.qq_broker.proofs.Failing.{line-once}
+use Rattle.qq_broker.proofs.Failing.{failures-both, line-once}
 use Rattle.qq_broker.proofs.Living.{GoesOn, fails-some, goes-crashed, goes-on, lives-then, rose-once}
 
 -- ---- numbers
@@ -219,29 +219,34 @@ module _ {D : Type 0} (given : ℕ → D → Bool) (tells : D → Bool) (past : 
 
   -- ---- a number at its end
 
-  pub ends-spent : (s : Setup) (run : Run) (Rule Allows : Cluster → List ClusterEvent → Type 0) (left : Nodes D)
-      (before after number : ℕ)
+  -- a part of what may happen fails no node twice
+  few-early : (k : ℕ) (early rest : List ClusterEvent) → failures k (early ++ rest) ≤ 1 → failures k early ≤ 1
+  few-early k early rest few = omega (arith, failures-both k early rest, few)
+
+  pub ends-spent : (s : Setup) (run : Run) (Rule Allows : Cluster → List ClusterEvent → Type 0) (old : Nodes D)
+      (before after number : ℕ) → Holds given tells past faults s old run
       → ((c : Cluster) (events : List ClusterEvent) → Rule c events → Allows c events)
-      → EndsAt tells past (setup_in s run) Rule left (cluster_in s run) number
+      → ((k : ℕ) (events : List ClusterEvent) → Allows (cluster_in s run) events → failures k events ≤ 1)
+      → EndsAt tells past faults (setup_in s run) Rule old (cluster_in s run) number
       → EndsSpent (Meets given tells past faults before after) (setup_in s run) Allows run.events (spent number)
-  ends-spent s run Rule Allows left before after number lines so = record {
-    early = so.early;
-    begins = record {
-      rest = so.begins.rest;
-      allowed = lines (cluster_in s run) (so.early ++ so.begins.rest)
-          so.begins.allowed;
-    };
-    number = number;
-    past = so.end;
-    stands = record {
-      held = so.mid;
-      left = left;
-      stands = subst (Stands tells past (setup_in s run) so.mid)
-          (sym (after-both (new_cluster (setup_in s run)) run.events so.early)) so.stands;
-      at = so.at;
-    };
-    is = refl;
-  }
+  ends-spent s run Rule Allows old before after number h lines once so =
+      let early : List ClusterEvent = so.serves.did.events in
+      let rest : List ClusterEvent = so.serves.did.means.rest in
+      let allowed : Allows (cluster_in s run) (early ++ rest) =
+      lines (cluster_in s run) (early ++ rest) so.serves.did.means.allowed in
+      let now' : Holds given tells past faults s so.mid (record { lines = 0; logs = run.logs; events = run.events ++ early }) =
+      holds-more s run old so.mid early 0 h so.serves.did.stands
+      (λ k there mid last was is b. became-served (setup_in s run) run.events (Begins Rule (cluster_in s run))
+      (Stands tells past (setup_in s run) so.mid) old so.mid so.before so.said so.serves k there
+      (few-early k early rest (once k (early ++ rest) allowed)) mid last was is b) in
+      record {
+        early = early;
+        begins = record { rest = rest; allowed = allowed };
+        number = number;
+        past = so.end;
+        stands = record { held = so.mid; stands = now'.stands; disks = now'.disks; at = so.at };
+        is = refl;
+      }
 
   pub given-up : (s : Setup) (run : Run) (line : ScriptLine)
       (Rule : ClusterSetup → Cluster → List ClusterEvent → Type 0)
@@ -252,7 +257,8 @@ module _ {D : Type 0} (given : ℕ → D → Bool) (tells : D → Bool) (past : 
       → IsGivenUp (Meets given tells past faults before after) (setup_in s run) run.events line memory
   given-up s run line Rule old left before after Want h lines so = tt
   given-up s run line Rule old left before after (Spent number) h lines so =
-      ends-spent s run (Rule (setup_in s run)) (IsLine (setup_in s run) line) left before after number lines
+      ends-spent s run (Rule (setup_in s run)) (IsLine (setup_in s run) line) old before after number h lines
+      (λ k events. line-once k (setup_in s run) (length old.nodes.items) h.stands.set_up.nodes line (cluster_in s run) events)
       (so.spent number refl (setup_in s run) (cluster_in s run) (reached s run) h.stands)
 
   -- ---- what is there

@@ -1,5 +1,5 @@
 -- A node isn't restarted, and the run ends.
-use Rattle.std.proofs.Common.{◌≡◌, ◌⊎◌, ℕ, Bool, List, [], ◌∷◌, ◌++◌, Ok, Err, refl, sym, ap, subst, ◌∙◌, inl, inr, append-nil}
+use Rattle.std.proofs.Common.{◌≡◌, ◌≤◌, ◌⊎◌, ℕ, Bool, List, [], ◌∷◌, ◌++◌, Ok, Err, refl, sym, ap, subst, ◌∙◌, inl, inr, append-nil, length}
 use Rattle.std.specs.Prelude.{Contains, IsTrue, Some}
 use Rattle.std.specs.List.{range_with_len}
 use Rattle.qq_base.specs.declared.ids.NodeId.{NodeId}
@@ -40,11 +40,11 @@ use Rattle.qq_nodes.specs.Restarting.{IsLostAt, IsRefused, Refuses, RestartsTo a
 use Rattle.qq_nodes.specs.declared.nodes.Nodes.{Nodes}
 use Rattle.qq_nodes.specs.declared.restarting.RestartFault.{RestartFault}
 use Rattle.qq_nodes.specs.declared.restarting.RestartFault.TheVariants as faults_of
-use Rattle.qq_broker.specs.Lives.{Became}
+use Rattle.qq_broker.specs.Lives.{Became, failures}
 use Rattle.qq_broker.specs.Nodes.{Holds, IsDiskOf, Meets, damage_of}
 use Rattle.qq_broker.specs.Serving.{IsGivenUp, IsServed, IsStopOf, memory_stop, no_run}
 use Rattle.qq_broker.proofs.Beginning.{queue-own}
-use Rattle.qq_broker.proofs.Failing.{restarts-few}
+use Rattle.qq_broker.proofs.Failing.{line-once, opening-once, restarts-few}
 use Rattle.qq_broker.proofs.GoingOn.{became-served, disk-there, ends-spent, reached, served}
 
 -- they count up
@@ -242,6 +242,12 @@ module _ {D : Type 0} (given : ℕ → D → Bool) (tells : D → Bool) (past : 
   abbrev Cause : Which → AskStop → Type 0
   Cause which = HasServeCause (Meets given tells past faults before after) (setup_in s run) run.events (Restart which)
 
+  -- no node fails twice
+  once : (which : Which) (k : ℕ) (events : List ClusterEvent)
+      → IsLine (setup_in s run) (Restart which) (cluster_in s run) events → failures k events ≤ 1
+  once which k events =
+      line-once k (setup_in s run) (length old.nodes.items) h.stands.set_up.nodes (Restart which) (cluster_in s run) events
+
   pub refused-one : (node : NodeId) → Contains (setup_in s run).nodes node.0
       → Refuses tells past faults (this_node node.0) (λ (setup : ClusterSetup). IsRestart setup node.0) old new said
       fault
@@ -251,7 +257,8 @@ module _ {D : Type 0} (given : ℕ → D → Bool) (tells : D → Bool) (past : 
       (record { first = node.0; count = 1; is = refl })
       (λ k here. only k here) said (Cause (One node)) fault stop (λ ending refused. inr refused) tt
       (λ number is. inl (ends-spent given tells past faults s run (IsRestart (setup_in s run) node.0)
-      (IsLine (setup_in s run) (Restart (One node))) new before after number (one-line (setup_in s run) node)
+      (IsLine (setup_in s run) (Restart (One node))) old before after number h (one-line (setup_in s run) node)
+      (once (One node))
       (so.spent number is (setup_in s run) (cluster_in s run) (reached given tells past faults s run) h.stands)))
       (so.refused (setup_in s run) (cluster_in s run) (reached given tells past faults s run) h.stands) stops
     where
@@ -269,7 +276,7 @@ module _ {D : Type 0} (given : ℕ → D → Bool) (tells : D → Bool) (past : 
       (λ ending refused. inr refused) tt
       (λ number is. inl (ends-spent given tells past faults s run
       (ForEach (setup_in s run).nodes (IsRestart (setup_in s run)))
-      (IsLine (setup_in s run) (Restart All)) new before after number (all-lines (setup_in s run))
+      (IsLine (setup_in s run) (Restart All)) old before after number h (all-lines (setup_in s run)) (once All)
       (so.spent number is (setup_in s run) (cluster_in s run) (reached given tells past faults s run) h.stands)))
       (so.refused (setup_in s run) (cluster_in s run) (reached given tells past faults s run) h.stands) stops
 
@@ -289,7 +296,8 @@ refused-open given tells past faults before after s old new said fault stop h st
     (λ number is. (
       new_logs,
       inr (inr (inr (inr (ends-spent given tells past faults s no_run (IsOpening (setup_in s no_run))
-          (IsOpening (setup_in s no_run)) new before after number (λ c events opens. opens)
+          (IsOpening (setup_in s no_run)) old before after number h (λ c events opens. opens)
+          (λ k events. opening-once k (setup_in s no_run) s.nodes refl (cluster_in s no_run) events)
           (so.spent number is (setup_in s no_run) (cluster_in s no_run) (reached given tells past faults s no_run)
           h.stands))))),
     ))

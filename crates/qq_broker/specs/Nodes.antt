@@ -86,13 +86,15 @@ pub record HoldsQueue {D : Type 0} (given : ℕ → D → Bool) (tells : D → B
       × (lanes_read (ids_of (lot_of setup k)) (shown (now (past last))) ≡ Ok lanes)
       × (lane ≡ state_in lanes (setup.args place).queue)
 
--- after these events nodes have the number at its end, or the log that a call has left of them
-pub record HasNumber {D : Type 0} (tells : D → Bool) (past : D → List Disk) (setup : ClusterSetup)
-    (events : List ClusterEvent) (number : ℕ) : Type 0 where
+-- After these events nodes have the number at its end. Each one's disk is what has become of one that the yard gave for it;
+-- so where the number is of a log, that disk tells it, as it is or as a call has left it.
+pub record HasNumber {D : Type 0} (given : ℕ → D → Bool) (tells : D → Bool) (past : D → List Disk) (faults : D → ℕ)
+    (setup : ClusterSetup) (events : List ClusterEvent) (number : ℕ) : Type 0 where
   pub held : Nodes D
-  pub left : Nodes D
   pub stands : Stands tells past setup held (after_all setup events)
-  pub at : NumberAt tells past held left number
+  pub disks : (k : ℕ) → In k setup.nodes
+      → (last : D) × IsDiskOf tells past faults held k last × Became given tells past faults setup events k last
+  pub at : NumberAt tells past held number
 
 abbrev pub Meets : {D : Type 0} → (ℕ → D → Bool) → (D → Bool) → (D → List Disk) → (D → ℕ) → (before after : ℕ)
     → Trouble → Type 0
@@ -102,4 +104,5 @@ Meets given tells past faults before after (FilesBreak setup events k damage) =
     IsBroken given tells past faults setup events k damage
 Meets given tells past faults before after (QueueIsFound setup events k place lane) =
     HoldsQueue given tells past faults setup events k place lane
-Meets given tells past faults before after (NumberEnds setup events number) = HasNumber tells past setup events number
+Meets given tells past faults before after (NumberEnds setup events number) =
+    HasNumber given tells past faults setup events number

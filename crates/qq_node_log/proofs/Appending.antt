@@ -10,6 +10,7 @@ use Rattle.qq_base.proofs.Fronts.{front-more}
 use Rattle.qq_disk.specs.Disk.{Disk, now}
 use Rattle.qq_disk.specs.Moments.{Adds}
 use Rattle.qq_disk.proofs.Moments.{adds-none}
+use Rattle.qq_disk.proofs.Stored.{still_tells}
 use Rattle.qq_log.specs.Carries.{add_op, is_listed}
 use Rattle.qq_log.specs.declared.op.Op.{Op}
 use Rattle.qq_log.specs.Op.{queue}
@@ -22,13 +23,14 @@ use Rattle.qq_wal.specs.Wal.{carries_ahead}
 use Rattle.qq_wal_chain.specs.Laws.{op_records}
 use Rattle.qq_wal_record.specs.declared.record.LogRecord.{LogRecord}
 use Rattle.qq_node_log.specs.declared.node_log.NodeLog.TheVariants.{Open}
-use Rattle.qq_node_log.specs.Batches.{HasWritten, IsLong, StaysGiven, StaysWriting}
+use Rattle.qq_node_log.specs.Batches.{HasWritten, IsLong, IsLongGoing, IsLongOn, StaysGiven, StaysWriting}
 use Rattle.qq_node_log.specs.Ends.{CarriesAre}
 use Rattle.qq_node_log.specs.Giving.{AllGoOn}
-use Rattle.qq_node_log.specs.Log.{IsWhole, SameLog}
+use Rattle.qq_node_log.specs.Log.{IsLater, IsWhole, SameLog}
 use Rattle.qq_node_log.specs.Steps.{CallKeeps, KeepsDisk, MayAppend, RunsOn}
 use Rattle.qq_node_log.proofs.Goes.{all-go, carries-given}
-use Rattle.qq_node_log.proofs.Same.{same-disk}
+use Rattle.qq_node_log.proofs.Ending.{long-on}
+use Rattle.qq_node_log.proofs.Same.{same-disk, same-later}
 
 -- a log that may be given ops takes them
 pub ops-go : {D : Type 0} (tells : D → Bool) (past : D → List Disk) (ops : List Op) (wal : Wal D)
@@ -105,6 +107,13 @@ module _ {D : Type 0} (tells : D → Bool) (past : D → List Disk) (faults : D 
   write-same lot parts run =
       same-disk tells past faults (ids_of lot) (record old { waiting = mid.waiting }) new was.same run.queues_are
 
+  pub write-later : IsLater tells past old.disk new.disk
+  write-later = same-later tells past faults (record old { waiting = mid.waiting }) new was.same
+
+  pub write-shown : (memory : Memory) → IsLongGoing new memory → IsTrue (tells old.disk)
+      → IsLongOn memory (now (past new.disk))
+  write-shown memory long tell = long-on tells past new memory was.same.sound (still_tells was.same.told tell) long
+
   -- ---- a log that goes on
 
   pub write-runs : AllGoOn old.queues.items (carries_ahead old) ops → HasWritten tells past mid new
@@ -118,6 +127,7 @@ module _ {D : Type 0} (tells : D → Bool) (past : D → List Disk) (faults : D 
           queues_are = ap (λ (q : Vec QueueId). q.items) was.same.queues ∙ run.queues_are;
           waiting = h.waiting;
           going = h.going;
+          newest = was.same.newest run.newest;
           carries = subst (CarriesAre lot (give_batch lot ops parts))
               (sym (wrote.same.ahead ∙ gave.ahead))
               (carries-given lot ops parts old.queues.items (carries_ahead old) goes run.carries);

@@ -4,7 +4,7 @@ use Rattle.std.proofs.lemmas.Bool.{false≢true, lt-ltb}
 use Rattle.std.proofs.lemmas.List.Elements.{All-head}
 use Rattle.std.proofs.lemmas.List.{take-map, drop-drop, drop-map, length-drop}
 use Rattle.std.specs.Global.{Vec}
-use Rattle.std.specs.Prelude.{IsTrue, nat_lt}
+use Rattle.std.specs.Prelude.{Err, IsTrue, nat_lt}
 use Rattle.qq_base.specs.declared.ids.QueueId.{QueueId}
 use Rattle.qq_base.specs.declared.memory.Memory.TheVariants.{Want, Spent}
 use Rattle.qq_disk.specs.Disk.{Disk, now}
@@ -20,7 +20,7 @@ use Rattle.qq_wal.specs.declared.batch.TheConstants.{BATCH_BYTES, BATCH_OPS}
 use Rattle.qq_wal.specs.declared.fault.WalFault.{WalFault}
 use Rattle.qq_wal.specs.declared.fault.WalFault.TheVariants.{Disk as DiskFailed, Stopped, TooLarge, Memory}
 use Rattle.qq_wal.specs.declared.wal.Wal.{Wal}
-use Rattle.qq_wal.specs.Fault.{IsAppendCaused}
+use Rattle.qq_wal.specs.Fault.{IsAppendCaused, stops_at}
 use Rattle.qq_wal.specs.Running.{StaysGiving, HoldsAlso}
 use Rattle.qq_wal.specs.Wal.{Appends, StaysAppending}
 use Rattle.qq_wal_chain.specs.Laws.{op_records}
@@ -211,15 +211,15 @@ begun-some tells past old mid new queues b tell stays =
 
 -- ---- why it gave up
 
-pub write-caused : {D : Type 0} (faults : D → ℕ) (stopped : Bool) (old new : Wal D) (fault : WalFault)
-    → stopped ≡ false → new.size ≡ old.size
+pub write-caused : {D : Type 0} (T : Type 0) (faults : D → ℕ) (stopped : Bool) (old new : Wal D) (fault : WalFault)
+    → stopped ≡ false → new.size ≡ old.size → new.stopped ≡ stops_at {T = T} stopped (Err fault)
     → IsAppendCaused stopped old.size (faults old.disk) (faults new.disk) fault → IsWriteCaused faults old new fault
-write-caused faults stopped old new DiskFailed going same cause = cause
-write-caused faults stopped old new Stopped going same cause = false≢true (sym going ∙ cause)
-write-caused faults stopped old new TooLarge going same cause = cause
-write-caused faults stopped old new (Memory Want) going same cause = tt
-write-caused faults stopped old new (Memory (Spent number)) going same cause =
-    (cause.0 ∙ sym same, omega (arith, cause.1, same))
+write-caused T faults stopped old new DiskFailed going same stops cause = cause
+write-caused T faults stopped old new Stopped going same stops cause = false≢true (sym going ∙ cause)
+write-caused T faults stopped old new TooLarge going same stops cause = cause
+write-caused T faults stopped old new (Memory Want) going same stops cause = (tt, stops ∙ going)
+write-caused T faults stopped old new (Memory (Spent number)) going same stops cause =
+    ((cause.0 ∙ sym same, omega (arith, cause.1, same)), stops ∙ going)
 
 pub later-caused : {D : Type 0} (faults : D → ℕ) (old mid new : Wal D) (fault : WalFault)
     → faults old.disk ≤ faults mid.disk → IsWriteCaused faults mid new fault → IsWriteCaused faults old new fault

@@ -36,6 +36,7 @@ use Rattle.qq_recover.specs.Recovered.{IsLaneFor, IsNewLog, IsNoRefusal, KnowsLa
 use Rattle.qq_recover.specs.Recovery.{SettlesLanes}
 use Rattle.qq_recover.specs.State.{IsWithinEnds}
 use Rattle.qq_recover.proofs.Promised.{opened-may}
+use Rattle.qq_wal.specs.declared.numbers.Numbers.{Numbers}
 use Rattle.qq_wal.specs.declared.wal.Wal.{Wal}
 use Rattle.qq_wal.specs.Running.{top, MayRecover, Stays}
 use Rattle.qq_wal.specs.Wal.{IsSound, carries_ahead}
@@ -96,6 +97,7 @@ goes-on tells past queues log_bytes r sound knows new lot parts same end = recor
   queues_are = new.above.queues_are ∙ same;
   waiting = new.above.begun.waiting;
   going = new.above.begun.going;
+  newest = ap (λ (n : Numbers). n.log) new.above.begun.numbers;
   carries = all-both (λ (place : ℕ). is_listed (ids_of lot) (lot.id place) ≡ true)
       (λ (place : ℕ). ends (take (ops_found lot (lanes_left r) place) (parts place).ops)
       ≡ Some (end_of (state_in (lanes_left r) (lot.id place))))

@@ -7,3 +7,4 @@ pub mod Lanes
 pub mod Finding
 pub mod Running
 pub mod Same
+pub mod Ending

@@ -21,6 +21,7 @@ running-same tells past lot parts later (Open wal) same run = record {
   queues_are = run.queues_are;
   waiting = run.waiting;
   going = run.going;
+  newest = run.newest;
   carries = all-both (λ (place : ℕ). (later place).ops ≡ (parts place).ops)
       (λ (place : ℕ). IsCarryOf (lot.id place) (carries_ahead wal) (parts place).ops)
       (λ (place : ℕ). IsCarryOf (lot.id place) (carries_ahead wal) (later place).ops)

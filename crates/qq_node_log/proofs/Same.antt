@@ -1,14 +1,46 @@
 -- What each call leaves of the log, call after call.
-use Rattle.std.proofs.Common.{◌≡◌, ◌≤◌, ℕ, Bool, List, refl, ap, ◌∙◌, subst, arith}
+use Rattle.std.proofs.Common.{◌≡◌, ◌≤◌, ◌++◌, ℕ, Bool, List, [], refl, sym, ap, ◌∙◌, subst, arith, append_assoc}
 use Rattle.std.specs.Global.{Vec}
 use Rattle.std.specs.Prelude.{IsTrue}
 use Rattle.qq_base.specs.declared.ids.QueueId.{QueueId}
 use Rattle.qq_disk.specs.Disk.{Disk}
+use Rattle.qq_disk.specs.declared.name.FileName.{FileName}
 use Rattle.qq_disk.proofs.Stored.{still_tells}
 use Rattle.qq_wal.specs.declared.wal.Wal.{Wal}
-use Rattle.qq_wal.specs.Wal.{IsSound}
-use Rattle.qq_node_log.specs.Log.{SameLog, StillWhole}
+use Rattle.qq_wal.specs.declared.numbers.Numbers.{Numbers}
+use Rattle.qq_wal.specs.Running.{StaysBeside}
+use Rattle.qq_wal.specs.Wal.{IsRolled, IsSound, SameFile}
+use Rattle.qq_wal_record.specs.declared.header.Header.{Header}
+use Rattle.qq_node_log.specs.Log.{IsGrown, IsInNewest, IsLater, SameLog, StillWhole}
 use Rattle.qq_node_log.specs.Steps.{SameDisk}
+
+-- moments that came in a call
+pub beside-grown : (old new : List Disk) (file : FileName) → StaysBeside file old new → IsGrown old new
+beside-grown old new file adds = (adds.more, adds.is)
+
+pub grown-then : (old mid new : List Disk) → IsGrown old mid → IsGrown mid new → IsGrown old new
+grown-then old mid new first second =
+    (second.0 ++ first.0, second.1 ∙ ap (λ (l : List Disk). second.0 ++ l) first.1 ∙ sym (append_assoc second.0 first.0 old))
+
+-- in the same file
+pub same-newest : {D : Type 0} (old new : Wal D) → SameFile old new → IsInNewest old → IsInNewest new
+same-newest old new file newest =
+    ap (λ (n : Numbers). n.log) file.numbers ∙ newest ∙ sym (ap (λ (h : Header). h.file) file.header)
+
+-- in the one that a full one was replaced by
+pub rolled-newest : {D : Type 0} (old new : Wal D) → IsRolled old new → IsInNewest new
+rolled-newest old new rolled =
+    ap (λ (n : Numbers). n.log) rolled.numbers ∙ sym (ap (λ (h : Header). h.file) rolled.header)
+
+-- or in the old one still
+pub kept-newest : {D : Type 0} (old new : Wal D) → new ≡ record old { disk = new.disk; stopped = new.stopped }
+    → IsInNewest old → IsInNewest new
+kept-newest {D} old new same newest = subst (λ (w : Wal D). IsInNewest w) (sym same) newest
+
+-- a log's disk is later
+pub same-later : {D : Type 0} (tells : D → Bool) (past : D → List Disk) (faults : D → ℕ) (old new : Wal D)
+    → SameLog tells past faults old new → IsLater tells past old.disk new.disk
+same-later tells past faults old new same = record { told = same.told; grown = same.grown }
 
 pub same-none : {D : Type 0} (tells : D → Bool) (past : D → List Disk) (faults : D → ℕ) (wal : Wal D)
     → IsSound tells past wal → SameLog tells past faults wal wal
@@ -19,6 +51,8 @@ same-none tells past faults wal sound = record {
   told = refl;
   later = omega arith;
   whole = λ tell whole. whole;
+  grown = λ tell. ([], refl);
+  newest = λ newest. newest;
 }
 
 pub same-then : {D : Type 0} (tells : D → Bool) (past : D → List Disk) (faults : D → ℕ) (old mid new : Wal D)
@@ -32,6 +66,9 @@ same-then tells past faults old mid new first second = record {
   whole = λ tell whole. subst (λ (ids : List QueueId). StillWhole tells past ids mid.disk new.disk)
       (ap (λ (q : Vec QueueId). q.items) first.queues) second.whole (still_tells first.told tell)
       (first.whole tell whole);
+  grown = λ tell. grown-then (past old.disk) (past mid.disk) (past new.disk) (first.grown tell)
+      (second.grown (still_tells first.told tell));
+  newest = λ newest. second.newest (first.newest newest);
 }
 
 -- the disk, where it may be recovered as before

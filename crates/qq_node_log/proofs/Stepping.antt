@@ -96,6 +96,7 @@ module _ {D : Type 0} (tells : D → Bool) (past : D → List Disk) (faults : D 
       queues_are = ap (λ (q : Vec QueueId). q.items) same.queues ∙ run.queues_are;
       waiting = goes.waiting ∙ run.waiting;
       going = goes.going;
+      newest = same.newest run.newest;
       carries = subst (CarriesAre lot parts) (sym same.ahead) run.carries;
     };
     tied = λ lot parts run tell tied. (comes tell lot parts run.queues_are tied).1;

@@ -3,7 +3,9 @@ use Rattle.std.specs.Prelude.{◌≡◌, ◌<◌, ◌+◌, ◌-◌, ◌^◌, ℕ
 use Rattle.qq_base.specs.Causes.{Rose, SpentOnlyWhere}
 use Rattle.qq_base.specs.declared.ids.QueueId.{QueueId}
 use Rattle.qq_base.specs.declared.memory.Memory.{Memory}
-use Rattle.qq_disk.specs.Disk.{Disk, now}
+use Rattle.qq_base.specs.declared.memory.Memory.TheVariants.{Want, Spent}
+use Rattle.qq_disk.specs.Disk.{Disk, content, now}
+use Rattle.qq_disk.specs.Image.{log_of}
 use Rattle.qq_disk.specs.Moments.{Adds}
 use Rattle.qq_log.specs.declared.op.Op.{Op}
 use Rattle.qq_lots.specs.Kept.{IsTied, KeepsPromised}
@@ -78,9 +80,24 @@ abbrev pub IsLongIn : {D : Type 0} → NodeLog D → Memory → Type 0
 IsLongIn (Open wal) memory = IsLong wal memory
 IsLongIn (Closed disk) memory = ⊥
 
+-- a log file of the disk has so many bytes, and one batch more could make it longer than a number of 64 bits tells
+pub record HasLongLog (number : ℕ) (d : Disk) : Type 0 where
+  pub file : ℕ
+  pub is : number ≡ length (content d (log_of file))
+  pub long : 2 ^ 64 - 1 < number + BATCH_BYTES
+
+-- it is what the disk holds
+abbrev pub IsLongOn : Memory → Disk → Type 0
+IsLongOn Want d = Unit {0}
+IsLongOn (Spent number) d = HasLongLog number d
+
+-- and no call of the log's disk has failed
+abbrev pub IsLongGoing : {D : Type 0} → Wal D → Memory → Type 0
+IsLongGoing wal memory = IsLong wal memory × (wal.stopped ≡ false)
+
 -- the disk's count rose, or there was no memory, or the file is too long
 abbrev pub IsWriteCaused : {D : Type 0} → (D → ℕ) → Wal D → Wal D → WalFault → Type 0
 IsWriteCaused faults old new DiskFailed = Rose (faults old.disk) (faults new.disk)
 IsWriteCaused faults old new Stopped = ⊥
 IsWriteCaused faults old new TooLarge = ⊥
-IsWriteCaused faults old new (OfMemory memory) = IsLong new memory
+IsWriteCaused faults old new (OfMemory memory) = IsLongGoing new memory

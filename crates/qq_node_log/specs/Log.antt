@@ -1,5 +1,5 @@
 -- A node's log as its calls see it: of which parts it goes on.
-use Rattle.std.specs.Prelude.{◌≡◌, ◌≤◌, ℕ, Bool, true, false, List, [], IsTrue}
+use Rattle.std.specs.Prelude.{◌≡◌, ◌≤◌, ◌++◌, ℕ, Bool, true, false, List, [], IsTrue}
 use Rattle.qq_base.specs.declared.ids.QueueId.{QueueId}
 use Rattle.qq_disk.specs.Disk.{Disk, now}
 use Rattle.qq_lots.specs.Lots.{Lot, Parts, ids_of}
@@ -27,6 +27,19 @@ IsWhole tells past queues disk = IsTrue (tells disk) → MayRecover queues (now 
 abbrev pub StillWhole : {D : Type 0} → (D → Bool) → (D → List Disk) → List QueueId → D → D → Type 0
 StillWhole tells past queues old new = IsTrue (tells old) → StillMayRecover queues (past old) (past new)
 
+-- moments came, and those before are as they were
+abbrev pub IsGrown : List Disk → List Disk → Type 0
+IsGrown old new = (more : List Disk) × (new ≡ more ++ old)
+
+-- a disk later on: it tells its contents as before, and where it does, moments came
+pub record IsLater {D : Type 0} (tells : D → Bool) (past : D → List Disk) (old new : D) : Type 0 where
+  pub told : tells new ≡ tells old
+  pub grown : IsTrue (tells old) → IsGrown (past old) (past new)
+
+-- no log file has a greater number than the one that is written to
+abbrev pub IsInNewest : {D : Type 0} → Wal D → Type 0
+IsInNewest wal = wal.numbers.log ≡ wal.header.file
+
 -- What each call of the log leaves: it is sound, of the same queues, which end with what waits where they ended, over a
 -- disk that tells as before, counts no fewer faults, and may be recovered as before.
 pub record SameLog {D : Type 0} (tells : D → Bool) (past : D → List Disk) (faults : D → ℕ) (old new : Wal D) : Type 0
@@ -37,14 +50,17 @@ pub record SameLog {D : Type 0} (tells : D → Bool) (past : D → List Disk) (f
     pub told : tells new.disk ≡ tells old.disk
     pub later : faults old.disk ≤ faults new.disk
     pub whole : StillWhole tells past old.queues.items old.disk new.disk
+    pub grown : IsTrue (tells old.disk) → IsGrown (past old.disk) (past new.disk)
+    pub newest : IsInNewest old → IsInNewest new
 
--- The log is of the lot's queues, goes on where their parts end, and nothing waits in it.
+-- The log is of the lot's queues, goes on where their parts end, in the newest file, and nothing waits in it.
 pub record IsRunning {D : Type 0} (tells : D → Bool) (past : D → List Disk) (lot : Lot) (parts : Parts) (wal : Wal D)
     : Type 0 where
   pub sound : IsSound tells past wal
   pub queues_are : wal.queues.items ≡ ids_of lot
   pub waiting : wal.waiting.items ≡ []
   pub going : wal.stopped ≡ false
+  pub newest : IsInNewest wal
   pub carries : CarriesAre lot parts (carries_ahead wal)
 
 abbrev pub IsRunningIn : {D : Type 0} → (D → Bool) → (D → List Disk) → Lot → Parts → NodeLog D → Type 0

@@ -1,10 +1,12 @@
 -- What a sync of a node's log does, and how far it comes.
-use Rattle.std.specs.Prelude.{◌≡◌, ◌+◌, ◌≤◌, ℕ, Bool, true, false, List, IsTrue}
+use Rattle.std.specs.Prelude.{◌≡◌, ◌<◌, ◌+◌, ◌≤◌, ℕ, Bool, true, false, List, None, IsTrue}
 use Rattle.qq_base.specs.Causes.{Rose, SpentOnlyWhere}
 use Rattle.qq_base.specs.declared.ids.QueueId.{QueueId}
 use Rattle.qq_base.specs.declared.memory.Memory.{Memory}
+use Rattle.qq_base.specs.declared.memory.Memory.TheVariants.{Want, Spent}
 use Rattle.qq_base.specs.declared.memory.TheConstants.{NUMBER_END}
-use Rattle.qq_disk.specs.Disk.{Disk, now}
+use Rattle.qq_disk.specs.Disk.{Disk, IsListed, contents, now}
+use Rattle.qq_disk.specs.Image.{log_of}
 use Rattle.qq_disk.specs.Moments.{Adds}
 use Rattle.qq_lots.specs.Kept.{IsTied, KeepsPromised}
 use Rattle.qq_lots.specs.Lots.{Lot, Parts, ids_of, keep_all}
@@ -87,3 +89,19 @@ IsLast wal memory = SpentOnlyWhere memory wal.numbers.log (NUMBER_END ≤ wal.nu
 abbrev pub IsLastIn : {D : Type 0} → NodeLog D → Memory → Type 0
 IsLastIn (Open wal) memory = IsLast wal memory
 IsLastIn (Closed disk) memory = ⊥
+
+-- it is that of a log file of the disk, and no log file has a greater one
+pub record HasLastLog (number : ℕ) (d : Disk) : Type 0 where
+  pub there : IsListed d (log_of number)
+  pub greatest : (n : ℕ) → number < n → contents d (log_of n) ≡ None
+  pub end : NUMBER_END ≤ number
+
+-- it is what the disk holds
+abbrev pub IsLastOn : Memory → Disk → Type 0
+IsLastOn Want d = Unit {0}
+IsLastOn (Spent number) d = HasLastLog number d
+
+-- where it isn't want of memory, no call of the log's disk has failed
+abbrev pub GoesOnAt : {D : Type 0} → Wal D → Memory → Type 0
+GoesOnAt wal Want = Unit {0}
+GoesOnAt wal (Spent number) = wal.stopped ≡ false

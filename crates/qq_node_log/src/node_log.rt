@@ -4,10 +4,10 @@ ghost use Rattle.qq_base.specs.Causes.{Rose};
 ghost use Rattle.qq_disk.specs.Disk.{now};
 ghost use Rattle.qq_lots.specs.Lots.{Lot, Parts, give_batch, keep_all};
 ghost use Rattle.qq_node_log.specs.declared.syncing.SyncOutcome.TheVariants.{Whole};
-ghost use Rattle.qq_node_log.specs.Batches.{IsLong, IsLongIn};
-ghost use Rattle.qq_node_log.specs.Log.{IsRunningIn, disk_in, is_open};
+ghost use Rattle.qq_node_log.specs.Batches.{IsLong, IsLongIn, IsLongOn};
+ghost use Rattle.qq_node_log.specs.Log.{IsLater, IsRunningIn, disk_in, is_open};
 ghost use Rattle.qq_node_log.specs.Steps.{CallKeeps, KeepsDisk, MayAppend, MaySync, RunsOn};
-ghost use Rattle.qq_node_log.specs.Syncing.{FailsByCount, IsLast, IsLastIn, Leaves, LeavesIn, SyncsIn};
+ghost use Rattle.qq_node_log.specs.Syncing.{FailsByCount, IsLast, IsLastIn, IsLastOn, Leaves, LeavesIn, SyncsIn};
 
 use crate::batches::write_log;
 use crate::gathering::gather_all;
@@ -46,6 +46,9 @@ fn append_open<D: NodeDisk>(wal: &mut Wal<D>, alloc: Global, ops: Vec<Op>) -> Re
     ensures failed { IfOk result (λ more. more ≡ false →
         Rose (D.faults wal.old.disk) (D.faults wal.new.disk)) }
     ensures spent { IfErr result (IsLong wal.new) }
+    ensures later { IsLater D.tells D.past wal.old.disk wal.new.disk }
+    ensures shown { IsTrue (D.tells wal.old.disk) → IfErr result (λ memory.
+        IsLongOn memory (now (D.past wal.new.disk))) }
 {
     if let Err(memory) = gather_all(wal, ops) {
         return Err(memory);
@@ -71,6 +74,9 @@ fn sync_open<D: NodeDisk>(wal: &mut Wal<D>, alloc: Global) -> Result<SyncOutcome
     ensures failed { IfOk result
         (FailsByCount (D.faults wal.old.disk) (D.faults wal.new.disk)) }
     ensures spent { IfErr result (IsLast wal.new) }
+    ensures later { IsLater D.tells D.past wal.old.disk wal.new.disk }
+    ensures shown { IsTrue (D.tells wal.old.disk) → IfErr result (λ memory.
+        IsLastOn memory (now (D.past wal.new.disk))) }
 {
     match sync_log(wal, alloc) {
         Ok(outcome) => Ok(outcome),
@@ -105,7 +111,9 @@ impl<D: NodeDisk> NodeLog<D> {
     /// - `ok`: the log goes on with these ops, and a disk that tells its contents holds them.
     /// - `moments`: at each moment, whatever the answer is, the disk keeps what was promised, with these ops
     ///   among the given ones.
-    /// - `spent`: there was no memory, or one batch more could make the log's file longer than 2^64 - 1 bytes.
+    /// - `later`: whatever the answer is, the disk tells its contents as before, and moments came.
+    /// - `spent`, `shown`: there was no memory, or one batch more could make the log's file longer than 2^64 - 1
+    ///   bytes. A disk that tells its contents has a log file of so many bytes.
     pub fn append(&mut self, alloc: Global, ops: Vec<Op>) -> Result<bool, Memory>
         requires { MayAppend D.tells D.past ops.items self.old }
         ensures same { KeepsDisk D.tells D.past D.faults self.old self.new }
@@ -116,6 +124,9 @@ impl<D: NodeDisk> NodeLog<D> {
         ensures failed { IfOk result (λ more. more ≡ false →
             Rose (D.faults (disk_in self.old)) (D.faults (disk_in self.new))) }
         ensures spent { IfErr result (IsLongIn self.new) }
+        ensures later { IsLater D.tells D.past (disk_in self.old) (disk_in self.new) }
+        ensures shown { IsTrue (D.tells (disk_in self.old)) → IfErr result (λ memory.
+            IsLongOn memory (now (D.past (disk_in self.new)))) }
     {
         match self {
             NodeLog::Open(wal) => append_open(wal, alloc, ops),
@@ -131,7 +142,9 @@ impl<D: NodeDisk> NodeLog<D> {
     /// - `come`: how far it came on a disk that tells its contents.
     /// - `moments`: at each moment, whatever the answer is, the disk keeps what was promised.
     /// - `failed`: where it didn't come to its end, the disk's count of faults rose.
-    /// - `spent`: there was no memory, or the greatest number of a log file is at its end.
+    /// - `later`: whatever the answer is, the disk tells its contents as before, and moments came.
+    /// - `spent`, `shown`: there was no memory, or the greatest number of a log file is at its end. On a disk that
+    ///   tells its contents it is that of a log file, and none has a greater one.
     pub fn sync(&mut self, alloc: Global) -> Result<SyncOutcome, Memory>
         requires { MaySync D.tells D.past self.old }
         ensures same { KeepsDisk D.tells D.past D.faults self.old self.new }
@@ -144,6 +157,9 @@ impl<D: NodeDisk> NodeLog<D> {
         ensures failed { IfOk result (FailsByCount (D.faults (disk_in self.old))
             (D.faults (disk_in self.new))) }
         ensures spent { IfErr result (IsLastIn self.new) }
+        ensures later { IsLater D.tells D.past (disk_in self.old) (disk_in self.new) }
+        ensures shown { IsTrue (D.tells (disk_in self.old)) → IfErr result (λ memory.
+            IsLastOn memory (now (D.past (disk_in self.new)))) }
     {
         match self {
             NodeLog::Open(wal) => sync_open(wal, alloc),

@@ -5,7 +5,7 @@ ghost use Rattle.qq_disk.specs.Disk.{now};
 ghost use Rattle.qq_wal.specs.Running.{Stays, StillHolds};
 ghost use Rattle.qq_wal.specs.Wal.{IsSound};
 ghost use Rattle.qq_node_log.specs.Log.{SameLog};
-ghost use Rattle.qq_node_log.specs.Syncing.{Comes, FailsByCount, GoesOnAs, IsLast, Leaves};
+ghost use Rattle.qq_node_log.specs.Syncing.{Comes, FailsByCount, GoesOnAs, GoesOnAt, IsLast, Leaves};
 
 use qq_base::Memory;
 use qq_disk::NodeDisk;
@@ -40,6 +40,7 @@ fn begin_next<D: NodeDisk>(wal: &mut Wal<D>, alloc: Global, full: bool) -> Resul
     ensures failed { IfOk result (λ more. more ≡ false →
         Rose (D.faults wal.old.disk) (D.faults wal.new.disk)) }
     ensures cause { IfErr result (IsLast wal.new) }
+    ensures going_on { IsTrue (D.tells wal.old.disk) → IfErr result (GoesOnAt wal.new) }
 {
     if !full {
         return Ok(true);
@@ -61,7 +62,8 @@ fn begin_next<D: NodeDisk>(wal: &mut Wal<D>, alloc: Global, full: bool) -> Resul
 /// - `leaves`: where the answer is `Whole`, a file that was full is replaced, and no other; where it is `Nothing`,
 ///   nothing counts as synced that didn't before.
 /// - `failed`: where it didn't come to its end, the disk's count of faults rose.
-/// - `cause`: `Spent` comes only where the greatest number of a log file is at its end.
+/// - `cause`, `going_on`: `Spent` comes only where the greatest number of a log file is at its end, and no call of
+///   the disk has failed.
 pub(crate) fn sync_log<D: NodeDisk>(wal: &mut Wal<D>, alloc: Global) -> Result<SyncOutcome, Memory>
     requires sound { IsSound D.tells D.past wal.old }
     requires going { wal.old.stopped ≡ false }
@@ -74,6 +76,7 @@ pub(crate) fn sync_log<D: NodeDisk>(wal: &mut Wal<D>, alloc: Global) -> Result<S
     ensures failed { IfOk result
         (FailsByCount (D.faults wal.old.disk) (D.faults wal.new.disk)) }
     ensures cause { IfErr result (IsLast wal.new) }
+    ensures going_on { IsTrue (D.tells wal.old.disk) → IfErr result (GoesOnAt wal.new) }
 {
     let full = wal.full();
     match wal.sync_batch(alloc) {

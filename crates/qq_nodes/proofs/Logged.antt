@@ -1,17 +1,17 @@
 -- A call of a node's log, as one of the node.
 use Rattle.std.proofs.Common.{◌≡◌, ◌<◌, ℕ, Bool, true, false, List, ◌++◌, Some, None, drop, get_or, length, take, refl, sym, ap, ◌∙◌, subst}
 use Rattle.std.proofs.Math.Seq.{take-append_seam}
-use Rattle.std.specs.Prelude.{Result, Ok, Err, IfOk, IfErr, slice_get, slice_set}
+use Rattle.std.specs.Prelude.{Result, Ok, Err, IfOk, IfErr, IsTrue, slice_get, slice_set}
 use Rattle.std.proofs.lemmas.Option.{slice_get-get_or}
 use Rattle.qq_base.specs.Causes.{Rose}
 use Rattle.qq_base.specs.declared.memory.Memory.{Memory}
-use Rattle.qq_disk.specs.Disk.{Disk}
+use Rattle.qq_disk.specs.Disk.{Disk, now}
 use Rattle.qq_log.specs.declared.op.Op.{Op}
 use Rattle.qq_lots.specs.Lots.{Lot, Parts, give_batch, keep_all}
-use Rattle.qq_node_log.specs.Batches.{IsLongIn}
-use Rattle.qq_node_log.specs.Log.{disk_in}
+use Rattle.qq_node_log.specs.Batches.{IsLongIn, IsLongOn}
+use Rattle.qq_node_log.specs.Log.{IsLater, disk_in}
 use Rattle.qq_node_log.specs.Steps.{CallKeeps, KeepsDisk, MayAppend, MaySync, RunsOn}
-use Rattle.qq_node_log.specs.Syncing.{FailsByCount, IsLastIn, SyncsIn}
+use Rattle.qq_node_log.specs.Syncing.{FailsByCount, IsLastIn, IsLastOn, SyncsIn}
 use Rattle.qq_node_log.specs.declared.node_log.NodeLog.{NodeLog}
 use Rattle.qq_node_log.specs.declared.syncing.SyncOutcome.{SyncOutcome}
 use Rattle.qq_node_log.specs.declared.syncing.SyncOutcome.TheVariants.{Whole}
@@ -37,51 +37,75 @@ module _ {D : Type 0} {tells : D → Bool} {past : D → List Disk} where
   no-sync x may is = absurd (let e : Some may.own ≡ None = sym may.is ∙ is in cc)
 
 module _ {D : Type 0} {tells : D → Bool} {past : D → List Disk} {faults : D → ℕ} where
+  abbrev changed : {parts : Lot → Parts → Parts} (x : Node D) (before behind : NodeLog D) → x.log ≡ Some before
+      → KeepsDisk tells past faults before behind → IsLater tells past (disk_in before) (disk_in behind)
+      → CallKeeps tells past parts before behind
+      → ChangesLog tells past faults parts x (record x { log = Some behind })
+  changed x before behind was same later moments = record {
+    before = before;
+    behind = behind;
+    was = was;
+    is = refl;
+    same = same;
+    later = later;
+    moments = moments;
+  }
+
   pub appended : (ops : List Op) (x : Node D) (before behind : NodeLog D) (result : Result Bool Memory)
       → x.log ≡ Some before → KeepsDisk tells past faults before behind
+      → IsLater tells past (disk_in before) (disk_in behind)
       → CallKeeps tells past (λ (lot : Lot). give_batch lot ops) before behind
       → IfOk result (λ (more : Bool). more ≡ true → RunsOn tells past (λ (lot : Lot). give_batch lot ops) before behind)
       → IfOk result (λ (more : Bool). more ≡ false → Rose (faults (disk_in before)) (faults (disk_in behind)))
       → IfOk result (λ (more : Bool). Appends tells past faults ops more x (record x { log = Some behind }))
-  appended ops x before behind (Ok more) was same moments runs failed = record {
-    change = record { before = before; behind = behind; was = was; is = refl; same = same; moments = moments };
+  appended ops x before behind (Ok more) was same later moments runs failed = record {
+    change = changed x before behind was same later moments;
     runs = runs;
     failed = failed;
   }
-  appended ops x before behind (Err memory) was same moments runs failed = tt
+  appended ops x before behind (Err memory) was same later moments runs failed = tt
 
   pub appended-spent : (ops : List Op) (x : Node D) (before behind : NodeLog D) (result : Result Bool Memory)
       → x.log ≡ Some before → KeepsDisk tells past faults before behind
+      → IsLater tells past (disk_in before) (disk_in behind)
       → CallKeeps tells past (λ (lot : Lot). give_batch lot ops) before behind → IfErr result (IsLongIn behind)
+      → (IsTrue (tells (disk_in before))
+      → IfErr result (λ (memory : Memory). IsLongOn memory (now (past (disk_in behind)))))
       → IfErr result (λ (memory : Memory). AppendsInPart tells past faults ops memory x (record x { log = Some behind }))
-  appended-spent ops x before behind (Ok more) was same moments long = tt
-  appended-spent ops x before behind (Err memory) was same moments long = record {
-    change = record { before = before; behind = behind; was = was; is = refl; same = same; moments = moments };
+  appended-spent ops x before behind (Ok more) was same later moments long shown = tt
+  appended-spent ops x before behind (Err memory) was same later moments long shown = record {
+    change = changed x before behind was same later moments;
     long = long;
+    shown = shown;
   }
 
   pub synced : (x : Node D) (before behind : NodeLog D) (result : Result SyncOutcome Memory) → x.log ≡ Some before
-      → KeepsDisk tells past faults before behind → CallKeeps tells past (λ (lot : Lot) (parts : Parts). parts) before behind
+      → KeepsDisk tells past faults before behind → IsLater tells past (disk_in before) (disk_in behind)
+      → CallKeeps tells past (λ (lot : Lot) (parts : Parts). parts) before behind
       → IfOk result (λ (outcome : SyncOutcome). outcome ≡ Whole → RunsOn tells past (λ (lot : Lot). keep_all) before behind)
       → IfOk result (λ (outcome : SyncOutcome). SyncsIn tells past outcome before behind)
       → IfOk result (FailsByCount (faults (disk_in before)) (faults (disk_in behind)))
       → IfOk result (λ (outcome : SyncOutcome). Syncs tells past faults outcome x (record x { log = Some behind }))
-  synced x before behind (Ok outcome) was same moments runs come failed = record {
-    change = record { before = before; behind = behind; was = was; is = refl; same = same; moments = moments };
+  synced x before behind (Ok outcome) was same later moments runs come failed = record {
+    change = changed x before behind was same later moments;
     runs = runs;
     come = come;
     failed = failed;
   }
-  synced x before behind (Err memory) was same moments runs come failed = tt
+  synced x before behind (Err memory) was same later moments runs come failed = tt
 
   pub synced-spent : (x : Node D) (before behind : NodeLog D) (result : Result SyncOutcome Memory) → x.log ≡ Some before
-      → KeepsDisk tells past faults before behind → CallKeeps tells past (λ (lot : Lot) (parts : Parts). parts) before behind
+      → KeepsDisk tells past faults before behind → IsLater tells past (disk_in before) (disk_in behind)
+      → CallKeeps tells past (λ (lot : Lot) (parts : Parts). parts) before behind
       → IfErr result (IsLastIn behind)
+      → (IsTrue (tells (disk_in before))
+      → IfErr result (λ (memory : Memory). IsLastOn memory (now (past (disk_in behind)))))
       → IfErr result (λ (memory : Memory). SyncsInPart tells past faults memory x (record x { log = Some behind }))
-  synced-spent x before behind (Ok outcome) was same moments last = tt
-  synced-spent x before behind (Err memory) was same moments last = record {
-    change = record { before = before; behind = behind; was = was; is = refl; same = same; moments = moments };
+  synced-spent x before behind (Ok outcome) was same later moments last shown = tt
+  synced-spent x before behind (Err memory) was same later moments last shown = record {
+    change = changed x before behind was same later moments;
     last = last;
+    shown = shown;
   }
 
 -- ---- the node at an index

@@ -28,7 +28,7 @@ use Rattle.qq_nodes.specs.Nodes.{GaveUp, seen}
 use Rattle.qq_nodes.specs.declared.asking.Ask.{Ask}
 use Rattle.qq_nodes.specs.declared.asking.Ask.TheVariants.{Submit, TellEnded, Resend, Down, Tick, Notice, Deliver, Lose, Copy}
 use Rattle.qq_nodes.specs.declared.nodes.Nodes.{Nodes as Held}
-use Rattle.qq_nodes.proofs.Stands.{same-seen}
+use Rattle.qq_nodes.proofs.Stands.{ends-now, same-seen}
 
 -- what the law of refusals says
 abbrev pub StepEnds : Type 0
@@ -86,12 +86,7 @@ module _ {D : Type 0} {tells : D → Bool} {past : D → List Disk} {faults : D 
     spent = λ number is setup c r st.
         (let caused : IsAskCaused ask refused.queue (Spent number) =
         subst (IsAskCaused ask refused.queue) is refused.caused in
-        record {
-          early = [];
-          begins = record { rest = At (at + 1) (asked ask) ∷ []; allowed = refl };
-          mid = old;
-          stands = st;
-          at = InQueue at ask (record { queue = refused.queue; here = refused.here; caused = caused });
-          end = ask-ends steps ask refused.queue number (st.queues at refused.queue refused.here).sound caused;
-        });
+        ends-now setup (Is (At (at + 1) (asked ask))) old c number st (At (at + 1) (asked ask) ∷ [], refl)
+        (InQueue at ask (record { queue = refused.queue; here = refused.here; caused = caused }))
+        (ask-ends steps ask refused.queue number (st.queues at refused.queue refused.here).sound caused));
   }

@@ -15,6 +15,7 @@ use Rattle.qq_cluster_laws.specs.Unseen.{seen_by}
 use Rattle.qq_cluster_laws.proofs.Reached.{after-both, reached-after}
 use Rattle.qq_cluster_laws.proofs.Serves.{gives_up-behind, gives_up-same, leads-more, leads-start, serves-both, serves-nothing, serves-unseen, serves-weaker}
 use Rattle.qq_nodes.specs.Active.{AreRising}
+use Rattle.qq_nodes.specs.Ends.{IsAtEnd, NumberAt}
 use Rattle.qq_nodes.specs.Nodes.{Begins, CanServe, EndsAt, GaveUp, LeadsIn, Served, Stands, node_at, nodes_in, places_in, seen, seen_in}
 use Rattle.qq_nodes.specs.declared.node.Node.{Node}
 use Rattle.qq_nodes.specs.declared.nodes.Nodes.{Nodes as Held}
@@ -54,6 +55,39 @@ serves-means s more = record {
   no_crash = s.no_crash;
   rises = s.rises;
   cause = s.cause;
+}
+
+-- or behind another text
+abbrev pub serves-from : {setup : Setup} {c : Cluster} {Allowed : List ClusterEvent → Type 0} {Stands : Cluster → Type 0}
+    {a b : ℕ → Seen} {before later : List ℕ} (text : List ℕ) (s : Serves setup c Allowed Stands a b before later)
+    → Serves setup c Allowed Stands a b text (text ++ text_of setup c s.did.events)
+serves-from text s = record {
+  did = record {
+    events = s.did.events;
+    means = s.did.means;
+    stands = s.did.stands;
+    says = refl;
+    told = s.did.told;
+    moments = s.did.moments;
+  };
+  no_crash = s.no_crash;
+  rises = s.rises;
+  cause = s.cause;
+}
+
+-- before anything has happened a number is at its end
+pub ends-now : {D : Type 0} {tells : D → Bool} {past : D → List Disk} {faults : D → ℕ} (setup : Setup)
+    (Allows : Cluster → List ClusterEvent → Type 0) (old : Held D) (c : Cluster) (number : ℕ)
+    → Stands tells past setup old c → Allowed Allows c → NumberAt tells past old number → IsAtEnd number
+    → EndsAt tells past faults setup Allows old c number
+ends-now {tells = tells} {past = past} {faults = faults} setup Allows old c number st more at end = record {
+  mid = old;
+  before = [];
+  said = [];
+  serves = serves-nothing setup c (Begins Allows c) (Stands tells past setup old) (seen tells past faults old) []
+      (record { rest = more.0; allowed = more.1 }) st;
+  at = at;
+  end = end;
 }
 
 -- what follows nothing
@@ -148,15 +182,15 @@ module _ {D : Type 0} {tells : D → Bool} {past : D → List Disk} {faults : D 
       → ((setup : Setup) (c : Cluster) (early : List ClusterEvent) → IsReached setup c → Stands tells past setup old c
       → Begins (First setup) c early → Begins (Whole setup) c early)
       → GaveUp tells past faults First old new memory → GaveUp tells past faults Whole old new memory
-  gave_up-by {First = First} {Whole = Whole} {new = new} begins first = record {
+  gave_up-by {First = First} {Whole = Whole} {old = old} begins first = record {
     gives_up = first.gives_up;
-    spent = λ number is setup c r st. (let e : EndsAt tells past setup (First setup) new c number =
+    spent = λ number is setup c r st. (let e : EndsAt tells past faults setup (First setup) old c number =
         first.spent number is setup c r st in
         record {
-          early = e.early;
-          begins = begins setup c e.early r st e.begins;
           mid = e.mid;
-          stands = e.stands;
+          before = e.before;
+          said = e.said;
+          serves = serves-means e.serves (begins setup c e.serves.did.events r st e.serves.did.means);
           at = e.at;
           end = e.end;
         });
@@ -206,17 +240,22 @@ module _ {D : Type 0} {tells : D → Bool} {past : D → List Disk} {faults : D 
     spent = λ number is setup c r st. (let s = first.serves setup c r st in
         let events : List ClusterEvent = s.did.events in
         let d : Cluster = cluster_after c events in
-        let e : EndsAt tells past setup (Second setup) new d number =
+        let e : EndsAt tells past faults setup (Second setup) mid d number =
         second.spent number is setup d (reached-after setup c events r) s.did.stands in
+        let early : List ClusterEvent = e.serves.did.events in
+        let rest : List ClusterEvent = e.serves.did.means.rest in
         record {
-          early = events ++ e.early;
-          begins = record {
-            rest = e.begins.rest;
-            allowed = subst (Whole setup c) (sym (append_assoc events e.early e.begins.rest))
-                (join setup c events (e.early ++ e.begins.rest) s.did.means e.begins.allowed);
-          };
           mid = e.mid;
-          stands = subst (λ (b : Cluster). Stands tells past setup e.mid b) (sym (after-both c events e.early)) e.stands;
+          before = before;
+          said = middle ++ text_of setup d early;
+          serves = serves-both setup c (First setup c) (Begins (Second setup) d) (Begins (Whole setup) c)
+              (Stands tells past setup mid) (Stands tells past setup e.mid) (seen tells past faults old)
+              (seen tells past faults mid) (seen tells past faults e.mid) before middle (middle ++ text_of setup d early) s
+              (serves-from middle e.serves) (record {
+                rest = rest;
+                allowed = subst (Whole setup c) (sym (append_assoc events early rest))
+                    (join setup c events (early ++ rest) s.did.means e.serves.did.means.allowed);
+              });
           at = e.at;
           end = e.end;
         });

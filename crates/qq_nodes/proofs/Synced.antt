@@ -14,6 +14,7 @@ use Rattle.qq_base.specs.declared.memory.Memory.{Memory}
 use Rattle.qq_base.specs.declared.memory.Memory.TheVariants.{Spent, Want}
 use Rattle.qq_base.specs.declared.memory.TheConstants.{NUMBER_END}
 use Rattle.qq_disk.specs.Disk.{Disk, now}
+use Rattle.qq_disk.proofs.Stored.{still_tells}
 use Rattle.qq_disk.specs.Moments.{Adds}
 use Rattle.qq_disk.proofs.Moments.{adds-now}
 use Rattle.qq_lots.specs.Kept.{IsTied, KeepsPromised}
@@ -37,7 +38,7 @@ use Rattle.qq_cluster_queue.specs.Sessions.{standings}
 use Rattle.qq_cluster_queue.specs.declared.sessions.Standing.{Standing}
 use Rattle.qq_cluster_queue.specs.declared.cluster_queue.ClusterQueue.{ClusterQueue}
 use Rattle.qq_node_log.specs.Log.{IsRunningIn, disk_in}
-use Rattle.qq_node_log.specs.Syncing.{HasCome, IsLastIn}
+use Rattle.qq_node_log.specs.Syncing.{HasCome, IsLastIn, IsLastOn}
 use Rattle.qq_node_log.specs.declared.node_log.NodeLog.{NodeLog}
 use Rattle.qq_node_log.specs.declared.node_log.NodeLog.TheVariants.{Open, Closed}
 use Rattle.qq_node_log.specs.declared.syncing.SyncOutcome.{SyncOutcome}
@@ -54,7 +55,7 @@ use Rattle.qq_nodes.proofs.OwnStands.{Changes, QueuesOf, call-gives_up, call-ser
 use Rattle.qq_nodes.proofs.Owned.{AllOwn, own-fail, own-sync}
 use Rattle.qq_nodes.proofs.Pumping.{rule-else, rule-if}
 use Rattle.qq_nodes.proofs.Quiet.{quiet-stopped, quiet-syncs}
-use Rattle.qq_nodes.proofs.Stands.{served-nothing}
+use Rattle.qq_nodes.proofs.Stands.{ends-now, served-nothing}
 use Rattle.qq_nodes.proofs.Told.{place-here}
 use Rattle.qq_nodes.proofs.Total.{Allowed, total-sync}
 
@@ -515,20 +516,14 @@ module _ {D : Type 0} {tells : D → Bool} {past : D → List Disk} where
           (let last : IsLastIn turn.turns.change.behind (Spent number) =
           subst (IsLastIn turn.turns.change.behind) is turn.turns.last in
           let more : Allowed (IsSync setup k) c = total-sync setup k c in
-          record {
-            early = [];
-            begins = record { rest = more.0; allowed = more.1 };
-            mid = old;
-            stands = st;
-            at = InNumbers (k - 1) turn.turns.change.behind
-                (record {
-                  node = turn.new;
-                  here = ap (λ (l : List (Node D)). slice_get l (k - 1)) turn.is
-                      ∙ set-here tells past faults k old.nodes.items turn.old turn.new turn.here;
-                  is = ap (λ (y : Node D). y.log) turn.turns.change.is;
-                }) last;
-            end = last-ends turn.turns.change.behind number last;
-          });
+          let ch : ChangesLog tells past faults (λ (lot : Lot) (parts : Parts). parts) turn.old turn.new =
+          turn.turns.change in
+          ends-now setup (IsSync setup k) old c number st more
+          (InNumbers (k - 1) ch.before (disk_in ch.behind)
+          (record { node = turn.old; here = turn.here; is = ch.was }) ch.later
+          (λ tell. subst (λ (m : Memory). IsLastOn m (now (past (disk_in ch.behind)))) is
+          (turn.turns.shown (still_tells (sym ch.later.told) tell))))
+          (last-ends ch.behind number last));
     }
 
     -- the disk failed, and there was no memory to say so

@@ -42,6 +42,7 @@ use Rattle.qq_nodes.specs.declared.restarting.RestartFault.TheVariants as faults
 use Rattle.qq_nodes.proofs.FoundQueues.{down-server, not-stopped}
 use Rattle.qq_nodes.proofs.OwnDisk.{disk-gives_up, disk-serves, seen-before}
 use Rattle.qq_nodes.proofs.OwnStands.{QueuesOf, node-was, stands-own}
+use Rattle.qq_nodes.proofs.Stands.{ends-now}
 use Rattle.qq_nodes.proofs.Owned.{own-fail}
 use Rattle.qq_nodes.proofs.Pumping.{rule-else}
 use Rattle.qq_nodes.proofs.Quiet.{quiet-stopped}
@@ -218,17 +219,12 @@ module _ {D : Type 0} {tells : D → Bool} {past : D → List Disk} {faults : D 
       -- ---- a number of the files is at its end
 
       ends-at : (number : ℕ) → fault ≡ recover_faults.Memory (Spent number)
-          → EndsAt tells past setup (IsRestart setup k) left c number
+          → EndsAt tells past faults setup (IsRestart setup k) old c number
       ends-at number is =
-          record {
-            early = [];
-            begins = record { rest = Fails k ∷ []; allowed = fails-restart setup k c (down setup c st) };
-            mid = old;
-            stands = st;
-            at = OnDisk (k - 1) fails.own (record { node = turn.old; here = turn.here; is = fails.was })
-                (λ told. subst (IsSpentOn (now (past (disk_in fails.own)))) is (fails.spent told));
-            end = inr (subst (IsRecoverCaused (faults (disk_in fails.own)) (faults fails.left)) is fails.cause);
-          }
+          ends-now setup (IsRestart setup k) old c number st (Fails k ∷ [], fails-restart setup k c (down setup c st))
+          (OnDisk (k - 1) fails.own (record { node = turn.old; here = turn.here; is = fails.was })
+          (λ told. subst (IsSpentOn (now (past (disk_in fails.own)))) is (fails.spent told)))
+          (inr (subst (IsRecoverCaused (faults (disk_in fails.own)) (faults fails.left)) is fails.cause))
 
     -- ---- as a call leaves it
 

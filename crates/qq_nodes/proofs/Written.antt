@@ -12,6 +12,7 @@ use Rattle.qq_base.specs.Fronts.{put}
 use Rattle.qq_base.specs.declared.memory.Memory.{Memory}
 use Rattle.qq_base.specs.declared.memory.Memory.TheVariants.{Spent, Want}
 use Rattle.qq_disk.specs.Disk.{Disk, now}
+use Rattle.qq_disk.proofs.Stored.{still_tells}
 use Rattle.qq_log.specs.Op.{queue}
 use Rattle.qq_log.specs.Stable.{stable}
 use Rattle.qq_log.specs.Writable.{MayWrite}
@@ -36,7 +37,7 @@ use Rattle.qq_cluster_laws.proofs.Waiting.{all-listed, all-wait, gives-waiting}
 use Rattle.qq_cluster_queue.specs.Members.{AreSound}
 use Rattle.qq_cluster_queue.specs.Sessions.{standings}
 use Rattle.qq_cluster_queue.specs.declared.cluster_queue.ClusterQueue.{ClusterQueue}
-use Rattle.qq_node_log.specs.Batches.{IsLongIn}
+use Rattle.qq_node_log.specs.Batches.{IsLongIn, IsLongOn}
 use Rattle.qq_node_log.specs.Giving.{MayGive}
 use Rattle.qq_node_log.specs.Log.{IsRunningIn, disk_in}
 use Rattle.qq_node_log.specs.declared.node_log.NodeLog.{NodeLog}
@@ -54,7 +55,7 @@ use Rattle.qq_nodes.proofs.OwnStands.{Changes, QueuesOf, call-gives_up, call-ser
 use Rattle.qq_nodes.proofs.Owned.{own-fail, own-write}
 use Rattle.qq_nodes.proofs.Pumping.{rule-else, rule-if}
 use Rattle.qq_nodes.proofs.Quiet.{quiet-stopped, quiet-writes}
-use Rattle.qq_nodes.proofs.Stands.{served-nothing, served-still}
+use Rattle.qq_nodes.proofs.Stands.{ends-now, served-nothing, served-still}
 use Rattle.qq_nodes.proofs.Taken.{apart-places, each-none, none-written, nothing-waits, some-written, taken-places, taken-waiting, waits_at}
 use Rattle.qq_nodes.proofs.Told.{place-here}
 use Rattle.qq_nodes.proofs.Total.{Allowed, total-write}
@@ -347,20 +348,14 @@ module _ {D : Type 0} {tells : D → Bool} {past : D → List Disk} where
           (let long : IsLongIn turn.turns.change.behind (Spent number) =
           subst (IsLongIn turn.turns.change.behind) is turn.turns.long in
           let more : Allowed (IsWrite setup k) c = total-write setup k c in
-          record {
-            early = [];
-            begins = record { rest = more.0; allowed = more.1 };
-            mid = old;
-            stands = st;
-            at = InFile (k - 1) turn.turns.change.behind
-                (record {
-                  node = turn.new;
-                  here = ap (λ (l : List (Node D)). slice_get l (k - 1)) turn.is
-                      ∙ set-here tells past faults k mid.nodes.items turn.old turn.new turn.here;
-                  is = ap (λ (y : Node D). y.log) turn.turns.change.is;
-                }) long;
-            end = long-ends turn.turns.change.behind number long;
-          });
+          let ch : ChangesLog tells past faults (λ (lot : Lot). give_batch lot ops) turn.old turn.new =
+          turn.turns.change in
+          ends-now setup (IsWrite setup k) old c number st more
+          (InFile (k - 1) ch.before (disk_in ch.behind)
+          (record { node = turn.old; here = was-here turn.old turn.here; is = ch.was }) ch.later
+          (λ tell. subst (λ (m : Memory). IsLongOn m (now (past (disk_in ch.behind)))) is
+          (turn.turns.shown (still_tells (sym ch.later.told) tell))))
+          (long-ends ch.behind number long));
     }
 
     -- the disk failed, and there was no memory to say so

@@ -14,9 +14,9 @@ use Rattle.qq_recover.specs.Recovered.{IsSpentOn}
 use Rattle.qq_cluster_queue.specs.ClusterQueue.{IsOfferCaused, IsResendCaused, IsSubmitCaused, count_at}
 use Rattle.qq_cluster_queue.specs.Members.{IsStepCaused, IsTellingCaused, own_log}
 use Rattle.qq_cluster_queue.specs.declared.cluster_queue.ClusterQueue.{ClusterQueue}
-use Rattle.qq_node_log.specs.Batches.{IsLongIn}
-use Rattle.qq_node_log.specs.Log.{disk_in}
-use Rattle.qq_node_log.specs.Syncing.{IsLastIn}
+use Rattle.qq_node_log.specs.Batches.{HasLongLog}
+use Rattle.qq_node_log.specs.Log.{IsLater, disk_in}
+use Rattle.qq_node_log.specs.Syncing.{HasLastLog}
 use Rattle.qq_node_log.specs.declared.node_log.NodeLog.{NodeLog}
 use Rattle.qq_nodes.specs.declared.asking.Ask.{Ask}
 use Rattle.qq_nodes.specs.declared.asking.Ask.TheVariants.{Submit, TellEnded, Resend, Down, Tick, Notice, Deliver, Lose, Copy}
@@ -51,15 +51,15 @@ pub record HasLog {D : Type 0} (at : ℕ) (held : Held D) (own : NodeLog D) : Ty
   pub here : slice_get held.nodes.items at ≡ Some node
   pub is : node.log ≡ Some own
 
--- What the number is of: a queue that refuses what is asked of it; a log that is left by a call, whose file is long, or is the
--- last one; or the files of a node's log, which are to be recovered.
-pub data NumberAt {D : Type 0} (tells : D → Bool) (past : D → List Disk) (held left : Held D) (number : ℕ) : Type 0 where
+-- What the number is of: a queue that refuses what is asked of it; a node's log, whose disk after a call has a long
+-- file, or the last one; or the files of a node's log, which are to be recovered.
+pub data NumberAt {D : Type 0} (tells : D → Bool) (past : D → List Disk) (held : Held D) (number : ℕ) : Type 0 where
   InQueue : (at : ℕ) (ask : Ask) → IsRefusedAt ask at held.queues.items (Spent number)
-      → NumberAt tells past held left number
-  InFile : (at : ℕ) (own : NodeLog D) → HasLog at left own → IsLongIn own (Spent number)
-      → NumberAt tells past held left number
-  InNumbers : (at : ℕ) (own : NodeLog D) → HasLog at left own → IsLastIn own (Spent number)
-      → NumberAt tells past held left number
+      → NumberAt tells past held number
+  InFile : (at : ℕ) (own : NodeLog D) (left : D) → HasLog at held own → IsLater tells past (disk_in own) left
+      → (IsTrue (tells left) → HasLongLog number (now (past left))) → NumberAt tells past held number
+  InNumbers : (at : ℕ) (own : NodeLog D) (left : D) → HasLog at held own → IsLater tells past (disk_in own) left
+      → (IsTrue (tells left) → HasLastLog number (now (past left))) → NumberAt tells past held number
   OnDisk : (at : ℕ) (own : NodeLog D) → HasLog at held own
       → (IsTrue (tells (disk_in own)) → IsSpentOn (now (past (disk_in own))) (OfMemory (Spent number)))
-      → NumberAt tells past held left number
+      → NumberAt tells past held number

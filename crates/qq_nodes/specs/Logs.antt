@@ -1,14 +1,14 @@
 -- What a call of a node's log leaves.
-use Rattle.std.specs.Prelude.{◌≡◌, ℕ, Bool, true, false, List, Some, slice_get, slice_set}
+use Rattle.std.specs.Prelude.{◌≡◌, ℕ, Bool, true, false, List, Some, IsTrue, slice_get, slice_set}
 use Rattle.qq_base.specs.Causes.{Rose}
 use Rattle.qq_base.specs.declared.memory.Memory.{Memory}
-use Rattle.qq_disk.specs.Disk.{Disk}
+use Rattle.qq_disk.specs.Disk.{Disk, now}
 use Rattle.qq_log.specs.declared.op.Op.{Op}
 use Rattle.qq_lots.specs.Lots.{Lot, Parts, give_batch, keep_all}
-use Rattle.qq_node_log.specs.Batches.{IsLongIn}
-use Rattle.qq_node_log.specs.Log.{disk_in}
+use Rattle.qq_node_log.specs.Batches.{IsLongIn, IsLongOn}
+use Rattle.qq_node_log.specs.Log.{IsLater, disk_in}
 use Rattle.qq_node_log.specs.Steps.{CallKeeps, KeepsDisk, MayAppend, MaySync, RunsOn}
-use Rattle.qq_node_log.specs.Syncing.{FailsByCount, IsLastIn, SyncsIn}
+use Rattle.qq_node_log.specs.Syncing.{FailsByCount, IsLastIn, IsLastOn, SyncsIn}
 use Rattle.qq_node_log.specs.declared.node_log.NodeLog.{NodeLog}
 use Rattle.qq_node_log.specs.declared.syncing.SyncOutcome.{SyncOutcome}
 use Rattle.qq_node_log.specs.declared.syncing.SyncOutcome.TheVariants.{Whole}
@@ -26,15 +26,17 @@ pub record MaySyncAt {D : Type 0} (tells : D → Bool) (past : D → List Disk) 
   pub is : node.log ≡ Some own
   pub may : MaySync tells past own
 
--- A node has another log, and is the same else. At each moment the disk keeps what was promised, with these parts.
+-- A node has another log, and is the same else. Its disk is later, and at each moment it keeps what was promised, with
+-- these parts.
 pub record ChangesLog {D : Type 0} (tells : D → Bool) (past : D → List Disk) (faults : D → ℕ)
-    (later : Lot → Parts → Parts) (old new : Node D) : Type 0 where
+    (parts : Lot → Parts → Parts) (old new : Node D) : Type 0 where
   pub before : NodeLog D
   pub behind : NodeLog D
   pub was : old.log ≡ Some before
   pub is : new ≡ record old { log = Some behind }
   pub same : KeepsDisk tells past faults before behind
-  pub moments : CallKeeps tells past later before behind
+  pub later : IsLater tells past (disk_in before) (disk_in behind)
+  pub moments : CallKeeps tells past parts before behind
 
 -- ops were appended, or the disk failed
 pub record Appends {D : Type 0} (tells : D → Bool) (past : D → List Disk) (faults : D → ℕ) (ops : List Op) (more : Bool)
@@ -48,6 +50,7 @@ pub record AppendsInPart {D : Type 0} (tells : D → Bool) (past : D → List Di
     (memory : Memory) (old new : Node D) : Type 0 where
   pub change : ChangesLog tells past faults (λ (lot : Lot). give_batch lot ops) old new
   pub long : IsLongIn change.behind memory
+  pub shown : IsTrue (tells (disk_in change.before)) → IsLongOn memory (now (past (disk_in change.behind)))
 
 -- what was appended is synced, as far as that came
 pub record Syncs {D : Type 0} (tells : D → Bool) (past : D → List Disk) (faults : D → ℕ) (outcome : SyncOutcome)
@@ -61,6 +64,7 @@ pub record SyncsInPart {D : Type 0} (tells : D → Bool) (past : D → List Disk
     (old new : Node D) : Type 0 where
   pub change : ChangesLog tells past faults (λ (lot : Lot) (parts : Parts). parts) old new
   pub last : IsLastIn change.behind memory
+  pub shown : IsTrue (tells (disk_in change.before)) → IsLastOn memory (now (past (disk_in change.behind)))
 
 -- ---- the node at an index
 

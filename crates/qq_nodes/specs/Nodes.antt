@@ -122,15 +122,16 @@ pub record Begins (Allows : Cluster → List ClusterEvent → Type 0) (c : Clust
     pub rest : List ClusterEvent
     pub allowed : Allows c (events ++ rest)
 
--- In the midst of what a rule allows a number would have to rise, and stands at its end: the first events have happened,
--- nodes that stand for the cluster after them have it, or the log does that is left.
-pub record EndsAt {D : Type 0} (tells : D → Bool) (past : D → List Disk) (setup : Setup)
-    (Allows : Cluster → List ClusterEvent → Type 0) (left : Held D) (c : Cluster) (number : ℕ) : Type 0 where
-  pub early : List ClusterEvent
-  pub begins : Begins Allows c early
+-- In the midst of what a rule allows a number would have to rise, and stands at its end: some first events have
+-- happened, and nodes that stand for the cluster after them have it. Each one's disk is what these events made of it.
+pub record EndsAt {D : Type 0} (tells : D → Bool) (past : D → List Disk) (faults : D → ℕ) (setup : Setup)
+    (Allows : Cluster → List ClusterEvent → Type 0) (old : Held D) (c : Cluster) (number : ℕ) : Type 0 where
   pub mid : Held D
-  pub stands : Stands tells past setup mid (cluster_after c early)
-  pub at : NumberAt tells past mid left number
+  pub before : List ℕ
+  pub said : List ℕ
+  pub serves : Serves setup c (Begins Allows c) (Stands tells past setup mid) (seen tells past faults old)
+      (seen tells past faults mid) before said
+  pub at : NumberAt tells past mid number
   pub end : IsAtEnd number
 
 -- Of whatever cluster they stood for, each disk keeps at each moment what the events so far promised. Where it isn't that
@@ -140,7 +141,7 @@ pub record GaveUp {D : Type 0} (tells : D → Bool) (past : D → List Disk) (fa
   pub gives_up : (setup : Setup) (c : Cluster) → IsReached setup c → Stands tells past setup old c
       → GivesUp setup c (seen tells past faults old) (seen tells past faults new)
   pub spent : (number : ℕ) → memory ≡ Spent number → (setup : Setup) (c : Cluster) → IsReached setup c
-      → Stands tells past setup old c → EndsAt tells past setup (Rule setup) new c number
+      → Stands tells past setup old c → EndsAt tells past faults setup (Rule setup) old c number
 
 -- ---- loops
 

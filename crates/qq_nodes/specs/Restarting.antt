@@ -137,7 +137,7 @@ pub record Refuses {D : Type 0} (tells : D → Bool) (past : D → List Disk) (f
   pub refused : (setup : Setup) (c : Cluster) → IsReached setup c → Stands tells past setup old c
       → IsRefused tells past faults setup c (list setup) old before fault
   pub spent : (number : ℕ) → fault ≡ Memory (Spent number) → (setup : Setup) (c : Cluster)
-      → IsReached setup c → Stands tells past setup old c → EndsAt tells past setup (Rule setup) new c number
+      → IsReached setup c → Stands tells past setup old c → EndsAt tells past faults setup (Rule setup) old c number
   pub never : (setup : Setup) (c : Cluster) → IsReached setup c → Stands tells past setup old c
       → AreLinked tells past faults setup old c (list setup) → IsOfMemory fault
 

@@ -1,6 +1,8 @@
-use Rattle.std.proofs.Common.{ap}
+use Rattle.std.proofs.Common.{ℕ, ap}
+use Rattle.qq_disk.specs.Image.{log_of}
 use Rattle.qq_wal.specs.declared.wal.Wal.{Wal}
 use Rattle.qq_node_log.proofs.Batching.{appends-some, write-caused}
+use Rattle.qq_node_log.proofs.Same.{beside-grown, same-newest}
 use Rattle.qq_node_log.proofs.batches.append_some.Goals as goal
 
 pub returns-in-Ok-clause-ok : goal.returns-in-Ok-clause-ok
@@ -11,5 +13,32 @@ returns-in-Ok-clause-ok g c =
 
 pub returns-in-Err-clause-cause : goal.returns-in-Err-clause-cause
 returns-in-Err-clause-cause g c =
-    write-caused g.D.NodeDisk.faults c.args.wal.now.stopped c.args.wal.now c.append_batch.new.self c.in-Err.fault
-    c.requires.going (ap (λ (w : Wal _). w.size) c.in-Err.ensures.err) c.in-Err.ensures.cause.cause
+    write-caused ℕ g.D.NodeDisk.faults c.args.wal.now.stopped c.args.wal.now c.append_batch.new.self c.in-Err.fault
+    c.requires.going (ap (λ (w : Wal _). w.size) c.in-Err.ensures.err)
+    c.in-Err.ensures.stops c.in-Err.ensures.cause.cause
+
+pub returns-in-Ok-clause-same : goal.returns-in-Ok-clause-same
+returns-in-Ok-clause-same g c = record {
+  sound = c.append_batch.ensures.sound;
+  queues = c.append_batch.ensures.file.queues;
+  ahead = c.append_batch.ensures.ahead;
+  told = c.append_batch.ensures.told;
+  later = c.append_batch.ensures.cause.later;
+  whole = λ tell. c.append_batch.ensures.may tell;
+  grown = λ tell. beside-grown (g.D.NodeDisk.past c.args.wal.now.disk) (g.D.NodeDisk.past c.append_batch.new.self.disk)
+      (log_of c.args.wal.now.header.file) (c.append_batch.ensures.beside tell);
+  newest = same-newest c.args.wal.now c.append_batch.new.self c.append_batch.ensures.file;
+}
+
+pub returns-in-Err-clause-same : goal.returns-in-Err-clause-same
+returns-in-Err-clause-same g c = record {
+  sound = c.append_batch.ensures.sound;
+  queues = c.append_batch.ensures.file.queues;
+  ahead = c.append_batch.ensures.ahead;
+  told = c.append_batch.ensures.told;
+  later = c.append_batch.ensures.cause.later;
+  whole = λ tell. c.append_batch.ensures.may tell;
+  grown = λ tell. beside-grown (g.D.NodeDisk.past c.args.wal.now.disk) (g.D.NodeDisk.past c.append_batch.new.self.disk)
+      (log_of c.args.wal.now.header.file) (c.append_batch.ensures.beside tell);
+  newest = same-newest c.args.wal.now c.append_batch.new.self c.append_batch.ensures.file;
+}

@@ -1,4 +1,6 @@
-use Rattle.qq_node_log.proofs.Appending.{gather-keeps, gather-same, ops-go, want-long, write-keeps, write-runs, write-same}
+use Rattle.qq_disk.specs.Disk.{now}
+use Rattle.qq_node_log.proofs.Appending.{gather-keeps, gather-same, ops-go, want-long, write-keeps, write-later, write-runs, write-same, write-shown}
+use Rattle.qq_node_log.proofs.Ending.{gathered-later, want-on}
 use Rattle.qq_node_log.proofs.node_log.append_open.Goals as goal
 
 pub gather_all-requires-clause-goes_on : goal.gather_all-requires-clause-goes_on
@@ -54,3 +56,37 @@ returns-in-Ok-clause-ok g c = λ is.
     (record { same = c.write_log.ensures.same; stays = λ tell. c.write_log.ensures.stays tell })
     (ops-go g.D.NodeDisk.tells g.D.NodeDisk.past c.args.ops.items c.args.wal.now c.requires)
     (c.in-Ok.ensures.ok is)
+
+pub returns-in-Err-clause-later : goal.returns-in-Err-clause-later
+returns-in-Err-clause-later g c =
+    gathered-later g.D.NodeDisk.tells g.D.NodeDisk.past c.args.wal.now c.gather_all.new.wal
+    c.gather_all.ensures.same
+
+pub returns-in-Err-clause-shown : goal.returns-in-Err-clause-shown
+returns-in-Err-clause-shown g c = λ tell.
+    want-on c.in-Err.memory (now (g.D.NodeDisk.past c.gather_all.new.wal.disk)) c.in-Err.ensures.want
+
+pub returns-in-Ok-clause-later : goal.returns-in-Ok-clause-later
+returns-in-Ok-clause-later g c =
+    write-later g.D.NodeDisk.tells g.D.NodeDisk.past g.D.NodeDisk.faults c.args.ops.items c.args.wal.now
+    c.gather_all.new.wal c.write_log.new.wal
+    (record { waiting = c.in_default.ensures.ok; ahead = c.in_default.ensures.ahead; same = c.gather_all.ensures.same })
+    (record { same = c.write_log.ensures.same; stays = λ tell. c.write_log.ensures.stays tell })
+
+pub returns-in-Err-write_log-clause-later : goal.returns-in-Err-write_log-clause-later
+returns-in-Err-write_log-clause-later g c =
+    write-later g.D.NodeDisk.tells g.D.NodeDisk.past g.D.NodeDisk.faults c.args.ops.items c.args.wal.now
+    c.gather_all.new.wal c.write_log.new.wal
+    (record { waiting = c.in_default.ensures.ok; ahead = c.in_default.ensures.ahead; same = c.gather_all.ensures.same })
+    (record { same = c.write_log.ensures.same; stays = λ tell. c.write_log.ensures.stays tell })
+
+pub returns-in-Err-write_log-clause-shown : goal.returns-in-Err-write_log-clause-shown
+returns-in-Err-write_log-clause-shown g c = λ tell.
+    write-shown g.D.NodeDisk.tells g.D.NodeDisk.past g.D.NodeDisk.faults c.args.ops.items c.args.wal.now
+    c.gather_all.new.wal c.write_log.new.wal
+    (record { waiting = c.in_default.ensures.ok; ahead = c.in_default.ensures.ahead; same = c.gather_all.ensures.same })
+    (record { same = c.write_log.ensures.same; stays = λ tell. c.write_log.ensures.stays tell })
+    c.in-Err-write_log.memory c.in-Err-write_log.ensures.cause tell
+
+pub returns-in-Err-write_log-clause-spent : goal.returns-in-Err-write_log-clause-spent
+returns-in-Err-write_log-clause-spent g c = c.in-Err-write_log.ensures.cause.0

@@ -3,7 +3,9 @@ use Rattle.qq_node_log.specs.declared.syncing.SyncOutcome.{SyncOutcome}
 use Rattle.qq_node_log.specs.Syncing.{Comes, Leaves}
 use Rattle.qq_wal.specs.Wal.{is_full}
 use Rattle.qq_lots.specs.Lots.{ids_of}
-use Rattle.qq_node_log.proofs.Same.{same-disk}
+use Rattle.qq_disk.proofs.Stored.{still_tells}
+use Rattle.qq_node_log.proofs.Ending.{last-on}
+use Rattle.qq_node_log.proofs.Same.{same-disk, same-later}
 use Rattle.qq_node_log.proofs.Stepping.{sync-keeps, sync-runs}
 use Rattle.qq_node_log.proofs.node_log.sync_open.Goals as goal
 
@@ -34,3 +36,19 @@ pub returns-in-Err-clause-same : goal.returns-in-Err-clause-same
 returns-in-Err-clause-same g c = λ lot parts run.
     same-disk g.D.NodeDisk.tells g.D.NodeDisk.past g.D.NodeDisk.faults (ids_of lot) c.args.wal.now c.sync_log.new.wal
     c.sync_log.ensures.same run.queues_are
+
+pub returns-in-Ok-clause-later : goal.returns-in-Ok-clause-later
+returns-in-Ok-clause-later g c =
+    same-later g.D.NodeDisk.tells g.D.NodeDisk.past g.D.NodeDisk.faults c.args.wal.now c.sync_log.new.wal
+    c.sync_log.ensures.same
+
+pub returns-in-Err-clause-later : goal.returns-in-Err-clause-later
+returns-in-Err-clause-later g c =
+    same-later g.D.NodeDisk.tells g.D.NodeDisk.past g.D.NodeDisk.faults c.args.wal.now c.sync_log.new.wal
+    c.sync_log.ensures.same
+
+pub returns-in-Err-clause-shown : goal.returns-in-Err-clause-shown
+returns-in-Err-clause-shown g c = λ tell.
+    last-on g.D.NodeDisk.tells g.D.NodeDisk.past c.sync_log.new.wal c.in-Err.memory c.sync_log.ensures.same.sound
+    (still_tells c.sync_log.ensures.same.told tell) (c.sync_log.ensures.same.newest c.requires.2.newest)
+    (c.in-Err.ensures.going_on tell) c.in-Err.ensures.cause

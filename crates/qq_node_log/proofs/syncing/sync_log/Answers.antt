@@ -2,9 +2,10 @@ use Rattle.std.proofs.Common.{List, ap, subst}
 use Rattle.std.specs.Global.{Vec}
 use Rattle.qq_base.specs.declared.ids.QueueId.{QueueId}
 use Rattle.qq_disk.specs.Disk.{now}
+use Rattle.qq_disk.specs.Image.{log_of}
 use Rattle.qq_disk.proofs.Stored.{still_tells}
 use Rattle.qq_wal.specs.Running.{Stays, StillHolds}
-use Rattle.qq_node_log.proofs.Same.{same-then}
+use Rattle.qq_node_log.proofs.Same.{beside-grown, same-newest, same-then}
 use Rattle.qq_node_log.proofs.Stepping.{comes-no_file, comes-nothing, comes-whole, stays-then}
 use Rattle.qq_node_log.proofs.syncing.sync_log.Goals as goal
 
@@ -84,6 +85,9 @@ returns-in-Ok-true-clause-same g c =
       told = c.sync_batch.ensures.told;
       later = c.sync_batch.ensures.cause.later;
       whole = λ tell. c.sync_batch.ensures.may tell;
+      grown = λ tell. beside-grown (g.D.NodeDisk.past c.args.wal.now.disk) (g.D.NodeDisk.past c.sync_batch.new.self.disk)
+          (log_of c.args.wal.now.header.file) (c.sync_batch.ensures.beside tell);
+      newest = same-newest c.args.wal.now c.sync_batch.new.self c.sync_batch.ensures.file;
     }) c.begin_next.ensures.same
 
 pub returns-in-Ok-false-clause-same : goal.returns-in-Ok-false-clause-same
@@ -96,6 +100,9 @@ returns-in-Ok-false-clause-same g c =
       told = c.sync_batch.ensures.told;
       later = c.sync_batch.ensures.cause.later;
       whole = λ tell. c.sync_batch.ensures.may tell;
+      grown = λ tell. beside-grown (g.D.NodeDisk.past c.args.wal.now.disk) (g.D.NodeDisk.past c.sync_batch.new.self.disk)
+          (log_of c.args.wal.now.header.file) (c.sync_batch.ensures.beside tell);
+      newest = same-newest c.args.wal.now c.sync_batch.new.self c.sync_batch.ensures.file;
     }) c.begin_next.ensures.same
 
 pub returns-in-Err-clause-same : goal.returns-in-Err-clause-same
@@ -108,4 +115,10 @@ returns-in-Err-clause-same g c =
       told = c.sync_batch.ensures.told;
       later = c.sync_batch.ensures.cause.later;
       whole = λ tell. c.sync_batch.ensures.may tell;
+      grown = λ tell. beside-grown (g.D.NodeDisk.past c.args.wal.now.disk) (g.D.NodeDisk.past c.sync_batch.new.self.disk)
+          (log_of c.args.wal.now.header.file) (c.sync_batch.ensures.beside tell);
+      newest = same-newest c.args.wal.now c.sync_batch.new.self c.sync_batch.ensures.file;
     }) c.begin_next.ensures.same
+
+pub returns-in-Err-clause-going_on : goal.returns-in-Err-clause-going_on
+returns-in-Err-clause-going_on g c = λ told. c.in-Err.ensures.going_on (still_tells c.sync_batch.ensures.told told)
