@@ -1,4 +1,4 @@
-//! What a script and the words of its command say: lines, and the options behind `script`. No input is read here.
+//! What the lines of a script say. No input is read here.
 #![tactic(auto)]
 
 mod arguments;
@@ -10,9 +10,6 @@ mod laws;
 mod line;
 mod names;
 mod numbers;
-mod option_laws;
-mod option_words;
-mod options;
 mod parse;
 mod words;
 
@@ -20,8 +17,5 @@ pub use fault::ScriptFault;
 pub use laws::{faults_of_lines_have_causes, numbers_are_decimal_texts};
 pub use line::{LINE_LIMIT, Nodes, Place, ScriptLine};
 pub use numbers::number_in;
-pub use option_laws::options_stand_in_any_order;
-pub use option_words::read_options;
-pub use options::{LOG_BYTES, LOG_BYTES_LEAST, LOG_BYTES_MOST, Options, QUEUES_MOST};
 pub use parse::{parse_line, text_in};
 pub use words::{parts_of, text_of};
