@@ -160,10 +160,7 @@ impl<Q: Queue, L: LogView> Seat<Q, L> {
                 Ok(shown)
             }
             Err(cause) => {
-                let Some(server) = self.server.take() else {
-                    unreachable!()
-                };
-                self.leave(server);
+                self.crash();
                 Err(cause)
             }
         }
