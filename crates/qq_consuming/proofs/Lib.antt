@@ -1,0 +1,2 @@
+pub mod ReceivedLemmas
+pub mod KeptLemmas
