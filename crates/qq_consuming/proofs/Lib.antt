@@ -1,2 +1,4 @@
 pub mod ReceivedLemmas
 pub mod KeptLemmas
+pub mod History
+pub mod HistoryLaws

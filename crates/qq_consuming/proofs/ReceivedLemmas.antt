@@ -192,3 +192,10 @@ missing-least r is =
                 (gap.least other (ltb-false other r.next high) lt)
           ];
     }
+
+pub missing-positive : (r : Received) → IsReceived r → 0 < missing r
+missing-positive r is =
+    let gap = first-missing r.next r.waiting is.rise is.ahead in
+    let positive : 0 < r.next = is.positive in
+    let le : r.next ≤ missing r = gap.from_there in
+    omega (arith, positive, le)

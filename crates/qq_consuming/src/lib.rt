@@ -2,7 +2,13 @@
 #![tactic(auto)]
 
 mod consuming;
+mod laws;
 
 pub use consuming::{ClaimFault, Consuming};
+pub use laws::{
+    arrivals_are_remembered, claims_are_of_what_was_handed_out,
+    consumers_are_handed_their_deliveries, deliveries_are_handed_out_in_order,
+    the_least_id_is_missing, the_next_delivery_is_there_once_it_arrives,
+};
 pub use qq_base::{ConsumerId, Memory};
 pub use qq_entry::Delivery;
