@@ -1,3 +1,4 @@
 pub mod Consuming
 pub mod Received
 pub mod Arrivals
+pub mod Numerals
