@@ -1,15 +1,15 @@
 -- What a consumer knows is what has come and what was handed out.
-use Rattle.std.proofs.Common.{◌≡◌, ◌⊎◌, ℕ, zero, suc, ◌+◌, ◌<◌, ◌≤◌, Bool, true, false, ◌||◌, cond, List, [], ◌∷◌, ◌++◌, length, Option, Some, None, refl, sym, ap, ◌∙◌, subst, inl, inr, arith, append_assoc, append-nil, length-append}
-use Rattle.std.specs.Prelude.{is_some, nat_eq, nat_lt, slice_get}
+use Rattle.std.proofs.Common.{◌≡◌, ℕ, ◌+◌, ◌<◌, ◌≤◌, Bool, true, false, ◌||◌, List, [], ◌∷◌, ◌++◌, length, Option, Some, None, refl, sym, ap, ◌∙◌, subst, inl, inr, arith, append_assoc, append-nil, length-append}
+use Rattle.std.specs.Prelude.{nat_eq, nat_lt}
 use Rattle.std.specs.List.{AllByRecursion, list_any}
 use Rattle.std.specs.Cmp.{both_ways}
-use Rattle.std.proofs.lemmas.Bool.{cases_Bool, cond-true, cond-false, cond_both, eq-eqb, eqb-true, ltb-true, ltb-false, lt-ltb, le-ltb, ne_eqb, or_from, or_cases, or_left, or_right}
+use Rattle.std.proofs.lemmas.Bool.{cases_Bool, cond_both, eq-eqb, eqb-true, ltb-true, ltb-false, lt-ltb, le-ltb, or_cases, or_left, or_right}
 use Rattle.qq_base.proofs.Lists.{In, In-append_left, In-append_right, AllByRecursion-weaker, AllByRecursion-append}
 use Rattle.qq_base.specs.declared.ids.ConsumerId.{ConsumerId}
 use Rattle.qq_entry.specs.declared.answer.Delivery.{Delivery}
 use Rattle.qq_consuming.specs.Consuming.{Received, arrive, hand_out, hand_out_by, has_arrived, ids_of, insert_delivery, new_consumer, next_by, next_delivery, without_first}
 use Rattle.qq_consuming.specs.Received.{IsReceived}
-use Rattle.qq_consuming.specs.Arrivals.{Deed, Arrives, Asks, after_deed, after_deeds, arrived_by, arrivals, given, handed, handed_by}
+use Rattle.qq_consuming.specs.Arrivals.{Deed, Arrives, Asks, after_deeds, arrivals, given, handed}
 use Rattle.qq_consuming.proofs.ReceivedLemmas.{arrive-received, handed-received, insert-all, new-received}
 
 any-append : (id : ℕ) (xs ys : List Delivery)
@@ -117,7 +117,8 @@ tracks-arrive d r out arrived is =
           let before = in-more r.waiting arrived (d ∷ []) is.waiting_in in
           cond_both (has_arrived d.id r) r r' (λ (x : Received). AllByRecursion (λ (o : Delivery). In o all) x.waiting)
           (λ _. before)
-          (λ _. insert-all (λ (o : Delivery). In o all) d r.waiting (In-append_right d arrived (d ∷ []) (inl refl)) before);
+          (λ _. insert-all (λ (o : Delivery). In o all) d r.waiting
+          (In-append_right d arrived (d ∷ []) (inl refl)) before);
     }
   where
     one : (b : Bool) → b ≡ (b || false)

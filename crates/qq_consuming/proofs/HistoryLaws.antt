@@ -1,11 +1,11 @@
 -- Laws of what a consumer knows and is handed, over all deeds.
-use Rattle.std.proofs.Common.{◌≡◌, ◌⊎◌, ℕ, zero, suc, ◌+◌, ◌<◌, ◌≤◌, Bool, true, false, ◌||◌, ◌&&◌, List, [], ◌∷◌, ◌++◌, length, Some, refl, sym, ap, ◌∙◌, subst, inl, inr, arith}
+use Rattle.std.proofs.Common.{◌≡◌, ℕ, zero, suc, ◌+◌, ◌<◌, ◌≤◌, true, false, List, [], ◌∷◌, length, Some, refl, sym, ap, ◌∙◌, inl, inr, arith}
 use Rattle.std.specs.Prelude.{All, Contains, is_some, nat_eq, nat_lt, slice_get}
 use Rattle.std.specs.List.{AllByRecursion, list_any}
 use Rattle.std.specs.Cmp.{both_ways}
 use Rattle.std.proofs.lemmas.Bool.{and_from, and_parts, cases_Bool, eqb-false, eqb-true, ltb-true, lt-ltb, or_cases, or_left, or_right}
 use Rattle.std.proofs.lemmas.List.Elements.{All-contains, All-from_recursion}
-use Rattle.qq_base.proofs.Lists.{In, AllByRecursion-weaker, AllByRecursion-in}
+use Rattle.qq_base.proofs.Lists.{In, AllByRecursion-weaker}
 use Rattle.qq_base.proofs.Fronts.{front-nil, longer_front}
 use Rattle.qq_base.specs.Fronts.{IsFront}
 use Rattle.qq_base.specs.declared.ids.ConsumerId.{ConsumerId}
@@ -15,7 +15,7 @@ use Rattle.qq_model.proofs.Soundness.{Contains-in, in_contains}
 use Rattle.qq_consuming.specs.Consuming.{Received, has_arrived, ids_of, missing, new_consumer, next_delivery, was_handed_out}
 use Rattle.qq_consuming.specs.Arrivals.{Deed, after_deeds, arrivals, handed}
 use Rattle.qq_consuming.proofs.ReceivedLemmas.{missing-least, missing-positive, next-arrived}
-use Rattle.qq_consuming.proofs.History.{Counted, Tracks, history}
+use Rattle.qq_consuming.proofs.History.{Counted, history}
 
 pub remembered : (consumer : ConsumerId) (deeds : List Deed) (id : ℕ) → 0 < id
     → has_arrived id (after_deeds deeds (new_consumer consumer)) ≡ list_any (nat_eq id) (ids_of (arrivals deeds))

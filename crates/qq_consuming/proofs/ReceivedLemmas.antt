@@ -1,12 +1,12 @@
 -- What holds of a consumer at its client at each time.
-use Rattle.std.proofs.Common.{◌≡◌, ◌⊎◌, ℕ, ◌+◌, ◌<◌, ◌≤◌, Bool, true, false, ◌||◌, cond, List, [], ◌∷◌, Option, Some, None, refl, sym, ap, ◌∙◌, subst, inl, inr, arith}
+use Rattle.std.proofs.Common.{◌≡◌, ℕ, ◌+◌, ◌<◌, ◌≤◌, Bool, true, false, ◌||◌, List, [], ◌∷◌, Option, Some, None, refl, sym, ap, ◌∙◌, subst, inl, inr, arith}
 use Rattle.std.specs.Prelude.{is_some, nat_eq, nat_lt}
 use Rattle.std.specs.List.{AllByRecursion, list_any}
-use Rattle.std.proofs.lemmas.Bool.{cases_Bool, cond-true, cond-false, cond_both, eq-eqb, eqb-true, eqb-false, ltb-true, ltb-false, lt-ltb, le-ltb, ne_eqb, or_from, or_left, or_right, or_parts, cases_eq}
+use Rattle.std.proofs.lemmas.Bool.{cases_Bool, cond-true, cond-false, cond_both, eqb-true, eqb-false, ltb-true, ltb-false, le-ltb, ne_eqb, or_from, or_left, or_right, or_parts}
 use Rattle.qq_base.proofs.Lists.{AllByRecursion-weaker}
 use Rattle.qq_base.specs.declared.ids.ConsumerId.{ConsumerId}
 use Rattle.qq_entry.specs.declared.answer.Delivery.{Delivery}
-use Rattle.qq_consuming.specs.Consuming.{Received, IsLeastMissing, arrive, first_missing, hand_out, hand_out_by, has_arrived, ids_of, insert_delivery, missing, new_consumer, next_by, next_delivery, without_first}
+use Rattle.qq_consuming.specs.Consuming.{Received, IsLeastMissing, arrive, first_missing, hand_out, hand_out_by, has_arrived, ids_of, insert_delivery, missing, new_consumer, next_by, next_delivery}
 use Rattle.qq_consuming.specs.Received.{IsReceived, Rise}
 
 -- ---- a delivery in its place

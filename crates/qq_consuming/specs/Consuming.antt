@@ -3,7 +3,6 @@
 use Rattle.std.specs.Prelude.{◌≡◌, ℕ, ◌+◌, ◌<◌, true, false, List, [], ◌∷◌, Bool, not, ◌&&◌, ◌||◌, Option, Some, None, find, map, nat_eq, nat_lt, if◌then◌else◌}
 use Rattle.std.specs.List.{list_any}
 use Rattle.qq_base.specs.declared.ids.ConsumerId.{ConsumerId}
-use Rattle.qq_base.specs.declared.memory.TheConstants.{NUMBER_END}
 use Rattle.qq_entry.specs.declared.answer.Delivery.{Delivery}
 use Rattle.qq_consuming.specs.declared.consuming.ClaimFault.{ClaimFault}
 use Rattle.qq_consuming.specs.declared.consuming.ClaimFault.TheVariants.{NotTaken}

@@ -1,4 +1,4 @@
-ghost use Rattle.std.specs.Prelude.{◌≡◌, ◌≤◌, IfErr, IfOk, IfSome, IsOk, IsSome, OnErr, OnOk, None, Some, not, is_some, ◌↔◌};
+ghost use Rattle.std.specs.Prelude.{◌≡◌, ◌<◌, ◌≤◌, IfErr, IfOk, IfSome, OnErr, OnOk, None, not, is_some, true};
 ghost use Rattle.qq_base.specs.Causes.{SpentOnlyWhere};
 ghost use Rattle.qq_base.specs.declared.memory.TheConstants.{NUMBER_END};
 ghost use Rattle.qq_consuming.specs.Consuming.{HasClaimCause, arrive, has_arrived, hand_out, missing, new_consumer, next_delivery, not_taken, was_handed_out, IsLeastMissing};
@@ -82,12 +82,14 @@ impl Consuming {
     /// A delivery comes to the client. It is false exactly for an id that has arrived before; then all is as
     /// before.
     ///
-    /// - `ok`, `new`: it waits for its turn, unless its id has arrived.
+    /// - `ok`, `first`: it waits for its turn, unless its id has arrived.
     /// - `err`: after an error all is as before.
-    /// - `cause`: `Memory::Spent` comes only for an id at the end of numbers, which no queue gives.
+    /// - `within`, `cause`: an id at the end of numbers, which no queue gives, is refused with
+    ///   `Memory::Spent`, and no other is.
     pub fn arrive(&mut self, delivery: Delivery) -> Result<bool, Memory>
         ensures ok { OnOk result (self.new ≡ arrive delivery self.old) }
         ensures first { IfOk result (λ first. first ≡ not (has_arrived delivery.id self.old)) }
+        ensures within { IfOk result (λ first. first ≡ true → delivery.id < NUMBER_END) }
         ensures err { OnErr result (self.new ≡ self.old) }
         ensures cause { IfErr result (λ e. SpentOnlyWhere e NUMBER_END (NUMBER_END ≤ delivery.id)) }
     {

@@ -60,8 +60,8 @@ pub fn claims_are_of_what_was_handed_out()
 /// Whatever is lost on the way, comes again or comes out of order: where each arrival is of the consumer's
 /// deliveries over the whole audit of its queue, what is handed out is a front of them.
 pub fn consumers_are_handed_their_deliveries()
-    ensures { (args : QueueArgs) (entries : List Entry) (consumer : ConsumerId) (deeds : List Deed) →
-        IsNumbered consumer.session →
+    ensures { (args : QueueArgs) (entries : List Entry) (consumer : ConsumerId)
+        (deeds : List Deed) → IsNumbered consumer.session →
         All (Contains (deliveries (empty_queue args) (queue_audit args entries) consumer))
         (arrivals deeds) →
         IsFront (handed (new_consumer consumer) deeds)

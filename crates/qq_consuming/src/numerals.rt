@@ -7,7 +7,8 @@ ghost use Rattle.qq_consuming.specs.Numerals.{after, arrives, ids_handed};
 /// A delivery that comes before one below it waits for that one.
 pub fn deliveries_wait_for_those_below_them()
     ensures waits { ids_handed (arrives 2 ∷ Asks ∷ arrives 3 ∷ Asks ∷ []) ≡ [] }
-    ensures order { ids_handed (arrives 3 ∷ arrives 2 ∷ Asks ∷ arrives 1 ∷ Asks ∷ Asks ∷ Asks ∷ Asks ∷ [])
+    ensures order { ids_handed
+        (arrives 3 ∷ arrives 2 ∷ Asks ∷ arrives 1 ∷ Asks ∷ Asks ∷ Asks ∷ Asks ∷ [])
         ≡ 1 ∷ 2 ∷ 3 ∷ [] }
 {}
 
@@ -28,7 +29,9 @@ pub fn the_first_gap_is_missing()
 /// Ids that were handed out may be claimed. One that waits, one that never came and 0 may not, and the first such
 /// one is named.
 pub fn claims_name_the_first_id_that_is_not_taken()
-    ensures taken { not_taken (2 ∷ 1 ∷ []) (after (arrives 1 ∷ arrives 2 ∷ Asks ∷ Asks ∷ [])) ≡ None }
-    ensures waits { not_taken (1 ∷ 2 ∷ 3 ∷ []) (after (arrives 1 ∷ arrives 2 ∷ Asks ∷ [])) ≡ Some 2 }
+    ensures taken { not_taken (2 ∷ 1 ∷ [])
+        (after (arrives 1 ∷ arrives 2 ∷ Asks ∷ Asks ∷ [])) ≡ None }
+    ensures waits { not_taken (1 ∷ 2 ∷ 3 ∷ [])
+        (after (arrives 1 ∷ arrives 2 ∷ Asks ∷ [])) ≡ Some 2 }
     ensures zero { not_taken (0 ∷ 9 ∷ []) (after (arrives 1 ∷ Asks ∷ [])) ≡ Some 0 }
 {}

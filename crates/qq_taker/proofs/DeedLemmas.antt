@@ -1,17 +1,15 @@
 -- What happens to a taker over all deeds.
-use Rattle.std.proofs.Common.{◌≡◌, ◌⊎◌, ℕ, Bool, true, false, ◌||◌, cond, List, [], ◌∷◌, ◌++◌, Option, Some, None, refl, sym, ap, ◌∙◌, subst, inl, inr, append_assoc, append-nil}
-use Rattle.std.specs.Prelude.{is_some, flat_map}
+use Rattle.std.proofs.Common.{◌≡◌, ℕ, true, false, List, [], ◌∷◌, ◌++◌, Option, Some, None, refl, sym, ap, ◌∙◌, inl, inr, append_assoc, append-nil}
+use Rattle.std.specs.Prelude.{is_some}
 use Rattle.std.specs.List.{list_any}
 use Rattle.std.specs.Option.{option_map}
 use Rattle.std.proofs.lemmas.Bool.{cases_Bool, cond-true, cond-false, cond_both, or_parts}
 use Rattle.qq_base.specs.declared.ids.ConsumerId.{ConsumerId}
 use Rattle.qq_base.specs.Ids.{same_consumer}
 use Rattle.qq_model.proofs.OneConsumer.{same_consumer-true, same_consumer-refl}
-use Rattle.qq_entry.specs.declared.answer.Delivery.{Delivery}
 use Rattle.qq_taker.specs.declared.taker.Seen.{Seen}
-use Rattle.qq_taker.specs.declared.taker.Verdict.{Verdict}
 use Rattle.qq_taker.specs.Seen.{see_all, seen_of}
-use Rattle.qq_taker.specs.Seats.{Seated, Seats, attach, judge, leave, put_seat, take}
+use Rattle.qq_taker.specs.Seats.{Seated, Seats, attach, judge, leave, put_seat}
 use Rattle.qq_taker.specs.Deeds.{Deed, Attaches, Offers, Drops, after_deed, after_deeds, attaches, drops, offered, offered_by}
 
 -- ---- a seat
@@ -30,7 +28,8 @@ put-other id other seat all not' = cond-false (same_consumer id other) seat (all
 abbrev pub at : ℕ → Option (List Seen) → Option Seated
 at number seen = Some (record { number = number; seen = seen })
 
-pub see-more : (first rest : List Seen) (seen : Option (List Seen)) → see_all rest (see_all first seen) ≡ see_all (first ++ rest) seen
+pub see-more : (first rest : List Seen) (seen : Option (List Seen))
+    → see_all rest (see_all first seen) ≡ see_all (first ++ rest) seen
 see-more first rest None = refl
 see-more first rest (Some list) = ap Some (append_assoc list first rest)
 
@@ -58,11 +57,13 @@ stays-by id number seen (Offers consumer delivery verdict) all is kept =
       | inl same ↦
           put-own consumer id (option_map (judge delivery verdict) (all consumer)) all same
           ∙ ap (option_map (judge delivery verdict)) (ap all (same_consumer-true consumer id same) ∙ is)
-          ∙ ap (λ (l : List Seen). at number (see_all l seen)) (sym (cond-true (same_consumer consumer id) more [] same))
+          ∙ ap (λ (l : List Seen). at number (see_all l seen))
+          (sym (cond-true (same_consumer consumer id) more [] same))
       | inr other ↦
           put-other consumer id (option_map (judge delivery verdict) (all consumer)) all other
           ∙ is ∙ ap (at number) (sym (see-none seen))
-          ∙ ap (λ (l : List Seen). at number (see_all l seen)) (sym (cond-false (same_consumer consumer id) more [] other))
+          ∙ ap (λ (l : List Seen). at number (see_all l seen))
+          (sym (cond-false (same_consumer consumer id) more [] other))
     ]
 stays-by id number seen (Drops consumer) all is kept =
     put-other consumer id None all kept ∙ is ∙ ap (at number) (sym (see-none seen))

@@ -1,5 +1,5 @@
 -- What a change of a map by consumers is to a function of the consumer.
-use Rattle.std.proofs.Common.{◌≡◌, ◌⊎◌, Bool, true, false, cond, List, Option, Some, None, refl, sym, ap, ◌∙◌, inl, inr}
+use Rattle.std.proofs.Common.{◌≡◌, ◌⊎◌, ℕ, Bool, true, false, cond, List, Option, Some, refl, sym, ap, ◌∙◌, inl, inr}
 use Rattle.std.specs.Prelude.{is_some}
 use Rattle.std.specs.Option.{option_map}
 use Rattle.indexmap.specs.IndexMap.{IndexMap, get, WritesThrough}
@@ -12,12 +12,15 @@ use Rattle.qq_entry.specs.declared.answer.Delivery.{Delivery}
 use Rattle.qq_taker.specs.declared.desk.Seat.{Seat}
 use Rattle.qq_taker.specs.declared.taker.Seen.{Seen}
 use Rattle.qq_taker.specs.declared.taker.Verdict.{Verdict}
-use Rattle.qq_taker.specs.Seen.{see}
 use Rattle.qq_taker.specs.Seats.{Seated, Seats, judge, put_seat, seated, take}
 
 -- the seats of what a map gives
 abbrev seats_by : {T : Type 0} → (T → Option (List Seen)) → (ConsumerId → Option (Seat T)) → Seats
 seats_by seen rows = λ id. option_map (seated seen) (rows id)
+
+-- a taker that has seen this
+abbrev pub with_seen : ℕ → Option (List Seen) → Seated
+with_seen number seen = record { number = number; seen = seen }
 
 -- what is put at a consumer's id, or taken out, is that consumer's
 pub updated : {T : Type 0} (seen : T → Option (List Seen)) (id : ConsumerId) (w : Option (Seat T))

@@ -1,20 +1,20 @@
 -- What a taker sees of its consumer's deliveries.
-use Rattle.std.proofs.Common.{◌≡◌, ◌⊎◌, ℕ, suc, ◌+◌, Bool, true, false, ◌||◌, cond, List, [], ◌∷◌, ◌++◌, length, map, take, drop, Option, Some, None, refl, sym, ap, ◌∙◌, subst, inl, inr, append_assoc, append-nil}
+use Rattle.std.proofs.Common.{◌≡◌, ℕ, false, List, [], ◌∷◌, ◌++◌, length, map, take, drop, Option, Some, None, refl, sym, ap, ◌∙◌, subst, append_assoc}
 use Rattle.std.specs.Prelude.{All, Contains, is_some}
 use Rattle.std.specs.List.{list_any}
 use Rattle.std.specs.Option.{option_map}
 use Rattle.std.proofs.Math.Seq.{drop-append_seam, take-append_seam}
 use Rattle.std.proofs.lemmas.List.{length-map}
-use Rattle.std.proofs.lemmas.Bool.{cond-true, cond-false, cond_both, or_parts}
+use Rattle.std.proofs.lemmas.Bool.{cond-true, cond-false, cond_both}
 use Rattle.qq_base.specs.Fronts.{IsFront}
 use Rattle.qq_base.specs.declared.ids.ConsumerId.{ConsumerId}
 use Rattle.qq_entry.specs.declared.answer.Delivery.{Delivery}
-use Rattle.qq_consuming.specs.Consuming.{Received, arrive, hand_out, hand_out_by, new_consumer, next_delivery}
-use Rattle.qq_consuming.specs.Arrivals.{Deed, Arrives, Asks, after_deeds, arrivals, given, handed}
+use Rattle.qq_consuming.specs.Consuming.{Received, hand_out, hand_out_by, new_consumer, next_delivery}
+use Rattle.qq_consuming.specs.Arrivals.{Deed, Arrives, Asks, arrivals, given, handed}
 use Rattle.qq_taker.specs.declared.taker.Seen.{Seen}
 use Rattle.qq_taker.specs.declared.taker.Verdict.{Verdict}
 use Rattle.qq_taker.specs.Seen.{see_all, seen_of}
-use Rattle.qq_taker.specs.Seats.{Seated, judge}
+use Rattle.qq_taker.specs.Seats.{judge}
 use Rattle.qq_taker.specs.Taking.{Taking, Turn, Comes, Hands, Begins, Ends, IsRun, after_turn, after_turns, coming, hand_to, handing, hands_by, is_end, new_taking}
 use Rattle.qq_taker.proofs.DeedLemmas.{at, see-more, see-none}
 
@@ -112,7 +112,8 @@ seat-stays (Ends ∷ turns) t number seen is kept = absurd cc
 
 -- ---- before and since
 
-after-more : (first rest : List Turn) (t : Taking) → after_turns (first ++ rest) t ≡ after_turns rest (after_turns first t)
+after-more : (first rest : List Turn) (t : Taking)
+    → after_turns (first ++ rest) t ≡ after_turns rest (after_turns first t)
 after-more [] rest t = refl
 after-more (turn ∷ first) rest t = after-more first rest (after_turn turn t)
 

@@ -1,5 +1,5 @@
 -- What happens to the takers of consumers, in any order.
-use Rattle.std.specs.Prelude.{ℕ, List, [], ◌∷◌, Bool, false, Option, Some, None, flat_map, is_some, if◌then◌else◌}
+use Rattle.std.specs.Prelude.{ℕ, List, [], ◌∷◌, Bool, false, Option, flat_map, is_some, if◌then◌else◌}
 use Rattle.qq_base.specs.declared.ids.ConsumerId.{ConsumerId}
 use Rattle.qq_base.specs.Ids.{same_consumer}
 use Rattle.qq_entry.specs.declared.answer.Delivery.{Delivery}

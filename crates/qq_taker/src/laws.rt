@@ -36,8 +36,9 @@ pub fn nothing_is_seen_after_the_drop()
 
 /// A taker stays where another is to be attached.
 pub fn a_consumer_has_one_taker()
-    ensures { (all : Seats) (id : ConsumerId) (number : ℕ) (seen : Option (List Seen)) (seat : Seated) →
-        all id ≡ Some seat → after_deeds (Attaches id number seen ∷ []) all ≡ all }
+    ensures { (all : Seats) (id : ConsumerId) (number : ℕ) (seen : Option (List Seen))
+        (seat : Seated) → all id ≡ Some seat →
+        after_deeds (Attaches id number seen ∷ []) all ≡ all }
 {}
 
 /// Whatever is lost on the way, comes again or comes out of order: where each delivery that arrives is of the

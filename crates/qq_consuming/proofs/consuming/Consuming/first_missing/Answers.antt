@@ -7,9 +7,12 @@ use Rattle.qq_consuming.proofs.consuming.Consuming.first_missing.Goals as goal
 pub loop-key-init : goal.loop-key-init
 loop-key-init c =
     record {
-      same = keys-missing _ _ c.self.invariant _ (c.into_iter-key-iterator.ensures.into_iter_gives ∙ c.keys-key-items.ensures.rest) ∙ ap missing c.self.view_is;
+      same = keys-missing _ _ c.self.invariant _
+          (c.into_iter-key-iterator.ensures.into_iter_gives ∙ c.keys-key-items.ensures.rest)
+          ∙ ap missing c.self.view_is;
       within = c.self.invariant.within;
-      below = keys-below _ _ c.self.invariant _ (c.into_iter-key-iterator.ensures.into_iter_gives ∙ c.keys-key-items.ensures.rest);
+      below = keys-below _ _ c.self.invariant _
+          (c.into_iter-key-iterator.ensures.into_iter_gives ∙ c.keys-key-items.ensures.rest);
     }
 
 pub returns-then-key-id-clause-received : goal.returns-then-key-id-clause-received
