@@ -2,3 +2,4 @@ pub mod ReceivedLemmas
 pub mod KeptLemmas
 pub mod History
 pub mod HistoryLaws
+pub mod FetchedLemmas

@@ -2,3 +2,4 @@ pub mod Consuming
 pub mod Received
 pub mod Arrivals
 pub mod Numerals
+pub mod Fetched

@@ -10,11 +10,12 @@ ghost use Rattle.qq_entry.specs.declared.queue.QueueArgs.{QueueArgs};
 ghost use Rattle.qq_model.specs.Audit.{deliveries};
 ghost use Rattle.qq_model.specs.Gate.{IsNumbered};
 ghost use Rattle.qq_model.specs.State.{empty_queue};
-ghost use Rattle.qq_laws.specs.Always.{queue_audit};
+ghost use Rattle.qq_laws.specs.Always.{queue_after, queue_audit};
 ghost use Rattle.qq_consuming.specs.Consuming.{has_arrived, ids_of, missing, new_consumer, next_delivery, was_handed_out};
 ghost use Rattle.qq_consuming.specs.Arrivals.{Deed, after_deeds, arrivals, handed};
+ghost use Rattle.qq_consuming.specs.Fetched.{IsOutWith};
 
-use qq_laws::delivery_ids_count_by_one;
+use qq_laws::{delivery_ids_count_by_one, what_is_out_was_delivered};
 
 /// An id has arrived exactly where a delivery of it was among the arrivals.
 pub fn arrivals_are_remembered()
@@ -68,4 +69,14 @@ pub fn consumers_are_handed_their_deliveries()
         (deliveries (empty_queue args) (queue_audit args entries) consumer) }
 {
     delivery_ids_count_by_one();
+}
+
+/// What is out with a consumer, shown as it is now, is of its deliveries over the whole audit, as it was then: so
+/// a client that was cut off may be shown it again.
+pub fn what_is_out_was_delivered_as_it_is()
+    ensures { (args : QueueArgs) (entries : List Entry) (consumer : ConsumerId)
+        (delivery : Delivery) → IsOutWith (queue_after args entries) consumer delivery →
+        Contains (deliveries (empty_queue args) (queue_audit args entries) consumer) delivery }
+{
+    what_is_out_was_delivered();
 }
