@@ -1,0 +1,5 @@
+pub mod ReceivedLemmas
+pub mod KeptLemmas
+pub mod History
+pub mod HistoryLaws
+pub mod FetchedLemmas

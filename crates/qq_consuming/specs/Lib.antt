@@ -1,0 +1,5 @@
+pub mod Consuming
+pub mod Received
+pub mod Arrivals
+pub mod Numerals
+pub mod Fetched

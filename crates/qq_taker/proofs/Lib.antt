@@ -1,0 +1,3 @@
+pub mod SeatLemmas
+pub mod DeedLemmas
+pub mod TakingLemmas
