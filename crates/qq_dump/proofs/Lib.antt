@@ -1,0 +1,3 @@
+pub mod Listed
+pub mod Records
+pub mod Written

@@ -1,0 +1,112 @@
+-- What a sink was given of the texts of log files, one after the other.
+use Rattle.std.proofs.Common.{◌≡◌, ◌≤◌, ◌<◌, ◌+◌, ◌++◌, ℕ, Bool, List, [], ◌∷◌, Option, Result, Ok, Err, length, take, drop, get_or, map, flat_map, refl, sym, ap, subst, ◌∙◌, arith, append_assoc, append-nil, length-append, take-append-drop, IsTrue}
+use Rattle.std.proofs.lemmas.List.{take_more, take-append-le}
+use Rattle.std.proofs.Math.Seq.{take-append-add}
+use Rattle.std.specs.Prelude.{OnErr}
+use Rattle.std.specs.Io.KnownBytes.{Appends}
+use Rattle.std.proofs.KnownBytes.{Appends-trans, Appends-nil}
+use Rattle.qq_disk.specs.Disk.{Disk, content}
+use Rattle.qq_disk.specs.Image.{log_of}
+use Rattle.qq_ports.specs.Faults.{AppendsPrefix}
+use Rattle.qq_dump.specs.Files.{LogFile, dump_text, log_text}
+use Rattle.qq_dump.specs.Listed.{file_of, files_of}
+use Rattle.qq_dump.specs.Text.{file_text}
+
+-- what is said of an error, whatever else there may be
+pub on_err : {T E P : Type 0} (r : Result T E) → P → OnErr r P
+on_err (Ok x) p = tt
+on_err (Err e) p = p
+
+-- a text was written whole, and a first part of the next one, which is a first part of both and any others
+first_part : (a b c : Option (List ℕ)) (text next rest all : List ℕ) → Appends a b text → AppendsPrefix b c next
+    → all ≡ text ++ (next ++ rest) → AppendsPrefix a c all
+first_part a b c text next rest all whole (n, within, grown) is = (
+  length text + n,
+  omega (arith, within, ap length is, length-append text (next ++ rest), length-append next rest),
+  subst (λ (l : List ℕ). Appends a c l)
+      (sym (ap (take (length text + n)) is ∙ take-append-add text (next ++ rest) n
+      ∙ ap (λ (l : List ℕ). text ++ l) (take-append-le n next rest within)))
+      (Appends-trans a b c text (take n next) whole grown),
+)
+
+-- nothing of a text is a first part of it
+pub nothing : (a : Option (List ℕ)) (text : List ℕ) → AppendsPrefix a a text
+nothing a text = (0, omega arith, Appends-nil a)
+
+module _ (told : Bool) (d : Disk) where
+  -- the texts of these files, which are those of the numbers where the disk tells them
+  pub record Wrote (numbers : List ℕ) (old new : Option (List ℕ)) : Type 0 where
+    pub files : List LogFile
+    pub are : IsTrue told → files ≡ files_of d numbers
+    pub written : Appends old new (dump_text files)
+
+  pub begins : (a : Option (List ℕ)) → Wrote [] a a
+  begins a = record { files = []; are = λ told. refl; written = Appends-nil a }
+
+  texts : (files more : List LogFile) → dump_text (files ++ more) ≡ dump_text files ++ dump_text more
+  texts [] more = refl
+  texts (file ∷ files) more =
+      ap (λ (l : List ℕ). log_text file ++ l) (texts files more)
+      ∙ sym (append_assoc (log_text file) (dump_text files) (dump_text more))
+
+  files-append : (numbers more : List ℕ) → files_of d (numbers ++ more) ≡ files_of d numbers ++ files_of d more
+  files-append [] more = refl
+  files-append (n ∷ numbers) more = ap (λ (l : List LogFile). file_of d n ∷ l) (files-append numbers more)
+
+  -- the file of a number, whose bytes are those that the disk tells
+  abbrev pub HasBytes : ℕ → List ℕ → Type 0
+  HasBytes number bytes = IsTrue told → bytes ≡ content d (log_of number)
+
+  one : (number : ℕ) (bytes : List ℕ) → HasBytes number bytes → IsTrue told
+      → record { number = number; bytes = bytes } ∷ [] ≡ files_of d (number ∷ [])
+  one number bytes has told = ap (λ (bs : List ℕ). record { number = number; bytes = bs } ∷ []) (has told)
+
+  one-text : (number : ℕ) (bytes : List ℕ)
+      → dump_text (record { number = number; bytes = bytes } ∷ []) ≡ file_text number bytes
+  one-text number bytes = append-nil (file_text number bytes)
+
+  module _ (numbers : List ℕ) (number : ℕ) (a b c : Option (List ℕ)) (so : Wrote numbers a b) (bytes : List ℕ)
+      (has : HasBytes number bytes) where
+    abbrev more : List LogFile
+    more = record { number = number; bytes = bytes } ∷ []
+
+    are-more : IsTrue told → so.files ++ more ≡ files_of d (numbers ++ number ∷ [])
+    are-more told =
+        ap (λ (l : List LogFile). l ++ more) (so.are told)
+        ∙ ap (λ (l : List LogFile). files_of d numbers ++ l) (one number bytes has told)
+        ∙ sym (files-append numbers (number ∷ []))
+
+    text-more : dump_text (so.files ++ more) ≡ dump_text so.files ++ file_text number bytes
+    text-more = texts so.files more ∙ ap (λ (l : List ℕ). dump_text so.files ++ l) (one-text number bytes)
+
+    -- a file's text more
+    pub goes-on : Appends b c (file_text number bytes) → Wrote (numbers ++ number ∷ []) a c
+    goes-on grown = record {
+      files = so.files ++ more;
+      are = are-more;
+      written = subst (λ (l : List ℕ). Appends a c l) (sym text-more)
+          (Appends-trans a b c (dump_text so.files) (file_text number bytes) so.written grown);
+    }
+
+    -- a first part of a file's text more is a first part of the text of all
+    pub stops : (rest : List ℕ) → AppendsPrefix b c (file_text number bytes) → (files : List LogFile)
+        × (IsTrue told → files ≡ files_of d ((numbers ++ number ∷ []) ++ rest)) × AppendsPrefix a c (dump_text files)
+    stops rest part = (
+      (so.files ++ more) ++ files_of d rest,
+      λ told. ap (λ (l : List LogFile). l ++ files_of d rest) (are-more told)
+          ∙ sym (files-append (numbers ++ number ∷ []) rest),
+      first_part a b c (dump_text so.files) (file_text number bytes) (dump_text (files_of d rest))
+          (dump_text ((so.files ++ more) ++ files_of d rest)) so.written part
+          (texts (so.files ++ more) (files_of d rest)
+          ∙ ap (λ (l : List ℕ). l ++ dump_text (files_of d rest)) text-more
+          ∙ append_assoc (dump_text so.files) (file_text number bytes) (dump_text (files_of d rest))),
+    )
+
+-- ---- the numbers of a list, one after the other
+
+-- those up to the next one, and the others
+pub split : (numbers : List ℕ) (i : ℕ) → i < length numbers
+    → (take i numbers ++ get_or numbers i 0 ∷ []) ++ drop (i + 1) numbers ≡ numbers
+split numbers i less =
+    ap (λ (l : List ℕ). l ++ drop (i + 1) numbers) (sym (take_more numbers i 0 less))
+    ∙ take-append-drop (i + 1) numbers

@@ -1,0 +1,4 @@
+pub mod Fault
+pub mod Files
+pub mod Listed
+pub mod Text
