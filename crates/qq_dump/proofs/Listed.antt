@@ -1,5 +1,5 @@
 -- The log files among the names that a disk lists are all that it shows, by their numbers.
-use Rattle.std.proofs.Common.{◌≡◌, ◌≤◌, ◌<◌, ◌^◌, ◌⊎◌, ◌+◌, ◌++◌, ℕ, zero, suc, Bool, true, false, cond, eqb, List, [], ◌∷◌, length, Option, Some, None, Ordering, Less, Equal, Greater, nat_cmp, refl, sym, ap, subst, ◌∙◌, inl, inr, arith, is_some, IsTrue, slice_index, slice_index_or}
+use Rattle.std.proofs.Common.{◌≡◌, ◌≤◌, ◌<◌, ◌^◌, ◌+◌, ◌++◌, ℕ, zero, suc, Bool, true, false, cond, eqb, List, [], ◌∷◌, length, Option, Some, None, Ordering, Less, Equal, Greater, nat_cmp, refl, sym, ap, subst, ◌∙◌, inl, inr, arith, is_some, IsTrue, slice_index, slice_index_or}
 use Rattle.std.specs.Prelude.{unwrap_or}
 use Rattle.std.specs.List.{AllByRecursion}
 use Rattle.std.specs.List.Sorted.{IsStrictlySortedBy}
@@ -14,17 +14,17 @@ use Rattle.qq_disk.specs.Disk.{Disk, IsListed, IsListing, contents, now}
 use Rattle.qq_disk.specs.Image.{log_of}
 use Rattle.qq_disk.specs.Name.{name_cmp, rank}
 use Rattle.qq_dump.specs.Files.{AreShown, LogFile, files_from, log_files, with_file}
-use Rattle.qq_dump.specs.Listed.{file_of, files_of, log_number, log_numbers}
+use Rattle.qq_dump.specs.Listed.{file_of, files_of, log_numbers}
 
 -- ---- the numbers of log files among names
 
 -- in a list by its place there
-in-at : {A : Type 0} (xs : List A) (x : A) (k : ℕ) → k < length xs → slice_index_or xs k x ≡ x → In x xs
+pub in-at : {A : Type 0} (xs : List A) (x : A) (k : ℕ) → k < length xs → slice_index_or xs k x ≡ x → In x xs
 in-at [] x k less is = absurd (omega arith)
 in-at (y ∷ ys) x zero less is = inl (sym is)
 in-at (y ∷ ys) x (suc k) less is = inr (in-at ys x k (omega arith) is)
 
-at-in : {A : Type 0} (x : A) (xs : List A) → In x xs → (k : ℕ) × (k < length xs) × (slice_index_or xs k x ≡ x)
+pub at-in : {A : Type 0} (x : A) (xs : List A) → In x xs → (k : ℕ) × (k < length xs) × (slice_index_or xs k x ≡ x)
 at-in x [] here = absurd here
 at-in x (y ∷ ys) (inl same) = (0, omega arith, sym same)
 at-in x (y ∷ ys) (inr later) = let r = at-in x ys later in (suc r.0, omega (arith, r.1), r.2)
@@ -89,7 +89,7 @@ numbers-rise (f ∷ names) sorted = by (eqb (rank f.kind) 0) (numbers-rise names
 
 -- ---- the files of numbers
 
-shown-bytes : (o : Option (List ℕ)) (bytes : List ℕ) → o ≡ Some bytes → unwrap_or o [] ≡ bytes
+pub shown-bytes : (o : Option (List ℕ)) (bytes : List ℕ) → o ≡ Some bytes → unwrap_or o [] ≡ bytes
 shown-bytes o bytes is = ap (λ (o : Option (List ℕ)). unwrap_or o []) is
 
 module _ (d : Disk) where

@@ -1,10 +1,10 @@
 -- The text of a file's records, one behind the other.
-use Rattle.std.proofs.Common.{◌≡◌, ◌<◌, ◌≤◌, ◌+◌, ◌-◌, ◌++◌, ℕ, List, [], length, drop, Option, Some, None, Result, refl, sym, ap, ◌∙◌, arith, append_assoc, length-drop}
+use Rattle.std.proofs.Common.{◌≡◌, ◌<◌, ◌≤◌, ◌+◌, ◌++◌, ℕ, List, [], length, drop, Some, None, Result, sym, ap, ◌∙◌, arith, append_assoc, length-drop}
 use Rattle.qq_base.specs.Fields.{AreBytes}
 use Rattle.qq_wal_record.specs.declared.record.LogRecord.{LogRecord}
 use Rattle.qq_wal_record.specs.declared.record.NoRecord.{NoRecord}
 use Rattle.qq_wal_record.specs.Encoding.{record_encoding}
-use Rattle.qq_wal_record.specs.Reading.{IsRecordAt, record_at}
+use Rattle.qq_wal_record.specs.Reading.{record_at}
 use Rattle.qq_wal_chain.specs.Format.{IsFormat}
 use Rattle.qq_wal_chain.specs.Records.{records}
 use Rattle.qq_wal_chain.specs.Wal.{wal, record_of, read_record}

@@ -1,6 +1,4 @@
 -- Why a log isn't dumped whole.
-use Rattle.std.specs.Prelude.{ℕ}
-use Rattle.qq_base.specs.Causes.{Rose}
 use Rattle.qq_disk.specs.declared.fault.DiskFault.{DiskFault}
 use Rattle.qq_disk.specs.declared.fault.DiskFault.TheVariants.{Failed, Memory}
 use Rattle.qq_dump.specs.declared.fault.DumpFault.{DumpFault}

@@ -2,3 +2,4 @@ pub mod Fault
 pub mod Files
 pub mod Listed
 pub mod Text
+pub mod Worked

@@ -8,4 +8,5 @@ mod logs;
 mod text;
 
 pub use fault::DumpFault;
+pub use laws::{a_worked_disk_is_dumped, log_files_are_those_that_are_shown};
 pub use logs::dump;

@@ -74,11 +74,7 @@ fn push_end(out: &mut Vec<u8>, file: u64, place: u64) -> Result<(), Memory>
 }
 
 /// The record at the front, and how many bytes it takes. None where no whole record stands there.
-fn record_at(
-    alloc: Global,
-    file: u64,
-    bytes: &[u8],
-) -> Result<Option<(LogRecord, usize)>, Memory>
+fn record_at(alloc: Global, file: u64, bytes: &[u8]) -> Result<Option<(LogRecord, usize)>, Memory>
     ensures read { IfOk result (λ found.
         option_map (λ x. x.0) found ≡ read_record file bytes.now) }
     ensures found { IfOk result (λ found. IfSome found (IsRecordAt file bytes.now)) }
@@ -96,12 +92,7 @@ fn record_at(
 }
 
 /// The lines of the records of a file whose bytes after the header are these.
-fn push_records(
-    alloc: Global,
-    file: u64,
-    bytes: &[u8],
-    out: &mut Vec<u8>,
-) -> Result<(), Memory>
+fn push_records(alloc: Global, file: u64, bytes: &[u8], out: &mut Vec<u8>) -> Result<(), Memory>
     requires { length bytes.now < 2 ^ 63 }
     ensures ok { OnOk result (out.new.items
         ≡ out.old.items ++ records_text file 38 (records (wal []) file bytes.now)) }

@@ -1,9 +1,9 @@
-use Rattle.std.proofs.Common.{◌≡◌, ◌∙◌, ◌<◌, ◌^◌, ℕ, List, ap, sym, subst, arith, refl, IsTrue}
+use Rattle.std.proofs.Common.{◌≡◌, ◌∙◌, List, ap, refl, IsTrue}
 use Rattle.std.proofs.lemmas.Result.{on_ok_weaker, on_err_weaker}
 use Rattle.std.specs.Io.KnownBytes.{Appends}
-use Rattle.qq_disk.specs.Disk.{Disk, now, IsListing}
+use Rattle.qq_disk.specs.Disk.{now}
 use Rattle.qq_ports.specs.Faults.{AppendsPrefix}
-use Rattle.qq_dump.specs.Files.{AreShown, LogFile, dump_text, log_files}
+use Rattle.qq_dump.specs.Files.{LogFile, dump_text, log_files}
 use Rattle.qq_dump.specs.Listed.{files_of, log_numbers}
 use Rattle.qq_dump.proofs.Listed.{are-shown}
 use Rattle.qq_dump.proofs.Written.{nothing, on_err}
@@ -29,8 +29,7 @@ returns-clause-ok g c =
     let numbers-are = c.as_slice-2.ensures.value ∙ c.in_ok-numbers.ensures.ok ∙ ap log_numbers c.as_slice.ensures.value in
     on_ok_weaker c.dump_logs.result
     (λ (w : (files : List LogFile) × (IsTrue (tells c.names.new.self) → files ≡ files_of (now (past c.names.new.self)) numbers)
-    × Appends (g.O.Sink.written c.args.output.now) (g.O.Sink.written c.dump_logs.new.output) (dump_text files)).
-    (
+    × Appends (g.O.Sink.written c.args.output.now) (g.O.Sink.written c.dump_logs.new.output) (dump_text files)). (
       w.0,
       are-shown tells past c.args.disk.now c.names.new.self c.in_ok-names.names.items numbers w.0 c.names.ensures.told
           c.names.ensures.same c.in_ok-names.ensures.ok numbers-are c.dump_logs.ensures.range w.1,
@@ -46,8 +45,7 @@ returns-clause-err g c =
     let numbers-are = c.as_slice-2.ensures.value ∙ c.in_ok-numbers.ensures.ok ∙ ap log_numbers c.as_slice.ensures.value in
     on_err_weaker c.dump_logs.result
     (λ (w : (files : List LogFile) × (IsTrue (tells c.names.new.self) → files ≡ files_of (now (past c.names.new.self)) numbers)
-    × AppendsPrefix (g.O.Sink.written c.args.output.now) (g.O.Sink.written c.dump_logs.new.output) (dump_text files)).
-    (
+    × AppendsPrefix (g.O.Sink.written c.args.output.now) (g.O.Sink.written c.dump_logs.new.output) (dump_text files)). (
       w.0,
       are-shown tells past c.args.disk.now c.names.new.self c.in_ok-names.names.items numbers w.0 c.names.ensures.told
           c.names.ensures.same c.in_ok-names.ensures.ok numbers-are c.dump_logs.ensures.range w.1,

@@ -1,8 +1,7 @@
-use Rattle.std.proofs.Common.{◌≡◌, ◌<◌, ◌+◌, ◌++◌, ◌∷◌, ◌∙◌, ℕ, List, [], drop, get_or, length, take, sym, ap, subst, arith, IsTrue}
-use Rattle.std.proofs.lemmas.List.{take_more, take_all}
+use Rattle.std.proofs.Common.{◌+◌, ◌∙◌, ℕ, List, drop, get_or, take, sym, ap, subst, arith, IsTrue}
+use Rattle.std.proofs.lemmas.List.{take_more}
 use Rattle.qq_disk.specs.Disk.{Disk, now, content}
 use Rattle.qq_disk.specs.Image.{log_of}
-use Rattle.qq_dump.specs.Files.{LogFile}
 use Rattle.qq_dump.specs.Listed.{files_of}
 use Rattle.qq_dump.proofs.Written.{Wrote, HasBytes, goes-on, split, stops}
 use Rattle.qq_dump.proofs.logs.dump_logs.Goals as goal
@@ -18,11 +17,10 @@ returns-in-Err-clause-err g c =
     let e = c.in-Err.ensures.err in
     let has : HasBytes (tells c.args.disk.now) d (get_or numbers at 0) e.0 =
     λ told. e.1 (subst IsTrue (sym c.loop-number.invariant.told) told)
-        ∙ ap (λ (p : List Disk). content (now p) (log_of (get_or numbers at 0))) (c.loop-number.invariant.same told) in
+    ∙ ap (λ (p : List Disk). content (now p) (log_of (get_or numbers at 0))) (c.loop-number.invariant.same told) in
     let r = stops (tells c.args.disk.now) d (take at numbers) (get_or numbers at 0) (written c.args.output.now)
     (written c.loop-number.output) (written c.dump_log.new.output) c.loop-number.invariant.so e.0 has
-    (drop (at + 1) numbers) e.2 in
-    (
+    (drop (at + 1) numbers) e.2 in (
       r.0,
       λ told. r.1 told ∙ ap (files_of d) (split numbers at c.loop-number-test.true),
       r.2,
@@ -41,7 +39,7 @@ loop-number-preserved g c =
     λ told. subst IsTrue (sym c.loop-number.invariant.told) told in
     let has : HasBytes (tells c.args.disk.now) d (get_or numbers at 0) e.0 =
     λ told. e.1 (still told)
-        ∙ ap (λ (p : List Disk). content (now p) (log_of (get_or numbers at 0))) (c.loop-number.invariant.same told) in
+    ∙ ap (λ (p : List Disk). content (now p) (log_of (get_or numbers at 0))) (c.loop-number.invariant.same told) in
     record {
       so = subst (λ (l : List ℕ). Wrote (tells c.args.disk.now) d l (written c.args.output.now)
           (written c.dump_log.new.output)) (sym (take_more numbers at 0 c.loop-number-test.true))

@@ -1,4 +1,4 @@
-use Rattle.std.proofs.Common.{◌≡◌, ◌≤◌, ◌+◌, ◌++◌, ◌∙◌, ℕ, List, [], Option, Some, option_map, length, drop, length-drop, ap, sym, subst, arith}
+use Rattle.std.proofs.Common.{◌≡◌, ◌≤◌, ◌++◌, ◌∙◌, ℕ, List, [], Option, Some, option_map, length, length-drop, ap, sym, subst, arith}
 use Rattle.std.specs.Prelude.{IfSome}
 use Rattle.std.proofs.lemmas.Result.{on_ok_weaker}
 use Rattle.qq_wal_record.specs.declared.record.LogRecord.{LogRecord}
@@ -6,7 +6,7 @@ use Rattle.qq_wal_record.specs.Reading.{IsRecordAt}
 use Rattle.qq_wal_chain.specs.Records.{records}
 use Rattle.qq_wal_chain.specs.Wal.{wal, read_record}
 use Rattle.qq_dump.specs.Text.{end_text, records_text}
-use Rattle.qq_dump.proofs.Records.{goes-on, no-more, shorter}
+use Rattle.qq_dump.proofs.Records.{goes-on, no-more}
 use Rattle.qq_dump.proofs.text.push_records.Goals as goal
 
 pub records-preserved : goal.records-preserved
@@ -36,7 +36,7 @@ records-preserved c =
 pub returns-clause-ok : goal.returns-clause-ok
 returns-clause-ok c =
     let none = sym c.in_ok-entry.ensures.read
-        ∙ ap (λ (o : Option (LogRecord × ℕ)). option_map (λ x. x.0) o) c.in_default.is in
+    ∙ ap (λ (o : Option (LogRecord × ℕ)). option_map (λ x. x.0) o) c.in_default.is in
     on_ok_weaker c.push_end.result
     (λ (e : c.push_end.new.out.items ≡ c.records.out.items ++ end_text c.args.file c.records.place).
     e ∙ ap (λ (l : List ℕ). c.records.out.items ++ l) (sym (no-more (c.the_log_has_a_format.ensures []) c.args.file
