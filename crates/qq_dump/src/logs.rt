@@ -2,7 +2,7 @@
 ghost use Rattle.std.specs.Prelude.{◌≡◌, ◌≤◌, ◌<◌, ◌++◌, ◌^◌, List, ℕ, nat_eq, slice_index, IsTrue, IfErr, IfOk, IsOkUnless, OnErr, OnOk};
 ghost use Rattle.std.specs.Io.KnownBytes.{Appends};
 ghost use Rattle.qq_base.specs.Causes.{HasCause, Rose};
-ghost use Rattle.qq_disk.specs.Disk.{IsListing, content, now};
+ghost use Rattle.qq_disk.specs.Disk.{content, now};
 ghost use Rattle.qq_disk.specs.Fault.{IsCaused as IsDiskCaused};
 ghost use Rattle.qq_disk.specs.Image.{log_of};
 ghost use Rattle.qq_disk.specs.Name.{rank};
