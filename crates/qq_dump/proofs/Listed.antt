@@ -174,7 +174,8 @@ module _ (d : Disk) where
       by None absent on = on numbers (none b e absent numbers are)
       by (Some bytes) shown on =
           first b e bytes shown (files_from d (suc b) count) on numbers are
-          (are.all b (omega arith, omega (arith, end), subst (λ (o : Option (List ℕ)). IsTrue (is_some o)) (sym shown) refl))
+          (are.all b
+          (omega arith, omega (arith, end), subst (λ (o : Option (List ℕ)). IsTrue (is_some o)) (sym shown) refl))
 
   pub listed-are : (names : List FileName) → IsListing d names
       → ((i : ℕ) → slice_index (log_numbers names) i < 2 ^ 64)
@@ -202,14 +203,19 @@ module _ (d : Disk) where
         each numbers (λ i. within (suc i)) listed.1,
       )
 
--- what was dumped of a disk that was only read
-pub are-shown : {D : Type 0} (tells : D → Bool) (past : D → List Disk) (old new : D) (names : List FileName)
-    (numbers : List ℕ) (files : List LogFile) → tells new ≡ tells old → (IsTrue (tells old) → past new ≡ past old)
+-- what was written of the files of these numbers was written of the log files of a disk that was only read
+pub all-shown : {D : Type 0} (tells : D → Bool) (past : D → List Disk) (old new : D) (names : List FileName)
+    (numbers : List ℕ) → tells new ≡ tells old → (IsTrue (tells old) → past new ≡ past old)
     → (IsTrue (tells old) → IsListing (now (past old)) names) → numbers ≡ log_numbers names
-    → ((i : ℕ) → slice_index numbers i < 2 ^ 64)
-    → (IsTrue (tells new) → files ≡ files_of (now (past new)) numbers) → AreShown tells past old files
-are-shown tells past old new names numbers files still same listing numbers-are range are = λ told.
-    are (subst IsTrue (sym still) told) ∙ ap (λ (p : List Disk). files_of (now p) numbers) (same told)
-    ∙ ap (files_of (now (past old))) numbers-are
-    ∙ listed-are (now (past old)) names (listing told)
-    (subst (λ (l : List ℕ). (i : ℕ) → slice_index l i < 2 ^ 64) numbers-are range)
+    → ((i : ℕ) → slice_index numbers i < 2 ^ 64) → (IsWritten : List LogFile → Type 0)
+    → ((files : List LogFile) × (IsTrue (tells new) → files ≡ files_of (now (past new)) numbers) × IsWritten files)
+    → (files : List LogFile) × AreShown tells past old files × IsWritten files
+all-shown tells past old new names numbers still same listing numbers-are range IsWritten (files, are, written) =
+    (files, shown, written)
+  where
+    shown : AreShown tells past old files
+    shown told =
+        are (subst IsTrue (sym still) told) ∙ ap (λ (p : List Disk). files_of (now p) numbers) (same told)
+        ∙ ap (files_of (now (past old))) numbers-are
+        ∙ listed-are (now (past old)) names (listing told)
+        (subst (λ (l : List ℕ). (i : ℕ) → slice_index l i < 2 ^ 64) numbers-are range)

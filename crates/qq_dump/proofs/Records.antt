@@ -47,6 +47,7 @@ module _ (laws : IsFormat (wal [])) (file : ℕ) where
   goes-on old new all place bytes rest r taken is long left grown so =
       ap (λ (l : List ℕ). l ++ records_text file (place + taken) (records (wal []) file rest)) grown
       ∙ append_assoc old (record_text file place r) (records_text file (place + taken) (records (wal []) file rest))
-      ∙ ap (λ (l : List ℕ). old ++ (record_text file place r ++ records_text file (place + taken) (records (wal []) file l)))
+      ∙ ap (λ (l : List ℕ). old
+      ++ (record_text file place r ++ records_text file (place + taken) (records (wal []) file l)))
       left
       ∙ ap (λ (l : List ℕ). old ++ l) (sym (one-more place bytes r taken is long)) ∙ so

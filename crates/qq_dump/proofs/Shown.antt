@@ -15,7 +15,8 @@ use Rattle.qq_dump.proofs.Listed.{at-in, in-at}
 module _ (d : Disk) where
   -- a file of one of so many numbers from b on, as the disk shows it
   abbrev Shows : ℕ → ℕ → LogFile → Type 0
-  Shows b count file = (b ≤ file.number) × (file.number < b + count) × (contents d (log_of file.number) ≡ Some file.bytes)
+  Shows b count file =
+      (b ≤ file.number) × (file.number < b + count) × (contents d (log_of file.number) ≡ Some file.bytes)
 
   from-each : (count b : ℕ) → AllByRecursion (Shows b count) (files_from d b count)
   from-each zero b = tt

@@ -31,7 +31,14 @@ bytes-after a b are i = subst (λ (n : ℕ). n < 256) (get_or-append-add a b i 0
 
 change-writable : IsWritable change
 change-writable = record {
-  fields = (omega arith, omega arith, omega arith, (omega arith, omega arith), omega arith, λ k e less. absurd (omega (arith, less)));
+  fields = (
+    omega arith,
+    omega arith,
+    omega arith,
+    (omega arith, omega arith),
+    omega arith,
+    λ k e less. absurd (omega (arith, less)),
+  );
   payload = omega arith;
 }
 
@@ -71,7 +78,8 @@ no-header : (torn : List ℕ) → length torn < 38 → header_at torn ≡ Err no
 unfolding header_at
 no-header torn less = cc (lt-ltb (length torn) 38 less)
 
-pub headless : (file : ℕ) (bytes : List ℕ) (e : NoHeader) → header_at bytes ≡ Err e → file_text file bytes ≡ end_text file 0
+headless : (file : ℕ) (bytes : List ℕ) (e : NoHeader) → header_at bytes ≡ Err e
+    → file_text file bytes ≡ end_text file 0
 unfolding file_text
 headless file bytes e is = ap (headed_text file bytes) is
 
@@ -84,7 +92,8 @@ module _ (laws : IsFormat (wal []))
       ≡ record_text 1 place r ++ records_text 1 (place + (25 + payload_length r)) (records (wal []) 1 rest)
   line place r rest writable are =
       one-more laws 1 place (record_encoding 1 r ++ rest) r (length (record_encoding 1 r))
-      (read-one 1 (record_encoding 1 r ++ rest) (Ok (r, length (record_encoding 1 r))) are (again 1 r rest writable)) refl
+      (read-one 1 (record_encoding 1 r ++ rest) (Ok (r, length (record_encoding 1 r))) are (again 1 r rest writable))
+      refl
       ∙ ap (λ (bs : List ℕ). record_text 1 place r
       ++ records_text 1 (place + length (record_encoding 1 r)) (records (wal []) 1 bs))
       (drop_at (record_encoding 1 r) rest (length (record_encoding 1 r)) refl)
@@ -167,10 +176,12 @@ module _ (laws : IsFormat (wal []))
         (ap (file_text 1) (shown-bytes (contents d (log_of 1)) (worked_log ++ tail) one) ∙ log-text tail are less)
         ∙ ap (λ (l : List ℕ). (record_text 1 38 change ++ (record_text 1 84 snapshot ++ (record_text 1 141 segment
         ++ (record_text 1 190 carry ++ end_text 1 268)))) ++ (l ++ (file_text 3 (content d (log_of 3)) ++ [])))
-        (ap (file_text 2) (shown-bytes (contents d (log_of 2)) torn two) ∙ headless 2 torn no_header.Short (no-header torn short))
+        (ap (file_text 2) (shown-bytes (contents d (log_of 2)) torn two)
+        ∙ headless 2 torn no_header.Short (no-header torn short))
         ∙ ap (λ (l : List ℕ). (record_text 1 38 change ++ (record_text 1 84 snapshot ++ (record_text 1 141 segment
         ++ (record_text 1 190 carry ++ end_text 1 268)))) ++ (end_text 2 0 ++ (l ++ [])))
-        (ap (file_text 3) (shown-bytes (contents d (log_of 3)) other three) ∙ headless 3 other (no_header.Version version) another)
+        (ap (file_text 3) (shown-bytes (contents d (log_of 3)) other three)
+        ∙ headless 3 other (no_header.Version version) another)
       where
         small : (i : ℕ) → slice_index (1 ∷ 2 ∷ 3 ∷ []) i < 2 ^ 64
         small zero = omega arith

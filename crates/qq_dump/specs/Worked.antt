@@ -38,4 +38,5 @@ carry =
 abbrev pub worked_log : List ℕ
 worked_log =
     header_encoding (record { file = 1; previous = 0; good = 0 })
-    ++ (record_encoding 1 change ++ (record_encoding 1 snapshot ++ (record_encoding 1 segment ++ record_encoding 1 carry)))
+    ++ (record_encoding 1 change
+    ++ (record_encoding 1 snapshot ++ (record_encoding 1 segment ++ record_encoding 1 carry)))

@@ -1,11 +1,10 @@
 use qq_base::Memory;
 use qq_disk::DiskFault;
 use qq_ports::Failed;
-use std::alloc::{AllocError, AllocFailed};
 use thiserror::Error;
 
 /// Why a log isn't dumped whole.
-#[derive(Clone, Copy, Debug, PartialEq, Eq, Error)]
+#[derive(Clone, Copy, Debug, Error)]
 pub enum DumpFault {
     /// The disk failed, which it counts.
     #[error("the disk failed")]

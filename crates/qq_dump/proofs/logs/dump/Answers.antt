@@ -1,11 +1,11 @@
-use Rattle.std.proofs.Common.{◌≡◌, ◌∙◌, List, ap, refl, IsTrue}
+use Rattle.std.proofs.Common.{◌∙◌, List, ap, refl}
 use Rattle.std.proofs.lemmas.Result.{on_ok_weaker, on_err_weaker}
 use Rattle.std.specs.Io.KnownBytes.{Appends}
 use Rattle.qq_disk.specs.Disk.{now}
 use Rattle.qq_ports.specs.Faults.{AppendsPrefix}
 use Rattle.qq_dump.specs.Files.{LogFile, dump_text, log_files}
-use Rattle.qq_dump.specs.Listed.{files_of, log_numbers}
-use Rattle.qq_dump.proofs.Listed.{are-shown}
+use Rattle.qq_dump.specs.Listed.{log_numbers}
+use Rattle.qq_dump.proofs.Listed.{all-shown}
 use Rattle.qq_dump.proofs.Written.{nothing, on_err}
 use Rattle.qq_dump.proofs.logs.dump.Goals as goal
 
@@ -23,32 +23,26 @@ returns-in_err-numbers-clause-err g c =
 
 pub returns-clause-ok : goal.returns-clause-ok
 returns-clause-ok g c =
-    let tells = g.D.NodeDisk.tells in
-    let past = g.D.NodeDisk.past in
-    let numbers = c.as_slice-2.result.now in
-    let numbers-are = c.as_slice-2.ensures.value ∙ c.in_ok-numbers.ensures.ok ∙ ap log_numbers c.as_slice.ensures.value in
+    let disk = g.D.NodeDisk in
+    let sink = g.O.Sink in
     on_ok_weaker c.dump_logs.result
-    (λ (w : (files : List LogFile) × (IsTrue (tells c.names.new.self) → files ≡ files_of (now (past c.names.new.self)) numbers)
-    × Appends (g.O.Sink.written c.args.output.now) (g.O.Sink.written c.dump_logs.new.output) (dump_text files)). (
-      w.0,
-      are-shown tells past c.args.disk.now c.names.new.self c.in_ok-names.names.items numbers w.0 c.names.ensures.told
-          c.names.ensures.same c.in_ok-names.ensures.ok numbers-are c.dump_logs.ensures.range w.1,
-      w.2,
-    ))
+    (all-shown disk.tells disk.past c.args.disk.now c.names.new.self c.in_ok-names.names.items c.as_slice-2.result.now
+    c.names.ensures.told c.names.ensures.same c.in_ok-names.ensures.ok
+    (c.as_slice-2.ensures.value ∙ c.in_ok-numbers.ensures.ok ∙ ap log_numbers c.as_slice.ensures.value)
+    c.dump_logs.ensures.range
+    (λ (files : List LogFile). Appends (sink.written c.args.output.now) (sink.written c.dump_logs.new.output)
+    (dump_text files)))
     c.dump_logs.ensures.ok
 
 pub returns-clause-err : goal.returns-clause-err
 returns-clause-err g c =
-    let tells = g.D.NodeDisk.tells in
-    let past = g.D.NodeDisk.past in
-    let numbers = c.as_slice-2.result.now in
-    let numbers-are = c.as_slice-2.ensures.value ∙ c.in_ok-numbers.ensures.ok ∙ ap log_numbers c.as_slice.ensures.value in
+    let disk = g.D.NodeDisk in
+    let sink = g.O.Sink in
     on_err_weaker c.dump_logs.result
-    (λ (w : (files : List LogFile) × (IsTrue (tells c.names.new.self) → files ≡ files_of (now (past c.names.new.self)) numbers)
-    × AppendsPrefix (g.O.Sink.written c.args.output.now) (g.O.Sink.written c.dump_logs.new.output) (dump_text files)). (
-      w.0,
-      are-shown tells past c.args.disk.now c.names.new.self c.in_ok-names.names.items numbers w.0 c.names.ensures.told
-          c.names.ensures.same c.in_ok-names.ensures.ok numbers-are c.dump_logs.ensures.range w.1,
-      w.2,
-    ))
+    (all-shown disk.tells disk.past c.args.disk.now c.names.new.self c.in_ok-names.names.items c.as_slice-2.result.now
+    c.names.ensures.told c.names.ensures.same c.in_ok-names.ensures.ok
+    (c.as_slice-2.ensures.value ∙ c.in_ok-numbers.ensures.ok ∙ ap log_numbers c.as_slice.ensures.value)
+    c.dump_logs.ensures.range
+    (λ (files : List LogFile). AppendsPrefix (sink.written c.args.output.now) (sink.written c.dump_logs.new.output)
+    (dump_text files)))
     c.dump_logs.ensures.err
