@@ -20,7 +20,8 @@ records-preserved c =
     let read : read_record c.args.file c.records.rest.now ≡ Some c.in-Some.entry =
     sym c.in_ok-entry.ensures.read ∙ ap (λ (o : Option (LogRecord × ℕ)). option_map (λ x. x.0) o) c.in-Some.is in
     record {
-      so = goes-on (c.the_log_has_a_format.ensures []) c.args.file c.records.out.items c.push_record-pushed.new.out.items
+      so = goes-on (c.the_log_has_a_format.ensures []) c.args.file c.records.out.items
+          c.push_record-pushed.new.out.items
           (c.args.out.now.items ++ records_text c.args.file 38 (records (wal []) c.args.file c.args.bytes.now))
           c.records.place c.records.rest.now c.split_at.result.1.now c.in-Some.entry c.in-Some.taken read found.len
           c.split_at.ensures.back c.in_ok-pushed.ensures.ok c.records.invariant.so;
