@@ -1,21 +1,22 @@
 -- What a sink was given of the texts of log files, one after the other.
-use Rattle.std.proofs.Common.{◌≡◌, ◌<◌, ◌+◌, ◌++◌, ℕ, Bool, List, [], ◌∷◌, Option, Result, Ok, Err, length, take, drop, get_or, refl, sym, ap, subst, ◌∙◌, arith, append_assoc, append-nil, length-append, take-append-drop, IsTrue}
+use Rattle.std.proofs.Common.{◌≡◌, ◌<◌, ◌+◌, ◌++◌, ℕ, Bool, List, [], ◌∷◌, Option, length, take, drop, get_or, refl, sym, ap, subst, ◌∙◌, arith, append_assoc, append-nil, length-append, take-append-drop, IsTrue}
 use Rattle.std.proofs.lemmas.List.{take_more, take-append-le}
 use Rattle.std.proofs.Math.Seq.{take-append-add}
-use Rattle.std.specs.Prelude.{OnErr}
 use Rattle.std.specs.Io.KnownBytes.{Appends}
 use Rattle.std.proofs.KnownBytes.{Appends-trans, Appends-nil}
-use Rattle.qq_disk.specs.Disk.{Disk, content}
+use Rattle.qq_base.proofs.Fronts.{front-behind, front-more, front-nil, front-trans}
+use Rattle.qq_disk.specs.declared.fault.DiskFault.{DiskFault}
+use Rattle.qq_disk.specs.declared.fault.DiskFault.TheVariants.{Failed, Memory}
+use Rattle.qq_disk.specs.Disk.{Disk as State, content}
 use Rattle.qq_disk.specs.Image.{log_of}
 use Rattle.qq_ports.specs.Faults.{AppendsPrefix}
+use Rattle.qq_dump.specs.declared.fault.DumpFault.{DumpFault}
+use Rattle.qq_dump.specs.declared.fault.DumpFault.TheVariants.{Disk, Sink, NoMemory}
+use Rattle.qq_dump.specs.Fault.{fault_of}
 use Rattle.qq_dump.specs.Files.{LogFile, dump_text, log_text}
 use Rattle.qq_dump.specs.Listed.{file_of, files_of}
 use Rattle.qq_dump.specs.Text.{file_text}
-
--- what is said of an error, whatever else there may be
-pub on_err : {T E P : Type 0} (r : Result T E) → P → OnErr r P
-on_err (Ok x) p = tt
-on_err (Err e) p = p
+use Rattle.qq_dump.specs.Written.{WritesFirst, WritesWhole}
 
 -- a text was written whole, and a first part of the next one, which is a first part of both and any others
 first_part : (a b c : Option (List ℕ)) (text next rest all : List ℕ) → Appends a b text → AppendsPrefix b c next
@@ -29,11 +30,16 @@ first_part a b c text next rest all whole (n, within, grown) is = (
       (Appends-trans a b c text (take n next) whole grown),
 )
 
--- nothing of a text is a first part of it
-pub nothing : (a : Option (List ℕ)) (text : List ℕ) → AppendsPrefix a a text
-nothing a text = (0, omega arith, Appends-nil a)
+-- nothing was written where nothing but the sink failed, or before it was asked
+pub nothing : (a : Option (List ℕ)) (files : List LogFile) → WritesWhole a a files
+nothing a files = ([], front-nil files, Appends-nil a)
 
-module _ (told : Bool) (d : Disk) where
+pub unread : (fault : DiskFault) (e : DumpFault) (a : Option (List ℕ)) (files : List LogFile) → e ≡ fault_of fault
+    → WritesFirst e a a files
+unread Failed e a files is = subst (λ (e : DumpFault). WritesFirst e a a files) (sym is) (nothing a files)
+unread (Memory m) e a files is = subst (λ (e : DumpFault). WritesFirst e a a files) (sym is) (nothing a files)
+
+module _ (told : Bool) (d : State) where
   -- the texts of these files, which are those of the numbers where the disk tells them
   pub record Wrote (numbers : List ℕ) (old new : Option (List ℕ)) : Type 0 where
     pub files : List LogFile
@@ -88,19 +94,39 @@ module _ (told : Bool) (d : Disk) where
           (Appends-trans a b c (dump_text so.files) (file_text number bytes) so.written grown);
     }
 
-    -- a first part of a file's text more is a first part of the text of all
-    pub stops : (rest : List ℕ) → AppendsPrefix b c (file_text number bytes) → (files : List LogFile)
-        × (IsTrue told → files ≡ files_of d ((numbers ++ number ∷ []) ++ rest)) × AppendsPrefix a c (dump_text files)
-    stops rest part = (
-      (so.files ++ more) ++ files_of d rest,
+    -- what was written of the next file was written of all
+    pub stops : (rest : List ℕ) (fault : DumpFault) → WritesFirst fault b c more → (files : List LogFile)
+        × (IsTrue told → files ≡ files_of d ((numbers ++ number ∷ []) ++ rest)) × WritesFirst fault a c files
+    stops rest fault part = (
+      all,
       λ told. ap (λ (l : List LogFile). l ++ files_of d rest) (are-more told)
           ∙ sym (files-append (numbers ++ number ∷ []) rest),
-      first_part a b c (dump_text so.files) (file_text number bytes) (dump_text (files_of d rest))
-          (dump_text ((so.files ++ more) ++ files_of d rest)) so.written part
-          (texts (so.files ++ more) (files_of d rest)
-          ∙ ap (λ (l : List ℕ). l ++ dump_text (files_of d rest)) text-more
-          ∙ append_assoc (dump_text so.files) (file_text number bytes) (dump_text (files_of d rest))),
+      by fault part,
     )
+      where
+        all : List LogFile
+        all = (so.files ++ more) ++ files_of d rest
+
+        text-is : dump_text all ≡ dump_text so.files ++ (dump_text more ++ dump_text (files_of d rest))
+        text-is =
+            texts (so.files ++ more) (files_of d rest)
+            ∙ ap (λ (l : List ℕ). l ++ dump_text (files_of d rest)) (texts so.files more)
+            ∙ append_assoc (dump_text so.files) (dump_text more) (dump_text (files_of d rest))
+
+        whole : WritesWhole b c more → WritesWhole a c all
+        whole (front, is, grown) = (
+          so.files ++ front,
+          front-trans (front-behind so.files front more is) (front-more (so.files ++ more) (files_of d rest)),
+          subst (Appends a c) (sym (texts so.files front))
+              (Appends-trans a b c (dump_text so.files) (dump_text front) so.written grown),
+        )
+
+        by : (fault : DumpFault) → WritesFirst fault b c more → WritesFirst fault a c all
+        by Disk part = whole part
+        by Sink part =
+            first_part a b c (dump_text so.files) (dump_text more) (dump_text (files_of d rest)) (dump_text all)
+            so.written part text-is
+        by NoMemory part = whole part
 
 -- ---- the numbers of a list, one after the other
 

@@ -3,3 +3,4 @@ pub mod Files
 pub mod Listed
 pub mod Text
 pub mod Worked
+pub mod Written

@@ -1,6 +1,4 @@
-use qq_base::Memory;
 use qq_disk::DiskFault;
-use qq_ports::Failed;
 use thiserror::Error;
 
 /// Why a log isn't dumped whole.
@@ -28,27 +26,5 @@ impl From<DiskFault> for DumpFault {
             DiskFault::Failed => DumpFault::Disk,
             DiskFault::Memory(_) => DumpFault::NoMemory,
         }
-    }
-}
-
-impl From<Failed> for DumpFault {
-    ghost use Rattle.std.specs.Prelude.{◌≡◌};
-    ghost use Rattle.qq_dump.specs.declared.fault.DumpFault.TheVariants.{Sink};
-
-    ghost from_gives = { λ _ e. e ≡ Sink };
-
-    fn from(_: Failed) -> Self {
-        DumpFault::Sink
-    }
-}
-
-impl From<Memory> for DumpFault {
-    ghost use Rattle.std.specs.Prelude.{◌≡◌};
-    ghost use Rattle.qq_dump.specs.declared.fault.DumpFault.TheVariants.{NoMemory};
-
-    ghost from_gives = { λ _ e. e ≡ NoMemory };
-
-    fn from(_: Memory) -> Self {
-        DumpFault::NoMemory
     }
 }

@@ -1,16 +1,16 @@
 //! The log files of a disk, each of which is read whole and written before the next.
-ghost use Rattle.std.specs.Prelude.{◌≡◌, ◌≤◌, ◌<◌, ◌++◌, ◌^◌, List, ℕ, nat_eq, slice_index, IsTrue, IfErr, IfOk, IsOkUnless, OnErr, OnOk};
+ghost use Rattle.std.specs.Prelude.{◌≡◌, ◌≤◌, ◌<◌, ◌++◌, ◌∷◌, ◌^◌, [], List, ℕ, nat_eq, slice_index, IsTrue, IfErr, IfOk, IsOkUnless, OnOk};
 ghost use Rattle.std.specs.Io.KnownBytes.{Appends};
 ghost use Rattle.qq_base.specs.Causes.{HasCause, Rose};
 ghost use Rattle.qq_disk.specs.Disk.{content, now};
 ghost use Rattle.qq_disk.specs.Fault.{IsCaused as IsDiskCaused};
 ghost use Rattle.qq_disk.specs.Image.{log_of};
 ghost use Rattle.qq_disk.specs.Name.{rank};
-ghost use Rattle.qq_ports.specs.Faults.{AppendsPrefix};
 ghost use Rattle.qq_dump.specs.Fault.{IsCaused};
 ghost use Rattle.qq_dump.specs.Files.{AreShown, LogFile, dump_text};
 ghost use Rattle.qq_dump.specs.Listed.{files_of, log_number, log_numbers};
 ghost use Rattle.qq_dump.specs.Text.{file_text};
+ghost use Rattle.qq_dump.specs.Written.{WritesFirst};
 
 use crate::fault::DumpFault;
 use crate::text::file_text;
@@ -48,9 +48,10 @@ fn dump_log<D: NodeDisk, O: Sink>(
     ensures ok { OnOk result ((bytes : List ℕ)
         × (IsTrue (D.tells disk.old) → bytes ≡ content (now (D.past disk.old)) (log_of number))
         × Appends (O.written output.old) (O.written output.new) (file_text number bytes)) }
-    ensures err { OnErr result ((bytes : List ℕ)
+    ensures err { IfErr result (λ fault. (bytes : List ℕ)
         × (IsTrue (D.tells disk.old) → bytes ≡ content (now (D.past disk.old)) (log_of number))
-        × AppendsPrefix (O.written output.old) (O.written output.new) (file_text number bytes)) }
+        × WritesFirst fault (O.written output.old) (O.written output.new)
+        (record { number = number; bytes = bytes } ∷ [])) }
     ensures same { IsTrue (D.tells disk.old) → D.past disk.new ≡ D.past disk.old }
     ensures told { D.tells disk.new ≡ D.tells disk.old }
     ensures cause { IfErr result (IsCaused (Rose (D.faults disk.old) (D.faults disk.new))
@@ -58,11 +59,19 @@ fn dump_log<D: NodeDisk, O: Sink>(
     ensures disk { D.faults disk.old ≤ D.faults disk.new }
     ensures sink { O.faults output.old ≤ O.faults output.new }
 {
-    let bytes = read_log(disk, alloc, number)?;
-    let text = file_text(alloc, number, &bytes)?;
+    let bytes = match read_log(disk, alloc, number) {
+        Ok(bytes) => bytes,
+        Err(fault) => return Err(DumpFault::from(fault)),
+    };
+    let text = match file_text(alloc, number, &bytes) {
+        Ok(text) => text,
+        Err(_) => return Err(DumpFault::NoMemory),
+    };
     drop(bytes);
-    write_all(output, &text)?;
-    Ok(())
+    match write_all(output, &text) {
+        Ok(()) => Ok(()),
+        Err(_) => Err(DumpFault::Sink),
+    }
 }
 
 fn is_log(kind: FileKind) -> bool
@@ -109,9 +118,9 @@ fn dump_logs<D: NodeDisk, O: Sink>(
     ensures ok { OnOk result ((files : List LogFile)
         × (IsTrue (D.tells disk.old) → files ≡ files_of (now (D.past disk.old)) numbers.now)
         × Appends (O.written output.old) (O.written output.new) (dump_text files)) }
-    ensures err { OnErr result ((files : List LogFile)
+    ensures err { IfErr result (λ fault. (files : List LogFile)
         × (IsTrue (D.tells disk.old) → files ≡ files_of (now (D.past disk.old)) numbers.now)
-        × AppendsPrefix (O.written output.old) (O.written output.new) (dump_text files)) }
+        × WritesFirst fault (O.written output.old) (O.written output.new) files) }
     ensures same { IsTrue (D.tells disk.old) → D.past disk.new ≡ D.past disk.old }
     ensures told { D.tells disk.new ≡ D.tells disk.old }
     ensures cause { IfErr result (IsCaused (Rose (D.faults disk.old) (D.faults disk.new))
@@ -134,7 +143,7 @@ fn dump_logs<D: NodeDisk, O: Sink>(
 ///
 /// - `ok`: the text of the log files was written, by their numbers. These are all that the disk shows; one that tells
 ///   nothing may have shown any.
-/// - `err`: a first part of that text was written.
+/// - `err`: a first part of that text was written: the whole texts of the first files, but for a sink that failed.
 /// - `same`, `told`: what the disk held and may leave at a crash is as before.
 /// - `cause`: `Disk` comes only where the disk's count of faults rose, `Sink` only where the sink's did, and `NoMemory`
 ///   at any time.
@@ -146,8 +155,9 @@ pub fn dump<D: NodeDisk, O: Sink>(
 ) -> Result<(), DumpFault>
     ensures ok { OnOk result ((files : List LogFile) × AreShown D.tells D.past disk.old files
         × Appends (O.written output.old) (O.written output.new) (dump_text files)) }
-    ensures err { OnErr result ((files : List LogFile) × AreShown D.tells D.past disk.old files
-        × AppendsPrefix (O.written output.old) (O.written output.new) (dump_text files)) }
+    ensures err { IfErr result (λ fault. (files : List LogFile)
+        × AreShown D.tells D.past disk.old files
+        × WritesFirst fault (O.written output.old) (O.written output.new) files) }
     ensures same { IsTrue (D.tells disk.old) → D.past disk.new ≡ D.past disk.old }
     ensures told { D.tells disk.new ≡ D.tells disk.old }
     ensures cause { IfErr result (IsCaused (Rose (D.faults disk.old) (D.faults disk.new))
@@ -155,7 +165,13 @@ pub fn dump<D: NodeDisk, O: Sink>(
     ensures disk { D.faults disk.old ≤ D.faults disk.new }
     ensures sink { O.faults output.old ≤ O.faults output.new }
 {
-    let names = disk.names(alloc)?;
-    let numbers = log_numbers(alloc, names.as_slice())?;
+    let names = match disk.names(alloc) {
+        Ok(names) => names,
+        Err(fault) => return Err(DumpFault::from(fault)),
+    };
+    let numbers = match log_numbers(alloc, names.as_slice()) {
+        Ok(numbers) => numbers,
+        Err(_) => return Err(DumpFault::NoMemory),
+    };
     dump_logs(alloc, disk, numbers.as_slice(), output)
 }

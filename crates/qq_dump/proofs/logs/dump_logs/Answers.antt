@@ -20,7 +20,7 @@ returns-in-Err-clause-err g c =
     ∙ ap (λ (p : List Disk). content (now p) (log_of (get_or numbers at 0))) (c.loop-number.invariant.same told) in
     let r = stops (tells c.args.disk.now) d (take at numbers) (get_or numbers at 0) (written c.args.output.now)
     (written c.loop-number.output) (written c.dump_log.new.output) c.loop-number.invariant.so e.0 has
-    (drop (at + 1) numbers) e.2 in (
+    (drop (at + 1) numbers) c.in-Err.fault e.2 in (
       r.0,
       λ told. r.1 told ∙ ap (files_of d) (split numbers at c.loop-number-test.true),
       r.2,
