@@ -8,5 +8,7 @@ mod logs;
 mod text;
 
 pub use fault::DumpFault;
-pub use laws::{a_worked_disk_is_dumped, log_files_are_those_that_are_shown};
+pub use laws::{
+    a_dump_tells_what_it_wrote, a_worked_disk_is_dumped, log_files_are_those_that_are_shown,
+};
 pub use logs::dump;
