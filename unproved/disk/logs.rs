@@ -6,6 +6,7 @@
 //! - `lanes QUEUE..`: what recovery reads of the disk where these queues are listed, and changes nothing;
 //! - `recover QUEUE..`: recovery of the disk: the lanes that it gives, which log files have entries of which
 //!   queue, the file that it begins, and those that it removes;
+//! - `dump`: what a dump writes of the disk;
 //! - `cuts QUEUE..`: the lanes that recovery gives after a crash that leaves the first K bytes of those that
 //!   wait for a sync, for each K, printed where they change, and after one that leaves other bytes there;
 //! - `stops QUEUE..`: recovery of the disk as it was written, where each call of the disk in turn fails
@@ -20,6 +21,7 @@
 //! With the words `FOLDER QUEUE..` it prints the lanes that recovery reads of a disk in a folder, with a file
 //! for each log, as `00000000000000000001.log`. It changes nothing there.
 
+use crate::dumps::dumped;
 use crate::files::log_file;
 use crate::lanes::{inspected, recovered_log};
 use crate::stops::{Written, cuts, stops};
@@ -66,6 +68,7 @@ impl Images {
             "log" => self.add(alloc, words, true)?,
             "waiting" => self.add(alloc, words, false)?,
             "lanes" => return inspected(alloc, &mut self.disk, &queues(words, alloc)?),
+            "dump" => return dumped(alloc, &mut self.disk),
             "recover" => return self.recover(alloc, &queues(words, alloc)?),
             "cuts" => return cuts(alloc, &self.written, &queues(words, alloc)?),
             "stops" => return stops(alloc, &self.written, &queues(words, alloc)?),

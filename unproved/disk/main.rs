@@ -15,6 +15,7 @@ mod calls;
 mod crashes;
 mod cuts;
 mod digests;
+mod dumps;
 mod encodings;
 mod files;
 mod lanes;
