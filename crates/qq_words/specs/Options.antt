@@ -1,8 +1,7 @@
 -- What the options of a command say, by the values that the words give them.
-use Rattle.std.specs.Prelude.{ℕ, ◌&&◌, ◌||◌, Bool, true, false, List, codes, Option, Some, None, if◌then◌else◌}
+use Rattle.std.specs.Prelude.{ℕ, ◌&&◌, ◌||◌, Bool, false, List, codes, Option, Some, None, if◌then◌else◌}
 use Rattle.std.specs.Option.{is_some, option_and_then}
 use Rattle.std.specs.Str.{bytes_eq}
-use Rattle.qq_base.specs.declared.ids.NodeId.{NodeId}
 use Rattle.qq_script_lines.specs.Numbers.{number_in}
 use Rattle.clap.specs.Words.{Row, Text, first_of}
 use Rattle.qq_words.specs.declared.commands.Command.{Command}

@@ -1,5 +1,5 @@
 -- What the words of the program say.
-use Rattle.std.specs.Prelude.{◌||◌, Bool, List, [], ◌∷◌, codes, Option, Some, None, if◌then◌else◌}
+use Rattle.std.specs.Prelude.{◌||◌, Bool, List, [], ◌∷◌, codes, Option, None, if◌then◌else◌}
 use Rattle.std.specs.List.{list_any}
 use Rattle.std.specs.Option.{option_map, option_and_then}
 use Rattle.std.specs.Str.{bytes_eq}

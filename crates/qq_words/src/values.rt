@@ -19,11 +19,7 @@ pub fn value_of<'a>(matches: &ArgMatches<'a>, name: &str) -> Option<&'a str>
 }
 
 /// The same as a text of its own.
-pub fn text_of(
-    alloc: Global,
-    matches: &ArgMatches<'_>,
-    name: &str,
-) -> Result<Option<Text>, Memory>
+pub fn text_of(alloc: Global, matches: &ArgMatches<'_>, name: &str) -> Result<Option<Text>, Memory>
     ensures ok { IfOk result (λ text. text
         ≡ first_of name.now (rows_of (found_of matches.now))) }
     ensures want { IsOkUnless result Memory.Want }
