@@ -3,14 +3,12 @@
 
 mod asking;
 mod audit;
+mod definitions;
 mod ending;
 mod examples;
 mod faults;
 mod laws;
 mod named;
-mod option_laws;
-mod option_words;
-mod options;
 mod queues;
 mod serving;
 mod setups;
@@ -19,6 +17,7 @@ mod stop;
 
 pub use asking::{ask, read_line, refuse_long_line};
 pub use audit::{Rows, add_audit};
+pub use definitions::{made_line, set_up};
 pub use ending::{Ending, LINES_LIMIT};
 pub use examples::worked_scripts_print;
 pub use faults::{
@@ -30,12 +29,6 @@ pub use laws::{
     what_was_printed_is_true,
 };
 pub use named::{a_line_names_what_is_there, a_message_may_go_nowhere};
-pub use option_laws::{options_are_within_limits, options_stand_in_any_order};
-pub use option_words::read_options;
-pub use options::{
-    GROUP, LOG_BYTES, LOG_BYTES_LEAST, LOG_BYTES_MOST, NODES, NODES_MOST, NodeCount, Options,
-    QUEUES, QUEUES_MOST, QueueCount,
-};
 pub use queues::{audits_are_serial, what_was_printed_is_there_once};
 pub use serving::{idle_lines_print_that, lines_may_be_served, runs_have_a_node};
 pub use setups::{

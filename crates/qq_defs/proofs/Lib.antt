@@ -1,3 +1,3 @@
 mod Documents
 mod Reading
-mod Runnable
+pub mod Runnable
