@@ -1,6 +1,7 @@
 pub mod Ahead
 pub mod Answering
 pub mod Audits
+pub mod Beginnings
 pub mod Closings
 pub mod Exports
 pub mod FaultsTold

@@ -1,6 +1,7 @@
 -- What a script's setup is by its words, and by the export that they name.
-use Rattle.std.specs.Prelude.{◌≡◌, ◌⊎◌, ℕ, List, [], ◌++◌, Option, Some, None, Result, Ok, Err, codes}
+use Rattle.std.specs.Prelude.{◌≡◌, ◌⊎◌, ℕ, List, [], ◌++◌, Option, Some, None, is_some, true, Result, Ok, Err, codes}
 use Rattle.std.specs.Fmt.{decimal}
+use Rattle.qq_ports.specs.Faults.{AppendsPrefix}
 use Rattle.qq_ports.specs.Shelf.{Gives}
 use Rattle.qq_setup.specs.declared.setup.Made.{Made}
 use Rattle.qq_setup.specs.declared.setup.Setup.{Setup}
@@ -10,6 +11,8 @@ use Rattle.qq_defs.specs.declared.fault.DefsFault.TheVariants.{Json, NotObject, 
 use Rattle.qq_defs.specs.Definitions.{document, read_setup}
 use Rattle.qq_words.specs.declared.options.Options.{Options}
 use Rattle.qq_cluster_run.specs.declared.status.TheConstants.{DEFINITIONS, LIMIT}
+use Rattle.qq_cluster_run.specs.declared.stop.PrintFault.{PrintFault}
+use Rattle.qq_cluster_run.specs.declared.stop.PrintFault.TheVariants as prints
 use Rattle.qq_cluster_run.specs.Endings.{Ending, read_fault, no_memory}
 
 -- the files of a shelf by their names, where it shows them
@@ -54,7 +57,13 @@ abbrev pub made_text : Option Made → List ℕ
 made_text None = []
 made_text (Some made) = made_counts made ++ skipped_counts made
 
--- ---- why there is none
+-- why it wasn't written whole: the sink has failed in it, or there was no memory, and nothing was written
+abbrev pub HasMadeCause : PrintFault → Option Made → (old new : Option (List ℕ)) → (sink : Type 0) → Type 0
+HasMadeCause prints.Failed made old new sink =
+    (is_some made ≡ true) × sink × AppendsPrefix old new (made_text made)
+HasMadeCause prints.NoMemory made old new sink = new ≡ old
+
+-- ---- why there is no setup
 
 abbrev pub cause_text : DefsFault → List ℕ
 cause_text Json = codes "json"

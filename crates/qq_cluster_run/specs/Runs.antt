@@ -1,5 +1,5 @@
 -- How a run ends, and what it has written by then.
-use Rattle.std.specs.Prelude.{◌≡◌, ◌⊎◌, ℕ, List, [], ◌++◌, Option, Some, None, IfSome, is_some, take, if◌then◌else◌}
+use Rattle.std.specs.Prelude.{◌≡◌, ◌⊎◌, ℕ, List, [], ◌++◌, Option, Some, None, true, IfSome, is_some, take, if◌then◌else◌}
 use Rattle.std.specs.List.{AllByRecursion}
 use Rattle.std.specs.Io.KnownBytes.{Appends, Keeps, IsAtEnd}
 use Rattle.qq_setup.specs.declared.setup.Setup.{Setup}
@@ -151,9 +151,9 @@ pub record IsRunOver (status : ℕ) (options : Options) (left rest old new : Opt
   pub ends : HasRun status setup left rest old new source sink met had
 
 -- and what it has done behind the line of what was made of an export, where there is one
-abbrev pub HasServed : (status : ℕ) → Options → (left rest old new : Option (List ℕ)) → (source sink : Type 0)
+abbrev pub ScriptEnds : (status : ℕ) → Options → (left rest old new : Option (List ℕ)) → (source sink : Type 0)
     → (met : Trouble → Type 0) → (had : Histories) → Type 0
-HasServed status options left rest old new source sink met had =
+ScriptEnds status options left rest old new source sink met had =
     IsUnopened status left rest old new sink (λ ending. ending ≡ no_memory)
     ⊎ IsRunOver status options left rest old new source sink met had
 
@@ -166,9 +166,10 @@ pub record IsBehindMade (status : ℕ) (setup : Setup) (left rest old new : Opti
   pub made : Appends old mid (made_text setup.made)
   pub ends : HasRun status setup left rest mid new source sink met had
 
--- or the sink has failed in it
+-- or, where there is one, the sink has failed in it
 pub record IsCutInMade (status : ℕ) (setup : Setup) (left rest old new : Option (List ℕ)) (sink : Type 0) : Type 0
   where
+    pub some : is_some setup.made ≡ true
     pub status_is : status ≡ WRITE_FAULT
     pub rose : sink
     pub keeps : Keeps left rest

@@ -19,7 +19,7 @@ use Rattle.qq_cluster_run.specs.Endings.{Ending, fault_text, no_memory}
 use Rattle.qq_cluster_run.specs.Inputs.{Input, feed_count}
 use Rattle.qq_cluster_run.specs.Reading.{Asks, read_input, says}
 use Rattle.qq_cluster_run.specs.Serving.{Run, EndsSpent, EndsDamaged, EndsLost, run_behind, setup_behind, text_behind, audits_behind, Served}
-use Rattle.qq_cluster_run.specs.Runs.{BreaksOff, HasNoDisk, HasStopped, ending_of, HasServed, IsSetup, MayNotOpen, RunEnds}
+use Rattle.qq_cluster_run.specs.Runs.{BreaksOff, HasNoDisk, HasStopped, ending_of, ScriptEnds, IsSetup, MayNotOpen, RunEnds}
 use Rattle.qq_cluster_run.specs.Setup.{Logs, cluster_over}
 use Rattle.qq_cluster_run.specs.Troubles.{Trouble, YardFails}
 
@@ -52,7 +52,7 @@ Had s setup events = Contains s.histories (setup, events)
 -- a script with these options has ended with this status; `old` is what stood there when the line of an export was written
 abbrev pub HasEnded : ℕ → Options → Streams → Type 0
 HasEnded status options s =
-    HasServed status options (Some s.bytes) (Some s.rest) (Some s.old) (Some s.new) (SourceRose s) (SinkRose s)
+    ScriptEnds status options (Some s.bytes) (Some s.rest) (Some s.old) (Some s.new) (SourceRose s) (SinkRose s)
     (Met s) (Had s)
 
 -- words that are no command have ended with this status

@@ -1,15 +1,17 @@
 //! The setup of a script, by its words and by the export that they name.
 ghost use Rattle.std.specs.Prelude.{◌≡◌, ◌⊎◌, ◌≤◌, Some, IfOk, IfErr, IsOkUnless, OnOk, ◌++◌};
+ghost use Rattle.std.specs.Io.KnownBytes.{Appends};
 ghost use Rattle.qq_base.specs.Causes.{Rose};
 ghost use Rattle.qq_defs.specs.Runnable.{IsRunnable};
 ghost use Rattle.qq_setup.specs.Setup.{state_of, plain_setup};
-ghost use Rattle.qq_cluster_run.specs.Definitions.{IsMadeBy, IsSetupOver, MayNotBegin, MayNotRead, counted, made_counts, made_text, skipped_counts};
+ghost use Rattle.qq_cluster_run.specs.Definitions.{HasMadeCause, IsMadeBy, IsSetupOver, MayNotBegin, MayNotRead, counted, made_counts, made_text, skipped_counts};
 ghost use Rattle.qq_cluster_run.specs.Endings.{no_memory};
 
 use crate::ending::Ending;
+use crate::stop::PrintFault;
 use qq_base::Memory;
 use qq_defs::{read, setups_may_be_run};
-use qq_ports::{Shelf, ShelfFault};
+use qq_ports::{Shelf, ShelfFault, Sink, write_all};
 use qq_script::{push_number, push_text};
 use qq_setup::{Made, Setup};
 use qq_words::Options;
@@ -117,18 +119,37 @@ fn push_skipped(line: &mut Vec<u8>, made: &Made) -> Result<(), Memory>
     push_text(line, "\n")
 }
 
-/// The line of what was made of an export, which stands before all else. Without an export it is empty.
-pub fn made_line(alloc: Global, made: &Option<Made>) -> Result<Vec<u8>, Memory>
-    ensures ok { IfOk result (λ line. line.items ≡ made_text made.now) }
+fn made_line(alloc: Global, made: &Made) -> Result<Vec<u8>, Memory>
+    ensures ok { IfOk result (λ line. line.items ≡ made_text (Some made.now)) }
     ensures want { IsOkUnless result Memory.Want }
 {
     let mut line = Vec::new(alloc);
-    match made {
-        Some(made) => {
-            push_made(&mut line, made)?;
-            push_skipped(&mut line, made)?;
-            Ok(line)
-        }
-        None => Ok(line),
+    push_made(&mut line, made)?;
+    push_skipped(&mut line, made)?;
+    Ok(line)
+}
+
+/// Writes the line of what was made of an export, which stands before all else. Without an export there is none.
+pub fn write_made<O: Sink>(
+    alloc: Global,
+    made: &Option<Made>,
+    output: &mut O,
+) -> Result<(), PrintFault>
+    ensures ok { OnOk result
+        (Appends (O.written output.old) (O.written output.new) (made_text made.now)) }
+    ensures cause { IfErr result (λ fault. HasMadeCause fault made.now (O.written output.old)
+        (O.written output.new) (Rose (O.faults output.old) (O.faults output.new))) }
+    ensures later { O.faults output.old ≤ O.faults output.new }
+{
+    let Some(counts) = made else {
+        return Ok(());
+    };
+    let line = match made_line(alloc, counts) {
+        Ok(line) => line,
+        Err(_) => return Err(PrintFault::NoMemory),
+    };
+    match write_all(output, line.as_slice()) {
+        Ok(()) => Ok(()),
+        Err(_) => Err(PrintFault::Failed),
     }
 }

@@ -17,7 +17,7 @@ mod stop;
 
 pub use asking::{ask, read_line, refuse_long_line};
 pub use audit::{Rows, add_audit};
-pub use definitions::{made_line, set_up};
+pub use definitions::{set_up, write_made};
 pub use ending::{Ending, LINES_LIMIT};
 pub use examples::worked_scripts_print;
 pub use faults::{
