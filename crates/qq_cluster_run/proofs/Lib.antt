@@ -3,6 +3,7 @@ pub mod Answering
 pub mod Audits
 pub mod Beginnings
 pub mod Closings
+mod ExportRuns
 pub mod Exports
 pub mod FaultsTold
 pub mod Feeds

@@ -15,6 +15,7 @@ use Rattle.qq_cluster.specs.Cluster.{Setup as ClusterSetup, ClusterEvent}
 use Rattle.qq_cluster.specs.Lines.{IsLine, nodes_of}
 use Rattle.qq_cluster.specs.Rules.{IsOpening}
 use Rattle.qq_cluster_run.specs.declared.stop.Stop.{Stop}
+use Rattle.qq_cluster_run.specs.Definitions.{Files}
 use Rattle.qq_cluster_run.specs.Endings.{Ending, fault_text, no_memory}
 use Rattle.qq_cluster_run.specs.Inputs.{Input, feed_count}
 use Rattle.qq_cluster_run.specs.Reading.{Asks, read_input, says}
@@ -54,6 +55,12 @@ abbrev pub HasEnded : ℕ → Options → Streams → Type 0
 HasEnded status options s =
     ScriptEnds status options (Some s.bytes) (Some s.rest) (Some s.old) (Some s.new) (SourceRose s) (SinkRose s)
     (Met s) (Had s)
+
+-- and in all, over a shelf with these files that counted so many faults before and after
+abbrev pub HasEndedOver : ℕ → Options → Files → (before after : ℕ) → Streams → Type 0
+HasEndedOver status options files before after s =
+    RunEnds status (Some options) files (Some s.bytes) (Some s.rest) (Some s.old) (Some s.new) (SourceRose s)
+    (Rose before after) (SinkRose s) (Met s) (Had s)
 
 -- words that are no command have ended with this status
 abbrev pub HasEndedAtWords : ℕ → Streams → Type 0

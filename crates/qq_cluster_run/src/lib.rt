@@ -6,6 +6,7 @@ mod audit;
 mod definitions;
 mod ending;
 mod examples;
+mod export_laws;
 mod faults;
 mod laws;
 mod named;
@@ -20,6 +21,7 @@ pub use audit::{Rows, add_audit};
 pub use definitions::{set_up, write_made};
 pub use ending::{Ending, LINES_LIMIT};
 pub use examples::worked_scripts_print;
+pub use export_laws::{closing_lines_name_the_fault, exports_are_read_first};
 pub use faults::{
     closing_lines_name_the_node, faults_are_told, faults_come_where_they_are_asked_for,
     lost_queues_are_told,
