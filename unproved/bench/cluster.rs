@@ -6,8 +6,7 @@
 use crate::memory::most_memory;
 use crate::words::number;
 use anyhow::{Result, ensure};
-use qq_ports::MemYard;
-use qq_ports::{MemSink, MemSource};
+use qq_ports::{MemShelf, MemSink, MemSource, MemYard};
 use std::alloc::Global;
 use std::time::Instant;
 
@@ -33,7 +32,12 @@ fn script(alloc: Global, load: Load) -> Result<Vec<u8>> {
         text.push_str("manual\n")?;
     }
     for number in 0..load.messages {
-        writeln!(text, "send 1 - q{} ={}", number % load.queues + 1, load.body)?;
+        writeln!(
+            text,
+            "send 1 - q{} ={}",
+            number % load.queues + 1,
+            load.body
+        )?;
         if load.sends > 0 && (number + 1) % load.sends == 0 {
             text.push_str("pump\n")?;
         }
@@ -61,13 +65,14 @@ pub fn run(rt: HostRuntime, words: &[String]) -> Result<()> {
     };
     let text = script(alloc, load)?;
     let words = words_of(alloc, load)?;
+    let mut shelf = MemShelf::new(Vec::new(alloc), Vec::new(alloc));
     let mut yard = MemYard::new(Vec::new(alloc), Vec::new(alloc));
     let mut source = MemSource::new(text, Vec::new(alloc));
     let room = usize::try_from((load.messages + 10) * LINES_ROOM + load.queues * AUDIT_ROOM)?;
     let mut sink = MemSink::new(alloc, room, Vec::new(alloc))?;
 
     let start = Instant::now(&rt)?;
-    let status = qq_broker::run(&rt, &words, &mut source, &mut sink, &mut yard);
+    let status = qq_broker::run(&rt, &words, &mut source, &mut sink, &mut shelf, &mut yard);
     let spent = start.elapsed(&rt)?.as_nanos();
     ensure!(status == 0, "the run has failed");
     let printed = str::from_utf8(sink.bytes())?;

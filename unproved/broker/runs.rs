@@ -3,8 +3,7 @@
 use anyhow::{Result, ensure};
 use cases::{Trials, run_each};
 use qq_broker::run;
-use qq_ports::{MemSink, MemSource};
-use qq_ports::{MemYard, Yard};
+use qq_ports::{MemShelf, MemSink, MemSource, MemYard, Yard};
 
 /// A run prints no more.
 const ROOM: usize = 1 << 20;
@@ -40,7 +39,8 @@ pub fn serve<Y: Yard>(
     let script = script.as_bytes().to_vec(alloc)?;
     let mut source = MemSource::new(script, vec![in alloc; read]?);
     let mut sink = MemSink::new(alloc, ROOM, vec![in alloc; write]?)?;
-    let status = run(&rt, &words, &mut source, &mut sink, yard);
+    let mut shelf = MemShelf::new(Vec::new(alloc), Vec::new(alloc));
+    let status = run(&rt, &words, &mut source, &mut sink, &mut shelf, yard);
     Ok(Ran { status, sink })
 }
 
@@ -67,7 +67,43 @@ fn a_failing_source_or_sink_ends_the_run(rt: HostRuntime) -> Result<()> {
     Ok(())
 }
 
+fn a_failing_shelf_or_a_refused_export_ends_the_run(rt: HostRuntime) -> Result<()> {
+    let alloc = rt.alloc();
+    let made = "made queues 0 exchanges 0 bindings 0 skipped queues 0 bindings 0 other-vhosts 0\n";
+    for (export, fail, write, status, printed) in [
+        ("{\"queues\": []}", 0, 0, 0, made),
+        ("{\"queues\": []}", 1, 0, 5, "read fault\n"),
+        ("[]", 1, 0, 5, "read fault\n"),
+        ("[]", 0, 0, 3, "definitions: not-object\n"),
+        // In the first line, which is one piece.
+        ("{\"queues\": []}", 0, 1, 6, ""),
+        ("[]", 0, 1, 6, ""),
+    ] {
+        let words = vec![in alloc;
+            String::from_str(alloc, "script")?,
+            String::from_str(alloc, "--definitions=export")?,
+        ]?;
+        let file = (
+            String::from_str(alloc, "export")?,
+            export.as_bytes().to_vec(alloc)?,
+        );
+        let mut shelf = MemShelf::new(vec![in alloc; file]?, vec![in alloc; fail]?);
+        let mut source = MemSource::new(Vec::new(alloc), Vec::new(alloc));
+        let mut sink = MemSink::new(alloc, ROOM, vec![in alloc; write]?)?;
+        let mut yard = MemYard::new(Vec::new(alloc), Vec::new(alloc));
+        let ended = run(&rt, &words, &mut source, &mut sink, &mut shelf, &mut yard);
+        ensure!(ended == status, "{export:?}: status {ended}");
+        let text = str::from_utf8(sink.bytes())?;
+        ensure!(text == printed, "{export:?}: {text:?}");
+    }
+    Ok(())
+}
+
 pub fn check(trials: &mut Trials) -> Result<()> {
-    run_each!(trials; a_failing_source_or_sink_ends_the_run);
+    run_each!(
+        trials;
+        a_failing_source_or_sink_ends_the_run,
+        a_failing_shelf_or_a_refused_export_ends_the_run
+    );
     Ok(())
 }

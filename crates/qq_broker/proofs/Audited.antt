@@ -12,12 +12,12 @@ use Rattle.qq_cluster.specs.Queue.{audit_rows}
 use Rattle.qq_cluster.specs.Texts.{audits_text}
 use Rattle.qq_cluster_run.specs.Pieces.{HasPrefix, HasSomePrefix}
 use Rattle.qq_cluster_run.specs.Serving.{Run, cluster_in, setup_in}
-use Rattle.qq_cluster_run.specs.Setup.{IsPlain, name_by, place_of, row_at}
+use Rattle.qq_cluster_run.specs.Setup.{name_by, place_of, row_at}
 use Rattle.qq_cluster_run.proofs.Audits.{audits_by_rows, has_place, row_audit}
 use Rattle.qq_cluster_run.proofs.Pieces.{join, last_item, next_item, nothing, some_next, some_rest, whole}
 use Rattle.qq_nodes.specs.Nodes.{IsQueueAt, Stands}
 use Rattle.qq_nodes.specs.declared.nodes.Nodes.{Nodes}
-use Rattle.qq_broker.specs.Nodes.{Holds}
+use Rattle.qq_broker.specs.Nodes.{Holds, MayRun}
 use Rattle.qq_broker.proofs.GoingOn.{queue-there}
 use Rattle.qq_broker.proofs.Rows.{row-named}
 
@@ -35,12 +35,12 @@ module _ {D : Type 0} (tells : D → Bool) (past : D → List Disk) (faults : D 
   AuditsOn a b said rows i =
       OfRuns (λ run. HasPrefix a b (audits_of s run) (said ++ flat_map (row_audit (cluster_in s run)) (drop i rows)))
 
-  pub audits-start : (a : Option (List ℕ)) (said : List ℕ) (rows : List QueueRow) → IsPlain s → said ≡ []
+  pub audits-start : (a : Option (List ℕ)) (said : List ℕ) (rows : List QueueRow) → MayRun s → said ≡ []
       → rows ≡ s.queues → AuditsOn a a said rows 0
-  audits-start a said rows plain none are = λ given run h.
+  audits-start a said rows runs none are = λ given run h.
       subst (HasPrefix a a (audits_of s run))
       (sym (ap (λ (l : List ℕ). l ++ flat_map (row_audit (cluster_in s run)) rows) none
-      ∙ ap (flat_map (row_audit (cluster_in s run))) are ∙ audits_by_rows s run.logs (cluster_in s run) plain))
+      ∙ ap (flat_map (row_audit (cluster_in s run))) are ∙ audits_by_rows s run.logs (cluster_in s run) runs))
       (nothing a (audits_of s run))
 
   -- ---- a row
@@ -62,45 +62,45 @@ module _ {D : Type 0} (tells : D → Bool) (past : D → List Disk) (faults : D 
       queue-there given tells past faults s run held row.args.queue h
       (subst (λ (l : List QueueRow). Contains (map place_of l) (place_of row)) are (has_place rows i row lt is))
 
-  row-adds : (rows : List QueueRow) (i : ℕ) (row : QueueRow) (before later : List ℕ) → IsPlain s → IsRowAt rows i row
+  row-adds : (rows : List QueueRow) (i : ℕ) (row : QueueRow) (before later : List ℕ) → MayRun s → IsRowAt rows i row
       → AddsAudit row before later → (given : ℕ → D → Bool) (run : Run) → Holds given tells past faults s held run
       → later ≡ before ++ row_audit (cluster_in s run) row
-  row-adds rows i row before later plain (are, lt, is) adds given run h =
+  row-adds rows i row before later runs (are, lt, is) adds given run h =
       let c : Cluster = cluster_in s run in
       let name : name_by (row_at s.queues (place_of row)) ≡ row.name =
-      row-named s i row plain (subst (λ (l : List QueueRow). i < length l) are lt)
+      row-named s i row runs (subst (λ (l : List QueueRow). i < length l) are lt)
       (subst (λ (l : List QueueRow). row ≡ get_or l i row) are is) in
       adds (setup_in s run) c h.stands
       ∙ ap (λ (n : List ℕ). before ++ audit_text n 0 (audit_rows (c.queue (place_of row)))) name
 
   -- it moves from what is left to the text
-  row-moves : (a b : Option (List ℕ)) (said text : List ℕ) (rows : List QueueRow) (i : ℕ) (row : QueueRow) → IsPlain s
+  row-moves : (a b : Option (List ℕ)) (said text : List ℕ) (rows : List QueueRow) (i : ℕ) (row : QueueRow) → MayRun s
       → IsRowAt rows i row → AuditsOn a b said rows i → AddsAudit row said text → (given : ℕ → D → Bool) (run : Run)
       → Holds given tells past faults s held run
       → HasPrefix a b (audits_of s run) (text ++ flat_map (row_audit (cluster_in s run)) (drop (i + 1) rows))
-  row-moves a b said text rows i row plain at so adds given run h =
+  row-moves a b said text rows i row runs at so adds given run h =
       subst
       (λ (l : List ℕ). HasPrefix a b (audits_of s run) (l ++ flat_map (row_audit (cluster_in s run))
       (drop (i + 1) rows)))
-      (sym (row-adds rows i row said text plain at adds given run h))
+      (sym (row-adds rows i row said text runs at adds given run h))
       (next_item (row_audit (cluster_in s run)) a b (audits_of s run) said rows i row at.1 at.2 (so given run h))
 
   pub audits-next : (a b d : Option (List ℕ)) (said text later : List ℕ) (rows : List QueueRow) (i : ℕ) (row : QueueRow)
-      → IsPlain s → IsRowAt rows i row → AuditsOn a b said rows i → AddsAudit row said text → HasPrefix b d text later
+      → MayRun s → IsRowAt rows i row → AuditsOn a b said rows i → AddsAudit row said text → HasPrefix b d text later
       → AuditsOn a d later rows (i + 1)
-  audits-next a b d said text later rows i row plain at so adds part = λ given run h.
+  audits-next a b d said text later rows i row runs at so adds part = λ given run h.
       join a b d (audits_of s run) text later (flat_map (row_audit (cluster_in s run)) (drop (i + 1) rows))
-      (row-moves a b said text rows i row plain at so adds given run h) part
+      (row-moves a b said text rows i row runs at so adds given run h) part
 
   -- ---- how it ends
 
   -- a first part was written of a piece
   pub audits-cut : (a b d : Option (List ℕ)) (said text : List ℕ) (rows : List QueueRow) (i : ℕ) (row : QueueRow)
-      → IsPlain s → IsRowAt rows i row → AuditsOn a b said rows i → AddsAudit row said text → HasSomePrefix b d text
+      → MayRun s → IsRowAt rows i row → AuditsOn a b said rows i → AddsAudit row said text → HasSomePrefix b d text
       → OfRuns (λ run. HasSomePrefix a d (audits_of s run))
-  audits-cut a b d said text rows i row plain at so adds part = λ given run h.
+  audits-cut a b d said text rows i row runs at so adds part = λ given run h.
       some_next a b d (audits_of s run) text (flat_map (row_audit (cluster_in s run)) (drop (i + 1) rows))
-      (row-moves a b said text rows i row plain at so adds given run h) part
+      (row-moves a b said text rows i row runs at so adds given run h) part
 
   -- no more is written
   pub audits-stop : (a b : Option (List ℕ)) (said : List ℕ) (rows : List QueueRow) (i : ℕ) → AuditsOn a b said rows i

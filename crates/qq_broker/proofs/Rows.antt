@@ -6,8 +6,9 @@ use Rattle.std.proofs.lemmas.List.Elements.{Contains-get_or}
 use Rattle.qq_setup.specs.declared.queue_row.QueueRow.{QueueRow}
 use Rattle.qq_setup.specs.declared.setup.Setup.{Setup}
 use Rattle.qq_cluster_run.specs.Serving.{Run, setup_in}
-use Rattle.qq_cluster_run.specs.Setup.{IsPlain, first_place, name_by, place_of, row_at}
-use Rattle.qq_cluster_run.proofs.Naming.{plain-are}
+use Rattle.qq_cluster_run.specs.Setup.{first_place, name_by, place_of, row_at}
+use Rattle.qq_cluster_run.proofs.QueueRows.{rows-are}
+use Rattle.qq_broker.specs.Nodes.{MayRun}
 
 -- the first queue has the first row's name
 first-named : (rows : List QueueRow) (row : QueueRow) → 0 < length rows → row ≡ get_or rows 0 row
@@ -26,8 +27,8 @@ key-first s rows row key some are is same run =
     same ∙ first-named s.queues row some (subst (λ (l : List QueueRow). row ≡ get_or l 0 row) are is)
 
 -- and each has its row's
-pub row-named : (s : Setup) (i : ℕ) (row : QueueRow) → IsPlain s → i < length s.queues → row ≡ get_or s.queues i row
+pub row-named : (s : Setup) (i : ℕ) (row : QueueRow) → MayRun s → i < length s.queues → row ≡ get_or s.queues i row
     → name_by (row_at s.queues (place_of row)) ≡ row.name
-row-named s i row plain lt is =
+row-named s i row runs lt is =
     ap name_by
-    ((plain-are s plain).numbers row (subst (Contains s.queues) (sym is) (Contains-get_or s.queues i row lt)))
+    ((rows-are s runs).numbers row (subst (Contains s.queues) (sym is) (Contains-get_or s.queues i row lt)))

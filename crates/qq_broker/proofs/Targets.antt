@@ -1,46 +1,32 @@
--- The routes of a setup without arguments lead to its queues.
-use Rattle.std.proofs.Common.{◌≡◌, ℕ, Bool, List, [], ◌∷◌, map, Option, Some, None, refl, sym, ap, subst, inl, inr}
-use Rattle.std.specs.Prelude.{All, filter, fold}
+-- The routes of a setup lead to its queues.
+use Rattle.std.proofs.Common.{◌≡◌, ℕ, Bool, List, [], ◌∷◌, length, map, Option, Some, None, sym, subst, arith}
+use Rattle.std.specs.Prelude.{All, filter}
 use Rattle.std.specs.List.{AllByRecursion}
 use Rattle.std.specs.Option.{option_map}
-use Rattle.std.specs.Ordering.{nat_cmp}
 use Rattle.std.proofs.lemmas.Bool.{cond_both}
-use Rattle.std.proofs.lemmas.List.Elements.{recursion_from_All, All-from_recursion}
-use Rattle.std.proofs.lemmas.Map.Views.{All-insert_key}
+use Rattle.std.proofs.lemmas.List.Elements.{All-weaker, recursion_from_All}
 use Rattle.qq_base.specs.declared.ids.QueueId.{QueueId}
 use Rattle.qq_raft_protocol.specs.Facts.{In}
-use Rattle.qq_route.specs.Routes.{ExchangeState, Table, comes_to, new_table, queue_id, targets}
+use Rattle.qq_defs.specs.Runnable.{AreQueuesAfter, IsNumber}
+use Rattle.qq_route.specs.Routes.{ExchangeState, Table, comes_to, queue_id, targets}
 use Rattle.qq_setup.specs.declared.queue_row.QueueRow.{QueueRow}
 use Rattle.qq_setup.specs.declared.setup.Setup.{Setup}
-use Rattle.qq_setup.specs.Setup.{SetupState, declare, plain_rows, state_of}
-use Rattle.qq_cluster_run.specs.Setup.{IsPlain, place_of}
+use Rattle.qq_setup.specs.Setup.{state_of}
+use Rattle.qq_cluster_run.specs.Setup.{place_of}
+use Rattle.qq_cluster_run.proofs.QueueRows.{places-after}
+use Rattle.qq_broker.specs.Nodes.{MayRun}
 use Rattle.qq_broker.specs.Serving.{AreThere}
+use Rattle.qq_broker.proofs.GoingOn.{range-in}
 
 -- numbers of some queues
 abbrev AreOf : List ℕ → List ℕ → Type 0
 AreOf places numbers = All (λ (number : ℕ). In number places) numbers
 
-declared-of : (places : List ℕ) (rows : List QueueRow) (t : Table) → AreOf places t.queues
-    → AllByRecursion (λ (row : QueueRow). In (place_of row) places) rows → AreOf places (fold declare t rows).queues
-declared-of places [] t are each = are
-declared-of places (row ∷ rows) t are each =
-    declared-of places rows (declare t row)
-    (All-insert_key nat_cmp (place_of row) (λ (number : ℕ). In number places) t.queues are each.0) each.1
-
-weaker : (places more : List ℕ) (rows : List QueueRow) → ((n : ℕ) → In n places → In n more)
-    → AllByRecursion (λ (row : QueueRow). In (place_of row) places) rows
-    → AllByRecursion (λ (row : QueueRow). In (place_of row) more) rows
-weaker places more [] f each = tt
-weaker places more (row ∷ rows) f each =
-    (f (place_of row) each.0, weaker places more rows f each.1)
-
-rows-of-themselves : (rows : List QueueRow)
-    → AllByRecursion (λ (row : QueueRow). In (place_of row) (map place_of rows)) rows
-rows-of-themselves [] = tt
-rows-of-themselves (row ∷ rows) = (
-  inl refl,
-  weaker (map place_of rows) (map place_of (row ∷ rows)) rows (λ n there. inr there) (rows-of-themselves rows),
-)
+-- the numbers of a setup's queues
+of-queues : (nodes : ℕ) (rows : List QueueRow) (number : ℕ) → AreQueuesAfter nodes 0 rows → IsNumber (length rows) number
+    → In number (map place_of rows)
+of-queues nodes rows number are is =
+    subst (In number) (sym (places-after nodes 0 rows are)) (range-in number 1 (length rows) is.0 (omega (arith, is.1)))
 
 filtered : (places numbers : List ℕ) (passes : ℕ → Bool) → AllByRecursion (λ (number : ℕ). In number places) numbers
     → AllByRecursion (λ (queue : QueueId). In queue.0 places) (map queue_id (filter passes numbers))
@@ -61,16 +47,11 @@ of-exchange places t key (Some e) queues are is =
     subst (AllByRecursion (λ (queue : QueueId). In queue.0 places)) same
     (filtered places t.queues (comes_to e key) (recursion_from_All (λ (number : ℕ). In number places) t.queues are))
 
-pub targets-there : (s : Setup) (exchange key : List ℕ) (queues : List QueueId) → IsPlain s
+pub targets-there : (s : Setup) (exchange key : List ℕ) (queues : List QueueId) → MayRun s
     → targets (state_of s).table exchange key ≡ Some queues → AreThere s queues
-targets-there s exchange key queues plain is =
-    let rows : List QueueRow = plain_rows plain.nodes plain.group plain.count in
+targets-there s exchange key queues runs is =
     let t : Table = (state_of s).table in
-    let queues_are : s.queues ≡ rows = ap (λ (v : SetupState). v.queues) plain.is in
-    let table_is : t ≡ fold declare new_table rows = ap (λ (v : SetupState). v.table) plain.is in
-    let are : AreOf (map place_of rows) t.queues =
-    subst (λ (u : Table). AreOf (map place_of rows) u.queues) (sym table_is)
-    (declared-of (map place_of rows) rows new_table (All-from_recursion (λ (number : ℕ). In number (map place_of rows))
-    [] tt) (rows-of-themselves rows)) in
-    subst (λ (l : List QueueRow). AllByRecursion (λ (queue : QueueId). In queue.0 (map place_of l)) queues)
-    (sym queues_are) (of-exchange (map place_of rows) t key (t.exchanges exchange) queues are is)
+    of-exchange (map place_of s.queues) t key (t.exchanges exchange) queues
+    (All-weaker (IsNumber (length s.queues)) (λ (number : ℕ). In number (map place_of s.queues))
+    (λ number own. of-queues s.nodes s.queues number runs.queues_are own) t.queues runs.routed)
+    is

@@ -1,5 +1,5 @@
 -- The nodes of a run: what they had, and what the run meets in its yard and in the disks that it gives.
-use Rattle.std.specs.Prelude.{◌≡◌, ◌<◌, ◌≤◌, ℕ, Bool, true, List, Option, Some, None, Ok, Err, IsTrue, length}
+use Rattle.std.specs.Prelude.{◌≡◌, ℕ, Bool, true, List, Option, Some, None, Ok, Err, IsTrue}
 use Rattle.qq_base.specs.Causes.{Rose}
 use Rattle.qq_disk.specs.Disk.{Disk, now}
 use Rattle.qq_log.specs.Stable.{Stable}
@@ -10,24 +10,24 @@ use Rattle.qq_raft_protocol.specs.Facts.{In}
 use Rattle.qq_recover.specs.Reading.{lanes_read, shown}
 use Rattle.qq_recover.specs.declared.fault.RecoverFault.{RecoverFault}
 use Rattle.qq_recover.specs.declared.fault.RecoverFault.TheVariants as recover_faults
+use Rattle.qq_defs.specs.Runnable.{IsRunnable}
 use Rattle.qq_setup.specs.declared.setup.Setup.{Setup}
+use Rattle.qq_setup.specs.Setup.{state_of}
 use Rattle.qq_wal_chain.specs.Lanes.{Lanes}
 use Rattle.qq_cluster.specs.Cluster.{ClusterEvent, Setup as ClusterSetup}
 use Rattle.qq_cluster_laws.specs.Linked.{lot_of}
 use Rattle.qq_cluster_laws.specs.Serves.{seen_of}
 use Rattle.qq_cluster_run.specs.Serving.{Histories, Run, after_all, cluster_in, setup_in}
-use Rattle.qq_cluster_run.specs.Setup.{IsPlain, new_logs}
+use Rattle.qq_cluster_run.specs.Setup.{new_logs}
 use Rattle.qq_cluster_run.specs.Troubles.{Damage, AtPlace, OfVersion, Trouble, YardFails, DiskFails, FilesBreak, QueueIsFound, NumberEnds}
 use Rattle.qq_nodes.specs.Ends.{NumberAt}
 use Rattle.qq_nodes.specs.Nodes.{Stands, seen}
 use Rattle.qq_nodes.specs.declared.nodes.Nodes.{Nodes}
 use Rattle.qq_broker.specs.Lives.{Became}
 
--- a setup that nodes may be opened with: some queues without arguments, and a few nodes
-pub record MayRun (s : Setup) : Type 0 where
-  pub plain : IsPlain s
-  pub few : s.nodes ≤ 7
-  pub some : 0 < length s.queues
+-- a setup that nodes may be opened with
+abbrev pub MayRun : Setup → Type 0
+MayRun s = IsRunnable (state_of s)
 
 -- ---- what the disks had
 

@@ -1,14 +1,15 @@
-ghost use Rattle.std.specs.Prelude.{◌≡◌, ◌≤◌, ◌<◌, ◌++◌, ℕ, List, [], Some, map, string_bytes, IfOk, IfErr, IfSome, OnOk, OnErr};
+ghost use Rattle.std.specs.Prelude.{◌≡◌, ◌⊎◌, ◌≤◌, ◌<◌, ◌++◌, ℕ, List, [], Some, map, string_bytes, IfOk, IfErr, IfSome, OnOk, OnErr};
 ghost use Rattle.std.specs.Io.KnownBytes.{Appends};
 ghost use Rattle.qq_base.specs.Causes.{Rose};
 ghost use Rattle.qq_cluster.specs.Texts.{audits_text};
 ghost use Rattle.qq_cluster_run.specs.Answers.{Answers, HasAnswerCause, IsServedToEnd};
-ghost use Rattle.qq_cluster_run.specs.Options.{read_options};
+ghost use Rattle.qq_cluster_run.specs.Endings.{no_memory};
 ghost use Rattle.qq_cluster_run.specs.Pieces.{HasSomePrefix, HasPrintCause};
-ghost use Rattle.qq_cluster_run.specs.Runs.{HasStopped, IsDone, Closes, HasRun, RunEnds};
+ghost use Rattle.qq_cluster_run.specs.Runs.{HasStopped, IsBehindMade, IsCutInMade, IsDone, IsUnopened, Closes, HasRun, RunEnds, script_of};
 ghost use Rattle.qq_cluster_run.specs.Service.{HasOpened};
 ghost use Rattle.qq_cluster_run.specs.Serving.{Run, cluster_in, setup_in};
 ghost use Rattle.qq_cluster_run.specs.declared.status.TheConstants.{DONE};
+ghost use Rattle.qq_words.specs.Words.{read_words};
 ghost use Rattle.qq_broker.specs.Nodes.{Had, Holds, MayRun, Meets};
 
 use crate::auditing::write_audits;
@@ -16,11 +17,12 @@ use crate::opening::open;
 use crate::serving::serve;
 use qq_cluster_run::status::{DONE, WRITE_FAULT};
 use qq_cluster_run::{
-    AskStop, Ending, LINES_LIMIT, Options, PrintFault, Stop, ask, read_options, refuse_long_line,
+    AskStop, Ending, LINES_LIMIT, PrintFault, Stop, ask, refuse_long_line, set_up, write_made,
 };
 use qq_nodes::Nodes;
-use qq_ports::{LineFault, Lines, Sink, Source, Yard, lines_law, next_line, write_all};
+use qq_ports::{LineFault, Lines, Shelf, Sink, Source, Yard, lines_law, next_line, write_all};
 use qq_setup::Setup;
+use qq_words::{Command, Options, read_words};
 use std::alloc::Global;
 
 // Reads a line that has so many before it, and serves it.
@@ -186,60 +188,123 @@ fn open_script<Y: Yard, I: Source, O: Sink>(
     }
 }
 
-// Runs a script with these options.
-fn run_script<Y: Yard, I: Source, O: Sink>(
+// Writes the line of what was made of an export, if there is one, and runs a script over the setup.
+fn begin_script<Y: Yard, I: Source, O: Sink>(
     alloc: Global,
-    options: Options,
+    setup: &Setup,
+    yard: &mut Y,
     input: &mut I,
     output: &mut O,
-    yard: &mut Y,
 ) -> u8
-    ensures ends { RunEnds result (Some options) (I.left input.old) (I.left input.new)
+    requires { MayRun setup.now }
+    ensures ends { IsUnopened result (I.left input.old) (I.left input.new)
+        (O.written output.old) (O.written output.new)
+        (Rose (O.faults output.old) (O.faults output.new)) (λ ending. ending ≡ no_memory)
+        ⊎ (IsCutInMade result setup.now (I.left input.old) (I.left input.new)
+        (O.written output.old) (O.written output.new)
+        (Rose (O.faults output.old) (O.faults output.new))
+        ⊎ IsBehindMade result setup.now (I.left input.old) (I.left input.new)
         (O.written output.old) (O.written output.new)
         (Rose (I.faults input.old) (I.faults input.new))
         (Rose (O.faults output.old) (O.faults output.new))
         (Meets Y.is_given Y.Disk.tells Y.Disk.past Y.Disk.faults
         (Y.faults yard.old) (Y.faults yard.new))
-        (Had Y.is_given Y.Disk.tells Y.Disk.past Y.Disk.faults) }
+        (Had Y.is_given Y.Disk.tells Y.Disk.past Y.Disk.faults)) }
     ensures source_later { I.faults input.old ≤ I.faults input.new }
     ensures sink_later { O.faults output.old ≤ O.faults output.new }
     ensures yard_later { Y.faults yard.old ≤ Y.faults yard.new }
 {
-    match options.setup(alloc) {
-        Ok(setup) => open_script(alloc, &setup, yard, input, output),
-        Err(_) => close(output, Ending::no_memory()),
+    match write_made(alloc, &setup.made, output) {
+        Ok(()) => open_script(alloc, setup, yard, input, output),
+        Err(PrintFault::Failed) => WRITE_FAULT,
+        Err(PrintFault::NoMemory) => close(output, Ending::no_memory()),
     }
 }
 
-/// Runs the program on its words, an input, an output and a yard, and answers the exit status. The one command is
-/// `script`, with the options that `read_options` reads: the nodes of a cluster are opened over disks of the yard,
-/// the input's lines are served, and the audits of the queues are written at the end.
-///
-/// - `ends`: what a run has done that ends with this status (`a_status_tells_what_was_done`). What was written is
-///   the text of some events that the lines allow, and then the audits, or a first part of that and a closing
-///   line. Where these events happened, each node's disk is what has become of one that the yard gave for that node
-///   (`Had`), and each trouble was met in the yard, in such a disk or in the nodes (`Meets`).
-/// - `source_later`, `sink_later`, `yard_later`: the counts of faults don't fall.
-pub fn run<R: AllocGlobal, I: Source, O: Sink, Y: Yard>(
-    rt: &R,
-    words: &[String],
+// Runs a script with these options.
+fn run_script<S: Shelf, Y: Yard, I: Source, O: Sink>(
+    alloc: Global,
+    options: &Options,
     input: &mut I,
     output: &mut O,
+    shelf: &mut S,
     yard: &mut Y,
 ) -> u8
-    ensures ends { RunEnds result (read_options (map string_bytes words.now))
+    ensures ends { RunEnds result (Some options.now) (S.files shelf.old)
         (I.left input.old) (I.left input.new) (O.written output.old) (O.written output.new)
         (Rose (I.faults input.old) (I.faults input.new))
+        (Rose (S.faults shelf.old) (S.faults shelf.new))
         (Rose (O.faults output.old) (O.faults output.new))
         (Meets Y.is_given Y.Disk.tells Y.Disk.past Y.Disk.faults
         (Y.faults yard.old) (Y.faults yard.new))
         (Had Y.is_given Y.Disk.tells Y.Disk.past Y.Disk.faults) }
     ensures source_later { I.faults input.old ≤ I.faults input.new }
     ensures sink_later { O.faults output.old ≤ O.faults output.new }
+    ensures shelf_later { S.faults shelf.old ≤ S.faults shelf.new }
     ensures yard_later { Y.faults yard.old ≤ Y.faults yard.new }
 {
-    match read_options(words) {
-        Some(options) => run_script(rt.alloc(), options, input, output, yard),
-        None => close(output, Ending::usage()),
+    match set_up(alloc, options, shelf) {
+        Ok(setup) => begin_script(alloc, &setup, yard, input, output),
+        Err(ending) => close(output, ending),
+    }
+}
+
+// What the words say. Nothing here keeps files in a folder yet, or lists them: a script over a folder is no command,
+// nor is a dump.
+fn script_of(command: Option<Command>) -> Option<Options>
+    ensures { result ≡ script_of command }
+{
+    match command {
+        Some(Command::Script(options)) => {
+            if options.root.is_some() {
+                return None;
+            }
+            Some(options)
+        }
+        Some(Command::Dump { .. }) => None,
+        None => None,
+    }
+}
+
+/// Runs the program on its words, an input, an output, a shelf and a yard, and answers the exit status. The words are
+/// read by `read_words`: the one command is `script`. Its setup is made of the words alone, or of the shelf's file that
+/// they name. The nodes of a cluster are opened over disks of the yard, the input's lines are served, and the audits of
+/// the queues are written at the end.
+///
+/// - `ends`: what a run has done that ends with this status (`a_status_tells_what_was_done`, `exports_are_read_first`).
+///   What was written is the line of what was made of an export, the text of some events that the lines allow, and then
+///   the audits, or a first part of that and a closing line. Where these events happened, each node's disk is what has
+///   become of one that the yard gave for that node (`Had`), and each trouble was met in the yard, in such a disk or in
+///   the nodes (`Meets`).
+/// - `source_later`, `sink_later`, `shelf_later`, `yard_later`: the counts of faults don't fall.
+pub fn run<R: AllocGlobal, I: Source, O: Sink, S: Shelf, Y: Yard>(
+    rt: &R,
+    words: &[String],
+    input: &mut I,
+    output: &mut O,
+    shelf: &mut S,
+    yard: &mut Y,
+) -> u8
+    ensures ends { RunEnds result (script_of (read_words (map string_bytes words.now)))
+        (S.files shelf.old) (I.left input.old) (I.left input.new)
+        (O.written output.old) (O.written output.new)
+        (Rose (I.faults input.old) (I.faults input.new))
+        (Rose (S.faults shelf.old) (S.faults shelf.new))
+        (Rose (O.faults output.old) (O.faults output.new))
+        (Meets Y.is_given Y.Disk.tells Y.Disk.past Y.Disk.faults
+        (Y.faults yard.old) (Y.faults yard.new))
+        (Had Y.is_given Y.Disk.tells Y.Disk.past Y.Disk.faults) }
+    ensures source_later { I.faults input.old ≤ I.faults input.new }
+    ensures sink_later { O.faults output.old ≤ O.faults output.new }
+    ensures shelf_later { S.faults shelf.old ≤ S.faults shelf.new }
+    ensures yard_later { Y.faults yard.old ≤ Y.faults yard.new }
+{
+    let alloc = rt.alloc();
+    match read_words(alloc, words) {
+        Ok(command) => match script_of(command) {
+            Some(options) => run_script(alloc, &options, input, output, shelf, yard),
+            None => close(output, Ending::usage()),
+        },
+        Err(_) => close(output, Ending::no_memory()),
     }
 }

@@ -6,7 +6,8 @@ ghost use Rattle.qq_setup.specs.Setup.{state_of};
 ghost use Rattle.qq_cluster.specs.Lines.{publish_with};
 ghost use Rattle.qq_cluster_queue.specs.Range.{MayStamp};
 ghost use Rattle.qq_cluster_run.specs.Named.{IsShort};
-ghost use Rattle.qq_cluster_run.specs.Setup.{IsPlain, places_for};
+ghost use Rattle.qq_cluster_run.specs.Setup.{places_for};
+ghost use Rattle.qq_broker.specs.Nodes.{MayRun};
 ghost use Rattle.qq_broker.specs.Serving.{AreThere};
 
 use qq_base::{Bytes, Memory, QueueId, Text};
@@ -49,7 +50,7 @@ pub fn targets(
     exchange: &Text,
     key: &Text,
 ) -> Result<Vec<QueueId>, Memory>
-    requires { IsPlain setup.now }
+    requires { MayRun setup.now }
     ensures ok { IfOk result (λ queues. map (λ (queue : Id). queue.0) queues.items
         ≡ places_for (state_of setup.now).table exchange.now key.now) }
     ensures there { IfOk result (λ queues. AreThere setup.now queues.items) }

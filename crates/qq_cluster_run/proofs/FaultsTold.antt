@@ -1,5 +1,5 @@
 -- What the statuses of a fault tell.
-use Rattle.std.proofs.Common.{◌≡◌, ◌⊎◌, ◌≤◌, ◌^◌, ℕ, false, List, [], ◌∷◌, ◌++◌, length, inl, inr, refl, sym, ap, subst, ◌∙◌, codes, arith}
+use Rattle.std.proofs.Common.{None, ◌≡◌, ◌⊎◌, ◌≤◌, ◌^◌, ℕ, false, List, [], ◌∷◌, ◌++◌, length, inl, inr, refl, sym, ap, subst, ◌∙◌, codes, arith}
 use Rattle.std.specs.Prelude.{Contains}
 use Rattle.std.specs.Fmt.{decimal}
 use Rattle.std.specs.List.{range_with_len}
@@ -9,7 +9,7 @@ use Rattle.qq_setup.specs.declared.setup.Setup.{Setup}
 use Rattle.qq_setup.specs.Setup.{SetupState, plain_rows}
 use Rattle.qq_log.specs.Stable.{Stable}
 use Rattle.qq_script_lines.specs.declared.line.ScriptLine.{ScriptLine}
-use Rattle.qq_cluster_run.specs.declared.options.Options.{Options}
+use Rattle.qq_words.specs.declared.options.Options.{Options}
 use Rattle.qq_cluster.specs.Cluster.{Setup as ClusterSetup, ClusterEvent}
 use Rattle.qq_cluster.specs.Rules.{ForEach, IsRestart}
 use Rattle.qq_cluster_run.specs.Endings.{Ending, lost}
@@ -20,6 +20,7 @@ use Rattle.qq_cluster_run.specs.Serving.{Behind, EndsDamaged, MayTakeUp, Restart
 use Rattle.qq_cluster_run.specs.Setup.{Logs, cluster_over}
 use Rattle.qq_cluster_run.specs.Statuses.{Streams, Met, Had, HasEnded, Over, NextAsks, IsYardFault, NoDisk, AtCrash, MeetsDamage, DamagedAtOpening, DamagedAtRestart, HasLost, LostAtOpening, LostAtRestart, IsSpent, SpentAtOpening, SpentAtLine, Told, Done, Refused, ReadFault, WriteFault, YardFault, Damaged, Lost, Limited, NoMemory, Spent}
 use Rattle.qq_cluster_run.specs.Troubles.{Damage, damage_ending, YardFails, DiskFails, FilesBreak, QueueIsFound, NumberEnds}
+use Rattle.qq_cluster_run.proofs.Exports.{plain-of}
 use Rattle.qq_cluster_run.proofs.Statuses.{told}
 use Rattle.qq_cluster_run.proofs.Worked.{publish, said, asks-publish}
 
@@ -248,15 +249,15 @@ splits-alone [] input more is = (refl, let same : publish ≡ input = cc in sym 
 splits-alone (r ∷ []) input more is = absurd cc
 splits-alone (r ∷ q ∷ read) input more is = absurd cc
 
-asks-that : (options : Options) (s : Streams) → options.queues ≡ 1 → s.bytes ≡ codes "publish a\n"
+asks-that : (options : Options) (s : Streams) → options.definitions ≡ None → options.queues ≡ 1 → s.bytes ≡ codes "publish a\n"
     → (over : Over options s) (line : ScriptLine) → NextAsks over line → said ≡ line
-asks-that options s one bytes over line (input, (more, is), asks) =
+asks-that options s plain one bytes over line (input, (more, is), asks) =
     let b = over.served.behind in
     let parts : publish ∷ [] ≡ b.read ++ input ∷ more =
     sym (ap inputs_of bytes) ∙ b.is ∙ ap (λ (l : List Input). b.read ++ l) is in
     let split = splits-alone b.read input more parts in
     let rows : over.setup.queues ≡ plain_rows options.nodes options.group 1 =
-    ap (λ (v : SetupState). v.queues) over.is_setup ∙ ap (plain_rows options.nodes options.group) one in
+    ap (λ (v : SetupState). v.queues) (plain-of options over.setup plain over.is_setup) ∙ ap (plain_rows options.nodes options.group) one in
     let same : Asks said ≡ Asks line =
     sym (asks-publish over.setup options.nodes options.group rows)
     ∙ sym (ap (λ (r : List Input). says over.setup (length r) publish) split.0)
@@ -273,14 +274,14 @@ asks-nothing options s bytes over line (input, (more, is), asks) =
     none-left [] e = absurd cc
     none-left (x ∷ read) e = absurd cc
 
-pub yard-unopened : (options : Options) (s : Streams) → HasEnded 7 options s → options.queues ≡ 1
-    → s.bytes ≡ codes "publish a\n" → (s.rest ≡ s.bytes) × (s.new ≡ s.old ++ codes "yard fault\n")
-yard-unopened options s ended one bytes = by ((is-fault 7 options s (told 7 options s ended)).yard refl)
+pub yard-unopened : (options : Options) (s : Streams) → HasEnded 7 options s → options.definitions ≡ None
+    → options.queues ≡ 1 → s.bytes ≡ codes "publish a\n" → (s.rest ≡ s.bytes) × (s.new ≡ s.old ++ codes "yard fault\n")
+yard-unopened options s ended plain one bytes = by ((is-fault 7 options s (told 7 options s ended)).yard refl)
   where
     by : IsYardFault options s → (s.rest ≡ s.bytes) × (s.new ≡ s.old ++ codes "yard fault\n")
     by (NoDisk setup is_setup logs rose alone) = alone
     by (AtCrash rose over nodes image asks grown) =
-        absurd (let e = asks-that options s one bytes over _ asks in cc)
+        absurd (let e = asks-that options s plain one bytes over _ asks in cc)
 
 abbrev DamagedFirst : Streams → Type 0
 DamagedFirst s =
@@ -302,9 +303,9 @@ first-node setup nodes one at = by at.before (sym one ∙ at.are) at.restarted
     by (k ∷ []) are rest = absurd cc
     by (k ∷ j ∷ before) are rest = absurd cc
 
-pub damage-unopened : (options : Options) (s : Streams) → HasEnded 8 options s → options.nodes ≡ 1 → options.queues ≡ 1
-    → s.bytes ≡ codes "publish a\n" → DamagedFirst s
-damage-unopened options s ended nodes one bytes = by ((is-fault 8 options s (told 8 options s ended)).damaged refl)
+pub damage-unopened : (options : Options) (s : Streams) → HasEnded 8 options s → options.definitions ≡ None
+    → options.nodes ≡ 1 → options.queues ≡ 1 → s.bytes ≡ codes "publish a\n" → DamagedFirst s
+damage-unopened options s ended plain nodes one bytes = by ((is-fault 8 options s (told 8 options s ended)).damaged refl)
   where
     told-by : (setup : ClusterSetup) (nodes : List ℕ) (ending : Ending) → nodes ≡ 1 ∷ []
         → EndsDamaged (Met s) setup nodes [] ending → (s.rest ≡ s.bytes) × (s.new ≡ s.old ++ ending.text)
@@ -327,9 +328,9 @@ damage-unopened options s ended nodes one bytes = by ((is-fault 8 options s (tol
     by : MeetsDamage options s → DamagedFirst s
     by (DamagedAtOpening setup is_setup logs ending so alone) =
         told-by (cluster_over setup logs) _ ending
-        (ap (range_with_len 1) (ap (λ (v : SetupState). v.nodes) is_setup ∙ nodes)) so alone
+        (ap (range_with_len 1) (ap (λ (v : SetupState). v.nodes) (plain-of options setup plain is_setup) ∙ nodes)) so alone
     by (DamagedAtRestart over nodes ending so asks grown) =
-        absurd (let e = asks-that options s one bytes over _ asks in cc)
+        absurd (let e = asks-that options s plain one bytes over _ asks in cc)
 
 abbrev LostFirst : Streams → Type 0
 LostFirst s =
@@ -337,9 +338,9 @@ LostFirst s =
     × ((lane : Stable) × Contains s.troubles (QueueIsFound setup early node place lane) × ((noticed : ℕ)
     × (s.new ≡ s.old ++ (lost node (setup.name place) noticed lane.op).text)))))))
 
-pub lost-unopened : (options : Options) (s : Streams) → HasEnded 9 options s → options.queues ≡ 1
-    → s.bytes ≡ codes "publish a\n" → LostFirst s
-lost-unopened options s ended one bytes = by ((is-fault 9 options s (told 9 options s ended)).lost refl)
+pub lost-unopened : (options : Options) (s : Streams) → HasEnded 9 options s → options.definitions ≡ None
+    → options.queues ≡ 1 → s.bytes ≡ codes "publish a\n" → LostFirst s
+lost-unopened options s ended plain one bytes = by ((is-fault 9 options s (told 9 options s ended)).lost refl)
   where
     by : HasLost options s → LostFirst s
     by (LostAtOpening setup is_setup logs ending so (rest, grown)) = (
@@ -353,7 +354,7 @@ lost-unopened options s ended one bytes = by ((is-fault 9 options s (told 9 opti
       ),
     )
     by (LostAtRestart over nodes ending so asks grown) =
-        absurd (let e = asks-that options s one bytes over _ asks in cc)
+        absurd (let e = asks-that options s plain one bytes over _ asks in cc)
 
 pub spent-unopened : (options : Options) (s : Streams) → HasEnded 20 options s → s.bytes ≡ []
     → (s.rest ≡ []) × ((number : ℕ) × ((number ≡ 4294967295) ⊎ (2 ^ 63 ≤ number))

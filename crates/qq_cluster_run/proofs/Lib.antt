@@ -1,12 +1,14 @@
 pub mod Ahead
 pub mod Answering
 pub mod Audits
+pub mod Beginnings
 pub mod Closings
+mod ExportRuns
+pub mod Exports
 pub mod FaultsTold
 pub mod Feeds
 pub mod Going
 pub mod InputLines
-pub mod Limits
 pub mod Looping
 pub mod Naming
 pub mod Opening
@@ -15,6 +17,7 @@ pub mod Prefixes
 pub mod PrintedOnce
 pub mod Printing
 pub mod PlainRows
+pub mod QueueRows
 pub mod Said
 pub mod Says
 pub mod Serial

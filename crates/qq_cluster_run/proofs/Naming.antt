@@ -12,10 +12,9 @@ use Rattle.qq_script_lines.specs.declared.fault.ScriptFault.TheVariants.{Body, N
 use Rattle.qq_script_lines.specs.declared.line.ScriptLine.{ScriptLine}
 use Rattle.qq_cluster_run.specs.declared.ending.TheConstants.{LINES_LIMIT}
 use Rattle.qq_cluster_run.specs.Endings.{Ending, refusal, limit_body, limit_lines}
-use Rattle.qq_cluster_run.specs.Named.{AreRows, HasFirstKey, IsNamed}
+use Rattle.qq_cluster_run.specs.Named.{AreRows, IsNamed}
 use Rattle.qq_cluster_run.specs.Reading.{Says, Asks, Ends, read_line, says_by, says}
-use Rattle.qq_cluster_run.specs.Setup.{IsPlain, Logs, cluster_over, place_of, row_at}
-use Rattle.qq_cluster_run.proofs.PlainRows.{row_is}
+use Rattle.qq_cluster_run.specs.Setup.{Logs, cluster_over}
 use Rattle.qq_cluster_run.proofs.Said.{read-named}
 use Rattle.qq_cluster_run.proofs.Says.{says_within, says_past}
 
@@ -32,40 +31,6 @@ ends-asks ending asked is = false≢true (ap asks is)
 
 asked-line : (line asked : ScriptLine) → Asks line ≡ Asks asked → line ≡ asked
 asked-line line asked is = ap (line_or line) is
-
--- ---- plain setups
-
--- one of these rows, by how many stand before it
-record IsRow (nodes group a n : ℕ) (row : QueueRow) : Type 0 where
-  before : ℕ
-  most : before < a + n
-  is : plain_row nodes group before ≡ row
-
-row-of : (nodes group a n : ℕ) (row : QueueRow) → Contains (map (plain_row nodes group) (range_with_len a n)) row
-    → IsRow nodes group a n row
-row-of nodes group a zero row (k, lt, is) = absurd (omega (arith, lt))
-row-of nodes group a (suc n) row (zero, lt, is) = record { before = a; most = omega arith; is = is }
-row-of nodes group a (suc n) row (suc k, lt, is) =
-    let later = row-of nodes group (a + 1) n row (k, omega (arith, lt), is) in
-    record { before = later.before; most = omega (arith, later.most); is = later.is }
-
-first-key : (nodes group count : ℕ) → HasFirstKey (plain_rows nodes group count)
-unfolding digits
-first-key nodes group zero = tt
-first-key nodes group (suc k) = omega arith
-
-plain-rows : (nodes group count : ℕ) → AreRows (plain_rows nodes group count)
-plain-rows nodes group count = record {
-  first = first-key nodes group count;
-  numbers = λ row there.
-      let so = row-of nodes group 0 count row there in
-      subst (λ (r : QueueRow). row_at (plain_rows nodes group count) (place_of r) ≡ Some r) so.is
-      (row_is nodes group count so.before (omega (arith, so.most)));
-}
-
-pub plain-are : (s : Setup) → IsPlain s → AreRows s.queues
-plain-are s plain =
-    subst AreRows (sym (ap (λ (v : SetupState). v.queues) plain.is)) (plain-rows plain.nodes plain.group plain.count)
 
 -- ---- lines
 

@@ -4,6 +4,7 @@ use Rattle.std.specs.List.{range_with_len}
 use Rattle.std.specs.Prelude.{◌<◌}
 use Rattle.std.proofs.lemmas.Bool.{false≢true}
 use Rattle.std.proofs.lemmas.Grind.{flat_map-append}
+use Rattle.qq_defs.specs.Runnable.{IsRunnable}
 use Rattle.qq_setup.specs.declared.setup.Setup.{Setup}
 use Rattle.qq_script_lines.specs.declared.line.ScriptLine.{ScriptLine}
 use Rattle.qq_cluster.specs.Cluster.{Setup as ClusterSetup, ClusterEvent, Fails, FindsEach, new_cluster}
@@ -12,8 +13,8 @@ use Rattle.qq_cluster.specs.Rules.{ForEach, IsOpening, IsRestart}
 use Rattle.qq_cluster_run.specs.Inputs.{Input}
 use Rattle.qq_cluster_run.specs.Reading.{AskFor}
 use Rattle.qq_cluster_run.specs.Serving.{AnyDisks, Behind, HasRecovered}
-use Rattle.qq_cluster_run.specs.Setup.{IsPlain, cluster_setup, new_logs}
-use Rattle.qq_setup.specs.Setup.{SetupState}
+use Rattle.qq_cluster_run.specs.Setup.{cluster_setup, new_logs}
+use Rattle.qq_setup.specs.Setup.{state_of}
 
 -- no front of events without a failure has one
 front-fine : (early late : List ClusterEvent) → has_failure (early ++ late) ≡ false → has_failure early ≡ false
@@ -62,12 +63,12 @@ first-node zero some = absurd (omega (arith, some))
 first-node (suc n) some = (1, (range_with_len 2 n, refl))
 
 -- what serves all lines
-pub served-behind : (s : Setup) (all : List Input) (lines : List ScriptLine) (events : List ClusterEvent) → IsPlain s
+pub served-behind : (s : Setup) (all : List Input) (lines : List ScriptLine) (events : List ClusterEvent)
+    → IsRunnable (state_of s)
     → AskFor s 0 all lines → IsServedBy (cluster_setup s) lines events
     → (b : Behind AnyDisks s all []) × (has_failure b.events ≡ false)
-served-behind s all lines events plain asked served =
-    let count : s.nodes ≡ plain.nodes = ap (λ (v : SetupState). v.nodes) plain.is in
-    let first = first-node s.nodes (subst (λ (n : ℕ). 0 < n) (sym count) plain.some) in
+served-behind s all lines events runs asked served =
+    let first = first-node s.nodes runs.some in
     let fine : has_failure served.is.early ≡ false =
     front-fine served.is.early served.is.late (ap has_failure (sym served.is.is) ∙ served.fine) in (
       record {

@@ -17,7 +17,7 @@ use Rattle.qq_setup.specs.declared.setup.Setup.{Setup}
 use Rattle.qq_setup.specs.Members.{member, members}
 use Rattle.qq_setup.specs.Setup.{SetupState, plain_row, plain_rows, plain_setup, state_of}
 use Rattle.qq_cluster.specs.Laws.{IsBegun}
-use Rattle.qq_cluster_run.specs.Setup.{IsPlain, args_by, cluster_of, first_place, group_over, members_by, name_by, new_logs, place_of, row_at}
+use Rattle.qq_cluster_run.specs.Setup.{args_by, cluster_of, first_place, group_over, members_by, name_by, new_logs, place_of, row_at}
 
 -- ---- places
 
@@ -75,17 +75,6 @@ group_is nodes group count before lt =
     ap (λ row. group_over (record { 0 = before + 1 }) (members_by row) (new_logs (before + 1)))
     (row_is nodes group count before lt)
 
--- there are as many as are asked for
-rows-count : (nodes group count : ℕ) → 0 < count → 0 < length (plain_rows nodes group count)
-rows-count nodes group zero some = some
-rows-count nodes group (suc n) some = omega arith
-
-pub rows-some : (nodes group count log_bytes : ℕ) (s : Setup) → state_of s ≡ plain_setup nodes group count log_bytes
-    → 0 < count → 0 < length s.queues
-rows-some nodes group count log_bytes s is some =
-    subst (λ (rows : List QueueRow). 0 < length rows) (sym (ap (λ (v : SetupState). v.queues) is))
-    (rows-count nodes group count some)
-
 -- ---- members
 
 -- two numbers that lie less than n apart leave other rests
@@ -125,24 +114,3 @@ members-apart nodes before a (suc n) le = (
 
 pub members-distinct : (nodes group before : ℕ) → AreDistinct (members nodes group before)
 members-distinct nodes group before = members-apart nodes before 0 (min group nodes) (omega (arith, min-le_right group nodes))
-
-rows-distinct : (nodes group a n place : ℕ)
-    → AreDistinct (members_by (row_at (map (plain_row nodes group) (range_with_len a n)) place))
-rows-distinct nodes group a zero place = tt
-rows-distinct nodes group a (suc n) place =
-    cond_both (nat_eq (a + 1) place) (Some (plain_row nodes group a))
-    (row_at (map (plain_row nodes group) (range_with_len (a + 1) n)) place)
-    (λ (o : Option QueueRow). AreDistinct (members_by o)) (λ is. members-distinct nodes group a)
-    (λ isnt. rows-distinct nodes group (a + 1) n place)
-
--- ---- groups
-
-pub groups-begin : ((queue : QueueId) (nodes : List NodeId) → IsOpened (new_group queue nodes) []) → (s : Setup)
-    → IsPlain s → (place : ℕ) → IsBegun ((cluster_of (state_of s) new_logs).group place)
-groups-begin new s plain place =
-    subst (λ (v : SetupState). IsBegun ((cluster_of v new_logs).group place)) (sym plain.is)
-    (record {
-      distinct = rows-distinct plain.nodes plain.group 0 plain.count place;
-      whole = [];
-      opened = new (record { 0 = place }) _;
-    })

@@ -1,12 +1,12 @@
 -- What an exit status tells of a run.
-use Rattle.std.proofs.Common.{◌≡◌, ℕ, ◌+◌, take, Result, Ok, Err, List, ◌++◌, Some, inl, inr, refl, sym, ap, subst, ◌∙◌, codes, arith}
+use Rattle.std.proofs.Common.{◌≡◌, ◌⊎◌, ℕ, ◌+◌, take, Result, Ok, Err, List, ◌++◌, Some, inl, inr, refl, sym, ap, subst, ◌∙◌, codes, arith}
 use Rattle.std.proofs.lemmas.Bool.{cases_lt}
 use Rattle.qq_script_lines.specs.declared.fault.ScriptFault.{ScriptFault}
 use Rattle.qq_script_lines.specs.declared.fault.ScriptFault.TheVariants as faults
 use Rattle.qq_script_lines.specs.declared.line.ScriptLine.{ScriptLine}
 use Rattle.qq_script_lines.specs.declared.line.ScriptLine.TheVariants.{Crash, Restart}
 use Rattle.qq_setup.specs.declared.setup.Setup.{Setup}
-use Rattle.qq_cluster_run.specs.declared.options.Options.{Options}
+use Rattle.qq_words.specs.declared.options.Options.{Options}
 use Rattle.qq_cluster_run.specs.declared.ending.TheConstants.{LINES_LIMIT}
 use Rattle.qq_cluster_run.specs.declared.stop.Stop.{Stop}
 use Rattle.qq_cluster_run.specs.declared.stop.Stop.TheVariants as stops
@@ -219,5 +219,12 @@ told n options s (inr over) = over_told n options s over.setup over.is_setup ove
 -- ---- words that are no command
 
 pub words_usage : (s : Streams) → HasEndedAtWords 2 s → (s.rest ≡ s.bytes) × (s.new ≡ s.old ++ usage.text)
-words_usage s (keeps, inl (is, grown)) = (keeps, grown)
-words_usage s (keeps, inr (is, rose, part)) = absurd (omega (arith, is))
+words_usage s unopened = by unopened.may unopened.closes
+  where
+    by : (unopened.ending ≡ usage) ⊎ (unopened.ending ≡ no_memory)
+        → Closes 2 unopened.ending (SinkRose s) (λ more. s.new ≡ s.old ++ more)
+        → (s.rest ≡ s.bytes) × (s.new ≡ s.old ++ usage.text)
+    by (inl e) (inl (is, grown)) = (unopened.keeps, grown ∙ ap (λ (e : Ending). s.old ++ e.text) e)
+    by (inr e) (inl (is, grown)) =
+        let same : 2 ≡ 12 = is ∙ ap (λ (e : Ending). e.status) e in absurd (omega (arith, same))
+    by may (inr (is, rose, part)) = absurd (omega (arith, is))

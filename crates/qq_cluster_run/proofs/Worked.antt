@@ -1,5 +1,5 @@
 -- What worked scripts over one queue print.
-use Rattle.std.proofs.Common.{◌≡◌, ◌≤◌, ℕ, ◌+◌, List, [], ◌∷◌, ◌++◌, length, Option, Some, Ok, Err, inl, inr, false, refl, sym, ap, subst, ◌∙◌, append-nil, append_assoc, codes, arith}
+use Rattle.std.proofs.Common.{None, ◌≡◌, ◌≤◌, ℕ, ◌+◌, List, [], ◌∷◌, ◌++◌, length, Option, Some, Ok, Err, inl, inr, false, refl, sym, ap, subst, ◌∙◌, append-nil, append_assoc, codes, arith}
 use Rattle.std.specs.Fmt.{decimal, digits}
 use Rattle.std.specs.Char.{encode_utf8}
 use Rattle.std.specs.Str.{chars, is_utf8}
@@ -17,7 +17,8 @@ use Rattle.qq_ports.specs.Lines.{HasNoFeed, lines_of, onto_first}
 use Rattle.qq_setup.specs.declared.queue_row.QueueRow.{QueueRow}
 use Rattle.qq_setup.specs.declared.setup.Setup.{Setup}
 use Rattle.qq_setup.specs.Setup.{SetupState, plain_rows, plain_setup, state_of}
-use Rattle.qq_cluster_run.specs.declared.options.Options.{Options}
+use Rattle.qq_defs.specs.Runnable.{IsRunnable}
+use Rattle.qq_words.specs.declared.options.Options.{Options}
 use Rattle.qq_script_lines.specs.declared.fault.ScriptFault.{ScriptFault}
 use Rattle.qq_script_lines.specs.declared.fault.ScriptFault.TheVariants.{Words, Body}
 use Rattle.qq_script_lines.specs.declared.line.ScriptLine.{ScriptLine}
@@ -33,10 +34,12 @@ use Rattle.qq_cluster_run.specs.Endings.{fault_text, refusal}
 use Rattle.qq_cluster_run.specs.Inputs.{Input, raw_lines_of, input_of, inputs_by, inputs_of, feed_count}
 use Rattle.qq_cluster_run.specs.Reading.{Asks, Ends, read_line, read_input, says_by, says, AskFor}
 use Rattle.qq_cluster_run.specs.Serving.{Histories, Behind, text_behind, audits_behind, Served, IsText}
-use Rattle.qq_cluster_run.specs.Setup.{IsPlain, Logs, cluster_of, cluster_over, cluster_setup, new_logs}
+use Rattle.qq_cluster_run.specs.Setup.{Logs, cluster_of, cluster_over, cluster_setup, new_logs}
 use Rattle.qq_cluster_run.specs.Printing.{IsQuiet}
 use Rattle.qq_cluster_run.specs.Runs.{BreaksOff, IsSetup}
 use Rattle.qq_cluster_run.specs.Statuses.{Had, Streams, run_over, IsServed, IsRefused, IsReadFault, PassesLimit, IsLimited}
+use Rattle.qq_defs.proofs.Runnable.{plain-runnable}
+use Rattle.qq_cluster_run.proofs.Exports.{plain-of}
 use Rattle.qq_cluster_run.proofs.Says.{asks_for, says_within}
 use Rattle.qq_cluster_run.proofs.Printing.{Settles, asked-once}
 
@@ -50,11 +53,11 @@ of_one = cluster_of (plain_setup 1 1 1 0) new_logs
 abbrev pub IsOne : Setup → Type 0
 IsOne s = (log_bytes : ℕ) × (state_of s ≡ plain_setup 1 1 1 log_bytes)
 
-one_of : (options : Options) (setup : Setup) → IsSetup options setup → options.nodes ≡ 1 → options.group ≡ 3
-    → options.queues ≡ 1 → IsOne setup
-one_of options setup is nodes group one = (
+one_of : (options : Options) (setup : Setup) → IsSetup options setup → options.definitions ≡ None → options.nodes ≡ 1
+    → options.group ≡ 3 → options.queues ≡ 1 → IsOne setup
+one_of options setup is plain nodes group one = (
   options.log_bytes,
-  is ∙ ap (λ (n : ℕ). plain_setup n options.group options.queues options.log_bytes) nodes
+  plain-of options setup plain is ∙ ap (λ (n : ℕ). plain_setup n options.group options.queues options.log_bytes) nodes
       ∙ ap (λ (n : ℕ). plain_setup 1 n options.queues options.log_bytes) group
       ∙ ap (λ (n : ℕ). plain_setup 1 3 n options.log_bytes) one,
 )
@@ -137,26 +140,18 @@ pub record Knows : Type 0 where
       → has_failure events ≡ false → has_failure others ≡ false → findings events ≡ findings others → events ≡ others
   pub served : (setup : ClusterSetup) (lines : List ScriptLine) → HasGroups setup
       → IsServedBy setup lines (run setup all_given lines (new_cluster setup))
-  pub begins : (s : Setup) → IsPlain s → HasGroups (cluster_setup s)
+  pub begins : (s : Setup) → IsRunnable (state_of s) → HasGroups (cluster_setup s)
 
 abbrev pub knows :
     Settles → ((setup : ClusterSetup) (lines : List ScriptLine) → HasGroups setup
     → IsServedBy setup lines (run setup all_given lines (new_cluster setup)))
-    → ((s : Setup) → IsPlain s → HasGroups (cluster_setup s)) → Knows
+    → ((s : Setup) → IsRunnable (state_of s) → HasGroups (cluster_setup s)) → Knows
 knows settle served begins = record { settle = settle; served = served; begins = begins }
 
 groups-one : Knows → (s : Setup) → IsOne s → HasGroups of_one
 groups-one law s (log_bytes, is) =
     subst HasGroups (over-new s (log_bytes, is))
-    (law.begins s (record {
-      nodes = 1;
-      group = 1;
-      count = 1;
-      log_bytes = log_bytes;
-      some = omega arith;
-      within = omega arith;
-      is = is;
-    }))
+    (law.begins s (subst IsRunnable (sym is) (plain-runnable 1 1 1 log_bytes (omega arith) (omega arith) (omega arith))))
 
 -- these lines ask for this, and the run was quiet
 events-are : Knows → (had : Histories) (s : Setup) → IsOne s → (all left : List Input) (b : Behind had s all left)
@@ -237,11 +232,11 @@ read-all : (had : Histories) (s : Setup) (bytes : List ℕ) (left : List Input) 
 read-all had s bytes left b none is =
     sym (b.is ∙ ap (λ (l : List Input). b.read ++ l) none ∙ append-nil b.read) ∙ ap inputs_of is
 
-pub served-prints : Knows → (options : Options) (s : Streams) (done : IsServed options s) → options.nodes ≡ 1 → options.group ≡ 3 → options.queues ≡ 1
-    → s.bytes ≡ codes "publish a\n" → IsQuiet done.over.served.behind → s.new ≡ s.old ++ whole
-served-prints law options s done nodes group one bytes quiet =
+pub served-prints : Knows → (options : Options) (s : Streams) (done : IsServed options s)
+    → options.definitions ≡ None → options.nodes ≡ 1 → options.group ≡ 3 → options.queues ≡ 1 → s.bytes ≡ codes "publish a\n" → IsQuiet done.over.served.behind → s.new ≡ s.old ++ whole
+served-prints law options s done plain nodes group one bytes quiet =
     let over = done.over in
-    let rows = one_of options over.setup over.is_setup nodes group one in
+    let rows = one_of options over.setup over.is_setup plain nodes group one in
     let read = read-all (Had s) over.setup s.bytes over.served.left over.served.behind done.all bytes in
     done.prints ∙ ap (λ (l : List ℕ). s.old ++ l)
     (both-one law (Had s) over.setup rows (inputs_of s.bytes) over.served.left over.served.behind quiet read)
@@ -306,11 +301,11 @@ refused-by law options s so rows quiet (AtSecond read is) =
     ∙ ap (λ (l : List ℕ). codes "confirmed 1\n" ++ l)
     (refused-text so.fault (length so.over.served.behind.read) words lines))
 
-pub refused-prints : Knows → (options : Options) (s : Streams) (so : IsRefused options s) → options.nodes ≡ 1 → options.group ≡ 3 → options.queues ≡ 1
-    → s.bytes ≡ codes "publish a\npublish\n" → IsQuiet so.over.served.behind
+pub refused-prints : Knows → (options : Options) (s : Streams) (so : IsRefused options s)
+    → options.definitions ≡ None → options.nodes ≡ 1 → options.group ≡ 3 → options.queues ≡ 1 → s.bytes ≡ codes "publish a\npublish\n" → IsQuiet so.over.served.behind
     → s.new ≡ s.old ++ codes "confirmed 1\nline 2: words\n"
-refused-prints law options s so nodes group one bytes quiet =
-    refused-by law options s so (one_of options so.over.setup so.over.is_setup nodes group one) quiet
+refused-prints law options s so plain nodes group one bytes quiet =
+    refused-by law options s so (one_of options so.over.setup so.over.is_setup plain nodes group one) quiet
     (split-of (Had s) so.over.setup s.bytes so.over.served.left so.over.served.behind so.input so.is_next.0
     (Some (codes "publish")) so.is_next.1 (ap inputs_of bytes))
 
@@ -343,11 +338,11 @@ limited-by law options s so rows quiet (AtSecond read is) (inr (size, reads, tex
     ∙ ap (λ (l : List ℕ). codes "confirmed 1\n" ++ l)
     (text ∙ ap (λ (n : ℕ). codes "limit body " ++ decimal n ++ codes "\n") sized))
 
-pub limited-prints : Knows → (options : Options) (s : Streams) (so : IsLimited options s) → options.nodes ≡ 1 → options.group ≡ 3 → options.queues ≡ 1
-    → s.bytes ≡ codes "publish a\npublish =65537\n" → IsQuiet so.over.served.behind
+pub limited-prints : Knows → (options : Options) (s : Streams) (so : IsLimited options s)
+    → options.definitions ≡ None → options.nodes ≡ 1 → options.group ≡ 3 → options.queues ≡ 1 → s.bytes ≡ codes "publish a\npublish =65537\n" → IsQuiet so.over.served.behind
     → s.new ≡ s.old ++ codes "confirmed 1\nlimit body 65537\n"
-limited-prints law options s so nodes group one bytes quiet =
-    limited-by law options s so (one_of options so.over.setup so.over.is_setup nodes group one) quiet
+limited-prints law options s so plain nodes group one bytes quiet =
+    limited-by law options s so (one_of options so.over.setup so.over.is_setup plain nodes group one) quiet
     (split-of (Had s) so.over.setup s.bytes so.over.served.left so.over.served.behind so.input so.is_next.0
     (Some (codes "publish =65537")) so.is_next.1 (ap inputs_of bytes)) so.passes
 
@@ -423,12 +418,12 @@ fault-read had s all left b is (IsSingle input one) =
     sym is ∙ b.is ∙ ap (λ (l : List Input). b.read ++ l) one in
     read-first b.read input parts (splits publish (Some (codes "publish")) b.read input [] parts)
 
-pub fault-prints : Knows → (options : Options) (s : Streams) (so : IsReadFault options s) → options.nodes ≡ 1 → options.group ≡ 3 → options.queues ≡ 1
-    → s.bytes ≡ codes "publish a\npublish" → s.rest ≡ [] → IsQuiet so.over.served.behind
+pub fault-prints : Knows → (options : Options) (s : Streams) (so : IsReadFault options s)
+    → options.definitions ≡ None → options.nodes ≡ 1 → options.group ≡ 3 → options.queues ≡ 1 → s.bytes ≡ codes "publish a\npublish" → s.rest ≡ [] → IsQuiet so.over.served.behind
     → s.new ≡ s.old ++ codes "confirmed 1\nread fault\n"
-fault-prints law options s so nodes group one bytes rest quiet =
+fault-prints law options s so plain nodes group one bytes rest quiet =
     let served = so.over.served in
-    let rows = one_of options so.over.setup so.over.is_setup nodes group one in
+    let rows = one_of options so.over.setup so.over.is_setup plain nodes group one in
     let unread : served.left ≡ inputs_of served.piece =
     served.unread ∙ ap (λ (l : List ℕ). inputs_of (served.piece ++ l)) rest
     ∙ ap inputs_of (append-nil served.piece) in
@@ -488,12 +483,12 @@ reads-one read left (ReadNone none input more is) some =
     let empty : length read ≡ 0 = ap length none in absurd (omega (arith, empty, some))
 reads-one read left (ReadOne is) some = is
 
-pub whole-fault-prints : Knows → (options : Options) (s : Streams) (so : IsReadFault options s) → options.nodes ≡ 1 → options.group ≡ 3 → options.queues ≡ 1
-    → s.bytes ≡ codes "publish a\n" → s.rest ≡ [] → IsQuiet so.over.served.behind
+pub whole-fault-prints : Knows → (options : Options) (s : Streams) (so : IsReadFault options s)
+    → options.definitions ≡ None → options.nodes ≡ 1 → options.group ≡ 3 → options.queues ≡ 1 → s.bytes ≡ codes "publish a\n" → s.rest ≡ [] → IsQuiet so.over.served.behind
     → s.new ≡ s.old ++ codes "confirmed 1\nread fault\n"
-whole-fault-prints law options s so nodes group one bytes rest quiet =
+whole-fault-prints law options s so plain nodes group one bytes rest quiet =
     let served = so.over.served in
-    let rows = one_of options so.over.setup so.over.is_setup nodes group one in
+    let rows = one_of options so.over.setup so.over.is_setup plain nodes group one in
     let read : s.bytes ≡ s.bytes ++ s.rest =
     sym (append-nil s.bytes) ∙ ap (λ (l : List ℕ). s.bytes ++ l) (sym rest) in
     let feeds : feed_count s.bytes ≡ 1 = ap feed_count bytes in
@@ -506,10 +501,11 @@ whole-fault-prints law options s so nodes group one bytes rest quiet =
 
 pub cut-prints : Knows → (options : Options) (s : Streams) (setup : Setup) → IsSetup options setup
     → (more : List ℕ) (so : BreaksOff (Had s) setup s.bytes (Some s.rest) (Some s.old) (Some s.new) more)
-    → options.nodes ≡ 1 → options.group ≡ 3 → options.queues ≡ 1 → s.bytes ≡ codes "publish a\n" → IsQuiet so.served.behind
+    → options.definitions ≡ None → options.nodes ≡ 1 → options.group ≡ 3 → options.queues ≡ 1
+    → s.bytes ≡ codes "publish a\n" → IsQuiet so.served.behind
     → (said : List ℕ) × (s.new ≡ s.old ++ (said ++ more)) × IsFront said whole
-cut-prints law options s setup is more so nodes group one bytes quiet =
-    let rows = one_of options setup is nodes group one in
+cut-prints law options s setup is more so plain nodes group one bytes quiet =
+    let rows = one_of options setup is plain nodes group one in
     let parts : publish ∷ [] ≡ so.served.behind.read ++ so.served.left =
     sym (ap inputs_of bytes) ∙ so.served.behind.is in (
       so.said,

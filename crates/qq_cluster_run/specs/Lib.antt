@@ -1,9 +1,9 @@
 pub mod Answers
 pub mod Asking
+pub mod Definitions
 pub mod Endings
 pub mod Inputs
 pub mod Named
-pub mod Options
 pub mod Pieces
 pub mod Printing
 pub mod Reading

@@ -8,7 +8,7 @@ use Rattle.qq_entry.specs.declared.command.Command.TheVariants.{Enqueue}
 use Rattle.qq_laws.specs.Published.{is_confirmed}
 use Rattle.qq_setup.specs.declared.setup.Setup.{Setup}
 use Rattle.qq_script_lines.specs.declared.line.ScriptLine.{ScriptLine}
-use Rattle.qq_cluster_run.specs.declared.options.Options.{Options}
+use Rattle.qq_words.specs.declared.options.Options.{Options}
 use Rattle.qq_cluster.specs.Cluster.{Printed, new_cluster, all_prints}
 use Rattle.qq_cluster.specs.ClusterLaws.{has_failure, findings}
 use Rattle.qq_cluster.specs.Queue.{Queue, audit_rows}

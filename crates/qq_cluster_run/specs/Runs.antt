@@ -1,10 +1,11 @@
 -- How a run ends, and what it has written by then.
-use Rattle.std.specs.Prelude.{◌≡◌, ◌⊎◌, ℕ, List, [], ◌++◌, Option, Some, None, IfSome, take}
+use Rattle.std.specs.Prelude.{◌≡◌, ◌⊎◌, ℕ, List, [], ◌++◌, Option, Some, None, true, IfSome, is_some, take, if◌then◌else◌}
 use Rattle.std.specs.List.{AllByRecursion}
 use Rattle.std.specs.Io.KnownBytes.{Appends, Keeps, IsAtEnd}
 use Rattle.qq_setup.specs.declared.setup.Setup.{Setup}
-use Rattle.qq_setup.specs.Setup.{state_of, plain_setup}
-use Rattle.qq_cluster_run.specs.declared.options.Options.{Options}
+use Rattle.qq_words.specs.declared.commands.Command.{Command}
+use Rattle.qq_words.specs.declared.commands.Command.TheVariants.{Script}
+use Rattle.qq_words.specs.declared.options.Options.{Options}
 use Rattle.qq_cluster.specs.Cluster.{Setup as ClusterSetup}
 use Rattle.qq_cluster.specs.Rules.{IsOpening}
 use Rattle.qq_ports.specs.Lines.{HasNoFeed}
@@ -13,6 +14,8 @@ use Rattle.qq_cluster_run.specs.declared.stop.AskStop.{AskStop}
 use Rattle.qq_cluster_run.specs.declared.stop.AskStop.TheVariants as asks
 use Rattle.qq_cluster_run.specs.declared.stop.Stop.{Stop}
 use Rattle.qq_cluster_run.specs.declared.stop.Stop.TheVariants as stops
+use Rattle.qq_ports.specs.Faults.{AppendsPrefix}
+use Rattle.qq_cluster_run.specs.Definitions.{Files, IsSetupOver, MayNotBegin, made_text}
 use Rattle.qq_cluster_run.specs.Endings.{Ending, usage, read_fault, write_fault, yard_fault, no_memory}
 use Rattle.qq_cluster_run.specs.Inputs.{Input}
 use Rattle.qq_cluster_run.specs.Serving.{Histories, Behind, EndsRun, NextEnds, EndsSpent, EndsDamaged, EndsLost, run_behind, text_behind, audits_behind, Served, IsText}
@@ -99,10 +102,9 @@ pub record IsDone (status : ℕ) (had : Histories) (s : Setup) (left rest old ne
   pub ended : IsAtEnd rest
   pub over : IfSome left (λ bytes. IsDoneOver had s bytes rest old new)
 
--- the queues of a run with these options
+-- the setup of a run with these options, whatever file an export is
 abbrev pub IsSetup : Options → Setup → Type 0
-IsSetup options s =
-    state_of s ≡ plain_setup options.nodes options.group options.queues options.log_bytes
+IsSetup options s = IsSetupOver None options s
 
 -- the yard has failed, or each node's disk has
 abbrev pub HasNoDisk : (Trouble → Type 0) → ClusterSetup → Type 0
@@ -148,12 +150,50 @@ pub record IsRunOver (status : ℕ) (options : Options) (left rest old new : Opt
   pub is_setup : IsSetup options setup
   pub ends : HasRun status setup left rest old new source sink met had
 
--- What a run has done that ends with this status, where the words are a script with these options, of which there may be
--- no memory for the queues, and where they are no command.
-abbrev pub RunEnds : (status : ℕ) → Option Options → (left rest old new : Option (List ℕ))
-    → (source sink : Type 0) → (met : Trouble → Type 0) → (had : Histories) → Type 0
-RunEnds status (Some options) left rest old new source sink met had =
+-- and what it has done behind the line of what was made of an export, where there is one
+abbrev pub ScriptEnds : (status : ℕ) → Options → (left rest old new : Option (List ℕ)) → (source sink : Type 0)
+    → (met : Trouble → Type 0) → (had : Histories) → Type 0
+ScriptEnds status options left rest old new source sink met had =
     IsUnopened status left rest old new sink (λ ending. ending ≡ no_memory)
     ⊎ IsRunOver status options left rest old new source sink met had
-RunEnds status None left rest old new source sink met had =
-    Keeps left rest × Closes status usage sink (λ more. Appends old new more)
+
+-- ---- from the first line on
+
+-- that line was written, and the run over the setup did this
+pub record IsBehindMade (status : ℕ) (setup : Setup) (left rest old new : Option (List ℕ)) (source sink : Type 0)
+    (met : Trouble → Type 0) (had : Histories) : Type 0 where
+  pub mid : Option (List ℕ)
+  pub made : Appends old mid (made_text setup.made)
+  pub ends : HasRun status setup left rest mid new source sink met had
+
+-- or, where there is one, the sink has failed in it
+pub record IsCutInMade (status : ℕ) (setup : Setup) (left rest old new : Option (List ℕ)) (sink : Type 0) : Type 0
+  where
+    pub some : is_some setup.made ≡ true
+    pub status_is : status ≡ WRITE_FAULT
+    pub rose : sink
+    pub keeps : Keeps left rest
+    pub written : AppendsPrefix old new (made_text setup.made)
+
+-- a script over what its words and the shelf's file say of its setup
+pub record IsScript (status : ℕ) (options : Options) (files : Files) (left rest old new : Option (List ℕ))
+    (source sink : Type 0) (met : Trouble → Type 0) (had : Histories) : Type 0 where
+  pub setup : Setup
+  pub is_setup : IsSetupOver files options setup
+  pub ends : IsCutInMade status setup left rest old new sink
+      ⊎ IsBehindMade status setup left rest old new source sink met had
+
+-- Nothing here keeps files in a folder yet, or lists them: a script over a folder is no command, nor is a dump.
+abbrev pub script_of : Option Command → Option Options
+script_of (Some (Script options)) = if is_some options.root then None else Some options
+script_of _ = None
+
+-- What a run has done that ends with this status, where the words are a script with these options, and where they are no
+-- command. There may be no memory to read them.
+abbrev pub RunEnds : (status : ℕ) → Option Options → Files → (left rest old new : Option (List ℕ))
+    → (source shelf sink : Type 0) → (met : Trouble → Type 0) → (had : Histories) → Type 0
+RunEnds status (Some options) files left rest old new source shelf sink met had =
+    IsUnopened status left rest old new sink (MayNotBegin files shelf options)
+    ⊎ IsScript status options files left rest old new source sink met had
+RunEnds status None files left rest old new source shelf sink met had =
+    IsUnopened status left rest old new sink (λ ending. (ending ≡ usage) ⊎ (ending ≡ no_memory))

@@ -1,5 +1,5 @@
 -- A script's setup as a cluster has it.
-use Rattle.std.specs.Prelude.{◌≡◌, ◌<◌, ◌^◌, ℕ, List, [], ◌∷◌, length, map, nat_eq, Option, Some, None}
+use Rattle.std.specs.Prelude.{ℕ, List, [], ◌∷◌, length, map, nat_eq, Option, Some, None}
 use Rattle.std.specs.List.{find, range_with_len}
 use Rattle.qq_base.specs.declared.ids.NodeId.{NodeId}
 use Rattle.qq_base.specs.declared.ids.QueueId.{QueueId}
@@ -10,7 +10,7 @@ use Rattle.qq_raft_model.specs.Group.{Group, Seat}
 use Rattle.qq_route.specs.Routes.{Table, targets}
 use Rattle.qq_setup.specs.declared.queue_row.QueueRow.{QueueRow}
 use Rattle.qq_setup.specs.declared.setup.Setup.{Setup}
-use Rattle.qq_setup.specs.Setup.{SetupState, state_of, plain_setup}
+use Rattle.qq_setup.specs.Setup.{SetupState, state_of}
 use Rattle.qq_cluster.specs.Cluster.{Setup as ClusterSetup}
 
 -- ---- queues
@@ -34,8 +34,9 @@ abbrev pub members_by : Option QueueRow → List NodeId
 members_by None = []
 members_by (Some row) = row.members
 
+-- queues are numbered from 1, also where there is none
 abbrev pub first_place : List QueueRow → ℕ
-first_place [] = 0
+first_place [] = 1
 first_place (row ∷ rows) = place_of row
 
 -- ---- routes
@@ -85,15 +86,3 @@ cluster_over s logs = cluster_of (state_of s) logs
 -- over new logs
 abbrev pub cluster_setup : Setup → ClusterSetup
 cluster_setup s = cluster_over s new_logs
-
--- ---- plain setups
-
--- so many queues without arguments, in groups of this size, over so many nodes
-pub record IsPlain (s : Setup) : Type 0 where
-  pub nodes : ℕ
-  pub group : ℕ
-  pub count : ℕ
-  pub log_bytes : ℕ
-  pub some : 0 < nodes
-  pub within : count < 2 ^ 32
-  pub is : state_of s ≡ plain_setup nodes group count log_bytes

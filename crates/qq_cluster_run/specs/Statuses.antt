@@ -9,17 +9,18 @@ use Rattle.qq_script_lines.specs.declared.fault.ScriptFault.TheVariants.{Body}
 use Rattle.qq_script_lines.specs.declared.line.Nodes.{Nodes}
 use Rattle.qq_script_lines.specs.declared.line.ScriptLine.{ScriptLine}
 use Rattle.qq_script_lines.specs.declared.line.ScriptLine.TheVariants.{Crash, Restart}
-use Rattle.qq_cluster_run.specs.declared.options.Options.{Options}
+use Rattle.qq_words.specs.declared.options.Options.{Options}
 use Rattle.qq_ports.specs.Lines.{HasNoFeed}
 use Rattle.qq_cluster.specs.Cluster.{Setup as ClusterSetup, ClusterEvent}
 use Rattle.qq_cluster.specs.Lines.{IsLine, nodes_of}
 use Rattle.qq_cluster.specs.Rules.{IsOpening}
 use Rattle.qq_cluster_run.specs.declared.stop.Stop.{Stop}
+use Rattle.qq_cluster_run.specs.Definitions.{Files}
 use Rattle.qq_cluster_run.specs.Endings.{Ending, fault_text, no_memory}
 use Rattle.qq_cluster_run.specs.Inputs.{Input, feed_count}
 use Rattle.qq_cluster_run.specs.Reading.{Asks, read_input, says}
 use Rattle.qq_cluster_run.specs.Serving.{Run, EndsSpent, EndsDamaged, EndsLost, run_behind, setup_behind, text_behind, audits_behind, Served}
-use Rattle.qq_cluster_run.specs.Runs.{BreaksOff, HasNoDisk, HasStopped, ending_of, IsSetup, MayNotOpen, RunEnds}
+use Rattle.qq_cluster_run.specs.Runs.{BreaksOff, HasNoDisk, HasStopped, ending_of, ScriptEnds, IsSetup, MayNotOpen, RunEnds}
 use Rattle.qq_cluster_run.specs.Setup.{Logs, cluster_over}
 use Rattle.qq_cluster_run.specs.Troubles.{Trouble, YardFails}
 
@@ -49,17 +50,23 @@ Met s trouble = Contains s.troubles trouble
 abbrev pub Had : Streams → ClusterSetup → List ClusterEvent → Type 0
 Had s setup events = Contains s.histories (setup, events)
 
--- a script with these options has ended with this status
+-- a script with these options has ended with this status; `old` is what stood there when the line of an export was written
 abbrev pub HasEnded : ℕ → Options → Streams → Type 0
 HasEnded status options s =
-    RunEnds status (Some options) (Some s.bytes) (Some s.rest) (Some s.old) (Some s.new) (SourceRose s) (SinkRose s)
+    ScriptEnds status options (Some s.bytes) (Some s.rest) (Some s.old) (Some s.new) (SourceRose s) (SinkRose s)
     (Met s) (Had s)
+
+-- and in all, over a shelf with these files that counted so many faults before and after
+abbrev pub HasEndedOver : ℕ → Options → Files → (before after : ℕ) → Streams → Type 0
+HasEndedOver status options files before after s =
+    RunEnds status (Some options) files (Some s.bytes) (Some s.rest) (Some s.old) (Some s.new) (SourceRose s)
+    (Rose before after) (SinkRose s) (Met s) (Had s)
 
 -- words that are no command have ended with this status
 abbrev pub HasEndedAtWords : ℕ → Streams → Type 0
 HasEndedAtWords status s =
-    RunEnds status None (Some s.bytes) (Some s.rest) (Some s.old) (Some s.new) (SourceRose s) (SinkRose s) (Met s)
-    (Had s)
+    RunEnds status None None (Some s.bytes) (Some s.rest) (Some s.old) (Some s.new) (SourceRose s) ⊥ (SinkRose s)
+    (Met s) (Had s)
 
 -- ---- some lines were served, and more was printed
 

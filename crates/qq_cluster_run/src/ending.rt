@@ -5,12 +5,14 @@ ghost use Rattle.std.specs.Io.KnownBytes.{Appends};
 ghost use Rattle.qq_base.specs.Causes.{HasCause};
 ghost use Rattle.qq_ports.specs.Faults.{AppendsPrefix, IsCaused};
 ghost use Rattle.qq_cluster_run.specs.Endings.{number_text, name_text, usage, refusal, fault_text, read_fault, write_fault, yard_fault, damaged, other_version, lost, limit_body, limit_lines, no_memory, spent};
+ghost use Rattle.qq_cluster_run.specs.Definitions.{refused_export};
 
 use crate::status::{
-    DAMAGED, LIMIT, LOST, NO_MEMORY, READ_FAULT, REFUSED, SPENT, USAGE, WRITE_FAULT, YARD_FAULT,
+    DAMAGED, DEFINITIONS, LIMIT, LOST, NO_MEMORY, READ_FAULT, REFUSED, SPENT, USAGE, WRITE_FAULT, YARD_FAULT,
 };
 use itoa::Buffer;
 use qq_base::{NodeId, Text};
+use qq_defs::DefsFault;
 use qq_ports::{Failed, Sink, write_all};
 use qq_script_lines::ScriptFault;
 use std::marker::Model;
@@ -105,11 +107,53 @@ impl Ending {
         }
     }
 
+    fn named(status: u8, start: &'static str, name: Text) -> Self
+        ensures { result ≡ record { status = status; text = start.now ++ name ++ codes "\n" } }
+    {
+        Ending {
+            status,
+            start,
+            node: None,
+            gap: "",
+            name: Some(name),
+            before: "",
+            first: None,
+            between: "",
+            second: None,
+            end: "\n",
+        }
+    }
+
     /// The words are no command.
     pub fn usage() -> Self
         ensures { result ≡ usage }
     {
         Ending::plain(USAGE, "usage: qq script|run|drill N|dump\n")
+    }
+
+    /// The export is refused by this fault of it, or has more queues than it may have.
+    pub fn refused_export(fault: DefsFault) -> Self
+        ensures { result ≡ refused_export fault }
+    {
+        match fault {
+            DefsFault::Json => Ending::plain(DEFINITIONS, "definitions: json\n"),
+            DefsFault::NotObject => Ending::plain(DEFINITIONS, "definitions: not-object\n"),
+            DefsFault::Missing { path } => {
+                Ending::named(DEFINITIONS, "definitions: missing ", path)
+            }
+            DefsFault::BadArgument { name } => {
+                Ending::named(DEFINITIONS, "definitions: bad-argument ", name)
+            }
+            DefsFault::Unsupported { name } => {
+                Ending::named(DEFINITIONS, "definitions: unsupported ", name)
+            }
+            DefsFault::Policies => Ending::plain(DEFINITIONS, "definitions: policies\n"),
+            DefsFault::UnknownTarget { name } => {
+                Ending::named(DEFINITIONS, "definitions: unknown-target ", name)
+            }
+            DefsFault::Limit { count } => Ending::numbered(LIMIT, "limit queues ", count, "\n"),
+            DefsFault::Memory(_) => Ending::no_memory(),
+        }
     }
 
     /// The line of this number isn't served, by this fault of it.

@@ -1,11 +1,11 @@
 //! What the statuses of a fault tell, in the words of the streams alone, as laws: the functions do nothing, and
 //! their contracts are the laws.
-ghost use Rattle.std.specs.Prelude.{◌≡◌, ◌⊎◌, ◌≤◌, ◌++◌, ◌^◌, [], ℕ, List, false, codes, Contains};
+ghost use Rattle.std.specs.Prelude.{◌≡◌, ◌⊎◌, ◌≤◌, ◌++◌, ◌^◌, [], ℕ, List, None, false, codes, Contains};
 ghost use Rattle.std.specs.List.{range_with_len};
 ghost use Rattle.std.specs.Fmt.{decimal};
 ghost use Rattle.qq_log.specs.Stable.{Stable};
 ghost use Rattle.qq_setup.specs.declared.setup.Setup.{Setup};
-ghost use Rattle.qq_cluster_run.specs.declared.options.Options.{Options};
+ghost use Rattle.qq_words.specs.declared.options.Options.{Options};
 ghost use Rattle.qq_cluster.specs.Cluster.{Setup as ClusterSetup, ClusterEvent};
 ghost use Rattle.qq_cluster_run.specs.Endings.{lost};
 ghost use Rattle.qq_cluster_run.specs.Inputs.{Input, inputs_of};
@@ -93,15 +93,16 @@ pub fn lost_queues_are_told()
 /// - `spent`: of a script without a line.
 pub fn faults_come_where_they_are_asked_for()
     ensures yard { (options : Options) (s : Streams) → HasEnded 7 options s →
-        options.queues ≡ 1 → s.bytes ≡ codes "publish a\n" →
+        options.definitions ≡ None → options.queues ≡ 1 → s.bytes ≡ codes "publish a\n" →
         (s.rest ≡ s.bytes) × (s.new ≡ s.old ++ codes "yard fault\n") }
     ensures damaged { (options : Options) (s : Streams) → HasEnded 8 options s →
-        options.nodes ≡ 1 → options.queues ≡ 1 → s.bytes ≡ codes "publish a\n" →
+        options.definitions ≡ None → options.nodes ≡ 1 → options.queues ≡ 1 →
+        s.bytes ≡ codes "publish a\n" →
         (s.rest ≡ s.bytes) × ((setup : ClusterSetup) × ((damage : Damage)
         × Contains s.troubles (FilesBreak setup [] 1 damage)
         × (s.new ≡ s.old ++ (damage_ending 1 damage).text))) }
     ensures lost { (options : Options) (s : Streams) → HasEnded 9 options s →
-        options.queues ≡ 1 → s.bytes ≡ codes "publish a\n" →
+        options.definitions ≡ None → options.queues ≡ 1 → s.bytes ≡ codes "publish a\n" →
         (s.rest ≡ s.bytes) × ((setup : ClusterSetup) × ((early : List ClusterEvent)
         × ((node : ℕ) × ((place : ℕ) × ((lane : Stable)
         × Contains s.troubles (QueueIsFound setup early node place lane) × ((noticed : ℕ)

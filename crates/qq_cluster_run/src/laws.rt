@@ -2,7 +2,7 @@
 ghost use Rattle.std.specs.Prelude.{◌≡◌, ◌⊎◌, ◌≤◌, ◌<◌, ◌+◌, ◌++◌, [], ℕ, List, false, codes, Contains};
 ghost use Rattle.std.specs.Fmt.{decimal};
 ghost use Rattle.qq_setup.specs.declared.setup.Setup.{Setup};
-ghost use Rattle.qq_cluster_run.specs.declared.options.Options.{Options};
+ghost use Rattle.qq_words.specs.declared.options.Options.{Options};
 ghost use Rattle.qq_cluster.specs.ClusterLaws.{HasGroups, PrintsWhatIsTrue, has_failure, findings};
 ghost use Rattle.qq_cluster_run.specs.Endings.{usage};
 ghost use Rattle.qq_cluster_run.specs.Inputs.{Input, inputs_of};

@@ -3,14 +3,13 @@
 
 mod asking;
 mod audit;
+mod definitions;
 mod ending;
 mod examples;
+mod export_laws;
 mod faults;
 mod laws;
 mod named;
-mod option_laws;
-mod option_words;
-mod options;
 mod queues;
 mod serving;
 mod setups;
@@ -19,8 +18,10 @@ mod stop;
 
 pub use asking::{ask, read_line, refuse_long_line};
 pub use audit::{Rows, add_audit};
+pub use definitions::{set_up, write_made};
 pub use ending::{Ending, LINES_LIMIT};
 pub use examples::worked_scripts_print;
+pub use export_laws::{closing_lines_name_the_fault, exports_are_read_first};
 pub use faults::{
     closing_lines_name_the_node, faults_are_told, faults_come_where_they_are_asked_for,
     lost_queues_are_told,
@@ -30,12 +31,6 @@ pub use laws::{
     what_was_printed_is_true,
 };
 pub use named::{a_line_names_what_is_there, a_message_may_go_nowhere};
-pub use option_laws::{options_are_within_limits, options_stand_in_any_order};
-pub use option_words::read_options;
-pub use options::{
-    GROUP, LOG_BYTES, LOG_BYTES_LEAST, LOG_BYTES_MOST, NODES, NODES_MOST, NodeCount, Options,
-    QUEUES, QUEUES_MOST, QueueCount,
-};
 pub use queues::{audits_are_serial, what_was_printed_is_there_once};
 pub use serving::{idle_lines_print_that, lines_may_be_served, runs_have_a_node};
 pub use setups::{

@@ -3,6 +3,8 @@ ghost use Rattle.std.specs.Prelude.{◌≡◌, ◌++◌, [], List, true, false, 
 ghost use Rattle.std.specs.Fmt.{decimal};
 ghost use Rattle.qq_base.specs.declared.ids.NodeId.{NodeId};
 ghost use Rattle.qq_base.specs.declared.ids.QueueId.{QueueId};
+ghost use Rattle.qq_defs.specs.Runnable.{IsRunnable};
+ghost use Rattle.qq_setup.specs.Setup.{state_of};
 ghost use Rattle.qq_setup.specs.declared.setup.Setup.{Setup};
 ghost use Rattle.qq_script_lines.specs.declared.line.ScriptLine.{ScriptLine};
 ghost use Rattle.qq_script_lines.specs.declared.line.ScriptLine.TheVariants.{Pump, Write, Sync, Notice, Tick};
@@ -14,15 +16,14 @@ ghost use Rattle.qq_cluster.specs.Texts.{text_of};
 ghost use Rattle.qq_cluster_run.specs.Inputs.{Input};
 ghost use Rattle.qq_cluster_run.specs.Reading.{AskFor};
 ghost use Rattle.qq_cluster_run.specs.Serving.{AnyDisks, Behind};
-ghost use Rattle.qq_cluster_run.specs.Setup.{IsPlain};
 
 use crate::setups::clusters_begin_with_new_logs;
 use qq_cluster::{a_node_that_is_down_says_so, pumps_end, scripts_may_be_served};
 
 /// A law: where each line asks for something, they may all be served, with no call of a disk that fails.
 pub fn lines_may_be_served()
-    ensures { (s : Setup) (all : List Input) (lines : List ScriptLine) → IsPlain s →
-        AskFor s 0 all lines →
+    ensures { (s : Setup) (all : List Input) (lines : List ScriptLine) →
+        IsRunnable (state_of s) → AskFor s 0 all lines →
         (b : Behind AnyDisks s all []) × (has_failure b.events ≡ false) }
 {
     clusters_begin_with_new_logs();

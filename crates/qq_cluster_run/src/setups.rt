@@ -10,7 +10,8 @@ ghost use Rattle.qq_setup.specs.declared.setup.Setup.{Setup};
 ghost use Rattle.qq_setup.specs.Members.{members};
 ghost use Rattle.qq_setup.specs.Setup.{plain_setup, state_of};
 ghost use Rattle.qq_cluster.specs.ClusterLaws.{HasGroups};
-ghost use Rattle.qq_cluster_run.specs.Setup.{IsPlain, cluster_of, cluster_setup, new_logs};
+ghost use Rattle.qq_cluster_run.specs.Setup.{cluster_of, cluster_setup, new_logs};
+ghost use Rattle.qq_defs.specs.Runnable.{IsRunnable};
 
 use qq_raft_model::groups_are_opened;
 
@@ -53,10 +54,10 @@ pub fn a_cluster_routes_by_its_setup()
         (cluster_of (plain_setup nodes 3 2 log_bytes) new_logs).targets [] (codes "q3") ≡ [] }
 {}
 
-/// A law: the queues of a setup without arguments begin with new logs: no node has two members of a group, and
-/// no member has an entry. So each law of a cluster's queues holds.
+/// A law: the queues of a run's setup begin with new logs: no node has two members of a group, and no member has an
+/// entry. So each law of a cluster's queues holds.
 pub fn clusters_begin_with_new_logs()
-    ensures { (s : Setup) → IsPlain s → HasGroups (cluster_setup s) }
+    ensures { (s : Setup) → IsRunnable (state_of s) → HasGroups (cluster_setup s) }
 {
     groups_are_opened();
 }

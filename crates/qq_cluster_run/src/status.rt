@@ -4,9 +4,11 @@
 pub const DONE: u8 = 0;
 /// The words are no command.
 pub const USAGE: u8 = 2;
+/// The export is refused.
+pub const DEFINITIONS: u8 = 3;
 /// A line was refused.
 pub const REFUSED: u8 = 4;
-/// The source failed.
+/// The source failed, or the shelf.
 pub const READ_FAULT: u8 = 5;
 /// The sink failed.
 pub const WRITE_FAULT: u8 = 6;
@@ -16,7 +18,7 @@ pub const YARD_FAULT: u8 = 7;
 pub const DAMAGED: u8 = 8;
 /// A queue's ops on a node aren't those that its member was noticed of.
 pub const LOST: u8 = 9;
-/// A body, or the number of lines, passes its limit.
+/// A body, the number of lines, or the number of queues of an export, passes its limit.
 pub const LIMIT: u8 = 11;
 /// There was no memory.
 pub const NO_MEMORY: u8 = 12;

@@ -1,2 +1,3 @@
 mod Documents
 mod Reading
+pub mod Runnable

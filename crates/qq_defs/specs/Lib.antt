@@ -3,3 +3,4 @@ pub mod Definitions
 pub mod Draft
 pub mod Elements
 pub mod Reading
+pub mod Runnable

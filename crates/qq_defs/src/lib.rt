@@ -15,5 +15,5 @@ mod laws;
 pub use arguments::queue_args;
 pub use definitions::{QUEUES_LIMIT, read, read_document};
 pub use fault::DefsFault;
-pub use laws::memory_takes_no_part;
+pub use laws::{memory_takes_no_part, setups_may_be_run};
 pub use qq_setup::{Made, QueueRow, QueueRows, Setup};

@@ -1,10 +1,10 @@
-//! The program `qq`: it hands its words, a yard over the system's files, its standard input and its standard
-//! output to the broker.
+//! The program `qq`: it hands its words, a shelf and a yard over the system's files, its standard input and its
+//! standard output to the broker.
 #![tactic(auto)]
 
 use qq_broker::run;
 use qq_cluster_run::status;
-use qq_ports::{FolderYard, StdSink, StdSource, write_all};
+use qq_ports::{FolderShelf, FolderYard, StdSink, StdSource, write_all};
 use std::process::ExitCode;
 use std::rt::Env;
 use std::{env, io};
@@ -21,9 +21,10 @@ fn words(rt: &(impl Env + AllocGlobal)) -> io::Result<Vec<String>> {
 fn main(rt: HostRuntime) -> ExitCode {
     let mut input = StdSource::new(rt.stdin());
     let mut output = StdSink::new(rt.stdout());
+    let mut shelf = FolderShelf::new(rt, String::new(rt.alloc()));
     let mut yard = FolderYard::new(rt, rt.alloc());
     let status = match words(&rt) {
-        Ok(words) => run(&rt, &words, &mut input, &mut output, &mut yard),
+        Ok(words) => run(&rt, &words, &mut input, &mut output, &mut shelf, &mut yard),
         Err(error) if error.kind() == io::ErrorKind::OutOfMemory => {
             match write_all(&mut output, b"memory\n") {
                 Ok(()) => status::NO_MEMORY,
@@ -31,7 +32,7 @@ fn main(rt: HostRuntime) -> ExitCode {
             }
         }
         // Words that aren't text are no command.
-        Err(_) => run(&rt, &[], &mut input, &mut output, &mut yard),
+        Err(_) => run(&rt, &[], &mut input, &mut output, &mut shelf, &mut yard),
     };
     ExitCode::from(status)
 }

@@ -10,7 +10,7 @@ loop-row-init g c =
     record {
       so = audits-start disk.tells disk.past disk.faults c.args.setup.now c.args.nodes.now
           (g.O.Sink.written c.args.output.now) c.clear.new.self.items c.as_slice-rows.result.now
-          c.requires.may.plain c.clear.ensures.items c.as_slice-rows.ensures;
+          c.requires.may c.clear.ensures.items c.as_slice-rows.ensures;
       later = omega arith;
     }
 
@@ -28,7 +28,7 @@ loop-row-preserved g c =
     record {
       so = audits-next disk.tells disk.past disk.faults c.args.setup.now c.args.nodes.now (written c.args.output.now)
           (written c.loop-row.output) (written c.drain.new.output) c.loop-row.text.items c.audit_text.new.text.items
-          c.drain.new.text.items c.as_slice-rows.result.now c.loop-row.row-index c.row-item.result c.requires.may.plain
+          c.drain.new.text.items c.as_slice-rows.result.now c.loop-row.row-index c.row-item.result c.requires.may
           (c.as_slice-rows.ensures, c.loop-row-test.true, c.row-item.is) c.loop-row.invariant.so c.in_default.ensures.ok
           c.in_default-drain.ensures.ok;
       later = omega (arith, c.loop-row.invariant.later, c.in_default-drain.ensures.cause.later);
@@ -48,7 +48,7 @@ returns-in-Err-drain-clause-err g c =
     let written = g.O.Sink.written in
     audits-cut disk.tells disk.past disk.faults c.args.setup.now c.args.nodes.now (written c.args.output.now)
     (written c.loop-row.output) (written c.drain.new.output) c.loop-row.text.items c.audit_text.new.text.items
-    c.as_slice-rows.result.now c.loop-row.row-index c.row-item.result c.requires.may.plain
+    c.as_slice-rows.result.now c.loop-row.row-index c.row-item.result c.requires.may
     (c.as_slice-rows.ensures, c.loop-row-test.true, c.row-item.is) c.loop-row.invariant.so c.in_default.ensures.ok
     c.in-Err-drain.ensures.err
 

@@ -12,7 +12,7 @@ new-requires-clause-set g c =
       cluster_setup s,
       subst (λ (rows : List QueueRow). IsSetupOf (cluster_setup s) rows (length c.in-Ok.disks.items))
           (sym c.as_slice.ensures)
-          (is-set s c.requires (c.clusters_begin_with_new_logs.ensures s c.requires.plain) (length c.in-Ok.disks.items)
+          (is-set s c.requires (c.clusters_begin_with_new_logs.ensures s c.requires) (length c.in-Ok.disks.items)
           c.in-Ok.ensures.count),
     )
 
@@ -28,7 +28,7 @@ returns-in-Ok-new-clause-ok g c =
     (c.in-Ok-new.ensures.ok (cluster_setup s)
     (subst (λ (rows : List QueueRow). IsSetupOf (cluster_setup s) rows (length c.in-Ok.disks.items))
     (sym c.as_slice.ensures)
-    (is-set s c.requires (c.clusters_begin_with_new_logs.ensures s c.requires.plain) (length c.in-Ok.disks.items)
+    (is-set s c.requires (c.clusters_begin_with_new_logs.ensures s c.requires) (length c.in-Ok.disks.items)
     c.in-Ok.ensures.count)))
 
 pub returns-in-Ok-new-clause-disks : goal.returns-in-Ok-new-clause-disks

@@ -3,7 +3,8 @@ use Rattle.std.proofs.lemmas.Result.{IfErr-weaker, on_ok_weaker}
 use Rattle.qq_cluster_run.specs.Asking.{HasAskCause}
 use Rattle.qq_cluster_run.specs.Reading.{Asks, says}
 use Rattle.qq_cluster_run.proofs.Answering.{answers_from, asks_from, stops_from}
-use Rattle.qq_cluster_run.proofs.Naming.{asked-named, plain-are}
+use Rattle.qq_cluster_run.proofs.Naming.{asked-named}
+use Rattle.qq_cluster_run.proofs.QueueRows.{rows-are}
 use Rattle.qq_broker.specs.Nodes.{Had, Holds}
 use Rattle.qq_broker.proofs.program.answer.Goals as goal
 
@@ -12,7 +13,7 @@ serve-requires-clause-holds g c = λ lifetimes outlive. (
   c.requires.holds.0,
   c.requires.holds.1,
   asked-named c.args.setup.now c.requires.holds.0.logs c.args.before c.args.line.now c.in-Ok.said
-      (plain-are c.args.setup.now c.requires.may.plain) c.in-Ok.ensures.ok,
+      (rows-are c.args.setup.now c.requires.may) c.in-Ok.ensures.ok,
 )
 
 pub returns-in-Ok-clause-ok : goal.returns-in-Ok-clause-ok

@@ -1,4 +1,4 @@
-use Rattle.qq_cluster_run.proofs.PlainRows.{groups-begin}
+use Rattle.qq_cluster_run.proofs.QueueRows.{groups-begin}
 use Rattle.qq_cluster_run.proofs.setups.clusters_begin_with_new_logs.Goals as goal
 
 pub returns : goal.returns

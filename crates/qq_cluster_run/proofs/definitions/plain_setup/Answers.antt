@@ -1,0 +1,11 @@
+use Rattle.std.proofs.Common.{arith, sym, subst}
+use Rattle.std.proofs.lemmas.Result.{IfOk-weaker}
+use Rattle.qq_defs.specs.Runnable.{IsRunnable}
+use Rattle.qq_cluster_run.proofs.definitions.plain_setup.Goals as goal
+
+pub returns-clause-runs : goal.returns-clause-runs
+returns-clause-runs c =
+    IfOk-weaker c.plain.result _ _
+    (λ setup is. subst IsRunnable (sym is)
+    (c.setups_may_be_run.ensures.plain c.number.result c.number-2.result c.number-3.result c.args.options.now.log_bytes
+    c.number.ensures.some c.number.ensures.few (omega (arith, c.number-3.ensures.few)))) c.plain.ensures.ok

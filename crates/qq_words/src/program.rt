@@ -1,0 +1,78 @@
+ghost use Rattle.std.specs.Prelude.{◌≡◌, IfOk, false};
+ghost use Rattle.clap.specs.Words.{app_of, new_app};
+ghost use Rattle.clap.specs.declared.builder.command.Command.TheViews.{out-Command};
+ghost use Rattle.qq_words.specs.Program.{dump, program, script, with_flag, with_option};
+
+use clap::{Arg, ArgAction, Command};
+use std::alloc::{AllocError, Global};
+
+// A command without options.
+fn command<'a>(alloc: Global, name: &'a str) -> Command<'a>
+    ensures app { app_of result ≡ new_app name.entry.now }
+    ensures local { (out-Command result).has_globals ≡ false }
+{
+    Command::new(alloc, name)
+}
+
+fn with_option<'a>(
+    alloc: Global,
+    command: Command<'a>,
+    name: &'a str,
+) -> Result<Command<'a>, AllocError>
+    requires { (out-Command command).has_globals ≡ false }
+    ensures app { IfOk result (λ new. app_of new ≡ with_option (app_of command.entry) name.entry.now) }
+    ensures local { IfOk result (λ new. (out-Command new).has_globals ≡ false) }
+{
+    command.arg(Arg::new(alloc, name).long(name))
+}
+
+fn with_flag<'a>(
+    alloc: Global,
+    command: Command<'a>,
+    name: &'a str,
+) -> Result<Command<'a>, AllocError>
+    requires { (out-Command command).has_globals ≡ false }
+    ensures app { IfOk result (λ new. app_of new ≡ with_flag (app_of command.entry) name.entry.now) }
+    ensures local { IfOk result (λ new. (out-Command new).has_globals ≡ false) }
+{
+    command.arg(Arg::new(alloc, name).long(name).action(ArgAction::SetTrue))
+}
+
+fn script<'a>(alloc: Global) -> Result<Command<'a>, AllocError>
+    ensures app { IfOk result (λ command. app_of command ≡ script) }
+    ensures local { IfOk result (λ command. (out-Command command).has_globals ≡ false) }
+{
+    let script = command(alloc, "script");
+    let script = with_option(alloc, script, "nodes")?;
+    let script = with_option(alloc, script, "group")?;
+    let script = with_option(alloc, script, "queues")?;
+    let script = with_option(alloc, script, "definitions")?;
+    let script = with_flag(alloc, script, "ignore-policies")?;
+    let script = with_option(alloc, script, "root")?;
+    with_option(alloc, script, "log-bytes")
+}
+
+fn dump<'a>(alloc: Global) -> Result<Command<'a>, AllocError>
+    ensures app { IfOk result (λ command. app_of command ≡ dump) }
+    ensures local { IfOk result (λ command. (out-Command command).has_globals ≡ false) }
+{
+    let dump = command(alloc, "dump");
+    let dump = with_option(alloc, dump, "root")?;
+    with_option(alloc, dump, "node")
+}
+
+/// The program's commands, with their options.
+pub fn program<'a>(alloc: Global) -> Result<Command<'a>, AllocError>
+    ensures { IfOk result (λ command. app_of command ≡ program) }
+{
+    let script = script(alloc)?;
+    let dump = dump(alloc)?;
+    Command::new(alloc, "qq")
+        .no_binary_name(true)
+        .disable_help_flag(true)
+        .disable_help_subcommand(true)
+        .disable_version_flag(true)
+        .subcommand_required(true)
+        .subcommand(script)?
+        .subcommand(dump)
+}
