@@ -71,11 +71,7 @@ fn read_setup<S: Shelf>(
 ///
 /// - `ok`, `runs`: it is that, and may be run.
 /// - `cause`: there was no memory, the shelf has failed, or the export is refused.
-pub fn set_up<S: Shelf>(
-    alloc: Global,
-    options: &Options,
-    shelf: &mut S,
-) -> Result<Setup, Ending>
+pub fn set_up<S: Shelf>(alloc: Global, options: &Options, shelf: &mut S) -> Result<Setup, Ending>
     ensures ok { IfOk result (IsSetupOver (S.files shelf.old) options.now) }
     ensures runs { IfOk result (λ setup. IsRunnable (state_of setup)) }
     ensures cause { IfErr result (MayNotBegin (S.files shelf.old)

@@ -8,7 +8,8 @@ ghost use Rattle.qq_cluster_run.specs.Endings.{number_text, name_text, usage, re
 ghost use Rattle.qq_cluster_run.specs.Definitions.{refused_export};
 
 use crate::status::{
-    DAMAGED, DEFINITIONS, LIMIT, LOST, NO_MEMORY, READ_FAULT, REFUSED, SPENT, USAGE, WRITE_FAULT, YARD_FAULT,
+    DAMAGED, DEFINITIONS, LIMIT, LOST, NO_MEMORY, READ_FAULT, REFUSED, SPENT, USAGE, WRITE_FAULT,
+    YARD_FAULT,
 };
 use itoa::Buffer;
 use qq_base::{NodeId, Text};

@@ -28,8 +28,14 @@ pub fn closing_lines_name_the_fault()
         ≡ record { status = 3; text = codes "definitions: unknown-target " ++ name ++ codes "\n" } }
     ensures limit { (count : ℕ) → refused_export (faults.Limit count)
         ≡ record { status = 11; text = codes "limit queues " ++ decimal count ++ codes "\n" } }
-    ensures made { made_text (Some (record { queues = 1; exchanges = 2; bindings = 3;
-        skipped_queues = 4; skipped_bindings = 5; other_vhosts = 6 }))
+    ensures made { made_text (Some (record {
+      queues = 1;
+      exchanges = 2;
+      bindings = 3;
+      skipped_queues = 4;
+      skipped_bindings = 5;
+      other_vhosts = 6;
+    }))
         ≡ codes "made queues 1 exchanges 2 bindings 3 skipped queues 4 bindings 5 other-vhosts 6\n" }
     ensures none { made_text None ≡ [] }
 {}

@@ -157,7 +157,7 @@ declared nodes name args s short own so few =
           });
       routed =
           All-insert_key nat_cmp args.queue.0 (IsNumber (length (s.rows ++ row ∷ []))) s.table.queues
-          (All-weaker (IsNumber (length s.rows)) (IsNumber (length (s.rows ++ row ∷ []))) 
+          (All-weaker (IsNumber (length s.rows)) (IsNumber (length (s.rows ++ row ∷ [])))
           (λ n is. (is.0, omega (arith, is.1, long))) s.table.queues was.routed)
           (omega (arith, numbered), omega (arith, numbered, long));
     }
