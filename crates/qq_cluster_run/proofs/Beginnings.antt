@@ -1,6 +1,6 @@
 -- How a run begins.
-use Rattle.std.proofs.Common.{ℕ, ◌≤◌, List, Option, inl, inr}
-use Rattle.std.specs.Io.KnownBytes.{Appends}
+use Rattle.std.proofs.Common.{◌≡◌, ℕ, ◌≤◌, List, Option, Some, None, inl, inr, refl, subst}
+use Rattle.std.specs.Io.KnownBytes.{Appends, Keeps}
 use Rattle.qq_base.specs.Causes.{Rose}
 use Rattle.qq_setup.specs.declared.setup.Setup.{Setup}
 use Rattle.qq_cluster_run.specs.declared.stop.Stop.{Stop}
@@ -8,7 +8,7 @@ use Rattle.qq_cluster_run.specs.declared.stop.Stop.TheVariants as stops
 use Rattle.qq_cluster_run.specs.Definitions.{made_text}
 use Rattle.qq_cluster_run.specs.Endings.{Ending}
 use Rattle.qq_cluster_run.specs.Serving.{Histories}
-use Rattle.qq_cluster_run.specs.Runs.{Closes, HasRun, HasStopped, IsBehindMade, ending_of}
+use Rattle.qq_cluster_run.specs.Runs.{Closes, HasRun, HasStopped, IsBehindMade, IsUnopened, ending_of}
 use Rattle.qq_cluster_run.specs.Troubles.{Trouble}
 use Rattle.qq_cluster_run.proofs.Closings.{Rose_earlier}
 
@@ -57,4 +57,24 @@ behind-made status s left rest a b c source met had old mid new le made ends = r
   mid = b;
   made = made;
   ends = run_since status s left rest b c source (Rose mid new) (Rose old new) met had (Rose_earlier old mid new le) ends;
+}
+
+-- ---- nothing was read
+
+pub keeps-all : (a : Option (List ℕ)) → Keeps a a
+keeps-all None = tt
+keeps-all (Some bytes) = refl
+
+-- and nothing was written but a closing line, since the sink had as many faults as `mid`
+pub closed-at-once : (status : ℕ) (ending : Ending) (left a b c : Option (List ℕ)) (old mid new : ℕ)
+    (May : Ending → Type 0) → old ≤ mid → b ≡ a → May ending
+    → Closes status ending (Rose mid new) (λ more. Appends b c more)
+    → IsUnopened status left left a c (Rose old new) May
+closed-at-once status ending left a b c old mid new May le same may closes = record {
+  ending = ending;
+  may = may;
+  keeps = keeps-all left;
+  closes = closes_since status ending (Rose mid new) (Rose old new) (λ more. Appends b c more)
+      (λ more. Appends a c more) (Rose_earlier old mid new le)
+      (λ more so. subst (λ (o : Option (List ℕ)). Appends o c more) same so) closes;
 }
