@@ -1,5 +1,5 @@
 -- What a client that was cut off is shown of what is out with its consumer.
-use Rattle.std.specs.Prelude.{◌≡◌, ℕ, Contains}
+use Rattle.std.specs.Prelude.{◌≡◌, Contains}
 use Rattle.qq_base.specs.declared.ids.ConsumerId.{ConsumerId}
 use Rattle.qq_entry.specs.declared.answer.Delivery.{Delivery}
 use Rattle.qq_model.specs.declared.place.Place.TheVariants.{Out}
