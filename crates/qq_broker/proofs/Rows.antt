@@ -1,7 +1,8 @@
 -- A run's rows, by the numbers of their queues.
-use Rattle.std.proofs.Common.{◌≡◌, ◌<◌, ℕ, List, [], ◌∷◌, length, get_or, Some, refl, sym, ap, subst, ◌∙◌, arith}
+use Rattle.std.proofs.Common.{◌≡◌, ◌<◌, ℕ, List, [], ◌∷◌, length, map, get_or, Some, refl, sym, ap, subst, ◌∙◌, arith}
 use Rattle.std.specs.Prelude.{Contains}
 use Rattle.std.proofs.lemmas.Bool.{cond-true, eq-eqb}
+use Rattle.std.proofs.lemmas.List.{length-map}
 use Rattle.std.proofs.lemmas.List.Elements.{Contains-get_or}
 use Rattle.qq_setup.specs.declared.queue_row.QueueRow.{QueueRow}
 use Rattle.qq_setup.specs.declared.setup.Setup.{Setup}
@@ -18,6 +19,12 @@ first-named (first ∷ rows) row some is =
     ap (λ (r : QueueRow). r.name) is
     ∙ sym (ap name_by (cond-true _ (Some first) (row_at rows (place_of first))
     (eq-eqb (place_of first) (place_of first) refl)))
+
+-- where a line names a queue there is one
+pub some-row : (s : Setup) (run : Run) (place : ℕ) → Contains (setup_in s run).places place → 0 < length s.queues
+some-row s run place (k, lt, is) =
+    let long : length (map place_of s.queues) ≡ length s.queues = length-map s.queues place_of in
+    omega (arith, lt, long)
 
 -- so a key that is copied from it is the first queue's name
 pub key-first : (s : Setup) (rows : List QueueRow) (row : QueueRow) (key : List ℕ) → 0 < length s.queues

@@ -4,7 +4,7 @@ use Rattle.qq_cluster_run.specs.Serving.{setup_in}
 use Rattle.qq_script_lines.specs.declared.line.ScriptLine.TheVariants.{Publish, Send}
 use Rattle.qq_broker.specs.Nodes.{Meets}
 use Rattle.qq_broker.proofs.Asked.{given-up-as, publishes, served-as}
-use Rattle.qq_broker.proofs.Rows.{key-first}
+use Rattle.qq_broker.proofs.Rows.{key-first, some-row}
 use Rattle.qq_broker.proofs.asking.publish.Goals as goal
 
 pub send-requires : goal.send-requires
@@ -16,7 +16,7 @@ send-requires g c =
       client = subst IsClient (sym c.client.ensures) (refl, (omega arith, omega arith));
       short = subst (λ (key : List ℕ). IsShort key c.args.body)
           (sym (key-first c.args.setup.now c.as_slice.result.now c.index-as_slice-0.result c.in-Ok.key
-          c.requires.may.some c.as_slice.ensures c.index-as_slice-0.is c.in-Ok.ensures.ok run)) c.requires.holds.1.2.1;
+          (some-row c.args.setup.now c.requires.holds.1.0 _ c.requires.holds.1.2.0) c.as_slice.ensures c.index-as_slice-0.is c.in-Ok.ensures.ok run)) c.requires.holds.1.2.1;
     }
 
 pub returns-clause-ok : goal.returns-clause-ok
@@ -27,7 +27,7 @@ returns-clause-ok g c =
     (Send c.client.result c.new-exchange.result c.in-Ok.key c.args.body) (Publish c.args.body) c.send.result
     c.send.new.nodes c.args.text.now.items c.send.new.text.items run
     (publishes (setup_in s run) c.client.result c.new-exchange.result c.in-Ok.key c.args.body c.client.ensures
-    c.new-exchange.ensures (key-first s c.as_slice.result.now c.index-as_slice-0.result c.in-Ok.key c.requires.may.some
+    c.new-exchange.ensures (key-first s c.as_slice.result.now c.index-as_slice-0.result c.in-Ok.key (some-row c.args.setup.now c.requires.holds.1.0 _ c.requires.holds.1.2.0)
     c.as_slice.ensures c.index-as_slice-0.is c.in-Ok.ensures.ok run)) (c.send.ensures.ok given run h)
 
 pub returns-clause-cause : goal.returns-clause-cause
@@ -37,5 +37,5 @@ returns-clause-cause g c =
     given-up-as (Send c.client.result c.new-exchange.result c.in-Ok.key c.args.body) (Publish c.args.body) c.send.result
     (Meets given disk.tells disk.past disk.faults before after) (setup_in s run) run.events
     (publishes (setup_in s run) c.client.result c.new-exchange.result c.in-Ok.key c.args.body c.client.ensures
-    c.new-exchange.ensures (key-first s c.as_slice.result.now c.index-as_slice-0.result c.in-Ok.key c.requires.may.some
+    c.new-exchange.ensures (key-first s c.as_slice.result.now c.index-as_slice-0.result c.in-Ok.key (some-row c.args.setup.now c.requires.holds.1.0 _ c.requires.holds.1.2.0)
     c.as_slice.ensures c.index-as_slice-0.is c.in-Ok.ensures.ok run)) (c.send.ensures.cause given run before after h)
