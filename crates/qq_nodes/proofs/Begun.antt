@@ -90,15 +90,17 @@ all-of : {A : Type 0} (P : A → Type 0) (xs : List A) → ((x : A) → P x) →
 all-of P [] each = tt
 all-of P (x ∷ xs) each = (each x, all-of P xs each)
 
-module _ (setup : Setup) (rows : List QueueRow) (count : ℕ) (set : IsSetupOf setup rows count) where
-  ids-are : (k : ℕ) → ids_on rows k ≡ ids_of (lot_of setup k)
-  ids-are k =
-      ids-from setup k 1 rows
-      (λ i row here. subst (λ (p : ℕ). IsRowOf setup p row) (let e : i + 1 ≡ 1 + i = omega arith in e)
-      (set.each i row here))
-      ∙ ap (λ (places : List ℕ). map (λ (place : ℕ). (setup.args place).queue)
-      (filter (λ (place : ℕ). has_node k (members setup place)) places)) (sym set.set_up.places)
+-- the queues of which a node has a member
+pub ids-are : (setup : Setup) (rows : List QueueRow) → setup.places ≡ range_with_len 1 (length rows)
+    → ((at : ℕ) (row : QueueRow) → slice_get rows at ≡ Some row → IsRowOf setup (at + 1) row) → (k : ℕ)
+    → ids_on rows k ≡ ids_of (lot_of setup k)
+ids-are setup rows places each k =
+    ids-from setup k 1 rows
+    (λ i row here. subst (λ (p : ℕ). IsRowOf setup p row) (let e : i + 1 ≡ 1 + i = omega arith in e) (each i row here))
+    ∙ ap (λ (l : List ℕ). map (λ (place : ℕ). (setup.args place).queue)
+    (filter (λ (place : ℕ). has_node k (members setup place)) l)) (sym places)
 
+module _ (setup : Setup) (rows : List QueueRow) (count : ℕ) (set : IsSetupOf setup rows count) where
   queue-begins : (at : ℕ) (row : QueueRow) (d : ClusterQueue) → slice_get rows at ≡ Some row
       → IsQueueFor row (nat_eq at 0) d → IsQueueOf setup (standings []) (new_cluster setup) (at + 1) d
   queue-begins at row d here own = record {
@@ -139,7 +141,7 @@ module _ (setup : Setup) (rows : List QueueRow) (count : ℕ) (set : IsSetupOf s
       few = omega (arith, few);
       up_is = own.up_is;
       fresh = λ never. (own.up_is, parts);
-      queues_are = own.queues_are ∙ ids-are (at + 1);
+      queues_are = own.queues_are ∙ ids-are setup rows set.set_up.places set.each (at + 1);
       members = all-of (λ (place : ℕ). is_some (((new_cluster setup).queue place).group.seat (at + 1)).server ≡ false)
           (lot_of setup (at + 1)).places (λ place. ap (λ (s : Seat). is_some s.server) (set.new place (at + 1)));
       own = Closed disk;

@@ -35,6 +35,11 @@ pub record IsSetupOf (setup : Setup) (rows : List QueueRow) (node_count : ℕ) :
   pub new : (place k : ℕ) → (setup.group place).seat k ≡ empty_seat
   pub each : (at : ℕ) (row : QueueRow) → slice_get rows at ≡ Some row → IsRowOf setup (at + 1) row
 
+-- so many nodes, and a queue for each row, in their order; each queue begins with logs that support an audit
+pub record IsSetupOver (setup : Setup) (rows : List QueueRow) (node_count : ℕ) : Type 0 where
+  pub set_up : IsSetUp setup (length rows) node_count
+  pub each : (at : ℕ) (row : QueueRow) → slice_get rows at ≡ Some row → IsRowOf setup (at + 1) row
+
 -- a disk that tells its contents may be recovered as the log of whatever queues, as a new one may be
 abbrev pub IsWhole : {D : Type 0} → (D → Bool) → (D → List Disk) → D → Type 0
 IsWhole tells past disk = (queues : List QueueId) → MayBeLog tells past queues disk
@@ -82,3 +87,8 @@ pub record AreNodesFor {D : Type 0} (rows : List QueueRow) (disks : List D) (nod
   pub count : length nodes ≡ length disks
   pub each : (at : ℕ) (disk : D) (node : Node D) → slice_get disks at ≡ Some disk
       → slice_get nodes at ≡ Some node → IsNewNode rows (at + 1) disk node
+
+-- STUB: nodes that weren't opened yet
+pub record AreNew {D : Type 0} (tells : D → Bool) (past : D → List Disk) (rows : List QueueRow) (held : Held D) : Type 0
+  where
+    pub set : (setup : Setup) × IsSetupOver setup rows (length held.nodes.items)

@@ -10,16 +10,12 @@ mod messages;
 mod new;
 mod node;
 mod nodes;
-mod opening;
-mod restarting;
 mod rounds;
 mod sending;
 mod showing;
-mod taking;
 mod turning;
 mod writing;
 
 pub use crashing::{crash_each, crash_node};
 pub use nodes::Nodes;
-pub use restarting::RestartFault;
 pub use rounds::MOST_ROUNDS;

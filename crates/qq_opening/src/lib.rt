@@ -1,0 +1,8 @@
+//! STUB.
+#![tactic(auto)]
+
+mod opening;
+mod restarting;
+
+pub use opening::open;
+pub use restarting::{RestartFault, restart, restart_each};
