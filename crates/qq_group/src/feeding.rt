@@ -160,10 +160,8 @@ impl<Q: Queue, L: LogView> Seat<Q, L> {
                 Ok(shown)
             }
             Err(cause) => {
-                let Some(server) = self.server.take() else {
-                    unreachable!()
-                };
-                self.leave(server);
+                // In a function of its own, so that a call that isn't refused clears no place for a server.
+                self.crash();
                 Err(cause)
             }
         }

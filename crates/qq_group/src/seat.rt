@@ -1,4 +1,4 @@
-ghost use Rattle.std.specs.Prelude.{◌≡◌, ◌≤◌, ◌&&◌, None, is_none, is_some, length, nat_lt, true, if◌then◌else◌};
+ghost use Rattle.std.specs.Prelude.{◌≡◌, ◌≤◌, ◌&&◌, IfSome, None, is_none, is_some, length, nat_lt, true, if◌then◌else◌};
 ghost use Rattle.std.specs.Bool.{Decides};
 ghost use Rattle.qq_group.specs.Handing.{held, IsLastBy};
 ghost use Rattle.qq_group.specs.Reads.{has_settled};
@@ -120,7 +120,9 @@ impl<Q: Queue, L: LogView> Seat<Q, L> {
     /// Its server, which is up, is gone, and leaves its log.
     pub(crate) fn crash(&mut self)
         requires { is_some self.old.server ≡ true }
-        ensures { IsDropped L.log self.old self.new }
+        ensures dropped { IsDropped L.log self.old self.new }
+        ensures leaves { IfSome self.old.server (λ server.
+            IsLeaving L.log server (record self.old { server = None }) self.new) }
     {
         let Some(server) = self.server.take() else {
             unreachable!()

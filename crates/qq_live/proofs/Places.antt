@@ -1,9 +1,10 @@
 -- Where an index stands among slots that rise.
-use Rattle.std.proofs.Common.{◌≡◌, ℕ, zero, suc, ◌<◌, ◌≤◌, ◌⊎◌, Bool, true, false, List, [], ◌∷◌, Some, None, length, get_or, refl, sym, ap, ◌∙◌, subst, inl, inr, arith, if◌then◌else◌}
+use Rattle.std.proofs.Common.{◌≡◌, ℕ, zero, suc, ◌-◌, ◌<◌, ◌≤◌, ◌⊎◌, Bool, true, false, List, [], ◌∷◌, Some, None, length, get_or, refl, sym, ap, ◌∙◌, subst, inl, inr, arith, if◌then◌else◌}
 use Rattle.std.specs.Prelude.{nat_lt, nat_eq, slice_get, slice_set, insert}
 use Rattle.std.specs.List.{AllByRecursion}
 use Rattle.std.specs.List.Sorted.{IsNonDecreasingBy}
-use Rattle.std.proofs.lemmas.Bool.{cases_Bool, cond-true, cond-false, ltb-true, ltb-false, eqb-true, eqb-false}
+use Rattle.std.proofs.lemmas.List.{get_or_default}
+use Rattle.std.proofs.lemmas.Bool.{cases_Bool, cond-true, cond-false, lt-ltb, ltb-true, ltb-false, eqb-true, eqb-false}
 use Rattle.qq_base.specs.declared.ids.Index.{Index}
 use Rattle.qq_base.proofs.Lists.{AllByRecursion-weaker}
 use Rattle.qq_live.specs.declared.slot.Slot.{Slot}
@@ -43,6 +44,20 @@ rises-nondecreasing (slot ∷ slots) rising zero (suc j) d le within =
 rises-nondecreasing (slot ∷ slots) rising (suc i) zero d le within = absurd (omega arith)
 rises-nondecreasing (slot ∷ slots) rising (suc i) (suc j) d le within =
     rises-nondecreasing slots rising.1 i j d (omega arith) (omega arith)
+
+-- an index above the last one stands behind all
+pub place-behind : (index : Index) (slots : List Slot) (n : ℕ) (last : Slot) → SlotsRise slots → n ≡ length slots
+    → 0 < n → last ≡ get_or slots (n - 1) last → last.index.0 < index.0 → n ≡ place_of index slots
+place-behind index slots n last rising long some is above =
+    place-is index slots n (omega (arith, long))
+    (λ k d lt.
+    let most : (get_or slots k last).index.0 ≤ (get_or slots (n - 1) last).index.0 =
+    rises-nondecreasing slots rising k (n - 1) last (omega (arith, lt)) (omega (arith, long, some)) in
+    let here : get_or slots k d ≡ get_or slots k last = get_or_default slots k d last (omega (arith, lt, long)) in
+    let own : (get_or slots (n - 1) last).index.0 ≡ last.index.0 = ap (λ (s : Slot). s.index.0) (sym is) in
+    let same : (get_or slots k d).index.0 ≡ (get_or slots k last).index.0 = ap (λ (s : Slot). s.index.0) here in
+    lt-ltb (get_or slots k d).index.0 index.0 (omega (arith, most, own, same, above)))
+    (λ k d le within. absurd (omega (arith, le, within, long)))
 
 -- ---- its place
 

@@ -16,9 +16,9 @@ use std::marker::Model;
 /// The indices of a queue's live messages, each with how many hold it: a message that moves is held
 /// twice for a while, and so is one that an answer names.
 ///
-/// An index is found by binary search. Between others that are held it keeps its slot of 16 bytes when
-/// nobody holds it any more, until more than half of the slots are free; then all these leave. So there
-/// are at most twice as many slots as indices that are held.
+/// An index is found by binary search, or at once where it is above all others. Between others that are
+/// held it keeps its slot of 16 bytes when nobody holds it any more, until more than half of the slots are
+/// free; then all these leave. So there are at most twice as many slots as indices that are held.
 #[derive(Drop)]
 pub struct Live {
     // By rising index. The first is held.

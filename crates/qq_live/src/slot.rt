@@ -22,6 +22,12 @@ pub fn place_of(index: Index, slots: &VecDeque<Slot>) -> usize
 
     ensures { result ≡ place_of index slots.now.items }
 {
+    // Most indices come behind all others.
+    if let Some(last) = slots.back() {
+        if last.index.0 < index.0 {
+            return slots.len();
+        }
+    }
     slots.partition_point(|slot| slot.index.0 < index.0)
 }
 

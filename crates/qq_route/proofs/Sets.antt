@@ -1,5 +1,5 @@
 -- Sets of numbers, as rising lists.
-use Rattle.std.proofs.Common.{◌≡◌, ℕ, ◌<◌, ◌≤◌, Bool, true, false, cond, ◌||◌, ◌&&◌, List, [], ◌∷◌, ◌++◌, map, filter, nat_eq, nat_cmp, is_eq, Ordering, Less, Equal, Greater, refl, sym, ap, ◌∙◌, subst, arith, Some, None, option_map}
+use Rattle.std.proofs.Common.{◌≡◌, ℕ, ◌<◌, ◌≤◌, Bool, true, false, cond, ◌||◌, ◌&&◌, List, [], ◌∷◌, ◌++◌, length, get_or, map, filter, nat_eq, nat_cmp, is_eq, Ordering, Less, Equal, Greater, refl, sym, ap, ◌∙◌, subst, arith, Some, None, option_map}
 use Rattle.std.specs.List.{list_any, AllByRecursion}
 use Rattle.std.specs.List.Sorted.{IsStrictlySortedBy}
 use Rattle.std.specs.Ordering.{match_ordering}
@@ -8,6 +8,7 @@ use Rattle.std.specs.BTreeMap.{is_at}
 use Rattle.std.specs.BTreeSet.{insert_key}
 use Rattle.std.specs.Set.{remove_key}
 use Rattle.std.proofs.lemmas.Map.Views.{any-filter_same}
+use Rattle.std.proofs.lemmas.List.Kept.{IsStrictlySortedBy-filter}
 use Rattle.qq_base.specs.declared.ids.QueueId.{QueueId}
 use Rattle.qq_route.specs.Routes.{is_named, comes_to, takes, queue_id, targets, ExchangeState, Table}
 use Rattle.qq_route.specs.declared.exchange.Binding.{Binding}
@@ -149,6 +150,38 @@ has-filter p q ks =
     swap false true = refl
     swap false false = refl
 
+eq_apart : (n q : ℕ) → (n ≡ q → ⊥) → nat_eq n q ≡ false
+eq_apart n q h = grind (arith, h)
+
+-- one queue that is known is the only one of its name
+one_known : (known : List ℕ) (one : QueueId) → IsStrictlySortedBy nat_cmp known → has one.0 known ≡ true
+    → filter (is_named (one ∷ [])) known ≡ one.0 ∷ []
+unfolding IsStrictlySortedBy
+one_known known one rises is =
+    same_sets (filter (is_named (one ∷ [])) known) (one.0 ∷ [])
+    (IsStrictlySortedBy-filter nat_cmp (is_named (one ∷ [])) known rises) (tt, tt)
+    (λ q. has-filter (is_named (one ∷ [])) q known ∙ by q (nat_cmp q one.0) refl)
+  where
+    by : (q : ℕ) (r : Ordering) → nat_cmp q one.0 ≡ r
+        → (has q known && (nat_eq one.0 q || false)) ≡ (is_eq r || false)
+    by q Less e =
+        let l : q < one.0 = cmp_below q one.0 e in
+        ap (λ t. has q known && (t || false)) (eq_apart one.0 q (λ s. omega (arith, l, s))) ∙ and_false (has q known)
+    by q Equal e =
+        let l : q ≡ one.0 = ranked q one.0 Equal (sym e) in
+        let own : nat_eq one.0 q ≡ true = grind (arith, l) in
+        ap (λ t. has q known && (t || false)) own ∙ true_and (has q known) ∙ ap (λ n. has n known) l ∙ is
+    by q Greater e =
+        let l : one.0 < q = ranked q one.0 Greater (sym e) in
+        ap (λ t. has q known && (t || false)) (eq_apart one.0 q (λ s. omega (arith, l, s))) ∙ and_false (has q known)
+
+pub one_listed : (known : List ℕ) (queues : List QueueId) → 1 ≤ length queues → length queues < 2
+    → IsStrictlySortedBy nat_cmp known → has (get_or queues 0 (record { 0 = 0 })).0 known ≡ true
+    → queues ≡ map queue_id (filter (is_named queues) known)
+one_listed known [] least most rises is = absurd (omega (arith, least))
+one_listed known (one ∷ []) least most rises is = sym (ap (map queue_id) (one_known known one rises is))
+one_listed known (one ∷ two ∷ more) least most rises is = absurd (omega (arith, most))
+
 -- so far the set has the known numbers that were named
 pub record Gathers (known set : List ℕ) (queues : List QueueId) : Type 0 where
   pub rises : IsStrictlySortedBy nat_cmp set
@@ -166,9 +199,6 @@ named_more (x ∷ queues) more q = ap (λ b. nat_eq x.0 q || b) (named_more queu
     by : (t : Bool) → (t || (is_named queues q || nat_eq more.0 q)) ≡ ((t || is_named queues q) || nat_eq more.0 q)
     by true = refl
     by false = refl
-
-eq_apart : (n q : ℕ) → (n ≡ q → ⊥) → nat_eq n q ≡ false
-eq_apart n q h = grind (arith, h)
 
 -- a known number goes in,
 pub gathers_known : (known set new : List ℕ) (queues : List QueueId) (more : QueueId) → Gathers known set queues

@@ -1,4 +1,5 @@
 ghost use Rattle.std.specs.Prelude.{◌≡◌, ◌↔◌, Some, None, Ok, Err, map, filter, nat_eq, is_some, option_map, IfOk, IfErr, OnOk, OnErr, IsOkUnless};
+ghost use Rattle.std.specs.Bool.{OnTrue};
 ghost use Rattle.std.specs.List.{list_any};
 ghost use Rattle.std.specs.BTreeMap.{get_by_text};
 ghost use Rattle.qq_route.specs.Fault.{NoExchangeOnlyWhere};
@@ -123,6 +124,20 @@ fn queue_ids(alloc: Global, numbers: &BTreeSet<u32>) -> Result<Vec<QueueId>, Mem
     Ok(numbers.iter().map(|n| QueueId(*n)).collect(alloc)?)
 }
 
+/// Whether these are one queue, which is known.
+fn is_one_known(known: &BTreeSet<u32>, queues: &[QueueId]) -> bool
+    ensures { OnTrue result
+        (queues.now ≡ map queue_id (filter (is_named queues.now) known.now.keys)) }
+{
+    let [one] = queues else {
+        return false;
+    };
+    if known.len() == 0 {
+        return false;
+    }
+    known.contains(&one.0)
+}
+
 /// The known queues to which a message with this key comes through the exchange.
 fn known_targets(
     alloc: Global,
@@ -135,6 +150,9 @@ fn known_targets(
     ensures want { IsOkUnless result Memory.Want }
 {
     let bound = exchange.bound(alloc, key)?;
+    if is_one_known(known, &bound) {
+        return Ok(bound);
+    }
     let targets = gather(alloc, known, &bound)?;
     queue_ids(alloc, &targets)
 }

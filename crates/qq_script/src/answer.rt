@@ -2,7 +2,7 @@ ghost use Rattle.std.specs.Prelude.{◌≡◌, ◌++◌, ◌∷◌, [], Some, On
 ghost use Rattle.qq_entry.specs.Command.{session};
 ghost use Rattle.qq_script.specs.Text.{seq_of, tag_of, full_text, cause_text, answer_words, content_body, shown_body, is_first_client, line_prefix, answer_text};
 
-use crate::words::{push_mark, push_number, push_numbered, push_session, push_text};
+use crate::words::{LINE_ROOM, push_mark, push_number, push_numbered, push_session, push_text};
 use qq_base::{Memory, SessionId, Text};
 use qq_entry::{Answer, Cause, Command, Content, Full, Shared};
 use std::alloc::Global;
@@ -131,7 +131,7 @@ fn head(
         ++ answer_words (seq_of command.now) (tag_of command.now) answer.now) }
     ensures want { IsOkUnless result Memory.Want }
 {
-    let mut out = Vec::new(alloc);
+    let mut out = Vec::with_capacity(alloc, LINE_ROOM)?;
     push_line_prefix(&mut out, first, command.session(), queue)?;
     push_answer_words(&mut out, seq_of(command), tag_of(command), answer)?;
     Ok(out)

@@ -5,7 +5,7 @@ ghost use Rattle.qq_script.specs.Text.{seq_of, tag_of};
 ghost use Rattle.qq_script.specs.Audit.{numbers_text, stamp_text, ids_text, command_text, again_text, row_text, audit_head_text, comma_before};
 
 use crate::answer::{push_answer_words, push_line, seq_of, tag_of};
-use crate::words::{push_number, push_numbered, push_session, push_text};
+use crate::words::{LINE_ROOM, push_number, push_numbered, push_session, push_text};
 use qq_base::{Index, Memory, Text};
 use qq_entry::{Answer, AuditRow, Command, DeadDone, Stamp};
 use std::alloc::Global;
@@ -140,7 +140,7 @@ fn row_words(alloc: Global, row: &AuditRow) -> Result<Vec<u8>, Memory>
     ensures ok { IfOk result (λ words. row_text row.now ≡ words.items ++ codes "\n") }
     ensures want { IsOkUnless result Memory.Want }
 {
-    let mut out = Vec::new(alloc);
+    let mut out = Vec::with_capacity(alloc, LINE_ROOM)?;
     let command = &row.entry.command;
     push_number(&mut out, row.index.0)?;
     push_numbered(&mut out, " ", row.entry.term.0)?;

@@ -2,7 +2,7 @@ ghost use Rattle.std.specs.Prelude.{◌≡◌, ◌++◌, ◌∷◌, [], Some, On
 ghost use Rattle.qq_script.specs.Text.{delivery_words, delivery_text, line_prefix};
 
 use crate::answer::{content_body, push_line, push_line_prefix};
-use crate::words::{push_mark, push_numbered, push_text};
+use crate::words::{LINE_ROOM, push_mark, push_numbered, push_text};
 use qq_base::{ConsumerId, Memory, Text};
 use qq_entry::Delivery;
 use std::alloc::Global;
@@ -35,7 +35,7 @@ fn head(
         ++ delivery_words consumer delivery.now ++ 32 ∷ []) }
     ensures want { IsOkUnless result Memory.Want }
 {
-    let mut out = Vec::new(alloc);
+    let mut out = Vec::with_capacity(alloc, LINE_ROOM)?;
     push_line_prefix(&mut out, first, Some(consumer.session), queue)?;
     push_delivery_words(&mut out, consumer, delivery)?;
     out.push(b' ')?;

@@ -6,6 +6,9 @@ ghost use Rattle.qq_script.specs.Text.{session_text, mark_text};
 use itoa::Buffer;
 use qq_base::{Memory, SessionId};
 
+/// The bytes that most lines have at most before a body. Room for them is taken at once.
+pub const LINE_ROOM: usize = 64;
+
 /// Adds a text. It fails for want of memory alone, and then `out` stays.
 pub fn push_text(out: &mut Vec<u8>, text: &str) -> Result<(), Memory>
     ensures ok { OnOk result (out.new.items ≡ out.old.items ++ text.now) }

@@ -1,11 +1,13 @@
 -- The open sessions of rows under their ids: what is found, changed, removed and added.
-use Rattle.std.proofs.Common.{◌≡◌, ◌<◌, ◌≤◌, Bool, true, false, not, cond, ◌&&◌, ◌||◌, ℕ, zero, suc, List, [], ◌∷◌, ◌++◌, Option, Some, None, take, refl, sym, ap, ◌∙◌, subst, inl, inr, arith}
+use Rattle.std.proofs.Common.{◌≡◌, ◌<◌, ◌≤◌, Bool, true, false, not, cond, ◌&&◌, ◌||◌, ℕ, zero, suc, List, [], ◌∷◌, ◌++◌, Option, Some, None, take, refl, sym, ap, ◌∙◌, subst, inl, inr, arith, rules}
 use Rattle.std.specs.Prelude.{filter, nat_eq, is_some, slice_get}
 use Rattle.std.specs.List.{AllByRecursion, IsDistinct, list_any}
 use Rattle.std.specs.Option.{option_map}
-use Rattle.std.specs.Map.{keys_of, lookup, set_value, remove_entry}
-use Rattle.indexmap.specs.IndexMap.{IndexMap, get, spare, WritesThrough}
-use Rattle.std.specs.Cmp.{nat_eq_equiv}
+use Rattle.std.specs.Map.{keys_of, values_of, lookup, set_value, remove_entry}
+use Rattle.indexmap.specs.IndexMap.{IndexMap, get, spare, with_value_at, set_value_at, IsUnique, WritesThrough}
+use Rattle.indexmap.proofs.CallerLemmas.{keys-with_value_at, index_map_len-with_value_at, updates-with_value_at}
+use Rattle.std.specs.Cmp.{nat_eq_equiv, IsEquivalence}
+use Rattle.std.specs.Cmp.Rules.{comparing}
 use Rattle.std.proofs.lemmas.Bool.{false≢true, cases_Bool, cond-true, cond-false, cond_both, not_from_true, not_from_false, or_parts, or_from, or_left}
 use Rattle.qq_base.specs.declared.ids.SessionId.{SessionId}
 use Rattle.qq_base.specs.Ids.{same_session}
@@ -62,6 +64,10 @@ is_open-lookup session (e ∷ es) own =
           ∙ is_open-lookup session es own.1
           ∙ sym (ap (λ (t : Bool). t || is_open session (sessions_of es)) (asked session e own.0 ∙ other))
     ]
+
+pub is_some-mapped : {A B : Type 0} (f : A → B) (o : Option A) → is_some o ≡ is_some (option_map f o)
+is_some-mapped f None = refl
+is_some-mapped f (Some a) = refl
 
 -- ---- changes
 
@@ -379,17 +385,6 @@ none-goes session (e ∷ es) none =
 
 module _ {S : Type 0} (session : SessionId) (m n : IndexMap SessionId SessionRow S) (at_hand : Bool)
     (held : Option SessionId) (are : AreHeld m.entries (spare m) at_hand held) where
-  -- there is no row, and the map stays
-  pub absent-held : n ≡ m → AreHeld n.entries (spare n) at_hand held
-  absent-held same =
-      subst (λ (x : IndexMap SessionId SessionRow S). AreHeld x.entries (spare x) at_hand held) (sym same) are
-
-  pub absent-changes : (f : OpenSession → OpenSession) → n ≡ m → None ≡ get same_session m session
-      → sessions_of n.entries ≡ change_session session f (sessions_of m.entries)
-  absent-changes f same none =
-      ap (λ (x : IndexMap SessionId SessionRow S). sessions_of x.entries) same
-      ∙ unchanged-absent session f m.entries are.ids (sym none)
-
   module _ (row w : SessionRow) (found : Some row ≡ get same_session m session)
       (wrote : WritesThrough same_session (same_session session) m w n) where
     pub write-held : w.session ≡ row.session → slots row ≤ slots w → AreHeld n.entries (spare n) at_hand held
@@ -405,6 +400,85 @@ module _ {S : Type 0} (session : SessionId) (m n : IndexMap SessionId SessionRow
     pub write-ids : w.session ≡ row.session → AllByRecursion HasOwnId n.entries
     write-ids same =
         subst (AllByRecursion HasOwnId) (sym wrote.0) (own-set_value session m.entries row w are.ids (sym found) same)
+
+-- ---- a row is written at its place
+
+same-laws : IsEquivalence same_session
+same-laws = search (comparing, rules)
+
+-- the id of a later row is another one
+apart-at : (id : SessionId) (es : List Entry) (i : ℕ) (e : Entry)
+    → AllByRecursion (λ k. same_session id k ≡ false) (keys_of es) → slice_get es i ≡ Some e
+    → same_session id e.0 ≡ false
+apart-at id [] i e each at = absurd cc
+apart-at id (f ∷ es) zero e each at =
+    let own : f ≡ e = cc in ap (λ (x : Entry). same_session id x.0) (sym own) ∙ each.0
+apart-at id (f ∷ es) (suc i) e each at = apart-at id es i e each.1 at
+
+set-at : (session : SessionId) (es : List Entry) (i : ℕ) (row w : SessionRow) → IsDistinct same_session (keys_of es)
+    → slice_get es i ≡ Some (session, row) → set_value_at es i w ≡ set_value (same_session session) es w
+unfolding IsDistinct
+set-at session [] i row w distinct at = absurd cc
+set-at session (e ∷ es) zero row w distinct at =
+    let own : e ≡ (session, row) = cc in
+    sym (cond-true (same_session session e.0) ((e.0, w) ∷ es) (e ∷ set_value (same_session session) es w)
+    (ap (λ (x : Entry). same_session session x.0) own ∙ same-laws.refl session))
+set-at session (e ∷ es) (suc i) row w distinct at =
+    ap (λ (fs : List Entry). e ∷ fs) (set-at session es i row w distinct.1 at)
+    ∙ sym (cond-false (same_session session e.0) ((e.0, w) ∷ es) (e ∷ set_value (same_session session) es w)
+    (same_session-symm session e.0 ∙ apart-at e.0 es i (session, row) distinct.0 at))
+
+-- what is written at the place of a session is written under its id
+pub written-at : {S : Type 0} (session : SessionId) (m : IndexMap SessionId SessionRow S) (i : ℕ) (row w : SessionRow)
+    → IsUnique same_session m → slice_get m.entries i ≡ Some (session, row)
+    → WritesThrough same_session (same_session session) m w (with_value_at m i w)
+written-at session m i row w unique at =
+    let keys = keys-with_value_at m i w in (
+      set-at session m.entries i row w unique at,
+      keys,
+      index_map_len-with_value_at m i w,
+      (λ _. updates-with_value_at m i w same-laws unique session row at),
+      subst (IsDistinct same_session) (sym keys) unique,
+      refl,
+      refl,
+    )
+
+-- a row that is written at its place
+module _ {S : Type 0} (session : SessionId) (m : IndexMap SessionId SessionRow S) (i : ℕ) (old row w : SessionRow)
+    (place : slice_get m.entries i ≡ Some (session, old)) (value : Some row ≡ slice_get (values_of m.entries) i) where
+  own : row ≡ old
+  own = by m.entries i place value
+    where
+      by : (es : List Entry) (j : ℕ) → slice_get es j ≡ Some (session, old) → Some row ≡ slice_get (values_of es) j
+          → row ≡ old
+      by [] j at is = absurd cc
+      by (e ∷ es) zero at is =
+          let here : e ≡ (session, old) = cc in
+          let same : row ≡ e.1 = cc in same ∙ ap (λ (x : Entry). x.1) here
+      by (e ∷ es) (suc j) at is = by es j at is
+
+  pub at-found : Some old ≡ get same_session m session → Some row ≡ get same_session m session
+  at-found there = ap (λ (r : SessionRow). Some r) own ∙ there
+
+  pub at-written : IsUnique same_session m
+      → WritesThrough same_session (same_session session) m w (with_value_at m i w)
+  at-written unique = written-at session m i old w unique place
+
+  module _ (there : Some old ≡ get same_session m session) (at_hand : Bool) (held : Option SessionId)
+      (are : AreHeld m.entries (spare m) at_hand held) where
+    pub place-held : w.session ≡ row.session → slots row ≤ slots w
+        → AreHeld (set_value_at m.entries i w) (spare m) at_hand held
+    place-held same more =
+        write-held session m (with_value_at m i w) at_hand held are row w (at-found there) (at-written are.unique) same more
+
+    pub place-changes : (f : OpenSession → OpenSession) → open_of w ≡ f (open_of row)
+        → sessions_of (set_value_at m.entries i w) ≡ change_session session f (sessions_of m.entries)
+    place-changes f made =
+        write-changes session m (with_value_at m i w) at_hand held are row w (at-found there) (at-written are.unique) f made
+
+    pub place-ids : w.session ≡ row.session → AllByRecursion HasOwnId (set_value_at m.entries i w)
+    place-ids same =
+        write-ids session m (with_value_at m i w) at_hand held are row w (at-found there) (at-written are.unique) same
 
 -- a row that is written as the same session
 module _ {S : Type 0} (session : SessionId) (m n : IndexMap SessionId SessionRow S) (row w : SessionRow) where

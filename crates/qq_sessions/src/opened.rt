@@ -1,7 +1,7 @@
 ghost use Rattle.std.specs.Prelude.{◌≡◌, ◌+◌, ◌<◌, ◌≤◌, ◌^◌, ◌∷◌, ◌++◌, [], true, false, not, filter, map, length, slice_get, is_some, IfSome, Some, None, IfOk, IsOkUnless, OnOk};
 ghost use Rattle.std.specs.List.{list_all, AllByRecursion};
 ghost use Rattle.std.specs.Option.{option_copied, option_map};
-ghost use Rattle.indexmap.specs.IndexMap.{spare, IsUnique};
+ghost use Rattle.indexmap.specs.IndexMap.{get, spare, IsUnique};
 ghost use Rattle.qq_base.specs.Ids.{same_session};
 ghost use Rattle.qq_model.specs.State.{is_session_within};
 ghost use Rattle.qq_model.specs.Gate.{session_of, is_open, change_session, raise_mark, use_number, add_answer, set_tag, new_session, is_giving_way};
@@ -23,6 +23,25 @@ use std::marker::Model;
 /// How many answers a new session has room for.
 const FIRST_ANSWERS: usize = 4;
 
+// A session's place, and its row: at `near`, or where its id's hash leads.
+fn find(
+    rows: &IndexMap<SessionId, SessionRow>,
+    near: usize,
+    session: SessionId,
+) -> Option<(usize, &SessionRow)>
+    ensures row { option_map (λ p. p.1.now) result ≡ get same_session rows.now session }
+    ensures place { IfSome result
+        (λ p. slice_get rows.now.entries p.0 ≡ Some (session, p.1.now)) }
+{
+    if let Some((id, row)) = rows.get_index(near) {
+        if *id == session {
+            return Some((near, row));
+        }
+    }
+    let (place, _, row) = rows.get_full(&session)?;
+    Some((place, row))
+}
+
 /// The open sessions, in the order of their opening.
 #[derive(Drop)]
 pub struct Opened {
@@ -30,6 +49,8 @@ pub struct Opened {
     // An empty list of answers for the next session.
     at_hand: Option<Kepts>,
     room: Option<SessionId>,
+    // Where the session stood for which there was room last: one step asks for it several times.
+    near: usize,
 }
 
 impl Model for Opened {
@@ -55,6 +76,7 @@ impl Opened {
             rows: IndexMap::new(alloc),
             at_hand: None,
             room: None,
+            near: 0,
         }
     }
 
@@ -94,14 +116,17 @@ impl Opened {
             ≡ session_of session self.now.rows }
         ensures apart { AreApart self.now.rows }
     {
-        self.rows.get(&session)
+        match find(&self.rows, self.near, session) {
+            None => None,
+            Some((_, row)) => Some(row),
+        }
     }
 
     /// Whether a session is open.
     pub fn is_open(&self, session: SessionId) -> bool
         ensures { result ≡ is_open session self.now.rows }
     {
-        self.rows.contains_key(&session)
+        find(&self.rows, self.near, session).is_some()
     }
 
     /// Makes room for a session to be opened, or else for one more answer. After an error there may be
@@ -114,9 +139,13 @@ impl Opened {
         self.room = None;
         self.rows.reserve(1)?;
         hold_ready(alloc, &mut self.at_hand)?;
-        let Some(row) = self.rows.get_mut(&session) else {
+        let Some((place, _)) = find(&self.rows, self.near, session) else {
             self.room = Some(session);
             return Ok(());
+        };
+        self.near = place;
+        let Some(row) = self.rows.get_index_mut(place) else {
+            unreachable!()
         };
         reserve_slot(row)?;
         self.room = Some(session);
@@ -137,8 +166,11 @@ impl Opened {
             ≡ change_session stamp.now.session (raise_mark stamp.now) self.old.rows }
         ensures room { self.new.room ≡ self.old.room }
     {
-        let Some(row) = self.rows.get_mut(&stamp.session) else {
+        let Some((place, _)) = find(&self.rows, self.near, stamp.session) else {
             return;
+        };
+        let Some(row) = self.rows.get_index_mut(place) else {
+            unreachable!()
         };
         raise_mark(row, stamp);
     }
@@ -151,8 +183,11 @@ impl Opened {
             ≡ change_session stamp.now.session (use_number stamp.now) self.old.rows }
         ensures room { self.new.room ≡ self.old.room }
     {
-        let Some(row) = self.rows.get_mut(&stamp.session) else {
+        let Some((place, _)) = find(&self.rows, self.near, stamp.session) else {
             return;
+        };
+        let Some(row) = self.rows.get_index_mut(place) else {
+            unreachable!()
         };
         use_number(row, stamp);
     }
@@ -162,8 +197,11 @@ impl Opened {
         ensures rows { self.new.rows ≡ change_session session (set_tag tag) self.old.rows }
         ensures room { self.new.room ≡ self.old.room }
     {
-        let Some(row) = self.rows.get_mut(&session) else {
+        let Some((place, _)) = find(&self.rows, self.near, session) else {
             return;
+        };
+        let Some(row) = self.rows.get_index_mut(place) else {
+            unreachable!()
         };
         set_tag(row, tag);
     }
@@ -176,8 +214,11 @@ impl Opened {
         ensures room { self.new.room ≡ None }
     {
         self.room = None;
-        let Some(row) = self.rows.get_mut(&session) else {
+        let Some((place, _)) = find(&self.rows, self.near, session) else {
             return;
+        };
+        let Some(row) = self.rows.get_index_mut(place) else {
+            unreachable!()
         };
         add_answer(row, answer);
     }

@@ -23,7 +23,8 @@ use std::marker::Model;
 /// What a queue knows of sessions.
 ///
 /// Contracts see the definition's `Sessions`, and for what there is memory. A check looks an id up by its
-/// hash, and an ended session by binary search. The least index that a kept answer names costs no scan.
+/// hash, and an ended session by binary search; what follows a `reserve` finds its session without either. The
+/// least index that a kept answer names costs no scan.
 #[derive(Drop)]
 pub struct Sessions {
     opened: OpenSessions,

@@ -1,5 +1,4 @@
 use Rattle.std.proofs.Common.{sym, ◌∙◌, arith}
-use Rattle.qq_live.specs.Slots.{holders_at}
 use Rattle.qq_live.proofs.Places.{is-there, place-most}
 use Rattle.qq_live.proofs.Changes.{gains-set, gains-insert, there-most}
 use Rattle.qq_live.proofs.slot.add_holder.Goals as goal

@@ -26,7 +26,7 @@ returns-clause-dropped g c = record {
     queue = refl;
     nodes = refl;
   };
-  dropped = c.crash.ensures;
+  dropped = c.crash.ensures.dropped;
   bag = refl;
   audit = refl;
 }
@@ -39,7 +39,7 @@ returns-clause-sound g c =
     slice_get_read seats (length seats) k c.in-Some.seat.now refl c.requires.there c.in-Some.ensures.value in
     let stands = g.Q.Queue.stands in
     let log = g.L.LogView.log in
-    let d = c.crash.ensures in
+    let d = c.crash.ensures.dropped in
     let serving = subst (IsServed stands log g.Q.Queue.applied) d.up
     (subst (λ o. IsServed stands log g.Q.Queue.applied (server_by o)) there (c.requires.sound.servers k)) in
     sound-put stands log g.Q.Queue.applied k c.crash.new.self c.args.self.now _ c.requires.there

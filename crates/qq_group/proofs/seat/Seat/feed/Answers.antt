@@ -1,7 +1,6 @@
-use Rattle.std.proofs.Common.{ℕ, Some, None, ap, subst}
+use Rattle.std.proofs.Common.{ℕ, Some, ap, subst}
 use Rattle.qq_group.specs.Group.{IsServed}
-use Rattle.qq_group.specs.Step.{IsLeaving}
-use Rattle.qq_group.proofs.Stepped.{left-dropped, same-some}
+use Rattle.qq_group.proofs.Stepped.{left-dropped}
 use Rattle.qq_group.proofs.seat.Seat.feed.Goals as goal
 
 pub returns-in-Ok-clause-ok : goal.returns-in-Ok-clause-ok
@@ -14,21 +13,18 @@ returns-in-Ok-clause-ok g c = record {
   stepped = c.in-Ok.ensures.ok;
 }
 
-pub returns-in-Some-take-clause-err : goal.returns-in-Some-take-clause-err
-returns-in-Some-take-clause-err g c = record {
+pub returns-in-Err-clause-err : goal.returns-in-Err-clause-err
+returns-in-Err-clause-err g c = record {
   was = c.in-Some.server;
   last = c.feed_server.new.server;
   up = c.in-Some.is;
   back = c.in-Err.ensures.back;
-  leaves = subst (λ s. IsLeaving g.L.LogView.log s (record c.args.self.now { server = None }) c.leave.new.self)
-      (same-some _ _ c.in-Some-take.ensures.value)
-      (subst (λ o. IsLeaving g.L.LogView.log c.in-Some-take.server (record c.args.self.now { server = o }) c.leave.new.self)
-      c.take.ensures.after c.leave.ensures);
+  leaves = c.crash.ensures.leaves;
 }
 
-pub returns-in-Some-take-clause-left : goal.returns-in-Some-take-clause-left
-unfolding returns-in-Some-take-clause-err
-returns-in-Some-take-clause-left g c =
+pub returns-in-Err-clause-left : goal.returns-in-Err-clause-left
+unfolding returns-in-Err-clause-err
+returns-in-Err-clause-left g c =
     let serving = subst (IsServed g.Q.Queue.stands g.L.LogView.log g.Q.Queue.applied) c.in-Some.is c.requires.served in
-    left-dropped g.L.LogView.log c.args.self.now c.leave.new.self (returns-in-Some-take-clause-err g c)
+    left-dropped g.L.LogView.log c.args.self.now c.crash.new.self (returns-in-Err-clause-err g c)
     serving.sound.raft.undos serving.sound.raft.whole

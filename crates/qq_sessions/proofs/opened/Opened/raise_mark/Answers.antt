@@ -1,36 +1,37 @@
-use Rattle.std.proofs.Common.{ap, ◌∙◌, is_some}
+use Rattle.std.proofs.Common.{◌≡◌, sym, ap, ◌∙◌, subst, is_some}
+use Rattle.std.proofs.lemmas.Bool.{false≢true}
+use Rattle.std.proofs.lemmas.Option.{slice_get_within}
 use Rattle.qq_model.specs.Gate.{change_session, raise_mark}
 use Rattle.qq_model.specs.declared.session.OpenSession.{OpenSession}
 use Rattle.qq_sessions.specs.Opened.{OpenedState}
-use Rattle.qq_sessions.proofs.OpenRows.{absent-held, absent-changes, write-held, write-changes}
+use Rattle.qq_sessions.proofs.OpenRows.{place-held, place-changes, unchanged-absent}
 use Rattle.qq_sessions.proofs.opened.Opened.raise_mark.Goals as goal
 
 pub invariant_of-self : goal.invariant_of-self
-invariant_of-self c = (
-  absent-held c.args.stamp.now.session c.self.inside.rows c.get_mut.follows.lender-at-none
-      (is_some c.self.inside.at_hand) c.self.inside.room c.self.invariant.0 c.get_mut.follows.holds-at-none,
-  c.self.invariant.1,
-)
-
-pub returns-in_default-clause-rows : goal.returns-in_default-clause-rows
-returns-in_default-clause-rows c =
-    absent-changes c.args.stamp.now.session c.self.inside.rows c.get_mut.follows.lender-at-none
-    (is_some c.self.inside.at_hand) c.self.inside.room c.self.invariant.0 (raise_mark c.args.stamp.now)
-    c.get_mut.follows.holds-at-none c.in_default.ensures.value
-    ∙ ap (λ (o : OpenedState). change_session c.args.stamp.now.session (raise_mark c.args.stamp.now) o.rows) c.self.view_is
-
-pub invariant_of-self-2 : goal.invariant_of-self-2
-invariant_of-self-2 c = (
-  write-held c.args.stamp.now.session c.self.inside.rows (c.get_mut.follows.lender c.raise_mark.new.row)
-      (is_some c.self.inside.at_hand) c.self.inside.room c.self.invariant.0 c.in-Some.row.now c.raise_mark.new.row
-      c.in-Some.ensures.value (c.get_mut.follows.holds c.raise_mark.new.row)
-      (ap (λ (o : OpenSession). o.session) c.raise_mark.ensures.ok) c.raise_mark.ensures.slots,
-  c.self.invariant.1,
-)
+invariant_of-self c =
+    let value = c.in-Some-get_index_mut.ensures.value in (
+      place-held c.args.stamp.now.session c.self.inside.rows c.in-Some.place c.in-Some.field-0-1.now
+          c.in-Some-get_index_mut.row.now c.raise_mark.new.row c.in-Some.ensures.place value c.in-Some.ensures.row
+          (is_some c.self.inside.at_hand) c.self.inside.room c.self.invariant.0
+          (ap (λ (o : OpenSession). o.session) c.raise_mark.ensures.ok) c.raise_mark.ensures.slots,
+      c.self.invariant.1,
+    )
 
 pub returns-clause-rows : goal.returns-clause-rows
 returns-clause-rows c =
-    write-changes c.args.stamp.now.session c.self.inside.rows (c.get_mut.follows.lender c.raise_mark.new.row)
-    (is_some c.self.inside.at_hand) c.self.inside.room c.self.invariant.0 c.in-Some.row.now c.raise_mark.new.row
-    c.in-Some.ensures.value (c.get_mut.follows.holds c.raise_mark.new.row) (raise_mark c.args.stamp.now) c.raise_mark.ensures.ok
+    let value = c.in-Some-get_index_mut.ensures.value in
+    place-changes c.args.stamp.now.session c.self.inside.rows c.in-Some.place c.in-Some.field-0-1.now
+    c.in-Some-get_index_mut.row.now c.raise_mark.new.row c.in-Some.ensures.place value c.in-Some.ensures.row
+    (is_some c.self.inside.at_hand) c.self.inside.room c.self.invariant.0 (raise_mark c.args.stamp.now) c.raise_mark.ensures.ok
     ∙ ap (λ (o : OpenedState). change_session c.args.stamp.now.session (raise_mark c.args.stamp.now) o.rows) c.self.view_is
+
+pub returns-in_default-clause-rows : goal.returns-in_default-clause-rows
+returns-in_default-clause-rows c =
+    subst (λ (o : OpenedState). o.rows ≡ change_session c.args.stamp.now.session (raise_mark c.args.stamp.now) o.rows) c.self.view_is
+    (unchanged-absent c.args.stamp.now.session (raise_mark c.args.stamp.now) c.self.inside.rows.entries c.self.invariant.0.ids
+    (sym c.in_default.ensures.row))
+
+pub unreachable-requires : goal.unreachable-requires
+unreachable-requires c =
+    false≢true (c.in_default-get_index_mut.ensures.found.1
+    (slice_get_within c.self.inside.rows.entries c.in-Some.place _ c.in-Some.ensures.place))

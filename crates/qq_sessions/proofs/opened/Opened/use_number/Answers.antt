@@ -1,48 +1,52 @@
-use Rattle.std.proofs.Common.{◌+◌, ◌<◌, ◌^◌, Option, sym, ap, ◌∙◌, subst, is_some}
+use Rattle.std.proofs.Common.{◌≡◌, ◌+◌, ◌<◌, ◌^◌, Option, sym, ap, ◌∙◌, subst, is_some}
 use Rattle.std.specs.Option.{option_map}
-use Rattle.qq_base.specs.declared.ids.SessionId.{SessionId}
+use Rattle.std.proofs.lemmas.Bool.{false≢true}
+use Rattle.std.proofs.lemmas.Option.{slice_get_within}
 use Rattle.qq_model.specs.Gate.{session_of, change_session, use_number}
 use Rattle.qq_model.specs.declared.session.OpenSession.{OpenSession}
-use Rattle.qq_sessions.specs.Row.{open_of}
 use Rattle.qq_sessions.specs.Opened.{OpenedState}
+use Rattle.qq_sessions.proofs.OpenRows.{at-found, place-held, place-changes, unchanged-absent, session_of-lookup}
+use Rattle.qq_sessions.specs.Row.{open_of}
 use Rattle.qq_sessions.specs.Known.{next_by}
-use Rattle.qq_sessions.proofs.OpenRows.{absent-held, absent-changes, write-held, write-changes, session_of-lookup}
 use Rattle.qq_sessions.proofs.opened.Opened.use_number.Goals as goal
 
 pub invariant_of-self : goal.invariant_of-self
-invariant_of-self c = (
-  absent-held c.args.stamp.now.session c.self.inside.rows c.get_mut.follows.lender-at-none
-      (is_some c.self.inside.at_hand) c.self.inside.room c.self.invariant.0 c.get_mut.follows.holds-at-none,
-  c.self.invariant.1,
-)
-
-pub returns-in_default-clause-rows : goal.returns-in_default-clause-rows
-returns-in_default-clause-rows c =
-    absent-changes c.args.stamp.now.session c.self.inside.rows c.get_mut.follows.lender-at-none
-    (is_some c.self.inside.at_hand) c.self.inside.room c.self.invariant.0 (use_number c.args.stamp.now)
-    c.get_mut.follows.holds-at-none c.in_default.ensures.value
-    ∙ ap (λ (o : OpenedState). change_session c.args.stamp.now.session (use_number c.args.stamp.now) o.rows) c.self.view_is
-
-pub invariant_of-self-2 : goal.invariant_of-self-2
-invariant_of-self-2 c = (
-  write-held c.args.stamp.now.session c.self.inside.rows (c.get_mut.follows.lender c.use_number.new.row)
-      (is_some c.self.inside.at_hand) c.self.inside.room c.self.invariant.0 c.in-Some.row.now c.use_number.new.row
-      c.in-Some.ensures.value (c.get_mut.follows.holds c.use_number.new.row)
-      (ap (λ (o : OpenSession). o.session) c.use_number.ensures.ok) c.use_number.ensures.slots,
-  c.self.invariant.1,
-)
+invariant_of-self c =
+    let value = c.in-Some-get_index_mut.ensures.value in (
+      place-held c.args.stamp.now.session c.self.inside.rows c.in-Some.place c.in-Some.field-0-1.now
+          c.in-Some-get_index_mut.row.now c.use_number.new.row c.in-Some.ensures.place value c.in-Some.ensures.row
+          (is_some c.self.inside.at_hand) c.self.inside.room c.self.invariant.0
+          (ap (λ (o : OpenSession). o.session) c.use_number.ensures.ok) c.use_number.ensures.slots,
+      c.self.invariant.1,
+    )
 
 pub returns-clause-rows : goal.returns-clause-rows
 returns-clause-rows c =
-    write-changes c.args.stamp.now.session c.self.inside.rows (c.get_mut.follows.lender c.use_number.new.row)
-    (is_some c.self.inside.at_hand) c.self.inside.room c.self.invariant.0 c.in-Some.row.now c.use_number.new.row
-    c.in-Some.ensures.value (c.get_mut.follows.holds c.use_number.new.row) (use_number c.args.stamp.now) c.use_number.ensures.ok
+    let value = c.in-Some-get_index_mut.ensures.value in
+    place-changes c.args.stamp.now.session c.self.inside.rows c.in-Some.place c.in-Some.field-0-1.now
+    c.in-Some-get_index_mut.row.now c.use_number.new.row c.in-Some.ensures.place value c.in-Some.ensures.row
+    (is_some c.self.inside.at_hand) c.self.inside.room c.self.invariant.0 (use_number c.args.stamp.now) c.use_number.ensures.ok
     ∙ ap (λ (o : OpenedState). change_session c.args.stamp.now.session (use_number c.args.stamp.now) o.rows) c.self.view_is
+
+pub returns-in_default-clause-rows : goal.returns-in_default-clause-rows
+returns-in_default-clause-rows c =
+    subst (λ (o : OpenedState). o.rows ≡ change_session c.args.stamp.now.session (use_number c.args.stamp.now) o.rows) c.self.view_is
+    (unchanged-absent c.args.stamp.now.session (use_number c.args.stamp.now) c.self.inside.rows.entries c.self.invariant.0.ids
+    (sym c.in_default.ensures.row))
+
+pub unreachable-requires : goal.unreachable-requires
+unreachable-requires c =
+    false≢true (c.in_default-get_index_mut.ensures.found.1
+    (slice_get_within c.self.inside.rows.entries c.in-Some.place _ c.in-Some.ensures.place))
 
 pub use_number-requires : goal.use_number-requires
 use_number-requires c =
-    let id : SessionId = c.args.stamp.now.session in
+    let id = c.args.stamp.now.session in
+    let m = c.self.inside.rows in
+    let row = c.in-Some-get_index_mut.row.now in
+    let found =
+    at-found id m c.in-Some.place c.in-Some.field-0-1.now row row c.in-Some.ensures.place
+    c.in-Some-get_index_mut.ensures.value c.in-Some.ensures.row in
     subst (λ (o : Option OpenSession). next_by o + 1 < 2 ^ 64)
-    (sym (ap (option_map open_of) c.in-Some.ensures.value
-    ∙ session_of-lookup id c.self.inside.rows.entries c.self.invariant.0.ids
+    (sym (ap (option_map open_of) found ∙ session_of-lookup id m.entries c.self.invariant.0.ids
     ∙ ap (λ (o : OpenedState). session_of id o.rows) c.self.view_is)) c.requires
