@@ -7,6 +7,7 @@ use Rattle.std.proofs.lemmas.Option.{none-some}
 use Rattle.std.proofs.lemmas.List.Elements.{recursion_from_All}
 use Rattle.qq_base.specs.declared.ids.NodeId.{NodeId}
 use Rattle.qq_base.specs.declared.ids.QueueId.{QueueId}
+use Rattle.qq_entry.specs.declared.command.Entry.{Entry}
 use Rattle.qq_entry.specs.declared.queue.QueueArgs.{QueueArgs}
 use Rattle.qq_log.specs.Log.{LogState}
 use Rattle.qq_model.specs.State.{empty_queue}
@@ -17,7 +18,7 @@ use Rattle.qq_raft_msg.specs.Rpc.{IsNode}
 use Rattle.qq_raft_protocol.specs.Facts.{In}
 use Rattle.qq_raft_queues.specs.declared.machine_queue.MachineQueue.{MachineQueue}
 use Rattle.qq_group.specs.Group.{Represents, server_at}
-use Rattle.qq_group.specs.Opening.{AreApart, AreFound, IsStart, IsUnnamed, OpensOver, Start, is_named, missing, restarts_of}
+use Rattle.qq_group.specs.Opening.{AreApart, AreFound, IsAllDown, IsStart, IsUnnamed, OpensOver, Start, is_named, missing, restarts_of}
 use Rattle.qq_group_laws.specs.Audited.{IsAuditedBy}
 use Rattle.qq_cluster_queue.specs.ClusterQueue.{Opens, all_present}
 use Rattle.qq_cluster_queue.specs.Members.{IsGroupOf, Member, Members, OpensGroup, down_start, own_log, queue_applied, queue_stands, queue_step}
@@ -85,15 +86,25 @@ restarts-none : (nodes : List NodeId) → restarts_of own_log (map down_start no
 restarts-none [] = refl
 restarts-none (n ∷ nodes) = restarts-none nodes
 
+pub opens-over : (queue : QueueId) (nodes : List NodeId) (starts : Starts) (group : Members)
+    → starts ≡ map down_start nodes → OpensOver own_log queue nodes [] starts group → (g : GroupState)
+    → IsAllDown queue nodes [] g → Represents own_log g group
+opens-over queue nodes starts group is opens g down =
+    subst (λ (moves : List _). Represents own_log (group_after g moves) group)
+    (ap (restarts_of own_log) is ∙ restarts-none nodes)
+    (opens g down (subst (AreFound own_log g) (sym is) (found-all g nodes)))
+
+-- who is down in a group that stands for one whose members are down
+pub all-down : (queue : QueueId) (nodes : List NodeId) (audit : List Entry) (group : Members) (g : GroupState)
+    → Represents own_log g group → IsAllDown queue nodes audit g → (k : ℕ) → server_at k group ≡ None
+all-down queue nodes audit group g represents down k =
+    raft-none (server_at k group) (sym (seat-is g group k represents) ∙ down.seats k)
+
 pub opens-group : (queue : QueueId) (nodes : List NodeId) (starts : Starts) (group : Members)
     → starts ≡ map down_start nodes → OpensOver own_log queue nodes [] starts group → OpensGroup queue nodes group
 opens-group queue nodes starts group is opens g reached down args =
-    let represents : Represents own_log g group =
-    subst (λ (moves : List _). Represents own_log (group_after g moves) group)
-    (ap (restarts_of own_log) is ∙ restarts-none nodes)
-    (opens g down (subst (AreFound own_log g) (sym is) (found-all g nodes))) in
-    let none : (k : ℕ) → server_at k group ≡ None =
-    λ k. raft-none (server_at k group) (sym (seat-is g group k represents) ∙ down.seats k) in
+    let represents : Represents own_log g group = opens-over queue nodes starts group is opens g down in
+    let none : (k : ℕ) → server_at k group ≡ None = all-down queue nodes [] group g represents down in
     record {
       reached = reached;
       represents = represents;

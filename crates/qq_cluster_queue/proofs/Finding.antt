@@ -123,30 +123,34 @@ syncs-up k s old new count up is set args publishers group sessions q st =
 -- ---- restarts
 
 -- a restart may take up what was found
-pub may-find : (args : QueueArgs) (g : GroupState) (group : Members) (node : NodeId) (l : LogState)
-    → IsGroupOf args g group → server_at node.0 group ≡ None → has_node node.0 group.nodes.items ≡ true
-    → IsFound g node.0 l → may_restart node.0 l.op g ≡ true
-may-find args g group node l it down member f =
+pub may-find : (g : GroupState) (group : Members) (node : NodeId) (l : LogState) → Represents own_log g group
+    → server_at node.0 group ≡ None → has_node node.0 group.nodes.items ≡ true → IsFound g node.0 l
+    → may_restart node.0 l.op g ≡ true
+may-find g group node l represents down member f =
     let k : ℕ = node.0 in
     and_from (is_down (g.seat k).server)
     (has_node k g.nodes && (nat_le (g.seat k).noticed l.op && nat_le l.op (length (g.seat k).ops)))
-    (ap is_down (seat-is g group k it.represents ∙ ap raft_of down))
+    (ap is_down (seat-is g group k represents ∙ ap raft_of down))
     (and_from (has_node k g.nodes) (nat_le (g.seat k).noticed l.op && nat_le l.op (length (g.seat k).ops))
-    (ap (has_node k) it.represents.nodes ∙ member)
+    (ap (has_node k) represents.nodes ∙ member)
     (and_from (nat_le (g.seat k).noticed l.op) (nat_le l.op (length (g.seat k).ops))
     (le-leb (g.seat k).noticed l.op f.noticed) (le-leb l.op (length (g.seat k).ops) f.handed)))
 
-restarted-at : (g : GroupState) (node : NodeId) (l : LogState) → may_restart node.0 l.op g ≡ true → IsFound g node.0 l
-    → ((moved (Restart node.0 l.op) g).seat node.0).server
+pub restarted-group : (g : GroupState) (k : ℕ) (l : LogState) → may_restart k l.op g ≡ true → IsFound g k l
+    → moved (Restart k l.op) g ≡ restart_by k l.op (Some (plain_state l.op l.term l.vote l.entries)) g
+restarted-group g k l may f =
+    cond-true (may_restart k l.op g) (restart_by k l.op (stable (take l.op (g.seat k).ops)) g) g may
+    ∙ ap (λ (o : Option Stable). restart_by k l.op o g) f.is
+
+pub restarted-at : (g : GroupState) (node : NodeId) (l : LogState) → may_restart node.0 l.op g ≡ true
+    → IsFound g node.0 l → ((moved (Restart node.0 l.op) g).seat node.0).server
     ≡ Some (restart (record { 0 = node.0 }) g.nodes (lane_with g.queue (plain_state l.op l.term l.vote l.entries)))
 restarted-at g node l may f =
     let k : ℕ = node.0 in
-    ap (λ (h : GroupState). (h.seat k).server)
-    (cond-true (may_restart k l.op g) (restart_by k l.op (stable (take l.op (g.seat k).ops)) g) g may
-    ∙ ap (λ (o : Option Stable). restart_by k l.op o g) f.is)
+    ap (λ (h : GroupState). (h.seat k).server) (restarted-group g k l may f)
     ∙ ap (λ (s : SeatState). s.server) (put-same k _ g.seat)
 
-some-is : {A : Type 0} (x y : A) → Some x ≡ Some y → x ≡ y
+pub some-is : {A : Type 0} (x y : A) → Some x ≡ Some y → x ≡ y
 some-is x y e = cc
 
 started-by : (machine : MachineQueue) (start : State) (o : Option Member) (t : Member)
@@ -183,7 +187,7 @@ pub restarted : (args : QueueArgs) (node : NodeId) (l : LogState) (machine : Mac
     → (may_restart node.0 l.op g ≡ true) × IsGroupOf args (moved (Restart node.0 l.op) g) new
 restarted args node l machine old new g r it audited reached unknown =
     let f : IsFound g node.0 l = found-now args node l machine old new g r it unknown in
-    let may : may_restart node.0 l.op g ≡ true = may-find args g old node l it r.down r.member f in
+    let may : may_restart node.0 l.op g ≡ true = may-find g old node l it.represents r.down r.member f in
     let h : GroupState = moved (Restart node.0 l.op) g in
     let represents : Represents own_log h new = r.restarts g it.represents unknown in (
       may,

@@ -1,8 +1,10 @@
+pub mod Agrees
 mod Auditing
 mod Rows
 mod Current
 mod Members
 mod Happening
+pub mod Logs
 mod Offering
 mod Known
 mod Hearing

@@ -1,6 +1,6 @@
 -- The ops that leave a member are those that wait, in order.
-use Rattle.std.proofs.Common.{◌≡◌, ◌⊎◌, ◌<◌, ◌≤◌, ◌+◌, ◌-◌, ℕ, zero, suc, Bool, true, false, ◌&&◌, List, [], ◌∷◌, ◌++◌, length, Option, Some, None, refl, sym, ap, subst, ◌∙◌, inl, inr, arith, append_assoc, append-nil}
-use Rattle.std.specs.Prelude.{All, IfSome, is_none, is_some, replicate, slice_get}
+use Rattle.std.proofs.Common.{◌≡◌, ◌⊎◌, ◌<◌, ◌+◌, ℕ, zero, suc, Bool, false, ◌&&◌, List, [], ◌∷◌, ◌++◌, length, Option, Some, None, refl, sym, ap, subst, ◌∙◌, inl, inr, arith, append_assoc, append-nil}
+use Rattle.std.specs.Prelude.{All, IfSome, is_some, replicate, slice_get}
 use Rattle.std.proofs.lemmas.Option.{none-some}
 use Rattle.std.proofs.lemmas.Bool.{cases_eq}
 use Rattle.std.proofs.lemmas.List.{length-append}
@@ -23,12 +23,11 @@ use Rattle.qq_group.specs.Group.{IsReached, Represents, server_at, server_by}
 use Rattle.qq_group.specs.Handing.{KeepsReturned, hands, has_returned, next_at, next_by, returned_at}
 use Rattle.qq_group.specs.declared.seat.Seat.{Seat}
 use Rattle.qq_group_laws.specs.Audited.{AreAudited}
-use Rattle.qq_cluster.specs.Queue.{Queue, Writes, group_then, happens as event_happens, said, waiting, waiting_by}
-use Rattle.qq_cluster.proofs.Groups.{group-append}
-use Rattle.qq_cluster_queue.specs.ClusterQueue.{Becomes, IsSameQueue, OfItsQueue, Stands, waiting_ops}
+use Rattle.qq_cluster.specs.Queue.{Queue, Writes, waiting, waiting_by}
+use Rattle.qq_cluster_queue.specs.ClusterQueue.{Becomes, IsSameQueue, OfItsQueue, waiting_ops}
 use Rattle.qq_cluster_queue.specs.Handing.{HandsOp, TakesOp}
 use Rattle.qq_cluster_queue.specs.Members.{AreSound, IsCurrent, IsGroupOf, Member, Members, StayDown, own_log, queue_stands, queue_step}
-use Rattle.qq_cluster_queue.specs.Sessions.{Standings, clients_of, numbers_of}
+use Rattle.qq_cluster_queue.specs.Sessions.{clients_of, numbers_of}
 use Rattle.qq_cluster_queue.specs.declared.cluster_queue.ClusterQueue.{ClusterQueue}
 use Rattle.qq_cluster_queue.proofs.Happening.{stands-then}
 use Rattle.qq_cluster_queue.proofs.Members.{Follow, Reaches, group-then, one-current, one-down, raft_of, seat-is}

@@ -2,4 +2,5 @@ pub mod Range
 pub mod Sessions
 pub mod Members
 pub mod ClusterQueue
+pub mod Agreeing
 pub mod Handing

@@ -3,6 +3,7 @@ use crate::counts::Counts;
 use crate::label::Label;
 use crate::moves::Members;
 use crate::publishers::Publishers;
+use crate::votes::Votes;
 use qq_entry::QueueArgs;
 
 /// One queue of a cluster: the group of servers that replicates it, its clients' numbers, and how much of each
@@ -15,4 +16,6 @@ pub struct ClusterQueue {
     pub(crate) group: Members,
     /// How many of the ops that each node's log was handed a sync has kept, as far as the node is up.
     pub(crate) synced: Counts,
+    /// The vote of each node's log, as it was found last.
+    pub(crate) votes: Votes,
 }

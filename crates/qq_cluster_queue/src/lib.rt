@@ -2,6 +2,7 @@
 //! log is synced of it. Whatever happens to it is an event of the definition of a queue (`qq_cluster`).
 #![tactic(auto)]
 
+mod agreeing;
 mod answers;
 mod audit;
 mod cluster_queue;
@@ -20,6 +21,7 @@ mod sessions;
 mod states;
 mod storing;
 mod telling;
+mod votes;
 
 pub use cluster_queue::ClusterQueue;
 pub use laws::{a_refusal_tells_an_end, sessions_are_those_of_each_queue};

@@ -1,8 +1,8 @@
 //! What happens to the group of the queue's members.
-ghost use Rattle.std.specs.Prelude.{◌≡◌, None, false, true, IfOk, IfErr, OnOk, OnErr, slice_get};
+ghost use Rattle.std.specs.Prelude.{◌≡◌, None, false, is_some, true, IfOk, IfErr, OnOk, OnErr, slice_get};
 ghost use Rattle.qq_group.specs.Follows.{OthersStay};
 ghost use Rattle.qq_group.specs.Group.{server_at};
-ghost use Rattle.qq_group.specs.Restarts.{is_known, Finds as FindsLog, IsFound, IsRestartCaused};
+ghost use Rattle.qq_group.specs.Restarts.{is_known, Finds as FindsLog, IsFound, IsRestartCaused, Restarts};
 ghost use Rattle.qq_group.specs.Steps.{MayHappen};
 ghost use Rattle.qq_log.specs.Stable.{no_snapshot};
 ghost use Rattle.qq_raft_core.specs.Raft.{IsWithinEnds};
@@ -73,6 +73,8 @@ pub fn restart(
         (is_known (slice_get group.old.seats.items node.0) ≡ false → IsFound g node.0 log) →
         (may_restart node.0 log.op g ≡ true)
         × IsGroupOf args.now (happens (Restart node.0 log.op) g) group.new) }
+    ensures restarts { OnOk result (Restarts own_log node.0 log group.old group.new) }
+    ensures up { OnOk result (is_some (server_at node.0 group.new) ≡ true) }
     ensures others { OthersStay node.0 group.old group.new }
     ensures found { OnOk result (FindsLog own_log node.0 log group.old) }
     ensures err { OnErr result (group.new ≡ group.old) }

@@ -1,16 +1,22 @@
 //! How a queue begins.
-ghost use Rattle.std.specs.Prelude.{◌≡◌, ◌<◌, ◌^◌, All, None, length, map, IfOk, IsOkUnless};
+ghost use Rattle.std.specs.Prelude.{◌≡◌, ◌<◌, ◌^◌, ℕ, [], All, List, None, length, map, IfOk, IsOkUnless};
 ghost use Rattle.qq_base.specs.declared.ids.NodeId.{NodeId};
+ghost use Rattle.qq_group.specs.Group.{Represents, server_at};
+ghost use Rattle.qq_group.specs.Opening.{IsAllDown};
+ghost use Rattle.qq_log.specs.declared.op.Op.{Op};
+ghost use Rattle.qq_raft_model.specs.Group.{Group as GroupState};
 ghost use Rattle.qq_raft_model.specs.Promises.{AreDistinct};
 ghost use Rattle.qq_raft_msg.specs.Rpc.{IsNode};
+ghost use Rattle.qq_cluster_queue.specs.Agreeing.{BeginsWith};
 ghost use Rattle.qq_cluster_queue.specs.ClusterQueue.{Opens};
-ghost use Rattle.qq_cluster_queue.specs.Members.{down_start, AreSound, OpensGroup};
+ghost use Rattle.qq_cluster_queue.specs.Members.{down_start, own_log, AreSound, OpensGroup};
 
 use crate::cluster_queue::ClusterQueue;
 use crate::counts::Counts;
 use crate::label::Label;
 use crate::moves::Members;
 use crate::publishers::Publishers;
+use crate::votes::Votes;
 use qq_base::{Memory, NodeId, Text};
 use qq_entry::QueueArgs;
 use qq_group::{Group, GroupFault};
@@ -41,6 +47,8 @@ fn down_group(alloc: Global, args: &QueueArgs, nodes: &[NodeId]) -> Result<Membe
 
     ensures sound { IfOk result AreSound }
     ensures ok { IfOk result (OpensGroup args.now.queue nodes.now) }
+    ensures over { IfOk result (λ group. (g : GroupState) →
+        IsAllDown args.now.queue nodes.now [] g → Represents own_log g group) }
     ensures nodes { IfOk result (λ group. group.nodes.items ≡ nodes.now) }
     ensures want { IsOkUnless result Memory.Want }
 {
@@ -72,6 +80,8 @@ impl ClusterQueue {
         ensures label { IfOk result (λ queue.
             (queue.label.name ≡ name) × (queue.label.first ≡ first)) }
         ensures nodes { IfOk result (λ queue. queue.group.nodes.items ≡ nodes.now) }
+        ensures down { IfOk result (λ queue. (k : ℕ) → server_at k queue.group ≡ None) }
+        ensures begins { IfOk result (λ queue. (logs : ℕ → List Op) → BeginsWith logs queue) }
         ensures want { IsOkUnless result Memory.Want }
     {
         let group = down_group(alloc, &args, nodes)?;
@@ -82,6 +92,7 @@ impl ClusterQueue {
             publishers,
             group,
             synced: Counts::new(),
+            votes: Votes::new(),
         })
     }
 }

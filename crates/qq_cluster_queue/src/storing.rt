@@ -1,12 +1,16 @@
 //! What the nodes' logs keep of a queue, and what they give back.
-ghost use Rattle.std.specs.Prelude.{◌≡◌, None, false, is_some, true, IfErr, IfSome, OnOk, OnErr, slice_get};
+ghost use Rattle.std.specs.Prelude.{◌≡◌, ℕ, List, None, Some, false, is_some, true, IfErr, IfSome, OnOk, OnErr, slice_get};
 ghost use Rattle.qq_cluster.specs.Queue.{Finds, Queue, Syncs, happens};
 ghost use Rattle.qq_group.specs.Group.{server_at};
 ghost use Rattle.qq_group.specs.Restarts.{is_known, noticed_at, Finds as FindsLog, IsFound, IsRestartCaused};
-ghost use Rattle.qq_log.specs.Stable.{no_snapshot};
+ghost use Rattle.qq_group.specs.Follows.{OthersStay};
+ghost use Rattle.qq_log.specs.Stable.{no_snapshot, stable};
+ghost use Rattle.qq_log.specs.declared.op.Op.{Op};
 ghost use Rattle.qq_raft_core.specs.Raft.{IsWithinEnds};
 ghost use Rattle.qq_raft_model.specs.Group.{has_node};
+ghost use Rattle.qq_raft_model.specs.Handing.{plain_state};
 ghost use Rattle.qq_raft_msg.specs.Rpc.{IsNode};
+ghost use Rattle.qq_cluster_queue.specs.Agreeing.{BeginsWith};
 ghost use Rattle.qq_cluster_queue.specs.ClusterQueue.{Becomes, IsSameQueue, Stands};
 ghost use Rattle.qq_cluster_queue.specs.Members.{own_log, AreSound};
 ghost use Rattle.qq_cluster_queue.specs.Sessions.{Standings};
@@ -72,14 +76,20 @@ impl ClusterQueue {
             IsFound q.group node.0 log) →
             Stands sessions self.new (happens q (Finds node.0 log.op))) }
         ensures found { OnOk result (FindsLog own_log node.0 log self.old.group) }
+        ensures others { OthersStay node.0 self.old.group self.new.group }
+        ensures up { OnOk result (is_some (server_at node.0 self.new.group) ≡ true) }
+        ensures begins { OnOk result ((logs : ℕ → List Op) → BeginsWith logs self.old →
+            stable (logs node.0)
+            ≡ Some (plain_state log.op log.term log.vote log.entries) → BeginsWith logs self.new) }
         ensures err { OnErr result (self.new ≡ self.old) }
         ensures cause { IfErr result (IsRestartCaused own_log node.0 log self.old.group) }
     {
-        let (op, _, _) = log.start();
+        let (op, _, vote) = log.start();
         if let Err(cause) = restart(alloc, &mut self.group, node, &self.args, log) {
             return Err(cause);
         }
         self.synced.set(node, op);
+        self.votes.set(node, vote);
         Ok(())
     }
 }

@@ -1,3 +1,4 @@
+pub mod Agreeing
 pub mod Events
 pub mod Follows
 pub mod Group

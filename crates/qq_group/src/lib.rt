@@ -3,6 +3,7 @@
 //! event of the definition of a group (`qq_group_model`).
 #![tactic(auto)]
 
+mod agreeing;
 mod entries;
 mod event;
 mod events;

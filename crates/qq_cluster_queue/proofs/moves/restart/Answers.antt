@@ -4,6 +4,7 @@ use Rattle.qq_model.specs.State.{State, empty_queue}
 use Rattle.qq_raft_model.specs.Group.Event.{Restart}
 use Rattle.std.proofs.Common.{◌∷◌, []}
 use Rattle.qq_cluster_queue.specs.Members.{queue_stands}
+use Rattle.qq_cluster_queue.proofs.Agrees.{started-up}
 use Rattle.qq_cluster_queue.proofs.Finding.{restarted}
 use Rattle.qq_cluster_queue.proofs.moves.restart.Goals as goal
 
@@ -32,3 +33,6 @@ returns-clause-ok c = λ g it unknown.
     c.args.group.now c.restart.new.self stood c.in_default.ensures.started c.restart.ensures.others
     c.restart.ensures.audit it.audited)
     (c.events_reach_groups.ensures.later g (Restart c.args.node.0 c.args.log.op ∷ []) it.reached) unknown
+
+pub returns-clause-up : goal.returns-clause-up
+returns-clause-up c = started-up c.new-machine.result _ c.in_default.ensures.started
