@@ -1,5 +1,5 @@
--- New nodes stand for a new cluster.
-use Rattle.std.proofs.Common.{◌≡◌, ◌⊎◌, ◌<◌, ◌≤◌, ◌+◌, ◌-◌, ℕ, suc, Bool, true, false, ◌||◌, cond, List, [], ◌∷◌, Some, None, get_or, length, map, refl, sym, ap, ◌∙◌, subst, inl, inr, arith}
+-- New nodes stand for a new cluster, whatever logs it begins with.
+use Rattle.std.proofs.Common.{◌≡◌, ◌⊎◌, ◌<◌, ◌≤◌, ◌+◌, ◌-◌, ℕ, suc, Bool, true, false, ◌||◌, cond, List, [], ◌∷◌, Option, Some, None, get_or, length, map, refl, sym, ap, ◌∙◌, subst, inl, inr, arith}
 use Rattle.std.specs.Prelude.{All, filter, is_some, nat_eq, slice_get}
 use Rattle.std.specs.List.{AllByRecursion, list_all, range_with_len}
 use Rattle.std.proofs.lemmas.Bool.{and_from, cases_eq, eq-eqb, false≢true, ne_eqb}
@@ -10,26 +10,27 @@ use Rattle.qq_disk.specs.Disk.{Disk}
 use Rattle.qq_entry.specs.declared.queue.QueueArgs.{QueueArgs}
 use Rattle.qq_group.specs.Group.{IsReached as IsGroupReached}
 use Rattle.qq_log.specs.declared.limits.TheConstants.{NODE_LIMIT}
-use Rattle.qq_lots.specs.Lots.{Part, ids_of, new_part}
-use Rattle.qq_raft_model.specs.Group.{Seat, has_node}
+use Rattle.qq_lots.specs.Lots.{ids_of}
+use Rattle.qq_raft_model.specs.Group.{has_node}
+use Rattle.qq_raft_model.specs.State.{Server}
 use Rattle.qq_setup.specs.declared.queue_row.QueueRow.{QueueRow}
 use Rattle.qq_cluster.specs.Cluster.{Setup, members, new_cluster}
 use Rattle.qq_cluster.specs.Queue.{begin}
 use Rattle.qq_cluster.specs.Rules.{is_quiet, is_quiet_at}
-use Rattle.qq_cluster_laws.specs.Linked.{lot_of, parts_at}
+use Rattle.qq_cluster_laws.specs.Linked.{lot_of}
 use Rattle.qq_cluster_queue.specs.ClusterQueue.{Stands as IsQueue, all_present}
 use Rattle.qq_cluster_queue.specs.Sessions.{standings}
 use Rattle.qq_cluster_queue.specs.declared.cluster_queue.ClusterQueue.{ClusterQueue}
 use Rattle.qq_node_log.specs.declared.node_log.NodeLog.TheVariants.{Closed}
 use Rattle.qq_nodes.specs.Nodes.{IsNodeOf, IsQueueOf, IsSetUp, Stands}
-use Rattle.qq_nodes.specs.Setting.{AreNodesFor, AreQueuesFor, HaveDisks, IsNewNode, IsQueueFor, IsRowOf, IsSetupOf, IsWhole, ids_on, is_among}
+use Rattle.qq_nodes.specs.Setting.{AreNew, AreNodesFor, AreQueuesFor, HaveDisks, IsNewNode, IsQueueFor, IsRowOf, IsSetupOver, IsWhole, ids_on, is_among}
 use Rattle.qq_nodes.specs.declared.node.Node.{Node}
 use Rattle.qq_nodes.specs.declared.nodes.Nodes.{Nodes as Held}
 use Rattle.qq_nodes.proofs.OwnStands.{seen-own}
 use Rattle.qq_nodes.proofs.Quiet.{all-from}
 
 -- an item at each index
-item-at : {A B : Type 0} (xs : List A) (ys : List B) (at : ℕ) (y : B) → length ys ≡ length xs → slice_get ys at ≡ Some y
+pub item-at : {A B : Type 0} (xs : List A) (ys : List B) (at : ℕ) (y : B) → length ys ≡ length xs → slice_get ys at ≡ Some y
     → (x : A) × (slice_get xs at ≡ Some x)
 item-at {A} {B} xs ys at y many here = by (slice_get_cases xs at).1
   where
@@ -90,15 +91,17 @@ all-of : {A : Type 0} (P : A → Type 0) (xs : List A) → ((x : A) → P x) →
 all-of P [] each = tt
 all-of P (x ∷ xs) each = (each x, all-of P xs each)
 
-module _ (setup : Setup) (rows : List QueueRow) (count : ℕ) (set : IsSetupOf setup rows count) where
-  ids-are : (k : ℕ) → ids_on rows k ≡ ids_of (lot_of setup k)
-  ids-are k =
-      ids-from setup k 1 rows
-      (λ i row here. subst (λ (p : ℕ). IsRowOf setup p row) (let e : i + 1 ≡ 1 + i = omega arith in e)
-      (set.each i row here))
-      ∙ ap (λ (places : List ℕ). map (λ (place : ℕ). (setup.args place).queue)
-      (filter (λ (place : ℕ). has_node k (members setup place)) places)) (sym set.set_up.places)
+-- the queues of which a node has a member
+pub ids-are : (setup : Setup) (rows : List QueueRow) → setup.places ≡ range_with_len 1 (length rows)
+    → ((at : ℕ) (row : QueueRow) → slice_get rows at ≡ Some row → IsRowOf setup (at + 1) row) → (k : ℕ)
+    → ids_on rows k ≡ ids_of (lot_of setup k)
+ids-are setup rows places each k =
+    ids-from setup k 1 rows
+    (λ i row here. subst (λ (p : ℕ). IsRowOf setup p row) (let e : i + 1 ≡ 1 + i = omega arith in e) (each i row here))
+    ∙ ap (λ (l : List ℕ). map (λ (place : ℕ). (setup.args place).queue)
+    (filter (λ (place : ℕ). has_node k (members setup place)) l)) (sym places)
 
+module _ (setup : Setup) (rows : List QueueRow) (count : ℕ) (set : IsSetupOver setup rows count) where
   queue-begins : (at : ℕ) (row : QueueRow) (d : ClusterQueue) → slice_get rows at ≡ Some row
       → IsQueueFor row (nat_eq at 0) d → IsQueueOf setup (standings []) (new_cluster setup) (at + 1) d
   queue-begins at row d here own = record {
@@ -138,10 +141,11 @@ module _ (setup : Setup) (rows : List QueueRow) (count : ℕ) (set : IsSetupOf s
       id_is = own.id_is;
       few = omega (arith, few);
       up_is = own.up_is;
-      fresh = λ never. (own.up_is, parts);
-      queues_are = own.queues_are ∙ ids-are (at + 1);
+      fresh = λ never. absurd (false≢true (sym own.empty_is ∙ never));
+      queues_are = own.queues_are ∙ ids-are setup rows set.set_up.places set.each (at + 1);
       members = all-of (λ (place : ℕ). is_some (((new_cluster setup).queue place).group.seat (at + 1)).server ≡ false)
-          (lot_of setup (at + 1)).places (λ place. ap (λ (s : Seat). is_some s.server) (set.new place (at + 1)));
+          (lot_of setup (at + 1)).places
+          (λ place. ap (λ (o : Option Server). is_some o) ((set.set_up.groups place).opened.down.down (at + 1)));
       own = Closed disk;
       log_is = own.log_is;
       log = record {
@@ -149,12 +153,6 @@ module _ (setup : Setup) (rows : List QueueRow) (count : ℕ) (set : IsSetupOf s
         whole = whole (ids_of (lot_of setup (at + 1)));
       };
     }
-      where
-        part : Seat → Part
-        part seat = record { ops = seat.ops; synced = seat.noticed }
-
-        parts : parts_at (new_cluster setup) (at + 1) ≡ (λ (place : ℕ). new_part)
-        parts = λ i. λ (place : ℕ). ap part (set.new place (at + 1)) i
 
     pub nodes-begin : (held : Held D) (disks : List D) → count ≡ length disks → length disks ≤ NODE_LIMIT
         → All (IsWhole tells past) disks → AreQueuesFor rows held.queues.items
@@ -187,6 +185,30 @@ module _ (setup : Setup) (rows : List QueueRow) (count : ℕ) (set : IsSetupOf s
             by (inl found) = (found.0, found.2)
             by (inr past_end) =
                 let le = past_end.0 in let many = queues.count in absurd (omega (arith, le, lt, many))
+
+module _ {D : Type 0} {tells : D → Bool} {past : D → List Disk} where
+  pub new-nodes : (rows : List QueueRow) (held : Held D) (disks : List D)
+      → ((setup : Setup) × IsSetupOver setup rows (length disks)) → length disks ≤ NODE_LIMIT
+      → All (IsWhole tells past) disks → AreQueuesFor rows held.queues.items
+      → AreNodesFor rows disks held.nodes.items → held.sessions ≡ [] → held.active ≡ [] → held.auto ≡ true
+      → AreNew tells past rows held
+  new-nodes rows held disks set few whole queues nodes sessions active auto = record {
+    set = (set.0, subst (IsSetupOver set.0 rows) (sym nodes.count) set.1);
+    queues = queues;
+    disks = disks;
+    nodes = nodes;
+    few = few;
+    whole = whole;
+    sessions = sessions;
+    active = active;
+    auto = auto;
+  }
+
+  pub new-stands : (rows : List QueueRow) (held : Held D) → AreNew tells past rows held → (setup : Setup)
+      → IsSetupOver setup rows (length held.nodes.items) → Stands tells past setup held (new_cluster setup)
+  new-stands rows held new setup set =
+      nodes-begin setup rows (length held.nodes.items) set held new.disks new.nodes.count new.few new.whole new.queues
+      new.nodes new.sessions new.active new.auto
 
 -- each node has its disk
 pub have-disks : {D : Type 0} (tells : D → Bool) (past : D → List Disk) (faults : D → ℕ) (rows : List QueueRow)

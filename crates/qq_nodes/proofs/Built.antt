@@ -1,11 +1,15 @@
 -- Queues and nodes are made, one for each row and one for each disk.
-use Rattle.std.proofs.Common.{◌≡◌, ◌⊎◌, ◌<◌, ◌+◌, ℕ, zero, suc, Bool, List, [], ◌∷◌, ◌++◌, Some, get_or, length, take, refl, sym, ap, ◌∙◌, subst, inl, inr, arith, append_assoc, append-nil, length-append}
+use Rattle.std.proofs.Common.{◌≡◌, ◌⊎◌, ◌<◌, ◌+◌, ℕ, zero, suc, Bool, List, [], ◌∷◌, ◌++◌, None, Some, get_or, length, take, refl, sym, ap, ◌∙◌, subst, inl, inr, arith, append_assoc, append-nil, length-append}
 use Rattle.std.specs.Prelude.{IfOk, Ok, Result, nat_eq, slice_get}
 use Rattle.std.proofs.lemmas.List.{take_more}
 use Rattle.std.proofs.lemmas.Option.{slice_get_within}
 use Rattle.qq_base.specs.declared.ids.NodeId.{NodeId}
 use Rattle.qq_entry.specs.declared.queue.QueueArgs.{QueueArgs}
+use Rattle.qq_group.specs.Group.{IsReached, server_at}
+use Rattle.qq_log.specs.declared.op.Op.{Op}
+use Rattle.qq_raft_model.specs.Group.{new_group}
 use Rattle.qq_setup.specs.declared.queue_row.QueueRow.{QueueRow}
+use Rattle.qq_cluster_queue.specs.Agreeing.{BeginsWith}
 use Rattle.qq_cluster_queue.specs.ClusterQueue.{Opens}
 use Rattle.qq_cluster_queue.specs.Members.{AreSound}
 use Rattle.qq_cluster_queue.specs.declared.cluster_queue.ClusterQueue.{ClusterQueue}
@@ -57,16 +61,32 @@ pairs-more {A} {B} P xs ys x y many each own at a b first second =
 
 -- ---- queues
 
+-- a queue has the arguments with which it begins
+own-args : (args : QueueArgs) (nodes : List NodeId) (d : ClusterQueue) → IsReached (new_group args.queue nodes)
+    → Opens args nodes d → d.args ≡ args
+own-args args nodes d reached opens =
+    sym (opens (new_group args.queue nodes) reached
+    (record { queue_is = refl; nodes_is = refl; seats = λ k. refl; bag = refl; audit_is = refl })).args
+
 pub queue-made : (row : QueueRow) (first : Bool) (args : QueueArgs) (name : List ℕ) (nodes : List NodeId)
-    (d : ClusterQueue) → args ≡ row.args → name ≡ row.name → nodes ≡ row.members → AreSound d.group → Opens args nodes d
-    → (d.label.name ≡ name) × (d.label.first ≡ first) → IsQueueFor row first d
-queue-made row first args name nodes d args_is name_is nodes_is sound opens label = record {
-  sound = sound;
-  opens = subst (λ (a : QueueArgs). Opens a row.members d) args_is
-      (subst (λ (l : List NodeId). Opens args l d) nodes_is opens);
-  name_is = label.0 ∙ name_is;
-  first_is = label.1;
-}
+    (d : ClusterQueue) → args ≡ row.args → name ≡ row.name → nodes ≡ row.members
+    → IsReached (new_group row.args.queue row.members) → AreSound d.group → Opens args nodes d
+    → (d.label.name ≡ name) × (d.label.first ≡ first) → d.group.nodes.items ≡ nodes
+    → ((k : ℕ) → server_at k d.group ≡ None) → ((logs : ℕ → List Op) → BeginsWith logs d) → IsQueueFor row first d
+queue-made row first args name nodes d args_is name_is nodes_is reached sound opens label own_nodes down begins =
+    let opens_row : Opens row.args row.members d =
+    subst (λ (a : QueueArgs). Opens a row.members d) args_is
+    (subst (λ (l : List NodeId). Opens args l d) nodes_is opens) in
+    record {
+      sound = sound;
+      opens = opens_row;
+      args_is = own-args row.args row.members d reached opens_row;
+      nodes_is = own_nodes ∙ nodes_is;
+      name_is = label.0 ∙ name_is;
+      first_is = label.1;
+      down = down;
+      begins = begins;
+    }
 
 pub queues-none : AreQueuesFor [] []
 queues-none = record { count = refl; each = λ at row d here there. absurd (none at row here) }

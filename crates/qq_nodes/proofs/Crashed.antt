@@ -7,7 +7,7 @@ use Rattle.qq_base.proofs.Puts.{put-same}
 use Rattle.qq_base.specs.Fronts.{put}
 use Rattle.qq_disk.specs.Disk.{Disk, now}
 use Rattle.qq_disk.specs.declared.image.Image.{Image}
-use Rattle.qq_lots.specs.Lots.{Parts}
+use Rattle.qq_lots.specs.Lots.{Lot, Parts}
 use Rattle.qq_ports.specs.Yard.{IsAfterCrash}
 use Rattle.qq_raft_model.specs.Group.{Seat}
 use Rattle.qq_raft_protocol.specs.Facts.{In}
@@ -22,10 +22,10 @@ use Rattle.qq_cluster_laws.proofs.Serves.{happened-event}
 use Rattle.qq_cluster_laws.proofs.Traces.{traced-one}
 use Rattle.qq_cluster_queue.specs.Sessions.{standings}
 use Rattle.qq_node_log.specs.Log.{Stands as IsLog, disk_in}
+use Rattle.qq_node_log.specs.declared.node_log.NodeLog.{NodeLog}
 use Rattle.qq_nodes.specs.Logs.{NodeTurns}
 use Rattle.qq_nodes.specs.Nodes.{CanServe, IsNodeOf, Stands, seen}
-use Rattle.qq_nodes.specs.Restarting.{HasHappened, LeavesDisks}
-use Rattle.qq_nodes.specs.Taking.{HasOwn, IsCrashedTo}
+use Rattle.qq_nodes.specs.Crashing.{HasHappened, HasOwn, IsCrashedTo, LeavesDisks}
 use Rattle.qq_nodes.specs.Turning.{TurnsWhere}
 use Rattle.qq_nodes.specs.declared.node.Node.{Node}
 use Rattle.qq_nodes.specs.declared.nodes.Nodes.{Nodes as Held}
@@ -159,3 +159,21 @@ crash-leaves tells past faults k image old mids new low turn same turns =
 pub own-log : {D : Type 0} {tells : D → Bool} {past : D → List Disk} (held : Held D) (at : ℕ) (node : Node D)
     → CanServe tells past held → slice_get held.nodes.items at ≡ Some node → HasOwn node
 own-log held at node can here = let is = can.3.nodes at node here in (is.own, is.log_is)
+
+-- ---- its log
+
+module _ {D : Type 0} {tells : D → Bool} {past : D → List Disk} (image : Image) (old new : Node D) (own left : NodeLog D)
+    (was : old.log ≡ Some own) where
+  pub crashed : (IsTrue (tells (disk_in own)) → IsAfterCrash image (past (disk_in own)) (past (disk_in left)))
+      → tells (disk_in left) ≡ tells (disk_in own)
+      → ((lot : Lot) (parts : Parts) → IsLog tells past lot parts false left)
+      → new ≡ record old { log = Some left; up = false } → IsCrashedTo tells past image old new
+  crashed image_is told stands next = record {
+    own = own;
+    was = was;
+    left = left;
+    is = next;
+    image_is = image_is;
+    told = told;
+    stands = stands;
+  }

@@ -13,7 +13,7 @@ use Rattle.qq_cluster.specs.Rules.{ForEach, Is}
 use Rattle.qq_cluster_laws.proofs.Reached.{reached-after}
 use Rattle.qq_cluster_laws.proofs.Serves.{happened-both, leads-more, leads-start, serves-nothing}
 use Rattle.qq_nodes.specs.Nodes.{CanServe, LeadsIn, Stands, nodes_in, seen}
-use Rattle.qq_nodes.specs.Restarting.{HasHappened}
+use Rattle.qq_nodes.specs.Crashing.{HasHappened}
 use Rattle.qq_nodes.specs.declared.nodes.Nodes.{Nodes as Held}
 use Rattle.qq_nodes.proofs.Walks.{drop-past, place-at}
 

@@ -98,9 +98,9 @@ module _ {D : Type 0} {tells : D → Bool} {past : D → List Disk} where
       subst (λ (j : ℕ). IsNodeOf tells past setup c j x) (let e : (k - 1) + 1 ≡ k = omega (arith, low) in e)
       (st.nodes (k - 1) x here)
 
-  -- a node that is up was started
+  -- a node that is up isn't marked as empty
   pub not-fresh : {setup : Setup} {c : Cluster} {k : ℕ} {x : Node D} → IsNodeOf tells past setup c k x → c.up k ≡ true
-      → x.started ≡ false → ⊥
+      → x.empty ≡ true → ⊥
   not-fresh was up never = false≢true (sym (was.fresh never).0 ∙ was.up_is ∙ up)
 
   pub node-in : (setup : Setup) (c : Cluster) (held : Held D) (k : ℕ) → Stands tells past setup held c → 0 < k

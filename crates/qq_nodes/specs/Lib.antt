@@ -4,8 +4,7 @@ pub mod Ends
 pub mod Logs
 pub mod Nodes
 pub mod Setting
-pub mod Restarting
-pub mod Taking
+pub mod Crashing
 pub mod Showing
 pub mod Sending
 pub mod Turning

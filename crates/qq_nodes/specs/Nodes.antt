@@ -67,13 +67,14 @@ pub record IsQueueOf (setup : Setup) (sessions : Standings) (c : Cluster) (place
   pub name_is : d.label.name ≡ setup.name place
   pub first_is : d.label.first ≡ is_first setup place
 
--- A node is the one of this number, and as it stands there. Until it was up its log has nothing of its queues.
+-- A node is the one of this number, and as it stands there. Where it is marked as empty it is down, and its log has nothing of
+-- its queues.
 pub record IsNodeOf {D : Type 0} (tells : D → Bool) (past : D → List Disk) (setup : Setup) (c : Cluster) (k : ℕ)
     (node : Node D) : Type 0 where
   pub id_is : node.id.0 ≡ k
   pub few : k ≤ NODE_LIMIT
   pub up_is : node.up ≡ c.up k
-  pub fresh : node.started ≡ false → (node.up ≡ false) × (parts_at c k ≡ (λ (place : ℕ). new_part))
+  pub fresh : node.empty ≡ true → (node.up ≡ false) × (parts_at c k ≡ (λ (place : ℕ). new_part))
   pub queues_are : node.queues.items ≡ ids_of (lot_of setup k)
   pub members : MembersFollow setup c k
   pub own : NodeLog D

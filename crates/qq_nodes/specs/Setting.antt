@@ -1,15 +1,18 @@
 -- The cluster with which nodes begin.
-use Rattle.std.specs.Prelude.{◌≡◌, ◌<◌, ◌+◌, ◌^◌, ℕ, Bool, false, List, [], All, Some, filter, length, map, nat_eq, slice_get}
+use Rattle.std.specs.Prelude.{◌≡◌, ◌<◌, ◌≤◌, ◌+◌, ◌^◌, ℕ, Bool, true, false, List, [], All, None, Some, filter, length, map, nat_eq, slice_get}
 use Rattle.std.specs.List.{list_any}
 use Rattle.qq_base.specs.declared.ids.NodeId.{NodeId}
 use Rattle.qq_base.specs.declared.ids.QueueId.{QueueId}
 use Rattle.qq_disk.specs.Disk.{Disk}
+use Rattle.qq_group.specs.Group.{server_at}
 use Rattle.qq_group.specs.Opening.{IsAllDown}
-use Rattle.qq_raft_model.specs.Group.{empty_seat}
+use Rattle.qq_log.specs.declared.limits.TheConstants.{NODE_LIMIT}
+use Rattle.qq_log.specs.declared.op.Op.{Op}
 use Rattle.qq_raft_msg.specs.Rpc.{IsNode}
 use Rattle.qq_setup.specs.declared.queue_row.QueueRow.{QueueRow}
 use Rattle.qq_cluster.specs.Cluster.{Setup}
 use Rattle.qq_cluster_laws.specs.Serves.{seen_of}
+use Rattle.qq_cluster_queue.specs.Agreeing.{BeginsWith}
 use Rattle.qq_cluster_queue.specs.ClusterQueue.{Opens}
 use Rattle.qq_cluster_queue.specs.Members.{AreSound}
 use Rattle.qq_cluster_queue.specs.declared.cluster_queue.ClusterQueue.{ClusterQueue}
@@ -29,10 +32,9 @@ pub record IsRowOf (setup : Setup) (place : ℕ) (row : QueueRow) : Type 0 where
   pub args_is : row.args ≡ setup.args place
   pub down : IsAllDown row.args.queue row.members [] (setup.group place)
 
--- so many nodes, with new logs, and a queue for each row, in their order
-pub record IsSetupOf (setup : Setup) (rows : List QueueRow) (node_count : ℕ) : Type 0 where
+-- so many nodes, and a queue for each row, in their order; each queue begins with logs that support an audit
+pub record IsSetupOver (setup : Setup) (rows : List QueueRow) (node_count : ℕ) : Type 0 where
   pub set_up : IsSetUp setup (length rows) node_count
-  pub new : (place k : ℕ) → (setup.group place).seat k ≡ empty_seat
   pub each : (at : ℕ) (row : QueueRow) → slice_get rows at ≡ Some row → IsRowOf setup (at + 1) row
 
 -- a disk that tells its contents may be recovered as the log of whatever queues, as a new one may be
@@ -47,12 +49,16 @@ HaveDisks {D} tells past faults disks held =
 
 -- ---- how they are made
 
--- a queue is a row's, and its members are down
+-- a queue is a row's, and its members are down; nothing is known of their logs
 pub record IsQueueFor (row : QueueRow) (first : Bool) (d : ClusterQueue) : Type 0 where
   pub sound : AreSound d.group
   pub opens : Opens row.args row.members d
+  pub args_is : d.args ≡ row.args
+  pub nodes_is : d.group.nodes.items ≡ row.members
   pub name_is : d.label.name ≡ row.name
   pub first_is : d.label.first ≡ first
+  pub down : (k : ℕ) → server_at k d.group ≡ None
+  pub begins : (logs : ℕ → List Op) → BeginsWith logs d
 
 -- and so of each row, in order
 pub record AreQueuesFor (rows : List QueueRow) (queues : List ClusterQueue) : Type 0 where
@@ -69,11 +75,11 @@ abbrev pub ids_on : List QueueRow → ℕ → List QueueId
 ids_on rows k =
     map (λ (row : QueueRow). row.args.queue) (filter (λ (row : QueueRow). is_among k row.members) rows)
 
--- a node of this number that wasn't restarted yet, with its disk
+-- a node of this number that wasn't opened yet, with its disk
 pub record IsNewNode {D : Type 0} (rows : List QueueRow) (k : ℕ) (disk : D) (node : Node D) : Type 0 where
   pub id_is : node.id.0 ≡ k
   pub up_is : node.up ≡ false
-  pub started_is : node.started ≡ false
+  pub empty_is : node.empty ≡ false
   pub queues_are : node.queues.items ≡ ids_on rows k
   pub log_is : node.log ≡ Some (Closed disk)
 
@@ -82,3 +88,17 @@ pub record AreNodesFor {D : Type 0} (rows : List QueueRow) (disks : List D) (nod
   pub count : length nodes ≡ length disks
   pub each : (at : ℕ) (disk : D) (node : Node D) → slice_get disks at ≡ Some disk
       → slice_get nodes at ≡ Some node → IsNewNode rows (at + 1) disk node
+
+-- Nodes that weren't opened yet, over disks that may be recovered, and a queue for each row. There are logs over which these
+-- may be opened.
+pub record AreNew {D : Type 0} (tells : D → Bool) (past : D → List Disk) (rows : List QueueRow) (held : Held D) : Type 0
+  where
+    pub set : (setup : Setup) × IsSetupOver setup rows (length held.nodes.items)
+    pub queues : AreQueuesFor rows held.queues.items
+    pub disks : List D
+    pub nodes : AreNodesFor rows disks held.nodes.items
+    pub few : length disks ≤ NODE_LIMIT
+    pub whole : All (IsWhole tells past) disks
+    pub sessions : held.sessions ≡ []
+    pub active : held.active ≡ []
+    pub auto : held.auto ≡ true

@@ -4,10 +4,9 @@ ghost use Rattle.qq_base.specs.Causes.{HasCause};
 ghost use Rattle.qq_cluster.specs.Cluster.{Crashes, Setup};
 ghost use Rattle.qq_cluster.specs.Rules.{ForEach, Is};
 ghost use Rattle.qq_ports.specs.Yard.{IsYardCaused};
+ghost use Rattle.qq_nodes.specs.Crashing.{HasHappened, HasOwn, IsCrashedTo, LeavesDisks};
 ghost use Rattle.qq_nodes.specs.Logs.{NodeTurns};
 ghost use Rattle.qq_nodes.specs.Nodes.{CanServe, IsNodeAt};
-ghost use Rattle.qq_nodes.specs.Restarting.{HasHappened, LeavesDisks};
-ghost use Rattle.qq_nodes.specs.Taking.{HasOwn, IsCrashedTo};
 ghost use Rattle.qq_nodes.specs.declared.node.Node.{Node as NodeOf};
 
 use crate::node::Node;

@@ -10,16 +10,14 @@ mod messages;
 mod new;
 mod node;
 mod nodes;
-mod opening;
-mod restarting;
 mod rounds;
 mod sending;
 mod showing;
-mod taking;
+mod ticking;
 mod turning;
 mod writing;
 
 pub use crashing::{crash_each, crash_node};
+pub use node::Node;
 pub use nodes::Nodes;
-pub use restarting::RestartFault;
 pub use rounds::MOST_ROUNDS;

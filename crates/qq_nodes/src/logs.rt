@@ -126,26 +126,3 @@ pub(crate) fn down_in<D: NodeDisk>(nodes: &mut Vec<Node<D>>, at: usize)
 {
     down_at(nodes, at);
 }
-
-fn set_up<D: NodeDisk>(node: &mut Node<D>)
-    ensures { node.new ≡ record node.old { up = true; started = true } }
-{
-    node.up = true;
-    node.started = true;
-}
-
-fn up_at<D: NodeDisk>(nodes: &mut [Node<D>], at: usize)
-    requires { at < length nodes.old }
-    ensures { NodeTurns (λ old new. new ≡ record old { up = true; started = true }) at nodes.old nodes.new }
-{
-    set_up(&mut nodes[at]);
-}
-
-/// The node at an index is up from here on.
-pub(crate) fn up_in<D: NodeDisk>(nodes: &mut Vec<Node<D>>, at: usize)
-    requires { at < length nodes.old.items }
-    ensures { NodeTurns (λ old new. new ≡ record old { up = true; started = true }) at nodes.old.items
-        nodes.new.items }
-{
-    up_at(nodes, at);
-}

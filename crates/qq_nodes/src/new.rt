@@ -5,7 +5,7 @@ ghost use Rattle.qq_log.specs.declared.limits.TheConstants.{NODE_LIMIT};
 ghost use Rattle.qq_raft_model.specs.Promises.{AreDistinct};
 ghost use Rattle.qq_setup.specs.declared.queue_row.QueueRow.{QueueRow as Row};
 ghost use Rattle.qq_nodes.specs.Nodes.{Stands};
-ghost use Rattle.qq_nodes.specs.Setting.{AreNodesFor, AreQueuesFor, HaveDisks, IsNewNode, IsQueueFor, IsRow, IsSetupOf, IsWhole, ids_on, is_among};
+ghost use Rattle.qq_nodes.specs.Setting.{AreNew, AreNodesFor, AreQueuesFor, HaveDisks, IsNewNode, IsQueueFor, IsRow, IsSetupOver, IsWhole, ids_on, is_among};
 
 use crate::active::Active;
 use crate::node::Node;
@@ -13,6 +13,7 @@ use crate::nodes::Nodes;
 use qq_base::{Duplicate, Memory, NodeId, QueueId, both};
 use qq_cluster_queue::{ClusterQueue, Sessions};
 use qq_disk::NodeDisk;
+use qq_group::events_reach_groups;
 use qq_node_log::NodeLog;
 use qq_setup::QueueRow;
 use std::alloc::Global;
@@ -24,6 +25,7 @@ fn new_queue(alloc: Global, row: &QueueRow, first: bool) -> Result<ClusterQueue,
     ensures ok { IfOk result (IsQueueFor row.now first) }
     ensures want { IsOkUnless result Memory.Want }
 {
+    events_reach_groups();
     let (args, name) = both(row.args.copy(alloc), row.name.copy(alloc))?;
     let queue = ClusterQueue::new(alloc, args, name, first, row.members.as_slice())?;
     Ok(queue)
@@ -66,7 +68,7 @@ fn queues_on(alloc: Global, rows: &[QueueRow], node: NodeId) -> Result<Vec<Queue
     Ok(ids)
 }
 
-// A node that wasn't restarted yet.
+// A node that wasn't opened yet.
 fn new_node<D: NodeDisk>(
     alloc: Global,
     rows: &[QueueRow],
@@ -80,7 +82,7 @@ fn new_node<D: NodeDisk>(
     Ok(Node {
         id,
         up: false,
-        started: false,
+        empty: false,
         queues,
         log: Some(NodeLog::Closed(disk)),
     })
@@ -110,18 +112,22 @@ impl<D: NodeDisk> Nodes<D> {
     /// The nodes of these disks, in order, and a queue for each row, in order: all nodes are down, and a pump
     /// follows each line of a client. A node's log file is full once `log_bytes` came after the bytes with which it
     /// was begun. Nothing is read or written. The only error is `Memory::Want`, out of memory.
+    ///
+    /// - `ok`: whatever logs the queues begin with, these stand for the cluster.
+    /// - `new`: the nodes may be opened.
     pub fn new(
         alloc: Global,
         rows: &[QueueRow],
         disks: Vec<D>,
         log_bytes: u64,
     ) -> Result<Self, Memory>
-        requires set { (setup : Setup) × IsSetupOf setup rows.now (length disks.items) }
+        requires set { (setup : Setup) × IsSetupOver setup rows.now (length disks.items) }
         requires rows { All IsRow rows.now }
         requires few { length disks.items ≤ NODE_LIMIT }
         requires whole { All (IsWhole D.tells D.past) disks.items }
-        ensures ok { (setup : Setup) → IsSetupOf setup rows.now (length disks.items) →
+        ensures ok { (setup : Setup) → IsSetupOver setup rows.now (length disks.items) →
             IfOk result (λ nodes. Stands D.tells D.past setup nodes (new_cluster setup)) }
+        ensures new { IfOk result (AreNew D.tells D.past rows.now) }
         ensures disks { IfOk result (HaveDisks D.tells D.past D.faults disks.items) }
         ensures want { IsOkUnless result Memory.Want }
     {

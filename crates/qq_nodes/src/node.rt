@@ -7,13 +7,14 @@ use qq_node_log::NodeLog;
 #[derive(Drop)]
 pub struct Node<D: NodeDisk> {
     /// Its number.
-    pub(crate) id: NodeId,
+    pub id: NodeId,
     /// Whether it is up: it was restarted, and no call of its disk has failed since.
-    pub(crate) up: bool,
-    /// Whether it was ever up. Until then its log has nothing of its queues.
-    pub(crate) started: bool,
+    pub up: bool,
+    /// Whether it is known that its log was given nothing: its disk failed as the node was opened, and it wasn't up
+    /// since.
+    pub empty: bool,
     /// The queues of which it has a member, in the order of their places.
-    pub(crate) queues: Vec<QueueId>,
+    pub queues: Vec<QueueId>,
     /// Its log, or its disk alone. None only once a yard has refused a crash of it, which ends the run.
-    pub(crate) log: Option<NodeLog<D>>,
+    pub log: Option<NodeLog<D>>,
 }

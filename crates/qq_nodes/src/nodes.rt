@@ -25,18 +25,18 @@ use std::alloc::Global;
 /// far promised, and the number that is told stands at its end in a queue or in a node's log (`GaveUp`).
 #[derive(Drop)]
 pub struct Nodes<D: NodeDisk> {
-    // By their numbers, from 1 on.
-    pub(crate) queues: Vec<ClusterQueue>,
-    // By their numbers, from 1 on.
-    pub(crate) nodes: Vec<Node<D>>,
+    /// By their numbers, from 1 on.
+    pub queues: Vec<ClusterQueue>,
+    /// By their numbers, from 1 on.
+    pub nodes: Vec<Node<D>>,
     // How the clients' sessions stand, for all queues alike.
     pub(crate) sessions: Sessions,
     // The indexes of the queues that may have something to do.
     pub(crate) active: Active,
     // Whether a pump follows each line of a client.
     pub(crate) auto: bool,
-    // How many bytes make a log file full.
-    pub(crate) log_bytes: u64,
+    /// How many bytes make a log file full.
+    pub log_bytes: u64,
 }
 
 // A node's number between two words.
@@ -72,8 +72,8 @@ impl<D: NodeDisk> Nodes<D> {
         self.nodes[node.0 as usize - 1].up
     }
 
-    // A node's id by its index.
-    pub(crate) fn node_id(&self, at: usize) -> NodeId
+    /// A node's id by its index.
+    pub fn node_id(&self, at: usize) -> NodeId
         requires { at < length self.now.nodes.items }
         ensures { (setup : Setup) (c : Cluster) → Stands D.tells D.past setup self.now c →
             result.0 ≡ at + 1 }

@@ -19,8 +19,8 @@ use qq_node_log::SyncOutcome;
 use std::alloc::Global;
 
 impl<D: NodeDisk> Nodes<D> {
-    // A call of a node's disk has failed.
-    pub(crate) fn say_stopped(&self, node: NodeId, text: &mut Vec<u8>) -> Result<(), Memory>
+    /// A call of a node's disk has failed.
+    pub fn say_stopped(&self, node: NodeId, text: &mut Vec<u8>) -> Result<(), Memory>
         ensures ok { OnOk result (text.new.items
             ≡ text.old.items ++ (codes "node " ++ decimal node.0 ++ codes " stopped\n")) }
         ensures want { IsOkUnless result Memory.Want }

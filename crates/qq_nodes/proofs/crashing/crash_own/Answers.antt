@@ -1,5 +1,5 @@
 use Rattle.std.proofs.Common.{refl}
-use Rattle.qq_nodes.proofs.Recovering.{crashed}
+use Rattle.qq_nodes.proofs.Crashed.{crashed}
 use Rattle.qq_nodes.proofs.crashing.crash_own.Goals as goal
 
 pub returns-in-Ok-clause-ok : goal.returns-in-Ok-clause-ok

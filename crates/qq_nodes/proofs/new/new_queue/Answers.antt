@@ -8,4 +8,6 @@ returns-clause-ok c =
     queue-made row c.args.first c.in_ok-args.args c.in_ok-args.name c.as_slice.result.now c.in_ok-queue.queue
     (of-ok (λ x. x ≡ row.args) c.copy.result c.in_ok-args.args c.in_ok-args.ensures.first c.copy.ensures.ok)
     (of-ok (λ x. x ≡ row.name) c.copy-2.result c.in_ok-args.name c.in_ok-args.ensures.second c.copy-2.ensures.ok)
-    c.as_slice.ensures c.in_ok-queue.ensures.sound c.in_ok-queue.ensures.ok c.in_ok-queue.ensures.label
+    c.as_slice.ensures (c.events_reach_groups.ensures.first row.args.queue row.members c.requires.distinct)
+    c.in_ok-queue.ensures.sound c.in_ok-queue.ensures.ok c.in_ok-queue.ensures.label
+    c.in_ok-queue.ensures.nodes c.in_ok-queue.ensures.down c.in_ok-queue.ensures.begins

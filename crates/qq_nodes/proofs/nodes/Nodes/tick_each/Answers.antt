@@ -3,7 +3,7 @@ use Rattle.qq_cluster.specs.Cluster.{Setup}
 use Rattle.qq_cluster.specs.Rules.{IsFirstTick}
 use Rattle.qq_nodes.specs.Nodes.{places_in}
 use Rattle.qq_nodes.proofs.LineRules.{places-end, places-gave_up, places-more}
-use Rattle.qq_nodes.proofs.Opened.{total-first_tick}
+use Rattle.qq_nodes.proofs.Ticked.{total-first_tick}
 use Rattle.qq_nodes.proofs.Pumping.{many-after}
 use Rattle.qq_nodes.proofs.Stands.{can-after, each-start}
 use Rattle.qq_nodes.proofs.nodes.Nodes.tick_each.Goals as goal

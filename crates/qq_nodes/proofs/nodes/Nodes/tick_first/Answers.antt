@@ -1,7 +1,7 @@
 use Rattle.std.proofs.Common.{◌∙◌, ap, sym}
 use Rattle.std.specs.Prelude.{slice_get}
 use Rattle.qq_nodes.proofs.Items.{item-here}
-use Rattle.qq_nodes.proofs.Opened.{ticks, ticks-gave_up, ticks-none}
+use Rattle.qq_nodes.proofs.Ticked.{ticks, ticks-gave_up, ticks-none}
 use Rattle.qq_nodes.proofs.nodes.Nodes.tick_first.Goals as goal
 
 pub returns-in_default-clause-ok : goal.returns-in_default-clause-ok

@@ -1,7 +1,0 @@
-use Rattle.qq_nodes.proofs.TakingUp.{HasTakenUp}
-use Rattle.qq_nodes.proofs.taking.take_up_each.Given as goal
-
--- the first members have gone on
-abbrev pub invariant-lanes : goal.invariant-lanes
-invariant-lanes l =
-    HasTakenUp l.node.0 l.started l.ids l.fn.lanes.items l.fn.queues.items l.at l.lane-iterator.rest.items l.queues.items

@@ -1,0 +1,281 @@
+-- All nodes are opened: the logs that were read support an audit, or those of some queue support none.
+use Rattle.std.proofs.Common.{◌≡◌, ◌⊎◌, ◌<◌, ◌≤◌, ◌+◌, ◌-◌, ◌^◌, ℕ, zero, suc, Bool, true, false, List, [], ◌∷◌, ◌++◌, Option, Some, None, length, refl, sym, ap, ◌∙◌, subst, inl, inr, arith, append-nil, append_assoc}
+use Rattle.std.specs.Prelude.{All, Contains, get_or, is_some, slice_get}
+use Rattle.std.specs.List.{range_with_len}
+use Rattle.std.proofs.lemmas.Bool.{false≢true}
+use Rattle.qq_base.specs.Causes.{Rose}
+use Rattle.qq_base.specs.declared.ids.NodeId.{NodeId}
+use Rattle.qq_base.specs.declared.ids.QueueId.{QueueId}
+use Rattle.qq_base.specs.declared.memory.Memory.{Memory}
+use Rattle.qq_base.specs.declared.memory.Memory.TheVariants.{Spent, Want}
+use Rattle.qq_disk.specs.Disk.{Disk}
+use Rattle.qq_raft_model.specs.Group.{new_group}
+use Rattle.qq_raft_model.specs.Promises.{AreDistinct}
+use Rattle.qq_raft_protocol.specs.Facts.{In}
+use Rattle.qq_setup.specs.declared.queue_row.QueueRow.{QueueRow}
+use Rattle.qq_wal_chain.specs.Lanes.{Lanes}
+use Rattle.qq_cluster.specs.Cluster.{Cluster, ClusterEvent, Setup, cluster_after, new_cluster}
+use Rattle.qq_cluster.specs.ClusterLaws.{HasGroups}
+use Rattle.qq_cluster.specs.Laws.{IsBegun}
+use Rattle.qq_cluster.specs.Rules.{ForEach, IsOpening, IsRestart, Then}
+use Rattle.qq_cluster.specs.Texts.{text_of}
+use Rattle.qq_cluster_laws.specs.Linked.{IsReached}
+use Rattle.qq_cluster_laws.specs.Serves.{GivesUp, Seen, Serves, fails_at}
+use Rattle.qq_cluster_laws.proofs.Serves.{gives_up-behind, serves-both}
+use Rattle.qq_cluster_queue.specs.declared.cluster_queue.ClusterQueue.{ClusterQueue}
+use Rattle.qq_nodes.specs.Nodes.{Begins, CanServe, EndsAt, GaveUp, Served, Stands, seen}
+use Rattle.qq_nodes.specs.Setting.{AreNew, ids_on, is_among}
+use Rattle.qq_nodes.specs.declared.nodes.Nodes.{Nodes as Held}
+use Rattle.qq_nodes.proofs.Stands.{serves-from, serves-means}
+use Rattle.qq_opening.specs.Opened.{AreOpened, Agrees, IsOpenedQueue, OpenedServes, OpenedTo, RestartedTo, WasRead}
+use Rattle.qq_opening.specs.Opening.{AreLogsOf, AreReadLogs, HaveFailed, HoldLogs, IsOpenCaused, IsReadAs, IsSetupWith, Logs, MayNotOpen, OpensOver, OpensTo, SpentAfter, all_of}
+use Rattle.qq_opening.specs.Restarting.{IsOpenedTo, RestartEachTo}
+use Rattle.qq_opening.specs.declared.restarting.RestartFault.TheVariants as faults_of
+use Rattle.qq_opening.proofs.Agreed.{all-begun}
+use Rattle.qq_opening.proofs.Opened.{Opens, opens-to}
+use Rattle.qq_opening.proofs.OpenedNone.{of-ops, row-in}
+use Rattle.qq_opening.proofs.ReadLogs.{logs-come, logs_read, read-logs}
+use Rattle.qq_opening.proofs.RestartRules.{fails-first, restarted-whole}
+use Rattle.qq_opening.proofs.SomeSetup.{is-setup_with, setup_with}
+use Rattle.qq_opening.proofs.Untouched.{range-below}
+
+-- a count that rose, and didn't fall later
+rose-still : (a m b : ℕ) → a ≤ m → Rose a m → m ≤ b → Rose a b
+rose-still a m b before (inl less) more = inl (omega (arith, less, more))
+rose-still a m b before (inr end) more = by (cases_less m b more)
+  where
+    cases_less : (x y : ℕ) → x ≤ y → (x ≡ y) ⊎ (x < y)
+    cases_less zero zero le = inl refl
+    cases_less zero (suc y) le = inr (omega arith)
+    cases_less (suc x) zero le = absurd (omega (arith, le))
+    cases_less (suc x) (suc y) le = elim (cases_less x y (omega (arith, le))) [
+      | inl same ↦ inl (ap suc same)
+      | inr less ↦ inr (omega (arith, less))
+    ]
+
+    by : (m ≡ b) ⊎ (m < b) → Rose a b
+    by (inl same) = inr (sym same ∙ end)
+    by (inr less) = inl (omega (arith, before, less))
+
+module _ {D : Type 0} {tells : D → Bool} {past : D → List Disk} {faults : D → ℕ} (rows : List QueueRow) (old : Held D)
+    (new : AreNew tells past rows old) (some : Bool) (held : Held D) (before middle : List ℕ)
+    (to : OpenedTo tells past faults rows (length old.nodes.items) some old held before middle) where
+  abbrev n : ℕ
+  n = length old.nodes.items
+
+  abbrev o : AreOpened tells past faults rows n old held
+  o = to.opened
+
+  abbrev pub read_logs : Logs
+  read_logs = logs_read rows o.lanes
+
+  own : AreLogsOf rows read_logs
+  own = read-logs rows o.lanes
+
+  pub are : AreReadLogs rows (range_with_len 1 n) o.lanes read_logs
+  are = logs-come rows (range_with_len 1 n) o.lanes (of-ops rows old n held o) (row-in rows)
+
+  -- they are what was read, also of the disks as they are later
+  pub read-later : (final : Held D)
+      → ((k : ℕ) → (seen tells past faults held k).faults ≤ (seen tells past faults final k).faults) → (k : ℕ)
+      → In k (range_with_len 1 n) → IsReadAs tells past faults rows old final k (o.lanes k)
+  read-later final rises k here =
+      by (o.lanes k) (o.disks k (let low = (range-below 1 n k here).0 in omega (arith, low))
+      (let high = (range-below 1 n k here).1 in omega (arith, high)))
+    where
+      by : (l : Option Lanes)
+          → WasRead (ids_on rows k) (seen tells past faults old k) (seen tells past faults held k) l
+          → IsReadAs tells past faults rows old final k l
+      by None was =
+          rose-still (seen tells past faults old k).faults (seen tells past faults held k).faults
+          (seen tells past faults final k).faults was.rises was.read (rises k)
+      by (Some lanes) was = was.read.0
+
+  abbrev pub hold_all : (final : Held D)
+      → ((k : ℕ) → (seen tells past faults held k).faults ≤ (seen tells past faults final k).faults)
+      → HoldLogs tells past faults rows (range_with_len 1 n) old final
+  hold_all final rises = record {
+    read = record { lanes = o.lanes; each = read-later final rises };
+    logs = read_logs;
+    own = own;
+    are = are;
+  }
+
+  -- ---- all queues agree
+
+  module _ (agree : All Agrees held.queues.items)
+      (may : (queue : QueueId) (nodes : List NodeId) → AreDistinct nodes → IsBegun (new_group queue nodes)) where
+    distinct : (i : ℕ) (row : QueueRow) → slice_get rows i ≡ Some row → AreDistinct row.members
+    distinct i row here =
+        subst AreDistinct (new.set.1.each i row here).down.nodes_is (new.set.1.set_up.groups (i + 1)).distinct
+
+    pub groups-of : (setup : Setup) → IsSetupWith setup rows n read_logs → HasGroups setup
+    groups-of setup sw =
+        all-begun rows n o.lanes read_logs own are held.queues.items (o.queue_count ∙ new.queues.count) agree o.queues
+        distinct setup sw
+
+    pub serves-of : (setup : Setup) → IsSetupWith setup rows n read_logs
+        → OpenedServes tells past faults setup n o.lanes some old held before middle
+    serves-of setup sw = to.serves read_logs setup sw (groups-of setup sw) own are
+
+    abbrev own_setup : Setup
+    own_setup = setup_with new.set.0 rows read_logs
+
+    own-with : IsSetupWith own_setup rows n read_logs
+    own-with = is-setup_with new.set.0 rows n new.set.1 read_logs own may
+
+    -- they stand for a cluster that something has led to
+    pub can-open : CanServe tells past held
+    can-open =
+        let s = serves-of own_setup own-with in
+        (own_setup, cluster_after (new_cluster own_setup) s.serves.did.events, (s.serves.did.events, refl),
+        s.serves.did.stands)
+
+    -- ---- and that is followed by the rest
+
+    module _ (setup : Setup) (sw : IsSetupWith setup rows n read_logs) where
+      abbrev s : Serves setup (new_cluster setup) (RestartedTo n some setup (new_cluster setup))
+          (Stands tells past setup held) (seen tells past faults old) (seen tells past faults held) before middle
+      s = (serves-of setup sw).serves
+
+      abbrev c : Cluster
+      c = cluster_after (new_cluster setup) s.did.events
+
+      r : IsReached setup c
+      r = (s.did.events, refl)
+
+      restarts : RestartEachTo some setup (new_cluster setup) s.did.events
+      restarts =
+          restarted-whole n some n setup (new_cluster setup) s.did.events sw.nodes (omega arith) s.did.means
+
+      plain : ForEach setup.nodes (IsRestart setup) (new_cluster setup) s.did.events
+      plain = by some restarts
+        where
+          by : (b : Bool) → RestartEachTo b setup (new_cluster setup) s.did.events
+              → ForEach setup.nodes (IsRestart setup) (new_cluster setup) s.did.events
+          by true rule = rule.0
+          by false rule = rule.0
+
+      failed-later : (others : List ClusterEvent) → HaveFailed (range_with_len 1 n) o.lanes (s.did.events ++ others)
+      failed-later others k here none =
+          fails-first k s.did.events others ((serves-of setup sw).failed k here none)
+
+      -- it was served
+      module _ (final : Held D) (later : List ℕ) (served : Served tells past faults Opens held final middle later) where
+        t : Serves setup c (Opens setup c) (Stands tells past setup final) (seen tells past faults held)
+            (seen tells past faults final) middle later
+        t = served.serves setup c r s.did.stands
+
+        abbrev Both : List ClusterEvent → Type 0
+        Both all = IsOpenedTo some setup (new_cluster setup) all × HaveFailed (range_with_len 1 n) o.lanes all
+
+        whole : Serves setup (new_cluster setup) Both (Stands tells past setup final) (seen tells past faults old)
+            (seen tells past faults final) before later
+        whole =
+            serves-both setup (new_cluster setup) (RestartedTo n some setup (new_cluster setup)) (Opens setup c) Both
+            (Stands tells past setup held) (Stands tells past setup final) (seen tells past faults old)
+            (seen tells past faults held) (seen tells past faults final) before middle later s t (
+              opens-to some setup (new_cluster setup) s.did.events t.did.events restarts t.did.means,
+              failed-later t.did.events,
+            )
+
+        opens-setup : OpensTo tells past faults setup o.lanes some old final before later
+        opens-setup = record {
+          groups = groups-of setup sw;
+          serves = serves-means whole whole.did.means.0;
+          failed = whole.did.means.1;
+        }
+
+        pub rises-served : (k : ℕ)
+            → (seen tells past faults held k).faults ≤ (seen tells past faults final k).faults
+        rises-served = t.rises
+
+      -- or given up
+      module _ (final : Held D) (memory : Memory) (gave : GaveUp tells past faults Opens held final memory) where
+        up : GivesUp setup c (seen tells past faults held) (seen tells past faults final)
+        up = gave.gives_up setup c r s.did.stands
+
+        gives-up : GivesUp setup (new_cluster setup) (seen tells past faults old) (seen tells past faults final)
+        gives-up =
+            gives_up-behind setup (new_cluster setup) (RestartedTo n some setup (new_cluster setup))
+            (Stands tells past setup held) (seen tells past faults old) (seen tells past faults held)
+            (seen tells past faults final) before middle s up
+
+        module _ (number : ℕ) (is : memory ≡ Spent number) where
+          e : EndsAt tells past faults setup (Opens setup) held c number
+          e = gave.spent number is setup c r s.did.stands
+
+          abbrev early : List ClusterEvent
+          early = e.serves.did.events
+
+          abbrev rest : List ClusterEvent
+          rest = e.serves.did.means.rest
+
+          abbrev said : List ℕ
+          said = middle ++ text_of setup c early
+
+          abbrev Spending : List ClusterEvent → Type 0
+          Spending all =
+              Begins (IsOpening setup) (new_cluster setup) all × HaveFailed (range_with_len 1 n) o.lanes all
+
+          spending : Serves setup (new_cluster setup) Spending (Stands tells past setup e.mid)
+              (seen tells past faults old) (seen tells past faults e.mid) before said
+          spending =
+              serves-both setup (new_cluster setup) (RestartedTo n some setup (new_cluster setup))
+              (Begins (Opens setup) c) Spending (Stands tells past setup held) (Stands tells past setup e.mid)
+              (seen tells past faults old) (seen tells past faults held) (seen tells past faults e.mid) before middle said s
+              (serves-from middle e.serves) (
+                record {
+                  rest = rest;
+                  allowed = record {
+                    early = s.did.events;
+                    late = early ++ rest;
+                    is = append_assoc s.did.events early rest;
+                    first = plain;
+                    second = e.serves.did.means.allowed;
+                  };
+                },
+                failed-later early,
+              )
+
+          ends-setup : (x : EndsAt tells past faults setup (IsOpening setup) old (new_cluster setup) number)
+              × HaveFailed (range_with_len 1 n) o.lanes x.serves.did.events
+          ends-setup = (
+            record {
+              mid = e.mid;
+              before = before;
+              said = said;
+              serves = serves-means spending spending.did.means.0;
+              at = e.at;
+              end = e.end;
+            },
+            spending.did.means.1,
+          )
+
+    -- ---- the calls
+
+    pub opens-over : (final : Held D) (later : List ℕ) → Served tells past faults Opens held final middle later
+        → OpensOver tells past faults rows some old final before later
+    opens-over final later served = record {
+      hold = hold_all final (rises-served own_setup own-with final later served);
+      opens = λ setup sw. opens-setup setup sw final later served;
+    }
+
+    pub opens-gave_up : (final : Held D) (memory : Memory) → GaveUp tells past faults Opens held final memory
+        → MayNotOpen tells past faults rows old final (faults_of.Memory memory)
+    opens-gave_up final memory gave = record {
+      cause = by memory refl;
+      gives_up = inr (hold_all final rises, λ setup sw. gives-up setup sw final memory gave);
+      never = λ logs setup sw groups linked none. tt;
+    }
+      where
+        rises : (k : ℕ) → (seen tells past faults held k).faults ≤ (seen tells past faults final k).faults
+        rises = (up own_setup own-with final memory gave).rises
+
+        by : (m : Memory) → memory ≡ m → IsOpenCaused tells past faults rows old final (faults_of.Memory m)
+        by Want is = tt
+        by (Spent number) is = inr (record {
+          hold = hold_all final rises;
+          ends = λ setup sw. (let own' = ends-setup setup sw final memory gave number is in
+              (groups-of setup sw, own'.0, own'.1));
+        })

@@ -1,0 +1,106 @@
+-- Nodes are opened, one after the other.
+use Rattle.std.proofs.Common.{◌≡◌, ◌<◌, ◌+◌, ◌-◌, ℕ, Bool, true, false, ◌||◌, List, [], ◌++◌, Option, Some, None, length, refl, sym, ap, ◌∙◌, subst, inl, inr, arith}
+use Rattle.std.specs.Prelude.{slice_get}
+use Rattle.std.specs.List.{range_with_len}
+use Rattle.std.proofs.lemmas.Bool.{false≢true, true≢false}
+use Rattle.qq_base.proofs.Puts.{put-other}
+use Rattle.qq_base.specs.Fronts.{put}
+use Rattle.qq_base.specs.declared.ids.NodeId.{NodeId}
+use Rattle.qq_disk.specs.Disk.{Disk}
+use Rattle.qq_recover.specs.declared.fault.RecoverFault.TheVariants as recover_faults
+use Rattle.qq_setup.specs.declared.queue_row.QueueRow.{QueueRow}
+use Rattle.qq_wal_chain.specs.Lanes.{Lanes}
+use Rattle.qq_cluster.specs.Cluster.{Setup, new_cluster}
+use Rattle.qq_cluster_laws.proofs.Serves.{serves-nothing}
+use Rattle.qq_nodes.specs.Nodes.{Stands, seen}
+use Rattle.qq_nodes.specs.Setting.{AreNew}
+use Rattle.qq_nodes.specs.declared.node.Node.{Node}
+use Rattle.qq_nodes.specs.declared.nodes.Nodes.{Nodes as Held}
+use Rattle.qq_nodes.proofs.Begun.{new-stands}
+use Rattle.qq_nodes.proofs.OwnStands.{set-here}
+use Rattle.qq_opening.specs.Opened.{IsMarked, OpenedServes, OpenedTo, RestartedTo}
+use Rattle.qq_opening.specs.Opening.{AreReadLogs, IsSetupWith, Logs, state_read}
+use Rattle.qq_opening.specs.Taking.{FindsNone, MayStep, Steps, StepsUp}
+use Rattle.qq_opening.proofs.NewNodes.{next-may, next-still, opened-none}
+use Rattle.qq_opening.proofs.OpenedNone.{setup-over}
+use Rattle.qq_opening.proofs.OpenedRules.{serves-down, serves-up}
+use Rattle.qq_opening.proofs.OpenedStep.{left-nodes, opened-empty, opened-up, own_lanes}
+use Rattle.qq_opening.proofs.Untouched.{in-first, range-below}
+
+module _ {D : Type 0} {tells : D → Bool} {past : D → List Disk} {faults : D → ℕ} (rows : List QueueRow) (old : Held D)
+    (new : AreNew tells past rows old) where
+  pub loop-none : (text : List ℕ) → OpenedTo tells past faults rows 0 false old old text text
+  loop-none text = record {
+    opened = opened-none rows old new;
+    serves = λ logs setup sw groups own are. record {
+      serves = serves-nothing setup (new_cluster setup) (RestartedTo 0 false setup (new_cluster setup))
+          (Stands tells past setup old) (seen tells past faults old) text (refl, λ k here. absurd here)
+          (new-stands rows old new setup (setup-over setup rows (length old.nodes.items) logs sw groups));
+      failed = λ k here none. absurd here;
+    };
+  }
+
+  module _ (at : ℕ) (some : Bool) (held : Held D) (before middle : List ℕ)
+      (to : OpenedTo tells past faults rows at some old held before middle) (node : NodeId) (is : node.0 ≡ at + 1)
+      (lt : at < length old.nodes.items) where
+    pub loop-may : MayStep tells past node held
+    loop-may = next-may rows old new at held to.opened node is lt
+
+    index : node.0 - 1 ≡ at
+    index = omega (arith, is)
+
+    -- what was read of all of them was read of those before
+    earlier : (x : Option Lanes) (logs : Logs)
+        → AreReadLogs rows (range_with_len 1 (at + 1)) (put (at + 1) x to.opened.lanes) logs
+        → AreReadLogs rows (range_with_len 1 at) to.opened.lanes logs
+    earlier x logs are k i row here there member =
+        let bounds = range-below 1 at k here in
+        let low = bounds.0 in
+        let high = bounds.1 in
+        are k i row (in-first (at + 1) k (omega (arith, low)) (omega (arith, high))) there member
+        ∙ ap (λ (l : Option Lanes). Some (state_read l row.args.queue))
+        (put-other (at + 1) x to.opened.lanes k (λ e. absurd (omega (arith, e, high))))
+
+    went-up : (left : Held D) (step : StepsUp tells past faults node true held left)
+        → slice_get left.nodes.items at ≡ Some (record step.found.turn.new { up = true; empty = false })
+    went-up left step =
+        ap (slice_get left.nodes.items) (sym index)
+        ∙ ap (λ (l : List (Node D)). slice_get l (node.0 - 1)) (left-nodes rows old new at held to.opened node is lt left step)
+        ∙ set-here tells past faults node.0 held.nodes.items step.found.turn.old
+        (record step.found.turn.new { up = true; empty = false }) step.found.turn.here
+
+    stayed-down : (left : Held D) (none : FindsNone tells past faults node held left recover_faults.Disk)
+        → (slice_get left.nodes.items at ≡ Some none.turn.new) × (none.turn.new.up ≡ false)
+    stayed-down left none = (
+      ap (slice_get left.nodes.items) (sym index)
+          ∙ ap (λ (l : List (Node D)). slice_get l (node.0 - 1)) none.turn.is
+          ∙ set-here tells past faults node.0 held.nodes.items none.turn.old none.turn.new none.turn.here,
+      ap (λ (y : Node D). y.up) none.turn.turns.is
+          ∙ (next-still rows old new at held to.opened node is lt none.turn.old none.turn.here).is.up_is,
+    )
+
+    pub loop-more : (left last : Held D) (up more : Bool) (later : List ℕ)
+        → Steps tells past faults node true held left middle later → IsMarked at up left last → more ≡ (some || up)
+        → OpenedTo tells past faults rows (at + 1) more old last before later
+    loop-more left last true more later (inl (step, says)) (same, up) more_is =
+        subst (λ (h : Held D). OpenedTo tells past faults rows (at + 1) more old h before later) (sym same)
+        (subst (OpenedTo tells past faults rows (at + 1) more old left before) (sym says) (record {
+          opened = opened-up rows old new at held to.opened node is lt left step;
+          serves = λ logs setup sw groups own are.
+              serves-up rows old new at held to.opened node is lt logs setup sw groups some before middle
+              (to.serves logs setup sw groups own
+              (earlier (Some (own_lanes rows old new at held to.opened node is lt step.found)) logs are))
+              left step are more more_is;
+        }))
+    loop-more left last false more later (inl (step, says)) (marked, same, down) more_is =
+        absurd (true≢false (down (record step.found.turn.new { up = true; empty = false }) (went-up left step)))
+    loop-more left last true more later (inr (none, says)) (same, up) more_is =
+        let there = stayed-down left none in
+        absurd (false≢true (sym there.1 ∙ up none.turn.new there.0))
+    loop-more left last false more later (inr (none, says)) (marked, same, down) more_is = record {
+      opened = opened-empty rows old new at held to.opened node is lt left none last marked same;
+      serves = λ logs setup sw groups own are.
+          serves-down rows old new at held to.opened node is lt logs setup sw groups some before middle
+          (to.serves logs setup sw groups own (earlier None logs are)) left none last marked same own are later says
+          more more_is;
+    }

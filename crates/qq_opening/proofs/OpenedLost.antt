@@ -1,0 +1,363 @@
+-- A node isn't opened, after others were.
+use Rattle.std.proofs.Common.{◌≡◌, ◌≢◌, ◌⊎◌, ◌<◌, ◌≤◌, ◌+◌, ◌-◌, ℕ, zero, suc, Bool, true, false, List, [], ◌∷◌, ◌++◌, Option, Some, None, length, refl, sym, ap, ◌∙◌, subst, inl, inr, arith, append_assoc}
+use Rattle.std.specs.Global.{Vec}
+use Rattle.std.specs.Prelude.{Contains, Err, IsTrue, Ok, slice_get}
+use Rattle.std.specs.List.{range_with_len}
+use Rattle.std.proofs.lemmas.Bool.{cases_eq}
+use Rattle.qq_base.proofs.Puts.{put-other, put-same}
+use Rattle.qq_base.specs.Causes.{Rose}
+use Rattle.qq_base.specs.Fronts.{put}
+use Rattle.qq_base.specs.declared.ids.NodeId.{NodeId}
+use Rattle.qq_base.specs.declared.ids.QueueId.{QueueId}
+use Rattle.qq_base.specs.declared.memory.Memory.{Memory}
+use Rattle.qq_base.specs.declared.memory.Memory.TheVariants.{Spent, Want}
+use Rattle.qq_disk.proofs.Moments.{adds-now}
+use Rattle.qq_disk.specs.Disk.{Disk, now}
+use Rattle.qq_log.specs.Stable.{Stable, stable}
+use Rattle.qq_log.specs.declared.lane.Lane.{Lane}
+use Rattle.qq_lots.specs.Kept.{KeepsPromised}
+use Rattle.qq_lots.specs.Left.{state_in}
+use Rattle.qq_lots.specs.Lots.{Lot, Parts, ids_of}
+use Rattle.qq_node_log.specs.Log.{disk_in}
+use Rattle.qq_node_log.specs.declared.node_log.NodeLog.{NodeLog}
+use Rattle.qq_node_log.specs.declared.node_log.NodeLog.TheVariants.{Open, Closed}
+use Rattle.qq_raft_model.specs.Group.{has_node}
+use Rattle.qq_raft_protocol.specs.Facts.{In}
+use Rattle.qq_recover.specs.Answer.{Fails as ReadsAs}
+use Rattle.qq_recover.specs.Reading.{lanes_read, shown}
+use Rattle.qq_recover.specs.Recovered.{IsNoRefusal, IsRecoverCaused, IsSpentOn}
+use Rattle.qq_recover.specs.declared.fault.RecoverFault.{RecoverFault}
+use Rattle.qq_recover.specs.declared.fault.RecoverFault.TheVariants as recover_faults
+use Rattle.qq_setup.specs.declared.queue_row.QueueRow.{QueueRow}
+use Rattle.qq_wal_chain.specs.Lanes.{Lanes}
+use Rattle.qq_cluster.specs.Cluster.{Setup, members, new_cluster}
+use Rattle.qq_cluster.specs.ClusterLaws.{HasGroups}
+use Rattle.qq_cluster.specs.Laws.{IsBegun}
+use Rattle.qq_cluster.specs.Rules.{IsOpening}
+use Rattle.qq_cluster_laws.specs.Linked.{IsLinked, lot_of, parts_at}
+use Rattle.qq_cluster_laws.specs.Serves.{GivesUp, Seen, seen_of}
+use Rattle.qq_nodes.specs.Ends.{OnDisk}
+use Rattle.qq_nodes.specs.Nodes.{EndsAt, IsNodeAt, seen}
+use Rattle.qq_nodes.specs.Setting.{AreNew, ids_on, is_among}
+use Rattle.qq_nodes.specs.declared.node.Node.{Node}
+use Rattle.qq_nodes.specs.declared.nodes.Nodes.{Nodes as Held}
+use Rattle.qq_nodes.proofs.OwnStands.{seen-others, seen-own, set-here}
+use Rattle.qq_opening.specs.Opened.{AreOpened, IsOfOpsState, WasRead}
+use Rattle.qq_opening.specs.Opening.{AreReadLogs, GivesUpOver, HasRead, HoldLogs, IsLostOver, IsOpenCaused, IsReadAs, IsRefusedOver, IsSetupWith, Logs, MayNotOpen, StopsBefore, all_of, state_read, told_of}
+use Rattle.qq_opening.specs.Restarting.{AreLinked, IsOfMemory}
+use Rattle.qq_opening.specs.Taking.{FailsToRecover, FindsLanes, FindsNone, IsFaultOf, IsLostAmong, IsOfOps, IsTakeEachCaused, MayNotStep, Recovers, StaysDown, StepsBack, lane_state, pairs}
+use Rattle.qq_opening.specs.declared.restarting.RestartFault.{RestartFault}
+use Rattle.qq_opening.specs.declared.restarting.RestartFault.TheVariants as faults_of
+use Rattle.qq_opening.specs.declared.taking.Handed.TheVariants.{AsFound}
+use Rattle.qq_opening.proofs.FoundLanes.{HasLane, lane-op, pair-has}
+use Rattle.qq_opening.proofs.LaneRead.{from-in, lane-from}
+use Rattle.qq_opening.proofs.LostQueues.{contains-node, in-middle}
+use Rattle.qq_opening.proofs.NewNodes.{next-still, next-was, own-id, own-row}
+use Rattle.qq_opening.proofs.OpenedDisks.{IsReadOf, IsStateOf, Keeps, begun-state, keeps-give_up, linked-read, same-keeps, was-keeps, was-read_of}
+use Rattle.qq_opening.proofs.OpenedMore.{one-more, seen-same}
+use Rattle.qq_opening.proofs.OpenedStep.{own_lanes, seen-x, zip}
+use Rattle.qq_opening.proofs.ReadLogs.{logs-come, logs_read, read-logs}
+use Rattle.qq_opening.proofs.RowsOf.{is-among, to-passing}
+use Rattle.qq_opening.proofs.Untouched.{in-first, range-below, range-more, stops-before}
+
+-- a range, up to one of its numbers
+pub range-split : (a at n : ℕ) → at < n
+    → range_with_len a n ≡ range_with_len a at ++ (a + at) ∷ range_with_len (a + at + 1) (n - at - 1)
+range-split a at zero lt = absurd (omega (arith, lt))
+range-split a zero (suc n) lt =
+    λ i. (let e : a ≡ a + 0 = omega arith in e i) ∷ range_with_len ((let e : a + 1 ≡ a + 0 + 1 = omega arith in e) i)
+    ((let e : n ≡ suc n - 0 - 1 = omega arith in e) i)
+range-split a (suc at) (suc n) lt =
+    ap (λ (l : List ℕ). a ∷ l)
+    (range-split (a + 1) at n (omega (arith, lt))
+    ∙ (λ i. range_with_len (a + 1) at ++ (let e : a + 1 + at ≡ a + suc at = omega arith in e) i
+    ∷ range_with_len ((let e : a + 1 + at + 1 ≡ a + suc at + 1 = omega arith in e) i)
+    ((let e : n - at - 1 ≡ suc n - suc at - 1 = omega arith in e) i)))
+
+-- at most another number, or more
+pub cases_le : (k n : ℕ) → (k ≤ n) ⊎ (n < k)
+cases_le zero n = inl (omega arith)
+cases_le (suc k) zero = inr (omega arith)
+cases_le (suc k) (suc n) = elim (cases_le k n) [
+  | inl le ↦ inl (omega (arith, le))
+  | inr lt ↦ inr (omega (arith, lt))
+]
+
+append-first : (xs : List ℕ) (x : ℕ) (ys : List ℕ) → (xs ++ x ∷ []) ++ ys ≡ xs ++ x ∷ ys
+append-first xs x ys = append_assoc xs (x ∷ []) ys
+
+-- as it is told
+pub read-as : {D : Type 0} (tells : D → Bool) (past : D → List Disk) (faults : D → ℕ) (rows : List QueueRow)
+    (old left : Held D) (k : ℕ) (lanes : Option Lanes)
+    → IsReadOf (ids_on rows k) (seen tells past faults old k) (seen tells past faults left k) lanes
+    → IsReadAs tells past faults rows old left k lanes
+read-as tells past faults rows old left k None read = read
+read-as tells past faults rows old left k (Some lanes) read = read.0
+
+module _ {D : Type 0} {tells : D → Bool} {past : D → List Disk} {faults : D → ℕ} (rows : List QueueRow) (old : Held D)
+    (new : AreNew tells past rows old) (at : ℕ) (held : Held D) (o : AreOpened tells past faults rows at old held)
+    (node : NodeId) (is : node.0 ≡ at + 1) (lt : at < length old.nodes.items) where
+  low : 0 < node.0
+  low = omega (arith, is)
+
+  index : node.0 - 1 ≡ at
+  index = omega (arith, is)
+
+  abbrev a : ℕ → Seen
+  a = seen tells past faults old
+
+  seen-first : seen tells past faults held node.0 ≡ a node.0
+  seen-first =
+      seen-same tells past faults old held node.0 low
+      (ap (slice_get held.nodes.items) index ∙ o.left at (omega arith) ∙ ap (slice_get old.nodes.items) (sym index))
+
+  -- the nodes so far, and this one
+  module _ (left : Held D) (others : (j : ℕ) → (j ≢ node.0) → seen tells past faults left j ≡ seen tells past faults held j)
+      (own : Keeps (ids_on rows node.0) (seen tells past faults held node.0) (seen tells past faults left node.0)) where
+    abbrev b : ℕ → Seen
+    b = seen tells past faults left
+
+    untouched : (k : ℕ) → at + 1 < k → b k ≡ a k
+    untouched k above =
+        others k (λ e. absurd (omega (arith, e, above, is)))
+        ∙ seen-same tells past faults old held k (omega (arith, above)) (o.left (k - 1) (omega (arith, above)))
+
+    pub all-keep : (k : ℕ) → Keeps (ids_on rows k) (a k) (b k)
+    all-keep zero = same-keeps (ids_on rows 0) (a 0) (b 0) refl
+    all-keep (suc j) = by (cases_le (suc j) at)
+      where
+        later : (suc j ≡ at + 1) ⊎ (suc j ≢ at + 1) → at < suc j → Keeps (ids_on rows (suc j)) (a (suc j)) (b (suc j))
+        later (inl same) above =
+            subst (λ (k : ℕ). Keeps (ids_on rows k) (a k) (b k)) (is ∙ sym same)
+            (subst (λ (s : Seen). Keeps (ids_on rows node.0) s (b node.0)) seen-first own)
+        later (inr other) above =
+            same-keeps (ids_on rows (suc j)) (a (suc j)) (b (suc j)) (untouched (suc j) (omega (arith, above, other)))
+
+        by : (suc j ≤ at) ⊎ (at < suc j) → Keeps (ids_on rows (suc j)) (a (suc j)) (b (suc j))
+        by (inl before) =
+            subst (λ (s : Seen). Keeps (ids_on rows (suc j)) (a (suc j)) s)
+            (sym (others (suc j) (λ e. absurd (omega (arith, e, before, is)))))
+            (was-keeps (ids_on rows (suc j)) (a (suc j)) (seen tells past faults held (suc j)) (o.lanes (suc j))
+            (o.disks (suc j) (omega arith) before))
+        by (inr above) = later (cases_eq (suc j) (at + 1)) above
+
+    -- those before it were read
+    pub before-read : (k : ℕ) → 0 < k → k ≤ at → IsReadOf (ids_on rows k) (a k) (b k) (o.lanes k)
+    before-read k some le =
+        subst (λ (s : Seen). IsReadOf (ids_on rows k) (a k) s (o.lanes k))
+        (sym (others k (λ e. absurd (omega (arith, e, le, is)))))
+        (was-read_of (ids_on rows k) (a k) (seen tells past faults held k) (o.lanes k) (o.disks k some le))
+
+    pub all-give_up : GivesUpOver tells past faults rows old left
+    all-give_up = inl (λ logs setup sw. keeps-give_up tells past faults rows old left logs setup sw all-keep)
+
+    in-nodes : (logs : Logs) (setup : Setup) → IsSetupWith setup rows (length old.nodes.items) logs → (k : ℕ) → 0 < k
+        → k ≤ at + 1 → In k setup.nodes
+    in-nodes logs setup sw k some le =
+        subst (In k) (sym sw.nodes) (in-first (length old.nodes.items) k some (omega (arith, le, lt)))
+
+    -- ---- of this one it is known what was read
+
+    module _ (lanes : Option Lanes) (read : IsReadOf (ids_on rows node.0) (seen tells past faults held node.0) (b node.0) lanes)
+        where
+      abbrev pub with_own : ℕ → Option Lanes
+      with_own = put (at + 1) lanes o.lanes
+
+      pub with-read : (k : ℕ) → 0 < k → k ≤ at + 1 → IsReadOf (ids_on rows k) (a k) (b k) (with_own k)
+      with-read k some le =
+          one-more (λ j. IsReadOf (ids_on rows j) (a j) (b j) (with_own j)) at k le
+          (λ before. subst (IsReadOf (ids_on rows k) (a k) (b k))
+          (sym (put-other (at + 1) lanes o.lanes k (λ e. absurd (omega (arith, e, before)))))
+          (before-read k some before))
+          (subst (IsReadOf (ids_on rows (at + 1)) (a (at + 1)) (b (at + 1))) (sym (put-same (at + 1) lanes o.lanes))
+          (subst (λ (j : ℕ). IsReadOf (ids_on rows j) (a j) (b j) lanes) is
+          (subst (λ (s : Seen). IsReadOf (ids_on rows node.0) s (b node.0) lanes) seen-first read)))
+
+      pub has-with : HasRead tells past faults rows (range_with_len 1 (at + 1)) old left
+      has-with = record {
+        lanes = with_own;
+        each = λ k here. (let within = range-below 1 (at + 1) k here in
+            let first = within.0 in let last = within.1 in
+            read-as tells past faults rows old left k (with_own k)
+            (with-read k (omega (arith, first)) (omega (arith, last))));
+      }
+
+      -- over disks that keep what the logs promised these are what was read
+      pub linked-with : (logs : Logs) (setup : Setup) → (sw : IsSetupWith setup rows (length old.nodes.items) logs)
+          → HasGroups setup → AreLinked tells past faults setup old (new_cluster setup) setup.nodes
+          → ((k : ℕ) → In k setup.nodes → Rose (a k).faults (b k).faults
+          → (place : ℕ) → In place setup.places → logs place k ≡ [])
+          → AreReadLogs rows (range_with_len 1 (at + 1)) with_own logs
+      linked-with logs setup sw groups linked none =
+          linked-read tells past faults rows old left logs setup sw groups linked none (at + 1) with_own
+          (λ k here. (let within = range-below 1 (at + 1) k here in
+          let first = within.0 in let last = within.1 in (
+            in-nodes logs setup sw k (omega (arith, first)) (omega (arith, last)),
+            with-read k (omega (arith, first)) (omega (arith, last)),
+          )))
+
+  -- ---- what was found of it is no log
+
+  module _ (left : Held D) (fault : RestartFault) (back : StepsBack tells past faults node true held left fault) where
+    abbrev finds : FindsLanes tells past faults node held
+    finds = back.found
+
+    abbrev x : Node D
+    x = finds.turn.old
+
+    abbrev rec : Recovers tells past faults held.log_bytes x finds.turn.new finds.lanes
+    rec = finds.turn.turns
+
+    abbrev found_lanes : Lanes
+    found_lanes = own_lanes rows old new at held o node is lt finds
+
+    abbrev ids : List QueueId
+    ids = ids_on rows node.0
+
+    x-ids : x.queues.items ≡ ids
+    x-ids = (next-still rows old new at held o node is lt x finds.turn.here).is.queues_are
+
+    nodes-are : left.nodes.items ≡ finds.nodes.items
+    nodes-are = ap (λ (v : Vec (Node D)). v.items) back.nodes_are
+
+    back-others : (j : ℕ) → (j ≢ node.0) → seen tells past faults left j ≡ seen tells past faults held j
+    back-others = seen-others tells past faults node.0 held left finds.turn.new low (nodes-are ∙ finds.turn.is)
+
+    seen-back : seen tells past faults left node.0 ≡ seen_of tells past faults rec.found.wal.disk
+    seen-back =
+        seen-own tells past faults left node.0 finds.turn.new (Open rec.found.wal) low
+        (ap (λ (l : List (Node D)). slice_get l (node.0 - 1)) (nodes-are ∙ finds.turn.is)
+        ∙ set-here tells past faults node.0 held.nodes.items x finds.turn.new finds.turn.here)
+        (ap (λ (y : Node D). y.log) rec.is)
+
+    as-seen : (P : Seen → Seen → Type 0)
+        → P (seen_of tells past faults (disk_in rec.own)) (seen_of tells past faults rec.found.wal.disk)
+        → P (seen tells past faults held node.0) (seen tells past faults left node.0)
+    as-seen P own =
+        subst (λ (s : Seen). P s (seen tells past faults left node.0)) (sym (seen-x rows old new at held o node is lt finds))
+        (subst (λ (s : Seen). P (seen_of tells past faults (disk_in rec.own)) s) (sym seen-back) own)
+
+    back-keeps : Keeps ids (seen tells past faults held node.0) (seen tells past faults left node.0)
+    back-keeps = as-seen (Keeps ids) (record {
+      told = rec.disk.told;
+      rises = rec.disk.later;
+      keeps = λ tell lot parts same promised.
+          (let s = rec.has.settles tell lot parts (x-ids ∙ same) promised in (
+            s.stays,
+            adds-now (KeepsPromised lot parts) (past (disk_in rec.own)) (past rec.found.wal.disk) s.stays promised,
+          ));
+    })
+
+    back-read : IsReadOf ids (seen tells past faults held node.0) (seen tells past faults left node.0) (Some found_lanes)
+    back-read = as-seen (λ s t. IsReadOf ids s t (Some found_lanes)) (
+      (λ tell. ap (λ (l : List QueueId). lanes_read l (shown (now (past (disk_in rec.own))))) (sym x-ids)
+          ∙ rec.has.read tell),
+      λ tell lot parts same promised. (rec.has.settles tell lot parts (x-ids ∙ same) promised).between,
+    )
+
+    abbrev all_lanes : ℕ → Option Lanes
+    all_lanes = with_own left back-others back-keeps (Some found_lanes) back-read
+
+    some-node : (p q : Node D) → Some p ≡ Some q → p ≡ q
+    some-node p q e = cc
+
+    -- why one of its members doesn't go on
+    caused : IsTakeEachCaused node.0 AsFound (pairs ids finds.lanes) held.queues.items fault
+    caused =
+        let there : slice_get finds.nodes.items (node.0 - 1) ≡ Some finds.turn.new =
+        ap (λ (l : List (Node D)). slice_get l (node.0 - 1)) finds.turn.is
+        ∙ set-here tells past faults node.0 held.nodes.items x finds.turn.new finds.turn.here in
+        let queues : back.stays.own.queues.items ≡ ids =
+        ap (λ (y : Node D). y.queues.items) (some-node back.stays.own finds.turn.new (sym back.stays.here ∙ there) ∙ rec.is)
+        ∙ x-ids in
+        subst (λ (l : List QueueId). IsTakeEachCaused node.0 AsFound (pairs l finds.lanes) held.queues.items fault) queues
+        back.stays.cause
+
+    module _ (queue : QueueId) (noticed found : ℕ)
+        (lost : IsLostAmong node.0 AsFound (pairs ids finds.lanes) held.queues.items queue noticed found) where
+      has : HasLane ids found_lanes (queue, lost.lane)
+      has =
+          pair-has (queue, lost.lane) ids found_lanes finds.lanes (zip rows old new at held o node is lt finds)
+          (subst (In (queue, lost.lane)) (sym lost.are) (in-middle (queue, lost.lane) lost.before lost.behind))
+
+      in-ids : In queue ids
+      in-ids = from-in queue ids has.among
+
+      -- no queue begins with it
+      lost-refused : (logs : Logs) (setup : Setup) → IsSetupWith setup rows (length old.nodes.items) logs
+          → AreReadLogs rows (range_with_len 1 (at + 1)) all_lanes logs → IsBegun (setup.group queue.0) → ⊥
+      lost-refused logs setup sw are begun =
+          let own = own-row rows old new node.0 queue in-ids in
+          let same = ap (λ (q : QueueId). q.0) own.holds.0 in
+          let number = own-id rows old new own.index own.item own.here in
+          let place : own.index + 1 ≡ queue.0 = omega (arith, same, number) in
+          let read : stable (logs (own.index + 1) node.0) ≡ Some (told_of (state_in found_lanes queue)) =
+          are node.0 own.index own.item (in-first (at + 1) node.0 low (omega (arith, is))) own.here own.holds.1
+          ∙ ap (λ (l : Option Lanes). Some (state_read l own.item.args.queue))
+          (ap all_lanes is ∙ put-same (at + 1) (Some found_lanes) o.lanes)
+          ∙ ap (λ (q : QueueId). Some (told_of (state_in found_lanes q))) own.holds.0 in
+          let state : IsStateOf (told_of (state_in found_lanes queue)) =
+          begun-state (setup.group (own.index + 1)) node.0 (logs (own.index + 1) node.0)
+          (told_of (state_in found_lanes queue)) (subst (λ (p : ℕ). IsBegun (setup.group p)) (sym place) begun)
+          (sw.seats (own.index + 1) node.0) read in
+          lost.lost.refused (lane-from queue found_lanes lost.lane has.is state.base state.unused)
+
+      lost-over : IsLostOver tells past faults rows old left node queue found
+      lost-over =
+          let own = own-row rows old new node.0 queue in-ids in
+          let same = ap (λ (q : QueueId). q.0) own.holds.0 in
+          let number = own-id rows old new own.index own.item own.here in
+          let index' : own.index ≡ queue.0 - 1 = omega (arith, same, number) in
+          record {
+            low = omega (arith, same, number);
+            row = own.item;
+            here = ap (slice_get rows) (sym index') ∙ own.here;
+            queue_is = own.holds.0;
+            member = contains-node node own.item.members (sym (is-among node.0 own.item.members) ∙ own.holds.1);
+            first = range_with_len 1 (at + 1);
+            later = range_with_len (1 + at + 1) (length old.nodes.items - at - 1);
+            are = range-split 1 at (length old.nodes.items) lt
+                ∙ sym (append-first (range_with_len 1 at) (1 + at)
+                (range_with_len (1 + at + 1) (length old.nodes.items - at - 1)))
+                ∙ ap (λ (l : List ℕ). l ++ range_with_len (1 + at + 1) (length old.nodes.items - at - 1))
+                (sym (range-more 1 at) ∙ ap (range_with_len 1) (let e : suc at ≡ at + 1 = omega arith in e));
+            among = in-first (at + 1) node.0 low (omega (arith, is));
+            read = has-with left back-others back-keeps (Some found_lanes) back-read;
+            own = found_lanes;
+            own_is = ap all_lanes is ∙ put-same (at + 1) (Some found_lanes) o.lanes;
+            found_is = lost.lost.found_is ∙ lane-op queue found_lanes lost.lane has.is;
+            refused = lost-refused;
+          }
+
+    back-caused : (f : RestartFault) → IsTakeEachCaused node.0 AsFound (pairs ids finds.lanes) held.queues.items f
+        → IsOpenCaused tells past faults rows old left f
+    back-caused (faults_of.Damaged other file place) cause = absurd cause
+    back-caused (faults_of.Version other file byte) cause = absurd cause
+    back-caused (faults_of.Lost other queue noticed found) cause = (
+      cause.1.lost.noticed_is,
+      subst (λ (n : NodeId). IsLostOver tells past faults rows old left n queue found)
+          (λ i. record { 0 = sym cause.0 i }) (lost-over queue noticed found cause.1),
+    )
+    back-caused (faults_of.Memory Want) cause = tt
+    back-caused (faults_of.Memory (Spent number)) cause = absurd (let e : Spent number ≡ Want = cause in cc)
+
+    back-never : (f : RestartFault) → IsTakeEachCaused node.0 AsFound (pairs ids finds.lanes) held.queues.items f
+        → (logs : Logs) (setup : Setup) → IsSetupWith setup rows (length old.nodes.items) logs
+        → HasGroups setup → AreLinked tells past faults setup old (new_cluster setup) setup.nodes
+        → ((k : ℕ) → In k setup.nodes
+        → Rose (seen tells past faults old k).faults (seen tells past faults left k).faults
+        → (place : ℕ) → In place setup.places → logs place k ≡ []) → IsOfMemory f
+    back-never (faults_of.Damaged other file place) cause logs setup sw groups linked none = absurd cause
+    back-never (faults_of.Version other file byte) cause logs setup sw groups linked none = absurd cause
+    back-never (faults_of.Lost other queue noticed found) cause logs setup sw groups linked none =
+        lost-refused queue noticed found cause.1 logs setup sw
+        (linked-with left back-others back-keeps (Some found_lanes) back-read logs setup sw groups linked none)
+        (groups queue.0)
+    back-never (faults_of.Memory memory) cause logs setup sw groups linked none = tt
+
+    pub back-opens : MayNotOpen tells past faults rows old left fault
+    back-opens = record {
+      cause = back-caused fault caused;
+      gives_up = all-give_up left back-others back-keeps;
+      never = back-never fault caused;
+    }

@@ -1,0 +1,202 @@
+-- One more node is opened: its queues, and the nodes.
+use Rattle.std.proofs.Common.{◌≡◌, ◌≢◌, ◌⊎◌, ◌<◌, ◌≤◌, ◌+◌, ◌-◌, ℕ, zero, suc, Bool, true, false, not, List, [], ◌∷◌, Option, Some, None, length, refl, sym, ap, ◌∙◌, subst, inl, inr, arith}
+use Rattle.std.specs.Global.{Vec}
+use Rattle.std.specs.Prelude.{IsTrue, Ok, is_some, slice_get, slice_set}
+use Rattle.std.specs.List.{AllByRecursion}
+use Rattle.std.proofs.lemmas.Bool.{cases_Bool, cases_eq, false≢true}
+use Rattle.qq_base.proofs.Puts.{put-other, put-same}
+use Rattle.qq_base.specs.Fronts.{put}
+use Rattle.qq_base.specs.declared.ids.NodeId.{NodeId}
+use Rattle.qq_base.specs.declared.ids.QueueId.{QueueId}
+use Rattle.qq_disk.proofs.Moments.{adds-now}
+use Rattle.qq_disk.specs.Disk.{Disk, now}
+use Rattle.qq_group.specs.Group.{server_at, server_by}
+use Rattle.qq_log.specs.Stable.{stable}
+use Rattle.qq_log.specs.declared.lane.Lane.{Lane}
+use Rattle.qq_log.specs.declared.op.Op.{Op}
+use Rattle.qq_lots.specs.Kept.{KeepsPromised}
+use Rattle.qq_lots.specs.Left.{state_in}
+use Rattle.qq_lots.specs.Lots.{Lot, Parts, ids_of}
+use Rattle.qq_node_log.specs.Found.{AreLanes}
+use Rattle.qq_node_log.specs.Log.{disk_in}
+use Rattle.qq_node_log.specs.declared.node_log.NodeLog.{NodeLog}
+use Rattle.qq_node_log.specs.declared.node_log.NodeLog.TheVariants.{Open, Closed}
+use Rattle.qq_raft_protocol.specs.Facts.{In}
+use Rattle.qq_recover.specs.declared.fault.RecoverFault.TheVariants as recover_faults
+use Rattle.qq_setup.specs.declared.queue_row.QueueRow.{QueueRow}
+use Rattle.qq_wal_chain.specs.Lanes.{Lanes}
+use Rattle.qq_cluster_laws.specs.Serves.{Seen, seen_of}
+use Rattle.qq_cluster_queue.specs.Agreeing.{BeginsWith}
+use Rattle.qq_cluster_queue.specs.Members.{Member}
+use Rattle.qq_cluster_queue.specs.declared.cluster_queue.ClusterQueue.{ClusterQueue}
+use Rattle.qq_nodes.specs.Logs.{NodeTurns}
+use Rattle.qq_nodes.specs.Nodes.{node_at, seen, seen_in}
+use Rattle.qq_nodes.specs.Setting.{AreNew, ids_on, is_among}
+use Rattle.qq_nodes.specs.declared.node.Node.{Node}
+use Rattle.qq_nodes.specs.declared.nodes.Nodes.{Nodes as Held}
+use Rattle.qq_nodes.proofs.OwnStands.{seen-others, seen-own, set-here, set-twice}
+use Rattle.qq_nodes.proofs.Turned.{set-other}
+use Rattle.qq_opening.specs.Opened.{AreOpened, IsMarked, IsOfOpsState, IsOpenedNode, IsOpenedQueue, IsUpWith, WasRead}
+use Rattle.qq_opening.specs.Opening.{state_read}
+use Rattle.qq_opening.specs.Taking.{AllChange, FailsToRecover, FindsLanes, FindsNone, GoesOn, Recovers, StepsUp, TakesUpOne, pair_index, pairs}
+use Rattle.qq_opening.specs.declared.taking.Handed.TheVariants.{AsFound}
+use Rattle.qq_opening.proofs.Changing.{AreApart, Became, all-became, all-long, set-get, set-long}
+use Rattle.qq_opening.proofs.FoundLanes.{HasLane, pair-has, pair-of, pairs-apart}
+use Rattle.qq_opening.proofs.LaneRead.{all-taken, from-in, lane-of_ops, lane-read, to-in}
+use Rattle.qq_opening.proofs.NewNodes.{apart-on, low-on, next-still, next-was, own-at, own-id, queue-row}
+use Rattle.qq_opening.proofs.Restarted.{nodes-are, take-own}
+use Rattle.qq_opening.proofs.RowsOf.{row-on}
+
+-- ---- what is seen of a disk
+
+node-is : {D : Type 0} (k : ℕ) (nodes : List (Node D)) → 0 < k → node_at k nodes ≡ slice_get nodes (k - 1)
+node-is zero nodes low = absurd (omega (arith, low))
+node-is (suc k) nodes low = ap (slice_get nodes) (let e : k ≡ suc k - 1 = omega arith in e)
+
+pub seen-same : {D : Type 0} (tells : D → Bool) (past : D → List Disk) (faults : D → ℕ) (a b : Held D) (k : ℕ) → 0 < k
+    → slice_get b.nodes.items (k - 1) ≡ slice_get a.nodes.items (k - 1)
+    → seen tells past faults b k ≡ seen tells past faults a k
+seen-same tells past faults a b k low is =
+    ap (seen_in tells past faults) (node-is k b.nodes.items low ∙ is ∙ sym (node-is k a.nodes.items low))
+
+-- ---- what is known of others
+
+more-lanes : (P : ℕ → Option Lanes → Type 0) (k : ℕ) (x : Option Lanes) (lanes : ℕ → Option Lanes) (j : ℕ) → (j ≢ k)
+    → P j (lanes j) → P j (put k x lanes j)
+more-lanes P k x lanes j other here = subst (P j) (sym (put-other k x lanes j other)) here
+
+less-lanes : (P : ℕ → Option Lanes → Type 0) (k : ℕ) (x : Option Lanes) (lanes : ℕ → Option Lanes) (j : ℕ) → (j ≢ k)
+    → P j (put k x lanes j) → P j (lanes j)
+less-lanes P k x lanes j other here = subst (P j) (put-other k x lanes j other) here
+
+-- what holds of the first so many, and of one more
+pub one-more : (P : ℕ → Type 0) (at j : ℕ) → j ≤ at + 1 → (j ≤ at → P j) → P (at + 1) → P j
+one-more P at j le before here = elim (cases_eq j (at + 1)) [
+  | inl same ↦ subst P (sym same) here
+  | inr other ↦ before (omega (arith, le, other))
+]
+
+-- a queue that has no member there, or none that is up
+pub queue-still : (row : QueueRow) (lanes : ℕ → Option Lanes) (at : ℕ) (x : Option Lanes) (d : ClusterQueue)
+    → (is_among (at + 1) row.members ≡ true → x ≡ None) → IsOpenedQueue row lanes at d
+    → IsOpenedQueue row (put (at + 1) x lanes) (at + 1) d
+queue-still row lanes at x d none q = record {
+  sound = q.sound;
+  args_is = q.args_is;
+  nodes_is = q.nodes_is;
+  begins = λ logs fits. q.begins logs
+      (λ k low high member. less-lanes (λ j y. stable (logs j) ≡ Some (state_read y row.args.queue)) (at + 1) x lanes k
+      (λ e. absurd (omega (arith, e, high))) (fits k low (omega (arith, high)) member));
+  up = λ k low high. one-more (λ j. is_among j row.members ≡ true
+      → IsUpWith (put (at + 1) x lanes j) (server_at j d.group)) at k high
+      (λ before member. more-lanes (λ j y. IsUpWith y (server_at j d.group)) (at + 1) x lanes k
+      (λ e. absurd (omega (arith, e, before))) (q.up k low before member))
+      (λ member. subst (λ (y : Option Lanes). IsUpWith y (server_at (at + 1) d.group))
+      (sym (put-same (at + 1) x lanes ∙ none member)) tt);
+  down = λ k lt. q.down k (omega (arith, lt));
+}
+
+-- a disk that was read, as it is seen
+was-read : (ids : List QueueId) (a b a' b' : Seen) (lanes : Option Lanes) → a' ≡ a → b' ≡ b → WasRead ids a b lanes
+    → WasRead ids a' b' lanes
+was-read ids a b a' b' lanes first second was =
+    subst (λ (x : Seen). WasRead ids x b' lanes) (sym first)
+    (subst (λ (y : Seen). WasRead ids a y lanes) (sym second) was)
+
+module _ {D : Type 0} {tells : D → Bool} {past : D → List Disk} {faults : D → ℕ} (rows : List QueueRow) (old : Held D)
+    (new : AreNew tells past rows old) (at : ℕ) (held : Held D) (o : AreOpened tells past faults rows at old held)
+    (node : NodeId) (is : node.0 ≡ at + 1) (lt : at < length old.nodes.items) where
+  low : 0 < node.0
+  low = omega (arith, is)
+
+  high : node.0 ≤ length held.nodes.items
+  high = let many = o.node_count in omega (arith, is, lt, many)
+
+  index : node.0 - 1 ≡ at
+  index = omega (arith, is)
+
+  -- one node has changed: what holds of the nodes, and of the other disks
+  module _ (left : Held D) (x z : Node D) (lanes : Option Lanes)
+      (here : slice_get held.nodes.items (node.0 - 1) ≡ Some x)
+      (nodes : left.nodes.items ≡ slice_set held.nodes.items (node.0 - 1) z)
+      (same : left ≡ record held { queues = left.queues; nodes = left.nodes })
+      (many : length left.queues.items ≡ length held.queues.items)
+      (own : IsOpenedNode rows node.0 lanes z)
+      (queues : (i : ℕ) (row : QueueRow) (d : ClusterQueue) → slice_get rows i ≡ Some row
+      → slice_get left.queues.items i ≡ Some d → IsOpenedQueue row (put (at + 1) lanes o.lanes) (at + 1) d)
+      (disk : WasRead (ids_on rows node.0) (seen tells past faults held node.0) (seen tells past faults left node.0) lanes)
+      where
+    abbrev all_lanes : ℕ → Option Lanes
+    all_lanes = put (at + 1) lanes o.lanes
+
+    left-same : left ≡ record old { queues = left.queues; nodes = left.nodes }
+    left-same = same ∙ ap (λ (h : Held D). record h { queues = left.queues; nodes = left.nodes }) o.same
+
+    left-count : length left.nodes.items ≡ length old.nodes.items
+    left-count = ap length nodes ∙ set-long held.nodes.items (node.0 - 1) z ∙ o.node_count
+
+    others : (i : ℕ) → (i ≢ at) → slice_get left.nodes.items i ≡ slice_get held.nodes.items i
+    others i other =
+        ap (λ (l : List (Node D)). slice_get l i) nodes
+        ∙ set-other held.nodes.items (node.0 - 1) i z (λ e. other (omega (arith, e, index)))
+
+    own-node : (own : Node D) → slice_get left.nodes.items at ≡ Some own → own ≡ z
+    own-node y there =
+        some-same y z (sym there ∙ ap (slice_get left.nodes.items) (sym index)
+        ∙ ap (λ (l : List (Node D)). slice_get l (node.0 - 1)) nodes
+        ∙ set-here tells past faults node.0 held.nodes.items x z here)
+      where
+        some-same : (a b : Node D) → Some a ≡ Some b → a ≡ b
+        some-same a b e = cc
+
+    opened-node : (i : ℕ) (y : Node D) → i < at + 1 → slice_get left.nodes.items i ≡ Some y
+        → IsOpenedNode rows (i + 1) (all_lanes (i + 1)) y
+    opened-node i y below there = elim (cases_eq i at) [
+      | inl e ↦ subst (λ (j : ℕ). IsOpenedNode rows (j + 1) (all_lanes (j + 1)) y) (sym e)
+          (subst (λ (l : Option Lanes). IsOpenedNode rows (at + 1) l y) (sym (put-same (at + 1) lanes o.lanes))
+          (subst (λ (j : ℕ). IsOpenedNode rows j lanes y) is
+          (subst (IsOpenedNode rows node.0 lanes) (sym (own-node y (sym (ap (slice_get left.nodes.items) e) ∙ there)))
+          own)))
+      | inr other ↦ more-lanes (λ j l. IsOpenedNode rows j l y) (at + 1) lanes o.lanes (i + 1)
+          (λ e. other (omega (arith, e)))
+          (o.opened i y (omega (arith, below, other)) (sym (others i other) ∙ there))
+    ]
+
+    seen-other : (j : ℕ) → (j ≢ node.0) → seen tells past faults left j ≡ seen tells past faults held j
+    seen-other = seen-others tells past faults node.0 held left z low nodes
+
+    -- the disk was as it is at first
+    seen-first : seen tells past faults held node.0 ≡ seen tells past faults old node.0
+    seen-first =
+        seen-same tells past faults old held node.0 low
+        (ap (slice_get held.nodes.items) index ∙ o.left at (omega arith)
+        ∙ ap (slice_get old.nodes.items) (sym index))
+
+    disks : (k : ℕ) → 0 < k → k ≤ at + 1
+        → WasRead (ids_on rows k) (seen tells past faults old k) (seen tells past faults left k) (all_lanes k)
+    disks k some le =
+        one-more (λ j. WasRead (ids_on rows j) (seen tells past faults old j) (seen tells past faults left j) (all_lanes j))
+        at k le
+        (λ before. more-lanes (λ j l. WasRead (ids_on rows j) (seen tells past faults old j)
+        (seen tells past faults left j) l) (at + 1) lanes o.lanes k (λ e. absurd (omega (arith, e, before)))
+        (was-read (ids_on rows k) (seen tells past faults old k) (seen tells past faults held k)
+        (seen tells past faults old k) (seen tells past faults left k) (o.lanes k) refl
+        (seen-other k (λ e. absurd (omega (arith, e, is, before)))) (o.disks k some before)))
+        (subst (λ (l : Option Lanes). WasRead (ids_on rows (at + 1)) (seen tells past faults old (at + 1))
+        (seen tells past faults left (at + 1)) l) (sym (put-same (at + 1) lanes o.lanes))
+        (subst (λ (j : ℕ). WasRead (ids_on rows j) (seen tells past faults old j) (seen tells past faults left j) lanes)
+        is
+        (was-read (ids_on rows node.0) (seen tells past faults held node.0) (seen tells past faults left node.0)
+        (seen tells past faults old node.0) (seen tells past faults left node.0) lanes (sym seen-first) refl disk)))
+
+    pub opened-one : AreOpened tells past faults rows (at + 1) old left
+    opened-one = record {
+      lanes = all_lanes;
+      same = left-same;
+      node_count = left-count;
+      queue_count = many ∙ o.queue_count;
+      left = λ i le. others i (λ e. absurd (omega (arith, e, le))) ∙ o.left i (omega (arith, le));
+      opened = opened-node;
+      queues = queues;
+      disks = disks;
+    }

@@ -1,0 +1,9 @@
+use Rattle.qq_nodes.specs.Nodes.{Served}
+use Rattle.qq_opening.specs.Opened.{FirstTo}
+use Rattle.qq_opening.proofs.restarting.restart_each.Given as goal
+
+-- the first nodes were restarted
+abbrev pub invariant-nodes : goal.invariant-nodes
+invariant-nodes g l =
+    Served g.D.NodeDisk.tells g.D.NodeDisk.past g.D.NodeDisk.faults (FirstTo l.at) l.fn.nodes l.nodes
+    l.fn.text.items l.text.items

@@ -1,0 +1,29 @@
+use Rattle.qq_opening.proofs.FoundStands.{check-caused, find-caused, found-stands, log-within}
+use Rattle.qq_opening.proofs.taking.take_up.Goals as goal
+
+pub find-requires-clause-ends : goal.find-requires-clause-ends
+find-requires-clause-ends c =
+    log-within c.args.id c.args.lane c.log_of_lane-log.result.room c.log_of_lane-log.result c.log_of_lane-log.ensures
+    c.requires.ends
+
+pub find-requires-clause-whole : goal.find-requires-clause-whole
+find-requires-clause-whole c = c.in_default.ensures.ok.base
+
+pub returns-in-Err-clause-cause : goal.returns-in-Err-clause-cause
+returns-in-Err-clause-cause c =
+    check-caused c.args.node.0 c.args.handed c.args.id c.args.lane c.log_of_lane-log.result.room
+    c.log_of_lane-log.result c.args.queue.now c.log_of_lane-log.ensures c.requires.down c.in-Err.fault
+    c.in-Err.ensures.cause
+
+pub returns-in-Ok-clause-ok : goal.returns-in-Ok-clause-ok
+returns-in-Ok-clause-ok c =
+    found-stands c.args.node.0 c.args.handed c.args.id c.args.lane c.log_of_lane-log.result.room
+    c.log_of_lane-log.result c.args.queue.now c.log_of_lane-log.ensures c.requires.down c.find.new.self
+    c.requires.member c.in_default.ensures.ok c.in-Ok.ensures.found c.in-Ok.ensures.ok c.find.ensures.sound
+    c.find.ensures.same c.in-Ok.ensures.begins c.in-Ok.ensures.up c.find.ensures.others
+
+pub returns-in-Err-find-clause-cause : goal.returns-in-Err-find-clause-cause
+returns-in-Err-find-clause-cause c =
+    find-caused c.args.node.0 c.args.handed c.args.id c.args.lane c.log_of_lane-log.result.room
+    c.log_of_lane-log.result c.args.queue.now c.log_of_lane-log.ensures c.requires.down c.in_default.ensures.ok
+    c.in-Err-find.fault c.in-Err-find.ensures.cause

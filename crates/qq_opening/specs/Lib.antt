@@ -1,0 +1,4 @@
+pub mod Opened
+pub mod Opening
+pub mod Restarting
+pub mod Taking

@@ -1,0 +1,12 @@
+//! Nodes are opened and restarted: what their disks hold is read, and their members go on with it.
+#![tactic(auto)]
+
+mod agreeing;
+mod marking;
+mod opening;
+mod restarting;
+mod stepping;
+mod taking;
+
+pub use opening::open;
+pub use restarting::{RestartFault, restart, restart_each};
