@@ -6,6 +6,7 @@ pub mod Bodies
 pub mod Follows
 pub mod Kept
 pub mod Lying
+pub mod Noting
 pub mod OnDisk
 pub mod Rising
 pub mod Steps

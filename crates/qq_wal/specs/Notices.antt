@@ -1,5 +1,5 @@
 -- What each queue is told of once its ops are synced (the Ra library's internals, written events).
-use Rattle.std.specs.Prelude.{◌≡◌, ◌+◌, ℕ, zero, suc, List, [], ◌∷◌, length, map, min, Option, Some, None, option_map, option_to_list, unwrap_or, IfSome, nat_eq, if◌then◌else◌}
+use Rattle.std.specs.Prelude.{◌≡◌, ◌+◌, ℕ, zero, suc, List, [], ◌∷◌, length, take, drop, map, min, Option, Some, None, option_map, option_to_list, unwrap_or, IfSome, nat_eq, if◌then◌else◌}
 use Rattle.std.specs.List.{AllByRecursion, fold, flat_map, last_or}
 use Rattle.qq_base.specs.declared.ids.QueueId.{QueueId}
 use Rattle.qq_log.specs.Carries.{carry_behind, carry_or_new}
@@ -93,6 +93,14 @@ note_all marks op = map (note_mark op) marks
 abbrev pub note_record : List Mark → LogRecord → List Mark
 note_record marks (OpRecord op) = note_all marks op
 note_record marks (CarryRecord carry) = marks
+
+-- no mark has a notice
+abbrev pub AreQuiet : List Mark → Type 0
+AreQuiet marks = AllByRecursion (λ (m : Mark). m.notice ≡ None) marks
+
+-- no mark before one place has a notice, nor one from another place on
+abbrev pub AreNotedWithin : ℕ → ℕ → List Mark → Type 0
+AreNotedWithin first end marks = AreQuiet (take first marks) × AreQuiet (drop end marks)
 
 -- the notices that the marks have
 abbrev pub notices_in : List Mark → List Notice

@@ -1,5 +1,5 @@
 //! What is kept of each queue.
-ghost use Rattle.std.specs.Prelude.{◌≡◌, ◌≤◌, ◌-◌, ◌^◌, map, true, IfOk, IsOkUnless};
+ghost use Rattle.std.specs.Prelude.{◌≡◌, ◌≤◌, ◌-◌, ◌^◌, length, map, true, IfOk, IsOkUnless};
 ghost use Rattle.qq_log.specs.Carries.{carry_behind, carry_or_new, new_carry};
 ghost use Rattle.qq_wal.specs.Marks.{carry_for, is_below, is_rising, numbers_in, numbers_of, IsPlaceOf};
 ghost use Rattle.qq_wal.specs.Notices.{last_index, new_mark, carried_op, synced_in};
@@ -179,7 +179,8 @@ pub(crate) fn is_rising(queues: &[QueueId]) -> bool
 /// Where the mark of a queue stands, or would stand.
 pub(crate) fn place_of(queue: QueueId, marks: &[Mark]) -> usize
     requires { is_rising (numbers_in marks.now) ≡ true }
-    ensures { IsPlaceOf queue marks.now result }
+    ensures place { IsPlaceOf queue marks.now result }
+    ensures within { result ≤ length marks.now }
 {
     marks.partition_point(|mark| mark.queue.0 < queue.0)
 }

@@ -3,7 +3,7 @@ ghost use Rattle.std.specs.Prelude.{◌≡◌, ◌++◌, ◌≤◌, ◌-◌, ◌
 ghost use Rattle.std.specs.List.{fold};
 ghost use Rattle.qq_wal.specs.Batch.{AllFitBatch};
 ghost use Rattle.qq_wal.specs.Marks.{is_rising, numbers_in};
-ghost use Rattle.qq_wal.specs.Notices.{change_at, note_record, op_term, last_index, first_index, lesser_index, note_mark, note_all, sync_mark, notices_in, note_op};
+ghost use Rattle.qq_wal.specs.Notices.{change_at, note_record, op_term, last_index, first_index, lesser_index, note_mark, note_all, sync_mark, notices_in, note_op, AreNotedWithin};
 
 use crate::marks::{Mark, add_op, place_of};
 use crate::table::Marks;
@@ -92,18 +92,22 @@ fn note_at(alloc: Global, marks: &mut [Mark], place: usize, op: &Op)
     }
 }
 
-/// Notes an op in its queue's mark, by binary search where the queues rise.
-pub(crate) fn note(alloc: Global, marks: &mut [Mark], rising: bool, op: &Op)
+/// Notes an op in its queue's mark, by binary search where the queues rise. Answers the place from which marks may
+/// have changed, and the one before which.
+pub(crate) fn note(alloc: Global, marks: &mut [Mark], rising: bool, op: &Op) -> (usize, usize)
     requires end { last_index op.now ≤ 2 ^ 64 - 1 }
     requires rising { rising ≡ is_rising (numbers_in marks.old) }
-    ensures { marks.new ≡ note_all marks.old op.now }
+    ensures marks { marks.new ≡ note_all marks.old op.now }
+    ensures before { take result.0 marks.new ≡ take result.0 marks.old }
+    ensures behind { drop result.1 marks.new ≡ drop result.1 marks.old }
 {
     if !rising {
         note_all(alloc, marks, op);
-        return;
+        return (0, marks.len());
     }
     let place = place_of(op.queue(), marks);
     note_at(alloc, marks, place, op);
+    (place, place + 1)
 }
 
 /// The op's term, the first index that it writes, and the log's end behind it.
@@ -161,12 +165,14 @@ fn sync_mark(mark: &mut Mark)
     }
 }
 
-/// What waited for a sync is synced.
-pub(crate) fn sync_each(marks: &mut [Mark])
+/// What waited for a sync is synced. Notices stand from the first place on, before the end.
+pub(crate) fn sync_within(marks: &mut [Mark], first: usize, end: usize)
+    requires { AreNotedWithin first end marks.old }
     ensures { marks.new ≡ map sync_mark marks.old }
 {
-    'marks: for mark in marks.iter_mut() {
-        sync_mark(mark);
+    let end = end.min(marks.len());
+    'marks: for place in first..end {
+        sync_mark(&mut marks[place]);
     }
 }
 

@@ -1,10 +1,10 @@
 //! The marks of all queues.
-ghost use Rattle.std.specs.Prelude.{◌≡◌, ◌≤◌, ◌-◌, ◌^◌, map, slice_get, IfOk, IsOkUnless};
-ghost use Rattle.qq_wal.specs.Notices.{last_index, new_mark, note_all, sync_mark, synced_by, synced_in};
+ghost use Rattle.std.specs.Prelude.{◌≡◌, ◌≤◌, ◌-◌, ◌^◌, take, drop, map, slice_get, IfOk, IsOkUnless};
+ghost use Rattle.qq_wal.specs.Notices.{last_index, new_mark, note_all, notices_in, sync_mark, synced_by, synced_in, AreNotedWithin};
 ghost use Rattle.qq_wal.specs.Marks.{is_rising, numbers_in};
 
 use crate::marks::{Mark, is_rising, new_marks, place_of, synced_in};
-use crate::notices::{note, sync_each};
+use crate::notices::{Notice, note, notices_in, sync_within};
 use qq_base::{Memory, QueueId};
 use qq_log::{Carry, Op};
 use std::alloc::Global;
@@ -17,6 +17,10 @@ pub(crate) struct Marks {
     marks: Vec<Mark>,
     /// Whether the queues rise by their numbers.
     rising: bool,
+    /// No mark before this place has a notice,
+    first: usize,
+    /// nor one from this place on: a sync looks at those between alone.
+    end: usize,
 }
 
 impl Model for Marks {
@@ -28,21 +32,35 @@ impl Model for Marks {
 
     ghost view = { λ m. m.marks.items };
 
-    ghost invariant = { λ m. m.rising ≡ is_rising (numbers_in m.marks.items) };
+    ghost use Rattle.qq_wal.specs.Notices.{AreNotedWithin};
+
+    ghost invariant = { λ m. (m.rising ≡ is_rising (numbers_in m.marks.items))
+        × AreNotedWithin m.first m.end m.marks.items };
 }
 
-fn note_item(alloc: Global, marks: &mut Vec<Mark>, rising: bool, op: &Op)
+fn note_item(alloc: Global, marks: &mut Vec<Mark>, rising: bool, op: &Op) -> (usize, usize)
     requires end { last_index op.now ≤ 2 ^ 64 - 1 }
     requires rising { rising ≡ is_rising (numbers_in marks.old.items) }
-    ensures { marks.new.items ≡ note_all marks.old.items op.now }
+    ensures marks { marks.new.items ≡ note_all marks.old.items op.now }
+    ensures before { take result.0 marks.new.items ≡ take result.0 marks.old.items }
+    ensures behind { drop result.1 marks.new.items ≡ drop result.1 marks.old.items }
 {
-    note(alloc, marks, rising, op);
+    note(alloc, marks, rising, op)
 }
 
-fn sync_items(marks: &mut Vec<Mark>)
+fn sync_items(marks: &mut Vec<Mark>, first: usize, end: usize)
+    requires { AreNotedWithin first end marks.old.items }
     ensures { marks.new.items ≡ map sync_mark marks.old.items }
 {
-    sync_each(marks);
+    sync_within(marks, first, end);
+}
+
+/// The marks from the first place on, before the end.
+fn between(marks: &[Mark], first: usize, end: usize) -> &[Mark]
+    ensures { result.now ≡ drop first (take end marks.now) }
+{
+    let (front, _) = marks.split_at(end.min(marks.len()));
+    front.split_at(first.min(front.len())).1
 }
 
 /// What the mark at a place says, where it is the queue's own.
@@ -80,7 +98,12 @@ impl Marks {
     {
         let marks = new_marks(alloc, queues, carries)?;
         let rising = is_rising(queues);
-        Ok(Marks { marks, rising })
+        Ok(Marks {
+            marks,
+            rising,
+            first: usize::MAX,
+            end: 0,
+        })
     }
 
     pub(crate) fn as_slice(&self) -> &[Mark]
@@ -94,14 +117,26 @@ impl Marks {
         requires { last_index op.now ≤ 2 ^ 64 - 1 }
         ensures { self.new ≡ note_all self.old op.now }
     {
-        note_item(alloc, &mut self.marks, self.rising, op);
+        let (from, to) = note_item(alloc, &mut self.marks, self.rising, op);
+        self.first = self.first.min(from);
+        self.end = self.end.max(to);
+    }
+
+    /// The notices of the queues that have one.
+    pub(crate) fn notices(&self, alloc: Global) -> Result<Vec<Notice>, Memory>
+        ensures ok { IfOk result (λ notices. notices.items ≡ notices_in self.now) }
+        ensures want { IsOkUnless result Memory.Want }
+    {
+        notices_in(alloc, between(self.marks.as_slice(), self.first, self.end))
     }
 
     /// What waited for a sync is synced.
     pub(crate) fn sync(&mut self)
         ensures { self.new ≡ map sync_mark self.old }
     {
-        sync_items(&mut self.marks);
+        sync_items(&mut self.marks, self.first, self.end);
+        self.first = usize::MAX;
+        self.end = 0;
     }
 
     /// The number of the queue's last op that was synced, 0 where there is none.

@@ -25,7 +25,7 @@ use crate::begin::first_bytes;
 use crate::fault::{WalFault, fault_of, is_failure};
 use crate::file::{append_file, begin_file, sync_file};
 use crate::measure::is_short;
-use crate::notices::{Notice, notices_in, take_batch};
+use crate::notices::{Notice, take_batch};
 use crate::numbers::{Numbers, first_numbers};
 use crate::ranges::FileRanges;
 use crate::table::Marks;
@@ -293,7 +293,7 @@ impl<D: NodeDisk> Wal<D> {
         if self.stopped {
             return Err(WalFault::Stopped);
         }
-        let notices = match notices_in(alloc, self.marks.as_slice()) {
+        let notices = match self.marks.notices(alloc) {
             Ok(notices) => notices,
             Err(memory) => return Err(WalFault::Memory(memory)),
         };

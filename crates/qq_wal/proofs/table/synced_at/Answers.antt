@@ -9,4 +9,4 @@ pub returns : goal.returns
 returns c =
     c.synced_by.ensures
     ∙ synced-at c.args.queue c.args.marks.now c.place_of-place.result (sym c.requires ∙ c.if-not-rising.false)
-    c.place_of-place.ensures
+    c.place_of-place.ensures.place

@@ -7,7 +7,7 @@ use Rattle.qq_wal.specs.declared.marks.Mark.{Mark}
 use Rattle.qq_log.specs.Carries.{Carries}
 use Rattle.qq_wal.specs.Marks.{AllFollow, HasCarry, add_records, known, queues_in}
 use Rattle.qq_wal.specs.declared.notices.Notice.{Notice}
-use Rattle.qq_wal.specs.Notices.{AreCounted, AreNamed, notices_in, sync_mark, synced_in}
+use Rattle.qq_wal.specs.Notices.{AreCounted, AreNamed, sync_mark, synced_in}
 use Rattle.qq_wal.specs.Wal.{IsKept, IsOnDisk}
 use Rattle.qq_wal.proofs.Batches.{told_before}
 use Rattle.qq_wal.proofs.Counted.{counted-synced}
@@ -92,7 +92,7 @@ returns-clause-names_synced g c = λ told.
     subst (λ (l : List Mark). All (λ (n : Notice). synced_in l n.queue ≡ n.op) c.in-Ok.notices.items)
     (sym c.sync.ensures)
     (subst (λ (l : List Notice). All (λ (n : Notice). synced_in (map sync_mark was.marks) n.queue ≡ n.op) l)
-    (sym (c.in-Ok.ensures.ok ∙ ap notices_in c.as_slice.ensures))
+    (sym c.in-Ok.ensures.ok)
     (notices-synced on.lanes was.marks c.requires.counted c.requires.named on.agree))
 
 pub returns-in-Err-sync_file-clause-sound : goal.returns-in-Err-sync_file-clause-sound
