@@ -1,4 +1,5 @@
 pub mod Reached
+pub mod Restarts
 pub mod Supporting
 pub mod Own
 pub mod Waiting

@@ -5,4 +5,5 @@ pub mod Unseen
 pub mod Traced
 pub mod Always
 pub mod Serves
+pub mod Restarts
 pub mod Answers

@@ -12,7 +12,7 @@ use Rattle.qq_dir_disk.specs.declared.root.LockedRoot.{LockedRoot}
 use Rattle.qq_mem_disk.specs.declared.mem_disk.MemDisk.{MemDisk}
 use Rattle.qq_mem_disk.specs.MemDisk.{past_of, counter_of}
 use Rattle.qq_mem_disk.specs.Counter.{IsFresh}
-use Rattle.qq_ports.specs.Yard.{IsFreshDisk, IsAfterCrash}
+use Rattle.qq_ports.specs.Yard.{IsFreshDisk, IsOpened, IsAfterCrash}
 
 -- the root of this path is locked
 abbrev pub has_root : {F : Type 0} → List ℕ → List (LockedRoot F) → Bool
@@ -27,6 +27,11 @@ abbrev pub IsDiskOf : {D : Type 0} → (D → List ℕ) → Option (List ℕ) �
 IsDiskOf folder_of None node (First disk) = IsFreshDisk disk
 IsDiskOf folder_of (Some root) node (Second disk) = folder_of disk ≡ node_folder root node
 IsDiskOf folder_of _ node _ = ⊥
+
+-- a disk in memory was just opened
+abbrev pub IsOpenedFirst : {D : Type 0} → EitherDisk MemDisk D → Type 0
+IsOpenedFirst (First disk) = IsOpened (past_of disk)
+IsOpenedFirst (Second disk) = Unit {0}
 
 -- the same folder, with no fault so far, and stopped where it was
 pub record IsReopened (old : Folder) (before : Faults) (new : Folder) (faults : Faults) : Type 0 where

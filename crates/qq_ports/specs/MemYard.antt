@@ -6,8 +6,12 @@ use Rattle.std.specs.declared.alloc.Global.{Global}
 use Rattle.std.specs.declared.string.String.{String}
 use Rattle.qq_base.specs.Causes.{raise}
 use Rattle.qq_base.specs.declared.ids.NodeId.{NodeId}
+use Rattle.qq_disk.specs.declared.image.Image.{Image}
+use Rattle.qq_disk.specs.declared.image.Tail.TheVariants.{Whole}
 use Rattle.qq_mem_disk.specs.declared.mem_disk.MemDisk.{MemDisk}
-use Rattle.qq_ports.specs.Yard.{IsFreshDisk}
+use Rattle.qq_mem_disk.specs.Counter.{IsFresh}
+use Rattle.qq_mem_disk.specs.MemDisk.{past_of, counter_of}
+use Rattle.qq_ports.specs.Yard.{IsAfterCrash, IsFreshDisk}
 use Rattle.qq_ports.specs.declared.yard_fault.YardFault.{YardFault}
 use Rattle.qq_ports.specs.declared.yard_fault.YardFault.TheVariants.{Failed, Memory as OfMemory}
 use Rattle.qq_ports.specs.declared.mem_yard.MemYard.{MemYard}
@@ -46,10 +50,14 @@ abbrev pub rows_after : Option (List ℕ) → NodeId → List Row → List Row
 rows_after None node rows = rows
 rows_after (Some root) node rows = without root node rows
 
--- the disk that was held, and else a new one
+-- what is left where nothing pending is lost, and no removed file comes back
+abbrev pub all_kept : Image
+all_kept = record { newest_log = Whole; others = Whole; removed_back = false }
+
+-- the disk that was held, opened again with all that it holds, and else a new one; no call of it is to fail
 abbrev pub Gives : Option MemDisk → MemDisk → Type 0
 Gives None disk = IsFreshDisk disk
-Gives (Some held) disk = disk ≡ held
+Gives (Some held) disk = IsAfterCrash all_kept (past_of held) (past_of disk) × IsFresh (counter_of disk)
 
 -- ---- which calls fail
 

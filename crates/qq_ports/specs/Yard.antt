@@ -3,6 +3,7 @@ use Rattle.std.specs.Prelude.{◌≡◌, ℕ, List, [], ◌∷◌, None}
 use Rattle.qq_base.specs.Causes.{Rose}
 use Rattle.qq_base.specs.declared.memory.Memory.TheVariants.{Want}
 use Rattle.qq_disk.specs.declared.image.Image.{Image}
+use Rattle.qq_disk.specs.Crash.{Remains, reopen}
 use Rattle.qq_disk.specs.Disk.{Disk, now}
 use Rattle.qq_mem_disk.specs.declared.mem_disk.MemDisk.{MemDisk}
 use Rattle.qq_mem_disk.specs.MemDisk.{past_of, counter_of}
@@ -19,6 +20,11 @@ IsYardCaused before after (OfMemory m) = m ≡ Want
 -- nothing was ever on the disk
 abbrev pub IsNew : List Disk → Type 0
 IsNew past = past ≡ (λ _. None) ∷ []
+
+-- the disk was just opened: a sync has kept all that it holds, no file is removed, and no moment came before
+pub record IsOpened (past : List Disk) : Type 0 where
+  pub held : Remains
+  pub is : past ≡ reopen held ∷ []
 
 -- nothing was ever on the disk, and no call of it is to fail
 pub record IsFreshDisk (disk : MemDisk) : Type 0 where

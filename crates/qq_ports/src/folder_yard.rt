@@ -2,7 +2,7 @@ ghost use Rattle.std.specs.Prelude.{◌≡◌, ◌≤◌, [], true, IfNone, IfOk
 ghost use Rattle.qq_base.specs.Causes.{HasCause, Rose};
 ghost use Rattle.qq_base.specs.declared.memory.Memory.TheVariants.{Want};
 ghost use Rattle.qq_ports.specs.Yard.{IsYardCaused};
-ghost use Rattle.qq_ports.specs.FolderYard.{has_root, node_folder, IsDiskOf, IsReopened, IsCrashed};
+ghost use Rattle.qq_ports.specs.FolderYard.{has_root, node_folder, IsDiskOf, IsOpenedFirst, IsReopened, IsCrashed};
 
 use crate::{Yard, YardFault};
 use itoa::Buffer;
@@ -100,7 +100,7 @@ where
 
     ghost faults = { λ yard. yard.faults };
 
-    ghost is_given = { λ _ _. true };
+    ghost is_given = { λ _ _ _. true };
 
     /// With a root it fails where another process has that locked, and where the system fails.
     fn disk(
@@ -111,6 +111,7 @@ where
     ) -> Result<EitherDisk<MemDisk, DirDisk<R>>, YardFault>
         ensures ok { IfOk result (λ disk. IsDiskOf (λ dir. dir.folder.path.bytes.items)
             (option_map (λ text. text.now) root.entry) node disk) }
+        ensures opened { IfOk result IsOpenedFirst }
         ensures locked { IfSome root.entry (λ path.
             OnOk result (has_root path.now self.new.roots.items ≡ true)) }
         ensures want { IfNone root.entry (IsOkUnless result (YardFault.Memory Want)) }

@@ -34,5 +34,5 @@ pub use yard::Yard;
 pub use yard_fault::YardFault;
 pub use yard_laws::{
     a_crash_leaves_an_image, a_failure_is_counted, a_new_disk_crashes_into_a_new_one,
-    a_new_disk_is_empty_and_works, listed_calls_fail,
+    a_new_disk_is_empty_and_works, an_opened_disk_loses_nothing, listed_calls_fail,
 };

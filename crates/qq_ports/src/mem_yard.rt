@@ -1,13 +1,14 @@
-ghost use Rattle.std.specs.Prelude.{true, ◌≡◌, ℕ, Err, IfOk, IfErr, IfNone, OnOk, OnErr, option_map};
+ghost use Rattle.std.specs.Prelude.{true, ◌≡◌, ℕ, Err, IfOk, IfErr, IfNone, IsOk, IsOkUnless, OnOk, option_map};
+ghost use Rattle.qq_base.specs.declared.memory.Memory.TheVariants.{Want};
 ghost use Rattle.qq_base.specs.Causes.{HasCause};
 ghost use Rattle.qq_mem_disk.specs.MemDisk.{past_of, counter_of};
 ghost use Rattle.qq_mem_disk.specs.Counter.{IsFresh};
-ghost use Rattle.qq_ports.specs.Yard.{IsYardCaused, IsNew, IsAfterCrash};
+ghost use Rattle.qq_ports.specs.Yard.{IsYardCaused, IsNew, IsOpened, IsAfterCrash};
 ghost use Rattle.qq_ports.specs.MemYard.{is_of, place_of, first_of, without, disk_for, rows_after, Gives, CountsCall};
 
 use crate::{Yard, YardFault};
 use qq_base::NodeId;
-use qq_disk::Image;
+use qq_disk::{Image, Tail};
 use qq_mem_disk::MemDisk;
 use std::alloc::Global;
 
@@ -86,15 +87,33 @@ fn take(disks: &mut Vec<(String, NodeId, MemDisk)>, root: &str, node: NodeId) ->
     Some(disk)
 }
 
+// A disk that was held is opened again, and holds all that it held.
+fn open_held(alloc: Global, held: Option<MemDisk>) -> Result<MemDisk, YardFault>
+    ensures gives { IfOk result (Gives held) }
+    ensures opened { IfOk result (λ disk. IsOpened (past_of disk)) }
+    ensures want { IsOkUnless result (YardFault.Memory Want) }
+    ensures new { IfNone held (IsOk result) }
+{
+    let Some(disk) = held else {
+        return Ok(MemDisk::new(alloc));
+    };
+    let image = Image {
+        newest_log: Tail::Whole,
+        others: Tail::Whole,
+        removed_back: false,
+    };
+    Ok(disk.crash(alloc, &image)?)
+}
+
 impl Yard for MemYard {
     type Disk = MemDisk;
 
     ghost faults = { λ yard. yard.faults };
 
-    ghost is_given = { λ _ _. true };
+    ghost is_given = { λ _ _ _. true };
 
-    /// The disk that the yard holds for the root and the node, which it then holds no longer, and else a
-    /// new one. It takes no memory.
+    /// The disk that the yard holds for the root and the node, opened again, which it then holds no longer; and else
+    /// a new one. Opening one again takes memory: where there is none, the disk is given up. A new one takes none.
     fn disk(
         &mut self,
         alloc: Global,
@@ -103,11 +122,12 @@ impl Yard for MemYard {
     ) -> Result<MemDisk, YardFault>
         ensures gives { IfOk result (λ disk. Gives
             (disk_for (option_map (λ text. text.now) root.entry) node self.old.disks.items) disk) }
+        ensures opened { IfOk result (λ disk. IsOpened (past_of disk)) }
         ensures empty { IfNone root.entry (IfOk result (λ disk. IsNew (past_of disk))) }
         ensures rest { OnOk result (self.new.disks.items
             ≡ rows_after (option_map (λ text. text.now) root.entry) node self.old.disks.items) }
-        ensures err { OnErr result (self.new.disks ≡ self.old.disks) }
-        ensures failed { IfErr result (λ e. e ≡ YardFault.Failed) }
+        ensures err { IfErr result (λ e. e ≡ YardFault.Failed → self.new.disks ≡ self.old.disks) }
+        ensures failed { IfNone root.entry (IfErr result (λ e. e ≡ YardFault.Failed)) }
         ensures counts { CountsCall self.old self.new result }
         ensures cause { HasCause IsYardCaused self.old.faults self.new.faults result }
     {
@@ -116,7 +136,7 @@ impl Yard for MemYard {
             Some(root) => take(&mut self.disks, root, node),
             None => None,
         };
-        Ok(held.unwrap_or(MemDisk::new(alloc)))
+        open_held(alloc, held)
     }
 
     fn crash(&mut self, alloc: Global, disk: MemDisk, image: &Image) -> Result<MemDisk, YardFault>

@@ -1,6 +1,6 @@
-ghost use Rattle.std.specs.Prelude.{◌≡◌, ℕ, Bool, true, IsTrue, IfOk, IfNone};
+ghost use Rattle.std.specs.Prelude.{◌≡◌, ℕ, Bool, true, List, Option, IsTrue, IfOk, IfNone, option_map};
 ghost use Rattle.qq_base.specs.Causes.{HasCause};
-ghost use Rattle.qq_ports.specs.Yard.{IsYardCaused, IsNew, IsAfterCrash};
+ghost use Rattle.qq_ports.specs.Yard.{IsYardCaused, IsNew, IsOpened, IsAfterCrash};
 
 use crate::YardFault;
 use qq_base::NodeId;
@@ -15,13 +15,14 @@ pub trait Yard {
     /// How often the yard has failed. The count never falls, and stops at 2^64 - 1.
     ghost faults: { Self → ℕ };
 
-    /// Whether a disk was given for the node of a number. Nobody but the yard can say so: what a disk does later tells
-    /// nothing of it.
-    ghost is_given: { ℕ → Self.Disk → Bool };
+    /// Whether a disk was given under a root, or without one, for the node of a number. Nobody but the yard can say so:
+    /// what a disk does later tells nothing of it.
+    ghost is_given: { Option (List ℕ) → ℕ → Self.Disk → Bool };
 
     /// The disk of a node under a root.
     ///
-    /// - `given`: the disk was given for this node.
+    /// - `given`: the disk was given under this root for this node.
+    /// - `opened`: it was just opened, where it tells its contents.
     /// - `empty`: without a root nothing was ever on the disk, where it tells its contents.
     /// - `cause`: it fails only at a counted fault.
     fn disk(
@@ -30,7 +31,10 @@ pub trait Yard {
         root: Option<&str>,
         node: NodeId,
     ) -> Result<Self::Disk, YardFault>
-        ensures given { IfOk result (λ disk. is_given node.0 disk ≡ true) }
+        ensures given { IfOk result (λ disk.
+            is_given (option_map (λ text. text.now) root.entry) node.0 disk ≡ true) }
+        ensures opened { IfOk result (λ disk.
+            IsTrue (Self.Disk.tells disk) → IsOpened (Self.Disk.past disk)) }
         ensures empty { IfNone root.entry (IfOk result (λ disk.
             IsTrue (Self.Disk.tells disk) → IsNew (Self.Disk.past disk))) }
         ensures cause { HasCause IsYardCaused (faults self.old) (faults self.new) result };

@@ -3,7 +3,8 @@ ghost use Rattle.std.specs.Prelude.{◌≡◌, ◌<◌, ◌+◌, ◌-◌, ◌^�
 ghost use Rattle.std.specs.List.{list_any};
 ghost use Rattle.qq_disk.specs.declared.image.Image.{Image};
 ghost use Rattle.qq_disk.specs.Disk.{Disk, now, contents};
-ghost use Rattle.qq_disk.specs.Crash.{IsImage};
+ghost use Rattle.qq_disk.specs.declared.name.FileName.{FileName};
+ghost use Rattle.qq_disk.specs.Crash.{IsImage, Remains};
 ghost use Rattle.qq_mem_disk.specs.declared.mem_disk.MemDisk.{MemDisk};
 ghost use Rattle.qq_mem_disk.specs.MemDisk.{past_of, counter_of};
 ghost use Rattle.qq_mem_disk.specs.Counter.{will_fail};
@@ -11,7 +12,7 @@ ghost use Rattle.qq_base.specs.declared.memory.Memory.TheVariants.{Want};
 ghost use Rattle.qq_ports.specs.declared.yard_fault.YardFault.{YardFault};
 ghost use Rattle.qq_ports.specs.declared.yard_fault.YardFault.TheVariants.{Memory as OfMemory};
 ghost use Rattle.qq_ports.specs.declared.mem_yard.MemYard.{MemYard};
-ghost use Rattle.qq_ports.specs.Yard.{IsYardCaused, IsNew, IsFreshDisk, IsAfterCrash};
+ghost use Rattle.qq_ports.specs.Yard.{IsYardCaused, IsNew, IsOpened, IsFreshDisk, IsAfterCrash};
 ghost use Rattle.qq_ports.specs.MemYard.{CountsCall, has_failed, fault_count};
 
 /// A disk on which nothing ever was holds nothing after a crash either.
@@ -24,6 +25,13 @@ pub fn a_new_disk_crashes_into_a_new_one()
 pub fn a_crash_leaves_an_image()
     ensures { (image : Image) (past after : List Disk) → IsAfterCrash image past after
         → IsImage (now past) (contents (now after)) }
+{}
+
+/// Of a disk that was just opened no moment came before, and whatever a crash leaves of it is what it shows.
+pub fn an_opened_disk_loses_nothing()
+    ensures alone { (past : List Disk) → IsOpened past → past ≡ now past ∷ [] }
+    ensures kept { (past : List Disk) (left : Remains) (file : FileName) → IsOpened past →
+        IsImage (now past) left → left file ≡ contents (now past) file }
 {}
 
 /// On a new disk in memory nothing ever was, and its first call doesn't fail.
