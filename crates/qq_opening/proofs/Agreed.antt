@@ -53,8 +53,10 @@ among-nodes k (n ∷ nodes) list all is =
     by false other rest whole = rest whole
 
 module _ (rows : List QueueRow) (count : ℕ) (lanes : ℕ → Option Lanes) (logs : Logs) (setup : Setup)
-    (sw : IsSetupWith setup rows count logs) (are : AreReadLogs rows (range_with_len 1 count) lanes logs) (i : ℕ)
-    (row : QueueRow) (here : slice_get rows i ≡ Some row) (d : ClusterQueue) (q : IsOpenedQueue row lanes count d)
+    (sw : IsSetupWith setup rows count logs) (i : ℕ) (row : QueueRow) (here : slice_get rows i ≡ Some row)
+    (fits : (k : ℕ) → 0 < k → k ≤ count → is_among k row.members ≡ true
+    → stable (logs (i + 1) k) ≡ Some (state_read (lanes k) row.args.queue)) (d : ClusterQueue)
+    (q : IsOpenedQueue row lanes count d)
     (none : (k : ℕ) → is_among k row.members ≡ false → logs (i + 1) k ≡ []) where
   abbrev g : Group
   g = setup.group (i + 1)
@@ -73,10 +75,6 @@ module _ (rows : List QueueRow) (count : ℕ) (lanes : ℕ → Option Lanes) (lo
       let low = bounds.0 in
       let high = bounds.1 in
       (omega (arith, low), omega (arith, high))
-
-  fits : (k : ℕ) → 0 < k → k ≤ count → is_among k row.members ≡ true
-      → stable (logs (i + 1) k) ≡ Some (state_read (lanes k) row.args.queue)
-  fits k low high member = are k i row (in-first count k low high) here member
 
   -- a member that is down has no ops
   empty-log : (k : ℕ) → server_at k d.group ≡ None → logs (i + 1) k ≡ []
@@ -170,7 +168,9 @@ module _ (rows : List QueueRow) (count : ℕ) (lanes : ℕ → Option Lanes) (lo
         distinct = subst AreDistinct (sym (sw.each i row.0 row.1).down.nodes_is) (distinct i row.0 row.1);
         whole = [];
         opened = agrees (setup.group (i + 1))
-            (its-logs rows count lanes logs setup sw are i row.0 row.1 d.0 q (logs-none rows logs own i row.0 row.1));
+            (its-logs rows count lanes logs setup sw i row.0 row.1
+            (λ k low high member. are k i row.0 (in-first count k low high) row.1 member) d.0 q
+            (logs-none rows logs own i row.0 row.1));
       }
 
   pub all-begun : HasGroups setup

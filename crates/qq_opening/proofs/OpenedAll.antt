@@ -20,7 +20,8 @@ use Rattle.qq_cluster.specs.Laws.{IsBegun}
 use Rattle.qq_cluster.specs.Rules.{ForEach, IsOpening, IsRestart, Then}
 use Rattle.qq_cluster.specs.Texts.{text_of}
 use Rattle.qq_cluster_laws.specs.Linked.{IsReached}
-use Rattle.qq_cluster_laws.specs.Serves.{GivesUp, Seen, Serves, fails_at}
+use Rattle.qq_cluster_laws.specs.Serves.{GivesUp, Seen, Serves}
+use Rattle.qq_cluster_laws.proofs.Restarts.{first-stays}
 use Rattle.qq_cluster_laws.proofs.Serves.{gives_up-behind, serves-both}
 use Rattle.qq_cluster_queue.specs.declared.cluster_queue.ClusterQueue.{ClusterQueue}
 use Rattle.qq_nodes.specs.Nodes.{Begins, CanServe, EndsAt, GaveUp, Served, Stands, seen}
@@ -28,14 +29,14 @@ use Rattle.qq_nodes.specs.Setting.{AreNew, ids_on, is_among}
 use Rattle.qq_nodes.specs.declared.nodes.Nodes.{Nodes as Held}
 use Rattle.qq_nodes.proofs.Stands.{serves-from, serves-means}
 use Rattle.qq_opening.specs.Opened.{AreOpened, Agrees, IsOpenedQueue, OpenedServes, OpenedTo, RestartedTo, WasRead}
-use Rattle.qq_opening.specs.Opening.{AreLogsOf, AreReadLogs, HaveFailed, HoldLogs, IsOpenCaused, IsReadAs, IsSetupWith, Logs, MayNotOpen, OpensOver, OpensTo, SpentAfter, all_of}
+use Rattle.qq_opening.specs.Opening.{AreLogsOf, AreReadLogs, HaveRestarted, HoldLogs, IsOpenCaused, IsReadAs, IsSetupWith, Logs, MayNotOpen, OpensOver, OpensTo, SpentAfter, all_of}
 use Rattle.qq_opening.specs.Restarting.{IsOpenedTo, RestartEachTo}
 use Rattle.qq_opening.specs.declared.restarting.RestartFault.TheVariants as faults_of
 use Rattle.qq_opening.proofs.Agreed.{all-begun}
 use Rattle.qq_opening.proofs.Opened.{Opens, opens-to}
 use Rattle.qq_opening.proofs.OpenedNone.{of-ops, row-in}
 use Rattle.qq_opening.proofs.ReadLogs.{logs-come, logs_read, read-logs}
-use Rattle.qq_opening.proofs.RestartRules.{fails-first, restarted-whole}
+use Rattle.qq_opening.proofs.RestartRules.{restarted-whole}
 use Rattle.qq_opening.proofs.SomeSetup.{is-setup_with, setup_with}
 use Rattle.qq_opening.proofs.Untouched.{range-below}
 
@@ -156,9 +157,9 @@ module _ {D : Type 0} {tells : D → Bool} {past : D → List Disk} {faults : D 
           by true rule = rule.0
           by false rule = rule.0
 
-      failed-later : (others : List ClusterEvent) → HaveFailed (range_with_len 1 n) o.lanes (s.did.events ++ others)
-      failed-later others k here none =
-          fails-first k s.did.events others ((serves-of setup sw).failed k here none)
+      came-later : (others : List ClusterEvent) → HaveRestarted (range_with_len 1 n) o.lanes (s.did.events ++ others)
+      came-later others k here =
+          first-stays k s.did.events others (is_some (o.lanes k)) ((serves-of setup sw).came k here)
 
       -- it was served
       module _ (final : Held D) (later : List ℕ) (served : Served tells past faults Opens held final middle later) where
@@ -167,7 +168,7 @@ module _ {D : Type 0} {tells : D → Bool} {past : D → List Disk} {faults : D 
         t = served.serves setup c r s.did.stands
 
         abbrev Both : List ClusterEvent → Type 0
-        Both all = IsOpenedTo some setup (new_cluster setup) all × HaveFailed (range_with_len 1 n) o.lanes all
+        Both all = IsOpenedTo some setup (new_cluster setup) all × HaveRestarted (range_with_len 1 n) o.lanes all
 
         whole : Serves setup (new_cluster setup) Both (Stands tells past setup final) (seen tells past faults old)
             (seen tells past faults final) before later
@@ -176,14 +177,14 @@ module _ {D : Type 0} {tells : D → Bool} {past : D → List Disk} {faults : D 
             (Stands tells past setup held) (Stands tells past setup final) (seen tells past faults old)
             (seen tells past faults held) (seen tells past faults final) before middle later s t (
               opens-to some setup (new_cluster setup) s.did.events t.did.events restarts t.did.means,
-              failed-later t.did.events,
+              came-later t.did.events,
             )
 
         opens-setup : OpensTo tells past faults setup o.lanes some old final before later
         opens-setup = record {
           groups = groups-of setup sw;
           serves = serves-means whole whole.did.means.0;
-          failed = whole.did.means.1;
+          came = whole.did.means.1;
         }
 
         pub rises-served : (k : ℕ)
@@ -216,7 +217,7 @@ module _ {D : Type 0} {tells : D → Bool} {past : D → List Disk} {faults : D 
 
           abbrev Spending : List ClusterEvent → Type 0
           Spending all =
-              Begins (IsOpening setup) (new_cluster setup) all × HaveFailed (range_with_len 1 n) o.lanes all
+              Begins (IsOpening setup) (new_cluster setup) all × HaveRestarted (range_with_len 1 n) o.lanes all
 
           spending : Serves setup (new_cluster setup) Spending (Stands tells past setup e.mid)
               (seen tells past faults old) (seen tells past faults e.mid) before said
@@ -235,11 +236,11 @@ module _ {D : Type 0} {tells : D → Bool} {past : D → List Disk} {faults : D 
                     second = e.serves.did.means.allowed;
                   };
                 },
-                failed-later early,
+                came-later early,
               )
 
           ends-setup : (x : EndsAt tells past faults setup (IsOpening setup) old (new_cluster setup) number)
-              × HaveFailed (range_with_len 1 n) o.lanes x.serves.did.events
+              × HaveRestarted (range_with_len 1 n) o.lanes x.serves.did.events
           ends-setup = (
             record {
               mid = e.mid;

@@ -172,12 +172,26 @@ module _ {D : Type 0} {tells : D → Bool} {past : D → List Disk} {faults : D 
         ∙ ap (λ (x : Option Lanes). Some (state_read x row.args.queue)) read-some.1
         ∙ ap (λ (id : QueueId). Some (told_of (state_in l id))) own.0
 
-    refused : (logs : Logs) (setup : Setup) → IsSetupWith setup rows n logs
-        → AreReadLogs rows (range_with_len 1 n) o.lanes logs → IsBegun (setup.group queue.0) → ⊥
+    -- logs of the queue are what was read
+    abbrev FitOwn : (ℕ → List Op) → Type 0
+    FitOwn logs =
+        (k : ℕ) → In k (range_with_len 1 n) → is_among k row.members ≡ true
+        → stable (logs k) ≡ Some (state_read (o.lanes k) queue)
+
+    fit-own : (logs : Logs) → AreReadLogs rows (range_with_len 1 n) o.lanes logs → FitOwn (logs queue.0)
+    fit-own logs are' k first member =
+        ap (λ (p : ℕ). stable (logs p k)) lost.place ∙ are' k at row first here member
+        ∙ ap (λ (id : QueueId). Some (state_read (o.lanes k) id)) own.0
+
+    refused : (logs : Logs) (setup : Setup) → IsSetupWith setup rows n logs → FitOwn (logs queue.0)
+        → IsBegun (setup.group queue.0) → ⊥
     refused logs setup sw fits begun =
         let own-begun : IsBegun (setup.group (at + 1)) =
         subst (λ (p : ℕ). IsBegun (setup.group p)) lost.place begun in
-        lost-logs rows n o.lanes logs setup sw fits at row here d q
+        lost-logs rows n o.lanes logs setup sw at row here
+        (λ k first last member. ap (λ (p : ℕ). stable (logs p k)) (sym lost.place)
+        ∙ fits k (in-first n k first last) member
+        ∙ ap (λ (id : QueueId). Some (state_read (o.lanes k) id)) (sym own.0)) d q
         (λ k other. begun-none row (setup.group (at + 1)) k (logs (at + 1) k) own-begun (sw.each at row here).down.nodes_is
         (sw.seats (at + 1) k) other)
         (disagrees d there) own-begun
@@ -234,5 +248,6 @@ module _ {D : Type 0} {tells : D → Bool} {past : D → List Disk} {faults : D 
       never (faults_of.Version node file byte) told' logs setup sw groups linked none = absurd told'
       never (faults_of.Lost node queue noticed found) told' logs setup sw groups linked none =
           refused at lt disagrees node queue found told'.1 logs setup sw
-          (linked-all logs setup sw groups linked none) (groups queue.0)
+          (fit-own at lt disagrees node queue found told'.1 logs (linked-all logs setup sw groups linked none))
+          (groups queue.0)
       never (faults_of.Memory memory) told' logs setup sw groups linked none = tt

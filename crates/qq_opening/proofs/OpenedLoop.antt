@@ -36,7 +36,7 @@ module _ {D : Type 0} {tells : D → Bool} {past : D → List Disk} {faults : D 
       serves = serves-nothing setup (new_cluster setup) (RestartedTo 0 false setup (new_cluster setup))
           (Stands tells past setup old) (seen tells past faults old) text (refl, λ k here. absurd here)
           (new-stands rows old new setup (setup-over setup rows (length old.nodes.items) logs sw groups));
-      failed = λ k here none. absurd here;
+      came = λ k here. absurd here;
     };
   }
 

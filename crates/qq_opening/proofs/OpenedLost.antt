@@ -15,6 +15,7 @@ use Rattle.qq_disk.proofs.Moments.{adds-now}
 use Rattle.qq_disk.specs.Disk.{Disk, now}
 use Rattle.qq_log.specs.Stable.{Stable, stable}
 use Rattle.qq_log.specs.declared.lane.Lane.{Lane}
+use Rattle.qq_log.specs.declared.op.Op.{Op}
 use Rattle.qq_lots.specs.Kept.{KeepsPromised}
 use Rattle.qq_lots.specs.Left.{state_in}
 use Rattle.qq_lots.specs.Lots.{Lot, Parts, ids_of}
@@ -57,7 +58,7 @@ use Rattle.qq_opening.proofs.OpenedDisks.{IsReadOf, IsStateOf, Keeps, begun-stat
 use Rattle.qq_opening.proofs.OpenedMore.{one-more, seen-same}
 use Rattle.qq_opening.proofs.OpenedStep.{own_lanes, seen-x, zip}
 use Rattle.qq_opening.proofs.ReadLogs.{logs-come, logs_read, read-logs}
-use Rattle.qq_opening.proofs.RowsOf.{is-among, to-passing}
+use Rattle.qq_opening.proofs.RowsOf.{At, is-among}
 use Rattle.qq_opening.proofs.Untouched.{in-first, range-below, range-more, stops-before}
 
 -- a range, up to one of its numbers
@@ -283,33 +284,44 @@ module _ {D : Type 0} {tells : D → Bool} {past : D → List Disk} {faults : D 
       in-ids : In queue ids
       in-ids = from-in queue ids has.among
 
-      -- no queue begins with it
-      lost-refused : (logs : Logs) (setup : Setup) → IsSetupWith setup rows (length old.nodes.items) logs
-          → AreReadLogs rows (range_with_len 1 (at + 1)) all_lanes logs → IsBegun (setup.group queue.0) → ⊥
-      lost-refused logs setup sw are begun =
-          let own = own-row rows old new node.0 queue in-ids in
+      own : At rows (λ (row : QueueRow). (row.args.queue ≡ queue) × (is_among node.0 row.members ≡ true))
+      own = own-row rows old new node.0 queue in-ids
+
+      place : own.index + 1 ≡ queue.0
+      place =
           let same = ap (λ (q : QueueId). q.0) own.holds.0 in
           let number = own-id rows old new own.index own.item own.here in
-          let place : own.index + 1 ≡ queue.0 = omega (arith, same, number) in
-          let read : stable (logs (own.index + 1) node.0) ≡ Some (told_of (state_in found_lanes queue)) =
-          are node.0 own.index own.item (in-first (at + 1) node.0 low (omega (arith, is))) own.here own.holds.1
-          ∙ ap (λ (l : Option Lanes). Some (state_read l own.item.args.queue))
-          (ap all_lanes is ∙ put-same (at + 1) (Some found_lanes) o.lanes)
-          ∙ ap (λ (q : QueueId). Some (told_of (state_in found_lanes q))) own.holds.0 in
+          omega (arith, same, number)
+
+      -- logs of the queue are what was read of the nodes so far
+      abbrev FitOwn : (ℕ → List Op) → Type 0
+      FitOwn logs =
+          (k : ℕ) → In k (range_with_len 1 (at + 1)) → is_among k own.item.members ≡ true
+          → stable (logs k) ≡ Some (state_read (all_lanes k) queue)
+
+      fit-own : (logs : Logs) → AreReadLogs rows (range_with_len 1 (at + 1)) all_lanes logs → FitOwn (logs queue.0)
+      fit-own logs are k here member =
+          ap (λ (p : ℕ). stable (logs p k)) (sym place) ∙ are k own.index own.item here own.here member
+          ∙ ap (λ (q : QueueId). Some (state_read (all_lanes k) q)) own.holds.0
+
+      -- the queue doesn't begin with them
+      lost-refused : (logs : Logs) (setup : Setup) → IsSetupWith setup rows (length old.nodes.items) logs
+          → FitOwn (logs queue.0) → IsBegun (setup.group queue.0) → ⊥
+      lost-refused logs setup sw fits begun =
+          let read : stable (logs queue.0 node.0) ≡ Some (told_of (state_in found_lanes queue)) =
+          fits node.0 (in-first (at + 1) node.0 low (omega (arith, is))) own.holds.1
+          ∙ ap (λ (l : Option Lanes). Some (state_read l queue))
+          (ap all_lanes is ∙ put-same (at + 1) (Some found_lanes) o.lanes) in
           let state : IsStateOf (told_of (state_in found_lanes queue)) =
-          begun-state (setup.group (own.index + 1)) node.0 (logs (own.index + 1) node.0)
-          (told_of (state_in found_lanes queue)) (subst (λ (p : ℕ). IsBegun (setup.group p)) (sym place) begun)
-          (sw.seats (own.index + 1) node.0) read in
+          begun-state (setup.group queue.0) node.0 (logs queue.0 node.0) (told_of (state_in found_lanes queue)) begun
+          (sw.seats queue.0 node.0) read in
           lost.lost.refused (lane-from queue found_lanes lost.lane has.is state.base state.unused)
 
       lost-over : IsLostOver tells past faults rows old left node queue found
       lost-over =
-          let own = own-row rows old new node.0 queue in-ids in
-          let same = ap (λ (q : QueueId). q.0) own.holds.0 in
-          let number = own-id rows old new own.index own.item own.here in
-          let index' : own.index ≡ queue.0 - 1 = omega (arith, same, number) in
+          let index' : own.index ≡ queue.0 - 1 = omega (arith, place) in
           record {
-            low = omega (arith, same, number);
+            low = omega (arith, place);
             row = own.item;
             here = ap (slice_get rows) (sym index') ∙ own.here;
             queue_is = own.holds.0;
@@ -351,7 +363,8 @@ module _ {D : Type 0} {tells : D → Bool} {past : D → List Disk} {faults : D 
     back-never (faults_of.Version other file byte) cause logs setup sw groups linked none = absurd cause
     back-never (faults_of.Lost other queue noticed found) cause logs setup sw groups linked none =
         lost-refused queue noticed found cause.1 logs setup sw
-        (linked-with left back-others back-keeps (Some found_lanes) back-read logs setup sw groups linked none)
+        (fit-own queue noticed found cause.1 logs
+        (linked-with left back-others back-keeps (Some found_lanes) back-read logs setup sw groups linked none))
         (groups queue.0)
     back-never (faults_of.Memory memory) cause logs setup sw groups linked none = tt
 

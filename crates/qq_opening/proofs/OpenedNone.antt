@@ -25,6 +25,7 @@ use Rattle.qq_cluster.specs.ClusterLaws.{HasGroups}
 use Rattle.qq_cluster.specs.Rules.{ForEach, IsOpening, IsRestart}
 use Rattle.qq_cluster_laws.specs.Linked.{IsLinked, lot_of, parts_at}
 use Rattle.qq_cluster_laws.specs.Serves.{Seen, seen_of}
+use Rattle.qq_cluster_laws.proofs.Serves.{serves-nothing}
 use Rattle.qq_nodes.specs.Ends.{OnDisk}
 use Rattle.qq_nodes.specs.Nodes.{EndsAt, seen}
 use Rattle.qq_nodes.specs.Setting.{AreNew, IsSetupOver, ids_on, is_among}
@@ -213,6 +214,14 @@ module _ {D : Type 0} {tells : D → Bool} {past : D → List Disk} {faults : D 
       (λ told. subst (IsSpentOn (now (past (disk_in fails.own)))) is_spent (fails.spent told)))
       (inr (subst (IsRecoverCaused (faults (disk_in fails.own)) (faults fails.left)) is_spent fails.cause))
 
+  -- nothing has happened
+  spent-none : (number : ℕ) → cause ≡ recover_faults.Memory (Spent number) → (logs : Logs) (setup : Setup)
+      → IsSetupWith setup rows (length old.nodes.items) logs → HasGroups setup
+      → (e : EndsAt tells past faults setup (IsOpening setup) old (new_cluster setup) number)
+      × (e.serves.did.events ≡ [])
+  unfolding spent-over ends-now serves-nothing
+  spent-none number is_spent logs setup sw groups = (spent-over number is_spent logs setup sw groups, refl)
+
   pub give-up : GivesUpOver tells past faults rows old left
   give-up = all-give_up rows old new at held o node is lt left others none-keeps
 
@@ -262,7 +271,7 @@ none-opens {tells = tells} {past = past} {faults = faults} rows old new at held 
     subst (MayNotOpen tells past faults rows old left) (sym told)
     (refuses rows old new at held o node is lt left (recover_faults.Memory (Spent number)) none
     (faults_of.Memory (Spent number))
-    (inl (spent-over rows old new at held o node is lt left (recover_faults.Memory (Spent number)) none number refl))
+    (inl (spent-none rows old new at held o node is lt left (recover_faults.Memory (Spent number)) none number refl))
     (λ logs setup sw linked. tt))
 
 -- the next node isn't opened

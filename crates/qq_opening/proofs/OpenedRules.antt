@@ -2,9 +2,8 @@
 use Rattle.std.proofs.Common.{◌≡◌, ◌≢◌, ◌⊎◌, ◌<◌, ◌≤◌, ◌+◌, ◌-◌, ℕ, zero, suc, Bool, true, false, not, ◌&&◌, ◌||◌, List, [], ◌∷◌, ◌++◌, Option, Some, None, length, refl, sym, ap, ◌∙◌, subst, inl, inr, arith, append-nil}
 use Rattle.std.specs.Fmt.{decimal}
 use Rattle.std.specs.Global.{Vec}
-use Rattle.std.specs.Prelude.{IsTrue, codes, slice_get, slice_set, take}
+use Rattle.std.specs.Prelude.{IsTrue, codes, is_some, slice_get, slice_set, take}
 use Rattle.std.specs.List.{range_with_len}
-use Rattle.std.proofs.lemmas.Bool.{eq-eqb, false≢true, or_left}
 use Rattle.qq_base.proofs.Puts.{put-other, put-same}
 use Rattle.qq_base.specs.Fronts.{put}
 use Rattle.qq_base.specs.declared.ids.NodeId.{NodeId}
@@ -26,7 +25,8 @@ use Rattle.qq_cluster.specs.Cluster.{Cluster, ClusterEvent, Fails, Setup, cluste
 use Rattle.qq_cluster.specs.ClusterLaws.{HasGroups}
 use Rattle.qq_cluster.specs.Rules.{IsRestart}
 use Rattle.qq_cluster_laws.specs.Linked.{IsReached, lot_of, part_at, parts_at}
-use Rattle.qq_cluster_laws.specs.Serves.{Serves, fails_at, is_failure_at}
+use Rattle.qq_cluster_laws.specs.Restarts.{first_restart}
+use Rattle.qq_cluster_laws.specs.Serves.{Serves}
 use Rattle.qq_cluster_laws.proofs.Calls.{failed-traced}
 use Rattle.qq_cluster_laws.proofs.Reached.{counts-at}
 use Rattle.qq_cluster_laws.proofs.Serves.{serves-both}
@@ -43,7 +43,7 @@ use Rattle.qq_nodes.proofs.Owned.{own-fail}
 use Rattle.qq_nodes.proofs.Quiet.{quiet-stopped}
 use Rattle.qq_nodes.proofs.Stands.{serves-means}
 use Rattle.qq_opening.specs.Opened.{AreOpened, OpenedServes, RestartedTo}
-use Rattle.qq_opening.specs.Opening.{AreLogsOf, AreReadLogs, HaveFailed, IsSetupWith, Logs, seat_over, state_read, told_of}
+use Rattle.qq_opening.specs.Opening.{AreLogsOf, AreReadLogs, HaveRestarted, IsSetupWith, Logs, seat_over, state_read, told_of}
 use Rattle.qq_opening.specs.Taking.{FailsToRecover, FindsNone, IsAsFound, StepsUp, TakesUpOne, lane_state, pairs}
 use Rattle.qq_opening.specs.declared.taking.Handed.TheVariants.{AsFound}
 use Rattle.qq_opening.proofs.Agreed.{logs-none}
@@ -56,7 +56,7 @@ use Rattle.qq_opening.proofs.ReadLogs.{none-come}
 use Rattle.qq_opening.proofs.Restarted.{serves-then}
 use Rattle.qq_opening.proofs.RestartRules.{each-up, restarted-rule, taken-away}
 use Rattle.qq_opening.proofs.Unrecovered.{always, failed-node, fails-restart, old-queues, same-disk, stops-parts}
-use Rattle.qq_opening.proofs.Untouched.{each-seat, fails-more, in-first, range-below, seat_at}
+use Rattle.qq_opening.proofs.Untouched.{came-more, each-first, each-seat, in-first, range-below, restart-first, seat_at}
 
 module _ {D : Type 0} {tells : D → Bool} {past : D → List Disk} {faults : D → ℕ} (rows : List QueueRow) (old : Held D)
     (new : AreNew tells past rows old) (at : ℕ) (held : Held D) (o : AreOpened tells past faults rows at old held)
@@ -99,25 +99,34 @@ module _ {D : Type 0} {tells : D → Bool} {past : D → List Disk} {faults : D 
   module _ (left : Held D) (own : Option Lanes) (more up : Bool) (later : List ℕ) (more_is : more ≡ (some || up))
       (t : Serves setup c (IsRestart setup node.0 c) (Stands tells past setup left) (seen tells past faults held)
       (seen tells past faults left) middle later)
-      (up_is : up ≡ (cluster_after c t.did.events).up node.0)
-      (failed : own ≡ None → fails_at node.0 t.did.events ≡ true) where
+      (up_is : up ≡ (cluster_after c t.did.events).up node.0) (own_is : is_some own ≡ up) where
     abbrev lanes : ℕ → Option Lanes
     lanes = put (at + 1) own o.lanes
 
     abbrev Both : List ClusterEvent → Type 0
     Both all =
-        RestartedTo (at + 1) more setup (new_cluster setup) all × HaveFailed (range_with_len 1 (at + 1)) lanes all
+        RestartedTo (at + 1) more setup (new_cluster setup) all × HaveRestarted (range_with_len 1 (at + 1)) lanes all
 
-    first-failed : HaveFailed (range_with_len 1 at) lanes events
-    first-failed k here none =
-        s.failed k here (sym (put-other (at + 1) own o.lanes k
-        (λ e. (let high = (range-below 1 at k here).1 in absurd (omega (arith, e, high))))) ∙ none)
+    first-came : HaveRestarted (range_with_len 1 at) lanes events
+    first-came k here =
+        s.came k here
+        ∙ ap (λ (l : Option Lanes). Some (is_some l)) (sym (put-other (at + 1) own o.lanes k
+        (λ e. (let high = (range-below 1 at k here).1 in absurd (omega (arith, e, high))))))
 
-    all-failed : HaveFailed (range_with_len 1 (at + 1)) lanes (events ++ t.did.events)
-    all-failed =
-        fails-more setup lanes at events t.did.events first-failed
-        (λ none. subst (λ (k : ℕ). fails_at k t.did.events ≡ true) is
-        (failed (sym (put-same (at + 1) own o.lanes) ∙ none)))
+    -- it had yet to restart
+    none-came : first_restart (at + 1) events ≡ None
+    none-came =
+        subst (λ (k : ℕ). first_restart k events ≡ None) is
+        (each-first setup node.0 (take at setup.nodes) (new_cluster setup) events s.serves.did.means.0 away)
+
+    own-came : first_restart (at + 1) t.did.events ≡ Some (is_some (lanes (at + 1)))
+    own-came =
+        subst (λ (k : ℕ). first_restart k t.did.events ≡ Some (is_some own)) is
+        (restart-first setup node.0 c t.did.events t.did.means down ∙ ap Some (sym up_is ∙ sym own_is))
+        ∙ ap (λ (l : Option Lanes). Some (is_some l)) (sym (put-same (at + 1) own o.lanes))
+
+    all-came : HaveRestarted (range_with_len 1 (at + 1)) lanes (events ++ t.did.events)
+    all-came = came-more setup lanes at events t.did.events first-came none-came own-came
 
     whole : Serves setup (new_cluster setup) Both (Stands tells past setup left) (seen tells past faults old)
         (seen tells past faults left) before later
@@ -128,7 +137,7 @@ module _ {D : Type 0} {tells : D → Bool} {past : D → List Disk} {faults : D 
           restarted-rule setup at some false up more node.0 (length old.nodes.items) (new_cluster setup) events
               t.did.events sw.nodes lt is (sym down) up_is (more_is ∙ ap (λ (b : Bool). some || b) (and-true up))
               s.serves.did.means t.did.means,
-          all-failed,
+          all-came,
         )
       where
         and-true : (b : Bool) → b ≡ (b && not false)
@@ -136,7 +145,7 @@ module _ {D : Type 0} {tells : D → Bool} {past : D → List Disk} {faults : D 
         and-true false = refl
 
     serves-one : OpenedServes tells past faults setup (at + 1) lanes more old left before later
-    serves-one = record { serves = serves-means whole whole.did.means.0; failed = whole.did.means.1 }
+    serves-one = record { serves = serves-means whole whole.did.means.0; came = whole.did.means.1 }
 
   -- ---- it was recovered
 
@@ -197,8 +206,7 @@ module _ {D : Type 0} {tells : D → Bool} {past : D → List Disk} {faults : D 
         → OpenedServes tells past faults setup (at + 1) (put (at + 1) (Some found_lanes) o.lanes) more old left before
         middle
     serves-up more more_is =
-        serves-one left (Some found_lanes) more true middle more_is went-up up-then
-        (λ none. absurd (let e : Some found_lanes ≡ None = none in cc))
+        serves-one left (Some found_lanes) more true middle more_is went-up up-then refl
 
   -- ---- its disk has failed
 
@@ -309,4 +317,4 @@ module _ {D : Type 0} {tells : D → Bool} {past : D → List Disk} {faults : D 
     serves-down more more_is =
         serves-one last None more false later more_is (serves-means stays-down stays-down.did.means.0)
         (sym (ap (λ (l : List ClusterEvent). (cluster_after c l).up k) stays-down.did.means.1 ∙ put-same k false c.up))
-        (λ e. ap (fails_at k) stays-down.did.means.1 ∙ or_left (is_failure_at k (Fails k)) false (eq-eqb k k refl))
+        refl

@@ -1,9 +1,9 @@
--- What restarts of some nodes leave as it was: the seats of other nodes.
+-- What restarts of some nodes leave as it was: the seats of other nodes, and that these have yet to restart.
 use Rattle.std.proofs.Common.{◌≡◌, ◌⊎◌, ◌<◌, ◌≤◌, ◌+◌, ◌-◌, ℕ, zero, suc, Bool, true, false, cond, ◌&&◌, List, [], ◌∷◌, ◌++◌, Option, Some, None, length, refl, sym, ap, ◌∙◌, subst, inl, inr, arith}
-use Rattle.std.specs.Prelude.{nat_le}
+use Rattle.std.specs.Prelude.{is_some, nat_eq, nat_le}
 use Rattle.std.specs.List.{list_all, range_with_len}
-use Rattle.std.proofs.lemmas.Bool.{and_from, cond_both, eq-eqb, le-leb, or_left}
-use Rattle.qq_base.proofs.Puts.{put-other}
+use Rattle.std.proofs.lemmas.Bool.{and_from, cond_both, eq-eqb, false≢true, le-leb, ne_eqb}
+use Rattle.qq_base.proofs.Puts.{put-other, put-same}
 use Rattle.qq_log.specs.declared.op.Op.{Op}
 use Rattle.qq_raft_model.specs.Group.{Group, Seat, has_node, is_down, may_restart}
 use Rattle.qq_raft_protocol.specs.Facts.{In}
@@ -12,13 +12,14 @@ use Rattle.qq_wal_chain.specs.Lanes.{Lanes}
 use Rattle.qq_cluster.specs.Cluster.{Cluster, ClusterEvent, Fails, FindsEach, Setup, cluster_after, new_cluster}
 use Rattle.qq_cluster.specs.Queue.{Queue}
 use Rattle.qq_cluster.specs.Rules.{ForEach, IsFound, IsNothing, IsRestart, if_so, may_find}
-use Rattle.qq_cluster_laws.specs.Serves.{fails_at, is_failure_at}
+use Rattle.qq_cluster_laws.specs.Restarts.{first_of, first_restart}
 use Rattle.qq_cluster_laws.proofs.Reached.{after-both}
+use Rattle.qq_cluster_laws.proofs.Restarts.{first-both, first-stays}
 use Rattle.qq_nodes.proofs.Pumping.{rule-else}
 use Rattle.qq_nodes.proofs.Walks.{in-range}
-use Rattle.qq_opening.specs.Opening.{HaveFailed, IsSetupWith, Logs, StopsBefore, seat_over}
+use Rattle.qq_opening.specs.Opening.{HaveRestarted, IsSetupWith, Logs, StopsBefore, seat_over}
 use Rattle.qq_opening.proofs.FoundQueues.{found-others}
-use Rattle.qq_opening.proofs.RestartRules.{each-both, each-one, each-up, fails-first, fails-second}
+use Rattle.qq_opening.proofs.RestartRules.{each-both, each-one, each-up}
 
 abbrev pub seat_at : Cluster → ℕ → ℕ → Seat
 seat_at c place k = (c.queue place).group.seat k
@@ -46,6 +47,38 @@ seat-kept setup k j place c events rule other = by (c.up j) rule
         ap (λ (l : List ClusterEvent). seat_at (cluster_after c l) place k) failed
         ∙ put-other j stopped (c.queue place).group.seat k other
 
+not-first : (setup : Setup) (k j : ℕ) (c : Cluster) (events : List ClusterEvent) → IsRestart setup j c events
+    → (k ≡ j → ⊥) → first_restart k events ≡ None
+not-first setup k j c events rule other = by (c.up j) rule
+  where
+    apart : nat_eq j k ≡ false
+    apart = ne_eqb j k (λ same. other (sym same))
+
+    by : (b : Bool) → if_so b IsNothing (IsFound setup j) c events → first_restart k events ≡ None
+    by true none = ap (first_restart k) none
+    by false (inl found) = ap (first_restart k) found.is ∙ rw apart refl
+    by false (inr failed) = ap (first_restart k) failed ∙ rw apart refl
+
+-- of a node that was down it is known afterwards
+pub restart-first : (setup : Setup) (k : ℕ) (c : Cluster) (events : List ClusterEvent) → IsRestart setup k c events
+    → c.up k ≡ false → first_restart k events ≡ Some ((cluster_after c events).up k)
+restart-first setup k c events rule down = by (c.up k) down rule
+  where
+    same : nat_eq k k ≡ true
+    same = eq-eqb k k refl
+
+    by : (b : Bool) → b ≡ false → if_so b IsNothing (IsFound setup k) c events
+        → first_restart k events ≡ Some ((cluster_after c events).up k)
+    by true is none = absurd (false≢true (sym is))
+    by false is (inl found) =
+        ap (first_restart k) found.is ∙ rw same refl
+        ∙ ap Some (sym (put-same k true c.up)
+        ∙ sym (ap (λ (l : List ClusterEvent). (cluster_after c l).up k) found.is))
+    by false is (inr failed) =
+        ap (first_restart k) failed ∙ rw same refl
+        ∙ ap Some (sym (put-same k false c.up)
+        ∙ sym (ap (λ (l : List ClusterEvent). (cluster_after c l).up k) failed))
+
 -- ---- several
 
 pub each-seat : (setup : Setup) (k place : ℕ) (list : List ℕ) (c : Cluster) (events : List ClusterEvent)
@@ -58,6 +91,15 @@ each-seat setup k place (j ∷ list) c events t away =
     ∙ ap (λ (d : Cluster). seat_at d place k) (after-both c t.early t.late)
     ∙ each-seat setup k place list (cluster_after c t.early) t.late t.second (λ later. away (inr later))
     ∙ seat-kept setup k j place c t.early t.first (λ same. away (inl same))
+
+pub each-first : (setup : Setup) (k : ℕ) (list : List ℕ) (c : Cluster) (events : List ClusterEvent)
+    → ForEach list (IsRestart setup) c events → (In k list → ⊥) → first_restart k events ≡ None
+each-first setup k [] c events none away = ap (first_restart k) none
+each-first setup k (j ∷ list) c events t away =
+    ap (first_restart k) t.is ∙ first-both k t.early t.late
+    ∙ ap (λ (o : Option Bool). first_of o (first_restart k t.late))
+    (not-first setup k j c t.early t.first (λ same. away (inl same)))
+    ∙ each-first setup k list (cluster_after c t.early) t.late t.second (λ later. away (inr later))
 
 -- ---- the first so many nodes
 
@@ -115,7 +157,7 @@ module _ (setup : Setup) (lanes : ℕ → Option Lanes) where
   pub record RestartsFirst (n : ℕ) : Type 0 where
     pub events : List ClusterEvent
     pub restarted : ForEach (range_with_len 1 n) (IsRestart setup) (new_cluster setup) events
-    pub failed : HaveFailed (range_with_len 1 n) lanes events
+    pub came : HaveRestarted (range_with_len 1 n) lanes events
 
   first-away : (n k : ℕ) → n < k → In k (range_with_len 1 n) → ⊥
   first-away n k lt here = let high = (range-below 1 n k here).1 in absurd (omega (arith, lt, high))
@@ -133,29 +175,39 @@ module _ (setup : Setup) (lanes : ℕ → Option Lanes) where
       each-seat setup k place (range_with_len 1 n) (new_cluster setup) events rule (first-away n k lt)
 
   -- with one more
-  pub fails-more : (n : ℕ) (events others : List ClusterEvent) → HaveFailed (range_with_len 1 n) lanes events
-      → (lanes (n + 1) ≡ None → fails_at (n + 1) others ≡ true)
-      → HaveFailed (range_with_len 1 (n + 1)) lanes (events ++ others)
-  fails-more n events others failed own k here none =
+  pub came-more : (n : ℕ) (events others : List ClusterEvent) → HaveRestarted (range_with_len 1 n) lanes events
+      → first_restart (n + 1) events ≡ None → first_restart (n + 1) others ≡ Some (is_some (lanes (n + 1)))
+      → HaveRestarted (range_with_len 1 (n + 1)) lanes (events ++ others)
+  came-more n events others came none own k here =
       by (In-append k (range_with_len 1 n) ((n + 1) ∷ []) (subst (In k) (first-next n) here))
     where
-      by : In k (range_with_len 1 n) ⊎ In k ((n + 1) ∷ []) → fails_at k (events ++ others) ≡ true
-      by (inl first) = fails-first k events others (failed k first none)
+      last : first_restart (n + 1) (events ++ others) ≡ Some (is_some (lanes (n + 1)))
+      last =
+          first-both (n + 1) events others
+          ∙ ap (λ (o : Option Bool). first_of o (first_restart (n + 1) others)) none ∙ own
+
+      by : In k (range_with_len 1 n) ⊎ In k ((n + 1) ∷ [])
+          → first_restart k (events ++ others) ≡ Some (is_some (lanes k))
+      by (inl first) = first-stays k events others (is_some (lanes k)) (came k first)
       by (inr (inl same)) =
-          fails-second k events others
-          (subst (λ (j : ℕ). fails_at j others ≡ true) (sym same) (own (ap lanes (sym same) ∙ none)))
+          subst (λ (j : ℕ). first_restart j (events ++ others) ≡ Some (is_some (lanes j))) (sym same) last
       by (inr (inr past_end)) = absurd past_end
 
   pub more-restarts : (n : ℕ) (others : List ClusterEvent) (f : RestartsFirst n)
       → IsRestart setup (n + 1) (cluster_after (new_cluster setup) f.events) others
-      → (lanes (n + 1) ≡ None → fails_at (n + 1) others ≡ true) → RestartsFirst (n + 1)
+      → is_some (lanes (n + 1)) ≡ (cluster_after (cluster_after (new_cluster setup) f.events) others).up (n + 1)
+      → RestartsFirst (n + 1)
   more-restarts n others f rule own = record {
     events = f.events ++ others;
     restarted = subst (λ (l : List ℕ). ForEach l (IsRestart setup) (new_cluster setup) (f.events ++ others))
         (sym (first-next n))
         (each-both (IsRestart setup) (range_with_len 1 n) ((n + 1) ∷ []) (new_cluster setup) f.events others
         f.restarted (each-one (IsRestart setup) (n + 1) (cluster_after (new_cluster setup) f.events) others rule));
-    failed = fails-more n f.events others f.failed own;
+    came = came-more n f.events others f.came
+        (each-first setup (n + 1) (range_with_len 1 n) (new_cluster setup) f.events f.restarted
+        (first-away n (n + 1) (omega arith)))
+        (restart-first setup (n + 1) (cluster_after (new_cluster setup) f.events) others rule
+        (first-down n (n + 1) f.events f.restarted (omega arith)) ∙ ap Some (sym own));
   }
 
   module _ (logs : Logs) (seats : (place k : ℕ) → (setup.group place).seat k ≡ seat_over (logs place k)) where
@@ -187,14 +239,13 @@ module _ (setup : Setup) (lanes : ℕ → Option Lanes) where
 
         by : (o : Option Lanes) → lanes (n + 1) ≡ o → RestartsFirst (n + 1)
         by None is =
-            more-restarts n (Fails (n + 1) ∷ []) f failed
-            (λ none. or_left (is_failure_at (n + 1) (Fails (n + 1))) false (eq-eqb (n + 1) (n + 1) refl))
+            more-restarts n (Fails (n + 1) ∷ []) f failed (ap is_some is ∙ sym (put-same (n + 1) false c.up))
         by (Some l) is =
             more-restarts n (FindsEach (n + 1) all_ops ∷ []) f found
-            (λ none. absurd (let e : None ≡ Some l = sym none ∙ is in cc))
+            (ap is_some is ∙ sym (put-same (n + 1) true c.up))
 
     pub restarts-first : (n : ℕ) → RestartsFirst n
-    restarts-first zero = record { events = []; restarted = refl; failed = λ k here none. absurd here }
+    restarts-first zero = record { events = []; restarted = refl; came = λ k here. absurd here }
     restarts-first (suc n) =
         subst RestartsFirst (let e : n + 1 ≡ suc n = omega arith in e) (restarts-next n (restarts-first n))
 
@@ -205,5 +256,5 @@ module _ (setup : Setup) (lanes : ℕ → Option Lanes) where
           events = f.events;
           restarted = f.restarted;
           down = first-down n (n + 1) f.events f.restarted (omega arith);
-          failed = f.failed;
+          came = f.came;
         }

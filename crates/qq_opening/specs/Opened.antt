@@ -32,7 +32,7 @@ use Rattle.qq_nodes.specs.Nodes.{Stands, seen}
 use Rattle.qq_nodes.specs.Setting.{ids_on, is_among}
 use Rattle.qq_nodes.specs.declared.node.Node.{Node}
 use Rattle.qq_nodes.specs.declared.nodes.Nodes.{Nodes as Held}
-use Rattle.qq_opening.specs.Opening.{AreLogsOf, AreReadLogs, HaveFailed, IsSetupWith, Logs, state_read, told_of}
+use Rattle.qq_opening.specs.Opening.{AreLogsOf, AreReadLogs, HaveRestarted, IsSetupWith, Logs, state_read, told_of}
 use Rattle.qq_opening.specs.declared.restarting.RestartFault.{RestartFault}
 use Rattle.qq_opening.specs.declared.restarting.RestartFault.TheVariants.{Damaged, Version, Lost, Memory}
 
@@ -126,7 +126,7 @@ pub record OpenedServes {D : Type 0} (tells : D → Bool) (past : D → List Dis
     (lanes : ℕ → Option Lanes) (some : Bool) (old held : Held D) (before later : List ℕ) : Type 0 where
   pub serves : Serves setup (new_cluster setup) (RestartedTo at some setup (new_cluster setup))
       (Stands tells past setup held) (seen tells past faults old) (seen tells past faults held) before later
-  pub failed : HaveFailed (range_with_len 1 at) lanes serves.did.events
+  pub came : HaveRestarted (range_with_len 1 at) lanes serves.did.events
 
 pub record OpenedTo {D : Type 0} (tells : D → Bool) (past : D → List Disk) (faults : D → ℕ) (rows : List QueueRow)
     (at : ℕ) (some : Bool) (old held : Held D) (before later : List ℕ) : Type 0 where

@@ -1,5 +1,5 @@
 -- Nodes are opened over disks that may hold the logs of an earlier run: what they read, and over which logs the cluster begins.
-use Rattle.std.specs.Prelude.{◌≡◌, ◌≢◌, ◌⊎◌, ◌<◌, ◌+◌, ◌-◌, ◌++◌, ◌∷◌, ℕ, Bool, true, false, List, [], Option, Some, None, Ok, Err, Contains, IsTrue, length, slice_get}
+use Rattle.std.specs.Prelude.{◌≡◌, ◌≢◌, ◌⊎◌, ◌<◌, ◌+◌, ◌-◌, ◌++◌, ◌∷◌, ℕ, Bool, true, false, List, [], Option, Some, None, Ok, Err, Contains, IsTrue, is_some, length, slice_get}
 use Rattle.std.specs.List.{AllByRecursion, range_with_len}
 use Rattle.qq_base.specs.Causes.{Rose}
 use Rattle.qq_base.specs.declared.ids.NodeId.{NodeId}
@@ -20,7 +20,8 @@ use Rattle.qq_cluster.specs.Cluster.{ClusterEvent, Setup, cluster_after, members
 use Rattle.qq_cluster.specs.ClusterLaws.{HasGroups}
 use Rattle.qq_cluster.specs.Laws.{IsBegun}
 use Rattle.qq_cluster.specs.Rules.{ForEach, IsOpening, IsRestart}
-use Rattle.qq_cluster_laws.specs.Serves.{GivesUp, Serves, fails_at}
+use Rattle.qq_cluster_laws.specs.Restarts.{first_restart}
+use Rattle.qq_cluster_laws.specs.Serves.{GivesUp, Serves}
 use Rattle.qq_cluster_laws.specs.Waiting.{HasOwnGroups, IsChangeOf}
 use Rattle.qq_nodes.specs.Nodes.{EndsAt, Stands, seen}
 use Rattle.qq_nodes.specs.Setting.{IsRowOf, ids_on, is_among}
@@ -103,9 +104,9 @@ pub record HoldLogs {D : Type 0} (tells : D → Bool) (past : D → List Disk) (
   pub own : AreLogsOf rows logs
   pub are : AreReadLogs rows first read.lanes logs
 
--- the nodes whose disks have failed do so in events
-abbrev pub HaveFailed : List ℕ → (ℕ → Option Lanes) → List ClusterEvent → Type 0
-HaveFailed first lanes events = (k : ℕ) → In k first → lanes k ≡ None → fails_at k events ≡ true
+-- In these events each of these nodes is first recovered, where something was read of it; else its disk fails first.
+abbrev pub HaveRestarted : List ℕ → (ℕ → Option Lanes) → List ClusterEvent → Type 0
+HaveRestarted first lanes events = (k : ℕ) → In k first → first_restart k events ≡ Some (is_some (lanes k))
 
 abbrev pub all_of : {D : Type 0} → Held D → List ℕ
 all_of held = range_with_len 1 (length held.nodes.items)
@@ -118,7 +119,7 @@ pub record OpensTo {D : Type 0} (tells : D → Bool) (past : D → List Disk) (f
   pub groups : HasGroups setup
   pub serves : Serves setup (new_cluster setup) (IsOpenedTo some setup (new_cluster setup))
       (Stands tells past setup new) (seen tells past faults old) (seen tells past faults new) before later
-  pub failed : HaveFailed (all_of old) lanes serves.did.events
+  pub came : HaveRestarted (all_of old) lanes serves.did.events
 
 -- Nodes over disks that hold some logs were opened: of each setup with these logs.
 pub record OpensOver {D : Type 0} (tells : D → Bool) (past : D → List Disk) (faults : D → ℕ) (rows : List QueueRow)
@@ -134,7 +135,7 @@ pub record StopsBefore (setup : Setup) (first : List ℕ) (node : ℕ) (lanes : 
   pub events : List ClusterEvent
   pub restarted : ForEach first (IsRestart setup) (new_cluster setup) events
   pub down : (cluster_after (new_cluster setup) events).up node ≡ false
-  pub failed : HaveFailed first lanes events
+  pub came : HaveRestarted first lanes events
 
 -- A node's files break the rules of a log, or are of another version, as recovery reads them of a disk that tells its contents.
 pub record IsRefusedOver {D : Type 0} (tells : D → Bool) (past : D → List Disk) (faults : D → ℕ) (rows : List QueueRow)
@@ -148,8 +149,8 @@ pub record IsRefusedOver {D : Type 0} (tells : D → Bool) (past : D → List Di
   pub stops : (setup : Setup) → IsSetupWith setup rows (length old.nodes.items) hold.logs
       → StopsBefore setup first node hold.read.lanes
 
--- A queue's logs support no audit: whatever logs are as the nodes' disks were read so far, no queue may begin with them. One of
--- them, that of a member on this node, has so many ops.
+-- A queue's logs support no audit: whatever logs of it are as the nodes' disks were read so far, the queue may not begin with
+-- them. One of them, that of a member on this node, has so many ops.
 pub record IsLostOver {D : Type 0} (tells : D → Bool) (past : D → List Disk) (faults : D → ℕ) (rows : List QueueRow)
     (old new : Held D) (node : NodeId) (queue : QueueId) (found : ℕ) : Type 0 where
   pub low : 0 < queue.0
@@ -166,7 +167,9 @@ pub record IsLostOver {D : Type 0} (tells : D → Bool) (past : D → List Disk)
   pub own_is : read.lanes node.0 ≡ Some own
   pub found_is : found ≡ (state_in own queue).op
   pub refused : (logs : Logs) (setup : Setup) → IsSetupWith setup rows (length old.nodes.items) logs
-      → AreReadLogs rows first read.lanes logs → IsBegun (setup.group queue.0) → ⊥
+      → ((k : ℕ) → In k first → is_among k row.members ≡ true
+      → stable (logs queue.0 k) ≡ Some (state_read (read.lanes k) queue))
+      → IsBegun (setup.group queue.0) → ⊥
 
 -- After the disks were read and the logs were found to support an audit, a number would have to rise, and stands at its end.
 pub record SpentAfter {D : Type 0} (tells : D → Bool) (past : D → List Disk) (faults : D → ℕ) (rows : List QueueRow)
@@ -174,14 +177,15 @@ pub record SpentAfter {D : Type 0} (tells : D → Bool) (past : D → List Disk)
   pub hold : HoldLogs tells past faults rows (all_of old) old new
   pub ends : (setup : Setup) → IsSetupWith setup rows (length old.nodes.items) hold.logs
       → HasGroups setup × (e : EndsAt tells past faults setup (IsOpening setup) old (new_cluster setup) number)
-      × HaveFailed (all_of old) hold.read.lanes e.serves.did.events
+      × HaveRestarted (all_of old) hold.read.lanes e.serves.did.events
 
--- or it does so on a disk as it was given, before anything has happened, whatever logs the cluster begins with
+-- or it does so on a disk as it was given, where nothing has happened, whatever logs the cluster begins with
 abbrev pub SpentOver : {D : Type 0} → (D → Bool) → (D → List Disk) → (D → ℕ) → List QueueRow → (old new : Held D)
     → (number : ℕ) → Type 0
 SpentOver tells past faults rows old new number =
     ((logs : Logs) (setup : Setup) → IsSetupWith setup rows (length old.nodes.items) logs → HasGroups setup
-    → EndsAt tells past faults setup (IsOpening setup) old (new_cluster setup) number)
+    → (e : EndsAt tells past faults setup (IsOpening setup) old (new_cluster setup) number)
+    × (e.serves.did.events ≡ []))
     ⊎ SpentAfter tells past faults rows old new number
 
 abbrev pub IsOpenCaused : {D : Type 0} → (D → Bool) → (D → List Disk) → (D → ℕ) → List QueueRow → (old new : Held D)
