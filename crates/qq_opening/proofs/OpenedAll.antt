@@ -27,7 +27,7 @@ use Rattle.qq_cluster_queue.specs.declared.cluster_queue.ClusterQueue.{ClusterQu
 use Rattle.qq_nodes.specs.Nodes.{Begins, CanServe, EndsAt, GaveUp, Served, Stands, seen}
 use Rattle.qq_nodes.specs.Setting.{AreNew, ids_on, is_among}
 use Rattle.qq_nodes.specs.declared.nodes.Nodes.{Nodes as Held}
-use Rattle.qq_nodes.proofs.Stands.{serves-from, serves-means}
+use Rattle.qq_nodes.proofs.Stands.{serves-from}
 use Rattle.qq_opening.specs.Opened.{AreOpened, Agrees, IsOpenedQueue, OpenedServes, OpenedTo, RestartedTo, WasRead}
 use Rattle.qq_opening.specs.Opening.{AreLogsOf, AreReadLogs, HaveRestarted, HoldLogs, IsOpenCaused, IsReadAs, IsSetupWith, Logs, MayNotOpen, OpensOver, OpensTo, SpentAfter, all_of}
 use Rattle.qq_opening.specs.Restarting.{IsOpenedTo, RestartEachTo}
@@ -37,6 +37,7 @@ use Rattle.qq_opening.proofs.Opened.{Opens, opens-to}
 use Rattle.qq_opening.proofs.OpenedNone.{of-ops, row-in}
 use Rattle.qq_opening.proofs.ReadLogs.{logs-come, logs_read, read-logs}
 use Rattle.qq_opening.proofs.RestartRules.{restarted-whole}
+use Rattle.qq_opening.proofs.Serving.{serves-same}
 use Rattle.qq_opening.proofs.SomeSetup.{is-setup_with, setup_with}
 use Rattle.qq_opening.proofs.Untouched.{range-below}
 
@@ -70,7 +71,7 @@ module _ {D : Type 0} {tells : D → Bool} {past : D → List Disk} {faults : D 
   abbrev pub read_logs : Logs
   read_logs = logs_read rows o.lanes
 
-  own : AreLogsOf rows read_logs
+  pub own : AreLogsOf rows read_logs
   own = read-logs rows o.lanes
 
   pub are : AreReadLogs rows (range_with_len 1 n) o.lanes read_logs
@@ -183,7 +184,7 @@ module _ {D : Type 0} {tells : D → Bool} {past : D → List Disk} {faults : D 
         opens-setup : OpensTo tells past faults setup o.lanes some old final before later
         opens-setup = record {
           groups = groups-of setup sw;
-          serves = serves-means whole whole.did.means.0;
+          serves = serves-same whole whole.did.means.0;
           came = whole.did.means.1;
         }
 
@@ -246,7 +247,7 @@ module _ {D : Type 0} {tells : D → Bool} {past : D → List Disk} {faults : D 
               mid = e.mid;
               before = before;
               said = said;
-              serves = serves-means spending spending.did.means.0;
+              serves = serves-same spending spending.did.means.0;
               at = e.at;
               end = e.end;
             },

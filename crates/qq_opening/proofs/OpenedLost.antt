@@ -287,8 +287,8 @@ module _ {D : Type 0} {tells : D → Bool} {past : D → List Disk} {faults : D 
       own : At rows (λ (row : QueueRow). (row.args.queue ≡ queue) × (is_among node.0 row.members ≡ true))
       own = own-row rows old new node.0 queue in-ids
 
-      place : own.index + 1 ≡ queue.0
-      place =
+      own-place : own.index + 1 ≡ queue.0
+      own-place =
           let same = ap (λ (q : QueueId). q.0) own.holds.0 in
           let number = own-id rows old new own.index own.item own.here in
           omega (arith, same, number)
@@ -301,7 +301,7 @@ module _ {D : Type 0} {tells : D → Bool} {past : D → List Disk} {faults : D 
 
       fit-own : (logs : Logs) → AreReadLogs rows (range_with_len 1 (at + 1)) all_lanes logs → FitOwn (logs queue.0)
       fit-own logs are k here member =
-          ap (λ (p : ℕ). stable (logs p k)) (sym place) ∙ are k own.index own.item here own.here member
+          ap (λ (p : ℕ). stable (logs p k)) (sym own-place) ∙ are k own.index own.item here own.here member
           ∙ ap (λ (q : QueueId). Some (state_read (all_lanes k) q)) own.holds.0
 
       -- the queue doesn't begin with them
@@ -318,10 +318,11 @@ module _ {D : Type 0} {tells : D → Bool} {past : D → List Disk} {faults : D 
           lost.lost.refused (lane-from queue found_lanes lost.lane has.is state.base state.unused)
 
       lost-over : IsLostOver tells past faults rows old left node queue found
+      unfolding has-with
       lost-over =
-          let index' : own.index ≡ queue.0 - 1 = omega (arith, place) in
+          let index' : own.index ≡ queue.0 - 1 = omega (arith, own-place) in
           record {
-            low = omega (arith, place);
+            low = omega (arith, own-place);
             row = own.item;
             here = ap (slice_get rows) (sym index') ∙ own.here;
             queue_is = own.holds.0;

@@ -20,12 +20,12 @@ use Rattle.qq_recover.specs.declared.fault.RecoverFault.{RecoverFault}
 use Rattle.qq_recover.specs.declared.fault.RecoverFault.TheVariants as recover_faults
 use Rattle.qq_cluster.specs.Cluster.{Cluster, Fails, Setup, cluster_happens}
 use Rattle.qq_cluster.specs.Queue.{Queue, Stops, happens}
-use Rattle.qq_cluster.specs.Rules.{IsFound, IsNothing, IsRestart}
+use Rattle.qq_cluster.specs.Rules.{ForEach, IsFound, IsNothing, IsRestart}
 use Rattle.qq_cluster_laws.specs.Linked.{IsLinked, IsReached, lot_of, part_at, parts_at}
 use Rattle.qq_cluster_laws.specs.Serves.{GivesUp, Seen, Serves, seen_of}
 use Rattle.qq_cluster_laws.proofs.Calls.{failed-traced}
 use Rattle.qq_cluster_laws.proofs.Links.{failed-follow}
-use Rattle.qq_cluster_laws.proofs.Traces.{broken-none, traced-none}
+use Rattle.qq_cluster_laws.proofs.Traces.{broken-none}
 use Rattle.qq_cluster_queue.specs.ClusterQueue.{Stands as IsQueue}
 use Rattle.qq_cluster_queue.specs.Sessions.{standings}
 use Rattle.qq_cluster_queue.specs.declared.cluster_queue.ClusterQueue.{ClusterQueue}
@@ -43,6 +43,7 @@ use Rattle.qq_opening.specs.declared.restarting.RestartFault.{RestartFault}
 use Rattle.qq_opening.specs.declared.restarting.RestartFault.TheVariants as faults_of
 use Rattle.qq_opening.proofs.FoundQueues.{down-server, not-stopped}
 use Rattle.qq_opening.proofs.OwnDisk.{disk-gives_up, disk-serves, seen-before}
+use Rattle.qq_opening.proofs.Serving.{serves-none}
 use Rattle.qq_nodes.proofs.OwnStands.{QueuesOf, node-was, stands-own}
 use Rattle.qq_nodes.proofs.Stands.{ends-now}
 use Rattle.qq_nodes.proofs.Owned.{own-fail}
@@ -66,19 +67,8 @@ restarts-none tells past faults setup c k old before st down = record {
   are = refl;
   mid = old;
   said = before;
-  serves = record {
-    did = record {
-      events = [];
-      means = refl;
-      stands = st;
-      says = sym (append-nil before);
-      told = λ j. refl;
-      moments = λ j here tell linked. traced-none setup c j (seen tells past faults old j).past linked;
-    };
-    no_crash = λ j. tt;
-    rises = λ j. omega arith;
-    cause = λ j failed. absurd (false≢true failed);
-  };
+  serves = serves-none setup c (ForEach [] (IsRestart setup) c) (Stands tells past setup old) (seen tells past faults old)
+      before refl st;
   down = down;
 }
 
