@@ -5,6 +5,9 @@ pub mod Beginning
 pub mod Refusing
 pub mod Crashes
 pub mod Opens
+pub mod Untouched
+pub mod Unopened
+pub mod NewLogs
 pub mod Targets
 pub mod Meeting
 pub mod Bodies

@@ -1,4 +1,4 @@
-ghost use Rattle.std.specs.Prelude.{◌≡◌, ◌⊎◌, ◌≤◌, ◌<◌, ◌++◌, ℕ, List, [], Some, map, string_bytes, IfOk, IfErr, IfSome, OnOk, OnErr};
+ghost use Rattle.std.specs.Prelude.{◌≡◌, ◌⊎◌, ◌≤◌, ◌<◌, ◌++◌, ℕ, List, [], None, Some, map, string_bytes, IfOk, IfErr, IfSome, OnOk, OnErr};
 ghost use Rattle.std.specs.Io.KnownBytes.{Appends};
 ghost use Rattle.qq_base.specs.Causes.{Rose};
 ghost use Rattle.qq_cluster.specs.Texts.{audits_text};
@@ -10,6 +10,7 @@ ghost use Rattle.qq_cluster_run.specs.Service.{HasOpened};
 ghost use Rattle.qq_cluster_run.specs.Serving.{Run, cluster_in, setup_in};
 ghost use Rattle.qq_cluster_run.specs.declared.status.TheConstants.{DONE};
 ghost use Rattle.qq_words.specs.Words.{read_words};
+ghost use Rattle.qq_broker.specs.Lives.{Giving, under};
 ghost use Rattle.qq_broker.specs.Nodes.{Had, Holds, MayRun, Meets};
 
 use crate::auditing::write_audits;
@@ -36,17 +37,18 @@ fn answer<Y: Yard>(
     text: &mut Vec<u8>,
 ) -> Result<(), AskStop>
     requires may { MayRun setup.now }
-    requires holds { (run : Run) × Holds Y.is_given Y.Disk.tells Y.Disk.past Y.Disk.faults setup.now nodes.old run }
-    ensures ok { (run : Run) → run.lines ≡ before →
-        Holds Y.is_given Y.Disk.tells Y.Disk.past Y.Disk.faults setup.now nodes.old run →
-        OnOk result (Answers (Had Y.is_given Y.Disk.tells Y.Disk.past Y.Disk.faults) setup.now run
-        (Some line.now) (Holds Y.is_given Y.Disk.tells Y.Disk.past Y.Disk.faults setup.now nodes.new)
+    requires holds { (given : Giving Y.Disk) × ((run : Run)
+        × Holds given Y.Disk.tells Y.Disk.past Y.Disk.faults setup.now nodes.old run) }
+    ensures ok { (given : Giving Y.Disk) (run : Run) → run.lines ≡ before →
+        Holds given Y.Disk.tells Y.Disk.past Y.Disk.faults setup.now nodes.old run →
+        OnOk result (Answers (Had given Y.Disk.tells Y.Disk.past Y.Disk.faults) setup.now run
+        (Some line.now) (Holds given Y.Disk.tells Y.Disk.past Y.Disk.faults setup.now nodes.new)
         text.old.items text.new.items) }
     ensures within { IfOk result (λ _. before < LINES_LIMIT) }
-    ensures cause { (run : Run) → run.lines ≡ before →
-        Holds Y.is_given Y.Disk.tells Y.Disk.past Y.Disk.faults setup.now nodes.old run →
+    ensures cause { (given : Giving Y.Disk) (run : Run) → run.lines ≡ before →
+        Holds given Y.Disk.tells Y.Disk.past Y.Disk.faults setup.now nodes.old run →
         IfErr result (HasAnswerCause
-        (Meets Y.is_given Y.Disk.tells Y.Disk.past Y.Disk.faults (Y.faults yard.old) (Y.faults yard.new))
+        (Meets given Y.Disk.tells Y.Disk.past Y.Disk.faults (Y.faults yard.old) (Y.faults yard.new))
         setup.now run (Some line.now)) }
     ensures later { Y.faults yard.old ≤ Y.faults yard.new }
 {
@@ -68,19 +70,25 @@ fn serve_lines<Y: Yard, I: Source, O: Sink>(
     output: &mut O,
 ) -> Result<(), Stop>
     requires may { MayRun setup.now }
-    requires opened { HasOpened (Had Y.is_given Y.Disk.tells Y.Disk.past Y.Disk.faults) setup.now
-        (Holds Y.is_given Y.Disk.tells Y.Disk.past Y.Disk.faults setup.now nodes.old) [] text.old.items }
-    ensures ok { OnOk result (IsServedToEnd (Had Y.is_given Y.Disk.tells Y.Disk.past Y.Disk.faults) setup.now
-        (Holds Y.is_given Y.Disk.tells Y.Disk.past Y.Disk.faults setup.now nodes.new)
+    requires opened { (given : Giving Y.Disk) × HasOpened (Had given Y.Disk.tells Y.Disk.past Y.Disk.faults) setup.now
+        (Holds given Y.Disk.tells Y.Disk.past Y.Disk.faults setup.now nodes.old) [] text.old.items }
+    ensures ok { (given : Giving Y.Disk) →
+        HasOpened (Had given Y.Disk.tells Y.Disk.past Y.Disk.faults) setup.now
+        (Holds given Y.Disk.tells Y.Disk.past Y.Disk.faults setup.now nodes.old) [] text.old.items →
+        OnOk result (IsServedToEnd (Had given Y.Disk.tells Y.Disk.past Y.Disk.faults) setup.now
+        (Holds given Y.Disk.tells Y.Disk.past Y.Disk.faults setup.now nodes.new)
         (I.left input.old) (I.left input.new)
         (O.written output.old) (O.written output.new)) }
-    ensures cause { IfErr result (λ stop. HasStopped stop setup.now (I.left input.old)
+    ensures cause { (given : Giving Y.Disk) →
+        HasOpened (Had given Y.Disk.tells Y.Disk.past Y.Disk.faults) setup.now
+        (Holds given Y.Disk.tells Y.Disk.past Y.Disk.faults setup.now nodes.old) [] text.old.items →
+        IfErr result (λ stop. HasStopped stop setup.now (I.left input.old)
         (I.left input.new) (O.written output.old) (O.written output.new)
         (Rose (I.faults input.old) (I.faults input.new))
         (Rose (O.faults output.old) (O.faults output.new))
-        (Meets Y.is_given Y.Disk.tells Y.Disk.past Y.Disk.faults
+        (Meets given Y.Disk.tells Y.Disk.past Y.Disk.faults
         (Y.faults yard.old) (Y.faults yard.new))
-        (Had Y.is_given Y.Disk.tells Y.Disk.past Y.Disk.faults) []) }
+        (Had given Y.Disk.tells Y.Disk.past Y.Disk.faults) []) }
     ensures source_later { I.faults input.old ≤ I.faults input.new }
     ensures sink_later { O.faults output.old ≤ O.faults output.new }
     ensures yard_later { Y.faults yard.old ≤ Y.faults yard.new }
@@ -120,17 +128,23 @@ fn serve_script<Y: Yard, I: Source, O: Sink>(
     output: &mut O,
 ) -> Result<(), Stop>
     requires may { MayRun setup.now }
-    requires opened { HasOpened (Had Y.is_given Y.Disk.tells Y.Disk.past Y.Disk.faults) setup.now
-        (Holds Y.is_given Y.Disk.tells Y.Disk.past Y.Disk.faults setup.now nodes.old) [] text.old.items }
-    ensures ok { OnOk result (IsDone DONE (Had Y.is_given Y.Disk.tells Y.Disk.past Y.Disk.faults) setup.now
+    requires opened { (given : Giving Y.Disk) × HasOpened (Had given Y.Disk.tells Y.Disk.past Y.Disk.faults) setup.now
+        (Holds given Y.Disk.tells Y.Disk.past Y.Disk.faults setup.now nodes.old) [] text.old.items }
+    ensures ok { (given : Giving Y.Disk) →
+        HasOpened (Had given Y.Disk.tells Y.Disk.past Y.Disk.faults) setup.now
+        (Holds given Y.Disk.tells Y.Disk.past Y.Disk.faults setup.now nodes.old) [] text.old.items →
+        OnOk result (IsDone DONE (Had given Y.Disk.tells Y.Disk.past Y.Disk.faults) setup.now
         (I.left input.old) (I.left input.new) (O.written output.old) (O.written output.new)) }
-    ensures cause { IfErr result (λ stop. HasStopped stop setup.now (I.left input.old)
+    ensures cause { (given : Giving Y.Disk) →
+        HasOpened (Had given Y.Disk.tells Y.Disk.past Y.Disk.faults) setup.now
+        (Holds given Y.Disk.tells Y.Disk.past Y.Disk.faults setup.now nodes.old) [] text.old.items →
+        IfErr result (λ stop. HasStopped stop setup.now (I.left input.old)
         (I.left input.new) (O.written output.old) (O.written output.new)
         (Rose (I.faults input.old) (I.faults input.new))
         (Rose (O.faults output.old) (O.faults output.new))
-        (Meets Y.is_given Y.Disk.tells Y.Disk.past Y.Disk.faults
+        (Meets given Y.Disk.tells Y.Disk.past Y.Disk.faults
         (Y.faults yard.old) (Y.faults yard.new))
-        (Had Y.is_given Y.Disk.tells Y.Disk.past Y.Disk.faults) []) }
+        (Had given Y.Disk.tells Y.Disk.past Y.Disk.faults) []) }
     ensures source_later { I.faults input.old ≤ I.faults input.new }
     ensures sink_later { O.faults output.old ≤ O.faults output.new }
     ensures yard_later { Y.faults yard.old ≤ Y.faults yard.new }
@@ -170,15 +184,15 @@ fn open_script<Y: Yard, I: Source, O: Sink>(
         (O.written output.old) (O.written output.new)
         (Rose (I.faults input.old) (I.faults input.new))
         (Rose (O.faults output.old) (O.faults output.new))
-        (Meets Y.is_given Y.Disk.tells Y.Disk.past Y.Disk.faults
+        (Meets (under Y.is_given None) Y.Disk.tells Y.Disk.past Y.Disk.faults
         (Y.faults yard.old) (Y.faults yard.new))
-        (Had Y.is_given Y.Disk.tells Y.Disk.past Y.Disk.faults) }
+        (Had (under Y.is_given None) Y.Disk.tells Y.Disk.past Y.Disk.faults) }
     ensures source_later { I.faults input.old ≤ I.faults input.new }
     ensures sink_later { O.faults output.old ≤ O.faults output.new }
     ensures yard_later { Y.faults yard.old ≤ Y.faults yard.new }
 {
     let mut text = Vec::new(alloc);
-    let mut nodes = match open(alloc, setup, yard, &mut text) {
+    let mut nodes = match open(alloc, setup, None, yard, &mut text) {
         Ok(nodes) => nodes,
         Err(ending) => return close(output, ending),
     };
@@ -207,9 +221,9 @@ fn begin_script<Y: Yard, I: Source, O: Sink>(
         (O.written output.old) (O.written output.new)
         (Rose (I.faults input.old) (I.faults input.new))
         (Rose (O.faults output.old) (O.faults output.new))
-        (Meets Y.is_given Y.Disk.tells Y.Disk.past Y.Disk.faults
+        (Meets (under Y.is_given None) Y.Disk.tells Y.Disk.past Y.Disk.faults
         (Y.faults yard.old) (Y.faults yard.new))
-        (Had Y.is_given Y.Disk.tells Y.Disk.past Y.Disk.faults)) }
+        (Had (under Y.is_given None) Y.Disk.tells Y.Disk.past Y.Disk.faults)) }
     ensures source_later { I.faults input.old ≤ I.faults input.new }
     ensures sink_later { O.faults output.old ≤ O.faults output.new }
     ensures yard_later { Y.faults yard.old ≤ Y.faults yard.new }
@@ -235,9 +249,9 @@ fn run_script<S: Shelf, Y: Yard, I: Source, O: Sink>(
         (Rose (I.faults input.old) (I.faults input.new))
         (Rose (S.faults shelf.old) (S.faults shelf.new))
         (Rose (O.faults output.old) (O.faults output.new))
-        (Meets Y.is_given Y.Disk.tells Y.Disk.past Y.Disk.faults
+        (Meets (under Y.is_given None) Y.Disk.tells Y.Disk.past Y.Disk.faults
         (Y.faults yard.old) (Y.faults yard.new))
-        (Had Y.is_given Y.Disk.tells Y.Disk.past Y.Disk.faults) }
+        (Had (under Y.is_given None) Y.Disk.tells Y.Disk.past Y.Disk.faults) }
     ensures source_later { I.faults input.old ≤ I.faults input.new }
     ensures sink_later { O.faults output.old ≤ O.faults output.new }
     ensures shelf_later { S.faults shelf.old ≤ S.faults shelf.new }
@@ -274,8 +288,8 @@ fn script_of(command: Option<Command>) -> Option<Options>
 /// - `ends`: what a run has done that ends with this status (`a_status_tells_what_was_done`, `exports_are_read_first`).
 ///   What was written is the line of what was made of an export, the text of some events that the lines allow, and then
 ///   the audits, or a first part of that and a closing line. Where these events happened, each node's disk is what has
-///   become of one that the yard gave for that node (`Had`), and each trouble was met in the yard, in such a disk or in
-///   the nodes (`Meets`).
+///   become of one that the yard gave for that node, and the run's logs are those that the disk held (`Had`); without a
+///   root nothing was ever on it. Each trouble was met in the yard, in such a disk or in the nodes (`Meets`).
 /// - `source_later`, `sink_later`, `shelf_later`, `yard_later`: the counts of faults don't fall.
 pub fn run<R: AllocGlobal, I: Source, O: Sink, S: Shelf, Y: Yard>(
     rt: &R,
@@ -291,9 +305,9 @@ pub fn run<R: AllocGlobal, I: Source, O: Sink, S: Shelf, Y: Yard>(
         (Rose (I.faults input.old) (I.faults input.new))
         (Rose (S.faults shelf.old) (S.faults shelf.new))
         (Rose (O.faults output.old) (O.faults output.new))
-        (Meets Y.is_given Y.Disk.tells Y.Disk.past Y.Disk.faults
+        (Meets (under Y.is_given None) Y.Disk.tells Y.Disk.past Y.Disk.faults
         (Y.faults yard.old) (Y.faults yard.new))
-        (Had Y.is_given Y.Disk.tells Y.Disk.past Y.Disk.faults) }
+        (Had (under Y.is_given None) Y.Disk.tells Y.Disk.past Y.Disk.faults) }
     ensures source_later { I.faults input.old ≤ I.faults input.new }
     ensures sink_later { O.faults output.old ≤ O.faults output.new }
     ensures shelf_later { S.faults shelf.old ≤ S.faults shelf.new }
