@@ -16,3 +16,4 @@ pub mod Asked
 pub mod Audited
 pub mod Looped
 pub mod Closed
+pub mod Dumped

@@ -8,7 +8,7 @@ ghost use Rattle.qq_broker.specs.Nodes.{Had, Holds, MayRun, Meets};
 ghost use Rattle.qq_broker.specs.Serving.{AreGiven, AreUnopened, IsYardEnding, yard_ending};
 
 use crate::stopping::restart_stop;
-use qq_base::NodeId;
+use qq_base::{NodeId, Text};
 use qq_cluster_run::{Ending, Stop, clusters_begin_with_new_logs};
 use qq_nodes::Nodes;
 use qq_opening::open as open_nodes;
@@ -17,8 +17,8 @@ use qq_recover::these_disks_may_be_recovered;
 use qq_setup::Setup;
 use std::alloc::Global;
 
-// How a run ends whose yard gives no disk.
-fn yard_ending(fault: YardFault) -> Ending
+/// How a run ends whose yard gives no disk.
+pub fn yard_ending(fault: YardFault) -> Ending
     ensures { result ≡ yard_ending fault }
 {
     match fault {
@@ -55,21 +55,31 @@ fn disks_of<Y: Yard>(
     Ok(disks)
 }
 
+// The path of a root, if there is one.
+fn path_of(root: &Option<Text>) -> Option<&str>
+    ensures { option_map (λ text. text.now) result ≡ root.now }
+{
+    match root {
+        Some(text) => Some(text.as_str()),
+        None => None,
+    }
+}
+
 // Nodes over these disks, all of them down, and the queues of a setup.
 fn begin<Y: Yard>(
     alloc: Global,
     setup: &Setup,
-    root: Option<&str>,
+    root: &Option<Text>,
     yard: &mut Y,
 ) -> Result<Nodes<Y::Disk>, Ending>
     requires { MayRun setup.now }
-    ensures ok { IfOk result (AreUnopened (under Y.is_given (option_map (λ text. text.now) root.entry))
+    ensures ok { IfOk result (AreUnopened (under Y.is_given root.now)
         Y.Disk.tells Y.Disk.past Y.Disk.faults setup.now) }
     ensures cause { IfErr result (IsYardEnding (Y.faults yard.old) (Y.faults yard.new)) }
     ensures later { Y.faults yard.old ≤ Y.faults yard.new }
 {
     clusters_begin_with_new_logs();
-    let disks = match disks_of(alloc, setup.nodes, root, yard) {
+    let disks = match disks_of(alloc, setup.nodes, path_of(root), yard) {
         Ok(disks) => disks,
         Err(ending) => return Err(ending),
     };
@@ -89,18 +99,18 @@ fn begin<Y: Yard>(
 pub fn open<Y: Yard>(
     alloc: Global,
     setup: &Setup,
-    root: Option<&str>,
+    root: &Option<Text>,
     yard: &mut Y,
     text: &mut Vec<u8>,
 ) -> Result<Nodes<Y::Disk>, Ending>
     requires { MayRun setup.now }
     ensures ok { IfOk result (λ nodes. HasOpened
-        (Had (under Y.is_given (option_map (λ text. text.now) root.entry)) Y.Disk.tells Y.Disk.past Y.Disk.faults)
+        (Had (under Y.is_given root.now) Y.Disk.tells Y.Disk.past Y.Disk.faults)
         setup.now
-        (Holds (under Y.is_given (option_map (λ text. text.now) root.entry)) Y.Disk.tells Y.Disk.past Y.Disk.faults
+        (Holds (under Y.is_given root.now) Y.Disk.tells Y.Disk.past Y.Disk.faults
         setup.now nodes) text.old.items text.new.items) }
     ensures cause { IfErr result (MayNotOpen
-        (Meets (under Y.is_given (option_map (λ text. text.now) root.entry)) Y.Disk.tells Y.Disk.past Y.Disk.faults
+        (Meets (under Y.is_given root.now) Y.Disk.tells Y.Disk.past Y.Disk.faults
         (Y.faults yard.old) (Y.faults yard.new)) setup.now) }
     ensures later { Y.faults yard.old ≤ Y.faults yard.new }
 {

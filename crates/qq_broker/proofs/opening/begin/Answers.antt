@@ -1,9 +1,10 @@
-use Rattle.std.proofs.Common.{List, length, sym, subst}
-use Rattle.std.specs.Prelude.{All, option_map}
+use Rattle.std.proofs.Common.{List, ℕ, Option, length, sym, subst}
+use Rattle.std.specs.Prelude.{All}
 use Rattle.qq_cluster_run.specs.Setup.{cluster_setup}
 use Rattle.qq_setup.specs.declared.queue_row.QueueRow.{QueueRow}
 use Rattle.qq_nodes.specs.Setting.{AreNew, IsRow, IsSetupOver}
 use Rattle.qq_broker.specs.Lives.{under}
+use Rattle.qq_broker.specs.Serving.{AreGiven}
 use Rattle.qq_broker.proofs.Beginning.{is-set, rows-range, unopened}
 use Rattle.qq_broker.proofs.opening.begin.Goals as goal
 
@@ -25,8 +26,10 @@ returns-in-Ok-new-clause-ok g c =
     let s = c.args.setup.now in
     let tells = g.Y.Disk.NodeDisk.tells in
     let past = g.Y.Disk.NodeDisk.past in
-    unopened (under g.Y.Yard.is_given (option_map (λ text. text.now) c.args.root)) tells past
-    g.Y.Disk.NodeDisk.faults s c.in-Ok.disks.items c.in-Ok-new.nodes c.in-Ok.ensures.count c.in-Ok.ensures.given
+    unopened (under g.Y.Yard.is_given c.args.root.now) tells past g.Y.Disk.NodeDisk.faults s c.in-Ok.disks.items
+    c.in-Ok-new.nodes c.in-Ok.ensures.count
+    (subst (λ (root : Option (List ℕ)). AreGiven (under g.Y.Yard.is_given root) tells past c.in-Ok.disks.items)
+    c.path_of.ensures c.in-Ok.ensures.given)
     c.in-Ok-new.ensures.disks
     (c.in-Ok-new.ensures.ok (cluster_setup s)
     (subst (λ (rows : List QueueRow). IsSetupOver (cluster_setup s) rows (length c.in-Ok.disks.items))

@@ -1,5 +1,4 @@
 use Rattle.std.proofs.Common.{ap, subst, sym, ◌∙◌}
-use Rattle.std.specs.Prelude.{option_map}
 use Rattle.qq_cluster_run.specs.Runs.{MayNotOpen, ending_of}
 use Rattle.qq_broker.specs.Lives.{under}
 use Rattle.qq_broker.specs.Nodes.{Meets}
@@ -10,7 +9,7 @@ use Rattle.qq_broker.proofs.opening.open.Goals as goal
 
 pub returns-in-Err-clause-cause : goal.returns-in-Err-clause-cause
 returns-in-Err-clause-cause g c =
-    yard-closes (under g.Y.Yard.is_given (option_map (λ text. text.now) c.args.root)) g.Y.Disk.NodeDisk.tells
+    yard-closes (under g.Y.Yard.is_given c.args.root.now) g.Y.Disk.NodeDisk.tells
     g.Y.Disk.NodeDisk.past g.Y.Disk.NodeDisk.faults _ _ c.args.setup.now c.in-Err.ending c.in-Err.ensures.cause
 
 pub open-requires : goal.open-requires
@@ -19,7 +18,7 @@ open-requires g c = (c.args.setup.now.queues, c.in-Ok.ensures.ok.new)
 pub returns-then-some-clause-ok : goal.returns-then-some-clause-ok
 returns-then-some-clause-ok g c =
     let s = c.args.setup.now in
-    has-opened (under g.Y.Yard.is_given (option_map (λ text. text.now) c.args.root)) g.Y.Disk.NodeDisk.tells
+    has-opened (under g.Y.Yard.is_given c.args.root.now) g.Y.Disk.NodeDisk.tells
     g.Y.Disk.NodeDisk.past g.Y.Disk.NodeDisk.faults s c.requires
     (c.clusters_begin_with_new_logs.ensures s c.requires) c.in-Ok.nodes c.in-Ok.ensures.ok c.open.new.nodes
     c.args.text.now.items c.open.new.text.items c.in-Ok-open_nodes.some c.if-some.true
@@ -27,7 +26,7 @@ returns-then-some-clause-ok g c =
 
 pub returns-else-some-clause-cause : goal.returns-else-some-clause-cause
 returns-else-some-clause-cause g c =
-    let given = under g.Y.Yard.is_given (option_map (λ text. text.now) c.args.root) in
+    let given = under g.Y.Yard.is_given c.args.root.now in
     let tells = g.Y.Disk.NodeDisk.tells in
     let past = g.Y.Disk.NodeDisk.past in
     let faults = g.Y.Disk.NodeDisk.faults in
@@ -42,7 +41,7 @@ returns-else-some-clause-cause g c =
 
 pub returns-in-Err-open_nodes-clause-cause : goal.returns-in-Err-open_nodes-clause-cause
 returns-in-Err-open_nodes-clause-cause g c =
-    let given = under g.Y.Yard.is_given (option_map (λ text. text.now) c.args.root) in
+    let given = under g.Y.Yard.is_given c.args.root.now in
     let tells = g.Y.Disk.NodeDisk.tells in
     let past = g.Y.Disk.NodeDisk.past in
     let faults = g.Y.Disk.NodeDisk.faults in

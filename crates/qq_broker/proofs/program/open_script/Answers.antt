@@ -1,4 +1,4 @@
-use Rattle.std.proofs.Common.{List, ℕ, [], None, inl, inr, subst}
+use Rattle.std.proofs.Common.{List, ℕ, [], inl, inr, subst}
 use Rattle.qq_cluster_run.specs.Service.{HasOpened}
 use Rattle.qq_broker.specs.Lives.{under}
 use Rattle.qq_broker.specs.Nodes.{Had, Holds}
@@ -11,7 +11,7 @@ returns-clause-ends g c =
     let written = g.O.Sink.written in
     let faults = g.O.Sink.faults in
     let yards = g.Y.Yard.faults in
-    let given = under g.Y.Yard.is_given None in
+    let given = under g.Y.Yard.is_given c.args.root.now in
     let s = c.args.setup.now in
     let opened : HasOpened (Had given disk.tells disk.past disk.faults) s
     (Holds given disk.tells disk.past disk.faults s c.in-Ok.nodes) [] c.open.new.text.items =
@@ -30,7 +30,7 @@ returns-clause-ends g c =
 pub returns-in-Ok-serve_script-clause-ends : goal.returns-in-Ok-serve_script-clause-ends
 returns-in-Ok-serve_script-clause-ends g c =
     let disk = g.Y.Disk.NodeDisk in
-    let given = under g.Y.Yard.is_given None in
+    let given = under g.Y.Yard.is_given c.args.root.now in
     let s = c.args.setup.now in
     let opened : HasOpened (Had given disk.tells disk.past disk.faults) s
     (Holds given disk.tells disk.past disk.faults s c.in-Ok.nodes) [] c.open.new.text.items =
