@@ -1,10 +1,8 @@
 -- How a run ends, and what it has written by then.
-use Rattle.std.specs.Prelude.{◌≡◌, ◌⊎◌, ℕ, List, [], ◌++◌, Option, Some, None, true, IfSome, is_some, take, if◌then◌else◌}
+use Rattle.std.specs.Prelude.{◌≡◌, ◌⊎◌, ℕ, List, [], ◌++◌, Option, Some, None, true, IfSome, is_some, take}
 use Rattle.std.specs.List.{AllByRecursion}
 use Rattle.std.specs.Io.KnownBytes.{Appends, Keeps, IsAtEnd}
 use Rattle.qq_setup.specs.declared.setup.Setup.{Setup}
-use Rattle.qq_words.specs.declared.commands.Command.{Command}
-use Rattle.qq_words.specs.declared.commands.Command.TheVariants.{Script}
 use Rattle.qq_words.specs.declared.options.Options.{Options}
 use Rattle.qq_cluster.specs.Cluster.{Setup as ClusterSetup}
 use Rattle.qq_cluster.specs.Rules.{IsOpening}
@@ -183,11 +181,6 @@ pub record IsScript (status : ℕ) (options : Options) (files : Files) (left res
   pub is_setup : IsSetupOver files options setup
   pub ends : IsCutInMade status setup left rest old new sink
       ⊎ IsBehindMade status setup left rest old new source sink met had
-
--- Nothing here keeps files in a folder yet, or lists them: a script over a folder is no command, nor is a dump.
-abbrev pub script_of : Option Command → Option Options
-script_of (Some (Script options)) = if is_some options.root then None else Some options
-script_of _ = None
 
 -- What a run has done that ends with this status, where the words are a script with these options, and where they are no
 -- command. There may be no memory to read them.
