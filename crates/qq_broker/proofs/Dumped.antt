@@ -9,6 +9,9 @@ use Rattle.qq_base.specs.declared.ids.NodeId.{NodeId}
 use Rattle.qq_disk.specs.Disk.{Disk, now}
 use Rattle.qq_dump.specs.Files.{AreShown, LogFile, dump_text, log_files}
 use Rattle.qq_dump.specs.Written.{WritesWhole}
+use Rattle.qq_ports.specs.declared.yard_fault.YardFault.{YardFault}
+use Rattle.qq_ports.specs.declared.yard_fault.YardFault.TheVariants.{Failed, Memory as OfMemory}
+use Rattle.qq_ports.specs.Yard.{IsYardCaused}
 use Rattle.qq_words.specs.declared.commands.Command.{Command}
 use Rattle.qq_words.specs.declared.commands.Command.TheVariants.{Script, Dump}
 use Rattle.qq_cluster_run.specs.Definitions.{Files}
@@ -19,7 +22,7 @@ use Rattle.qq_cluster_run.proofs.Closings.{Rose_earlier}
 use Rattle.qq_broker.specs.Dumping.{DumpEnds, HasDumped, IsDumpEnding, IsDumped}
 use Rattle.qq_broker.specs.Lives.{Giving, IsGiven}
 use Rattle.qq_broker.specs.Program.{ProgramEnds}
-use Rattle.qq_broker.specs.Serving.{IsYardEnding}
+use Rattle.qq_broker.specs.Serving.{IsYardEnding, yard_ending}
 
 -- ---- a disk's text is written
 
@@ -37,6 +40,13 @@ cut-short status ending disk files a b c old mid new le (front, (is_front, writt
           (λ more. Appends a c (dump_text front ++ more)) (Rose_earlier old mid new le)
           (λ more so. Appends-trans a b c (dump_text front) more written so) closes;
     }))
+
+-- ---- the yard gives no disk
+
+pub yard-ended : (before after : ℕ) (fault : YardFault) → IsYardCaused before after fault
+    → IsYardEnding before after (yard_ending fault)
+yard-ended before after Failed rose = inl (rose, refl)
+yard-ended before after (OfMemory m) is = inr refl
 
 -- ---- what a dump tells
 
