@@ -30,7 +30,7 @@ pub cut-short : (status : ℕ) (ending : Ending) (disk : Type 0) (files : List L
     (old mid new : ℕ) → old ≤ mid → WritesWhole a b files → IsDumpEnding disk ending
     → Closes status ending (Rose mid new) (λ more. Appends b c more)
     → HasDumped status disk (Rose old new) files a c
-cut-short status ending disk files a b c old mid new le (front, (is_front, written)) may closes =
+cut-short status ending disk files a b c old mid new le (front, is_front, written) may closes =
     inr (inr (record {
       front = front;
       is_front = is_front;
@@ -55,17 +55,17 @@ closed : (status : ℕ) (ending : Ending) (sink : Type 0) (Stands : List ℕ →
     → (status ≡ 6) ⊎ ((status ≡ 7) ⊎ (status ≡ 12))
 closed status ending sink Stands (inl yard) (inl (is, so)) = inr (inl (is ∙ ap (λ (e : Ending). e.status) yard))
 closed status ending sink Stands (inr none) (inl (is, so)) = inr (inr (is ∙ ap (λ (e : Ending). e.status) none))
-closed status ending sink Stands may (inr (is, rest)) = inl is
+closed status ending sink Stands may (inr (is, rose, part)) = inl is
 
 which : (fault : Type 0) (ending : Ending) → (fault × (ending ≡ yard_fault)) ⊎ (ending ≡ no_memory)
     → (ending ≡ yard_fault) ⊎ (ending ≡ no_memory)
 which fault ending (inl yard) = inl yard.1
 which fault ending (inr none) = inr none
 
-zero-no : (0 ≡ 6) ⊎ ((0 ≡ 7) ⊎ (0 ≡ 12)) → ⊥
-zero-no (inl e) = absurd (omega (arith, e))
-zero-no (inr (inl e)) = absurd (omega (arith, e))
-zero-no (inr (inr e)) = absurd (omega (arith, e))
+zero-no : (status : ℕ) → status ≡ 0 → (status ≡ 6) ⊎ ((status ≡ 7) ⊎ (status ≡ 12)) → ⊥
+zero-no status is (inl e) = absurd (omega (arith, is, e))
+zero-no status is (inr (inl e)) = absurd (omega (arith, is, e))
+zero-no status is (inr (inr e)) = absurd (omega (arith, is, e))
 
 -- a closing line with status 7 tells of a fault
 seven : (fault : Type 0) (ending : Ending) (sink : Type 0) (Stands : List ℕ → Type 0)
@@ -73,7 +73,7 @@ seven : (fault : Type 0) (ending : Ending) (sink : Type 0) (Stands : List ℕ �
 seven fault ending sink Stands (inl yard) closes = yard.0
 seven fault ending sink Stands (inr none) (inl (is, so)) =
     let same : 7 ≡ 12 = is ∙ ap (λ (e : Ending). e.status) none in absurd (omega (arith, same))
-seven fault ending sink Stands (inr none) (inr (is, rest)) = let same : 7 ≡ 6 = is in absurd (omega (arith, same))
+seven fault ending sink Stands (inr none) (inr (is, rose, part)) = let same : 7 ≡ 6 = is in absurd (omega (arith, same))
 
 module _ {D : Type 0} (given : Giving D) (tells : D → Bool) (past : D → List Disk) (faults : D → ℕ) (node : NodeId)
     (bytes rest old new : List ℕ) (sink : Type 0) (before after : ℕ) where
@@ -94,7 +94,7 @@ module _ {D : Type 0} (given : Giving D) (tells : D → Bool) (past : D → List
       by : HasDumped status disk sink so.files (Some old) (Some new)
           → (status ≡ 0) ⊎ ((status ≡ 6) ⊎ ((status ≡ 7) ⊎ (status ≡ 12)))
       by (inl (is, grown)) = inl is
-      by (inr (inl (is, cut))) = inr (inl is)
+      by (inr (inl cut)) = inr (inl cut.0)
       by (inr (inr cut)) =
           inr (closed status cut.ending sink (λ more. Appends (Some old) (Some new) (dump_text cut.front ++ more))
           (which disk cut.ending cut.may) cut.closes)
@@ -103,7 +103,7 @@ module _ {D : Type 0} (given : Giving D) (tells : D → Bool) (past : D → List
       → (disk : D) × IsGiven given tells past node.0 disk × (rest ≡ bytes)
       × (IsTrue (tells disk) → new ≡ old ++ dump_text (log_files (now (past disk))))
   dump-done (inl un) =
-      absurd (zero-no (closed 0 un.ending sink (λ more. Appends (Some old) (Some new) more)
+      absurd (zero-no 0 refl (closed 0 un.ending sink (λ more. Appends (Some old) (Some new) more)
       (which (Rose before after) un.ending un.may) un.closes))
   dump-done (inr so) = by so.has
     where
@@ -119,9 +119,9 @@ module _ {D : Type 0} (given : Giving D) (tells : D → Bool) (past : D → List
         so.keeps,
         λ tell. grown ∙ ap (λ (files : List LogFile). old ++ dump_text files) (so.shown tell),
       )
-      by (inr (inl (is, cut))) = let same : 0 ≡ 6 = is in absurd (omega (arith, same))
+      by (inr (inl cut)) = let same : 0 ≡ 6 = cut.0 in absurd (omega (arith, same))
       by (inr (inr cut)) =
-          absurd (zero-no (closed 0 cut.ending sink (λ more. Appends (Some old) (Some new) (dump_text cut.front ++ more))
+          absurd (zero-no 0 refl (closed 0 cut.ending sink (λ more. Appends (Some old) (Some new) (dump_text cut.front ++ more))
           (which disk cut.ending cut.may) cut.closes))
 
   pub dump-failed : Ends 7
@@ -138,7 +138,7 @@ module _ {D : Type 0} (given : Giving D) (tells : D → Bool) (past : D → List
           → Rose before after
           ⊎ ((d : D) × IsGiven given tells past node.0 d × ((last : D) × Rose (faults d) (faults last)))
       by (inl (is, grown)) = let same : 7 ≡ 0 = is in absurd (omega (arith, same))
-      by (inr (inl (is, cut))) = let same : 7 ≡ 6 = is in absurd (omega (arith, same))
+      by (inr (inl cut)) = let same : 7 ≡ 6 = cut.0 in absurd (omega (arith, same))
       by (inr (inr cut)) =
           inr (
             so.first,

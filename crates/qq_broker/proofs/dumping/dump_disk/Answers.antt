@@ -15,10 +15,10 @@ returns-in-Err-Disk-clause-ends g c =
     let cause = rw c.in-Err-Disk.field-0-is at c.in-Err-Disk.ensures.cause in (
       so.0,
       so.1,
-      cut-short c.close-in-Err-Disk.result c.yard_fault.result (Rose (disk c.args.disk.now) (disk c.dump.new.disk)) so.0
-          (written c.args.output.now) (written c.dump.new.output) (written c.close-in-Err-Disk.new.output)
-          (faults c.args.output.now) (faults c.dump.new.output) (faults c.close-in-Err-Disk.new.output)
-          c.in-Err-Disk.ensures.sink so.2 (inl (cause, c.yard_fault.ensures)) c.close-in-Err-Disk.ensures.closes,
+      cut-short c.close.result c.yard_fault.result (Rose (disk c.args.disk.now) (disk c.dump.new.disk)) so.0
+          (written c.args.output.now) (written c.dump.new.output) (written c.close.new.output)
+          (faults c.args.output.now) (faults c.dump.new.output) (faults c.close.new.output)
+          c.in-Err-Disk.ensures.sink so.2 (inl (cause, c.yard_fault.ensures)) c.close.ensures.closes,
     )
 
 pub returns-in-Err-Sink-clause-ends : goal.returns-in-Err-Sink-clause-ends

@@ -13,11 +13,11 @@ returns-in-Err-clause-ends g c =
       may = subst (IsYardEnding before after) (sym c.yard_ending.ensures)
           (yard-ended before after c.in-Err.fault c.in-Err.ensures.cause.cause);
       keeps = keeps-all left;
-      closes = c.close-in-Err.ensures.closes;
+      closes = c.close.ensures.closes;
     })
 
-pub returns-in-Ok-clause-ends : goal.returns-in-Ok-clause-ends
-returns-in-Ok-clause-ends g c =
+pub returns-clause-ends : goal.returns-clause-ends
+returns-clause-ends g c =
     let so = c.dump_disk.ensures.ends in λ left. inr (record {
       first = c.in-Ok.disk;
       given_is = record { asked = c.in-Ok.ensures.given; opened = c.in-Ok.ensures.opened; new = tt };
