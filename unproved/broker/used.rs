@@ -1,10 +1,10 @@
-//! A check of a node over a disk that somebody else has written.
+//! A check of a node over a disk that an earlier run has left.
 
 use crate::runs::serve;
 use anyhow::{Result, ensure};
 use cases::{Trials, run_each};
 use qq_base::NodeId;
-use qq_disk::{FileKind, FileName, Image, NodeDisk};
+use qq_disk::{FileKind, FileName, Image, NodeDisk, Tail};
 use qq_mem_disk::MemDisk;
 use qq_ports::{Yard, YardFault};
 use std::alloc::Global;
@@ -35,8 +35,16 @@ impl Yard for UsedYard {
             kind: FileKind::Log,
             number: 1,
         };
-        match disk.append(alloc, log, &EARLIER) {
-            Ok(()) => Ok(disk),
+        if let Err(_) = disk.append(alloc, log, &EARLIER) {
+            return Err(YardFault::Failed);
+        }
+        let image = Image {
+            newest_log: Tail::Whole,
+            others: Tail::Whole,
+            removed_back: false,
+        };
+        match disk.crash(alloc, &image) {
+            Ok(disk) => Ok(disk),
             Err(_) => Err(YardFault::Failed),
         }
     }
@@ -46,16 +54,20 @@ impl Yard for UsedYard {
     }
 }
 
-/// The run prints the queue, and how many of its ops were found.
-fn no_node_is_opened_over_ops_of_another_run(rt: HostRuntime) -> Result<()> {
+/// The vote in the first term stands, so the queue has a leader in the second one.
+fn a_run_goes_on_with_what_an_earlier_one_has_left(rt: HostRuntime) -> Result<()> {
     let options = ["--queues=2", "--log-bytes=65536"];
     let ran = serve(rt, &options, &mut UsedYard, "publish a\n", 0, 0)?;
-    ensure!(ran.status == 9);
-    ensure!(ran.printed()? == "lost node 1 q1 noticed 0 found 1\n");
+    ensure!(ran.status == 0);
+    ensure!(
+        ran.printed()?
+            == "confirmed 1\naudit q1 0 2\n1 2 noop 1 lead\n2 2 enqueue 1 1 1 confirmed 1\n\
+                audit q2 0 1\n1 1 noop 1 lead\n"
+    );
     Ok(())
 }
 
 pub fn check(trials: &mut Trials) -> Result<()> {
-    run_each!(trials; no_node_is_opened_over_ops_of_another_run);
+    run_each!(trials; a_run_goes_on_with_what_an_earlier_one_has_left);
     Ok(())
 }

@@ -21,6 +21,7 @@ use Rattle.qq_cluster_run.specs.Troubles.{Trouble}
 use Rattle.qq_nodes.specs.Nodes.{GaveUp, Served}
 use Rattle.qq_nodes.specs.Sending.{numbers_of}
 use Rattle.qq_nodes.specs.declared.nodes.Nodes.{Nodes}
+use Rattle.qq_broker.specs.Lives.{Giving}
 use Rattle.qq_broker.specs.Nodes.{Holds, Meets}
 use Rattle.qq_broker.specs.Serving.{IsGivenUp, IsServed, run_after}
 use Rattle.qq_broker.proofs.GoingOn.{given-up, had-so, served}
@@ -41,7 +42,7 @@ want-given-up met setup events line r want =
     IfErr-weaker r _ (IsGivenUp met setup events line)
     (λ memory is. subst (IsGivenUp met setup events line) (sym is) tt) want
 
-module _ {D : Type 0} (given : ℕ → D → Bool) (tells : D → Bool) (past : D → List Disk) (faults : D → ℕ)
+module _ {D : Type 0} (given : Giving D) (tells : D → Bool) (past : D → List Disk) (faults : D → ℕ)
     (s : Setup) where
   -- by a rule that is the line's
   pub all-served : {T : Type 0} (line : ScriptLine) (r : Result T Memory) (old new : Nodes D) (before later : List ℕ)
@@ -78,7 +79,7 @@ module _ {D : Type 0} (given : ℕ → D → Bool) (tells : D → Bool) (past : 
   same-run held run lines events is h =
       subst (λ (l : List ClusterEvent). Holds given tells past faults s held
       (record { lines = lines; logs = run.logs; events = l }))
-      (sym is) (record { new = h.new; stands = h.stands; disks = h.disks })
+      (sym is) (record { stands = h.stands; restarted = h.restarted; disks = h.disks })
 
   pub nothing-served : (held : Nodes D) (text : List ℕ) (run : Run) → Holds given tells past faults s held run
       → IsServed given tells past faults s run Nothing held text text

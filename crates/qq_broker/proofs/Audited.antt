@@ -17,6 +17,7 @@ use Rattle.qq_cluster_run.proofs.Audits.{audits_by_rows, has_place, row_audit}
 use Rattle.qq_cluster_run.proofs.Pieces.{join, last_item, next_item, nothing, some_next, some_rest, whole}
 use Rattle.qq_nodes.specs.Nodes.{IsQueueAt, Stands}
 use Rattle.qq_nodes.specs.declared.nodes.Nodes.{Nodes}
+use Rattle.qq_broker.specs.Lives.{Giving}
 use Rattle.qq_broker.specs.Nodes.{Holds, MayRun}
 use Rattle.qq_broker.proofs.GoingOn.{queue-there}
 use Rattle.qq_broker.proofs.Rows.{row-named}
@@ -28,7 +29,7 @@ audits_of s run = audits_text (setup_in s run) (cluster_in s run)
 module _ {D : Type 0} (tells : D → Bool) (past : D → List Disk) (faults : D → ℕ) (s : Setup) (held : Nodes D) where
   -- of whatever run they stand for
   abbrev pub OfRuns : (Run → Type 0) → Type 0
-  OfRuns Is = (given : ℕ → D → Bool) (run : Run) → Holds given tells past faults s held run → Is run
+  OfRuns Is = (given : Giving D) (run : Run) → Holds given tells past faults s held run → Is run
 
   -- all was written but what stands in a text, and the audits of the rows from one on
   abbrev pub AuditsOn : (a b : Option (List ℕ)) (said : List ℕ) (rows : List QueueRow) (i : ℕ) → Type 0
@@ -55,7 +56,7 @@ module _ {D : Type 0} (tells : D → Bool) (past : D → List Disk) (faults : D 
       (setup : ClusterSetup) (c : Cluster) → Stands tells past setup held c
       → later ≡ before ++ audit_text (setup.name (place_of row)) 0 (audit_rows (c.queue (place_of row)))
 
-  pub audit-there : (rows : List QueueRow) (i : ℕ) (row : QueueRow) → IsRowAt rows i row → (given : ℕ → D → Bool)
+  pub audit-there : (rows : List QueueRow) (i : ℕ) (row : QueueRow) → IsRowAt rows i row → (given : Giving D)
       (run : Run)
       → Holds given tells past faults s held run → IsQueueAt row.args.queue held
   audit-there rows i row (are, lt, is) given run h =
@@ -63,7 +64,7 @@ module _ {D : Type 0} (tells : D → Bool) (past : D → List Disk) (faults : D 
       (subst (λ (l : List QueueRow). Contains (map place_of l) (place_of row)) are (has_place rows i row lt is))
 
   row-adds : (rows : List QueueRow) (i : ℕ) (row : QueueRow) (before later : List ℕ) → MayRun s → IsRowAt rows i row
-      → AddsAudit row before later → (given : ℕ → D → Bool) (run : Run) → Holds given tells past faults s held run
+      → AddsAudit row before later → (given : Giving D) (run : Run) → Holds given tells past faults s held run
       → later ≡ before ++ row_audit (cluster_in s run) row
   row-adds rows i row before later runs (are, lt, is) adds given run h =
       let c : Cluster = cluster_in s run in
@@ -75,7 +76,7 @@ module _ {D : Type 0} (tells : D → Bool) (past : D → List Disk) (faults : D 
 
   -- it moves from what is left to the text
   row-moves : (a b : Option (List ℕ)) (said text : List ℕ) (rows : List QueueRow) (i : ℕ) (row : QueueRow) → MayRun s
-      → IsRowAt rows i row → AuditsOn a b said rows i → AddsAudit row said text → (given : ℕ → D → Bool) (run : Run)
+      → IsRowAt rows i row → AuditsOn a b said rows i → AddsAudit row said text → (given : Giving D) (run : Run)
       → Holds given tells past faults s held run
       → HasPrefix a b (audits_of s run) (text ++ flat_map (row_audit (cluster_in s run)) (drop (i + 1) rows))
   row-moves a b said text rows i row runs at so adds given run h =
@@ -110,7 +111,7 @@ module _ {D : Type 0} (tells : D → Bool) (past : D → List Disk) (faults : D 
 
   -- behind the last row all was added
   audits-last : (a b : Option (List ℕ)) (said : List ℕ) (rows : List QueueRow) (i : ℕ) → length rows ≤ i
-      → AuditsOn a b said rows i → (given : ℕ → D → Bool) (run : Run) → Holds given tells past faults s held run
+      → AuditsOn a b said rows i → (given : Giving D) (run : Run) → Holds given tells past faults s held run
       → HasPrefix a b (audits_of s run) said
   audits-last a b said rows i le so given run h =
       last_item (row_audit (cluster_in s run)) a b (audits_of s run) said rows i le (so given run h)

@@ -1,34 +1,43 @@
--- The nodes of a run begin over new disks.
-use Rattle.std.proofs.Common.{◌≡◌, ◌⊎◌, ◌<◌, ◌≤◌, ◌+◌, ◌-◌, ◌^◌, ◌%◌, ◌∷◌, ℕ, zero, suc, Bool, true, List, [], length, map, get_or, Option, Some, None, refl, sym, ap, subst, ◌∙◌, inl, inr, arith}
-use Rattle.std.specs.Prelude.{All, min, nat_eq, slice_get}
-use Rattle.std.specs.List.{AllByRecursion, range_with_len}
+-- The nodes of a run begin over the disks that are given for them.
+use Rattle.std.proofs.Common.{◌≡◌, ◌⊎◌, ◌<◌, ◌≤◌, ◌+◌, ◌-◌, ◌^◌, ◌%◌, ℕ, zero, suc, Bool, true, List, [], ◌∷◌, ◌++◌, length, map, get_or, Option, Some, None, refl, sym, ap, subst, ◌∙◌, inl, inr, arith}
+use Rattle.std.specs.Prelude.{All, IfNone, IsTrue, min, nat_eq, option_map, slice_get}
+use Rattle.std.specs.List.{AllByRecursion, list_all, range_with_len}
+use Rattle.std.proofs.Math.Path.{fun_ext}
 use Rattle.std.proofs.Math.Nat.{min-le_right}
-use Rattle.std.proofs.lemmas.Bool.{cond_both, eqb-true}
-use Rattle.std.proofs.lemmas.List.Elements.{All-from_recursion}
+use Rattle.std.proofs.lemmas.Bool.{and_from, and_parts, cond_both, eq-eqb, eqb-true, false≢true}
+use Rattle.std.proofs.lemmas.List.Elements.{All-from_recursion, All-push}
+use Rattle.std.proofs.lemmas.List.{length_push}
 use Rattle.std.proofs.lemmas.List.FromFn.{length-map-range_with_len}
-use Rattle.std.proofs.lemmas.Option.{slice_get_cases}
+use Rattle.std.proofs.lemmas.Option.{slice_get_cases, slice_get_within}
 use Rattle.qq_base.proofs.Lists.{find-in}
 use Rattle.qq_base.specs.declared.ids.NodeId.{NodeId}
 use Rattle.qq_base.specs.declared.ids.QueueId.{QueueId}
-use Rattle.qq_disk.specs.Disk.{Disk}
+use Rattle.qq_defs.specs.Runnable.{AreQueuesAfter}
+use Rattle.qq_disk.specs.Crash.{Remains, reopen}
+use Rattle.qq_disk.specs.Disk.{Disk, now}
+use Rattle.qq_log.specs.declared.op.Op.{Op}
+use Rattle.qq_log.specs.declared.op.Op.TheVariants.{Change, SnapshotMade, SegmentMade}
+use Rattle.qq_ports.specs.Yard.{IsNew, IsOpened}
 use Rattle.qq_raft_msg.specs.Rpc.{IsNode}
 use Rattle.qq_raft_protocol.specs.Facts.{In}
-use Rattle.qq_defs.specs.Runnable.{AreQueuesAfter}
 use Rattle.qq_setup.specs.declared.queue_row.QueueRow.{QueueRow}
 use Rattle.qq_setup.specs.declared.setup.Setup.{Setup}
 use Rattle.qq_setup.specs.Members.{member, members}
 use Rattle.qq_cluster.specs.Cluster.{Setup as ClusterSetup, new_cluster}
 use Rattle.qq_cluster.specs.ClusterLaws.{HasGroups}
-use Rattle.qq_cluster_run.specs.Setup.{args_by, cluster_setup, members_by, name_by, place_of, row_at}
-use Rattle.qq_cluster_run.proofs.QueueRows.{first-after, found-index, places-after}
-use Rattle.qq_nodes.specs.Nodes.{IsSetUp, Stands}
-use Rattle.qq_nodes.specs.Setting.{HaveDisks, IsRow, IsRowOf, IsSetupOf}
+use Rattle.qq_cluster.specs.Laws.{IsBegun}
+use Rattle.qq_cluster_laws.specs.Waiting.{HasOwnGroups, IsChangeOf}
+use Rattle.qq_cluster_run.specs.Setup.{Logs, args_by, cluster_over, cluster_setup, group_over, is_change_of, members_by, name_by, new_logs, place_of, row_at}
+use Rattle.qq_cluster_run.proofs.QueueRows.{at-index, first-after, found-index, places-after}
+use Rattle.qq_nodes.specs.Nodes.{Stands}
+use Rattle.qq_nodes.specs.Setting.{AreNew, HaveDisks, IsRow, IsRowOf, IsSetupOver, IsWhole}
 use Rattle.qq_nodes.specs.declared.nodes.Nodes.{Nodes}
-use Rattle.qq_broker.specs.Nodes.{Holds, IsDiskOf, MayRun}
-use Rattle.qq_broker.specs.Serving.{AreGiven, AreNew, IsFresh, no_run}
-use Rattle.qq_nodes.proofs.Turned.{all-here}
+use Rattle.qq_opening.specs.Opening.{AreLogsOf, IsSetupWith}
+use Rattle.qq_wal.specs.Running.{MayRecover}
+use Rattle.qq_broker.specs.Lives.{Giving, IsGiven, under}
+use Rattle.qq_broker.specs.Nodes.{IsDiskOf, MayRun}
+use Rattle.qq_broker.specs.Serving.{AreGiven, AreUnopened, HaveGiven}
 use Rattle.qq_broker.proofs.GoingOn.{in-range, range-in}
-use Rattle.qq_broker.proofs.Living.{one-none}
 
 -- ---- queues
 
@@ -86,6 +95,35 @@ module _ (nodes : ℕ) (some : 0 < nodes) where
       in-range-rows (before + 1) rows are.1,
     )
 
+-- ---- changes of a queue
+
+all-changes : (id : QueueId) (ops : List Op) → AllByRecursion (IsChangeOf id) ops → list_all (is_change_of id) ops ≡ true
+all-changes id [] each = refl
+all-changes id (op ∷ ops) each =
+    and_from (is_change_of id op) (list_all (is_change_of id) ops) (one op each.0) (all-changes id ops each.1)
+  where
+    one : (o : Op) → IsChangeOf id o → is_change_of id o ≡ true
+    one (Change own n term vote keep entries) is = eq-eqb own.0 id.0 (ap (λ (q : QueueId). q.0) is)
+    one (SnapshotMade own n snapshot file) none = absurd none
+    one (SegmentMade own n file first last) none = absurd none
+
+pub changes-all : (id : QueueId) (ops : List Op) → list_all (is_change_of id) ops ≡ true
+    → AllByRecursion (IsChangeOf id) ops
+changes-all id [] each = tt
+changes-all id (op ∷ ops) each =
+    let parts = and_parts (is_change_of id op) (list_all (is_change_of id) ops) each in
+    (one op parts.0, changes-all id ops parts.1)
+  where
+    one : (o : Op) → is_change_of id o ≡ true → IsChangeOf id o
+    one (Change own n term vote keep entries) is = ap id_of (eqb-true own.0 id.0 is)
+    one (SnapshotMade own n snapshot file) none = absurd (false≢true none)
+    one (SegmentMade own n file first last) none = absurd (false≢true none)
+
+-- each log holds changes of its queue alone, and there are none behind the last place
+pub record AreApart (count : ℕ) (logs : Logs) : Type 0 where
+  pub own : (place k : ℕ) → AllByRecursion (IsChangeOf (id_of place)) (logs place k)
+  pub others : (place : ℕ) → (In place (range_with_len 1 count) → ⊥) → (k : ℕ) → logs place k ≡ []
+
 -- ---- the setup
 
 module _ (s : Setup) (may : MayRun s) where
@@ -96,19 +134,20 @@ module _ (s : Setup) (may : MayRun s) where
   rows-range =
       All-from_recursion IsRow s.queues (in-range-rows s.nodes may.some may.few 0 s.queues may.queues_are)
 
-  set-up : HasGroups (cluster_setup s) → IsSetUp (cluster_setup s) (length s.queues) s.nodes
-  set-up groups = record {
-    groups = groups;
-    own = λ place. record { queue = sym (queue-own s.queues place); ops = λ k. tt };
-    first = first-after s.nodes s.queues may.queues_are;
-    places = places-after s.nodes 0 s.queues may.queues_are;
-    nodes = refl;
-    ids = λ place there. ap (λ (q : QueueId). q.0) (queue-own s.queues place);
-    among = λ place there. rows-among s.nodes may.some 0 place s.queues may.queues_are;
+  places-are : map place_of s.queues ≡ range_with_len 1 (length s.queues)
+  places-are = places-after s.nodes 0 s.queues may.queues_are
+
+  own-groups : (logs : Logs) → ((place k : ℕ) → AllByRecursion (IsChangeOf (id_of place)) (logs place k))
+      → HasOwnGroups (cluster_over s logs)
+  own-groups logs own = λ place. record {
+    queue = sym (queue-own s.queues place);
+    ops = λ k. subst (λ (id : QueueId). AllByRecursion (IsChangeOf id) (logs place k)) (sym (queue-own s.queues place))
+        (own place k);
   }
 
-  row-of : (at : ℕ) (row : QueueRow) → slice_get s.queues at ≡ Some row → IsRowOf (cluster_setup s) (at + 1) row
-  row-of at row here =
+  row-of : (logs : Logs) (at : ℕ) (row : QueueRow) → slice_get s.queues at ≡ Some row
+      → IsRowOf (cluster_over s logs) (at + 1) row
+  row-of logs at row here =
       let same : Some row ≡ row_at s.queues (at + 1) = sym (found-index s.nodes s.queues at row may.queues_are here) in
       record {
         name_is = ap name_by same;
@@ -122,48 +161,169 @@ module _ (s : Setup) (may : MayRun s) where
         };
       }
 
-  pub is-set : HasGroups (cluster_setup s) → (count : ℕ) → count ≡ s.nodes → IsSetupOf (cluster_setup s) s.queues count
+  -- over new logs
+  pub is-set : HasGroups (cluster_setup s) → (count : ℕ) → count ≡ s.nodes
+      → IsSetupOver (cluster_setup s) s.queues count
   is-set groups count is =
-      subst (IsSetupOf (cluster_setup s) s.queues) (sym is)
-      (record { set_up = set-up groups; new = λ place k. refl; each = row-of })
+      subst (IsSetupOver (cluster_setup s) s.queues) (sym is)
+      (record {
+        set_up = record {
+          groups = groups;
+          own = own-groups new_logs (λ place k. tt);
+          first = first-after s.nodes s.queues may.queues_are;
+          places = places-are;
+          nodes = refl;
+          ids = λ place there. ap (λ (q : QueueId). q.0) (queue-own s.queues place);
+          among = λ place there. rows-among s.nodes may.some 0 place s.queues may.queues_are;
+        };
+        each = row-of new_logs;
+      })
+
+  -- over these
+  pub is-with : (logs : Logs) → HasGroups (cluster_setup s) → AreApart (length s.queues) logs → (count : ℕ)
+      → count ≡ s.nodes → IsSetupWith (cluster_over s logs) s.queues count logs
+  is-with logs new apart count is =
+      subst (λ (n : ℕ). IsSetupWith (cluster_over s logs) s.queues n logs) (sym is)
+      (record {
+        places = places-are;
+        nodes = refl;
+        first = first-after s.nodes s.queues may.queues_are;
+        ids = λ place there. ap (λ (q : QueueId). q.0) (queue-own s.queues place);
+        among = λ place there. rows-among s.nodes may.some 0 place s.queues may.queues_are;
+        own = own-groups logs apart.own;
+        each = row-of logs;
+        seats = λ place k. refl;
+        others = others;
+      })
+    where
+      others : (place : ℕ) → (In place (map place_of s.queues) → ⊥) → IsBegun ((cluster_over s logs).group place)
+      others place none =
+          let empty : logs place ≡ new_logs place =
+          fun_ext (λ k. apart.others place (λ there. none (subst (In place) (sym places-are) there)) k) in
+          subst (λ (l : ℕ → List Op). IsBegun (group_over (id_of place) (members_by (row_at s.queues place)) l)) (sym empty)
+          (new place)
+
+  -- logs of the rows
+  pub is-apart : (logs : Logs) → AreLogsOf s.queues logs → AreApart (length s.queues) logs
+  is-apart logs so = record { own = own; others = others }
+    where
+      -- a row's index, and its queue
+      within : (at : ℕ) (row : QueueRow) → slice_get s.queues at ≡ Some row
+          → In (at + 1) (range_with_len 1 (length s.queues))
+      within at row here =
+          let lt = slice_get_within s.queues at row here in
+          range-in (at + 1) 1 (length s.queues) (omega arith) (omega (arith, lt))
+
+      queue-is : (at : ℕ) (row : QueueRow) → slice_get s.queues at ≡ Some row → row.args.queue ≡ id_of (at + 1)
+      queue-is at row here =
+          let number = (at-index s.nodes 0 s.queues at row may.queues_are here).number in
+          let same : row.args.queue.0 ≡ at + 1 = omega (arith, number) in ap id_of same
+
+      others : (place : ℕ) → (In place (range_with_len 1 (length s.queues)) → ⊥) → (k : ℕ) → logs place k ≡ []
+      others place none k =
+          so.others place k
+          (λ at row is here among. none (subst (λ (p : ℕ). In p (range_with_len 1 (length s.queues))) (sym is)
+          (within at row here)))
+
+      here-or-none : (at k : ℕ) → ((x : QueueRow) × (at < length s.queues) × (slice_get s.queues at ≡ Some x)
+          × (get_or s.queues at x ≡ x)) ⊎ ((length s.queues ≤ at) × (slice_get s.queues at ≡ None))
+          → AllByRecursion (IsChangeOf (id_of (at + 1))) (logs (at + 1) k)
+      here-or-none at k (inl (row, lt, here, is)) =
+          subst (λ (id : QueueId). AllByRecursion (IsChangeOf id) (logs (at + 1) k)) (queue-is at row here)
+          (so.own at k row here)
+      here-or-none at k (inr (past_end, none)) =
+          subst (λ (ops : List Op). AllByRecursion (IsChangeOf (id_of (at + 1))) ops)
+          (sym (others (at + 1)
+          (λ there. (let ends = in-range (at + 1) 1 (length s.queues) there in absurd (omega (arith, ends.1, past_end)))) k))
+          tt
+
+      own : (place k : ℕ) → AllByRecursion (IsChangeOf (id_of place)) (logs place k)
+      own zero k =
+          subst (λ (ops : List Op). AllByRecursion (IsChangeOf (id_of 0)) ops)
+          (sym (others 0 (λ there. (let ends = in-range 0 1 (length s.queues) there in absurd (omega (arith, ends.0)))) k)) tt
+      own (suc at) k =
+          let one : at + 1 ≡ suc at = omega arith in
+          subst (λ (p : ℕ). AllByRecursion (IsChangeOf (id_of p)) (logs p k)) one
+          (here-or-none at k (slice_get_cases s.queues at).1)
+
+-- they are changes of their queues alone
+pub own-changes : (count : ℕ) (logs : Logs) → AreApart count logs → (place k : ℕ)
+    → list_all (is_change_of (record { 0 = place })) (logs place k) ≡ true
+own-changes count logs apart place k = all-changes (id_of place) (logs place k) (apart.own place k)
+
+-- ---- one more disk
+
+last-at : {A : Type 0} (xs : List A) (x y : A) (at : ℕ) → slice_get (xs ++ x ∷ []) at ≡ Some y
+    → (slice_get xs at ≡ Some y) ⊎ ((at ≡ length xs) × (y ≡ x))
+last-at [] x y zero is = inr (refl, (let e : y ≡ x = cc in e))
+last-at [] x y (suc at) is = absurd cc
+last-at (z ∷ xs) x y zero is = inl is
+last-at (z ∷ xs) x y (suc at) is =
+    elim (last-at xs x y at is) [
+      | inl there ↦ inl there
+      | inr last ↦ inr (ap suc last.0, last.1)
+    ]
+
+module _ {D : Type 0} (is_given : Option (List ℕ) → ℕ → D → Bool) (tells : D → Bool) (past : D → List Disk) {A : Type 0}
+    (text : A → List ℕ) (root : Option A) where
+  new-by : (P : Type 0) → IfNone root P → IfNone (option_map text root) P
+  new-by P so = by root so
+    where
+      by : (o : Option A) → IfNone o P → IfNone (option_map text o) P
+      by None so = so
+      by (Some a) so = tt
+
+  pub given-more : (disks : List D) (d : D) → AreGiven (under is_given (option_map text root)) tells past disks
+      → is_given (option_map text root) (length disks + 1) d ≡ true → (IsTrue (tells d) → IsOpened (past d))
+      → IfNone root (IsTrue (tells d) → IsNew (past d))
+      → (more : List D) → more ≡ disks ++ d ∷ [] → AreGiven (under is_given (option_map text root)) tells past more
+  given-more disks d each asked opened new more are = λ i disk here.
+      by i disk (last-at disks d disk i (subst (λ (l : List D). slice_get l i ≡ Some disk) are here))
+    where
+      own : IsGiven (under is_given (option_map text root)) tells past (length disks + 1) d
+      own = record { asked = asked; opened = opened; new = new-by (IsTrue (tells d) → IsNew (past d)) new }
+
+      by : (i : ℕ) (disk : D) → (slice_get disks i ≡ Some disk) ⊎ ((i ≡ length disks) × (disk ≡ d))
+          → IsGiven (under is_given (option_map text root)) tells past (i + 1) disk
+      by i disk (inl there) = each i disk there
+      by i disk (inr last) =
+          subst (λ (x : D). IsGiven (under is_given (option_map text root)) tells past (i + 1) x) (sym last.1)
+          (subst (λ (n : ℕ). IsGiven (under is_given (option_map text root)) tells past (n + 1) d) (sym last.0) own)
 
 -- ---- the disks
 
-module _ {D : Type 0} (given : ℕ → D → Bool) (tells : D → Bool) (past : D → List Disk) (faults : D → ℕ) (s : Setup)
-    (disks : List D)
-    (held : Nodes D) (many : length disks ≡ s.nodes) (fresh : All (IsFresh tells past) disks)
-    (each : AreGiven given disks)
+module _ {D : Type 0} (given : Giving D) (tells : D → Bool) (past : D → List Disk) (faults : D → ℕ) (s : Setup)
+    (disks : List D) (held : Nodes D) (many : length disks ≡ s.nodes) (each : AreGiven given tells past disks)
     (have : HaveDisks tells past faults disks held) where
-  pub are-new : AreNew given tells past faults s held
-  are-new k there =
+  have-given : HaveGiven given tells past faults s held
+  have-given k there =
       let within = in-range k 1 s.nodes there in
       at (slice_get_cases disks (k - 1)).1 (omega (arith, within.0)) (omega (arith, many, within.0, within.1))
     where
       at : ((x : D) × (k - 1 < length disks) × (slice_get disks (k - 1) ≡ Some x) × (get_or disks (k - 1) x ≡ x))
           ⊎ ((length disks ≤ k - 1) × (slice_get disks (k - 1) ≡ None)) → k - 1 + 1 ≡ k → k - 1 < length disks
-          → (d : D) × IsDiskOf tells past faults held k d × IsFresh tells past d × (given k d ≡ true)
+          → (d : D) × IsDiskOf tells past faults held k d × IsGiven given tells past k d
       at (inl (d, lt, here, is)) same within = (
         d,
         subst (λ (n : ℕ). IsDiskOf tells past faults held n d) same (have (k - 1) d here),
-        all-here (IsFresh tells past) disks (k - 1) d fresh here,
-        subst (λ (n : ℕ). given n d ≡ true) same (each (k - 1) d here),
+        subst (λ (n : ℕ). IsGiven given tells past n d) same (each (k - 1) d here),
       )
       at (inr (out, none)) same within = absurd (omega (arith, out, within))
 
-  pub begun : Stands tells past (cluster_setup s) held (new_cluster (cluster_setup s))
-      → Holds given tells past faults s held no_run
-  begun st = record {
-    new = refl;
-    stands = st;
-    disks = λ k there.
-        (let own = are-new k there in (
-          own.0,
-          own.1,
-          record {
-            first = own.0;
-            given_is = own.3;
-            fresh = own.2;
-            lives = one-none tells past faults (cluster_setup s) k (new_cluster (cluster_setup s)) own.0;
-          },
-        ));
-  }
+  pub unopened : Stands tells past (cluster_setup s) held (new_cluster (cluster_setup s)) → AreNew tells past s.queues held
+      → AreUnopened given tells past faults s held
+  unopened stands new = record { stands = stands; new = new; disks = have-given }
+
+-- as many and one more
+pub whole-more : {D : Type 0} (P : D → Type 0) (disks : List D) (d : D) → All P disks → P d → (more : List D)
+    → more ≡ disks ++ d ∷ [] → All P more × (length more ≡ length disks + 1)
+whole-more {D} P disks d each own more are = (
+  subst (λ (l : List D). All P l) (sym are) (All-push P disks d each own),
+  ap length are ∙ length_push disks d,
+)
+
+-- a disk that was just opened may be recovered
+pub opened-whole : ((queues : List QueueId) (i : Remains) → MayRecover queues (reopen i)) → {D : Type 0} (tells : D → Bool)
+    (past : D → List Disk) (d : D) → (IsTrue (tells d) → IsOpened (past d)) → IsWhole tells past d
+opened-whole may tells past d opened queues tell =
+    let so = opened tell in subst (λ (l : List Disk). MayRecover queues (now l)) (sym so.is) (may queues so.held)

@@ -8,11 +8,12 @@ use Rattle.qq_cluster_run.specs.declared.stop.Stop.{Stop}
 use Rattle.qq_cluster_run.specs.Endings.{Ending}
 use Rattle.qq_cluster_run.specs.Runs.{Closes, HasRun, HasStopped, ending_of}
 use Rattle.qq_cluster_run.proofs.Closings.{stop_closes, stopped_earlier}
+use Rattle.qq_broker.specs.Lives.{Giving}
 use Rattle.qq_broker.specs.Nodes.{Had, Meets}
 use Rattle.qq_broker.proofs.Meeting.{meets-earlier}
 
 -- `first` is the yard's count of faults when the run began, and `old` the sink's; at the stop they are `after` and `mid`
-pub run-stopped : {D : Type 0} (given : ℕ → D → Bool) (tells : D → Bool) (past : D → List Disk) (faults : D → ℕ)
+pub run-stopped : {D : Type 0} (given : Giving D) (tells : D → Bool) (past : D → List Disk) (faults : D → ℕ)
     (s : Setup) (stop : Stop) (status : ℕ) (ending : Ending) (left rest a b c : Option (List ℕ)) (source : Type 0)
     (first before after : ℕ) (old mid new : ℕ) → first ≤ before → old ≤ mid → mid ≤ new
     → HasStopped stop s left rest a b source (Rose old mid) (Meets given tells past faults before after)

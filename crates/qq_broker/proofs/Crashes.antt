@@ -19,6 +19,7 @@ use Rattle.qq_cluster.specs.Texts.{text_of}
 use Rattle.qq_cluster_run.specs.Serving.{Run, cluster_in, setup_in}
 use Rattle.qq_cluster_run.proofs.Closings.{Rose_earlier}
 use Rattle.qq_nodes.specs.declared.nodes.Nodes.{Nodes}
+use Rattle.qq_broker.specs.Lives.{Giving}
 use Rattle.qq_broker.specs.Nodes.{Holds}
 use Rattle.qq_broker.specs.Serving.{IsServed, crashes, run_after, with_events}
 use Rattle.qq_broker.proofs.GoingOn.{had-so}
@@ -62,7 +63,7 @@ no-text setup c image (k ∷ list) = no-text setup (cluster_happens c (Crashes k
 
 -- ---- the nodes
 
-module _ {D : Type 0} (given : ℕ → D → Bool) (tells : D → Bool) (past : D → List Disk) (faults : D → ℕ) where
+module _ {D : Type 0} (given : Giving D) (tells : D → Bool) (past : D → List Disk) (faults : D → ℕ) where
   -- the first nodes were crashed
   abbrev pub CrashedTo : Image → ℕ → Nodes D → Nodes D → Type 0
   CrashedTo image at old new =
@@ -90,7 +91,7 @@ module _ {D : Type 0} (given : ℕ → D → Bool) (tells : D → Bool) (past : 
       → CrashedTo image count old new
   crashed-all image at count old new is so = subst (λ (n : ℕ). CrashedTo image n old new) is so
 
-module _ {D : Type 0} (given : ℕ → D → Bool) (tells : D → Bool) (past : D → List Disk) (faults : D → ℕ) (s : Setup)
+module _ {D : Type 0} (given : Giving D) (tells : D → Bool) (past : D → List Disk) (faults : D → ℕ) (s : Setup)
     (run : Run) (new : Nodes D)
     (image : Image) (text : List ℕ) where
   served-so : (which : Which) (more : List ClusterEvent)
@@ -100,7 +101,7 @@ module _ {D : Type 0} (given : ℕ → D → Bool) (tells : D → Bool) (past : 
       → IsServed given tells past faults s run (Crash which image) new text text
   served-so which more allowed silent h =
       let holds : Holds given tells past faults s new (run_after run (run.events ++ more)) =
-      record { new = h.new; stands = h.stands; disks = h.disks } in
+      record { stands = h.stands; restarted = h.restarted; disks = h.disks } in
       record {
         more = more;
         allowed = allowed;

@@ -260,6 +260,10 @@ module _ (k : ℕ) where
         by true is = subst (Apart c) (sym is) (refl, refl)
         by false is = found-apart j other c events is
 
+    pub restart-apart : (j : ℕ) → j ≢ k → (c : Cluster) (events : List ClusterEvent) → IsRestart setup j c events
+        → (cluster_after c events).up k ≡ c.up k
+    restart-apart j other c events so = (apart j other c events so).1
+
     found-once : (j : ℕ) → j ≡ k → (c : Cluster) (events : List ClusterEvent) → IsFound setup j c events → Once c events
     found-once j same c events (inl so) =
         subst (Once c) (sym so.is) (grind (arith, ups-most (put j true c.up k)))

@@ -1,6 +1,6 @@
 -- Nodes of a run go on while lines are served.
-use Rattle.std.proofs.Common.{◌≡◌, ◌≢◌, ◌≤◌, ◌<◌, ◌+◌, ◌-◌, ◌⊎◌, ℕ, zero, suc, Bool, false, List, [], ◌∷◌, ◌++◌, length, get_or, Some, None, refl, sym, ap, subst, ◌∙◌, inl, inr, arith}
-use Rattle.std.specs.Prelude.{All, IsTrue, Contains, slice_get}
+use Rattle.std.proofs.Common.{◌≡◌, ◌≢◌, ◌≤◌, ◌<◌, ◌+◌, ◌-◌, ◌⊎◌, ℕ, zero, suc, Bool, true, false, List, [], ◌∷◌, ◌++◌, length, get_or, Some, None, refl, sym, ap, subst, ◌∙◌, inl, inr, arith}
+use Rattle.std.specs.Prelude.{All, IsTrue, Contains, is_some, slice_get}
 use Rattle.std.specs.List.{AllByRecursion, range_with_len}
 use Rattle.std.proofs.lemmas.Bool.{cases_lt, ne_eqb}
 use Rattle.std.proofs.lemmas.Bool.Decides.{eqb_tells}
@@ -23,6 +23,7 @@ use Rattle.qq_cluster.specs.Cluster.{Cluster, ClusterEvent, Crashes, Setup as Cl
 use Rattle.qq_cluster.specs.Lines.{IsLine}
 use Rattle.qq_cluster.specs.Rules.{Is}
 use Rattle.qq_cluster_laws.specs.Linked.{IsLinked, IsPromised, IsReached}
+use Rattle.qq_cluster_laws.specs.Restarts.{first_restart}
 use Rattle.qq_cluster_laws.specs.Serves.{Seen, Serves, seen_of}
 use Rattle.qq_cluster_laws.specs.Traced.{IsTracedAt, KeepsWhere}
 use Rattle.qq_cluster_laws.proofs.Reached.{after-both}
@@ -32,15 +33,15 @@ use Rattle.qq_cluster_run.specs.Endings.{spent}
 use Rattle.qq_cluster_run.specs.Serving.{EndsSpent, Run, after_all, cluster_in, setup_in}
 use Rattle.qq_node_log.specs.Log.{disk_in}
 use Rattle.qq_nodes.specs.Nodes.{Begins, CanServe, EndsAt, GaveUp, IsNodeAt, IsQueueAt, Served, Stands, seen}
-use Rattle.qq_nodes.specs.Restarting.{HasHappened, LeavesDisks}
+use Rattle.qq_nodes.specs.Crashing.{HasHappened, LeavesDisks}
 use Rattle.qq_nodes.specs.declared.node.Node.{Node}
 use Rattle.qq_nodes.specs.declared.nodes.Nodes.{Nodes}
 use Rattle.qq_nodes.proofs.OwnStands.{seen-own}
-use Rattle.qq_broker.specs.Lives.{Became, IsLeft, IsOneDisk, RoseBy, failures}
+use Rattle.qq_broker.specs.Lives.{Became, Giving, IsLeft, IsOneDisk, RoseBy, failures}
 use Rattle.qq_broker.specs.Nodes.{Had, Holds, IsDiskOf, Meets}
 use Rattle.qq_broker.specs.Serving.{AreThere, IsGivenUp, IsServed, run_after, with_events}
 use Rattle.qq_broker.proofs.Failing.{failures-both, line-once}
-use Rattle.qq_broker.proofs.Living.{GoesOn, fails-some, goes-crashed, goes-on, lives-then, rose-once}
+use Rattle.qq_broker.proofs.Living.{GoesOn, begins-stay, fails-some, goes-crashed, goes-on, lives-then, restarted-stays, rose-once}
 
 -- ---- numbers
 
@@ -75,7 +76,7 @@ node-in n before less =
     Contains-in (before + 1) (range_with_len 1 n)
     (range-in (before + 1) 1 n (omega arith) (omega (arith, less)))
 
-module _ {D : Type 0} (given : ℕ → D → Bool) (tells : D → Bool) (past : D → List Disk) (faults : D → ℕ) where
+module _ {D : Type 0} (given : Giving D) (tells : D → Bool) (past : D → List Disk) (faults : D → ℕ) where
   abbrev See : Nodes D → ℕ → Seen
   See held = seen tells past faults held
 
@@ -102,7 +103,7 @@ module _ {D : Type 0} (given : ℕ → D → Bool) (tells : D → Bool) (past : 
   -- ---- events that a call has served
 
   -- what a call has done to a node's disk
-  served-disk : (setup : ClusterSetup) (c : Cluster) (Allowed : List ClusterEvent → Type 0) (After : Cluster → Type 0)
+  pub served-disk : (setup : ClusterSetup) (c : Cluster) (Allowed : List ClusterEvent → Type 0) (After : Cluster → Type 0)
       (old new : Nodes D) (before later : List ℕ) (s : Serves setup c Allowed After (See old) (See new) before later)
       (k : ℕ) → In k setup.nodes → failures k s.did.events ≤ 1 → (mid last : D) → IsDiskOf tells past faults old k mid
       → IsDiskOf tells past faults new k last → IsOneDisk tells past faults setup k c s.did.events mid last
@@ -140,12 +141,12 @@ module _ {D : Type 0} (given : ℕ → D → Bool) (tells : D → Bool) (past : 
       (After : Cluster → Type 0) (old new : Nodes D) (before later : List ℕ)
       (s : Serves setup (after_all setup events) Allowed After (See old) (See new) before later)
       (k : ℕ) → In k setup.nodes → failures k s.did.events ≤ 1 → (mid last : D) → IsDiskOf tells past faults old k mid
-      → IsDiskOf tells past faults new k last → Became given tells past faults setup events k mid
-      → Grown setup events s.did.events k last
-  became-served setup events Allowed After old new before later s k there few mid last was is b = record {
+      → IsDiskOf tells past faults new k last → is_some (first_restart k events) ≡ true
+      → Became given tells past faults setup events k mid → Grown setup events s.did.events k last
+  became-served setup events Allowed After old new before later s k there few mid last was is restarted b = record {
     first = b.first;
     given_is = b.given_is;
-    fresh = b.fresh;
+    begins = begins-stay tells past faults setup k b.first events s.did.events restarted b.begins;
     lives = lives-then tells past faults setup k (after_all setup events) (new_cluster setup) [] events s.did.events
         b.first mid last refl b.lives
         (goes-on tells past faults setup k (after_all setup events) s.did.events mid last (s.no_crash k)
@@ -157,19 +158,20 @@ module _ {D : Type 0} (given : ℕ → D → Bool) (tells : D → Bool) (past : 
       → Holds given tells past faults s old run
       → Stands tells past (setup_in s run) new (cluster_after (cluster_in s run) more)
       → ((k : ℕ) → In k (setup_in s run).nodes → (mid last : D) → IsDiskOf tells past faults old k mid
-      → IsDiskOf tells past faults new k last → Became given tells past faults (setup_in s run) run.events k mid
+      → IsDiskOf tells past faults new k last → is_some (first_restart k run.events) ≡ true
+      → Became given tells past faults (setup_in s run) run.events k mid
       → Grown (setup_in s run) run.events more k last)
       → Holds given tells past faults s new (record { lines = lines; logs = run.logs; events = run.events ++ more })
   holds-more s run old new more lines h st grows = record {
-    new = h.new;
     stands = subst (Stands tells past (setup_in s run) new)
         (sym (after-both (new_cluster (setup_in s run)) run.events more)) st;
+    restarted = λ k there. restarted-stays k run.events more (h.restarted k there);
     disks = λ k there.
         let was = h.disks k there in
         let there' = disk-there (setup_in s run) new (cluster_after (cluster_in s run) more) st k there in (
           there'.0,
           there'.1,
-          grows k there was.0 there'.0 was.1 there'.1 was.2,
+          grows k there was.0 there'.0 was.1 there'.1 (h.restarted k there) was.2,
         );
   }
 
@@ -195,10 +197,10 @@ module _ {D : Type 0} (given : ℕ → D → Bool) (tells : D → Bool) (past : 
   served-line s run line Allowed old new before later h lines sv =
       let allowed = lines sv.did.events sv.did.means in
       let holds = holds-more s run old new sv.did.events (run.lines + 1) h sv.did.stands
-      (λ k there mid last was is b. became-served (setup_in s run) run.events Allowed
+      (λ k there mid last was is restarted b. became-served (setup_in s run) run.events Allowed
       (Stands tells past (setup_in s run) new) old new before later sv k there
       (line-once k (setup_in s run) (length old.nodes.items) h.stands.set_up.nodes line (cluster_in s run) sv.did.events
-      allowed) mid last was is b) in
+      allowed) mid last was is restarted b) in
       record {
         more = sv.did.events;
         allowed = allowed;
@@ -236,9 +238,9 @@ module _ {D : Type 0} (given : ℕ → D → Bool) (tells : D → Bool) (past : 
       lines (cluster_in s run) (early ++ rest) so.serves.did.means.allowed in
       let now' : Holds given tells past faults s so.mid (record { lines = 0; logs = run.logs; events = run.events ++ early }) =
       holds-more s run old so.mid early 0 h so.serves.did.stands
-      (λ k there mid last was is b. became-served (setup_in s run) run.events (Begins Rule (cluster_in s run))
+      (λ k there mid last was is restarted b. became-served (setup_in s run) run.events (Begins Rule (cluster_in s run))
       (Stands tells past (setup_in s run) so.mid) old so.mid so.before so.said so.serves k there
-      (few-early k early rest (once k (early ++ rest) allowed)) mid last was is b) in
+      (few-early k early rest (once k (early ++ rest) allowed)) mid last was is restarted b) in
       record {
         early = early;
         begins = record { rest = rest; allowed = allowed };
@@ -333,10 +335,10 @@ module _ {D : Type 0} (given : ℕ → D → Bool) (tells : D → Bool) (past : 
       let so = (happened []).happened setup c (reached s run) h.stands in
       let st : Stands tells past setup new (cluster_after c (Crashes k image ∷ [])) =
       subst (λ (l : List ClusterEvent). Stands tells past setup new (cluster_after c l)) so.means so.stands in
-      holds-more s run old new (Crashes k image ∷ []) run.lines h st (λ j there mid last was is b. record {
+      holds-more s run old new (Crashes k image ∷ []) run.lines h st (λ j there mid last was is restarted b. record {
         first = b.first;
         given_is = b.given_is;
-        fresh = b.fresh;
+        begins = begins-stay tells past faults setup j b.first run.events (Crashes k image ∷ []) restarted b.begins;
         lives = lives-then tells past faults setup j c (new_cluster setup) [] run.events (Crashes k image ∷ []) b.first
             mid last refl b.lives (step j mid last was is);
       })

@@ -5,6 +5,9 @@ pub mod Beginning
 pub mod Refusing
 pub mod Crashes
 pub mod Opens
+pub mod Untouched
+pub mod Unopened
+pub mod NewLogs
 pub mod Targets
 pub mod Meeting
 pub mod Bodies
@@ -13,3 +16,4 @@ pub mod Asked
 pub mod Audited
 pub mod Looped
 pub mod Closed
+pub mod Dumped

@@ -1,6 +1,6 @@
 -- A disk goes on while more events happen.
 use Rattle.std.proofs.Common.{◌≡◌, ◌+◌, ◌⊎◌, ℕ, Bool, true, false, List, [], ◌∷◌, ◌++◌, Option, Some, None, refl, sym, ap, subst, ◌∙◌, inl, inr, append-nil, append_assoc, arith}
-use Rattle.std.specs.Prelude.{IsTrue}
+use Rattle.std.specs.Prelude.{IsTrue, is_some}
 use Rattle.std.proofs.lemmas.Bool.{eq-eqb, ne_eqb}
 use Rattle.qq_base.specs.Causes.{Rose}
 use Rattle.qq_disk.specs.declared.image.Image.{Image}
@@ -8,11 +8,13 @@ use Rattle.qq_disk.specs.Disk.{Disk, now}
 use Rattle.qq_disk.proofs.Moments.{adds-none}
 use Rattle.qq_cluster.specs.Cluster.{Cluster, ClusterEvent, Sets, Alike, At, NodeWrites, NodeSyncs, Fails, Crashes, FindsEach, Shows, SaysDown, SaysNoSuch, SaysUnroutable, SaysBusy, SaysEnded, Setup, cluster_after, cluster_happens}
 use Rattle.qq_cluster_laws.specs.Linked.{IsLinked, IsPromised}
+use Rattle.qq_cluster_laws.specs.Restarts.{first_restart}
 use Rattle.qq_cluster_laws.specs.Serves.{fails_at, is_failure_at}
 use Rattle.qq_cluster_laws.specs.Traced.{HasNoCrash, IsNoCrash, IsTracedAt}
 use Rattle.qq_cluster_laws.proofs.Reached.{after-both}
+use Rattle.qq_cluster_laws.proofs.Restarts.{first-stays}
 use Rattle.qq_cluster_laws.proofs.Traces.{traces-then}
-use Rattle.qq_broker.specs.Lives.{IsLeft, IsOneDisk, Lives, RoseBy, at_crash, crash_of, failures}
+use Rattle.qq_broker.specs.Lives.{BeginsBy, IsLeft, IsOneDisk, Lives, RoseBy, at_crash, crash_of, failures}
 use Rattle.qq_broker.proofs.Failing.{failures-both}
 
 -- ---- crashes
@@ -53,7 +55,35 @@ fails-some k (event ∷ events) = by (is_failure_at k event) refl (fails-some k 
     by true is rest = inr (rw is refl)
     by false is rest = rw is rest
 
+-- ---- first restarts
+
+-- a node that was restarted stays so
+pub restarted-stays : (k : ℕ) (events more : List ClusterEvent) → is_some (first_restart k events) ≡ true
+    → is_some (first_restart k (events ++ more)) ≡ true
+restarted-stays k events more some = by (first_restart k events) refl some
+  where
+    by : (o : Option Bool) → first_restart k events ≡ o → is_some o ≡ true
+        → is_some (first_restart k (events ++ more)) ≡ true
+    by None is none = absurd cc
+    by (Some up) is some' = ap is_some (first-stays k events more up is)
+
+-- it isn't as it was given any more
+pub not-first : {A : Type 0} (k : ℕ) (events : List ClusterEvent) → is_some (first_restart k events) ≡ true
+    → first_restart k events ≡ None → A
+not-first k events some none = absurd (let e : false ≡ true = ap is_some (sym none) ∙ some in cc)
+
 module _ {D : Type 0} (tells : D → Bool) (past : D → List Disk) (faults : D → ℕ) (setup : Setup) (k : ℕ) where
+  -- the logs that a node has begun with
+  pub begins-stay : (disk : D) (events more : List ClusterEvent) → is_some (first_restart k events) ≡ true
+      → BeginsBy tells past setup k disk (first_restart k events)
+      → BeginsBy tells past setup k disk (first_restart k (events ++ more))
+  begins-stay disk events more some begins = by (first_restart k events) refl some begins
+    where
+      by : (o : Option Bool) → first_restart k events ≡ o → is_some o ≡ true → BeginsBy tells past setup k disk o
+          → BeginsBy tells past setup k disk (first_restart k (events ++ more))
+      by None is none so = absurd cc
+      by (Some up) is some' so = subst (BeginsBy tells past setup k disk) (sym (first-stays k events more up is)) so
+
   abbrev One : Cluster → List ClusterEvent → D → D → Type 0
   One c events first last = IsOneDisk tells past faults setup k c events first last
 

@@ -16,6 +16,7 @@ use Rattle.qq_cluster_run.proofs.Ahead.{Going, going_reads, going_stops, going_t
 use Rattle.qq_cluster_run.proofs.Answering.{answer_stops}
 use Rattle.qq_cluster_run.proofs.Looping.{LoopsOn, loops_end, loops_line, loops_written}
 use Rattle.qq_nodes.specs.declared.nodes.Nodes.{Nodes}
+use Rattle.qq_broker.specs.Lives.{Giving}
 use Rattle.qq_broker.specs.Nodes.{Had, Holds, Meets}
 use Rattle.qq_broker.proofs.Meeting.{meets-earlier}
 
@@ -23,7 +24,7 @@ abbrev pub LinesLead : Type 0
 LinesLead = (bytes : List ℕ) → FirstLineLeads bytes (first_line bytes)
 
 -- `start` is what the source had at first, and `a` what the sink had
-module _ {D : Type 0} (given : ℕ → D → Bool) (tells : D → Bool) (past : D → List Disk) (faults : D → ℕ) (s : Setup)
+module _ {D : Type 0} (given : Giving D) (tells : D → Bool) (past : D → List Disk) (faults : D → ℕ) (s : Setup)
     (start a : Option (List ℕ))
   where
     -- so many lines were served, and what the last one printed isn't written yet

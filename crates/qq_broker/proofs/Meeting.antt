@@ -4,9 +4,10 @@ use Rattle.qq_disk.specs.Disk.{Disk}
 use Rattle.qq_cluster_run.specs.Troubles.{YardFails, DiskFails, FilesBreak, QueueIsFound, NumberEnds}
 use Rattle.qq_cluster_run.proofs.Answering.{IsEarlier}
 use Rattle.qq_cluster_run.proofs.Closings.{Rose_earlier}
+use Rattle.qq_broker.specs.Lives.{Giving}
 use Rattle.qq_broker.specs.Nodes.{Meets}
 
-pub meets-earlier : {D : Type 0} (given : ℕ → D → Bool) (tells : D → Bool) (past : D → List Disk) (faults : D → ℕ)
+pub meets-earlier : {D : Type 0} (given : Giving D) (tells : D → Bool) (past : D → List Disk) (faults : D → ℕ)
     (first before after : ℕ)
     → first ≤ before → IsEarlier (Meets given tells past faults before after)
     (Meets given tells past faults first after)

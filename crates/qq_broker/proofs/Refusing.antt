@@ -1,6 +1,6 @@
 -- A node isn't restarted, and the run ends.
-use Rattle.std.proofs.Common.{◌≡◌, ◌≤◌, ◌⊎◌, ℕ, Bool, List, [], ◌∷◌, ◌++◌, Ok, Err, refl, sym, ap, subst, ◌∙◌, inl, inr, append-nil, length}
-use Rattle.std.specs.Prelude.{Contains, IsTrue, Some}
+use Rattle.std.proofs.Common.{◌≡◌, ◌≤◌, ◌⊎◌, ℕ, Bool, true, List, [], ◌∷◌, ◌++◌, Ok, Err, refl, sym, ap, subst, ◌∙◌, inl, inr, append-nil, length}
+use Rattle.std.specs.Prelude.{Contains, IsTrue, Some, is_some}
 use Rattle.std.specs.List.{range_with_len}
 use Rattle.qq_base.specs.declared.ids.NodeId.{NodeId}
 use Rattle.qq_base.specs.declared.ids.QueueId.{QueueId}
@@ -23,29 +23,30 @@ use Rattle.qq_setup.specs.declared.setup.Setup.{Setup}
 use Rattle.qq_wal_chain.specs.Lanes.{Lanes}
 use Rattle.qq_cluster.specs.Cluster.{Cluster, ClusterEvent, Setup as ClusterSetup, cluster_after, new_cluster}
 use Rattle.qq_cluster.specs.Lines.{IsLine}
-use Rattle.qq_cluster.specs.Rules.{ForEach, IsOpening, IsRestart}
+use Rattle.qq_cluster.specs.Rules.{ForEach, IsRestart}
 use Rattle.qq_cluster_laws.specs.Linked.{lot_of}
+use Rattle.qq_cluster_laws.specs.Restarts.{first_restart}
 use Rattle.qq_cluster_laws.specs.Serves.{Seen}
 use Rattle.qq_cluster_laws.proofs.Reached.{after-both}
 use Rattle.qq_cluster_run.specs.declared.stop.AskStop.{AskStop}
 use Rattle.qq_cluster_run.specs.declared.stop.AskStop.TheVariants.{Ended, NoMemory}
 use Rattle.qq_cluster_run.specs.Endings.{Ending, damaged, lost, other_version, spent}
-use Rattle.qq_cluster_run.specs.Runs.{MayNotOpen, ending_of, stop_of}
 use Rattle.qq_cluster_run.specs.Service.{HasServeCause}
 use Rattle.qq_cluster_run.specs.Serving.{EndsDamaged, EndsLost, EndsSpent, MayTakeUp, RestartsTo, Run, after_all, cluster_in, setup_in}
-use Rattle.qq_cluster_run.specs.Setup.{name_by, new_logs, row_at}
+use Rattle.qq_cluster_run.specs.Setup.{name_by, row_at}
 use Rattle.qq_cluster_run.specs.Troubles.{AtPlace, Damage, OfVersion, Trouble, damage_ending}
 use Rattle.qq_nodes.specs.Nodes.{Served, Stands, seen}
-use Rattle.qq_nodes.specs.Restarting.{IsLostAt, IsRefused, Refuses, RestartsTo as RestartedTo, all_nodes, lanes_at, this_node}
+use Rattle.qq_opening.specs.Restarting.{IsLostAt, IsRefused, Refuses, RestartsTo as RestartedTo, all_nodes, lanes_at, this_node}
 use Rattle.qq_nodes.specs.declared.nodes.Nodes.{Nodes}
-use Rattle.qq_nodes.specs.declared.restarting.RestartFault.{RestartFault}
-use Rattle.qq_nodes.specs.declared.restarting.RestartFault.TheVariants as faults_of
-use Rattle.qq_broker.specs.Lives.{Became, failures}
+use Rattle.qq_opening.specs.declared.restarting.RestartFault.{RestartFault}
+use Rattle.qq_opening.specs.declared.restarting.RestartFault.TheVariants as faults_of
+use Rattle.qq_broker.specs.Lives.{Became, Giving, failures}
 use Rattle.qq_broker.specs.Nodes.{Holds, IsDiskOf, Meets, damage_of}
-use Rattle.qq_broker.specs.Serving.{IsGivenUp, IsServed, IsStopOf, memory_stop, no_run}
+use Rattle.qq_broker.specs.Serving.{IsGivenUp, IsServed, IsStopOf, memory_stop}
 use Rattle.qq_broker.proofs.Beginning.{queue-own}
-use Rattle.qq_broker.proofs.Failing.{line-once, opening-once, restarts-few}
+use Rattle.qq_broker.proofs.Failing.{line-once, restarts-few}
 use Rattle.qq_broker.proofs.GoingOn.{became-served, disk-there, ends-spent, reached, served}
+use Rattle.qq_broker.proofs.Living.{not-first, restarted-stays}
 
 -- they count up
 record CountsUp (list : List ℕ) : Type 0 where
@@ -53,7 +54,7 @@ record CountsUp (list : List ℕ) : Type 0 where
   count : ℕ
   is : list ≡ range_with_len first count
 
-module _ {D : Type 0} (given : ℕ → D → Bool) (tells : D → Bool) (past : D → List Disk) (faults : D → ℕ)
+module _ {D : Type 0} (given : Giving D) (tells : D → Bool) (past : D → List Disk) (faults : D → ℕ)
     (before after : ℕ) (s : Setup) (run : Run)
     (old : Nodes D) (h : Holds given tells past faults s old run) (list : List ℕ) (up : CountsUp list)
     (there : (k : ℕ) → In k list → In k (setup_in s run).nodes) (said : List ℕ) where
@@ -85,6 +86,13 @@ module _ {D : Type 0} (given : ℕ → D → Bool) (tells : D → Bool) (past : 
   in-list node [] later = inl refl
   in-list node (k ∷ first) later = inr (in-list node first later)
 
+  here-at : (node : ℕ) (to : To node) → In node (setup_in s run).nodes
+  here-at node to = there node (subst (In node) (sym to.are) (in-list node to.first to.later))
+
+  -- each node was restarted before
+  restarted-at : (node : ℕ) (to : To node) → is_some (first_restart node (run.events ++ early_of node to)) ≡ true
+  restarted-at node to = restarted-stays node run.events (early_of node to) (h.restarted node (here-at node to))
+
   disk-at : (node : ℕ) (to : To node)
       → (last : D) × IsDiskOf tells past faults to.mid node last
       × Became given tells past faults (setup_in s run) (run.events ++ early_of node to) node last
@@ -102,7 +110,7 @@ module _ {D : Type 0} (given : ℕ → D → Bool) (tells : D → Bool) (past : 
             (Stands tells past (setup_in s run) to.mid) old to.mid said to.said to.serves node here
             (restarts-few node (setup_in s run) up.first up.count to.first (node ∷ to.later) (sym up.is ∙ to.are)
             (cluster_in s run)
-            (early_of node to) to.serves.did.means) was.0 is.0 was.1 is.1 was.2,
+            (early_of node to) to.serves.did.means) was.0 is.0 was.1 is.1 (h.restarted node here) was.2,
       )
 
   -- what recovery reads of it
@@ -132,6 +140,7 @@ module _ {D : Type 0} (given : ℕ → D → Bool) (tells : D → Bool) (past : 
         broken = record {
           last = own.0;
           became = own.2;
+          as_given = not-first node (run.events ++ early_of node to) (restarted-at node to);
           fault = fault;
           is = is;
           read = as-read (λ (a : Answer Lanes). a ≡ Err fault) to.mid node own.0 own.1 read;
@@ -157,6 +166,7 @@ module _ {D : Type 0} (given : ℕ → D → Bool) (tells : D → Bool) (past : 
         found = record {
           last = own.0;
           became = own.2;
+          as_given = not-first node.0 (run.events ++ early_of node.0 to) (restarted-at node.0 to);
           read = λ tell.
               (let r = as-read (λ (a : Answer Lanes). (lanes : Lanes) × (a ≡ Ok lanes) ×
               (so.state ≡ state_in lanes queue))
@@ -216,7 +226,7 @@ all-lines : (setup : ClusterSetup) (c : Cluster) (events : List ClusterEvent)
 unfolding IsLine
 all-lines setup c events so = so
 
-module _ {D : Type 0} (given : ℕ → D → Bool) (tells : D → Bool) (past : D → List Disk) (faults : D → ℕ) (s : Setup)
+module _ {D : Type 0} (given : Giving D) (tells : D → Bool) (past : D → List Disk) (faults : D → ℕ) (s : Setup)
     (run : Run) (old new : Nodes D)
     (before later : List ℕ) (h : Holds given tells past faults s old run) where
   pub restarted-one : (node : NodeId)
@@ -234,7 +244,7 @@ module _ {D : Type 0} (given : ℕ → D → Bool) (tells : D → Bool) (past : 
       (IsRestart setup)) old new
       before later h (λ events is. all-lines (setup_in s run) (cluster_in s run) events is) so
 
-module _ {D : Type 0} (given : ℕ → D → Bool) (tells : D → Bool) (past : D → List Disk) (faults : D → ℕ)
+module _ {D : Type 0} (given : Giving D) (tells : D → Bool) (past : D → List Disk) (faults : D → ℕ)
     (before after : ℕ) (s : Setup) (run : Run)
     (old new : Nodes D) (h : Holds given tells past faults s old run) (said : List ℕ) (fault : RestartFault)
     (stop : AskStop)
@@ -279,41 +289,6 @@ module _ {D : Type 0} (given : ℕ → D → Bool) (tells : D → Bool) (past : 
       (IsLine (setup_in s run) (Restart All)) old before after number h (all-lines (setup_in s run)) (once All)
       (so.spent number is (setup_in s run) (cluster_in s run) (reached given tells past faults s run) h.stands)))
       (so.refused (setup_in s run) (cluster_in s run) (reached given tells past faults s run) h.stands) stops
-
--- ---- an opening
-
-pub refused-open : {D : Type 0} (given : ℕ → D → Bool) (tells : D → Bool) (past : D → List Disk) (faults : D → ℕ)
-    (before after : ℕ) (s : Setup)
-    (old new : Nodes D) (said : List ℕ) (fault : RestartFault) (stop : AskStop) → Holds given tells past faults s old
-    no_run
-    → IsStopOf s fault stop → Refuses tells past faults all_nodes IsOpening old new said fault
-    → MayNotOpen (Meets given tells past faults before after) s (ending_of (stop_of stop))
-refused-open given tells past faults before after s old new said fault stop h stops so =
-    refused-so given tells past faults before after s no_run old h (setup_in s no_run).nodes
-    (record { first = 1; count = s.nodes; is = refl }) (λ k there. there) said
-    (λ (e : AskStop). MayNotOpen (Meets given tells past faults before after) s (ending_of (stop_of e))) fault stop
-    (λ ending refused. (new_logs, inr (inr (by ending refused)))) (new_logs, inl refl)
-    (λ number is. (
-      new_logs,
-      inr (inr (inr (inr (ends-spent given tells past faults s no_run (IsOpening (setup_in s no_run))
-          (IsOpening (setup_in s no_run)) old before after number h (λ c events opens. opens)
-          (λ k events. opening-once k (setup_in s no_run) s.nodes refl (cluster_in s no_run) events)
-          (so.spent number is (setup_in s no_run) (cluster_in s no_run) (reached given tells past faults s no_run)
-          h.stands))))),
-    ))
-    (so.refused (setup_in s no_run) (cluster_in s no_run) (reached given tells past faults s no_run) h.stands) stops
-  where
-    by : (ending : Ending)
-        → EndsDamaged (Meets given tells past faults before after) (setup_in s no_run) (setup_in s no_run).nodes
-        [] ending
-        ⊎ EndsLost (Meets given tells past faults before after) (setup_in s no_run) (setup_in s no_run).nodes [] ending
-        → EndsDamaged (Meets given tells past faults before after) (setup_in s no_run) (setup_in s no_run).nodes
-        [] ending
-        ⊎ (EndsLost (Meets given tells past faults before after) (setup_in s no_run) (setup_in s no_run).nodes [] ending
-        ⊎ EndsSpent (Meets given tells past faults before after) (setup_in s no_run) (IsOpening (setup_in s no_run))
-        [] ending)
-    by ending (inl so) = inl so
-    by ending (inr so) = inr (inl so)
 
 -- ---- a line that is given up
 

@@ -1,3 +1,5 @@
 pub mod Lives
 pub mod Nodes
 pub mod Serving
+pub mod Dumping
+pub mod Program

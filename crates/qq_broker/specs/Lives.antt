@@ -1,12 +1,65 @@
 -- What becomes of a node's disk while events happen.
-use Rattle.std.specs.Prelude.{◌≡◌, ◌⊎◌, ◌≤◌, ◌+◌, ◌-◌, ◌^◌, ℕ, Bool, true, List, [], ◌∷◌, ◌++◌, Option, Some, None, IsTrue, filter, length, nat_eq, if◌then◌else◌}
+use Rattle.std.specs.Prelude.{◌≡◌, ◌⊎◌, ◌≤◌, ◌+◌, ◌-◌, ◌^◌, ℕ, Bool, true, false, List, [], ◌∷◌, ◌++◌, Ok, Option, Some, None, IfNone, IsTrue, filter, length, nat_eq, if◌then◌else◌}
 use Rattle.qq_disk.specs.declared.image.Image.{Image}
 use Rattle.qq_disk.specs.Disk.{Disk, now}
-use Rattle.qq_ports.specs.Yard.{IsAfterCrash, IsNew}
+use Rattle.qq_log.specs.declared.op.Op.{Op}
+use Rattle.qq_log.specs.Stable.{stable}
+use Rattle.qq_lots.specs.Left.{state_in}
+use Rattle.qq_lots.specs.Lots.{ids_of}
+use Rattle.qq_ports.specs.Yard.{IsAfterCrash, IsNew, IsOpened}
+use Rattle.qq_raft_protocol.specs.Facts.{In}
+use Rattle.qq_recover.specs.Reading.{lanes_read, shown}
+use Rattle.qq_wal_chain.specs.Lanes.{Lanes}
 use Rattle.qq_cluster.specs.Cluster.{Cluster, ClusterEvent, Crashes, Setup, cluster_after, cluster_happens, new_cluster}
-use Rattle.qq_cluster_laws.specs.Linked.{IsLinked}
+use Rattle.qq_cluster_laws.specs.Linked.{IsLinked, lot_of}
+use Rattle.qq_cluster_laws.specs.Restarts.{first_restart}
 use Rattle.qq_cluster_laws.specs.Serves.{is_failure_at}
 use Rattle.qq_cluster_laws.specs.Traced.{IsTracedAt}
+use Rattle.qq_opening.specs.Opening.{told_of}
+
+-- ---- how disks are given
+
+-- under which root a run asks its yard for disks, None without one; and for which root and node each disk was given
+pub record Giving (D : Type 0) : Type 0 where
+  pub is_given : Option (List ℕ) → ℕ → D → Bool
+  pub root : Option (List ℕ)
+
+abbrev pub under : {D : Type 0} → (Option (List ℕ) → ℕ → D → Bool) → Option (List ℕ) → Giving D
+under is_given root = record { is_given = is_given; root = root }
+
+-- The yard gave this disk for a node under the run's root. Where it shows its contents it was just opened, and without a root
+-- nothing was ever on it.
+pub record IsGiven {D : Type 0} (given : Giving D) (tells : D → Bool) (past : D → List Disk) (k : ℕ) (disk : D) : Type 0
+  where
+    pub asked : given.is_given given.root k disk ≡ true
+    pub opened : IsTrue (tells disk) → IsOpened (past disk)
+    pub new : IfNone given.root (IsTrue (tells disk) → IsNew (past disk))
+
+-- ---- the logs with which a node begins
+
+-- what the run's logs hold of a queue on a node as the run begins
+abbrev pub log_at : Setup → (k place : ℕ) → List Op
+log_at setup k place = ((setup.group place).seat k).ops
+
+-- recovery reads them of a disk
+pub record HoldsLogs (setup : Setup) (k : ℕ) (d : Disk) : Type 0 where
+  pub lanes : Lanes
+  pub read : lanes_read (ids_of (lot_of setup k)) (shown d) ≡ Ok lanes
+  pub each : (place : ℕ) → In place (lot_of setup k).places
+      → stable (log_at setup k place) ≡ Some (told_of (state_in lanes (setup.args place).queue))
+
+-- they hold nothing
+abbrev pub HasNewLogs : Setup → ℕ → Type 0
+HasNewLogs setup k = (place : ℕ) → In place (lot_of setup k).places → log_at setup k place ≡ []
+
+-- Which logs a node begins with is as its first restart has it: those that its disk held, where that shows its contents; or
+-- new ones where the disk has failed. Before that restart nothing is said.
+abbrev pub BeginsBy : {D : Type 0} → (D → Bool) → (D → List Disk) → Setup → ℕ → D → Option Bool → Type 0
+BeginsBy tells past setup k disk None = Unit {0}
+BeginsBy tells past setup k disk (Some true) = IsTrue (tells disk) → HoldsLogs setup k (now (past disk))
+BeginsBy tells past setup k disk (Some false) = HasNewLogs setup k
+
+-- ---- what becomes of a disk
 
 -- how often calls of a node's disk have failed
 abbrev pub failures : ℕ → List ClusterEvent → ℕ
@@ -52,10 +105,10 @@ Lives tells past faults setup k c since (event ∷ events) first last =
     (λ new. Lives tells past faults setup k (cluster_happens (cluster_after c since) event) [] events new last)
     (Lives tells past faults setup k c (since ++ event ∷ []) events first last)
 
--- A yard gave a disk for this node, a new one where it shows its contents, and this has become of it.
-pub record Became {D : Type 0} (given : ℕ → D → Bool) (tells : D → Bool) (past : D → List Disk) (faults : D → ℕ)
+-- A yard gave a disk for this node, with whose logs the run begins, and this has become of it.
+pub record Became {D : Type 0} (given : Giving D) (tells : D → Bool) (past : D → List Disk) (faults : D → ℕ)
     (setup : Setup) (events : List ClusterEvent) (k : ℕ) (last : D) : Type 0 where
   pub first : D
-  pub given_is : given k first ≡ true
-  pub fresh : IsTrue (tells first) → IsNew (past first)
+  pub given_is : IsGiven given tells past k first
+  pub begins : BeginsBy tells past setup k first (first_restart k events)
   pub lives : Lives tells past faults setup k (new_cluster setup) [] events first last

@@ -1,11 +1,10 @@
 -- The nodes of a run: what they had, and what the run meets in its yard and in the disks that it gives.
-use Rattle.std.specs.Prelude.{◌≡◌, ℕ, Bool, true, List, Option, Some, None, Ok, Err, IsTrue}
+use Rattle.std.specs.Prelude.{◌≡◌, ℕ, Bool, true, List, Option, Some, None, Ok, Err, IsTrue, is_some}
 use Rattle.qq_base.specs.Causes.{Rose}
 use Rattle.qq_disk.specs.Disk.{Disk, now}
 use Rattle.qq_log.specs.Stable.{Stable}
 use Rattle.qq_lots.specs.Left.{state_in}
 use Rattle.qq_lots.specs.Lots.{ids_of}
-use Rattle.qq_ports.specs.Yard.{IsNew}
 use Rattle.qq_raft_protocol.specs.Facts.{In}
 use Rattle.qq_recover.specs.Reading.{lanes_read, shown}
 use Rattle.qq_recover.specs.declared.fault.RecoverFault.{RecoverFault}
@@ -16,14 +15,14 @@ use Rattle.qq_setup.specs.Setup.{state_of}
 use Rattle.qq_wal_chain.specs.Lanes.{Lanes}
 use Rattle.qq_cluster.specs.Cluster.{ClusterEvent, Setup as ClusterSetup}
 use Rattle.qq_cluster_laws.specs.Linked.{lot_of}
+use Rattle.qq_cluster_laws.specs.Restarts.{first_restart}
 use Rattle.qq_cluster_laws.specs.Serves.{seen_of}
 use Rattle.qq_cluster_run.specs.Serving.{Histories, Run, after_all, cluster_in, setup_in}
-use Rattle.qq_cluster_run.specs.Setup.{new_logs}
 use Rattle.qq_cluster_run.specs.Troubles.{Damage, AtPlace, OfVersion, Trouble, YardFails, DiskFails, FilesBreak, QueueIsFound, NumberEnds}
 use Rattle.qq_nodes.specs.Ends.{NumberAt}
 use Rattle.qq_nodes.specs.Nodes.{Stands, seen}
 use Rattle.qq_nodes.specs.declared.nodes.Nodes.{Nodes}
-use Rattle.qq_broker.specs.Lives.{Became}
+use Rattle.qq_broker.specs.Lives.{Became, Giving, IsGiven}
 
 -- a setup that nodes may be opened with
 abbrev pub MayRun : Setup → Type 0
@@ -32,7 +31,7 @@ MayRun s = IsRunnable (state_of s)
 -- ---- what the disks had
 
 -- where these events happened, each node's disk is what has become of one that the yard gave for it
-abbrev pub Had : {D : Type 0} → (ℕ → D → Bool) → (D → Bool) → (D → List Disk) → (D → ℕ) → Histories
+abbrev pub Had : {D : Type 0} → Giving D → (D → Bool) → (D → List Disk) → (D → ℕ) → Histories
 Had {D} given tells past faults setup events =
     (k : ℕ) → In k setup.nodes → (last : D) × Became given tells past faults setup events k last
 
@@ -40,12 +39,12 @@ Had {D} given tells past faults setup events =
 abbrev pub IsDiskOf : {D : Type 0} → (D → Bool) → (D → List Disk) → (D → ℕ) → Nodes D → ℕ → D → Type 0
 IsDiskOf tells past faults held k disk = seen tells past faults held k ≡ seen_of tells past faults disk
 
--- Nodes stand for the cluster of a run over new logs, and each one's disk is what has become of one that the yard gave
--- for it.
-pub record Holds {D : Type 0} (given : ℕ → D → Bool) (tells : D → Bool) (past : D → List Disk) (faults : D → ℕ)
+-- Nodes stand for the cluster of a run, which has restarted each of them, and each one's disk is what has become of one that
+-- the yard gave for it.
+pub record Holds {D : Type 0} (given : Giving D) (tells : D → Bool) (past : D → List Disk) (faults : D → ℕ)
     (s : Setup) (held : Nodes D) (run : Run) : Type 0 where
-  pub new : run.logs ≡ new_logs
   pub stands : Stands tells past (setup_in s run) held (cluster_in s run)
+  pub restarted : (k : ℕ) → In k (setup_in s run).nodes → is_some (first_restart k run.events) ≡ true
   pub disks : (k : ℕ) → In k (setup_in s run).nodes
       → (last : D) × IsDiskOf tells past faults held k last
       × Became given tells past faults (setup_in s run) run.events k last
@@ -53,12 +52,11 @@ pub record Holds {D : Type 0} (given : ℕ → D → Bool) (tells : D → Bool) 
 -- ---- what a run meets in its yard, and in the disks that it gives
 
 -- a disk's count of faults rose since the yard gave it for this node
-pub record HasFailed {D : Type 0} (given : ℕ → D → Bool) (tells : D → Bool) (past : D → List Disk) (faults : D → ℕ)
+pub record HasFailed {D : Type 0} (given : Giving D) (tells : D → Bool) (past : D → List Disk) (faults : D → ℕ)
     (k : ℕ) : Type 0 where
   pub first : D
-  pub given_is : given k first ≡ true
+  pub given_is : IsGiven given tells past k first
   pub last : D
-  pub fresh : IsTrue (tells first) → IsNew (past first)
   pub told : tells last ≡ tells first
   pub rose : Rose (faults first) (faults last)
 
@@ -68,27 +66,35 @@ damage_of (recover_faults.Damaged file place) = Some (AtPlace file.number place)
 damage_of (recover_faults.Version file byte) = Some (OfVersion file.number byte)
 damage_of _ = None
 
+-- Until its first restart a node's disk is as the yard gave it.
+abbrev pub IsAsGiven : {D : Type 0} {given : Giving D} {tells : D → Bool} {past : D → List Disk} {faults : D → ℕ}
+    {setup : ClusterSetup} {events : List ClusterEvent} {k : ℕ} {last : D}
+    → Became given tells past faults setup events k last → Type 0
+IsAsGiven {events = events} {k = k} {last = last} became = first_restart k events ≡ None → last ≡ became.first
+
 -- What has become of a node's disk breaks the rules of its log; where the disk shows its contents, recovery reads it so.
-pub record IsBroken {D : Type 0} (given : ℕ → D → Bool) (tells : D → Bool) (past : D → List Disk) (faults : D → ℕ)
+pub record IsBroken {D : Type 0} (given : Giving D) (tells : D → Bool) (past : D → List Disk) (faults : D → ℕ)
     (setup : ClusterSetup) (events : List ClusterEvent) (k : ℕ) (damage : Damage) : Type 0 where
   pub last : D
   pub became : Became given tells past faults setup events k last
+  pub as_given : IsAsGiven became
   pub fault : RecoverFault
   pub is : damage_of fault ≡ Some damage
   pub read : IsTrue (tells last) → lanes_read (ids_of (lot_of setup k)) (shown (now (past last))) ≡ Err fault
 
 -- what recovery reads of a queue in what has become of a node's disk, where that shows its contents
-pub record HoldsQueue {D : Type 0} (given : ℕ → D → Bool) (tells : D → Bool) (past : D → List Disk) (faults : D → ℕ)
+pub record HoldsQueue {D : Type 0} (given : Giving D) (tells : D → Bool) (past : D → List Disk) (faults : D → ℕ)
     (setup : ClusterSetup) (events : List ClusterEvent) (k place : ℕ) (lane : Stable) : Type 0 where
   pub last : D
   pub became : Became given tells past faults setup events k last
+  pub as_given : IsAsGiven became
   pub read : IsTrue (tells last) → (lanes : Lanes)
       × (lanes_read (ids_of (lot_of setup k)) (shown (now (past last))) ≡ Ok lanes)
       × (lane ≡ state_in lanes (setup.args place).queue)
 
 -- After these events nodes have the number at its end. Each one's disk is what has become of one that the yard gave for it;
 -- so where the number is of a log, that disk tells it, as it is or as a call has left it.
-pub record HasNumber {D : Type 0} (given : ℕ → D → Bool) (tells : D → Bool) (past : D → List Disk) (faults : D → ℕ)
+pub record HasNumber {D : Type 0} (given : Giving D) (tells : D → Bool) (past : D → List Disk) (faults : D → ℕ)
     (setup : ClusterSetup) (events : List ClusterEvent) (number : ℕ) : Type 0 where
   pub held : Nodes D
   pub stands : Stands tells past setup held (after_all setup events)
@@ -96,7 +102,7 @@ pub record HasNumber {D : Type 0} (given : ℕ → D → Bool) (tells : D → Bo
       → (last : D) × IsDiskOf tells past faults held k last × Became given tells past faults setup events k last
   pub at : NumberAt tells past held number
 
-abbrev pub Meets : {D : Type 0} → (ℕ → D → Bool) → (D → Bool) → (D → List Disk) → (D → ℕ) → (before after : ℕ)
+abbrev pub Meets : {D : Type 0} → Giving D → (D → Bool) → (D → List Disk) → (D → ℕ) → (before after : ℕ)
     → Trouble → Type 0
 Meets given tells past faults before after YardFails = Rose before after
 Meets given tells past faults before after (DiskFails k) = HasFailed given tells past faults k

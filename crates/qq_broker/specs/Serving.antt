@@ -7,24 +7,26 @@ use Rattle.qq_base.specs.declared.memory.Memory.{Memory}
 use Rattle.qq_base.specs.declared.memory.Memory.TheVariants.{Want, Spent}
 use Rattle.qq_disk.specs.declared.image.Image.{Image}
 use Rattle.qq_disk.specs.Disk.{Disk}
-use Rattle.qq_ports.specs.Yard.{IsNew}
 use Rattle.qq_ports.specs.declared.yard_fault.YardFault.{YardFault}
 use Rattle.qq_ports.specs.declared.yard_fault.YardFault.TheVariants as yard_faults
 use Rattle.qq_raft_protocol.specs.Facts.{In}
 use Rattle.qq_script_lines.specs.declared.line.ScriptLine.{ScriptLine}
 use Rattle.qq_setup.specs.declared.setup.Setup.{Setup}
-use Rattle.qq_cluster.specs.Cluster.{ClusterEvent, Crashes, Setup as ClusterSetup}
+use Rattle.qq_cluster.specs.Cluster.{ClusterEvent, Crashes, Setup as ClusterSetup, new_cluster}
 use Rattle.qq_cluster.specs.Lines.{IsLine}
 use Rattle.qq_cluster_run.specs.declared.stop.AskStop.{AskStop}
 use Rattle.qq_cluster_run.specs.declared.stop.AskStop.TheVariants.{Ended, NoMemory}
 use Rattle.qq_cluster_run.specs.Endings.{Ending, damaged, lost, no_memory, other_version, spent, yard_fault}
 use Rattle.qq_cluster_run.specs.Service.{HasServed}
 use Rattle.qq_cluster_run.specs.Serving.{EndsSpent, Run, setup_in}
-use Rattle.qq_cluster_run.specs.Setup.{name_by, new_logs, place_of, row_at}
+use Rattle.qq_cluster_run.specs.Setup.{cluster_setup, name_by, place_of, row_at}
 use Rattle.qq_cluster_run.specs.Troubles.{Trouble}
+use Rattle.qq_nodes.specs.Nodes.{Stands}
+use Rattle.qq_nodes.specs.Setting.{AreNew}
 use Rattle.qq_nodes.specs.declared.nodes.Nodes.{Nodes}
-use Rattle.qq_nodes.specs.declared.restarting.RestartFault.{RestartFault}
-use Rattle.qq_nodes.specs.declared.restarting.RestartFault.TheVariants as faults
+use Rattle.qq_opening.specs.declared.restarting.RestartFault.{RestartFault}
+use Rattle.qq_opening.specs.declared.restarting.RestartFault.TheVariants as faults
+use Rattle.qq_broker.specs.Lives.{Giving, IsGiven}
 use Rattle.qq_broker.specs.Nodes.{Had, Holds, IsDiskOf}
 
 -- a run behind one line more
@@ -32,7 +34,7 @@ abbrev pub run_after : Run → List ClusterEvent → Run
 run_after run events = record { lines = run.lines + 1; logs = run.logs; events = events }
 
 -- a line was served
-abbrev pub IsServed : {D : Type 0} → (ℕ → D → Bool) → (D → Bool) → (D → List Disk) → (D → ℕ) → Setup → Run → ScriptLine
+abbrev pub IsServed : {D : Type 0} → Giving D → (D → Bool) → (D → List Disk) → (D → ℕ) → Setup → Run → ScriptLine
     → Nodes D → List ℕ → List ℕ → Type 0
 IsServed given tells past faults s run line held before later =
     HasServed (Had given tells past faults) (setup_in s run) run.events line
@@ -49,23 +51,24 @@ AreThere s queues = AllByRecursion (λ (queue : QueueId). In queue.0 (map place_
 
 -- ---- how nodes begin
 
--- a run before its nodes are opened
-abbrev pub no_run : Run
-no_run = record { lines = 0; logs = new_logs; events = [] }
-
--- nothing was ever on a disk that shows its contents
-abbrev pub IsFresh : {D : Type 0} → (D → Bool) → (D → List Disk) → D → Type 0
-IsFresh tells past disk = IsTrue (tells disk) → IsNew (past disk)
-
 -- each disk was given for its node, in order
-abbrev pub AreGiven : {D : Type 0} → (ℕ → D → Bool) → List D → Type 0
-AreGiven {D} given disks = (i : ℕ) (disk : D) → slice_get disks i ≡ Some disk → given (i + 1) disk ≡ true
+abbrev pub AreGiven : {D : Type 0} → Giving D → (D → Bool) → (D → List Disk) → List D → Type 0
+AreGiven {D} given tells past disks =
+    (i : ℕ) (disk : D) → slice_get disks i ≡ Some disk → IsGiven given tells past (i + 1) disk
 
--- each node has a new disk, which was given for it
-abbrev pub AreNew : {D : Type 0} → (ℕ → D → Bool) → (D → Bool) → (D → List Disk) → (D → ℕ) → Setup → Nodes D → Type 0
-AreNew {D} given tells past faults s held =
-    (k : ℕ) → In k (setup_in s no_run).nodes
-    → (disk : D) × IsDiskOf tells past faults held k disk × IsFresh tells past disk × (given k disk ≡ true)
+-- each node has the disk that was given for it
+abbrev pub HaveGiven : {D : Type 0} → Giving D → (D → Bool) → (D → List Disk) → (D → ℕ) → Setup → Nodes D → Type 0
+HaveGiven {D} given tells past faults s held =
+    (k : ℕ) → In k (cluster_setup s).nodes
+    → (disk : D) × IsDiskOf tells past faults held k disk × IsGiven given tells past k disk
+
+-- Nodes that weren't opened yet: they stand for the cluster of the setup over new logs, where nothing has happened, and each
+-- has the disk that was given for it.
+pub record AreUnopened {D : Type 0} (given : Giving D) (tells : D → Bool) (past : D → List Disk) (faults : D → ℕ)
+    (s : Setup) (held : Nodes D) : Type 0 where
+  pub stands : Stands tells past (cluster_setup s) held (new_cluster (cluster_setup s))
+  pub new : AreNew tells past s.queues held
+  pub disks : HaveGiven given tells past faults s held
 
 -- ---- how a run ends
 

@@ -1,9 +1,10 @@
 //! What a line asks of nodes that neither crashes nor restarts one.
-ghost use Rattle.std.specs.Prelude.{◌≡◌, ◌<◌, ℕ, Bool, IfErr, OnOk};
+ghost use Rattle.std.specs.Prelude.{◌≡◌, ◌<◌, ℕ, IfErr, OnOk};
 ghost use Rattle.qq_base.specs.Ids.{client};
 ghost use Rattle.qq_script_lines.specs.declared.line.ScriptLine.TheVariants.{Publish, Send};
 ghost use Rattle.qq_cluster_run.specs.Named.{IsClient, IsNamed, IsShort};
 ghost use Rattle.qq_cluster_run.specs.Serving.{Run, setup_in};
+ghost use Rattle.qq_broker.specs.Lives.{Giving};
 ghost use Rattle.qq_broker.specs.Nodes.{Holds, MayRun, Meets};
 ghost use Rattle.qq_broker.specs.Serving.{IsGivenUp, IsServed};
 
@@ -27,15 +28,15 @@ fn send<D: NodeDisk>(
     text: &mut Vec<u8>,
 ) -> Result<(), Memory>
     requires may { MayRun setup.now }
-    requires holds { (given : ℕ → D → Bool) × ((run : Run)
+    requires holds { (given : Giving D) × ((run : Run)
         × Holds given D.tells D.past D.faults setup.now nodes.old run) }
     requires client { IsClient session }
     requires short { IsShort key body }
-    ensures ok { (given : ℕ → D → Bool) (run : Run) →
+    ensures ok { (given : Giving D) (run : Run) →
         Holds given D.tells D.past D.faults setup.now nodes.old run →
         OnOk result (IsServed given D.tells D.past D.faults setup.now run
         (Send session exchange key body) nodes.new text.old.items text.new.items) }
-    ensures cause { (given : ℕ → D → Bool) (run : Run) (before after : ℕ) →
+    ensures cause { (given : Giving D) (run : Run) (before after : ℕ) →
         Holds given D.tells D.past D.faults setup.now nodes.old run →
         IfErr result (IsGivenUp (Meets given D.tells D.past D.faults before after)
         (setup_in setup.now run) run.events (Send session exchange key body)) }
@@ -60,14 +61,14 @@ fn publish<D: NodeDisk>(
     text: &mut Vec<u8>,
 ) -> Result<(), Memory>
     requires may { MayRun setup.now }
-    requires holds { (given : ℕ → D → Bool) × ((run : Run)
+    requires holds { (given : Giving D) × ((run : Run)
         × Holds given D.tells D.past D.faults setup.now nodes.old run
         × IsNamed (setup_in setup.now run) (Publish body)) }
-    ensures ok { (given : ℕ → D → Bool) (run : Run) →
+    ensures ok { (given : Giving D) (run : Run) →
         Holds given D.tells D.past D.faults setup.now nodes.old run →
         OnOk result (IsServed given D.tells D.past D.faults setup.now run
         (Publish body) nodes.new text.old.items text.new.items) }
-    ensures cause { (given : ℕ → D → Bool) (run : Run) (before after : ℕ) →
+    ensures cause { (given : Giving D) (run : Run) (before after : ℕ) →
         Holds given D.tells D.past D.faults setup.now nodes.old run →
         IfErr result (IsGivenUp (Meets given D.tells D.past D.faults before after)
         (setup_in setup.now run) run.events (Publish body)) }
@@ -104,14 +105,14 @@ pub fn ask<D: NodeDisk>(
     text: &mut Vec<u8>,
 ) -> Result<(), Memory>
     requires may { MayRun setup.now }
-    requires holds { (given : ℕ → D → Bool) × ((run : Run)
+    requires holds { (given : Giving D) × ((run : Run)
         × Holds given D.tells D.past D.faults setup.now nodes.old run
         × IsNamed (setup_in setup.now run) line) }
-    ensures ok { (given : ℕ → D → Bool) (run : Run) →
+    ensures ok { (given : Giving D) (run : Run) →
         Holds given D.tells D.past D.faults setup.now nodes.old run →
         OnOk result (IsServed given D.tells D.past D.faults setup.now run
         line nodes.new text.old.items text.new.items) }
-    ensures cause { (given : ℕ → D → Bool) (run : Run) (before after : ℕ) →
+    ensures cause { (given : Giving D) (run : Run) (before after : ℕ) →
         Holds given D.tells D.past D.faults setup.now nodes.old run →
         IfErr result (IsGivenUp (Meets given D.tells D.past D.faults before after)
         (setup_in setup.now run) run.events line) }

@@ -1,11 +1,12 @@
 //! The audits of a run's queues.
-ghost use Rattle.std.specs.Prelude.{◌≡◌, ◌≤◌, ◌++◌, ℕ, Bool, IfErr, OnErr, OnOk};
+ghost use Rattle.std.specs.Prelude.{◌≡◌, ◌≤◌, ◌++◌, ℕ, IfErr, OnErr, OnOk};
 ghost use Rattle.std.specs.Io.KnownBytes.{Appends};
 ghost use Rattle.qq_base.specs.Causes.{Rose, HasCause};
 ghost use Rattle.qq_ports.specs.Faults.{IsCaused};
 ghost use Rattle.qq_cluster.specs.Texts.{audits_text};
 ghost use Rattle.qq_cluster_run.specs.Pieces.{HasPrefix, HasPrintCause, HasSomePrefix};
 ghost use Rattle.qq_cluster_run.specs.Serving.{Run, cluster_in, setup_in};
+ghost use Rattle.qq_broker.specs.Lives.{Giving};
 ghost use Rattle.qq_broker.specs.Nodes.{Holds, MayRun};
 
 use qq_cluster_run::PrintFault;
@@ -47,13 +48,13 @@ pub fn write_audits<D: NodeDisk, O: Sink>(
     output: &mut O,
 ) -> Result<(), PrintFault>
     requires may { MayRun setup.now }
-    requires holds { (given : ℕ → D → Bool) × ((run : Run)
+    requires holds { (given : Giving D) × ((run : Run)
         × Holds given D.tells D.past D.faults setup.now nodes.now run) }
-    ensures ok { (given : ℕ → D → Bool) (run : Run) →
+    ensures ok { (given : Giving D) (run : Run) →
         Holds given D.tells D.past D.faults setup.now nodes.now run →
         OnOk result (Appends (O.written output.old) (O.written output.new)
         (audits_text (setup_in setup.now run) (cluster_in setup.now run))) }
-    ensures err { (given : ℕ → D → Bool) (run : Run) →
+    ensures err { (given : Giving D) (run : Run) →
         Holds given D.tells D.past D.faults setup.now nodes.now run →
         OnErr result (HasSomePrefix (O.written output.old) (O.written output.new)
         (audits_text (setup_in setup.now run) (cluster_in setup.now run))) }

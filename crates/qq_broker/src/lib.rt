@@ -3,10 +3,13 @@
 
 mod asking;
 mod auditing;
+mod dumping;
+mod laws;
 mod opening;
 mod program;
 mod routing;
 mod serving;
 mod stopping;
 
+pub use laws::{a_dump_tells_what_was_done, a_run_without_a_root_begins_with_new_logs};
 pub use program::run;

@@ -1,21 +1,24 @@
 //! The nodes of a run are opened over disks of its yard.
-ghost use Rattle.std.specs.Prelude.{◌≡◌, ◌≤◌, All, IfErr, IfOk, length};
+ghost use Rattle.std.specs.Prelude.{◌≡◌, ◌≤◌, All, IfErr, IfOk, length, option_map};
 ghost use Rattle.qq_cluster_run.specs.Runs.{MayNotOpen, ending_of, stop_of};
 ghost use Rattle.qq_cluster_run.specs.Service.{HasOpened};
+ghost use Rattle.qq_nodes.specs.Setting.{IsWhole};
+ghost use Rattle.qq_broker.specs.Lives.{under};
 ghost use Rattle.qq_broker.specs.Nodes.{Had, Holds, MayRun, Meets};
-ghost use Rattle.qq_broker.specs.Serving.{AreGiven, AreNew, IsFresh, IsYardEnding, no_run, yard_ending};
+ghost use Rattle.qq_broker.specs.Serving.{AreGiven, AreUnopened, IsYardEnding, yard_ending};
 
 use crate::stopping::restart_stop;
-use qq_base::NodeId;
+use qq_base::{NodeId, Text};
 use qq_cluster_run::{Ending, Stop, clusters_begin_with_new_logs};
-use qq_node_log::a_new_disk_holds_nothing;
 use qq_nodes::Nodes;
+use qq_opening::open as open_nodes;
 use qq_ports::{Yard, YardFault};
+use qq_recover::these_disks_may_be_recovered;
 use qq_setup::Setup;
 use std::alloc::Global;
 
-// How a run ends whose yard gives no disk.
-fn yard_ending(fault: YardFault) -> Ending
+/// How a run ends whose yard gives no disk.
+pub fn yard_ending(fault: YardFault) -> Ending
     ensures { result ≡ yard_ending fault }
 {
     match fault {
@@ -24,18 +27,24 @@ fn yard_ending(fault: YardFault) -> Ending
     }
 }
 
-// Disks that the yard gives for the first nodes, one each, in order.
-fn new_disks<Y: Yard>(alloc: Global, count: u8, yard: &mut Y) -> Result<Vec<Y::Disk>, Ending>
+// Disks that the yard gives under a root for the first nodes, one each, in order.
+fn disks_of<Y: Yard>(
+    alloc: Global,
+    count: u8,
+    root: Option<&str>,
+    yard: &mut Y,
+) -> Result<Vec<Y::Disk>, Ending>
     ensures count { IfOk result (λ disks. length disks.items ≡ count) }
-    ensures given { IfOk result (λ disks. AreGiven Y.is_given disks.items) }
-    ensures fresh { IfOk result (λ disks.
-        All (IsFresh Y.Disk.tells Y.Disk.past) disks.items) }
+    ensures given { IfOk result (λ disks. AreGiven
+        (under Y.is_given (option_map (λ text. text.now) root.entry)) Y.Disk.tells Y.Disk.past disks.items) }
+    ensures whole { IfOk result (λ disks. All (IsWhole Y.Disk.tells Y.Disk.past) disks.items) }
     ensures cause { IfErr result (IsYardEnding (Y.faults yard.old) (Y.faults yard.new)) }
     ensures later { Y.faults yard.old ≤ Y.faults yard.new }
 {
+    these_disks_may_be_recovered();
     let mut disks = Vec::new(alloc);
     'nodes: for before in 0..count {
-        let disk = match yard.disk(alloc, None, NodeId(before + 1)) {
+        let disk = match yard.disk(alloc, root, NodeId(before + 1)) {
             Ok(disk) => disk,
             Err(fault) => return Err(yard_ending(fault)),
         };
@@ -46,19 +55,31 @@ fn new_disks<Y: Yard>(alloc: Global, count: u8, yard: &mut Y) -> Result<Vec<Y::D
     Ok(disks)
 }
 
-// Nodes over new disks, all of them down, and the queues of a setup.
-fn begin<Y: Yard>(alloc: Global, setup: &Setup, yard: &mut Y) -> Result<Nodes<Y::Disk>, Ending>
+// The path of a root, if there is one.
+fn path_of(root: &Option<Text>) -> Option<&str>
+    ensures { option_map (λ text. text.now) result ≡ root.now }
+{
+    match root {
+        Some(text) => Some(text.as_str()),
+        None => None,
+    }
+}
+
+// Nodes over these disks, all of them down, and the queues of a setup.
+fn begin<Y: Yard>(
+    alloc: Global,
+    setup: &Setup,
+    root: &Option<Text>,
+    yard: &mut Y,
+) -> Result<Nodes<Y::Disk>, Ending>
     requires { MayRun setup.now }
-    ensures ok { IfOk result (λ nodes.
-        Holds Y.is_given Y.Disk.tells Y.Disk.past Y.Disk.faults setup.now nodes no_run) }
-    ensures disks { IfOk result
-        (AreNew Y.is_given Y.Disk.tells Y.Disk.past Y.Disk.faults setup.now) }
+    ensures ok { IfOk result (AreUnopened (under Y.is_given root.now)
+        Y.Disk.tells Y.Disk.past Y.Disk.faults setup.now) }
     ensures cause { IfErr result (IsYardEnding (Y.faults yard.old) (Y.faults yard.new)) }
     ensures later { Y.faults yard.old ≤ Y.faults yard.new }
 {
     clusters_begin_with_new_logs();
-    a_new_disk_holds_nothing::<Y::Disk>();
-    let disks = match new_disks(alloc, setup.nodes, yard) {
+    let disks = match disks_of(alloc, setup.nodes, path_of(root), yard) {
         Ok(disks) => disks,
         Err(ending) => return Err(ending),
     };
@@ -68,32 +89,37 @@ fn begin<Y: Yard>(alloc: Global, setup: &Setup, yard: &mut Y) -> Result<Nodes<Y:
     }
 }
 
-/// Opens nodes with the queues of a setup over disks of the yard, and adds what that prints to `text`.
+/// Opens nodes with the queues of a setup over the disks that the yard gives under a root, new ones without a root,
+/// and adds what that prints to `text`.
 ///
-/// - `ok`: each node is recovered, some of them without a fault, each queue's first member has stood for election,
-///   and a pump has followed.
-/// - `cause`: the yard has failed or each node's disk has, a node's files break the rules or hold ops of a queue,
-///   there was no memory, or a number stands at its end.
+/// - `ok`: each node is recovered, some of them without a fault, and its members begin with what its disk holds of their
+///   queues. Each queue's first member has stood for election, and a pump has followed.
+/// - `cause`: the yard has failed or each node's disk has, a node's files break the rules, what is read of a queue
+///   supports no audit, there was no memory, or a number stands at its end.
 pub fn open<Y: Yard>(
     alloc: Global,
     setup: &Setup,
+    root: &Option<Text>,
     yard: &mut Y,
     text: &mut Vec<u8>,
 ) -> Result<Nodes<Y::Disk>, Ending>
     requires { MayRun setup.now }
     ensures ok { IfOk result (λ nodes. HasOpened
-        (Had Y.is_given Y.Disk.tells Y.Disk.past Y.Disk.faults) setup.now
-        (Holds Y.is_given Y.Disk.tells Y.Disk.past Y.Disk.faults setup.now nodes)
-        text.old.items text.new.items) }
-    ensures cause { IfErr result (MayNotOpen (Meets Y.is_given Y.Disk.tells Y.Disk.past Y.Disk.faults
+        (Had (under Y.is_given root.now) Y.Disk.tells Y.Disk.past Y.Disk.faults)
+        setup.now
+        (Holds (under Y.is_given root.now) Y.Disk.tells Y.Disk.past Y.Disk.faults
+        setup.now nodes) text.old.items text.new.items) }
+    ensures cause { IfErr result (MayNotOpen
+        (Meets (under Y.is_given root.now) Y.Disk.tells Y.Disk.past Y.Disk.faults
         (Y.faults yard.old) (Y.faults yard.new)) setup.now) }
     ensures later { Y.faults yard.old ≤ Y.faults yard.new }
 {
-    let mut nodes = match begin(alloc, setup, yard) {
+    clusters_begin_with_new_logs();
+    let mut nodes = match begin(alloc, setup, root, yard) {
         Ok(nodes) => nodes,
         Err(ending) => return Err(ending),
     };
-    match nodes.open(alloc, text) {
+    match open_nodes(&mut nodes, alloc, text) {
         Ok(some) => {
             if some {
                 return Ok(nodes);

@@ -1,5 +1,5 @@
 //! The nodes of a run serve lines.
-ghost use Rattle.std.specs.Prelude.{◌≡◌, ◌≤◌, ◌++◌, ◌∷◌, [], ℕ, Bool, List, Contains, IfErr, OnOk};
+ghost use Rattle.std.specs.Prelude.{◌≡◌, ◌≤◌, ◌++◌, ◌∷◌, [], ℕ, List, Contains, IfErr, OnOk};
 ghost use Rattle.qq_base.specs.Causes.{HasCause};
 ghost use Rattle.qq_ports.specs.Yard.{IsYardCaused};
 ghost use Rattle.qq_script_lines.specs.declared.line.ScriptLine.TheVariants.{Crash, Restart};
@@ -8,6 +8,7 @@ ghost use Rattle.qq_cluster.specs.Cluster.{Crashes};
 ghost use Rattle.qq_cluster_run.specs.Named.{AreNodes, IsNamed};
 ghost use Rattle.qq_cluster_run.specs.Service.{HasServeCause};
 ghost use Rattle.qq_cluster_run.specs.Serving.{Run, setup_in};
+ghost use Rattle.qq_broker.specs.Lives.{Giving};
 ghost use Rattle.qq_broker.specs.Nodes.{Holds, MayRun, Meets};
 ghost use Rattle.qq_broker.specs.Serving.{IsServed, crash_stop, crashes, with_events};
 
@@ -17,6 +18,7 @@ use qq_base::NodeId;
 use qq_cluster_run::{AskStop, Ending};
 use qq_disk::{Image, NodeDisk};
 use qq_nodes::{Nodes, crash_node};
+use qq_opening::{restart as restart_node, restart_each};
 use qq_ports::{Yard, YardFault};
 use qq_script_lines::{Nodes as Which, ScriptLine};
 use qq_setup::Setup;
@@ -40,12 +42,12 @@ fn crash_one<Y: Yard>(
     node: NodeId,
     image: &Image,
 ) -> Result<(), YardFault>
-    requires holds { (s : SetupOf) × ((run : Run)
-        × Holds Y.is_given Y.Disk.tells Y.Disk.past Y.Disk.faults s nodes.old run
-        × Contains (setup_in s run).nodes node.0) }
-    ensures ok { (s : SetupOf) (run : Run) →
-        Holds Y.is_given Y.Disk.tells Y.Disk.past Y.Disk.faults s nodes.old run →
-        OnOk result (Holds Y.is_given Y.Disk.tells Y.Disk.past Y.Disk.faults s nodes.new
+    requires holds { (given : Giving Y.Disk) × ((s : SetupOf) × ((run : Run)
+        × Holds given Y.Disk.tells Y.Disk.past Y.Disk.faults s nodes.old run
+        × Contains (setup_in s run).nodes node.0)) }
+    ensures ok { (given : Giving Y.Disk) (s : SetupOf) (run : Run) →
+        Holds given Y.Disk.tells Y.Disk.past Y.Disk.faults s nodes.old run →
+        OnOk result (Holds given Y.Disk.tells Y.Disk.past Y.Disk.faults s nodes.new
         (with_events run (run.events ++ Crashes node.0 image.now ∷ []))) }
     ensures cause { HasCause IsYardCaused (Y.faults yard.old) (Y.faults yard.new) result }
 {
@@ -63,11 +65,11 @@ fn crash_first<Y: Yard>(
     count: u8,
     image: &Image,
 ) -> Result<(), YardFault>
-    requires holds { (s : SetupOf) × ((run : Run)
-        × Holds Y.is_given Y.Disk.tells Y.Disk.past Y.Disk.faults s nodes.old run × (count ≤ s.nodes)) }
-    ensures ok { (s : SetupOf) (run : Run) →
-        Holds Y.is_given Y.Disk.tells Y.Disk.past Y.Disk.faults s nodes.old run →
-        OnOk result (Holds Y.is_given Y.Disk.tells Y.Disk.past Y.Disk.faults s nodes.new
+    requires holds { (given : Giving Y.Disk) × ((s : SetupOf) × ((run : Run)
+        × Holds given Y.Disk.tells Y.Disk.past Y.Disk.faults s nodes.old run × (count ≤ s.nodes))) }
+    ensures ok { (given : Giving Y.Disk) (s : SetupOf) (run : Run) →
+        Holds given Y.Disk.tells Y.Disk.past Y.Disk.faults s nodes.old run →
+        OnOk result (Holds given Y.Disk.tells Y.Disk.past Y.Disk.faults s nodes.new
         (with_events run (run.events ++ crashes 1 count image.now))) }
     ensures cause { HasCause IsYardCaused (Y.faults yard.old) (Y.faults yard.new) result }
 {
@@ -88,14 +90,15 @@ fn crash<Y: Yard>(
     which: Which,
     image: &Image,
 ) -> Result<(), AskStop>
-    requires { (run : Run) × Holds Y.is_given Y.Disk.tells Y.Disk.past Y.Disk.faults setup.now nodes.old run
-        × AreNodes (setup_in setup.now run) which }
-    ensures ok { (run : Run) (text : List ℕ) →
-        Holds Y.is_given Y.Disk.tells Y.Disk.past Y.Disk.faults setup.now nodes.old run →
-        OnOk result (IsServed Y.is_given Y.Disk.tells Y.Disk.past Y.Disk.faults setup.now run
+    requires { (given : Giving Y.Disk) × ((run : Run)
+        × Holds given Y.Disk.tells Y.Disk.past Y.Disk.faults setup.now nodes.old run
+        × AreNodes (setup_in setup.now run) which) }
+    ensures ok { (given : Giving Y.Disk) (run : Run) (text : List ℕ) →
+        Holds given Y.Disk.tells Y.Disk.past Y.Disk.faults setup.now nodes.old run →
+        OnOk result (IsServed given Y.Disk.tells Y.Disk.past Y.Disk.faults setup.now run
         (Crash which image.now) nodes.new text text) }
-    ensures cause { (run : Run) → IfErr result (HasServeCause
-        (Meets Y.is_given Y.Disk.tells Y.Disk.past Y.Disk.faults (Y.faults yard.old) (Y.faults yard.new))
+    ensures cause { (given : Giving Y.Disk) (run : Run) → IfErr result (HasServeCause
+        (Meets given Y.Disk.tells Y.Disk.past Y.Disk.faults (Y.faults yard.old) (Y.faults yard.new))
         (setup_in setup.now run) run.events (Crash which image.now)) }
     ensures later { Y.faults yard.old ≤ Y.faults yard.new }
 {
@@ -119,24 +122,24 @@ fn restart<D: NodeDisk>(
     which: Which,
     text: &mut Vec<u8>,
 ) -> Result<(), AskStop>
-    requires { (given : ℕ → D → Bool) × ((run : Run)
+    requires { (given : Giving D) × ((run : Run)
         × Holds given D.tells D.past D.faults setup.now nodes.old run
         × AreNodes (setup_in setup.now run) which) }
-    ensures ok { (given : ℕ → D → Bool) (run : Run) →
+    ensures ok { (given : Giving D) (run : Run) →
         Holds given D.tells D.past D.faults setup.now nodes.old run →
         OnOk result (IsServed given D.tells D.past D.faults setup.now run
         (Restart which) nodes.new text.old.items text.new.items) }
-    ensures cause { (given : ℕ → D → Bool) (run : Run) (before after : ℕ) →
+    ensures cause { (given : Giving D) (run : Run) (before after : ℕ) →
         Holds given D.tells D.past D.faults setup.now nodes.old run → IfErr result (HasServeCause
         (Meets given D.tells D.past D.faults before after) (setup_in setup.now run) run.events
         (Restart which)) }
 {
     match which {
-        Which::One(node) => match nodes.restart(alloc, node, text) {
+        Which::One(node) => match restart_node(nodes, alloc, node, text) {
             Ok(()) => Ok(()),
             Err(fault) => Err(restart_stop(alloc, setup, fault)),
         },
-        Which::All => match nodes.restart_each(alloc, text) {
+        Which::All => match restart_each(nodes, alloc, text) {
             Ok(()) => Ok(()),
             Err(fault) => Err(restart_stop(alloc, setup, fault)),
         },
@@ -152,14 +155,14 @@ fn go_on<D: NodeDisk>(
     text: &mut Vec<u8>,
 ) -> Result<(), AskStop>
     requires may { MayRun setup.now }
-    requires holds { (given : ℕ → D → Bool) × ((run : Run)
+    requires holds { (given : Giving D) × ((run : Run)
         × Holds given D.tells D.past D.faults setup.now nodes.old run
         × IsNamed (setup_in setup.now run) line) }
-    ensures ok { (given : ℕ → D → Bool) (run : Run) →
+    ensures ok { (given : Giving D) (run : Run) →
         Holds given D.tells D.past D.faults setup.now nodes.old run →
         OnOk result (IsServed given D.tells D.past D.faults setup.now run
         line nodes.new text.old.items text.new.items) }
-    ensures cause { (given : ℕ → D → Bool) (run : Run) (before after : ℕ) →
+    ensures cause { (given : Giving D) (run : Run) (before after : ℕ) →
         Holds given D.tells D.past D.faults setup.now nodes.old run → IfErr result (HasServeCause
         (Meets given D.tells D.past D.faults before after) (setup_in setup.now run) run.events line) }
 {
@@ -182,16 +185,17 @@ pub fn serve<Y: Yard>(
     text: &mut Vec<u8>,
 ) -> Result<(), AskStop>
     requires may { MayRun setup.now }
-    requires holds { (run : Run) × Holds Y.is_given Y.Disk.tells Y.Disk.past Y.Disk.faults setup.now nodes.old run
-        × IsNamed (setup_in setup.now run) line }
-    ensures ok { (run : Run) →
-        Holds Y.is_given Y.Disk.tells Y.Disk.past Y.Disk.faults setup.now nodes.old run →
-        OnOk result (IsServed Y.is_given Y.Disk.tells Y.Disk.past Y.Disk.faults setup.now run
+    requires holds { (given : Giving Y.Disk) × ((run : Run)
+        × Holds given Y.Disk.tells Y.Disk.past Y.Disk.faults setup.now nodes.old run
+        × IsNamed (setup_in setup.now run) line) }
+    ensures ok { (given : Giving Y.Disk) (run : Run) →
+        Holds given Y.Disk.tells Y.Disk.past Y.Disk.faults setup.now nodes.old run →
+        OnOk result (IsServed given Y.Disk.tells Y.Disk.past Y.Disk.faults setup.now run
         line nodes.new text.old.items text.new.items) }
-    ensures cause { (run : Run) →
-        Holds Y.is_given Y.Disk.tells Y.Disk.past Y.Disk.faults setup.now nodes.old run →
+    ensures cause { (given : Giving Y.Disk) (run : Run) →
+        Holds given Y.Disk.tells Y.Disk.past Y.Disk.faults setup.now nodes.old run →
         IfErr result (HasServeCause
-        (Meets Y.is_given Y.Disk.tells Y.Disk.past Y.Disk.faults (Y.faults yard.old) (Y.faults yard.new))
+        (Meets given Y.Disk.tells Y.Disk.past Y.Disk.faults (Y.faults yard.old) (Y.faults yard.new))
         (setup_in setup.now run) run.events line) }
     ensures later { Y.faults yard.old ≤ Y.faults yard.new }
 {

@@ -6,7 +6,7 @@ ghost use Rattle.qq_broker.specs.Serving.{IsStopOf, memory_stop};
 
 use qq_base::{Duplicate, Memory, QueueId};
 use qq_cluster_run::{AskStop, Ending};
-use qq_nodes::RestartFault;
+use qq_opening::RestartFault;
 use qq_setup::{QueueRow, Setup};
 use std::alloc::Global;
 

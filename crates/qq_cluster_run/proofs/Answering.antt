@@ -1,5 +1,6 @@
 -- A line is read and served.
-use Rattle.std.proofs.Common.{◌≡◌, ℕ, ◌+◌, List, [], ◌++◌, Option, Some, refl, inl, inr}
+use Rattle.std.proofs.Common.{◌≡◌, ℕ, ◌+◌, List, [], ◌++◌, Option, Some, None, refl, inl, inr}
+use Rattle.qq_log.specs.Stable.{Stable}
 use Rattle.qq_setup.specs.declared.setup.Setup.{Setup}
 use Rattle.qq_script_lines.specs.declared.line.ScriptLine.{ScriptLine}
 use Rattle.qq_script_lines.specs.declared.line.ScriptLine.TheVariants.{Crash, Restart}
@@ -15,8 +16,9 @@ use Rattle.qq_cluster_run.specs.Inputs.{Input}
 use Rattle.qq_cluster_run.specs.Reading.{Asks, says}
 use Rattle.qq_cluster_run.specs.Runs.{HasStopped, stop_of}
 use Rattle.qq_cluster_run.specs.Service.{HasServed, HasServeCause}
-use Rattle.qq_cluster_run.specs.Serving.{Histories, Run, EndsSpent, EndsDamaged, EndsLost, StopsAt, MayStop, EndsRun, cluster_in, setup_in}
-use Rattle.qq_cluster_run.specs.Troubles.{Trouble, YardFails, FilesBreak, QueueIsFound, NumberEnds}
+use Rattle.qq_cluster_run.specs.Serving.{Histories, Run, EndsSpent, EndsDamaged, EndsLost, EndsUnsupported, IsReadOf, StopsAt, MayStop, EndsRun, cluster_in, setup_in}
+use Rattle.qq_cluster_run.specs.Setup.{cluster_setup}
+use Rattle.qq_cluster_run.specs.Troubles.{Trouble, YardFails, DiskFails, FilesBreak, QueueIsFound, NumberEnds}
 use Rattle.qq_cluster_run.proofs.Ahead.{Going, going_ends, going_stops}
 
 -- what has happened once a line was served
@@ -96,6 +98,30 @@ lost_earlier met met' f setup nodes events ending so = record {
   refused = so.refused;
   is = so.is;
 }
+
+pub unsupported_earlier : (met met' : Trouble → Type 0) → IsEarlier met met' → (s : Setup) (ending : Ending)
+    → EndsUnsupported met s ending → EndsUnsupported met' s ending
+unsupported_earlier met met' f s ending so = record {
+  place = so.place;
+  among = so.among;
+  first = so.first;
+  rest = so.rest;
+  are = so.are;
+  lanes = so.lanes;
+  read = λ n member there. by n.0 (so.lanes n.0) (so.read n member there);
+  refused = so.refused;
+  node = so.node;
+  member = so.member;
+  there = so.there;
+  lane = so.lane;
+  found = so.found;
+  is = so.is;
+}
+  where
+    by : (k : ℕ) (lane : Option Stable) → IsReadOf met (cluster_setup s) k so.place lane
+        → IsReadOf met' (cluster_setup s) k so.place lane
+    by k None failed = f (DiskFails k) failed
+    by k (Some lane) found = f (QueueIsFound (cluster_setup s) [] k so.place lane) found
 
 stops_earlier : (met met' : Trouble → Type 0) → IsEarlier met met' → (setup : ClusterSetup)
     (events : List ClusterEvent) (line : ScriptLine) (ending : Ending) → StopsAt met setup events line ending

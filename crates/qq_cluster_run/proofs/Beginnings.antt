@@ -22,7 +22,7 @@ stopped_since stops.ReadFault s left rest a b source sink sink' met had more f s
 stopped_since stops.WriteFault s left rest a b source sink sink' met had more f so = (f so.0, so.1)
 stopped_since stops.NoMemory s left rest a b source sink sink' met had more f so = so
 
-closes_since : (status : ℕ) (ending : Ending) (sink sink' : Type 0) (Stands Stands' : List ℕ → Type 0) → (sink → sink')
+pub closes_since : (status : ℕ) (ending : Ending) (sink sink' : Type 0) (Stands Stands' : List ℕ → Type 0) → (sink → sink')
     → ((more : List ℕ) → Stands more → Stands' more) → Closes status ending sink Stands
     → Closes status ending sink' Stands'
 closes_since status ending sink sink' Stands Stands' f g (inl (is, so)) = inl (is, g ending.text so)

@@ -14,7 +14,7 @@ use Rattle.qq_cluster_run.specs.Serving.{Histories, run_behind, text_behind}
 use Rattle.qq_cluster_run.specs.Runs.{EndsBy, HasAnswers, BreaksOff, HasStopped, MayNotOpen, Closes}
 use Rattle.qq_cluster_run.specs.Setup.{cluster_over}
 use Rattle.qq_cluster_run.specs.Troubles.{Trouble, YardFails, DiskFails}
-use Rattle.qq_cluster_run.proofs.Answering.{IsEarlier, damaged_earlier, lost_earlier, met_earlier, spent_earlier}
+use Rattle.qq_cluster_run.proofs.Answering.{IsEarlier, damaged_earlier, met_earlier, spent_earlier, unsupported_earlier}
 
 without_nil : (a b : Option (List ℕ)) (xs : List ℕ) → Appends a b (xs ++ []) → Appends a b xs
 without_nil a b xs grown = subst (Appends a b) (append-nil xs) grown
@@ -134,24 +134,26 @@ stopped_earlier met met' had f stops.NoMemory s left rest a b source sink more s
 
 pub unopened_earlier : (met met' : Trouble → Type 0) → IsEarlier met met' → (s : Setup) (ending : Ending)
     → MayNotOpen met s ending → MayNotOpen met' s ending
-unopened_earlier met met' f s ending (logs, inl none) = (logs, inl none)
-unopened_earlier met met' f s ending (logs, inr (inl (inl yard, is))) = (logs, inr (inl (inl (f YardFails yard), is)))
-unopened_earlier met met' f s ending (logs, inr (inl (inr (some, disks), is))) = (
-  logs,
-  inr (inl (
+unopened_earlier met met' f s ending (inl lost) = inl (unsupported_earlier met met' f s ending lost)
+unopened_earlier met met' f s ending (inr (logs, inl none)) = inr (logs, inl none)
+unopened_earlier met met' f s ending (inr (logs, inr (inl (inl yard, is)))) =
+    inr (logs, inr (inl (inl (f YardFails yard), is)))
+unopened_earlier met met' f s ending (inr (logs, inr (inl (inr (some, disks), is)))) =
     inr (
-      some,
-      AllByRecursion-weaker (λ (k : ℕ). met (DiskFails k)) (λ (k : ℕ). met' (DiskFails k)) (λ k so. f (DiskFails k) so)
-          (cluster_over s logs).nodes disks,
-    ),
-    is,
-  )),
-)
-unopened_earlier met met' f s ending (logs, inr (inr (inl damaged))) =
-    (logs, inr (inr (inl (damaged_earlier met met' f (cluster_over s logs) (cluster_over s logs).nodes [] ending damaged))))
-unopened_earlier met met' f s ending (logs, inr (inr (inr (inl lost)))) = (
-  logs,
-  inr (inr (inr (inl (lost_earlier met met' f (cluster_over s logs) (cluster_over s logs).nodes [] ending lost)))),
-)
-unopened_earlier met met' f s ending (logs, inr (inr (inr (inr spent)))) =
-    (logs, inr (inr (inr (inr (spent_earlier met met' f (cluster_over s logs) _ [] ending spent)))))
+      logs,
+      inr (inl (
+        inr (
+          some,
+          AllByRecursion-weaker (λ (k : ℕ). met (DiskFails k)) (λ (k : ℕ). met' (DiskFails k)) (λ k so. f (DiskFails k) so)
+              (cluster_over s logs).nodes disks,
+        ),
+        is,
+      )),
+    )
+unopened_earlier met met' f s ending (inr (logs, inr (inr (inl damaged)))) =
+    inr (
+      logs,
+      inr (inr (inl (damaged_earlier met met' f (cluster_over s logs) (cluster_over s logs).nodes [] ending damaged))),
+    )
+unopened_earlier met met' f s ending (inr (logs, inr (inr (inr spent)))) =
+    inr (logs, inr (inr (inr (spent_earlier met met' f (cluster_over s logs) _ [] ending spent))))

@@ -1,19 +1,17 @@
 -- What an export comes to in a run.
-use Rattle.std.proofs.Common.{◌≡◌, ◌⊎◌, ◌∙◌, ℕ, true, List, [], ◌++◌, Option, Some, None, Result, Ok, Err, ap, append-nil, inl, inr, refl, subst, sym, take, arith}
+use Rattle.std.proofs.Common.{◌≡◌, ◌⊎◌, ◌∙◌, ℕ, true, List, [], ◌++◌, Option, Some, None, Result, Ok, Err, ap, append-nil, inl, inr, refl, subst, sym, arith}
 use Rattle.std.specs.Prelude.{is_some}
 use Rattle.std.specs.Io.KnownBytes.{Appends}
 use Rattle.qq_base.specs.Causes.{Rose}
-use Rattle.qq_ports.specs.Faults.{AppendsPrefix}
-use Rattle.qq_ports.specs.Shelf.{Gives}
 use Rattle.qq_setup.specs.declared.setup.Made.{Made}
 use Rattle.qq_setup.specs.declared.setup.Setup.{Setup}
 use Rattle.qq_setup.specs.Setup.{SetupState, state_of}
 use Rattle.qq_defs.specs.declared.fault.DefsFault.{DefsFault}
 use Rattle.qq_defs.specs.declared.fault.DefsFault.TheVariants.{Json}
 use Rattle.qq_words.specs.declared.options.Options.{Options}
-use Rattle.qq_cluster_run.specs.Definitions.{Files, IsMadeBy, IsRefusedExport, IsSetupOver, MayNotBegin, MayNotRead, made_text, read_export, refused_export}
-use Rattle.qq_cluster_run.specs.Endings.{Ending, no_memory, read_fault}
-use Rattle.qq_cluster_run.specs.Runs.{Closes, HasRun, IsBehindMade, IsCutInMade, IsScript, IsSetup}
+use Rattle.qq_cluster_run.specs.Definitions.{Files, IsMadeBy, IsSetupOver, MayNotRead, made_text, read_export, refused_export}
+use Rattle.qq_cluster_run.specs.Endings.{Ending, no_memory}
+use Rattle.qq_cluster_run.specs.Runs.{Closes, HasRun, IsBehindMade, IsCutInMade, IsSetup}
 use Rattle.qq_cluster_run.specs.Statuses.{Had, HasEnded, HasEndedOver, Met, SinkRose, SourceRose, Streams, Told, Done, Refused, ReadFault, WriteFault, YardFault, Damaged, Lost, Limited, NoMemory, Spent}
 use Rattle.qq_cluster_run.proofs.Statuses.{told}
 

@@ -1,23 +1,28 @@
 -- What the statuses of a fault tell.
-use Rattle.std.proofs.Common.{None, ◌≡◌, ◌⊎◌, ◌≤◌, ◌^◌, ℕ, false, List, [], ◌∷◌, ◌++◌, length, inl, inr, refl, sym, ap, subst, ◌∙◌, codes, arith}
+use Rattle.std.proofs.Common.{◌≡◌, ◌⊎◌, ◌≤◌, ◌^◌, ℕ, true, false, Option, Some, None, List, [], ◌∷◌, ◌++◌, length, inl, inr, refl, sym, ap, subst, ◌∙◌, append_assoc, codes, arith}
 use Rattle.std.specs.Prelude.{Contains}
-use Rattle.std.specs.Fmt.{decimal}
-use Rattle.std.specs.List.{range_with_len}
+use Rattle.std.specs.Fmt.{decimal, digits}
+use Rattle.std.specs.List.{list_all, range_with_len}
+use Rattle.std.proofs.lemmas.Bool.{and_from}
 use Rattle.qq_base.proofs.Lists.{AllByRecursion-in}
-use Rattle.qq_model.proofs.Soundness.{in_contains}
+use Rattle.qq_base.specs.declared.ids.NodeId.{NodeId}
+use Rattle.qq_model.proofs.Soundness.{Contains-in, in_contains}
 use Rattle.qq_setup.specs.declared.setup.Setup.{Setup}
 use Rattle.qq_setup.specs.Setup.{SetupState, plain_rows}
-use Rattle.qq_log.specs.Stable.{Stable}
+use Rattle.qq_log.specs.declared.op.Op.{Op}
+use Rattle.qq_log.specs.Stable.{Stable, stable}
+use Rattle.qq_raft_protocol.specs.Facts.{In}
 use Rattle.qq_script_lines.specs.declared.line.ScriptLine.{ScriptLine}
 use Rattle.qq_words.specs.declared.options.Options.{Options}
-use Rattle.qq_cluster.specs.Cluster.{Setup as ClusterSetup, ClusterEvent}
+use Rattle.qq_cluster.specs.Cluster.{Setup as ClusterSetup, ClusterEvent, members}
+use Rattle.qq_cluster.specs.Laws.{IsBegun}
 use Rattle.qq_cluster.specs.Rules.{ForEach, IsRestart}
 use Rattle.qq_cluster_run.specs.Endings.{Ending, lost}
 use Rattle.qq_cluster_run.specs.Inputs.{Input, inputs_of}
 use Rattle.qq_cluster_run.specs.Reading.{Asks, says}
 use Rattle.qq_cluster_run.specs.Runs.{IsSetup}
-use Rattle.qq_cluster_run.specs.Serving.{Behind, EndsDamaged, MayTakeUp, RestartsTo, after_all, run_behind, setup_behind, text_behind}
-use Rattle.qq_cluster_run.specs.Setup.{Logs, cluster_over}
+use Rattle.qq_cluster_run.specs.Serving.{Behind, EndsDamaged, EndsUnsupported, IsReadOf, MayTakeUp, RestartsTo, after_all, run_behind, setup_behind, state_read, text_behind}
+use Rattle.qq_cluster_run.specs.Setup.{Logs, cluster_over, cluster_setup, is_change_of}
 use Rattle.qq_cluster_run.specs.Statuses.{Streams, Met, Had, HasEnded, Over, NextAsks, IsYardFault, NoDisk, AtCrash, MeetsDamage, DamagedAtOpening, DamagedAtRestart, HasLost, LostAtOpening, LostAtRestart, IsSpent, SpentAtOpening, SpentAtLine, Told, Done, Refused, ReadFault, WriteFault, YardFault, Damaged, Lost, Limited, NoMemory, Spent}
 use Rattle.qq_cluster_run.specs.Troubles.{Damage, damage_ending, YardFails, DiskFails, FilesBreak, QueueIsFound, NumberEnds}
 use Rattle.qq_cluster_run.proofs.Exports.{plain-of}
@@ -172,14 +177,22 @@ spent-told options s ended = by ((is-fault 20 options s (told 20 options s ended
 
 abbrev LostTold : Options → Streams → Type 0
 LostTold options s =
-    (setup : Setup) × IsSetup options setup × (((logs : Logs) × ((early : List ClusterEvent) × ((node : ℕ)
-    × ((place : ℕ) × Contains (cluster_over setup logs).places place × ((lane : Stable)
-    × Contains s.troubles (QueueIsFound (cluster_over setup logs) early node place lane)
-    × ((after_all (cluster_over setup logs) early).up node ≡ false)
-    × (MayTakeUp node ((after_all (cluster_over setup logs) early).queue place) lane → ⊥) × (s.rest ≡ s.bytes)
-    × (s.new ≡ s.old ++ (codes "lost node " ++ decimal node ++ codes " " ++ (cluster_over setup logs).name place
-    ++ codes " noticed " ++ decimal (((after_all (cluster_over setup logs) early).queue place).group.seat node).noticed
-    ++ codes " found " ++ decimal lane.op ++ codes "\n")))))))
+    (setup : Setup) × IsSetup options setup × (((place : ℕ) × Contains (cluster_setup setup).places place
+    × ((first : List ℕ) × ((rest : List ℕ) × ((cluster_setup setup).nodes ≡ first ++ rest)
+    × ((lanes : ℕ → Option Stable)
+    × ((n : NodeId) → Contains (members (cluster_setup setup) place) n → Contains first n.0
+    → ((lane : Stable) × (lanes n.0 ≡ Some lane)
+    × Contains s.troubles (QueueIsFound (cluster_setup setup) [] n.0 place lane))
+    ⊎ ((lanes n.0 ≡ None) × Contains s.troubles (DiskFails n.0)))
+    × ((logs : Logs)
+    → ((k : ℕ) (op : Op) → Contains (logs place k) op → is_change_of (record { 0 = place }) op ≡ true)
+    → ((n : NodeId) → Contains (members (cluster_setup setup) place) n → Contains first n.0
+    → stable (logs place n.0) ≡ Some (state_read (lanes n.0)))
+    → IsBegun ((cluster_over setup logs).group place) → ⊥)
+    × ((node : NodeId) × Contains (members (cluster_setup setup) place) node × Contains first node.0
+    × ((lane : Stable) × (lanes node.0 ≡ Some lane) × (s.rest ≡ s.bytes)
+    × (s.new ≡ s.old ++ (codes "lost node " ++ decimal node.0 ++ codes " " ++ (cluster_setup setup).name place
+    ++ codes " noticed 0 found " ++ decimal lane.op ++ codes "\n"))))))))
     ⊎ ((left : List Input)
     × ((b : Behind (Had s) setup (inputs_of s.bytes) left) × ((early : List ClusterEvent)
     × ((node : ℕ) × ((place : ℕ) × Contains (setup_behind b).places place × ((lane : Stable)
@@ -191,23 +204,62 @@ LostTold options s =
     ++ decimal (((after_all (setup_behind b) (b.events ++ early)).queue place).group.seat node).noticed
     ++ codes " found " ++ decimal lane.op ++ codes "\n"))))))))))
 
+zero-noticed : (front : List ℕ)
+    → front ++ codes " noticed " ++ decimal 0 ++ codes " found " ≡ front ++ codes " noticed 0 found "
+unfolding digits
+zero-noticed front =
+    append_assoc (front ++ codes " noticed ") (decimal 0) (codes " found ")
+    ∙ append_assoc front (codes " noticed ") (decimal 0 ++ codes " found ")
+
+-- changes of this queue alone
+all-changes : (place : ℕ) (ops : List Op) → ((op : Op) → In op ops → is_change_of (record { 0 = place }) op ≡ true)
+    → list_all (is_change_of (record { 0 = place })) ops ≡ true
+all-changes place [] each = refl
+all-changes place (op ∷ ops) each =
+    and_from (is_change_of (record { 0 = place }) op) (list_all (is_change_of (record { 0 = place })) ops)
+    (each op (inl refl)) (all-changes place ops (λ x there. each x (inr there)))
+
 pub lost-told : (options : Options) (s : Streams) → HasEnded 9 options s → LostTold options s
 lost-told options s ended = by ((is-fault 9 options s (told 9 options s ended)).lost refl)
   where
+    read-so : (setup : Setup) (place k : ℕ) (lane : Option Stable) → IsReadOf (Met s) (cluster_setup setup) k place lane
+        → ((l : Stable) × (lane ≡ Some l) × Contains s.troubles (QueueIsFound (cluster_setup setup) [] k place l))
+        ⊎ ((lane ≡ None) × Contains s.troubles (DiskFails k))
+    read-so setup place k None failed = inr (refl, failed)
+    read-so setup place k (Some lane) found = inl (lane, refl, found)
+
     by : HasLost options s → LostTold options s
-    by (LostAtOpening setup is_setup logs ending so (rest, grown)) = (
+    by (LostAtOpening setup is_setup ending so (rest, grown)) = (
       setup,
       is_setup,
       inl (
-        logs,
+        so.place,
+        so.among,
         (
-          so.at.early,
+          so.first,
           (
-            so.at.node,
+            so.rest,
+            so.are,
             (
-              so.place,
-              so.among,
-              (so.lane, so.found, so.at.down, so.refused, rest, grown ∙ ap (λ (e : Ending). s.old ++ e.text) so.is),
+              so.lanes,
+              (λ n member there. read-so setup so.place n.0 (so.lanes n.0) (so.read n member there)),
+              (λ logs own hold. so.refused logs
+                  (λ k. all-changes so.place (logs so.place k)
+                  (λ op there. own k op (Contains-in op (logs so.place k) there))) hold),
+              (
+                so.node,
+                so.member,
+                so.there,
+                (
+                  so.lane,
+                  so.found,
+                  rest,
+                  grown ∙ ap (λ (e : Ending). s.old ++ e.text) so.is
+                      ∙ ap (λ (l : List ℕ). s.old ++ (l ++ decimal so.lane.op ++ codes "\n"))
+                      (zero-noticed (codes "lost node " ++ decimal so.node.0 ++ codes " "
+                      ++ (cluster_setup setup).name so.place)),
+                ),
+              ),
             ),
           ),
         ),
@@ -334,25 +386,41 @@ damage-unopened options s ended plain nodes one bytes = by ((is-fault 8 options 
 
 abbrev LostFirst : Streams → Type 0
 LostFirst s =
-    (s.rest ≡ s.bytes) × ((setup : ClusterSetup) × ((early : List ClusterEvent) × ((node : ℕ) × ((place : ℕ)
-    × ((lane : Stable) × Contains s.troubles (QueueIsFound setup early node place lane) × ((noticed : ℕ)
-    × (s.new ≡ s.old ++ (lost node (setup.name place) noticed lane.op).text)))))))
+    (s.rest ≡ s.bytes) × ((setup : ClusterSetup) × ((node : ℕ) × ((place : ℕ) × ((lane : Stable)
+    × Contains s.troubles (QueueIsFound setup [] node place lane)
+    × (s.new ≡ s.old ++ (lost node (setup.name place) 0 lane.op).text)))))
 
 pub lost-unopened : (options : Options) (s : Streams) → HasEnded 9 options s → options.definitions ≡ None
     → options.queues ≡ 1 → s.bytes ≡ codes "publish a\n" → LostFirst s
 lost-unopened options s ended plain one bytes = by ((is-fault 9 options s (told 9 options s ended)).lost refl)
   where
+    read : (setup : Setup) {ending : Ending} (so : EndsUnsupported (Met s) setup ending) (lane : Option Stable)
+        → lane ≡ Some so.lane → IsReadOf (Met s) (cluster_setup setup) so.node.0 so.place lane
+        → s.new ≡ s.old ++ (lost so.node.0 ((cluster_setup setup).name so.place) 0 so.lane.op).text
+        → (c : ClusterSetup) × ((node : ℕ) × ((place : ℕ) × ((lane : Stable)
+        × Contains s.troubles (QueueIsFound c [] node place lane)
+        × (s.new ≡ s.old ++ (lost node (c.name place) 0 lane.op).text))))
+    read setup so None is failed grown = absurd cc
+    read setup so (Some lane) is found grown =
+        let same : lane ≡ so.lane = cc in (
+          cluster_setup setup,
+          (
+            so.node.0,
+            (
+              so.place,
+              (
+                so.lane,
+                subst (λ (l : Stable). Contains s.troubles (QueueIsFound (cluster_setup setup) [] so.node.0 so.place l)) same
+                    found,
+                grown,
+              ),
+            ),
+          ),
+        )
+
     by : HasLost options s → LostFirst s
-    by (LostAtOpening setup is_setup logs ending so (rest, grown)) = (
-      rest,
-      (
-        _,
-        (
-          so.at.early,
-          (so.at.node, (so.place, (so.lane, so.found, (_, grown ∙ ap (λ (e : Ending). s.old ++ e.text) so.is)))),
-        ),
-      ),
-    )
+    by (LostAtOpening setup is_setup ending so (rest, grown)) =
+        (rest, read setup so (so.lanes so.node.0) so.found (so.read so.node so.member so.there) (grown ∙ ap (λ (e : Ending). s.old ++ e.text) so.is))
     by (LostAtRestart over nodes ending so asks grown) =
         absurd (let e = asks-that options s plain one bytes over _ asks in cc)
 

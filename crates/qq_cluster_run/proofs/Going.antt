@@ -102,6 +102,7 @@ more-at had s all next input left said b serves =
         lines = b.lines ++ serves.line ∷ [];
         asked = ask-more s 0 b.read b.lines input serves.line b.asked asks;
         logs = b.logs;
+        begins = b.begins;
         events = events;
         allowed = record {
           early = b.allowed.early;

@@ -1,12 +1,7 @@
 -- The setups of runs have names and numbers, so what their lines ask for names queues, nodes and sessions.
-use Rattle.std.proofs.Common.{◌≡◌, ◌<◌, ◌+◌, ℕ, zero, suc, Bool, true, false, List, Some, Result, Ok, Err, inl, inr, map, sym, ap, subst, ◌∙◌, arith}
-use Rattle.std.specs.Prelude.{Contains}
-use Rattle.std.specs.Fmt.{digits}
-use Rattle.std.specs.List.{range_with_len}
+use Rattle.std.proofs.Common.{◌≡◌, ◌+◌, ℕ, Bool, true, false, List, Some, Result, Ok, Err, inl, inr, sym, ap, ◌∙◌}
 use Rattle.std.proofs.lemmas.Bool.{cases_lt, false≢true}
-use Rattle.qq_setup.specs.declared.queue_row.QueueRow.{QueueRow}
 use Rattle.qq_setup.specs.declared.setup.Setup.{Setup}
-use Rattle.qq_setup.specs.Setup.{SetupState, plain_row, plain_rows}
 use Rattle.qq_script_lines.specs.declared.fault.ScriptFault.{ScriptFault}
 use Rattle.qq_script_lines.specs.declared.fault.ScriptFault.TheVariants.{Body, NoSuch, Number, Words, TooLong, Unknown, Session, Memory}
 use Rattle.qq_script_lines.specs.declared.line.ScriptLine.{ScriptLine}

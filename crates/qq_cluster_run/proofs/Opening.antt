@@ -13,7 +13,7 @@ use Rattle.qq_cluster.specs.Rules.{ForEach, IsOpening, IsRestart}
 use Rattle.qq_cluster_run.specs.Inputs.{Input}
 use Rattle.qq_cluster_run.specs.Reading.{AskFor}
 use Rattle.qq_cluster_run.specs.Serving.{AnyDisks, Behind, HasRecovered}
-use Rattle.qq_cluster_run.specs.Setup.{cluster_setup, new_logs}
+use Rattle.qq_cluster_run.specs.Setup.{CanBegin, Logs, cluster_over}
 use Rattle.qq_setup.specs.Setup.{state_of}
 
 -- no front of events without a failure has one
@@ -63,11 +63,11 @@ first-node zero some = absurd (omega (arith, some))
 first-node (suc n) some = (1, (range_with_len 2 n, refl))
 
 -- what serves all lines
-pub served-behind : (s : Setup) (all : List Input) (lines : List ScriptLine) (events : List ClusterEvent)
-    → IsRunnable (state_of s)
-    → AskFor s 0 all lines → IsServedBy (cluster_setup s) lines events
-    → (b : Behind AnyDisks s all []) × (has_failure b.events ≡ false)
-served-behind s all lines events runs asked served =
+pub served-behind : (s : Setup) (logs : Logs) (all : List Input) (lines : List ScriptLine) (events : List ClusterEvent)
+    → IsRunnable (state_of s) → CanBegin s logs → AskFor s 0 all lines
+    → IsServedBy (cluster_over s logs) lines events
+    → (b : Behind AnyDisks s all []) × (b.logs ≡ logs) × (has_failure b.events ≡ false)
+served-behind s logs all lines events runs begins asked served =
     let first = first-node s.nodes runs.some in
     let fine : has_failure served.is.early ≡ false =
     front-fine served.is.early served.is.late (ap has_failure (sym served.is.is) ∙ served.fine) in (
@@ -76,11 +76,13 @@ served-behind s all lines events runs asked served =
         is = sym (append-nil all);
         lines = lines;
         asked = asked;
-        logs = new_logs;
+        logs = logs;
+        begins = begins;
         events = events;
         allowed = served.is;
-        opened = recovered (cluster_setup s) first.0 first.1.0 served.is.early first.1.1 served.is.first fine;
+        opened = recovered (cluster_over s logs) first.0 first.1.0 served.is.early first.1.1 served.is.first fine;
         disks = tt;
       },
+      refl,
       served.fine,
     )

@@ -1,23 +1,20 @@
 -- The queues of a setup without arguments, as a cluster has them.
-use Rattle.std.proofs.Common.{◌≡◌, ℕ, ◌+◌, ◌*◌, ◌/◌, ◌%◌, ◌<◌, ◌≤◌, zero, suc, List, [], ◌∷◌, ◌++◌, length, map, Option, Some, refl, sym, ap, subst, ◌∙◌, inl, inr, codes, arith}
+use Rattle.std.proofs.Common.{◌≡◌, ℕ, ◌+◌, ◌*◌, ◌/◌, ◌%◌, ◌<◌, ◌≤◌, zero, suc, List, ◌∷◌, ◌++◌, map, Some, refl, sym, ap, ◌∙◌, inl, inr, codes, arith}
 use Rattle.std.specs.Prelude.{nat_eq, min}
 use Rattle.std.specs.List.{range_with_len}
 use Rattle.std.specs.Fmt.{decimal}
 use Rattle.std.proofs.Math.Nat.{div-add-mod, min-le_right, mul-le-mul_left, mul-suc}
-use Rattle.std.proofs.lemmas.Bool.{cases_lt, cond-true, cond-false, cond_both}
+use Rattle.std.proofs.lemmas.Bool.{cases_lt, cond-true, cond-false}
 use Rattle.std.proofs.lemmas.Bool.Decides.{eqb_tells}
 use Rattle.qq_base.specs.declared.ids.NodeId.{NodeId}
-use Rattle.qq_base.specs.declared.ids.QueueId.{QueueId}
 use Rattle.qq_entry.specs.Queue.{default_args}
 use Rattle.qq_raft_protocol.specs.Facts.{In}
 use Rattle.qq_raft_model.specs.Group.{new_group}
-use Rattle.qq_raft_model.specs.Promises.{AreDistinct, IsOpened}
+use Rattle.qq_raft_model.specs.Promises.{AreDistinct}
 use Rattle.qq_setup.specs.declared.queue_row.QueueRow.{QueueRow}
-use Rattle.qq_setup.specs.declared.setup.Setup.{Setup}
 use Rattle.qq_setup.specs.Members.{member, members}
-use Rattle.qq_setup.specs.Setup.{SetupState, plain_row, plain_rows, plain_setup, state_of}
-use Rattle.qq_cluster.specs.Laws.{IsBegun}
-use Rattle.qq_cluster_run.specs.Setup.{args_by, cluster_of, first_place, group_over, members_by, name_by, new_logs, place_of, row_at}
+use Rattle.qq_setup.specs.Setup.{plain_row, plain_rows}
+use Rattle.qq_cluster_run.specs.Setup.{args_by, first_place, group_over, members_by, name_by, new_logs, place_of, row_at}
 
 -- ---- places
 

@@ -112,38 +112,38 @@ abbrev IsTrue' : Type 0
 IsTrue' = (setup : ClusterSetup) (events : List ClusterEvent) → HasGroups setup → PrintsWhatIsTrue setup events
 
 true-of : IsTrue' → (s : Setup) (all left : List Input) (b : Behind AnyDisks s all left) (place : ℕ) (shown : Shown)
-    → HasGroups (setup_behind b) → Contains (printed_behind b) (Of place shown)
+    → Contains (printed_behind b) (Of place shown)
     → IsTrueOf (cluster_behind b) (Of place shown)
-true-of law s all left b place shown groups there =
+true-of law s all left b place shown there =
     AllByRecursion-in (IsTrueOf (cluster_behind b)) (Of place shown) (printed_behind b)
-    (law (setup_behind b) b.events groups) (in_contains (printed_behind b) (Of place shown) there)
+    (law (setup_behind b) b.events b.begins.groups) (in_contains (printed_behind b) (Of place shown) there)
 
 pub answer-there : IsTrue' → (s : Setup) (all left : List Input) (b : Behind AnyDisks s all left) (place : ℕ)
-    (row : AuditRow) → HasGroups (setup_behind b) → Contains (printed_behind b) (Of place (Answered row))
+    (row : AuditRow) → Contains (printed_behind b) (Of place (Answered row))
     → Contains (audit_behind b place) row
-answer-there law s all left b place row groups there =
-    (true-of law s all left b place (Answered row) groups there).0.is_in
+answer-there law s all left b place row there =
+    (true-of law s all left b place (Answered row) there).0.is_in
 
 pub answer-sent : IsTrue' → (s : Setup) (all left : List Input) (b : Behind AnyDisks s all left) (place : ℕ)
-    (row : AuditRow) → HasGroups (setup_behind b) → Contains (printed_behind b) (Of place (Answered row))
+    (row : AuditRow) → Contains (printed_behind b) (Of place (Answered row))
     → (session : ℕ) × ((sender row ≡ Some session) ⊎ (ended_by row.entry.command ≡ Some session))
-answer-sent law s all left b place row groups there =
-    let so = true-of law s all left b place (Answered row) groups there in (so.0.session, so.0.sender_is)
+answer-sent law s all left b place row there =
+    let so = true-of law s all left b place (Answered row) there in (so.0.session, so.0.sender_is)
 
 pub confirmed-once : IsTrue' → (s : Setup) (all left : List Input) (b : Behind AnyDisks s all left) (place : ℕ)
-    (row : AuditRow) (by : Stamp) → HasGroups (setup_behind b)
+    (row : AuditRow) (by : Stamp)
     → Contains (printed_behind b) (Of place (Answered row)) → stamp row.entry.command ≡ Some by
     → row.answer ≡ Confirmed
     → length (filter (is_confirmed_publish by.session by.seq) (audit_behind b place)) ≡ 1
-confirmed-once law s all left b place row by groups there is answer =
-    let so = true-of law s all left b place (Answered row) groups there in
+confirmed-once law s all left b place row by there is answer =
+    let so = true-of law s all left b place (Answered row) there in
     passes-one (is_confirmed_publish by.session by.seq) (IsConfirmedPublish by.session by.seq)
     (passes-from by.session by.seq) (passes-to by.session by.seq) (audit_behind b place) (so.1 by is answer)
 
 pub delivery-there : IsTrue' → (s : Setup) (all left : List Input) (b : Behind AnyDisks s all left) (place : ℕ)
-    (consumer : ConsumerId) (delivery : Delivery) → HasGroups (setup_behind b)
+    (consumer : ConsumerId) (delivery : Delivery)
     → Contains (printed_behind b) (Of place (Delivered consumer delivery))
     → Contains (effects_of (empty_queue (queue_behind b place).args) (queue_behind b place).group.audit)
     (Deliver consumer delivery)
-delivery-there law s all left b place consumer delivery groups there =
-    (true-of law s all left b place (Delivered consumer delivery) groups there).2
+delivery-there law s all left b place consumer delivery there =
+    (true-of law s all left b place (Delivered consumer delivery) there).2

@@ -1,10 +1,11 @@
 -- What runs print, and which statuses are left where all lines are served.
-use Rattle.std.proofs.Common.{◌≡◌, ◌⊎◌, ℕ, ◌+◌, zero, suc, false, List, [], ◌∷◌, ◌++◌, length, Err, inl, inr, refl, sym, ap, subst, ◌∙◌, append-nil, zero-add, arith}
+use Rattle.std.proofs.Common.{◌≡◌, ◌⊎◌, ℕ, ◌+◌, zero, suc, false, List, [], ◌∷◌, ◌++◌, length, Option, Some, None, Err, inl, inr, refl, sym, ap, subst, ◌∙◌, append-nil, zero-add, arith}
 use Rattle.std.specs.Prelude.{Contains}
 use Rattle.std.specs.List.{AllByRecursion, range_with_len}
 use Rattle.std.proofs.lemmas.Bool.{cases_lt}
 use Rattle.qq_script_lines.specs.declared.fault.ScriptFault.{ScriptFault}
 use Rattle.qq_script_lines.specs.declared.fault.ScriptFault.TheVariants as faults
+use Rattle.qq_log.specs.Stable.{Stable}
 use Rattle.qq_setup.specs.declared.setup.Setup.{Setup}
 use Rattle.qq_words.specs.declared.options.Options.{Options}
 use Rattle.qq_script_lines.specs.declared.line.ScriptLine.{ScriptLine}
@@ -15,8 +16,8 @@ use Rattle.qq_cluster_run.specs.declared.ending.TheConstants.{LINES_LIMIT}
 use Rattle.qq_cluster_run.specs.Endings.{limit_lines}
 use Rattle.qq_cluster_run.specs.Inputs.{Input, inputs_of}
 use Rattle.qq_cluster_run.specs.Reading.{Asks, Ends, read_input, says_by, says, AskFor}
-use Rattle.qq_cluster_run.specs.Serving.{AnyDisks, Behind, setup_behind, text_behind, audits_behind}
-use Rattle.qq_cluster_run.specs.Setup.{Logs, cluster_over}
+use Rattle.qq_cluster_run.specs.Serving.{AnyDisks, Behind, IsReadOf, setup_behind, text_behind, audits_behind}
+use Rattle.qq_cluster_run.specs.Setup.{Logs, cluster_over, cluster_setup}
 use Rattle.qq_cluster_run.specs.Troubles.{Trouble, YardFails, DiskFails}
 use Rattle.qq_cluster_run.specs.Runs.{IsSetup}
 use Rattle.qq_cluster_run.specs.Statuses.{Streams, Met, Had, HasEnded, Over, run_over, IsNext, IsYardFault, NoDisk, AtCrash, MeetsDamage, DamagedAtOpening, DamagedAtRestart, HasLost, LostAtOpening, LostAtRestart, IsSpent, SpentAtOpening, SpentAtLine, PassesLimit, Told, Done, Refused, ReadFault, WriteFault, YardFault, Damaged, Lost, Limited, NoMemory, Spent}
@@ -162,7 +163,12 @@ no-damage options s none (DamagedAtOpening setup is_setup logs ending so alone) 
 no-damage options s none (DamagedAtRestart over nodes ending so asks prints) = has-none s.troubles _ none so.broken
 
 no-lost : (options : Options) (s : Streams) → s.troubles ≡ [] → HasLost options s → ⊥
-no-lost options s none (LostAtOpening setup is_setup logs ending so alone) = has-none s.troubles _ none so.found
+no-lost options s none (LostAtOpening setup is_setup ending so alone) =
+    met (so.lanes so.node.0) so.found (so.read so.node so.member so.there)
+  where
+    met : (lane : Option Stable) → lane ≡ Some so.lane → IsReadOf (Met s) (cluster_setup setup) so.node.0 so.place lane → ⊥
+    met None is read = absurd cc
+    met (Some lane) is read = has-none s.troubles _ none read
 no-lost options s none (LostAtRestart over nodes ending so asks prints) = has-none s.troubles _ none so.found
 
 no-spent : (options : Options) (s : Streams) → s.troubles ≡ [] → IsSpent options s → ⊥
@@ -213,6 +219,7 @@ all-served options s setup left b none = record {
     lines = b.lines;
     asked = b.asked;
     logs = b.logs;
+    begins = b.begins;
     events = b.events;
     allowed = b.allowed;
     opened = b.opened;

@@ -10,7 +10,7 @@ use Rattle.qq_raft_model.specs.Group.{Group}
 use Rattle.qq_session.specs.Answered.{IsAnswered}
 use Rattle.qq_setup.specs.declared.setup.Setup.{Setup}
 use Rattle.qq_cluster.specs.Cluster.{Setup as ClusterSetup, ClusterEvent, part_of, parts_of}
-use Rattle.qq_cluster.specs.ClusterLaws.{HasGroups, HasItsQueues}
+use Rattle.qq_cluster.specs.ClusterLaws.{HasItsQueues}
 use Rattle.qq_cluster.specs.Laws.{CountsRise, IsBegun, KeepsAudit, queue_after}
 use Rattle.qq_cluster.specs.Queue.{Queue, Event, after, audit_rows, begin, happens}
 use Rattle.qq_cluster.proofs.Groups.{after-append}
@@ -41,9 +41,9 @@ pub stays-at : HasQueues
     → ((args : QueueArgs) (group : Group) (first second : List Event) → IsBegun group
     → KeepsAudit (queue_after args group first) second)
     → (s : Setup) (all left rest : List Input) (b : Behind AnyDisks s all left) (c : Behind AnyDisks s all rest)
-    (place : ℕ) (more : List ClusterEvent) → HasGroups (setup_behind b) → c.logs ≡ b.logs → c.events ≡ b.events ++ more
+    (place : ℕ) (more : List ClusterEvent) → c.logs ≡ b.logs → c.events ≡ b.events ++ more
     → IsFront (audit_behind b place) (audit_behind c place)
-stays-at each stays s all left rest b c place more groups logs is =
+stays-at each stays s all left rest b c place more logs is =
     let setup : ClusterSetup = setup_behind b in
     let args : QueueArgs = setup.args place in
     let group : Group = setup.group place in
@@ -59,7 +59,7 @@ stays-at each stays s all left rest b c place more groups logs is =
     ∙ after-append (begin args group) first second in
     subst (λ (q : Queue). IsFront (audit_rows q) (audit_behind c place)) (sym here)
     (subst (λ (q : Queue). IsFront (audit_rows (queue_after args group first)) (audit_rows q)) (sym there)
-    (stays args group first second (groups place)))
+    (stays args group first second (b.begins.groups place)))
 
 pub once-at : HasQueues
     → ((args : QueueArgs) (group : Group) (session : ℕ) (events : List Event)
@@ -74,9 +74,9 @@ once-at each answered s all left b place session =
 pub counts-at : HasQueues
     → ((args : QueueArgs) (group : Group) (events : List Event) (k : ℕ) → IsBegun group
     → CountsRise (queue_after args group events) k)
-    → (s : Setup) (all left : List Input) (b : Behind AnyDisks s all left) (place k : ℕ) → HasGroups (setup_behind b)
+    → (s : Setup) (all left : List Input) (b : Behind AnyDisks s all left) (place k : ℕ)
     → CountsRise (queue_behind b place) k
-counts-at each rise s all left b place k groups =
+counts-at each rise s all left b place k =
     let setup : ClusterSetup = setup_behind b in
     subst (λ (q : Queue). CountsRise q k) (sym (each setup b.events place))
-    (rise (setup.args place) (setup.group place) (parts_of place b.events) k (groups place))
+    (rise (setup.args place) (setup.group place) (parts_of place b.events) k (b.begins.groups place))

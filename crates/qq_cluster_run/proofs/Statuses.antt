@@ -39,18 +39,18 @@ none_told n options s ending e is rest grown =
 unopened_told : (n : ℕ) (options : Options) (s : Streams) (setup : Setup) → IsSetup options setup → (ending : Ending)
     → MayNotOpen (Met s) setup ending → n ≡ ending.status → s.rest ≡ s.bytes → s.new ≡ s.old ++ ending.text
     → Told n options s
-unopened_told n options s setup is_setup ending (logs, inl e) is rest grown =
+unopened_told n options s setup is_setup ending (inr (logs, inl e)) is rest grown =
     none_told n options s ending e is rest grown
-unopened_told n options s setup is_setup ending (logs, inr (inl (cause, e))) is rest grown =
+unopened_told n options s setup is_setup ending (inr (logs, inr (inl (cause, e)))) is rest grown =
     YardFault (is ∙ ap (λ (e : Ending). e.status) e)
     (NoDisk setup is_setup logs cause
     (alone s ending.text (codes "yard fault\n") (ap (λ (e : Ending). e.text) e) rest grown))
-unopened_told n options s setup is_setup ending (logs, inr (inr (inl so))) is rest grown =
+unopened_told n options s setup is_setup ending (inr (logs, inr (inr (inl so)))) is rest grown =
     Damaged (is ∙ ap (λ (e : Ending). e.status) so.is ∙ damage_status so.at.node so.damage)
     (DamagedAtOpening setup is_setup logs ending so (rest, grown))
-unopened_told n options s setup is_setup ending (logs, inr (inr (inr (inl so)))) is rest grown =
-    Lost (is ∙ ap (λ (e : Ending). e.status) so.is) (LostAtOpening setup is_setup logs ending so (rest, grown))
-unopened_told n options s setup is_setup ending (logs, inr (inr (inr (inr so)))) is rest grown =
+unopened_told n options s setup is_setup ending (inl so) is rest grown =
+    Lost (is ∙ ap (λ (e : Ending). e.status) so.is) (LostAtOpening setup is_setup ending so (rest, grown))
+unopened_told n options s setup is_setup ending (inr (logs, inr (inr (inr so)))) is rest grown =
     Spent (is ∙ ap (λ (e : Ending). e.status) so.is) (SpentAtOpening setup is_setup logs ending so (rest, grown))
 
 -- ---- a line ends the run

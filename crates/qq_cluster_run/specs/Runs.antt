@@ -1,10 +1,8 @@
 -- How a run ends, and what it has written by then.
-use Rattle.std.specs.Prelude.{◌≡◌, ◌⊎◌, ℕ, List, [], ◌++◌, Option, Some, None, true, IfSome, is_some, take, if◌then◌else◌}
+use Rattle.std.specs.Prelude.{◌≡◌, ◌⊎◌, ℕ, List, [], ◌++◌, Option, Some, None, true, IfSome, is_some, take}
 use Rattle.std.specs.List.{AllByRecursion}
 use Rattle.std.specs.Io.KnownBytes.{Appends, Keeps, IsAtEnd}
 use Rattle.qq_setup.specs.declared.setup.Setup.{Setup}
-use Rattle.qq_words.specs.declared.commands.Command.{Command}
-use Rattle.qq_words.specs.declared.commands.Command.TheVariants.{Script}
 use Rattle.qq_words.specs.declared.options.Options.{Options}
 use Rattle.qq_cluster.specs.Cluster.{Setup as ClusterSetup}
 use Rattle.qq_cluster.specs.Rules.{IsOpening}
@@ -18,7 +16,7 @@ use Rattle.qq_ports.specs.Faults.{AppendsPrefix}
 use Rattle.qq_cluster_run.specs.Definitions.{Files, IsSetupOver, MayNotBegin, made_text}
 use Rattle.qq_cluster_run.specs.Endings.{Ending, usage, read_fault, write_fault, yard_fault, no_memory}
 use Rattle.qq_cluster_run.specs.Inputs.{Input}
-use Rattle.qq_cluster_run.specs.Serving.{Histories, Behind, EndsRun, NextEnds, EndsSpent, EndsDamaged, EndsLost, run_behind, text_behind, audits_behind, Served, IsText}
+use Rattle.qq_cluster_run.specs.Serving.{Histories, Behind, EndsRun, NextEnds, EndsSpent, EndsDamaged, EndsUnsupported, run_behind, text_behind, audits_behind, Served, IsText}
 use Rattle.qq_cluster_run.specs.Setup.{Logs, cluster_over}
 use Rattle.qq_cluster_run.specs.Troubles.{Trouble, YardFails, DiskFails}
 
@@ -111,15 +109,16 @@ abbrev pub HasNoDisk : (Trouble → Type 0) → ClusterSetup → Type 0
 HasNoDisk met setup =
     met YardFails ⊎ ((setup.nodes ≡ [] → ⊥) × AllByRecursion (λ k. met (DiskFails k)) setup.nodes)
 
--- Why a cluster of a setup, over these logs, can't be opened.
+-- why a cluster of a setup, over these logs, can't be opened
 abbrev pub MayNotOpenOver : (Trouble → Type 0) → ClusterSetup → Ending → Type 0
 MayNotOpenOver met setup ending =
     (ending ≡ no_memory) ⊎ ((HasNoDisk met setup × (ending ≡ yard_fault))
-    ⊎ (EndsDamaged met setup setup.nodes [] ending
-    ⊎ (EndsLost met setup setup.nodes [] ending ⊎ EndsSpent met setup (IsOpening setup) [] ending)))
+    ⊎ (EndsDamaged met setup setup.nodes [] ending ⊎ EndsSpent met setup (IsOpening setup) [] ending))
 
+-- and why one of a setup can't: what is read of a queue supports no audit, or for one of these reasons
 abbrev pub MayNotOpen : (Trouble → Type 0) → Setup → Ending → Type 0
-MayNotOpen met s ending = (logs : Logs) × MayNotOpenOver met (cluster_over s logs) ending
+MayNotOpen met s ending =
+    EndsUnsupported met s ending ⊎ ((logs : Logs) × MayNotOpenOver met (cluster_over s logs) ending)
 
 -- nothing was read, and a closing line alone was written, of an ending that may come
 pub record IsUnopened (status : ℕ) (left rest old new : Option (List ℕ)) (sink : Type 0) (May : Ending → Type 0)
@@ -182,11 +181,6 @@ pub record IsScript (status : ℕ) (options : Options) (files : Files) (left res
   pub is_setup : IsSetupOver files options setup
   pub ends : IsCutInMade status setup left rest old new sink
       ⊎ IsBehindMade status setup left rest old new source sink met had
-
--- Nothing here keeps files in a folder yet, or lists them: a script over a folder is no command, nor is a dump.
-abbrev pub script_of : Option Command → Option Options
-script_of (Some (Script options)) = if is_some options.root then None else Some options
-script_of _ = None
 
 -- What a run has done that ends with this status, where the words are a script with these options, and where they are no
 -- command. There may be no memory to read them.

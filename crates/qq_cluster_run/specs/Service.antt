@@ -9,12 +9,14 @@ use Rattle.qq_cluster.specs.Texts.{text_of}
 use Rattle.qq_cluster_run.specs.declared.stop.AskStop.{AskStop}
 use Rattle.qq_cluster_run.specs.declared.stop.AskStop.TheVariants.{Ended, NoMemory}
 use Rattle.qq_cluster_run.specs.Serving.{Histories, HasRecovered, MayStop, Run, after_all, all_text}
-use Rattle.qq_cluster_run.specs.Setup.{Logs, cluster_over}
+use Rattle.qq_cluster_run.specs.Setup.{CanBegin, Logs, cluster_over}
 use Rattle.qq_cluster_run.specs.Troubles.{Trouble}
 
--- A cluster was opened, by events that the opening allows: some node was recovered. `Stands` says what represents it.
+-- A cluster was opened over logs that it may begin with, by events that the opening allows: some node was recovered.
+-- `Stands` says what represents it.
 pub record HasOpened (had : Histories) (s : Setup) (Stands : Run → Type 0) (before later : List ℕ) : Type 0 where
   pub logs : Logs
+  pub begins : CanBegin s logs
   pub events : List ClusterEvent
   pub allowed : IsOpening (cluster_over s logs) (new_cluster (cluster_over s logs)) events
   pub opened : HasRecovered events

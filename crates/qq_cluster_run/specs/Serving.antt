@@ -1,8 +1,10 @@
 -- What a run has done so far.
-use Rattle.std.specs.Prelude.{◌≡◌, ◌⊎◌, ◌≤◌, ℕ, ◌+◌, true, false, List, [], ◌∷◌, ◌++◌, length, take, Option, Some, IfSome, Contains}
+use Rattle.std.specs.Prelude.{◌≡◌, ◌⊎◌, ◌≤◌, ℕ, ◌+◌, true, false, List, [], ◌∷◌, ◌++◌, length, take, Option, Some, None, IfSome, Contains}
+use Rattle.qq_base.specs.declared.ids.NodeId.{NodeId}
 use Rattle.std.specs.Io.KnownBytes.{Appends}
+use Rattle.std.specs.List.{list_all}
 use Rattle.qq_base.specs.declared.memory.TheConstants.{NUMBER_END}
-use Rattle.qq_log.specs.Stable.{Stable, stable}
+use Rattle.qq_log.specs.Stable.{Stable, new_state, stable}
 use Rattle.qq_raft_msg.specs.declared.bag.TheConstants.{BAG_LIMIT}
 use Rattle.qq_raft_model.specs.Group.{may_restart}
 use Rattle.qq_setup.specs.declared.setup.Setup.{Setup}
@@ -10,6 +12,7 @@ use Rattle.qq_script_lines.specs.declared.line.ScriptLine.{ScriptLine}
 use Rattle.qq_script_lines.specs.declared.line.ScriptLine.TheVariants.{Crash, Restart}
 use Rattle.qq_cluster.specs.Cluster.{Setup as ClusterSetup, Cluster, ClusterEvent, new_cluster, cluster_after, members}
 use Rattle.qq_cluster.specs.ClusterLaws.{findings}
+use Rattle.qq_cluster.specs.Laws.{IsBegun}
 use Rattle.qq_cluster.specs.Lines.{IsLine, IsRun, nodes_of}
 use Rattle.qq_cluster.specs.Queue.{Queue}
 use Rattle.qq_cluster.specs.Rules.{ForEach, IsRestart}
@@ -17,8 +20,8 @@ use Rattle.qq_cluster.specs.Texts.{text_of, audits_text}
 use Rattle.qq_cluster_run.specs.Endings.{Ending, yard_fault, lost, spent}
 use Rattle.qq_cluster_run.specs.Inputs.{Input, inputs_of, EndsWith}
 use Rattle.qq_cluster_run.specs.Reading.{Asks, Ends, says, AskFor}
-use Rattle.qq_cluster_run.specs.Setup.{Logs, cluster_over}
-use Rattle.qq_cluster_run.specs.Troubles.{Damage, damage_ending, Trouble, YardFails, FilesBreak, QueueIsFound, NumberEnds}
+use Rattle.qq_cluster_run.specs.Setup.{CanBegin, Logs, cluster_over, cluster_setup, is_change_of}
+use Rattle.qq_cluster_run.specs.Troubles.{Damage, damage_ending, Trouble, YardFails, DiskFails, FilesBreak, QueueIsFound, NumberEnds}
 
 -- a cluster to which these events have happened
 abbrev pub after_all : ClusterSetup → List ClusterEvent → Cluster
@@ -151,19 +154,54 @@ pub record NextEnds (met : Trouble → Type 0) (s : Setup) (run : Run) (left : L
     pub is : left ≡ input ∷ more
     pub ends : EndsRun met s run input ending
 
+-- ---- the opening
+
+-- recovery reads this of a queue on a node before anything has happened; None: the node's disk has failed
+abbrev pub IsReadOf : (Trouble → Type 0) → ClusterSetup → (k place : ℕ) → Option Stable → Type 0
+IsReadOf met setup k place None = met (DiskFails k)
+IsReadOf met setup k place (Some lane) = met (QueueIsFound setup [] k place lane)
+
+-- what a log comes to that holds what is read, one without ops where the disk has failed; no change names a snapshot's file
+abbrev pub state_read : Option Stable → Stable
+state_read None = new_state
+state_read (Some lane) = record lane { snapshot = 0 }
+
+-- The nodes are recovered in order, and what is read of a queue on the first of them supports no audit: whatever changes of
+-- the queue come to that, it can't begin with them. What is read on one of these nodes is lost.
+pub record EndsUnsupported (met : Trouble → Type 0) (s : Setup) (ending : Ending) : Type 0 where
+  pub place : ℕ
+  pub among : Contains (cluster_setup s).places place
+  pub first : List ℕ
+  pub rest : List ℕ
+  pub are : (cluster_setup s).nodes ≡ first ++ rest
+  pub lanes : ℕ → Option Stable
+  pub read : (n : NodeId) → Contains (members (cluster_setup s) place) n → Contains first n.0
+      → IsReadOf met (cluster_setup s) n.0 place (lanes n.0)
+  pub refused : (logs : Logs) → ((k : ℕ) → list_all (is_change_of (record { 0 = place })) (logs place k) ≡ true)
+      → ((n : NodeId) → Contains (members (cluster_setup s) place) n → Contains first n.0
+      → stable (logs place n.0) ≡ Some (state_read (lanes n.0))) → IsBegun ((cluster_over s logs).group place) → ⊥
+  pub node : NodeId
+  pub member : Contains (members (cluster_setup s) place) node
+  pub there : Contains first node.0
+  pub lane : Stable
+  pub found : lanes node.0 ≡ Some lane
+  pub is : ending ≡ lost node.0 ((cluster_setup s).name place) 0 lane.op
+
 -- ---- the first lines
 
 -- a node at least was recovered
 abbrev pub HasRecovered : List ClusterEvent → Type 0
 HasRecovered events = findings events ≡ [] → ⊥
 
--- The first lines of an input were served: what they ask for, what happened, and what the disks had by then.
+-- The first lines of an input were served: what they ask for, the logs that the nodes began with, what happened, and what
+-- the disks had by then.
 pub record Behind (had : Histories) (s : Setup) (all left : List Input) : Type 0 where
   pub read : List Input
   pub is : all ≡ read ++ left
   pub lines : List ScriptLine
   pub asked : AskFor s 0 read lines
   pub logs : Logs
+  pub begins : CanBegin s logs
   pub events : List ClusterEvent
   pub allowed : IsRun (cluster_over s logs) lines (new_cluster (cluster_over s logs)) events
   pub opened : HasRecovered allowed.early

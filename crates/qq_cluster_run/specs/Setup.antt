@@ -1,17 +1,19 @@
 -- A script's setup as a cluster has it.
-use Rattle.std.specs.Prelude.{ℕ, List, [], ◌∷◌, length, map, nat_eq, Option, Some, None}
-use Rattle.std.specs.List.{find, range_with_len}
+use Rattle.std.specs.Prelude.{◌≡◌, ℕ, Bool, true, false, List, [], ◌∷◌, length, map, nat_eq, Option, Some, None}
+use Rattle.std.specs.List.{find, list_all, range_with_len}
 use Rattle.qq_base.specs.declared.ids.NodeId.{NodeId}
 use Rattle.qq_base.specs.declared.ids.QueueId.{QueueId}
 use Rattle.qq_entry.specs.declared.queue.QueueArgs.{QueueArgs}
 use Rattle.qq_entry.specs.Queue.{default_args}
 use Rattle.qq_log.specs.declared.op.Op.{Op}
+use Rattle.qq_log.specs.declared.op.Op.TheVariants.{Change}
 use Rattle.qq_raft_model.specs.Group.{Group, Seat}
 use Rattle.qq_route.specs.Routes.{Table, targets}
 use Rattle.qq_setup.specs.declared.queue_row.QueueRow.{QueueRow}
 use Rattle.qq_setup.specs.declared.setup.Setup.{Setup}
 use Rattle.qq_setup.specs.Setup.{SetupState, state_of}
 use Rattle.qq_cluster.specs.Cluster.{Setup as ClusterSetup}
+use Rattle.qq_cluster.specs.ClusterLaws.{HasGroups}
 
 -- ---- queues
 
@@ -86,3 +88,16 @@ cluster_over s logs = cluster_of (state_of s) logs
 -- over new logs
 abbrev pub cluster_setup : Setup → ClusterSetup
 cluster_setup s = cluster_over s new_logs
+
+-- ---- logs that a cluster may begin with
+
+-- a change of this queue
+abbrev pub is_change_of : QueueId → Op → Bool
+is_change_of id (Change own op term vote keep entries) = nat_eq own.0 id.0
+is_change_of id _ = false
+
+-- Each log holds changes of its queue alone, and those of each queue support an audit: they may be what nodes have left of
+-- one group.
+pub record CanBegin (s : Setup) (logs : Logs) : Type 0 where
+  pub own : (place k : ℕ) → list_all (is_change_of (record { 0 = place })) (logs place k) ≡ true
+  pub groups : HasGroups (cluster_over s logs)

@@ -19,7 +19,7 @@ use Rattle.qq_cluster_run.specs.Definitions.{Files}
 use Rattle.qq_cluster_run.specs.Endings.{Ending, fault_text, no_memory}
 use Rattle.qq_cluster_run.specs.Inputs.{Input, feed_count}
 use Rattle.qq_cluster_run.specs.Reading.{Asks, read_input, says}
-use Rattle.qq_cluster_run.specs.Serving.{Run, EndsSpent, EndsDamaged, EndsLost, run_behind, setup_behind, text_behind, audits_behind, Served}
+use Rattle.qq_cluster_run.specs.Serving.{Run, EndsSpent, EndsDamaged, EndsLost, EndsUnsupported, run_behind, setup_behind, text_behind, audits_behind, Served}
 use Rattle.qq_cluster_run.specs.Runs.{BreaksOff, HasNoDisk, HasStopped, ending_of, ScriptEnds, IsSetup, MayNotOpen, RunEnds}
 use Rattle.qq_cluster_run.specs.Setup.{Logs, cluster_over}
 use Rattle.qq_cluster_run.specs.Troubles.{Trouble, YardFails}
@@ -152,10 +152,10 @@ pub data MeetsDamage (options : Options) (s : Streams) : Type 0 where
       → EndsDamaged (Met s) (setup_over over) (nodes_of (setup_over over) nodes) (run_over over).events ending
       → NextAsks over (Restart nodes) → Prints over ending.text → MeetsDamage options s
 
--- 9: recovery finds of a queue what its member may not take up, when the cluster is opened or at a restart.
+-- 9: when the cluster is opened what recovery reads of a queue supports no audit, or at a restart it finds of a queue what
+-- its member may not take up.
 pub data HasLost (options : Options) (s : Streams) : Type 0 where
-  LostAtOpening : (setup : Setup) → IsSetup options setup → (logs : Logs) (ending : Ending)
-      → EndsLost (Met s) (cluster_over setup logs) (cluster_over setup logs).nodes [] ending
+  LostAtOpening : (setup : Setup) → IsSetup options setup → (ending : Ending) → EndsUnsupported (Met s) setup ending
       → PrintsAlone s ending.text → HasLost options s
   LostAtRestart : (over : Over options s) (nodes : Nodes) (ending : Ending)
       → EndsLost (Met s) (setup_over over) (nodes_of (setup_over over) nodes) (run_over over).events ending

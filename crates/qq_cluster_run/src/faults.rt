@@ -1,17 +1,20 @@
 //! What the statuses of a fault tell, in the words of the streams alone, as laws: the functions do nothing, and
 //! their contracts are the laws.
-ghost use Rattle.std.specs.Prelude.{◌≡◌, ◌⊎◌, ◌≤◌, ◌++◌, ◌^◌, [], ℕ, List, None, false, codes, Contains};
+ghost use Rattle.std.specs.Prelude.{◌≡◌, ◌⊎◌, ◌≤◌, ◌++◌, ◌^◌, [], ℕ, List, Option, Some, None, false, true, codes, Contains};
 ghost use Rattle.std.specs.List.{range_with_len};
 ghost use Rattle.std.specs.Fmt.{decimal};
-ghost use Rattle.qq_log.specs.Stable.{Stable};
+ghost use Rattle.qq_base.specs.declared.ids.NodeId.{NodeId};
+ghost use Rattle.qq_log.specs.declared.op.Op.{Op};
+ghost use Rattle.qq_log.specs.Stable.{Stable, stable};
 ghost use Rattle.qq_setup.specs.declared.setup.Setup.{Setup};
 ghost use Rattle.qq_words.specs.declared.options.Options.{Options};
-ghost use Rattle.qq_cluster.specs.Cluster.{Setup as ClusterSetup, ClusterEvent};
+ghost use Rattle.qq_cluster.specs.Cluster.{Setup as ClusterSetup, ClusterEvent, members};
+ghost use Rattle.qq_cluster.specs.Laws.{IsBegun};
 ghost use Rattle.qq_cluster_run.specs.Endings.{lost};
 ghost use Rattle.qq_cluster_run.specs.Inputs.{Input, inputs_of};
 ghost use Rattle.qq_cluster_run.specs.Runs.{IsSetup};
-ghost use Rattle.qq_cluster_run.specs.Serving.{Behind, MayTakeUp, after_all, setup_behind, text_behind};
-ghost use Rattle.qq_cluster_run.specs.Setup.{Logs, cluster_over};
+ghost use Rattle.qq_cluster_run.specs.Serving.{Behind, MayTakeUp, after_all, setup_behind, state_read, text_behind};
+ghost use Rattle.qq_cluster_run.specs.Setup.{Logs, cluster_over, cluster_setup, is_change_of};
 ghost use Rattle.qq_cluster_run.specs.Statuses.{Had, Streams, HasEnded};
 ghost use Rattle.qq_cluster_run.specs.Troubles.{Damage, AtPlace, OfVersion, damage_ending, YardFails, DiskFails, FilesBreak, QueueIsFound, NumberEnds};
 
@@ -55,23 +58,36 @@ pub fn faults_are_told()
         × (s.new ≡ s.old ++ (said ++ (codes "spent " ++ decimal number ++ codes "\n")))))) }
 {}
 
-/// A law: what status 9 tells. The printed queue is one of the setup's, and the printed node was down when it was
-/// recovered, after the restarts of nodes before it, at the opening or after the lines that were served. Recovery
-/// has read ops of the queue that its member may not take up: it was noticed of more, its log was handed fewer, or
-/// they aren't what its ops come to.
+/// A law: what status 9 tells. The printed queue is one of the setup's, and what is printed as found recovery has
+/// read of it on the printed node.
+///
+/// At the opening that was before anything had happened. On the first nodes recovery has read of the queue these
+/// lanes, or the node's disk has failed. Whatever logs of changes of the queue come to that, without ops where the disk
+/// has failed, no queue may begin with them.
+///
+/// After the lines that were served the node was down when it was recovered, after the restarts of nodes before it,
+/// and its member may not take up what recovery has read: it was noticed of more, its log was handed fewer, or that
+/// isn't what its ops come to.
 pub fn lost_queues_are_told()
     ensures { (options : Options) (s : Streams) → HasEnded 9 options s →
-        (setup : Setup) × IsSetup options setup × (((logs : Logs) × ((early : List ClusterEvent)
-        × ((node : ℕ) × ((place : ℕ) × Contains (cluster_over setup logs).places place
-        × ((lane : Stable) × Contains s.troubles
-        (QueueIsFound (cluster_over setup logs) early node place lane)
-        × ((after_all (cluster_over setup logs) early).up node ≡ false)
-        × (MayTakeUp node ((after_all (cluster_over setup logs) early).queue place) lane → ⊥)
+        (setup : Setup) × IsSetup options setup × (((place : ℕ)
+        × Contains (cluster_setup setup).places place × ((first : List ℕ) × ((rest : List ℕ)
+        × ((cluster_setup setup).nodes ≡ first ++ rest) × ((lanes : ℕ → Option Stable)
+        × ((n : NodeId) → Contains (members (cluster_setup setup) place) n → Contains first n.0 →
+        ((lane : Stable) × (lanes n.0 ≡ Some lane)
+        × Contains s.troubles (QueueIsFound (cluster_setup setup) [] n.0 place lane))
+        ⊎ ((lanes n.0 ≡ None) × Contains s.troubles (DiskFails n.0)))
+        × ((logs : Logs) →
+        ((k : ℕ) (op : Op) → Contains (logs place k) op → is_change_of (record { 0 = place }) op ≡ true) →
+        ((n : NodeId) → Contains (members (cluster_setup setup) place) n → Contains first n.0 →
+        stable (logs place n.0) ≡ Some (state_read (lanes n.0))) →
+        IsBegun ((cluster_over setup logs).group place) → ⊥)
+        × ((node : NodeId) × Contains (members (cluster_setup setup) place) node
+        × Contains first node.0 × ((lane : Stable) × (lanes node.0 ≡ Some lane)
         × (s.rest ≡ s.bytes)
-        × (s.new ≡ s.old ++ (codes "lost node " ++ decimal node ++ codes " "
-        ++ (cluster_over setup logs).name place ++ codes " noticed "
-        ++ decimal (((after_all (cluster_over setup logs) early).queue place).group.seat
-        node).noticed ++ codes " found " ++ decimal lane.op ++ codes "\n")))))))
+        × (s.new ≡ s.old ++ (codes "lost node " ++ decimal node.0 ++ codes " "
+        ++ (cluster_setup setup).name place ++ codes " noticed 0 found "
+        ++ decimal lane.op ++ codes "\n"))))))))
         ⊎ ((left : List Input)
         × ((b : Behind (Had s) setup (inputs_of s.bytes) left) × ((early : List ClusterEvent)
         × ((node : ℕ) × ((place : ℕ) × Contains (setup_behind b).places place × ((lane : Stable)
@@ -89,7 +105,7 @@ pub fn lost_queues_are_told()
 /// faults come when the cluster is opened: nothing was read, and the closing line alone was printed.
 ///
 /// - `damaged`: of one node, before anything has happened its files break the rules so.
-/// - `lost`: recovery has read ops of a queue on a node before it was up.
+/// - `lost`: recovery has read ops of a queue on a node before anything has happened.
 /// - `spent`: of a script without a line.
 pub fn faults_come_where_they_are_asked_for()
     ensures yard { (options : Options) (s : Streams) → HasEnded 7 options s →
@@ -103,10 +119,9 @@ pub fn faults_come_where_they_are_asked_for()
         × (s.new ≡ s.old ++ (damage_ending 1 damage).text))) }
     ensures lost { (options : Options) (s : Streams) → HasEnded 9 options s →
         options.definitions ≡ None → options.queues ≡ 1 → s.bytes ≡ codes "publish a\n" →
-        (s.rest ≡ s.bytes) × ((setup : ClusterSetup) × ((early : List ClusterEvent)
-        × ((node : ℕ) × ((place : ℕ) × ((lane : Stable)
-        × Contains s.troubles (QueueIsFound setup early node place lane) × ((noticed : ℕ)
-        × (s.new ≡ s.old ++ (lost node (setup.name place) noticed lane.op).text))))))) }
+        (s.rest ≡ s.bytes) × ((setup : ClusterSetup) × ((node : ℕ) × ((place : ℕ)
+        × ((lane : Stable) × Contains s.troubles (QueueIsFound setup [] node place lane)
+        × (s.new ≡ s.old ++ (lost node (setup.name place) 0 lane.op).text))))) }
     ensures spent { (options : Options) (s : Streams) → HasEnded 20 options s → s.bytes ≡ [] →
         (s.rest ≡ []) × ((number : ℕ) × ((number ≡ 4294967295) ⊎ (2 ^ 63 ≤ number))
         × (s.new ≡ s.old ++ (codes "spent " ++ decimal number ++ codes "\n"))) }

@@ -3,7 +3,7 @@ ghost use Rattle.std.specs.Prelude.{◌≡◌, ◌⊎◌, ◌≤◌, ◌<◌, �
 ghost use Rattle.std.specs.Fmt.{decimal};
 ghost use Rattle.qq_setup.specs.declared.setup.Setup.{Setup};
 ghost use Rattle.qq_words.specs.declared.options.Options.{Options};
-ghost use Rattle.qq_cluster.specs.ClusterLaws.{HasGroups, PrintsWhatIsTrue, has_failure, findings};
+ghost use Rattle.qq_cluster.specs.ClusterLaws.{PrintsWhatIsTrue, has_failure, findings};
 ghost use Rattle.qq_cluster_run.specs.Endings.{usage};
 ghost use Rattle.qq_cluster_run.specs.Inputs.{Input, inputs_of};
 ghost use Rattle.qq_cluster_run.specs.Printing.{HasNoFault};
@@ -21,11 +21,12 @@ use qq_cluster::{a_cluster_prints_what_is_true, lines_settle};
 ///   that end within what was read were served. 6, the sink has failed, and what it has is a first part
 ///   of what is printed. 7, the yard has failed at the opening or at a crash, or each node's disk has at
 ///   the opening. 8, nodes were recovered in order, at the opening or at a restart, and the log files of
-///   the printed one break the rules at the printed place. 9, there recovery finds of a queue what its
-///   member may not take up. 11, the next line is behind the 10,000,000th, or its body is too long. 12,
-///   there was no memory, and what was written is a first part of what is printed, and then `memory`. 20,
-///   in the midst of a line or of the opening the printed number would rise, and stands at its end, 2^63 or
-///   more, or the most messages that a bag holds. There is no other status.
+///   the printed one break the rules at the printed place. 9, at the opening what recovery reads of a
+///   queue supports no audit, or at a restart it finds of a queue what its member may not take up. 11, the
+///   next line is behind the 10,000,000th, or its body is too long. 12, there was no memory, and what was
+///   written is a first part of what is printed, and then `memory`. 20, in the midst of a line or of the
+///   opening the printed number would rise, and stands at its end, 2^63 or more, or the most messages that
+///   a bag holds. There is no other status.
 /// - `usage`: nothing was read, and the usage was printed.
 pub fn a_status_tells_what_was_done()
     ensures told { (status : ℕ) (options : Options) (s : Streams) → HasEnded status options s
@@ -58,7 +59,7 @@ pub fn scripts_are_served()
 /// has exactly one publish of its session and number there.
 pub fn what_was_printed_is_true()
     ensures { (s : Setup) (all left : List Input) (b : Behind AnyDisks s all left) →
-        HasGroups (setup_behind b) → PrintsWhatIsTrue (setup_behind b) b.events }
+        PrintsWhatIsTrue (setup_behind b) b.events }
 {
     a_cluster_prints_what_is_true();
 }

@@ -17,7 +17,6 @@ ghost use Rattle.qq_session.specs.Answered.{IsAnswered};
 ghost use Rattle.qq_session.specs.Clients.{sender, ended_by};
 ghost use Rattle.qq_session.specs.Shown.{Answered, Delivered};
 ghost use Rattle.qq_cluster.specs.Cluster.{ClusterEvent, Of};
-ghost use Rattle.qq_cluster.specs.ClusterLaws.{HasGroups};
 ghost use Rattle.qq_cluster_run.specs.Inputs.{Input};
 ghost use Rattle.qq_cluster_run.specs.Printing.{audit_behind, printed_behind, queue_behind, is_confirmed_publish};
 ghost use Rattle.qq_cluster_run.specs.Serving.{AnyDisks, Behind, setup_behind};
@@ -27,7 +26,7 @@ use qq_cluster::{
     ops_are_noticed_once_synced, sessions_go_on,
 };
 
-/// A law: of whatever was printed at a queue, where the logs supported an audit at first, as new ones do.
+/// A law: of whatever was printed at a queue.
 ///
 /// - `answer`, `client`: it is the answer of a row of the queue's audit, to a command of a client's session, or
 ///   to the end of one.
@@ -37,22 +36,21 @@ use qq_cluster::{
 pub fn what_was_printed_is_there_once()
     ensures answer { (s : Setup) (all left : List Input)
         (b : Behind AnyDisks s all left) (place : ℕ) (row : AuditRow) →
-        HasGroups (setup_behind b) → Contains (printed_behind b) (Of place (Answered row)) →
+        Contains (printed_behind b) (Of place (Answered row)) →
         Contains (audit_behind b place) row }
     ensures client { (s : Setup) (all left : List Input)
         (b : Behind AnyDisks s all left) (place : ℕ) (row : AuditRow) →
-        HasGroups (setup_behind b) → Contains (printed_behind b) (Of place (Answered row)) →
+        Contains (printed_behind b) (Of place (Answered row)) →
         (session : ℕ) × ((sender row ≡ Some session)
         ⊎ (ended_by row.entry.command ≡ Some session)) }
     ensures confirmed { (s : Setup) (all left : List Input)
         (b : Behind AnyDisks s all left) (place : ℕ) (row : AuditRow) (by : Stamp) →
-        HasGroups (setup_behind b) → Contains (printed_behind b) (Of place (Answered row)) →
+        Contains (printed_behind b) (Of place (Answered row)) →
         stamp row.entry.command ≡ Some by → row.answer ≡ Confirmed →
         length (filter (is_confirmed_publish by.session by.seq) (audit_behind b place)) ≡ 1 }
     ensures delivery { (s : Setup) (all left : List Input)
         (b : Behind AnyDisks s all left) (place : ℕ) (consumer : ConsumerId)
-        (delivery : Delivery) → HasGroups (setup_behind b) →
-        Contains (printed_behind b) (Of place (Delivered consumer delivery)) →
+        (delivery : Delivery) → Contains (printed_behind b) (Of place (Delivered consumer delivery)) →
         Contains (effects_of (empty_queue (queue_behind b place).args)
         (queue_behind b place).group.audit) (Deliver consumer delivery) }
 {
@@ -63,7 +61,7 @@ pub fn what_was_printed_is_there_once()
 ///
 /// - `serial`: its rows are what the queue's definition gives of the entries that the group has committed, one
 ///   after the other.
-/// - `stays`: whatever happens later, crashes too, its rows stay, where the logs supported an audit at first.
+/// - `stays`: whatever happens later, crashes too, its rows stay.
 /// - `once`: the commands of a session that were carried out have the numbers 1, 2, 3 and so on, each once, in
 ///   order; each other command of it has an answer of the session gate, or the first answer of its number.
 /// - `noticed`, `synced`: a member is noticed of no more than a sync has kept, and no more is kept than its
@@ -75,16 +73,16 @@ pub fn audits_are_serial()
         (queue_behind b place).group.audit }
     ensures stays { (s : Setup) (all left rest : List Input)
         (b : Behind AnyDisks s all left) (c : Behind AnyDisks s all rest)
-        (place : ℕ) (more : List ClusterEvent) → HasGroups (setup_behind b) → c.logs ≡ b.logs →
+        (place : ℕ) (more : List ClusterEvent) → c.logs ≡ b.logs →
         c.events ≡ b.events ++ more → IsFront (audit_behind b place) (audit_behind c place) }
     ensures once { (s : Setup) (all left : List Input)
         (b : Behind AnyDisks s all left) (place session : ℕ) →
         IsAnswered (client session) (audit_behind b place) }
     ensures noticed { (s : Setup) (all left : List Input)
-        (b : Behind AnyDisks s all left) (place k : ℕ) → HasGroups (setup_behind b) →
+        (b : Behind AnyDisks s all left) (place k : ℕ) →
         ((queue_behind b place).group.seat k).noticed ≤ (queue_behind b place).synced k }
     ensures synced { (s : Setup) (all left : List Input)
-        (b : Behind AnyDisks s all left) (place k : ℕ) → HasGroups (setup_behind b) →
+        (b : Behind AnyDisks s all left) (place k : ℕ) →
         (queue_behind b place).synced k ≤ length ((queue_behind b place).group.seat k).ops }
 {
     an_audit_is_serial();

@@ -16,15 +16,22 @@ ghost use Rattle.qq_cluster.specs.Texts.{text_of};
 ghost use Rattle.qq_cluster_run.specs.Inputs.{Input};
 ghost use Rattle.qq_cluster_run.specs.Reading.{AskFor};
 ghost use Rattle.qq_cluster_run.specs.Serving.{AnyDisks, Behind};
+ghost use Rattle.qq_cluster_run.specs.Setup.{CanBegin, Logs, new_logs};
 
 use crate::setups::clusters_begin_with_new_logs;
 use qq_cluster::{a_node_that_is_down_says_so, pumps_end, scripts_may_be_served};
 
 /// A law: where each line asks for something, they may all be served, with no call of a disk that fails.
+///
+/// - `new`: over new logs;
+/// - `over`: over whatever logs a cluster may begin with.
 pub fn lines_may_be_served()
-    ensures { (s : Setup) (all : List Input) (lines : List ScriptLine) →
+    ensures new { (s : Setup) (all : List Input) (lines : List ScriptLine) →
         IsRunnable (state_of s) → AskFor s 0 all lines →
-        (b : Behind AnyDisks s all []) × (has_failure b.events ≡ false) }
+        (b : Behind AnyDisks s all []) × (b.logs ≡ new_logs) × (has_failure b.events ≡ false) }
+    ensures over { (s : Setup) (logs : Logs) (all : List Input) (lines : List ScriptLine) →
+        IsRunnable (state_of s) → CanBegin s logs → AskFor s 0 all lines →
+        (b : Behind AnyDisks s all []) × (b.logs ≡ logs) × (has_failure b.events ≡ false) }
 {
     clusters_begin_with_new_logs();
     scripts_may_be_served();

@@ -1,7 +1,9 @@
-use Rattle.std.proofs.Common.{◌≤◌, ◌-◌}
+use Rattle.std.proofs.Common.{◌≤◌, ◌-◌, []}
 use Rattle.qq_ports.specs.Lines.{ahead}
 use Rattle.qq_cluster_run.specs.declared.ending.TheConstants.{LINES_LIMIT}
+use Rattle.qq_cluster_run.specs.Service.{HasOpened}
 use Rattle.qq_cluster_run.proofs.Looping.{LoopsOn}
+use Rattle.qq_broker.specs.Lives.{Giving}
 use Rattle.qq_broker.specs.Nodes.{Had, Holds}
 use Rattle.qq_broker.proofs.program.serve_lines.Given as goal
 
@@ -9,8 +11,12 @@ use Rattle.qq_broker.proofs.program.serve_lines.Given as goal
 abbrev pub invariant-lines : goal.invariant-lines
 invariant-lines g l = record {
   going :
-      LoopsOn (Had g.Y.Yard.is_given g.Y.Disk.NodeDisk.tells g.Y.Disk.NodeDisk.past g.Y.Disk.NodeDisk.faults) l.setup
-      (Holds g.Y.Yard.is_given g.Y.Disk.NodeDisk.tells g.Y.Disk.NodeDisk.past g.Y.Disk.NodeDisk.faults l.setup l.nodes)
+      (given : Giving g.row.Y-Disk.Denot)
+      → HasOpened (Had given g.Y.Disk.NodeDisk.tells g.Y.Disk.NodeDisk.past g.Y.Disk.NodeDisk.faults) l.setup
+      (Holds given g.Y.Disk.NodeDisk.tells g.Y.Disk.NodeDisk.past g.Y.Disk.NodeDisk.faults l.setup l.fn.nodes) []
+      l.fn.text.items
+      → LoopsOn (Had given g.Y.Disk.NodeDisk.tells g.Y.Disk.NodeDisk.past g.Y.Disk.NodeDisk.faults) l.setup
+      (Holds given g.Y.Disk.NodeDisk.tells g.Y.Disk.NodeDisk.past g.Y.Disk.NodeDisk.faults l.setup l.nodes)
       (g.I.Source.left l.fn.input) (ahead l.lines (g.I.Source.left l.input)) (g.O.Sink.written l.fn.output)
       (g.O.Sink.written l.output) l.served l.text.items;
   within : l.served ≤ LINES_LIMIT;

@@ -5,45 +5,45 @@ use Rattle.qq_broker.proofs.program.serve_script.Goals as goal
 
 pub write_audits-requires-clause-holds : goal.write_audits-requires-clause-holds
 write_audits-requires-clause-holds g c =
-    let so = c.in-Ok.ensures.ok in (g.Y.Yard.is_given, (so.run, so.stands))
+    let so = c.in-Ok.ensures.ok c.requires.opened.0 c.requires.opened.1 in (c.requires.opened.0, (so.run, so.stands))
 
 pub returns-in-Ok-write_audits-clause-ok : goal.returns-in-Ok-write_audits-clause-ok
-returns-in-Ok-write_audits-clause-ok g c =
-    let disk = g.Y.Disk.NodeDisk in
+returns-in-Ok-write_audits-clause-ok g c = λ given opened.
+    (let disk = g.Y.Disk.NodeDisk in
     let written = g.O.Sink.written in
     let s = c.args.setup.now in
-    let so = c.in-Ok.ensures.ok in
-    served_done (Had g.Y.Yard.is_given disk.tells disk.past disk.faults) s
-    (Holds g.Y.Yard.is_given disk.tells disk.past disk.faults s c.serve_lines.new.nodes)
+    let so = c.in-Ok.ensures.ok given opened in
+    served_done (Had given disk.tells disk.past disk.faults) s
+    (Holds given disk.tells disk.past disk.faults s c.serve_lines.new.nodes)
     (g.I.Source.left c.args.input.now) (g.I.Source.left c.serve_lines.new.input) (written c.args.output.now)
     (written c.serve_lines.new.output) (written c.write_audits.new.output) so
-    (c.in-Ok-write_audits.ensures.ok g.Y.Yard.is_given so.run so.stands)
+    (c.in-Ok-write_audits.ensures.ok given so.run so.stands))
 
 pub returns-in-Err-Failed-clause-cause : goal.returns-in-Err-Failed-clause-cause
-returns-in-Err-Failed-clause-cause g c =
-    let disk = g.Y.Disk.NodeDisk in
+returns-in-Err-Failed-clause-cause g c = λ given opened.
+    (let disk = g.Y.Disk.NodeDisk in
     let written = g.O.Sink.written in
     let faults = g.O.Sink.faults in
     let s = c.args.setup.now in
-    let so = c.in-Ok.ensures.ok in
+    let so = c.in-Ok.ensures.ok given opened in
     let cause = rw c.in-Err-Failed.field-0-is at c.in-Err-Failed.ensures.cause in (
       Rose_earlier (faults c.args.output.now) (faults c.serve_lines.new.output) (faults c.write_audits.new.output)
           c.in-Ok.ensures.sink_later cause,
-      served_breaks (Had g.Y.Yard.is_given disk.tells disk.past disk.faults) s
-          (Holds g.Y.Yard.is_given disk.tells disk.past disk.faults s c.serve_lines.new.nodes)
+      served_breaks (Had given disk.tells disk.past disk.faults) s
+          (Holds given disk.tells disk.past disk.faults s c.serve_lines.new.nodes)
           (g.I.Source.left c.args.input.now)
           (g.I.Source.left c.serve_lines.new.input) (written c.args.output.now) (written c.serve_lines.new.output)
-          (written c.write_audits.new.output) so (c.in-Err-Failed.ensures.err g.Y.Yard.is_given so.run so.stands),
-    )
+          (written c.write_audits.new.output) so (c.in-Err-Failed.ensures.err given so.run so.stands),
+    ))
 
 pub returns-in-Err-NoMemory-clause-cause : goal.returns-in-Err-NoMemory-clause-cause
-returns-in-Err-NoMemory-clause-cause g c =
-    let disk = g.Y.Disk.NodeDisk in
+returns-in-Err-NoMemory-clause-cause g c = λ given opened.
+    (let disk = g.Y.Disk.NodeDisk in
     let written = g.O.Sink.written in
     let s = c.args.setup.now in
-    let so = c.in-Ok.ensures.ok in
-    served_breaks (Had g.Y.Yard.is_given disk.tells disk.past disk.faults) s
-    (Holds g.Y.Yard.is_given disk.tells disk.past disk.faults s c.serve_lines.new.nodes)
+    let so = c.in-Ok.ensures.ok given opened in
+    served_breaks (Had given disk.tells disk.past disk.faults) s
+    (Holds given disk.tells disk.past disk.faults s c.serve_lines.new.nodes)
     (g.I.Source.left c.args.input.now)
     (g.I.Source.left c.serve_lines.new.input) (written c.args.output.now) (written c.serve_lines.new.output)
-    (written c.write_audits.new.output) so (c.in-Err-NoMemory.ensures.err g.Y.Yard.is_given so.run so.stands)
+    (written c.write_audits.new.output) so (c.in-Err-NoMemory.ensures.err given so.run so.stands))

@@ -9,33 +9,34 @@ use Rattle.qq_broker.proofs.serving.crash.Goals as goal
 
 pub crash_one-requires-clause-holds : goal.crash_one-requires-clause-holds
 crash_one-requires-clause-holds g c = λ lifetimes bounds. (
-  c.args.setup.now,
+  c.requires.0,
   (
-    c.requires.0,
-    c.requires.1,
-    subst (AreNodes (setup_in c.args.setup.now c.requires.0)) c.in-One.is c.requires.2,
+    c.args.setup.now,
+    (
+      c.requires.1.0,
+      c.requires.1.1,
+      subst (AreNodes (setup_in c.args.setup.now c.requires.1.0)) c.in-One.is c.requires.1.2,
+    ),
   ),
 )
 
 pub returns-in-Ok-clause-ok : goal.returns-in-Ok-clause-ok
-returns-in-Ok-clause-ok g c = λ run text h.
-    (let given = g.Y.Yard.is_given in
-    let tells = g.Y.Disk.NodeDisk.tells in
+returns-in-Ok-clause-ok g c = λ given run text h.
+    (let tells = g.Y.Disk.NodeDisk.tells in
     let past = g.Y.Disk.NodeDisk.past in
     let faults = g.Y.Disk.NodeDisk.faults in
     subst (λ (w : Which). IsServed given tells past faults c.args.setup.now run (Crash w c.args.image.now)
     c.crash_one.new.nodes
     text text) (sym c.in-One.is)
     (one-served given tells past faults c.args.setup.now run c.crash_one.new.nodes c.args.image.now text c.in-One.node
-    (c.in-Ok.ensures.ok c.args.setup.now run h)))
+    (c.in-Ok.ensures.ok given c.args.setup.now run h)))
 
 pub returns-in-Ok-crash_first-clause-ok : goal.returns-in-Ok-crash_first-clause-ok
-returns-in-Ok-crash_first-clause-ok g c = λ run text h.
-    (let given = g.Y.Yard.is_given in
-    let tells = g.Y.Disk.NodeDisk.tells in
+returns-in-Ok-crash_first-clause-ok g c = λ given run text h.
+    (let tells = g.Y.Disk.NodeDisk.tells in
     let past = g.Y.Disk.NodeDisk.past in
     let faults = g.Y.Disk.NodeDisk.faults in
     subst (λ (w : Which). IsServed given tells past faults c.args.setup.now run (Crash w c.args.image.now)
     c.crash_first.new.nodes text text) (sym c.in-All.is)
     (all-served given tells past faults c.args.setup.now run c.crash_first.new.nodes c.args.image.now text
-    (c.in-Ok-crash_first.ensures.ok c.args.setup.now run h)))
+    (c.in-Ok-crash_first.ensures.ok given c.args.setup.now run h)))

@@ -6,21 +6,24 @@ use Rattle.qq_broker.proofs.serving.crash_first.Goals as goal
 
 pub nodes-init : goal.nodes-init
 nodes-init g c = record {
-  crashed = crashed-none g.Y.Yard.is_given g.Y.Disk.NodeDisk.tells g.Y.Disk.NodeDisk.past g.Y.Disk.NodeDisk.faults
-      c.args.image.now
-      c.args.nodes.now;
+  crashed = λ given. crashed-none given g.Y.Disk.NodeDisk.tells g.Y.Disk.NodeDisk.past g.Y.Disk.NodeDisk.faults
+      c.args.image.now c.args.nodes.now;
   later = omega arith;
 }
 
 pub crash_one-requires-clause-holds : goal.crash_one-requires-clause-holds
-crash_one-requires-clause-holds g c = λ lifetimes bounds. (
-  c.requires.holds.0,
-  (
-    with_events c.requires.holds.1.0 (c.requires.holds.1.0.events ++ crashes 1 c.nodes.before c.args.image.now),
-    c.nodes.invariant.crashed c.requires.holds.0 c.requires.holds.1.0 c.requires.holds.1.1,
-    node-in c.requires.holds.0.nodes c.nodes.before (omega (arith, c.requires.holds.1.2)),
-  ),
-)
+crash_one-requires-clause-holds g c = λ lifetimes bounds.
+    (let holds = c.requires.holds in (
+      holds.0,
+      (
+        holds.1.0,
+        (
+          with_events holds.1.1.0 (holds.1.1.0.events ++ crashes 1 c.nodes.before c.args.image.now),
+          c.nodes.invariant.crashed holds.0 holds.1.0 holds.1.1.0 holds.1.1.1,
+          node-in holds.1.0.nodes c.nodes.before (omega (arith, holds.1.1.2)),
+        ),
+      ),
+    ))
 
 pub returns-in-Err-clause-cause : goal.returns-in-Err-clause-cause
 returns-in-Err-clause-cause g c = record {
@@ -30,17 +33,16 @@ returns-in-Err-clause-cause g c = record {
 
 pub nodes-preserved : goal.nodes-preserved
 nodes-preserved g c = record {
-  crashed = crashed-more g.Y.Yard.is_given g.Y.Disk.NodeDisk.tells g.Y.Disk.NodeDisk.past g.Y.Disk.NodeDisk.faults
-      c.args.image.now
-      c.nodes.before c.args.nodes.now _ _ c.nodes.invariant.crashed c.in_default.ensures.ok;
+  crashed = λ given. crashed-more given g.Y.Disk.NodeDisk.tells g.Y.Disk.NodeDisk.past g.Y.Disk.NodeDisk.faults
+      c.args.image.now c.nodes.before c.args.nodes.now _ _ (c.nodes.invariant.crashed given)
+      (c.in_default.ensures.ok given);
   later = omega (arith, c.nodes.invariant.later, c.crash_one.ensures.cause.later);
 }
 
 pub returns-clause-ok : goal.returns-clause-ok
-returns-clause-ok g c =
-    crashed-all g.Y.Yard.is_given g.Y.Disk.NodeDisk.tells g.Y.Disk.NodeDisk.past g.Y.Disk.NodeDisk.faults
-    c.args.image.now c.nodes.before
-    c.args.count c.args.nodes.now _ (omega arith) c.nodes.invariant.crashed
+returns-clause-ok g c = λ given.
+    crashed-all given g.Y.Disk.NodeDisk.tells g.Y.Disk.NodeDisk.past g.Y.Disk.NodeDisk.faults c.args.image.now
+    c.nodes.before c.args.count c.args.nodes.now _ (omega arith) (c.nodes.invariant.crashed given)
 
 pub returns-clause-cause : goal.returns-clause-cause
 returns-clause-cause g c = record { later = c.nodes.invariant.later; cause = tt }

@@ -22,10 +22,10 @@ returns-in-Ok-clause-ok g c = λ given run h.
     (let tells = g.D.NodeDisk.tells in
     let past = g.D.NodeDisk.past in
     let faults = g.D.NodeDisk.faults in
-    subst (λ (w : Which). IsServed given tells past faults c.args.setup.now run (Restart w) c.restart.new.self
+    subst (λ (w : Which). IsServed given tells past faults c.args.setup.now run (Restart w) c.restart.new.nodes
     c.args.text.now.items
     c.restart.new.text.items) (sym c.in-One.is)
-    (restarted-one given tells past faults c.args.setup.now run c.args.nodes.now c.restart.new.self
+    (restarted-one given tells past faults c.args.setup.now run c.args.nodes.now c.restart.new.nodes
     c.args.text.now.items
     c.restart.new.text.items h c.in-One.node c.in-Ok.ensures.ok))
 
@@ -34,9 +34,9 @@ returns-in-Ok-restart_each-clause-ok g c = λ given run h.
     (let tells = g.D.NodeDisk.tells in
     let past = g.D.NodeDisk.past in
     let faults = g.D.NodeDisk.faults in
-    subst (λ (w : Which). IsServed given tells past faults c.args.setup.now run (Restart w) c.restart_each.new.self
+    subst (λ (w : Which). IsServed given tells past faults c.args.setup.now run (Restart w) c.restart_each.new.nodes
     c.args.text.now.items c.restart_each.new.text.items) (sym c.in-All.is)
-    (restarted-all given tells past faults c.args.setup.now run c.args.nodes.now c.restart_each.new.self
+    (restarted-all given tells past faults c.args.setup.now run c.args.nodes.now c.restart_each.new.nodes
     c.args.text.now.items
     c.restart_each.new.text.items h c.in-Ok-restart_each.ensures.ok))
 
@@ -49,7 +49,7 @@ returns-in-Err-clause-cause g c = λ given run before after h.
     subst (λ (w : Which). HasServeCause (Meets given tells past faults before after) (setup_in s run) run.events
     (Restart w)
     c.restart_stop.result) (sym c.in-One.is)
-    (refused-one given tells past faults before after s run c.args.nodes.now c.restart.new.self h c.args.text.now.items
+    (refused-one given tells past faults before after s run c.args.nodes.now c.restart.new.nodes h c.args.text.now.items
     c.in-Err.fault c.restart_stop.result c.restart_stop.ensures c.in-One.node
     (subst (AreNodes (setup_in s c.requires.1.0)) c.in-One.is c.requires.1.2) c.in-Err.ensures.err))
 
@@ -62,7 +62,7 @@ returns-in-Err-restart_each-clause-cause g c = λ given run before after h.
     subst (λ (w : Which). HasServeCause (Meets given tells past faults before after) (setup_in s run) run.events
     (Restart w)
     c.restart_stop-in-Err-restart_each.result) (sym c.in-All.is)
-    (refused-all given tells past faults before after s run c.args.nodes.now c.restart_each.new.self h
+    (refused-all given tells past faults before after s run c.args.nodes.now c.restart_each.new.nodes h
     c.args.text.now.items
     c.in-Err-restart_each.fault c.restart_stop-in-Err-restart_each.result c.restart_stop-in-Err-restart_each.ensures
     c.in-Err-restart_each.ensures.err))

@@ -1,15 +1,15 @@
 use Rattle.qq_broker.proofs.serving.serve.Goals as goal
 
 pub returns-in-Crash-clause-cause : goal.returns-in-Crash-clause-cause
-returns-in-Crash-clause-cause g c = rw c.in-Crash.is (λ run h. c.crash.ensures.cause run)
+returns-in-Crash-clause-cause g c = rw c.in-Crash.is (λ given run h. c.crash.ensures.cause given run)
 
 pub returns-in-Restart-clause-cause : goal.returns-in-Restart-clause-cause
 returns-in-Restart-clause-cause g c =
     let yards = g.Y.Yard.faults in
-    rw c.in-Restart.is (λ run h. c.restart.ensures.cause g.Y.Yard.is_given run (yards c.args.yard.now)
+    rw c.in-Restart.is (λ given run h. c.restart.ensures.cause given run (yards c.args.yard.now)
     (yards c.args.yard.now) h)
 
 pub returns-in_default-clause-cause : goal.returns-in_default-clause-cause
-returns-in_default-clause-cause g c = λ run h.
+returns-in_default-clause-cause g c = λ given run h.
     (let yards = g.Y.Yard.faults in
-    c.go_on.ensures.cause g.Y.Yard.is_given run (yards c.args.yard.now) (yards c.args.yard.now) h)
+    c.go_on.ensures.cause given run (yards c.args.yard.now) (yards c.args.yard.now) h)

@@ -11,9 +11,9 @@ pub returns-clause-once : goal.returns-clause-once
 returns-clause-once c = once-at c.each_queue_is_its_own.ensures c.sessions_go_on.ensures.answered
 
 pub returns-clause-noticed : goal.returns-clause-noticed
-returns-clause-noticed c = λ s all left b place k groups.
-    (counts-at c.each_queue_is_its_own.ensures c.ops_are_noticed_once_synced.ensures s all left b place k groups).noticed
+returns-clause-noticed c = λ s all left b place k.
+    (counts-at c.each_queue_is_its_own.ensures c.ops_are_noticed_once_synced.ensures s all left b place k).noticed
 
 pub returns-clause-synced : goal.returns-clause-synced
-returns-clause-synced c = λ s all left b place k groups.
-    (counts-at c.each_queue_is_its_own.ensures c.ops_are_noticed_once_synced.ensures s all left b place k groups).synced
+returns-clause-synced c = λ s all left b place k.
+    (counts-at c.each_queue_is_its_own.ensures c.ops_are_noticed_once_synced.ensures s all left b place k).synced

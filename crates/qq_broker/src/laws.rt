@@ -1,0 +1,55 @@
+//! Laws of runs over nodes: the functions do nothing, and their contracts are the laws.
+ghost use Rattle.std.specs.Prelude.{◌≡◌, ◌⊎◌, ◌++◌, ℕ, IsTrue, List, None, Some};
+ghost use Rattle.qq_base.specs.Causes.{Rose};
+ghost use Rattle.qq_base.specs.declared.ids.NodeId.{NodeId};
+ghost use Rattle.qq_defs.specs.Runnable.{IsRunnable};
+ghost use Rattle.qq_disk.specs.Disk.{now};
+ghost use Rattle.qq_dump.specs.Files.{dump_text, log_files};
+ghost use Rattle.qq_setup.specs.Setup.{state_of};
+ghost use Rattle.qq_setup.specs.declared.setup.Setup.{Setup};
+ghost use Rattle.qq_cluster_run.specs.Inputs.{Input};
+ghost use Rattle.qq_cluster_run.specs.Serving.{Behind};
+ghost use Rattle.qq_cluster_run.specs.Setup.{new_logs};
+ghost use Rattle.qq_broker.specs.Dumping.{DumpEnds};
+ghost use Rattle.qq_broker.specs.Lives.{Giving, IsGiven};
+ghost use Rattle.qq_broker.specs.Nodes.{Had};
+
+use qq_disk::NodeDisk;
+use qq_recover::a_promised_disk_is_read;
+use qq_wal_chain::an_empty_disk_keeps_the_promise;
+
+/// A law: without a root a run begins with new logs, where all of its disks show their contents.
+pub fn a_run_without_a_root_begins_with_new_logs<D: NodeDisk>()
+    ensures { (given : Giving D) (s : Setup) (all left : List Input)
+        (b : Behind (Had given D.tells D.past D.faults) s all left) → IsRunnable (state_of s) →
+        given.root ≡ None → ((disk : D) → IsTrue (D.tells disk)) → b.logs ≡ new_logs }
+{
+    a_promised_disk_is_read();
+    an_empty_disk_keeps_the_promise();
+}
+
+/// A law: what the status of a dump tells, where source and sink tell their bytes.
+///
+/// - `statuses`: it is 0, 6, 7 or 12.
+/// - `done`: with 0 nothing was read, and the text of the log files was written that stand on the disk which the yard gave
+///   for the node under this root, where that shows its contents.
+/// - `failed`: with 7 the yard has failed, or such a disk.
+pub fn a_dump_tells_what_was_done<D: NodeDisk>()
+    ensures statuses { (given : Giving D) (status : ℕ) (node : NodeId) (bytes rest old new : List ℕ)
+        (sink_before sink_after before after : ℕ) →
+        DumpEnds given D.tells D.past D.faults status node (Some bytes) (Some rest) (Some old) (Some new)
+        (Rose sink_before sink_after) before after →
+        (status ≡ 0) ⊎ ((status ≡ 6) ⊎ ((status ≡ 7) ⊎ (status ≡ 12))) }
+    ensures done { (given : Giving D) (node : NodeId) (bytes rest old new : List ℕ)
+        (sink_before sink_after before after : ℕ) →
+        DumpEnds given D.tells D.past D.faults 0 node (Some bytes) (Some rest) (Some old) (Some new)
+        (Rose sink_before sink_after) before after →
+        (disk : D) × IsGiven given D.tells D.past node.0 disk × (rest ≡ bytes)
+        × (IsTrue (D.tells disk) → new ≡ old ++ dump_text (log_files (now (D.past disk)))) }
+    ensures failed { (given : Giving D) (node : NodeId) (bytes rest old new : List ℕ)
+        (sink_before sink_after before after : ℕ) →
+        DumpEnds given D.tells D.past D.faults 7 node (Some bytes) (Some rest) (Some old) (Some new)
+        (Rose sink_before sink_after) before after →
+        Rose before after ⊎ ((disk : D) × IsGiven given D.tells D.past node.0 disk
+        × ((last : D) × Rose (D.faults disk) (D.faults last))) }
+{}
