@@ -21,11 +21,11 @@ use Rattle.qq_raft_core.specs.Undone.{Before, Held, LeadsBack, before, begun, ch
 use Rattle.qq_raft_core.specs.declared.raft.Raft.{Raft}
 use Rattle.qq_raft_core.specs.declared.undo.Undo.{Undo}
 
-and-left : (a b : Bool) → (a && b) ≡ true → a ≡ true
+pub and-left : (a b : Bool) → (a && b) ≡ true → a ≡ true
 and-left true b is = refl
 and-left false b is = absurd (false≢true is)
 
-and-right : (a b : Bool) → (a && b) ≡ true → b ≡ true
+pub and-right : (a b : Bool) → (a && b) ≡ true → b ≡ true
 and-right true b is = is
 and-right false b is = absurd (false≢true is)
 

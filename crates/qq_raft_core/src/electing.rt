@@ -100,11 +100,11 @@ impl<L: LogView> Raft<L> {
         ensures before { before L.log self.new ≡ before L.log self.old }
         ensures cause { IfErr result (IsCaused (server_of L.log self.old)) }
     {
+        let noop = self.noop(alloc)?;
         let next = self.last() + 1;
         self.role = Role::Leader;
         self.leader = Some(self.node);
         change_peers(PeerChange::Started { next }, &mut self.peers);
-        let noop = self.noop(alloc)?;
         self.add_entry(alloc, noop)
     }
 
