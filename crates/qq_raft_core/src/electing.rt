@@ -82,13 +82,14 @@ impl<L: LogView> Raft<L> {
         ensures entry { IfOk result IsInLog }
         ensures want { IsOkUnless result Memory.Want }
     {
-        let command = Command::Noop {
+        let noop = Command::Noop {
             version: MACHINE_VERSION,
         };
+        let command = Shared::new(alloc, noop)?;
         Ok(Entry {
             term: self.term,
             time: 0,
-            command: Shared::new(alloc, command)?,
+            command,
         })
     }
 
