@@ -3,8 +3,8 @@
 //! A group of 1, 3 or 5 members commits ENTRIES commands, which publish messages with a body of BODY bytes, WINDOW
 //! commands at once: the leader adds them all, and then sends. With `logs` each member's ops are written to a log of its own on a disk in memory, and synced;
 //! with `none` they are dropped. With `purge` the messages of each window are purged once they are committed, with
-//! `keep` they stay ready. Prints how many entries they were, how many nanoseconds that took, and by how many KiB the
-//! process grew.
+//! `keep` they stay ready. Prints how many entries they were, how many nanoseconds that took, by how many KiB the
+//! process grew, and how many bytes the messages' bodies have, each of which all members share.
 use crate::log::new_log;
 use crate::made::{publish, stamp};
 use crate::memory::memory;
@@ -131,13 +131,14 @@ pub fn run(rt: HostRuntime, words: &[String]) -> Result<()> {
     bench.settle(alloc)?;
     let before = memory(&rt)?;
     let start = Instant::now(&rt)?;
-    let mut seq = 0;
+    let (mut seq, mut bodies) = (0, 0);
     let windows = entries / window;
     for _ in 0..windows {
         let mut commands = Vec::new(alloc);
         for _ in 0..window {
             seq += 1;
             commands.push(publish(alloc, stamp(seq), body)?)?;
+            bodies += body;
         }
         bench.commit_all(alloc, commands)?;
         if purges {
@@ -151,6 +152,6 @@ pub fn run(rt: HostRuntime, words: &[String]) -> Result<()> {
     let grown = memory(&rt)? - before;
     let audit = bench.group.audit().len() as u64;
     ensure!(audit == seq + 1, "a command isn't committed");
-    println!(rt; "{} {spent} {grown}", windows * window)?;
+    println!(rt; "{} {spent} {grown} {bodies}", windows * window)?;
     Ok(())
 }

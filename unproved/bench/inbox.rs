@@ -52,7 +52,7 @@ fn each_second(count: u64, time: Duration) -> u128 {
 // Queue 1's op that publishes a body.
 fn op_of(alloc: Global, number: u64, bytes: usize) -> Result<Op> {
     let mut entries = Entries::new(alloc);
-    entries.push(entry(publish(alloc, stamp(number), bytes)?))?;
+    entries.push(entry(alloc, publish(alloc, stamp(number), bytes)?)?)?;
     Ok(Op::Change {
         queue: QueueId(1),
         op: number,

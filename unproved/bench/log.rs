@@ -59,7 +59,7 @@ pub fn new_log(alloc: Global) -> Result<Wal<MemDisk>> {
 
 fn op_of(alloc: Global, number: u64, body: usize) -> Result<Op> {
     let mut entries = Entries::new(alloc);
-    entries.push(entry(publish(alloc, stamp(number), body)?))?;
+    entries.push(entry(alloc, publish(alloc, stamp(number), body)?)?)?;
     Ok(Op::Change {
         queue: QueueId(1),
         op: number,

@@ -139,7 +139,7 @@ impl Bench {
     }
 
     fn next_entry(&mut self, alloc: Global, kind: Kind) -> Result<Entry> {
-        Ok(entry(match kind {
+        let command = match kind {
             Kind::Subscribe => self.subscribe(),
             Kind::Get => Command::Get {
                 stamp: self.stamp(),
@@ -147,7 +147,8 @@ impl Bench {
             Kind::Enqueue => publish(alloc, self.stamp(), BODY)?,
             Kind::Deliver => self.deliver()?,
             Kind::Settle => self.settle(alloc)?,
-        }))
+        };
+        entry(alloc, command)
     }
 
     fn apply(&mut self, alloc: Global, kind: Kind, entry: &Entry) -> Result<()> {

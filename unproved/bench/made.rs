@@ -1,6 +1,6 @@
 use anyhow::Result;
 use qq_base::{Bytes, SessionId, Term, Text};
-use qq_entry::{Command, Content, Deaths, Entry, Message, Stamp};
+use qq_entry::{Command, Content, Deaths, Entry, Message, Shared, Stamp};
 use std::alloc::Global;
 
 /// Session 1's stamp with a number, which has had the answers of all before it.
@@ -27,10 +27,10 @@ pub fn publish(alloc: Global, stamp: Stamp, size: usize) -> Result<Command> {
 }
 
 /// The entry of term 1 with a command.
-pub fn entry(command: Command) -> Entry {
-    Entry {
+pub fn entry(alloc: Global, command: Command) -> Result<Entry> {
+    Ok(Entry {
         term: Term(1),
         time: 0,
-        command,
-    }
+        command: Shared::new(alloc, command)?,
+    })
 }

@@ -41,7 +41,7 @@ fn is_in_lane(lanes: &[Lane], queue: u32, front: &str) -> bool {
         .iter()
         .filter(|lane| lane.queue.0 == queue)
         .flat_map(|lane| lane.entries.as_slice())
-        .any(|entry| publishes(&entry.command, front.as_bytes()))
+        .any(|entry| publishes(entry.command.get(), front.as_bytes()))
 }
 
 /// Whether it stands there on the disks of a majority of the nodes.

@@ -3,23 +3,25 @@
 use anyhow::{Result, ensure};
 use cases::{Trials, run_each};
 use qq_base::{Index, QueueId, Term};
-use qq_entry::{Command, Entries, Entry};
+use qq_entry::{Command, Entries, Entry, Shared};
 use qq_log::{Lane, Log, Op, SnapshotHead};
+use std::alloc::Global;
 
-fn noop(term: u64) -> Entry {
-    Entry {
+fn noop(alloc: Global, term: u64) -> Result<Entry> {
+    Ok(Entry {
         term: Term(term),
         time: 0,
-        command: Command::Noop { version: 1 },
-    }
+        command: Shared::new(alloc, Command::Noop { version: 1 })?,
+    })
 }
 
 fn a_log_is_cut_at_both_ends(rt: HostRuntime) -> Result<()> {
-    let mut log = Log::from_lane(Lane::empty(rt.alloc(), QueueId(1)));
+    let alloc = rt.alloc();
+    let mut log = Log::from_lane(Lane::empty(alloc, QueueId(1)));
     log.reserve(3)?;
-    log.append(noop(1));
-    log.append(noop(1));
-    log.append(noop(2));
+    log.append(noop(alloc, 1)?);
+    log.append(noop(alloc, 1)?);
+    log.append(noop(alloc, 2)?);
     ensure!(log.last() == Index(3));
     ensure!(log.term_at(Index(0)) == Some(Term(0)));
     ensure!(log.term_at(Index(3)) == Some(Term(2)));
@@ -31,7 +33,8 @@ fn a_log_is_cut_at_both_ends(rt: HostRuntime) -> Result<()> {
     });
     ensure!(log.last() == Index(3));
     ensure!(log.entry(Index(1)).is_none());
-    ensure!(log.entry(Index(2)).is_some_and(|entry| *entry == noop(1)));
+    let kept = noop(alloc, 1)?;
+    ensure!(log.entry(Index(2)).is_some_and(|entry| *entry == kept));
     log.keep_to(Index(2));
     ensure!(log.last() == Index(2));
     log.rebase(SnapshotHead {

@@ -10,7 +10,7 @@ use crate::files::log_file;
 use anyhow::{Context, Result, bail};
 use cases::{Words, answer_lines};
 use qq_base::{Bytes, Index, NodeId, QueueId, SessionId, Term, Text};
-use qq_command::{BODY_LIMIT, Command, Content, Deaths, Entries, Entry, Message, Stamp};
+use qq_command::{BODY_LIMIT, Command, Content, Deaths, Entries, Entry, Message, Shared, Stamp};
 use qq_disk::NodeDisk;
 use qq_log::Op;
 use qq_mem_disk::MemDisk;
@@ -66,14 +66,15 @@ fn publish(alloc: Global, size: usize) -> Result<Entry> {
         seq: 1,
         done: 0,
     };
+    let command = Command::Enqueue {
+        stamp,
+        origin: None,
+        message: Message::new(alloc, content)?,
+    };
     Ok(Entry {
         term: Term(1),
         time: 0,
-        command: Command::Enqueue {
-            stamp,
-            origin: None,
-            message: Message::new(alloc, content)?,
-        },
+        command: Shared::new(alloc, command)?,
     })
 }
 

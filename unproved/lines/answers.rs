@@ -96,7 +96,7 @@ fn row_reads(
         entry: Entry {
             term: Term(3),
             time: 0,
-            command,
+            command: Shared::new(alloc, command)?,
         },
         fresh,
         answer,

@@ -38,7 +38,7 @@ use crate::pair::Pair;
 use anyhow::{Result, bail};
 use cases::answer_lines;
 use qq_base::{QueueId, Term};
-use qq_entry::{Entry, QueueArgs};
+use qq_entry::{Entry, QueueArgs, Shared};
 use std::alloc::Global;
 
 fn answer(alloc: Global, pair: &mut Pair, line: &str) -> Result<String> {
@@ -52,7 +52,7 @@ fn answer(alloc: Global, pair: &mut Pair, line: &str) -> Result<String> {
             let entry = Entry {
                 term: Term(term.parse()?),
                 time: 0,
-                command: read_command(alloc, kind, fields)?,
+                command: Shared::new(alloc, read_command(alloc, kind, fields)?)?,
             };
             let made = pair.apply(alloc, &entry)?;
             made_text(alloc, entry, made)

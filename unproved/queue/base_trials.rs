@@ -9,7 +9,7 @@ use qq_base::{
 use qq_command::{decode, encode, put_entry};
 use qq_entry::{
     Answer, AuditRow, Command, Content, DeadDone, DeadDones, Death, Deaths, Delivery, Entry,
-    Message, QueueArgs, Reason, Rows, Stamp, Unstamped,
+    Message, QueueArgs, Reason, Rows, Shared, Stamp, Unstamped,
 };
 use std::alloc::Global;
 
@@ -64,14 +64,15 @@ fn rows_are_copied(rt: HostRuntime) -> Result<()> {
         seq: 2,
         done: 1,
     };
+    let command = Command::Enqueue {
+        stamp,
+        origin: None,
+        message: message(alloc)?,
+    };
     let entry = Entry {
         term: Term(1),
         time: 0,
-        command: Command::Enqueue {
-            stamp,
-            origin: None,
-            message: message(alloc)?,
-        },
+        command: Shared::new(alloc, command)?,
     };
     let delivery = Delivery {
         index: Index(2),
@@ -127,7 +128,7 @@ fn an_entry_is_read_and_put_behind_other_bytes(rt: HostRuntime) -> Result<()> {
     let wanted = Entry {
         term: Term(3),
         time: 5,
-        command: Command::Noop { version: 1 },
+        command: Shared::new(alloc, Command::Noop { version: 1 })?,
     };
     same(entry, wanted)?;
     same(bytes.len(), 44)?;

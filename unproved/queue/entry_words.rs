@@ -16,7 +16,7 @@ impl fmt::Display for EntryWords<'_> {
     fn fmt<W: Write>(&self, f: &mut Formatter<W>) -> fmt::Result {
         let entry = self.0;
         write!(f, "term {}, time {}, ", entry.term.0, entry.time)?;
-        write_command(f, &entry.command)
+        write_command(f, entry.command.get())
     }
 }
 

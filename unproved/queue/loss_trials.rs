@@ -4,7 +4,7 @@ use crate::same::same;
 use anyhow::{Result, ensure};
 use cases::{Random, Trials, run_each};
 use qq_base::{Bytes, Duplicate, Index, QueueId, SessionId, Term, Text};
-use qq_entry::{Command, Content, Deaths, Entry, Message, QueueArgs, Unstamped};
+use qq_entry::{Command, Content, Deaths, Entry, Message, QueueArgs, Shared, Unstamped};
 use qq_serial::Serial;
 use qq_session::{HandFault, Publishing};
 use std::alloc::Global;
@@ -66,7 +66,7 @@ impl Line {
         let entry = Entry {
             term: Term(1),
             time: 0,
-            command,
+            command: Shared::new(self.alloc, command)?,
         };
         let index = Index(self.queue.applied() + 1);
         let (fresh, answer, _) = self.queue.step(self.alloc, index, &entry)?;

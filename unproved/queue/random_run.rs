@@ -16,7 +16,7 @@ use crate::users::Users;
 use anyhow::{Context, Result, ensure};
 use cases::Random;
 use qq_base::Term;
-use qq_entry::{Answer, Effect, Entry};
+use qq_entry::{Answer, Effect, Entry, Shared};
 use std::alloc::Global;
 
 /// How many entries a queue has.
@@ -52,12 +52,12 @@ fn run_queue(alloc: Global, random: &mut Random, seen: &mut Seen) -> Result<()> 
         let entry = Entry {
             term: Term(random.below(3)),
             time: random.below(9),
-            command: draw_command(alloc, random, &mut users)?,
+            command: Shared::new(alloc, draw_command(alloc, random, &mut users)?)?,
         };
         let (ready, _) = pair.machine.counts();
         let made = pair.apply(alloc, &entry)?;
         seen.add(&made)?;
-        users.learn(&entry.command, &made)?;
+        users.learn(entry.command.get(), &made)?;
         check(alloc, &pair, &users, &made, ready)?;
     }
     Ok(())

@@ -3,7 +3,7 @@
 use anyhow::{Result, ensure};
 use cases::{Trials, run_each};
 use qq_base::{Index, Memory, QueueId, Term};
-use qq_entry::{Answer, Command, Effects, Entry};
+use qq_entry::{Answer, Command, Effects, Entry, Shared};
 use qq_log::{Lane, Log};
 use qq_raft_msg::{LogView, Queue};
 use std::alloc::Global;
@@ -50,17 +50,18 @@ impl Queue for Counting {
     }
 }
 
-fn noop(term: u64) -> Entry {
-    Entry {
+fn noop(alloc: Global, term: u64) -> Result<Entry> {
+    Ok(Entry {
         term: Term(term),
         time: 0,
-        command: Command::Noop { version: 1 },
-    }
+        command: Shared::new(alloc, Command::Noop { version: 1 })?,
+    })
 }
 
 fn a_machine_may_count(rt: HostRuntime) -> Result<()> {
     let mut counting = Counting { entries: 4 };
-    let (fresh, answer, effects) = counting.apply(rt.alloc(), Index(5), &noop(1))?;
+    let alloc = rt.alloc();
+    let (fresh, answer, effects) = counting.apply(alloc, Index(5), &noop(alloc, 1)?)?;
     ensure!(fresh);
     ensure!(answer == Answer::Purged { count: 5 });
     ensure!(effects.is_empty());
@@ -69,17 +70,18 @@ fn a_machine_may_count(rt: HostRuntime) -> Result<()> {
 }
 
 /// The index of the last entry of a log that had two and is cut before the first.
-fn cut<L: LogView>(log: &mut L) -> Result<Index> {
+fn cut<L: LogView>(alloc: Global, log: &mut L) -> Result<Index> {
     log.reserve(2)?;
-    log.append(noop(1));
-    log.append(noop(2));
+    log.append(noop(alloc, 1)?);
+    log.append(noop(alloc, 2)?);
     log.keep_to(log.base().index);
     Ok(log.last())
 }
 
 fn a_log_is_seen_as_one(rt: HostRuntime) -> Result<()> {
-    let mut log = Log::from_lane(Lane::empty(rt.alloc(), QueueId(1)));
-    ensure!(cut(&mut log)? == Index(0));
+    let alloc = rt.alloc();
+    let mut log = Log::from_lane(Lane::empty(alloc, QueueId(1)));
+    ensure!(cut(alloc, &mut log)? == Index(0));
     Ok(())
 }
 

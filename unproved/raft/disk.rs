@@ -4,7 +4,7 @@ use crate::party::publish;
 use crate::starts::Start;
 use anyhow::{Result, bail, ensure};
 use qq_base::{Duplicate, NodeId, QueueId, Term};
-use qq_entry::{Entries, Entry};
+use qq_entry::{Entries, Entry, Shared};
 use qq_log::{Lane, Log, Op};
 use std::alloc::Global;
 use std::mem;
@@ -38,7 +38,7 @@ impl Disk {
             entries.push(Entry {
                 term: Term(*term),
                 time: entries.len() as u64 + 1,
-                command: publish(alloc, size)?,
+                command: Shared::new(alloc, publish(alloc, size)?)?,
             })?;
         }
         lane.op = 1;

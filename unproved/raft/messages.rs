@@ -4,7 +4,7 @@ use anyhow::{Result, bail, ensure};
 use cases::{Trials, run_each};
 use qq_base::{Bytes, Index, NodeId, Term};
 use qq_command::Refusal;
-use qq_entry::{Command, Entries, Entry};
+use qq_entry::{Command, Entries, Entry, Shared};
 use qq_raft_msg::{
     AppendMsg, AppendedMsg, Bag, CopyFault, InstallMsg, InstalledMsg, NoSuch, Rpc, VoteMsg,
     VotedMsg, decode, encode,
@@ -103,7 +103,7 @@ fn entries_and_snapshots_have_their_bytes(rt: HostRuntime) -> Result<()> {
     let noop = Entry {
         term: Term(3),
         time: 5,
-        command: Command::Noop { version: 1 },
+        command: Shared::new(alloc, Command::Noop { version: 1 })?,
     };
     let append = AppendMsg {
         from: NodeId(1),

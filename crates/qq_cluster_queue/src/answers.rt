@@ -39,5 +39,5 @@ pub fn ended_by(command: &Command) -> Option<u64>
 pub fn sender(row: &AuditRow) -> Option<u64>
     ensures { result ≡ sender row.now }
 {
-    sender_by(row.entry.command.stamp())
+    sender_by(row.entry.command.get().stamp())
 }

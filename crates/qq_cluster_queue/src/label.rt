@@ -26,7 +26,7 @@ impl Label {
         answer_text(
             alloc,
             self.first,
-            &row.entry.command,
+            row.entry.command.get(),
             &self.name,
             &row.answer,
             out,

@@ -86,13 +86,14 @@ impl Publisher {
     pub fn is_open(&self, row: &AuditRow) -> bool
         ensures { result ≡ is_open (seq_of row.now.entry.command) self.now }
     {
-        self.numbers.is_open(seq_of(&row.entry.command))
+        self.numbers.is_open(seq_of(row.entry.command.get()))
     }
 
     /// Takes the answer of a row of its own.
     pub fn take_answer(&mut self, row: &AuditRow)
         ensures { self.new ≡ answer (seq_of row.now.entry.command) row.now.answer self.old }
     {
-        self.numbers.answer(seq_of(&row.entry.command), &row.answer);
+        self.numbers
+            .answer(seq_of(row.entry.command.get()), &row.answer);
     }
 }

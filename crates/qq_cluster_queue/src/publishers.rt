@@ -128,7 +128,7 @@ impl Publishers {
         ensures { result ≡ tells_end (ended_by row.now.entry.command)
             (clients_of (standings sessions.now) (numbers_of self.now)) }
     {
-        let Some(session) = ended_by(&row.entry.command) else {
+        let Some(session) = ended_by(row.entry.command.get()) else {
             return false;
         };
         !sessions.is_muted(session)

@@ -91,5 +91,5 @@ pub fn encoded_len(entry: &Entry) -> usize
     ensures len { result ≡ length (encoding entry.now) }
     ensures within { result < 2 ^ 34 }
 {
-    ENTRY_LEN + fields_len(&entry.command)
+    ENTRY_LEN + fields_len(entry.command.get())
 }

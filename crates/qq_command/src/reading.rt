@@ -16,7 +16,7 @@ use crate::lengths::HEAD_LEN;
 use crate::lists::dead_dones_at;
 use crate::refusal::Refusal;
 use qq_base::{DEAD_LETTER, Term};
-use qq_entry::{Command, Entry, LENGTH_LIMIT, MACHINE_VERSION, TERM_LIMIT};
+use qq_entry::{Command, Entry, LENGTH_LIMIT, MACHINE_VERSION, Shared, TERM_LIMIT};
 use qq_fields::{flag_at, u8_at, u32_at, u64_at};
 use std::alloc::Global;
 
@@ -218,7 +218,7 @@ fn entry_at(alloc: Global, bytes: &[u8]) -> Result<(Entry, usize), Refusal>
     let entry = Entry {
         term: Term(term),
         time,
-        command,
+        command: Shared::new(alloc, command)?,
     };
     Ok((entry, HEAD_LEN + length))
 }

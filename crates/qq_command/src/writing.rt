@@ -149,8 +149,8 @@ fn put_payload(out: &mut Vec<u8>, entry: &Entry) -> Result<(), Memory>
     ensures want { IsOkUnless result Memory.Want }
 {
     put_u64(out, entry.time)?;
-    put_u8(out, kind(&entry.command))?;
-    put_fields(out, &entry.command)
+    put_u8(out, kind(entry.command.get()))?;
+    put_fields(out, entry.command.get())
 }
 
 #[tactic(auto, using(qq_fields::proofs::Appends::prefix_rules), unfolding(crate::specs::Encoding::encoding))]

@@ -1,4 +1,5 @@
 use crate::message::{Message, Origin};
+use crate::shared::Shared;
 use qq_base::{ConsumerId, Duplicate, Ids, Items, Memory, QueueIds, SessionId, Term};
 use std::alloc::Global;
 
@@ -143,8 +144,8 @@ pub struct Entry {
     pub term: Term,
     /// The leader's time, in milliseconds.
     pub time: u64,
-    /// What the queue is to do.
-    pub command: Command,
+    /// What the queue is to do, shared by all copies.
+    pub command: Shared<Command>,
 }
 
 /// Entries in the order of a log.

@@ -37,7 +37,7 @@ fn same_number(a: Option<u64>, b: Option<u64>) -> bool
 fn is_answer(command: &Command, after: Index, row: &AuditRow) -> bool
     ensures { result ≡ is_answer command.now after.0 row.now }
 {
-    let other = &row.entry.command;
+    let other = row.entry.command.get();
     after.0 < row.index.0
         && same_giver(command.session(), other.session())
         && same_number(number(command), number(other))

@@ -15,7 +15,7 @@ impl Same for Entry {
     fn is_same(&self, other: &Self) -> bool {
         self.term.0 == other.term.0
             && self.time == other.time
-            && same_command(&self.command, &other.command)
+            && same_command(self.command.get(), other.command.get())
     }
 }
 

@@ -139,5 +139,5 @@ pub fn is_in_range(entry: &Entry) -> bool
 {
     let _term = entry.term.0;
     let _time = entry.time;
-    is_command(&entry.command)
+    is_command(entry.command.get())
 }

@@ -202,7 +202,8 @@ impl Draft {
         ensures base { base_of self.new.queue ≡ base_of self.old.queue }
         ensures want { IsOkUnless result Memory.Want }
     {
-        self.step_by(alloc, args, entry.command.stamp(), index, &entry.command)
+        let command = entry.command.get();
+        self.step_by(alloc, args, command.stamp(), index, command)
     }
 
     /// Applies the next entry, where no number passes its end.

@@ -1,6 +1,7 @@
 mod Commits
 mod Copies
 pub mod Entries
+mod Falls
 mod Fitting
 mod Flushes
 mod Holding

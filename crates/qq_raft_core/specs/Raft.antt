@@ -18,6 +18,7 @@ use Rattle.qq_raft_msg.specs.declared.state.MemberState.{MemberState}
 use Rattle.qq_raft_model.specs.declared.peer.Peer.{Peer}
 use Rattle.qq_raft_model.specs.State.{Server, last}
 use Rattle.qq_raft_core.specs.Ends.{IsSendable}
+use Rattle.qq_raft_core.specs.Rising.{rises}
 use Rattle.qq_raft_core.specs.Undone.{leads_back}
 use Rattle.qq_raft_core.specs.declared.raft.Raft.{Raft}
 
@@ -75,6 +76,7 @@ pub record IsSound {L : Type 0} (log : L → LogState) (r : Raft L) : Type 0 whe
   pub waiting : All IsWaiting r.waiting.items
   pub undos : leads_back r.op r.undos.items (log r.log).entries ≡ true
   pub mark : r.mark ≤ length r.undos.items
+  pub rising : r.rising ≡ true → rises 0 r.term.0 (log r.log).entries ≡ true
 
 -- a number of the server stands at its end
 abbrev pub IsAtEnd : Server → Type 0

@@ -15,6 +15,7 @@ ghost use Rattle.qq_raft_core.specs.Raft.{server_of, lane_of, IsSound, IsCaused,
 
 use crate::fits::{has_indices, has_peer, has_size, is_within};
 use crate::raft::Raft;
+use crate::rising::log_rises;
 use crate::undo::drop_front;
 use qq_base::{Index, Memory, NodeId, QueueId};
 use qq_entry::Command;
@@ -68,6 +69,7 @@ impl<L: LogView> Raft<L> {
     {
         let peers = new_peers(alloc, node, members)?;
         let (op, term, vote) = log.start();
+        let rising = log_rises(&log, term);
         let waiting = VecDeque::new(alloc);
         let ops = VecDeque::new(alloc);
         let out = VecDeque::new(alloc);
@@ -89,6 +91,7 @@ impl<L: LogView> Raft<L> {
             out,
             undos,
             mark: 0,
+            rising,
         })
     }
 

@@ -80,7 +80,8 @@ impl<L: LogView> Raft<L> {
         self.commit
     }
 
-    /// The same, begun where a majority may have the log.
+    /// The same, begun where a majority may have the log. Where terms don't fall and the entry there is of an earlier
+    /// term, so is each one below.
     fn commit_within(&self, above: u64) -> u64
         requires sound { IsSound L.log self.now }
         requires above { above ≡ last (server_of L.log self.now) - self.now.commit }
@@ -89,6 +90,9 @@ impl<L: LogView> Raft<L> {
     {
         let held = self.held();
         let start = above.min(held.saturating_sub(self.commit));
+        if self.is_earlier(self.commit + start) {
+            return self.commit;
+        }
         self.commit_up_to(start)
     }
 

@@ -1,5 +1,5 @@
 //! How a server stands for election, and leads.
-ghost use Rattle.std.specs.Prelude.{◌≡◌, ◌+◌, map, IfErr, OnOk, IsOkUnless};
+ghost use Rattle.std.specs.Prelude.{◌≡◌, ◌+◌, map, IfErr, IfOk, OnOk, IsOkUnless};
 ghost use Rattle.qq_base.specs.declared.memory.TheConstants.{NUMBER_END};
 ghost use Rattle.qq_raft_msg.specs.declared.rpc.Rpc.TheVariants.{Vote};
 ghost use Rattle.qq_raft_model.specs.State.{last, say_all};
@@ -13,7 +13,7 @@ use crate::batch::term_at;
 use crate::peers::{PeerChange, change_peers, granted_count, is_majority};
 use crate::raft::{Raft, no_entries};
 use qq_base::{Index, Memory, NUMBER_END, Term};
-use qq_entry::{Command, Entry, MACHINE_VERSION};
+use qq_entry::{Command, Entry, MACHINE_VERSION, Shared};
 use qq_raft_model::Peer;
 use qq_raft_msg::{LogView, Role, Rpc, VoteMsg};
 use std::alloc::Global;
@@ -76,18 +76,21 @@ impl<L: LogView> Raft<L> {
         Ok(())
     }
 
-    fn noop(&self) -> Entry
+    fn noop(&self, alloc: Global) -> Result<Entry, Memory>
         requires { IsSound L.log self.now }
-        ensures value { result ≡ noop self.now.term }
-        ensures entry { IsInLog result }
+        ensures ok { IfOk result (λ entry. entry ≡ noop self.now.term) }
+        ensures entry { IfOk result IsInLog }
+        ensures want { IsOkUnless result Memory.Want }
     {
-        Entry {
+        let noop = Command::Noop {
+            version: MACHINE_VERSION,
+        };
+        let command = Shared::new(alloc, noop)?;
+        Ok(Entry {
             term: self.term,
             time: 0,
-            command: Command::Noop {
-                version: MACHINE_VERSION,
-            },
-        }
+            command,
+        })
     }
 
     #[tactic(auto, unfolding(qq_raft_model::specs::Leading::lead))]
@@ -98,11 +101,11 @@ impl<L: LogView> Raft<L> {
         ensures before { before L.log self.new ≡ before L.log self.old }
         ensures cause { IfErr result (IsCaused (server_of L.log self.old)) }
     {
+        let noop = self.noop(alloc)?;
         let next = self.last() + 1;
         self.role = Role::Leader;
         self.leader = Some(self.node);
         change_peers(PeerChange::Started { next }, &mut self.peers);
-        let noop = self.noop();
         self.add_entry(alloc, noop)
     }
 

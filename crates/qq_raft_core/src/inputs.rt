@@ -11,7 +11,7 @@ use crate::batch::term_at;
 use crate::peers::{PeerChange, Target, change_peers, greater};
 use crate::raft::{Raft, push_rpc};
 use qq_base::{Duplicate, Memory};
-use qq_entry::{Command, Entry};
+use qq_entry::{Command, Entry, Shared};
 use qq_raft_model::Waiting;
 use qq_raft_msg::{LogView, Role, Rpc};
 use std::alloc::Global;
@@ -88,7 +88,7 @@ impl<L: LogView> Raft<L> {
         Ok(Entry {
             term: self.term,
             time,
-            command: command.copy(alloc)?,
+            command: Shared::new(alloc, command.copy(alloc)?)?,
         })
     }
 

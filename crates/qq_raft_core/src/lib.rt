@@ -14,6 +14,7 @@ mod laws;
 mod peers;
 mod raft;
 mod receiving;
+mod rising;
 mod sending;
 mod undo;
 

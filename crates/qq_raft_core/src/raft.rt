@@ -50,6 +50,8 @@ pub struct Raft<L: LogView> {
     pub(crate) undos: Vec<Undo>,
     /// How many of them there were when the call began that is under way.
     pub(crate) mark: usize,
+    /// Whether it is known that no term of its log falls, and that none is after its own.
+    pub(crate) rising: bool,
 }
 
 /// Copies of a log's entries behind one index, up to another.
@@ -268,6 +270,7 @@ impl<L: LogView> Raft<L> {
         if full {
             return Err(Memory::Spent { number: self.op });
         }
+        let rising = self.still_rises(keep, entries.as_slice(), term);
         let undo = self.undo_of(alloc, keep)?;
         push_undo(&mut self.undos, undo)?;
         self.op += 1;
@@ -276,6 +279,7 @@ impl<L: LogView> Raft<L> {
         push_op(&mut self.ops, change)?;
         self.term = term;
         self.vote = vote;
+        self.rising = rising;
         Ok(())
     }
 

@@ -141,7 +141,7 @@ fn row_words(alloc: Global, row: &AuditRow) -> Result<Vec<u8>, Memory>
     ensures want { IsOkUnless result Memory.Want }
 {
     let mut out = Vec::with_capacity(alloc, LINE_ROOM)?;
-    let command = &row.entry.command;
+    let command = row.entry.command.get();
     push_number(&mut out, row.index.0)?;
     push_numbered(&mut out, " ", row.entry.term.0)?;
     push_text(&mut out, " ")?;

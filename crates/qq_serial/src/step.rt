@@ -189,7 +189,8 @@ pub fn step(
         queue: queue.copy(alloc)?,
         effects: Vec::new(alloc),
     };
-    match draft.step_by(alloc, store, entry.command.stamp(), index, &entry.command) {
+    let command = entry.command.get();
+    match draft.step_by(alloc, store, command.stamp(), index, command) {
         Ok(made) => Ok((draft, made)),
         Err(cause) => {
             drop(draft);

@@ -1,4 +1,5 @@
-use Rattle.std.proofs.Common.{◌∷◌, ◌++◌, ◌+◌, [], ◌∙◌, length, length-append, refl, ap, sym, arith}
+use Rattle.std.proofs.Common.{◌∷◌, ◌++◌, ◌+◌, [], ◌∙◌, length, length-append, take, refl, ap, sym, arith}
+use Rattle.qq_raft_core.specs.Rising.{rises}
 use Rattle.qq_raft_core.specs.Undone.{Before}
 use Rattle.qq_raft_core.proofs.Undoing.{noted_before, same-undos}
 use Rattle.qq_raft_core.proofs.raft.Raft.change.Goals as goal
@@ -68,4 +69,9 @@ returns-clause-sound g c =
       waiting = sound.waiting;
       undos = ap (λ (b : Before). b.leads) (returns-clause-before g c) ∙ sound.undos;
       mark = omega (arith, more, count, mark);
+      rising = λ t. ap (rises 0 c.args.term.0)
+          (c.in_ok-replace_tail.ensures.ok
+          ∙ ap (λ es. take c.args.keep (g.L.LogView.log old.log).entries ++ es)
+          (c.as_slice-2.ensures ∙ sym c.as_slice.ensures))
+          ∙ c.still_rises-rising.ensures t;
     }

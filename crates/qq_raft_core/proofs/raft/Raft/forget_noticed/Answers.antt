@@ -26,4 +26,5 @@ returns-clause-sound g c =
       undos = subst (λ (us : List Undo). leads_back old.op us es ≡ true) (sym c.drop_front.ensures)
           (leads-later _ old.op old.undos.items es c.requires.undos);
       mark = omega arith;
+      rising = c.requires.rising;
     }

@@ -31,4 +31,5 @@ returns-clause-sound g c =
       undos = ap (λ us. leads_back c.start-op.result.0 us (g.L.LogView.log c.args.log).entries) c.new-undos.ensures.items
           ∙ ap (λ b. b && true) (le-leb 0 c.start-op.result.0 (omega arith));
       mark = omega arith;
+      rising = λ t. sym c.log_rises-rising.ensures ∙ t;
     }
