@@ -130,6 +130,15 @@ module _ {D : Type 0} {tells : D → Bool} {past : D → List Disk} (rows : List
         down = λ k lt. own.down k;
       }
 
+  pub sound-each : {faults : D → ℕ} (at : ℕ) (held : Held D) → AreOpened tells past faults rows at old held
+      → All (λ (d : ClusterQueue). AreSound d.group) held.queues.items
+  sound-each at held o =
+      All-from_all_within (λ (d : ClusterQueue). AreSound d.group) held.queues.items
+      (λ i d low high. (let own = get_or held.queues.items i d in
+      let here : slice_get held.queues.items i ≡ Some own = slice_get-get_or held.queues.items i d high in
+      let row = queue-row held.queues.items i own o.queue_count here in
+      (o.queues i row.0 own row.1 here).sound))
+
   -- ---- the next node may be opened
 
   module _ {faults : D → ℕ} (at : ℕ) (held : Held D) (o : AreOpened tells past faults rows at old held) (node : NodeId)
@@ -150,14 +159,6 @@ module _ {D : Type 0} {tells : D → Bool} {past : D → List Disk} (rows : List
 
     next-at : IsNodeAt node held
     next-at = (omega (arith, is), (let many = o.node_count in omega (arith, is, lt, many)))
-
-    sound-each : All (λ (d : ClusterQueue). AreSound d.group) held.queues.items
-    sound-each =
-        All-from_all_within (λ (d : ClusterQueue). AreSound d.group) held.queues.items
-        (λ i d low high. (let own = get_or held.queues.items i d in
-        let here : slice_get held.queues.items i ≡ Some own = slice_get-get_or held.queues.items i d high in
-        let row = queue-row held.queues.items i own o.queue_count here in
-        (o.queues i row.0 own row.1 here).sound))
 
     take-at : (id : QueueId) → In id (ids_on rows node.0) → MayTakeAt node.0 held.queues.items id
     take-at id here =
@@ -187,7 +188,7 @@ module _ {D : Type 0} {tells : D → Bool} {past : D → List Disk} (rows : List
       go_on = record {
         place = next-at;
         within = (omega (arith, is), (let few = few-nodes in omega (arith, is, lt, few)));
-        sound = sound-each;
+        sound = sound-each at held o;
         apart = λ own here. subst AreDistinct (sym (next-still own here).is.queues_are) (apart-on node.0);
         take = λ own here. subst (MayTakeEach node.0 held.queues.items) (sym (next-still own here).is.queues_are)
             (take-each (ids_on rows node.0) take-at);

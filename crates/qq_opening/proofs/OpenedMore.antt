@@ -189,14 +189,19 @@ module _ {D : Type 0} {tells : D → Bool} {past : D → List Disk} {faults : D 
         (was-read (ids_on rows node.0) (seen tells past faults held node.0) (seen tells past faults left node.0)
         (seen tells past faults old node.0) (seen tells past faults left node.0) lanes (sym seen-first) refl disk)))
 
-    pub opened-one : AreOpened tells past faults rows (at + 1) old left
-    opened-one = record {
-      lanes = all_lanes;
-      same = left-same;
-      node_count = left-count;
-      queue_count = many ∙ o.queue_count;
-      left = λ i le. others i (λ e. absurd (omega (arith, e, le))) ∙ o.left i (omega (arith, le));
-      opened = opened-node;
-      queues = queues;
-      disks = disks;
-    }
+    -- with these lanes
+    pub opened-one : (more : AreOpened tells past faults rows (at + 1) old left)
+        × (more.lanes ≡ put (at + 1) lanes o.lanes)
+    opened-one = (
+      record {
+        lanes = all_lanes;
+        same = left-same;
+        node_count = left-count;
+        queue_count = many ∙ o.queue_count;
+        left = λ i le. others i (λ e. absurd (omega (arith, e, le))) ∙ o.left i (omega (arith, le));
+        opened = opened-node;
+        queues = queues;
+        disks = disks;
+      },
+      refl,
+    )

@@ -255,7 +255,8 @@ module _ {D : Type 0} {tells : D → Bool} {past : D → List Disk} {faults : D 
           queues_are = ap (λ (y : Node D). y.queues.items) (rec finds').is ∙ still.queues_are;
         }
 
-    pub opened-up : AreOpened tells past faults rows (at + 1) old left
+    pub opened-up : (more : AreOpened tells past faults rows (at + 1) old left)
+        × (more.lanes ≡ put (at + 1) (Some found_lanes) o.lanes)
     opened-up =
         opened-one rows old new at held o node is lt left own_x (record finds'.turn.new { up = true; empty = false })
         (Some found_lanes) finds'.turn.here left-nodes same-else many own-node queue-each
@@ -348,7 +349,8 @@ module _ {D : Type 0} {tells : D → Bool} {past : D → List Disk} {faults : D 
           queues_are = ap (λ (n : Node D). n.queues.items) fails.is ∙ still.queues_are;
         }
 
-    pub opened-empty : AreOpened tells past faults rows (at + 1) old last
+    pub opened-empty : (more : AreOpened tells past faults rows (at + 1) old last)
+        × (more.lanes ≡ put (at + 1) None o.lanes)
     opened-empty =
         opened-one rows old new at held o node is lt last y z None none.turn.here last-nodes last-same
         (ap (λ (q : Vec ClusterQueue). length q.items) last-queues) empty-node queue-kept disk-failed
