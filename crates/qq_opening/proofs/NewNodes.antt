@@ -1,7 +1,7 @@
 -- Nodes that weren't opened yet, and what may be done with the next of them.
-use Rattle.std.proofs.Common.{◌≡◌, ◌≢◌, ◌<◌, ◌≤◌, ◌+◌, ◌-◌, ℕ, Bool, true, false, List, [], ◌∷◌, Option, Some, None, get_or, length, refl, sym, ap, ◌∙◌, subst, inl, inr, arith}
+use Rattle.std.proofs.Common.{◌≡◌, ◌<◌, ◌≤◌, ◌+◌, ◌-◌, ℕ, Bool, true, List, [], ◌∷◌, Some, None, get_or, length, refl, sym, ap, ◌∙◌, subst, inl, inr, arith}
 use Rattle.std.specs.Prelude.{All, nat_eq, slice_get}
-use Rattle.std.specs.List.{AllByRecursion, range_with_len}
+use Rattle.std.specs.List.{AllByRecursion}
 use Rattle.std.proofs.lemmas.List.Elements.{All-from_all_within}
 use Rattle.std.proofs.lemmas.Option.{get_or_from_slice_get, slice_get-get_or, slice_get_within}
 use Rattle.qq_base.specs.declared.ids.NodeId.{NodeId}
@@ -10,23 +10,21 @@ use Rattle.qq_disk.specs.Disk.{Disk}
 use Rattle.qq_log.specs.declared.limits.TheConstants.{NODE_LIMIT}
 use Rattle.qq_lots.specs.Lots.{ids_of}
 use Rattle.qq_node_log.specs.Found.{AreDistinct}
-use Rattle.qq_node_log.specs.Log.{IsWhole as MayBeLog, disk_in}
-use Rattle.qq_node_log.specs.declared.node_log.NodeLog.{NodeLog}
 use Rattle.qq_node_log.specs.declared.node_log.NodeLog.TheVariants.{Closed}
 use Rattle.qq_raft_model.specs.Group.{has_node}
 use Rattle.qq_raft_protocol.specs.Facts.{In}
 use Rattle.qq_setup.specs.declared.queue_row.QueueRow.{QueueRow}
-use Rattle.qq_cluster.specs.Cluster.{Cluster, Setup, new_cluster}
+use Rattle.qq_cluster.specs.Cluster.{Setup, new_cluster}
 use Rattle.qq_cluster_laws.specs.Linked.{lot_of}
 use Rattle.qq_cluster_queue.specs.Members.{AreSound}
 use Rattle.qq_cluster_queue.specs.declared.cluster_queue.ClusterQueue.{ClusterQueue}
 use Rattle.qq_nodes.specs.Nodes.{IsNodeAt, Stands}
-use Rattle.qq_nodes.specs.Setting.{AreNew, IsNewNode, IsQueueFor, IsRowOf, IsSetupOver, IsWhole, ids_on, is_among}
+use Rattle.qq_nodes.specs.Setting.{AreNew, IsNewNode, IsQueueFor, IsSetupOver, IsWhole, ids_on, is_among}
 use Rattle.qq_nodes.specs.declared.node.Node.{Node}
 use Rattle.qq_nodes.specs.declared.nodes.Nodes.{Nodes as Held}
 use Rattle.qq_nodes.proofs.Begun.{ids-are, item-at, new-stands}
 use Rattle.qq_opening.specs.Opened.{AreOpened, IsOpenedQueue}
-use Rattle.qq_opening.specs.Taking.{MayGoOn, MayStep, MayTakeAt, MayTakeEach, index_of}
+use Rattle.qq_opening.specs.Taking.{MayStep, MayTakeAt, MayTakeEach, index_of}
 use Rattle.qq_opening.proofs.FoundEach.{own-distinct, own-low}
 use Rattle.qq_opening.proofs.RowsOf.{At, id-at, id-row, is-among, row-id}
 

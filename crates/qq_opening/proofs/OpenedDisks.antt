@@ -1,7 +1,7 @@
 -- What recoveries leave of the disks: what was promised is kept, and what was read is what logs hold that the disks promised.
-use Rattle.std.proofs.Common.{◌≡◌, ◌≢◌, ◌⊎◌, ◌<◌, ◌≤◌, ◌+◌, ◌-◌, ℕ, zero, suc, Bool, true, false, List, [], ◌∷◌, Option, Some, None, length, take, refl, sym, ap, ◌∙◌, subst, inl, inr, arith}
+use Rattle.std.proofs.Common.{◌≡◌, ◌≤◌, ◌+◌, ℕ, Bool, true, List, [], ◌∷◌, Option, Some, None, length, take, refl, sym, ap, ◌∙◌, subst, inl, inr, arith}
 use Rattle.std.specs.Prelude.{IsTrue, Ok, slice_get}
-use Rattle.std.specs.List.{AllByRecursion, range_with_len}
+use Rattle.std.specs.List.{range_with_len}
 use Rattle.std.proofs.Math.Seq.{take-length}
 use Rattle.qq_base.proofs.Lists.{AllByRecursion-in, In-filter}
 use Rattle.qq_base.specs.Causes.{Rose}
@@ -13,7 +13,7 @@ use Rattle.qq_log.specs.declared.op.Op.{Op}
 use Rattle.qq_lots.proofs.Counts.{state-count}
 use Rattle.qq_lots.specs.Kept.{KeepsPromised}
 use Rattle.qq_lots.specs.Left.{AllBetween, IsBetween, state_in}
-use Rattle.qq_lots.specs.Lots.{Lot, Part, Parts, ids_of}
+use Rattle.qq_lots.specs.Lots.{Lot, Parts, ids_of}
 use Rattle.qq_node_log.specs.Steps.{AlwaysKeeps}
 use Rattle.qq_raft_model.specs.Group.{Group, Seat, has_node}
 use Rattle.qq_raft_model.specs.Promises.{IsPlain}
@@ -30,13 +30,11 @@ use Rattle.qq_nodes.specs.Nodes.{seen}
 use Rattle.qq_nodes.specs.Setting.{ids_on, is_among}
 use Rattle.qq_nodes.specs.declared.nodes.Nodes.{Nodes as Held}
 use Rattle.qq_nodes.proofs.Begun.{ids-are}
-use Rattle.qq_nodes.proofs.Walks.{all-get}
 use Rattle.qq_opening.specs.Opened.{WasRead}
-use Rattle.qq_opening.specs.Opening.{AreReadLogs, IsSetupWith, Logs, seat_over, state_read, told_of}
+use Rattle.qq_opening.specs.Opening.{AreReadLogs, IsSetupWith, Logs, seat_over, state_read}
 use Rattle.qq_opening.specs.Restarting.{AreLinked}
 use Rattle.qq_opening.proofs.LaneRead.{to-in}
 use Rattle.qq_opening.proofs.RowsOf.{is-among, row-members, row-place}
-use Rattle.qq_opening.proofs.Untouched.{range-below}
 
 -- ---- one disk
 

@@ -1,5 +1,5 @@
 -- All nodes are opened, and the logs of some queue support no audit.
-use Rattle.std.proofs.Common.{◌≡◌, ◌≢◌, ◌⊎◌, ◌<◌, ◌≤◌, ◌+◌, ◌-◌, ℕ, zero, suc, Bool, true, false, List, [], ◌∷◌, ◌++◌, Option, Some, None, length, refl, sym, ap, ◌∙◌, subst, inl, inr, arith, append-nil}
+use Rattle.std.proofs.Common.{◌≡◌, ◌⊎◌, ◌<◌, ◌≤◌, ◌+◌, ◌-◌, ℕ, zero, suc, Bool, true, List, [], ◌∷◌, Option, Some, None, length, refl, sym, ap, ◌∙◌, subst, inl, inr, arith, append-nil}
 use Rattle.std.specs.Prelude.{Contains, is_some, slice_get}
 use Rattle.std.specs.List.{range_with_len}
 use Rattle.std.proofs.lemmas.Bool.{false≢true}
@@ -7,11 +7,10 @@ use Rattle.std.proofs.lemmas.Option.{slice_get_within}
 use Rattle.qq_base.specs.Causes.{Rose}
 use Rattle.qq_base.specs.declared.ids.NodeId.{NodeId}
 use Rattle.qq_base.specs.declared.ids.QueueId.{QueueId}
-use Rattle.qq_base.specs.declared.memory.Memory.{Memory}
 use Rattle.qq_base.specs.declared.memory.Memory.TheVariants.{Spent, Want}
 use Rattle.qq_disk.specs.Disk.{Disk}
 use Rattle.qq_group.specs.Group.{server_at}
-use Rattle.qq_log.specs.Stable.{Stable, stable}
+use Rattle.qq_log.specs.Stable.{stable}
 use Rattle.qq_log.specs.declared.op.Op.{Op}
 use Rattle.qq_lots.proofs.Counts.{state-count}
 use Rattle.qq_lots.specs.Left.{state_in}
@@ -23,20 +22,18 @@ use Rattle.qq_cluster.specs.ClusterLaws.{HasGroups}
 use Rattle.qq_cluster.specs.Laws.{IsBegun}
 use Rattle.qq_cluster_laws.specs.Serves.{Seen}
 use Rattle.qq_cluster_queue.specs.Agreeing.{BeginsWith}
-use Rattle.qq_cluster_queue.specs.Members.{Member}
 use Rattle.qq_cluster_queue.specs.declared.cluster_queue.ClusterQueue.{ClusterQueue}
 use Rattle.qq_nodes.specs.Nodes.{seen}
 use Rattle.qq_nodes.specs.Setting.{AreNew, ids_on, is_among}
-use Rattle.qq_nodes.specs.declared.node.Node.{Node}
 use Rattle.qq_nodes.specs.declared.nodes.Nodes.{Nodes as Held}
 use Rattle.qq_opening.specs.Opened.{AreOpened, Disagrees, IsLostAt, IsOpenedNode, IsOpenedQueue, IsUpWith, OpenedTo, TellsLost}
-use Rattle.qq_opening.specs.Opening.{AreReadLogs, GivesUpOver, HasRead, IsLostOver, IsOpenCaused, IsSetupWith, Logs, MayNotOpen, state_read, told_of}
+use Rattle.qq_opening.specs.Opening.{AreReadLogs, GivesUpOver, IsLostOver, IsOpenCaused, IsSetupWith, Logs, MayNotOpen, state_read, told_of}
 use Rattle.qq_opening.specs.Restarting.{AreLinked, IsOfMemory}
 use Rattle.qq_opening.specs.declared.restarting.RestartFault.{RestartFault}
 use Rattle.qq_opening.specs.declared.restarting.RestartFault.TheVariants as faults_of
 use Rattle.qq_opening.proofs.Agreed.{begun-none, item-of, lost-logs}
 use Rattle.qq_opening.proofs.LostQueues.{contains-node}
-use Rattle.qq_opening.proofs.NewNodes.{own-at, own-id, own-row}
+use Rattle.qq_opening.proofs.NewNodes.{own-at}
 use Rattle.qq_opening.proofs.OpenedAll.{are, read-later, read_logs}
 use Rattle.qq_opening.proofs.OpenedDisks.{Keeps, keeps-give_up, linked-read, same-keeps, was-keeps, was-read_of}
 use Rattle.qq_opening.proofs.OpenedLost.{cases_le}

@@ -1,14 +1,11 @@
 -- A node's log isn't recovered as it is opened, after others were.
-use Rattle.std.proofs.Common.{◌≡◌, ◌≢◌, ◌<◌, ◌≤◌, ◌+◌, ◌-◌, ℕ, Bool, true, List, [], ◌∷◌, ◌++◌, Option, Some, None, length, refl, sym, ap, ◌∙◌, subst, inl, inr, arith}
+use Rattle.std.proofs.Common.{◌≡◌, ◌≢◌, ◌<◌, ◌+◌, ◌-◌, ℕ, Bool, true, List, [], ◌∷◌, ◌++◌, Some, length, refl, sym, ap, ◌∙◌, subst, inl, inr, arith}
 use Rattle.std.specs.Prelude.{Err, IsTrue, slice_get}
 use Rattle.std.specs.List.{range_with_len}
-use Rattle.qq_base.specs.Causes.{Rose}
 use Rattle.qq_base.specs.declared.ids.NodeId.{NodeId}
 use Rattle.qq_base.specs.declared.ids.QueueId.{QueueId}
-use Rattle.qq_base.specs.declared.memory.Memory.{Memory}
 use Rattle.qq_base.specs.declared.memory.Memory.TheVariants.{Spent, Want}
 use Rattle.qq_disk.specs.Disk.{Disk, now}
-use Rattle.qq_lots.specs.Lots.{ids_of}
 use Rattle.qq_lots.specs.Left.{state_in}
 use Rattle.qq_node_log.specs.Log.{disk_in}
 use Rattle.qq_node_log.specs.declared.node_log.NodeLog.TheVariants.{Closed}
@@ -34,14 +31,14 @@ use Rattle.qq_nodes.proofs.Begun.{ids-are, new-stands}
 use Rattle.qq_nodes.proofs.OwnStands.{seen-others, seen-own, set-here}
 use Rattle.qq_nodes.proofs.Total.{Allowed, total-each, total-then}
 use Rattle.qq_opening.specs.Opened.{AreOpened, IsOfOpsState, WasRead}
-use Rattle.qq_opening.specs.Opening.{GivesUpOver, HoldLogs, IsOpenCaused, IsReadAs, IsRefusedOver, IsSetupWith, Logs, MayNotOpen, StopsBefore, all_of}
+use Rattle.qq_opening.specs.Opening.{GivesUpOver, HoldLogs, IsOpenCaused, IsReadAs, IsRefusedOver, IsSetupWith, Logs, MayNotOpen, StopsBefore}
 use Rattle.qq_opening.specs.Restarting.{AreLinked, IsOfMemory}
 use Rattle.qq_opening.specs.Taking.{FailsToRecover, FindsNone, IsFaultOf, MayNotStep}
 use Rattle.qq_opening.specs.declared.restarting.RestartFault.{RestartFault}
 use Rattle.qq_opening.specs.declared.restarting.RestartFault.TheVariants as faults_of
 use Rattle.qq_opening.proofs.NewNodes.{next-still, next-was}
 use Rattle.qq_opening.proofs.Opened.{Opens, total-opens}
-use Rattle.qq_opening.proofs.OpenedDisks.{Keeps, was-read_of}
+use Rattle.qq_opening.proofs.OpenedDisks.{Keeps}
 use Rattle.qq_opening.proofs.OpenedLost.{all-give_up, back-opens, before-read, range-split, read-as}
 use Rattle.qq_opening.proofs.OpenedMore.{seen-same}
 use Rattle.qq_opening.proofs.ReadLogs.{logs-come, logs_read, read-logs}

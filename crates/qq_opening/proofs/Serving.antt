@@ -1,5 +1,5 @@
 -- What was served, so that its events compute.
-use Rattle.std.proofs.Common.{◌≡◌, ℕ, List, [], refl, sym, append-nil, arith}
+use Rattle.std.proofs.Common.{ℕ, List, [], refl, sym, append-nil, arith}
 use Rattle.std.proofs.lemmas.Bool.{false≢true}
 use Rattle.qq_cluster.specs.Cluster.{Cluster, ClusterEvent, Setup}
 use Rattle.qq_cluster_laws.specs.Serves.{Seen, Serves}

@@ -2,7 +2,7 @@ use Rattle.std.proofs.Common.{arith, subst, sym}
 use Rattle.qq_cluster_queue.specs.Members.{AreSound}
 use Rattle.qq_cluster_queue.specs.declared.cluster_queue.ClusterQueue.{ClusterQueue}
 use Rattle.qq_nodes.proofs.Items.{item-here}
-use Rattle.qq_opening.proofs.Agreed.{agree-all, agree-next, agree-none, disagree-at}
+use Rattle.qq_opening.proofs.Agreed.{agree-all, agree-next, agree-none}
 use Rattle.qq_opening.proofs.agreeing.first_lost.Goals as goal
 
 pub queues-init : goal.queues-init

@@ -1,4 +1,4 @@
-use Rattle.std.proofs.Common.{arith, refl, subst}
+use Rattle.std.proofs.Common.{arith, refl}
 use Rattle.qq_opening.proofs.OpenedLoop.{loop-all, loop-here, loop-may, loop-more, loop-none}
 use Rattle.qq_opening.proofs.OpenedNone.{step-stops}
 use Rattle.qq_opening.proofs.opening.open_each.Goals as goal
