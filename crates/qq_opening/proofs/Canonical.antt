@@ -65,7 +65,8 @@ ops-come : (id : QueueId) (n : ℕ) (term : Term) (vote : Option NodeId) (entrie
 ops-come id zero term vote entries unused = ap (λ (s : Stable). Some s) (sym (unused refl))
 ops-come id (suc n) term vote entries unused =
     stable-more (idles id n) (Change id (n + 1) term vote (record { 0 = 0 }) entries)
-    ∙ ap (λ (o : Option Stable). then_apply o (Change id (n + 1) term vote (record { 0 = 0 }) entries)) (idles-come id n)
+    ∙ ap (λ (o : Option Stable). then_apply o (Change id (n + 1) term vote (record { 0 = 0 }) entries))
+    (idles-come id n)
     ∙ changed id n term vote entries
     ∙ ap (λ (m : ℕ). Some (plain_state m term vote entries)) (let e : n + 1 ≡ suc n = omega arith in e)
 

@@ -61,7 +61,8 @@ lane-of_ops id lanes lane is of_ops = by (lanes id.0) lane is of_ops
           base = sym is.1.state.base ∙ of.base;
           segments = sym (ap (filter (λ (span : Span). span.segment)) (sym is.1.places) ∙ is.1.state.segments);
           known = sym is.1.state.entries
-              ∙ ap (λ (l : List Entry). map Some l) (sym (ap known_entries (sym is.1.state.entries) ∙ known-all l.entries));
+              ∙ ap (λ (l : List Entry). map Some l)
+              (sym (ap known_entries (sym is.1.state.entries) ∙ known-all l.entries));
           unused = λ none. sym same ∙ of.unused (is.1.state.op ∙ none);
         }
     by None (Some l) is of = absurd is

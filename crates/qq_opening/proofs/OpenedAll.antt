@@ -226,7 +226,8 @@ module _ {D : Type 0} {tells : D → Bool} {past : D → List Disk} {faults : D 
           spending =
               serves-both setup (new_cluster setup) (RestartedTo n some setup (new_cluster setup))
               (Begins (Opens setup) c) Spending (Stands tells past setup held) (Stands tells past setup e.mid)
-              (seen tells past faults old) (seen tells past faults held) (seen tells past faults e.mid) before middle said s
+              (seen tells past faults old) (seen tells past faults held)
+              (seen tells past faults e.mid) before middle said s
               (serves-from middle e.serves) (
                 record {
                   rest = rest;

@@ -1,4 +1,5 @@
--- What recoveries leave of the disks: what was promised is kept, and what was read is what logs hold that the disks promised.
+-- What recoveries leave of the disks: what was promised is kept, and what was read is what logs hold that the disks
+-- promised.
 use Rattle.std.proofs.Common.{◌≡◌, ◌≤◌, ◌+◌, ℕ, Bool, true, List, [], ◌∷◌, Option, Some, None, length, take, refl, sym, ap, ◌∙◌, subst, inl, inr, arith}
 use Rattle.std.specs.Prelude.{IsTrue, Ok, slice_get}
 use Rattle.std.specs.List.{range_with_len}
@@ -110,7 +111,8 @@ begun-state g k ops s begun seat is = by (begun.opened.down.plain k (length ops)
 
 -- ---- the disks of a cluster
 
-module _ {D : Type 0} (tells : D → Bool) (past : D → List Disk) (faults : D → ℕ) (rows : List QueueRow) (old left : Held D)
+module _ {D : Type 0} (tells : D → Bool) (past : D → List Disk) (faults : D → ℕ) (rows : List QueueRow)
+    (old left : Held D)
     (logs : Logs) (setup : Setup) (sw : IsSetupWith setup rows (length old.nodes.items) logs) where
   ids-same : (k : ℕ) → ids_on rows k ≡ ids_of (lot_of setup k)
   ids-same k = ids-are setup rows sw.places sw.each k
@@ -124,7 +126,8 @@ module _ {D : Type 0} (tells : D → Bool) (past : D → List Disk) (faults : D 
     told = λ k. (each k).told;
     rises = λ k. (each k).rises;
     moments = λ k here tell linked.
-        (let kept = (each k).keeps tell (lot_of setup k) (parts_at (new_cluster setup) k) (ids-same k) linked.promised in
+        (let kept = (each k).keeps tell (lot_of setup k) (parts_at (new_cluster setup) k)
+        (ids-same k) linked.promised in
         (linked.promised, kept.0, kept.1));
   }
 
@@ -155,7 +158,8 @@ module _ {D : Type 0} (tells : D → Bool) (past : D → List Disk) (faults : D 
     read-at k i row None here read there member =
         ap stable (none k here read (i + 1) (row-place rows setup sw.places sw.ids sw.each i row there))
     read-at k i row (Some lanes) here read there member =
-        whole ∙ ap (λ (s : Stable). Some s) (λ j. record (state_in lanes row.args.queue) { snapshot = plain.snapshot j })
+        whole ∙ ap (λ (s : Stable). Some s)
+        (λ j. record (state_in lanes row.args.queue) { snapshot = plain.snapshot j })
       where
         place : In (i + 1) setup.places
         place = row-place rows setup sw.places sw.ids sw.each i row there
@@ -206,7 +210,8 @@ module _ {D : Type 0} (tells : D → Bool) (past : D → List Disk) (faults : D 
             ∙ between.is
 
         plain : IsStateOf (state_in lanes row.args.queue)
-        plain = begun-state (setup.group (i + 1)) k (logs (i + 1) k) (state_in lanes row.args.queue) (groups (i + 1)) seat whole
+        plain = begun-state (setup.group (i + 1)) k (logs (i + 1) k) (state_in lanes row.args.queue)
+            (groups (i + 1)) seat whole
 
     pub linked-read : (n : ℕ) (lanes : ℕ → Option Lanes)
         → ((k : ℕ) → In k (range_with_len 1 n) → In k setup.nodes

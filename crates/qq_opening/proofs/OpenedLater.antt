@@ -68,7 +68,8 @@ module _ {D : Type 0} {tells : D → Bool} {past : D → List Disk} {faults : D 
     where
       by : (suc j ≤ n) ⊎ (n < suc j) → Keeps (ids_on rows (suc j)) (a (suc j)) (b (suc j))
       by (inl within) =
-          was-keeps (ids_on rows (suc j)) (a (suc j)) (b (suc j)) (o.lanes (suc j)) (o.disks (suc j) (omega arith) within)
+          was-keeps (ids_on rows (suc j)) (a (suc j)) (b (suc j)) (o.lanes (suc j))
+          (o.disks (suc j) (omega arith) within)
       by (inr past_end) =
           same-keeps (ids_on rows (suc j)) (a (suc j)) (b (suc j))
           (seen-same tells past faults old held (suc j) (omega arith) (o.left (suc j - 1) (omega (arith, past_end))))
@@ -156,7 +157,8 @@ module _ {D : Type 0} {tells : D → Bool} {past : D → List Disk} {faults : D 
     begun-with : BeginsWith (λ (k : ℕ). read_logs rows old new some held before middle to (at + 1) k) d
     begun-with =
         q.begins (λ (k : ℕ). read_logs rows old new some held before middle to (at + 1) k)
-        (λ k first last member. are rows old new some held before middle to k at row (in-first n k first last) here member)
+        (λ k first last member. are rows old new some held before middle to k at row
+        (in-first n k first last) here member)
 
     is-up : is_some (server_at node.0 d.group) ≡ true
     is-up =
@@ -189,7 +191,8 @@ module _ {D : Type 0} {tells : D → Bool} {past : D → List Disk} {faults : D 
         (λ k first last member. ap (λ (p : ℕ). stable (logs p k)) (sym lost.place)
         ∙ fits k (in-first n k first last) member
         ∙ ap (λ (id : QueueId). Some (state_read (o.lanes k) id)) (sym own.0)) d q
-        (λ k other. begun-none row (setup.group (at + 1)) k (logs (at + 1) k) own-begun (sw.each at row here).down.nodes_is
+        (λ k other. begun-none row (setup.group (at + 1)) k (logs (at + 1) k) own-begun
+        (sw.each at row here).down.nodes_is
         (sw.seats (at + 1) k) other)
         (disagrees d there) own-begun
 
@@ -210,7 +213,8 @@ module _ {D : Type 0} {tells : D → Bool} {past : D → List Disk} {faults : D 
       };
       own = l;
       own_is = read-some.1;
-      found_is = lost.found_is d (λ (k : ℕ). read_logs rows old new some held before middle to (at + 1) k) there begun-with
+      found_is = lost.found_is d (λ (k : ℕ). read_logs rows old new some held before middle to
+          (at + 1) k) there begun-with
           is-up
           ∙ sym (state-count (read_logs rows old new some held before middle to (at + 1) node.0)
           (told_of (state_in l queue)) comes-to);

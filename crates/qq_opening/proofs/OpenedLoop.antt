@@ -67,7 +67,8 @@ module _ {D : Type 0} {tells : D → Bool} {past : D → List Disk} {faults : D 
         → slice_get left.nodes.items at ≡ Some (record step.found.turn.new { up = true; empty = false })
     went-up left step =
         ap (slice_get left.nodes.items) (sym index)
-        ∙ ap (λ (l : List (Node D)). slice_get l (node.0 - 1)) (left-nodes rows old new at held to.opened node is lt left step)
+        ∙ ap (λ (l : List (Node D)). slice_get l (node.0 - 1))
+        (left-nodes rows old new at held to.opened node is lt left step)
         ∙ set-here tells past faults node.0 held.nodes.items step.found.turn.old
         (record step.found.turn.new { up = true; empty = false }) step.found.turn.here
 
@@ -115,7 +116,8 @@ module _ {D : Type 0} {tells : D → Bool} {past : D → List Disk} {faults : D 
         let there = stayed-down left none in
         absurd (false≢true (sym there.1 ∙ up none.turn.new there.0))
     loop-more left last false more later (inr (none, says)) (marked, same, down) more_is =
-        more-opened last None more later (opened-empty rows old new at held to.opened node is lt left none last marked same)
+        more-opened last None more later
+        (opened-empty rows old new at held to.opened node is lt left none last marked same)
         (λ logs setup sw groups own are.
         serves-down rows old new at held to.opened node is lt logs setup sw groups some before middle
         (to.serves logs setup sw groups own (earlier None logs are)) left none last marked same own are later says

@@ -100,7 +100,8 @@ module _ {D : Type 0} {tells : D → Bool} {past : D → List Disk} {faults : D 
       (ap (slice_get held.nodes.items) index ∙ o.left at (omega arith) ∙ ap (slice_get old.nodes.items) (sym index))
 
   -- the nodes so far, and this one
-  module _ (left : Held D) (others : (j : ℕ) → (j ≢ node.0) → seen tells past faults left j ≡ seen tells past faults held j)
+  module _ (left : Held D) (others : (j : ℕ) → (j ≢ node.0)
+      → seen tells past faults left j ≡ seen tells past faults held j)
       (own : Keeps (ids_on rows node.0) (seen tells past faults held node.0) (seen tells past faults left node.0)) where
     abbrev b : ℕ → Seen
     b = seen tells past faults left
@@ -146,7 +147,8 @@ module _ {D : Type 0} {tells : D → Bool} {past : D → List Disk} {faults : D 
 
     -- ---- of this one it is known what was read
 
-    module _ (lanes : Option Lanes) (read : IsReadOf (ids_on rows node.0) (seen tells past faults held node.0) (b node.0) lanes)
+    module _ (lanes : Option Lanes) (read : IsReadOf (ids_on rows node.0) (seen tells past faults held node.0)
+        (b node.0) lanes)
       where
         abbrev pub with_own : ℕ → Option Lanes
         with_own = put (at + 1) lanes o.lanes
@@ -222,7 +224,8 @@ module _ {D : Type 0} {tells : D → Bool} {past : D → List Disk} {faults : D 
         → P (seen_of tells past faults (disk_in rec.own)) (seen_of tells past faults rec.found.wal.disk)
         → P (seen tells past faults held node.0) (seen tells past faults left node.0)
     as-seen P own =
-        subst (λ (s : Seen). P s (seen tells past faults left node.0)) (sym (seen-x rows old new at held o node is lt finds))
+        subst (λ (s : Seen). P s (seen tells past faults left node.0))
+        (sym (seen-x rows old new at held o node is lt finds))
         (subst (λ (s : Seen). P (seen_of tells past faults (disk_in rec.own)) s) (sym seen-back) own)
 
     back-keeps : Keeps ids (seen tells past faults held node.0) (seen tells past faults left node.0)
@@ -236,7 +239,8 @@ module _ {D : Type 0} {tells : D → Bool} {past : D → List Disk} {faults : D 
           ));
     })
 
-    back-read : IsReadOf ids (seen tells past faults held node.0) (seen tells past faults left node.0) (Some found_lanes)
+    back-read : IsReadOf ids (seen tells past faults held node.0) (seen tells past faults left node.0)
+        (Some found_lanes)
     back-read = as-seen (λ s t. IsReadOf ids s t (Some found_lanes)) (
       (λ tell. ap (λ (l : List QueueId). lanes_read l (shown (now (past (disk_in rec.own))))) (sym x-ids)
           ∙ rec.has.read tell),
@@ -256,9 +260,11 @@ module _ {D : Type 0} {tells : D → Bool} {past : D → List Disk} {faults : D 
         ap (λ (l : List (Node D)). slice_get l (node.0 - 1)) finds.turn.is
         ∙ set-here tells past faults node.0 held.nodes.items x finds.turn.new finds.turn.here in
         let queues : back.stays.own.queues.items ≡ ids =
-        ap (λ (y : Node D). y.queues.items) (some-node back.stays.own finds.turn.new (sym back.stays.here ∙ there) ∙ rec.is)
+        ap (λ (y : Node D). y.queues.items)
+        (some-node back.stays.own finds.turn.new (sym back.stays.here ∙ there) ∙ rec.is)
         ∙ x-ids in
-        subst (λ (l : List QueueId). IsTakeEachCaused node.0 AsFound (pairs l finds.lanes) held.queues.items fault) queues
+        subst (λ (l : List QueueId). IsTakeEachCaused node.0 AsFound
+        (pairs l finds.lanes) held.queues.items fault) queues
         back.stays.cause
 
     module _ (queue : QueueId) (noticed found : ℕ)

@@ -100,7 +100,8 @@ module _ {D : Type 0} {tells : D → Bool} {past : D → List Disk} {faults : D 
       (own : IsOpenedNode rows node.0 lanes z)
       (queues : (i : ℕ) (row : QueueRow) (d : ClusterQueue) → slice_get rows i ≡ Some row
       → slice_get left.queues.items i ≡ Some d → IsOpenedQueue row (put (at + 1) lanes o.lanes) (at + 1) d)
-      (disk : WasRead (ids_on rows node.0) (seen tells past faults held node.0) (seen tells past faults left node.0) lanes)
+      (disk : WasRead (ids_on rows node.0) (seen tells past faults held node.0)
+      (seen tells past faults left node.0) lanes)
     where
       abbrev all_lanes : ℕ → Option Lanes
       all_lanes = put (at + 1) lanes o.lanes
@@ -151,7 +152,8 @@ module _ {D : Type 0} {tells : D → Bool} {past : D → List Disk} {faults : D 
       disks : (k : ℕ) → 0 < k → k ≤ at + 1
           → WasRead (ids_on rows k) (seen tells past faults old k) (seen tells past faults left k) (all_lanes k)
       disks k some le =
-          one-more (λ j. WasRead (ids_on rows j) (seen tells past faults old j) (seen tells past faults left j) (all_lanes j))
+          one-more (λ j. WasRead (ids_on rows j) (seen tells past faults old j) (seen tells past faults left j)
+          (all_lanes j))
           at k le
           (λ before. more-lanes (λ j l. WasRead (ids_on rows j) (seen tells past faults old j)
           (seen tells past faults left j) l) (at + 1) lanes o.lanes k (λ e. absurd (omega (arith, e, before)))
@@ -160,7 +162,8 @@ module _ {D : Type 0} {tells : D → Bool} {past : D → List Disk} {faults : D 
           (seen-other k (λ e. absurd (omega (arith, e, is, before)))) (o.disks k some before)))
           (subst (λ (l : Option Lanes). WasRead (ids_on rows (at + 1)) (seen tells past faults old (at + 1))
           (seen tells past faults left (at + 1)) l) (sym (put-same (at + 1) lanes o.lanes))
-          (subst (λ (j : ℕ). WasRead (ids_on rows j) (seen tells past faults old j) (seen tells past faults left j) lanes)
+          (subst (λ (j : ℕ). WasRead (ids_on rows j) (seen tells past faults old j)
+          (seen tells past faults left j) lanes)
           is
           (was-read (ids_on rows node.0) (seen tells past faults held node.0) (seen tells past faults left node.0)
           (seen tells past faults old node.0) (seen tells past faults left node.0) lanes (sym seen-first) refl disk)))

@@ -73,7 +73,8 @@ row-in rows k i row here member =
 
 module _ {D : Type 0} {tells : D → Bool} {past : D → List Disk} {faults : D → ℕ} (rows : List QueueRow) (old : Held D)
     (at : ℕ) (held : Held D) (o : AreOpened tells past faults rows at old held) where
-  pub of-ops : (k : ℕ) (l : Lanes) (id : QueueId) → In k (range_with_len 1 at) → o.lanes k ≡ Some l → In id (ids_on rows k)
+  pub of-ops : (k : ℕ) (l : Lanes) (id : QueueId) → In k (range_with_len 1 at) → o.lanes k ≡ Some l
+      → In id (ids_on rows k)
       → IsOfOpsState (state_in l id)
   of-ops k l id here read among =
       let within = range-below 1 at k here in
@@ -140,7 +141,8 @@ module _ {D : Type 0} {tells : D → Bool} {past : D → List Disk} {faults : D 
   none-keeps : Keeps (ids_on rows node.0) (seen tells past faults held node.0) (seen tells past faults left node.0)
   none-keeps =
       subst (λ (s : Seen). Keeps (ids_on rows node.0) s (seen tells past faults left node.0)) (sym seen-y)
-      (subst (λ (s : Seen). Keeps (ids_on rows node.0) (seen_of tells past faults (disk_in fails.own)) s) (sym seen-left)
+      (subst (λ (s : Seen). Keeps (ids_on rows node.0) (seen_of tells past faults (disk_in fails.own)) s)
+      (sym seen-left)
       (record {
         told = fails.disk.told;
         rises = fails.disk.later;
@@ -239,11 +241,13 @@ pub none-opens : {D : Type 0} {tells : D → Bool} {past : D → List Disk} {fau
     (lt : at < length old.nodes.items) (left : Held D) (cause : RecoverFault) (fault : RestartFault)
     → FindsNone tells past faults node held left cause → IsFaultOf node cause fault
     → MayNotOpen tells past faults rows old left fault
-none-opens {tells = tells} {past = past} {faults = faults} rows old new at held o node is lt left recover_faults.Disk fault none told =
+none-opens {tells = tells} {past = past} {faults = faults} rows old new at held o node is lt left recover_faults.Disk
+    fault none told =
     subst (MayNotOpen tells past faults rows old left) (sym told)
     (refuses rows old new at held o node is lt left recover_faults.Disk none (faults_of.Memory Want) tt
     (λ logs setup sw linked. tt))
-none-opens {tells = tells} {past = past} {faults = faults} rows old new at held o node is lt left (recover_faults.Damaged file place) fault none told =
+none-opens {tells = tells} {past = past} {faults = faults} rows old new at held o node is lt left
+    (recover_faults.Damaged file place) fault none told =
     subst (MayNotOpen tells past faults rows old left) (sym told)
     (refuses rows old new at held o node is lt left (recover_faults.Damaged file place) none
     (faults_of.Damaged node file place)
@@ -252,7 +256,8 @@ none-opens {tells = tells} {past = past} {faults = faults} rows old new at held 
     (reads-as rows old new at held o node is lt left (recover_faults.Damaged file place) none))
     (λ logs setup sw linked. absurd (none-refused rows old new at held o node is lt left
     (recover_faults.Damaged file place) none logs setup sw linked)))
-none-opens {tells = tells} {past = past} {faults = faults} rows old new at held o node is lt left (recover_faults.Version file byte) fault none told =
+none-opens {tells = tells} {past = past} {faults = faults} rows old new at held o node is lt left
+    (recover_faults.Version file byte) fault none told =
     subst (MayNotOpen tells past faults rows old left) (sym told)
     (refuses rows old new at held o node is lt left (recover_faults.Version file byte) none
     (faults_of.Version node file byte)
@@ -261,11 +266,13 @@ none-opens {tells = tells} {past = past} {faults = faults} rows old new at held 
     (reads-as rows old new at held o node is lt left (recover_faults.Version file byte) none))
     (λ logs setup sw linked. absurd (none-refused rows old new at held o node is lt left
     (recover_faults.Version file byte) none logs setup sw linked)))
-none-opens {tells = tells} {past = past} {faults = faults} rows old new at held o node is lt left (recover_faults.Memory Want) fault none told =
+none-opens {tells = tells} {past = past} {faults = faults} rows old new at held o node is lt left
+    (recover_faults.Memory Want) fault none told =
     subst (MayNotOpen tells past faults rows old left) (sym told)
     (refuses rows old new at held o node is lt left (recover_faults.Memory Want) none (faults_of.Memory Want) tt
     (λ logs setup sw linked. tt))
-none-opens {tells = tells} {past = past} {faults = faults} rows old new at held o node is lt left (recover_faults.Memory (Spent number)) fault none told =
+none-opens {tells = tells} {past = past} {faults = faults} rows old new at held o node is lt left
+    (recover_faults.Memory (Spent number)) fault none told =
     subst (MayNotOpen tells past faults rows old left) (sym told)
     (refuses rows old new at held o node is lt left (recover_faults.Memory (Spent number)) none
     (faults_of.Memory (Spent number))
