@@ -1,14 +1,11 @@
 -- A node's log isn't recovered as it is opened, after others were.
-use Rattle.std.proofs.Common.{◌≡◌, ◌≢◌, ◌<◌, ◌≤◌, ◌+◌, ◌-◌, ℕ, Bool, true, List, [], ◌∷◌, ◌++◌, Option, Some, None, length, refl, sym, ap, ◌∙◌, subst, inl, inr, arith}
+use Rattle.std.proofs.Common.{◌≡◌, ◌≢◌, ◌<◌, ◌+◌, ◌-◌, ℕ, Bool, true, List, [], ◌∷◌, ◌++◌, Some, length, refl, sym, ap, ◌∙◌, subst, inl, inr, arith}
 use Rattle.std.specs.Prelude.{Err, IsTrue, slice_get}
 use Rattle.std.specs.List.{range_with_len}
-use Rattle.qq_base.specs.Causes.{Rose}
 use Rattle.qq_base.specs.declared.ids.NodeId.{NodeId}
 use Rattle.qq_base.specs.declared.ids.QueueId.{QueueId}
-use Rattle.qq_base.specs.declared.memory.Memory.{Memory}
 use Rattle.qq_base.specs.declared.memory.Memory.TheVariants.{Spent, Want}
 use Rattle.qq_disk.specs.Disk.{Disk, now}
-use Rattle.qq_lots.specs.Lots.{ids_of}
 use Rattle.qq_lots.specs.Left.{state_in}
 use Rattle.qq_node_log.specs.Log.{disk_in}
 use Rattle.qq_node_log.specs.declared.node_log.NodeLog.TheVariants.{Closed}
@@ -34,14 +31,14 @@ use Rattle.qq_nodes.proofs.Begun.{ids-are, new-stands}
 use Rattle.qq_nodes.proofs.OwnStands.{seen-others, seen-own, set-here}
 use Rattle.qq_nodes.proofs.Total.{Allowed, total-each, total-then}
 use Rattle.qq_opening.specs.Opened.{AreOpened, IsOfOpsState, WasRead}
-use Rattle.qq_opening.specs.Opening.{GivesUpOver, HoldLogs, IsOpenCaused, IsReadAs, IsRefusedOver, IsSetupWith, Logs, MayNotOpen, StopsBefore, all_of}
+use Rattle.qq_opening.specs.Opening.{GivesUpOver, HoldLogs, IsOpenCaused, IsReadAs, IsRefusedOver, IsSetupWith, Logs, MayNotOpen, StopsBefore}
 use Rattle.qq_opening.specs.Restarting.{AreLinked, IsOfMemory}
 use Rattle.qq_opening.specs.Taking.{FailsToRecover, FindsNone, IsFaultOf, MayNotStep}
 use Rattle.qq_opening.specs.declared.restarting.RestartFault.{RestartFault}
 use Rattle.qq_opening.specs.declared.restarting.RestartFault.TheVariants as faults_of
 use Rattle.qq_opening.proofs.NewNodes.{next-still, next-was}
 use Rattle.qq_opening.proofs.Opened.{Opens, total-opens}
-use Rattle.qq_opening.proofs.OpenedDisks.{Keeps, was-read_of}
+use Rattle.qq_opening.proofs.OpenedDisks.{Keeps}
 use Rattle.qq_opening.proofs.OpenedLost.{all-give_up, back-opens, before-read, range-split, read-as}
 use Rattle.qq_opening.proofs.OpenedMore.{seen-same}
 use Rattle.qq_opening.proofs.ReadLogs.{logs-come, logs_read, read-logs}
@@ -76,7 +73,8 @@ row-in rows k i row here member =
 
 module _ {D : Type 0} {tells : D → Bool} {past : D → List Disk} {faults : D → ℕ} (rows : List QueueRow) (old : Held D)
     (at : ℕ) (held : Held D) (o : AreOpened tells past faults rows at old held) where
-  pub of-ops : (k : ℕ) (l : Lanes) (id : QueueId) → In k (range_with_len 1 at) → o.lanes k ≡ Some l → In id (ids_on rows k)
+  pub of-ops : (k : ℕ) (l : Lanes) (id : QueueId) → In k (range_with_len 1 at) → o.lanes k ≡ Some l
+      → In id (ids_on rows k)
       → IsOfOpsState (state_in l id)
   of-ops k l id here read among =
       let within = range-below 1 at k here in
@@ -143,7 +141,8 @@ module _ {D : Type 0} {tells : D → Bool} {past : D → List Disk} {faults : D 
   none-keeps : Keeps (ids_on rows node.0) (seen tells past faults held node.0) (seen tells past faults left node.0)
   none-keeps =
       subst (λ (s : Seen). Keeps (ids_on rows node.0) s (seen tells past faults left node.0)) (sym seen-y)
-      (subst (λ (s : Seen). Keeps (ids_on rows node.0) (seen_of tells past faults (disk_in fails.own)) s) (sym seen-left)
+      (subst (λ (s : Seen). Keeps (ids_on rows node.0) (seen_of tells past faults (disk_in fails.own)) s)
+      (sym seen-left)
       (record {
         told = fails.disk.told;
         rises = fails.disk.later;
@@ -242,11 +241,13 @@ pub none-opens : {D : Type 0} {tells : D → Bool} {past : D → List Disk} {fau
     (lt : at < length old.nodes.items) (left : Held D) (cause : RecoverFault) (fault : RestartFault)
     → FindsNone tells past faults node held left cause → IsFaultOf node cause fault
     → MayNotOpen tells past faults rows old left fault
-none-opens {tells = tells} {past = past} {faults = faults} rows old new at held o node is lt left recover_faults.Disk fault none told =
+none-opens {tells = tells} {past = past} {faults = faults} rows old new at held o node is lt left recover_faults.Disk
+    fault none told =
     subst (MayNotOpen tells past faults rows old left) (sym told)
     (refuses rows old new at held o node is lt left recover_faults.Disk none (faults_of.Memory Want) tt
     (λ logs setup sw linked. tt))
-none-opens {tells = tells} {past = past} {faults = faults} rows old new at held o node is lt left (recover_faults.Damaged file place) fault none told =
+none-opens {tells = tells} {past = past} {faults = faults} rows old new at held o node is lt left
+    (recover_faults.Damaged file place) fault none told =
     subst (MayNotOpen tells past faults rows old left) (sym told)
     (refuses rows old new at held o node is lt left (recover_faults.Damaged file place) none
     (faults_of.Damaged node file place)
@@ -255,7 +256,8 @@ none-opens {tells = tells} {past = past} {faults = faults} rows old new at held 
     (reads-as rows old new at held o node is lt left (recover_faults.Damaged file place) none))
     (λ logs setup sw linked. absurd (none-refused rows old new at held o node is lt left
     (recover_faults.Damaged file place) none logs setup sw linked)))
-none-opens {tells = tells} {past = past} {faults = faults} rows old new at held o node is lt left (recover_faults.Version file byte) fault none told =
+none-opens {tells = tells} {past = past} {faults = faults} rows old new at held o node is lt left
+    (recover_faults.Version file byte) fault none told =
     subst (MayNotOpen tells past faults rows old left) (sym told)
     (refuses rows old new at held o node is lt left (recover_faults.Version file byte) none
     (faults_of.Version node file byte)
@@ -264,11 +266,13 @@ none-opens {tells = tells} {past = past} {faults = faults} rows old new at held 
     (reads-as rows old new at held o node is lt left (recover_faults.Version file byte) none))
     (λ logs setup sw linked. absurd (none-refused rows old new at held o node is lt left
     (recover_faults.Version file byte) none logs setup sw linked)))
-none-opens {tells = tells} {past = past} {faults = faults} rows old new at held o node is lt left (recover_faults.Memory Want) fault none told =
+none-opens {tells = tells} {past = past} {faults = faults} rows old new at held o node is lt left
+    (recover_faults.Memory Want) fault none told =
     subst (MayNotOpen tells past faults rows old left) (sym told)
     (refuses rows old new at held o node is lt left (recover_faults.Memory Want) none (faults_of.Memory Want) tt
     (λ logs setup sw linked. tt))
-none-opens {tells = tells} {past = past} {faults = faults} rows old new at held o node is lt left (recover_faults.Memory (Spent number)) fault none told =
+none-opens {tells = tells} {past = past} {faults = faults} rows old new at held o node is lt left
+    (recover_faults.Memory (Spent number)) fault none told =
     subst (MayNotOpen tells past faults rows old left) (sym told)
     (refuses rows old new at held o node is lt left (recover_faults.Memory (Spent number)) none
     (faults_of.Memory (Spent number))

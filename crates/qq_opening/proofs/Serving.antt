@@ -1,12 +1,13 @@
 -- What was served, so that its events compute.
-use Rattle.std.proofs.Common.{◌≡◌, ℕ, List, [], refl, sym, append-nil, arith}
+use Rattle.std.proofs.Common.{ℕ, List, [], refl, sym, append-nil, arith}
 use Rattle.std.proofs.lemmas.Bool.{false≢true}
 use Rattle.qq_cluster.specs.Cluster.{Cluster, ClusterEvent, Setup}
 use Rattle.qq_cluster_laws.specs.Serves.{Seen, Serves}
 use Rattle.qq_cluster_laws.proofs.Traces.{traced-none}
 
 -- nothing has happened
-abbrev pub serves-none : (setup : Setup) (c : Cluster) (Allowed : List ClusterEvent → Type 0) (Stands : Cluster → Type 0)
+abbrev pub serves-none : (setup : Setup) (c : Cluster) (Allowed : List ClusterEvent → Type 0)
+    (Stands : Cluster → Type 0)
     (a : ℕ → Seen) (text : List ℕ) → Allowed [] → Stands c → Serves setup c Allowed Stands a a text text
 serves-none setup c Allowed Stands a text allowed stands = record {
   did = record {
