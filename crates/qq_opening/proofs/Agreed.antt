@@ -1,23 +1,23 @@
 -- Whether the logs that were read of a queue support an audit, by what its members went on with.
-use Rattle.std.proofs.Common.{◌≡◌, ◌⊎◌, ◌<◌, ◌≤◌, ◌+◌, ◌-◌, ℕ, zero, suc, Bool, true, false, ◌||◌, List, [], ◌∷◌, Option, Some, None, length, map, refl, sym, ap, ◌∙◌, subst, inl, inr, arith}
+use Rattle.std.proofs.Common.{◌≡◌, ◌<◌, ◌≤◌, ◌+◌, ◌-◌, ℕ, zero, suc, Bool, true, false, ◌||◌, List, [], ◌∷◌, Option, Some, None, get_or, length, refl, sym, ap, ◌∙◌, subst, inl, inr, arith}
 use Rattle.std.specs.Prelude.{All, is_some, nat_eq, slice_get}
 use Rattle.std.specs.List.{AllByRecursion, range_with_len}
-use Rattle.std.proofs.lemmas.Bool.{cases_Bool, eq-eqb, eqb-true, false≢true, or_right}
-use Rattle.std.proofs.lemmas.Option.{get_or_from_slice_get, slice_get_within}
+use Rattle.std.proofs.lemmas.Bool.{cases_Bool, cases_eq, eq-eqb, eqb-true, false≢true, or_right}
+use Rattle.std.proofs.lemmas.List.Elements.{All-from_all_within}
+use Rattle.std.proofs.lemmas.Option.{get_or_from_slice_get, slice_get-get_or, slice_get_within}
 use Rattle.qq_base.specs.declared.ids.NodeId.{NodeId}
-use Rattle.qq_entry.specs.declared.command.Entry.{Entry}
 use Rattle.qq_entry.specs.declared.queue.QueueArgs.{QueueArgs}
 use Rattle.qq_group.specs.Group.{server_at}
 use Rattle.qq_group.specs.Opening.{IsAllDown}
-use Rattle.qq_log.specs.Stable.{Stable, new_state, stable}
+use Rattle.qq_log.specs.Stable.{stable}
 use Rattle.qq_log.specs.declared.op.Op.{Op}
-use Rattle.qq_raft_model.specs.Group.{Group, Seat, has_node}
-use Rattle.qq_raft_model.specs.Promises.{AreDistinct, IsOpened, members_of}
+use Rattle.qq_raft_model.specs.Group.{Group, Seat}
+use Rattle.qq_raft_model.specs.Promises.{AreDistinct, members_of}
 use Rattle.qq_raft_protocol.specs.Facts.{In}
 use Rattle.qq_raft_protocol.proofs.Lists.{In-cases}
 use Rattle.qq_setup.specs.declared.queue_row.QueueRow.{QueueRow}
 use Rattle.qq_wal_chain.specs.Lanes.{Lanes}
-use Rattle.qq_cluster.specs.Cluster.{Setup, members}
+use Rattle.qq_cluster.specs.Cluster.{Setup}
 use Rattle.qq_cluster.specs.ClusterLaws.{HasGroups}
 use Rattle.qq_cluster.specs.Laws.{IsBegun}
 use Rattle.qq_cluster_queue.specs.Agreeing.{BeginsWith, HasItsLogs}
@@ -182,3 +182,31 @@ module _ (rows : List QueueRow) (count : ℕ) (lanes : ℕ → Option Lanes) (lo
         (row-begun (place - 1) (omega (arith, low, high))))
     | inr away ↦ sw.others place away
   ]
+
+-- ---- the queues, one after the other
+
+some-queue : (a b : ClusterQueue) → Some a ≡ Some b → a ≡ b
+some-queue a b e = cc
+
+-- the first so many agree
+abbrev pub AgreeBelow : ℕ → List ClusterQueue → Type 0
+AgreeBelow at queues = (i : ℕ) (d : ClusterQueue) → i < at → slice_get queues i ≡ Some d → Agrees d
+
+pub agree-none : (queues : List ClusterQueue) → AgreeBelow 0 queues
+agree-none queues i d lt here = absurd (omega (arith, lt))
+
+pub agree-next : (at : ℕ) (queues : List ClusterQueue) (own : ClusterQueue) → slice_get queues at ≡ Some own
+    → Agrees own → AgreeBelow at queues → AgreeBelow (at + 1) queues
+agree-next at queues own here agrees below i d lt there = elim (cases_eq i at) [
+  | inl same ↦ subst Agrees (some-queue own d (sym here ∙ ap (slice_get queues) (sym same) ∙ there)) agrees
+  | inr other ↦ below i d (omega (arith, lt, other)) there
+]
+
+pub agree-all : (at : ℕ) (queues : List ClusterQueue) → length queues ≤ at → AgreeBelow at queues → All Agrees queues
+agree-all at queues le below =
+    All-from_all_within Agrees queues
+    (λ i d low high. below i (get_or queues i d) (omega (arith, high, le)) (slice_get-get_or queues i d high))
+
+pub disagree-at : (at : ℕ) (queues : List ClusterQueue) (own : ClusterQueue) → slice_get queues at ≡ Some own
+    → Disagrees own → (d : ClusterQueue) → slice_get queues at ≡ Some d → Disagrees d
+disagree-at at queues own here disagrees d there = subst Disagrees (some-queue own d (sym here ∙ there)) disagrees

@@ -1,14 +1,13 @@
 -- Ops that come to a state: changes that do nothing, and one that has it all.
-use Rattle.std.proofs.Common.{◌≡◌, ◌+◌, ◌-◌, ℕ, zero, suc, Bool, true, false, cond, eqb, List, [], ◌∷◌, ◌++◌, Option, Some, None, length, map, take, refl, sym, ap, ◌∙◌, subst, arith}
-use Rattle.std.specs.Prelude.{nat_le, slice_get}
+use Rattle.std.proofs.Common.{◌≡◌, ◌+◌, ℕ, zero, suc, true, eqb, List, [], ◌∷◌, ◌++◌, Option, Some, None, refl, sym, ap, ◌∙◌, arith}
 use Rattle.std.specs.List.{AllByRecursion}
-use Rattle.std.proofs.lemmas.Bool.{and_from, cond-true, eq-eqb, le-leb}
+use Rattle.std.proofs.lemmas.Bool.{cond-true, eq-eqb}
 use Rattle.qq_base.proofs.Lists.{AllByRecursion-append}
 use Rattle.qq_base.specs.declared.ids.NodeId.{NodeId}
 use Rattle.qq_base.specs.declared.ids.QueueId.{QueueId}
 use Rattle.qq_base.specs.declared.ids.Term.{Term}
 use Rattle.qq_entry.specs.declared.command.Entry.{Entry}
-use Rattle.qq_log.specs.Stable.{Stable, act, apply_op, change, known_entries, last_index, may_keep, new_state, no_snapshot, stable, then_apply}
+use Rattle.qq_log.specs.Stable.{Stable, act, apply_op, change, known_entries, may_keep, new_state, stable, then_apply}
 use Rattle.qq_log.specs.declared.op.Op.{Op}
 use Rattle.qq_log.specs.declared.op.Op.TheVariants.{Change}
 use Rattle.qq_raft_model.specs.Handing.{plain_state}
@@ -66,7 +65,8 @@ ops-come : (id : QueueId) (n : ℕ) (term : Term) (vote : Option NodeId) (entrie
 ops-come id zero term vote entries unused = ap (λ (s : Stable). Some s) (sym (unused refl))
 ops-come id (suc n) term vote entries unused =
     stable-more (idles id n) (Change id (n + 1) term vote (record { 0 = 0 }) entries)
-    ∙ ap (λ (o : Option Stable). then_apply o (Change id (n + 1) term vote (record { 0 = 0 }) entries)) (idles-come id n)
+    ∙ ap (λ (o : Option Stable). then_apply o (Change id (n + 1) term vote (record { 0 = 0 }) entries))
+    (idles-come id n)
     ∙ changed id n term vote entries
     ∙ ap (λ (m : ℕ). Some (plain_state m term vote entries)) (let e : n + 1 ≡ suc n = omega arith in e)
 

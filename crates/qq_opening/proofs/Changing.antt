@@ -1,5 +1,5 @@
 -- Items of a list that change, one after the other.
-use Rattle.std.proofs.Common.{◌≡◌, ◌≢◌, ◌⊎◌, ◌<◌, ◌+◌, ℕ, zero, suc, List, [], ◌∷◌, ◌++◌, Some, length, refl, sym, ap, ◌∙◌, subst, inl, inr, arith}
+use Rattle.std.proofs.Common.{◌≡◌, ◌≢◌, ◌⊎◌, ℕ, zero, suc, List, [], ◌∷◌, ◌++◌, Some, length, refl, sym, ap, ◌∙◌, subst, inl, inr, arith}
 use Rattle.std.specs.Prelude.{slice_get, slice_set}
 use Rattle.qq_raft_protocol.specs.Facts.{In}
 use Rattle.qq_opening.specs.Taking.{AllChange, ChangesAt}
@@ -67,7 +67,8 @@ module _ {A Q : Type 0} (at : A → ℕ) (Does : A → Q → Q → Type 0) where
           ⊎ ((i ≢ at x) × (slice_get olds i ≡ Some later.old))
       back = changed-at x olds mid i later.old first later.was
 
-      by : ((y : A) × In y xs × (at y ≡ i) × Does y later.old d) ⊎ (((y : A) → In y xs → at y ≡ i → ⊥) × (d ≡ later.old))
+      by : ((y : A) × In y xs × (at y ≡ i) × Does y later.old d) ⊎
+          (((y : A) → In y xs → at y ≡ i → ⊥) × (d ≡ later.old))
           → Became at Does (x ∷ xs) olds i d
       by (inl own) = elim back [
         | inl same ↦ absurd (apart own.0 own.1 (own.2 ∙ same.0))
@@ -116,7 +117,8 @@ module _ {A Q : Type 0} (at : A → ℕ) (Does : A → Q → Q → Type 0) where
       became : Became at Does xs olds i d
       became = all-became xs olds news i d apart all is
 
-      by : ((y : A) × In y xs × (at y ≡ i) × Does y became.old d) ⊎ (((y : A) → In y xs → at y ≡ i → ⊥) × (d ≡ became.old))
+      by : ((y : A) × In y xs × (at y ≡ i) × Does y became.old d) ⊎
+          (((y : A) → In y xs → at y ≡ i → ⊥) × (d ≡ became.old))
           → slice_get olds i ≡ Some d
       by (inl own) = absurd (none own.0 own.1 own.2)
       by (inr same) = became.was ∙ ap Some (sym same.1)

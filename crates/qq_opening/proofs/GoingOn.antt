@@ -1,5 +1,5 @@
 -- The members on a node that is down may go on, and so the node does.
-use Rattle.std.proofs.Common.{◌≡◌, ◌≢◌, ◌<◌, ◌+◌, ◌-◌, ℕ, Bool, true, false, List, [], ◌∷◌, Option, Some, None, get_or, length, map, refl, sym, ap, ◌∙◌, subst, inl, inr, arith}
+use Rattle.std.proofs.Common.{◌≡◌, ◌≢◌, ◌<◌, ◌+◌, ◌-◌, ℕ, Bool, true, false, List, [], ◌∷◌, Option, Some, None, length, map, refl, sym, ap, ◌∙◌, subst, inl, inr, arith}
 use Rattle.std.specs.Prelude.{IfSome, filter, is_some, slice_get, slice_set}
 use Rattle.std.specs.List.{AllByRecursion}
 use Rattle.std.proofs.lemmas.Bool.{cond_both, false≢true}
@@ -10,7 +10,6 @@ use Rattle.qq_disk.specs.Disk.{Disk}
 use Rattle.qq_log.specs.Log.{LogState}
 use Rattle.qq_log.specs.declared.lane.Lane.{Lane}
 use Rattle.qq_raft_model.specs.Group.{Group as GroupState, Seat as SeatState, has_node}
-use Rattle.qq_raft_msg.specs.Rpc.{IsNode}
 use Rattle.qq_raft_protocol.specs.Facts.{In}
 use Rattle.qq_raft_queues.specs.declared.machine_queue.MachineQueue.{MachineQueue}
 use Rattle.qq_group.specs.Group.{IsSeat, IsSeatBy, Represents, server_at, server_by}

@@ -1,5 +1,5 @@
 -- A lane that ops may come to is what was read of its queue.
-use Rattle.std.proofs.Common.{◌≡◌, ℕ, Bool, true, List, [], ◌∷◌, Option, Some, None, map, unwrap_or, refl, sym, ap, ◌∙◌, subst, inl, inr}
+use Rattle.std.proofs.Common.{◌≡◌, ℕ, List, [], ◌∷◌, Option, Some, None, map, unwrap_or, refl, sym, ap, ◌∙◌, subst, inl, inr}
 use Rattle.std.specs.Prelude.{filter}
 use Rattle.qq_base.proofs.Lists.{In as InList}
 use Rattle.qq_base.specs.declared.ids.QueueId.{QueueId}
@@ -8,7 +8,6 @@ use Rattle.qq_log.specs.Stable.{Stable, known_entries, new_state, no_snapshot}
 use Rattle.qq_log.specs.declared.head.Span.{Span}
 use Rattle.qq_log.specs.declared.lane.Lane.{Lane}
 use Rattle.qq_lots.specs.Left.{state_in}
-use Rattle.qq_node_log.specs.Found.{AreLanes}
 use Rattle.qq_raft_model.specs.Handing.{plain_state}
 use Rattle.qq_raft_model.proofs.Handing.{known-all}
 use Rattle.qq_raft_protocol.specs.Facts.{In}
@@ -18,9 +17,8 @@ use Rattle.qq_wal_chain.specs.Lanes.{Lanes}
 use Rattle.qq_cluster_queue.specs.declared.cluster_queue.ClusterQueue.{ClusterQueue}
 use Rattle.qq_opening.specs.Opened.{IsOfOpsState}
 use Rattle.qq_opening.specs.Opening.{told_of}
-use Rattle.qq_opening.specs.Taking.{AllChange, IsOfOps, TakesUpOne, lane_base, lane_state, pair_index, pairs}
+use Rattle.qq_opening.specs.Taking.{AllChange, IsOfOps, TakesUpOne, lane_base, lane_state, pair_index}
 use Rattle.qq_opening.specs.declared.taking.Handed.{Handed}
-use Rattle.qq_opening.proofs.FoundLanes.{pair-of}
 
 told-lane : (s : Stable) (lane : Lane) → IsPlainLaneOf s lane → lane.base ≡ no_snapshot
     → plain_state lane.op lane.term lane.vote lane.entries ≡ told_of s
@@ -63,7 +61,8 @@ lane-of_ops id lanes lane is of_ops = by (lanes id.0) lane is of_ops
           base = sym is.1.state.base ∙ of.base;
           segments = sym (ap (filter (λ (span : Span). span.segment)) (sym is.1.places) ∙ is.1.state.segments);
           known = sym is.1.state.entries
-              ∙ ap (λ (l : List Entry). map Some l) (sym (ap known_entries (sym is.1.state.entries) ∙ known-all l.entries));
+              ∙ ap (λ (l : List Entry). map Some l)
+              (sym (ap known_entries (sym is.1.state.entries) ∙ known-all l.entries));
           unused = λ none. sym same ∙ of.unused (is.1.state.op ∙ none);
         }
     by None (Some l) is of = absurd is
@@ -94,9 +93,12 @@ pub all-taken : (k : ℕ) (handed : Handed) (xs : List (QueueId × Option Lane))
     → AllChange pair_index (TakesUpOne k handed) xs olds news → (y : QueueId × Option Lane) → In y xs
     → (a : ClusterQueue) × (b : ClusterQueue) × TakesUpOne k handed y a b
 all-taken k handed [] olds news all y here = absurd here
-all-taken k handed (x ∷ xs) olds news (mid, first, rest) y (inl same) =
-    (first.old, first.new, subst (λ (z : QueueId × Option Lane). TakesUpOne k handed z first.old first.new) (sym same)
-    first.does)
+all-taken k handed (x ∷ xs) olds news (mid, first, rest) y (inl same) = (
+  first.old,
+  first.new,
+  subst (λ (z : QueueId × Option Lane). TakesUpOne k handed z first.old first.new) (sym same)
+      first.does,
+)
 all-taken k handed (x ∷ xs) olds news (mid, first, rest) y (inr later) = all-taken k handed xs mid news rest y later
 
 pub to-in : {A : Type 0} (x : A) (xs : List A) → In x xs → InList x xs

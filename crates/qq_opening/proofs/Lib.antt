@@ -1,3 +1,4 @@
+pub mod Serving
 pub mod Changing
 pub mod Recovering
 pub mod RestartRules

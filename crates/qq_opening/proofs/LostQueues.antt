@@ -99,192 +99,192 @@ lost-to false k lane d noticed found lost = lost
 
 module _ {D : Type 0} {tells : D → Bool} {past : D → List Disk} {faults : D → ℕ} (node : NodeId) (old : Held D)
     (at : IsNodeAt node old) (finds : FindsLanes tells past faults node old) where
-    abbrev k : ℕ
-    k = node.0
+  abbrev k : ℕ
+  k = node.0
 
-    abbrev mid : Held D
-    mid = record old { nodes = finds.nodes }
+  abbrev mid : Held D
+  mid = record old { nodes = finds.nodes }
 
-    abbrev found : List (Option Lane)
-    found = finds.lanes
+  abbrev found : List (Option Lane)
+  found = finds.lanes
 
-    abbrev turn : NodeTurns (λ (x y : Node D). Recovers tells past faults old.log_bytes x y found) (node.0 - 1)
-        old.nodes.items finds.nodes.items
-    turn = finds.turn
+  abbrev turn : NodeTurns (λ (x y : Node D). Recovers tells past faults old.log_bytes x y found) (node.0 - 1)
+      old.nodes.items finds.nodes.items
+  turn = finds.turn
 
-    abbrev rec : Recovers tells past faults old.log_bytes turn.old turn.new found
-    rec = turn.turns
+  abbrev rec : Recovers tells past faults old.log_bytes turn.old turn.new found
+  rec = turn.turns
 
-    abbrev handed : Handed
-    handed = handed_of false turn.old.empty
+  abbrev handed : Handed
+  handed = handed_of false turn.old.empty
 
-    -- ---- what is given up
+  -- ---- what is given up
 
-    gives-up : (new : Held D) → new.nodes ≡ finds.nodes → (setup : Setup) (c : Cluster) → IsReached setup c
-        → Stands tells past setup old c → GivesUp setup c (seen tells past faults old) (seen tells past faults new)
-    gives-up new same setup c r st =
-        disk-gives_up setup c k [] old new turn.old turn.new rec.own (Open rec.found.wal) tt at.0 turn.here
-        (ap (λ (v : Vec (Node D)). v.items) same ∙ turn.is) rec.was (ap (λ (y : Node D). y.log) rec.is)
-        (same-disk node old at finds setup c st)
-        (λ told linked. broken-none setup c k (past (disk_in rec.own)) (past rec.found.wal.disk) linked.promised
-        (settles node old at finds setup c st told linked).stays)
+  gives-up : (new : Held D) → new.nodes ≡ finds.nodes → (setup : Setup) (c : Cluster) → IsReached setup c
+      → Stands tells past setup old c → GivesUp setup c (seen tells past faults old) (seen tells past faults new)
+  gives-up new same setup c r st =
+      disk-gives_up setup c k [] old new turn.old turn.new rec.own (Open rec.found.wal) tt at.0 turn.here
+      (ap (λ (v : Vec (Node D)). v.items) same ∙ turn.is) rec.was (ap (λ (y : Node D). y.log) rec.is)
+      (same-disk node old at finds setup c st)
+      (λ told linked. broken-none setup c k (past (disk_in rec.own)) (past rec.found.wal.disk) linked.promised
+      (settles node old at finds setup c st told linked).stays)
 
-    module _ (setup : Setup) (c : Cluster) (r : IsReached setup c) (st : Stands tells past setup old c)
-        (down : c.up k ≡ false) where
-      was : IsNodeOf tells past setup c k turn.old
-      was = node-was setup c old k turn.old st at.0 turn.here
+  module _ (setup : Setup) (c : Cluster) (r : IsReached setup c) (st : Stands tells past setup old c)
+      (down : c.up k ≡ false) where
+    was : IsNodeOf tells past setup c k turn.old
+    was = node-was setup c old k turn.old st at.0 turn.here
 
-      seen-is : seen tells past faults old k ≡ seen_of tells past faults (disk_in rec.own)
-      seen-is =
-          seen-before setup c k [] old mid turn.old turn.new rec.own (Open rec.found.wal) tt at.0 turn.here turn.is
-          rec.was
-          (ap (λ (y : Node D). y.log) rec.is) (same-disk node old at finds setup c st)
+    seen-is : seen tells past faults old k ≡ seen_of tells past faults (disk_in rec.own)
+    seen-is =
+        seen-before setup c k [] old mid turn.old turn.new rec.own (Open rec.found.wal) tt at.0 turn.here turn.is
+        rec.was
+        (ap (λ (y : Node D). y.log) rec.is) (same-disk node old at finds setup c st)
 
-      abbrev own_pairs : List (QueueId × Option Lane)
-      own_pairs = pairs turn.old.queues.items found
+    abbrev own_pairs : List (QueueId × Option Lane)
+    own_pairs = pairs turn.old.queues.items found
 
-      -- what is said of the log's queues
-      module _ (queue : QueueId) (noticed many : ℕ)
-          (lost : IsLostAmong k handed own_pairs old.queues.items queue noticed many) where
-        abbrev lot_pairs : List (QueueId × Option Lane)
-        lot_pairs = pairs (ids_of (lot_of setup k)) found
+    -- what is said of the log's queues
+    module _ (queue : QueueId) (noticed many : ℕ)
+        (lost : IsLostAmong k handed own_pairs old.queues.items queue noticed many) where
+      abbrev lot_pairs : List (QueueId × Option Lane)
+      lot_pairs = pairs (ids_of (lot_of setup k)) found
 
-        are-split : lot_pairs ≡ lost.before ++ (queue, lost.lane) ∷ lost.behind
-        are-split = ap (λ (ids : List QueueId). pairs ids found) (sym was.queues_are) ∙ lost.are
+      are-split : lot_pairs ≡ lost.before ++ (queue, lost.lane) ∷ lost.behind
+      are-split = ap (λ (ids : List QueueId). pairs ids found) (sym was.queues_are) ∙ lost.are
 
-        lost-own : IsLostTo k handed lost.lane lost.own noticed many
-        lost-own = lost-to turn.old.empty k lost.lane lost.own noticed many lost.lost
+      lost-own : IsLostTo k handed lost.lane lost.own noticed many
+      lost-own = lost-to turn.old.empty k lost.lane lost.own noticed many lost.lost
 
-        has-lane : HasLane (ids_of (lot_of setup k)) rec.has.lanes (queue, lost.lane)
-        has-lane =
-            pair-has (queue, lost.lane) (ids_of (lot_of setup k)) rec.has.lanes found
-            (found-lanes node old at finds setup c st)
-            (subst (In (queue, lost.lane)) (sym are-split) (in-middle (queue, lost.lane) lost.before lost.behind))
+      has-lane : HasLane (ids_of (lot_of setup k)) rec.has.lanes (queue, lost.lane)
+      has-lane =
+          pair-has (queue, lost.lane) (ids_of (lot_of setup k)) rec.has.lanes found
+          (found-lanes node old at finds setup c st)
+          (subst (In (queue, lost.lane)) (sym are-split) (in-middle (queue, lost.lane) lost.before lost.behind))
 
-        own-place : (place : ℕ) × IsAtPlace setup k queue place
-        own-place = at-place setup c k old st queue has-lane.among
+      own-place : (place : ℕ) × IsAtPlace setup k queue place
+      own-place = at-place setup c k old st queue has-lane.among
 
-        -- it stands at its number
-        own-at : IsAtPlace setup k queue queue.0
-        own-at = subst (IsAtPlace setup k queue) (sym own-place.1.number) own-place.1
+      -- it stands at its number
+      own-at : IsAtPlace setup k queue queue.0
+      own-at = subst (IsAtPlace setup k queue) (sym own-place.1.number) own-place.1
 
-        -- none before it has changed it
-        own-here : slice_get old.queues.items (index_of queue) ≡ Some lost.own
-        own-here =
-            let apart = apart-front pair_index lost.before (queue, lost.lane) lost.behind
-            (subst (AreApart pair_index) are-split
-            (own-apart setup c k old st rec.has.lanes found
-            (found-lanes node old at finds setup c st))) in
-            all-others pair_index (TakesUpOne k handed) lost.before old.queues.items lost.mids
-            (index_of queue)
-            lost.own apart.0 lost.changed apart.1 lost.here
+      -- none before it has changed it
+      own-here : slice_get old.queues.items (index_of queue) ≡ Some lost.own
+      own-here =
+          let apart = apart-front pair_index lost.before (queue, lost.lane) lost.behind
+          (subst (AreApart pair_index) are-split
+          (own-apart setup c k old st rec.has.lanes found
+          (found-lanes node old at finds setup c st))) in
+          all-others pair_index (TakesUpOne k handed) lost.before old.queues.items lost.mids
+          (index_of queue)
+          lost.own apart.0 lost.changed apart.1 lost.here
 
-        own-queue : IsQueueOf setup (standings old.sessions) c queue.0 lost.own
-        own-queue = queue-of setup c k old st queue queue.0 lost.own own-at own-here
+      own-queue : IsQueueOf setup (standings old.sessions) c queue.0 lost.own
+      own-queue = queue-of setup c k old st queue queue.0 lost.own own-at own-here
 
-        abbrev state : Stable
-        state = state_in rec.has.lanes queue
+      abbrev state : Stable
+      state = state_in rec.has.lanes queue
 
-        -- its member may not go on with what was found
-        refused : MayTakeUp k (c.queue queue.0) state → ⊥
-        refused may =
-            let none : HasNone state =
-            come-to_none (setup.args queue.0).queue ((c.queue queue.0).group.seat k).ops state.op state
-            (own-changes setup c k old st r queue.0) may.1 in
-            let told : lane_state lost.lane ≡ state = lane-told queue rec.has.lanes lost.lane has-lane.is none in
-            lost-own.refused (standings old.sessions) (c.queue queue.0) own-queue.stands
-            (known-seat setup c k old st turn.old r was queue.0 lost.lane)
-            (lane-none queue rec.has.lanes lost.lane has-lane.is none)
-            (subst (MayTakeUp k (c.queue queue.0)) (sym told) may)
+      -- its member may not go on with what was found
+      refused : MayTakeUp k (c.queue queue.0) state → ⊥
+      refused may =
+          let none : HasNone state =
+          come-to_none (setup.args queue.0).queue ((c.queue queue.0).group.seat k).ops state.op state
+          (own-changes setup c k old st r queue.0) may.1 in
+          let told : lane_state lost.lane ≡ state = lane-told queue rec.has.lanes lost.lane has-lane.is none in
+          lost-own.refused (standings old.sessions) (c.queue queue.0) own-queue.stands
+          (known-seat setup c k old st turn.old r was queue.0 lost.lane)
+          (lane-none queue rec.has.lanes lost.lane has-lane.is none)
+          (subst (MayTakeUp k (c.queue queue.0)) (sym told) may)
 
-        lost-at : IsLostAt tells past faults setup old c node queue noticed many
-        lost-at = record {
-          among = contains-in queue.0 setup.places own-at.here;
-          member = contains-node node (members setup queue.0) own-at.member;
-          state = state;
-          read = subst (λ (s : Seen). IsTrue s.tells → (lanes : Lanes)
-              × (lanes_read (ids_of (lot_of setup k)) (shown (now s.past)) ≡ Ok lanes) × (state ≡ state_in lanes queue))
-              (sym seen-is)
-              (λ told. (
-                rec.has.lanes,
-                read-then node old at finds setup c st told,
-                refl,
-              ));
-          refused = refused;
-          noticed_is = lost-own.noticed_is (standings old.sessions) (c.queue queue.0) own-queue.stands
-              (known-seat setup c k old st turn.old r was queue.0 lost.lane);
-          found_is = lost-own.found_is ∙ lane-op queue rec.has.lanes lost.lane has-lane.is;
-        }
+      lost-at : IsLostAt tells past faults setup old c node queue noticed many
+      lost-at = record {
+        among = contains-in queue.0 setup.places own-at.here;
+        member = contains-node node (members setup queue.0) own-at.member;
+        state = state;
+        read = subst (λ (s : Seen). IsTrue s.tells → (lanes : Lanes)
+            × (lanes_read (ids_of (lot_of setup k)) (shown (now s.past)) ≡ Ok lanes) × (state ≡ state_in lanes queue))
+            (sym seen-is)
+            (λ told. (
+              rec.has.lanes,
+              read-then node old at finds setup c st told,
+              refl,
+            ));
+        refused = refused;
+        noticed_is = lost-own.noticed_is (standings old.sessions) (c.queue queue.0) own-queue.stands
+            (known-seat setup c k old st turn.old r was queue.0 lost.lane);
+        found_is = lost-own.found_is ∙ lane-op queue rec.has.lanes lost.lane has-lane.is;
+      }
 
-        -- and it may with what a disk that was linked keeps
-        never-lost : IsTrue (seen tells past faults old k).tells
-            → IsLinked setup c k (now (seen tells past faults old k).past) → ⊥
-        never-lost =
-            subst (λ (s : Seen). IsTrue s.tells → IsLinked setup c k (now s.past) → ⊥) (sym seen-is)
-            (λ told linked. (let s = settles node old at finds setup c st told linked in
-            let here : InList queue.0 (lot_of setup k).places =
-            to-lot setup c k old st queue.0 own-at.here own-at.member in
-            let takes : TakesUpAt k (ops_found (lot_of setup k) rec.has.lanes queue.0) (c.queue queue.0) =
-            AllByRecursion-in (λ (p : ℕ). TakesUpAt k (ops_found (lot_of setup k) rec.has.lanes p) (c.queue p)) queue.0
-            (lot_of setup k).places
-            (all-take_up setup c k st.set_up.groups r rec.has.lanes down was.members s.between) here in
-            let between : IsBetween (parts_at c k queue.0) (state_in rec.has.lanes (setup.args queue.0).queue) =
-            AllByRecursion-in (λ (p : ℕ). IsBetween (parts_at c k p) (state_in rec.has.lanes (setup.args p).queue))
-            queue.0
-            (lot_of setup k).places s.between here in
-            refused (subst (λ (id : QueueId). MayTakeUp k (c.queue queue.0) (state_in rec.has.lanes id))
-            (sym own-at.id_is) (takes.may, between.is))))
+      -- and it may with what a disk that was linked keeps
+      never-lost : IsTrue (seen tells past faults old k).tells
+          → IsLinked setup c k (now (seen tells past faults old k).past) → ⊥
+      never-lost =
+          subst (λ (s : Seen). IsTrue s.tells → IsLinked setup c k (now s.past) → ⊥) (sym seen-is)
+          (λ told linked. (let s = settles node old at finds setup c st told linked in
+          let here : InList queue.0 (lot_of setup k).places =
+          to-lot setup c k old st queue.0 own-at.here own-at.member in
+          let takes : TakesUpAt k (ops_found (lot_of setup k) rec.has.lanes queue.0) (c.queue queue.0) =
+          AllByRecursion-in (λ (p : ℕ). TakesUpAt k (ops_found (lot_of setup k) rec.has.lanes p) (c.queue p)) queue.0
+          (lot_of setup k).places
+          (all-take_up setup c k st.set_up.groups r rec.has.lanes down was.members s.between) here in
+          let between : IsBetween (parts_at c k queue.0) (state_in rec.has.lanes (setup.args queue.0).queue) =
+          AllByRecursion-in (λ (p : ℕ). IsBetween (parts_at c k p) (state_in rec.has.lanes (setup.args p).queue))
+          queue.0
+          (lot_of setup k).places s.between here in
+          refused (subst (λ (id : QueueId). MayTakeUp k (c.queue queue.0) (state_in rec.has.lanes id))
+          (sym own-at.id_is) (takes.may, between.is))))
 
-      abbrev Caused : RestartFault → Type 0
-      Caused fault = IsTakeEachCaused k handed own_pairs old.queues.items fault
+    abbrev Caused : RestartFault → Type 0
+    Caused fault = IsTakeEachCaused k handed own_pairs old.queues.items fault
 
-      is-refused : (before : List ℕ) (fault : RestartFault) → Caused fault
-          → IsRefused tells past faults setup c (k ∷ []) old before fault
-      is-refused before (faults_of.Damaged other file place) cause = absurd cause
-      is-refused before (faults_of.Version other file byte) cause = absurd cause
-      is-refused before (faults_of.Lost other queue noticed many) cause =
-          let same : node ≡ other = λ i. record { 0 = sym cause.0 i } in
-          subst (λ (n : NodeId).
-          IsRefused tells past faults setup c (k ∷ []) old before (faults_of.Lost n queue noticed many))
-          same (
-            restarts-none tells past faults setup c k old before st down,
-            lost-at queue noticed many cause.1,
-          )
-      is-refused before (faults_of.Memory memory) cause = tt
+    is-refused : (before : List ℕ) (fault : RestartFault) → Caused fault
+        → IsRefused tells past faults setup c (k ∷ []) old before fault
+    is-refused before (faults_of.Damaged other file place) cause = absurd cause
+    is-refused before (faults_of.Version other file byte) cause = absurd cause
+    is-refused before (faults_of.Lost other queue noticed many) cause =
+        let same : node ≡ other = λ i. record { 0 = sym cause.0 i } in
+        subst (λ (n : NodeId).
+        IsRefused tells past faults setup c (k ∷ []) old before (faults_of.Lost n queue noticed many))
+        same (
+          restarts-none tells past faults setup c k old before st down,
+          lost-at queue noticed many cause.1,
+        )
+    is-refused before (faults_of.Memory memory) cause = tt
 
-      of-memory : (fault : RestartFault) → Caused fault → IsTrue (seen tells past faults old k).tells
-          → IsLinked setup c k (now (seen tells past faults old k).past) → IsOfMemory fault
-      of-memory (faults_of.Damaged other file place) cause told linked = cause
-      of-memory (faults_of.Version other file byte) cause told linked = cause
-      of-memory (faults_of.Lost other queue noticed many) cause told linked =
-          never-lost queue noticed many cause.1 told linked
-      of-memory (faults_of.Memory memory) cause told linked = tt
+    of-memory : (fault : RestartFault) → Caused fault → IsTrue (seen tells past faults old k).tells
+        → IsLinked setup c k (now (seen tells past faults old k).past) → IsOfMemory fault
+    of-memory (faults_of.Damaged other file place) cause told linked = cause
+    of-memory (faults_of.Version other file byte) cause told linked = cause
+    of-memory (faults_of.Lost other queue noticed many) cause told linked =
+        never-lost queue noticed many cause.1 told linked
+    of-memory (faults_of.Memory memory) cause told linked = tt
 
-    -- ---- as a call leaves it
+  -- ---- as a call leaves it
 
-    cause-is : (fault : RestartFault) → StaysDown node false found mid fault
-        → IsTakeEachCaused k handed (pairs turn.old.queues.items found) old.queues.items fault
-    cause-is fault stays =
-        let there : slice_get finds.nodes.items (k - 1) ≡ Some turn.new =
-        ap (λ (l : List (Node D)). slice_get l (k - 1)) turn.is
-        ∙ set-here tells past faults k old.nodes.items turn.old turn.new turn.here in
-        subst (λ (y : Node D). IsTakeEachCaused k (handed_of false y.empty) (pairs y.queues.items found) old.queues.items
-        fault)
-        (some-same stays.own turn.new (sym stays.here ∙ there) ∙ rec.is) stays.cause
+  cause-is : (fault : RestartFault) → StaysDown node false found mid fault
+      → IsTakeEachCaused k handed (pairs turn.old.queues.items found) old.queues.items fault
+  cause-is fault stays =
+      let there : slice_get finds.nodes.items (k - 1) ≡ Some turn.new =
+      ap (λ (l : List (Node D)). slice_get l (k - 1)) turn.is
+      ∙ set-here tells past faults k old.nodes.items turn.old turn.new turn.here in
+      subst (λ (y : Node D). IsTakeEachCaused k (handed_of false y.empty) (pairs y.queues.items found) old.queues.items
+      fault)
+      (some-same stays.own turn.new (sym stays.here ∙ there) ∙ rec.is) stays.cause
 
-    pub lost-queue : (new : Held D) (before : List ℕ) (fault : RestartFault)
-        → ((setup : Setup) (c : Cluster) → Stands tells past setup old c → c.up node.0 ≡ false)
-        → new.nodes ≡ finds.nodes → StaysDown node false found mid fault
-        → Refuses tells past faults (this_node k) (λ setup. IsRestart setup k) old new before fault
-    lost-queue new before fault down same stays = record {
-      gives_up = gives-up new same;
-      refused = λ setup c r st. is-refused setup c r st (down setup c st) before fault (cause-is fault stays);
-      spent = λ number is. absurd
-          (let want : Spent number ≡ Want = subst (λ (f : RestartFault). IsTakeEachCaused k handed
-          (pairs turn.old.queues.items found) old.queues.items f) is (cause-is fault stays) in cc);
-      never = λ setup c r st linked.
-          of-memory setup c r st (down setup c st) fault (cause-is fault stays) linked.0.0 linked.0.1;
-    }
+  pub lost-queue : (new : Held D) (before : List ℕ) (fault : RestartFault)
+      → ((setup : Setup) (c : Cluster) → Stands tells past setup old c → c.up node.0 ≡ false)
+      → new.nodes ≡ finds.nodes → StaysDown node false found mid fault
+      → Refuses tells past faults (this_node k) (λ setup. IsRestart setup k) old new before fault
+  lost-queue new before fault down same stays = record {
+    gives_up = gives-up new same;
+    refused = λ setup c r st. is-refused setup c r st (down setup c st) before fault (cause-is fault stays);
+    spent = λ number is. absurd
+        (let want : Spent number ≡ Want = subst (λ (f : RestartFault). IsTakeEachCaused k handed
+        (pairs turn.old.queues.items found) old.queues.items f) is (cause-is fault stays) in cc);
+    never = λ setup c r st linked.
+        of-memory setup c r st (down setup c st) fault (cause-is fault stays) linked.0.0 linked.0.1;
+  }
 
 -- why a node isn't restarted that was opened before
 pub step-refuses : {D : Type 0} {tells : D → Bool} {past : D → List Disk} {faults : D → ℕ} (node : NodeId)

@@ -1,7 +1,7 @@
 -- Nodes that weren't opened yet, and what may be done with the next of them.
-use Rattle.std.proofs.Common.{◌≡◌, ◌≢◌, ◌<◌, ◌≤◌, ◌+◌, ◌-◌, ℕ, Bool, true, false, List, [], ◌∷◌, Option, Some, None, get_or, length, refl, sym, ap, ◌∙◌, subst, inl, inr, arith}
+use Rattle.std.proofs.Common.{◌≡◌, ◌<◌, ◌≤◌, ◌+◌, ◌-◌, ℕ, Bool, true, List, [], ◌∷◌, Some, None, get_or, length, refl, sym, ap, ◌∙◌, subst, inl, inr, arith}
 use Rattle.std.specs.Prelude.{All, nat_eq, slice_get}
-use Rattle.std.specs.List.{AllByRecursion, range_with_len}
+use Rattle.std.specs.List.{AllByRecursion}
 use Rattle.std.proofs.lemmas.List.Elements.{All-from_all_within}
 use Rattle.std.proofs.lemmas.Option.{get_or_from_slice_get, slice_get-get_or, slice_get_within}
 use Rattle.qq_base.specs.declared.ids.NodeId.{NodeId}
@@ -10,23 +10,21 @@ use Rattle.qq_disk.specs.Disk.{Disk}
 use Rattle.qq_log.specs.declared.limits.TheConstants.{NODE_LIMIT}
 use Rattle.qq_lots.specs.Lots.{ids_of}
 use Rattle.qq_node_log.specs.Found.{AreDistinct}
-use Rattle.qq_node_log.specs.Log.{IsWhole as MayBeLog, disk_in}
-use Rattle.qq_node_log.specs.declared.node_log.NodeLog.{NodeLog}
 use Rattle.qq_node_log.specs.declared.node_log.NodeLog.TheVariants.{Closed}
 use Rattle.qq_raft_model.specs.Group.{has_node}
 use Rattle.qq_raft_protocol.specs.Facts.{In}
 use Rattle.qq_setup.specs.declared.queue_row.QueueRow.{QueueRow}
-use Rattle.qq_cluster.specs.Cluster.{Cluster, Setup, new_cluster}
+use Rattle.qq_cluster.specs.Cluster.{Setup, new_cluster}
 use Rattle.qq_cluster_laws.specs.Linked.{lot_of}
 use Rattle.qq_cluster_queue.specs.Members.{AreSound}
 use Rattle.qq_cluster_queue.specs.declared.cluster_queue.ClusterQueue.{ClusterQueue}
 use Rattle.qq_nodes.specs.Nodes.{IsNodeAt, Stands}
-use Rattle.qq_nodes.specs.Setting.{AreNew, IsNewNode, IsQueueFor, IsRowOf, IsSetupOver, IsWhole, ids_on, is_among}
+use Rattle.qq_nodes.specs.Setting.{AreNew, IsNewNode, IsQueueFor, IsSetupOver, IsWhole, ids_on, is_among}
 use Rattle.qq_nodes.specs.declared.node.Node.{Node}
 use Rattle.qq_nodes.specs.declared.nodes.Nodes.{Nodes as Held}
 use Rattle.qq_nodes.proofs.Begun.{ids-are, item-at, new-stands}
 use Rattle.qq_opening.specs.Opened.{AreOpened, IsOpenedQueue}
-use Rattle.qq_opening.specs.Taking.{MayGoOn, MayStep, MayTakeAt, MayTakeEach, index_of}
+use Rattle.qq_opening.specs.Taking.{MayStep, MayTakeAt, MayTakeEach, index_of}
 use Rattle.qq_opening.proofs.FoundEach.{own-distinct, own-low}
 use Rattle.qq_opening.proofs.RowsOf.{At, id-at, id-row, is-among, row-id}
 
@@ -130,6 +128,15 @@ module _ {D : Type 0} {tells : D → Bool} {past : D → List Disk} (rows : List
         down = λ k lt. own.down k;
       }
 
+  pub sound-each : {faults : D → ℕ} (at : ℕ) (held : Held D) → AreOpened tells past faults rows at old held
+      → All (λ (d : ClusterQueue). AreSound d.group) held.queues.items
+  sound-each at held o =
+      All-from_all_within (λ (d : ClusterQueue). AreSound d.group) held.queues.items
+      (λ i d low high. (let own = get_or held.queues.items i d in
+      let here : slice_get held.queues.items i ≡ Some own = slice_get-get_or held.queues.items i d high in
+      let row = queue-row held.queues.items i own o.queue_count here in
+      (o.queues i row.0 own row.1 here).sound))
+
   -- ---- the next node may be opened
 
   module _ {faults : D → ℕ} (at : ℕ) (held : Held D) (o : AreOpened tells past faults rows at old held) (node : NodeId)
@@ -150,14 +157,6 @@ module _ {D : Type 0} {tells : D → Bool} {past : D → List Disk} (rows : List
 
     next-at : IsNodeAt node held
     next-at = (omega (arith, is), (let many = o.node_count in omega (arith, is, lt, many)))
-
-    sound-each : All (λ (d : ClusterQueue). AreSound d.group) held.queues.items
-    sound-each =
-        All-from_all_within (λ (d : ClusterQueue). AreSound d.group) held.queues.items
-        (λ i d low high. (let own = get_or held.queues.items i d in
-        let here : slice_get held.queues.items i ≡ Some own = slice_get-get_or held.queues.items i d high in
-        let row = queue-row held.queues.items i own o.queue_count here in
-        (o.queues i row.0 own row.1 here).sound))
 
     take-at : (id : QueueId) → In id (ids_on rows node.0) → MayTakeAt node.0 held.queues.items id
     take-at id here =
@@ -187,7 +186,7 @@ module _ {D : Type 0} {tells : D → Bool} {past : D → List Disk} (rows : List
       go_on = record {
         place = next-at;
         within = (omega (arith, is), (let few = few-nodes in omega (arith, is, lt, few)));
-        sound = sound-each;
+        sound = sound-each at held o;
         apart = λ own here. subst AreDistinct (sym (next-still own here).is.queues_are) (apart-on node.0);
         take = λ own here. subst (MayTakeEach node.0 held.queues.items) (sym (next-still own here).is.queues_are)
             (take-each (ids_on rows node.0) take-at);

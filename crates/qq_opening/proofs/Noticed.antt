@@ -1,5 +1,5 @@
 -- Of a member that has just gone on with what was found, all of that is noticed.
-use Rattle.std.proofs.Common.{◌≡◌, ℕ, true, List, Option, Some, None, length, sym, ap, ◌∙◌, subst}
+use Rattle.std.proofs.Common.{◌≡◌, ◌<◌, ℕ, true, List, Option, Some, None, get_or, length, sym, ap, ◌∙◌}
 use Rattle.std.specs.Prelude.{is_some, slice_get}
 use Rattle.std.proofs.lemmas.Bool.{false≢true}
 use Rattle.qq_group.specs.Group.{IsSeat, IsSeatBy, server_at, server_by}
@@ -12,6 +12,7 @@ use Rattle.qq_raft_queues.specs.declared.machine_queue.MachineQueue.{MachineQueu
 use Rattle.qq_cluster_queue.specs.Agreeing.{BeginsWith}
 use Rattle.qq_cluster_queue.specs.Members.{Member, own_log}
 use Rattle.qq_cluster_queue.specs.declared.cluster_queue.ClusterQueue.{ClusterQueue}
+use Rattle.qq_nodes.proofs.Items.{item-here}
 
 seat-noticed : (state : SeatState) (o : Option (Seat MachineQueue LogState)) → IsSeat own_log state o
     → is_some (server_by o) ≡ true → noticed_at o ≡ state.noticed
@@ -27,3 +28,17 @@ pub begun-noticed : (d : ClusterQueue) (logs : ℕ → List Op) (k : ℕ) → Be
     → is_some (server_at k d.group) ≡ true → noticed_at (slice_get d.group.seats.items k) ≡ length (logs k)
 begun-noticed d logs k begun up =
     seat-noticed (begun.group.seat k) (slice_get d.group.seats.items k) (begun.represents.seats k) up ∙ begun.noticed k
+
+some-queue : (a b : ClusterQueue) → Some a ≡ Some b → a ≡ b
+some-queue a b e = cc
+
+-- and so of the queue at an index
+pub noticed-at : (queues : List ClusterQueue) (at k found : ℕ) (own : ClusterQueue) → at < length queues
+    → own ≡ get_or queues at own → found ≡ noticed_at (slice_get own.group.seats.items k) → (d : ClusterQueue)
+    (logs : ℕ → List Op) → slice_get queues at ≡ Some d → BeginsWith logs d → is_some (server_at k d.group) ≡ true
+    → found ≡ length (logs k)
+noticed-at queues at k found own lt here is d logs there begun up =
+    is
+    ∙ ap (λ (x : ClusterQueue). noticed_at (slice_get x.group.seats.items k))
+    (some-queue own d (sym (item-here queues at own lt here) ∙ there))
+    ∙ begun-noticed d logs k begun up

@@ -1,5 +1,5 @@
 -- What follows the restarts of an opening.
-use Rattle.std.proofs.Common.{◌≡◌, ℕ, Bool, true, false, List, [], ◌++◌, refl}
+use Rattle.std.proofs.Common.{ℕ, Bool, true, false, List, ◌++◌, refl}
 use Rattle.qq_base.specs.declared.memory.Memory.{Memory}
 use Rattle.qq_disk.specs.Disk.{Disk}
 use Rattle.qq_cluster.specs.Cluster.{Cluster, ClusterEvent, Setup, cluster_after}

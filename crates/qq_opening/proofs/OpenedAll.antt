@@ -1,8 +1,7 @@
 -- All nodes are opened: the logs that were read support an audit, or those of some queue support none.
-use Rattle.std.proofs.Common.{◌≡◌, ◌⊎◌, ◌<◌, ◌≤◌, ◌+◌, ◌-◌, ◌^◌, ℕ, zero, suc, Bool, true, false, List, [], ◌∷◌, ◌++◌, Option, Some, None, length, refl, sym, ap, ◌∙◌, subst, inl, inr, arith, append-nil, append_assoc}
-use Rattle.std.specs.Prelude.{All, Contains, get_or, is_some, slice_get}
+use Rattle.std.proofs.Common.{◌≡◌, ◌⊎◌, ◌<◌, ◌≤◌, ◌+◌, ℕ, zero, suc, Bool, true, false, List, ◌++◌, Option, Some, None, length, refl, sym, ap, ◌∙◌, subst, inl, inr, arith, append_assoc}
+use Rattle.std.specs.Prelude.{All, is_some, slice_get}
 use Rattle.std.specs.List.{range_with_len}
-use Rattle.std.proofs.lemmas.Bool.{false≢true}
 use Rattle.qq_base.specs.Causes.{Rose}
 use Rattle.qq_base.specs.declared.ids.NodeId.{NodeId}
 use Rattle.qq_base.specs.declared.ids.QueueId.{QueueId}
@@ -17,19 +16,18 @@ use Rattle.qq_wal_chain.specs.Lanes.{Lanes}
 use Rattle.qq_cluster.specs.Cluster.{Cluster, ClusterEvent, Setup, cluster_after, new_cluster}
 use Rattle.qq_cluster.specs.ClusterLaws.{HasGroups}
 use Rattle.qq_cluster.specs.Laws.{IsBegun}
-use Rattle.qq_cluster.specs.Rules.{ForEach, IsOpening, IsRestart, Then}
+use Rattle.qq_cluster.specs.Rules.{ForEach, IsOpening, IsRestart}
 use Rattle.qq_cluster.specs.Texts.{text_of}
 use Rattle.qq_cluster_laws.specs.Linked.{IsReached}
-use Rattle.qq_cluster_laws.specs.Serves.{GivesUp, Seen, Serves}
+use Rattle.qq_cluster_laws.specs.Serves.{GivesUp, Serves}
 use Rattle.qq_cluster_laws.proofs.Restarts.{first-stays}
 use Rattle.qq_cluster_laws.proofs.Serves.{gives_up-behind, serves-both}
-use Rattle.qq_cluster_queue.specs.declared.cluster_queue.ClusterQueue.{ClusterQueue}
 use Rattle.qq_nodes.specs.Nodes.{Begins, CanServe, EndsAt, GaveUp, Served, Stands, seen}
-use Rattle.qq_nodes.specs.Setting.{AreNew, ids_on, is_among}
+use Rattle.qq_nodes.specs.Setting.{AreNew, ids_on}
 use Rattle.qq_nodes.specs.declared.nodes.Nodes.{Nodes as Held}
-use Rattle.qq_nodes.proofs.Stands.{serves-from, serves-means}
-use Rattle.qq_opening.specs.Opened.{AreOpened, Agrees, IsOpenedQueue, OpenedServes, OpenedTo, RestartedTo, WasRead}
-use Rattle.qq_opening.specs.Opening.{AreLogsOf, AreReadLogs, HaveRestarted, HoldLogs, IsOpenCaused, IsReadAs, IsSetupWith, Logs, MayNotOpen, OpensOver, OpensTo, SpentAfter, all_of}
+use Rattle.qq_nodes.proofs.Stands.{serves-from}
+use Rattle.qq_opening.specs.Opened.{AreOpened, Agrees, OpenedServes, OpenedTo, RestartedTo, WasRead}
+use Rattle.qq_opening.specs.Opening.{AreLogsOf, AreReadLogs, HaveRestarted, HoldLogs, IsOpenCaused, IsReadAs, IsSetupWith, Logs, MayNotOpen, OpensOver, OpensTo}
 use Rattle.qq_opening.specs.Restarting.{IsOpenedTo, RestartEachTo}
 use Rattle.qq_opening.specs.declared.restarting.RestartFault.TheVariants as faults_of
 use Rattle.qq_opening.proofs.Agreed.{all-begun}
@@ -37,6 +35,7 @@ use Rattle.qq_opening.proofs.Opened.{Opens, opens-to}
 use Rattle.qq_opening.proofs.OpenedNone.{of-ops, row-in}
 use Rattle.qq_opening.proofs.ReadLogs.{logs-come, logs_read, read-logs}
 use Rattle.qq_opening.proofs.RestartRules.{restarted-whole}
+use Rattle.qq_opening.proofs.Serving.{serves-same}
 use Rattle.qq_opening.proofs.SomeSetup.{is-setup_with, setup_with}
 use Rattle.qq_opening.proofs.Untouched.{range-below}
 
@@ -70,7 +69,7 @@ module _ {D : Type 0} {tells : D → Bool} {past : D → List Disk} {faults : D 
   abbrev pub read_logs : Logs
   read_logs = logs_read rows o.lanes
 
-  own : AreLogsOf rows read_logs
+  pub own : AreLogsOf rows read_logs
   own = read-logs rows o.lanes
 
   pub are : AreReadLogs rows (range_with_len 1 n) o.lanes read_logs
@@ -128,9 +127,12 @@ module _ {D : Type 0} {tells : D → Bool} {past : D → List Disk} {faults : D 
     -- they stand for a cluster that something has led to
     pub can-open : CanServe tells past held
     can-open =
-        let s = serves-of own_setup own-with in
-        (own_setup, cluster_after (new_cluster own_setup) s.serves.did.events, (s.serves.did.events, refl),
-        s.serves.did.stands)
+        let s = serves-of own_setup own-with in (
+          own_setup,
+          cluster_after (new_cluster own_setup) s.serves.did.events,
+          (s.serves.did.events, refl),
+          s.serves.did.stands,
+        )
 
     -- ---- and that is followed by the rest
 
@@ -183,7 +185,7 @@ module _ {D : Type 0} {tells : D → Bool} {past : D → List Disk} {faults : D 
         opens-setup : OpensTo tells past faults setup o.lanes some old final before later
         opens-setup = record {
           groups = groups-of setup sw;
-          serves = serves-means whole whole.did.means.0;
+          serves = serves-same whole whole.did.means.0;
           came = whole.did.means.1;
         }
 
@@ -224,7 +226,8 @@ module _ {D : Type 0} {tells : D → Bool} {past : D → List Disk} {faults : D 
           spending =
               serves-both setup (new_cluster setup) (RestartedTo n some setup (new_cluster setup))
               (Begins (Opens setup) c) Spending (Stands tells past setup held) (Stands tells past setup e.mid)
-              (seen tells past faults old) (seen tells past faults held) (seen tells past faults e.mid) before middle said s
+              (seen tells past faults old) (seen tells past faults held)
+              (seen tells past faults e.mid) before middle said s
               (serves-from middle e.serves) (
                 record {
                   rest = rest;
@@ -246,7 +249,7 @@ module _ {D : Type 0} {tells : D → Bool} {past : D → List Disk} {faults : D 
               mid = e.mid;
               before = before;
               said = said;
-              serves = serves-means spending spending.did.means.0;
+              serves = serves-same spending spending.did.means.0;
               at = e.at;
               end = e.end;
             },

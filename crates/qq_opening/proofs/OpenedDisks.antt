@@ -1,7 +1,8 @@
--- What recoveries leave of the disks: what was promised is kept, and what was read is what logs hold that the disks promised.
-use Rattle.std.proofs.Common.{◌≡◌, ◌≢◌, ◌⊎◌, ◌<◌, ◌≤◌, ◌+◌, ◌-◌, ℕ, zero, suc, Bool, true, false, List, [], ◌∷◌, Option, Some, None, length, take, refl, sym, ap, ◌∙◌, subst, inl, inr, arith}
+-- What recoveries leave of the disks: what was promised is kept, and what was read is what logs hold that the disks
+-- promised.
+use Rattle.std.proofs.Common.{◌≡◌, ◌≤◌, ◌+◌, ℕ, Bool, true, List, [], ◌∷◌, Option, Some, None, length, take, refl, sym, ap, ◌∙◌, subst, inl, inr, arith}
 use Rattle.std.specs.Prelude.{IsTrue, Ok, slice_get}
-use Rattle.std.specs.List.{AllByRecursion, range_with_len}
+use Rattle.std.specs.List.{range_with_len}
 use Rattle.std.proofs.Math.Seq.{take-length}
 use Rattle.qq_base.proofs.Lists.{AllByRecursion-in, In-filter}
 use Rattle.qq_base.specs.Causes.{Rose}
@@ -13,7 +14,7 @@ use Rattle.qq_log.specs.declared.op.Op.{Op}
 use Rattle.qq_lots.proofs.Counts.{state-count}
 use Rattle.qq_lots.specs.Kept.{KeepsPromised}
 use Rattle.qq_lots.specs.Left.{AllBetween, IsBetween, state_in}
-use Rattle.qq_lots.specs.Lots.{Lot, Part, Parts, ids_of}
+use Rattle.qq_lots.specs.Lots.{Lot, Parts, ids_of}
 use Rattle.qq_node_log.specs.Steps.{AlwaysKeeps}
 use Rattle.qq_raft_model.specs.Group.{Group, Seat, has_node}
 use Rattle.qq_raft_model.specs.Promises.{IsPlain}
@@ -30,13 +31,11 @@ use Rattle.qq_nodes.specs.Nodes.{seen}
 use Rattle.qq_nodes.specs.Setting.{ids_on, is_among}
 use Rattle.qq_nodes.specs.declared.nodes.Nodes.{Nodes as Held}
 use Rattle.qq_nodes.proofs.Begun.{ids-are}
-use Rattle.qq_nodes.proofs.Walks.{all-get}
 use Rattle.qq_opening.specs.Opened.{WasRead}
-use Rattle.qq_opening.specs.Opening.{AreReadLogs, IsSetupWith, Logs, seat_over, state_read, told_of}
+use Rattle.qq_opening.specs.Opening.{AreReadLogs, IsSetupWith, Logs, seat_over, state_read}
 use Rattle.qq_opening.specs.Restarting.{AreLinked}
 use Rattle.qq_opening.proofs.LaneRead.{to-in}
 use Rattle.qq_opening.proofs.RowsOf.{is-among, row-members, row-place}
-use Rattle.qq_opening.proofs.Untouched.{range-below}
 
 -- ---- one disk
 
@@ -112,7 +111,8 @@ begun-state g k ops s begun seat is = by (begun.opened.down.plain k (length ops)
 
 -- ---- the disks of a cluster
 
-module _ {D : Type 0} (tells : D → Bool) (past : D → List Disk) (faults : D → ℕ) (rows : List QueueRow) (old left : Held D)
+module _ {D : Type 0} (tells : D → Bool) (past : D → List Disk) (faults : D → ℕ) (rows : List QueueRow)
+    (old left : Held D)
     (logs : Logs) (setup : Setup) (sw : IsSetupWith setup rows (length old.nodes.items) logs) where
   ids-same : (k : ℕ) → ids_on rows k ≡ ids_of (lot_of setup k)
   ids-same k = ids-are setup rows sw.places sw.each k
@@ -126,7 +126,8 @@ module _ {D : Type 0} (tells : D → Bool) (past : D → List Disk) (faults : D 
     told = λ k. (each k).told;
     rises = λ k. (each k).rises;
     moments = λ k here tell linked.
-        (let kept = (each k).keeps tell (lot_of setup k) (parts_at (new_cluster setup) k) (ids-same k) linked.promised in
+        (let kept = (each k).keeps tell (lot_of setup k) (parts_at (new_cluster setup) k)
+        (ids-same k) linked.promised in
         (linked.promised, kept.0, kept.1));
   }
 
@@ -157,7 +158,8 @@ module _ {D : Type 0} (tells : D → Bool) (past : D → List Disk) (faults : D 
     read-at k i row None here read there member =
         ap stable (none k here read (i + 1) (row-place rows setup sw.places sw.ids sw.each i row there))
     read-at k i row (Some lanes) here read there member =
-        whole ∙ ap (λ (s : Stable). Some s) (λ j. record (state_in lanes row.args.queue) { snapshot = plain.snapshot j })
+        whole ∙ ap (λ (s : Stable). Some s)
+        (λ j. record (state_in lanes row.args.queue) { snapshot = plain.snapshot j })
       where
         place : In (i + 1) setup.places
         place = row-place rows setup sw.places sw.ids sw.each i row there
@@ -208,7 +210,8 @@ module _ {D : Type 0} (tells : D → Bool) (past : D → List Disk) (faults : D 
             ∙ between.is
 
         plain : IsStateOf (state_in lanes row.args.queue)
-        plain = begun-state (setup.group (i + 1)) k (logs (i + 1) k) (state_in lanes row.args.queue) (groups (i + 1)) seat whole
+        plain = begun-state (setup.group (i + 1)) k (logs (i + 1) k) (state_in lanes row.args.queue)
+            (groups (i + 1)) seat whole
 
     pub linked-read : (n : ℕ) (lanes : ℕ → Option Lanes)
         → ((k : ℕ) → In k (range_with_len 1 n) → In k setup.nodes

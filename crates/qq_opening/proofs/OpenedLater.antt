@@ -1,5 +1,5 @@
 -- All nodes are opened, and the logs of some queue support no audit.
-use Rattle.std.proofs.Common.{◌≡◌, ◌≢◌, ◌⊎◌, ◌<◌, ◌≤◌, ◌+◌, ◌-◌, ℕ, zero, suc, Bool, true, false, List, [], ◌∷◌, ◌++◌, Option, Some, None, length, refl, sym, ap, ◌∙◌, subst, inl, inr, arith, append-nil}
+use Rattle.std.proofs.Common.{◌≡◌, ◌⊎◌, ◌<◌, ◌≤◌, ◌+◌, ◌-◌, ℕ, zero, suc, Bool, true, List, [], ◌∷◌, Option, Some, None, length, refl, sym, ap, ◌∙◌, subst, inl, inr, arith, append-nil}
 use Rattle.std.specs.Prelude.{Contains, is_some, slice_get}
 use Rattle.std.specs.List.{range_with_len}
 use Rattle.std.proofs.lemmas.Bool.{false≢true}
@@ -7,11 +7,10 @@ use Rattle.std.proofs.lemmas.Option.{slice_get_within}
 use Rattle.qq_base.specs.Causes.{Rose}
 use Rattle.qq_base.specs.declared.ids.NodeId.{NodeId}
 use Rattle.qq_base.specs.declared.ids.QueueId.{QueueId}
-use Rattle.qq_base.specs.declared.memory.Memory.{Memory}
 use Rattle.qq_base.specs.declared.memory.Memory.TheVariants.{Spent, Want}
 use Rattle.qq_disk.specs.Disk.{Disk}
 use Rattle.qq_group.specs.Group.{server_at}
-use Rattle.qq_log.specs.Stable.{Stable, stable}
+use Rattle.qq_log.specs.Stable.{stable}
 use Rattle.qq_log.specs.declared.op.Op.{Op}
 use Rattle.qq_lots.proofs.Counts.{state-count}
 use Rattle.qq_lots.specs.Left.{state_in}
@@ -23,20 +22,18 @@ use Rattle.qq_cluster.specs.ClusterLaws.{HasGroups}
 use Rattle.qq_cluster.specs.Laws.{IsBegun}
 use Rattle.qq_cluster_laws.specs.Serves.{Seen}
 use Rattle.qq_cluster_queue.specs.Agreeing.{BeginsWith}
-use Rattle.qq_cluster_queue.specs.Members.{Member}
 use Rattle.qq_cluster_queue.specs.declared.cluster_queue.ClusterQueue.{ClusterQueue}
 use Rattle.qq_nodes.specs.Nodes.{seen}
 use Rattle.qq_nodes.specs.Setting.{AreNew, ids_on, is_among}
-use Rattle.qq_nodes.specs.declared.node.Node.{Node}
 use Rattle.qq_nodes.specs.declared.nodes.Nodes.{Nodes as Held}
 use Rattle.qq_opening.specs.Opened.{AreOpened, Disagrees, IsLostAt, IsOpenedNode, IsOpenedQueue, IsUpWith, OpenedTo, TellsLost}
-use Rattle.qq_opening.specs.Opening.{AreReadLogs, GivesUpOver, HasRead, IsLostOver, IsOpenCaused, IsSetupWith, Logs, MayNotOpen, state_read, told_of}
+use Rattle.qq_opening.specs.Opening.{AreReadLogs, GivesUpOver, IsLostOver, IsOpenCaused, IsSetupWith, Logs, MayNotOpen, state_read, told_of}
 use Rattle.qq_opening.specs.Restarting.{AreLinked, IsOfMemory}
 use Rattle.qq_opening.specs.declared.restarting.RestartFault.{RestartFault}
 use Rattle.qq_opening.specs.declared.restarting.RestartFault.TheVariants as faults_of
 use Rattle.qq_opening.proofs.Agreed.{begun-none, item-of, lost-logs}
 use Rattle.qq_opening.proofs.LostQueues.{contains-node}
-use Rattle.qq_opening.proofs.NewNodes.{own-at, own-id, own-row}
+use Rattle.qq_opening.proofs.NewNodes.{own-at}
 use Rattle.qq_opening.proofs.OpenedAll.{are, read-later, read_logs}
 use Rattle.qq_opening.proofs.OpenedDisks.{Keeps, keeps-give_up, linked-read, same-keeps, was-keeps, was-read_of}
 use Rattle.qq_opening.proofs.OpenedLost.{cases_le}
@@ -71,7 +68,8 @@ module _ {D : Type 0} {tells : D → Bool} {past : D → List Disk} {faults : D 
     where
       by : (suc j ≤ n) ⊎ (n < suc j) → Keeps (ids_on rows (suc j)) (a (suc j)) (b (suc j))
       by (inl within) =
-          was-keeps (ids_on rows (suc j)) (a (suc j)) (b (suc j)) (o.lanes (suc j)) (o.disks (suc j) (omega arith) within)
+          was-keeps (ids_on rows (suc j)) (a (suc j)) (b (suc j)) (o.lanes (suc j))
+          (o.disks (suc j) (omega arith) within)
       by (inr past_end) =
           same-keeps (ids_on rows (suc j)) (a (suc j)) (b (suc j))
           (seen-same tells past faults old held (suc j) (omega arith) (o.left (suc j - 1) (omega (arith, past_end))))
@@ -159,7 +157,8 @@ module _ {D : Type 0} {tells : D → Bool} {past : D → List Disk} {faults : D 
     begun-with : BeginsWith (λ (k : ℕ). read_logs rows old new some held before middle to (at + 1) k) d
     begun-with =
         q.begins (λ (k : ℕ). read_logs rows old new some held before middle to (at + 1) k)
-        (λ k first last member. are rows old new some held before middle to k at row (in-first n k first last) here member)
+        (λ k first last member. are rows old new some held before middle to k at row
+        (in-first n k first last) here member)
 
     is-up : is_some (server_at node.0 d.group) ≡ true
     is-up =
@@ -192,7 +191,8 @@ module _ {D : Type 0} {tells : D → Bool} {past : D → List Disk} {faults : D 
         (λ k first last member. ap (λ (p : ℕ). stable (logs p k)) (sym lost.place)
         ∙ fits k (in-first n k first last) member
         ∙ ap (λ (id : QueueId). Some (state_read (o.lanes k) id)) (sym own.0)) d q
-        (λ k other. begun-none row (setup.group (at + 1)) k (logs (at + 1) k) own-begun (sw.each at row here).down.nodes_is
+        (λ k other. begun-none row (setup.group (at + 1)) k (logs (at + 1) k) own-begun
+        (sw.each at row here).down.nodes_is
         (sw.seats (at + 1) k) other)
         (disagrees d there) own-begun
 
@@ -213,7 +213,8 @@ module _ {D : Type 0} {tells : D → Bool} {past : D → List Disk} {faults : D 
       };
       own = l;
       own_is = read-some.1;
-      found_is = lost.found_is d (λ (k : ℕ). read_logs rows old new some held before middle to (at + 1) k) there begun-with
+      found_is = lost.found_is d (λ (k : ℕ). read_logs rows old new some held before middle to
+          (at + 1) k) there begun-with
           is-up
           ∙ sym (state-count (read_logs rows old new some held before middle to (at + 1) node.0)
           (told_of (state_in l queue)) comes-to);

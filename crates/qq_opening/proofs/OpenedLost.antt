@@ -1,7 +1,7 @@
 -- A node isn't opened, after others were.
-use Rattle.std.proofs.Common.{◌≡◌, ◌≢◌, ◌⊎◌, ◌<◌, ◌≤◌, ◌+◌, ◌-◌, ℕ, zero, suc, Bool, true, false, List, [], ◌∷◌, ◌++◌, Option, Some, None, length, refl, sym, ap, ◌∙◌, subst, inl, inr, arith, append_assoc}
+use Rattle.std.proofs.Common.{◌≡◌, ◌≢◌, ◌⊎◌, ◌<◌, ◌≤◌, ◌+◌, ◌-◌, ℕ, zero, suc, Bool, true, List, [], ◌∷◌, ◌++◌, Option, Some, None, length, refl, sym, ap, ◌∙◌, subst, inl, inr, arith, append_assoc}
 use Rattle.std.specs.Global.{Vec}
-use Rattle.std.specs.Prelude.{Contains, Err, IsTrue, Ok, slice_get}
+use Rattle.std.specs.Prelude.{slice_get}
 use Rattle.std.specs.List.{range_with_len}
 use Rattle.std.proofs.lemmas.Bool.{cases_eq}
 use Rattle.qq_base.proofs.Puts.{put-other, put-same}
@@ -9,57 +9,44 @@ use Rattle.qq_base.specs.Causes.{Rose}
 use Rattle.qq_base.specs.Fronts.{put}
 use Rattle.qq_base.specs.declared.ids.NodeId.{NodeId}
 use Rattle.qq_base.specs.declared.ids.QueueId.{QueueId}
-use Rattle.qq_base.specs.declared.memory.Memory.{Memory}
 use Rattle.qq_base.specs.declared.memory.Memory.TheVariants.{Spent, Want}
 use Rattle.qq_disk.proofs.Moments.{adds-now}
 use Rattle.qq_disk.specs.Disk.{Disk, now}
-use Rattle.qq_log.specs.Stable.{Stable, stable}
-use Rattle.qq_log.specs.declared.lane.Lane.{Lane}
+use Rattle.qq_log.specs.Stable.{stable}
 use Rattle.qq_log.specs.declared.op.Op.{Op}
 use Rattle.qq_lots.specs.Kept.{KeepsPromised}
 use Rattle.qq_lots.specs.Left.{state_in}
-use Rattle.qq_lots.specs.Lots.{Lot, Parts, ids_of}
 use Rattle.qq_node_log.specs.Log.{disk_in}
-use Rattle.qq_node_log.specs.declared.node_log.NodeLog.{NodeLog}
-use Rattle.qq_node_log.specs.declared.node_log.NodeLog.TheVariants.{Open, Closed}
-use Rattle.qq_raft_model.specs.Group.{has_node}
+use Rattle.qq_node_log.specs.declared.node_log.NodeLog.TheVariants.{Open}
 use Rattle.qq_raft_protocol.specs.Facts.{In}
-use Rattle.qq_recover.specs.Answer.{Fails as ReadsAs}
 use Rattle.qq_recover.specs.Reading.{lanes_read, shown}
-use Rattle.qq_recover.specs.Recovered.{IsNoRefusal, IsRecoverCaused, IsSpentOn}
-use Rattle.qq_recover.specs.declared.fault.RecoverFault.{RecoverFault}
-use Rattle.qq_recover.specs.declared.fault.RecoverFault.TheVariants as recover_faults
 use Rattle.qq_setup.specs.declared.queue_row.QueueRow.{QueueRow}
 use Rattle.qq_wal_chain.specs.Lanes.{Lanes}
-use Rattle.qq_cluster.specs.Cluster.{Setup, members, new_cluster}
+use Rattle.qq_cluster.specs.Cluster.{Setup, new_cluster}
 use Rattle.qq_cluster.specs.ClusterLaws.{HasGroups}
 use Rattle.qq_cluster.specs.Laws.{IsBegun}
-use Rattle.qq_cluster.specs.Rules.{IsOpening}
-use Rattle.qq_cluster_laws.specs.Linked.{IsLinked, lot_of, parts_at}
-use Rattle.qq_cluster_laws.specs.Serves.{GivesUp, Seen, seen_of}
-use Rattle.qq_nodes.specs.Ends.{OnDisk}
-use Rattle.qq_nodes.specs.Nodes.{EndsAt, IsNodeAt, seen}
+use Rattle.qq_cluster_laws.specs.Serves.{Seen, seen_of}
+use Rattle.qq_nodes.specs.Nodes.{seen}
 use Rattle.qq_nodes.specs.Setting.{AreNew, ids_on, is_among}
 use Rattle.qq_nodes.specs.declared.node.Node.{Node}
 use Rattle.qq_nodes.specs.declared.nodes.Nodes.{Nodes as Held}
 use Rattle.qq_nodes.proofs.OwnStands.{seen-others, seen-own, set-here}
-use Rattle.qq_opening.specs.Opened.{AreOpened, IsOfOpsState, WasRead}
-use Rattle.qq_opening.specs.Opening.{AreReadLogs, GivesUpOver, HasRead, HoldLogs, IsLostOver, IsOpenCaused, IsReadAs, IsRefusedOver, IsSetupWith, Logs, MayNotOpen, StopsBefore, all_of, state_read, told_of}
+use Rattle.qq_opening.specs.Opened.{AreOpened}
+use Rattle.qq_opening.specs.Opening.{AreReadLogs, GivesUpOver, HasRead, IsLostOver, IsOpenCaused, IsReadAs, IsSetupWith, Logs, MayNotOpen, state_read, told_of}
 use Rattle.qq_opening.specs.Restarting.{AreLinked, IsOfMemory}
-use Rattle.qq_opening.specs.Taking.{FailsToRecover, FindsLanes, FindsNone, IsFaultOf, IsLostAmong, IsOfOps, IsTakeEachCaused, MayNotStep, Recovers, StaysDown, StepsBack, lane_state, pairs}
+use Rattle.qq_opening.specs.Taking.{FindsLanes, IsLostAmong, IsTakeEachCaused, Recovers, StepsBack, pairs}
 use Rattle.qq_opening.specs.declared.restarting.RestartFault.{RestartFault}
 use Rattle.qq_opening.specs.declared.restarting.RestartFault.TheVariants as faults_of
 use Rattle.qq_opening.specs.declared.taking.Handed.TheVariants.{AsFound}
 use Rattle.qq_opening.proofs.FoundLanes.{HasLane, lane-op, pair-has}
 use Rattle.qq_opening.proofs.LaneRead.{from-in, lane-from}
 use Rattle.qq_opening.proofs.LostQueues.{contains-node, in-middle}
-use Rattle.qq_opening.proofs.NewNodes.{next-still, next-was, own-id, own-row}
+use Rattle.qq_opening.proofs.NewNodes.{next-still, own-id, own-row}
 use Rattle.qq_opening.proofs.OpenedDisks.{IsReadOf, IsStateOf, Keeps, begun-state, keeps-give_up, linked-read, same-keeps, was-keeps, was-read_of}
 use Rattle.qq_opening.proofs.OpenedMore.{one-more, seen-same}
 use Rattle.qq_opening.proofs.OpenedStep.{own_lanes, seen-x, zip}
-use Rattle.qq_opening.proofs.ReadLogs.{logs-come, logs_read, read-logs}
 use Rattle.qq_opening.proofs.RowsOf.{At, is-among}
-use Rattle.qq_opening.proofs.Untouched.{in-first, range-below, range-more, stops-before}
+use Rattle.qq_opening.proofs.Untouched.{in-first, range-below, range-more}
 
 -- a range, up to one of its numbers
 pub range-split : (a at n : ℕ) → at < n
@@ -113,7 +100,8 @@ module _ {D : Type 0} {tells : D → Bool} {past : D → List Disk} {faults : D 
       (ap (slice_get held.nodes.items) index ∙ o.left at (omega arith) ∙ ap (slice_get old.nodes.items) (sym index))
 
   -- the nodes so far, and this one
-  module _ (left : Held D) (others : (j : ℕ) → (j ≢ node.0) → seen tells past faults left j ≡ seen tells past faults held j)
+  module _ (left : Held D) (others : (j : ℕ) → (j ≢ node.0)
+      → seen tells past faults left j ≡ seen tells past faults held j)
       (own : Keeps (ids_on rows node.0) (seen tells past faults held node.0) (seen tells past faults left node.0)) where
     abbrev b : ℕ → Seen
     b = seen tells past faults left
@@ -159,43 +147,44 @@ module _ {D : Type 0} {tells : D → Bool} {past : D → List Disk} {faults : D 
 
     -- ---- of this one it is known what was read
 
-    module _ (lanes : Option Lanes) (read : IsReadOf (ids_on rows node.0) (seen tells past faults held node.0) (b node.0) lanes)
-        where
-      abbrev pub with_own : ℕ → Option Lanes
-      with_own = put (at + 1) lanes o.lanes
+    module _ (lanes : Option Lanes) (read : IsReadOf (ids_on rows node.0) (seen tells past faults held node.0)
+        (b node.0) lanes)
+      where
+        abbrev pub with_own : ℕ → Option Lanes
+        with_own = put (at + 1) lanes o.lanes
 
-      pub with-read : (k : ℕ) → 0 < k → k ≤ at + 1 → IsReadOf (ids_on rows k) (a k) (b k) (with_own k)
-      with-read k some le =
-          one-more (λ j. IsReadOf (ids_on rows j) (a j) (b j) (with_own j)) at k le
-          (λ before. subst (IsReadOf (ids_on rows k) (a k) (b k))
-          (sym (put-other (at + 1) lanes o.lanes k (λ e. absurd (omega (arith, e, before)))))
-          (before-read k some before))
-          (subst (IsReadOf (ids_on rows (at + 1)) (a (at + 1)) (b (at + 1))) (sym (put-same (at + 1) lanes o.lanes))
-          (subst (λ (j : ℕ). IsReadOf (ids_on rows j) (a j) (b j) lanes) is
-          (subst (λ (s : Seen). IsReadOf (ids_on rows node.0) s (b node.0) lanes) seen-first read)))
+        pub with-read : (k : ℕ) → 0 < k → k ≤ at + 1 → IsReadOf (ids_on rows k) (a k) (b k) (with_own k)
+        with-read k some le =
+            one-more (λ j. IsReadOf (ids_on rows j) (a j) (b j) (with_own j)) at k le
+            (λ before. subst (IsReadOf (ids_on rows k) (a k) (b k))
+            (sym (put-other (at + 1) lanes o.lanes k (λ e. absurd (omega (arith, e, before)))))
+            (before-read k some before))
+            (subst (IsReadOf (ids_on rows (at + 1)) (a (at + 1)) (b (at + 1))) (sym (put-same (at + 1) lanes o.lanes))
+            (subst (λ (j : ℕ). IsReadOf (ids_on rows j) (a j) (b j) lanes) is
+            (subst (λ (s : Seen). IsReadOf (ids_on rows node.0) s (b node.0) lanes) seen-first read)))
 
-      pub has-with : HasRead tells past faults rows (range_with_len 1 (at + 1)) old left
-      has-with = record {
-        lanes = with_own;
-        each = λ k here. (let within = range-below 1 (at + 1) k here in
-            let first = within.0 in let last = within.1 in
-            read-as tells past faults rows old left k (with_own k)
-            (with-read k (omega (arith, first)) (omega (arith, last))));
-      }
+        pub has-with : HasRead tells past faults rows (range_with_len 1 (at + 1)) old left
+        has-with = record {
+          lanes = with_own;
+          each = λ k here. (let within = range-below 1 (at + 1) k here in
+              let first = within.0 in let last = within.1 in
+              read-as tells past faults rows old left k (with_own k)
+              (with-read k (omega (arith, first)) (omega (arith, last))));
+        }
 
-      -- over disks that keep what the logs promised these are what was read
-      pub linked-with : (logs : Logs) (setup : Setup) → (sw : IsSetupWith setup rows (length old.nodes.items) logs)
-          → HasGroups setup → AreLinked tells past faults setup old (new_cluster setup) setup.nodes
-          → ((k : ℕ) → In k setup.nodes → Rose (a k).faults (b k).faults
-          → (place : ℕ) → In place setup.places → logs place k ≡ [])
-          → AreReadLogs rows (range_with_len 1 (at + 1)) with_own logs
-      linked-with logs setup sw groups linked none =
-          linked-read tells past faults rows old left logs setup sw groups linked none (at + 1) with_own
-          (λ k here. (let within = range-below 1 (at + 1) k here in
-          let first = within.0 in let last = within.1 in (
-            in-nodes logs setup sw k (omega (arith, first)) (omega (arith, last)),
-            with-read k (omega (arith, first)) (omega (arith, last)),
-          )))
+        -- over disks that keep what the logs promised these are what was read
+        pub linked-with : (logs : Logs) (setup : Setup) → (sw : IsSetupWith setup rows (length old.nodes.items) logs)
+            → HasGroups setup → AreLinked tells past faults setup old (new_cluster setup) setup.nodes
+            → ((k : ℕ) → In k setup.nodes → Rose (a k).faults (b k).faults
+            → (place : ℕ) → In place setup.places → logs place k ≡ [])
+            → AreReadLogs rows (range_with_len 1 (at + 1)) with_own logs
+        linked-with logs setup sw groups linked none =
+            linked-read tells past faults rows old left logs setup sw groups linked none (at + 1) with_own
+            (λ k here. (let within = range-below 1 (at + 1) k here in
+            let first = within.0 in let last = within.1 in (
+              in-nodes logs setup sw k (omega (arith, first)) (omega (arith, last)),
+              with-read k (omega (arith, first)) (omega (arith, last)),
+            )))
 
   -- ---- what was found of it is no log
 
@@ -235,7 +224,8 @@ module _ {D : Type 0} {tells : D → Bool} {past : D → List Disk} {faults : D 
         → P (seen_of tells past faults (disk_in rec.own)) (seen_of tells past faults rec.found.wal.disk)
         → P (seen tells past faults held node.0) (seen tells past faults left node.0)
     as-seen P own =
-        subst (λ (s : Seen). P s (seen tells past faults left node.0)) (sym (seen-x rows old new at held o node is lt finds))
+        subst (λ (s : Seen). P s (seen tells past faults left node.0))
+        (sym (seen-x rows old new at held o node is lt finds))
         (subst (λ (s : Seen). P (seen_of tells past faults (disk_in rec.own)) s) (sym seen-back) own)
 
     back-keeps : Keeps ids (seen tells past faults held node.0) (seen tells past faults left node.0)
@@ -249,7 +239,8 @@ module _ {D : Type 0} {tells : D → Bool} {past : D → List Disk} {faults : D 
           ));
     })
 
-    back-read : IsReadOf ids (seen tells past faults held node.0) (seen tells past faults left node.0) (Some found_lanes)
+    back-read : IsReadOf ids (seen tells past faults held node.0) (seen tells past faults left node.0)
+        (Some found_lanes)
     back-read = as-seen (λ s t. IsReadOf ids s t (Some found_lanes)) (
       (λ tell. ap (λ (l : List QueueId). lanes_read l (shown (now (past (disk_in rec.own))))) (sym x-ids)
           ∙ rec.has.read tell),
@@ -269,9 +260,11 @@ module _ {D : Type 0} {tells : D → Bool} {past : D → List Disk} {faults : D 
         ap (λ (l : List (Node D)). slice_get l (node.0 - 1)) finds.turn.is
         ∙ set-here tells past faults node.0 held.nodes.items x finds.turn.new finds.turn.here in
         let queues : back.stays.own.queues.items ≡ ids =
-        ap (λ (y : Node D). y.queues.items) (some-node back.stays.own finds.turn.new (sym back.stays.here ∙ there) ∙ rec.is)
+        ap (λ (y : Node D). y.queues.items)
+        (some-node back.stays.own finds.turn.new (sym back.stays.here ∙ there) ∙ rec.is)
         ∙ x-ids in
-        subst (λ (l : List QueueId). IsTakeEachCaused node.0 AsFound (pairs l finds.lanes) held.queues.items fault) queues
+        subst (λ (l : List QueueId). IsTakeEachCaused node.0 AsFound
+        (pairs l finds.lanes) held.queues.items fault) queues
         back.stays.cause
 
     module _ (queue : QueueId) (noticed found : ℕ)
@@ -287,8 +280,8 @@ module _ {D : Type 0} {tells : D → Bool} {past : D → List Disk} {faults : D 
       own : At rows (λ (row : QueueRow). (row.args.queue ≡ queue) × (is_among node.0 row.members ≡ true))
       own = own-row rows old new node.0 queue in-ids
 
-      place : own.index + 1 ≡ queue.0
-      place =
+      own-place : own.index + 1 ≡ queue.0
+      own-place =
           let same = ap (λ (q : QueueId). q.0) own.holds.0 in
           let number = own-id rows old new own.index own.item own.here in
           omega (arith, same, number)
@@ -301,7 +294,7 @@ module _ {D : Type 0} {tells : D → Bool} {past : D → List Disk} {faults : D 
 
       fit-own : (logs : Logs) → AreReadLogs rows (range_with_len 1 (at + 1)) all_lanes logs → FitOwn (logs queue.0)
       fit-own logs are k here member =
-          ap (λ (p : ℕ). stable (logs p k)) (sym place) ∙ are k own.index own.item here own.here member
+          ap (λ (p : ℕ). stable (logs p k)) (sym own-place) ∙ are k own.index own.item here own.here member
           ∙ ap (λ (q : QueueId). Some (state_read (all_lanes k) q)) own.holds.0
 
       -- the queue doesn't begin with them
@@ -318,10 +311,11 @@ module _ {D : Type 0} {tells : D → Bool} {past : D → List Disk} {faults : D 
           lost.lost.refused (lane-from queue found_lanes lost.lane has.is state.base state.unused)
 
       lost-over : IsLostOver tells past faults rows old left node queue found
+      unfolding has-with
       lost-over =
-          let index' : own.index ≡ queue.0 - 1 = omega (arith, place) in
+          let index' : own.index ≡ queue.0 - 1 = omega (arith, own-place) in
           record {
-            low = omega (arith, place);
+            low = omega (arith, own-place);
             row = own.item;
             here = ap (slice_get rows) (sym index') ∙ own.here;
             queue_is = own.holds.0;

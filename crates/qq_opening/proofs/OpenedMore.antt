@@ -1,51 +1,27 @@
 -- One more node is opened: its queues, and the nodes.
-use Rattle.std.proofs.Common.{◌≡◌, ◌≢◌, ◌⊎◌, ◌<◌, ◌≤◌, ◌+◌, ◌-◌, ℕ, zero, suc, Bool, true, false, not, List, [], ◌∷◌, Option, Some, None, length, refl, sym, ap, ◌∙◌, subst, inl, inr, arith}
-use Rattle.std.specs.Global.{Vec}
-use Rattle.std.specs.Prelude.{IsTrue, Ok, is_some, slice_get, slice_set}
-use Rattle.std.specs.List.{AllByRecursion}
-use Rattle.std.proofs.lemmas.Bool.{cases_Bool, cases_eq, false≢true}
+use Rattle.std.proofs.Common.{◌≡◌, ◌≢◌, ◌<◌, ◌≤◌, ◌+◌, ◌-◌, ℕ, zero, suc, Bool, true, List, Option, Some, None, length, refl, sym, ap, ◌∙◌, subst, inl, inr, arith}
+use Rattle.std.specs.Prelude.{slice_get, slice_set}
+use Rattle.std.proofs.lemmas.Bool.{cases_eq}
 use Rattle.qq_base.proofs.Puts.{put-other, put-same}
 use Rattle.qq_base.specs.Fronts.{put}
 use Rattle.qq_base.specs.declared.ids.NodeId.{NodeId}
 use Rattle.qq_base.specs.declared.ids.QueueId.{QueueId}
-use Rattle.qq_disk.proofs.Moments.{adds-now}
-use Rattle.qq_disk.specs.Disk.{Disk, now}
-use Rattle.qq_group.specs.Group.{server_at, server_by}
+use Rattle.qq_disk.specs.Disk.{Disk}
+use Rattle.qq_group.specs.Group.{server_at}
 use Rattle.qq_log.specs.Stable.{stable}
-use Rattle.qq_log.specs.declared.lane.Lane.{Lane}
-use Rattle.qq_log.specs.declared.op.Op.{Op}
-use Rattle.qq_lots.specs.Kept.{KeepsPromised}
-use Rattle.qq_lots.specs.Left.{state_in}
-use Rattle.qq_lots.specs.Lots.{Lot, Parts, ids_of}
-use Rattle.qq_node_log.specs.Found.{AreLanes}
-use Rattle.qq_node_log.specs.Log.{disk_in}
-use Rattle.qq_node_log.specs.declared.node_log.NodeLog.{NodeLog}
-use Rattle.qq_node_log.specs.declared.node_log.NodeLog.TheVariants.{Open, Closed}
-use Rattle.qq_raft_protocol.specs.Facts.{In}
-use Rattle.qq_recover.specs.declared.fault.RecoverFault.TheVariants as recover_faults
 use Rattle.qq_setup.specs.declared.queue_row.QueueRow.{QueueRow}
 use Rattle.qq_wal_chain.specs.Lanes.{Lanes}
-use Rattle.qq_cluster_laws.specs.Serves.{Seen, seen_of}
-use Rattle.qq_cluster_queue.specs.Agreeing.{BeginsWith}
-use Rattle.qq_cluster_queue.specs.Members.{Member}
+use Rattle.qq_cluster_laws.specs.Serves.{Seen}
 use Rattle.qq_cluster_queue.specs.declared.cluster_queue.ClusterQueue.{ClusterQueue}
-use Rattle.qq_nodes.specs.Logs.{NodeTurns}
 use Rattle.qq_nodes.specs.Nodes.{node_at, seen, seen_in}
 use Rattle.qq_nodes.specs.Setting.{AreNew, ids_on, is_among}
 use Rattle.qq_nodes.specs.declared.node.Node.{Node}
 use Rattle.qq_nodes.specs.declared.nodes.Nodes.{Nodes as Held}
-use Rattle.qq_nodes.proofs.OwnStands.{seen-others, seen-own, set-here, set-twice}
+use Rattle.qq_nodes.proofs.OwnStands.{seen-others, set-here}
 use Rattle.qq_nodes.proofs.Turned.{set-other}
-use Rattle.qq_opening.specs.Opened.{AreOpened, IsMarked, IsOfOpsState, IsOpenedNode, IsOpenedQueue, IsUpWith, WasRead}
+use Rattle.qq_opening.specs.Opened.{AreOpened, IsOpenedNode, IsOpenedQueue, IsUpWith, WasRead}
 use Rattle.qq_opening.specs.Opening.{state_read}
-use Rattle.qq_opening.specs.Taking.{AllChange, FailsToRecover, FindsLanes, FindsNone, GoesOn, Recovers, StepsUp, TakesUpOne, pair_index, pairs}
-use Rattle.qq_opening.specs.declared.taking.Handed.TheVariants.{AsFound}
-use Rattle.qq_opening.proofs.Changing.{AreApart, Became, all-became, all-long, set-get, set-long}
-use Rattle.qq_opening.proofs.FoundLanes.{HasLane, pair-has, pair-of, pairs-apart}
-use Rattle.qq_opening.proofs.LaneRead.{all-taken, from-in, lane-of_ops, lane-read, to-in}
-use Rattle.qq_opening.proofs.NewNodes.{apart-on, low-on, next-still, next-was, own-at, own-id, queue-row}
-use Rattle.qq_opening.proofs.Restarted.{nodes-are, take-own}
-use Rattle.qq_opening.proofs.RowsOf.{row-on}
+use Rattle.qq_opening.proofs.Changing.{set-long}
 
 -- ---- what is seen of a disk
 
@@ -124,79 +100,87 @@ module _ {D : Type 0} {tells : D → Bool} {past : D → List Disk} {faults : D 
       (own : IsOpenedNode rows node.0 lanes z)
       (queues : (i : ℕ) (row : QueueRow) (d : ClusterQueue) → slice_get rows i ≡ Some row
       → slice_get left.queues.items i ≡ Some d → IsOpenedQueue row (put (at + 1) lanes o.lanes) (at + 1) d)
-      (disk : WasRead (ids_on rows node.0) (seen tells past faults held node.0) (seen tells past faults left node.0) lanes)
-      where
-    abbrev all_lanes : ℕ → Option Lanes
-    all_lanes = put (at + 1) lanes o.lanes
+      (disk : WasRead (ids_on rows node.0) (seen tells past faults held node.0)
+      (seen tells past faults left node.0) lanes)
+    where
+      abbrev all_lanes : ℕ → Option Lanes
+      all_lanes = put (at + 1) lanes o.lanes
 
-    left-same : left ≡ record old { queues = left.queues; nodes = left.nodes }
-    left-same = same ∙ ap (λ (h : Held D). record h { queues = left.queues; nodes = left.nodes }) o.same
+      left-same : left ≡ record old { queues = left.queues; nodes = left.nodes }
+      left-same = same ∙ ap (λ (h : Held D). record h { queues = left.queues; nodes = left.nodes }) o.same
 
-    left-count : length left.nodes.items ≡ length old.nodes.items
-    left-count = ap length nodes ∙ set-long held.nodes.items (node.0 - 1) z ∙ o.node_count
+      left-count : length left.nodes.items ≡ length old.nodes.items
+      left-count = ap length nodes ∙ set-long held.nodes.items (node.0 - 1) z ∙ o.node_count
 
-    others : (i : ℕ) → (i ≢ at) → slice_get left.nodes.items i ≡ slice_get held.nodes.items i
-    others i other =
-        ap (λ (l : List (Node D)). slice_get l i) nodes
-        ∙ set-other held.nodes.items (node.0 - 1) i z (λ e. other (omega (arith, e, index)))
+      others : (i : ℕ) → (i ≢ at) → slice_get left.nodes.items i ≡ slice_get held.nodes.items i
+      others i other =
+          ap (λ (l : List (Node D)). slice_get l i) nodes
+          ∙ set-other held.nodes.items (node.0 - 1) i z (λ e. other (omega (arith, e, index)))
 
-    own-node : (own : Node D) → slice_get left.nodes.items at ≡ Some own → own ≡ z
-    own-node y there =
-        some-same y z (sym there ∙ ap (slice_get left.nodes.items) (sym index)
-        ∙ ap (λ (l : List (Node D)). slice_get l (node.0 - 1)) nodes
-        ∙ set-here tells past faults node.0 held.nodes.items x z here)
-      where
-        some-same : (a b : Node D) → Some a ≡ Some b → a ≡ b
-        some-same a b e = cc
+      own-node : (own : Node D) → slice_get left.nodes.items at ≡ Some own → own ≡ z
+      own-node y there =
+          some-same y z (sym there ∙ ap (slice_get left.nodes.items) (sym index)
+          ∙ ap (λ (l : List (Node D)). slice_get l (node.0 - 1)) nodes
+          ∙ set-here tells past faults node.0 held.nodes.items x z here)
+        where
+          some-same : (a b : Node D) → Some a ≡ Some b → a ≡ b
+          some-same a b e = cc
 
-    opened-node : (i : ℕ) (y : Node D) → i < at + 1 → slice_get left.nodes.items i ≡ Some y
-        → IsOpenedNode rows (i + 1) (all_lanes (i + 1)) y
-    opened-node i y below there = elim (cases_eq i at) [
-      | inl e ↦ subst (λ (j : ℕ). IsOpenedNode rows (j + 1) (all_lanes (j + 1)) y) (sym e)
-          (subst (λ (l : Option Lanes). IsOpenedNode rows (at + 1) l y) (sym (put-same (at + 1) lanes o.lanes))
-          (subst (λ (j : ℕ). IsOpenedNode rows j lanes y) is
-          (subst (IsOpenedNode rows node.0 lanes) (sym (own-node y (sym (ap (slice_get left.nodes.items) e) ∙ there)))
-          own)))
-      | inr other ↦ more-lanes (λ j l. IsOpenedNode rows j l y) (at + 1) lanes o.lanes (i + 1)
-          (λ e. other (omega (arith, e)))
-          (o.opened i y (omega (arith, below, other)) (sym (others i other) ∙ there))
-    ]
+      opened-node : (i : ℕ) (y : Node D) → i < at + 1 → slice_get left.nodes.items i ≡ Some y
+          → IsOpenedNode rows (i + 1) (all_lanes (i + 1)) y
+      opened-node i y below there = elim (cases_eq i at) [
+        | inl e ↦ subst (λ (j : ℕ). IsOpenedNode rows (j + 1) (all_lanes (j + 1)) y) (sym e)
+            (subst (λ (l : Option Lanes). IsOpenedNode rows (at + 1) l y) (sym (put-same (at + 1) lanes o.lanes))
+            (subst (λ (j : ℕ). IsOpenedNode rows j lanes y) is
+            (subst (IsOpenedNode rows node.0 lanes) (sym (own-node y (sym (ap (slice_get left.nodes.items) e) ∙ there)))
+            own)))
+        | inr other ↦ more-lanes (λ j l. IsOpenedNode rows j l y) (at + 1) lanes o.lanes (i + 1)
+            (λ e. other (omega (arith, e)))
+            (o.opened i y (omega (arith, below, other)) (sym (others i other) ∙ there))
+      ]
 
-    seen-other : (j : ℕ) → (j ≢ node.0) → seen tells past faults left j ≡ seen tells past faults held j
-    seen-other = seen-others tells past faults node.0 held left z low nodes
+      seen-other : (j : ℕ) → (j ≢ node.0) → seen tells past faults left j ≡ seen tells past faults held j
+      seen-other = seen-others tells past faults node.0 held left z low nodes
 
-    -- the disk was as it is at first
-    seen-first : seen tells past faults held node.0 ≡ seen tells past faults old node.0
-    seen-first =
-        seen-same tells past faults old held node.0 low
-        (ap (slice_get held.nodes.items) index ∙ o.left at (omega arith)
-        ∙ ap (slice_get old.nodes.items) (sym index))
+      -- the disk was as it is at first
+      seen-first : seen tells past faults held node.0 ≡ seen tells past faults old node.0
+      seen-first =
+          seen-same tells past faults old held node.0 low
+          (ap (slice_get held.nodes.items) index ∙ o.left at (omega arith)
+          ∙ ap (slice_get old.nodes.items) (sym index))
 
-    disks : (k : ℕ) → 0 < k → k ≤ at + 1
-        → WasRead (ids_on rows k) (seen tells past faults old k) (seen tells past faults left k) (all_lanes k)
-    disks k some le =
-        one-more (λ j. WasRead (ids_on rows j) (seen tells past faults old j) (seen tells past faults left j) (all_lanes j))
-        at k le
-        (λ before. more-lanes (λ j l. WasRead (ids_on rows j) (seen tells past faults old j)
-        (seen tells past faults left j) l) (at + 1) lanes o.lanes k (λ e. absurd (omega (arith, e, before)))
-        (was-read (ids_on rows k) (seen tells past faults old k) (seen tells past faults held k)
-        (seen tells past faults old k) (seen tells past faults left k) (o.lanes k) refl
-        (seen-other k (λ e. absurd (omega (arith, e, is, before)))) (o.disks k some before)))
-        (subst (λ (l : Option Lanes). WasRead (ids_on rows (at + 1)) (seen tells past faults old (at + 1))
-        (seen tells past faults left (at + 1)) l) (sym (put-same (at + 1) lanes o.lanes))
-        (subst (λ (j : ℕ). WasRead (ids_on rows j) (seen tells past faults old j) (seen tells past faults left j) lanes)
-        is
-        (was-read (ids_on rows node.0) (seen tells past faults held node.0) (seen tells past faults left node.0)
-        (seen tells past faults old node.0) (seen tells past faults left node.0) lanes (sym seen-first) refl disk)))
+      disks : (k : ℕ) → 0 < k → k ≤ at + 1
+          → WasRead (ids_on rows k) (seen tells past faults old k) (seen tells past faults left k) (all_lanes k)
+      disks k some le =
+          one-more (λ j. WasRead (ids_on rows j) (seen tells past faults old j) (seen tells past faults left j)
+          (all_lanes j))
+          at k le
+          (λ before. more-lanes (λ j l. WasRead (ids_on rows j) (seen tells past faults old j)
+          (seen tells past faults left j) l) (at + 1) lanes o.lanes k (λ e. absurd (omega (arith, e, before)))
+          (was-read (ids_on rows k) (seen tells past faults old k) (seen tells past faults held k)
+          (seen tells past faults old k) (seen tells past faults left k) (o.lanes k) refl
+          (seen-other k (λ e. absurd (omega (arith, e, is, before)))) (o.disks k some before)))
+          (subst (λ (l : Option Lanes). WasRead (ids_on rows (at + 1)) (seen tells past faults old (at + 1))
+          (seen tells past faults left (at + 1)) l) (sym (put-same (at + 1) lanes o.lanes))
+          (subst (λ (j : ℕ). WasRead (ids_on rows j) (seen tells past faults old j)
+          (seen tells past faults left j) lanes)
+          is
+          (was-read (ids_on rows node.0) (seen tells past faults held node.0) (seen tells past faults left node.0)
+          (seen tells past faults old node.0) (seen tells past faults left node.0) lanes (sym seen-first) refl disk)))
 
-    pub opened-one : AreOpened tells past faults rows (at + 1) old left
-    opened-one = record {
-      lanes = all_lanes;
-      same = left-same;
-      node_count = left-count;
-      queue_count = many ∙ o.queue_count;
-      left = λ i le. others i (λ e. absurd (omega (arith, e, le))) ∙ o.left i (omega (arith, le));
-      opened = opened-node;
-      queues = queues;
-      disks = disks;
-    }
+      -- with these lanes
+      pub opened-one : (more : AreOpened tells past faults rows (at + 1) old left)
+          × (more.lanes ≡ put (at + 1) lanes o.lanes)
+      opened-one = (
+        record {
+          lanes = all_lanes;
+          same = left-same;
+          node_count = left-count;
+          queue_count = many ∙ o.queue_count;
+          left = λ i le. others i (λ e. absurd (omega (arith, e, le))) ∙ o.left i (omega (arith, le));
+          opened = opened-node;
+          queues = queues;
+          disks = disks;
+        },
+        refl,
+      )

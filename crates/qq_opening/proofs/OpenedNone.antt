@@ -1,14 +1,11 @@
 -- A node's log isn't recovered as it is opened, after others were.
-use Rattle.std.proofs.Common.{◌≡◌, ◌≢◌, ◌<◌, ◌≤◌, ◌+◌, ◌-◌, ℕ, Bool, true, List, [], ◌∷◌, ◌++◌, Option, Some, None, length, refl, sym, ap, ◌∙◌, subst, inl, inr, arith}
+use Rattle.std.proofs.Common.{◌≡◌, ◌≢◌, ◌<◌, ◌+◌, ◌-◌, ℕ, Bool, true, List, [], ◌∷◌, ◌++◌, Some, length, refl, sym, ap, ◌∙◌, subst, inl, inr, arith}
 use Rattle.std.specs.Prelude.{Err, IsTrue, slice_get}
 use Rattle.std.specs.List.{range_with_len}
-use Rattle.qq_base.specs.Causes.{Rose}
 use Rattle.qq_base.specs.declared.ids.NodeId.{NodeId}
 use Rattle.qq_base.specs.declared.ids.QueueId.{QueueId}
-use Rattle.qq_base.specs.declared.memory.Memory.{Memory}
 use Rattle.qq_base.specs.declared.memory.Memory.TheVariants.{Spent, Want}
 use Rattle.qq_disk.specs.Disk.{Disk, now}
-use Rattle.qq_lots.specs.Lots.{ids_of}
 use Rattle.qq_lots.specs.Left.{state_in}
 use Rattle.qq_node_log.specs.Log.{disk_in}
 use Rattle.qq_node_log.specs.declared.node_log.NodeLog.TheVariants.{Closed}
@@ -25,30 +22,29 @@ use Rattle.qq_cluster.specs.ClusterLaws.{HasGroups}
 use Rattle.qq_cluster.specs.Rules.{ForEach, IsOpening, IsRestart}
 use Rattle.qq_cluster_laws.specs.Linked.{IsLinked, lot_of, parts_at}
 use Rattle.qq_cluster_laws.specs.Serves.{Seen, seen_of}
-use Rattle.qq_cluster_laws.proofs.Serves.{serves-nothing}
 use Rattle.qq_nodes.specs.Ends.{OnDisk}
-use Rattle.qq_nodes.specs.Nodes.{EndsAt, seen}
+use Rattle.qq_nodes.specs.Nodes.{Begins, EndsAt, Stands, seen}
 use Rattle.qq_nodes.specs.Setting.{AreNew, IsSetupOver, ids_on, is_among}
 use Rattle.qq_nodes.specs.declared.node.Node.{Node}
 use Rattle.qq_nodes.specs.declared.nodes.Nodes.{Nodes as Held}
 use Rattle.qq_nodes.proofs.Begun.{ids-are, new-stands}
 use Rattle.qq_nodes.proofs.OwnStands.{seen-others, seen-own, set-here}
-use Rattle.qq_nodes.proofs.Stands.{ends-now}
-use Rattle.qq_nodes.proofs.Total.{total-each, total-then}
+use Rattle.qq_nodes.proofs.Total.{Allowed, total-each, total-then}
 use Rattle.qq_opening.specs.Opened.{AreOpened, IsOfOpsState, WasRead}
-use Rattle.qq_opening.specs.Opening.{GivesUpOver, HoldLogs, IsOpenCaused, IsReadAs, IsRefusedOver, IsSetupWith, Logs, MayNotOpen, StopsBefore, all_of}
+use Rattle.qq_opening.specs.Opening.{GivesUpOver, HoldLogs, IsOpenCaused, IsReadAs, IsRefusedOver, IsSetupWith, Logs, MayNotOpen, StopsBefore}
 use Rattle.qq_opening.specs.Restarting.{AreLinked, IsOfMemory}
 use Rattle.qq_opening.specs.Taking.{FailsToRecover, FindsNone, IsFaultOf, MayNotStep}
 use Rattle.qq_opening.specs.declared.restarting.RestartFault.{RestartFault}
 use Rattle.qq_opening.specs.declared.restarting.RestartFault.TheVariants as faults_of
 use Rattle.qq_opening.proofs.NewNodes.{next-still, next-was}
 use Rattle.qq_opening.proofs.Opened.{Opens, total-opens}
-use Rattle.qq_opening.proofs.OpenedDisks.{Keeps, was-read_of}
+use Rattle.qq_opening.proofs.OpenedDisks.{Keeps}
 use Rattle.qq_opening.proofs.OpenedLost.{all-give_up, back-opens, before-read, range-split, read-as}
 use Rattle.qq_opening.proofs.OpenedMore.{seen-same}
 use Rattle.qq_opening.proofs.ReadLogs.{logs-come, logs_read, read-logs}
 use Rattle.qq_opening.proofs.RefusedEach.{total-restart}
 use Rattle.qq_opening.proofs.RowsOf.{to-passing}
+use Rattle.qq_opening.proofs.Serving.{serves-none}
 use Rattle.qq_opening.proofs.Untouched.{in-first, range-below, stops-before}
 
 -- ---- setups
@@ -77,7 +73,8 @@ row-in rows k i row here member =
 
 module _ {D : Type 0} {tells : D → Bool} {past : D → List Disk} {faults : D → ℕ} (rows : List QueueRow) (old : Held D)
     (at : ℕ) (held : Held D) (o : AreOpened tells past faults rows at old held) where
-  of-ops : (k : ℕ) (l : Lanes) (id : QueueId) → In k (range_with_len 1 at) → o.lanes k ≡ Some l → In id (ids_on rows k)
+  pub of-ops : (k : ℕ) (l : Lanes) (id : QueueId) → In k (range_with_len 1 at) → o.lanes k ≡ Some l
+      → In id (ids_on rows k)
       → IsOfOpsState (state_in l id)
   of-ops k l id here read among =
       let within = range-below 1 at k here in
@@ -144,7 +141,8 @@ module _ {D : Type 0} {tells : D → Bool} {past : D → List Disk} {faults : D 
   none-keeps : Keeps (ids_on rows node.0) (seen tells past faults held node.0) (seen tells past faults left node.0)
   none-keeps =
       subst (λ (s : Seen). Keeps (ids_on rows node.0) s (seen tells past faults left node.0)) (sym seen-y)
-      (subst (λ (s : Seen). Keeps (ids_on rows node.0) (seen_of tells past faults (disk_in fails.own)) s) (sym seen-left)
+      (subst (λ (s : Seen). Keeps (ids_on rows node.0) (seen_of tells past faults (disk_in fails.own)) s)
+      (sym seen-left)
       (record {
         told = fails.disk.told;
         rises = fails.disk.later;
@@ -201,26 +199,28 @@ module _ {D : Type 0} {tells : D → Bool} {past : D → List Disk} {faults : D 
 
   -- ---- a number is at its end
 
-  spent-over : (number : ℕ) → cause ≡ recover_faults.Memory (Spent number) → (logs : Logs) (setup : Setup)
-      → IsSetupWith setup rows (length old.nodes.items) logs → HasGroups setup
-      → EndsAt tells past faults setup (IsOpening setup) old (new_cluster setup) number
-  spent-over number is_spent logs setup sw groups =
-      ends-now setup (IsOpening setup) old (new_cluster setup) number
-      (new-stands rows old new setup (setup-over setup rows (length old.nodes.items) logs sw groups))
-      (total-then (ForEach setup.nodes (IsRestart setup)) (Opens setup)
-      (total-each setup.nodes (IsRestart setup) (total-restart setup)) (total-opens setup) (new_cluster setup))
-      (OnDisk at fails.own
-      (record { node = y; here = next-was rows old new at held o node is lt y none.turn.here; is = fails.was })
-      (λ told. subst (IsSpentOn (now (past (disk_in fails.own)))) is_spent (fails.spent told)))
-      (inr (subst (IsRecoverCaused (faults (disk_in fails.own)) (faults fails.left)) is_spent fails.cause))
-
-  -- nothing has happened
   spent-none : (number : ℕ) → cause ≡ recover_faults.Memory (Spent number) → (logs : Logs) (setup : Setup)
       → IsSetupWith setup rows (length old.nodes.items) logs → HasGroups setup
       → (e : EndsAt tells past faults setup (IsOpening setup) old (new_cluster setup) number)
       × (e.serves.did.events ≡ [])
-  unfolding spent-over ends-now serves-nothing
-  spent-none number is_spent logs setup sw groups = (spent-over number is_spent logs setup sw groups, refl)
+  spent-none number is_spent logs setup sw groups =
+      let more : Allowed (IsOpening setup) (new_cluster setup) =
+      total-then (ForEach setup.nodes (IsRestart setup)) (Opens setup)
+      (total-each setup.nodes (IsRestart setup) (total-restart setup)) (total-opens setup) (new_cluster setup) in (
+        record {
+          mid = old;
+          before = [];
+          said = [];
+          serves = serves-none setup (new_cluster setup) (Begins (IsOpening setup) (new_cluster setup))
+              (Stands tells past setup old) a [] (record { rest = more.0; allowed = more.1 })
+              (new-stands rows old new setup (setup-over setup rows (length old.nodes.items) logs sw groups));
+          at = OnDisk at fails.own
+              (record { node = y; here = next-was rows old new at held o node is lt y none.turn.here; is = fails.was })
+              (λ told. subst (IsSpentOn (now (past (disk_in fails.own)))) is_spent (fails.spent told));
+          end = inr (subst (IsRecoverCaused (faults (disk_in fails.own)) (faults fails.left)) is_spent fails.cause);
+        },
+        refl,
+      )
 
   pub give-up : GivesUpOver tells past faults rows old left
   give-up = all-give_up rows old new at held o node is lt left others none-keeps
@@ -241,11 +241,13 @@ pub none-opens : {D : Type 0} {tells : D → Bool} {past : D → List Disk} {fau
     (lt : at < length old.nodes.items) (left : Held D) (cause : RecoverFault) (fault : RestartFault)
     → FindsNone tells past faults node held left cause → IsFaultOf node cause fault
     → MayNotOpen tells past faults rows old left fault
-none-opens {tells = tells} {past = past} {faults = faults} rows old new at held o node is lt left recover_faults.Disk fault none told =
+none-opens {tells = tells} {past = past} {faults = faults} rows old new at held o node is lt left recover_faults.Disk
+    fault none told =
     subst (MayNotOpen tells past faults rows old left) (sym told)
     (refuses rows old new at held o node is lt left recover_faults.Disk none (faults_of.Memory Want) tt
     (λ logs setup sw linked. tt))
-none-opens {tells = tells} {past = past} {faults = faults} rows old new at held o node is lt left (recover_faults.Damaged file place) fault none told =
+none-opens {tells = tells} {past = past} {faults = faults} rows old new at held o node is lt left
+    (recover_faults.Damaged file place) fault none told =
     subst (MayNotOpen tells past faults rows old left) (sym told)
     (refuses rows old new at held o node is lt left (recover_faults.Damaged file place) none
     (faults_of.Damaged node file place)
@@ -254,7 +256,8 @@ none-opens {tells = tells} {past = past} {faults = faults} rows old new at held 
     (reads-as rows old new at held o node is lt left (recover_faults.Damaged file place) none))
     (λ logs setup sw linked. absurd (none-refused rows old new at held o node is lt left
     (recover_faults.Damaged file place) none logs setup sw linked)))
-none-opens {tells = tells} {past = past} {faults = faults} rows old new at held o node is lt left (recover_faults.Version file byte) fault none told =
+none-opens {tells = tells} {past = past} {faults = faults} rows old new at held o node is lt left
+    (recover_faults.Version file byte) fault none told =
     subst (MayNotOpen tells past faults rows old left) (sym told)
     (refuses rows old new at held o node is lt left (recover_faults.Version file byte) none
     (faults_of.Version node file byte)
@@ -263,11 +266,13 @@ none-opens {tells = tells} {past = past} {faults = faults} rows old new at held 
     (reads-as rows old new at held o node is lt left (recover_faults.Version file byte) none))
     (λ logs setup sw linked. absurd (none-refused rows old new at held o node is lt left
     (recover_faults.Version file byte) none logs setup sw linked)))
-none-opens {tells = tells} {past = past} {faults = faults} rows old new at held o node is lt left (recover_faults.Memory Want) fault none told =
+none-opens {tells = tells} {past = past} {faults = faults} rows old new at held o node is lt left
+    (recover_faults.Memory Want) fault none told =
     subst (MayNotOpen tells past faults rows old left) (sym told)
     (refuses rows old new at held o node is lt left (recover_faults.Memory Want) none (faults_of.Memory Want) tt
     (λ logs setup sw linked. tt))
-none-opens {tells = tells} {past = past} {faults = faults} rows old new at held o node is lt left (recover_faults.Memory (Spent number)) fault none told =
+none-opens {tells = tells} {past = past} {faults = faults} rows old new at held o node is lt left
+    (recover_faults.Memory (Spent number)) fault none told =
     subst (MayNotOpen tells past faults rows old left) (sym told)
     (refuses rows old new at held o node is lt left (recover_faults.Memory (Spent number)) none
     (faults_of.Memory (Spent number))

@@ -1,19 +1,18 @@
 -- One more node is opened, over logs that support an audit and are what was read: what the cluster is then.
-use Rattle.std.proofs.Common.{◌≡◌, ◌≢◌, ◌⊎◌, ◌<◌, ◌≤◌, ◌+◌, ◌-◌, ℕ, zero, suc, Bool, true, false, not, ◌&&◌, ◌||◌, List, [], ◌∷◌, ◌++◌, Option, Some, None, length, refl, sym, ap, ◌∙◌, subst, inl, inr, arith, append-nil}
+use Rattle.std.proofs.Common.{◌≡◌, ◌<◌, ◌+◌, ◌-◌, ℕ, zero, suc, Bool, true, false, not, ◌&&◌, ◌||◌, List, [], ◌∷◌, ◌++◌, Option, Some, None, length, refl, sym, ap, ◌∙◌, subst, arith, append-nil}
 use Rattle.std.specs.Fmt.{decimal}
 use Rattle.std.specs.Global.{Vec}
-use Rattle.std.specs.Prelude.{IsTrue, codes, is_some, slice_get, slice_set, take}
+use Rattle.std.specs.Prelude.{codes, is_some, slice_get, take}
 use Rattle.std.specs.List.{range_with_len}
 use Rattle.qq_base.proofs.Puts.{put-other, put-same}
 use Rattle.qq_base.specs.Fronts.{put}
 use Rattle.qq_base.specs.declared.ids.NodeId.{NodeId}
 use Rattle.qq_base.specs.declared.ids.QueueId.{QueueId}
-use Rattle.qq_disk.specs.Disk.{Disk, now}
+use Rattle.qq_disk.specs.Disk.{Disk}
 use Rattle.qq_log.specs.Stable.{Stable, stable}
 use Rattle.qq_log.specs.declared.lane.Lane.{Lane}
-use Rattle.qq_log.specs.declared.op.Op.{Op}
 use Rattle.qq_lots.specs.Left.{state_in}
-use Rattle.qq_lots.specs.Lots.{Part, ids_of, new_part}
+use Rattle.qq_lots.specs.Lots.{ids_of, new_part}
 use Rattle.qq_node_log.specs.Log.{disk_in}
 use Rattle.qq_node_log.specs.declared.node_log.NodeLog.TheVariants.{Closed}
 use Rattle.qq_raft_model.specs.Group.{Seat}
@@ -41,10 +40,9 @@ use Rattle.qq_nodes.proofs.Begun.{ids-are}
 use Rattle.qq_nodes.proofs.OwnStands.{QueuesOf, node-was, set-here, stands-own}
 use Rattle.qq_nodes.proofs.Owned.{own-fail}
 use Rattle.qq_nodes.proofs.Quiet.{quiet-stopped}
-use Rattle.qq_nodes.proofs.Stands.{serves-means}
 use Rattle.qq_opening.specs.Opened.{AreOpened, OpenedServes, RestartedTo}
 use Rattle.qq_opening.specs.Opening.{AreLogsOf, AreReadLogs, HaveRestarted, IsSetupWith, Logs, seat_over, state_read, told_of}
-use Rattle.qq_opening.specs.Taking.{FailsToRecover, FindsNone, IsAsFound, StepsUp, TakesUpOne, lane_state, pairs}
+use Rattle.qq_opening.specs.Taking.{FailsToRecover, FindsNone, IsAsFound, StepsUp, pairs}
 use Rattle.qq_opening.specs.declared.taking.Handed.TheVariants.{AsFound}
 use Rattle.qq_opening.proofs.Agreed.{logs-none}
 use Rattle.qq_opening.proofs.FoundLanes.{HasLane, pair-has}
@@ -54,6 +52,7 @@ use Rattle.qq_opening.proofs.OpenedStep.{last-nodes, last-queues, last-same, lef
 use Rattle.qq_opening.proofs.OwnDisk.{disk-serves}
 use Rattle.qq_opening.proofs.ReadLogs.{none-come}
 use Rattle.qq_opening.proofs.Restarted.{serves-then}
+use Rattle.qq_opening.proofs.Serving.{serves-same}
 use Rattle.qq_opening.proofs.RestartRules.{each-up, restarted-rule, taken-away}
 use Rattle.qq_opening.proofs.Unrecovered.{always, failed-node, fails-restart, old-queues, same-disk, stops-parts}
 use Rattle.qq_opening.proofs.Untouched.{came-more, each-first, each-seat, in-first, range-below, restart-first, seat_at}
@@ -145,7 +144,7 @@ module _ {D : Type 0} {tells : D → Bool} {past : D → List Disk} {faults : D 
         and-true false = refl
 
     serves-one : OpenedServes tells past faults setup (at + 1) lanes more old left before later
-    serves-one = record { serves = serves-means whole whole.did.means.0; came = whole.did.means.1 }
+    serves-one = record { serves = serves-same whole whole.did.means.0; came = whole.did.means.1 }
 
   -- ---- it was recovered
 
@@ -315,6 +314,6 @@ module _ {D : Type 0} {tells : D → Bool} {past : D → List Disk} {faults : D 
     pub serves-down : (more : Bool) → more ≡ (some || false)
         → OpenedServes tells past faults setup (at + 1) (put (at + 1) None o.lanes) more old last before later
     serves-down more more_is =
-        serves-one last None more false later more_is (serves-means stays-down stays-down.did.means.0)
+        serves-one last None more false later more_is (serves-same stays-down stays-down.did.means.0)
         (sym (ap (λ (l : List ClusterEvent). (cluster_after c l).up k) stays-down.did.means.1 ∙ put-same k false c.up))
         refl

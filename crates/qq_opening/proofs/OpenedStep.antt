@@ -1,8 +1,7 @@
 -- One more node is opened: it was recovered, or its disk has failed.
-use Rattle.std.proofs.Common.{◌≡◌, ◌≢◌, ◌⊎◌, ◌<◌, ◌≤◌, ◌+◌, ◌-◌, ℕ, Bool, true, false, not, List, [], ◌∷◌, Option, Some, None, length, refl, sym, ap, ◌∙◌, subst, inl, inr, arith}
+use Rattle.std.proofs.Common.{◌≡◌, ◌≢◌, ◌⊎◌, ◌<◌, ◌+◌, ◌-◌, ℕ, Bool, true, false, List, Option, Some, None, length, refl, sym, ap, ◌∙◌, subst, inl, inr, arith}
 use Rattle.std.specs.Global.{Vec}
-use Rattle.std.specs.Prelude.{IsTrue, Ok, is_some, slice_get, slice_set}
-use Rattle.std.proofs.lemmas.Bool.{cases_Bool, false≢true}
+use Rattle.std.specs.Prelude.{is_some, slice_get, slice_set}
 use Rattle.qq_base.proofs.Puts.{put-other, put-same}
 use Rattle.qq_base.specs.Fronts.{put}
 use Rattle.qq_base.specs.declared.ids.NodeId.{NodeId}
@@ -12,21 +11,17 @@ use Rattle.qq_disk.specs.Disk.{Disk, now}
 use Rattle.qq_group.specs.Group.{server_at, server_by}
 use Rattle.qq_log.specs.Stable.{Stable, stable}
 use Rattle.qq_log.specs.declared.lane.Lane.{Lane}
-use Rattle.qq_log.specs.declared.op.Op.{Op}
 use Rattle.qq_lots.specs.Kept.{KeepsPromised}
 use Rattle.qq_lots.specs.Left.{state_in}
-use Rattle.qq_lots.specs.Lots.{Lot, Parts, ids_of}
 use Rattle.qq_node_log.specs.Found.{AreLanes}
 use Rattle.qq_node_log.specs.Log.{disk_in}
 use Rattle.qq_node_log.specs.declared.node_log.NodeLog.TheVariants.{Open, Closed}
 use Rattle.qq_raft_protocol.specs.Facts.{In}
 use Rattle.qq_recover.specs.Reading.{lanes_read, shown}
-use Rattle.qq_recover.specs.declared.fault.RecoverFault.{RecoverFault}
 use Rattle.qq_recover.specs.declared.fault.RecoverFault.TheVariants as recover_faults
 use Rattle.qq_setup.specs.declared.queue_row.QueueRow.{QueueRow}
 use Rattle.qq_wal_chain.specs.Lanes.{Lanes}
 use Rattle.qq_cluster_laws.specs.Serves.{Seen, seen_of}
-use Rattle.qq_cluster_queue.specs.Agreeing.{BeginsWith}
 use Rattle.qq_cluster_queue.specs.declared.cluster_queue.ClusterQueue.{ClusterQueue}
 use Rattle.qq_nodes.specs.Logs.{NodeTurns}
 use Rattle.qq_nodes.specs.Nodes.{IsNodeAt, seen}
@@ -34,15 +29,14 @@ use Rattle.qq_nodes.specs.Setting.{AreNew, ids_on, is_among}
 use Rattle.qq_nodes.specs.declared.node.Node.{Node}
 use Rattle.qq_nodes.specs.declared.nodes.Nodes.{Nodes as Held}
 use Rattle.qq_nodes.proofs.OwnStands.{seen-own, set-here, set-twice}
-use Rattle.qq_opening.specs.Opened.{AreOpened, IsMarked, IsOfOpsState, IsOpenedNode, IsOpenedQueue, IsUpWith, WasRead}
+use Rattle.qq_opening.specs.Opened.{AreOpened, IsOfOpsState, IsOpenedNode, IsOpenedQueue, IsUpWith, WasRead}
 use Rattle.qq_opening.specs.Opening.{state_read, told_of}
 use Rattle.qq_opening.specs.Taking.{AllChange, FailsToRecover, FindsLanes, FindsNone, Recovers, StepsUp, TakesUpOne, lane_state, pair_index, pairs}
-use Rattle.qq_opening.specs.declared.taking.Handed.{Handed}
 use Rattle.qq_opening.specs.declared.taking.Handed.TheVariants.{AsFound}
 use Rattle.qq_opening.proofs.Changing.{AreApart, Became, all-became, all-long}
 use Rattle.qq_opening.proofs.FoundLanes.{HasLane, pair-has, pair-of, pairs-apart}
 use Rattle.qq_opening.proofs.LaneRead.{all-taken, from-in, lane-of_ops, lane-read, to-in}
-use Rattle.qq_opening.proofs.NewNodes.{apart-on, low-in, low-on, next-still, own-at, own-id, queue-row}
+use Rattle.qq_opening.proofs.NewNodes.{apart-on, low-in, low-on, next-still, own-at, own-id}
 use Rattle.qq_opening.proofs.OpenedMore.{one-more, opened-one, queue-still}
 use Rattle.qq_opening.proofs.Restarted.{nodes-are, take-own}
 use Rattle.qq_opening.proofs.RowsOf.{to-passing}
@@ -255,7 +249,8 @@ module _ {D : Type 0} {tells : D → Bool} {past : D → List Disk} {faults : D 
           queues_are = ap (λ (y : Node D). y.queues.items) (rec finds').is ∙ still.queues_are;
         }
 
-    pub opened-up : AreOpened tells past faults rows (at + 1) old left
+    pub opened-up : (more : AreOpened tells past faults rows (at + 1) old left)
+        × (more.lanes ≡ put (at + 1) (Some found_lanes) o.lanes)
     opened-up =
         opened-one rows old new at held o node is lt left own_x (record finds'.turn.new { up = true; empty = false })
         (Some found_lanes) finds'.turn.here left-nodes same-else many own-node queue-each
@@ -348,7 +343,8 @@ module _ {D : Type 0} {tells : D → Bool} {past : D → List Disk} {faults : D 
           queues_are = ap (λ (n : Node D). n.queues.items) fails.is ∙ still.queues_are;
         }
 
-    pub opened-empty : AreOpened tells past faults rows (at + 1) old last
+    pub opened-empty : (more : AreOpened tells past faults rows (at + 1) old last)
+        × (more.lanes ≡ put (at + 1) None o.lanes)
     opened-empty =
         opened-one rows old new at held o node is lt last y z None none.turn.here last-nodes last-same
         (ap (λ (q : Vec ClusterQueue). length q.items) last-queues) empty-node queue-kept disk-failed

@@ -1,9 +1,9 @@
 -- There are logs that are what was read.
-use Rattle.std.proofs.Common.{◌≡◌, ◌<◌, ◌≤◌, ◌+◌, ◌-◌, ℕ, zero, suc, Bool, true, false, cond, List, [], ◌∷◌, Option, Some, None, length, refl, sym, ap, ◌∙◌, subst, inl, inr, arith}
+use Rattle.std.proofs.Common.{◌≡◌, ◌+◌, ℕ, zero, suc, Bool, true, false, cond, List, [], ◌∷◌, Option, Some, None, length, refl, sym, ap, ◌∙◌, subst, arith}
 use Rattle.std.specs.Prelude.{slice_get}
 use Rattle.std.specs.List.{AllByRecursion}
 use Rattle.qq_base.specs.declared.ids.QueueId.{QueueId}
-use Rattle.qq_log.specs.Stable.{Stable, new_state, stable}
+use Rattle.qq_log.specs.Stable.{new_state, stable}
 use Rattle.qq_log.specs.declared.op.Op.{Op}
 use Rattle.qq_lots.proofs.Counts.{state-count}
 use Rattle.qq_lots.specs.Left.{state_in}
@@ -15,7 +15,6 @@ use Rattle.qq_nodes.specs.Setting.{ids_on, is_among}
 use Rattle.qq_opening.specs.Opened.{IsOfOpsState}
 use Rattle.qq_opening.specs.Opening.{AreLogsOf, AreReadLogs, Logs, state_read}
 use Rattle.qq_opening.proofs.Canonical.{state-come, state-own, state_ops}
-use Rattle.qq_opening.proofs.RowsOf.{row-on}
 
 -- ---- a log
 

@@ -122,30 +122,31 @@ module _ {D : Type 0} {tells : D → Bool} {past : D → List Disk} {faults : D 
       → Served tells past faults (FirstTo at) old mid before middle
       → Refuses tells past faults (this_node node.0) (λ setup. IsRestart setup node.0) mid new middle fault
       → Refuses tells past faults all_nodes (λ setup. ForEach setup.nodes (IsRestart setup)) old new before fault
-  refuses-each at node {old = old} {mid = mid} {new = new} {before = before} {middle = middle} {fault = fault} is lt first second = record {
-    gives_up = λ setup c r st. (let s = first.serves setup c r st in
-        gives_up-behind setup c (FirstTo at setup c) (Stands tells past setup mid) (seen tells past faults old)
-        (seen tells past faults mid) (seen tells past faults new) before middle s
-        (second.gives_up setup (cluster_after c s.did.events) (reached-after setup c s.did.events r) s.did.stands));
-    refused = λ setup c r st. (let s = first.serves setup c r st in
-        let d : Cluster = cluster_after c s.did.events in
-        refused-behind tells past faults setup c at node.0 old mid before middle fault
-        (subst (λ (k : ℕ). drop at setup.nodes ≡ k ∷ drop (at + 1) setup.nodes) (sym (is setup d s.did.stands))
-        (place-at setup.nodes (length mid.nodes.items) at s.did.stands.set_up.nodes lt)) s
-        (second.refused setup d (reached-after setup c s.did.events r) s.did.stands));
-    spent = λ number spent.
-        (nodes-gave_up IsRestart at node total-restart is lt
-        (served-weaker first (λ setup c events r st allowed. restarted-leads at setup c events allowed))
-        (gave-spent number second spent)).spent number refl;
-    never = λ setup c r st linked. (let s = first.serves setup c r st in
-        let d : Cluster = cluster_after c s.did.events in
-        let own = is setup d s.did.stands in
-        let are = s.did.stands.set_up.nodes in
-        second.never setup d (reached-after setup c s.did.events r) s.did.stands (
-          still-linked setup c node.0 (FirstTo at setup c) (Stands tells past setup mid)
-              (seen tells past faults old) (seen tells past faults mid) before middle s
-              (node-in setup at node.0 (length mid.nodes.items) are lt own)
-              (one-linked tells past faults setup c old at node.0 (length mid.nodes.items) are lt own linked),
-          tt,
-        ));
-  }
+  refuses-each at node {old = old} {mid = mid} {new = new} {before = before} {middle = middle}
+      {fault = fault} is lt first second = record {
+        gives_up = λ setup c r st. (let s = first.serves setup c r st in
+            gives_up-behind setup c (FirstTo at setup c) (Stands tells past setup mid) (seen tells past faults old)
+            (seen tells past faults mid) (seen tells past faults new) before middle s
+            (second.gives_up setup (cluster_after c s.did.events) (reached-after setup c s.did.events r) s.did.stands));
+        refused = λ setup c r st. (let s = first.serves setup c r st in
+            let d : Cluster = cluster_after c s.did.events in
+            refused-behind tells past faults setup c at node.0 old mid before middle fault
+            (subst (λ (k : ℕ). drop at setup.nodes ≡ k ∷ drop (at + 1) setup.nodes) (sym (is setup d s.did.stands))
+            (place-at setup.nodes (length mid.nodes.items) at s.did.stands.set_up.nodes lt)) s
+            (second.refused setup d (reached-after setup c s.did.events r) s.did.stands));
+        spent = λ number spent.
+            (nodes-gave_up IsRestart at node total-restart is lt
+            (served-weaker first (λ setup c events r st allowed. restarted-leads at setup c events allowed))
+            (gave-spent number second spent)).spent number refl;
+        never = λ setup c r st linked. (let s = first.serves setup c r st in
+            let d : Cluster = cluster_after c s.did.events in
+            let own = is setup d s.did.stands in
+            let are = s.did.stands.set_up.nodes in
+            second.never setup d (reached-after setup c s.did.events r) s.did.stands (
+              still-linked setup c node.0 (FirstTo at setup c) (Stands tells past setup mid)
+                  (seen tells past faults old) (seen tells past faults mid) before middle s
+                  (node-in setup at node.0 (length mid.nodes.items) are lt own)
+                  (one-linked tells past faults setup c old at node.0 (length mid.nodes.items) are lt own linked),
+              tt,
+            ));
+      }

@@ -25,16 +25,17 @@ module _ {D : Type 0} {tells : D → Bool} {past : D → List Disk} {faults : D 
       → Served tells past faults (FirstTo at) old mid before middle
       → Served tells past faults (λ setup. IsRestart setup node.0) mid new middle later
       → Served tells past faults (FirstTo (at + 1)) old new before later
-  first-next at node {old = old} {mid = mid} {new = new} {before = before} {middle = middle} {later = later} is lt first second = record {
-    serves = λ setup c r st. (let s = first.serves setup c r st in
-        let d : Cluster = cluster_after c s.did.events in
-        let t = second.serves setup d (reached-after setup c s.did.events r) s.did.stands in
-        serves-both setup c (FirstTo at setup c) (IsRestart setup node.0 d) (FirstTo (at + 1) setup c)
-        (Stands tells past setup mid) (Stands tells past setup new) (seen tells past faults old)
-        (seen tells past faults mid) (seen tells past faults new) before middle later s t
-        (first-more setup at node.0 (length mid.nodes.items) c s.did.events t.did.events
-        s.did.stands.set_up.nodes lt (is setup d s.did.stands) s.did.means t.did.means));
-  }
+  first-next at node {old = old} {mid = mid} {new = new} {before = before} {middle = middle}
+      {later = later} is lt first second = record {
+        serves = λ setup c r st. (let s = first.serves setup c r st in
+            let d : Cluster = cluster_after c s.did.events in
+            let t = second.serves setup d (reached-after setup c s.did.events r) s.did.stands in
+            serves-both setup c (FirstTo at setup c) (IsRestart setup node.0 d) (FirstTo (at + 1) setup c)
+            (Stands tells past setup mid) (Stands tells past setup new) (seen tells past faults old)
+            (seen tells past faults mid) (seen tells past faults new) before middle later s t
+            (first-more setup at node.0 (length mid.nodes.items) c s.did.events t.did.events
+            s.did.stands.set_up.nodes lt (is setup d s.did.stands) s.did.means t.did.means));
+      }
 
   -- all of them
   pub first-all : (at : ℕ) {old new : Held D} {before later : List ℕ} → length old.nodes.items ≤ at

@@ -1,5 +1,5 @@
 -- A node that is down was recovered, or not, as a step leaves it.
-use Rattle.std.proofs.Common.{◌≡◌, ◌++◌, ◌-◌, ℕ, Bool, List, Option, refl, sym, ap, ◌∙◌, subst, inl, inr}
+use Rattle.std.proofs.Common.{◌≡◌, ◌++◌, ◌-◌, ℕ, Bool, List, Option, refl, ap, subst, inl, inr}
 use Rattle.std.specs.Global.{Vec}
 use Rattle.std.specs.Prelude.{codes}
 use Rattle.std.specs.Fmt.{decimal}
@@ -18,7 +18,8 @@ use Rattle.qq_opening.specs.Taking.{FailsToRecover, FindsLanes, FindsNone, GoesO
 use Rattle.qq_opening.specs.declared.restarting.RestartFault.{RestartFault}
 use Rattle.qq_opening.specs.declared.restarting.RestartFault.TheVariants as faults_of
 
-abbrev IsNotFound : {D : Type 0} → (D → Bool) → (D → List Disk) → (D → ℕ) → NodeId → Held D → Vec (Node D) → RecoverFault
+abbrev IsNotFound : {D : Type 0} → (D → Bool) → (D → List Disk) → (D → ℕ) → NodeId → Held D → Vec (Node D)
+    → RecoverFault
     → Type 0
 IsNotFound {D} tells past faults node old nodes cause =
     NodeTurns (λ (x y : Node D). FailsToRecover tells past faults x y cause) (node.0 - 1) old.nodes.items nodes.items
@@ -53,38 +54,47 @@ module _ {D : Type 0} {tells : D → Bool} {past : D → List Disk} {faults : D 
       → FindsNone tells past faults node old (record old { nodes = nodes }) cause
   none cause turn = record { turn = turn; same = refl }
 
-  pub steps-failed : (cause : RecoverFault) (before later : List ℕ) → IsNotFound tells past faults node old nodes cause → cause ≡ recover_faults.Disk
+  pub steps-failed : (cause : RecoverFault) (before later : List ℕ)
+      → IsNotFound tells past faults node old nodes cause → cause ≡ recover_faults.Disk
       → later ≡ before ++ (codes "node " ++ decimal node.0 ++ codes " stopped\n")
       → Steps tells past faults node opens old (record old { nodes = nodes }) before later
   steps-failed cause before later turn is says =
       inr (none recover_faults.Disk (subst (IsNotFound tells past faults node old nodes) is turn), says)
 
-  pub not-stepped : (cause : RecoverFault) (fault : RestartFault) → IsNotFound tells past faults node old nodes cause → IsFaultOf node cause fault
+  pub not-stepped : (cause : RecoverFault) (fault : RestartFault) → IsNotFound tells past faults node old nodes cause
+      → IsFaultOf node cause fault
       → MayNotStep tells past faults node opens old (record old { nodes = nodes }) fault
   not-stepped cause fault turn is = inr (cause, none cause turn, is)
 
-  pub not-told : (cause : RecoverFault) (memory : Memory) → IsNotFound tells past faults node old nodes cause → cause ≡ recover_faults.Disk → memory ≡ Want
+  pub not-told : (cause : RecoverFault) (memory : Memory) → IsNotFound tells past faults node old nodes cause
+      → cause ≡ recover_faults.Disk → memory ≡ Want
       → MayNotStep tells past faults node opens old (record old { nodes = nodes }) (faults_of.Memory memory)
   not-told cause memory turn is want =
-      not-stepped recover_faults.Disk (faults_of.Memory memory) (subst (IsNotFound tells past faults node old nodes) is turn) (ap faults_of.Memory want)
+      not-stepped recover_faults.Disk (faults_of.Memory memory)
+      (subst (IsNotFound tells past faults node old nodes) is turn) (ap faults_of.Memory want)
 
-  pub not-damaged : (cause : RecoverFault) (own file : FileName) (there place : ℕ) → IsNotFound tells past faults node old nodes cause
+  pub not-damaged : (cause : RecoverFault) (own file : FileName) (there place : ℕ)
+      → IsNotFound tells past faults node old nodes cause
       → cause ≡ recover_faults.Damaged own there → file ≡ own → place ≡ there
       → MayNotStep tells past faults node opens old (record old { nodes = nodes }) (faults_of.Damaged node file place)
   not-damaged cause own file there place turn is file_is place_is =
-      not-stepped (recover_faults.Damaged own there) (faults_of.Damaged node file place) (subst (IsNotFound tells past faults node old nodes) is turn)
+      not-stepped (recover_faults.Damaged own there) (faults_of.Damaged node file place)
+      (subst (IsNotFound tells past faults node old nodes) is turn)
       (λ i. faults_of.Damaged node (file_is i) (place_is i))
 
-  pub not-version : (cause : RecoverFault) (own file : FileName) (there byte : ℕ) → IsNotFound tells past faults node old nodes cause
+  pub not-version : (cause : RecoverFault) (own file : FileName) (there byte : ℕ)
+      → IsNotFound tells past faults node old nodes cause
       → cause ≡ recover_faults.Version own there → file ≡ own → byte ≡ there
       → MayNotStep tells past faults node opens old (record old { nodes = nodes }) (faults_of.Version node file byte)
   not-version cause own file there byte turn is file_is byte_is =
-      not-stepped (recover_faults.Version own there) (faults_of.Version node file byte) (subst (IsNotFound tells past faults node old nodes) is turn)
+      not-stepped (recover_faults.Version own there) (faults_of.Version node file byte)
+      (subst (IsNotFound tells past faults node old nodes) is turn)
       (λ i. faults_of.Version node (file_is i) (byte_is i))
 
   pub not-remembered : (cause : RecoverFault) (own memory : Memory) → IsNotFound tells past faults node old nodes cause
       → cause ≡ recover_faults.Memory own → memory ≡ own
       → MayNotStep tells past faults node opens old (record old { nodes = nodes }) (faults_of.Memory memory)
   not-remembered cause own memory turn is memory_is =
-      not-stepped (recover_faults.Memory own) (faults_of.Memory memory) (subst (IsNotFound tells past faults node old nodes) is turn)
+      not-stepped (recover_faults.Memory own) (faults_of.Memory memory)
+      (subst (IsNotFound tells past faults node old nodes) is turn)
       (ap faults_of.Memory memory_is)

@@ -1,5 +1,5 @@
 -- A node that is down isn't recovered: its disk has failed, or the restart is given up.
-use Rattle.std.proofs.Common.{◌≡◌, ◌<◌, ◌+◌, ◌-◌, ℕ, Bool, false, List, [], ◌∷◌, ◌++◌, Some, None, length, refl, sym, ap, ◌∙◌, subst, inr, append-nil, arith}
+use Rattle.std.proofs.Common.{◌≡◌, ◌<◌, ◌+◌, ◌-◌, ℕ, Bool, false, List, [], ◌∷◌, ◌++◌, Some, None, length, refl, sym, ap, ◌∙◌, subst, inr, append-nil}
 use Rattle.std.specs.Fmt.{decimal}
 use Rattle.std.specs.Global.{Vec}
 use Rattle.std.specs.Prelude.{IsTrue, codes}
@@ -20,12 +20,12 @@ use Rattle.qq_recover.specs.declared.fault.RecoverFault.{RecoverFault}
 use Rattle.qq_recover.specs.declared.fault.RecoverFault.TheVariants as recover_faults
 use Rattle.qq_cluster.specs.Cluster.{Cluster, Fails, Setup, cluster_happens}
 use Rattle.qq_cluster.specs.Queue.{Queue, Stops, happens}
-use Rattle.qq_cluster.specs.Rules.{IsFound, IsNothing, IsRestart}
+use Rattle.qq_cluster.specs.Rules.{ForEach, IsFound, IsNothing, IsRestart}
 use Rattle.qq_cluster_laws.specs.Linked.{IsLinked, IsReached, lot_of, part_at, parts_at}
 use Rattle.qq_cluster_laws.specs.Serves.{GivesUp, Seen, Serves, seen_of}
 use Rattle.qq_cluster_laws.proofs.Calls.{failed-traced}
 use Rattle.qq_cluster_laws.proofs.Links.{failed-follow}
-use Rattle.qq_cluster_laws.proofs.Traces.{broken-none, traced-none}
+use Rattle.qq_cluster_laws.proofs.Traces.{broken-none}
 use Rattle.qq_cluster_queue.specs.ClusterQueue.{Stands as IsQueue}
 use Rattle.qq_cluster_queue.specs.Sessions.{standings}
 use Rattle.qq_cluster_queue.specs.declared.cluster_queue.ClusterQueue.{ClusterQueue}
@@ -43,6 +43,7 @@ use Rattle.qq_opening.specs.declared.restarting.RestartFault.{RestartFault}
 use Rattle.qq_opening.specs.declared.restarting.RestartFault.TheVariants as faults_of
 use Rattle.qq_opening.proofs.FoundQueues.{down-server, not-stopped}
 use Rattle.qq_opening.proofs.OwnDisk.{disk-gives_up, disk-serves, seen-before}
+use Rattle.qq_opening.proofs.Serving.{serves-none}
 use Rattle.qq_nodes.proofs.OwnStands.{QueuesOf, node-was, stands-own}
 use Rattle.qq_nodes.proofs.Stands.{ends-now}
 use Rattle.qq_nodes.proofs.Owned.{own-fail}
@@ -66,19 +67,9 @@ restarts-none tells past faults setup c k old before st down = record {
   are = refl;
   mid = old;
   said = before;
-  serves = record {
-    did = record {
-      events = [];
-      means = refl;
-      stands = st;
-      says = sym (append-nil before);
-      told = λ j. refl;
-      moments = λ j here tell linked. traced-none setup c j (seen tells past faults old j).past linked;
-    };
-    no_crash = λ j. tt;
-    rises = λ j. omega arith;
-    cause = λ j failed. absurd (false≢true failed);
-  };
+  serves = serves-none setup c (ForEach [] (IsRestart setup) c) (Stands tells past setup old)
+      (seen tells past faults old)
+      before refl st;
   down = down;
 }
 
@@ -212,7 +203,8 @@ module _ {D : Type 0} {tells : D → Bool} {past : D → List Disk} {faults : D 
       failed-stands =
           stands-own setup c k (Fails k ∷ []) old left turn.old turn.new (own-fail k, tt)
           (record { low = at.0; here = turn.here; same = same-else; nodes = turn.is; many = ap length queues-same }) st
-          failed-node failed-queues refl (λ i lt calm. quiet-stopped setup c.up (c.queue (i + 1)) k (st.quiet i lt calm))
+          failed-node failed-queues refl (λ i lt calm. quiet-stopped setup c.up (c.queue (i + 1)) k
+          (st.quiet i lt calm))
 
       pub failed-serves : fault ≡ recover_faults.Disk → (before after : List ℕ)
           → after ≡ before ++ (codes "node " ++ decimal k ++ codes " stopped\n")
@@ -309,20 +301,25 @@ module _ {D : Type 0} {tells : D → Bool} {past : D → List Disk} {faults : D 
 
 -- why a node isn't restarted whose log wasn't recovered
 pub not-restarted : {D : Type 0} {tells : D → Bool} {past : D → List Disk} {faults : D → ℕ} (node : NodeId)
-    (old left : Held D) (at : IsNodeAt node old) (cause : RecoverFault) → FindsNone tells past faults node old left cause
+    (old left : Held D) (at : IsNodeAt node old) (cause : RecoverFault)
+    → FindsNone tells past faults node old left cause
     → (before : List ℕ) (fault : RestartFault)
     → ((setup : Setup) (c : Cluster) → Stands tells past setup old c → c.up node.0 ≡ false)
     → IsFaultOf node cause fault
     → Refuses tells past faults (this_node node.0) (λ setup. IsRestart setup node.0) old left before fault
-not-restarted {tells = tells} {past = past} {faults = faults} node old left at recover_faults.Disk none before fault down is =
+not-restarted {tells = tells} {past = past} {faults = faults} node old left at recover_faults.Disk none before
+    fault down is =
     subst (Refuses tells past faults (this_node node.0) (λ setup. IsRestart setup node.0) old left before) (sym is)
     (no-memory node old left recover_faults.Disk at none before down)
-not-restarted {tells = tells} {past = past} {faults = faults} node old left at (recover_faults.Damaged file place) none before fault down is =
+not-restarted {tells = tells} {past = past} {faults = faults} node old left at
+    (recover_faults.Damaged file place) none before fault down is =
     subst (Refuses tells past faults (this_node node.0) (λ setup. IsRestart setup node.0) old left before) (sym is)
     (damaged node old left (recover_faults.Damaged file place) at none before down file place refl)
-not-restarted {tells = tells} {past = past} {faults = faults} node old left at (recover_faults.Version file byte) none before fault down is =
+not-restarted {tells = tells} {past = past} {faults = faults} node old left at
+    (recover_faults.Version file byte) none before fault down is =
     subst (Refuses tells past faults (this_node node.0) (λ setup. IsRestart setup node.0) old left before) (sym is)
     (other-version node old left (recover_faults.Version file byte) at none before down file byte refl)
-not-restarted {tells = tells} {past = past} {faults = faults} node old left at (recover_faults.Memory memory) none before fault down is =
+not-restarted {tells = tells} {past = past} {faults = faults} node old left at
+    (recover_faults.Memory memory) none before fault down is =
     subst (Refuses tells past faults (this_node node.0) (λ setup. IsRestart setup node.0) old left before) (sym is)
     (spent-memory node old left (recover_faults.Memory memory) at none before down memory refl)

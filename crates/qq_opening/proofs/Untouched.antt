@@ -1,11 +1,11 @@
 -- What restarts of some nodes leave as it was: the seats of other nodes, and that these have yet to restart.
-use Rattle.std.proofs.Common.{◌≡◌, ◌⊎◌, ◌<◌, ◌≤◌, ◌+◌, ◌-◌, ℕ, zero, suc, Bool, true, false, cond, ◌&&◌, List, [], ◌∷◌, ◌++◌, Option, Some, None, length, refl, sym, ap, ◌∙◌, subst, inl, inr, arith}
+use Rattle.std.proofs.Common.{◌≡◌, ◌⊎◌, ◌<◌, ◌≤◌, ◌+◌, ◌-◌, ℕ, zero, suc, Bool, true, false, ◌&&◌, List, [], ◌∷◌, ◌++◌, Option, Some, None, length, refl, sym, ap, ◌∙◌, subst, inl, inr, arith}
 use Rattle.std.specs.Prelude.{is_some, nat_eq, nat_le}
 use Rattle.std.specs.List.{list_all, range_with_len}
 use Rattle.std.proofs.lemmas.Bool.{and_from, cond_both, eq-eqb, false≢true, le-leb, ne_eqb}
 use Rattle.qq_base.proofs.Puts.{put-other, put-same}
 use Rattle.qq_log.specs.declared.op.Op.{Op}
-use Rattle.qq_raft_model.specs.Group.{Group, Seat, has_node, is_down, may_restart}
+use Rattle.qq_raft_model.specs.Group.{Seat, has_node, is_down, may_restart}
 use Rattle.qq_raft_protocol.specs.Facts.{In}
 use Rattle.qq_raft_protocol.proofs.Lists.{In-append}
 use Rattle.qq_wal_chain.specs.Lanes.{Lanes}
@@ -17,7 +17,7 @@ use Rattle.qq_cluster_laws.proofs.Reached.{after-both}
 use Rattle.qq_cluster_laws.proofs.Restarts.{first-both, first-stays}
 use Rattle.qq_nodes.proofs.Pumping.{rule-else}
 use Rattle.qq_nodes.proofs.Walks.{in-range}
-use Rattle.qq_opening.specs.Opening.{HaveRestarted, IsSetupWith, Logs, StopsBefore, seat_over}
+use Rattle.qq_opening.specs.Opening.{HaveRestarted, Logs, StopsBefore, seat_over}
 use Rattle.qq_opening.proofs.FoundQueues.{found-others}
 use Rattle.qq_opening.proofs.RestartRules.{each-both, each-one, each-up}
 

@@ -1,5 +1,5 @@
--- What stands while nodes are opened: what was read of the first of them, and what the cluster is where that turns out to
--- support an audit.
+-- What stands while nodes are opened: what was read of the first of them, and what the cluster is where that turns
+-- out to support an audit.
 use Rattle.std.specs.Prelude.{◌≡◌, ◌<◌, ◌≤◌, ◌+◌, ℕ, Bool, true, false, not, List, [], Option, Some, None, Ok, Contains, IsTrue, is_some, length, map, slice_get, take}
 use Rattle.std.specs.List.{range_with_len}
 use Rattle.qq_base.specs.Causes.{Rose}

@@ -1,5 +1,6 @@
--- Nodes are opened over disks that may hold the logs of an earlier run: what they read, and over which logs the cluster begins.
-use Rattle.std.specs.Prelude.{◌≡◌, ◌≢◌, ◌⊎◌, ◌<◌, ◌+◌, ◌-◌, ◌++◌, ◌∷◌, ℕ, Bool, true, false, List, [], Option, Some, None, Ok, Err, Contains, IsTrue, is_some, length, slice_get}
+-- Nodes are opened over disks that may hold the logs of an earlier run: what they read, and over which logs the
+-- cluster begins.
+use Rattle.std.specs.Prelude.{◌≡◌, ◌⊎◌, ◌<◌, ◌+◌, ◌-◌, ◌++◌, ◌∷◌, ℕ, Bool, true, false, List, [], Option, Some, None, Ok, Err, Contains, IsTrue, is_some, length, slice_get}
 use Rattle.std.specs.List.{AllByRecursion, range_with_len}
 use Rattle.qq_base.specs.Causes.{Rose}
 use Rattle.qq_base.specs.declared.ids.NodeId.{NodeId}
@@ -40,8 +41,8 @@ Logs = ℕ → ℕ → List Op
 abbrev pub seat_over : List Op → Seat
 seat_over ops = record { server = None; ops = ops; noticed = length ops }
 
--- So many nodes, and a queue for each row, in their order; each queue's members are down, and have these logs, which need not
--- support an audit.
+-- So many nodes, and a queue for each row, in their order; each queue's members are down, and have these logs, which
+-- need not support an audit.
 pub record IsSetupWith (setup : Setup) (rows : List QueueRow) (node_count : ℕ) (logs : Logs) : Type 0 where
   pub places : setup.places ≡ range_with_len 1 (length rows)
   pub nodes : setup.nodes ≡ range_with_len 1 node_count
@@ -65,8 +66,8 @@ pub record AreLogsOf (rows : List QueueRow) (logs : Logs) : Type 0 where
 
 -- ---- what is read
 
--- A state as a lane tells it, which has no number of a snapshot's file. Where the state has no snapshot that number is 0, but
--- files may say otherwise.
+-- A state as a lane tells it, which has no number of a snapshot's file. Where the state has no snapshot that number
+-- is 0, but files may say otherwise.
 abbrev pub told_of : Stable → Stable
 told_of s = record s { snapshot = 0 }
 
@@ -137,7 +138,8 @@ pub record StopsBefore (setup : Setup) (first : List ℕ) (node : ℕ) (lanes : 
   pub down : (cluster_after (new_cluster setup) events).up node ≡ false
   pub came : HaveRestarted first lanes events
 
--- A node's files break the rules of a log, or are of another version, as recovery reads them of a disk that tells its contents.
+-- A node's files break the rules of a log, or are of another version, as recovery reads them of a disk that tells its
+-- contents.
 pub record IsRefusedOver {D : Type 0} (tells : D → Bool) (past : D → List Disk) (faults : D → ℕ) (rows : List QueueRow)
     (old new : Held D) (node : ℕ) (fault : RecoverFault) : Type 0 where
   pub first : List ℕ
@@ -149,8 +151,8 @@ pub record IsRefusedOver {D : Type 0} (tells : D → Bool) (past : D → List Di
   pub stops : (setup : Setup) → IsSetupWith setup rows (length old.nodes.items) hold.logs
       → StopsBefore setup first node hold.read.lanes
 
--- A queue's logs support no audit: whatever logs of it are as the nodes' disks were read so far, the queue may not begin with
--- them. One of them, that of a member on this node, has so many ops.
+-- A queue's logs support no audit: whatever logs of it are as the nodes' disks were read so far, the queue may not
+-- begin with them. One of them, that of a member on this node, has so many ops.
 pub record IsLostOver {D : Type 0} (tells : D → Bool) (past : D → List Disk) (faults : D → ℕ) (rows : List QueueRow)
     (old new : Held D) (node : NodeId) (queue : QueueId) (found : ℕ) : Type 0 where
   pub low : 0 < queue.0
@@ -171,7 +173,8 @@ pub record IsLostOver {D : Type 0} (tells : D → Bool) (past : D → List Disk)
       → stable (logs queue.0 k) ≡ Some (state_read (read.lanes k) queue))
       → IsBegun (setup.group queue.0) → ⊥
 
--- After the disks were read and the logs were found to support an audit, a number would have to rise, and stands at its end.
+-- After the disks were read and the logs were found to support an audit, a number would have to rise, and stands at
+-- its end.
 pub record SpentAfter {D : Type 0} (tells : D → Bool) (past : D → List Disk) (faults : D → ℕ) (rows : List QueueRow)
     (old new : Held D) (number : ℕ) : Type 0 where
   pub hold : HoldLogs tells past faults rows (all_of old) old new
@@ -200,8 +203,8 @@ IsOpenCaused tells past faults rows old new (Memory Want) = Unit {0}
 IsOpenCaused tells past faults rows old new (Memory (Spent number)) =
     SpentOver tells past faults rows old new number
 
--- At each moment of the call each disk keeps what was promised so far: whatever logs the cluster begins with, as long as
--- nothing but recoveries has happened; and then over the logs that the disks hold.
+-- At each moment of the call each disk keeps what was promised so far: whatever logs the cluster begins with, as long
+-- as nothing but recoveries has happened; and then over the logs that the disks hold.
 abbrev pub GivesUpOver : {D : Type 0} → (D → Bool) → (D → List Disk) → (D → ℕ) → List QueueRow → (old new : Held D)
     → Type 0
 GivesUpOver tells past faults rows old new =
@@ -211,8 +214,8 @@ GivesUpOver tells past faults rows old new =
     × ((setup : Setup) → IsSetupWith setup rows (length old.nodes.items) hold.logs
     → GivesUp setup (new_cluster setup) (seen tells past faults old) (seen tells past faults new)))
 
--- What an opening leaves that is given up. It is so for want of memory or numbers alone, where logs support an audit, each
--- node's disk tells its contents and is linked to them, and no disk fails but those of nodes without a log.
+-- What an opening leaves that is given up. It is so for want of memory or numbers alone, where logs support an audit,
+-- each node's disk tells its contents and is linked to them, and no disk fails but those of nodes without a log.
 pub record MayNotOpen {D : Type 0} (tells : D → Bool) (past : D → List Disk) (faults : D → ℕ) (rows : List QueueRow)
     (old new : Held D) (fault : RestartFault) : Type 0 where
   pub cause : IsOpenCaused tells past faults rows old new fault

@@ -52,7 +52,8 @@ abbrev pub MayTakeUp : ℕ → Queue → Stable → Type 0
 MayTakeUp k q state =
     (may_restart k state.op q.group ≡ true) × (stable (take state.op (q.group.seat k).ops) ≡ Some state)
 
--- Of a queue a state was found with which its member may not go on. Where the disk tells its contents, recovery reads it.
+-- Of a queue a state was found with which its member may not go on. Where the disk tells its contents, recovery reads
+-- it.
 pub record IsLostAt {D : Type 0} (tells : D → Bool) (past : D → List Disk) (faults : D → ℕ) (setup : Setup)
     (held : Held D) (c : Cluster) (node : NodeId) (queue : QueueId) (noticed found : ℕ) : Type 0 where
   pub among : Contains setup.places queue.0
@@ -65,7 +66,8 @@ pub record IsLostAt {D : Type 0} (tells : D → Bool) (past : D → List Disk) (
   pub found_is : found ≡ state.op
 
 -- Nodes of a list were restarted in order, and this one isn't: those before it have restarted, and it is down.
-pub record RestartsTo {D : Type 0} (tells : D → Bool) (past : D → List Disk) (faults : D → ℕ) (setup : Setup) (c : Cluster)
+pub record RestartsTo {D : Type 0} (tells : D → Bool) (past : D → List Disk) (faults : D → ℕ) (setup : Setup)
+    (c : Cluster)
     (list : List ℕ) (old : Held D) (before : List ℕ) (node : ℕ) : Type 0 where
   pub first : List ℕ
   pub later : List ℕ
@@ -76,8 +78,8 @@ pub record RestartsTo {D : Type 0} (tells : D → Bool) (past : D → List Disk)
       (seen tells past faults old) (seen tells past faults mid) before said
   pub down : (cluster_after c serves.did.events).up node ≡ false
 
--- Why it isn't: its files break the rules of a log, first at this place, or are of another version, as recovery reads them
--- of a disk that tells its contents; or a queue is lost.
+-- Why it isn't: its files break the rules of a log, first at this place, or are of another version, as recovery reads
+-- them of a disk that tells its contents; or a queue is lost.
 abbrev pub IsRefused : {D : Type 0} → (D → Bool) → (D → List Disk) → (D → ℕ) → Setup → Cluster → List ℕ → Held D
     → List ℕ → RestartFault → Type 0
 IsRefused tells past faults setup c list old before (Damaged node file place) =
@@ -99,15 +101,17 @@ IsOfMemory (Memory memory) = Unit {0}
 IsOfMemory _ = ⊥
 
 -- each of these nodes has a disk that tells its contents, and its log is linked
-abbrev pub AreLinked : {D : Type 0} → (D → Bool) → (D → List Disk) → (D → ℕ) → Setup → Held D → Cluster → List ℕ → Type 0
+abbrev pub AreLinked : {D : Type 0} → (D → Bool) → (D → List Disk) → (D → ℕ) → Setup → Held D → Cluster → List ℕ
+    → Type 0
 AreLinked tells past faults setup held c list =
     AllByRecursion
-    (λ (k : ℕ). IsTrue (seen tells past faults held k).tells × IsLinked setup c k (now (seen tells past faults held k).past))
+    (λ (k : ℕ). IsTrue (seen tells past faults held k).tells × IsLinked setup c k
+    (now (seen tells past faults held k).past))
     list
 
--- What a call leaves that restarts these nodes in order, by a rule, and is given up. Of whatever cluster they stood for:
--- each disk keeps at each moment what the events so far promised; one of the nodes isn't restarted, but
--- for want of memory or numbers; a number stands at its end where it is that; and it is none of the others where each of the
+-- What a call leaves that restarts these nodes in order, by a rule, and is given up. Of whatever cluster they stood
+-- for: each disk keeps at each moment what the events so far promised; one of the nodes isn't restarted, but for want
+-- of memory or numbers; a number stands at its end where it is that; and it is none of the others where each of the
 -- nodes' logs is linked.
 pub record Refuses {D : Type 0} (tells : D → Bool) (past : D → List Disk) (faults : D → ℕ) (list : Setup → List ℕ)
     (Rule : Setup → Cluster → List ClusterEvent → Type 0) (old new : Held D) (before : List ℕ) (fault : RestartFault)

@@ -103,8 +103,8 @@ pub record IsUnused (log : LogState) : Type 0 where
 
 -- ---- what a member's log was handed
 
--- A node that is opened has logs of which nothing is known. Later it is known of a log that nothing was handed to it, where the
--- node's disk failed as it was opened; and else the member knows.
+-- A node that is opened has logs of which nothing is known. Later it is known of a log that nothing was handed to it,
+-- where the node's disk failed as it was opened; and else the member knows.
 abbrev pub handed_of : (opens empty : Bool) → Handed
 handed_of true empty = AsFound
 handed_of false true = Nothing
@@ -132,7 +132,8 @@ MayBeHanded AsFound log = log.op ≡ 0 → IsUnused log
 MayBeHanded Nothing log = IsUnused log
 MayBeHanded Known log = ⊥
 
--- a member may be given a log: one without a snapshot, which may be what its own was handed, as far as the member doesn't know
+-- a member may be given a log: one without a snapshot, which may be what its own was handed, as far as the member
+-- doesn't know
 pub record MayFind (k : ℕ) (handed : Handed) (log : LogState) (d : ClusterQueue) : Type 0 where
   pub base : log.base ≡ no_snapshot
   pub known : is_known (slice_get d.group.seats.items k) ≡ true → handed ≡ AsFound → ⊥
@@ -243,7 +244,8 @@ MayRecover {D} tells past node =
     (own : NodeLog D) × (node.log ≡ Some own) × IsWhole tells past node.queues.items (disk_in own)
 
 -- it was recovered, and this was found
-pub record Recovers {D : Type 0} (tells : D → Bool) (past : D → List Disk) (faults : D → ℕ) (log_bytes : ℕ) (old new : Node D)
+pub record Recovers {D : Type 0} (tells : D → Bool) (past : D → List Disk) (faults : D → ℕ) (log_bytes : ℕ)
+    (old new : Node D)
     (lanes : List (Option Lane)) : Type 0 where
   pub own : NodeLog D
   pub was : old.log ≡ Some own

@@ -1,24 +1,25 @@
 //! Whether the logs that were found of each queue may be those of one group.
-ghost use Rattle.std.specs.Prelude.{◌≡◌, ◌<◌, ◌+◌, All, Contains, IfSome, None, length, slice_get};
+ghost use Rattle.std.specs.Prelude.{◌≡◌, ◌<◌, ◌+◌, All, Contains, IfNone, IfSome, Some, length, slice_get};
 ghost use Rattle.qq_cluster_queue.specs.Members.{AreSound};
 ghost use Rattle.qq_cluster_queue.specs.declared.cluster_queue.ClusterQueue.{ClusterQueue as QueueOf};
 ghost use Rattle.qq_opening.specs.Opened.{Agrees, Disagrees, TellsLost};
 
 use crate::restarting::RestartFault;
 use qq_base::{Memory, QueueId};
-use qq_cluster_queue::ClusterQueue;
 use qq_disk::NodeDisk;
 use qq_nodes::Nodes;
 
 /// The first queue whose members' logs support no audit, by its index.
-pub(crate) fn first_lost(queues: &[ClusterQueue]) -> Option<usize>
-    requires { All (λ (d : QueueOf). AreSound d.group) queues.now }
-    ensures none { result ≡ None → All Agrees queues.now }
-    ensures some { IfSome result (λ at. (at < length queues.now)
-        × ((d : QueueOf) → slice_get queues.now at ≡ Some d → Disagrees d)) }
+pub(crate) fn first_lost<D: NodeDisk>(nodes: &Nodes<D>) -> Option<usize>
+    requires { All (λ (d : QueueOf). AreSound d.group) nodes.now.queues.items }
+    ensures none { IfNone result (All Agrees nodes.now.queues.items) }
+    ensures some { IfSome result (λ at. (at < length nodes.now.queues.items)
+        × ((d : QueueOf) → slice_get nodes.now.queues.items at ≡ Some d → Disagrees d)) }
 {
-    'queues: for at in 0..queues.len() {
-        let agree = queues[at].logs_agree();
+    let count = nodes.queues.len();
+    'queues: for at in 0..count {
+        let queue = &nodes.queues[at];
+        let agree = queue.logs_agree();
         if !agree {
             return Some(at);
         }

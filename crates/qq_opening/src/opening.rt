@@ -85,7 +85,7 @@ pub fn open<D: NodeDisk>(
         Ok(some) => some,
         Err(fault) => return Err(fault),
     };
-    if let Some(at) = first_lost(&nodes.queues) {
+    if let Some(at) = first_lost(nodes) {
         return Err(lost(nodes, at));
     }
     if let Err(memory) = nodes.tick_each(alloc, text) {

@@ -124,7 +124,12 @@ pub(crate) fn recover_node<D: NodeDisk>(
         text.old.items text.new.items) }
     ensures err { IfErr result (MayNotStep D.tells D.past D.faults node opens nodes.old nodes.new) }
 {
-    match recover_in(&mut nodes.nodes, alloc, node.0 as usize - 1, nodes.log_bytes) {
+    match recover_in(
+        &mut nodes.nodes,
+        alloc,
+        node.0 as usize - 1,
+        nodes.log_bytes,
+    ) {
         Ok(lanes) => match go_on(nodes, alloc, node, opens, lanes) {
             Ok(()) => Ok(()),
             Err(fault) => Err(fault),

@@ -105,12 +105,7 @@ fn is_known(handed: Handed) -> bool
 }
 
 // Whether a member may be given a log, as far as it isn't known what its own was handed.
-fn check_log(
-    queue: &ClusterQueue,
-    node: NodeId,
-    handed: Handed,
-    log: &Log,
-) -> Result<(), TakeFault>
+fn check_log(queue: &ClusterQueue, node: NodeId, handed: Handed, log: &Log) -> Result<(), TakeFault>
     ensures ok { OnOk result (MayFind node.0 handed log.now queue.now) }
     ensures cause { IfErr result (IsFindCaused node.0 handed log.now queue.now) }
 {

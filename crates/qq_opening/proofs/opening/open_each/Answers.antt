@@ -1,5 +1,5 @@
-use Rattle.std.proofs.Common.{arith, refl, subst}
-use Rattle.qq_opening.proofs.OpenedLoop.{loop-may, loop-more, loop-none}
+use Rattle.std.proofs.Common.{arith, refl}
+use Rattle.qq_opening.proofs.OpenedLoop.{loop-all, loop-here, loop-may, loop-more, loop-none}
 use Rattle.qq_opening.proofs.OpenedNone.{step-stops}
 use Rattle.qq_opening.proofs.opening.open_each.Goals as goal
 
@@ -13,6 +13,14 @@ recover_node-requires g c =
     loop-may rows c.args.nodes.now new c.nodes.at c.nodes.some c.nodes.nodes c.args.text.now.items c.nodes.text.items
     (c.nodes.invariant rows new) _ refl (omega (arith, c.len-count.ensures))
 
+pub settle-up-requires : goal.settle-up-requires
+settle-up-requires g c =
+    let rows = c.requires.0 in
+    let new = c.requires.1 in
+    loop-here rows c.args.nodes.now new c.nodes.at c.nodes.some c.nodes.nodes c.args.text.now.items c.nodes.text.items
+    (c.nodes.invariant rows new) _ refl (omega (arith, c.len-count.ensures)) c.recover_node.new.nodes
+    c.recover_node.new.text.items c.in_default.ensures.ok
+
 pub nodes-preserved : goal.nodes-preserved
 nodes-preserved g c = λ rows new.
     loop-more rows c.args.nodes.now new c.nodes.at c.nodes.some c.nodes.nodes c.args.text.now.items c.nodes.text.items
@@ -21,7 +29,9 @@ nodes-preserved g c = λ rows new.
     c.in_default.ensures.ok c.settle-up.ensures c.has_opened-some.ensures
 
 pub returns-clause-ok : goal.returns-clause-ok
-returns-clause-ok g c = λ rows new. c.nodes.invariant rows new
+returns-clause-ok g c = λ rows new.
+    loop-all rows c.args.nodes.now new c.nodes.at c.nodes.some c.nodes.nodes c.args.text.now.items c.nodes.text.items
+    (omega (arith, c.len-count.ensures)) (c.nodes.invariant rows new)
 
 pub returns-in-Err-clause-err : goal.returns-in-Err-clause-err
 returns-in-Err-clause-err g c = λ rows new.

@@ -43,17 +43,17 @@ returns-in-Err-say_stopped-clause-err g c =
 
 pub returns-in-Err-Damaged-clause-err : goal.returns-in-Err-Damaged-clause-err
 returns-in-Err-Damaged-clause-err g c =
-    not-damaged c.args.node c.args.opens c.args.nodes.now c.recover_in.new.nodes c.in-Err-Damaged.field-0 _
-    c.in-Err-Damaged.file _ c.in-Err-Damaged.place c.in-Err-Damaged.ensures.err c.in-Err-Damaged.field-0-is
+    not-damaged c.args.node c.args.opens c.args.nodes.now c.recover_in.new.nodes c.in-Err-Damaged.field-0
+    c.in-Err-Damaged.file _ c.in-Err-Damaged.place _ c.in-Err-Damaged.ensures.err c.in-Err-Damaged.field-0-is
     c.in-Err-Damaged.file-is c.in-Err-Damaged.place-is
 
 pub returns-in-Err-Version-clause-err : goal.returns-in-Err-Version-clause-err
 returns-in-Err-Version-clause-err g c =
-    not-version c.args.node c.args.opens c.args.nodes.now c.recover_in.new.nodes c.in-Err-Version.field-0 _
-    c.in-Err-Version.file _ c.in-Err-Version.byte c.in-Err-Version.ensures.err c.in-Err-Version.field-0-is
+    not-version c.args.node c.args.opens c.args.nodes.now c.recover_in.new.nodes c.in-Err-Version.field-0
+    c.in-Err-Version.file _ c.in-Err-Version.byte _ c.in-Err-Version.ensures.err c.in-Err-Version.field-0-is
     c.in-Err-Version.file-is c.in-Err-Version.byte-is
 
 pub returns-in-Err-Memory-clause-err : goal.returns-in-Err-Memory-clause-err
 returns-in-Err-Memory-clause-err g c =
-    not-remembered c.args.node c.args.opens c.args.nodes.now c.recover_in.new.nodes c.in-Err-Memory.field-0 _
-    c.in-Err-Memory.memory c.in-Err-Memory.ensures.err c.in-Err-Memory.field-0-is c.in-Err-Memory.memory-is
+    not-remembered c.args.node c.args.opens c.args.nodes.now c.recover_in.new.nodes c.in-Err-Memory.field-0
+    c.in-Err-Memory.memory _ c.in-Err-Memory.ensures.err c.in-Err-Memory.field-0-is c.in-Err-Memory.memory-is

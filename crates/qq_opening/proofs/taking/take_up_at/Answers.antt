@@ -11,5 +11,5 @@ returns-clause-ok c =
 pub returns-clause-cause : goal.returns-clause-cause
 returns-clause-cause c =
     IfErr-weaker c.take_up.result _ _
-    (λ fault caused. caused-at c.args.node.0 c.args.queues.now c.args.id _ c.requires.may c.args.handed c.args.lane fault
-    caused) c.take_up.ensures.cause
+    (λ fault caused. caused-at c.args.node.0 c.args.queues.now c.args.id _ c.requires.may c.args.handed c.args.lane
+    fault caused) c.take_up.ensures.cause
