@@ -1,27 +1,22 @@
 -- What a dump has done.
-use Rattle.std.proofs.Common.{◌≡◌, ◌⊎◌, ◌≤◌, ℕ, Bool, List, ◌++◌, Option, Some, None, inl, inr, refl, ap, subst, sym, ◌∙◌, arith}
+use Rattle.std.proofs.Common.{◌≡◌, ◌⊎◌, ◌≤◌, ℕ, Bool, List, ◌++◌, Option, Some, inl, inr, refl, ap, ◌∙◌, arith}
 use Rattle.std.specs.Prelude.{IsTrue}
 use Rattle.std.specs.Io.KnownBytes.{Appends}
 use Rattle.std.proofs.KnownBytes.{Appends-trans}
 use Rattle.qq_base.specs.Causes.{Rose}
-use Rattle.qq_base.specs.Fronts.{IsFront}
 use Rattle.qq_base.specs.declared.ids.NodeId.{NodeId}
 use Rattle.qq_disk.specs.Disk.{Disk, now}
-use Rattle.qq_dump.specs.Files.{AreShown, LogFile, dump_text, log_files}
+use Rattle.qq_dump.specs.Files.{LogFile, dump_text, log_files}
 use Rattle.qq_dump.specs.Written.{WritesWhole}
 use Rattle.qq_ports.specs.declared.yard_fault.YardFault.{YardFault}
 use Rattle.qq_ports.specs.declared.yard_fault.YardFault.TheVariants.{Failed, Memory as OfMemory}
 use Rattle.qq_ports.specs.Yard.{IsYardCaused}
-use Rattle.qq_words.specs.declared.commands.Command.{Command}
-use Rattle.qq_words.specs.declared.commands.Command.TheVariants.{Script, Dump}
-use Rattle.qq_cluster_run.specs.Definitions.{Files}
 use Rattle.qq_cluster_run.specs.Endings.{Ending, no_memory, yard_fault}
-use Rattle.qq_cluster_run.specs.Runs.{Closes, IsUnopened}
-use Rattle.qq_cluster_run.proofs.Beginnings.{closes_since, keeps-all}
+use Rattle.qq_cluster_run.specs.Runs.{Closes}
+use Rattle.qq_cluster_run.proofs.Beginnings.{closes_since}
 use Rattle.qq_cluster_run.proofs.Closings.{Rose_earlier}
-use Rattle.qq_broker.specs.Dumping.{DumpEnds, HasDumped, IsDumpEnding, IsDumped}
+use Rattle.qq_broker.specs.Dumping.{DumpEnds, HasDumped, IsDumpEnding}
 use Rattle.qq_broker.specs.Lives.{Giving, IsGiven}
-use Rattle.qq_broker.specs.Program.{ProgramEnds}
 use Rattle.qq_broker.specs.Serving.{IsYardEnding, yard_ending}
 
 -- ---- a disk's text is written
@@ -149,19 +144,3 @@ module _ {D : Type 0} (given : Giving D) (tells : D → Bool) (past : D → List
                   cut.closes,
             ),
           )
-
--- ---- there was no memory for the words
-
-pub none-ends : {D : Type 0} (is_given : Option (List ℕ) → ℕ → D → Bool) (tells : D → Bool) (past : D → List Disk)
-    (faults : D → ℕ) (status : ℕ) (ending : Ending) (command : Option Command) (files : Files)
-    (left old new : Option (List ℕ)) (source shelf sink : Type 0) (before after : ℕ) → ending ≡ no_memory
-    → Closes status ending sink (λ more. Appends old new more)
-    → ProgramEnds is_given tells past faults status command files left left old new source shelf sink before after
-none-ends is_given tells past faults status ending None files left old new source shelf sink before after is closes =
-    record { ending = ending; may = inr is; keeps = keeps-all left; closes = closes }
-none-ends is_given tells past faults status ending (Some (Script options)) files left old new source shelf sink before after
-    is closes =
-    inl (record { ending = ending; may = inl is; keeps = keeps-all left; closes = closes })
-none-ends is_given tells past faults status ending (Some (Dump root node)) files left old new source shelf sink before after
-    is closes =
-    inl (record { ending = ending; may = inr is; keeps = keeps-all left; closes = closes })

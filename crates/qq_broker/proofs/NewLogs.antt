@@ -1,45 +1,43 @@
 -- Over new disks a run begins with new logs.
-use Rattle.std.proofs.Common.{◌≡◌, ◌≢◌, ◌<◌, ℕ, zero, suc, Bool, true, false, List, [], ◌∷◌, ◌++◌, Ok, Err, Option, Some, None, refl, sym, ap, subst, ◌∙◌, inl, inr, arith}
-use Rattle.std.specs.Prelude.{IfNone, IsTrue, is_some, map, nat_eq, unwrap_or, ◌||◌}
-use Rattle.std.specs.List.{AllByRecursion, range_with_len}
+use Rattle.std.proofs.Common.{◌≡◌, ◌≢◌, ℕ, Bool, true, false, List, [], ◌∷◌, ◌++◌, Ok, Option, Some, None, refl, sym, ap, subst, ◌∙◌, inl, inr}
+use Rattle.std.specs.Prelude.{IfNone, IsTrue, is_some, nat_eq, unwrap_or, ◌||◌}
+use Rattle.std.specs.List.{AllByRecursion}
 use Rattle.std.proofs.Math.Path.{fun_ext}
-use Rattle.std.proofs.lemmas.Bool.{cases_Bool, eq-eqb, eqb-true, false≢true, ne_eqb}
+use Rattle.std.proofs.lemmas.Bool.{cases_Bool, eq-eqb, eqb-true, false≢true}
 use Rattle.std.proofs.lemmas.Bool.Decides.{eqb_tells}
-use Rattle.qq_base.proofs.Lists.{AllByRecursion-in, In-filter, In-map, find-in}
+use Rattle.qq_base.proofs.Lists.{In-filter, In-map, find-in}
 use Rattle.qq_base.specs.Fronts.{IsFront}
 use Rattle.qq_base.specs.declared.ids.NodeId.{NodeId}
 use Rattle.qq_base.specs.declared.ids.QueueId.{QueueId}
 use Rattle.qq_defs.specs.Runnable.{IsRunnable}
 use Rattle.qq_disk.specs.Disk.{Disk, now}
 use Rattle.qq_log.specs.declared.op.Op.{Op}
-use Rattle.qq_log.specs.Stable.{Stable, new_state, stable}
-use Rattle.qq_lots.specs.Left.{state_in}
+use Rattle.qq_log.specs.Stable.{Stable, new_state}
 use Rattle.qq_lots.specs.Lots.{ids_of}
 use Rattle.qq_ports.specs.Yard.{IsNew}
 use Rattle.qq_raft_model.specs.Group.{has_node}
 use Rattle.qq_raft_model.specs.Promises.{members_of}
 use Rattle.qq_raft_protocol.specs.Facts.{In}
-use Rattle.qq_recover.specs.Answer.{Answer}
 use Rattle.qq_recover.specs.Reading.{lanes_read, shown}
 use Rattle.qq_recover.specs.Recovery.{IsReadable}
 use Rattle.qq_setup.specs.declared.queue_row.QueueRow.{QueueRow}
 use Rattle.qq_setup.specs.declared.setup.Setup.{Setup}
 use Rattle.qq_setup.specs.Setup.{state_of}
 use Rattle.qq_wal.specs.Running.{top}
-use Rattle.qq_wal_chain.specs.Lanes.{IsStateOf, Lanes, of_queue}
+use Rattle.qq_wal_chain.specs.Lanes.{IsStateOf, Lanes}
 use Rattle.qq_wal_chain.specs.Laws.{KeepsPromise}
-use Rattle.qq_cluster.specs.Cluster.{Cluster, ClusterEvent, Fails, FindsEach, Setup as ClusterSetup, cluster_after, members, new_cluster}
-use Rattle.qq_cluster.specs.Rules.{ForEach, IsFound, IsNothing, IsRestart, if_so}
+use Rattle.qq_cluster.specs.Cluster.{Cluster, ClusterEvent, Setup as ClusterSetup, cluster_after, members, new_cluster}
+use Rattle.qq_cluster.specs.Rules.{ForEach, IsRestart}
 use Rattle.qq_cluster_laws.specs.Linked.{lot_of}
-use Rattle.qq_cluster_laws.specs.Restarts.{first_of, first_restart, restarted_by}
+use Rattle.qq_cluster_laws.specs.Restarts.{first_of, first_restart}
 use Rattle.qq_cluster_laws.proofs.Restarts.{first-both, first-stays}
 use Rattle.qq_cluster_run.specs.Inputs.{Input}
 use Rattle.qq_cluster_run.specs.Serving.{Behind, setup_behind}
-use Rattle.qq_cluster_run.specs.Setup.{Logs, cluster_over, members_by, new_logs, place_of, row_at}
+use Rattle.qq_cluster_run.specs.Setup.{members_by, new_logs, place_of, row_at}
 use Rattle.qq_opening.proofs.Untouched.{restart-first}
-use Rattle.qq_broker.specs.Lives.{Became, BeginsBy, Giving, HoldsLogs, IsGiven, log_at}
+use Rattle.qq_broker.specs.Lives.{Became, BeginsBy, Giving, IsGiven}
 use Rattle.qq_broker.specs.Nodes.{Had}
-use Rattle.qq_broker.proofs.Beginning.{queue-own, rows-among}
+use Rattle.qq_broker.proofs.Beginning.{rows-among}
 use Rattle.qq_broker.proofs.Failing.{restart-apart}
 use Rattle.qq_broker.proofs.Opens.{no-ops}
 use Rattle.qq_broker.proofs.Untouched.{no-restart, restart-unseen}

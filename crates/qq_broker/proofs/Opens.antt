@@ -1,7 +1,7 @@
 -- The nodes of a run were opened, or each disk has failed.
 use Rattle.std.proofs.Common.{◌≡◌, ◌⊎◌, ◌<◌, ◌≤◌, ◌+◌, ◌-◌, ℕ, zero, suc, Bool, true, false, List, [], ◌∷◌, get_or, length, Ok, Option, Some, None, refl, sym, ap, subst, ◌∙◌, inl, inr, arith}
 use Rattle.std.specs.Prelude.{IsTrue, is_some, nat_eq, slice_get, ◌||◌}
-use Rattle.std.specs.List.{list_any, range_with_len}
+use Rattle.std.specs.List.{range_with_len}
 use Rattle.std.proofs.lemmas.List.FromFn.{length-range_with_len}
 use Rattle.std.proofs.lemmas.Option.{slice_get_cases}
 use Rattle.qq_base.specs.Causes.{Rose}
@@ -10,15 +10,13 @@ use Rattle.qq_base.specs.declared.ids.QueueId.{QueueId}
 use Rattle.qq_disk.specs.Disk.{Disk, now}
 use Rattle.qq_entry.specs.declared.queue.QueueArgs.{QueueArgs}
 use Rattle.qq_log.specs.declared.op.Op.{Op}
-use Rattle.qq_log.specs.Stable.{Stable, new_state, stable}
-use Rattle.qq_lots.specs.Left.{state_in}
+use Rattle.qq_log.specs.Stable.{new_state, stable}
 use Rattle.qq_lots.specs.Lots.{ids_of}
 use Rattle.qq_lots.proofs.Counts.{state-count}
 use Rattle.qq_model.proofs.Lists.{AllByRecursion-from_in}
 use Rattle.qq_raft_model.specs.Group.{has_node}
 use Rattle.qq_raft_protocol.specs.Facts.{In}
 use Rattle.qq_raft_protocol.proofs.Lists.{In-filter}
-use Rattle.qq_recover.specs.Answer.{Answer}
 use Rattle.qq_recover.specs.Reading.{lanes_read, shown}
 use Rattle.qq_setup.specs.declared.queue_row.QueueRow.{QueueRow}
 use Rattle.qq_setup.specs.declared.setup.Setup.{Setup}
@@ -36,9 +34,9 @@ use Rattle.qq_nodes.specs.Nodes.{Stands, seen}
 use Rattle.qq_nodes.specs.Setting.{ids_on, is_among}
 use Rattle.qq_nodes.specs.declared.nodes.Nodes.{Nodes}
 use Rattle.qq_nodes.proofs.Begun.{ids-are}
-use Rattle.qq_opening.specs.Opening.{AreReadLogs, HoldLogs, IsReadAs, IsSetupWith, OpensOver, OpensTo, all_of, state_read, told_of}
+use Rattle.qq_opening.specs.Opening.{AreReadLogs, HoldLogs, IsReadAs, IsSetupWith, OpensOver, OpensTo, all_of, state_read}
 use Rattle.qq_opening.specs.Restarting.{IsOpenedTo}
-use Rattle.qq_broker.specs.Lives.{Became, BeginsBy, Giving, HoldsLogs, IsGiven, failures, log_at}
+use Rattle.qq_broker.specs.Lives.{Became, BeginsBy, Giving, IsGiven, failures, log_at}
 use Rattle.qq_broker.specs.Nodes.{Had, HasFailed, Holds, IsDiskOf, MayRun, Meets}
 use Rattle.qq_broker.specs.Serving.{AreUnopened, IsYardEnding}
 use Rattle.qq_broker.proofs.Beginning.{is-apart, is-with, own-changes}

@@ -32,7 +32,7 @@ use Rattle.qq_cluster_run.specs.declared.stop.AskStop.{AskStop}
 use Rattle.qq_cluster_run.specs.declared.stop.AskStop.TheVariants.{Ended, NoMemory}
 use Rattle.qq_cluster_run.specs.Endings.{Ending, damaged, lost, other_version, spent}
 use Rattle.qq_cluster_run.specs.Service.{HasServeCause}
-use Rattle.qq_cluster_run.specs.Serving.{EndsDamaged, EndsLost, EndsSpent, MayTakeUp, RestartsTo, Run, after_all, cluster_in, setup_in}
+use Rattle.qq_cluster_run.specs.Serving.{EndsDamaged, EndsLost, MayTakeUp, RestartsTo, Run, after_all, cluster_in, setup_in}
 use Rattle.qq_cluster_run.specs.Setup.{name_by, row_at}
 use Rattle.qq_cluster_run.specs.Troubles.{AtPlace, Damage, OfVersion, Trouble, damage_ending}
 use Rattle.qq_nodes.specs.Nodes.{Served, Stands, seen}

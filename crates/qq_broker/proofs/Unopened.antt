@@ -1,6 +1,6 @@
 -- The nodes of a run weren't opened, and the run ends.
-use Rattle.std.proofs.Common.{◌≡◌, ◌≢◌, ◌⊎◌, ◌<◌, ◌≤◌, ◌+◌, ◌-◌, ℕ, zero, suc, Bool, true, false, List, [], ◌∷◌, ◌++◌, Ok, Err, Option, Some, None, length, refl, sym, ap, subst, ◌∙◌, inl, inr, arith}
-use Rattle.std.specs.Prelude.{Contains, IsTrue, is_some, nat_eq, option_map, slice_get, ◌||◌}
+use Rattle.std.proofs.Common.{◌≡◌, ◌≢◌, ◌⊎◌, ◌+◌, ◌-◌, ℕ, zero, suc, Bool, true, false, List, [], ◌∷◌, ◌++◌, Ok, Err, Option, Some, None, length, refl, sym, ap, subst, ◌∙◌, inl, inr, arith}
+use Rattle.std.specs.Prelude.{Contains, nat_eq, option_map, ◌||◌}
 use Rattle.std.proofs.lemmas.Bool.{eqb-true}
 use Rattle.std.proofs.lemmas.Bool.Decides.{eqb_tells}
 use Rattle.std.proofs.lemmas.Option.{slice_get_within}
@@ -13,33 +13,28 @@ use Rattle.qq_base.specs.declared.ids.QueueId.{QueueId}
 use Rattle.qq_base.specs.declared.memory.Memory.TheVariants.{Spent, Want}
 use Rattle.qq_disk.specs.Disk.{Disk, now}
 use Rattle.qq_log.specs.declared.op.Op.{Op}
-use Rattle.qq_log.specs.Stable.{Stable, stable}
+use Rattle.qq_log.specs.Stable.{stable}
 use Rattle.qq_lots.specs.Left.{state_in}
-use Rattle.qq_lots.specs.Lots.{ids_of}
 use Rattle.qq_model.proofs.Soundness.{Contains-in, in_contains}
 use Rattle.qq_raft_protocol.specs.Facts.{In}
-use Rattle.qq_recover.specs.Answer.{Answer}
 use Rattle.qq_recover.specs.Reading.{lanes_read, shown}
 use Rattle.qq_recover.specs.declared.fault.RecoverFault.{RecoverFault}
 use Rattle.qq_recover.specs.declared.fault.RecoverFault.TheVariants as recover_faults
-use Rattle.qq_setup.specs.declared.queue_row.QueueRow.{QueueRow}
 use Rattle.qq_setup.specs.declared.setup.Setup.{Setup}
 use Rattle.qq_wal_chain.specs.Lanes.{Lanes}
-use Rattle.qq_cluster.specs.Cluster.{Cluster, ClusterEvent, Setup as ClusterSetup, cluster_after, members, new_cluster}
+use Rattle.qq_cluster.specs.Cluster.{ClusterEvent, Setup as ClusterSetup, cluster_after, members, new_cluster}
 use Rattle.qq_cluster.specs.ClusterLaws.{HasGroups}
 use Rattle.qq_cluster.specs.Laws.{IsBegun}
-use Rattle.qq_cluster.specs.Rules.{ForEach, IsOpening, IsRestart}
-use Rattle.qq_cluster_laws.specs.Linked.{lot_of}
+use Rattle.qq_cluster.specs.Rules.{IsOpening}
 use Rattle.qq_cluster_laws.specs.Restarts.{first_restart}
 use Rattle.qq_cluster_laws.specs.Serves.{Seen, seen_of}
 use Rattle.qq_cluster_laws.specs.Unseen.{sees}
 use Rattle.qq_cluster_laws.specs.Waiting.{IsChangeOf}
 use Rattle.qq_cluster_run.specs.declared.stop.AskStop.{AskStop}
-use Rattle.qq_cluster_run.specs.declared.stop.AskStop.TheVariants.{Ended, NoMemory}
-use Rattle.qq_cluster_run.specs.Endings.{Ending, damaged, lost, no_memory, other_version, spent}
+use Rattle.qq_cluster_run.specs.Endings.{lost, spent}
 use Rattle.qq_cluster_run.specs.Runs.{MayNotOpen, ending_of, stop_of}
-use Rattle.qq_cluster_run.specs.Serving.{EndsDamaged, EndsSpent, EndsUnsupported, IsReadOf, state_read}
-use Rattle.qq_cluster_run.specs.Setup.{Logs, cluster_over, cluster_setup, group_over, is_change_of, members_by, name_by, new_logs, place_of, row_at}
+use Rattle.qq_cluster_run.specs.Serving.{EndsSpent, EndsUnsupported, IsReadOf, state_read}
+use Rattle.qq_cluster_run.specs.Setup.{Logs, cluster_over, cluster_setup, group_over, is_change_of, members_by, name_by, new_logs, row_at}
 use Rattle.qq_cluster_run.specs.Troubles.{AtPlace, Damage, OfVersion, Trouble, damage_ending}
 use Rattle.qq_nodes.specs.Nodes.{Begins, EndsAt, Stands, node_at, seen, seen_in, seen_log}
 use Rattle.qq_nodes.specs.Setting.{ids_on, is_among}
@@ -47,12 +42,12 @@ use Rattle.qq_nodes.specs.declared.node.Node.{Node}
 use Rattle.qq_nodes.specs.declared.nodes.Nodes.{Nodes}
 use Rattle.qq_node_log.specs.Log.{disk_in}
 use Rattle.qq_node_log.specs.declared.node_log.NodeLog.{NodeLog}
-use Rattle.qq_opening.specs.Opening.{HoldLogs, IsLostOver, IsOpenCaused, IsReadAs, IsRefusedOver, IsSetupWith, MayNotOpen as NodesMayNotOpen, SpentAfter, SpentOver, all_of, state_read as lanes_state}
+use Rattle.qq_opening.specs.Opening.{IsLostOver, IsOpenCaused, IsReadAs, IsRefusedOver, IsSetupWith, MayNotOpen as NodesMayNotOpen, SpentOver, all_of, state_read as lanes_state}
 use Rattle.qq_opening.specs.declared.restarting.RestartFault.{RestartFault}
 use Rattle.qq_opening.specs.declared.restarting.RestartFault.TheVariants as faults_of
-use Rattle.qq_broker.specs.Lives.{Became, BeginsBy, Giving, IsGiven, failures}
-use Rattle.qq_broker.specs.Nodes.{HasFailed, HasNumber, HoldsQueue, IsBroken, IsDiskOf, MayRun, Meets, damage_of}
-use Rattle.qq_broker.specs.Serving.{AreUnopened, IsStopOf, memory_stop}
+use Rattle.qq_broker.specs.Lives.{Became, BeginsBy, Giving, IsGiven}
+use Rattle.qq_broker.specs.Nodes.{IsDiskOf, MayRun, Meets, damage_of}
+use Rattle.qq_broker.specs.Serving.{AreUnopened, IsStopOf}
 use Rattle.qq_broker.proofs.Beginning.{AreApart, changes-all, is-with, queue-own}
 use Rattle.qq_broker.proofs.Failing.{failures-both, opening-once}
 use Rattle.qq_broker.proofs.GoingOn.{disk-there, in-range, range-in}
