@@ -45,8 +45,8 @@ pub fn dump_node<Y: Yard, O: Sink>(
     output: &mut O,
 ) -> u8
     ensures ends { (left : Option (List ℕ)) →
-        DumpEnds (under Y.is_given (Some root.now)) Y.Disk.tells Y.Disk.past Y.Disk.faults result node
-        left left (O.written output.old) (O.written output.new)
+        DumpEnds (under Y.is_given (Some root.now)) Y.Disk.tells Y.Disk.past Y.Disk.faults result
+        node left left (O.written output.old) (O.written output.new)
         (Rose (O.faults output.old) (O.faults output.new)) (Y.faults yard.old) (Y.faults yard.new) }
     ensures sink_later { O.faults output.old ≤ O.faults output.new }
     ensures yard_later { Y.faults yard.old ≤ Y.faults yard.new }

@@ -31,14 +31,14 @@ pub fn a_run_without_a_root_begins_with_new_logs<D: NodeDisk>()
 /// A law: what the status of a dump tells, where source and sink tell their bytes.
 ///
 /// - `statuses`: it is 0, 6, 7 or 12.
-/// - `done`: with 0 nothing was read, and the text of the log files was written that stand on the disk which the yard gave
-///   for the node under this root, where that shows its contents.
+/// - `done`: with 0 nothing was read, and the text of the log files was written that stand on the disk which the yard
+///   gave for the node under this root, where that shows its contents.
 /// - `failed`: with 7 the yard has failed, or such a disk.
 pub fn a_dump_tells_what_was_done<D: NodeDisk>()
     ensures statuses { (given : Giving D) (status : ℕ) (node : NodeId) (bytes rest old new : List ℕ)
         (sink_before sink_after before after : ℕ) →
-        DumpEnds given D.tells D.past D.faults status node (Some bytes) (Some rest) (Some old) (Some new)
-        (Rose sink_before sink_after) before after →
+        DumpEnds given D.tells D.past D.faults status node (Some bytes) (Some rest) (Some old)
+        (Some new) (Rose sink_before sink_after) before after →
         (status ≡ 0) ⊎ ((status ≡ 6) ⊎ ((status ≡ 7) ⊎ (status ≡ 12))) }
     ensures done { (given : Giving D) (node : NodeId) (bytes rest old new : List ℕ)
         (sink_before sink_after before after : ℕ) →

@@ -36,7 +36,8 @@ fn disks_of<Y: Yard>(
 ) -> Result<Vec<Y::Disk>, Ending>
     ensures count { IfOk result (λ disks. length disks.items ≡ count) }
     ensures given { IfOk result (λ disks. AreGiven
-        (under Y.is_given (option_map (λ text. text.now) root.entry)) Y.Disk.tells Y.Disk.past disks.items) }
+        (under Y.is_given (option_map (λ text. text.now) root.entry))
+        Y.Disk.tells Y.Disk.past disks.items) }
     ensures whole { IfOk result (λ disks. All (IsWhole Y.Disk.tells Y.Disk.past) disks.items) }
     ensures cause { IfErr result (IsYardEnding (Y.faults yard.old) (Y.faults yard.new)) }
     ensures later { Y.faults yard.old ≤ Y.faults yard.new }
@@ -92,8 +93,8 @@ fn begin<Y: Yard>(
 /// Opens nodes with the queues of a setup over the disks that the yard gives under a root, new ones without a root,
 /// and adds what that prints to `text`.
 ///
-/// - `ok`: each node is recovered, some of them without a fault, and its members begin with what its disk holds of their
-///   queues. Each queue's first member has stood for election, and a pump has followed.
+/// - `ok`: each node is recovered, some of them without a fault, and its members begin with what its disk holds of
+///   their queues. Each queue's first member has stood for election, and a pump has followed.
 /// - `cause`: the yard has failed or each node's disk has, a node's files break the rules, what is read of a queue
 ///   supports no audit, there was no memory, or a number stands at its end.
 pub fn open<Y: Yard>(

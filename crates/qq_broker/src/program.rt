@@ -73,7 +73,8 @@ fn serve_lines<Y: Yard, I: Source, O: Sink>(
     output: &mut O,
 ) -> Result<(), Stop>
     requires may { MayRun setup.now }
-    requires opened { (given : Giving Y.Disk) × HasOpened (Had given Y.Disk.tells Y.Disk.past Y.Disk.faults) setup.now
+    requires opened { (given : Giving Y.Disk)
+        × HasOpened (Had given Y.Disk.tells Y.Disk.past Y.Disk.faults) setup.now
         (Holds given Y.Disk.tells Y.Disk.past Y.Disk.faults setup.now nodes.old) [] text.old.items }
     ensures ok { (given : Giving Y.Disk) →
         HasOpened (Had given Y.Disk.tells Y.Disk.past Y.Disk.faults) setup.now
@@ -131,7 +132,8 @@ fn serve_script<Y: Yard, I: Source, O: Sink>(
     output: &mut O,
 ) -> Result<(), Stop>
     requires may { MayRun setup.now }
-    requires opened { (given : Giving Y.Disk) × HasOpened (Had given Y.Disk.tells Y.Disk.past Y.Disk.faults) setup.now
+    requires opened { (given : Giving Y.Disk)
+        × HasOpened (Had given Y.Disk.tells Y.Disk.past Y.Disk.faults) setup.now
         (Holds given Y.Disk.tells Y.Disk.past Y.Disk.faults setup.now nodes.old) [] text.old.items }
     ensures ok { (given : Giving Y.Disk) →
         HasOpened (Had given Y.Disk.tells Y.Disk.past Y.Disk.faults) setup.now
@@ -306,8 +308,8 @@ fn run_command<S: Shelf, Y: Yard, I: Source, O: Sink>(
 ///   `a_dump_tells_what_was_done`). What a script has written is the line of what was made of an export, the text of
 ///   some events that the lines allow, and then the audits, or a first part of that and a closing line. Where these
 ///   events happened, each node's disk is what has become of one that the yard gave for that node under the root, and
-///   the run's logs are those that the disk held (`Had`); without a root nothing was ever on it. Each trouble was met in
-///   the yard, in such a disk or in the nodes (`Meets`). A dump reads no input and changes nothing on the disk.
+///   the run's logs are those that the disk held (`Had`); without a root nothing was ever on it. Each trouble was met
+///   in the yard, in such a disk or in the nodes (`Meets`). A dump reads no input and changes nothing on the disk.
 /// - `source_later`, `sink_later`, `shelf_later`, `yard_later`: the counts of faults don't fall.
 pub fn run<R: AllocGlobal, I: Source, O: Sink, S: Shelf, Y: Yard>(
     rt: &R,

@@ -164,7 +164,8 @@ fn go_on<D: NodeDisk>(
         line nodes.new text.old.items text.new.items) }
     ensures cause { (given : Giving D) (run : Run) (before after : ℕ) →
         Holds given D.tells D.past D.faults setup.now nodes.old run → IfErr result (HasServeCause
-        (Meets given D.tells D.past D.faults before after) (setup_in setup.now run) run.events line) }
+        (Meets given D.tells D.past D.faults before after)
+        (setup_in setup.now run) run.events line) }
 {
     match ask(alloc, setup, nodes, line, text) {
         Ok(()) => Ok(()),
