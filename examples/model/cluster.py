@@ -31,6 +31,29 @@ class Numbers:
         return min(self.open, default=self.next) - 1
 
 
+class Received:
+    """A consumer at its client, which is handed its deliveries in the order of their ids, each once."""
+
+    def __init__(self):
+        self.next, self.waiting = 1, {}
+
+    def come(self, delivery):
+        """Takes a delivery. Returns those that are handed out then."""
+        if delivery.id >= self.next:
+            self.waiting.setdefault(delivery.id, delivery)
+        handed = []
+        while self.next in self.waiting:
+            handed.append(self.waiting.pop(self.next))
+            self.next += 1
+        return handed
+
+    def missing(self):
+        number = self.next
+        while number in self.waiting:
+            number += 1
+        return number
+
+
 class Cluster:
     def __init__(self, nodes=1, queues=1, group=3):
         self.nodes = range(1, nodes + 1)
@@ -42,6 +65,7 @@ class Cluster:
         self.logs = {node: Log(self.places[node]) for node in self.nodes}
         self.down = set(self.nodes)
         self.muted, self.ended, self.numbers = set(), set(), {}
+        self.consumers = [{} for _ in range(queues)]
         self.auto = True
         self.lines = 0
         self.output = []
@@ -110,9 +134,30 @@ class Cluster:
             self.tell(place, entry.command, told.answer)
         for _, told in shown:
             for delivery in told.deliveries:
-                if delivery.session not in self.muted:
-                    self.say_of(delivery.session, place, texts.delivery(delivery))
-                    self.on_delivery(place, delivery)
+                self.come(place, delivery)
+
+    def come(self, place, delivery):
+        """A delivery comes to its consumer, unless it is lost, and what is handed out then is printed."""
+        consumer = self.consumers[place].get((delivery.session, delivery.tag))
+        if consumer is None or delivery.session in self.muted:
+            return
+        for handed in consumer.come(delivery):
+            self.say_of(handed.session, place, texts.delivery(handed))
+            self.on_delivery(place, handed)
+
+    def fetch(self, place, session):
+        """What is out with a session's consumers comes again, from the least id on that hasn't come."""
+        group = self.groups[place]
+        leader = group.leader()
+        if leader is None:
+            return
+        queue = group.applied(leader)
+        fetched = []
+        for (own, tag), consumer in self.consumers[place].items():
+            if own == session:
+                fetched += queue.out(session, tag, consumer.missing())
+        for delivery in fetched:
+            self.come(place, delivery)
 
     def tell(self, place, command, answer):
         """Prints an answer, where its client hears it and its number is open. Three answers leave it open."""
@@ -140,12 +185,18 @@ class Cluster:
         """Gives a command the next number of its session, and submits it."""
         if session in self.ended:
             return self.say_of(session, place, "ended")
+        consumer = self.consumers[place].get((session, words.get("tag")), Received())
+        for number in words.get("ids", ()):
+            if not 0 < number < consumer.next:
+                return self.say_of(session, place, f"not taken {number}")
         numbers = self.numbers.setdefault((session, place), Numbers())
         if len(numbers.open) == OPEN_NUMBERS:
             return self.say_of(session, place, "window full")
         command = Command(kind, session, numbers.next, numbers.low_mark(), **words)
         numbers.open[numbers.next] = command
         numbers.next += 1
+        if kind == "subscribe":
+            self.consumers[place].setdefault((session, words["tag"]), Received())
         return self.submit(place, command)
 
     def line_publish(self, body):
@@ -172,6 +223,8 @@ class Cluster:
             numbers = self.numbers.get((session, place), Numbers())
             for command in list(numbers.open.values()):
                 self.submit(place, command)
+        for place in range(len(self.groups)):
+            self.fetch(place, session)
 
     def line_mute(self, session):
         self.muted.add(session)

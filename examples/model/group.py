@@ -68,6 +68,15 @@ class Group:
             self.entries.append(entry)
             self.rows.append((entry, self.queue.step(entry.command)))
 
+    def applied(self, server):
+        """Returns the queue as a server has applied its entries."""
+        if server.commit == len(self.entries):
+            return self.queue
+        queue = Queue(QuickRows())
+        for entry in server.log[:server.commit]:
+            queue.step(entry.command)
+        return queue
+
     def is_idle(self):
         return not self.bag and all(
             server is None or server.op == server.noticed for server in self.servers.values())

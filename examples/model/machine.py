@@ -294,6 +294,12 @@ class Queue:
         return next((each for each in self.consumers
                      if (each.session, each.tag) == (command.session, command.tag)), None)
 
+    def out(self, session, tag, first):
+        """Returns what is out with a consumer, from an id on, as it was delivered."""
+        return [Delivery(session, tag, row.id, row.arrival, row.count, row.body)
+                for consumer in self.consumers if (consumer.session, consumer.tag) == (session, tag)
+                for row in self.rows.out(consumer) if row.id >= first]
+
     def free_credit(self, consumer):
         if consumer.prefetch is None:
             return consumer.credit

@@ -15,10 +15,10 @@ use Rattle.qq_script_lines.specs.declared.line.Nodes.TheVariants.{One, All}
 use Rattle.qq_script_lines.specs.declared.line.ScriptLine.{ScriptLine}
 use Rattle.qq_script_lines.specs.declared.line.ScriptLine.TheVariants as lines
 use Rattle.qq_entry.specs.declared.command.Unstamped.{Unstamped}
-use Rattle.qq_cluster.specs.Cluster.{Cluster, ClusterEvent, Setup, Sets, Alike, At, NodeWrites, NodeSyncs, Fails, Crashes, Shows, SaysDown, SaysNoSuch, SaysUnroutable, SaysBusy, SaysEnded, cluster_after, cluster_happens, members}
+use Rattle.qq_cluster.specs.Cluster.{Cluster, ClusterEvent, Setup, MutesEach, EndsEach, Sets, Alike, At, NodeWrites, NodeSyncs, Fails, Crashes, Shows, SaysDown, SaysNoSuch, SaysUnroutable, SaysBusy, SaysEnded, cluster_after, cluster_happens, members}
 use Rattle.qq_cluster.specs.Lines.{AndPumped, IsCopy, IsDeliver, IsDelivered, IsLine, IsLose, IsRouted, IsSend, WhereThere, WhereUp, nodes_of, publish_with, receiver_at}
-use Rattle.qq_cluster.specs.Queue.{Copies, Delivers, Downs, Ends, Event, Loses, Mutes, Notices, Resends, Submits, TellsEnded, Ticks}
-use Rattle.qq_cluster.specs.Rules.{ForEach, Is, IsEmptied, IsEnd, IsFirstTick, IsFound, IsGiven, IsNodeRound, IsNotice, IsNothing, IsOpening, IsPump, IsPumped, IsResend, IsRestart, IsRound, IsSync, IsSynced, IsWrite, IsWritten, MayRoll, Pumps, Rule, Then, if_so, is_ended, is_idle, most_rounds, some_queue, tick_at, waits_noticed, waits_synced, waits_written}
+use Rattle.qq_cluster.specs.Queue.{Copies, Delivers, Downs, Event, Fetches, Loses, Notices, Resends, Submits, TellsEnded, TellsNotTaken, Ticks}
+use Rattle.qq_cluster.specs.Rules.{ForEach, Is, IsClaimed, IsEmptied, IsEnd, IsFirstTick, IsFound, IsGiven, IsNodeRound, IsNotice, IsNothing, IsOpening, IsPump, IsPumped, IsResend, IsRestart, IsRound, IsSync, IsSynced, IsWrite, IsWritten, MayRoll, Pumps, Rule, Then, if_so, is_ended, is_idle, most_rounds, not_taken, some_queue, tick_at, waits_noticed, waits_synced, waits_written}
 use Rattle.qq_cluster_laws.proofs.Reached.{after-both}
 use Rattle.qq_cluster_laws.specs.Serves.{is_failure_at}
 use Rattle.qq_broker.specs.Lives.{failures}
@@ -173,12 +173,17 @@ module _ (k : ℕ) where
     and-pumped : (Asked : Rule) → AllStop Asked → AllStop (AndPumped setup Asked)
     and-pumped Asked so = stops-then Asked (IsPumped setup) so stops-pumped
 
+    stops-claimed : (o : Option ℕ) (session : ℕ) (body : Unstamped) (place : ℕ)
+        → AllStop (IsClaimed o session body place)
+    stops-claimed None session body place = stops-is (At place (Submits session body)) calm
+    stops-claimed (Some id) session body place = stops-is (At place (TellsNotTaken session id)) calm
+
     stops-given : (session : ℕ) (body : Unstamped) (place : ℕ) → AllStop (IsGiven session body place)
     stops-given session body place c events so =
         stops-if (is_ended session (c.queue place)) (Is (At place (TellsEnded session)))
-        (Is (At place (Submits session body))) c events
+        (IsClaimed (not_taken session body (c.queue place)) session body place) c events
         (λ is. stops-is (At place (TellsEnded session)) calm c events)
-        (stops-is (At place (Submits session body)) calm c events) so
+        (stops-claimed (not_taken session body (c.queue place)) session body place c events) so
 
     stops-routed : (session : ℕ) (body : Unstamped) (places : List ℕ) → AllStop (IsRouted session body places)
     stops-routed session body [] = stops-is SaysUnroutable calm
@@ -220,8 +225,12 @@ module _ (k : ℕ) where
     stops-resend : (session : ℕ) → AllStop (IsResend setup session)
     stops-resend session c events so =
         stops-if (some_queue setup (is_ended session) c) (Is SaysEnded)
-        (ForEach setup.places (λ (place : ℕ). Is (At place (Resends session)))) c events
-        (λ is. stops-is SaysEnded calm c events) (stops-ats (Resends session) c events) so
+        (Then (ForEach setup.places (λ (place : ℕ). Is (At place (Resends session))))
+        (ForEach setup.places (λ (place : ℕ). Is (At place (Fetches session))))) c events
+        (λ is. stops-is SaysEnded calm c events)
+        (stops-then (ForEach setup.places (λ (place : ℕ). Is (At place (Resends session))))
+        (ForEach setup.places (λ (place : ℕ). Is (At place (Fetches session)))) (stops-ats (Resends session))
+        (stops-ats (Fetches session)) c events) so
 
     stops-first : (place : ℕ) → AllStop (IsFirstTick setup place)
     stops-first place = by (members setup place)
@@ -364,12 +373,12 @@ module _ (k : ℕ) where
         few c events (and-pumped (IsGiven by.number body at.0) (stops-given by.number body at.0) c events so)
     line-once n are (lines.End by) c events so =
         few c events
-        (and-pumped (IsEnd setup by.number) (stops-then (Is (Alike (Ends by.number)))
+        (and-pumped (IsEnd setup by.number) (stops-then (Is (Alike (EndsEach by.number)))
         (ForEach setup.places (λ (place : ℕ). Is (At place (Downs by.number))))
-        (stops-is (Alike (Ends by.number)) calm) (stops-ats (Downs by.number))) c events so)
+        (stops-is (Alike (EndsEach by.number)) calm) (stops-ats (Downs by.number))) c events so)
     line-once n are (lines.Resend by) c events so =
         few c events (and-pumped (IsResend setup by.number) (stops-resend by.number) c events so)
-    line-once n are (lines.Mute by muted) c events so = few c events (stops-is (Alike (Mutes by.number muted)) calm c events so)
+    line-once n are (lines.Mute by muted) c events so = few c events (stops-is (Alike (MutesEach by.number muted)) calm c events so)
     line-once n are (lines.Pace auto) c events so = few c events (stops-is (Sets auto) calm c events so)
     line-once n are lines.Pump c events so = few c events (stops-pumps most_rounds c events so)
     line-once n are (lines.Write node) c events so =

@@ -7,6 +7,8 @@ use Rattle.qq_base.proofs.Puts.{put-same}
 use Rattle.qq_base.specs.Fronts.{put}
 use Rattle.qq_base.proofs.Lists.{AllByRecursion-weaker}
 use Rattle.qq_base.specs.Ids.{client}
+use Rattle.qq_consuming.specs.Consumers.{know_by}
+use Rattle.qq_consuming.specs.Consuming.{Received}
 use Rattle.qq_entry.specs.declared.audit.AuditRow.{AuditRow}
 use Rattle.qq_entry.specs.declared.command.Entry.{Entry}
 use Rattle.qq_entry.specs.declared.queue.QueueArgs.{QueueArgs}
@@ -24,7 +26,7 @@ use Rattle.qq_session.specs.Publishing.{Numbers, next_command, hand, open_comman
 use Rattle.qq_session.specs.Clients.{Client, Clients, is_used, may_hand}
 use Rattle.qq_session.specs.Shown.{NoLeader, WindowFull, effects_of_term, said_of}
 use Rattle.qq_cluster.specs.Laws.{IsOwnTo, LeaderIsTold, NobodyIsTold, TellsOfEnd}
-use Rattle.qq_cluster.specs.Queue.{Queue, Submits, Resends, Downs, acts, happens, is_shown, leader, moves, offered, own_effects, own_rows, said, submits}
+use Rattle.qq_cluster.specs.Queue.{Queue, Submits, Resends, Downs, acts, happens, is_shown, leader, moves, offered, own_effects, own_rows, said, submits, known}
 
 -- a queue whose window for a session isn't full
 record Hands (session : ℕ) (body : Unstamped) (q : Queue) : Type 0 where
@@ -107,8 +109,13 @@ full session body q most =
     none' in (
       ap (λ (c : Clients). record q {
         clients = c;
+        consumers = known q.clients (Submits session body) q.consumers;
         group = group_after q.group (submits (leader q.group) (offered q.clients (Submits session body)));
       }) clients
+          ∙ ap (λ (l : List Received). record q {
+            consumers = l;
+            group = group_after q.group (submits (leader q.group) (offered q.clients (Submits session body)));
+          }) (cond-false (may_hand n) (know_by (client session) body q.consumers) q.consumers none')
           ∙ ap (λ (l : List Command). record q { group = group_after q.group (submits (leader q.group) l) }) nothing,
       cond-false (may_hand n)
           (said_of (is_some (leader q.group)) session (offered q.clients (Submits session body)))

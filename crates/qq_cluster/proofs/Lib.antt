@@ -1,5 +1,9 @@
 pub mod Groups
 mod Told
+mod Consumed
+mod Made
+mod Claims
+mod Fetched
 mod Numbers
 mod Given
 mod PrintedOnce
@@ -11,3 +15,4 @@ mod Settling
 mod Serving
 mod Stopping
 mod Worked
+mod WorkedConsumers

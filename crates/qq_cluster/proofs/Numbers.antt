@@ -15,7 +15,7 @@ use Rattle.qq_session.specs.Clients.{Client, Clients, may_hand}
 use Rattle.qq_session.proofs.Heard.{deeds-append, heard-numbers}
 use Rattle.qq_session.proofs.Ended.{all-ended}
 use Rattle.qq_cluster.specs.Laws.{StaysEnded, deeds, deeds_at, hands_at, queue_after}
-use Rattle.qq_cluster.specs.Queue.{Queue, Event, Mutes, Ends, Submits, TellsEnded, Resends, Downs, Ticks, Delivers, Loses, Copies, Writes, Syncs, Notices, Stops, Finds, acts, after, happens, begin, rows_told}
+use Rattle.qq_cluster.specs.Queue.{Queue, Event, Mutes, Ends, Submits, TellsEnded, TellsNotTaken, Resends, Fetches, Downs, Ticks, Delivers, Loses, Copies, Writes, Syncs, Notices, Stops, Finds, acts, after, happens, begin, rows_told}
 
 -- ---- what a client does by itself
 
@@ -67,6 +67,8 @@ acts-numbers session (Ends own) clients =
     (record (clients own) { ended = true }) clients refl (λ i other. refl) session
 acts-numbers session (Submits own body) clients = hand-numbers own session body clients
 acts-numbers session (TellsEnded own) clients = refl
+acts-numbers session (TellsNotTaken own id) clients = refl
+acts-numbers session (Fetches own) clients = refl
 acts-numbers session (Resends own) clients = refl
 acts-numbers session (Downs own) clients = refl
 acts-numbers session (Ticks k) clients = refl
@@ -123,6 +125,8 @@ still-ended session (Submits own body) clients is =
     (λ _. put-each (λ (i : ℕ) (c : Client). (clients i).ended ≡ true → c.ended ≡ true) own
     (record (clients own) { numbers = hand body n }) clients (λ e. e) (λ i other e. e) session is) (λ _. is)
 still-ended session (TellsEnded own) clients is = is
+still-ended session (TellsNotTaken own id) clients is = is
+still-ended session (Fetches own) clients is = is
 still-ended session (Resends own) clients is = is
 still-ended session (Downs own) clients is = is
 still-ended session (Ticks k) clients is = is

@@ -1,31 +1,61 @@
 -- The answer that closes a number is printed once.
-use Rattle.std.proofs.Common.{◌≡◌, ◌≢◌, ℕ, List, [], ◌∷◌, ◌++◌, map, sym, ap, ◌∙◌, subst, append-nil}
+use Rattle.std.proofs.Common.{◌≡◌, ◌≢◌, ℕ, List, [], ◌∷◌, ◌++◌, map, refl, sym, ap, ◌∙◌, subst, append-nil}
 use Rattle.std.specs.Prelude.{filter_map, AllPairs}
-use Rattle.std.specs.List.{AllByRecursion, flat_map}
+use Rattle.std.specs.List.{AllByRecursion}
 use Rattle.std.proofs.lemmas.Bool.{cond_both}
 use Rattle.qq_base.proofs.Lists.{AllByRecursion-append, AllByRecursion-weaker}
+use Rattle.qq_base.specs.declared.ids.ConsumerId.{ConsumerId}
+use Rattle.qq_consuming.specs.Consumers.{taken}
+use Rattle.qq_consuming.specs.Consuming.{Received}
 use Rattle.qq_entry.specs.declared.audit.AuditRow.{AuditRow}
+use Rattle.qq_entry.specs.declared.answer.Delivery.{Delivery}
 use Rattle.qq_entry.specs.declared.audit.Effect.{Effect}
+use Rattle.qq_entry.specs.declared.audit.Effect.TheVariants.{Deliver, DeadOnce, Offer}
 use Rattle.qq_entry.specs.declared.queue.QueueArgs.{QueueArgs}
 use Rattle.qq_session.proofs.AuditRows.{filter_map-append}
 use Rattle.qq_raft_model.specs.Group.{Group}
 use Rattle.qq_session.specs.Publishing.{Numbers}
 use Rattle.qq_session.specs.Printed.{closed_number}
 use Rattle.qq_session.specs.Clients.{Clients, hear_all, may_hand, printed}
-use Rattle.qq_session.specs.Shown.{Shown, Answered, WindowFull, delivered, said_of}
-use Rattle.qq_session.proofs.PrintedOnce.{IsClosed, OpenBelow, closed-deeds, below-deeds, numbers_in, printed_numbers, Distinct, pairs-distinct, printed-distinct, printed-closed, never-printed, offered-none, delivered-none, distinct-append}
+use Rattle.qq_session.specs.Shown.{Shown, Answered, Delivered, WindowFull, is_delivered_to, said_of}
+use Rattle.qq_session.proofs.PrintedOnce.{IsClosed, OpenBelow, closed-deeds, below-deeds, numbers_in, printed_numbers, Distinct, pairs-distinct, printed-distinct, printed-closed, never-printed, offered-none, distinct-append}
+use Rattle.qq_cluster.specs.Delivering.{comes, show_all, shows}
 use Rattle.qq_cluster.specs.Laws.{deeds_at}
-use Rattle.qq_cluster.specs.Queue.{Queue, Event, Mutes, Ends, Submits, TellsEnded, Resends, Downs, Ticks, Delivers, Loses, Copies, Writes, Syncs, Notices, Stops, Finds, all_said, effects_told, happens, has_leader, begin, offered, rows_told, said, told}
+use Rattle.qq_cluster.specs.Queue.{Queue, Event, Mutes, Ends, Submits, TellsEnded, TellsNotTaken, Resends, Fetches, Downs, Ticks, Delivers, Loses, Copies, Writes, Syncs, Notices, Stops, Finds, all_said, effects_shown, happens, has_leader, begin, known, offered, rows_told, said, told}
 use Rattle.qq_cluster.proofs.Numbers.{event-numbers}
+
+-- a delivery closes no number
+handed-none : (session : ℕ) (id : ConsumerId) (ds : List Delivery) → numbers_in session (map (Delivered id) ds) ≡ []
+handed-none session id [] = refl
+handed-none session id (d ∷ ds) = handed-none session id ds
+
+shows-none : (session : ℕ) (clients : Clients) (effect : Effect) (all : List Received)
+    → numbers_in session (shows clients effect all) ≡ []
+shows-none session clients (Deliver id delivery) all =
+    cond_both (is_delivered_to clients id.session) (map (Delivered id) (taken id delivery all)) []
+    (λ (shown : List Shown). numbers_in session shown ≡ []) (λ _. handed-none session id (taken id delivery all))
+    (λ _. refl)
+shows-none session clients (DeadOnce reason message) all = refl
+shows-none session clients (Offer number reason message) all = refl
+
+shown-none : (session : ℕ) (clients : Clients) (effects : List Effect) (all : List Received)
+    → numbers_in session (show_all clients effects all) ≡ []
+shown-none session clients [] all = refl
+shown-none session clients (effect ∷ effects) all =
+    let next : List Received = comes clients effect all in
+    filter_map-append (closed_number session) (shows clients effect all) (show_all clients effects next)
+    ∙ ap (λ (l : List ℕ). l ++ numbers_in session (show_all clients effects next))
+    (shows-none session clients effect all) ∙ shown-none session clients effects next
 
 -- what is told closes the numbers of the rows that are printed
 told-numbers : (session : ℕ) (q : Queue) (event : Event)
     → numbers_in session (told q event) ≡ printed_numbers session (rows_told q event) q.clients
 told-numbers session q event =
     let answers : List Shown = map Answered (printed (rows_told q event) q.clients) in
-    let effects : List Effect = effects_told q event in
-    filter_map-append (closed_number session) answers (flat_map (delivered q.clients) effects)
-    ∙ ap (λ (l : List ℕ). numbers_in session answers ++ l) (delivered-none session q.clients effects)
+    let effects : List Effect = effects_shown q event in
+    let all : List Received = known q.clients event q.consumers in
+    filter_map-append (closed_number session) answers (show_all q.clients effects all)
+    ∙ ap (λ (l : List ℕ). numbers_in session answers ++ l) (shown-none session q.clients effects all)
     ∙ append-nil (numbers_in session answers)
 
 -- what an event shows closes no number, or it closes those of the rows that it tells of, which its clients hear
@@ -47,6 +77,7 @@ event-shows session q (Downs own) P nothing tells =
     let given = offered q.clients (Downs own) in
     subst (P q.clients) (sym (offered-none session own (has_leader q) given)) (nothing q.clients)
 event-shows session q (TellsEnded own) P nothing tells = nothing q.clients
+event-shows session q (TellsNotTaken own id) P nothing tells = nothing q.clients
 event-shows session q (Mutes own muted) P nothing tells = nothing (happens q (Mutes own muted)).clients
 event-shows session q (Ends own) P nothing tells = nothing (happens q (Ends own)).clients
 event-shows session q (Ticks k) P nothing tells = nothing q.clients
@@ -56,6 +87,8 @@ event-shows session q (Writes k) P nothing tells = nothing q.clients
 event-shows session q (Syncs k) P nothing tells = nothing q.clients
 event-shows session q (Stops k) P nothing tells = nothing q.clients
 event-shows session q (Finds k op) P nothing tells = nothing q.clients
+event-shows session q (Fetches own) P nothing tells =
+    subst (P (happens q (Fetches own)).clients) (sym (told-numbers session q (Fetches own))) tells
 event-shows session q (Delivers at) P nothing tells =
     subst (P (happens q (Delivers at)).clients) (sym (told-numbers session q (Delivers at))) tells
 event-shows session q (Notices k) P nothing tells =

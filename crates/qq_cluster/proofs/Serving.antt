@@ -18,11 +18,11 @@ use Rattle.qq_raft_msg.specs.Rpc.{envelope}
 use Rattle.qq_raft_msg.specs.declared.rpc.Rpc.{Rpc}
 use Rattle.qq_script_lines.specs.declared.line.ScriptLine.{ScriptLine}
 use Rattle.qq_script_lines.specs.declared.line.ScriptLine.TheVariants as lines
-use Rattle.qq_cluster.specs.Cluster.{Setup, Cluster, ClusterEvent, Sets, Alike, At, NodeWrites, NodeSyncs, Fails, Crashes, FindsEach, Shows, SaysDown, SaysNoSuch, SaysUnroutable, SaysBusy, SaysEnded, new_cluster, cluster_happens, cluster_after, members, part_of, up_after}
+use Rattle.qq_cluster.specs.Cluster.{Setup, Cluster, ClusterEvent, Sets, Alike, At, NodeWrites, NodeSyncs, Fails, Crashes, FindsEach, Shows, SaysDown, SaysNoSuch, SaysUnroutable, SaysBusy, SaysEnded, new_cluster, cluster_happens, cluster_after, members, part_of, up_after, MutesEach, EndsEach}
 use Rattle.qq_cluster.specs.ClusterLaws.{HasGroups, IsServedBy, has_failure}
 use Rattle.qq_cluster.specs.Lines.{AndPumped, IsCopy, IsDeliver, IsDelivered, IsLine, IsLose, IsRouted, IsScript, IsSend, WhereThere, WhereUp, nodes_of, publish_with, receiver_at}
-use Rattle.qq_cluster.specs.Queue.{Queue, Event, Mutes, Ends, Submits, TellsEnded, Resends, Downs, Ticks, Delivers, Loses, Copies, Writes, Syncs, Notices, Stops, Finds, after, happens, leader, moves, offered, submits, waiting}
-use Rattle.qq_cluster.specs.Rules.{Rule, ForEach, Is, IsEmptied, IsEnd, IsFirstTick, IsFound, IsGiven, IsNodeRound, IsNothing, IsNotice, IsOpening, IsPump, IsPumped, IsResend, IsRestart, IsRound, IsSync, IsSynced, IsWrite, IsWritten, MayRoll, Pumps, Then, if_so, is_ended, is_idle, may_find, most_rounds, some_queue, tick_at, waits_noticed, waits_synced, waits_written}
+use Rattle.qq_cluster.specs.Queue.{Queue, Event, Mutes, Ends, Submits, TellsEnded, TellsNotTaken, Resends, Fetches, Downs, Ticks, Delivers, Loses, Copies, Writes, Syncs, Notices, Stops, Finds, after, happens, leader, moves, offered, submits, waiting}
+use Rattle.qq_cluster.specs.Rules.{Rule, ForEach, Is, IsEmptied, IsEnd, IsFirstTick, IsFound, IsGiven, IsNodeRound, IsNothing, IsNotice, IsOpening, IsPump, IsPumped, IsResend, IsRestart, IsRound, IsSync, IsSynced, IsWrite, IsWritten, MayRoll, Pumps, Then, if_so, is_ended, is_idle, may_find, most_rounds, some_queue, tick_at, waits_noticed, waits_synced, waits_written, IsClaimed, not_taken}
 use Rattle.qq_cluster.specs.Serving as does
 use Rattle.qq_cluster.proofs.Counts.{IsCounted, counted-all, counted-new}
 
@@ -140,6 +140,8 @@ down-event : (j : ℕ) (q : Queue) (event : Event) → FindsNothing event → Is
 down-event j q (Mutes session muted) none' down = down
 down-event j q (Ends session) none' down = down
 down-event j q (TellsEnded session) none' down = down
+down-event j q (TellsNotTaken session id) none' down = down
+down-event j q (Fetches session) none' down = down
 down-event j q (Submits session body) none' down =
     down-moves j (moves q (Submits session body)) q.group
     (submits-calm (leader q.group) (offered q.clients (Submits session body))) down
@@ -170,15 +172,14 @@ record Sound (c : Cluster) : Type 0 where
 -- no disk fails, and only a node as a whole is restarted
 abbrev IsCalm : ClusterEvent → Type 0
 IsCalm (Fails k) = ⊥
-IsCalm (Alike event) = FindsNothing event
 IsCalm (At place event) = FindsNothing event
 IsCalm _ = Unit {0}
 
 down-part : (c : Cluster) (event : ClusterEvent) → IsCalm event → Sound c → (j : ℕ)
     → up_after event c.up j ≡ false → (place : ℕ) → IsDown j (after (c.queue place) (part_of place event)).group
 down-part c (Sets auto) calm sound j is place = sound.down j is place
-down-part c (Alike event) calm sound j is place =
-    down-event j (c.queue place) event calm (sound.down j is place)
+down-part c (Alike (MutesEach session muted)) calm sound j is place = sound.down j is place
+down-part c (Alike (EndsEach session)) calm sound j is place = sound.down j is place
 down-part c (At own event) calm sound j is place =
     cond_both (nat_eq own place) (event ∷ []) []
     (λ (events : List Event). IsDown j (after (c.queue place) events).group)
@@ -230,7 +231,7 @@ calm-fine : (events : List ClusterEvent) → AreCalm events → has_failure even
 calm-fine [] calm = refl
 calm-fine (Fails k ∷ events) calm = absurd calm.0
 calm-fine (Sets auto ∷ events) calm = calm-fine events calm.1
-calm-fine (Alike event ∷ events) calm = calm-fine events calm.1
+calm-fine (Alike standing ∷ events) calm = calm-fine events calm.1
 calm-fine (At place event ∷ events) calm = calm-fine events calm.1
 calm-fine (NodeWrites k ∷ events) calm = calm-fine events calm.1
 calm-fine (NodeSyncs k ∷ events) calm = calm-fine events calm.1
@@ -356,13 +357,19 @@ serve-asked setup Asked asked one =
 
 -- ---- clients
 
+serve-claim : (o : Option ℕ) (session : ℕ) (body : Unstamped) (place : ℕ) (c : Cluster)
+    → Served (IsClaimed o session body place c (does.claim o session body place c)) (does.claim o session body place c)
+serve-claim None session body place c = serve-one (At place (Submits session body)) tt c
+serve-claim (Some id) session body place c = serve-one (At place (TellsNotTaken session id)) tt c
+
 serve-give : (session : ℕ) (body : Unstamped) (place : ℕ)
     → Serves (IsGiven session body place) (does.give session body place)
 serve-give session body place c sound =
+    let o : Option ℕ = not_taken session body (c.queue place) in
     serve-if (is_ended session (c.queue place)) (Is (At place (TellsEnded session)))
-    (Is (At place (Submits session body))) c (At place (TellsEnded session) ∷ [])
-    (At place (Submits session body) ∷ []) (λ _. serve-one (At place (TellsEnded session)) tt c)
-    (λ _. serve-one (At place (Submits session body)) tt c)
+    (IsClaimed o session body place) c (At place (TellsEnded session) ∷ [])
+    (does.claim o session body place c) (λ _. serve-one (At place (TellsEnded session)) tt c)
+    (λ _. serve-claim o session body place c)
 
 serve-route : (session : ℕ) (body : Unstamped) (places : List ℕ)
     → Serves (IsRouted session body places) (does.route session body places)
@@ -380,17 +387,23 @@ serve-at event calm place c sound = serve-one (At place event) calm c
 
 serve-resend : (setup : Setup) (session : ℕ) → Serves (IsResend setup session) (does.resend setup session)
 serve-resend setup session c sound =
-    serve-if (some_queue setup (is_ended session) c) (Is SaysEnded)
-    (ForEach setup.places (λ place. Is (At place (Resends session)))) c (SaysEnded ∷ [])
-    (does.each setup.places (λ place. does.one (At place (Resends session))) c) (λ _. serve-one SaysEnded tt c)
-    (λ _. serve-each setup.places (λ place. Is (At place (Resends session)))
-    (λ place. does.one (At place (Resends session))) (serve-at (Resends session) tt) c sound)
+    let sends : Rule = ForEach setup.places (λ place. Is (At place (Resends session))) in
+    let asks : Rule = ForEach setup.places (λ place. Is (At place (Fetches session))) in
+    let sending : does.Doing = does.each setup.places (λ place. does.one (At place (Resends session))) in
+    let asking : does.Doing = does.each setup.places (λ place. does.one (At place (Fetches session))) in
+    serve-if (some_queue setup (is_ended session) c) (Is SaysEnded) (Then sends asks) c (SaysEnded ∷ [])
+    (does.both sending asking c) (λ _. serve-one SaysEnded tt c)
+    (λ _. serve-both sends asks sending asking
+    (serve-each setup.places (λ place. Is (At place (Resends session)))
+    (λ place. does.one (At place (Resends session))) (serve-at (Resends session) tt))
+    (serve-each setup.places (λ place. Is (At place (Fetches session)))
+    (λ place. does.one (At place (Fetches session))) (serve-at (Fetches session) tt)) c sound)
 
 serve-end : (setup : Setup) (session : ℕ) → Serves (IsEnd setup session) (does.finish setup session)
 serve-end setup session =
-    serve-both (Is (Alike (Ends session))) (ForEach setup.places (λ place. Is (At place (Downs session))))
-    (does.one (Alike (Ends session))) (does.each setup.places (λ place. does.one (At place (Downs session))))
-    (λ c sound. serve-one (Alike (Ends session)) tt c)
+    serve-both (Is (Alike (EndsEach session))) (ForEach setup.places (λ place. Is (At place (Downs session))))
+    (does.one (Alike (EndsEach session))) (does.each setup.places (λ place. does.one (At place (Downs session))))
+    (λ c sound. serve-one (Alike (EndsEach session)) tt c)
     (serve-each setup.places (λ place. Is (At place (Downs session))) (λ place. does.one (At place (Downs session)))
     (serve-at (Downs session) tt))
 
@@ -487,7 +500,7 @@ serve-line setup (lines.End by) c sound =
     serve-asked setup (IsEnd setup by.number) (does.finish setup by.number) (serve-end setup by.number) c sound
 serve-line setup (lines.Resend by) c sound =
     serve-asked setup (IsResend setup by.number) (does.resend setup by.number) (serve-resend setup by.number) c sound
-serve-line setup (lines.Mute by muted) c sound = serve-one (Alike (Mutes by.number muted)) tt c
+serve-line setup (lines.Mute by muted) c sound = serve-one (Alike (MutesEach by.number muted)) tt c
 serve-line setup (lines.Pace auto) c sound = serve-one (Sets auto) tt c
 serve-line setup lines.Pump c sound = serve-pumps most_rounds setup c sound
 serve-line setup (lines.Write node) c sound =

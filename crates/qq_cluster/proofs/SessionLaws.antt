@@ -13,10 +13,10 @@ use Rattle.qq_raft_model.specs.Group.{Group}
 use Rattle.qq_session.specs.Answered.{IsAnswered}
 use Rattle.qq_session.specs.Printed.{IsAudited, IsConfirmedOnce}
 use Rattle.qq_session.proofs.Once.{confirmed-once}
-use Rattle.qq_cluster.specs.Laws.{IsBegun, IsMade, queue_after}
+use Rattle.qq_cluster.specs.Laws.{IsBegun, queue_after}
 use Rattle.qq_cluster.specs.Queue.{Event, Queue, all_said, audit_rows, begin}
 use Rattle.qq_cluster.proofs.Groups.{KeepsCommits, KnowsCommits, reached-new}
-use Rattle.qq_cluster.proofs.Told.{IsOf, all-of}
+use Rattle.qq_cluster.proofs.Told.{all-audited}
 
 abbrev AnswersAll : Type 0
 AnswersAll =
@@ -30,24 +30,10 @@ session-answered answered args group session events =
     answered q.args q.group.audit (client session) (inl refl)
 
 module _ (knows : KnowsCommits) (keeps : KeepsCommits) where
-  all-said-of : (args : QueueArgs) (group : Group) (events : List Event) → IsBegun group
-      → AllByRecursion (IsOf (queue_after args group events)) (all_said (begin args group) events)
-  all-said-of args group events begun =
-      all-of knows keeps (begin args group) events (reached-new args group begun)
-
   pub answers-audited : (args : QueueArgs) (group : Group) (events : List Event) → IsBegun group
       → AllByRecursion (IsAudited (audit_rows (queue_after args group events))) (all_said (begin args group) events)
   answers-audited args group events begun =
-      let q : Queue = queue_after args group events in
-      AllByRecursion-weaker (IsOf q) (IsAudited (audit_rows q)) (λ shown is. is.0) (all_said (begin args group) events)
-      (all-said-of args group events begun)
-
-  pub deliveries-made : (args : QueueArgs) (group : Group) (events : List Event) → IsBegun group
-      → AllByRecursion (IsMade (queue_after args group events)) (all_said (begin args group) events)
-  deliveries-made args group events begun =
-      let q : Queue = queue_after args group events in
-      AllByRecursion-weaker (IsOf q) (IsMade q) (λ shown is. is.1) (all_said (begin args group) events)
-      (all-said-of args group events begun)
+      all-audited knows keeps (begin args group) events (reached-new args group begun)
 
   pub confirms-once : ((args : QueueArgs) (entries : List Entry) → CountsCommands args entries) → AnswersAll
       → (args : QueueArgs) (group : Group) (events : List Event) → IsBegun group

@@ -7,11 +7,11 @@ use Rattle.qq_base.specs.declared.ids.NodeId.{NodeId}
 use Rattle.qq_entry.specs.declared.command.Unstamped.{Unstamped}
 use Rattle.qq_script_lines.specs.declared.line.ScriptLine.{ScriptLine}
 use Rattle.qq_script_lines.specs.declared.line.ScriptLine.TheVariants as lines
-use Rattle.qq_cluster.specs.Cluster.{Setup, Cluster, ClusterEvent, Sets, Alike, At, NodeWrites, NodeSyncs, Fails, Crashes, FindsEach, Shows, SaysDown, SaysNoSuch, SaysUnroutable, SaysBusy, SaysEnded, new_cluster, cluster_after, members}
+use Rattle.qq_cluster.specs.Cluster.{Setup, Cluster, ClusterEvent, Sets, Alike, At, NodeWrites, NodeSyncs, Fails, Crashes, FindsEach, Shows, SaysDown, SaysNoSuch, SaysUnroutable, SaysBusy, SaysEnded, new_cluster, cluster_after, members, MutesEach, EndsEach}
 use Rattle.qq_cluster.specs.ClusterLaws.{is_failure, has_failure, finding, findings, LeavesNoChoice}
 use Rattle.qq_cluster.specs.Lines.{publish_with, IsRouted, IsSend, WhereUp, nodes_of, receiver_at, IsDelivered, WhereThere, IsDeliver, IsLose, IsCopy, AndPumped, IsLine, IsScript, IsRun}
-use Rattle.qq_cluster.specs.Queue.{Event, Mutes, Ends, Submits, TellsEnded, Resends, Downs, Ticks, Delivers, Loses, Copies, Notices}
-use Rattle.qq_cluster.specs.Rules.{Rule, IsNothing, Is, Then, if_so, ForEach, some_queue, waits_written, waits_synced, waits_noticed, IsWritten, IsWrite, MayRoll, IsSynced, IsSync, IsNotice, IsNodeRound, IsEmptied, IsRound, is_idle, Pumps, most_rounds, IsPump, IsPumped, is_ended, IsGiven, IsResend, IsEnd, IsFound, IsRestart, tick_at, IsFirstTick, IsOpening}
+use Rattle.qq_cluster.specs.Queue.{Event, Submits, TellsEnded, Resends, Downs, Ticks, Delivers, Loses, Copies, Notices, TellsNotTaken, Fetches}
+use Rattle.qq_cluster.specs.Rules.{Rule, IsNothing, Is, Then, if_so, ForEach, some_queue, waits_written, waits_synced, waits_noticed, IsWritten, IsWrite, MayRoll, IsSynced, IsSync, IsNotice, IsNodeRound, IsEmptied, IsRound, is_idle, Pumps, most_rounds, IsPump, IsPumped, is_ended, IsGiven, IsResend, IsEnd, IsFound, IsRestart, tick_at, IsFirstTick, IsOpening, IsClaimed, not_taken}
 
 -- whatever is found behind them
 abbrev Settles : Rule → Cluster → Type 0
@@ -149,11 +149,17 @@ settles-asked setup Asked c asked = settles-then Asked (IsPumped setup) c asked 
 
 -- ---- clients
 
+settles-claimed : (o : Option ℕ) (session : ℕ) (body : Unstamped) (place : ℕ) (c : Cluster)
+    → Settles (IsClaimed o session body place) c
+settles-claimed None session body place c = settles-is (At place (Submits session body)) c
+settles-claimed (Some id) session body place c = settles-is (At place (TellsNotTaken session id)) c
+
 settles-given : (session : ℕ) (body : Unstamped) (place : ℕ) (c : Cluster) → Settles (IsGiven session body place) c
 settles-given session body place c =
+    let o : Option ℕ = not_taken session body (c.queue place) in
     settles-if (is_ended session (c.queue place)) (Is (At place (TellsEnded session)))
-    (Is (At place (Submits session body))) c (settles-is (At place (TellsEnded session)) c)
-    (settles-is (At place (Submits session body)) c)
+    (IsClaimed o session body place) c (settles-is (At place (TellsEnded session)) c)
+    (settles-claimed o session body place c)
 
 settles-routed : (session : ℕ) (body : Unstamped) (places : List ℕ) (c : Cluster)
     → Settles (IsRouted session body places) c
@@ -163,15 +169,19 @@ settles-routed session body (place ∷ places) c =
 
 settles-resend : (setup : Setup) (session : ℕ) (c : Cluster) → Settles (IsResend setup session) c
 settles-resend setup session c =
-    settles-if (some_queue setup (is_ended session) c) (Is SaysEnded)
-    (ForEach setup.places (λ place. Is (At place (Resends session)))) c (settles-is SaysEnded c)
+    let sends : Rule = ForEach setup.places (λ place. Is (At place (Resends session))) in
+    let asks : Rule = ForEach setup.places (λ place. Is (At place (Fetches session))) in
+    settles-if (some_queue setup (is_ended session) c) (Is SaysEnded) (Then sends asks) c (settles-is SaysEnded c)
+    (settles-then sends asks c
     (settles-each setup.places (λ place. Is (At place (Resends session)))
     (λ place d. settles-is (At place (Resends session)) d) c)
+    (λ d. settles-each setup.places (λ place. Is (At place (Fetches session)))
+    (λ place e. settles-is (At place (Fetches session)) e) d))
 
 settles-end : (setup : Setup) (session : ℕ) (c : Cluster) → Settles (IsEnd setup session) c
 settles-end setup session c =
-    settles-then (Is (Alike (Ends session))) (ForEach setup.places (λ place. Is (At place (Downs session)))) c
-    (settles-is (Alike (Ends session)) c)
+    settles-then (Is (Alike (EndsEach session))) (ForEach setup.places (λ place. Is (At place (Downs session)))) c
+    (settles-is (Alike (EndsEach session)) c)
     (λ d. settles-each setup.places (λ place. Is (At place (Downs session)))
     (λ place e. settles-is (At place (Downs session)) e) d)
 
@@ -236,7 +246,7 @@ settles-line setup (lines.End by) c =
     settles-asked setup (IsEnd setup by.number) c (settles-end setup by.number c)
 settles-line setup (lines.Resend by) c =
     settles-asked setup (IsResend setup by.number) c (settles-resend setup by.number c)
-settles-line setup (lines.Mute by muted) c = settles-is (Alike (Mutes by.number muted)) c
+settles-line setup (lines.Mute by muted) c = settles-is (Alike (MutesEach by.number muted)) c
 settles-line setup (lines.Pace auto) c = settles-is (Sets auto) c
 settles-line setup lines.Pump c = settles-pumps most_rounds setup c
 settles-line setup (lines.Write node) c =

@@ -1,11 +1,11 @@
 -- Where a line does nothing, or says that a node is down.
-use Rattle.std.proofs.Common.{◌≡◌, ℕ, zero, suc, Bool, true, false, List, [], ◌∷◌, refl}
+use Rattle.std.proofs.Common.{◌≡◌, ℕ, zero, suc, Bool, true, false, List, [], ◌∷◌, refl, Option, subst}
 use Rattle.qq_base.specs.declared.ids.NodeId.{NodeId}
 use Rattle.qq_cluster.specs.Cluster.{Setup, Cluster, ClusterEvent, At, SaysBusy, SaysDown, SaysEnded}
-use Rattle.qq_cluster.specs.ClusterLaws.{GivesNoCommand, MakesNoRound, SayTheyAreDown}
+use Rattle.qq_cluster.specs.ClusterLaws.{GivesNoCommand, MakesNoRound, SayTheyAreDown, TellsWhatIsNotTaken}
 use Rattle.qq_cluster.specs.Lines.{IsLine, WhereUp}
-use Rattle.qq_cluster.specs.Queue.{Notices, Resends, Submits, TellsEnded, Ticks}
-use Rattle.qq_cluster.specs.Rules.{Rule, ForEach, Is, IsNothing, IsRound, IsSync, IsWrite, Pumps, Then, if_so, is_ended, is_idle, most_rounds, some_queue}
+use Rattle.qq_cluster.specs.Queue.{Notices, Resends, TellsEnded, Ticks, Fetches}
+use Rattle.qq_cluster.specs.Rules.{Rule, ForEach, Is, IsNothing, IsRound, IsSync, IsWrite, Pumps, Then, if_so, is_ended, is_idle, most_rounds, some_queue, IsClaimed, not_taken}
 
 -- the first of two rules where a test is true, the second where it is false
 pub first-is : (b : Bool) (First Second : Rule) (c : Cluster) (events : List ClusterEvent) → b ≡ true
@@ -49,8 +49,15 @@ pub gives-none : (setup : Setup) (session : ℕ) (c : Cluster) → GivesNoComman
 gives-none setup session c = record {
   send = λ place body events ended allowed.
       first-is (is_ended session (c.queue place)) (Is (At place (TellsEnded session)))
-      (Is (At place (Submits session body))) c events ended allowed;
+      (IsClaimed (not_taken session body (c.queue place)) session body place) c events ended allowed;
   resend = λ events ended allowed.
       first-is (some_queue setup (is_ended session) c) (Is SaysEnded)
-      (ForEach setup.places (λ place. Is (At place (Resends session)))) c events ended allowed;
+      (Then (ForEach setup.places (λ place. Is (At place (Resends session))))
+      (ForEach setup.places (λ place. Is (At place (Fetches session))))) c events ended allowed;
 }
+
+pub tells-not_taken : (session : ℕ) (c : Cluster) → TellsWhatIsNotTaken session c
+tells-not_taken session c place id body events goes untaken allowed =
+    subst (λ (o : Option ℕ). IsClaimed o session body place c events) untaken
+    (second-is (is_ended session (c.queue place)) (Is (At place (TellsEnded session)))
+    (IsClaimed (not_taken session body (c.queue place)) session body place) c events goes allowed)

@@ -1,16 +1,19 @@
--- What is printed as an answer is a row of the audit, and what is printed as a delivery is an effect of an entry of it.
-use Rattle.std.proofs.Common.{◌≡◌, ℕ, Bool, true, false, List, [], ◌∷◌, Option, Some, None, map, take, drop, refl, sym, subst, take-append-drop}
+-- What is printed as an answer is a row of the audit, and what a step does is what an entry of it does.
+use Rattle.std.proofs.Common.{◌≡◌, ℕ, List, [], ◌∷◌, Option, Some, None, map, take, drop, refl, sym, subst, take-append-drop}
 use Rattle.std.specs.Prelude.{Contains}
-use Rattle.std.specs.List.{AllByRecursion, flat_map}
+use Rattle.std.specs.List.{AllByRecursion}
 use Rattle.std.proofs.lemmas.Bool.{cond_both}
 use Rattle.std.proofs.lemmas.List.Elements.{Contains-append_left, Contains-append_right}
 use Rattle.qq_base.proofs.Lists.{AllByRecursion-append, AllByRecursion-filter, AllByRecursion-map, AllByRecursion-weaker}
 use Rattle.qq_base.specs.Fronts.{IsFront}
+use Rattle.qq_base.specs.declared.ids.ConsumerId.{ConsumerId}
 use Rattle.qq_base.specs.declared.ids.Term.{Term}
+use Rattle.qq_consuming.specs.Consumers.{taken}
+use Rattle.qq_consuming.specs.Consuming.{Received}
+use Rattle.qq_entry.specs.declared.answer.Delivery.{Delivery}
 use Rattle.qq_entry.specs.declared.audit.AuditRow.{AuditRow}
 use Rattle.qq_entry.specs.declared.audit.Effect.{Effect}
 use Rattle.qq_entry.specs.declared.audit.Effect.TheVariants.{Deliver, DeadOnce, Offer}
-use Rattle.qq_entry.specs.declared.command.Command.{Command}
 use Rattle.qq_entry.specs.declared.command.Entry.{Entry}
 use Rattle.qq_entry.specs.declared.queue.QueueArgs.{QueueArgs}
 use Rattle.qq_model.specs.Audit.{audit_of, effects_of, state_after}
@@ -19,21 +22,20 @@ use Rattle.qq_raft_model.specs.Group.{Group}
 use Rattle.qq_raft_model.specs.Promises.{IsUp}
 use Rattle.qq_raft_model.specs.Server.{is_ready}
 use Rattle.qq_raft_model.specs.State.{Server}
-use Rattle.qq_session.specs.Publishing.{Numbers}
 use Rattle.qq_session.specs.Printed.{IsAnswer, IsAudited}
 use Rattle.qq_session.specs.Clients.{Clients, printed, may_hand}
-use Rattle.qq_session.specs.Shown.{Shown, Answered, Delivered, NoLeader, WindowFull, HasEnded, effects_of_term, is_delivered_to, delivered, said_of}
+use Rattle.qq_session.specs.Shown.{Answered, Delivered, WindowFull, effects_of_term, is_delivered_to, said_of}
 use Rattle.qq_session.proofs.Audits.{audit-front}
 use Rattle.qq_session.proofs.EffectsOfTerm.{effects-append, of-term}
-use Rattle.qq_session.proofs.PrintedAnswers.{all-drop, delivered-audited, each-contained, front-contains, later-audited, offered-audited, printed-are}
-use Rattle.qq_cluster.specs.Laws.{IsMade}
-use Rattle.qq_cluster.specs.Queue.{Queue, Event, Mutes, Ends, Submits, TellsEnded, Resends, Downs, Ticks, Delivers, Loses, Copies, Writes, Syncs, Notices, Stops, Finds, after, all_said, audit_rows, effects_at, effects_by, effects_told, group_then, happens, has_leader, is_shown, offered, rows_at, rows_by, rows_told, said, stepping, told}
-use Rattle.qq_cluster.proofs.Groups.{KnowsCommits, KeepsCommits, Reached, args-are, audit-grows, commits-grow, known-in, reached-next}
+use Rattle.qq_session.proofs.PrintedAnswers.{all-drop, each-contained, front-contains, later-audited, offered-audited, printed-are}
+use Rattle.qq_cluster.specs.Delivering.{comes, show_all, shows}
+use Rattle.qq_cluster.specs.Queue.{Queue, Event, Mutes, Ends, Submits, TellsEnded, TellsNotTaken, Resends, Fetches, Downs, Ticks, Delivers, Loses, Copies, Writes, Syncs, Notices, Stops, Finds, after, all_said, audit_rows, effects_at, effects_by, effects_shown, group_then, happens, has_leader, is_shown, known, offered, rows_at, rows_by, rows_told, said, stepping, told}
+use Rattle.qq_cluster.proofs.Groups.{KnowsCommits, KeepsCommits, Reached, audit-grows, known-in, reached-next}
 
 -- ---- rows
 
 -- what the members of a group know to be committed begins its entries
-abbrev AreKnown : Group → Type 0
+abbrev pub AreKnown : Group → Type 0
 AreKnown g = (k : ℕ) (s : Server) → IsUp g k s → IsFront (take s.commit s.log) g.audit
 
 rows-of : (args : QueueArgs) (audit : List Entry) (o p : Option Server)
@@ -58,10 +60,10 @@ rows-at args g h known (Some k) =
 
 -- ---- effects
 
-abbrev HasEffect : QueueArgs → List Entry → Effect → Type 0
+abbrev pub HasEffect : QueueArgs → List Entry → Effect → Type 0
 HasEffect args entries effect = Contains (effects_of (empty_queue args) entries) effect
 
-has-later : (args : QueueArgs) (a b : List Entry) (effect : Effect) → IsFront a b → HasEffect args a effect
+pub has-later : (args : QueueArgs) (a b : List Entry) (effect : Effect) → IsFront a b → HasEffect args a effect
     → HasEffect args b effect
 has-later args a b effect front has =
     let s : State = empty_queue args in
@@ -99,7 +101,7 @@ effects-of args audit (Some s) (Some t) known =
     (effects_of_term t.term (state_after (empty_queue args) (take s.commit all)) (drop s.commit all))
     (behind-has args t.term s.commit all)) (λ _. tt)
 
-effects-at : (args : QueueArgs) (g h : Group) → AreKnown h → (o : Option ℕ)
+pub effects-at : (args : QueueArgs) (g h : Group) → AreKnown h → (o : Option ℕ)
     → AllByRecursion (HasEffect args h.audit) (effects_at o args g h)
 effects-at args g h known None = tt
 effects-at args g h known (Some k) =
@@ -107,108 +109,79 @@ effects-at args g h known (Some k) =
 
 -- ---- what is said
 
--- what is printed is an answer of an audit, or a delivery that it made
-abbrev pub IsOf : Queue → Shown → Type 0
-IsOf q shown = IsAudited (audit_rows q) shown × IsMade q shown
+-- a delivery isn't an answer
+handed-audited : (audit : List AuditRow) (id : ConsumerId) (ds : List Delivery)
+    → AllByRecursion (IsAudited audit) (map (Delivered id) ds)
+handed-audited audit id [] = tt
+handed-audited audit id (d ∷ ds) = (tt, handed-audited audit id ds)
 
-both-of : (q : Queue) (shown : List Shown) → AllByRecursion (IsAudited (audit_rows q)) shown
-    → AllByRecursion (IsMade q) shown → AllByRecursion (IsOf q) shown
-both-of q [] audited made = tt
-both-of q (one ∷ more) audited made = ((audited.0, made.0), both-of q more audited.1 made.1)
+shows-audited : (audit : List AuditRow) (clients : Clients) (effect : Effect) (all : List Received)
+    → AllByRecursion (IsAudited audit) (shows clients effect all)
+shows-audited audit clients (Deliver id delivery) all =
+    cond_both (is_delivered_to clients id.session) (map (Delivered id) (taken id delivery all)) []
+    (AllByRecursion (IsAudited audit)) (λ _. handed-audited audit id (taken id delivery all)) (λ _. tt)
+shows-audited audit clients (DeadOnce reason message) all = tt
+shows-audited audit clients (Offer number reason message) all = tt
 
-answered-made : (q : Queue) (rows : List AuditRow) → AllByRecursion (IsMade q) (map Answered rows)
-answered-made q [] = tt
-answered-made q (row ∷ rows) = (tt, answered-made q rows)
+shown-audited : (audit : List AuditRow) (clients : Clients) (effects : List Effect) (all : List Received)
+    → AllByRecursion (IsAudited audit) (show_all clients effects all)
+shown-audited audit clients [] all = tt
+shown-audited audit clients (effect ∷ effects) all =
+    let next : List Received = comes clients effect all in
+    AllByRecursion-append (IsAudited audit) (shows clients effect all) (show_all clients effects next)
+    (shows-audited audit clients effect all) (shown-audited audit clients effects next)
 
-offered-made : (q : Queue) (ready : Bool) (session : ℕ) (commands : List Command)
-    → AllByRecursion (IsMade q) (said_of ready session commands)
-offered-made q true session commands = tt
-offered-made q false session [] = tt
-offered-made q false session (command ∷ commands) = (tt, offered-made q false session commands)
-
-delivered-made : (q : Queue) (clients : Clients) (effects : List Effect)
-    → AllByRecursion (HasEffect q.args q.group.audit) effects
-    → AllByRecursion (IsMade q) (flat_map (delivered clients) effects)
-delivered-made q clients [] each = tt
-delivered-made q clients (Deliver consumer delivery ∷ effects) each =
-    AllByRecursion-append (IsMade q) (delivered clients (Deliver consumer delivery))
-    (flat_map (delivered clients) effects)
-    (cond_both (is_delivered_to clients consumer.session) (Delivered consumer delivery ∷ []) []
-    (AllByRecursion (IsMade q)) (λ _. (each.0, tt)) (λ _. tt)) (delivered-made q clients effects each.1)
-delivered-made q clients (DeadOnce reason message ∷ effects) each = delivered-made q clients effects each.1
-delivered-made q clients (Offer number reason message ∷ effects) each = delivered-made q clients effects each.1
-
-offered-of : (q : Queue) (ready : Bool) (session : ℕ) (commands : List Command)
-    → AllByRecursion (IsOf q) (said_of ready session commands)
-offered-of q ready session commands =
-    both-of q (said_of ready session commands) (offered-audited (audit_rows q) ready session commands)
-    (offered-made q ready session commands)
-
-told-of : (q : Queue) (event : Event) → AreKnown (group_then q event)
-    → AllByRecursion (IsOf (happens q event)) (told q event)
-told-of q event known =
-    let then : Queue = happens q event in
+told-audited : (q : Queue) (event : Event) → AreKnown (group_then q event)
+    → AllByRecursion (IsAudited (audit_rows (happens q event))) (told q event)
+told-audited q event known' =
+    let audit : List AuditRow = audit_rows (happens q event) in
     let rows : List AuditRow = printed (rows_told q event) q.clients in
-    both-of then (told q event)
-    (AllByRecursion-append (IsAudited (audit_rows then)) (map Answered rows)
-    (flat_map (delivered q.clients) (effects_told q event))
-    (AllByRecursion-map (IsAnswer (audit_rows then)) (IsAudited (audit_rows then)) Answered rows (λ row is. is)
-    (printed-are (audit_rows then) (rows_told q event) q.clients
-    (rows-at q.args q.group (group_then q event) known (stepping q event))))
-    (delivered-audited (audit_rows then) q.clients (effects_told q event)))
-    (AllByRecursion-append (IsMade then) (map Answered rows) (flat_map (delivered q.clients) (effects_told q event))
-    (answered-made then rows)
-    (delivered-made then q.clients (effects_told q event)
-    (effects-at q.args q.group (group_then q event) known (stepping q event))))
+    let all : List Received = known q.clients event q.consumers in
+    AllByRecursion-append (IsAudited audit) (map Answered rows) (show_all q.clients (effects_shown q event) all)
+    (AllByRecursion-map (IsAnswer audit) (IsAudited audit) Answered rows (λ row is. is)
+    (printed-are audit (rows_told q event) q.clients
+    (rows-at q.args q.group (group_then q event) known' (stepping q event))))
+    (shown-audited audit q.clients (effects_shown q event) all)
 
-said-of : (q : Queue) (event : Event) → AreKnown (group_then q event)
-    → AllByRecursion (IsOf (happens q event)) (said q event)
-said-of q (Submits session body) known =
-    let numbers : Numbers = (q.clients session).numbers in
-    cond_both (may_hand numbers) (said_of (has_leader q) session (offered q.clients (Submits session body)))
-    (WindowFull session ∷ []) (AllByRecursion (IsOf (happens q (Submits session body))))
-    (λ _. offered-of (happens q (Submits session body)) (has_leader q) session
-    (offered q.clients (Submits session body))) (λ _. ((tt, tt), tt))
-said-of q (Resends session) known =
-    offered-of (happens q (Resends session)) (has_leader q) session (offered q.clients (Resends session))
-said-of q (Downs session) known =
-    offered-of (happens q (Downs session)) (has_leader q) session (offered q.clients (Downs session))
-said-of q (TellsEnded session) known = ((tt, tt), tt)
-said-of q (Mutes session muted) known = told-of q (Mutes session muted) known
-said-of q (Ends session) known = told-of q (Ends session) known
-said-of q (Ticks k) known = told-of q (Ticks k) known
-said-of q (Delivers at) known = told-of q (Delivers at) known
-said-of q (Loses at) known = told-of q (Loses at) known
-said-of q (Copies at) known = told-of q (Copies at) known
-said-of q (Writes k) known = told-of q (Writes k) known
-said-of q (Syncs k) known = told-of q (Syncs k) known
-said-of q (Notices k) known = told-of q (Notices k) known
-said-of q (Stops k) known = told-of q (Stops k) known
-said-of q (Finds k op) known = told-of q (Finds k op) known
+said-audited : (q : Queue) (event : Event) → AreKnown (group_then q event)
+    → AllByRecursion (IsAudited (audit_rows (happens q event))) (said q event)
+said-audited q (Submits session body) known' =
+    let event : Event = Submits session body in
+    let audit : List AuditRow = audit_rows (happens q event) in
+    cond_both (may_hand (q.clients session).numbers) (said_of (has_leader q) session (offered q.clients event))
+    (WindowFull session ∷ []) (AllByRecursion (IsAudited audit))
+    (λ _. offered-audited audit (has_leader q) session (offered q.clients event)) (λ _. (tt, tt))
+said-audited q (Resends session) known' =
+    offered-audited (audit_rows (happens q (Resends session))) (has_leader q) session
+    (offered q.clients (Resends session))
+said-audited q (Downs session) known' =
+    offered-audited (audit_rows (happens q (Downs session))) (has_leader q) session (offered q.clients (Downs session))
+said-audited q (TellsEnded session) known' = (tt, tt)
+said-audited q (TellsNotTaken session id) known' = (tt, tt)
+said-audited q (Mutes session muted) known' = told-audited q (Mutes session muted) known'
+said-audited q (Ends session) known' = told-audited q (Ends session) known'
+said-audited q (Fetches session) known' = told-audited q (Fetches session) known'
+said-audited q (Ticks k) known' = told-audited q (Ticks k) known'
+said-audited q (Delivers at) known' = told-audited q (Delivers at) known'
+said-audited q (Loses at) known' = told-audited q (Loses at) known'
+said-audited q (Copies at) known' = told-audited q (Copies at) known'
+said-audited q (Writes k) known' = told-audited q (Writes k) known'
+said-audited q (Syncs k) known' = told-audited q (Syncs k) known'
+said-audited q (Notices k) known' = told-audited q (Notices k) known'
+said-audited q (Stops k) known' = told-audited q (Stops k) known'
+said-audited q (Finds k op) known' = told-audited q (Finds k op) known'
 
 -- ---- later
 
-later-made : (q r : Queue) → r.args ≡ q.args → IsFront q.group.audit r.group.audit → (shown : Shown) → IsMade q shown
-    → IsMade r shown
-later-made q r same front (Answered row) is = tt
-later-made q r same front (Delivered consumer delivery) is =
-    subst (λ (args : QueueArgs). HasEffect args r.group.audit (Deliver consumer delivery)) (sym same)
-    (has-later q.args q.group.audit r.group.audit (Deliver consumer delivery) front is)
-later-made q r same front (NoLeader session) is = tt
-later-made q r same front (WindowFull session) is = tt
-later-made q r same front (HasEnded session) is = tt
-
-pub all-of : KnowsCommits → KeepsCommits → (q : Queue) (events : List Event) → Reached q
-    → AllByRecursion (IsOf (after q events)) (all_said q events)
-all-of knows keeps q [] r = tt
-all-of knows keeps q (event ∷ events) r =
+pub all-audited : KnowsCommits → KeepsCommits → (q : Queue) (events : List Event) → Reached q
+    → AllByRecursion (IsAudited (audit_rows (after q events))) (all_said q events)
+all-audited knows keeps q [] r = tt
+all-audited knows keeps q (event ∷ events) r =
     let next : Queue = happens q event in
     let final : Queue = after next events in
     let r' : Reached next = reached-next q event r in
-    AllByRecursion-append (IsOf final) (said q event) (all_said next events)
-    (AllByRecursion-weaker (IsOf next) (IsOf final)
-    (λ shown is. (
-      later-audited (audit_rows next) (audit_rows final) (audit-grows keeps next events r') shown is.0,
-      later-made next final (args-are next events) (commits-grow keeps next events r') shown is.1,
-    )) (said q event) (said-of q event (known-in knows next r')))
-    (all-of knows keeps next events r')
+    AllByRecursion-append (IsAudited (audit_rows final)) (said q event) (all_said next events)
+    (AllByRecursion-weaker (IsAudited (audit_rows next)) (IsAudited (audit_rows final))
+    (later-audited (audit_rows next) (audit_rows final) (audit-grows keeps next events r'))
+    (said q event) (said-audited q event (known-in knows next r')))
+    (all-audited knows keeps next events r')

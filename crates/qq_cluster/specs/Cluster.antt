@@ -9,7 +9,7 @@ use Rattle.qq_entry.specs.declared.queue.QueueArgs.{QueueArgs}
 use Rattle.qq_raft_model.specs.Group.{Group, has_node}
 use Rattle.qq_raft_model.specs.State.{Server}
 use Rattle.qq_session.specs.Shown.{Shown}
-use Rattle.qq_cluster.specs.Queue.{Queue, Event, Writes, Syncs, Stops, Finds, begin, after, said}
+use Rattle.qq_cluster.specs.Queue.{Queue, Event, Mutes, Ends, Writes, Syncs, Stops, Finds, begin, after, said}
 
 -- what a cluster is started with
 pub record Setup : Type 0 where
@@ -39,11 +39,22 @@ new_cluster setup =
       queue = λ place. begin (setup.args place) (setup.group place);
     }
 
+-- what each queue meets alike, of a client's session
+pub data Standing : Type 0 where
+  -- from here on answers to it are lost, or come again
+  MutesEach : (session : ℕ) (muted : Bool) → Standing
+  -- it ends
+  EndsEach : (session : ℕ) → Standing
+
+abbrev pub event_of : Standing → Event
+event_of (MutesEach session muted) = Mutes session muted
+event_of (EndsEach session) = Ends session
+
 pub data ClusterEvent : Type 0 where
   -- from here on a pump follows each line of a client, or none
   Sets : (auto : Bool) → ClusterEvent
-  -- what happens to each queue alike: a session is muted, or ends
-  Alike : (event : Event) → ClusterEvent
+  -- what happens to each queue alike
+  Alike : (standing : Standing) → ClusterEvent
   -- what happens to one queue
   At : (place : ℕ) (event : Event) → ClusterEvent
   -- all that waits at a node is appended to its log
@@ -71,7 +82,7 @@ pub data ClusterEvent : Type 0 where
 
 -- what an event is to one queue
 abbrev pub part_of : ℕ → ClusterEvent → List Event
-part_of place (Alike event) = event ∷ []
+part_of place (Alike standing) = event_of standing ∷ []
 part_of place (At own event) = if nat_eq own place then event ∷ [] else []
 part_of place (NodeWrites k) = Writes k ∷ []
 part_of place (NodeSyncs k) = Syncs k ∷ []

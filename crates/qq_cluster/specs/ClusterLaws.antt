@@ -1,17 +1,22 @@
 -- What holds of a cluster, whatever happens, and what its rules leave open.
-use Rattle.std.specs.Prelude.{◌≡◌, ℕ, List, [], ◌∷◌, Bool, true, false}
+use Rattle.std.specs.Prelude.{◌≡◌, ℕ, List, [], ◌∷◌, Bool, true, false, Option, Some, None, filter_map, nat_eq, if◌then◌else◌}
 use Rattle.std.specs.List.{AllByRecursion, flat_map, list_any}
+use Rattle.qq_base.specs.Fronts.{IsFront}
+use Rattle.qq_base.specs.declared.ids.ConsumerId.{ConsumerId}
 use Rattle.qq_base.specs.declared.ids.NodeId.{NodeId}
 use Rattle.qq_base.specs.declared.ids.QueueId.{QueueId}
 use Rattle.qq_entry.specs.declared.command.Unstamped.{Unstamped}
+use Rattle.qq_model.specs.Audit.{deliveries}
+use Rattle.qq_model.specs.State.{empty_queue}
 use Rattle.qq_script_lines.specs.declared.line.ScriptLine.{ScriptLine}
 use Rattle.qq_script_lines.specs.declared.line.ScriptLine.TheVariants.{Write, Sync, Notice, Tick}
 use Rattle.qq_session.specs.Printed.{IsAudited, IsConfirmedOnce}
-use Rattle.qq_cluster.specs.Queue.{Queue, TellsEnded, audit_rows}
+use Rattle.qq_session.specs.Shown.{Shown}
+use Rattle.qq_cluster.specs.Queue.{Queue, TellsEnded, TellsNotTaken, all_said, audit_rows, begin}
 use Rattle.qq_cluster.specs.Cluster.{Setup, Cluster, ClusterEvent, At, Fails, FindsEach, SaysDown, SaysEnded, Printed, Of, new_cluster, cluster_after, parts_of, all_prints}
-use Rattle.qq_cluster.specs.Rules.{Rule, some_queue, is_idle, is_ended, IsPump, IsGiven, IsResend}
+use Rattle.qq_cluster.specs.Rules.{Rule, some_queue, is_idle, is_ended, not_taken, IsPump, IsGiven, IsResend}
 use Rattle.qq_cluster.specs.Lines.{IsLine, IsRun}
-use Rattle.qq_cluster.specs.Laws.{IsBegun, IsMade, queue_after}
+use Rattle.qq_cluster.specs.Laws.{IsBegun, IsMade, deliveries_shown, queue_after}
 
 -- each queue of a cluster is a queue to which its own part of the events happened
 abbrev pub HasItsQueues : Setup → List ClusterEvent → Type 0
@@ -19,6 +24,21 @@ HasItsQueues setup events =
     (place : ℕ)
     → (cluster_after (new_cluster setup) events).queue place
     ≡ queue_after (setup.args place) (setup.group place) (parts_of place events)
+
+-- what is printed of a queue
+abbrev pub shown_of : ℕ → Printed → Option Shown
+shown_of place (Of own shown) = if nat_eq own place then Some shown else None
+shown_of place _ = None
+
+abbrev pub shown_at : ℕ → List Printed → List Shown
+shown_at place printed = filter_map (shown_of place) printed
+
+-- of each queue is printed what its own part of the events shows
+abbrev pub PrintsOfItsQueues : Setup → List ClusterEvent → Type 0
+PrintsOfItsQueues setup events =
+    (place : ℕ)
+    → shown_at place (all_prints setup (new_cluster setup) events)
+    ≡ all_said (begin (setup.args place) (setup.group place)) (parts_of place events)
 
 -- each queue may begin with its group
 abbrev pub HasGroups : Setup → Type 0
@@ -35,6 +55,15 @@ IsTrueOf c _ = Unit {0}
 abbrev pub PrintsWhatIsTrue : Setup → List ClusterEvent → Type 0
 PrintsWhatIsTrue setup events =
     AllByRecursion (IsTrueOf (cluster_after (new_cluster setup) events)) (all_prints setup (new_cluster setup) events)
+
+-- What is printed of a consumer's deliveries at a queue is a front of those that the queue's audit has for it: each once
+-- and in order, and none is passed over.
+abbrev pub PrintsInOrder : Setup → List ClusterEvent → Type 0
+PrintsInOrder setup events =
+    (place : ℕ) (consumer : ConsumerId)
+    → let q : Queue = (cluster_after (new_cluster setup) events).queue place in
+    IsFront (deliveries_shown consumer (shown_at place (all_prints setup (new_cluster setup) events)))
+    (deliveries (empty_queue (setup.args place)) (audit_rows q) consumer)
 
 -- ---- what rules leave open
 
@@ -86,3 +115,10 @@ pub record GivesNoCommand (setup : Setup) (session : ℕ) (c : Cluster) : Type 0
       → IsGiven session body place c events → events ≡ At place (TellsEnded session) ∷ []
   pub resend : (events : List ClusterEvent) → some_queue setup (is_ended session) c ≡ true
       → IsResend setup session c events → events ≡ SaysEnded ∷ []
+
+-- a session's command for a delivery that wasn't handed out isn't given: that is told, and nothing else happens
+abbrev pub TellsWhatIsNotTaken : ℕ → Cluster → Type 0
+TellsWhatIsNotTaken session c =
+    (place id : ℕ) (body : Unstamped) (events : List ClusterEvent) → is_ended session (c.queue place) ≡ false
+    → not_taken session body (c.queue place) ≡ Some id → IsGiven session body place c events
+    → events ≡ At place (TellsNotTaken session id) ∷ []

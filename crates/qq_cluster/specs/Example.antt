@@ -8,7 +8,8 @@ use Rattle.qq_base.specs.declared.ids.NodeId.{NodeId}
 use Rattle.qq_base.specs.declared.ids.QueueId.{QueueId}
 use Rattle.qq_disk.specs.declared.image.Image.{Image}
 use Rattle.qq_disk.specs.declared.image.Tail.TheVariants.{Cut, Whole}
-use Rattle.qq_entry.specs.declared.command.Unstamped.TheVariants.{Get}
+use Rattle.qq_entry.specs.declared.command.Mode.TheVariants.{Prefetch}
+use Rattle.qq_entry.specs.declared.command.Unstamped.TheVariants.{Get, Settle, Subscribe}
 use Rattle.qq_entry.specs.Queue.{default_args}
 use Rattle.qq_raft_model.specs.Group.{new_group}
 use Rattle.qq_setup.specs.Members.{members}
@@ -100,6 +101,35 @@ replaced =
 -- a muted session publishes and sends that twice again; the answer that it hears is printed once
 abbrev pub muted : List ScriptLine
 muted = Mute (client 1) true ∷ Publish (codes "a") ∷ Resend (client 1) ∷ Mute (client 1) false ∷ Resend (client 1) ∷ []
+
+-- ---- consumers
+
+abbrev pub subscribe : ℕ → ScriptLine
+subscribe prefetch = Client (client 2) (at_queue 1) (Subscribe 1 (Prefetch prefetch))
+
+abbrev pub settle : ℕ → ScriptLine
+settle id = Client (client 2) (at_queue 1) (Settle 1 (id ∷ []))
+
+-- a muted session's consumer misses a delivery; it is fetched, once
+abbrev pub missed : List ScriptLine
+missed =
+    subscribe 1 ∷ Mute (client 2) true ∷ Publish (codes "a") ∷ Mute (client 2) false ∷ Resend (client 2)
+    ∷ Resend (client 2) ∷ []
+
+-- nothing was handed out
+abbrev pub settle_untaken : List ScriptLine
+settle_untaken = Client (client 1) (at_queue 1) (Settle 1 (1 ∷ [])) ∷ []
+
+-- The second delivery comes, and waits for the first one, which was missed. Only once both were handed out it is settled,
+-- and the next one comes.
+abbrev pub in_order : List ScriptLine
+in_order =
+    subscribe 2 ∷ Mute (client 2) true ∷ Publish (codes "a") ∷ Mute (client 2) false ∷ Publish (codes "b")
+    ∷ settle 2 ∷ Resend (client 2) ∷ settle 2 ∷ Publish (codes "c") ∷ []
+
+-- a consumer is known from its subscription on, though the answer to that is missed
+abbrev pub subscribed_late : List ScriptLine
+subscribed_late = Mute (client 2) true ∷ subscribe 1 ∷ Publish (codes "a") ∷ Mute (client 2) false ∷ Resend (client 2) ∷ []
 
 -- a message to each of two queues is appended and not synced, and a crash leaves so much of the file
 abbrev pub cut_behind : Image → List ScriptLine

@@ -1,7 +1,9 @@
 -- What holds of a queue of a cluster, whatever happens to it.
-use Rattle.std.specs.Prelude.{◌≡◌, ◌≤◌, ◌<◌, ℕ, List, [], ◌∷◌, ◌++◌, true, Some, None, length, nat_eq, Contains, if◌then◌else◌}
+use Rattle.std.specs.Prelude.{◌≡◌, ◌≤◌, ◌<◌, ℕ, List, [], ◌∷◌, ◌++◌, true, Option, Some, None, length, filter_map, nat_eq, All, Contains, if◌then◌else◌}
 use Rattle.qq_base.specs.Fronts.{IsFront}
-use Rattle.qq_base.specs.Ids.{client}
+use Rattle.qq_base.specs.Ids.{client, same_consumer}
+use Rattle.qq_base.specs.declared.ids.ConsumerId.{ConsumerId}
+use Rattle.qq_entry.specs.declared.answer.Delivery.{Delivery}
 use Rattle.qq_entry.specs.declared.audit.AuditRow.{AuditRow}
 use Rattle.qq_entry.specs.declared.audit.Effect.TheVariants.{Deliver}
 use Rattle.qq_entry.specs.declared.command.Command.{Command}
@@ -78,6 +80,22 @@ commands_of args group session events =
 pub record CountsRise (q : Queue) (k : ℕ) : Type 0 where
   pub noticed : (q.group.seat k).noticed ≤ q.synced k
   pub synced : q.synced k ≤ length (q.group.seat k).ops
+
+-- ---- a consumer's deliveries
+
+abbrev pub delivery_shown : ConsumerId → Shown → Option Delivery
+delivery_shown consumer (Delivered other delivery) = if same_consumer other consumer then Some delivery else None
+delivery_shown consumer _ = None
+
+-- the deliveries to a consumer that are shown, in order
+abbrev pub deliveries_shown : ConsumerId → List Shown → List Delivery
+deliveries_shown consumer shown = filter_map (delivery_shown consumer) shown
+
+-- A command for deliveries of these ids may be given where each of them was shown; else the first one that wasn't is told.
+abbrev pub AreClaimed : List ℕ → List ℕ → Option ℕ → Type 0
+AreClaimed ids shown None = All (Contains shown) ids
+AreClaimed ids shown (Some id) =
+    (before behind : List ℕ) × (ids ≡ before ++ id ∷ behind) × All (Contains shown) before × (Contains shown id → ⊥)
 
 -- ---- the end of a session
 

@@ -1,3 +1,4 @@
+pub mod Delivering
 pub mod Queue
 pub mod Cluster
 pub mod Texts

@@ -7,8 +7,8 @@ use Rattle.qq_script_lines.specs.declared.line.Nodes.{Nodes}
 use Rattle.qq_script_lines.specs.declared.line.Nodes.TheVariants.{One, All}
 use Rattle.qq_script_lines.specs.declared.line.ScriptLine.{ScriptLine}
 use Rattle.qq_script_lines.specs.declared.line.ScriptLine.TheVariants as lines
-use Rattle.qq_cluster.specs.Queue.{Event, Mutes, Ticks, Delivers, Loses, Copies, Notices, receiver_by}
-use Rattle.qq_cluster.specs.Cluster.{Setup, Cluster, Sets, Alike, At, Crashes, Shows, SaysDown, SaysNoSuch, SaysUnroutable}
+use Rattle.qq_cluster.specs.Queue.{Event, Ticks, Delivers, Loses, Copies, Notices, receiver_by}
+use Rattle.qq_cluster.specs.Cluster.{Setup, Cluster, MutesEach, Sets, Alike, At, Crashes, Shows, SaysDown, SaysNoSuch, SaysUnroutable}
 use Rattle.qq_cluster.specs.Rules.{Rule, IsNothing, Is, Then, if_so, ForEach, IsWrite, IsSync, IsPump, IsPumped, IsGiven, IsResend, IsEnd, IsRestart, IsOpening}
 
 -- ---- messages to exchanges
@@ -75,7 +75,7 @@ IsLine setup (lines.Send by exchange key body) = AndPumped setup (IsSend setup b
 IsLine setup (lines.Client by at body) = AndPumped setup (IsGiven by.number body at.0)
 IsLine setup (lines.End by) = AndPumped setup (IsEnd setup by.number)
 IsLine setup (lines.Resend by) = AndPumped setup (IsResend setup by.number)
-IsLine setup (lines.Mute by muted) = Is (Alike (Mutes by.number muted))
+IsLine setup (lines.Mute by muted) = Is (Alike (MutesEach by.number muted))
 IsLine setup (lines.Pace auto) = Is (Sets auto)
 IsLine setup lines.Pump = IsPump setup
 IsLine setup (lines.Write node) = WhereUp node.0 (IsWrite setup node.0)

@@ -1,9 +1,10 @@
 -- One queue of a cluster: the group of servers that replicates it (Ongaro's dissertation, chapter 3), its part of each
--- node's log, and the sessions of its clients. What may happen to it, and what is shown of that.
+-- node's log, and the sessions of its clients with their consumers. What may happen to it, and what is shown of that.
 use Rattle.std.specs.Prelude.{ℕ, List, [], ◌∷◌, ◌++◌, Bool, true, ◌&&◌, Option, Some, None, is_some, length, drop, filter, map, flat_map, fold, replicate, take, nat_eq, nat_lt, if◌then◌else◌}
 use Rattle.qq_base.specs.Fronts.{put}
 use Rattle.qq_base.specs.Ids.{client}
 use Rattle.qq_base.specs.declared.ids.NodeId.{NodeId}
+use Rattle.qq_consuming.specs.Consuming.{Received}
 use Rattle.qq_entry.specs.declared.audit.AuditRow.{AuditRow}
 use Rattle.qq_entry.specs.declared.audit.Effect.{Effect}
 use Rattle.qq_entry.specs.declared.command.Command.{Command}
@@ -21,7 +22,8 @@ use Rattle.qq_raft_msg.specs.Rpc.{envelope}
 use Rattle.qq_raft_msg.specs.declared.rpc.Rpc.{Rpc}
 use Rattle.qq_session.specs.Publishing.{Numbers, next_command, hand, open_commands}
 use Rattle.qq_session.specs.Clients.{Clients, new_clients, hear_all, printed, may_hand, is_used}
-use Rattle.qq_session.specs.Shown.{Shown, Answered, WindowFull, HasEnded, effects_of_term, delivered, said_of}
+use Rattle.qq_session.specs.Shown.{Shown, Answered, WindowFull, HasEnded, NotTaken, effects_of_term, said_of}
+use Rattle.qq_cluster.specs.Delivering.{come_all, show_all, learn, fetch}
 
 -- ---- the leader
 
@@ -56,13 +58,20 @@ leader g = node_of (latest g.nodes g)
 pub record Queue : Type 0 where
   pub args : QueueArgs
   pub clients : Clients
+  pub consumers : List Received  -- those that the clients know, in the order of their subscriptions
   pub group : Group
   pub synced : ℕ → ℕ  -- how many of the ops that each node's log was handed a sync has kept
 
 -- a queue begins with a group all of whose members are down; what they were noticed of is kept
 abbrev pub begin : QueueArgs → Group → Queue
 begin args group =
-    record { args = args; clients = new_clients args; group = group; synced = λ k. (group.seat k).noticed }
+    record {
+      args = args;
+      clients = new_clients args;
+      consumers = [];
+      group = group;
+      synced = λ k. (group.seat k).noticed;
+    }
 
 pub data Event : Type 0 where
   -- from here on answers to a session are lost, or come again
@@ -73,8 +82,12 @@ pub data Event : Type 0 where
   Submits : (session : ℕ) (body : Unstamped) → Event
   -- a session that has ended is to give a command
   TellsEnded : (session : ℕ) → Event
+  -- a session is to give a command for a delivery of this id, which wasn't handed out
+  TellsNotTaken : (session id : ℕ) → Event
   -- a client sends all its open commands again
   Resends : (session : ℕ) → Event
+  -- a client asks the leader for what is out with its consumers and hasn't come to them
+  Fetches : (session : ℕ) → Event
   -- the queue is told that a session has ended
   Downs : (session : ℕ) → Event
   -- time passes at a member
@@ -179,12 +192,21 @@ abbrev pub effects_at : Option ℕ → QueueArgs → Group → Group → List Ef
 effects_at None args g h = []
 effects_at (Some k) args g h = effects_by args (g.seat k).server (h.seat k).server
 
--- the rows that an event answers, and the effects that it shows
+-- the rows that an event answers, and the effects that they have
 abbrev pub rows_told : Queue → Event → List AuditRow
 rows_told q event = rows_at (stepping q event) q.args q.group (group_then q event)
 
 abbrev pub effects_told : Queue → Event → List Effect
 effects_told q event = effects_at (stepping q event) q.args q.group (group_then q event)
+
+abbrev pub server_of : Option ℕ → Group → Option Server
+server_of None g = None
+server_of (Some k) g = (g.seat k).server
+
+-- the effects that come to the clients: those of the rows, or again what is out with a session's consumers
+abbrev pub effects_shown : Queue → Event → List Effect
+effects_shown q (Fetches session) = fetch q.args (server_of (leader q.group) q.group) session q.consumers
+effects_shown q event = effects_told q event
 
 -- ---- what an event does
 
@@ -198,6 +220,11 @@ acts (Submits session body) clients =
     else clients
 acts _ clients = clients
 
+-- the consumers that clients know then
+abbrev pub known : Clients → Event → List Received → List Received
+known clients (Submits session body) all = learn clients session body all
+known clients _ all = all
+
 abbrev pub synced_after : Queue → Event → ℕ → ℕ
 synced_after q (Syncs k) =
     if is_some (q.group.seat k).server then put k (length (q.group.seat k).ops) q.synced else q.synced
@@ -208,17 +235,18 @@ abbrev pub happens : Queue → Event → Queue
 happens q event =
     record q {
       clients = hear_all (rows_told q event) (acts event q.clients);
+      consumers = come_all q.clients (effects_shown q event) (known q.clients event q.consumers);
       group = group_then q event;
       synced = synced_after q event;
     }
 
 -- ---- what an event shows
 
--- the answers in the order of their rows, and then the deliveries
+-- the answers in the order of their rows, and then the deliveries that are handed out
 abbrev pub told : Queue → Event → List Shown
 told q event =
     map Answered (printed (rows_told q event) q.clients)
-    ++ flat_map (delivered q.clients) (effects_told q event)
+    ++ show_all q.clients (effects_shown q event) (known q.clients event q.consumers)
 
 abbrev pub has_leader : Queue → Bool
 has_leader q = is_some (leader q.group)
@@ -230,6 +258,7 @@ said q (Submits session body) =
 said q (Resends session) = said_of (has_leader q) session (offered q.clients (Resends session))
 said q (Downs session) = said_of (has_leader q) session (offered q.clients (Downs session))
 said q (TellsEnded session) = HasEnded session ∷ []
+said q (TellsNotTaken session id) = NotTaken session id ∷ []
 said q event = told q event
 
 -- ---- lists of events

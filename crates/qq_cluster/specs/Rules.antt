@@ -1,12 +1,14 @@
 -- Which events may be what is asked of a cluster. A rule says of a cluster and a list of events whether these may be it;
 -- where no call of a disk fails it leaves no choice but what restarts found.
-use Rattle.std.specs.Prelude.{◌≡◌, ◌⊎◌, ℕ, zero, suc, List, [], ◌∷◌, ◌++◌, Bool, true, false, ◌&&◌, length, nat_eq, nat_lt, replicate, if◌then◌else◌}
+use Rattle.std.specs.Prelude.{◌≡◌, ◌⊎◌, ℕ, zero, suc, List, [], ◌∷◌, ◌++◌, Bool, true, false, ◌&&◌, Option, Some, None, length, nat_eq, nat_lt, replicate, if◌then◌else◌}
 use Rattle.std.specs.List.{list_all, list_any}
+use Rattle.qq_base.specs.Ids.{client}
 use Rattle.qq_base.specs.declared.ids.NodeId.{NodeId}
+use Rattle.qq_consuming.specs.Consumers.{not_taken_of}
 use Rattle.qq_entry.specs.declared.command.Unstamped.{Unstamped}
 use Rattle.qq_raft_model.specs.Group.{has_node, may_restart}
-use Rattle.qq_cluster.specs.Queue.{Queue, Ends, Submits, TellsEnded, Resends, Downs, Ticks, Delivers, Notices, waiting}
-use Rattle.qq_cluster.specs.Cluster.{Setup, Cluster, ClusterEvent, Alike, At, NodeWrites, NodeSyncs, Fails, FindsEach, SaysBusy, SaysEnded, cluster_after, members}
+use Rattle.qq_cluster.specs.Queue.{Queue, Submits, TellsEnded, TellsNotTaken, Resends, Fetches, Downs, Ticks, Delivers, Notices, waiting}
+use Rattle.qq_cluster.specs.Cluster.{Setup, Cluster, ClusterEvent, EndsEach, Alike, At, NodeWrites, NodeSyncs, Fails, FindsEach, SaysBusy, SaysEnded, cluster_after, members}
 
 abbrev pub Rule : Type 1
 Rule = Cluster → List ClusterEvent → Type 0
@@ -127,21 +129,31 @@ IsPumped setup c events = if_so c.auto (IsPump setup) IsNothing c events
 abbrev pub is_ended : ℕ → Queue → Bool
 is_ended session q = (q.clients session).ended
 
--- a session gives a command, or is told that it has ended
+-- the first delivery that a session's command ends and that wasn't handed out to its consumer
+abbrev pub not_taken : ℕ → Unstamped → Queue → Option ℕ
+not_taken session body q = not_taken_of (client session) body q.consumers
+
+abbrev pub IsClaimed : Option ℕ → ℕ → Unstamped → ℕ → Rule
+IsClaimed None session body place = Is (At place (Submits session body))
+IsClaimed (Some id) session body place = Is (At place (TellsNotTaken session id))
+
+-- a session gives a command, or is told that it has ended, or that a delivery of the command wasn't handed out
 abbrev pub IsGiven : ℕ → Unstamped → ℕ → Rule
 IsGiven session body place c events =
     if_so (is_ended session (c.queue place)) (Is (At place (TellsEnded session)))
-    (Is (At place (Submits session body))) c events
+    (IsClaimed (not_taken session body (c.queue place)) session body place) c events
 
+-- open commands are sent again, and then each queue is asked for the deliveries that haven't come
 abbrev pub IsResend : Setup → ℕ → Rule
 IsResend setup session c events =
     if_so (some_queue setup (is_ended session) c) (Is SaysEnded)
-    (ForEach setup.places (λ place. Is (At place (Resends session)))) c events
+    (Then (ForEach setup.places (λ place. Is (At place (Resends session))))
+    (ForEach setup.places (λ place. Is (At place (Fetches session))))) c events
 
 -- a session ends at every queue, and each that had a command of it is told so
 abbrev pub IsEnd : Setup → ℕ → Rule
 IsEnd setup session =
-    Then (Is (Alike (Ends session))) (ForEach setup.places (λ place. Is (At place (Downs session))))
+    Then (Is (Alike (EndsEach session))) (ForEach setup.places (λ place. Is (At place (Downs session))))
 
 -- ---- restarts
 

@@ -4,9 +4,9 @@ use Rattle.qq_base.specs.declared.ids.NodeId.{NodeId}
 use Rattle.qq_entry.specs.declared.command.Unstamped.{Unstamped}
 use Rattle.qq_script_lines.specs.declared.line.ScriptLine.{ScriptLine}
 use Rattle.qq_script_lines.specs.declared.line.ScriptLine.TheVariants as lines
-use Rattle.qq_cluster.specs.Queue.{Event, Mutes, Ends, Submits, TellsEnded, Resends, Downs, Ticks, Delivers, Loses, Copies, Notices}
-use Rattle.qq_cluster.specs.Cluster.{Setup, Cluster, ClusterEvent, Sets, Alike, At, NodeWrites, NodeSyncs, Crashes, FindsEach, Shows, SaysDown, SaysNoSuch, SaysUnroutable, SaysBusy, SaysEnded, cluster_after, members}
-use Rattle.qq_cluster.specs.Rules.{some_queue, waits_written, waits_synced, waits_noticed, is_idle, most_rounds, is_ended}
+use Rattle.qq_cluster.specs.Queue.{Event, Submits, TellsEnded, TellsNotTaken, Resends, Fetches, Downs, Ticks, Delivers, Loses, Copies, Notices}
+use Rattle.qq_cluster.specs.Cluster.{Setup, Cluster, ClusterEvent, MutesEach, EndsEach, Sets, Alike, At, NodeWrites, NodeSyncs, Crashes, FindsEach, Shows, SaysDown, SaysNoSuch, SaysUnroutable, SaysBusy, SaysEnded, cluster_after, members}
+use Rattle.qq_cluster.specs.Rules.{some_queue, waits_written, waits_synced, waits_noticed, is_idle, most_rounds, is_ended, not_taken}
 use Rattle.qq_cluster.specs.Lines.{publish_with, nodes_of, receiver_at}
 
 -- how many ops of a queue a restart of a node finds
@@ -71,10 +71,14 @@ and_pump setup asked = both asked (λ c. if c.auto then pump setup c else [])
 
 -- ---- lines
 
+abbrev pub claim : Option ℕ → ℕ → Unstamped → ℕ → Doing
+claim None session body place = one (At place (Submits session body))
+claim (Some id) session body place = one (At place (TellsNotTaken session id))
+
 abbrev pub give : ℕ → Unstamped → ℕ → Doing
 give session body place c =
     if is_ended session (c.queue place) then At place (TellsEnded session) ∷ []
-    else At place (Submits session body) ∷ []
+    else claim (not_taken session body (c.queue place)) session body place c
 
 abbrev pub route : ℕ → Unstamped → List ℕ → Doing
 route session body [] = one SaysUnroutable
@@ -86,11 +90,12 @@ send setup session exchange key body = route session (publish_with key body) (se
 abbrev pub resend : Setup → ℕ → Doing
 resend setup session c =
     if some_queue setup (is_ended session) c then SaysEnded ∷ []
-    else each setup.places (λ place. one (At place (Resends session))) c
+    else both (each setup.places (λ place. one (At place (Resends session))))
+    (each setup.places (λ place. one (At place (Fetches session)))) c
 
 abbrev pub finish : Setup → ℕ → Doing
 finish setup session =
-    both (one (Alike (Ends session))) (each setup.places (λ place. one (At place (Downs session))))
+    both (one (Alike (EndsEach session))) (each setup.places (λ place. one (At place (Downs session))))
 
 abbrev pub restart : Setup → Finding → ℕ → Doing
 restart setup find k c = if c.up k then [] else FindsEach k (find c k) ∷ []
@@ -126,7 +131,7 @@ line setup find (lines.Send by exchange key body) = and_pump setup (send setup b
 line setup find (lines.Client by at body) = and_pump setup (give by.number body at.0)
 line setup find (lines.End by) = and_pump setup (finish setup by.number)
 line setup find (lines.Resend by) = and_pump setup (resend setup by.number)
-line setup find (lines.Mute by muted) = one (Alike (Mutes by.number muted))
+line setup find (lines.Mute by muted) = one (Alike (MutesEach by.number muted))
 line setup find (lines.Pace auto) = one (Sets auto)
 line setup find lines.Pump = pump setup
 line setup find (lines.Write node) = where_up node.0 (write setup node.0)

@@ -8,7 +8,7 @@ use Rattle.qq_raft_msg.specs.declared.state.Role.{Role}
 use Rattle.qq_raft_msg.specs.declared.state.Role.TheVariants.{Follower, Candidate, Leader}
 use Rattle.qq_script.specs.Audit.{audit_text}
 use Rattle.qq_script.specs.Text.{line_prefix, answer_text, delivery_text}
-use Rattle.qq_session.specs.Shown.{Shown, Answered, Delivered, NoLeader, WindowFull, HasEnded}
+use Rattle.qq_session.specs.Shown.{Shown, Answered, Delivered, NoLeader, WindowFull, HasEnded, NotTaken}
 use Rattle.qq_cluster.specs.Queue.{audit_rows}
 use Rattle.qq_cluster.specs.Cluster.{Setup, Cluster, ClusterEvent, Printed, Of, Stopped, IsDown, NoSuch, Unroutable, Busy, Ended, State, all_prints}
 
@@ -27,6 +27,8 @@ shown_text_as first name (NoLeader session) =
     prefix_as first name session ++ codes "no leader " ++ name ++ codes "\n"
 shown_text_as first name (WindowFull session) = prefix_as first name session ++ codes "window full\n"
 shown_text_as first name (HasEnded session) = prefix_as first name session ++ codes "ended\n"
+shown_text_as first name (NotTaken session id) =
+    prefix_as first name session ++ codes "not taken " ++ decimal id ++ codes "\n"
 
 abbrev pub shown_text : Setup → ℕ → Shown → List ℕ
 shown_text setup place shown = shown_text_as (is_first setup place) (setup.name place) shown

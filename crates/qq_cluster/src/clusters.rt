@@ -3,19 +3,22 @@ ghost use Rattle.std.specs.Prelude.{◌≡◌, List};
 ghost use Rattle.qq_base.specs.declared.ids.NodeId.{NodeId};
 ghost use Rattle.qq_script_lines.specs.declared.line.ScriptLine.{ScriptLine};
 ghost use Rattle.qq_cluster.specs.Cluster.{Cluster, ClusterEvent, Setup, new_cluster};
-ghost use Rattle.qq_cluster.specs.ClusterLaws.{HasGroups, HasItsQueues, IsServedBy, LeavesNoChoice, MakesNoRound, PrintsWhatIsTrue, SayTheyAreDown};
+ghost use Rattle.qq_cluster.specs.ClusterLaws.{HasGroups, HasItsQueues, IsServedBy, LeavesNoChoice, MakesNoRound, PrintsOfItsQueues, PrintsWhatIsTrue, SayTheyAreDown};
 ghost use Rattle.qq_cluster.specs.Lines.{IsLine, IsRun};
 ghost use Rattle.qq_cluster.specs.Rules.{most_rounds};
 ghost use Rattle.qq_cluster.specs.Serving.{all_given, run};
 
+use qq_consuming::what_is_out_was_delivered_as_it_is;
 use qq_laws::commands_count_by_one;
 use qq_raft_model::what_a_group_committed_stays;
 use qq_session::commands_are_answered_once;
 
-/// A law: each queue of a cluster is a queue to which its own part of the cluster's events happened.
-/// So each law of one queue is one of each.
+/// A law: each queue of a cluster is a queue to which its own part of the cluster's events happened,
+/// and what is printed of it is what that shows. So each law of one queue is one of each.
 pub fn each_queue_is_its_own()
-    ensures { (setup : Setup) (events : List ClusterEvent) → HasItsQueues setup events }
+    ensures queues { (setup : Setup) (events : List ClusterEvent) → HasItsQueues setup events }
+    ensures prints { (setup : Setup) (events : List ClusterEvent) →
+        PrintsOfItsQueues setup events }
 {}
 
 /// A law: each answer that is printed at a queue is that of a row of its audit, what is printed as
@@ -28,6 +31,7 @@ pub fn a_cluster_prints_what_is_true()
     what_a_group_committed_stays();
     commands_count_by_one();
     commands_are_answered_once();
+    what_is_out_was_delivered_as_it_is();
 }
 
 /// A law: where no call of a disk fails, a line leaves no choice of events, and a whole run none,

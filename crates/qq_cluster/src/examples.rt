@@ -1,6 +1,6 @@
 //! Worked scripts: what they print, letter by letter.
 ghost use Rattle.std.specs.Prelude.{◌≡◌, ◌++◌, codes};
-ghost use Rattle.qq_cluster.specs.Example.{at_the_fault, cut, cut_behind, first_given, kept_by_followers, muted, opened, output, output_of, publish_and_get, replaced, setup_of, with_a_fault};
+ghost use Rattle.qq_cluster.specs.Example.{at_the_fault, cut, cut_behind, first_given, in_order, kept_by_followers, missed, muted, opened, output, output_of, publish_and_get, replaced, settle_untaken, setup_of, subscribed_late, with_a_fault};
 ghost use Rattle.qq_cluster.specs.Cluster.{new_cluster};
 ghost use Rattle.qq_cluster.specs.Lines.{IsRun};
 ghost use Rattle.qq_cluster.specs.Serving.{all_given, all_synced};
@@ -52,3 +52,29 @@ pub fn worked_scripts_print()
 {
     groups_are_opened();
 }
+
+/// A law: worked scripts of consumers.
+///
+/// - `missed`: a delivery that was lost on its way is fetched, and printed once.
+/// - `untaken`: what wasn't handed out isn't settled.
+/// - `in_order`: a delivery waits for the one before it, and may be settled once it was handed out.
+/// - `late`: a consumer is handed a delivery before its session hears that it has subscribed.
+pub fn worked_consumers_print()
+    ensures missed { output_of (setup_of 1 1) all_given missed
+        ≡ codes "2 q1: subscribed 1\nconfirmed 1\n2 q1: deliver 1 1 1 a\naudit q1 0 3\n"
+        ++ codes "1 1 noop 1 lead\n2 1 subscribe 2 1 1 subscribed 1\n"
+        ++ codes "3 1 enqueue 1 1 1 confirmed 1\n" }
+    ensures untaken { output_of (setup_of 1 1) all_given settle_untaken
+        ≡ codes "not taken 1\naudit q1 0 1\n1 1 noop 1 lead\n" }
+    ensures in_order { output_of (setup_of 1 1) all_given in_order
+        ≡ codes "2 q1: subscribed 1\nconfirmed 1\nconfirmed 2\n2 q1: not taken 2\n"
+        ++ codes "2 q1: deliver 1 1 1 a\n2 q1: deliver 1 2 2 b\n2 q1: done\nconfirmed 3\n"
+        ++ codes "2 q1: deliver 1 3 3 c\naudit q1 0 6\n1 1 noop 1 lead\n"
+        ++ codes "2 1 subscribe 2 1 1 subscribed 1\n3 1 enqueue 1 1 1 confirmed 1\n"
+        ++ codes "4 1 enqueue 1 2 1 confirmed 2\n5 1 settle 2 2 1 2 done\n"
+        ++ codes "6 1 enqueue 1 3 1 confirmed 3\n" }
+    ensures late { output_of (setup_of 1 1) all_given subscribed_late
+        ≡ codes "confirmed 1\n2 q1: deliver 1 1 1 a\n2 q1: subscribed 1\naudit q1 0 4\n"
+        ++ codes "1 1 noop 1 lead\n2 1 subscribe 2 1 1 subscribed 1\n"
+        ++ codes "3 1 enqueue 1 1 1 confirmed 1\n4 1 subscribe 2 1 1 subscribed 1 again\n" }
+{}

@@ -16,6 +16,7 @@ ghost use Rattle.qq_session.specs.Printed.{IsAudited, IsConfirmedOnce, closed_nu
 ghost use Rattle.qq_cluster.specs.Laws.{IsBegun, IsMade, commands_of, deeds, queue_after};
 ghost use Rattle.qq_cluster.specs.Queue.{Event, all_said, audit_rows, begin};
 
+use qq_consuming::what_is_out_was_delivered_as_it_is;
 use qq_laws::commands_count_by_one;
 use qq_raft_model::{each_row_was_submitted, groups_are_opened, what_a_group_committed_stays};
 use qq_session::{commands_are_answered_once, commands_arrive_in_order};
@@ -39,6 +40,7 @@ pub fn what_is_printed_is_audited()
     what_a_group_committed_stays();
     commands_count_by_one();
     commands_are_answered_once();
+    what_is_out_was_delivered_as_it_is();
 }
 
 /// A law: the commands of a session that are carried out have the numbers 1, 2, 3 and so on, and

@@ -9,8 +9,8 @@ use Rattle.qq_disk.specs.Disk.{Disk}
 use Rattle.qq_lots.specs.Kept.{IsTied, KeepsPromised}
 use Rattle.qq_lots.specs.Lots.{Parts}
 use Rattle.qq_raft_model.specs.Group.{Seat, may_restart}
-use Rattle.qq_cluster.specs.Cluster.{Cluster, ClusterEvent, Setup, Sets, Alike, At, NodeWrites, NodeSyncs, Fails, Crashes, FindsEach, Shows, SaysDown, SaysNoSuch, SaysUnroutable, SaysBusy, SaysEnded, cluster_happens}
-use Rattle.qq_cluster.specs.Queue.{Queue, Event, Mutes, Ends, Submits, TellsEnded, Resends, Downs, Ticks, Delivers, Loses, Copies, Writes, Syncs, Notices, Stops, Finds, after, happens, moves, synced_after}
+use Rattle.qq_cluster.specs.Cluster.{Cluster, ClusterEvent, Setup, MutesEach, EndsEach, Sets, Alike, At, NodeWrites, NodeSyncs, Fails, Crashes, FindsEach, Shows, SaysDown, SaysNoSuch, SaysUnroutable, SaysBusy, SaysEnded, cluster_happens}
+use Rattle.qq_cluster.specs.Queue.{Queue, Event, Mutes, Ends, Submits, TellsEnded, TellsNotTaken, Resends, Fetches, Downs, Ticks, Delivers, Loses, Copies, Writes, Syncs, Notices, Stops, Finds, after, happens, moves, synced_after}
 use Rattle.qq_cluster_laws.specs.Linked.{IsLinked, IsPromised, MembersFollow, lot_of, part_at, parts_at}
 use Rattle.qq_cluster_laws.specs.Unseen.{sees, touches}
 use Rattle.qq_cluster_laws.proofs.Seats.{event-leaves, is_up, moves-leave, ops-step, up-step}
@@ -27,8 +27,10 @@ synced-same : (k : ℕ) (q : Queue) (event : Event) → touches k event ≡ fals
 synced-same k q (Mutes session muted) not' = refl
 synced-same k q (Ends session) not' = refl
 synced-same k q (TellsEnded session) not' = refl
+synced-same k q (TellsNotTaken session id) not' = refl
 synced-same k q (Submits session body) not' = refl
 synced-same k q (Resends session) not' = refl
+synced-same k q (Fetches session) not' = refl
 synced-same k q (Downs session) not' = refl
 synced-same k q (Ticks j) not' = refl
 synced-same k q (Delivers at) not' = refl
@@ -58,7 +60,8 @@ event-stays k q event not' =
 part-stays : (c : Cluster) (k : ℕ) (event : ClusterEvent) (place : ℕ) → sees k event ≡ false
     → StaysAt k (c.queue place) ((cluster_happens c event).queue place)
 part-stays c k (Sets auto) place not' = same k (c.queue place)
-part-stays c k (Alike event) place not' = event-stays k (c.queue place) event not'
+part-stays c k (Alike (MutesEach session muted)) place not' = event-stays k (c.queue place) (Mutes session muted) refl
+part-stays c k (Alike (EndsEach session)) place not' = event-stays k (c.queue place) (Ends session) refl
 part-stays c k (At own event) place not' =
     cond_both (nat_eq own place) (event ∷ []) []
     (λ (events : List Event). StaysAt k (c.queue place) (after (c.queue place) events))

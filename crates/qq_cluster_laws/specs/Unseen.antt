@@ -1,6 +1,6 @@
 -- Which events a node's log sees.
 use Rattle.std.specs.Prelude.{ℕ, Bool, false, Option, Some, None, nat_eq}
-use Rattle.qq_cluster.specs.Cluster.{ClusterEvent, Alike, At, NodeWrites, NodeSyncs, Fails, Crashes, FindsEach}
+use Rattle.qq_cluster.specs.Cluster.{ClusterEvent, At, NodeWrites, NodeSyncs, Fails, Crashes, FindsEach}
 use Rattle.qq_cluster.specs.Queue.{Event, Writes, Syncs, Stops, Finds}
 
 -- the node whose log is written, synced or found, or whose member stops
@@ -13,7 +13,6 @@ touched _ = None
 
 -- the node whose log sees an event, None where no log does
 abbrev pub seen_by : ClusterEvent → Option ℕ
-seen_by (Alike event) = touched event
 seen_by (At place event) = touched event
 seen_by (NodeWrites k) = Some k
 seen_by (NodeSyncs k) = Some k

@@ -21,7 +21,7 @@ ghost use Rattle.qq_cluster.specs.Cluster.{At, Cluster, ClusterEvent, Of, SaysEn
 ghost use Rattle.qq_cluster.specs.ClusterLaws.{HasGroups};
 ghost use Rattle.qq_cluster.specs.Laws.{IsBegun};
 ghost use Rattle.qq_cluster.specs.Queue.{Downs, Ends, Event, Queue, Submits, TellsEnded, after, all_said, begin, happens, leader, said};
-ghost use Rattle.qq_cluster.specs.Rules.{IsGiven, IsResend};
+ghost use Rattle.qq_cluster.specs.Rules.{IsGiven, IsResend, not_taken};
 
 use qq_cluster::{
     a_cluster_prints_what_is_true, an_ended_session_gives_no_commands, ends_go_to_the_leader,
@@ -68,7 +68,7 @@ pub fn the_end_of_a_session_goes_to_its_leader()
 ///
 /// - `ends`, `stays`: it has ended once it ends, and whatever happens then.
 /// - `sends`, `resends`: it gives a queue no command, and sends none again; it is told so, and nothing else happens.
-/// - `gives`: one that hasn't ended gives the command.
+/// - `gives`: one that hasn't ended gives the command, where that ends no delivery that wasn't handed out.
 pub fn an_end_lasts()
     ensures ends { (session : ℕ) (q : Queue) →
         ((happens q (Ends session)).clients session).ended ≡ true }
@@ -83,6 +83,7 @@ pub fn an_end_lasts()
         events ≡ SaysEnded ∷ [] }
     ensures gives { (session place : ℕ) (c : Cluster) (body : Unstamped)
         (events : List ClusterEvent) → ((c.queue place).clients session).ended ≡ false →
+        not_taken session body (c.queue place) ≡ None →
         IsGiven session body place c events → events ≡ At place (Submits session body) ∷ [] }
 {
     an_ended_session_gives_no_commands();

@@ -11,8 +11,8 @@ ghost use Rattle.qq_recover.specs.Reading.{lanes_read as lanes_found, shown};
 ghost use Rattle.qq_wal.specs.Running.{top};
 ghost use Rattle.qq_wal_chain.specs.Lanes.{Lanes};
 ghost use Rattle.qq_wal_chain.specs.Laws.{IsHonestImage, lanes_read};
-ghost use Rattle.qq_cluster.specs.Cluster.{At, Alike, Cluster, ClusterEvent, Crashes, Fails, FindsEach, NodeSyncs, NodeWrites, Setup, cluster_after, cluster_happens};
-ghost use Rattle.qq_cluster.specs.Queue.{Delivers, Ends, Notices, Submits, Ticks};
+ghost use Rattle.qq_cluster.specs.Cluster.{At, Alike, Cluster, ClusterEvent, Crashes, EndsEach, Fails, FindsEach, NodeSyncs, NodeWrites, Setup, cluster_after, cluster_happens};
+ghost use Rattle.qq_cluster.specs.Queue.{Delivers, Notices, Submits, Ticks};
 ghost use Rattle.qq_cluster.specs.Texts.{text_of};
 ghost use Rattle.qq_entry.specs.declared.command.Unstamped.{Unstamped};
 ghost use Rattle.qq_cluster_laws.specs.Linked.{IsLinked, IsPromised};
@@ -113,7 +113,7 @@ pub fn other_events_leave_the_disk()
         × (KeepsAt setup c k (At place (Notices j)) old new → new ≡ old)
         × (KeepsAt setup c k (At place (Delivers at)) old new → new ≡ old)
         × (KeepsAt setup c k (At place (Submits session body)) old new → new ≡ old)
-        × (KeepsAt setup c k (Alike (Ends session)) old new → new ≡ old) }
+        × (KeepsAt setup c k (Alike (EndsEach session)) old new → new ≡ old) }
 {}
 
 /// A law: of a call that served these events, or was given up, and of the disks then.

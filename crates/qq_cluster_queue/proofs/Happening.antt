@@ -1,9 +1,9 @@
 -- What an event makes of a queue that its code stands for.
 use Rattle.std.proofs.Common.{◌≡◌, ℕ, zero, suc, ◌-◌, ◌<◌, List, [], ◌∷◌, ◌++◌, length, drop, map, Option, Some, None, refl, sym, ap, subst, ◌∙◌, arith}
 use Rattle.std.specs.Prelude.{nat_le, slice_get}
-use Rattle.std.specs.List.{flat_map}
 use Rattle.std.proofs.lemmas.Bool.{cond_both}
 use Rattle.std.proofs.lemmas.Option.{none-some}
+use Rattle.qq_consuming.specs.Consuming.{Received}
 use Rattle.qq_entry.specs.declared.audit.AuditRow.{AuditRow}
 use Rattle.qq_entry.specs.declared.audit.Effect.{Effect}
 use Rattle.qq_entry.specs.declared.queue.QueueArgs.{QueueArgs}
@@ -17,8 +17,9 @@ use Rattle.qq_raft.specs.declared.row.AppliedRow.{AppliedRow}
 use Rattle.qq_group.specs.Group.{Represents, server_at}
 use Rattle.qq_group.specs.Reads.{receiver_of}
 use Rattle.qq_session.specs.Clients.{Clients, hear_all, printed}
-use Rattle.qq_session.specs.Shown.{Answered, Shown, delivered}
-use Rattle.qq_cluster.specs.Queue.{Queue, Event, Copies, Delivers, Loses, Notices, acts, effects_told, group_then, happens, moves, receiver_by, rows_told, said, stepping, synced_after, told}
+use Rattle.qq_session.specs.Shown.{Answered, Shown}
+use Rattle.qq_cluster.specs.Delivering.{come_all, show_all}
+use Rattle.qq_cluster.specs.Queue.{Queue, Event, Copies, Delivers, Loses, Notices, acts, effects_shown, effects_told, group_then, happens, known, moves, receiver_by, rows_told, said, stepping, synced_after, told}
 use Rattle.qq_cluster_queue.specs.ClusterQueue.{Becomes, Stands, count_at, text_as}
 use Rattle.qq_cluster_queue.specs.Members.{AreTold, IsGroupOf, Makes, Member, Members, StayDown, audit_rows_of, effects_in, move_at, number_of, own_log}
 use Rattle.qq_cluster_queue.specs.Sessions.{Standings, clients_of, numbers_of}
@@ -38,11 +39,13 @@ was-up old new stay k t up = by (server_at k old) refl
 
 pub stands-then : (sessions : Standings) (old new : ClusterQueue) (q : Queue) (event : Event) → Stands sessions old q
     → IsGroupOf old.args (group_then q event) new.group × StayDown old.group new.group → new.args ≡ old.args
-    → (happens q event).clients ≡ clients_of sessions (numbers_of new.publishers) → new.synced ≡ old.synced
+    → (happens q event).clients ≡ clients_of sessions (numbers_of new.publishers)
+    → (happens q event).consumers ≡ new.consumers → new.synced ≡ old.synced
     → synced_after q event ≡ q.synced → Stands sessions new (happens q event)
-stands-then sessions old new q event st group args clients synced same = record {
+stands-then sessions old new q event st group args clients consumers synced same = record {
   args = st.args ∙ sym args;
   clients = clients;
+  consumers = consumers;
   group = subst (λ (a : QueueArgs). IsGroupOf a (group_then q event) new.group) (sym args) group.0;
   synced = λ k t up.
       let s = was-up old.group new.group group.1 k t up in
@@ -56,20 +59,21 @@ stands-then sessions old new q event st group args clients synced same = record 
 pub record IsPlain (event : Event) (made : List Move) : Type 0 where
   pub moves_are : (q : Queue) → moves q event ≡ made
   pub clients_are : (q : Queue) → (happens q event).clients ≡ q.clients
+  pub consumers_are : (q : Queue) → (happens q event).consumers ≡ q.consumers
   pub synced_is : (q : Queue) → synced_after q event ≡ q.synced
   pub silent : (q : Queue) → said q event ≡ []
 
 pub plain-becomes : (event : Event) (made : List Move) (old new : ClusterQueue) → IsPlain event made
     → Makes made old.group new.group → new.args ≡ old.args → new.publishers ≡ old.publishers
-    → new.synced ≡ old.synced → Becomes event old new
-plain-becomes event made old new plain makes args publishers synced = λ sessions q st.
+    → new.consumers ≡ old.consumers → new.synced ≡ old.synced → Becomes event old new
+plain-becomes event made old new plain makes args publishers consumers synced = λ sessions q st.
     let group = makes old.args q.group st.group in (
       stands-then sessions old new q event st (
         subst (λ (l : List Move). IsGroupOf old.args (group_after q.group l) new.group) (sym (plain.moves_are q)) group.0,
         group.1,
       ) args
-          (plain.clients_are q ∙ st.clients ∙ ap (λ (p : _). clients_of sessions (numbers_of p)) (sym publishers)) synced
-          (plain.synced_is q),
+          (plain.clients_are q ∙ st.clients ∙ ap (λ (p : _). clients_of sessions (numbers_of p)) (sym publishers))
+          (plain.consumers_are q ∙ st.consumers ∙ sym consumers) synced (plain.synced_is q),
       plain.silent q,
     )
 
@@ -78,14 +82,14 @@ lose-plain zero positive = absurd (omega (arith, positive))
 lose-plain (suc at) positive =
     let same : suc at - 1 ≡ at = omega arith in
     subst (λ (n : ℕ). IsPlain (Loses n) (Lose at ∷ [])) (sym same)
-    (record { moves_are = λ q. refl; clients_are = λ q. refl; synced_is = λ q. refl; silent = λ q. refl })
+    (record { moves_are = λ q. refl; clients_are = λ q. refl; consumers_are = λ q. refl; synced_is = λ q. refl; silent = λ q. refl })
 
 pub copy-plain : (place : ℕ) → 0 < place → IsPlain (Copies (place - 1)) (move_at Copy place)
 copy-plain zero positive = absurd (omega (arith, positive))
 copy-plain (suc at) positive =
     let same : suc at - 1 ≡ at = omega arith in
     subst (λ (n : ℕ). IsPlain (Copies n) (Copy at ∷ [])) (sym same)
-    (record { moves_are = λ q. refl; clients_are = λ q. refl; synced_is = λ q. refl; silent = λ q. refl })
+    (record { moves_are = λ q. refl; clients_are = λ q. refl; consumers_are = λ q. refl; synced_is = λ q. refl; silent = λ q. refl })
 
 -- ---- events that tell
 
@@ -94,6 +98,8 @@ pub record IsTelling (event : Event) (q : Queue) (made : List Move) (k : Option 
   pub group_is : group_then q event ≡ group_after q.group made
   pub member : stepping q event ≡ k
   pub acts_none : acts event q.clients ≡ q.clients
+  pub known_none : known q.clients event q.consumers ≡ q.consumers
+  pub shown_is : effects_shown q event ≡ effects_told q event
   pub synced_is : synced_after q event ≡ q.synced
   pub says : said q event ≡ told q event
 
@@ -112,30 +118,39 @@ pub telling-does : (sessions : Standings) (old new : ClusterQueue) (q : Queue) (
     → AreTold k old.args q.group (group_after q.group made) rows → new.args ≡ old.args → new.synced ≡ old.synced
     → clients_of sessions (numbers_of new.publishers)
     ≡ hear_all (audit_rows_of slice) (clients_of sessions (numbers_of old.publishers))
+    → new.consumers ≡ come_all (clients_of sessions (numbers_of old.publishers)) (effects_in slice) old.consumers
     → after ≡ before ++ text_as old
     (map Answered (printed (audit_rows_of slice) (clients_of sessions (numbers_of old.publishers)))
-    ++ flat_map (delivered (clients_of sessions (numbers_of old.publishers))) (effects_in slice))
+    ++ show_all (clients_of sessions (numbers_of old.publishers)) (effects_in slice) old.consumers)
     → Stands sessions new (happens q event) × (after ≡ before ++ text_as old (said q event))
-telling-does sessions old new q event made k rows slice before after st t makes is a args synced heard said' =
+telling-does sessions old new q event made k rows slice before after st t makes is a args synced heard came said' =
     let group = makes old.args q.group st.group in
     let rows' : AreTold (stepping q event) q.args q.group (group_then q event) rows =
     rows-are sessions old q event made k rows st t a in
-    let shown : Clients → List Shown = λ c.
-    map Answered (printed (rows_told q event) c) ++ flat_map (delivered c) (effects_told q event) in
     let own : Clients = clients_of sessions (numbers_of old.publishers) in
+    let answers : List AuditRow → List Shown = λ l. map Answered (printed l own) in
     let all : List AppliedRow → List ℕ = λ l. before ++ text_as old
-    (map Answered (printed (audit_rows_of l) own) ++ flat_map (delivered own) (effects_in l)) in (
+    (answers (audit_rows_of l) ++ show_all own (effects_in l) old.consumers) in
+    let effects : effects_in slice ≡ effects_shown q event =
+    ap effects_in is ∙ rows'.effects_are ∙ sym t.shown_is in
+    let known' : known q.clients event q.consumers ≡ old.consumers = t.known_none ∙ st.consumers in (
       stands-then sessions old new q event st
           (subst (λ (h : GroupState). IsGroupOf old.args h new.group) (sym t.group_is) group.0, group.1) args
           (ap (hear_all (rows_told q event)) (t.acts_none ∙ st.clients)
           ∙ ap (λ (l : List AuditRow). hear_all l own) (sym rows'.rows_are)
-          ∙ ap (λ (l : List AppliedRow). hear_all (audit_rows_of l) own) (sym is) ∙ sym heard) synced t.synced_is,
+          ∙ ap (λ (l : List AppliedRow). hear_all (audit_rows_of l) own) (sym is) ∙ sym heard)
+          (ap (λ (c : Clients). come_all c (effects_shown q event) (known q.clients event q.consumers)) st.clients
+          ∙ ap (come_all own (effects_shown q event)) known'
+          ∙ ap (λ (l : List Effect). come_all own l old.consumers) (sym effects) ∙ sym came) synced t.synced_is,
       said' ∙ ap all is
           ∙ ap (λ (l : List AuditRow). before ++ text_as old
-          (map Answered (printed l own) ++ flat_map (delivered own) (effects_in rows))) rows'.rows_are
-          ∙ ap (λ (l : List Effect). before ++ text_as old
-          (map Answered (printed (rows_told q event) own) ++ flat_map (delivered own) l)) rows'.effects_are
-          ∙ ap (λ (c : Clients). before ++ text_as old (shown c)) (sym st.clients)
+          (answers l ++ show_all own (effects_in rows) old.consumers)) rows'.rows_are
+          ∙ ap (λ (l : List Effect). before ++ text_as old (answers (rows_told q event) ++ show_all own l old.consumers))
+          (rows'.effects_are ∙ sym t.shown_is)
+          ∙ ap (λ (l : List Received). before ++ text_as old
+          (answers (rows_told q event) ++ show_all own (effects_shown q event) l)) (sym known')
+          ∙ ap (λ (c : Clients). before ++ text_as old (map Answered (printed (rows_told q event) c)
+          ++ show_all c (effects_shown q event) (known q.clients event q.consumers))) (sym st.clients)
           ∙ ap (λ (l : List Shown). before ++ text_as old l) (sym t.says),
     )
 
@@ -168,6 +183,8 @@ notice-telling sessions old q k op st is = record {
   group_is = same-notice sessions old q k st ∙ ap (λ (n : ℕ). moved (Notice k n) q.group) (sym is);
   member = refl;
   acts_none = refl;
+  known_none = refl;
+  shown_is = refl;
   synced_is = refl;
   says = refl;
 }
@@ -202,6 +219,8 @@ deliver-telling sessions old q (suc at) st positive =
       member = receiver-is q.group.bag at
           ∙ ap (λ (bag : List Rpc). number_of (receiver_of (slice_get bag at))) st.group.represents.bag;
       acts_none = refl;
+      known_none = refl;
+      shown_is = refl;
       synced_is = refl;
       says = refl;
     })

@@ -6,11 +6,13 @@ use Rattle.std.proofs.lemmas.Bool.{cond-true, cond-false}
 use Rattle.std.proofs.lemmas.Grind.{flat_map-append}
 use Rattle.std.proofs.lemmas.List.{map-append}
 use Rattle.indexmap.specs.IndexMap.{IndexMap, get}
-use Rattle.qq_base.specs.Fronts.{put}
+use Rattle.qq_base.specs.Fronts.{IsFront, put}
 use Rattle.qq_base.specs.Ids.{client}
 use Rattle.qq_base.specs.declared.ids.ConsumerId.{ConsumerId}
 use Rattle.qq_base.specs.declared.ids.QueueId.{QueueId}
 use Rattle.qq_base.specs.declared.ids.SessionId.{SessionId}
+use Rattle.qq_consuming.specs.Consumers.{come, taken}
+use Rattle.qq_consuming.specs.Consuming.{Received}
 use Rattle.qq_entry.specs.declared.answer.Delivery.{Delivery}
 use Rattle.qq_entry.specs.declared.audit.AuditRow.{AuditRow}
 use Rattle.qq_entry.specs.declared.audit.Effect.{Effect}
@@ -18,7 +20,8 @@ use Rattle.qq_entry.specs.declared.audit.Effect.TheVariants.{Deliver, DeadOnce, 
 use Rattle.qq_script.specs.Text.{seq_of}
 use Rattle.qq_session.specs.Publishing.{Numbers, answer, closes, new_numbers}
 use Rattle.qq_session.specs.Clients.{Client, Clients, hear_all, hear_by, is_printed, printed, take_answer}
-use Rattle.qq_session.specs.Shown.{Answered, Delivered, Shown, delivered, is_delivered_to}
+use Rattle.qq_session.specs.Shown.{Answered, Delivered, Shown, is_delivered_to}
+use Rattle.qq_cluster.specs.Delivering.{come_all, comes, show_all, shows}
 use Rattle.qq_cluster_queue.specs.Sessions.{Standings, clients_of}
 use Rattle.qq_cluster_queue.proofs.Known.{absent-at, at, put-itself}
 use Rattle.qq_cluster_queue.proofs.Offering.{put-numbers}
@@ -96,53 +99,121 @@ shown-then text before row rows clients next is =
 
 -- ---- effects one after the other
 
--- what is delivered doesn't depend on the sessions' numbers
-delivered-same : (sessions : Standings) (m n : ℕ → Numbers) (effects : List Effect)
-    → flat_map (delivered (clients_of sessions m)) effects ≡ flat_map (delivered (clients_of sessions n)) effects
-delivered-same sessions m n [] = refl
-delivered-same sessions m n (Deliver consumer delivery ∷ effects) =
-    ap (λ (l : List Shown). delivered (clients_of sessions m) (Deliver consumer delivery) ++ l)
-    (delivered-same sessions m n effects)
-delivered-same sessions m n (DeadOnce reason letter ∷ effects) = delivered-same sessions m n effects
-delivered-same sessions m n (Offer number reason letter ∷ effects) = delivered-same sessions m n effects
+-- what comes, and what is handed out, doesn't depend on the sessions' numbers
+come-same : (sessions : Standings) (m n : ℕ → Numbers) (effects : List Effect) (all : List Received)
+    → come_all (clients_of sessions m) effects all ≡ come_all (clients_of sessions n) effects all
+come-same sessions m n [] all = refl
+come-same sessions m n (Deliver consumer delivery ∷ effects) all =
+    come-same sessions m n effects (comes (clients_of sessions m) (Deliver consumer delivery) all)
+come-same sessions m n (DeadOnce reason letter ∷ effects) all = come-same sessions m n effects all
+come-same sessions m n (Offer number reason letter ∷ effects) all = come-same sessions m n effects all
+
+show-same : (sessions : Standings) (m n : ℕ → Numbers) (effects : List Effect) (all : List Received)
+    → show_all (clients_of sessions m) effects all ≡ show_all (clients_of sessions n) effects all
+show-same sessions m n [] all = refl
+show-same sessions m n (Deliver consumer delivery ∷ effects) all =
+    ap (λ (l : List Shown). shows (clients_of sessions m) (Deliver consumer delivery) all ++ l)
+    (show-same sessions m n effects (comes (clients_of sessions m) (Deliver consumer delivery) all))
+show-same sessions m n (DeadOnce reason letter ∷ effects) all = show-same sessions m n effects all
+show-same sessions m n (Offer number reason letter ∷ effects) all = show-same sessions m n effects all
+
+pub came-then : (sessions : Standings) (m n : ℕ → Numbers) (effects : List Effect) (old new : List Received)
+    → new ≡ come_all (clients_of sessions m) effects old → new ≡ come_all (clients_of sessions n) effects old
+came-then sessions m n effects old new is = is ∙ come-same sessions m n effects old
+
+-- a text that grew by what is shown, for the same numbers
+pub shown-same : (text : Shown → List ℕ) (sessions : Standings) (m n : ℕ → Numbers) (before after : List ℕ)
+    (effects : List Effect) (all : List Received)
+    → after ≡ before ++ flat_map text (show_all (clients_of sessions m) effects all)
+    → after ≡ before ++ flat_map text (show_all (clients_of sessions n) effects all)
+shown-same text sessions m n before after effects all is =
+    is ∙ ap (λ (l : List Shown). before ++ flat_map text l) (show-same sessions m n effects all)
 
 -- answers, and then deliveries
 pub told-then : (text : Shown → List ℕ) (sessions : Standings) (m n : ℕ → Numbers) (before mid after : List ℕ)
-    (answers : List Shown) (effects : List Effect) → mid ≡ before ++ flat_map text answers
-    → after ≡ mid ++ flat_map text (flat_map (delivered (clients_of sessions m)) effects)
-    → after ≡ before ++ flat_map text (answers ++ flat_map (delivered (clients_of sessions n)) effects)
-told-then text sessions m n before mid after answers effects first second =
-    let shown : List Shown = flat_map (delivered (clients_of sessions m)) effects in
+    (answers : List Shown) (effects : List Effect) (all : List Received) → mid ≡ before ++ flat_map text answers
+    → after ≡ mid ++ flat_map text (show_all (clients_of sessions m) effects all)
+    → after ≡ before ++ flat_map text (answers ++ show_all (clients_of sessions n) effects all)
+told-then text sessions m n before mid after answers effects all first second =
+    let shown : List Shown = show_all (clients_of sessions m) effects all in
     second ∙ ap (λ (l : List ℕ). l ++ flat_map text shown) first
     ∙ append_assoc before (flat_map text answers) (flat_map text shown)
     ∙ ap (λ (l : List ℕ). before ++ l) (sym (flat_map-append text answers shown)
-    ∙ ap (λ (l : List Shown). flat_map text (answers ++ l)) (delivered-same sessions m n effects))
+    ∙ ap (λ (l : List Shown). flat_map text (answers ++ l)) (show-same sessions m n effects all))
 
--- what one effect or more show, and then the others, is what all show
-pub effects-then : (text : Shown → List ℕ) (show : Effect → List Shown) (before : List ℕ) (first rest : List Effect)
-    → (before ++ flat_map text (flat_map show first)) ++ flat_map text (flat_map show rest)
-    ≡ before ++ flat_map text (flat_map show (first ++ rest))
-effects-then text show before first rest =
-    append_assoc before (flat_map text (flat_map show first)) (flat_map text (flat_map show rest))
-    ∙ ap (λ (l : List ℕ). before ++ l)
-    (sym (flat_map-append text (flat_map show first) (flat_map show rest))
-    ∙ ap (flat_map text) (sym (flat_map-append show first rest)))
+-- some effects, and then the others
+pub come-append : (clients : Clients) (first rest : List Effect) (all : List Received)
+    → come_all clients (first ++ rest) all ≡ come_all clients rest (come_all clients first all)
+come-append clients [] rest all = refl
+come-append clients (effect ∷ first) rest all = come-append clients first rest (comes clients effect all)
 
--- a delivery to a session that gets it, and to another
-pub delivered-here : (text : Shown → List ℕ) (sessions : Standings) (consumer : ConsumerId) (delivery : Delivery)
-    (here : Bool)
+show-append : (clients : Clients) (first rest : List Effect) (all : List Received)
+    → show_all clients (first ++ rest) all
+    ≡ show_all clients first all ++ show_all clients rest (come_all clients first all)
+show-append clients [] rest all = refl
+show-append clients (effect ∷ first) rest all =
+    ap (λ (l : List Shown). shows clients effect all ++ l) (show-append clients first rest (comes clients effect all))
+    ∙ sym (append_assoc (shows clients effect all) (show_all clients first (comes clients effect all))
+    (show_all clients rest (come_all clients first (comes clients effect all))))
+
+-- what a text grew by, once and then again
+pub grown-then : (text : Shown → List ℕ) (before : List ℕ) (first rest : List Shown)
+    → (before ++ flat_map text first) ++ flat_map text rest ≡ before ++ flat_map text (first ++ rest)
+grown-then text before first rest =
+    append_assoc before (flat_map text first) (flat_map text rest)
+    ∙ ap (λ (l : List ℕ). before ++ l) (sym (flat_map-append text first rest))
+
+pub grown-front : (before after more : List ℕ) → after ≡ before ++ more → IsFront before after
+grown-front before after more is = record { rest = more; is = is }
+
+pub effects-then : (text : Shown → List ℕ) (clients : Clients) (before : List ℕ) (first rest : List Effect)
+    (all next : List Received) → next ≡ come_all clients first all
+    → (before ++ flat_map text (show_all clients first all)) ++ flat_map text (show_all clients rest next)
+    ≡ before ++ flat_map text (show_all clients (first ++ rest) all)
+effects-then text clients before first rest all next is =
+    grown-then text before (show_all clients first all) (show_all clients rest next)
+    ∙ ap (λ (l : List Received). before ++ flat_map text (show_all clients first all ++ show_all clients rest l)) is
+    ∙ ap (λ (l : List Shown). before ++ flat_map text l) (sym (show-append clients first rest all))
+
+pub effect-then : (text : Shown → List ℕ) (clients : Clients) (before : List ℕ) (effect : Effect) (rest : List Effect)
+    (all next : List Received) → next ≡ comes clients effect all
+    → (before ++ flat_map text (shows clients effect all)) ++ flat_map text (show_all clients rest next)
+    ≡ before ++ flat_map text (show_all clients (effect ∷ rest) all)
+effect-then text clients before effect rest all next is =
+    grown-then text before (shows clients effect all) (show_all clients rest next)
+    ∙ ap (λ (l : List Received). before ++ flat_map text (shows clients effect all ++ show_all clients rest l)) is
+
+-- a delivery to a session that gets it
+pub comes-here : (sessions : Standings) (consumer : ConsumerId) (delivery : Delivery) (here : Bool)
     → ((numbers : ℕ → Numbers) → here ≡ is_delivered_to (clients_of sessions numbers) consumer.session)
-    → here ≡ true → (numbers : ℕ → Numbers)
-    → flat_map text (delivered (clients_of sessions numbers) (Deliver consumer delivery))
-    ≡ text (Delivered consumer delivery)
-delivered-here text sessions consumer delivery here is own numbers =
-    ap (λ (b : Bool). flat_map text (cond b (Delivered consumer delivery ∷ []) [])) (sym (is numbers) ∙ own)
-    ∙ append-nil (text (Delivered consumer delivery))
+    → here ≡ true → (numbers : ℕ → Numbers) (all : List Received)
+    → comes (clients_of sessions numbers) (Deliver consumer delivery) all ≡ come consumer delivery all
+comes-here sessions consumer delivery here is own numbers all =
+    cond-true (is_delivered_to (clients_of sessions numbers) consumer.session) (come consumer delivery all) all
+    (sym (is numbers) ∙ own)
 
-pub delivered-away : (text : Shown → List ℕ) (sessions : Standings) (consumer : ConsumerId) (delivery : Delivery)
-    (here : Bool)
+pub shows-here : (sessions : Standings) (consumer : ConsumerId) (delivery : Delivery) (here : Bool)
     → ((numbers : ℕ → Numbers) → here ≡ is_delivered_to (clients_of sessions numbers) consumer.session)
-    → here ≡ false → (numbers : ℕ → Numbers)
-    → flat_map text (delivered (clients_of sessions numbers) (Deliver consumer delivery)) ≡ []
-delivered-away text sessions consumer delivery here is away numbers =
-    ap (λ (b : Bool). flat_map text (cond b (Delivered consumer delivery ∷ []) [])) (sym (is numbers) ∙ away)
+    → here ≡ true → (numbers : ℕ → Numbers) (all : List Received)
+    → shows (clients_of sessions numbers) (Deliver consumer delivery) all
+    ≡ map (Delivered consumer) (taken consumer delivery all)
+shows-here sessions consumer delivery here is own numbers all =
+    cond-true (is_delivered_to (clients_of sessions numbers) consumer.session)
+    (map (Delivered consumer) (taken consumer delivery all)) [] (sym (is numbers) ∙ own)
+
+-- and to another
+pub comes-away : (sessions : Standings) (consumer : ConsumerId) (delivery : Delivery) (here : Bool)
+    → ((numbers : ℕ → Numbers) → here ≡ is_delivered_to (clients_of sessions numbers) consumer.session)
+    → here ≡ false → (numbers : ℕ → Numbers) (all : List Received)
+    → comes (clients_of sessions numbers) (Deliver consumer delivery) all ≡ all
+comes-away sessions consumer delivery here is away numbers all =
+    cond-false (is_delivered_to (clients_of sessions numbers) consumer.session) (come consumer delivery all) all
+    (sym (is numbers) ∙ away)
+
+pub shows-away : (sessions : Standings) (consumer : ConsumerId) (delivery : Delivery) (here : Bool)
+    → ((numbers : ℕ → Numbers) → here ≡ is_delivered_to (clients_of sessions numbers) consumer.session)
+    → here ≡ false → (numbers : ℕ → Numbers) (all : List Received)
+    → shows (clients_of sessions numbers) (Deliver consumer delivery) all ≡ []
+shows-away sessions consumer delivery here is away numbers all =
+    cond-false (is_delivered_to (clients_of sessions numbers) consumer.session)
+    (map (Delivered consumer) (taken consumer delivery all)) [] (sym (is numbers) ∙ away)

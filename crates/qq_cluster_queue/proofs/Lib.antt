@@ -16,3 +16,5 @@ mod Beginning
 mod Counting
 mod Taking
 mod Refusing
+pub mod Fetching
+pub mod Asking

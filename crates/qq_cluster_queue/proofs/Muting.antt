@@ -34,6 +34,7 @@ mutes sessions session muted d q st = (
     args = st.args;
     clients = ap (acts (Mutes session muted)) st.clients
         ∙ put-standing sessions session (set_muted muted (sessions session)) (numbers_of d.publishers);
+    consumers = st.consumers;
     group = st.group;
     synced = st.synced;
   },
@@ -49,6 +50,7 @@ ends sessions session d q st = (
     args = st.args;
     clients = ap (acts (Ends session)) st.clients
         ∙ put-standing sessions session (set_ended (sessions session)) (numbers_of d.publishers);
+    consumers = st.consumers;
     group = st.group;
     synced = st.synced;
   },

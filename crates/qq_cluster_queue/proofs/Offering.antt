@@ -18,10 +18,13 @@ use Rattle.qq_raft_model.specs.Group.{Event as Move, Group as GroupState, group_
 use Rattle.qq_raft_model.specs.Server.{is_ready}
 use Rattle.qq_group.specs.Group.{Represents, server_at}
 use Rattle.qq_group.specs.Reads.{later as later_code, leader_of, leading_at, node_of as node_in}
+use Rattle.qq_consuming.specs.Consumers.{know_by}
+use Rattle.qq_consuming.specs.Consuming.{Received}
 use Rattle.qq_session.specs.Publishing.{Numbers, hand, next_command, open_commands}
 use Rattle.qq_session.specs.Clients.{Client, Clients, is_used, may_hand}
-use Rattle.qq_session.specs.Shown.{Shown, WindowFull, HasEnded, said_of}
-use Rattle.qq_cluster.specs.Queue.{Queue, Event, Leading, Submits, Resends, Downs, TellsEnded, acts, group_then, happens, has_leader, later, leader, leading, moves, node_of, offered, said, submit_to, submits, synced_after}
+use Rattle.qq_session.specs.Shown.{Shown, WindowFull, HasEnded, NotTaken, said_of}
+use Rattle.qq_cluster.specs.Delivering.{learn}
+use Rattle.qq_cluster.specs.Queue.{Queue, Event, Leading, Submits, Resends, Downs, TellsEnded, TellsNotTaken, acts, group_then, happens, has_leader, later, leader, leading, moves, node_of, offered, said, submit_to, submits, synced_after}
 use Rattle.qq_cluster.proofs.Groups.{group-append}
 use Rattle.qq_cluster_queue.specs.ClusterQueue.{HasRefused, IsOfferCaused, Stands, text_as}
 use Rattle.qq_cluster_queue.specs.Members.{AreSound, IsGroupOf, Makes, Member, Members, number_of, own_log}
@@ -185,9 +188,10 @@ pub offering-does : (sessions : Standings) (old new : ClusterQueue) (q : Queue) 
     → IsOffering event q session given → o ≡ leader_of own_log old.group
     → Makes (submits (number_of o) given) old.group new.group → new.args ≡ old.args → new.synced ≡ old.synced
     → (happens q event).clients ≡ clients_of sessions (numbers_of new.publishers)
+    → (happens q event).consumers ≡ new.consumers
     → after ≡ before ++ text_as old (said_of (is_some o) session given)
     → Stands sessions new (happens q event) × (after ≡ before ++ text_as old (said q event))
-offering-does sessions old new q event session given o before after st f lead makes args synced clients said' =
+offering-does sessions old new q event session given o before after st f lead makes args synced clients consumers said' =
     let group = makes old.args q.group st.group in
     let own : leader q.group ≡ number_of o =
     leader-is q.group old.group st.group.represents ∙ ap number_of (sym lead) in (
@@ -195,7 +199,7 @@ offering-does sessions old new q event session given o before after st f lead ma
         subst (λ (l : List Move). IsGroupOf old.args (group_after q.group l) new.group)
             (sym (f.moves_are ∙ ap (λ (x : Option ℕ). submits x given) own)) group.0,
         group.1,
-      ) args clients synced f.synced_is,
+      ) args clients consumers synced f.synced_is,
       said'
           ∙ ap (λ (b : Bool). before ++ text_as old (said_of b session given))
           (sym (ap is_some own ∙ number-some o))
@@ -254,23 +258,34 @@ submit-clients sessions d q session body next st room is =
     ∙ put-numbers sessions session (hand body (numbers session)) numbers
     ∙ ap (clients_of sessions) (sym is)
 
+pub submit-consumers : (sessions : Standings) (d : ClusterQueue) (q : Queue) (session : ℕ) (body : Unstamped)
+    (next : List Received) → Stands sessions d q
+    → next ≡ cond (may_hand (numbers_of d.publishers session)) (know_by (client session) body d.consumers) d.consumers
+    → (happens q (Submits session body)).consumers ≡ next
+submit-consumers sessions d q session body next st is =
+    ap (λ (c : Clients). learn c session body q.consumers) st.clients
+    ∙ ap (learn (clients_of sessions (numbers_of d.publishers)) session body) st.consumers ∙ sym is
+
 -- ---- events that leave a queue as it is
 
 -- an event that is nothing to the group, and that no client hears
 pub record IsIdle (event : Event) (q : Queue) : Type 0 where
   pub moves_are : moves q event ≡ []
   pub clients_are : (happens q event).clients ≡ q.clients
+  pub consumers_are : (happens q event).consumers ≡ q.consumers
   pub synced_is : synced_after q event ≡ q.synced
 
 pub idle-stands : (sessions : Standings) (old new : ClusterQueue) (q : Queue) (event : Event) → Stands sessions old q
     → IsIdle event q → new.args ≡ old.args → new.group ≡ old.group → new.synced ≡ old.synced
-    → numbers_of new.publishers ≡ numbers_of old.publishers → Stands sessions new (happens q event)
-idle-stands sessions old new q event st f args group synced numbers =
+    → numbers_of new.publishers ≡ numbers_of old.publishers → new.consumers ≡ old.consumers
+    → Stands sessions new (happens q event)
+idle-stands sessions old new q event st f args group synced numbers consumers =
     stands-then sessions old new q event st (
       subst (λ (x : Members). IsGroupOf old.args (group_then q event) x) (sym group)
           (subst (λ (l : List Move). IsGroupOf old.args (group_after q.group l) old.group) (sym f.moves_are) st.group),
       λ k down. ap (λ (x : Members). server_at k x) group ∙ down,
-    ) args (f.clients_are ∙ st.clients ∙ ap (clients_of sessions) (sym numbers)) synced f.synced_is
+    ) args (f.clients_are ∙ st.clients ∙ ap (clients_of sessions) (sym numbers))
+    (f.consumers_are ∙ st.consumers ∙ sym consumers) synced f.synced_is
 
 pub full-idle : (sessions : Standings) (d : ClusterQueue) (q : Queue) (session : ℕ) (body : Unstamped)
     → Stands sessions d q → may_hand (numbers_of d.publishers session) ≡ false
@@ -284,6 +299,7 @@ full-idle sessions d q session body st full =
             (cond-false (may_hand numbers) (next_command body numbers ∷ []) [] own);
         clients_are = cond-false (may_hand numbers)
             (put session (record (q.clients session) { numbers = hand body numbers }) q.clients) q.clients own;
+        consumers_are = cond-false (may_hand numbers) (know_by (client session) body q.consumers) q.consumers own;
         synced_is = refl;
       },
       cond-false (may_hand numbers) (said_of (has_leader q) session (offered q.clients (Submits session body)))
@@ -318,7 +334,12 @@ unused-idle sessions d q session st unused =
     let given : offered q.clients (Downs session) ≡ [] =
     ap (λ (c : Clients). offered c (Downs session)) st.clients
     ∙ cond-false (is_used (numbers_of d.publishers session)) (commands.Down (client session) ∷ []) [] unused in (
-      record { moves_are = ap (submits (leader q.group)) given; clients_are = refl; synced_is = refl },
+      record {
+        moves_are = ap (submits (leader q.group)) given;
+        clients_are = refl;
+        consumers_are = refl;
+        synced_is = refl;
+      },
       ap (said_of (has_leader q) session) given ∙ said-none (has_leader q) session,
     )
 
@@ -340,30 +361,37 @@ pub submit-does : (sessions : Standings) (old new : ClusterQueue) (q : Queue) (s
     → Makes (submit_to (number_of o) command) old.group new.group → new.args ≡ old.args → new.synced ≡ old.synced
     → numbers_of new.publishers
     ≡ put session (hand body (numbers_of old.publishers session)) (numbers_of old.publishers)
+    → new.consumers ≡ cond (may_hand (numbers_of old.publishers session))
+    (know_by (client session) body old.consumers) old.consumers
     → after ≡ before ++ text_as old (said_of (is_some o) session (command ∷ []))
     → Stands sessions new (happens q (Submits session body))
     × (after ≡ before ++ text_as old (said q (Submits session body)))
-submit-does sessions old new q session body command o before after st less is lead makes args synced numbers said' =
+submit-does sessions old new q session body command o before after st less is lead makes args synced numbers knows said' =
     let room : may_hand (numbers_of old.publishers session) ≡ true =
     lt-ltb (length (numbers_of old.publishers session).opened) WINDOW less in
     offering-does sessions old new q (Submits session body) session (command ∷ []) o before after st
     (subst (λ (x : Command). IsOffering (Submits session body) q session (x ∷ [])) (sym is)
     (submit-offers sessions old q session body st room)) lead (one-makes o command old.group new.group makes) args
-    synced (submit-clients sessions old q session body (numbers_of new.publishers) st room numbers) said'
+    synced (submit-clients sessions old q session body (numbers_of new.publishers) st room numbers)
+    (submit-consumers sessions old q session body new.consumers st knows) said'
 
 -- the session's window is full
 pub full-does : (sessions : Standings) (old new : ClusterQueue) (q : Queue) (session : ℕ) (body : Unstamped)
     (before after : List ℕ) → Stands sessions old q → length (numbers_of old.publishers session).opened ≡ WINDOW
     → new.args ≡ old.args → new.group ≡ old.group → new.synced ≡ old.synced
     → numbers_of new.publishers ≡ numbers_of old.publishers
+    → new.consumers ≡ cond (may_hand (numbers_of old.publishers session))
+    (know_by (client session) body old.consumers) old.consumers
     → after ≡ before ++ text_as old (WindowFull session ∷ [])
     → Stands sessions new (happens q (Submits session body))
     × (after ≡ before ++ text_as old (said q (Submits session body)))
-full-does sessions old new q session body before after st is args group synced numbers said' =
+full-does sessions old new q session body before after st is args group synced numbers consumers said' =
     let full : may_hand (numbers_of old.publishers session) ≡ false =
     le-ltb (length (numbers_of old.publishers session).opened) WINDOW (omega (arith, is)) in
     let idle = full-idle sessions old q session body st full in (
-      idle-stands sessions old new q (Submits session body) st idle.0 args group synced numbers,
+      idle-stands sessions old new q (Submits session body) st idle.0 args group synced numbers
+          (consumers ∙ cond-false (may_hand (numbers_of old.publishers session))
+          (know_by (client session) body old.consumers) old.consumers full),
       said' ∙ ap (λ (l : List Shown). before ++ text_as old l) (sym idle.1),
     )
 
@@ -375,7 +403,21 @@ pub ended-does : (sessions : Standings) (old new : ClusterQueue) (q : Queue) (se
 ended-does sessions old new q session before after st same said' = (
   subst (λ (d : ClusterQueue). Stands sessions d (happens q (TellsEnded session))) (sym same)
       (idle-stands sessions old old q (TellsEnded session) st
-      (record { moves_are = refl; clients_are = refl; synced_is = refl }) refl refl refl refl),
+      (record { moves_are = refl; clients_are = refl; consumers_are = refl; synced_is = refl }) refl refl refl refl
+      refl),
+  said',
+)
+
+-- and one whose command ends what wasn't handed out
+pub untaken-does : (sessions : Standings) (old new : ClusterQueue) (q : Queue) (session id : ℕ) (before after : List ℕ)
+    → Stands sessions old q → new ≡ old → after ≡ before ++ text_as old (NotTaken session id ∷ [])
+    → Stands sessions new (happens q (TellsNotTaken session id))
+    × (after ≡ before ++ text_as old (said q (TellsNotTaken session id)))
+untaken-does sessions old new q session id before after st same said' = (
+  subst (λ (d : ClusterQueue). Stands sessions d (happens q (TellsNotTaken session id))) (sym same)
+      (idle-stands sessions old old q (TellsNotTaken session id) st
+      (record { moves_are = refl; clients_are = refl; consumers_are = refl; synced_is = refl }) refl refl refl refl
+      refl),
   said',
 )
 
@@ -383,15 +425,15 @@ pub down-does : (sessions : Standings) (old new : ClusterQueue) (q : Queue) (ses
     (o : Option NodeId) (before after : List ℕ) → Stands sessions old q
     → is_used (numbers_of old.publishers session) ≡ true → command ≡ commands.Down (client session)
     → o ≡ leader_of own_log old.group → Makes (submit_to (number_of o) command) old.group new.group
-    → new.args ≡ old.args → new.synced ≡ old.synced → new.publishers ≡ old.publishers
+    → new.args ≡ old.args → new.synced ≡ old.synced → new.publishers ≡ old.publishers → new.consumers ≡ old.consumers
     → after ≡ before ++ text_as old (said_of (is_some o) session (command ∷ []))
     → Stands sessions new (happens q (Downs session))
     × (after ≡ before ++ text_as old (said q (Downs session)))
-down-does sessions old new q session command o before after st used is lead makes args synced publishers said' =
+down-does sessions old new q session command o before after st used is lead makes args synced publishers consumers said' =
     offering-does sessions old new q (Downs session) session (command ∷ []) o before after st
     (subst (λ (x : Command). IsOffering (Downs session) q session (x ∷ [])) (sym is)
     (down-offers sessions old q session st used)) lead (one-makes o command old.group new.group makes) args synced
-    (st.clients ∙ ap (λ (p : _). clients_of sessions (numbers_of p)) (sym publishers)) said'
+    (st.clients ∙ ap (λ (p : _). clients_of sessions (numbers_of p)) (sym publishers)) (st.consumers ∙ sym consumers) said'
 
 pub unused-does : (sessions : Standings) (old new : ClusterQueue) (q : Queue) (session : ℕ) (before after : List ℕ)
     → Stands sessions old q → is_used (numbers_of old.publishers session) ≡ false → new ≡ old → after ≡ before
@@ -400,7 +442,7 @@ pub unused-does : (sessions : Standings) (old new : ClusterQueue) (q : Queue) (s
 unused-does sessions old new q session before after st unused same text =
     let idle = unused-idle sessions old q session st unused in (
       subst (λ (d : ClusterQueue). Stands sessions d (happens q (Downs session))) (sym same)
-          (idle-stands sessions old old q (Downs session) st idle.0 refl refl refl refl),
+          (idle-stands sessions old old q (Downs session) st idle.0 refl refl refl refl refl),
       text ∙ sym (append-nil before) ∙ ap (λ (l : List Shown). before ++ text_as old l) (sym idle.1),
     )
 
@@ -408,13 +450,15 @@ pub resend-does : (sessions : Standings) (old new : ClusterQueue) (q : Queue) (s
     (o : Option NodeId) (before after : List ℕ) → Stands sessions old q
     → given ≡ open_commands (numbers_of old.publishers session) → o ≡ leader_of own_log old.group
     → Makes (submits (number_of o) given) old.group new.group → new.args ≡ old.args → new.synced ≡ old.synced
-    → new.publishers ≡ old.publishers → after ≡ before ++ text_as old (said_of (is_some o) session given)
+    → new.publishers ≡ old.publishers → new.consumers ≡ old.consumers
+    → after ≡ before ++ text_as old (said_of (is_some o) session given)
     → Stands sessions new (happens q (Resends session))
     × (after ≡ before ++ text_as old (said q (Resends session)))
-resend-does sessions old new q session given o before after st is lead makes args synced publishers said' =
+resend-does sessions old new q session given o before after st is lead makes args synced publishers consumers said' =
     offering-does sessions old new q (Resends session) session given o before after st
     (subst (IsOffering (Resends session) q session) (sym is) (resend-offers sessions old q session st)) lead makes args
-    synced (st.clients ∙ ap (λ (p : _). clients_of sessions (numbers_of p)) (sym publishers)) said'
+    synced (st.clients ∙ ap (λ (p : _). clients_of sessions (numbers_of p)) (sym publishers)) (st.consumers ∙ sym consumers)
+    said'
 
 -- ---- commands that are sent again
 

@@ -311,6 +311,7 @@ module _ (k count taken : ℕ) (old new : ClusterQueue) (before later : List Op)
           many.down,
         ) h.same.args_is
             (st.clients ∙ ap (λ (d : ClusterQueue). clients_of sessions (numbers_of d.publishers)) (sym h.only))
+            (st.consumers ∙ ap (λ (d : ClusterQueue). d.consumers) (sym h.only))
             (ap (λ (d : ClusterQueue). d.synced) h.only) refl,
         refl,
       )

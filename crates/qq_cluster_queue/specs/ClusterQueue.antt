@@ -31,6 +31,7 @@ count_at counts k = unwrap_or (slice_get counts k) 0
 pub record Stands (sessions : Standings) (d : ClusterQueue) (q : Queue) : Type 0 where
   pub args : q.args ≡ d.args
   pub clients : q.clients ≡ clients_of sessions (numbers_of d.publishers)
+  pub consumers : q.consumers ≡ d.consumers
   pub group : IsGroupOf d.args q.group d.group
   pub synced : (k : ℕ) (s : Member) → server_at k d.group ≡ Some s → q.synced k ≡ count_at d.synced.each k
 

@@ -4,3 +4,4 @@ pub mod Members
 pub mod ClusterQueue
 pub mod Agreeing
 pub mod Handing
+pub mod Fetching

@@ -4,15 +4,18 @@ use crate::label::Label;
 use crate::moves::Members;
 use crate::publishers::Publishers;
 use crate::votes::Votes;
+use qq_consuming::Consumers;
 use qq_entry::QueueArgs;
 
-/// One queue of a cluster: the group of servers that replicates it, its clients' numbers, and how much of each
-/// node's log is synced of it.
+/// One queue of a cluster: the group of servers that replicates it, its clients' numbers and consumers, and how much
+/// of each node's log is synced of it.
 #[derive(Drop)]
 pub struct ClusterQueue {
     pub(crate) label: Label,
     pub(crate) args: QueueArgs,
     pub(crate) publishers: Publishers,
+    /// Those that the clients know, in the order of their subscriptions.
+    pub(crate) consumers: Consumers,
     pub(crate) group: Members,
     /// How many of the ops that each node's log was handed a sync has kept, as far as the node is up.
     pub(crate) synced: Counts,

@@ -1,8 +1,9 @@
 //! The lines that the queue shows.
 ghost use Rattle.std.specs.Prelude.{◌≡◌, ◌++◌, OnOk, OnErr, IsOkUnless};
 ghost use Rattle.qq_cluster.specs.Texts.{shown_text_as};
-ghost use Rattle.qq_session.specs.Shown.{Answered, Delivered, HasEnded, NoLeader, WindowFull};
+ghost use Rattle.qq_session.specs.Shown.{Answered, Delivered, HasEnded, NoLeader, NotTaken, WindowFull};
 
+use itoa::Buffer;
 use qq_base::{ConsumerId, Memory, SessionId, Text};
 use qq_entry::{AuditRow, Delivery};
 use qq_script::{answer_text, delivery_text, session_line};
@@ -82,5 +83,25 @@ impl Label {
     {
         let session = SessionId::client(session);
         session_line(alloc, self.first, session, &self.name, "ended", out)
+    }
+
+    /// Adds that a delivery of this id wasn't handed out to a session's consumer.
+    pub fn not_taken(
+        &self,
+        alloc: Global,
+        session: u64,
+        id: u64,
+        out: &mut Vec<u8>,
+    ) -> Result<(), Memory>
+        ensures ok { OnOk result (out.new.items ≡ out.old.items
+            ++ shown_text_as self.now.first self.now.name (NotTaken session id)) }
+        ensures err { OnErr result (out.new.items ≡ out.old.items) }
+        ensures want { IsOkUnless result Memory.Want }
+    {
+        let mut words = String::from_str(alloc, "not taken ")?;
+        let mut buffer = Buffer::new();
+        words.push_str(buffer.format(id))?;
+        let session = SessionId::client(session);
+        session_line(alloc, self.first, session, &self.name, words.as_str(), out)
     }
 }

@@ -1,5 +1,5 @@
-//! One queue of a cluster: the group of servers that replicates it, its clients' numbers, and how much of each node's
-//! log is synced of it. Whatever happens to it is an event of the definition of a queue (`qq_cluster`).
+//! One queue of a cluster: the group of servers that replicates it, its clients' numbers and consumers, and how much of
+//! each node's log is synced of it. Whatever happens to it is an event of the definition of a queue (`qq_cluster`).
 #![tactic(auto)]
 
 mod agreeing;
@@ -8,6 +8,7 @@ mod audit;
 mod cluster_queue;
 mod counts;
 mod events;
+mod fetching;
 mod handing;
 mod label;
 mod laws;

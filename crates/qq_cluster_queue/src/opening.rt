@@ -18,6 +18,7 @@ use crate::moves::Members;
 use crate::publishers::Publishers;
 use crate::votes::Votes;
 use qq_base::{Memory, NodeId, Text};
+use qq_consuming::Consumers;
 use qq_entry::QueueArgs;
 use qq_group::{Group, GroupFault};
 use qq_log::Log;
@@ -86,10 +87,12 @@ impl ClusterQueue {
     {
         let group = down_group(alloc, &args, nodes)?;
         let publishers = Publishers::new(alloc, args.queue);
+        let consumers = Consumers::new(alloc);
         Ok(ClusterQueue {
             label: Label { name, first },
             args,
             publishers,
+            consumers,
             group,
             synced: Counts::new(),
             votes: Votes::new(),

@@ -11,6 +11,7 @@ ghost use Rattle.qq_cluster_queue.specs.Range.{HasBytes, MayStamp};
 
 use qq_base::{Memory, QueueId, SessionId};
 use qq_entry::{AuditRow, Command, Unstamped};
+use qq_model::WINDOW;
 use qq_script::seq_of;
 use qq_session::{HandFault, Publishing};
 use std::alloc::Global;
@@ -50,6 +51,13 @@ impl Publisher {
         ensures { result ≡ is_used self.now }
     {
         self.numbers.next() > 1
+    }
+
+    /// Whether its window has room for one more number.
+    pub fn may_hand(&self) -> bool
+        ensures { result ≡ may_hand self.now }
+    {
+        (self.numbers.open_count() as u64) < WINDOW
     }
 
     /// Gives a command the next number.

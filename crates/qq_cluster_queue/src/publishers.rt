@@ -7,7 +7,7 @@ ghost use Rattle.qq_base.specs.Fronts.{put};
 ghost use Rattle.qq_base.specs.declared.memory.TheConstants.{NUMBER_END};
 ghost use Rattle.qq_model.specs.declared.TheConstants.{WINDOW};
 ghost use Rattle.qq_session.specs.Publishing.{hand, next_command, open_commands, HasHandCause};
-ghost use Rattle.qq_session.specs.Clients.{ended_by, hear, is_printed, is_printed_by, is_used, sender, tells_end};
+ghost use Rattle.qq_session.specs.Clients.{ended_by, hear, is_printed, is_printed_by, is_used, may_hand, sender, tells_end};
 ghost use Rattle.qq_cluster_queue.specs.Range.{HasBytes, MayStamp};
 ghost use Rattle.qq_cluster_queue.specs.Sessions.{clients_of, is_known, numbers_of, standings};
 
@@ -77,6 +77,16 @@ impl Publishers {
         match self.publisher(session) {
             None => false,
             Some(publisher) => publisher.is_used(),
+        }
+    }
+
+    /// Whether a session's window has room for one more number.
+    pub fn may_hand(&self, session: u64) -> bool
+        ensures { result ≡ may_hand (numbers_of self.now session) }
+    {
+        match self.publisher(session) {
+            None => true,
+            Some(publisher) => publisher.may_hand(),
         }
     }
 

@@ -1,23 +1,48 @@
 //! What the clients send to a queue.
-ghost use Rattle.std.specs.Prelude.{◌≡◌, ◌<◌, ◌++◌, ◌∷◌, [], is_some, IfErr, OnOk, OnErr, IsOkUnless};
+ghost use Rattle.std.specs.Prelude.{◌≡◌, ◌<◌, ◌++◌, ◌∷◌, [], is_some, if◌then◌else◌, IfErr, OnOk, OnErr, IsOkUnless};
 ghost use Rattle.qq_base.specs.Fronts.{IsFront};
 ghost use Rattle.qq_base.specs.Ids.{client};
 ghost use Rattle.qq_entry.specs.declared.command.Command.TheVariants.{Down};
-ghost use Rattle.qq_cluster.specs.Queue.{Downs, Resends, Submits, TellsEnded, submit_to};
+ghost use Rattle.qq_cluster.specs.Queue.{Downs, Resends, Submits, TellsEnded, TellsNotTaken, submit_to};
+ghost use Rattle.qq_cluster.specs.Rules.{not_taken};
 ghost use Rattle.qq_group.specs.Reads.{leader_of};
+ghost use Rattle.qq_consuming.specs.Consumers.{know_by};
+ghost use Rattle.qq_session.specs.Clients.{may_hand};
 ghost use Rattle.qq_session.specs.Shown.{WindowFull, said_of};
-ghost use Rattle.qq_cluster_queue.specs.ClusterQueue.{text_as, DoesAlways, IsOfferCaused, IsResendCaused, IsSameQueue, IsSubmitCaused};
+ghost use Rattle.qq_cluster_queue.specs.ClusterQueue.{text_as, DoesAlways, IsOfferCaused, IsResendCaused, IsSameQueue, IsSubmitCaused, OfItsQueue};
+ghost use Rattle.qq_cluster_queue.specs.Sessions.{numbers_of};
 ghost use Rattle.qq_cluster_queue.specs.Members.{AreSound, Makes, number_of, own_log};
 ghost use Rattle.qq_cluster_queue.specs.Range.{HasBytes, MayStamp};
 
 use crate::cluster_queue::ClusterQueue;
 use crate::moves::happen;
+use crate::publishers::Publishers;
 use qq_base::{Memory, NodeId, SessionId};
+use qq_consuming::Consumers;
 use qq_entry::{Command, Unstamped};
 use qq_group::Event;
 use qq_session::HandFault;
 use std::alloc::Global;
 use std::collections::VecDeque;
+
+// A session knows a consumer from its first subscription on that gets a number.
+fn learn(
+    alloc: Global,
+    publishers: &Publishers,
+    consumers: &mut Consumers,
+    session: u64,
+    body: &Unstamped,
+) -> Result<(), Memory>
+    ensures ok { OnOk result (consumers.new ≡ (if may_hand (numbers_of publishers.now session)
+        then know_by (client session) body.now consumers.old else consumers.old)) }
+    ensures want { IsOkUnless result Memory.Want }
+{
+    let room = publishers.may_hand(session);
+    if !room {
+        return Ok(());
+    }
+    consumers.know_by(alloc, SessionId::client(session), body)
+}
 
 impl ClusterQueue {
     // A command goes to the leader, at time 0; where there is none the session is told so.
@@ -90,6 +115,10 @@ impl ClusterQueue {
         ensures cause { IfErr result (IsSubmitCaused session body self.old) }
     {
         let leader = self.group.leader();
+        let learned = learn(alloc, &self.publishers, &mut self.consumers, session, &body);
+        if let Err(cause) = learned {
+            return Err(cause);
+        }
         let command = match self.publishers.hand(alloc, session, body) {
             Ok(command) => command,
             Err(HandFault::WindowFull) => return self.tell_full(alloc, session, out),
@@ -118,6 +147,38 @@ impl ClusterQueue {
         ensures want { IsOkUnless result Memory.Want }
     {
         if let Err(cause) = self.label.has_ended(alloc, session, out) {
+            return Err(cause);
+        }
+        Ok(())
+    }
+
+    /// The first delivery that a session's command ends and that wasn't handed out to its consumer. None where each
+    /// was, so that the command may be given.
+    pub fn not_taken(&self, alloc: Global, session: u64, body: &Unstamped) -> Option<u64>
+        ensures { OfItsQueue self.now (λ q. result ≡ not_taken session body.now q) }
+    {
+        self.consumers
+            .not_taken(alloc, SessionId::client(session), body)
+    }
+
+    /// A session is to give a command for a delivery of this id, which wasn't handed out, and `out` grows by that. The
+    /// only error is `Memory::Want`, out of memory, after which `out` is as it was.
+    pub fn tell_not_taken(
+        &mut self,
+        alloc: Global,
+        session: u64,
+        id: u64,
+        out: &mut Vec<u8>,
+    ) -> Result<(), Memory>
+        requires { AreSound self.old.group }
+
+        ensures same { self.new ≡ self.old }
+        ensures ok { OnOk result (DoesAlways (TellsNotTaken session id) self.old self.new
+            out.old.items out.new.items) }
+        ensures err { OnErr result (out.new.items ≡ out.old.items) }
+        ensures want { IsOkUnless result Memory.Want }
+    {
+        if let Err(cause) = self.label.not_taken(alloc, session, id, out) {
             return Err(cause);
         }
         Ok(())

@@ -11,19 +11,21 @@ ghost use Rattle.qq_entry.specs.declared.answer.Delivery.{Delivery};
 ghost use Rattle.qq_entry.specs.declared.audit.AuditRow.{AuditRow};
 ghost use Rattle.qq_entry.specs.declared.audit.Effect.TheVariants.{Deliver};
 ghost use Rattle.qq_entry.specs.declared.command.Stamp.{Stamp};
-ghost use Rattle.qq_model.specs.Audit.{audit_of, effects_of};
+ghost use Rattle.qq_model.specs.Audit.{audit_of, deliveries, effects_of};
 ghost use Rattle.qq_model.specs.State.{empty_queue};
 ghost use Rattle.qq_session.specs.Answered.{IsAnswered};
 ghost use Rattle.qq_session.specs.Clients.{sender, ended_by};
 ghost use Rattle.qq_session.specs.Shown.{Answered, Delivered};
 ghost use Rattle.qq_cluster.specs.Cluster.{ClusterEvent, Of};
+ghost use Rattle.qq_cluster.specs.ClusterLaws.{shown_at};
+ghost use Rattle.qq_cluster.specs.Laws.{deliveries_shown};
 ghost use Rattle.qq_cluster_run.specs.Inputs.{Input};
 ghost use Rattle.qq_cluster_run.specs.Printing.{audit_behind, printed_behind, queue_behind, is_confirmed_publish};
 ghost use Rattle.qq_cluster_run.specs.Serving.{AnyDisks, Behind, setup_behind};
 
 use qq_cluster::{
-    a_cluster_prints_what_is_true, an_audit_is_serial, each_queue_is_its_own,
-    ops_are_noticed_once_synced, sessions_go_on,
+    a_cluster_prints_what_is_true, an_audit_is_serial, deliveries_are_printed_in_order,
+    each_queue_is_its_own, ops_are_noticed_once_synced, sessions_go_on,
 };
 
 /// A law: of whatever was printed at a queue.
@@ -33,6 +35,8 @@ use qq_cluster::{
 /// - `confirmed`: of what was printed as `confirmed` the audit has one row in which a publish of that session
 ///   and number was carried out and confirmed, and no second one.
 /// - `delivery`: it is what an entry of the audit delivered.
+/// - `order`: of each consumer's deliveries it is a front of those that the audit has for it: each once, in order, and
+///   none is passed over, whatever was lost on the way, failed or was restarted.
 pub fn what_was_printed_is_there_once()
     ensures answer { (s : Setup) (all left : List Input)
         (b : Behind AnyDisks s all left) (place : ℕ) (row : AuditRow) →
@@ -53,8 +57,13 @@ pub fn what_was_printed_is_there_once()
         (delivery : Delivery) → Contains (printed_behind b) (Of place (Delivered consumer delivery)) →
         Contains (effects_of (empty_queue (queue_behind b place).args)
         (queue_behind b place).group.audit) (Deliver consumer delivery) }
+    ensures order { (s : Setup) (all left : List Input)
+        (b : Behind AnyDisks s all left) (place : ℕ) (consumer : ConsumerId) →
+        IsFront (deliveries_shown consumer (shown_at place (printed_behind b)))
+        (deliveries (empty_queue ((setup_behind b).args place)) (audit_behind b place) consumer) }
 {
     a_cluster_prints_what_is_true();
+    deliveries_are_printed_in_order();
 }
 
 /// A law: the audit of a queue, wherever a run stands.

@@ -35,7 +35,7 @@ use Rattle.qq_consuming.specs.Fetched.{IsOutWith}
 abbrev pub IsOutByDeliveries : Type 0
 IsOutByDeliveries = (s : State) (entry : Entry) → IsOutByDelivery s entry
 
-In-filter_map : {A B : Type 0} (f : A → Option B) (xs : List A) (x : A) (y : B) → f x ≡ Some y → In x xs
+pub In-filter_map : {A B : Type 0} (f : A → Option B) (xs : List A) (x : A) (y : B) → f x ≡ Some y → In x xs
     → In y (filter_map f xs)
 In-filter_map f [] x y gives here = absurd here
 In-filter_map {A} {B} f (first ∷ xs) x y gives (inl is) =
@@ -157,7 +157,7 @@ known-run out consumer s (entry ∷ entries) known sound is =
     (known-run out consumer made.state entries (known ++ to consumer made.effects) (next_stepped s entry sound).sound
     (known-step out consumer s entry known sound is))
 
-entries-audit : (s : State) (entries : List Entry) → entries_of (audit_of s entries) ≡ entries
+pub entries-audit : (s : State) (entries : List Entry) → entries_of (audit_of s entries) ≡ entries
 entries-audit s [] = refl
 entries-audit s (entry ∷ entries) =
     ap (λ (es : List Entry). entry ∷ es) (entries-audit (next_step s entry).state entries)

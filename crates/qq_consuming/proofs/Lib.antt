@@ -1,5 +1,10 @@
+pub mod ConsumersLemmas
+pub mod MadeLemmas
 pub mod ReceivedLemmas
 pub mod KeptLemmas
 pub mod History
 pub mod HistoryLaws
 pub mod FetchedLemmas
+pub mod HandingLemmas
+pub mod KnownLemmas
+pub mod OutLemmas

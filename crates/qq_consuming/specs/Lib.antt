@@ -3,3 +3,5 @@ pub mod Received
 pub mod Arrivals
 pub mod Numerals
 pub mod Fetched
+pub mod Consumers
+pub mod Known

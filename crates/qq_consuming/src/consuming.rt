@@ -1,6 +1,8 @@
-ghost use Rattle.std.specs.Prelude.{◌≡◌, ◌<◌, ◌≤◌, IfErr, IfOk, IfSome, OnErr, OnOk, None, not, is_some, true};
+ghost use Rattle.std.specs.Prelude.{◌≡◌, ◌<◌, ◌≤◌, ◌+◌, ◌^◌, ◌++◌, IfErr, IfOk, IfSome, OnErr, OnOk, None, not, is_some, length, replicate, true, vec_capacity, vec_len};
 ghost use Rattle.qq_base.specs.Causes.{SpentOnlyWhere};
 ghost use Rattle.qq_base.specs.declared.memory.TheConstants.{NUMBER_END};
+ghost use Rattle.qq_consuming.specs.Arrivals.{Asks, after_deeds, handed};
+ghost use Rattle.qq_consuming.specs.Consumers.{come_by, taken_by};
 ghost use Rattle.qq_consuming.specs.Consuming.{HasClaimCause, arrive, has_arrived, hand_out, missing, new_consumer, next_delivery, not_taken, was_handed_out, IsLeastMissing};
 ghost use Rattle.qq_consuming.specs.Received.{IsReceived};
 
@@ -160,6 +162,56 @@ impl Consuming {
         }
     }
 
+    // How many deliveries wait.
+    fn waiting_count(&self) -> usize
+        ensures count { result ≡ length self.now.waiting }
+        ensures small { result < 2 ^ 63 }
+    {
+        self.waiting.len()
+    }
+
+    // Hands out what is there.
+    fn take_all(&mut self, out: &mut Vec<Delivery>)
+        requires { vec_len out.old + length self.old.waiting ≤ vec_capacity out.old }
+
+        ensures after { self.new
+            ≡ after_deeds (replicate (length self.old.waiting) Asks) self.old }
+        ensures taken { out.new.items
+            ≡ out.old.items ++ handed self.old (replicate (length self.old.waiting) Asks) }
+    {
+        let count = self.waiting_count();
+        'asks: for asked in 0..count {
+            let Some(delivery) = self.next() else {
+                return;
+            };
+            out.push_reserved(delivery);
+        }
+    }
+
+    /// A delivery comes to the client, and `out` grows by what is there then, in the order of ids.
+    ///
+    /// - `err`, `left`: after an error all is as before.
+    /// - `cause`: as of `arrive`.
+    pub fn come(&mut self, delivery: Delivery, out: &mut Vec<Delivery>) -> Result<(), Memory>
+        ensures ok { OnOk result (self.new ≡ come_by delivery self.old) }
+        ensures taken { OnOk result (out.new.items ≡ out.old.items ++ taken_by delivery self.old) }
+        ensures err { OnErr result (self.new ≡ self.old) }
+        ensures left { OnErr result (out.new.items ≡ out.old.items) }
+        ensures cause { IfErr result (λ e. SpentOnlyWhere e NUMBER_END (NUMBER_END ≤ delivery.id)) }
+    {
+        // What comes and all that waits has room before anything changes.
+        let room = self.waiting_count() + 1;
+        if let Err(_) = out.reserve(room) {
+            drop(delivery);
+            return Err(Memory::Want);
+        }
+        if let Err(cause) = self.arrive(delivery) {
+            return Err(cause);
+        }
+        self.take_all(out);
+        Ok(())
+    }
+
     /// Whether a delivery of this id was handed out.
     pub fn was_handed_out(&self, id: u64) -> bool
         ensures { result ≡ was_handed_out id self.now }
@@ -179,5 +231,15 @@ impl Consuming {
             }
         }
         Ok(())
+    }
+
+    /// The first of these ids that wasn't handed out, None where each was.
+    pub fn not_taken(&self, ids: &[u64]) -> Option<u64>
+        ensures { result ≡ not_taken ids.now self.now }
+    {
+        match self.claim(ids) {
+            Ok(()) => None,
+            Err(ClaimFault::NotTaken { id }) => Some(id),
+        }
     }
 }

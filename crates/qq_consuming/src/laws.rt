@@ -1,6 +1,6 @@
 //! Laws of a consumer's deliveries, over any list of arrivals and asks. Each is the contract of a function with
 //! no parameters.
-ghost use Rattle.std.specs.Prelude.{◌≡◌, ℕ, ◌<◌, ◌+◌, List, All, Contains, Some, false, true, is_some, length, nat_eq, slice_get};
+ghost use Rattle.std.specs.Prelude.{◌≡◌, ℕ, ◌<◌, ◌≤◌, ◌+◌, List, All, Contains, Some, false, true, is_some, length, nat_eq, slice_get};
 ghost use Rattle.std.specs.List.{list_any};
 ghost use Rattle.qq_base.specs.Fronts.{IsFront};
 ghost use Rattle.qq_base.specs.declared.ids.ConsumerId.{ConsumerId};
@@ -13,9 +13,10 @@ ghost use Rattle.qq_model.specs.State.{empty_queue};
 ghost use Rattle.qq_laws.specs.Always.{queue_after, queue_audit};
 ghost use Rattle.qq_consuming.specs.Consuming.{has_arrived, ids_of, missing, new_consumer, next_delivery, was_handed_out};
 ghost use Rattle.qq_consuming.specs.Arrivals.{Deed, after_deeds, arrivals, handed};
-ghost use Rattle.qq_consuming.specs.Fetched.{IsOutWith};
+ghost use Rattle.qq_consuming.specs.Fetched.{IsOutWith, out_from};
 
 use qq_laws::{delivery_ids_count_by_one, what_is_out_was_delivered};
+use qq_model::queues_are_sound;
 
 /// An id has arrived exactly where a delivery of it was among the arrivals.
 pub fn arrivals_are_remembered()
@@ -79,4 +80,14 @@ pub fn what_is_out_was_delivered_as_it_is()
         Contains (deliveries (empty_queue args) (queue_audit args entries) consumer) delivery }
 {
     what_is_out_was_delivered();
+}
+
+/// Whatever is out with a consumer, from an id on, is fetched: a client that asks from there on is shown all of it.
+pub fn what_is_out_is_fetched()
+    ensures { (args : QueueArgs) (entries : List Entry) (consumer : ConsumerId)
+        (delivery : Delivery) (from : ℕ) → IsNumbered consumer.session → from ≤ delivery.id →
+        IsOutWith (queue_after args entries) consumer delivery →
+        Contains (out_from (queue_after args entries) consumer from) delivery }
+{
+    queues_are_sound();
 }

@@ -8,14 +8,13 @@ use Rattle.qq_base.specs.declared.ids.QueueId.{QueueId}
 use Rattle.qq_disk.specs.Disk.{Disk}
 use Rattle.qq_entry.specs.declared.command.Unstamped.{Unstamped}
 use Rattle.qq_session.specs.Clients.{Clients}
-use Rattle.qq_cluster.specs.Cluster.{Alike, At, Cluster, ClusterEvent, SaysDown, Setup, cluster_happens}
+use Rattle.qq_cluster.specs.Cluster.{Alike, At, Cluster, ClusterEvent, SaysDown, Setup, Standing, cluster_happens, event_of}
 use Rattle.qq_cluster.specs.Lines.{WhereUp}
-use Rattle.qq_cluster.specs.Queue.{Event, Queue, Submits, TellsEnded, happens}
-use Rattle.qq_cluster.specs.Rules.{ForEach, Is, IsGiven, is_ended, is_quiet}
+use Rattle.qq_cluster.specs.Queue.{Queue, TellsEnded, happens}
+use Rattle.qq_cluster.specs.Rules.{ForEach, Is, IsClaimed, IsGiven, is_ended, is_quiet, not_taken}
 use Rattle.qq_cluster.specs.Texts.{text_of}
 use Rattle.qq_cluster_laws.specs.Linked.{IsReached}
-use Rattle.qq_cluster_laws.specs.Unseen.{is_node, touched}
-use Rattle.qq_cluster_queue.specs.ClusterQueue.{Stands as IsQueue}
+use Rattle.qq_cluster_queue.specs.ClusterQueue.{OfItsQueue, Stands as IsQueue}
 use Rattle.qq_cluster_queue.specs.Sessions.{Standings, standings}
 use Rattle.qq_cluster_queue.specs.declared.cluster_queue.ClusterQueue.{ClusterQueue}
 use Rattle.qq_nodes.specs.Nodes.{CanServe, GaveUp, IsQueueAt, LeadsIn, Served, Stands, places_in}
@@ -52,6 +51,32 @@ module _ {D : Type 0} {tells : D → Bool} {past : D → List Disk} where
           ended-is (standings held.sessions) found.0 (c.queue (at + 1)) session (st.queues at found.0 found.2).stands
       by (inr past_end) = let le = past_end.0 in absurd (omega (arith, le, lt))
 
+  -- of the queue at an index the first delivery that wasn't handed out
+  abbrev pub IsNotTaken : ℕ → ℕ → Unstamped → List ClusterQueue → Option ℕ → Type 0
+  IsNotTaken at session body queues o =
+      (d : ClusterQueue) → slice_get queues at ≡ Some d
+      → OfItsQueue d (λ (q : Queue). o ≡ not_taken session body q)
+
+  -- what was found is what is asked for
+  pub taken-is : (at session : ℕ) (body : Unstamped) {queues : List ClusterQueue} {found o : Option ℕ} → found ≡ o
+      → IsNotTaken at session body queues found → IsNotTaken at session body queues o
+  taken-is at session body {queues} same untaken = subst (IsNotTaken at session body queues) same untaken
+
+  pub claimed-at : (setup : Setup) (c : Cluster) (held : Held D) (at session : ℕ) (body : Unstamped) (o : Option ℕ)
+      → Stands tells past setup held c → at < length held.queues.items
+      → IsNotTaken at session body held.queues.items o → not_taken session body (c.queue (at + 1)) ≡ o
+  claimed-at setup c held at session body o st lt untaken =
+      by (slice_get_cases held.queues.items at).1
+    where
+      by : ((d : ClusterQueue) × (at < length held.queues.items) × (slice_get held.queues.items at ≡ Some d)
+          × (get_or held.queues.items at d ≡ d))
+          ⊎ ((length held.queues.items ≤ at) × (slice_get held.queues.items at ≡ None))
+          → not_taken session body (c.queue (at + 1)) ≡ o
+      by (inl found) =
+          sym (untaken found.0 found.2 (standings held.sessions) (c.queue (at + 1))
+          (st.queues at found.0 found.2).stands)
+      by (inr past_end) = let le = past_end.0 in absurd (omega (arith, le, lt))
+
 module _ {D : Type 0} {tells : D → Bool} {past : D → List Disk} {faults : D → ℕ} where
   -- a rule for the place of a queue
   pub at-queue : (Each : ℕ → Setup → Cluster → List ClusterEvent → Type 0) {old new : Held D}
@@ -71,18 +96,23 @@ module _ {D : Type 0} {tells : D → Bool} {past : D → List Disk} {faults : D 
   gives-ended at session body {old = old} lt ended served =
       served-weaker served
       (λ setup c events r st allowed. rule-if (is_ended session (c.queue (at + 1)))
-      (Is (At (at + 1) (TellsEnded session))) (Is (At (at + 1) (Submits session body))) c events
+      (Is (At (at + 1) (TellsEnded session)))
+      (IsClaimed (not_taken session body (c.queue (at + 1))) session body (at + 1)) c events
       (ended-at setup c old at session st lt ∙ sym ended) allowed)
 
-  pub gives : (at session : ℕ) (body : Unstamped) {old new : Held D} {before later : List ℕ}
+  pub gives : (at session : ℕ) (body : Unstamped) {old new : Held D} {before later : List ℕ} (o : Option ℕ)
       → at < length old.queues.items → false ≡ (standings old.sessions session).ended
-      → Served tells past faults (λ setup. Is (At (at + 1) (Submits session body))) old new before later
+      → IsNotTaken at session body old.queues.items o
+      → Served tells past faults (λ setup. IsClaimed o session body (at + 1)) old new before later
       → Served tells past faults (λ setup. IsGiven session body (at + 1)) old new before later
-  gives at session body {old = old} lt not' served =
+  gives at session body {old = old} o lt not' untaken served =
       served-weaker served
       (λ setup c events r st allowed. rule-else (is_ended session (c.queue (at + 1)))
-      (Is (At (at + 1) (TellsEnded session))) (Is (At (at + 1) (Submits session body))) c events
-      (ended-at setup c old at session st lt ∙ sym not') allowed)
+      (Is (At (at + 1) (TellsEnded session)))
+      (IsClaimed (not_taken session body (c.queue (at + 1))) session body (at + 1)) c events
+      (ended-at setup c old at session st lt ∙ sym not')
+      (subst (λ (x : Option ℕ). IsClaimed x session body (at + 1) c events)
+      (sym (claimed-at setup c old at session body o st lt untaken)) allowed))
 
   -- ---- where a node is up, or down
 
@@ -106,17 +136,17 @@ module _ {D : Type 0} {tells : D → Bool} {past : D → List Disk} {faults : D 
 
   -- ---- what happens to all queues alike
 
-  pub served-alike : (event : Event) (old new : Held D) (text : List ℕ) → touched event ≡ None
+  pub served-alike : (standing : Standing) (old new : Held D) (text : List ℕ)
       → new ≡ record old { sessions = new.sessions }
-      → ((q : Queue) → (happens q event).group ≡ q.group)
+      → ((q : Queue) → (happens q (event_of standing)).group ≡ q.group)
       → ((d : ClusterQueue) (q : Queue) → IsQueue (standings old.sessions) d q
-      → IsQueue (standings new.sessions) d (happens q event))
-      → Served tells past faults (λ setup. Is (Alike event)) old new text text
-  served-alike event old new text unseen same group does =
-      served-unseen (Alike event) old new text text unseen (ap (λ (h : Held D). h.nodes) same)
+      → IsQueue (standings new.sessions) d (happens q (event_of standing)))
+      → Served tells past faults (λ setup. Is (Alike standing)) old new text text
+  served-alike standing old new text same group does =
+      served-unseen (Alike standing) old new text text refl (ap (λ (h : Held D). h.nodes) same)
       (λ setup c r st. (
         refl,
-        subst (λ (h : Held D). Stands tells past setup h (cluster_happens c (Alike event))) (sym same) (record {
+        subst (λ (h : Held D). Stands tells past setup h (cluster_happens c (Alike standing))) (sym same) (record {
           set_up = st.set_up;
           queues = λ i d there. (let was = st.queues i d there in record {
             stands = does d (c.queue (i + 1)) was.stands;
@@ -124,7 +154,7 @@ module _ {D : Type 0} {tells : D → Bool} {past : D → List Disk} {faults : D 
             name_is = was.name_is;
             first_is = was.first_is;
           });
-          nodes = λ i node there. node-stays setup c (Alike event) (i + 1) node (ap (is_node (i + 1)) unseen) (st.nodes i node there);
+          nodes = λ i node there. node-stays setup c (Alike standing) (i + 1) node refl (st.nodes i node there);
           auto = st.auto;
           within = st.within;
           quiet = λ i lt calm. ap (λ g. is_quiet setup c.up (record (c.queue (i + 1)) { group = g }))
@@ -171,18 +201,23 @@ module _ {D : Type 0} {tells : D → Bool} {past : D → List Disk} {faults : D 
   ended-gave_up at session body {old = old} lt ended given =
       gave_up-weaker
       (λ setup c events r st allowed. rule-if (is_ended session (c.queue (at + 1)))
-      (Is (At (at + 1) (TellsEnded session))) (Is (At (at + 1) (Submits session body))) c events
+      (Is (At (at + 1) (TellsEnded session)))
+      (IsClaimed (not_taken session body (c.queue (at + 1))) session body (at + 1)) c events
       (ended-at setup c old at session st lt ∙ sym ended) allowed) given
 
-  pub submit-gave_up : (at session : ℕ) (body : Unstamped) {old new : Held D} {memory : Memory}
+  pub submit-gave_up : (at session : ℕ) (body : Unstamped) {old new : Held D} {memory : Memory} (o : Option ℕ)
       → at < length old.queues.items → false ≡ (standings old.sessions session).ended
-      → GaveUp tells past faults (λ setup. Is (At (at + 1) (Submits session body))) old new memory
+      → IsNotTaken at session body old.queues.items o
+      → GaveUp tells past faults (λ setup. IsClaimed o session body (at + 1)) old new memory
       → GaveUp tells past faults (λ setup. IsGiven session body (at + 1)) old new memory
-  submit-gave_up at session body {old = old} lt not' given =
+  submit-gave_up at session body {old = old} o lt not' untaken given =
       gave_up-weaker
       (λ setup c events r st allowed. rule-else (is_ended session (c.queue (at + 1)))
-      (Is (At (at + 1) (TellsEnded session))) (Is (At (at + 1) (Submits session body))) c events
-      (ended-at setup c old at session st lt ∙ sym not') allowed) given
+      (Is (At (at + 1) (TellsEnded session)))
+      (IsClaimed (not_taken session body (c.queue (at + 1))) session body (at + 1)) c events
+      (ended-at setup c old at session st lt ∙ sym not')
+      (subst (λ (x : Option ℕ). IsClaimed x session body (at + 1) c events)
+      (sym (claimed-at setup c old at session body o st lt untaken)) allowed)) given
 
   pub up-gave_up : {Rule : Ruling} (k : ℕ) {old new : Held D} {memory : Memory}
       → ((setup : Setup) (c : Cluster) → Stands tells past setup old c → true ≡ c.up k)

@@ -25,7 +25,7 @@ use Rattle.qq_nodes.specs.Active.{is_in, put_in}
 use Rattle.qq_nodes.specs.Asking.{DoesAt, asked}
 use Rattle.qq_nodes.specs.Nodes.{IsNodeOf, IsQueueOf, IsSetUp, Served, Stands, seen, seen_in}
 use Rattle.qq_nodes.specs.declared.asking.Ask.{Ask}
-use Rattle.qq_nodes.specs.declared.asking.Ask.TheVariants.{Submit, TellEnded, Resend, Down, Tick, Notice, Deliver, Lose, Copy}
+use Rattle.qq_nodes.specs.declared.asking.Ask.TheVariants.{Submit, TellEnded, TellNotTaken, Resend, Fetch, Down, Tick, Notice, Deliver, Lose, Copy}
 use Rattle.qq_nodes.specs.declared.node.Node.{Node}
 use Rattle.qq_nodes.specs.declared.nodes.Nodes.{Nodes as Held}
 use Rattle.qq_nodes.proofs.Rising.{in-put, put-all}
@@ -92,7 +92,9 @@ does-at event sessions at olds d new before after lt sound same does = record {
 pub asked-unseen : (ask : Ask) → touched (asked ask) ≡ None
 asked-unseen (Submit session body) = refl
 asked-unseen (TellEnded session) = refl
+asked-unseen (TellNotTaken session id) = refl
 asked-unseen (Resend session) = refl
+asked-unseen (Fetch session) = refl
 asked-unseen (Down session) = refl
 asked-unseen (Tick node) = refl
 asked-unseen (Notice node) = refl

@@ -26,7 +26,7 @@ use Rattle.qq_nodes.specs.Asking.{asked}
 use Rattle.qq_nodes.specs.Ends.{InQueue, IsAskCaused, IsAtEnd, IsRefusedAt}
 use Rattle.qq_nodes.specs.Nodes.{GaveUp, seen}
 use Rattle.qq_nodes.specs.declared.asking.Ask.{Ask}
-use Rattle.qq_nodes.specs.declared.asking.Ask.TheVariants.{Submit, TellEnded, Resend, Down, Tick, Notice, Deliver, Lose, Copy}
+use Rattle.qq_nodes.specs.declared.asking.Ask.TheVariants.{Submit, TellEnded, TellNotTaken, Resend, Fetch, Down, Tick, Notice, Deliver, Lose, Copy}
 use Rattle.qq_nodes.specs.declared.nodes.Nodes.{Nodes as Held}
 use Rattle.qq_nodes.proofs.Stands.{ends-now, same-seen}
 
@@ -57,6 +57,8 @@ ask-ends steps (Submit session body) d number sound (inr offer) =
     offer-ends steps (leader_of own_log d.group) (next_command body (numbers_of d.publishers session)) d.group number
     sound offer
 ask-ends steps (TellEnded session) d number sound cause = no-want number cause
+ask-ends steps (TellNotTaken session id) d number sound cause = no-want number cause
+ask-ends steps (Fetch session) d number sound cause = no-want number cause
 ask-ends steps (Resend session) d number sound (inl want) = no-want number want
 ask-ends steps (Resend session) d number sound (inr refused) =
     offer-ends steps (leader_of own_log d.group) refused.command refused.group number refused.sound refused.cause

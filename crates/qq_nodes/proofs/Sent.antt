@@ -10,12 +10,12 @@ use Rattle.qq_disk.specs.Disk.{Disk}
 use Rattle.qq_entry.specs.declared.command.Unstamped.{Unstamped}
 use Rattle.qq_cluster.specs.Cluster.{At, Cluster, ClusterEvent, SaysEnded, SaysUnroutable, Setup}
 use Rattle.qq_cluster.specs.Lines.{IsRouted}
-use Rattle.qq_cluster.specs.Queue.{Resends}
-use Rattle.qq_cluster.specs.Rules.{ForEach, Is, IsGiven, IsNothing, IsResend, is_ended, some_queue}
+use Rattle.qq_cluster.specs.Queue.{Fetches, Resends}
+use Rattle.qq_cluster.specs.Rules.{ForEach, Is, IsGiven, IsNothing, IsResend, Then, is_ended, some_queue}
 use Rattle.qq_cluster_laws.specs.Serves.{Leads}
 use Rattle.qq_cluster_queue.specs.Sessions.{standings}
 use Rattle.qq_nodes.specs.Nodes.{CanServe, GaveUp, IsQueueAt, LeadsIn, Served, Stands}
-use Rattle.qq_nodes.specs.Sending.{GivesTo, numbers_of}
+use Rattle.qq_nodes.specs.Sending.{GivesTo, Sends, numbers_of}
 use Rattle.qq_nodes.specs.declared.nodes.Nodes.{Nodes as Held}
 use Rattle.qq_nodes.proofs.LineRules.{at-queue, at-queue_gave_up, ended-at}
 use Rattle.qq_nodes.proofs.Pumping.{many-after, rule-else, rule-if}
@@ -173,7 +173,7 @@ module _ {D : Type 0} {tells : D → Bool} {past : D → List Disk} {faults : D 
       (λ setup c events r st allowed. routed-some session body (numbers_of queues) c events
       (let long = long-numbers queues in omega (arith, some, long)) allowed) given
 
-  -- ---- commands that are sent again
+  -- ---- commands that are sent again, and then a fetch
 
   -- there is no queue
   pub resends-none : (session : ℕ) (held : Held D) (text : List ℕ) → length held.queues.items ≡ 0
@@ -181,11 +181,13 @@ module _ {D : Type 0} {tells : D → Bool} {past : D → List Disk} {faults : D 
   resends-none session held text none =
       served-nothing held text
       (λ setup c r st. rule-else (some_queue setup (is_ended session) c) (Is SaysEnded)
-      (ForEach setup.places (λ place. Is (At place (Resends session)))) c []
+      (Sends setup session) c []
       (ap (list_any (λ (place : ℕ). is_ended session (c.queue place)))
       (st.set_up.places ∙ ap (range_with_len 1) none))
-      (subst (λ (l : List ℕ). ForEach l (λ place. Is (At place (Resends session))) c [])
-      (sym (st.set_up.places ∙ ap (range_with_len 1) none)) refl))
+      (subst (λ (l : List ℕ). Then (ForEach l (λ place. Is (At place (Resends session))))
+      (ForEach l (λ place. Is (At place (Fetches session)))) c [])
+      (sym (st.set_up.places ∙ ap (range_with_len 1) none))
+      (record { early = []; late = []; is = refl; first = refl; second = refl })))
 
   pub resends-ended : (session : ℕ) {old new : Held D} {before later : List ℕ}
       → true ≡ (standings old.sessions session).ended → 0 < length old.queues.items
@@ -194,26 +196,25 @@ module _ {D : Type 0} {tells : D → Bool} {past : D → List Disk} {faults : D 
   resends-ended session {old = old} ended some served =
       served-weaker served
       (λ setup c events r st allowed. rule-if (some_queue setup (is_ended session) c) (Is SaysEnded)
-      (ForEach setup.places (λ place. Is (At place (Resends session)))) c events
+      (Sends setup session) c events
       (some-ended setup c old session true st (sym ended) (λ none. absurd (omega (arith, some, none)))) allowed)
 
   pub resends-each : (session : ℕ) {old new : Held D} {before later : List ℕ}
       → false ≡ (standings old.sessions session).ended
-      → Served tells past faults (λ setup. ForEach setup.places (λ place. Is (At place (Resends session)))) old new before
-      later
+      → Served tells past faults (λ setup. Sends setup session) old new before later
       → Served tells past faults (λ setup. IsResend setup session) old new before later
   resends-each session {old = old} not' served =
       served-weaker served
       (λ setup c events r st allowed. rule-else (some_queue setup (is_ended session) c) (Is SaysEnded)
-      (ForEach setup.places (λ place. Is (At place (Resends session)))) c events
+      (Sends setup session) c events
       (some-ended setup c old session false st (sym not') (λ none. refl)) allowed)
 
   pub resends-gave_up : (session : ℕ) {old new : Held D} {memory : Memory}
       → false ≡ (standings old.sessions session).ended
-      → GaveUp tells past faults (λ setup. ForEach setup.places (λ place. Is (At place (Resends session)))) old new memory
+      → GaveUp tells past faults (λ setup. Sends setup session) old new memory
       → GaveUp tells past faults (λ setup. IsResend setup session) old new memory
   resends-gave_up session {old = old} not' given =
       gave_up-weaker
       (λ setup c events r st allowed. rule-else (some_queue setup (is_ended session) c) (Is SaysEnded)
-      (ForEach setup.places (λ place. Is (At place (Resends session)))) c events
+      (Sends setup session) c events
       (some-ended setup c old session false st (sym not') (λ none. refl)) allowed) given

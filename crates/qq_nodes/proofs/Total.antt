@@ -1,11 +1,11 @@
 -- Whatever a cluster is, each rule allows something there.
-use Rattle.std.proofs.Common.{◌≡◌, ◌⊎◌, ℕ, zero, suc, Bool, true, false, ◌&&◌, List, [], ◌∷◌, ◌++◌, length, refl, inl, inr}
+use Rattle.std.proofs.Common.{◌≡◌, ◌⊎◌, ℕ, zero, suc, Bool, true, false, ◌&&◌, List, [], ◌∷◌, ◌++◌, Option, Some, None, length, refl, inl, inr}
 use Rattle.std.specs.Prelude.{replicate}
 use Rattle.qq_entry.specs.declared.command.Unstamped.{Unstamped}
 use Rattle.qq_cluster.specs.Cluster.{Cluster, ClusterEvent, Setup, Alike, At, NodeSyncs, NodeWrites, SaysBusy, SaysEnded, SaysUnroutable, cluster_after}
 use Rattle.qq_cluster.specs.Lines.{IsRouted}
-use Rattle.qq_cluster.specs.Queue.{Delivers, Downs, Ends, Notices, Resends, Submits, TellsEnded}
-use Rattle.qq_cluster.specs.Rules.{Rule, ForEach, Is, IsEmptied, IsEnd, IsGiven, IsNodeRound, IsNothing, IsNotice, IsPump, IsPumped, IsResend, IsRound, IsSync, IsSynced, IsWrite, IsWritten, MayRoll, Pumps, Then, if_so, is_ended, is_idle, most_rounds, some_queue, waits_noticed, waits_synced, waits_written}
+use Rattle.qq_cluster.specs.Queue.{Delivers, Downs, Fetches, Notices, Resends, Submits, TellsEnded, TellsNotTaken}
+use Rattle.qq_cluster.specs.Rules.{Rule, ForEach, Is, IsClaimed, IsEmptied, IsEnd, IsGiven, IsNodeRound, IsNothing, IsNotice, IsPump, IsPumped, IsResend, IsRound, IsSync, IsSynced, IsWrite, IsWritten, MayRoll, Pumps, Then, if_so, is_ended, is_idle, most_rounds, not_taken, some_queue, waits_noticed, waits_synced, waits_written}
 
 abbrev pub Allowed : (Cluster → List ClusterEvent → Type 0) → Cluster → Type 0
 Allowed Allows c = (events : List ClusterEvent) × Allows c events
@@ -90,8 +90,18 @@ total-pumped setup c =
 
 pub total-given : (session : ℕ) (body : Unstamped) (place : ℕ) → Total (IsGiven session body place)
 total-given session body place c =
-    total-if (is_ended session (c.queue place)) (Is (At place (TellsEnded session))) (Is (At place (Submits session body)))
-    c (total-is (At place (TellsEnded session)) c) (total-is (At place (Submits session body)) c)
+    total-if (is_ended session (c.queue place)) (Is (At place (TellsEnded session)))
+    (IsClaimed (not_taken session body (c.queue place)) session body place) c (total-is (At place (TellsEnded session)) c)
+    (by (not_taken session body (c.queue place)))
+  where
+    by : (o : Option ℕ) → (events : List ClusterEvent) × IsClaimed o session body place c events
+    by None = total-is (At place (Submits session body)) c
+    by (Some id) = total-is (At place (TellsNotTaken session id)) c
+
+pub total-fetches : (setup : Setup) (session : ℕ)
+    → Total (ForEach setup.places (λ place. Is (At place (Fetches session))))
+total-fetches setup session =
+    total-each setup.places (λ place. Is (At place (Fetches session))) (λ place. total-is (At place (Fetches session)))
 
 pub total-downs : (setup : Setup) (session : ℕ) → Total (ForEach setup.places (λ place. Is (At place (Downs session))))
 total-downs setup session =

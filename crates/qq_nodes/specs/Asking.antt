@@ -1,19 +1,21 @@
 -- What is asked of one queue.
 use Rattle.std.specs.Prelude.{◌≡◌, ◌<◌, ◌-◌, ℕ, List, Some, slice_get, slice_set}
-use Rattle.qq_cluster.specs.Queue.{Event, Submits, TellsEnded, Resends, Downs, Ticks, Notices, Delivers, Loses, Copies}
+use Rattle.qq_cluster.specs.Queue.{Event, Submits, TellsEnded, TellsNotTaken, Resends, Fetches, Downs, Ticks, Notices, Delivers, Loses, Copies}
 use Rattle.qq_cluster_queue.specs.ClusterQueue.{Does, IsSameQueue}
 use Rattle.qq_cluster_queue.specs.Members.{AreSound}
 use Rattle.qq_cluster_queue.specs.Range.{MayStamp}
 use Rattle.qq_cluster_queue.specs.Sessions.{Standings}
 use Rattle.qq_cluster_queue.specs.declared.cluster_queue.ClusterQueue.{ClusterQueue}
 use Rattle.qq_nodes.specs.declared.asking.Ask.{Ask}
-use Rattle.qq_nodes.specs.declared.asking.Ask.TheVariants.{Submit, TellEnded, Resend, Down, Tick, Notice, Deliver, Lose, Copy}
+use Rattle.qq_nodes.specs.declared.asking.Ask.TheVariants.{Submit, TellEnded, TellNotTaken, Resend, Fetch, Down, Tick, Notice, Deliver, Lose, Copy}
 
 -- what is asked of a queue is this event
 abbrev pub asked : Ask → Event
 asked (Submit session body) = Submits session body
 asked (TellEnded session) = TellsEnded session
+asked (TellNotTaken session id) = TellsNotTaken session id
 asked (Resend session) = Resends session
+asked (Fetch session) = Fetches session
 asked (Down session) = Downs session
 asked (Tick node) = Ticks node.0
 asked (Notice node) = Notices node.0

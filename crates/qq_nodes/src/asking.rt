@@ -18,8 +18,12 @@ pub(crate) enum Ask {
     Submit { session: u64, body: Unstamped },
     /// A session that has ended is to give a command.
     TellEnded { session: u64 },
+    /// A session is to give a command for a delivery of this id, which wasn't handed out.
+    TellNotTaken { session: u64, id: u64 },
     /// A client sends its open commands again.
     Resend { session: u64 },
+    /// A client fetches what is out with its consumers and hasn't come to them.
+    Fetch { session: u64 },
     /// The queue is told that a session has ended.
     Down { session: u64 },
     /// Time passes at a member.
@@ -52,7 +56,9 @@ fn ask_queue(
     match ask {
         Ask::Submit { session, body } => queue.submit(alloc, session, body, out),
         Ask::TellEnded { session } => queue.tell_ended(alloc, session, out),
+        Ask::TellNotTaken { session, id } => queue.tell_not_taken(alloc, session, id, out),
         Ask::Resend { session } => queue.resend(alloc, session, out),
+        Ask::Fetch { session } => queue.fetch(alloc, sessions, session, out),
         Ask::Down { session } => queue.down(alloc, session, out),
         Ask::Tick { node } => queue.tick(alloc, node),
         Ask::Notice { node } => queue.notice(alloc, sessions, node, out),

@@ -3,11 +3,11 @@ ghost use Rattle.std.specs.Prelude.{◌<◌, ◌-◌, ◌≡◌, All, IfErr, OnO
 ghost use Rattle.qq_base.specs.declared.ids.QueueId.{QueueId as Id};
 ghost use Rattle.qq_cluster.specs.Cluster.{At, Setup};
 ghost use Rattle.qq_cluster.specs.Lines.{AndPumped, IsRouted};
-ghost use Rattle.qq_cluster.specs.Queue.{Resends};
+ghost use Rattle.qq_cluster.specs.Queue.{Fetches, Resends};
 ghost use Rattle.qq_cluster.specs.Rules.{ForEach, Is, IsGiven, IsResend};
 ghost use Rattle.qq_cluster_queue.specs.Range.{MayStamp};
 ghost use Rattle.qq_nodes.specs.Nodes.{CanServe, GaveUp, IsQueueAt, Served};
-ghost use Rattle.qq_nodes.specs.Sending.{GivesTo, numbers_of};
+ghost use Rattle.qq_nodes.specs.Sending.{GivesTo, Sends, numbers_of};
 
 use crate::asking::Ask;
 use crate::nodes::Nodes;
@@ -138,6 +138,48 @@ impl<D: NodeDisk> Nodes<D> {
         Ok(())
     }
 
+    // A session fetches what is out with its consumers, at each queue.
+    fn fetch_each(&mut self, alloc: Global, session: u64, text: &mut Vec<u8>) -> Result<(), Memory>
+        requires { CanServe D.tells D.past self.old }
+        ensures ok { OnOk result (Served D.tells D.past D.faults
+            (λ (setup : Setup). ForEach setup.places (λ place. Is (At place (Fetches session))))
+            self.old self.new text.old.items text.new.items) }
+        ensures err { IfErr result (GaveUp D.tells D.past D.faults
+            (λ (setup : Setup). ForEach setup.places (λ place. Is (At place (Fetches session))))
+            self.old self.new) }
+    {
+        let count = self.queues.len();
+        'places: for at in 0..count {
+            if let Err(cause) = self.ask(alloc, at, Ask::Fetch { session }, text) {
+                return Err(cause);
+            }
+        }
+        Ok(())
+    }
+
+    // A session's open commands go out again, and then it fetches.
+    fn resend_and_fetch(
+        &mut self,
+        alloc: Global,
+        session: u64,
+        text: &mut Vec<u8>,
+    ) -> Result<(), Memory>
+        requires { CanServe D.tells D.past self.old }
+        ensures ok { OnOk result (Served D.tells D.past D.faults
+            (λ (setup : Setup). Sends setup session)
+            self.old self.new text.old.items text.new.items) }
+        ensures err { IfErr result (GaveUp D.tells D.past D.faults
+            (λ (setup : Setup). Sends setup session) self.old self.new) }
+    {
+        if let Err(cause) = self.resend_each(alloc, session, text) {
+            return Err(cause);
+        }
+        if let Err(cause) = self.fetch_each(alloc, session, text) {
+            return Err(cause);
+        }
+        Ok(())
+    }
+
     // And one that has ended is told so.
     fn resend_or_tell(
         &mut self,
@@ -164,14 +206,14 @@ impl<D: NodeDisk> Nodes<D> {
             }
             return Ok(());
         }
-        if let Err(cause) = self.resend_each(alloc, session, text) {
+        if let Err(cause) = self.resend_and_fetch(alloc, session, text) {
             return Err(cause);
         }
         Ok(())
     }
 
-    /// A session sends its open commands again, at each queue in order; of one that has ended that is said. A pump
-    /// follows where one is to.
+    /// A session sends its open commands again, at each queue in order, and then fetches at each what is out with its
+    /// consumers; of one that has ended that is said. A pump follows where one is to.
     pub fn resend(&mut self, alloc: Global, session: u64, text: &mut Vec<u8>) -> Result<(), Memory>
         requires { CanServe D.tells D.past self.old }
         ensures ok { OnOk result (Served D.tells D.past D.faults

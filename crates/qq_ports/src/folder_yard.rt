@@ -1,4 +1,5 @@
-ghost use Rattle.std.specs.Prelude.{◌≡◌, ◌≤◌, [], true, IfNone, IfOk, IfSome, IsOkUnless, OnOk, option_map};
+ghost use Rattle.std.specs.Prelude.{◌≡◌, ◌≤◌, [], false, true, IfNone, IfOk, IfSome, IsOkUnless, OnOk, option_map};
+ghost use Rattle.std.specs.Str.{bytes_eq};
 ghost use Rattle.qq_base.specs.Causes.{HasCause, Rose};
 ghost use Rattle.qq_base.specs.declared.memory.Memory.TheVariants.{Want};
 ghost use Rattle.qq_ports.specs.Yard.{IsYardCaused};
@@ -102,7 +103,8 @@ where
 
     ghost is_given = { λ _ _ _. true };
 
-    /// With a root it fails where another process has that locked, and where the system fails.
+    /// With a root it fails where another process has that locked, and where the system fails. An empty path is
+    /// no root: `/node-1` and `lock` would be other folders than those that anybody meant.
     fn disk(
         &mut self,
         alloc: Global,
@@ -114,12 +116,16 @@ where
         ensures opened { IfOk result IsOpenedFirst }
         ensures locked { IfSome root.entry (λ path.
             OnOk result (has_root path.now self.new.roots.items ≡ true)) }
+        ensures named { IfSome root.entry (λ path. OnOk result (bytes_eq path.now [] ≡ false)) }
         ensures want { IfNone root.entry (IsOkUnless result (YardFault.Memory Want)) }
         ensures cause { HasCause IsYardCaused self.old.faults self.new.faults result }
     {
         let Some(root) = root else {
             return Ok(EitherDisk::First(MemDisk::new(alloc)));
         };
+        if root == "" {
+            return Err(self.fail());
+        }
         self.lock(alloc, root)?;
         let folder = node_folder(alloc, root, node)?;
         Ok(EitherDisk::Second(DirDisk::new(self.rt.clone()?, alloc, folder)))

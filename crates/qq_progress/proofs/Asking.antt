@@ -39,7 +39,7 @@ pub record Asks (q r : Queue) (k : ℕ) (s u : Server) : Type 0 where
   pub args : r.args ≡ q.args
   pub synced : r.synced ≡ q.synced
 
-pub submits-asks : (q : Queue) (session : ℕ) (given : Unstamped) (k : ℕ) (s : Server) → MayGive session q
+pub submits-asks : (q : Queue) (session : ℕ) (given : Unstamped) (k : ℕ) (s : Server) → MayGive session given q
     → leader q.group ≡ Some k → (q.group.seat k).server ≡ Some s
     → Asks q (happens q (Submits session given)) k s (submit 0 (command_of session given q) s)
 submits-asks q session given k s may leads up =

@@ -1,5 +1,5 @@
 -- The first command that is given to a new cluster.
-use Rattle.std.proofs.Common.{◌≡◌, ℕ, zero, suc, ◌≤◌, Bool, true, false, List, [], ◌∷◌, ◌++◌, length, take, sym, ap, ◌∙◌, subst, arith, length-append}
+use Rattle.std.proofs.Common.{◌≡◌, ℕ, zero, suc, ◌≤◌, Bool, true, false, List, [], ◌∷◌, ◌++◌, None, length, take, sym, ap, ◌∙◌, subst, arith, length-append}
 use Rattle.std.specs.Prelude.{Contains}
 use Rattle.qq_base.proofs.Fronts.{front-length}
 use Rattle.qq_base.specs.Fronts.{IsFront}
@@ -23,7 +23,7 @@ use Rattle.qq_cluster.specs.Cluster.{At, Cluster, ClusterEvent, Of, Setup, all_p
 use Rattle.qq_cluster.specs.ClusterLaws.{HasGroups, has_failure}
 use Rattle.qq_cluster.specs.Lines.{IsLine}
 use Rattle.qq_cluster.specs.Queue.{Queue, Submits, audit_rows}
-use Rattle.qq_cluster.specs.Rules.{ForEach, IsNothing, IsOpening, IsRound, Then, if_so, is_idle}
+use Rattle.qq_cluster.specs.Rules.{ForEach, IsNothing, IsOpening, IsRound, Then, if_so, is_idle, not_taken}
 use Rattle.qq_cluster.proofs.Groups.{KnowsCommits}
 use Rattle.qq_progress.specs.Rounds.{Rounds}
 use Rattle.qq_progress.specs.Opened.{AreNewGroups, FirstLeads, HasOpened, IsNewGroup}
@@ -124,10 +124,11 @@ pub first-answered : AreHanded → KnowsCommits → AreWithin → KnowsWhole →
     (events : List ClusterEvent) → HasGroups setup → AreOnce setup.places → AreOnce setup.nodes → AreNodes setup
     → AreNewGroups setup → In place setup.places → GivesOne setup line session place given
     → IsOpening setup (new_cluster setup) opening → has_failure opening ≡ false
+    → not_taken session given ((cluster_after (new_cluster setup) opening).queue place) ≡ None
     → IsLine setup line (cluster_after (new_cluster setup) opening) events → has_failure events ≡ false
     → IsAnswered setup (cluster_after (new_cluster setup) opening) place session given events
 first-answered handed knows within whole submitted setup opening line session place given events groups once nodes_once
-    nodes new here gives opens_is opens_fine is fine =
+    nodes new here gives opens_is opens_fine taken is fine =
     in-words setup c place session given leads.server events fresh soon
   where
     c : Cluster
@@ -142,9 +143,10 @@ first-answered handed knows within whole submitted setup opening line session pl
     fresh : (q.clients session) ≡ new_client (client session) q.args.queue
     fresh = sessions-new setup opening place calm session
 
-    may : MayGive session q
+    may : MayGive session given q
     may = record {
       ended = ap (λ (x : Client). x.ended) fresh;
+      taken = taken;
       window = ap (λ (x : Client). may_hand x.numbers) fresh;
     }
 

@@ -63,7 +63,7 @@ use Rattle.qq_progress.proofs.Sound.{AreHanded, IsSound, sound-all, sound-event}
 -- ---- the number
 
 -- a session that hears answers awaits that of the command that it has just given
-gives-awaits : (q : Queue) (session : ℕ) (given : Unstamped) → MayGive session q → (q.clients session).muted ≡ false
+gives-awaits : (q : Queue) (session : ℕ) (given : Unstamped) → MayGive session given q → (q.clients session).muted ≡ false
     → Awaits session (q.clients session).numbers.next (happens q (Submits session given)).clients
 gives-awaits q session given may hears =
     let n : Numbers = (q.clients session).numbers in
@@ -149,7 +149,7 @@ module _ (handed : AreHanded) (knows : KnowsCommits) (within : AreWithin) (whole
     (once : AreOnce setup.places) (nodes : AreNodes setup) (here : In place setup.places)
     (idle : is_idle setup (cluster_after (new_cluster setup) made) ≡ true)
     (leads : LeadsMost setup (cluster_after (new_cluster setup) made) place k s)
-    (may : MayGive session ((cluster_after (new_cluster setup) made).queue place)) where
+    (may : MayGive session given ((cluster_after (new_cluster setup) made).queue place)) where
   abbrev c : Cluster
   c = cluster_after (new_cluster setup) made
 
@@ -389,7 +389,7 @@ module _ (handed : AreHanded) (knows : KnowsCommits) (within : AreWithin) (whole
       → IsCommittedSoon setup c place session given s events
   unfolding most_rounds
   committed-soon line events auto new gives is fine =
-      let a = line-asked setup c line place session given events auto may.ended gives is in
+      let a = line-asked setup c line place session given events auto may.ended may.taken gives is in
       let x = pumps-two 9998 setup c1 a.rest a.pumps in
       let both =
       parts-fine events (At place (Submits session given) ∷ x.early) x.late
@@ -443,7 +443,7 @@ pub line-commits : AreHanded → KnowsCommits → AreWithin → KnowsWhole → W
     → IsNewTo session (setup.group place) → (cluster_after (new_cluster setup) made).auto ≡ true
     → is_idle setup (cluster_after (new_cluster setup) made) ≡ true
     → LeadsMost setup (cluster_after (new_cluster setup) made) place k s
-    → MayGive session ((cluster_after (new_cluster setup) made).queue place)
+    → MayGive session given ((cluster_after (new_cluster setup) made).queue place)
     → GivesOne setup line session place given → IsLine setup line (cluster_after (new_cluster setup) made) events
     → has_failure events ≡ false
     → IsCommittedSoon setup (cluster_after (new_cluster setup) made) place session given s events

@@ -20,7 +20,7 @@ use Rattle.qq_cluster.specs.Cluster.{Cluster, ClusterEvent, At, Setup, cluster_a
 use Rattle.qq_cluster.specs.ClusterLaws.{HasGroups}
 use Rattle.qq_cluster.specs.Lines.{AndPumped, IsLine, IsRouted}
 use Rattle.qq_cluster.specs.Queue.{Leading, Queue, Submits, TellsEnded, later, latest, leader, leading, node_of}
-use Rattle.qq_cluster.specs.Rules.{Is, IsGiven, IsNothing, IsPump, IsPumped, IsRound, Pumps, Then, if_so, is_ended, is_idle, is_quiet}
+use Rattle.qq_cluster.specs.Rules.{Is, IsClaimed, IsGiven, IsNothing, IsPump, IsPumped, IsRound, Pumps, Then, if_so, is_ended, is_idle, is_quiet, not_taken}
 use Rattle.qq_cluster.proofs.Counts.{counted-new}
 use Rattle.qq_cluster.proofs.Groups.{reached-new}
 use Rattle.qq_progress.specs.Rounds.{Rounds}
@@ -83,12 +83,13 @@ pub record Asked (setup : Setup) (c : Cluster) (place session : ℕ) (given : Un
     pub pumps : IsPump setup (cluster_happens c (At place (Submits session given))) rest
 
 given-asked : (setup : Setup) (c : Cluster) (place session : ℕ) (given : Unstamped) (events : List ClusterEvent)
-    → c.auto ≡ true → is_ended session (c.queue place) ≡ false
+    → c.auto ≡ true → is_ended session (c.queue place) ≡ false → not_taken session given (c.queue place) ≡ None
     → AndPumped setup (IsGiven session given place) c events → Asked setup c place session given events
-given-asked setup c place session given events auto lives is =
+given-asked setup c place session given events auto lives taken is =
     let first : is.early ≡ At place (Submits session given) ∷ [] =
-    subst (λ (b : Bool). if_so b (Is (At place (TellsEnded session)))
-    (Is (At place (Submits session given))) c is.early) lives is.first in
+    subst (λ (o : Option ℕ). IsClaimed o session given place c is.early) taken
+    (subst (λ (b : Bool). if_so b (Is (At place (TellsEnded session)))
+    (IsClaimed (not_taken session given (c.queue place)) session given place) c is.early) lives is.first) in
     let there : IsPumped setup (cluster_happens c (At place (Submits session given))) is.late =
     subst (λ es. IsPumped setup (cluster_after c es) is.late) first is.second in
     record {
@@ -115,41 +116,42 @@ routed-given setup c place session given places events is asked =
 
 pub line-asked : (setup : Setup) (c : Cluster) (line : ScriptLine) (place session : ℕ) (given : Unstamped)
     (events : List ClusterEvent) → c.auto ≡ true → is_ended session (c.queue place) ≡ false
-    → GivesOne setup line session place given → IsLine setup line c events → Asked setup c place session given events
+    → not_taken session given (c.queue place) ≡ None → GivesOne setup line session place given
+    → IsLine setup line c events → Asked setup c place session given events
 unfolding IsLine
-line-asked setup c (lines.Publish body) place session given events auto lives one is =
-    given-asked setup c place session given events auto lives
+line-asked setup c (lines.Publish body) place session given events auto lives taken one is =
+    given-asked setup c place session given events auto lives taken
     (routed-given setup c place session given (setup.targets [] (setup.name setup.first)) events one.1
     (subst (λ (n : ℕ). AndPumped setup (IsRouted n given (setup.targets [] (setup.name setup.first))) c events)
     (sym one.0) (subst (λ (g : Unstamped). AndPumped setup (IsRouted 1 g (setup.targets [] (setup.name setup.first))) c
     events) (sym one.2) is)))
-line-asked setup c (lines.Send by exchange key body) place session given events auto lives one is =
-    given-asked setup c place session given events auto lives
+line-asked setup c (lines.Send by exchange key body) place session given events auto lives taken one is =
+    given-asked setup c place session given events auto lives taken
     (routed-given setup c place session given (setup.targets exchange key) events one.1
     (subst (λ (n : ℕ). AndPumped setup (IsRouted n given (setup.targets exchange key)) c events) (sym one.0)
     (subst (λ (g : Unstamped). AndPumped setup (IsRouted by.number g (setup.targets exchange key)) c events) (sym one.2)
     is)))
-line-asked setup c (lines.Client by at body) place session given events auto lives one is =
-    given-asked setup c place session given events auto lives
+line-asked setup c (lines.Client by at body) place session given events auto lives taken one is =
+    given-asked setup c place session given events auto lives taken
     (subst (λ (n : ℕ). AndPumped setup (IsGiven n given place) c events) (sym one.0)
     (subst (λ (n : ℕ). AndPumped setup (IsGiven by.number given n) c events) (sym one.1)
     (subst (λ (g : Unstamped). AndPumped setup (IsGiven by.number g at.0) c events) (sym one.2) is)))
-line-asked setup c lines.Nothing place session given events auto lives one is = absurd one
-line-asked setup c (lines.End by) place session given events auto lives one is = absurd one
-line-asked setup c (lines.Resend by) place session given events auto lives one is = absurd one
-line-asked setup c (lines.Mute by muted) place session given events auto lives one is = absurd one
-line-asked setup c (lines.Pace pace) place session given events auto lives one is = absurd one
-line-asked setup c lines.Pump place session given events auto lives one is = absurd one
-line-asked setup c (lines.Write node) place session given events auto lives one is = absurd one
-line-asked setup c (lines.Sync node) place session given events auto lives one is = absurd one
-line-asked setup c (lines.Notice node at) place session given events auto lives one is = absurd one
-line-asked setup c (lines.Tick node at) place session given events auto lives one is = absurd one
-line-asked setup c (lines.Deliver at message) place session given events auto lives one is = absurd one
-line-asked setup c (lines.Lose at message) place session given events auto lives one is = absurd one
-line-asked setup c (lines.Copy at message) place session given events auto lives one is = absurd one
-line-asked setup c (lines.Crash nodes image) place session given events auto lives one is = absurd one
-line-asked setup c (lines.Restart nodes) place session given events auto lives one is = absurd one
-line-asked setup c (lines.Show at) place session given events auto lives one is = absurd one
+line-asked setup c lines.Nothing place session given events auto lives taken one is = absurd one
+line-asked setup c (lines.End by) place session given events auto lives taken one is = absurd one
+line-asked setup c (lines.Resend by) place session given events auto lives taken one is = absurd one
+line-asked setup c (lines.Mute by muted) place session given events auto lives taken one is = absurd one
+line-asked setup c (lines.Pace pace) place session given events auto lives taken one is = absurd one
+line-asked setup c lines.Pump place session given events auto lives taken one is = absurd one
+line-asked setup c (lines.Write node) place session given events auto lives taken one is = absurd one
+line-asked setup c (lines.Sync node) place session given events auto lives taken one is = absurd one
+line-asked setup c (lines.Notice node at) place session given events auto lives taken one is = absurd one
+line-asked setup c (lines.Tick node at) place session given events auto lives taken one is = absurd one
+line-asked setup c (lines.Deliver at message) place session given events auto lives taken one is = absurd one
+line-asked setup c (lines.Lose at message) place session given events auto lives taken one is = absurd one
+line-asked setup c (lines.Copy at message) place session given events auto lives taken one is = absurd one
+line-asked setup c (lines.Crash nodes image) place session given events auto lives taken one is = absurd one
+line-asked setup c (lines.Restart nodes) place session given events auto lives taken one is = absurd one
+line-asked setup c (lines.Show at) place session given events auto lives taken one is = absurd one
 
 -- ---- the leader
 

@@ -26,7 +26,7 @@ use Rattle.qq_session.specs.Clients.{Client, Clients, hear, hear_all, is_used, m
 use Rattle.qq_session.proofs.Heard.{heard}
 use Rattle.qq_session.proofs.OpenCommands.{client-same}
 use Rattle.qq_cluster.specs.Laws.{all_moves}
-use Rattle.qq_cluster.specs.Queue.{Queue, Event, Mutes, Ends, Submits, TellsEnded, Resends, Downs, Ticks, Delivers, Loses, Copies, Writes, Syncs, Notices, Stops, Finds, acts, after, begin, happens, leader, moves, offered, rows_told, submits, waiting}
+use Rattle.qq_cluster.specs.Queue.{Queue, Event, Mutes, Ends, Submits, TellsEnded, TellsNotTaken, Resends, Fetches, Downs, Ticks, Delivers, Loses, Copies, Writes, Syncs, Notices, Stops, Finds, acts, after, begin, happens, leader, moves, offered, rows_told, submits, waiting}
 
 -- ---- sessions
 
@@ -137,6 +137,8 @@ acts-rises (Submits own body) clients are =
     (omega arith))
     (λ _. rises-refl clients are)
 acts-rises (TellsEnded own) clients are = rises-refl clients are
+acts-rises (TellsNotTaken own id) clients are = rises-refl clients are
+acts-rises (Fetches own) clients are = rises-refl clients are
 acts-rises (Resends own) clients are = rises-refl clients are
 acts-rises (Downs own) clients are = rises-refl clients are
 acts-rises (Ticks k) clients are = rises-refl clients are
@@ -229,6 +231,8 @@ offered-below session (Downs own) clients are =
 offered-below session (Mutes own muted) clients are = tt
 offered-below session (Ends own) clients are = tt
 offered-below session (TellsEnded own) clients are = tt
+offered-below session (TellsNotTaken own id) clients are = tt
+offered-below session (Fetches own) clients are = tt
 offered-below session (Ticks k) clients are = tt
 offered-below session (Delivers at) clients are = tt
 offered-below session (Loses at) clients are = tt
@@ -264,6 +268,8 @@ event-below session q (Downs own) are =
 event-below session q (Mutes own muted) are = tt
 event-below session q (Ends own) are = tt
 event-below session q (TellsEnded own) are = tt
+event-below session q (TellsNotTaken own id) are = tt
+event-below session q (Fetches own) are = tt
 event-below session q (Ticks k) are = (tt, tt)
 event-below session q (Delivers at) are = (tt, tt)
 event-below session q (Loses at) are = (tt, tt)

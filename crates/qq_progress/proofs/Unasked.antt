@@ -14,7 +14,7 @@ use Rattle.qq_script.specs.Text.{seq_of}
 use Rattle.qq_session.specs.Publishing.{Numbers, closes, new_numbers, without}
 use Rattle.qq_session.specs.Clients.{Client, Clients, hear, hear_all, hear_by, new_client, sender, take_answer}
 use Rattle.qq_cluster.specs.Cluster.{Cluster, ClusterEvent, Sets, Alike, At, NodeWrites, NodeSyncs, Fails, Crashes, FindsEach, Shows, SaysDown, SaysNoSuch, SaysUnroutable, SaysBusy, SaysEnded, Setup, cluster_after, cluster_happens, members, new_cluster, part_of, parts_of}
-use Rattle.qq_cluster.specs.Queue.{Queue, Event, Mutes, Ends, Submits, TellsEnded, Resends, Downs, Ticks, Delivers, Loses, Copies, Writes, Syncs, Notices, Stops, Finds, after, happens, rows_told}
+use Rattle.qq_cluster.specs.Queue.{Queue, Event, Mutes, Ends, Submits, TellsEnded, TellsNotTaken, Resends, Fetches, Downs, Ticks, Delivers, Loses, Copies, Writes, Syncs, Notices, Stops, Finds, after, happens, rows_told}
 use Rattle.qq_cluster.specs.Rules.{ForEach, Is, IsEmptied, IsFirstTick, IsFound, IsNodeRound, IsNothing, IsNotice, IsOpening, IsPump, IsRestart, IsRound, IsSync, IsSynced, IsWrite, IsWritten, MayRoll, Pumps, Rule, Then, if_so, is_idle, most_rounds, some_queue, tick_at, waits_noticed, waits_synced, waits_written}
 use Rattle.qq_progress.proofs.Playing.{queue-is}
 
@@ -67,6 +67,8 @@ event-new q (Mutes own muted) calm new = absurd calm
 event-new q (Ends own) calm new = absurd calm
 event-new q (Submits own body) calm new = absurd calm
 event-new q (TellsEnded own) calm new = absurd calm
+event-new q (TellsNotTaken own id) calm new = absurd calm
+event-new q (Fetches own) calm new = absurd calm
 event-new q (Resends own) calm new = absurd calm
 event-new q (Downs own) calm new = absurd calm
 event-new q (Loses at) calm new = absurd calm

@@ -1,5 +1,5 @@
 -- When a command that is given to a queue is committed soon, and what that is.
-use Rattle.std.specs.Prelude.{◌≡◌, ◌≢◌, ◌≤◌, ◌+◌, ℕ, List, [], ◌∷◌, ◌++◌, true, false, Some, Contains}
+use Rattle.std.specs.Prelude.{◌≡◌, ◌≢◌, ◌≤◌, ◌+◌, ℕ, List, [], ◌∷◌, ◌++◌, true, false, Some, None, Contains}
 use Rattle.qq_base.specs.Ids.{client}
 use Rattle.qq_entry.specs.Command.{stamp}
 use Rattle.qq_entry.specs.declared.audit.AuditRow.{AuditRow}
@@ -21,7 +21,7 @@ use Rattle.qq_session.specs.Shown.{Answered}
 use Rattle.qq_cluster.specs.Cluster.{Setup, Cluster, ClusterEvent, At, Of, all_prints, cluster_after, members}
 use Rattle.qq_cluster.specs.Lines.{publish_with}
 use Rattle.qq_cluster.specs.Queue.{Queue, Submits, audit_rows, leader}
-use Rattle.qq_cluster.specs.Rules.{Is, Then, is_ended}
+use Rattle.qq_cluster.specs.Rules.{Is, Then, is_ended, not_taken}
 use Rattle.qq_progress.specs.Rounds.{Rounds}
 
 -- ---- setups
@@ -68,9 +68,10 @@ GivesOne setup (lines.Client by at body) session place given =
     (session ≡ by.number) × (place ≡ at.0) × (given ≡ body)
 GivesOne setup _ session place given = ⊥
 
--- the session hasn't ended, and its window isn't full
-pub record MayGive (session : ℕ) (q : Queue) : Type 0 where
+-- the session hasn't ended, the command ends no delivery that wasn't handed out, and its window isn't full
+pub record MayGive (session : ℕ) (given : Unstamped) (q : Queue) : Type 0 where
   pub ended : is_ended session q ≡ false
+  pub taken : not_taken session given q ≡ None
   pub window : may_hand (q.clients session).numbers ≡ true
 
 -- the command that it gives

@@ -1,6 +1,6 @@
 //! The laws of progress. They rest on a majority of a queue's members being up, on nothing else going on, and on
 //! no call of a disk failing.
-ghost use Rattle.std.specs.Prelude.{◌≡◌, ◌≤◌, ◌++◌, ◌∷◌, ℕ, List, true, false, Contains, length};
+ghost use Rattle.std.specs.Prelude.{◌≡◌, ◌≤◌, ◌++◌, ◌∷◌, ℕ, List, None, true, false, Contains, length};
 ghost use Rattle.qq_base.specs.Ids.{client};
 ghost use Rattle.qq_entry.specs.declared.audit.AuditRow.{AuditRow};
 ghost use Rattle.qq_entry.specs.declared.command.Unstamped.{Unstamped};
@@ -13,7 +13,7 @@ ghost use Rattle.qq_cluster.specs.Cluster.{At, Cluster, ClusterEvent, Of, Setup,
 ghost use Rattle.qq_cluster.specs.ClusterLaws.{HasGroups, has_failure};
 ghost use Rattle.qq_cluster.specs.Lines.{IsLine};
 ghost use Rattle.qq_cluster.specs.Queue.{Submits, audit_rows};
-ghost use Rattle.qq_cluster.specs.Rules.{ForEach, IsOpening, IsRound, is_idle};
+ghost use Rattle.qq_cluster.specs.Rules.{ForEach, IsOpening, IsRound, is_idle, not_taken};
 ghost use Rattle.qq_progress.specs.Opened.{AreNewGroups, HasOpened};
 ghost use Rattle.qq_progress.specs.Soon.{AreOnce, AreNodes, GivesOne, IsCommittedSoon, IsNewTo, LeadsMost, MayGive};
 
@@ -35,7 +35,7 @@ pub fn a_command_is_committed_soon()
         (cluster_after (new_cluster setup) made).auto ≡ true →
         is_idle setup (cluster_after (new_cluster setup) made) ≡ true →
         LeadsMost setup (cluster_after (new_cluster setup) made) place k s →
-        MayGive session ((cluster_after (new_cluster setup) made).queue place) →
+        MayGive session given ((cluster_after (new_cluster setup) made).queue place) →
         GivesOne setup line session place given →
         IsLine setup line (cluster_after (new_cluster setup) made) events →
         has_failure events ≡ false →
@@ -61,14 +61,15 @@ pub fn an_opening_gives_each_queue_a_leader()
 
 /// A law: over new disks, an opening and then a line by which a session gives one command to one queue. The line is the
 /// command, two rounds of a pump at most, and whatever comes then. After these rounds the command, with the session's
-/// number 1, is a row of the queue's audit, and the row's answer was printed, if no call of a disk fails. This holds
-/// whatever the number of nodes, and of members of each queue.
+/// number 1, is a row of the queue's audit, and the row's answer was printed, if no call of a disk fails and the command
+/// ends no delivery that wasn't handed out. This holds whatever the number of nodes, and of members of each queue.
 pub fn a_first_command_is_answered()
     ensures { (setup : Setup) (opening : List ClusterEvent) (line : ScriptLine) (session place : ℕ)
         (given : Unstamped) (events : List ClusterEvent) → HasGroups setup → AreOnce setup.places →
         AreOnce setup.nodes → AreNodes setup → AreNewGroups setup → In place setup.places →
         GivesOne setup line session place given →
         IsOpening setup (new_cluster setup) opening → has_failure opening ≡ false →
+        not_taken session given ((cluster_after (new_cluster setup) opening).queue place) ≡ None →
         IsLine setup line (cluster_after (new_cluster setup) opening) events →
         has_failure events ≡ false →
         let opened = cluster_after (new_cluster setup) opening in

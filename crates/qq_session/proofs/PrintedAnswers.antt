@@ -1,19 +1,17 @@
 -- What is printed as an answer is a row of the audit.
 use Rattle.std.proofs.Common.{◌≡◌, ℕ, zero, suc, Bool, true, false, cond, List, [], ◌∷◌, Option, Some, None, drop, refl, sym, subst, inl, inr}
 use Rattle.std.specs.Prelude.{Contains}
-use Rattle.std.specs.List.{AllByRecursion, flat_map}
+use Rattle.std.specs.List.{AllByRecursion}
 use Rattle.std.proofs.lemmas.Bool.{false≢true, cond_both, or_cases}
 use Rattle.std.proofs.lemmas.List.Elements.{Contains-append_left, Contains-append_right}
 use Rattle.qq_base.proofs.Lists.{AllByRecursion-append, AllByRecursion-weaker}
 use Rattle.qq_entry.specs.declared.audit.AuditRow.{AuditRow}
-use Rattle.qq_entry.specs.declared.audit.Effect.{Effect}
-use Rattle.qq_entry.specs.declared.audit.Effect.TheVariants.{Deliver, DeadOnce, Offer}
 use Rattle.qq_entry.specs.declared.command.Command.{Command}
 use Rattle.qq_session.proofs.AuditRows.{Contains-middle}
 use Rattle.qq_base.specs.Fronts.{IsFront}
 use Rattle.qq_session.specs.Printed.{IsAnswer, IsAudited}
 use Rattle.qq_session.specs.Clients.{Clients, sender, ended_by, tells_end, hear, is_printed_by, is_printed, printed}
-use Rattle.qq_session.specs.Shown.{Shown, Answered, Delivered, NoLeader, WindowFull, HasEnded, is_delivered_to, delivered, said_of}
+use Rattle.qq_session.specs.Shown.{Shown, Answered, Delivered, NoLeader, WindowFull, HasEnded, NotTaken, said_of}
 
 pub each-contained : {A : Type 0} (xs : List A) → AllByRecursion (Contains xs) xs
 each-contained [] = tt
@@ -70,18 +68,6 @@ offered-audited audit true session commands = tt
 offered-audited audit false session [] = tt
 offered-audited audit false session (command ∷ commands) = (tt, offered-audited audit false session commands)
 
-pub delivered-audited : (audit : List AuditRow) (clients : Clients) (effects : List Effect)
-    → AllByRecursion (IsAudited audit) (flat_map (delivered clients) effects)
-delivered-audited audit clients [] = tt
-delivered-audited audit clients (Deliver consumer delivery ∷ effects) =
-    AllByRecursion-append (IsAudited audit) (delivered clients (Deliver consumer delivery))
-    (flat_map (delivered clients) effects)
-    (cond_both (is_delivered_to clients consumer.session) (Delivered consumer delivery ∷ []) []
-    (AllByRecursion (IsAudited audit)) (λ _. (tt, tt)) (λ _. tt))
-    (delivered-audited audit clients effects)
-delivered-audited audit clients (DeadOnce reason message ∷ effects) = delivered-audited audit clients effects
-delivered-audited audit clients (Offer number reason message ∷ effects) = delivered-audited audit clients effects
-
 pub later-audited : (a b : List AuditRow) → IsFront a b → (shown : Shown) → IsAudited a shown → IsAudited b shown
 later-audited a b front (Answered row) is =
     record { is_in = front-contains a b row front is.is_in; session = is.session; sender_is = is.sender_is }
@@ -89,3 +75,4 @@ later-audited a b front (Delivered consumer delivery) is = tt
 later-audited a b front (NoLeader session) is = tt
 later-audited a b front (WindowFull session) is = tt
 later-audited a b front (HasEnded session) is = tt
+later-audited a b front (NotTaken session id) is = tt

@@ -1,7 +1,7 @@
 -- The answer that closes a number is printed once.
 use Rattle.std.proofs.Common.{◌≡◌, ◌≢◌, ◌<◌, ◌+◌, ℕ, Bool, true, false, cond, not, ◌&&◌, ◌||◌, List, [], ◌∷◌, ◌++◌, Option, Some, None, map, refl, sym, ap, ◌∙◌, subst, inl, inr, arith}
 use Rattle.std.specs.Prelude.{filter_map, nat_eq, nat_lt, length, AllPairs}
-use Rattle.std.specs.List.{AllByRecursion, cons_option, flat_map}
+use Rattle.std.specs.List.{AllByRecursion, cons_option}
 use Rattle.std.proofs.lemmas.Bool.{false≢true, cond_both, cond-true, and_parts, eqb-true, ne_eqb, or_cases}
 use Rattle.std.proofs.lemmas.List.Elements.{All-from_recursion}
 use Rattle.std.proofs.lemmas.List.Folds.{list_any-append}
@@ -9,8 +9,6 @@ use Rattle.std.proofs.lemmas.List.Kept.{AllPairs-cons}
 use Rattle.qq_base.proofs.Lists.{AllByRecursion-append, AllByRecursion-filter, AllByRecursion-weaker, list_any-filter}
 use Rattle.qq_entry.specs.declared.answer.Answer.{Answer}
 use Rattle.qq_entry.specs.declared.audit.AuditRow.{AuditRow}
-use Rattle.qq_entry.specs.declared.audit.Effect.{Effect}
-use Rattle.qq_entry.specs.declared.audit.Effect.TheVariants.{Deliver, DeadOnce, Offer}
 use Rattle.qq_entry.specs.Command.{stamp}
 use Rattle.qq_entry.specs.declared.command.Command.{Command}
 use Rattle.qq_entry.specs.declared.command.Command.TheVariants as commands
@@ -22,7 +20,7 @@ use Rattle.qq_session.specs.Publishing.{OpenCommand, Numbers, next_command, hand
 use Rattle.qq_session.specs.Deeds.{is_sent_by, takes_of, after_deeds}
 use Rattle.qq_session.specs.Printed.{closed_number}
 use Rattle.qq_session.specs.Clients.{Clients, sender, sender_by, ended_by, tells_end, hear, hear_all, is_printed_by, is_printed, printed}
-use Rattle.qq_session.specs.Shown.{Shown, Answered, Delivered, is_delivered_to, delivered, said_of}
+use Rattle.qq_session.specs.Shown.{Shown, Answered, said_of}
 use Rattle.qq_session.proofs.Heard.{heard, heard-numbers}
 
 -- a number was given and is closed
@@ -256,17 +254,6 @@ pub offered-none : (session own : ℕ) (ready : Bool) (commands : List Command)
 offered-none session own true commands = refl
 offered-none session own false [] = refl
 offered-none session own false (command ∷ commands) = offered-none session own false commands
-
--- a delivery closes no number
-pub delivered-none : (session : ℕ) (clients : Clients) (effects : List Effect)
-    → numbers_in session (flat_map (delivered clients) effects) ≡ []
-delivered-none session clients [] = refl
-delivered-none session clients (Deliver consumer delivery ∷ effects) =
-    cond_both (is_delivered_to clients consumer.session) (Delivered consumer delivery ∷ []) []
-    (λ (l : List Shown). numbers_in session (l ++ flat_map (delivered clients) effects) ≡ [])
-    (λ _. delivered-none session clients effects) (λ _. delivered-none session clients effects)
-delivered-none session clients (DeadOnce reason message ∷ effects) = delivered-none session clients effects
-delivered-none session clients (Offer number reason message ∷ effects) = delivered-none session clients effects
 
 pub distinct-append : (xs ys : List ℕ) → Distinct xs → Distinct ys
     → AllByRecursion (λ (x : ℕ). AllByRecursion (λ (m : ℕ). m ≢ x) ys) xs → Distinct (xs ++ ys)

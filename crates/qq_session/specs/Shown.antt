@@ -6,7 +6,6 @@ use Rattle.qq_base.specs.declared.ids.SessionId.{SessionId}
 use Rattle.qq_base.specs.declared.ids.Term.{Term}
 use Rattle.qq_entry.specs.declared.answer.Delivery.{Delivery}
 use Rattle.qq_entry.specs.declared.audit.Effect.{Effect}
-use Rattle.qq_entry.specs.declared.audit.Effect.TheVariants.{Deliver}
 use Rattle.qq_entry.specs.declared.command.Entry.{Entry}
 use Rattle.qq_entry.specs.declared.command.Command.{Command}
 use Rattle.qq_entry.specs.declared.audit.AuditRow.{AuditRow}
@@ -33,17 +32,13 @@ pub data Shown : Type 0 where
   WindowFull : (session : ℕ) → Shown
   -- a session has ended, and gives no more commands
   HasEnded : (session : ℕ) → Shown
+  -- a delivery of this id wasn't handed out, so a session's command for it isn't given
+  NotTaken : (session : ℕ) (id : ℕ) → Shown
 
 -- a client's session gets its deliveries, unless what comes to it is lost
 abbrev pub is_delivered_to : Clients → SessionId → Bool
 is_delivered_to clients session =
     same_session session (client session.number) && not (clients session.number).muted
-
--- an effect shows a delivery; a dead letter shows nothing
-abbrev pub delivered : Clients → Effect → List Shown
-delivered clients (Deliver consumer delivery) =
-    if is_delivered_to clients consumer.session then Delivered consumer delivery ∷ [] else []
-delivered clients _ = []
 
 -- what becomes of commands that are offered
 abbrev pub said_of : Bool → ℕ → List Command → List Shown

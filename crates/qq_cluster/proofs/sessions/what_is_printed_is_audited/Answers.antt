@@ -1,4 +1,5 @@
-use Rattle.qq_cluster.proofs.SessionLaws.{answers-audited, confirms-once, deliveries-made}
+use Rattle.qq_cluster.proofs.Made.{deliveries-made}
+use Rattle.qq_cluster.proofs.SessionLaws.{answers-audited, confirms-once}
 use Rattle.qq_cluster.proofs.sessions.what_is_printed_is_audited.Goals as goal
 
 pub returns-clause-answers : goal.returns-clause-answers
@@ -13,3 +14,4 @@ returns-clause-confirmed c =
 pub returns-clause-deliveries : goal.returns-clause-deliveries
 returns-clause-deliveries c =
     deliveries-made c.what_a_group_committed_stays.ensures.known c.what_a_group_committed_stays.ensures.audit
+    c.what_is_out_was_delivered_as_it_is.ensures

@@ -1,7 +1,7 @@
-use Rattle.std.proofs.Common.{Bool, subst}
+use Rattle.std.proofs.Common.{ℕ, Bool, Option, subst}
 use Rattle.qq_cluster.specs.Cluster.{At}
-use Rattle.qq_cluster.specs.Queue.{Submits, TellsEnded}
-use Rattle.qq_cluster.specs.Rules.{Is, if_so, is_ended}
+use Rattle.qq_cluster.specs.Queue.{TellsEnded}
+use Rattle.qq_cluster.specs.Rules.{Is, IsClaimed, if_so, is_ended, not_taken}
 use Rattle.qq_cluster_pins.proofs.Bounds.{some-waits}
 use Rattle.qq_cluster_pins.proofs.ends.an_end_lasts.Goals as goal
 
@@ -21,6 +21,7 @@ returns-clause-resends c = λ setup session place d events within ended.
     (some-waits setup (is_ended session) d place within ended)
 
 pub returns-clause-gives : goal.returns-clause-gives
-returns-clause-gives c = λ session place d body events lives is.
-    subst (λ (b : Bool). if_so b (Is (At place (TellsEnded session))) (Is (At place (Submits session body))) d events)
-    lives is
+returns-clause-gives c = λ session place d body events lives taken is.
+    subst (λ (o : Option ℕ). IsClaimed o session body place d events) taken
+    (subst (λ (b : Bool). if_so b (Is (At place (TellsEnded session)))
+    (IsClaimed (not_taken session body (d.queue place)) session body place) d events) lives is)

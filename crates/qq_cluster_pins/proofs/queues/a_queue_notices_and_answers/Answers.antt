@@ -5,7 +5,7 @@ use Rattle.qq_cluster.specs.Queue.{own_rows}
 use Rattle.qq_cluster_pins.proofs.queues.a_queue_notices_and_answers.Goals as goal
 
 pub returns-clause-own : goal.returns-clause-own
-returns-clause-own c = λ setup events place. c.each_queue_is_its_own.ensures setup events place
+returns-clause-own c = λ setup events place. c.each_queue_is_its_own.ensures.queues setup events place
 
 pub returns-clause-noticed : goal.returns-clause-noticed
 returns-clause-noticed c = λ args group events k begun.

@@ -19,6 +19,13 @@ returns-in-TellEnded-clause-ok c =
     (λ does. asked-always c.args.ask _ (standings c.args.sessions.now) c.args.queue.now c.tell_ended.new.self
     c.args.out.now.items c.tell_ended.new.out.items (ap asked c.in-TellEnded.is) does) c.tell_ended.ensures.ok
 
+pub returns-in-TellNotTaken-clause-ok : goal.returns-in-TellNotTaken-clause-ok
+returns-in-TellNotTaken-clause-ok c =
+    on_ok_weaker c.tell_not_taken.result
+    (λ does. asked-always c.args.ask _ (standings c.args.sessions.now) c.args.queue.now c.tell_not_taken.new.self
+    c.args.out.now.items c.tell_not_taken.new.out.items (ap asked c.in-TellNotTaken.is) does)
+    c.tell_not_taken.ensures.ok
+
 pub returns-in-Resend-clause-ok : goal.returns-in-Resend-clause-ok
 returns-in-Resend-clause-ok c =
     on_ok_weaker c.resend.result

@@ -23,4 +23,5 @@ returns-clause-ok c = λ sessions q st.
     c.args.out.now.items c.offer.new.out.items st (sym c.is_used-used.ensures ∙ c.if-not-used.false)
     (ap Down c.client.ensures) c.leader-leader.ensures c.in_default.ensures.ok
     (ap (λ (d : ClusterQueue). d.args) c.offer.ensures.rest) (ap (λ (d : ClusterQueue). d.synced) c.offer.ensures.rest)
-    (ap (λ (d : ClusterQueue). d.publishers) c.offer.ensures.rest) c.in_default.ensures.said
+    (ap (λ (d : ClusterQueue). d.publishers) c.offer.ensures.rest)
+    (ap (λ (d : ClusterQueue). d.consumers) c.offer.ensures.rest) c.in_default.ensures.said

@@ -5,7 +5,8 @@ use Rattle.qq_cluster_queue.proofs.cluster_queue.ClusterQueue.new.Goals as goal
 
 pub returns-clause-ok : goal.returns-clause-ok
 returns-clause-ok c =
-    opens-queue c.args.args c.args.nodes.now _ refl c.new-publishers.ensures c.in_ok-group.ensures.ok
+    opens-queue c.args.args c.args.nodes.now _ refl c.new-publishers.ensures c.new-consumers.ensures
+    c.in_ok-group.ensures.ok
 
 pub returns-clause-down : goal.returns-clause-down
 returns-clause-down c = all-are-down c.args.args.queue c.args.nodes.now _ c.in_ok-group.ensures.over

@@ -61,7 +61,7 @@ returns-clause-ok c = λ sessions q st.
     c.commands.out.items st (c.from_vec-commands.ensures.items ∙ c.in-Ok.ensures.ok) c.leader-leader.ensures
     (resending-all c.leader-leader.result given c.commands.commands.items first c.commands.self so none)
     (ap (λ (d : ClusterQueue). d.args) so.only) (ap (λ (d : ClusterQueue). d.synced) so.only)
-    (ap (λ (d : ClusterQueue). d.publishers) so.only)
+    (ap (λ (d : ClusterQueue). d.publishers) so.only) (ap (λ (d : ClusterQueue). d.consumers) so.only)
     (sym (append-nil c.commands.out.items)
     ∙ ap (λ (l : List Shown). c.commands.out.items ++ flat_map text l) (sym (said-none ready c.args.session))
     ∙ ap (λ (l : List Command). c.commands.out.items ++ flat_map text (said_of ready c.args.session l)) (sym none)
