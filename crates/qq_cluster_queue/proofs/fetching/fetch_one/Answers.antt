@@ -13,11 +13,12 @@ pub returns-then-not-own-clause-ok : goal.returns-then-not-own-clause-ok
 returns-then-not-own-clause-ok c =
     sym (append-nil c.args.effects.now.items)
     ∙ ap (λ (l : List Effect). c.args.effects.now.items ++ l)
-    (sym (others-stay c.args.machine.now c.args.session c.args.gap c.if-not-own.true))
+    (sym (others-stay c.args.machine.now c.args.session c.args.gap
+    (sym c.eq-own.ensures ∙ c.if-not-own.true)))
 
 pub returns-clause-ok : goal.returns-clause-ok
 returns-clause-ok c =
-    c.push_all.ensures.ok
+    c.in_ok-push_all.ensures.ok
     ∙ ap (λ (l : List Delivery). c.args.effects.now.items ++ map (Deliver c.args.gap.consumer) l) c.in-Ok.ensures.ok
     ∙ ap (λ (l : List Effect). c.args.effects.now.items ++ l)
-    (sym (own-fetched c.args.machine.now c.args.session c.args.gap c.if-not-own.false))
+    (sym (own-fetched c.args.machine.now c.args.session c.args.gap (sym c.eq-own.ensures ∙ c.if-not-own.false)))
