@@ -43,7 +43,7 @@ use Rattle.qq_cluster_queue.specs.Fetching.{fetched_all, fetched_by}
 use Rattle.qq_cluster_queue.specs.Members.{IsGroupOf, Member, Members, number_of, own_log, queue_stands, queue_step}
 use Rattle.qq_cluster_queue.specs.Sessions.{Standings, clients_of, no_numbers, numbers_of}
 use Rattle.qq_cluster_queue.specs.declared.cluster_queue.ClusterQueue.{ClusterQueue}
-use Rattle.qq_cluster_queue.proofs.Fetching.{fetched-out}
+use Rattle.qq_cluster_queue.proofs.Fetched.{fetched-out}
 use Rattle.qq_cluster.specs.Texts.{shown_text_as}
 use Rattle.qq_cluster_queue.proofs.Happening.{stands-then}
 use Rattle.qq_cluster_queue.proofs.Hearing.{came-then, shown-same}
