@@ -1,6 +1,6 @@
 -- What a machine fetches is what is out with a consumer by the definition.
 use Rattle.std.proofs.Common.{◌≡◌, ◌⊎◌, ℕ, zero, suc, ◌+◌, ◌-◌, ◌<◌, ◌≤◌, Bool, true, false, cond, List, [], ◌∷◌, ◌++◌, map, filter, Option, Some, None, refl, sym, ap, ◌∙◌, subst, inl, inr, arith}
-use Rattle.std.specs.Prelude.{filter_map, find, nat_eq, nat_le}
+use Rattle.std.specs.Prelude.{filter_map, find, nat_eq}
 use Rattle.std.specs.List.{AllByRecursion, cons_option, range_with_len}
 use Rattle.std.specs.Option.{option_map}
 use Rattle.std.proofs.lemmas.Bool.{cases_Bool, cases_lt, cond-true, cond-false, eqb-true, eqb-false, le-leb, lt-leb, leb-false, leb-true, ne_eqb}
@@ -12,7 +12,6 @@ use Rattle.qq_entry.specs.declared.answer.Delivery.{Delivery}
 use Rattle.qq_machine.specs.Reads.{delivery_of as delivery_in, fetched, is_from}
 use Rattle.qq_model.specs.declared.consumer.Consumer.{Consumer}
 use Rattle.qq_model.specs.declared.place.Place.TheVariants.{Out}
-use Rattle.qq_model.specs.declared.place.Row.{Row}
 use Rattle.qq_model.specs.State.{State}
 use Rattle.qq_model.specs.Changes.{consumer_of, delivery_of, message_of}
 use Rattle.qq_consumer.specs.Roster.{one_of}

@@ -1,11 +1,7 @@
 use Rattle.std.proofs.Common.{◌++◌, List, map, sym, ap, ◌∙◌, append-nil}
-use Rattle.std.proofs.lemmas.Bool.{cond-false, cond-true}
-use Rattle.qq_base.specs.Ids.{same_session}
-use Rattle.qq_consumer.specs.Roster.{one_of}
 use Rattle.qq_entry.specs.declared.answer.Delivery.{Delivery}
 use Rattle.qq_entry.specs.declared.audit.Effect.{Effect}
 use Rattle.qq_entry.specs.declared.audit.Effect.TheVariants.{Deliver}
-use Rattle.qq_machine.specs.Reads.{fetched}
 use Rattle.qq_cluster_queue.proofs.Asking.{others-stay, own-fetched}
 use Rattle.qq_cluster_queue.proofs.fetching.fetch_one.Goals as goal
 

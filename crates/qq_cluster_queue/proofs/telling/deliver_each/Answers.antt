@@ -4,7 +4,6 @@ use Rattle.std.proofs.lemmas.List.{drop_more}
 use Rattle.qq_base.proofs.Fronts.{front-trans}
 use Rattle.qq_cluster.specs.Delivering.{come_all, show_all}
 use Rattle.qq_cluster.specs.Texts.{shown_text_as}
-use Rattle.qq_consuming.specs.Consuming.{Received}
 use Rattle.qq_entry.specs.declared.audit.Effect.{Effect}
 use Rattle.qq_session.specs.Clients.{Clients}
 use Rattle.qq_session.specs.Shown.{Shown}

@@ -1,4 +1,4 @@
-use Rattle.std.proofs.Common.{List, refl, ap, ◌∙◌}
+use Rattle.std.proofs.Common.{refl, ap, ◌∙◌}
 use Rattle.qq_base.specs.declared.ids.SessionId.{SessionId}
 use Rattle.qq_parts.specs.Parts.{Parts}
 use Rattle.qq_cluster_queue.specs.Fetching.{fetched_all}
