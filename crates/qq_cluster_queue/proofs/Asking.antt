@@ -122,7 +122,8 @@ goes-on m session all k g before after is grown =
     ∙ ap (λ (n : ℕ). before ++ (fetched_by m session g ++ fetched_all m session (drop n all))) one
     ∙ ap (λ (l : List Effect). before ++ l) (sym (next-fetched m session all k g is))
 
-pub none-left : (m : Parts) (session : SessionId) (all : List Received) → fetched_all m session (drop (length all) all) ≡ []
+pub none-left : (m : Parts) (session : SessionId) (all : List Received)
+    → fetched_all m session (drop (length all) all) ≡ []
 none-left m session [] = refl
 none-left m session (r ∷ all) = none-left m session all
 

@@ -88,9 +88,9 @@ fn fetch_all(
 }
 
 impl ClusterQueue {
-    /// A session, numbered from 1, asks the leader for what is out with its consumers and hasn't come to them, and `out`
-    /// grows by what is handed out then. Without a leader nothing happens. The only error is `Memory::Want`, out of
-    /// memory, after which `out` begins with what it had.
+    /// A session, numbered from 1, asks the leader for what is out with its consumers and hasn't come to them, and
+    /// `out` grows by what is handed out then. Without a leader nothing happens. The only error is `Memory::Want`,
+    /// out of memory, after which `out` begins with what it had.
     pub fn fetch(
         &mut self,
         alloc: Global,

@@ -24,7 +24,8 @@ effects-preserved c =
       came = ap (come_all own rest) c.in_default.ensures.came
           ∙ ap (λ (l : List Effect). come_all own l c.effects.consumers) here
           ∙ c.effects.invariant.came;
-      said = ap (λ (t : List ℕ). t ++ flat_map text (show_all own rest c.deliver.new.consumers)) c.in_default.ensures.said
+      said = ap (λ (t : List ℕ). t ++ flat_map text (show_all own rest c.deliver.new.consumers))
+          c.in_default.ensures.said
           ∙ effect-then text own c.effects.out.items effect rest c.effects.consumers c.deliver.new.consumers
           c.in_default.ensures.came
           ∙ ap (λ (l : List Effect). c.effects.out.items ++ flat_map text (show_all own l c.effects.consumers)) here
