@@ -93,10 +93,12 @@ class Consumers(Wild):
         for _ in range(self.below(3)):
             self.send()
         if not self.one_in(4):
-            self.add(f"resend {session}")
+            self.resend_one(session)
 
-    def resend_one(self):
-        self.add(f"resend {self.session()}")
+    def resend_one(self, session=None):
+        """A session sends again and fetches; a line that always prints shows what came before its end."""
+        self.add(f"resend {session or self.session()}")
+        self.add("lose q1 0")
 
     def rarely(self):
         found = self.known()
@@ -122,6 +124,28 @@ class Consumers(Wild):
             self.log()
         self.add(f"tick {self.one_of(up)} q{place + 1}")
         self.add(self.one_of(["pump", "auto"]))
+
+    def depose(self):
+        """Another member leads while the leader is cut off. Sessions missed what came before, and ask for it now, at one
+        leader or the other."""
+        place = self.place()
+        group = self.cluster.groups[place]
+        leader = group.leader()
+        others = [server.node for server in group.servers.values() if server and server is not leader]
+        if not leader or not others:
+            return
+        for session, _ in list(self.cluster.consumers[place])[-3:]:
+            self.add(f"mute {session}")
+        for line in (f"send 1 - q{place + 1} d{self.steps}", "pump", "manual"):
+            self.add(line)
+        self.cut_off = leader.node
+        self.add(f"tick {self.one_of(others)} q{place + 1}")
+        for _ in range(6):
+            for session in sorted(self.cluster.muted)[:1]:
+                self.add(f"unmute {session}")
+                self.resend_one(session)
+            self.one_of([self.client, self.finish, self.send])()
+            self.round(place)
 
     def elect(self):
         """A queue without a leader has a member stand, where enough of them are up; else nodes restart."""
