@@ -3,11 +3,12 @@ claimed by their consumers and by others, too early, in time and twice."""
 from wild import Wild
 
 GREATEST_ID = 2**64 - 1
+LINES_OUT_OF_ORDER = 40
 
 
 class Consumers(Wild):
-    """Several consumers of each session at few queues, mostly with a pump after each line; sessions that miss what comes
-    to them for a while, or for a whole term of a leader; leaders that change while commands are on their way."""
+    """Several consumers of each session at few queues, mostly with a pump after each line; sessions that miss what
+    comes to them for a while, or for a whole term of a leader; leaders that change while commands are on their way."""
 
     def __init__(self, cluster, seed):
         super().__init__(cluster, seed)
@@ -126,8 +127,8 @@ class Consumers(Wild):
         self.add(self.one_of(["pump", "auto"]))
 
     def depose(self):
-        """Another member leads while the leader is cut off. Sessions missed what came before, and ask for it now, at one
-        leader or the other."""
+        """Another member leads while the leader is cut off. Sessions missed what came before, and ask for it now, at
+        one leader or the other."""
         place = self.place()
         group = self.cluster.groups[place]
         leader = group.leader()
@@ -165,3 +166,23 @@ class Consumers(Wild):
         self.cut_off = self.one_of([None, None, None, *self.cluster.nodes])
         if self.one_in(4):
             self.bring_back()
+
+
+class Rooted(Consumers):
+    """The same over folders, in which a crash loses nothing that was written. A run ends while much is on its way, and
+    the next one has clients who know nothing of it. Some have new sessions; others give other commands the numbers of
+    an earlier run."""
+
+    def __init__(self, cluster, seed):
+        super().__init__(cluster, seed)
+        self.first_session = 1 + 3 * (seed % 4)
+
+    def add(self, line):
+        words = line.split()
+        super().add(f"crash {words[1]} whole" if words and words[0] == "crash" else line)
+
+    def make(self, count):
+        super().make(count)
+        self.add("manual")
+        for _ in range(LINES_OUT_OF_ORDER):
+            self.step(self.draw())

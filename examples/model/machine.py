@@ -182,13 +182,19 @@ class Queue:
         if command.seq <= mark:
             return "forgotten", ("forgotten", command.seq)
         if command.seq < session.next:
-            return "again", session.kept[command.seq]
+            return "again", self.answer_again(command, session.kept[command.seq])
         if command.seq > session.next:
             return "gap", ("gap", session.next)
         if session.next - 1 - mark == WINDOW:
             return "window full", ("window full",)
         session.next += 1
         return "fresh", None
+
+    @staticmethod
+    def answer_again(command, kept):
+        """A client of another run may have given another command this number: a tag in the answer is then its own, 0
+        where it has none."""
+        return ("subscribed", command.tag) if kept[0] == "subscribed" else kept
 
     def down(self, command):
         for consumer in [each for each in self.consumers if each.session == command.session]:
