@@ -2,8 +2,9 @@
 queues, the clients' sessions, and what each line of a script prints.
 
 It is written from the rules in words that stand in docs/ (SCRIPT.md, WORLD.md, MACHINE.md, RAFT.md, STORAGE.md), and
-shares nothing with the program. It has queues without arguments alone. Of the logs' bytes it keeps the lengths, since
-a crash may cut them; junk that a crash leaves counts as no record, and that a full file is replaced shows nowhere."""
+shares nothing with the program. Its queues have no arguments, or all have a single active consumer. Of the logs' bytes
+it keeps the lengths, since a crash may cut them; junk that a crash leaves counts as no record, and that a full file is
+replaced shows nowhere."""
 import texts
 from group import Group, Log, entry_of, first_entry
 from lines import CLIENT_LINES, Fault, LONGEST_BODY, Reader, Refused, lines_of
@@ -55,14 +56,14 @@ class Received:
 
 
 class Cluster:
-    def __init__(self, nodes=1, queues=1, group=3):
+    def __init__(self, nodes=1, queues=1, group=3, single_active=False, logs=None):
         self.nodes = range(1, nodes + 1)
         names = [f"q{number}" for number in range(1, queues + 1)]
         members = [[(place + k) % nodes + 1 for k in range(min(group, nodes))] for place in range(queues)]
         self.reader = Reader(nodes, names, members)
-        self.groups = [Group(*each) for each in zip(names, members)]
+        self.groups = [Group(*each, single_active) for each in zip(names, members)]
         self.places = {node: [place for place in range(queues) if node in members[place]] for node in self.nodes}
-        self.logs = {node: Log(self.places[node]) for node in self.nodes}
+        self.logs = logs or {node: Log(self.places[node]) for node in self.nodes}
         self.down = set(self.nodes)
         self.muted, self.ended, self.numbers = set(), set(), {}
         self.consumers = [{} for _ in range(queues)]
@@ -79,6 +80,12 @@ class Cluster:
         for place, group in enumerate(self.groups):
             self.act(place, group.members[0], "tick")
         self.pump()
+
+    def leave(self):
+        """Returns the logs as the end of a run leaves them in folders, with all that was written."""
+        for log in self.logs.values():
+            log.crash(None)
+        return self.logs
 
     def run(self, script):
         """Runs a script, and returns its status. The output ends with the audits, or with why it was refused."""

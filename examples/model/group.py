@@ -33,12 +33,12 @@ def first_entry(term):
 class Group:
     """A queue's servers, the messages on their way between them, and its audit."""
 
-    def __init__(self, name, members):
-        self.name, self.members = name, members
+    def __init__(self, name, members, single_active=False):
+        self.name, self.members, self.single_active = name, members, single_active
         self.servers = dict.fromkeys(members)
         self.bag = []
         self.entries, self.rows = [], []
-        self.queue = Queue(QuickRows())
+        self.queue = Queue(QuickRows(), single_active)
 
     def leader(self):
         """Returns the ready leader of the latest term."""
@@ -72,7 +72,7 @@ class Group:
         """Returns the queue as a server has applied its entries."""
         if server.commit == len(self.entries):
             return self.queue
-        queue = Queue(QuickRows())
+        queue = Queue(QuickRows(), self.single_active)
         for entry in server.log[:server.commit]:
             queue.step(entry.command)
         return queue
@@ -83,7 +83,7 @@ class Group:
 
     def fold_again(self):
         """Says whether the plain list of rows gives the same audit."""
-        plain = Queue(Rows())
+        plain = Queue(Rows(), self.single_active)
         return all(plain.step(entry.command) == told for entry, told in self.rows)
 
 

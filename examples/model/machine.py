@@ -1,4 +1,5 @@
-"""A queue with default arguments: what each entry of its log makes of it, and what it answers.
+"""A queue with default arguments, or with a single active consumer: what each entry of its log makes of it, and what it
+answers.
 
 One list has a row for each message that ever came, and each choice is a minimum over that list. `QuickRows` finds
 the same rows without a walk through the list."""
@@ -137,8 +138,8 @@ class Session:
 
 
 class Queue:
-    def __init__(self, rows):
-        self.rows = rows
+    def __init__(self, rows, single_active=False):
+        self.rows, self.single_active = rows, single_active
         self.consumers = []
         self.sessions = {}
         self.ended = set()
@@ -181,13 +182,19 @@ class Queue:
         if command.seq <= mark:
             return "forgotten", ("forgotten", command.seq)
         if command.seq < session.next:
-            return "again", session.kept[command.seq]
+            return "again", self.answer_again(command, session.kept[command.seq])
         if command.seq > session.next:
             return "gap", ("gap", session.next)
         if session.next - 1 - mark == WINDOW:
             return "window full", ("window full",)
         session.next += 1
         return "fresh", None
+
+    @staticmethod
+    def answer_again(command, kept):
+        """A client of another run may have given another command this number: a tag in the answer is then its own, 0
+        where it has none."""
+        return ("subscribed", command.tag) if kept[0] == "subscribed" else kept
 
     def down(self, command):
         for consumer in [each for each in self.consumers if each.session == command.session]:
@@ -225,6 +232,8 @@ class Queue:
         return ("confirmed", command.seq)
 
     def do_get(self, command, _):
+        if self.single_active:
+            return ("refused", "single-active")
         row = self.rows.next()
         if row is None:
             return ("empty",)
@@ -310,7 +319,12 @@ class Queue:
         return self.turns
 
     def next_consumer(self):
-        waiting = [each for each in self.consumers if not each.cancelled and self.free_credit(each) > 0]
+        """Returns the consumer with credit that was served the longest time ago; a single active one is the first that
+        joined."""
+        waiting = [each for each in self.consumers if not each.cancelled]
+        if self.single_active:
+            waiting = waiting[:1]
+        waiting = [each for each in waiting if self.free_credit(each) > 0]
         return min(waiting, key=lambda each: each.turn, default=None)
 
     def check_out_all(self):
