@@ -3,6 +3,7 @@
 
 mod asking;
 mod auditing;
+mod disk_laws;
 mod dumping;
 mod laws;
 mod opening;
@@ -11,5 +12,12 @@ mod routing;
 mod serving;
 mod stopping;
 
+pub use disk_laws::{
+    a_crash_leaves_the_named_image, a_given_disk_was_just_opened,
+    a_node_fails_only_where_its_disk_did, a_restart_finds_what_the_disk_reads,
+    a_run_keeps_what_it_has_answered, a_run_without_junk_is_neither_damaged_nor_lost,
+    disks_keep_what_was_promised, what_is_met_is_what_recovery_reads,
+    without_junk_nothing_is_damaged_or_lost,
+};
 pub use laws::{a_dump_tells_what_was_done, a_run_without_a_root_begins_with_new_logs};
 pub use program::run;
