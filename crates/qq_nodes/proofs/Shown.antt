@@ -148,6 +148,17 @@ module _ {D : Type 0} {tells : D → Bool} {past : D → List Disk} where
       own (standings held.sessions) (c.queue queue.0) was.stands
       ∙ ap (λ (name : List ℕ). before ++ audit_text name 0 (audit_rows (c.queue queue.0))) was.name_is
 
+  -- of whatever nodes have these queues
+  pub audit-over : (held : Held D) (queue : QueueId) (x : ClusterQueue) (before later : List ℕ) → IsQueueAt queue held
+      → slice_get held.queues.items (queue.0 - 1) ≡ Some x
+      → OfItsQueue x (λ (q : Queue). later ≡ before ++ audit_text x.label.name 0 (audit_rows q))
+      → (setup : Setup) (c : Cluster) (other : Held D) → other.queues ≡ held.queues → Stands tells past setup other c
+      → later ≡ before ++ audit_text (setup.name queue.0) 0 (audit_rows (c.queue queue.0))
+  audit-over held queue x before later is here own setup c other same st =
+      audit-at other queue x before later
+      (subst (λ (v : Vec ClusterQueue). (0 < queue.0) × (queue.0 ≤ length v.items)) (sym same) is)
+      (ap (λ (v : Vec ClusterQueue). slice_get v.items (queue.0 - 1)) same ∙ here) own setup c st
+
   -- whether a node has a queue is whether the queue has a member there
   pub member-told : (held : Held D) (queue : QueueId) (at : ℕ) (y : Node D) → IsQueueAt queue held
       → slice_get held.nodes.items at ≡ Some y → (setup : Setup) (c : Cluster) → Stands tells past setup held c
