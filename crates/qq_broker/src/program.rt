@@ -18,6 +18,7 @@ use crate::auditing::write_audits;
 use crate::dumping::dump_node;
 use crate::opening::open;
 use crate::serving::serve;
+use crate::stopping::step_stop;
 use qq_base::Text;
 use qq_cluster_run::status::{DONE, WRITE_FAULT};
 use qq_cluster_run::{
@@ -56,7 +57,10 @@ fn answer<Y: Yard>(
     ensures later { Y.faults yard.old ≤ Y.faults yard.new }
 {
     match ask(alloc, setup, before, line) {
-        Ok(said) => serve::<Y>(alloc, setup, nodes, yard, said, text),
+        Ok(said) => match serve::<Y>(alloc, setup, nodes, yard, said, text) {
+            Ok(()) => Ok(()),
+            Err(fault) => Err(step_stop(alloc, setup, fault)),
+        },
         Err(stop) => Err(stop),
     }
 }

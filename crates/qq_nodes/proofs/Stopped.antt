@@ -74,13 +74,13 @@ module _ {D : Type 0} (tells : D → Bool) (past : D → List Disk) (faults : D 
       (stopped-queues k setup (standings old.sessions) c old new stopped st.queues) refl
       (λ at lt calm. quiet-stopped setup c.up (c.queue (at + 1)) k (st.quiet at lt calm))
 
+  abbrev See : Option (Node D) → Seen
+  See = seen_in tells past faults
+
   pub stop-seen : (j : ℕ) → seen tells past faults new j ≡ seen tells past faults old j
   stop-seen zero = refl
   stop-seen (suc i) = ap (λ (l : List (Node D)). See (slice_get l i)) stopped.nodes.is ∙ by (cases_eq i (k - 1))
     where
-      abbrev See : Option (Node D) → Seen
-      See = seen_in tells past faults
-
       by : (i ≡ k - 1) ⊎ (i ≢ k - 1)
           → See (slice_get (slice_set old.nodes.items (k - 1) y) i) ≡ See (slice_get old.nodes.items i)
       by (inl own) =
