@@ -1,11 +1,15 @@
 -- Nodes are opened again.
-use Rattle.std.proofs.Common.{◌≡◌, ◌⊎◌, ◌≢◌, ◌<◌, ◌≤◌, ◌+◌, ℕ, zero, suc, Bool, true, false, ◌||◌, List, ◌++◌, length, refl, sym, ap, ◌∙◌, subst, inl, inr, arith}
+use Rattle.std.proofs.Common.{◌≡◌, ◌⊎◌, ◌≢◌, ◌<◌, ◌≤◌, ◌+◌, ℕ, zero, suc, Bool, true, false, ◌||◌, List, [], ◌∷◌, ◌++◌, length, refl, sym, ap, ◌∙◌, subst, inl, inr, arith}
 use Rattle.std.specs.List.{list_any, range_with_len}
-use Rattle.std.proofs.lemmas.Bool.{cases_eq, false≢true}
+use Rattle.std.proofs.lemmas.Bool.{cases_eq, false≢true, or_left, or_right, true≢false}
+use Rattle.std.proofs.lemmas.List.Folds.{list_any-append}
 use Rattle.qq_base.specs.declared.memory.Memory.{Memory}
 use Rattle.qq_disk.specs.Disk.{Disk}
 use Rattle.qq_cluster.specs.Cluster.{Cluster, ClusterEvent, Setup, cluster_after}
-use Rattle.qq_cluster.specs.Rules.{ForEach, IsOpening, IsRestart}
+use Rattle.qq_cluster.specs.Rules.{ForEach, IsFound, IsNothing, IsOpening, IsRestart, if_so}
+use Rattle.qq_cluster_laws.specs.Serves.{fails_at, is_failure_at}
+use Rattle.qq_cluster_laws.proofs.Reached.{after-both}
+use Rattle.qq_raft_protocol.specs.Facts.{In}
 use Rattle.qq_nodes.specs.Nodes.{GaveUp, Served, Stands}
 use Rattle.qq_nodes.specs.declared.nodes.Nodes.{Nodes as Held}
 use Rattle.qq_nodes.proofs.Stands.{gave_up-first, gave_up-second, serves-means, served-then}
@@ -14,6 +18,7 @@ use Rattle.qq_opening.specs.declared.restarting.RestartFault.{RestartFault}
 use Rattle.qq_opening.specs.declared.restarting.RestartFault.TheVariants.{Memory as OfMemory}
 use Rattle.qq_opening.proofs.Opened.{Opens, total-opens}
 use Rattle.qq_opening.proofs.RefusedEach.{gave-spent, refuses-memory}
+use Rattle.qq_opening.proofs.RestartRules.{fails-first, has-failed, up-kept}
 
 abbrev pub Restarts : Setup → Cluster → List ClusterEvent → Type 0
 Restarts setup = ForEach setup.nodes (IsRestart setup)
@@ -69,6 +74,77 @@ module _ {D : Type 0} {tells : D → Bool} {past : D → List Disk} where
       sym (ap (list_any c.up) st.set_up.nodes
       ∙ any-none c.up 1 (length held.nodes.items) (λ k low high. none setup c st k (omega (arith, low))
       (omega (arith, high, le))))
+
+-- ---- where none is up, each disk has failed
+
+-- a node that is up stays so while nodes are restarted
+still-up : (setup : Setup) (k : ℕ) (list : List ℕ) (c : Cluster) (events : List ClusterEvent)
+    → ForEach list (IsRestart setup) c events → c.up k ≡ true → (cluster_after c events).up k ≡ true
+still-up setup k [] c events none up = ap (λ (l : List ClusterEvent). (cluster_after c l).up k) none ∙ up
+still-up setup k (j ∷ list) c events t up =
+    ap (λ (l : List ClusterEvent). (cluster_after c l).up k) t.is
+    ∙ ap (λ (d : Cluster). d.up k) (after-both c t.early t.late)
+    ∙ still-up setup k list (cluster_after c t.early) t.late t.second (elim (cases_eq k j) [
+      | inl same ↦ own same (c.up j) (ap c.up (sym same) ∙ up) t.first
+      | inr other ↦ up-kept setup k j c t.early t.first other ∙ up
+    ])
+  where
+    own : k ≡ j → (b : Bool) → b ≡ true → if_so b IsNothing (IsFound setup j) c t.early
+        → (cluster_after c t.early).up k ≡ true
+    own same true is none = ap (λ (l : List ClusterEvent). (cluster_after c l).up k) none ∙ up
+    own same false is found = absurd (false≢true is)
+
+pub down-failed : (setup : Setup) (k : ℕ) (list : List ℕ) (c : Cluster) (events : List ClusterEvent)
+    → ForEach list (IsRestart setup) c events → In k list → c.up k ≡ false → (cluster_after c events).up k ≡ false
+    → fails_at k events ≡ true
+down-failed setup k [] c events none there down still = absurd there
+down-failed setup k (j ∷ list) c events t there down still =
+    ap (fails_at k) t.is ∙ list_any-append (is_failure_at k) t.early t.late ∙ by (cases_eq k j)
+  where
+    moved : (cluster_after (cluster_after c t.early) t.late).up k ≡ false
+    moved =
+        ap (λ (d : Cluster). d.up k) (sym (after-both c t.early t.late))
+        ∙ ap (λ (l : List ClusterEvent). (cluster_after c l).up k) (sym t.is) ∙ still
+
+    own : k ≡ j → (b : Bool) → (cluster_after c t.early).up k ≡ b → fails_at k t.early ≡ true
+    own same true is =
+        absurd (false≢true (sym moved ∙ still-up setup k list (cluster_after c t.early) t.late t.second is))
+    own same false is =
+        has-failed setup k c t.early (subst (λ (i : ℕ). IsRestart setup i c t.early) (sym same) t.first) down is
+
+    later : In k (j ∷ list) → (k ≢ j) → In k list
+    later (inl same) other = absurd (other same)
+    later (inr rest) other = rest
+
+    by : (k ≡ j) ⊎ (k ≢ j) → (fails_at k t.early || fails_at k t.late) ≡ true
+    by (inl same) = or_left (fails_at k t.early) (fails_at k t.late) (own same ((cluster_after c t.early).up k) refl)
+    by (inr other) =
+        or_right (fails_at k t.early) (fails_at k t.late)
+        (down-failed setup k list (cluster_after c t.early) t.late t.second (later there other)
+        (up-kept setup k j c t.early t.first other ∙ down) moved)
+
+any-down : (up : ℕ → Bool) (list : List ℕ) (k : ℕ) → list_any up list ≡ false → In k list → up k ≡ false
+any-down up [] k none there = absurd there
+any-down up (j ∷ list) k none there = by (up j) refl none there
+  where
+    by : (b : Bool) → up j ≡ b → (b || list_any up list) ≡ false → In k (j ∷ list) → up k ≡ false
+    by true is so here = absurd (true≢false so)
+    by false is so (inl same) = ap up same ∙ is
+    by false is so (inr rest) = any-down up list k so rest
+
+pub none-recovered : (setup : Setup) (c : Cluster) (events : List ClusterEvent) → IsReopening false setup c events
+    → (k : ℕ) → In k setup.nodes → c.up k ≡ false → fails_at k events ≡ true
+none-recovered setup c events so k there down =
+    ap (fails_at k) so.is
+    ∙ fails-first k so.early so.late
+    (down-failed setup k setup.nodes c so.early so.first.restarted there down
+    (any-down (cluster_after c so.early).up setup.nodes k so.first.up there))
+
+-- what opening nodes again allows, an opening does
+pub reopening-opens : (some : Bool) (setup : Setup) (c : Cluster) (events : List ClusterEvent)
+    → IsReopening some setup c events → IsOpening setup c events
+reopening-opens some setup c events so =
+    record { early = so.early; late = so.late; is = so.is; first = so.first.restarted; second = so.second }
 
 -- ---- the call
 
