@@ -56,12 +56,13 @@ fn answer<Y: Yard>(
         setup.now run (Some line.now)) }
     ensures later { Y.faults yard.old ≤ Y.faults yard.new }
 {
-    match ask(alloc, setup, before, line) {
-        Ok(said) => match serve::<Y>(alloc, setup, nodes, yard, said, text) {
-            Ok(()) => Ok(()),
-            Err(fault) => Err(step_stop(alloc, setup, fault)),
-        },
-        Err(stop) => Err(stop),
+    let said = match ask(alloc, setup, before, line) {
+        Ok(said) => said,
+        Err(stop) => return Err(stop),
+    };
+    match serve::<Y>(alloc, setup, nodes, yard, said, text) {
+        Ok(()) => Ok(()),
+        Err(fault) => Err(step_stop(alloc, setup, fault)),
     }
 }
 
