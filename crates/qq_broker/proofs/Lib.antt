@@ -17,3 +17,9 @@ pub mod Audited
 pub mod Looped
 pub mod Closed
 pub mod Dumped
+pub mod Stops
+pub mod Handed
+pub mod Stepped
+pub mod Rested
+pub mod Returned
+pub mod Reopened

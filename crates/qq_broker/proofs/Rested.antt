@@ -1,22 +1,29 @@
 -- Nodes of a broker stop, and their disks are handed back.
-use Rattle.std.proofs.Common.{◌≡◌, ◌⊎◌, ◌<◌, ◌≤◌, ◌+◌, ◌-◌, ℕ, zero, suc, Bool, true, List, [], ◌∷◌, ◌++◌, get_or, length, Option, Some, None, refl, sym, ap, subst, ◌∙◌, inl, inr, append-nil, arith}
-use Rattle.std.specs.Prelude.{IsTrue, is_some, slice_get}
+use Rattle.std.proofs.Common.{◌≡◌, ◌⊎◌, ◌<◌, ◌≤◌, ◌+◌, ◌-◌, ℕ, zero, suc, Bool, true, false, List, [], ◌∷◌, ◌++◌, get_or, length, Option, Some, None, refl, sym, ap, subst, ◌∙◌, inl, inr, append-nil, arith}
+use Rattle.std.specs.Global.{Vec}
+use Rattle.std.specs.Prelude.{Contains, IsTrue, is_some, slice_get}
 use Rattle.std.specs.List.{range_with_len}
 use Rattle.std.proofs.lemmas.List.FromFn.{length-range_with_len}
 use Rattle.std.proofs.lemmas.Option.{slice_get_cases}
 use Rattle.qq_disk.specs.declared.image.Image.{Image}
+use Rattle.qq_disk.specs.declared.image.Tail.TheVariants.{Whole}
 use Rattle.qq_disk.specs.Disk.{Disk, now}
 use Rattle.qq_disk.proofs.Moments.{adds-none}
+use Rattle.qq_base.specs.declared.ids.QueueId.{QueueId}
+use Rattle.qq_cluster_queue.specs.declared.cluster_queue.ClusterQueue.{ClusterQueue}
+use Rattle.qq_entry.specs.declared.audit.AuditRow.{AuditRow}
 use Rattle.qq_raft_protocol.specs.Facts.{In}
+use Rattle.qq_script.specs.Audit.{audit_text}
 use Rattle.qq_setup.specs.declared.setup.Setup.{Setup}
-use Rattle.qq_cluster.specs.Cluster.{Cluster, ClusterEvent, Setup as ClusterSetup, cluster_after, new_cluster}
+use Rattle.qq_cluster.specs.Cluster.{Cluster, ClusterEvent, Crashes, Setup as ClusterSetup, cluster_after, cluster_happens, new_cluster}
+use Rattle.qq_cluster.specs.Queue.{Queue, Stops, audit_rows, happens}
 use Rattle.qq_cluster_laws.specs.Linked.{IsLinked, IsPromised}
 use Rattle.qq_cluster_laws.specs.Restarts.{first_restart}
 use Rattle.qq_cluster_laws.specs.Serves.{Seen, seen_of}
 use Rattle.qq_cluster_laws.specs.Traced.{IsTracedAt}
 use Rattle.qq_cluster_run.specs.Serving.{Run, after_all, cluster_in, setup_in}
 use Rattle.qq_nodes.specs.Disks.{GiveDisks}
-use Rattle.qq_nodes.specs.Nodes.{EachHasLog, Stands, seen}
+use Rattle.qq_nodes.specs.Nodes.{EachHasLog, IsQueueAt, Stands, seen}
 use Rattle.qq_nodes.specs.Setting.{HaveDisks}
 use Rattle.qq_nodes.specs.Stopping.{crashes_with}
 use Rattle.qq_nodes.specs.declared.nodes.Nodes.{Nodes}
@@ -26,9 +33,23 @@ use Rattle.qq_broker.specs.Lives.{Became, Giving, IsOneDisk, disk_at}
 use Rattle.qq_broker.specs.Nodes.{Holds, IsDiskOf}
 use Rattle.qq_broker.specs.declared.broker.Audits.{Audits}
 use Rattle.qq_broker.specs.declared.broker.Broker.{Broker}
-use Rattle.qq_broker.proofs.GoingOn.{in-range, reached}
+use Rattle.qq_broker.proofs.GoingOn.{contains-range, in-range}
 use Rattle.qq_broker.proofs.Handed.{at-index, gave-have}
 use Rattle.qq_broker.proofs.Living.{begins-stay, goes-on, lives-then}
+
+-- what the crashes leave doesn't matter where nodes only stop
+pub some_image : Image
+some_image = record { newest_log = Whole; others = Whole; removed_back = false }
+
+-- a stop of a node leaves a queue's audit
+pub audit-stays : (images : ℕ → Image) (list : List ℕ) (c : Cluster) (place : ℕ)
+    → audit_rows ((cluster_after c (crashes_with images list)).queue place) ≡ audit_rows (c.queue place)
+audit-stays images [] c place = refl
+audit-stays images (k ∷ list) c place =
+    audit-stays images list (cluster_happens c (Crashes k (images k))) place ∙ one (c.queue place)
+  where
+    one : (q : Queue) → audit_rows (happens q (Stops k)) ≡ audit_rows q
+    one q = refl
 
 module _ {D : Type 0} (given : Giving D) (tells : D → Bool) (past : D → List Disk) (faults : D → ℕ) where
   -- ---- a disk that a clause sees alike
@@ -126,3 +147,30 @@ module _ {D : Type 0} (given : Giving D) (tells : D → Bool) (past : D → List
               let many = gave.many in
               let nodes = stopped-many run image so in
               at k (omega (arith, low)) there (omega (arith, low, high, many, nodes)) (slice_get_cases disks (k - 1)).1
+
+-- ---- audits
+
+module _ {D : Type 0} {given : Giving D} {tells : D → Bool} {past : D → List Disk} {faults : D → ℕ} (s : Setup)
+    (disks : List D) (a : Audits D) (run : Run) (rests : Rests given tells past faults s disks a run) where
+  same-queues : a.nodes.queues ≡ rests.held.queues
+  same-queues = ap (λ (n : Nodes D). n.queues) rests.same
+
+  pub queue-rests : (queue : QueueId) → Contains (setup_in s run).places queue.0 → IsQueueAt queue a.nodes
+  queue-rests queue there =
+      let st = rests.stands (λ k. some_image) in
+      let within = contains-range queue.0 1 (length rests.held.queues.items)
+      (subst (λ (l : List ℕ). Contains l queue.0) st.set_up.places there) in
+      subst (λ (v : Vec ClusterQueue). (0 < queue.0) × (queue.0 ≤ length v.items)) (sym same-queues)
+      (omega (arith, within.0), omega (arith, within.1))
+
+  pub audit-rests : (queue : QueueId) (before later : List ℕ)
+      → ((setup : ClusterSetup) (c : Cluster) (held : Nodes D) → held.queues ≡ a.nodes.queues
+      → Stands tells past setup held c
+      → later ≡ before ++ audit_text (setup.name queue.0) 0 (audit_rows (c.queue queue.0)))
+      → later ≡ before ++ audit_text ((setup_in s run).name queue.0) 0 (audit_rows ((cluster_in s run).queue queue.0))
+  audit-rests queue before later say =
+      say (setup_in s run)
+      (cluster_after (cluster_in s run) (crashes_with (λ k. some_image) (setup_in s run).nodes)) rests.held
+      (sym same-queues) (rests.stands (λ k. some_image))
+      ∙ ap (λ (rows : List AuditRow). before ++ audit_text ((setup_in s run).name queue.0) 0 rows)
+      (audit-stays (λ k. some_image) (setup_in s run).nodes (cluster_in s run) queue.0)

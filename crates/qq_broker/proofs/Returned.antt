@@ -259,6 +259,11 @@ module _ {D : Type 0} (given : Giving D) (tells : D → Bool) (past : D → List
                 (rests.restarted k there) (back.each k was.0 own.0 was.1 here) was.2,
           )
 
+  pub down-back : (k : ℕ) → In k S.nodes → (cluster_in s crashed_run).up k ≡ false
+  down-back k there =
+      ap (λ (c : Cluster). c.up k) (after-both (new_cluster S) run.events (crashes_with images S.nodes))
+      ∙ all-down images S.nodes (cluster_in s run) k there
+
   -- a clause sees the disks that were handed in
   pub have-back : HaveDisks tells past faults again held
   have-back at disk here =
