@@ -15,7 +15,7 @@ use Rattle.qq_cluster.specs.ClusterLaws.{HasGroups}
 use Rattle.qq_cluster_laws.specs.Serves.{GivesUp, Seen, seen_of}
 use Rattle.qq_cluster_laws.proofs.Serves.{gives_up-behind, gives_up-same}
 use Rattle.qq_cluster_run.specs.Service.{HasOpened}
-use Rattle.qq_cluster_run.specs.Serving.{Run}
+use Rattle.qq_cluster_run.specs.Serving.{Run, all_text}
 use Rattle.qq_cluster_run.specs.Setup.{Logs, cluster_over, cluster_setup}
 use Rattle.qq_node_log.specs.Log.{disk_in}
 use Rattle.qq_node_log.specs.declared.node_log.NodeLog.{NodeLog}
@@ -147,8 +147,39 @@ module _ {D : Type 0} (given : Giving D) (tells : D → Bool) (past : D → List
       empty = empty;
       room = subst (λ (t : Setup). t.nodes ≤ vec_capacity b.room) (sym same) room;
     };
-    says = so.says ∙ ap (λ (l : List ℕ). l ++ _) none;
+    says = so.says ∙ ap (λ (l : List ℕ). l ++ all_text (cluster_over s so.logs) so.events) none;
   }
+
+  -- nodes that were opened, some of them or none
+  module _ (begins : HasGroups (cluster_setup s)) (old : Nodes D) (u : AreUnopened given tells past faults s old)
+      (new : Nodes D) (some : Bool) (before later : List ℕ)
+      (so : OpensOver tells past faults s.queues some old new before later) where
+    abbrev over_logs : ClusterSetup
+    over_logs = cluster_over s so.hold.logs
+
+    opens : OpensTo tells past faults over_logs so.hold.read.lanes some old new before later
+    opens = so.opens over_logs (held-with given tells past faults s may begins old u (all_of old) new so.hold)
+
+    pub still-logs : EachHasLog new.nodes.items
+    still-logs =
+        (stands-logs over_logs new (cluster_after (new_cluster over_logs) opens.serves.did.events)
+        opens.serves.did.stands).each
+
+    pub still-many : length new.nodes.items ≡ s.nodes
+    still-many =
+        sym (length-range_with_len 1 (length new.nodes.items)) ∙ ap length (sym opens.serves.did.stands.set_up.nodes)
+        ∙ length-range_with_len 1 s.nodes
+
+    each-rose : some ≡ false → (k : ℕ) → In k (range_with_len 1 s.nodes)
+        → Rose (seen tells past faults old k).faults (seen tells past faults new k).faults
+    each-rose none k there =
+        opens.serves.cause k ((by some none opens.serves.did.events opens.serves.did.means).1 k there refl)
+      where
+        by : (b : Bool) → b ≡ false → (events : List ClusterEvent)
+            → IsOpenedTo b over_logs (new_cluster over_logs) events
+            → IsOpenedTo false over_logs (new_cluster over_logs) events
+        by false is events opened = opened
+        by true is events opened = absurd cc
 
   module _ (begins : HasGroups (cluster_setup s)) (old : Nodes D) (u : AreUnopened given tells past faults s old)
       (disks : List D) (many : length disks ≡ s.nodes) (have : HaveDisks tells past faults disks old)
@@ -165,27 +196,9 @@ module _ {D : Type 0} (given : Giving D) (tells : D → Bool) (past : D → List
     -- each disk has failed
     module _ (some : Bool) (none : some ≡ false) (before later : List ℕ)
         (so : OpensOver tells past faults s.queues some old new before later) where
-      abbrev setup : ClusterSetup
-      setup = cluster_over s so.hold.logs
-
-      with' : IsSetupWith setup s.queues (length old.nodes.items) so.hold.logs
-      with' = held-with given tells past faults s may begins old u (all_of old) new so.hold
-
-      to : OpensTo tells past faults setup so.hold.read.lanes some old new before later
-      to = so.opens setup with'
-
-      pub still-logs : EachHasLog new.nodes.items
-      still-logs =
-          (stands-logs setup new (cluster_after (new_cluster setup) to.serves.did.events) to.serves.did.stands).each
-
-      pub still-many : length new.nodes.items ≡ s.nodes
-      still-many =
-          sym (length-range_with_len 1 (length new.nodes.items)) ∙ ap length (sym to.serves.did.stands.set_up.nodes)
-          ∙ length-range_with_len 1 s.nodes
-
       pub failed-back : HandsBack tells past faults s disks left
       failed-back = (
-        count ∙ still-many ∙ sym many,
+        count ∙ still-many begins old u new some before later so ∙ sym many,
         inr (record {
           old = old;
           were = have;
@@ -197,22 +210,14 @@ module _ {D : Type 0} (given : Giving D) (tells : D → Bool) (past : D → List
         where
           of : (S : ClusterSetup) → OpensTo tells past faults S so.hold.read.lanes some old new before later
               → GivesUp S (new_cluster S) (seen tells past faults old) (seen tells past faults new)
-          of S opens =
+          of S to =
               gives_up-behind S (new_cluster S) (IsOpenedTo some S (new_cluster S)) (Stands tells past S new)
               (seen tells past faults old) (seen tells past faults new) (seen tells past faults new) before later
-              opens.serves
-              (gives_up-same S (cluster_after (new_cluster S) opens.serves.did.events) (seen tells past faults new))
+              to.serves
+              (gives_up-same S (cluster_after (new_cluster S) to.serves.did.events) (seen tells past faults new))
 
       pub all-failed : EachFailed faults disks left
-      all-failed = each-failed tells past faults old new disks left have gave (λ i lt. rose (i + 1)
+      all-failed =
+          each-failed tells past faults old new disks left have gave (λ i lt.
+          each-rose begins old u new some before later so none (i + 1)
           (range-in (i + 1) 1 s.nodes (omega arith) (omega (arith, lt, many))))
-        where
-          by : (b : Bool) → b ≡ false → (events : List ClusterEvent) → IsOpenedTo b setup (new_cluster setup) events
-              → IsOpenedTo false setup (new_cluster setup) events
-          by false is events opened = opened
-          by true is events opened = absurd cc
-
-          rose : (k : ℕ) → In k setup.nodes
-              → Rose (seen tells past faults old k).faults (seen tells past faults new k).faults
-          rose k there =
-              to.serves.cause k ((by some none to.serves.did.events to.serves.did.means).1 k there refl)

@@ -11,6 +11,7 @@ use Rattle.qq_raft_protocol.specs.Facts.{In}
 use Rattle.qq_setup.specs.declared.setup.Setup.{Setup}
 use Rattle.qq_cluster.specs.Cluster.{Cluster, ClusterEvent, Setup as ClusterSetup, cluster_after}
 use Rattle.qq_cluster.specs.Rules.{IsOpening}
+use Rattle.qq_cluster.specs.Texts.{text_of}
 use Rattle.qq_cluster_laws.specs.Serves.{GivesUp, Seen, Serves}
 use Rattle.qq_cluster_laws.proofs.Serves.{gives_up-behind, gives_up-same}
 use Rattle.qq_cluster_run.specs.Serving.{Run, cluster_in, setup_in}
@@ -116,7 +117,7 @@ module _ {D : Type 0} (given : Giving D) (tells : D → Bool) (past : D → List
         empty = empty;
         room = subst (λ (t : Setup). t.nodes ≤ vec_capacity b.room) (sym own_setup) room;
       };
-      says = sym text ∙ sv.did.says ∙ ap (λ (l : List ℕ). l ++ _) none;
+      says = sym text ∙ sv.did.says ∙ ap (λ (l : List ℕ). l ++ text_of S c sv.did.events) none;
     }
 
     -- none is, and these are left of the disks
