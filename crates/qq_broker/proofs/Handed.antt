@@ -1,6 +1,5 @@
 -- Disks are handed in, and handed back.
-use Rattle.std.proofs.Common.{◌≡◌, ◌⊎◌, ◌<◌, ◌≤◌, ◌+◌, ◌-◌, ℕ, zero, suc, Bool, false, List, [], ◌∷◌, ◌++◌, get_or, length, Option, Some, None, refl, sym, ap, subst, ◌∙◌, inl, inr, arith}
-use Rattle.std.specs.Global.{Vec}
+use Rattle.std.proofs.Common.{◌≡◌, ◌⊎◌, ◌<◌, ◌≤◌, ◌+◌, ◌-◌, ℕ, zero, suc, Bool, true, false, List, [], ◌++◌, get_or, length, Some, None, refl, sym, ap, subst, ◌∙◌, inl, inr, arith}
 use Rattle.std.specs.Prelude.{slice_get, vec_capacity}
 use Rattle.std.specs.List.{range_with_len}
 use Rattle.std.proofs.Math.Path.{fun_ext}
@@ -10,15 +9,13 @@ use Rattle.qq_base.specs.Causes.{Rose}
 use Rattle.qq_disk.specs.Disk.{Disk}
 use Rattle.qq_raft_protocol.specs.Facts.{In}
 use Rattle.qq_setup.specs.declared.setup.Setup.{Setup}
-use Rattle.qq_cluster.specs.Cluster.{Cluster, ClusterEvent, Setup as ClusterSetup, cluster_after, new_cluster}
+use Rattle.qq_cluster.specs.Cluster.{ClusterEvent, Setup as ClusterSetup, cluster_after, new_cluster}
 use Rattle.qq_cluster.specs.ClusterLaws.{HasGroups}
 use Rattle.qq_cluster_laws.specs.Serves.{GivesUp, Seen, seen_of}
 use Rattle.qq_cluster_laws.proofs.Serves.{gives_up-behind, gives_up-same}
 use Rattle.qq_cluster_run.specs.Service.{HasOpened}
-use Rattle.qq_cluster_run.specs.Serving.{Run, all_text}
-use Rattle.qq_cluster_run.specs.Setup.{Logs, cluster_over, cluster_setup}
-use Rattle.qq_node_log.specs.Log.{disk_in}
-use Rattle.qq_node_log.specs.declared.node_log.NodeLog.{NodeLog}
+use Rattle.qq_cluster_run.specs.Serving.{all_text}
+use Rattle.qq_cluster_run.specs.Setup.{cluster_over, cluster_setup}
 use Rattle.qq_nodes.specs.Disks.{GiveDisks}
 use Rattle.qq_nodes.specs.Nodes.{EachHasLog, Stands, seen, seen_in}
 use Rattle.qq_nodes.specs.Setting.{HaveDisks}
@@ -26,10 +23,10 @@ use Rattle.qq_nodes.specs.declared.node.Node.{Node}
 use Rattle.qq_nodes.specs.declared.nodes.Nodes.{Nodes}
 use Rattle.qq_nodes.proofs.OwnStands.{seen-own}
 use Rattle.qq_nodes.proofs.Stands.{stands-logs}
-use Rattle.qq_opening.specs.Opening.{IsSetupWith, MayNotOpen as NodesMayNotOpen, OpensOver, OpensTo, all_of}
+use Rattle.qq_opening.specs.Opening.{MayNotOpen as NodesMayNotOpen, OpensOver, OpensTo, all_of}
 use Rattle.qq_opening.specs.Restarting.{IsOpenedTo}
 use Rattle.qq_opening.specs.declared.restarting.RestartFault.{RestartFault}
-use Rattle.qq_broker.specs.Broker.{EachFailed, HandsBack, Runs, WereOpened, seen_among, seen_disk}
+use Rattle.qq_broker.specs.Broker.{EachFailed, HandsBack, Runs, seen_among, seen_disk}
 use Rattle.qq_broker.specs.Lives.{ByHand, Giving, disk_at}
 use Rattle.qq_broker.specs.Nodes.{Had, Holds, MayRun}
 use Rattle.qq_broker.specs.Serving.{AreGiven, AreUnopened}

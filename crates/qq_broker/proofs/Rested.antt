@@ -1,13 +1,12 @@
 -- Nodes of a broker stop, and their disks are handed back.
-use Rattle.std.proofs.Common.{◌≡◌, ◌⊎◌, ◌<◌, ◌≤◌, ◌+◌, ◌-◌, ℕ, zero, suc, Bool, true, false, List, [], ◌∷◌, ◌++◌, get_or, length, Option, Some, None, refl, sym, ap, subst, ◌∙◌, inl, inr, append-nil, arith}
+use Rattle.std.proofs.Common.{◌≡◌, ◌⊎◌, ◌<◌, ◌≤◌, ◌+◌, ◌-◌, ℕ, Bool, true, false, List, [], ◌∷◌, ◌++◌, get_or, length, Some, None, refl, sym, ap, subst, ◌∙◌, inl, inr, append-nil, arith}
 use Rattle.std.specs.Global.{Vec}
-use Rattle.std.specs.Prelude.{Contains, IsTrue, is_some, slice_get}
-use Rattle.std.specs.List.{range_with_len}
+use Rattle.std.specs.Prelude.{Contains, is_some, slice_get}
 use Rattle.std.proofs.lemmas.List.FromFn.{length-range_with_len}
 use Rattle.std.proofs.lemmas.Option.{slice_get_cases}
 use Rattle.qq_disk.specs.declared.image.Image.{Image}
 use Rattle.qq_disk.specs.declared.image.Tail.TheVariants.{Whole}
-use Rattle.qq_disk.specs.Disk.{Disk, now}
+use Rattle.qq_disk.specs.Disk.{Disk}
 use Rattle.qq_disk.proofs.Moments.{adds-none}
 use Rattle.qq_base.specs.declared.ids.QueueId.{QueueId}
 use Rattle.qq_cluster_queue.specs.declared.cluster_queue.ClusterQueue.{ClusterQueue}
@@ -17,7 +16,7 @@ use Rattle.qq_script.specs.Audit.{audit_text}
 use Rattle.qq_setup.specs.declared.setup.Setup.{Setup}
 use Rattle.qq_cluster.specs.Cluster.{Cluster, ClusterEvent, Crashes, Setup as ClusterSetup, cluster_after, cluster_happens, new_cluster}
 use Rattle.qq_cluster.specs.Queue.{Queue, Stops, audit_rows, happens}
-use Rattle.qq_cluster_laws.specs.Linked.{IsLinked, IsPromised}
+use Rattle.qq_cluster_laws.specs.Linked.{IsPromised}
 use Rattle.qq_cluster_laws.specs.Restarts.{first_restart}
 use Rattle.qq_cluster_laws.specs.Serves.{Seen, seen_of}
 use Rattle.qq_cluster_laws.specs.Traced.{IsTracedAt}
@@ -30,7 +29,7 @@ use Rattle.qq_nodes.specs.declared.nodes.Nodes.{Nodes}
 use Rattle.qq_nodes.proofs.Stands.{stands-logs}
 use Rattle.qq_broker.specs.Broker.{Rests, Runs}
 use Rattle.qq_broker.specs.Lives.{Became, Giving, IsOneDisk, disk_at}
-use Rattle.qq_broker.specs.Nodes.{Holds, IsDiskOf}
+use Rattle.qq_broker.specs.Nodes.{IsDiskOf}
 use Rattle.qq_broker.specs.declared.broker.Audits.{Audits}
 use Rattle.qq_broker.specs.declared.broker.Broker.{Broker}
 use Rattle.qq_broker.proofs.GoingOn.{contains-range, in-range}

@@ -1,8 +1,7 @@
 -- Disks come back, as they were or after a crash, and nodes go on with them.
-use Rattle.std.proofs.Common.{◌≡◌, ◌⊎◌, ◌≢◌, ◌<◌, ◌≤◌, ◌+◌, ◌-◌, ℕ, zero, suc, Bool, true, false, List, [], ◌∷◌, ◌++◌, length, map, Option, Some, None, refl, sym, ap, subst, ◌∙◌, inl, inr, append-nil, append_assoc, arith}
-use Rattle.std.specs.Global.{Vec}
+use Rattle.std.proofs.Common.{◌≡◌, ◌+◌, ◌-◌, ℕ, zero, suc, Bool, true, false, List, [], ◌∷◌, ◌++◌, length, Some, refl, sym, ap, subst, ◌∙◌, inl, inr, append_assoc, arith}
 use Rattle.std.specs.Prelude.{IsTrue, is_some, slice_get}
-use Rattle.std.specs.List.{AllByRecursion, range_with_len}
+use Rattle.std.specs.List.{range_with_len}
 use Rattle.std.proofs.lemmas.Bool.{false≢true, ne_eqb}
 use Rattle.std.proofs.lemmas.Bool.Decides.{eqb_tells}
 use Rattle.std.proofs.lemmas.Option.{slice_get_within}
@@ -23,7 +22,7 @@ use Rattle.qq_cluster_laws.specs.Restarts.{first_restart}
 use Rattle.qq_cluster_laws.proofs.Reached.{after-both}
 use Rattle.qq_cluster_run.specs.Serving.{Run, after_all, cluster_in, setup_in}
 use Rattle.qq_nodes.specs.Disks.{GetDisks, GivesDisk}
-use Rattle.qq_nodes.specs.Nodes.{IsNodeOf, IsSetUp, Stands, seen}
+use Rattle.qq_nodes.specs.Nodes.{IsNodeOf, IsSetUp, Stands}
 use Rattle.qq_nodes.specs.Setting.{HaveDisks}
 use Rattle.qq_nodes.specs.Stopping.{crashes_with}
 use Rattle.qq_nodes.specs.declared.node.Node.{Node}
@@ -31,7 +30,7 @@ use Rattle.qq_nodes.specs.declared.nodes.Nodes.{Nodes}
 use Rattle.qq_nodes.proofs.OwnStands.{seen-own}
 use Rattle.qq_wal.specs.Running.{MayRecover}
 use Rattle.qq_broker.specs.Broker.{ComeBack, Rests, crashed_events}
-use Rattle.qq_broker.specs.Lives.{Became, Giving, IsByHand, IsImage, IsLeft, disk_at}
+use Rattle.qq_broker.specs.Lives.{Became, Giving, IsLeft, disk_at}
 use Rattle.qq_broker.specs.Nodes.{Holds, IsDiskOf}
 use Rattle.qq_broker.specs.Serving.{with_events}
 use Rattle.qq_broker.specs.declared.broker.Audits.{Audits}

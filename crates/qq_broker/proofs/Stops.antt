@@ -1,7 +1,6 @@
 -- How a fault ends a run.
-use Rattle.std.proofs.Common.{◌≡◌, ◌⊎◌, ℕ, Bool, List, refl, sym, subst, inl, inr}
+use Rattle.std.proofs.Common.{◌≡◌, ℕ, Bool, List, refl, sym, subst, inl, inr}
 use Rattle.qq_base.specs.declared.memory.Memory.{Memory}
-use Rattle.qq_base.specs.declared.memory.Memory.TheVariants.{Want}
 use Rattle.qq_disk.specs.declared.image.Image.{Image}
 use Rattle.qq_disk.specs.Disk.{Disk}
 use Rattle.qq_ports.specs.Yard.{IsYardCaused}

@@ -27,7 +27,7 @@ use Rattle.qq_opening.specs.Restarting.{IsReopening}
 use Rattle.qq_broker.specs.Faults.{stop_for}
 use Rattle.qq_broker.specs.Lives.{Became, Giving, IsLeft, disk_at}
 use Rattle.qq_broker.specs.Nodes.{Had, Holds, MayRun, Meets}
-use Rattle.qq_broker.specs.Serving.{run_after, with_events}
+use Rattle.qq_broker.specs.Serving.{run_after}
 use Rattle.qq_broker.specs.declared.broker.Audits.{Audits}
 use Rattle.qq_broker.specs.declared.broker.Broker.{Broker}
 use Rattle.qq_broker.specs.declared.broker.Pumped.{Pumped}

@@ -6,7 +6,6 @@ use Rattle.qq_node_log.specs.declared.node_log.NodeLog.TheVariants.{Closed}
 use Rattle.qq_setup.specs.declared.queue_row.QueueRow.{QueueRow}
 use Rattle.qq_nodes.specs.Setting.{ids_on}
 use Rattle.qq_nodes.specs.declared.node.Node.{Node}
-use Rattle.qq_nodes.specs.declared.nodes.Nodes.{Nodes as Held}
 
 -- ---- new nodes
 

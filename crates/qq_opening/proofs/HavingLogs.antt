@@ -1,6 +1,5 @@
 -- While nodes are opened each has its log.
 use Rattle.std.proofs.Common.{◌≡◌, ◌⊎◌, ◌<◌, ◌≤◌, ℕ, Bool, List, Some, sym, ◌∙◌, inl, inr}
-use Rattle.std.specs.Prelude.{slice_get}
 use Rattle.std.proofs.lemmas.Bool.{cases_lt}
 use Rattle.qq_disk.specs.Disk.{Disk}
 use Rattle.qq_node_log.specs.declared.node_log.NodeLog.{NodeLog}
@@ -8,7 +7,6 @@ use Rattle.qq_node_log.specs.declared.node_log.NodeLog.TheVariants.{Closed}
 use Rattle.qq_setup.specs.declared.queue_row.QueueRow.{QueueRow}
 use Rattle.qq_nodes.specs.Nodes.{EachHasLog}
 use Rattle.qq_nodes.specs.Setting.{AreNew}
-use Rattle.qq_nodes.specs.declared.node.Node.{Node}
 use Rattle.qq_nodes.specs.declared.nodes.Nodes.{Nodes as Held}
 use Rattle.qq_nodes.proofs.Begun.{item-at}
 use Rattle.qq_opening.specs.Opened.{AreOpened}

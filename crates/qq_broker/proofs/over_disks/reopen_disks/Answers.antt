@@ -1,5 +1,4 @@
-use Rattle.std.proofs.Common.{◌≡◌, ◌≤◌, List, ℕ, [], length, refl, ap, arith, sym, ◌∙◌}
-use Rattle.std.specs.Prelude.{vec_capacity}
+use Rattle.std.proofs.Common.{◌≡◌, length, refl, arith, sym}
 use Rattle.qq_broker.proofs.Reopened.{can-reopen, failed-where-none, has-reopened, kept-where-none, refused-cause, refused-keeps, refused-logs, refused-many, so-many, still-so-many, still-there}
 use Rattle.qq_broker.proofs.over_disks.reopen_disks.Goals as goal
 

@@ -1,7 +1,6 @@
 use Rattle.std.proofs.Common.{arith, length, refl}
 use Rattle.qq_nodes.specs.Disks.{AreBareNodes}
 use Rattle.qq_nodes.specs.Setting.{AreQueuesFor}
-use Rattle.qq_nodes.specs.declared.nodes.Nodes.{Nodes as Held}
 use Rattle.qq_nodes.proofs.Begun.{IsMade, are-made, have-disks, new-nodes, nodes-begin}
 use Rattle.qq_nodes.proofs.Built.{of-ok}
 use Rattle.qq_nodes.proofs.nodes.Nodes.new.Goals as goal

@@ -1,4 +1,4 @@
-use Rattle.std.proofs.Common.{◌≡◌, ◌-◌, ℕ, length, refl, ap, ◌∙◌, subst, sym, arith}
+use Rattle.std.proofs.Common.{◌-◌, ℕ, refl, ap, ◌∙◌, subst, arith}
 use Rattle.qq_nodes.specs.Disks.{GetsDisk}
 use Rattle.qq_nodes.specs.Logs.{NodeTurns}
 use Rattle.qq_nodes.specs.declared.nodes.Nodes.{Nodes as Held}

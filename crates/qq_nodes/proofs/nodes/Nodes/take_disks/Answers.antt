@@ -1,4 +1,4 @@
-use Rattle.std.proofs.Common.{◌≡◌, length, refl, ap, subst, sym, arith}
+use Rattle.std.proofs.Common.{refl, ap, arith}
 use Rattle.qq_nodes.specs.declared.nodes.Nodes.{Nodes as Held}
 use Rattle.qq_nodes.proofs.Putting.{taken-all, taken-log, taken-next, taken-none}
 use Rattle.qq_nodes.proofs.nodes.Nodes.take_disks.Goals as goal
