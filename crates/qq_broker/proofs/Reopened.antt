@@ -8,6 +8,7 @@ use Rattle.qq_disk.specs.declared.image.Image.{Image}
 use Rattle.qq_disk.specs.Disk.{Disk}
 use Rattle.qq_raft_protocol.specs.Facts.{In}
 use Rattle.qq_setup.specs.declared.setup.Setup.{Setup}
+use Rattle.qq_setup.specs.Setup.{state_of}
 use Rattle.qq_cluster.specs.Cluster.{Cluster, ClusterEvent, Setup as ClusterSetup, cluster_after}
 use Rattle.qq_cluster.specs.Rules.{IsOpening}
 use Rattle.qq_cluster.specs.Texts.{text_of}
@@ -38,7 +39,7 @@ use Rattle.qq_broker.proofs.Returned.{crashed_run, down-back, have-back, holds-b
 
 module _ {D : Type 0} (given : Giving D) (tells : D → Bool) (past : D → List Disk) (faults : D → ℕ) (s : Setup)
     (before again : List D) (a : Audits D) (run : Run) (images : ℕ → Image)
-    (rests : Rests given tells past faults s before a run) (back : ComeBack given tells past images before again)
+    (rests : Rests given tells past faults (state_of s) before a run) (back : ComeBack given tells past images before again)
     (may : (queues : List QueueId) (i : Remains) → MayRecover queues (reopen i)) (held : Nodes D)
     (same : held ≡ record a.nodes { nodes = held.nodes })
     (get : GetDisks again a.nodes.nodes.items held.nodes.items) where

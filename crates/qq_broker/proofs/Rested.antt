@@ -13,7 +13,7 @@ use Rattle.qq_cluster_queue.specs.declared.cluster_queue.ClusterQueue.{ClusterQu
 use Rattle.qq_entry.specs.declared.audit.AuditRow.{AuditRow}
 use Rattle.qq_raft_protocol.specs.Facts.{In}
 use Rattle.qq_script.specs.Audit.{audit_text}
-use Rattle.qq_setup.specs.declared.setup.Setup.{Setup}
+use Rattle.qq_setup.specs.Setup.{SetupState, state_of}
 use Rattle.qq_cluster.specs.Cluster.{Cluster, ClusterEvent, Crashes, Setup as ClusterSetup, cluster_after, cluster_happens, new_cluster}
 use Rattle.qq_cluster.specs.Queue.{Queue, Stops, audit_rows, happens}
 use Rattle.qq_cluster_laws.specs.Linked.{IsPromised}
@@ -27,7 +27,7 @@ use Rattle.qq_nodes.specs.Setting.{HaveDisks}
 use Rattle.qq_nodes.specs.Stopping.{crashes_with}
 use Rattle.qq_nodes.specs.declared.nodes.Nodes.{Nodes}
 use Rattle.qq_nodes.proofs.Stands.{stands-logs}
-use Rattle.qq_broker.specs.Broker.{Rests, Runs}
+use Rattle.qq_broker.specs.Broker.{Rests, Runs, cluster_at, setup_at}
 use Rattle.qq_broker.specs.Lives.{Became, Giving, IsOneDisk, disk_at}
 use Rattle.qq_broker.specs.Nodes.{IsDiskOf}
 use Rattle.qq_broker.specs.declared.broker.Audits.{Audits}
@@ -107,9 +107,9 @@ module _ {D : Type 0} (given : Giving D) (tells : D → Bool) (past : D → List
           sym (same (at + 1)) ∙ gave-have tells past faults held news.nodes.items disks gave at disk here
 
       pub own-rests : (a : Audits D) (run : Run) (image : Image) → a.nodes ≡ news → Runs given tells past faults b run
-          → Rests given tells past faults b.setup disks a run
+          → Rests given tells past faults (state_of b.setup) disks a run
       own-rests a run image is so =
-          subst (λ (x : Audits D). Rests given tells past faults b.setup disks x run)
+          subst (λ (x : Audits D). Rests given tells past faults (state_of b.setup) disks x run)
           (ap (λ (n : Nodes D). let x : Audits D = record { nodes = n } in x) (sym is))
           (record {
             may = so.may;
@@ -149,12 +149,12 @@ module _ {D : Type 0} (given : Giving D) (tells : D → Bool) (past : D → List
 
 -- ---- audits
 
-module _ {D : Type 0} {given : Giving D} {tells : D → Bool} {past : D → List Disk} {faults : D → ℕ} (s : Setup)
-    (disks : List D) (a : Audits D) (run : Run) (rests : Rests given tells past faults s disks a run) where
+module _ {D : Type 0} {given : Giving D} {tells : D → Bool} {past : D → List Disk} {faults : D → ℕ} (t : SetupState)
+    (disks : List D) (a : Audits D) (run : Run) (rests : Rests given tells past faults t disks a run) where
   same-queues : a.nodes.queues ≡ rests.held.queues
   same-queues = ap (λ (n : Nodes D). n.queues) rests.same
 
-  pub queue-rests : (queue : QueueId) → Contains (setup_in s run).places queue.0 → IsQueueAt queue a.nodes
+  pub queue-rests : (queue : QueueId) → Contains (setup_at t run).places queue.0 → IsQueueAt queue a.nodes
   queue-rests queue there =
       let st = rests.stands (λ k. some_image) in
       let within = contains-range queue.0 1 (length rests.held.queues.items)
@@ -166,10 +166,10 @@ module _ {D : Type 0} {given : Giving D} {tells : D → Bool} {past : D → List
       → ((setup : ClusterSetup) (c : Cluster) (held : Nodes D) → held.queues ≡ a.nodes.queues
       → Stands tells past setup held c
       → later ≡ before ++ audit_text (setup.name queue.0) 0 (audit_rows (c.queue queue.0)))
-      → later ≡ before ++ audit_text ((setup_in s run).name queue.0) 0 (audit_rows ((cluster_in s run).queue queue.0))
+      → later ≡ before ++ audit_text ((setup_at t run).name queue.0) 0 (audit_rows ((cluster_at t run).queue queue.0))
   audit-rests queue before later say =
-      say (setup_in s run)
-      (cluster_after (cluster_in s run) (crashes_with (λ k. some_image) (setup_in s run).nodes)) rests.held
+      say (setup_at t run)
+      (cluster_after (cluster_at t run) (crashes_with (λ k. some_image) (setup_at t run).nodes)) rests.held
       (sym same-queues) (rests.stands (λ k. some_image))
-      ∙ ap (λ (rows : List AuditRow). before ++ audit_text ((setup_in s run).name queue.0) 0 rows)
-      (audit-stays (λ k. some_image) (setup_in s run).nodes (cluster_in s run) queue.0)
+      ∙ ap (λ (rows : List AuditRow). before ++ audit_text ((setup_at t run).name queue.0) 0 rows)
+      (audit-stays (λ k. some_image) (setup_at t run).nodes (cluster_at t run) queue.0)

@@ -16,6 +16,7 @@ use Rattle.qq_node_log.specs.declared.node_log.NodeLog.{NodeLog}
 use Rattle.qq_node_log.specs.declared.node_log.NodeLog.TheVariants.{Closed}
 use Rattle.qq_raft_protocol.specs.Facts.{In}
 use Rattle.qq_setup.specs.declared.setup.Setup.{Setup}
+use Rattle.qq_setup.specs.Setup.{state_of}
 use Rattle.qq_cluster.specs.Cluster.{Cluster, ClusterEvent, Crashes, Setup as ClusterSetup, cluster_after, cluster_happens, new_cluster}
 use Rattle.qq_cluster_laws.specs.Linked.{lot_of}
 use Rattle.qq_cluster_laws.specs.Restarts.{first_restart}
@@ -131,7 +132,7 @@ module _ {D : Type 0} (given : Giving D) (tells : D → Bool) (past : D → List
 
 module _ {D : Type 0} (given : Giving D) (tells : D → Bool) (past : D → List Disk) (faults : D → ℕ) (s : Setup)
     (before again : List D) (a : Audits D) (run : Run) (images : ℕ → Image)
-    (rests : Rests given tells past faults s before a run) (back : ComeBack given tells past images before again)
+    (rests : Rests given tells past faults (state_of s) before a run) (back : ComeBack given tells past images before again)
     (may : (queues : List QueueId) (i : Remains) → MayRecover queues (reopen i)) (held : Nodes D)
     (same : held ≡ record a.nodes { nodes = held.nodes })
     (get : GetDisks again a.nodes.nodes.items held.nodes.items) where

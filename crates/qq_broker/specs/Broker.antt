@@ -6,8 +6,10 @@ use Rattle.qq_disk.specs.Disk.{Disk}
 use Rattle.qq_raft_protocol.specs.Facts.{In}
 use Rattle.qq_script_lines.specs.declared.line.ScriptLine.{ScriptLine}
 use Rattle.qq_script_lines.specs.declared.line.ScriptLine.TheVariants.{Pump}
+use Rattle.qq_defs.specs.Runnable.{IsRunnable}
 use Rattle.qq_setup.specs.declared.setup.Setup.{Setup}
-use Rattle.qq_cluster.specs.Cluster.{ClusterEvent, Setup as ClusterSetup, cluster_after}
+use Rattle.qq_setup.specs.Setup.{SetupState}
+use Rattle.qq_cluster.specs.Cluster.{Cluster, ClusterEvent, Setup as ClusterSetup, cluster_after}
 use Rattle.qq_cluster.specs.Rules.{IsOpening, is_idle}
 use Rattle.qq_cluster.specs.Texts.{text_of}
 use Rattle.qq_cluster_laws.specs.Restarts.{first_restart}
@@ -15,7 +17,8 @@ use Rattle.qq_cluster_laws.specs.Serves.{GivesUp, Seen, seen_of}
 use Rattle.qq_cluster_run.specs.declared.stop.AskStop.{AskStop}
 use Rattle.qq_cluster_run.specs.declared.stop.AskStop.TheVariants.{Ended, NoMemory}
 use Rattle.qq_cluster_run.specs.Service.{HasServed}
-use Rattle.qq_cluster_run.specs.Serving.{EndsDamaged, EndsLost, EndsSpent, Histories, Run, after_all, cluster_in, setup_in}
+use Rattle.qq_cluster_run.specs.Serving.{EndsDamaged, EndsLost, EndsSpent, Histories, Run, after_all, setup_in}
+use Rattle.qq_cluster_run.specs.Setup.{cluster_of}
 use Rattle.qq_cluster_run.specs.Troubles.{Trouble}
 use Rattle.qq_nodes.specs.Disks.{GiveDisks}
 use Rattle.qq_nodes.specs.Nodes.{Stands}
@@ -103,20 +106,27 @@ FailsBy faults disks left (faults_of.Nodes fault) = Unit {0}
 
 -- ---- nodes that were stopped
 
+-- the cluster of a run, by what its setup says
+abbrev pub setup_at : SetupState → Run → ClusterSetup
+setup_at t run = cluster_of t run.logs
+
+abbrev pub cluster_at : SetupState → Run → Cluster
+cluster_at t run = after_all (setup_at t run) run.events
+
 -- What is left of a broker whose nodes were stopped, and whose disks are these. Whatever crashes leave of the disks, its
 -- queues stand for the cluster after the crashes; each disk is what has become of one that was given for its node.
-pub record Rests {D : Type 0} (given : Giving D) (tells : D → Bool) (past : D → List Disk) (faults : D → ℕ) (s : Setup)
-    (disks : List D) (a : Audits D) (run : Run) : Type 0 where
-  pub may : MayRun s
+pub record Rests {D : Type 0} (given : Giving D) (tells : D → Bool) (past : D → List Disk) (faults : D → ℕ)
+    (t : SetupState) (disks : List D) (a : Audits D) (run : Run) : Type 0 where
+  pub may : IsRunnable t
   -- the nodes as they stopped, with their logs
   pub held : Nodes D
   pub same : a.nodes ≡ record held { nodes = a.nodes.nodes }
   pub gave : GiveDisks held.nodes.items a.nodes.nodes.items disks
-  pub stands : (images : ℕ → Image) → Stands tells past (setup_in s run) held
-      (cluster_after (cluster_in s run) (crashes_with images (setup_in s run).nodes))
-  pub restarted : (k : ℕ) → In k (setup_in s run).nodes → is_some (first_restart k run.events) ≡ true
-  pub disks_are : (k : ℕ) → In k (setup_in s run).nodes
-      → (last : D) × (disk_at k disks ≡ Some last) × Became given tells past faults (setup_in s run) run.events k last
+  pub stands : (images : ℕ → Image) → Stands tells past (setup_at t run) held
+      (cluster_after (cluster_at t run) (crashes_with images (setup_at t run).nodes))
+  pub restarted : (k : ℕ) → In k (setup_at t run).nodes → is_some (first_restart k run.events) ≡ true
+  pub disks_are : (k : ℕ) → In k (setup_at t run).nodes
+      → (last : D) × (disk_at k disks ≡ Some last) × Became given tells past faults (setup_at t run) run.events k last
 
 -- Each disk is what a crash with its node's image has left of what it was, or it is as it was.
 pub record ComeBack {D : Type 0} (given : Giving D) (tells : D → Bool) (past : D → List Disk) (images : ℕ → Image)

@@ -1,12 +1,12 @@
 //! A broker over disks, for programs that embed the cluster.
 ghost use Rattle.std.specs.Prelude.{◌≡◌, ◌++◌, Contains, List, IfErr, IfOk, OnOk, length};
 ghost use Rattle.qq_cluster.specs.Queue.{audit_rows};
-ghost use Rattle.qq_cluster_run.specs.Serving.{Run, cluster_in, setup_in};
+ghost use Rattle.qq_cluster_run.specs.Serving.{Run, setup_in};
 ghost use Rattle.qq_script.specs.Audit.{audit_text};
 ghost use Rattle.qq_script_lines.specs.declared.line.ScriptLine.TheVariants.{Pump};
-ghost use Rattle.qq_setup.specs.declared.setup.Setup.{Setup as SetupOf};
+ghost use Rattle.qq_setup.specs.Setup.{SetupState, state_of};
 ghost use Rattle.qq_nodes.specs.Setting.{HaveDisks};
-ghost use Rattle.qq_broker.specs.Broker.{HasPumped, Rests, Runs, is_done};
+ghost use Rattle.qq_broker.specs.Broker.{HasPumped, Rests, Runs, cluster_at, is_done, setup_at};
 ghost use Rattle.qq_broker.specs.Lives.{Giving};
 ghost use Rattle.qq_broker.specs.Nodes.{Meets};
 ghost use Rattle.qq_broker.specs.Serving.{IsGivenUp};
@@ -47,6 +47,13 @@ pub struct Audits<D: NodeDisk> {
 }
 
 impl<D: NodeDisk> Broker<D> {
+    /// What it is set up with.
+    pub fn setup(&self) -> &Setup
+        ensures { result.now ≡ self.now.setup }
+    {
+        &self.setup
+    }
+
     /// Makes rounds until nothing is left to do, 10,000 at most. What that prints, the next line's answer hands out.
     ///
     /// - `ok`: what happened is what the line `pump` allows, and `Busy` comes where work is left.
@@ -78,7 +85,7 @@ impl<D: NodeDisk> Broker<D> {
         requires { (given : Giving D) × ((run : Run)
             × Runs given D.tells D.past D.faults self run) }
         ensures rests { (given : Giving D) (run : Run) → Runs given D.tells D.past D.faults self run →
-            Rests given D.tells D.past D.faults self.setup result.0.items result.1 run }
+            Rests given D.tells D.past D.faults (state_of self.setup) result.0.items result.1 run }
         ensures count { length result.0.items ≡ self.setup.nodes }
         ensures disks { HaveDisks D.tells D.past D.faults result.0.items self.nodes }
     {
@@ -108,13 +115,13 @@ impl<D: NodeDisk> Audits<D> {
     ///
     /// - `ok`: it is the queue's audit as its nodes stopped.
     pub fn write(&self, alloc: Global, queue: QueueId, text: &mut Vec<u8>) -> Result<(), Memory>
-        requires { (given : Giving D) × ((s : SetupOf) × ((disks : List D) × ((run : Run)
-            × Rests given D.tells D.past D.faults s disks self.now run
-            × Contains (setup_in s run).places queue.0))) }
-        ensures ok { (given : Giving D) (s : SetupOf) (disks : List D) (run : Run) →
-            Rests given D.tells D.past D.faults s disks self.now run →
-            OnOk result (text.new.items ≡ text.old.items ++ audit_text ((setup_in s run).name queue.0) 0
-            (audit_rows ((cluster_in s run).queue queue.0))) }
+        requires { (given : Giving D) × ((t : SetupState) × ((disks : List D) × ((run : Run)
+            × Rests given D.tells D.past D.faults t disks self.now run
+            × Contains (setup_at t run).places queue.0))) }
+        ensures ok { (given : Giving D) (t : SetupState) (disks : List D) (run : Run) →
+            Rests given D.tells D.past D.faults t disks self.now run →
+            OnOk result (text.new.items ≡ text.old.items ++ audit_text ((setup_at t run).name queue.0) 0
+            (audit_rows ((cluster_at t run).queue queue.0))) }
     {
         self.nodes.audit_text(alloc, queue, text)
     }

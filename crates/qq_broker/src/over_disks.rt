@@ -4,6 +4,7 @@ ghost use Rattle.qq_disk.specs.declared.image.Image.{Image};
 ghost use Rattle.qq_cluster_run.specs.Runs.{MayNotOpen, ending_of, stop_of};
 ghost use Rattle.qq_cluster_run.specs.Service.{HasOpened};
 ghost use Rattle.qq_cluster_run.specs.Serving.{Run, setup_in};
+ghost use Rattle.qq_setup.specs.Setup.{state_of};
 ghost use Rattle.qq_nodes.specs.Nodes.{EachHasLog};
 ghost use Rattle.qq_nodes.specs.Setting.{HaveDisks, IsWhole};
 ghost use Rattle.qq_broker.specs.Broker.{ComeBack, FailsBy, HandsBack, HasReopened, IsReopenCaused, Rests, Runs, StillKeep, crashed_events};
@@ -105,10 +106,10 @@ pub fn reopen_disks<D: NodeDisk>(
     audits: Audits<D>,
 ) -> Result<Broker<D>, (OpenFault, Vec<D>)>
     requires rests { (given : Giving D) × ((run : Run) × ((before : List D) × ((images : ℕ → Image)
-        × Rests given D.tells D.past D.faults setup before audits run
+        × Rests given D.tells D.past D.faults (state_of setup) before audits run
         × ComeBack given D.tells D.past images before disks.items))) }
     ensures ok { (given : Giving D) (run : Run) (before : List D) (images : ℕ → Image) →
-        Rests given D.tells D.past D.faults setup before audits run →
+        Rests given D.tells D.past D.faults (state_of setup) before audits run →
         ComeBack given D.tells D.past images before disks.items →
         IfOk result (λ broker. HasReopened (Had given D.tells D.past D.faults) (setup_in setup run)
         (crashed_events (setup_in setup run) run.events images)
@@ -116,13 +117,13 @@ pub fn reopen_disks<D: NodeDisk>(
         broker.text.items) }
     ensures setup { IfOk result (λ broker. broker.setup ≡ setup) }
     ensures cause { (given : Giving D) (run : Run) (before : List D) (images : ℕ → Image) →
-        Rests given D.tells D.past D.faults setup before audits run →
+        Rests given D.tells D.past D.faults (state_of setup) before audits run →
         ComeBack given D.tells D.past images before disks.items →
         IfErr result (λ refusal. IsReopenCaused given D.tells D.past D.faults setup
         (setup_in setup run) (crashed_events (setup_in setup run) run.events images)
         disks.items refusal.1.items refusal.0) }
     ensures back { (given : Giving D) (run : Run) (before : List D) (images : ℕ → Image) →
-        Rests given D.tells D.past D.faults setup before audits run →
+        Rests given D.tells D.past D.faults (state_of setup) before audits run →
         ComeBack given D.tells D.past images before disks.items →
         IfErr result (λ refusal. StillKeep D.tells D.past D.faults (setup_in setup run)
         (crashed_events (setup_in setup run) run.events images) disks.items refusal.1.items) }
