@@ -48,27 +48,27 @@ any-none up a (suc n) each =
     ap (λ (b : Bool). b || list_any up (range_with_len (a + 1) n)) (each a (omega arith) (omega arith))
     ∙ any-none up (a + 1) n (λ k low high. each k (omega (arith, low)) (omega (arith, high)))
 
-module _ {D : Type 0} {tells : D → Bool} {past : D → List Disk} where
-  -- none of the first so many is up
-  abbrev pub NoneTo : Held D → ℕ → Type 0
-  NoneTo held at =
-      (setup : Setup) (c : Cluster) → Stands tells past setup held c → (k : ℕ) → 0 < k → k ≤ at → c.up k ≡ false
+-- none of the first so many nodes is up
+abbrev pub NoneTo : {D : Type 0} → (D → Bool) → (D → List Disk) → Held D → ℕ → Type 0
+NoneTo tells past held at =
+    (setup : Setup) (c : Cluster) → Stands tells past setup held c → (k : ℕ) → 0 < k → k ≤ at → c.up k ≡ false
 
+module _ {D : Type 0} {tells : D → Bool} {past : D → List Disk} where
   pub one-up : (held : Held D) (at node : ℕ) (setup : Setup) (c : Cluster) → Stands tells past setup held c
       → at < length held.nodes.items → node ≡ at + 1 → c.up node ≡ true → true ≡ list_any c.up setup.nodes
   one-up held at node setup c st lt is up =
       sym (ap (list_any c.up) st.set_up.nodes
       ∙ any-at c.up 1 (length held.nodes.items) node (omega (arith, is)) (omega (arith, is, lt)) up)
 
-  pub none-more : (held : Held D) (at node : ℕ) (up : Bool) → NoneTo held at → up ≡ false
+  pub none-more : (held : Held D) (at node : ℕ) (up : Bool) → NoneTo tells past held at → up ≡ false
       → ((setup : Setup) (c : Cluster) → Stands tells past setup held c → node ≡ at + 1)
-      → ((setup : Setup) (c : Cluster) → Stands tells past setup held c → up ≡ c.up node) → NoneTo held (at + 1)
+      → ((setup : Setup) (c : Cluster) → Stands tells past setup held c → up ≡ c.up node) → NoneTo tells past held (at + 1)
   none-more held at node up none down is own setup c st k low high = elim (cases_eq k (at + 1)) [
     | inl last ↦ ap c.up (last ∙ sym (is setup c st)) ∙ sym (own setup c st) ∙ down
     | inr other ↦ none setup c st k low (omega (arith, high, other))
   ]
 
-  pub none-up : (held : Held D) (at : ℕ) (setup : Setup) (c : Cluster) → length held.nodes.items ≤ at → NoneTo held at
+  pub none-up : (held : Held D) (at : ℕ) (setup : Setup) (c : Cluster) → length held.nodes.items ≤ at → NoneTo tells past held at
       → Stands tells past setup held c → false ≡ list_any c.up setup.nodes
   none-up held at setup c le none st =
       sym (ap (list_any c.up) st.set_up.nodes
