@@ -1,4 +1,4 @@
--- A broker over disks that were handed in: what its run has done, what it hands back, and how another one goes on with that.
+-- A broker over disks that were handed in: what its run has done, what it hands back, and how another one goes on.
 use Rattle.std.specs.Prelude.{◌≡◌, ◌⊎◌, ◌≤◌, ℕ, Bool, true, false, List, [], ◌++◌, Option, Some, None, is_some, length, slice_get, vec_capacity}
 use Rattle.qq_base.specs.Causes.{Rose}
 use Rattle.qq_disk.specs.declared.image.Image.{Image}
@@ -41,8 +41,8 @@ use Rattle.qq_broker.specs.declared.faults.OpenFault.TheVariants as faults_of
 -- ---- a broker that runs
 
 -- Its nodes stand for what its run has done, and there is room to hand their disks back.
-pub record Runs {D : Type 0} (given : Giving D) (tells : D → Bool) (past : D → List Disk) (faults : D → ℕ) (b : Broker D)
-    (run : Run) : Type 0 where
+pub record Runs {D : Type 0} (given : Giving D) (tells : D → Bool) (past : D → List Disk) (faults : D → ℕ)
+    (b : Broker D) (run : Run) : Type 0 where
   pub may : MayRun b.setup
   pub holds : Holds given tells past faults b.setup b.nodes run
   pub empty : b.room.items ≡ []
@@ -113,8 +113,8 @@ setup_at t run = cluster_of t run.logs
 abbrev pub cluster_at : SetupState → Run → Cluster
 cluster_at t run = after_all (setup_at t run) run.events
 
--- What is left of a broker whose nodes were stopped, and whose disks are these. Whatever crashes leave of the disks, its
--- queues stand for the cluster after the crashes; each disk is what has become of one that was given for its node.
+-- What is left of a broker whose nodes were stopped, and whose disks are these. Whatever crashes leave of the disks,
+-- its queues stand for the cluster after the crashes; each disk is what has become of one that was given for its node.
 pub record Rests {D : Type 0} (given : Giving D) (tells : D → Bool) (past : D → List Disk) (faults : D → ℕ)
     (t : SetupState) (disks : List D) (a : Audits D) (run : Run) : Type 0 where
   pub may : IsRunnable t
@@ -164,8 +164,8 @@ IsReopenCaused given tells past faults s setup events disks left faults_of.Disk 
 IsReopenCaused given tells past faults s setup events disks left (faults_of.Nodes fault) =
     MayNotReopen (Meets given tells past faults 0 0) setup events (stop_for s fault)
 
--- As many disks, in order: each shows its contents as before, failed no less often, and kept at each moment what its log
--- had promised by then.
+-- As many disks, in order: each shows its contents as before, failed no less often, and kept at each moment what its
+-- log had promised by then.
 pub record StillKeep {D : Type 0} (tells : D → Bool) (past : D → List Disk) (faults : D → ℕ) (setup : ClusterSetup)
     (events : List ClusterEvent) (disks left : List D) : Type 0 where
   pub count : length left ≡ length disks

@@ -29,8 +29,8 @@ pub data Giving (D : Type 0) : Type 0 where
 abbrev pub under : {D : Type 0} → (Option (List ℕ) → ℕ → D → Bool) → Option (List ℕ) → Giving D
 under is_given root = ByYard is_given root
 
--- The yard gave this disk for a node under this root. Where it shows its contents it was just opened, and without a root
--- nothing was ever on it.
+-- The yard gave this disk for a node under this root. Where it shows its contents it was just opened, and without a
+-- root nothing was ever on it.
 pub record IsGivenUnder {D : Type 0} (is_given : Option (List ℕ) → ℕ → D → Bool) (root : Option (List ℕ))
     (tells : D → Bool) (past : D → List Disk) (k : ℕ) (disk : D) : Type 0 where
   pub asked : is_given root k disk ≡ true
@@ -101,8 +101,8 @@ pub record IsImage {D : Type 0} (tells : D → Bool) (past : D → List Disk) (i
   pub told : tells new ≡ tells old
   pub left : IsTrue (tells old) → IsAfterCrash image (past old) (past new)
 
--- What a crash leaves of a disk: its named image. A disk that goes by hand may also have come back as it was, whatever image
--- the crash names.
+-- What a crash leaves of a disk: its named image. A disk that goes by hand may also have come back as it was, whatever
+-- image the crash names.
 abbrev pub IsLeft : {D : Type 0} → Giving D → (D → Bool) → (D → List Disk) → Image → D → D → Type 0
 IsLeft given tells past image old new = IsImage tells past image old new ⊎ (IsByHand given × (new ≡ old))
 

@@ -21,8 +21,8 @@ use std::mem;
 ///
 /// - `ok`: what happened is what the line allows.
 /// - `text`: all that was printed is handed out.
-/// - `cause`: the yard has failed at a crash, a node isn't restarted, there was no memory, or in the midst of the line a
-///   number stands at its end. Then the run ends.
+/// - `cause`: the yard has failed at a crash, a node isn't restarted, there was no memory, or in the midst of the line
+///   a number stands at its end. Then the run ends.
 /// - `later`: the yard's count of faults doesn't fall.
 pub fn step<Y: Yard>(
     broker: &mut Broker<Y::Disk>,

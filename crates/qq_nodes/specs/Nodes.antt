@@ -146,8 +146,8 @@ pub record EndsAt {D : Type 0} (tells : D → Bool) (past : D → List Disk) (fa
   pub at : NumberAt tells past mid number
   pub end : IsAtEnd number
 
--- Of whatever cluster they stood for, each disk keeps at each moment what the events so far promised, and is still in its
--- node's log. Where it isn't that there was no memory, a number stands at its end.
+-- Of whatever cluster they stood for, each disk keeps at each moment what the events so far promised, and is still in
+-- its node's log. Where it isn't that there was no memory, a number stands at its end.
 pub record GaveUp {D : Type 0} (tells : D → Bool) (past : D → List Disk) (faults : D → ℕ)
     (Rule : Setup → Cluster → List ClusterEvent → Type 0) (old new : Held D) (memory : Memory) : Type 0 where
   pub gives_up : (setup : Setup) (c : Cluster) → IsReached setup c → Stands tells past setup old c

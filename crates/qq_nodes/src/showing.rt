@@ -67,7 +67,8 @@ impl<D: NodeDisk> Nodes<D> {
     }
 
     /// Adds the text of a queue's audit. `Spent` comes only where a number of the queue that the audit makes would be
-    /// past its end. After an error the text begins with what it had. It is what the queues say, whatever the nodes are.
+    /// past its end. After an error the text begins with what it had. It is what the queues say, whatever the nodes
+    /// are.
     pub fn audit_text(
         &self,
         alloc: Global,

@@ -10,7 +10,7 @@ use qq_disk::NodeDisk;
 use std::alloc::Global;
 
 impl<D: NodeDisk> Nodes<D> {
-    /// Each node stops, in order, one that is down too: its members stop, and its disk is as it was. Nothing is printed.
+    /// Each node stops, in order, one that is down too: its members stop, and its disk is as it was. It prints nothing.
     ///
     /// - `stands`: these stand for the cluster after a crash of each node, whatever the crashes leave of the disks.
     /// - `disks`: each disk is as it was.

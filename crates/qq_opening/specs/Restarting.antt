@@ -122,9 +122,9 @@ AreLinked tells past faults setup held c list =
     list
 
 -- What a call leaves that restarts these nodes in order, by a rule, and is given up. Of whatever cluster they stood
--- for: each disk keeps at each moment what the events so far promised, and is still in its node's log; one of the nodes
--- isn't restarted, but for want of memory or numbers; a number stands at its end where it is that; and it is none of the others where each of the
--- nodes' logs is linked.
+-- for: each disk keeps at each moment what the events so far promised, and is still in its node's log; one of the
+-- nodes isn't restarted, but for want of memory or numbers; a number stands at its end where it is that; and it is none
+-- of the others where each of the nodes' logs is linked.
 pub record Refuses {D : Type 0} (tells : D → Bool) (past : D → List Disk) (faults : D → ℕ) (list : Setup → List ℕ)
     (Rule : Setup → Cluster → List ClusterEvent → Type 0) (old new : Held D) (before : List ℕ) (fault : RestartFault)
     : Type 0 where
