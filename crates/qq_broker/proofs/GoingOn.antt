@@ -147,8 +147,8 @@ module _ {D : Type 0} (given : Giving D) (tells : D → Bool) (past : D → List
     first = b.first;
     given_is = b.given_is;
     begins = begins-stay tells past faults setup k b.first events s.did.events restarted b.begins;
-    lives = lives-then given tells past faults setup k (after_all setup events) (new_cluster setup) [] events s.did.events
-        b.first mid last refl b.lives
+    lives = lives-then given tells past faults setup k (after_all setup events) (new_cluster setup) [] events
+        s.did.events b.first mid last refl b.lives
         (goes-on given tells past faults setup k (after_all setup events) s.did.events mid last (s.no_crash k)
         (served-disk setup (after_all setup events) Allowed After old new before later s k there few mid last was is));
   }
@@ -339,8 +339,8 @@ module _ {D : Type 0} (given : Giving D) (tells : D → Bool) (past : D → List
         first = b.first;
         given_is = b.given_is;
         begins = begins-stay tells past faults setup j b.first run.events (Crashes k image ∷ []) restarted b.begins;
-        lives = lives-then given tells past faults setup j c (new_cluster setup) [] run.events (Crashes k image ∷ []) b.first
-            mid last refl b.lives (step j mid last was is);
+        lives = lives-then given tells past faults setup j c (new_cluster setup) [] run.events (Crashes k image ∷ [])
+            b.first mid last refl b.lives (step j mid last was is);
       })
     where
       step : (j : ℕ) (mid last : D) → IsDiskOf tells past faults old j mid → IsDiskOf tells past faults new j last
@@ -353,8 +353,8 @@ module _ {D : Type 0} (given : Giving D) (tells : D → Bool) (past : D → List
             (subst (λ (i : ℕ). IsDiskOf tells past faults old i mid) (sym same) was)
             (subst (λ (i : ℕ). IsDiskOf tells past faults new i last) (sym same) is)))
         | inr (e, other) ↦
-            goes-on given tells past faults (setup_in s run) j (cluster_in s run) (Crashes k image ∷ []) mid last (other, tt)
-            (like (unseen-crash (setup_in s run) (cluster_in s run) k j image mid other)
+            goes-on given tells past faults (setup_in s run) j (cluster_in s run) (Crashes k image ∷ []) mid last
+            (other, tt) (like (unseen-crash (setup_in s run) (cluster_in s run) k j image mid other)
             (sym was ∙ sym (leaves.others j (λ e. other (sym e))) ∙ is))
       ]
         where

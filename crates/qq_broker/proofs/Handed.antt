@@ -136,10 +136,12 @@ module _ {D : Type 0} (given : Giving D) (tells : D → Bool) (past : D → List
     stands = record {
       may = subst MayRun (sym same) may;
       holds = subst
-          (λ (t : Setup). Holds given tells past faults t b.nodes (record { lines = 0; logs = so.logs; events = so.events }))
+          (λ (t : Setup). Holds given tells past faults t b.nodes
+          (record { lines = 0; logs = so.logs; events = so.events }))
           (sym same)
           (subst
-          (λ (n : Nodes D). Holds given tells past faults s n (record { lines = 0; logs = so.logs; events = so.events }))
+          (λ (n : Nodes D). Holds given tells past faults s n
+          (record { lines = 0; logs = so.logs; events = so.events }))
           (sym own) so.stands);
       empty = empty;
       room = subst (λ (t : Setup). t.nodes ≤ vec_capacity b.room) (sym same) room;

@@ -164,7 +164,8 @@ module _ {D : Type 0} (given : Giving D) (tells : D → Bool) (past : D → List
   pub goes-on : (cx : Cluster) (more : List ClusterEvent) (mid last : D) → HasNoCrash k more → One' cx more mid last
       → GoesOn cx more mid last
   goes-on cx more mid last calm so = λ c since first at one.
-      one-lives c since more first last calm (one-both tells past faults setup k cx c since more first mid last at one so)
+      one-lives c since more first last calm
+      (one-both tells past faults setup k cx c since more first mid last at one so)
 
   -- a crash of the node
   pub goes-crashed : (cx : Cluster) (image : Image) (mid last : D) → IsLeft given tells past image mid last
@@ -181,4 +182,12 @@ module _ {D : Type 0} (given : Giving D) (tells : D → Bool) (past : D → List
           subst (λ (p : Option Image). at_crash p (λ old. One' c since first old) (IsLeft given tells past)
           (λ new. Live (cluster_happens (cluster_after c since) (Crashes k image)) [] [] new last)
           (Live c (since ++ Crashes k image ∷ []) [] first last)) (sym is)
-          (mid, (last, one, left, one-none tells past faults setup k (cluster_happens (cluster_after c since) (Crashes k image)) last))
+          (
+            mid,
+            (
+              last,
+              one,
+              left,
+              one-none tells past faults setup k (cluster_happens (cluster_after c since) (Crashes k image)) last,
+            ),
+          )

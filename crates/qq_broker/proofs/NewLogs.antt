@@ -122,7 +122,8 @@ module _ (readable : (queues : List QueueId) (noticed given : List Op) (d : Disk
   -- ---- the logs
 
   module _ {D : Type 0} (is_given : Option (List ℕ) → ℕ → D → Bool) (tells : D → Bool) (past : D → List Disk)
-      (faults : D → ℕ) (s : Setup) (all left : List Input) (b : Behind (Had (under is_given None) tells past faults) s all left)
+      (faults : D → ℕ) (s : Setup) (all left : List Input)
+      (b : Behind (Had (under is_given None) tells past faults) s all left)
       (runs : IsRunnable (state_of s)) (shows : (disk : D) → IsTrue (tells disk)) where
     abbrev given : Giving D
     given = under is_given None

@@ -39,7 +39,8 @@ use Rattle.qq_broker.proofs.Returned.{crashed_run, down-back, have-back, holds-b
 
 module _ {D : Type 0} (given : Giving D) (tells : D → Bool) (past : D → List Disk) (faults : D → ℕ) (s : Setup)
     (before again : List D) (a : Audits D) (run : Run) (images : ℕ → Image)
-    (rests : Rests given tells past faults (state_of s) before a run) (back : ComeBack given tells past images before again)
+    (rests : Rests given tells past faults (state_of s) before a run)
+    (back : ComeBack given tells past images before again)
     (may : (queues : List QueueId) (i : Remains) → MayRecover queues (reopen i)) (held : Nodes D)
     (same : held ≡ record a.nodes { nodes = held.nodes })
     (get : GetDisks again a.nodes.nodes.items held.nodes.items) where

@@ -96,8 +96,8 @@ module _ {D : Type 0} (given : Giving D) (tells : D → Bool) (past : D → List
     first = b.first;
     given_is = b.given_is;
     begins = begins-stay tells past faults setup k b.first events more restarted b.begins;
-    lives = lives-then given tells past faults setup k (after_all setup events) (new_cluster setup) [] events more b.first
-        disk disk refl b.lives
+    lives = lives-then given tells past faults setup k (after_all setup events) (new_cluster setup) [] events more
+        b.first disk disk refl b.lives
         (goes-on given tells past faults setup k (after_all setup events) more disk disk (no-crash k more unseen)
         (same-disk tells past faults setup k (after_all setup events) more disk unseen));
   }
@@ -132,7 +132,8 @@ module _ {D : Type 0} (given : Giving D) (tells : D → Bool) (past : D → List
 
 module _ {D : Type 0} (given : Giving D) (tells : D → Bool) (past : D → List Disk) (faults : D → ℕ) (s : Setup)
     (before again : List D) (a : Audits D) (run : Run) (images : ℕ → Image)
-    (rests : Rests given tells past faults (state_of s) before a run) (back : ComeBack given tells past images before again)
+    (rests : Rests given tells past faults (state_of s) before a run)
+    (back : ComeBack given tells past images before again)
     (may : (queues : List QueueId) (i : Remains) → MayRecover queues (reopen i)) (held : Nodes D)
     (same : held ≡ record a.nodes { nodes = held.nodes })
     (get : GetDisks again a.nodes.nodes.items held.nodes.items) where
@@ -174,7 +175,8 @@ module _ {D : Type 0} (given : Giving D) (tells : D → Bool) (past : D → List
         log = record {
           running = λ up. absurd (false≢true (sym down ∙ up));
           whole = whole-back (at + 1) (ids_of (lot_of S (at + 1))) old.0 disk.0
-              (back.each (at + 1) old.0 disk.0 (at-index before at old.0 old.1) (at-index again at disk.0 disk.1)) whole;
+              (back.each (at + 1) old.0 disk.0 (at-index before at old.0 old.1) (at-index again at disk.0 disk.1))
+              whole;
         };
       })
     where
@@ -211,7 +213,8 @@ module _ {D : Type 0} (given : Giving D) (tells : D → Bool) (past : D → List
       whole : IsWhole tells past (ids_of (lot_of S (at + 1))) old.0
       whole =
           subst (IsWhole tells past (ids_of (lot_of S (at + 1))))
-          (ap (λ (l : NodeLog D). disk_in l) (some-is was.own gives.own (sym was.log_is ∙ gives.was)) ∙ sym gives.disk_is)
+          (ap (λ (l : NodeLog D). disk_in l) (some-is was.own gives.own (sym was.log_is ∙ gives.was))
+          ∙ sym gives.disk_is)
           was.log.whole
 
   stands-back : Stands tells past S held crashed

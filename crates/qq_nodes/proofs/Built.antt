@@ -20,7 +20,7 @@ pub of-ok : {A E : Type 0} (P : A → Type 0) (r : Result A E) (x : A) → r ≡
 of-ok {A} {E} P r x is ok = subst (λ (s : Result A E). IfOk s P) is ok
 
 -- an item of a list with one more
-get-last : {A : Type 0} (xs : List A) (x y : A) (at : ℕ) → slice_get (xs ++ x ∷ []) at ≡ Some y
+pub get-last : {A : Type 0} (xs : List A) (x y : A) (at : ℕ) → slice_get (xs ++ x ∷ []) at ≡ Some y
     → (slice_get xs at ≡ Some y) ⊎ ((at ≡ length xs) × (y ≡ x))
 get-last [] x y zero is = inr (refl, (let e : y ≡ x = cc in e))
 get-last [] x y (suc at) is = absurd cc

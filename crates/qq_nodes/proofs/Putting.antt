@@ -1,5 +1,5 @@
 -- Nodes get their disks and give them up, one after the other.
-use Rattle.std.proofs.Common.{◌≡◌, ◌≢◌, ◌⊎◌, ◌<◌, ◌≤◌, ◌+◌, ◌-◌, ℕ, List, [], ◌∷◌, ◌++◌, Some, None, get_or, length, refl, sym, ap, ◌∙◌, subst, inl, inr, arith, append_assoc, append-nil, length-append}
+use Rattle.std.proofs.Common.{◌≡◌, ◌≢◌, ◌⊎◌, ◌<◌, ◌≤◌, ◌+◌, ◌-◌, ℕ, List, [], ◌∷◌, ◌++◌, Option, Some, None, get_or, length, refl, sym, ap, ◌∙◌, subst, inl, inr, arith, append_assoc, append-nil, length-append}
 use Rattle.std.specs.Prelude.{slice_get}
 use Rattle.std.proofs.lemmas.Bool.{cases_eq}
 use Rattle.std.proofs.lemmas.Option.{slice_get_cases, slice_get_within}
@@ -112,8 +112,8 @@ put-next {D} put all olds news later rest fewer disk to popped turn = record {
           ∙ set-other news (length olds - 1 - put) at turn.new (λ e. other (omega (arith, e, index)))) ∙ now')
     ]
 
-pub put-all : {D : Type 0} (put : ℕ) (all : List D) (olds news : List (Node D)) (rest : List D) → length all ≡ length olds
-    → length olds ≤ put → PutTo put all olds news rest → GetDisks all olds news × (rest ≡ [])
+pub put-all : {D : Type 0} (put : ℕ) (all : List D) (olds news : List (Node D)) (rest : List D)
+    → length all ≡ length olds → length olds ≤ put → PutTo put all olds news rest → GetDisks all olds news × (rest ≡ [])
 put-all put all olds news rest many over to =
     let left = to.left in (
       record {
@@ -131,7 +131,7 @@ put-some put all olds news rest lt to none = let left = to.left in absurd (omega
 
 -- ---- new nodes
 
-pub bare-none : {D : Type 0} (rows : List QueueRow) → AreBareNodes {D} rows 0 []
+pub bare-none : {D : Type 0} (rows : List QueueRow) → AreBareNodes {D = D} rows 0 []
 bare-none {D} rows = record { many = refl; each = λ at node here. absurd (none at node here) }
   where
     none : (at : ℕ) (node : Node D) → slice_get [] at ≡ Some node → ⊥
@@ -142,7 +142,7 @@ pub bare-more : {D : Type 0} (rows : List QueueRow) (count : ℕ) (nodes all : L
     → AreBareNodes rows (count + 1) all
 bare-more {D} rows count nodes all node are own more =
     subst (AreBareNodes rows (count + 1)) (sym more) (record {
-      many = length-append nodes (node ∷ []) ∙ (let e = are.many in let f : length nodes + 1 ≡ count + 1 = omega (arith, e) in f);
+      many = length-append nodes (node ∷ []) ∙ ap (λ (n : ℕ). n + 1) are.many;
       each = λ at n here. by at n (get-last nodes node n at here);
     })
   where
@@ -209,7 +209,7 @@ pub taken-next : {D : Type 0} (at : ℕ) (olds news later : List (Node D)) (disk
     → all ≡ disks ++ disk ∷ [] → TakenTo (at + 1) olds later all
 taken-next {D} at olds news later disks all disk to turn more =
     subst (TakenTo (at + 1) olds later) (sym more) (record {
-      many = length-append disks (disk ∷ []) ∙ (let e = to.many in let f : length disks + 1 ≡ at + 1 = omega (arith, e) in f);
+      many = length-append disks (disk ∷ []) ∙ ap (λ (n : ℕ). n + 1) to.many;
       count = ap length turn.is ∙ set-long news at turn.new ∙ to.count;
       each = λ i d old new here was now'. by i d old new was now' (get-last disks disk d i here);
       others = λ i le. ap (λ (l : List (Node D)). slice_get l i) turn.is
@@ -250,6 +250,11 @@ taken-all at olds news disks all to = record { many = to.many ∙ all; count = t
 
 -- ---- a node
 
-pub gives-disk : {D : Type 0} (old : Node D) (log own : NodeLog D) (disk : D) → old.log ≡ Some own → old.log ≡ Some log
-    → disk ≡ disk_in log → GivesDisk old (record old { log = None }) disk
-gives-disk old log own disk was here is = record { own = log; was = here; is = refl; disk_is = is }
+pub gives-disk : {D : Type 0} (old : Node D) (rest : Option (NodeLog D)) (log : NodeLog D) (disk : D) → rest ≡ None
+    → old.log ≡ Some log → disk ≡ disk_in log → GivesDisk old (record old { log = rest }) disk
+gives-disk {D} old rest log disk none here is = record {
+  own = log;
+  was = here;
+  is = ap (λ (l : Option (NodeLog D)). record old { log = l }) none;
+  disk_is = is;
+}

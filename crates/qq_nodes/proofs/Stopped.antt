@@ -96,8 +96,8 @@ module _ {D : Type 0} (tells : D → Bool) (past : D → List Disk) (faults : D 
 -- ---- one after the other
 
 -- the first so many nodes have stopped
-pub record StoppedTo {D : Type 0} (tells : D → Bool) (past : D → List Disk) (faults : D → ℕ) (at : ℕ) (old held : Held D)
-    : Type 0 where
+pub record StoppedTo {D : Type 0} (tells : D → Bool) (past : D → List Disk) (faults : D → ℕ) (at : ℕ)
+    (old held : Held D) : Type 0 where
   pub stands : (setup : Setup) (c : Cluster) (images : ℕ → Image) → Stands tells past setup old c
       → Stands tells past setup held (cluster_after c (crashes_with images (range_with_len 1 at)))
   pub disks : (k : ℕ) → seen tells past faults held k ≡ seen tells past faults old k
@@ -115,8 +115,8 @@ module _ {D : Type 0} {tells : D → Bool} {past : D → List Disk} {faults : D 
         subst (λ (events : List ClusterEvent). Stands tells past setup new (cluster_after c events)) (sym (more images))
         (subst (Stands tells past setup new)
         (sym (after-both c (crashes_with images (range_with_len 1 at)) (Crashes (at + 1) (images (at + 1)) ∷ [])))
-        (subst (λ (k : ℕ). Stands tells past setup new (cluster_happens (cluster_after c (crashes_with images (range_with_len 1 at)))
-        (Crashes k (images k)))) is
+        (subst (λ (k : ℕ). Stands tells past setup new
+        (cluster_happens (cluster_after c (crashes_with images (range_with_len 1 at))) (Crashes k (images k)))) is
         (stop-stands tells past faults node.0 mid new low stopped setup
         (cluster_after c (crashes_with images (range_with_len 1 at))) (images node.0) (to.stands setup c images st))));
     disks = λ k. stop-seen tells past faults node.0 mid new low stopped k ∙ to.disks k;
@@ -135,12 +135,12 @@ module _ {D : Type 0} {tells : D → Bool} {past : D → List Disk} {faults : D 
   pub stopped-can : (at : ℕ) (old held : Held D) → CanServe tells past old → StoppedTo tells past faults at old held
       → CanServe tells past held
   stopped-can at old held can to =
-      let events : List ClusterEvent = crashes_with (λ k. record { newest_log = Whole; others = Whole; removed_back = false })
-      (range_with_len 1 at) in (
+      let image : Image = record { newest_log = Whole; others = Whole; removed_back = false } in
+      let events : List ClusterEvent = crashes_with (λ k. image) (range_with_len 1 at) in (
         can.0,
         cluster_after can.1 events,
         reached-after can.0 can.1 events can.2,
-        to.stands can.0 can.1 (λ k. record { newest_log = Whole; others = Whole; removed_back = false }) can.3,
+        to.stands can.0 can.1 (λ k. image) can.3,
       )
 
   pub stopped-all : (at : ℕ) (old new : Held D) → at ≡ length old.nodes.items → StoppedTo tells past faults at old new

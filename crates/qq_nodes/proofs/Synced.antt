@@ -511,8 +511,8 @@ module _ {D : Type 0} {tells : D → Bool} {past : D → List Disk} where
         → ChangesLog tells past faults (λ (lot : Lot) (parts : Parts). parts) turn.old turn.new → (setup : Setup)
         (c : Cluster) → Stands tells past setup old c → HaveLogs setup nodes.items
     left-logs faults P turn ch setup c st =
-        logs-with setup old.nodes.items nodes.items (k - 1) turn.new ch.behind turn.is (ap (λ (y : Node D). y.log) ch.is)
-        (stands-logs setup old c st)
+        logs-with setup old.nodes.items nodes.items (k - 1) turn.new ch.behind turn.is
+        (ap (λ (y : Node D). y.log) ch.is) (stands-logs setup old c st)
 
     -- a number is at its end, or there was no memory
     pub sync-spent : (faults : D → ℕ) (memory : Memory)

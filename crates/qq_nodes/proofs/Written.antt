@@ -337,12 +337,14 @@ module _ {D : Type 0} {tells : D → Bool} {past : D → List Disk} where
         (all-waiting setup c r st) linked
         (log-moments setup c k turn.old turn.new later was (is-up setup c st) ch told linked).0)
 
-    left-logs : (faults : D → ℕ) (setup : Setup) (c : Cluster) (st : Stands tells past setup old c) (nodes : Vec (Node D))
-        (P : Node D → Node D → Type 0) (turn : NodeTurns P (k - 1) mid.nodes.items nodes.items)
-        → ChangesLog tells past faults (λ (lot : Lot). give_batch lot ops) turn.old turn.new → HaveLogs setup nodes.items
+    left-logs : (faults : D → ℕ) (setup : Setup) (c : Cluster) (st : Stands tells past setup old c)
+        (nodes : Vec (Node D)) (P : Node D → Node D → Type 0)
+        (turn : NodeTurns P (k - 1) mid.nodes.items nodes.items)
+        → ChangesLog tells past faults (λ (lot : Lot). give_batch lot ops) turn.old turn.new
+        → HaveLogs setup nodes.items
     left-logs faults setup c st nodes P turn ch =
-        logs-with setup mid.nodes.items nodes.items (k - 1) turn.new ch.behind turn.is (ap (λ (y : Node D). y.log) ch.is)
-        (same-logs setup old.nodes mid.nodes same-nodes (stands-logs setup old c st))
+        logs-with setup mid.nodes.items nodes.items (k - 1) turn.new ch.behind turn.is
+        (ap (λ (y : Node D). y.log) ch.is) (same-logs setup old.nodes mid.nodes same-nodes (stands-logs setup old c st))
 
     -- the file is too long, or there was no memory
     pub write-spent : (faults : D → ℕ) (nodes : Vec (Node D)) (memory : Memory)

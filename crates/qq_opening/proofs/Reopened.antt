@@ -62,14 +62,15 @@ module _ {D : Type 0} {tells : D → Bool} {past : D → List Disk} where
 
   pub none-more : (held : Held D) (at node : ℕ) (up : Bool) → NoneTo tells past held at → up ≡ false
       → ((setup : Setup) (c : Cluster) → Stands tells past setup held c → node ≡ at + 1)
-      → ((setup : Setup) (c : Cluster) → Stands tells past setup held c → up ≡ c.up node) → NoneTo tells past held (at + 1)
+      → ((setup : Setup) (c : Cluster) → Stands tells past setup held c → up ≡ c.up node)
+      → NoneTo tells past held (at + 1)
   none-more held at node up none down is own setup c st k low high = elim (cases_eq k (at + 1)) [
     | inl last ↦ ap c.up (last ∙ sym (is setup c st)) ∙ sym (own setup c st) ∙ down
     | inr other ↦ none setup c st k low (omega (arith, high, other))
   ]
 
-  pub none-up : (held : Held D) (at : ℕ) (setup : Setup) (c : Cluster) → length held.nodes.items ≤ at → NoneTo tells past held at
-      → Stands tells past setup held c → false ≡ list_any c.up setup.nodes
+  pub none-up : (held : Held D) (at : ℕ) (setup : Setup) (c : Cluster) → length held.nodes.items ≤ at
+      → NoneTo tells past held at → Stands tells past setup held c → false ≡ list_any c.up setup.nodes
   none-up held at setup c le none st =
       sym (ap (list_any c.up) st.set_up.nodes
       ∙ any-none c.up 1 (length held.nodes.items) (λ k low high. none setup c st k (omega (arith, low))

@@ -45,7 +45,8 @@ returns-then-some-clause-ok g c =
     let most = c.args.disks.ok.1 in
     λ given run before images rests back.
     has-reopened given disk.tells disk.past disk.faults s before again c.args.audits run images rests
-    back may held same get c.in-Ok.some c.reopen.new.nodes c.new-text.result.items c.reopen.new.text.items c.in-Ok.ensures.ok
+    back may held same get c.in-Ok.some c.reopen.new.nodes c.new-text.result.items c.reopen.new.text.items
+    c.in-Ok.ensures.ok
     (record { setup = s; nodes = c.reopen.new.nodes; text = c.reopen.new.text; room = c.put_disks.new.disks })
     c.if-some.true refl refl c.put_disks.ensures.empty
     (let count = so-many given disk.tells disk.past disk.faults s before again c.args.audits run images rests back may

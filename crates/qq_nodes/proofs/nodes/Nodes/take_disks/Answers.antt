@@ -10,15 +10,15 @@ nodes-init g c = record {
   room = c.requires.room;
 }
 
-pub take_in-requires-clause-place : goal.take_in-requires-clause-place
-take_in-requires-clause-place g c =
+pub take_in-disk-requires-clause-place : goal.take_in-disk-requires-clause-place
+take_in-disk-requires-clause-place g c =
     let count = c.nodes.invariant.takes.count in
     let many = c.len-count.ensures in
     let whole = c.args.self.now.nodes.ok.0 in
     omega (arith, count, many, whole)
 
-pub take_in-requires-clause-own : goal.take_in-requires-clause-own
-take_in-requires-clause-own g c =
+pub take_in-disk-requires-clause-own : goal.take_in-disk-requires-clause-own
+take_in-disk-requires-clause-own g c =
     taken-log c.nodes.at c.args.self.now.nodes.items c.nodes.self.nodes.items c.nodes.disks.items
     c.nodes.invariant.takes c.requires.own
 
@@ -33,11 +33,13 @@ push_reserved-requires g c =
 
 pub nodes-preserved : goal.nodes-preserved
 nodes-preserved g c = record {
-  same = ap (λ (h : Held g.row.D.Denot). record h { nodes = c.take_in.new.nodes }) c.nodes.invariant.same;
-  takes = taken-next c.nodes.at c.args.self.now.nodes.items c.nodes.self.nodes.items c.take_in.new.nodes.items
+  same = ap (λ (h : Held g.row.D.Denot). record h { nodes = c.take_in-disk.new.nodes }) c.nodes.invariant.same;
+  takes = taken-next c.nodes.at c.args.self.now.nodes.items c.nodes.self.nodes.items c.take_in-disk.new.nodes.items
       c.nodes.disks.items c.push_reserved.new.self.items c.take_in-disk.result c.nodes.invariant.takes
       c.take_in-disk.ensures c.push_reserved.ensures.items;
-  room = (let room = c.nodes.invariant.room in let same = c.push_reserved.ensures.capacity in omega (arith, room, same));
+  room = (let room = c.nodes.invariant.room in
+      let same = c.push_reserved.ensures.capacity in
+      omega (arith, room, same));
 }
 
 pub returns-clause-same : goal.returns-clause-same
