@@ -14,7 +14,7 @@ use Rattle.qq_cluster.specs.Queue.{Queue, TellsEnded, happens}
 use Rattle.qq_cluster.specs.Rules.{ForEach, Is, IsClaimed, IsGiven, is_ended, is_quiet, not_taken}
 use Rattle.qq_cluster.specs.Texts.{text_of}
 use Rattle.qq_cluster_laws.specs.Linked.{IsReached}
-use Rattle.qq_cluster_queue.specs.ClusterQueue.{OfItsQueue, Stands as IsQueue}
+use Rattle.qq_cluster_queue.specs.ClusterQueue.{Stands as IsQueue}
 use Rattle.qq_cluster_queue.specs.Sessions.{Standings, standings}
 use Rattle.qq_cluster_queue.specs.declared.cluster_queue.ClusterQueue.{ClusterQueue}
 use Rattle.qq_nodes.specs.Nodes.{CanServe, GaveUp, IsQueueAt, LeadsIn, Served, Stands, places_in}
@@ -51,32 +51,6 @@ module _ {D : Type 0} {tells : D → Bool} {past : D → List Disk} where
           ended-is (standings held.sessions) found.0 (c.queue (at + 1)) session (st.queues at found.0 found.2).stands
       by (inr past_end) = let le = past_end.0 in absurd (omega (arith, le, lt))
 
-  -- of the queue at an index the first delivery that wasn't handed out
-  abbrev pub IsNotTaken : ℕ → ℕ → Unstamped → List ClusterQueue → Option ℕ → Type 0
-  IsNotTaken at session body queues o =
-      (d : ClusterQueue) → slice_get queues at ≡ Some d
-      → OfItsQueue d (λ (q : Queue). o ≡ not_taken session body q)
-
-  -- what was found is what is asked for
-  pub taken-is : (at session : ℕ) (body : Unstamped) {queues : List ClusterQueue} {found o : Option ℕ} → found ≡ o
-      → IsNotTaken at session body queues found → IsNotTaken at session body queues o
-  taken-is at session body {queues} same untaken = subst (IsNotTaken at session body queues) same untaken
-
-  pub claimed-at : (setup : Setup) (c : Cluster) (held : Held D) (at session : ℕ) (body : Unstamped) (o : Option ℕ)
-      → Stands tells past setup held c → at < length held.queues.items
-      → IsNotTaken at session body held.queues.items o → not_taken session body (c.queue (at + 1)) ≡ o
-  claimed-at setup c held at session body o st lt untaken =
-      by (slice_get_cases held.queues.items at).1
-    where
-      by : ((d : ClusterQueue) × (at < length held.queues.items) × (slice_get held.queues.items at ≡ Some d)
-          × (get_or held.queues.items at d ≡ d))
-          ⊎ ((length held.queues.items ≤ at) × (slice_get held.queues.items at ≡ None))
-          → not_taken session body (c.queue (at + 1)) ≡ o
-      by (inl found) =
-          sym (untaken found.0 found.2 (standings held.sessions) (c.queue (at + 1))
-          (st.queues at found.0 found.2).stands)
-      by (inr past_end) = let le = past_end.0 in absurd (omega (arith, le, lt))
-
 module _ {D : Type 0} {tells : D → Bool} {past : D → List Disk} {faults : D → ℕ} where
   -- a rule for the place of a queue
   pub at-queue : (Each : ℕ → Setup → Cluster → List ClusterEvent → Type 0) {old new : Held D}
@@ -102,7 +76,8 @@ module _ {D : Type 0} {tells : D → Bool} {past : D → List Disk} {faults : D 
 
   pub gives : (at session : ℕ) (body : Unstamped) {old new : Held D} {before later : List ℕ} (o : Option ℕ)
       → at < length old.queues.items → false ≡ (standings old.sessions session).ended
-      → IsNotTaken at session body old.queues.items o
+      → ((setup : Setup) (c : Cluster) → Stands tells past setup old c
+      → o ≡ not_taken session body (c.queue (at + 1)))
       → Served tells past faults (λ setup. IsClaimed o session body (at + 1)) old new before later
       → Served tells past faults (λ setup. IsGiven session body (at + 1)) old new before later
   gives at session body {old = old} o lt not' untaken served =
@@ -112,7 +87,7 @@ module _ {D : Type 0} {tells : D → Bool} {past : D → List Disk} {faults : D 
       (IsClaimed (not_taken session body (c.queue (at + 1))) session body (at + 1)) c events
       (ended-at setup c old at session st lt ∙ sym not')
       (subst (λ (x : Option ℕ). IsClaimed x session body (at + 1) c events)
-      (sym (claimed-at setup c old at session body o st lt untaken)) allowed))
+      (untaken setup c st) allowed))
 
   -- ---- where a node is up, or down
 
@@ -207,7 +182,8 @@ module _ {D : Type 0} {tells : D → Bool} {past : D → List Disk} {faults : D 
 
   pub submit-gave_up : (at session : ℕ) (body : Unstamped) {old new : Held D} {memory : Memory} (o : Option ℕ)
       → at < length old.queues.items → false ≡ (standings old.sessions session).ended
-      → IsNotTaken at session body old.queues.items o
+      → ((setup : Setup) (c : Cluster) → Stands tells past setup old c
+      → o ≡ not_taken session body (c.queue (at + 1)))
       → GaveUp tells past faults (λ setup. IsClaimed o session body (at + 1)) old new memory
       → GaveUp tells past faults (λ setup. IsGiven session body (at + 1)) old new memory
   submit-gave_up at session body {old = old} o lt not' untaken given =
@@ -217,7 +193,7 @@ module _ {D : Type 0} {tells : D → Bool} {past : D → List Disk} {faults : D 
       (IsClaimed (not_taken session body (c.queue (at + 1))) session body (at + 1)) c events
       (ended-at setup c old at session st lt ∙ sym not')
       (subst (λ (x : Option ℕ). IsClaimed x session body (at + 1) c events)
-      (sym (claimed-at setup c old at session body o st lt untaken)) allowed)) given
+      (untaken setup c st) allowed)) given
 
   pub up-gave_up : {Rule : Ruling} (k : ℕ) {old new : Held D} {memory : Memory}
       → ((setup : Setup) (c : Cluster) → Stands tells past setup old c → true ≡ c.up k)

@@ -1,41 +1,32 @@
 //! The lines of a script, as the nodes carry them out.
-ghost use Rattle.std.specs.Prelude.{◌≡◌, ◌<◌, ◌≤◌, ◌+◌, ◌-◌, ℕ, List, Some, length, map, slice_get, All, IfErr, IsOkUnless, OnOk};
+ghost use Rattle.std.specs.Prelude.{◌≡◌, ◌<◌, ◌≤◌, ◌+◌, ◌-◌, ℕ, List, length, map, All, IfErr, IsOkUnless, OnOk};
 ghost use Rattle.qq_base.specs.declared.ids.QueueId.{QueueId as Id};
 ghost use Rattle.qq_cluster.specs.Cluster.{Cluster, Setup, Alike, At, EndsEach, MutesEach};
 ghost use Rattle.qq_cluster.specs.Lines.{AndPumped, IsRouted, WhereUp};
 ghost use Rattle.qq_cluster.specs.Queue.{Downs, Notices, Resends, Ticks};
 ghost use Rattle.qq_cluster.specs.Rules.{ForEach, Is, IsEnd, IsGiven, IsResend, IsSync, IsWrite, not_taken};
-ghost use Rattle.qq_cluster_queue.specs.ClusterQueue.{OfItsQueue};
 ghost use Rattle.qq_cluster_queue.specs.Range.{MayStamp};
-ghost use Rattle.qq_cluster_queue.specs.declared.cluster_queue.ClusterQueue.{ClusterQueue as Held};
 ghost use Rattle.qq_nodes.specs.Asking.{MayAsk, asked};
 ghost use Rattle.qq_nodes.specs.Nodes.{CanServe, GaveUp, IsNodeAt, IsQueueAt, Served, Stands};
 
 use crate::asking::Ask;
 use crate::nodes::Nodes;
 use qq_base::{Duplicate, Memory, NodeId, QueueId};
-use qq_cluster_queue::{ClusterQueue, sessions_are_those_of_each_queue};
+use qq_cluster_queue::sessions_are_those_of_each_queue;
 use qq_disk::NodeDisk;
 use qq_entry::Unstamped;
 use std::alloc::Global;
 
-// The first delivery that a session's command ends at a queue and that wasn't handed out there.
-fn not_taken_at(
-    queues: &[ClusterQueue],
-    alloc: Global,
-    at: usize,
-    session: u64,
-    body: &Unstamped,
-) -> Option<u64>
-    requires { at < length queues.now }
-
-    ensures { (d : Held) → slice_get queues.now at ≡ Some d →
-        OfItsQueue d (λ q. result ≡ not_taken session body.now q) }
-{
-    queues[at].not_taken(alloc, session, body)
-}
-
 impl<D: NodeDisk> Nodes<D> {
+    // The first delivery that a session's command ends at a queue and that wasn't handed out there.
+    fn not_taken(&self, alloc: Global, at: usize, session: u64, body: &Unstamped) -> Option<u64>
+        requires { at < length self.now.queues.items }
+        ensures { (setup : Setup) (c : Cluster) → Stands D.tells D.past setup self.now c →
+            result ≡ not_taken session body.now (c.queue (at + 1)) }
+    {
+        self.queues[at].not_taken(alloc, session, body)
+    }
+
     // A session gives a command at a queue, or is told that it has ended, or that a delivery of the command wasn't
     // handed out.
     pub(crate) fn give_at(
@@ -59,9 +50,7 @@ impl<D: NodeDisk> Nodes<D> {
         if ended {
             return self.ask(alloc, at, Ask::TellEnded { session }, text);
         }
-        let untaken = not_taken_at(self.queues.as_slice(), alloc, at, session, &body);
-        if let Some(id) = untaken {
-            drop(body);
+        if let Some(id) = self.not_taken(alloc, at, session, &body) {
             return self.ask(alloc, at, Ask::TellNotTaken { session, id }, text);
         }
         self.ask(alloc, at, Ask::Submit { session, body }, text)

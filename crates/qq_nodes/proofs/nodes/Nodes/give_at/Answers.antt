@@ -1,6 +1,6 @@
 use Rattle.std.proofs.Common.{None, Some, sym, ◌∙◌}
 use Rattle.std.proofs.lemmas.Result.{IfErr-weaker, on_ok_weaker}
-use Rattle.qq_nodes.proofs.LineRules.{ended-gave_up, gives, gives-ended, submit-gave_up, taken-is}
+use Rattle.qq_nodes.proofs.LineRules.{ended-gave_up, gives, gives-ended, submit-gave_up}
 use Rattle.qq_nodes.proofs.nodes.Nodes.give_at.Goals as goal
 
 pub returns-then-ended-clause-ok : goal.returns-then-ended-clause-ok
@@ -11,18 +11,15 @@ returns-then-ended-clause-ok g c =
 
 pub returns-in-Some-clause-ok : goal.returns-in-Some-clause-ok
 returns-in-Some-clause-ok g c =
-    on_ok_weaker c.ask-2.result
+    on_ok_weaker c.ask-in-Some.result
     (λ served. gives c.args.at c.args.session c.args.body (Some c.in-Some.id) c.requires.place
-    (sym c.if-ended.false ∙ c.is_ended-ended.ensures)
-    (taken-is c.args.at c.args.session c.args.body c.in-Some.is c.not_taken_at-untaken.ensures) served) c.ask-2.ensures.ok
+    (sym c.if-ended.false ∙ c.is_ended-ended.ensures) c.in-Some.ensures served) c.ask-in-Some.ensures.ok
 
 pub returns-clause-ok : goal.returns-clause-ok
 returns-clause-ok g c =
-    on_ok_weaker c.ask-3.result
+    on_ok_weaker c.ask-2.result
     (λ served. gives c.args.at c.args.session c.args.body None c.requires.place
-    (sym c.if-ended.false ∙ c.is_ended-ended.ensures)
-    (taken-is c.args.at c.args.session c.args.body c.in_default.is c.not_taken_at-untaken.ensures) served)
-    c.ask-3.ensures.ok
+    (sym c.if-ended.false ∙ c.is_ended-ended.ensures) c.in_default.ensures served) c.ask-2.ensures.ok
 
 pub returns-then-ended-clause-err : goal.returns-then-ended-clause-err
 returns-then-ended-clause-err g c =
@@ -32,16 +29,12 @@ returns-then-ended-clause-err g c =
 
 pub returns-in-Some-clause-err : goal.returns-in-Some-clause-err
 returns-in-Some-clause-err g c =
-    IfErr-weaker c.ask-2.result _ _
+    IfErr-weaker c.ask-in-Some.result _ _
     (λ memory given. submit-gave_up c.args.at c.args.session c.args.body (Some c.in-Some.id) c.requires.place
-    (sym c.if-ended.false ∙ c.is_ended-ended.ensures)
-    (taken-is c.args.at c.args.session c.args.body c.in-Some.is c.not_taken_at-untaken.ensures) given)
-    c.ask-2.ensures.err
+    (sym c.if-ended.false ∙ c.is_ended-ended.ensures) c.in-Some.ensures given) c.ask-in-Some.ensures.err
 
 pub returns-clause-err : goal.returns-clause-err
 returns-clause-err g c =
-    IfErr-weaker c.ask-3.result _ _
+    IfErr-weaker c.ask-2.result _ _
     (λ memory given. submit-gave_up c.args.at c.args.session c.args.body None c.requires.place
-    (sym c.if-ended.false ∙ c.is_ended-ended.ensures)
-    (taken-is c.args.at c.args.session c.args.body c.in_default.is c.not_taken_at-untaken.ensures) given)
-    c.ask-3.ensures.err
+    (sym c.if-ended.false ∙ c.is_ended-ended.ensures) c.in_default.ensures given) c.ask-2.ensures.err
