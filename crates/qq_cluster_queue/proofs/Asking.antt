@@ -43,7 +43,7 @@ use Rattle.qq_cluster_queue.specs.Fetching.{fetched_all, fetched_by}
 use Rattle.qq_cluster_queue.specs.Members.{IsGroupOf, Member, Members, number_of, own_log, queue_stands, queue_step}
 use Rattle.qq_cluster_queue.specs.Sessions.{Standings, clients_of, no_numbers, numbers_of}
 use Rattle.qq_cluster_queue.specs.declared.cluster_queue.ClusterQueue.{ClusterQueue}
-use Rattle.qq_cluster_queue.proofs.Fetching.{fetched-out}
+use Rattle.qq_cluster_queue.proofs.Fetched.{fetched-out}
 use Rattle.qq_cluster.specs.Texts.{shown_text_as}
 use Rattle.qq_cluster_queue.proofs.Happening.{stands-then}
 use Rattle.qq_cluster_queue.proofs.Hearing.{came-then, shown-same}
@@ -119,18 +119,11 @@ goes-on m session all k g before after is grown =
     let one : k + 1 ≡ suc k = omega arith in
     ap (λ (l : List Effect). l ++ fetched_all m session (drop (k + 1) all)) grown
     ∙ append_assoc before (fetched_by m session g) (fetched_all m session (drop (k + 1) all))
-    ∙ ap (λ (n : ℕ). before ++ fetched_by m session g ++ fetched_all m session (drop n all)) one
+    ∙ ap (λ (n : ℕ). before ++ (fetched_by m session g ++ fetched_all m session (drop n all))) one
     ∙ ap (λ (l : List Effect). before ++ l) (sym (next-fetched m session all k g is))
 
--- where there is none, none is left
-pub passes : (m : Parts) (session : SessionId) (all : List Received) (k : ℕ)
-    → option_map gap (slice_get all k) ≡ None
-    → fetched_all m session (drop k all) ≡ fetched_all m session (drop (k + 1) all)
-passes m session [] k is = refl
-passes m session (r ∷ all) zero is = absurd (let e : Some (gap r) ≡ None = is in cc)
-passes m session (r ∷ all) (suc k) is = passes m session all k is
-
-pub none-left : (m : Parts) (session : SessionId) (all : List Received) → fetched_all m session (drop (length all) all) ≡ []
+pub none-left : (m : Parts) (session : SessionId) (all : List Received)
+    → fetched_all m session (drop (length all) all) ≡ []
 none-left m session [] = refl
 none-left m session (r ∷ all) = none-left m session all
 

@@ -82,14 +82,26 @@ lose-plain zero positive = absurd (omega (arith, positive))
 lose-plain (suc at) positive =
     let same : suc at - 1 ≡ at = omega arith in
     subst (λ (n : ℕ). IsPlain (Loses n) (Lose at ∷ [])) (sym same)
-    (record { moves_are = λ q. refl; clients_are = λ q. refl; consumers_are = λ q. refl; synced_is = λ q. refl; silent = λ q. refl })
+    (record {
+      moves_are = λ q. refl;
+      clients_are = λ q. refl;
+      consumers_are = λ q. refl;
+      synced_is = λ q. refl;
+      silent = λ q. refl;
+    })
 
 pub copy-plain : (place : ℕ) → 0 < place → IsPlain (Copies (place - 1)) (move_at Copy place)
 copy-plain zero positive = absurd (omega (arith, positive))
 copy-plain (suc at) positive =
     let same : suc at - 1 ≡ at = omega arith in
     subst (λ (n : ℕ). IsPlain (Copies n) (Copy at ∷ [])) (sym same)
-    (record { moves_are = λ q. refl; clients_are = λ q. refl; consumers_are = λ q. refl; synced_is = λ q. refl; silent = λ q. refl })
+    (record {
+      moves_are = λ q. refl;
+      clients_are = λ q. refl;
+      consumers_are = λ q. refl;
+      synced_is = λ q. refl;
+      silent = λ q. refl;
+    })
 
 -- ---- events that tell
 
@@ -145,7 +157,8 @@ telling-does sessions old new q event made k rows slice before after st t makes 
       said' ∙ ap all is
           ∙ ap (λ (l : List AuditRow). before ++ text_as old
           (answers l ++ show_all own (effects_in rows) old.consumers)) rows'.rows_are
-          ∙ ap (λ (l : List Effect). before ++ text_as old (answers (rows_told q event) ++ show_all own l old.consumers))
+          ∙ ap (λ (l : List Effect). before ++ text_as old
+          (answers (rows_told q event) ++ show_all own l old.consumers))
           (rows'.effects_are ∙ sym t.shown_is)
           ∙ ap (λ (l : List Received). before ++ text_as old
           (answers (rows_told q event) ++ show_all own (effects_shown q event) l)) (sym known')

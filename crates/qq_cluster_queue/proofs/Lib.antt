@@ -16,5 +16,5 @@ mod Beginning
 mod Counting
 mod Taking
 mod Refusing
-pub mod Fetching
+pub mod Fetched
 pub mod Asking

@@ -191,7 +191,8 @@ pub offering-does : (sessions : Standings) (old new : ClusterQueue) (q : Queue) 
     → (happens q event).consumers ≡ new.consumers
     → after ≡ before ++ text_as old (said_of (is_some o) session given)
     → Stands sessions new (happens q event) × (after ≡ before ++ text_as old (said q event))
-offering-does sessions old new q event session given o before after st f lead makes args synced clients consumers said' =
+offering-does sessions old new q event session given o before after st f lead makes args synced clients consumers
+    said' =
     let group = makes old.args q.group st.group in
     let own : leader q.group ≡ number_of o =
     leader-is q.group old.group st.group.represents ∙ ap number_of (sym lead) in (
@@ -366,7 +367,8 @@ pub submit-does : (sessions : Standings) (old new : ClusterQueue) (q : Queue) (s
     → after ≡ before ++ text_as old (said_of (is_some o) session (command ∷ []))
     → Stands sessions new (happens q (Submits session body))
     × (after ≡ before ++ text_as old (said q (Submits session body)))
-submit-does sessions old new q session body command o before after st less is lead makes args synced numbers knows said' =
+submit-does sessions old new q session body command o before after st less is lead makes args synced numbers knows
+    said' =
     let room : may_hand (numbers_of old.publishers session) ≡ true =
     lt-ltb (length (numbers_of old.publishers session).opened) WINDOW less in
     offering-does sessions old new q (Submits session body) session (command ∷ []) o before after st
@@ -429,11 +431,13 @@ pub down-does : (sessions : Standings) (old new : ClusterQueue) (q : Queue) (ses
     → after ≡ before ++ text_as old (said_of (is_some o) session (command ∷ []))
     → Stands sessions new (happens q (Downs session))
     × (after ≡ before ++ text_as old (said q (Downs session)))
-down-does sessions old new q session command o before after st used is lead makes args synced publishers consumers said' =
+down-does sessions old new q session command o before after st used is lead makes args synced publishers consumers
+    said' =
     offering-does sessions old new q (Downs session) session (command ∷ []) o before after st
     (subst (λ (x : Command). IsOffering (Downs session) q session (x ∷ [])) (sym is)
     (down-offers sessions old q session st used)) lead (one-makes o command old.group new.group makes) args synced
-    (st.clients ∙ ap (λ (p : _). clients_of sessions (numbers_of p)) (sym publishers)) (st.consumers ∙ sym consumers) said'
+    (st.clients ∙ ap (λ (p : _). clients_of sessions (numbers_of p)) (sym publishers))
+    (st.consumers ∙ sym consumers) said'
 
 pub unused-does : (sessions : Standings) (old new : ClusterQueue) (q : Queue) (session : ℕ) (before after : List ℕ)
     → Stands sessions old q → is_used (numbers_of old.publishers session) ≡ false → new ≡ old → after ≡ before
@@ -457,8 +461,8 @@ pub resend-does : (sessions : Standings) (old new : ClusterQueue) (q : Queue) (s
 resend-does sessions old new q session given o before after st is lead makes args synced publishers consumers said' =
     offering-does sessions old new q (Resends session) session given o before after st
     (subst (IsOffering (Resends session) q session) (sym is) (resend-offers sessions old q session st)) lead makes args
-    synced (st.clients ∙ ap (λ (p : _). clients_of sessions (numbers_of p)) (sym publishers)) (st.consumers ∙ sym consumers)
-    said'
+    synced (st.clients ∙ ap (λ (p : _). clients_of sessions (numbers_of p)) (sym publishers))
+    (st.consumers ∙ sym consumers) said'
 
 -- ---- commands that are sent again
 

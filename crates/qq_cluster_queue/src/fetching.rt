@@ -60,7 +60,8 @@ fn fetch_one(
         Ok(found) => found,
         Err(cause) => return Err(cause),
     };
-    push_all(gap.consumer, found, effects)
+    push_all(gap.consumer, found, effects)?;
+    Ok(())
 }
 
 // What a session's consumers may fetch, in the order of their subscriptions.
@@ -77,17 +78,19 @@ fn fetch_all(
     let mut effects = Vec::new(alloc);
     let count = consumers.count();
     'places: for place in 0..count {
-        if let Some(gap) = consumers.gap(place) {
-            fetch_one(alloc, machine, session, gap, &mut effects)?;
-        }
+        // There is one at each place below the count.
+        let Some(gap) = consumers.gap(place) else {
+            return Err(Memory::Want);
+        };
+        fetch_one(alloc, machine, session, gap, &mut effects)?;
     }
     Ok(effects)
 }
 
 impl ClusterQueue {
-    /// A session, numbered from 1, asks the leader for what is out with its consumers and hasn't come to them, and `out`
-    /// grows by what is handed out then. Without a leader nothing happens. The only error is `Memory::Want`, out of
-    /// memory, after which `out` begins with what it had.
+    /// A session, numbered from 1, asks the leader for what is out with its consumers and hasn't come to them, and
+    /// `out` grows by what is handed out then. Without a leader nothing happens. The only error is `Memory::Want`,
+    /// out of memory, after which `out` begins with what it had.
     pub fn fetch(
         &mut self,
         alloc: Global,
@@ -116,8 +119,9 @@ impl ClusterQueue {
         let Some(queue) = self.group.machine(leader) else {
             return Err(Memory::Want);
         };
+        let machine = queue.machine();
         let id = SessionId::client(session);
-        let effects = match fetch_all(alloc, queue.machine(), id, &self.consumers) {
+        let effects = match fetch_all(alloc, machine, id, &self.consumers) {
             Ok(effects) => effects,
             Err(cause) => return Err(cause),
         };

@@ -41,7 +41,10 @@ fn learn(
     if !room {
         return Ok(());
     }
-    consumers.know_by(alloc, SessionId::client(session), body)
+    if let Err(cause) = consumers.know_by(alloc, SessionId::client(session), body) {
+        return Err(cause);
+    }
+    Ok(())
 }
 
 impl ClusterQueue {
@@ -115,8 +118,7 @@ impl ClusterQueue {
         ensures cause { IfErr result (IsSubmitCaused session body self.old) }
     {
         let leader = self.group.leader();
-        let learned = learn(alloc, &self.publishers, &mut self.consumers, session, &body);
-        if let Err(cause) = learned {
+        if let Err(cause) = learn(alloc, &self.publishers, &mut self.consumers, session, &body) {
             return Err(cause);
         }
         let command = match self.publishers.hand(alloc, session, body) {

@@ -119,11 +119,11 @@ fn come(
         Ok(own) => own,
         Err(cause) => return Err(cause),
     };
-    // No queue gives an id at the end of numbers.
-    if consumers.come(consumer, own, handed).is_err() {
-        return Err(Memory::Want);
+    match consumers.come(consumer, own, handed) {
+        Ok(()) => Ok(()),
+        // No queue gives an id at the end of numbers.
+        Err(_) => Err(Memory::Want),
     }
-    Ok(())
 }
 
 // A delivery comes to its session, unless what comes to that is lost, and `out` grows by what is handed out then.

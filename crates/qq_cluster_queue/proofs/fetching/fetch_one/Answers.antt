@@ -1,11 +1,7 @@
 use Rattle.std.proofs.Common.{◌++◌, List, map, sym, ap, ◌∙◌, append-nil}
-use Rattle.std.proofs.lemmas.Bool.{cond-false, cond-true}
-use Rattle.qq_base.specs.Ids.{same_session}
-use Rattle.qq_consumer.specs.Roster.{one_of}
 use Rattle.qq_entry.specs.declared.answer.Delivery.{Delivery}
 use Rattle.qq_entry.specs.declared.audit.Effect.{Effect}
 use Rattle.qq_entry.specs.declared.audit.Effect.TheVariants.{Deliver}
-use Rattle.qq_machine.specs.Reads.{fetched}
 use Rattle.qq_cluster_queue.proofs.Asking.{others-stay, own-fetched}
 use Rattle.qq_cluster_queue.proofs.fetching.fetch_one.Goals as goal
 
@@ -13,11 +9,12 @@ pub returns-then-not-own-clause-ok : goal.returns-then-not-own-clause-ok
 returns-then-not-own-clause-ok c =
     sym (append-nil c.args.effects.now.items)
     ∙ ap (λ (l : List Effect). c.args.effects.now.items ++ l)
-    (sym (others-stay c.args.machine.now c.args.session c.args.gap c.if-not-own.true))
+    (sym (others-stay c.args.machine.now c.args.session c.args.gap
+    (sym c.eq-own.ensures ∙ c.if-not-own.true)))
 
 pub returns-clause-ok : goal.returns-clause-ok
 returns-clause-ok c =
-    c.push_all.ensures.ok
+    c.in_ok-push_all.ensures.ok
     ∙ ap (λ (l : List Delivery). c.args.effects.now.items ++ map (Deliver c.args.gap.consumer) l) c.in-Ok.ensures.ok
     ∙ ap (λ (l : List Effect). c.args.effects.now.items ++ l)
-    (sym (own-fetched c.args.machine.now c.args.session c.args.gap c.if-not-own.false))
+    (sym (own-fetched c.args.machine.now c.args.session c.args.gap (sym c.eq-own.ensures ∙ c.if-not-own.false)))

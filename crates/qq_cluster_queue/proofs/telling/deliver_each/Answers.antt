@@ -4,7 +4,6 @@ use Rattle.std.proofs.lemmas.List.{drop_more}
 use Rattle.qq_base.proofs.Fronts.{front-trans}
 use Rattle.qq_cluster.specs.Delivering.{come_all, show_all}
 use Rattle.qq_cluster.specs.Texts.{shown_text_as}
-use Rattle.qq_consuming.specs.Consuming.{Received}
 use Rattle.qq_entry.specs.declared.audit.Effect.{Effect}
 use Rattle.qq_session.specs.Clients.{Clients}
 use Rattle.qq_session.specs.Shown.{Shown}
@@ -25,7 +24,8 @@ effects-preserved c =
       came = ap (come_all own rest) c.in_default.ensures.came
           ∙ ap (λ (l : List Effect). come_all own l c.effects.consumers) here
           ∙ c.effects.invariant.came;
-      said = ap (λ (t : List ℕ). t ++ flat_map text (show_all own rest c.deliver.new.consumers)) c.in_default.ensures.said
+      said = ap (λ (t : List ℕ). t ++ flat_map text (show_all own rest c.deliver.new.consumers))
+          c.in_default.ensures.said
           ∙ effect-then text own c.effects.out.items effect rest c.effects.consumers c.deliver.new.consumers
           c.in_default.ensures.came
           ∙ ap (λ (l : List Effect). c.effects.out.items ++ flat_map text (show_all own l c.effects.consumers)) here

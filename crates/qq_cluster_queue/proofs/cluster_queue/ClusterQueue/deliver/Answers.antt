@@ -11,7 +11,11 @@ use Rattle.qq_cluster_queue.proofs.cluster_queue.ClusterQueue.deliver.Goals as g
 pub returns-clause-ok : goal.returns-clause-ok
 returns-clause-ok c = λ q st.
     telling-does (standings c.args.sessions.now) c.args.self.now
-    (record c.args.self.now { group = c.happen.new.group; publishers = c.tell.new.publishers; consumers = c.tell.new.consumers }) q
+    (record c.args.self.now {
+      group = c.happen.new.group;
+      publishers = c.tell.new.publishers;
+      consumers = c.tell.new.consumers;
+    }) q
     (Delivers (c.args.place - 1)) (move_at Deliver c.args.place)
     (number_of (receiver_of (at_place c.args.place c.args.self.now.group.bag))) c.in-Ok.shown.rows.items
     c.as_slice-rows.result.now c.args.out.now.items c.tell.new.out.items st

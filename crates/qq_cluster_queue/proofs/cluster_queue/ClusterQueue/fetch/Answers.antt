@@ -1,4 +1,4 @@
-use Rattle.std.proofs.Common.{List, refl, ap, ◌∙◌}
+use Rattle.std.proofs.Common.{refl, ap, ◌∙◌}
 use Rattle.qq_base.specs.declared.ids.SessionId.{SessionId}
 use Rattle.qq_parts.specs.Parts.{Parts}
 use Rattle.qq_cluster_queue.specs.Fetching.{fetched_all}
@@ -16,10 +16,10 @@ returns-clause-ok c = λ q st.
     fetch-does c.what_is_committed_stays_in_the_audit.ensures.known c.what_a_group_committed_stays.ensures.commit
     c.parts_tell_the_queue.ensures c.deliveries_end.ensures (standings c.args.sessions.now) c.args.self.now
     (record c.args.self.now { consumers = c.deliver_each.new.consumers }) q c.args.session c.in-Some.leader
-    c.in-Some-machine.queue.now c.in-Ok.effects.items c.args.out.now.items c.deliver_each.new.out.items st
+    c.in-Some-machine.queue.now c.as_slice.result.now c.args.out.now.items c.deliver_each.new.out.items st
     c.in-Some.ensures c.in-Some-machine.ensures
-    (c.in-Ok.ensures.ok
-    ∙ ap (λ (m : Parts). fetched_all m c.client-id.result c.args.self.now.consumers) c.machine.ensures
+    (c.as_slice.ensures.value ∙ c.in-Ok.ensures.ok
+    ∙ ap (λ (m : Parts). fetched_all m c.client-id.result c.args.self.now.consumers) c.machine-machine.ensures
     ∙ ap (λ (id : SessionId). fetched_all c.in-Some-machine.queue.now.machine id c.args.self.now.consumers)
     c.client-id.ensures) refl refl refl refl
     c.in_default-deliver_each.ensures.came c.in_default-deliver_each.ensures.said

@@ -10,7 +10,11 @@ use Rattle.qq_cluster_queue.proofs.cluster_queue.ClusterQueue.notice.Goals as go
 pub returns-clause-ok : goal.returns-clause-ok
 returns-clause-ok c = λ q st.
     telling-does (standings c.args.sessions.now) c.args.self.now
-    (record c.args.self.now { group = c.happen.new.group; publishers = c.tell.new.publishers; consumers = c.tell.new.consumers }) q
+    (record c.args.self.now {
+      group = c.happen.new.group;
+      publishers = c.tell.new.publishers;
+      consumers = c.tell.new.consumers;
+    }) q
     (Notices c.args.node.0) (Notice c.args.node.0 c.at-op.result ∷ []) (Some c.args.node.0) c.in-Ok.shown.rows.items
     c.as_slice-rows.result.now c.args.out.now.items c.tell.new.out.items st
     (notice-telling (standings c.args.sessions.now) c.args.self.now q c.args.node.0 c.at-op.result st c.at-op.ensures)

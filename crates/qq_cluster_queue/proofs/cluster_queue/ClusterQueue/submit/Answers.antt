@@ -1,8 +1,23 @@
-use Rattle.std.proofs.Common.{ap, ◌∙◌}
+use Rattle.std.proofs.Common.{refl, ap, subst, ◌∙◌}
+use Rattle.std.proofs.lemmas.Result.{on_ok_weaker}
+use Rattle.qq_session.specs.declared.publishing.HandFault.{HandFault}
+use Rattle.qq_session.specs.Publishing.{HasHandCause}
 use Rattle.qq_cluster_queue.specs.Sessions.{numbers_of}
 use Rattle.qq_cluster_queue.specs.declared.cluster_queue.ClusterQueue.{ClusterQueue}
-use Rattle.qq_cluster_queue.proofs.Offering.{submit-does}
+use Rattle.qq_cluster_queue.proofs.Offering.{full-does, submit-does}
 use Rattle.qq_cluster_queue.proofs.cluster_queue.ClusterQueue.submit.Goals as goal
+
+pub returns-in-Err-WindowFull-clause-ok : goal.returns-in-Err-WindowFull-clause-ok
+returns-in-Err-WindowFull-clause-ok c =
+    on_ok_weaker c.tell_full.result
+    (λ said sessions q st.
+    full-does sessions c.args.self.now
+    (record c.args.self.now { publishers = c.hand.new.self; consumers = c.learn.new.consumers }) q c.args.session
+    c.args.body c.args.out.now.items c.tell_full.new.out.items st
+    (subst (λ (fault : HandFault). HasHandCause fault (numbers_of c.args.self.now.publishers c.args.session))
+    c.in-Err-WindowFull.field-0-is c.in-Err-WindowFull.ensures.cause) refl refl refl c.in-Err-WindowFull.ensures.err
+    c.in_default.ensures.ok said)
+    c.tell_full.ensures.ok
 
 pub returns-clause-ok : goal.returns-clause-ok
 returns-clause-ok c = λ sessions q st.

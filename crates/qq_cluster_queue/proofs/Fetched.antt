@@ -1,6 +1,6 @@
 -- What a machine fetches is what is out with a consumer by the definition.
 use Rattle.std.proofs.Common.{◌≡◌, ◌⊎◌, ℕ, zero, suc, ◌+◌, ◌-◌, ◌<◌, ◌≤◌, Bool, true, false, cond, List, [], ◌∷◌, ◌++◌, map, filter, Option, Some, None, refl, sym, ap, ◌∙◌, subst, inl, inr, arith}
-use Rattle.std.specs.Prelude.{filter_map, find, nat_eq, nat_le}
+use Rattle.std.specs.Prelude.{filter_map, find, nat_eq}
 use Rattle.std.specs.List.{AllByRecursion, cons_option, range_with_len}
 use Rattle.std.specs.Option.{option_map}
 use Rattle.std.proofs.lemmas.Bool.{cases_Bool, cases_lt, cond-true, cond-false, eqb-true, eqb-false, le-leb, lt-leb, leb-false, leb-true, ne_eqb}
@@ -12,7 +12,6 @@ use Rattle.qq_entry.specs.declared.answer.Delivery.{Delivery}
 use Rattle.qq_machine.specs.Reads.{delivery_of as delivery_in, fetched, is_from}
 use Rattle.qq_model.specs.declared.consumer.Consumer.{Consumer}
 use Rattle.qq_model.specs.declared.place.Place.TheVariants.{Out}
-use Rattle.qq_model.specs.declared.place.Row.{Row}
 use Rattle.qq_model.specs.State.{State}
 use Rattle.qq_model.specs.Changes.{consumer_of, delivery_of, message_of}
 use Rattle.qq_consumer.specs.Roster.{one_of}
@@ -70,12 +69,13 @@ from-splits n (x ∷ xs) rise =
       | inr other ↦
           ap (λ (o : Option Item). cons_option o (filter (is_from (n + 1)) (x ∷ xs)))
           (cond-false (nat_eq (item_number x) n) (Some x) (item_of n xs) other)
-          ∙ apart (cases_Bool (is_from n x)) (eqb-false (item_number x) n other)
+          ∙ apart (cases_Bool (is_from n x)) (eqb-false (item_number x) n other) (from-splits n xs rise.1)
     ]
   where
     apart : ((is_from n x ≡ true) ⊎ (is_from n x ≡ false)) → (item_number x ≡ n → ⊥)
+        → cons_option (item_of n xs) (filter (is_from (n + 1)) xs) ≡ filter (is_from n) xs
         → cons_option (item_of n xs) (filter (is_from (n + 1)) (x ∷ xs)) ≡ filter (is_from n) (x ∷ xs)
-    apart (inl from) other =
+    apart (inl from) other rest =
         let le : n ≤ item_number x = leb-true n (item_number x) from in
         let lt : n < item_number x =
         elim (cases_lt n (item_number x)) [
@@ -89,12 +89,12 @@ from-splits n (x ∷ xs) rise =
         (le-leb (n + 1) (item_number x) (omega (arith, lt)))
         ∙ ap (λ (l : List Item). x ∷ l) (above-same n xs later)
         ∙ sym (cond-true (is_from n x) (x ∷ filter (is_from n) xs) (filter (is_from n) xs) from)
-    apart (inr before) other =
+    apart (inr before) other rest =
         let lt : item_number x < n = leb-false n (item_number x) before in
         ap (λ (l : List Item). cons_option (item_of n xs) l)
         (cond-false (is_from (n + 1) x) (x ∷ filter (is_from (n + 1)) xs) (filter (is_from (n + 1)) xs)
         (lt-leb (n + 1) (item_number x) (omega (arith, lt))))
-        ∙ from-splits n xs rise.1
+        ∙ rest
         ∙ sym (cond-false (is_from n x) (x ∷ filter (is_from n) xs) (filter (is_from n) xs) before)
 
 none-from : (n : ℕ) (xs : List Item) → AllByRecursion (λ (x : Item). item_number x < n) xs
