@@ -8,9 +8,16 @@ use Rattle.qq_disk.specs.declared.image.Image.{Image}
 use Rattle.qq_disk.specs.declared.image.Tail.TheVariants.{Whole}
 use Rattle.qq_disk.specs.Disk.{Disk}
 use Rattle.qq_disk.proofs.Moments.{adds-none}
+use Rattle.qq_base.specs.Causes.{SpentOnlyWhere}
 use Rattle.qq_base.specs.declared.ids.QueueId.{QueueId}
+use Rattle.qq_base.specs.declared.memory.Memory.{Memory}
+use Rattle.qq_base.specs.declared.memory.TheConstants.{NUMBER_END}
 use Rattle.qq_cluster_queue.specs.declared.cluster_queue.ClusterQueue.{ClusterQueue}
 use Rattle.qq_entry.specs.declared.audit.AuditRow.{AuditRow}
+use Rattle.qq_entry.specs.declared.command.Entry.{Entry}
+use Rattle.qq_entry.specs.declared.queue.QueueArgs.{QueueArgs}
+use Rattle.qq_model.specs.Audit.{audit_of, stays_within}
+use Rattle.qq_model.specs.State.{empty_queue}
 use Rattle.qq_raft_protocol.specs.Facts.{In}
 use Rattle.qq_script.specs.Audit.{audit_text}
 use Rattle.qq_setup.specs.Setup.{SetupState, state_of}
@@ -27,7 +34,7 @@ use Rattle.qq_nodes.specs.Setting.{HaveDisks}
 use Rattle.qq_nodes.specs.Stopping.{crashes_with}
 use Rattle.qq_nodes.specs.declared.nodes.Nodes.{Nodes}
 use Rattle.qq_nodes.proofs.Stands.{stands-logs}
-use Rattle.qq_broker.specs.Broker.{Rests, Runs, cluster_at, setup_at}
+use Rattle.qq_broker.specs.Broker.{IsPastEnd, Rests, Runs, cluster_at, setup_at}
 use Rattle.qq_broker.specs.Lives.{Became, Giving, IsOneDisk, disk_at}
 use Rattle.qq_broker.specs.Nodes.{IsDiskOf}
 use Rattle.qq_broker.specs.declared.broker.Audits.{Audits}
@@ -40,14 +47,18 @@ use Rattle.qq_broker.proofs.Living.{begins-stay, goes-on, lives-then}
 pub some_image : Image
 some_image = record { newest_log = Whole; others = Whole; removed_back = false }
 
--- a stop of a node leaves a queue's audit
-pub audit-stays : (images : ℕ → Image) (list : List ℕ) (c : Cluster) (place : ℕ)
-    → audit_rows ((cluster_after c (crashes_with images list)).queue place) ≡ audit_rows (c.queue place)
-audit-stays images [] c place = refl
-audit-stays images (k ∷ list) c place =
-    audit-stays images list (cluster_happens c (Crashes k (images k))) place ∙ one (c.queue place)
+-- a stop of a node leaves what a queue was set up with, and what its group has committed
+audit-stays : {A : Type 0} (f : QueueArgs → List Entry → A) (images : ℕ → Image) (list : List ℕ) (c : Cluster)
+    (place : ℕ)
+    → f ((cluster_after c (crashes_with images list)).queue place).args
+    ((cluster_after c (crashes_with images list)).queue place).group.audit
+    ≡ f (c.queue place).args (c.queue place).group.audit
+audit-stays f images [] c place = refl
+audit-stays f images (k ∷ list) c place =
+    audit-stays f images list (cluster_happens c (Crashes k (images k))) place ∙ one (c.queue place)
   where
-    one : (q : Queue) → audit_rows (happens q (Stops k)) ≡ audit_rows q
+    one : (q : Queue)
+        → f (happens q (Stops k)).args (happens q (Stops k)).group.audit ≡ f q.args q.group.audit
     one q = refl
 
 module _ {D : Type 0} (given : Giving D) (tells : D → Bool) (past : D → List Disk) (faults : D → ℕ) where
@@ -172,4 +183,17 @@ module _ {D : Type 0} {given : Giving D} {tells : D → Bool} {past : D → List
       (cluster_after (cluster_at t run) (crashes_with (λ k. some_image) (setup_at t run).nodes)) rests.held
       (sym same-queues) (rests.stands (λ k. some_image))
       ∙ ap (λ (rows : List AuditRow). before ++ audit_text ((setup_at t run).name queue.0) 0 rows)
-      (audit-stays (λ k. some_image) (setup_at t run).nodes (cluster_at t run) queue.0)
+      (audit-stays (λ (args : QueueArgs) (audit : List Entry). audit_of (empty_queue args) audit) (λ k. some_image) (setup_at t run).nodes (cluster_at t run) queue.0)
+
+  -- and why there is none
+  pub caused-rests : (queue : QueueId) (e : Memory)
+      → ((setup : ClusterSetup) (c : Cluster) (held : Nodes D) → held.queues ≡ a.nodes.queues
+      → Stands tells past setup held c → SpentOnlyWhere e NUMBER_END (IsPastEnd (c.queue queue.0)))
+      → SpentOnlyWhere e NUMBER_END (IsPastEnd ((cluster_at t run).queue queue.0))
+  caused-rests queue e say =
+      subst (λ (within : Bool). SpentOnlyWhere e NUMBER_END (within ≡ false))
+      (audit-stays (λ (args : QueueArgs) (audit : List Entry). stays_within (empty_queue args) audit) (λ k. some_image)
+      (setup_at t run).nodes (cluster_at t run) queue.0)
+      (say (setup_at t run)
+      (cluster_after (cluster_at t run) (crashes_with (λ k. some_image) (setup_at t run).nodes)) rests.held
+      (sym same-queues) (rests.stands (λ k. some_image)))

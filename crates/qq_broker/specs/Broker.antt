@@ -3,6 +3,8 @@ use Rattle.std.specs.Prelude.{◌≡◌, ◌⊎◌, ◌≤◌, ℕ, Bool, true, 
 use Rattle.qq_base.specs.Causes.{Rose}
 use Rattle.qq_disk.specs.declared.image.Image.{Image}
 use Rattle.qq_disk.specs.Disk.{Disk}
+use Rattle.qq_model.specs.Audit.{stays_within}
+use Rattle.qq_model.specs.State.{empty_queue}
 use Rattle.qq_raft_protocol.specs.Facts.{In}
 use Rattle.qq_script_lines.specs.declared.line.ScriptLine.{ScriptLine}
 use Rattle.qq_script_lines.specs.declared.line.ScriptLine.TheVariants.{Pump}
@@ -10,6 +12,7 @@ use Rattle.qq_defs.specs.Runnable.{IsRunnable}
 use Rattle.qq_setup.specs.declared.setup.Setup.{Setup}
 use Rattle.qq_setup.specs.Setup.{SetupState}
 use Rattle.qq_cluster.specs.Cluster.{Cluster, ClusterEvent, Setup as ClusterSetup, cluster_after}
+use Rattle.qq_cluster.specs.Queue.{Queue}
 use Rattle.qq_cluster.specs.Rules.{IsOpening, is_idle}
 use Rattle.qq_cluster.specs.Texts.{text_of}
 use Rattle.qq_cluster_laws.specs.Restarts.{first_restart}
@@ -112,6 +115,10 @@ setup_at t run = cluster_of t run.logs
 
 abbrev pub cluster_at : SetupState → Run → Cluster
 cluster_at t run = after_all (setup_at t run) run.events
+
+-- a number that a queue's audit makes would be past its end
+abbrev pub IsPastEnd : Queue → Type 0
+IsPastEnd q = stays_within (empty_queue q.args) q.group.audit ≡ false
 
 -- What is left of a broker whose nodes were stopped, and whose disks are these. Whatever crashes leave of the disks,
 -- its queues stand for the cluster after the crashes; each disk is what has become of one that was given for its node.

@@ -1,12 +1,15 @@
 //! A broker over disks, for programs that embed the cluster.
-ghost use Rattle.std.specs.Prelude.{◌≡◌, ◌++◌, Contains, List, IfErr, IfOk, OnOk, length};
+ghost use Rattle.std.specs.Prelude.{◌≡◌, ◌++◌, Contains, List, IfErr, IfOk, OnErr, OnOk, length};
+ghost use Rattle.qq_base.specs.Causes.{SpentOnlyWhere};
+ghost use Rattle.qq_base.specs.Fronts.{IsFront};
+ghost use Rattle.qq_base.specs.declared.memory.TheConstants.{NUMBER_END};
 ghost use Rattle.qq_cluster.specs.Queue.{audit_rows};
 ghost use Rattle.qq_cluster_run.specs.Serving.{Run, setup_in};
 ghost use Rattle.qq_script.specs.Audit.{audit_text};
 ghost use Rattle.qq_script_lines.specs.declared.line.ScriptLine.TheVariants.{Pump};
 ghost use Rattle.qq_setup.specs.Setup.{SetupState, state_of};
 ghost use Rattle.qq_nodes.specs.Setting.{HaveDisks};
-ghost use Rattle.qq_broker.specs.Broker.{HasPumped, Rests, Runs, cluster_at, is_done, setup_at};
+ghost use Rattle.qq_broker.specs.Broker.{HasPumped, IsPastEnd, Rests, Runs, cluster_at, is_done, setup_at};
 ghost use Rattle.qq_broker.specs.Lives.{Giving};
 ghost use Rattle.qq_broker.specs.Nodes.{Meets};
 ghost use Rattle.qq_broker.specs.Serving.{IsGivenUp};
@@ -111,9 +114,10 @@ fn pumped(idle: bool) -> Pumped
 }
 
 impl<D: NodeDisk> Audits<D> {
-    /// Adds the text of a queue's audit.
+    /// Adds the text of a queue's audit. After an error the text begins with what it had.
     ///
     /// - `ok`: it is the queue's audit as its nodes stopped.
+    /// - `cause`: `Spent` comes only where a number of the queue that the audit makes would be past its end.
     pub fn write(&self, alloc: Global, queue: QueueId, text: &mut Vec<u8>) -> Result<(), Memory>
         requires { (given : Giving D) × ((t : SetupState) × ((disks : List D) × ((run : Run)
             × Rests given D.tells D.past D.faults t disks self.now run
@@ -122,6 +126,10 @@ impl<D: NodeDisk> Audits<D> {
             Rests given D.tells D.past D.faults t disks self.now run →
             OnOk result (text.new.items ≡ text.old.items ++ audit_text ((setup_at t run).name queue.0) 0
             (audit_rows ((cluster_at t run).queue queue.0))) }
+        ensures err { OnErr result (IsFront text.old.items text.new.items) }
+        ensures cause { (given : Giving D) (t : SetupState) (disks : List D) (run : Run) →
+            Rests given D.tells D.past D.faults t disks self.now run →
+            IfErr result (λ e. SpentOnlyWhere e NUMBER_END (IsPastEnd ((cluster_at t run).queue queue.0))) }
     {
         self.nodes.audit_text(alloc, queue, text)
     }

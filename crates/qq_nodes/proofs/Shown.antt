@@ -214,3 +214,15 @@ module _ {D : Type 0} {tells : D → Bool} {past : D → List Disk} where
       (sym was.stands.args)
       (subst (λ (audit : List Entry). SpentOnlyWhere e NUMBER_END (stays_within (empty_queue x.args) audit ≡ false))
       (sym was.stands.group.represents.audit) cause)
+
+  -- nor for whatever nodes that have these queues
+  pub caused-over : (held : Held D) (queue : QueueId) (x : ClusterQueue) (e : Memory) → IsQueueAt queue held
+      → slice_get held.queues.items (queue.0 - 1) ≡ Some x
+      → SpentOnlyWhere e NUMBER_END (stays_within (empty_queue x.args) x.group.audit.items ≡ false)
+      → (setup : Setup) (c : Cluster) (other : Held D) → other.queues ≡ held.queues → Stands tells past setup other c
+      → SpentOnlyWhere e NUMBER_END
+      (stays_within (empty_queue (c.queue queue.0).args) (c.queue queue.0).group.audit ≡ false)
+  caused-over held queue x e is here cause setup c other same st =
+      audit-caused other queue x e
+      (subst (λ (v : Vec ClusterQueue). (0 < queue.0) × (queue.0 ≤ length v.items)) (sym same) is)
+      (ap (λ (v : Vec ClusterQueue). slice_get v.items (queue.0 - 1)) same ∙ here) cause setup c st

@@ -81,8 +81,9 @@ impl<D: NodeDisk> Nodes<D> {
             text.new.items ≡ text.old.items
             ++ audit_text (setup.name queue.0) 0 (audit_rows (c.queue queue.0))) }
         ensures err { OnErr result (IsFront text.old.items text.new.items) }
-        ensures cause { IfErr result (λ e. (setup : Setup) (c : Cluster) →
-            Stands D.tells D.past setup self.now c → SpentOnlyWhere e NUMBER_END
+        ensures cause { IfErr result (λ e. (setup : Setup) (c : Cluster) (held : Held D) →
+            held.queues ≡ self.now.queues → Stands D.tells D.past setup held c →
+            SpentOnlyWhere e NUMBER_END
             (stays_within (empty_queue (c.queue queue.0).args) (c.queue queue.0).group.audit
             ≡ false)) }
     {

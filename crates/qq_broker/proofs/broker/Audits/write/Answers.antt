@@ -1,5 +1,5 @@
-use Rattle.std.proofs.lemmas.Result.{on_ok_weaker}
-use Rattle.qq_broker.proofs.Rested.{audit-rests, queue-rests}
+use Rattle.std.proofs.lemmas.Result.{IfErr-weaker, on_ok_weaker}
+use Rattle.qq_broker.proofs.Rested.{audit-rests, caused-rests, queue-rests}
 use Rattle.qq_broker.proofs.broker.Audits.write.Goals as goal
 
 pub audit_text-requires : goal.audit_text-requires
@@ -12,3 +12,8 @@ returns-clause-ok g c = λ given s disks run rests.
     on_ok_weaker c.audit_text.result
     (λ say. audit-rests s disks c.args.self.now run rests c.args.queue c.args.text.now.items
     c.audit_text.new.text.items say) c.audit_text.ensures.ok
+
+pub returns-clause-cause : goal.returns-clause-cause
+returns-clause-cause g c = λ given s disks run rests.
+    IfErr-weaker c.audit_text.result _ _
+    (λ e say. caused-rests s disks c.args.self.now run rests c.args.queue e say) c.audit_text.ensures.cause

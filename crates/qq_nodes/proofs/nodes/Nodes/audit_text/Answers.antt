@@ -2,7 +2,7 @@ use Rattle.std.proofs.Common.{◌-◌, arith}
 use Rattle.std.proofs.lemmas.Result.{IfErr-weaker, on_ok_weaker}
 use Rattle.qq_nodes.proofs.Items.{item-here}
 use Rattle.qq_nodes.proofs.LineRules.{queue-index}
-use Rattle.qq_nodes.proofs.Shown.{audit-caused, audit-over}
+use Rattle.qq_nodes.proofs.Shown.{audit-over, caused-over}
 use Rattle.qq_nodes.proofs.nodes.Nodes.audit_text.Goals as goal
 
 pub index-requires : goal.index-requires
@@ -18,6 +18,6 @@ returns-clause-ok g c =
 pub returns-clause-cause : goal.returns-clause-cause
 returns-clause-cause g c =
     IfErr-weaker c.audit_text.result _ _
-    (λ e cause. audit-caused c.args.self.now c.args.queue _ e c.requires
+    (λ e cause. caused-over c.args.self.now c.args.queue _ e c.requires
     (item-here c.args.self.now.queues.items (c.args.queue.0 - 1) _ (queue-index c.args.self.now c.args.queue c.requires)
     c.index.ensures) cause) c.audit_text.ensures.cause
