@@ -378,7 +378,8 @@ module _ (k : ℕ) where
         (stops-is (Alike (EndsEach by.number)) calm) (stops-ats (Downs by.number))) c events so)
     line-once n are (lines.Resend by) c events so =
         few c events (and-pumped (IsResend setup by.number) (stops-resend by.number) c events so)
-    line-once n are (lines.Mute by muted) c events so = few c events (stops-is (Alike (MutesEach by.number muted)) calm c events so)
+    line-once n are (lines.Mute by muted) c events so =
+        few c events (stops-is (Alike (MutesEach by.number muted)) calm c events so)
     line-once n are (lines.Pace auto) c events so = few c events (stops-is (Sets auto) calm c events so)
     line-once n are lines.Pump c events so = few c events (stops-pumps most_rounds c events so)
     line-once n are (lines.Write node) c events so =

@@ -91,8 +91,8 @@ total-pumped setup c =
 pub total-given : (session : ℕ) (body : Unstamped) (place : ℕ) → Total (IsGiven session body place)
 total-given session body place c =
     total-if (is_ended session (c.queue place)) (Is (At place (TellsEnded session)))
-    (IsClaimed (not_taken session body (c.queue place)) session body place) c (total-is (At place (TellsEnded session)) c)
-    (by (not_taken session body (c.queue place)))
+    (IsClaimed (not_taken session body (c.queue place)) session body place) c
+    (total-is (At place (TellsEnded session)) c) (by (not_taken session body (c.queue place)))
   where
     by : (o : Option ℕ) → (events : List ClusterEvent) × IsClaimed o session body place c events
     by None = total-is (At place (Submits session body)) c

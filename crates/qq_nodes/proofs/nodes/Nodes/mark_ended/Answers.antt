@@ -11,10 +11,11 @@ use Rattle.qq_nodes.proofs.nodes.Nodes.mark_ended.Goals as goal
 pub returns-clause-ok : goal.returns-clause-ok
 returns-clause-ok g c =
     on_ok_weaker c.end.result
-    (λ done text. served-alike (EndsEach c.args.session) c.args.self.now (record c.args.self.now { sessions = c.end.new.self }) text
-    refl (λ q. refl)
+    (λ done text. served-alike (EndsEach c.args.session) c.args.self.now
+    (record c.args.self.now { sessions = c.end.new.self }) text refl (λ q. refl)
     (λ d q st. subst (λ (s : Standings). IsQueue s d (happens q (Ends c.args.session))) (sym done)
-    (c.sessions_are_those_of_each_queue.ensures.ends (standings c.args.self.now.sessions) c.args.session d q st).0)) c.end.ensures.ok
+    (c.sessions_are_those_of_each_queue.ensures.ends (standings c.args.self.now.sessions) c.args.session d q
+    st).0)) c.end.ensures.ok
 
 pub returns-clause-err : goal.returns-clause-err
 returns-clause-err g c =

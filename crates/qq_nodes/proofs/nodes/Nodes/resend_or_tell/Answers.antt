@@ -17,8 +17,10 @@ returns-then-ended-clause-ok g c =
 
 pub returns-in-Err-resend_and_fetch-clause-err : goal.returns-in-Err-resend_and_fetch-clause-err
 returns-in-Err-resend_and_fetch-clause-err g c =
-    resends-gave_up c.args.session (sym c.if-ended.false ∙ c.is_ended-ended.ensures) c.in-Err-resend_and_fetch.ensures.err
+    resends-gave_up c.args.session (sym c.if-ended.false ∙ c.is_ended-ended.ensures)
+    c.in-Err-resend_and_fetch.ensures.err
 
 pub returns-clause-ok : goal.returns-clause-ok
 returns-clause-ok g c =
-    resends-each c.args.session (sym c.if-ended.false ∙ c.is_ended-ended.ensures) c.in_default-resend_and_fetch.ensures.ok
+    resends-each c.args.session (sym c.if-ended.false ∙ c.is_ended-ended.ensures)
+    c.in_default-resend_and_fetch.ensures.ok
