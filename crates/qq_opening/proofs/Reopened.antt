@@ -27,18 +27,19 @@ Restarts setup = ForEach setup.nodes (IsRestart setup)
 
 any-at : (up : ℕ → Bool) (a n k : ℕ) → a ≤ k → k < a + n → up k ≡ true → list_any up (range_with_len a n) ≡ true
 any-at up a zero k low high is = absurd (omega (arith, low, high))
-any-at up a (suc n) k low high is = by (up a) refl
+any-at up a (suc n) k low high is =
+    by (up a) refl (λ other. any-at up (a + 1) n k (omega (arith, low, other)) (omega (arith, high)) is)
   where
     rest : Bool
     rest = list_any up (range_with_len (a + 1) n)
 
-    by : (b : Bool) → up a ≡ b → (up a || rest) ≡ true
-    by true here = ap (λ (b : Bool). b || rest) here
-    by false here =
+    by : (b : Bool) → up a ≡ b → ((a ≢ k) → rest ≡ true) → (up a || rest) ≡ true
+    by true here next = ap (λ (b : Bool). b || rest) here
+    by false here next =
         ap (λ (b : Bool). b || rest) here
         ∙ elim (cases_eq a k) [
           | inl same ↦ absurd (false≢true (sym here ∙ ap up same ∙ is))
-          | inr other ↦ any-at up (a + 1) n k (omega (arith, low, other)) (omega (arith, high)) is
+          | inr other ↦ next other
         ]
 
 any-none : (up : ℕ → Bool) (a n : ℕ) → ((k : ℕ) → a ≤ k → k < a + n → up k ≡ false)
@@ -100,7 +101,12 @@ pub down-failed : (setup : Setup) (k : ℕ) (list : List ℕ) (c : Cluster) (eve
     → fails_at k events ≡ true
 down-failed setup k [] c events none there down still = absurd there
 down-failed setup k (j ∷ list) c events t there down still =
-    ap (fails_at k) t.is ∙ list_any-append (is_failure_at k) t.early t.late ∙ by (cases_eq k j)
+    ap (fails_at k) t.is
+    ∙ list_any-append (is_failure_at k) t.early t.late
+    ∙ by
+    (λ rest other. down-failed setup k list (cluster_after c t.early) t.late t.second rest
+    (up-kept setup k j c t.early t.first other ∙ down) moved)
+    (cases_eq k j)
   where
     moved : (cluster_after (cluster_after c t.early) t.late).up k ≡ false
     moved =
@@ -117,21 +123,22 @@ down-failed setup k (j ∷ list) c events t there down still =
     later (inl same) other = absurd (other same)
     later (inr rest) other = rest
 
-    by : (k ≡ j) ⊎ (k ≢ j) → (fails_at k t.early || fails_at k t.late) ≡ true
-    by (inl same) = or_left (fails_at k t.early) (fails_at k t.late) (own same ((cluster_after c t.early).up k) refl)
-    by (inr other) =
-        or_right (fails_at k t.early) (fails_at k t.late)
-        (down-failed setup k list (cluster_after c t.early) t.late t.second (later there other)
-        (up-kept setup k j c t.early t.first other ∙ down) moved)
+    by : (In k list → (k ≢ j) → fails_at k t.late ≡ true) → (k ≡ j) ⊎ (k ≢ j)
+        → (fails_at k t.early || fails_at k t.late) ≡ true
+    by next (inl same) =
+        or_left (fails_at k t.early) (fails_at k t.late) (own same ((cluster_after c t.early).up k) refl)
+    by next (inr other) =
+        or_right (fails_at k t.early) (fails_at k t.late) (next (later there other) other)
 
 any-down : (up : ℕ → Bool) (list : List ℕ) (k : ℕ) → list_any up list ≡ false → In k list → up k ≡ false
 any-down up [] k none there = absurd there
-any-down up (j ∷ list) k none there = by (up j) refl none there
+any-down up (j ∷ list) k none there = by (λ so rest. any-down up list k so rest) (up j) refl none there
   where
-    by : (b : Bool) → up j ≡ b → (b || list_any up list) ≡ false → In k (j ∷ list) → up k ≡ false
-    by true is so here = absurd (true≢false so)
-    by false is so (inl same) = ap up same ∙ is
-    by false is so (inr rest) = any-down up list k so rest
+    by : (list_any up list ≡ false → In k list → up k ≡ false) → (b : Bool) → up j ≡ b
+        → (b || list_any up list) ≡ false → In k (j ∷ list) → up k ≡ false
+    by next true is so here = absurd (true≢false so)
+    by next false is so (inl same) = ap up same ∙ is
+    by next false is so (inr rest) = next so rest
 
 pub none-recovered : (setup : Setup) (c : Cluster) (events : List ClusterEvent) → IsReopening false setup c events
     → (k : ℕ) → In k setup.nodes → c.up k ≡ false → fails_at k events ≡ true
