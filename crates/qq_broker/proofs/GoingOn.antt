@@ -147,9 +147,9 @@ module _ {D : Type 0} (given : Giving D) (tells : D → Bool) (past : D → List
     first = b.first;
     given_is = b.given_is;
     begins = begins-stay tells past faults setup k b.first events s.did.events restarted b.begins;
-    lives = lives-then tells past faults setup k (after_all setup events) (new_cluster setup) [] events s.did.events
-        b.first mid last refl b.lives
-        (goes-on tells past faults setup k (after_all setup events) s.did.events mid last (s.no_crash k)
+    lives = lives-then given tells past faults setup k (after_all setup events) (new_cluster setup) [] events
+        s.did.events b.first mid last refl b.lives
+        (goes-on given tells past faults setup k (after_all setup events) s.did.events mid last (s.no_crash k)
         (served-disk setup (after_all setup events) Allowed After old new before later s k there few mid last was is));
   }
 
@@ -339,34 +339,34 @@ module _ {D : Type 0} (given : Giving D) (tells : D → Bool) (past : D → List
         first = b.first;
         given_is = b.given_is;
         begins = begins-stay tells past faults setup j b.first run.events (Crashes k image ∷ []) restarted b.begins;
-        lives = lives-then tells past faults setup j c (new_cluster setup) [] run.events (Crashes k image ∷ []) b.first
-            mid last refl b.lives (step j mid last was is);
+        lives = lives-then given tells past faults setup j c (new_cluster setup) [] run.events (Crashes k image ∷ [])
+            b.first mid last refl b.lives (step j mid last was is);
       })
     where
       step : (j : ℕ) (mid last : D) → IsDiskOf tells past faults old j mid → IsDiskOf tells past faults new j last
-          → GoesOn tells past faults (setup_in s run) j (cluster_in s run) (Crashes k image ∷ []) mid last
+          → GoesOn given tells past faults (setup_in s run) j (cluster_in s run) (Crashes k image ∷ []) mid last
       step j mid last was is = elim (eqb_tells k j) [
         | inl (e, same) ↦
-            subst (λ (i : ℕ). GoesOn tells past faults (setup_in s run) i (cluster_in s run) (Crashes k image ∷ []) mid
-            last) same
-            (goes-crashed tells past faults (setup_in s run) k (cluster_in s run) image mid last (left
+            subst (λ (i : ℕ). GoesOn given tells past faults (setup_in s run) i (cluster_in s run)
+            (Crashes k image ∷ []) mid last) same
+            (goes-crashed given tells past faults (setup_in s run) k (cluster_in s run) image mid last (left
             (subst (λ (i : ℕ). IsDiskOf tells past faults old i mid) (sym same) was)
             (subst (λ (i : ℕ). IsDiskOf tells past faults new i last) (sym same) is)))
         | inr (e, other) ↦
-            goes-on tells past faults (setup_in s run) j (cluster_in s run) (Crashes k image ∷ []) mid last (other, tt)
-            (like (unseen-crash (setup_in s run) (cluster_in s run) k j image mid other)
+            goes-on given tells past faults (setup_in s run) j (cluster_in s run) (Crashes k image ∷ []) mid last
+            (other, tt) (like (unseen-crash (setup_in s run) (cluster_in s run) k j image mid other)
             (sym was ∙ sym (leaves.others j (λ e. other (sym e))) ∙ is))
       ]
         where
           left : IsDiskOf tells past faults old k mid → IsDiskOf tells past faults new k last
-              → IsLeft tells past image mid last
-          left was is = record {
+              → IsLeft given tells past image mid last
+          left was is = inl (record {
             told = sym (ap (λ (v : Seen). v.tells) is) ∙ leaves.told ∙ ap (λ (v : Seen). v.tells) was;
             left = λ tell.
                 subst (λ (l : List Disk). IsAfterCrash image l (past last)) (ap (λ (v : Seen). v.past) was)
                 (subst (λ (l : List Disk). IsAfterCrash image (See old k).past l) (ap (λ (v : Seen). v.past) is)
                 (leaves.left (subst IsTrue (sym (ap (λ (v : Seen). v.tells) was)) tell)));
-          }
+          })
 
           like : IsOneDisk tells past faults (setup_in s run) j (cluster_in s run) (Crashes k image ∷ []) mid mid
               → Of mid ≡ Of last

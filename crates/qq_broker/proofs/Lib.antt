@@ -28,3 +28,9 @@ pub mod Following
 pub mod Unharmed
 pub mod Harmless
 pub mod RunDisks
+pub mod Stops
+pub mod Handed
+pub mod Stepped
+pub mod Rested
+pub mod Returned
+pub mod Reopened

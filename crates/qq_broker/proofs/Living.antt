@@ -14,7 +14,7 @@ use Rattle.qq_cluster_laws.specs.Traced.{HasNoCrash, IsNoCrash, IsTracedAt}
 use Rattle.qq_cluster_laws.proofs.Reached.{after-both}
 use Rattle.qq_cluster_laws.proofs.Restarts.{first-stays}
 use Rattle.qq_cluster_laws.proofs.Traces.{traces-then}
-use Rattle.qq_broker.specs.Lives.{BeginsBy, IsLeft, IsOneDisk, Lives, RoseBy, at_crash, crash_of, failures}
+use Rattle.qq_broker.specs.Lives.{BeginsBy, Giving, IsLeft, IsOneDisk, Lives, RoseBy, at_crash, crash_of, failures}
 use Rattle.qq_broker.proofs.Failing.{failures-both}
 
 -- ---- crashes
@@ -87,28 +87,54 @@ module _ {D : Type 0} (tells : D → Bool) (past : D → List Disk) (faults : D 
   abbrev One : Cluster → List ClusterEvent → D → D → Type 0
   One c events first last = IsOneDisk tells past faults setup k c events first last
 
+  one-both : (cx c : Cluster) (since more : List ClusterEvent) (first mid last : D) → cluster_after c since ≡ cx
+      → One c since first mid → One cx more mid last → One c (since ++ more) first last
+  one-both cx c since more first mid last at a b = record {
+    told = b.told ∙ a.told;
+    rose = subst (λ (n : ℕ). RoseBy n (faults first) (faults last)) (sym (failures-both k since more))
+        (rose-both (faults first) (faults mid) (faults last) (failures k since) (failures k more) a.rose b.rose);
+    traced = λ tell linked.
+        traces-then IsLinked setup k c since more (past first) (past mid) (past last) (a.traced tell linked)
+        (λ later. subst (λ (d : Cluster). IsTracedAt setup d k more (past mid) (past last)) (sym at)
+        (b.traced (subst IsTrue (sym a.told) tell)
+        (subst (λ (d : Cluster). IsLinked setup d k (now (past mid))) at later)));
+  }
+
+  -- nothing happened yet
+  pub one-none : (c : Cluster) (d : D) → One c [] d d
+  one-none c d = record {
+    told = refl;
+    rose = inl (omega arith);
+    traced = λ tell linked. (linked.promised, adds-none (IsPromised setup c k) (past d), linked);
+  }
+
+module _ {D : Type 0} (given : Giving D) (tells : D → Bool) (past : D → List Disk) (faults : D → ℕ) (setup : Setup)
+    (k : ℕ) where
+  abbrev One' : Cluster → List ClusterEvent → D → D → Type 0
+  One' c events first last = IsOneDisk tells past faults setup k c events first last
+
   abbrev Live : Cluster → List ClusterEvent → List ClusterEvent → D → D → Type 0
-  Live c since events first last = Lives tells past faults setup k c since events first last
+  Live c since events first last = Lives given tells past faults setup k c since events first last
 
   stays : (o : Option Image) (Ends : D → Type 0) (GoesOn : D → Type 0) (Stays : Type 0) → o ≡ None → Stays
-      → at_crash o Ends (IsLeft tells past) GoesOn Stays
+      → at_crash o Ends (IsLeft given tells past) GoesOn Stays
   stays o Ends GoesOn Stays none so =
-      subst (λ (p : Option Image). at_crash p Ends (IsLeft tells past) GoesOn Stays) (sym none) so
+      subst (λ (p : Option Image). at_crash p Ends (IsLeft given tells past) GoesOn Stays) (sym none) so
 
   -- without a crash of the node it is one disk
   one-lives : (c : Cluster) (since events : List ClusterEvent) (first last : D) → HasNoCrash k events
-      → One c (since ++ events) first last → Live c since events first last
+      → One' c (since ++ events) first last → Live c since events first last
   one-lives c since [] first last calm one =
-      subst (λ (l : List ClusterEvent). One c l first last) (append-nil since) one
+      subst (λ (l : List ClusterEvent). One' c l first last) (append-nil since) one
   one-lives c since (event ∷ events) first last calm one =
       stays (crash_of k event) _ _ _ (not-crash k event calm.0)
       (one-lives c (since ++ event ∷ []) events first last calm.1
-      (subst (λ (l : List ClusterEvent). One c l first last) (sym (append_assoc since (event ∷ []) events)) one))
+      (subst (λ (l : List ClusterEvent). One' c l first last) (sym (append_assoc since (event ∷ []) events)) one))
 
   -- from a disk on, whatever it was before
   abbrev pub GoesOn : Cluster → List ClusterEvent → D → D → Type 0
   GoesOn cx more mid last =
-      (c : Cluster) (since : List ClusterEvent) (first : D) → cluster_after c since ≡ cx → One c since first mid
+      (c : Cluster) (since : List ClusterEvent) (first : D) → cluster_after c since ≡ cx → One' c since first mid
       → Live c since more first last
 
   pub lives-then : (cx c : Cluster) (since events more : List ClusterEvent) (first mid last : D)
@@ -125,55 +151,43 @@ module _ {D : Type 0} (tells : D → Bool) (past : D → List Disk) (faults : D 
           → (Live c (since ++ event ∷ []) events first mid → Live c (since ++ event ∷ []) (events ++ more) first last)
           → ((new : D) → Live (cluster_happens (cluster_after c since) event) [] events new mid
           → Live (cluster_happens (cluster_after c since) event) [] (events ++ more) new last)
-          → at_crash o (λ old. One c since first old) (IsLeft tells past)
+          → at_crash o (λ old. One' c since first old) (IsLeft given tells past)
           (λ new. Live (cluster_happens (cluster_after c since) event) [] events new mid)
           (Live c (since ++ event ∷ []) events first mid)
-          → at_crash o (λ old. One c since first old) (IsLeft tells past)
+          → at_crash o (λ old. One' c since first old) (IsLeft given tells past)
           (λ new. Live (cluster_happens (cluster_after c since) event) [] (events ++ more) new last)
           (Live c (since ++ event ∷ []) (events ++ more) first last)
       by None further next so = further so
       by (Some image) further next (old, (new, ends, left, goes)) = (old, (new, ends, left, next new goes))
 
-  one-both : (cx c : Cluster) (since more : List ClusterEvent) (first mid last : D) → cluster_after c since ≡ cx
-      → One c since first mid → One cx more mid last → One c (since ++ more) first last
-  one-both cx c since more first mid last at a b = record {
-    told = b.told ∙ a.told;
-    rose = subst (λ (n : ℕ). RoseBy n (faults first) (faults last)) (sym (failures-both k since more))
-        (rose-both (faults first) (faults mid) (faults last) (failures k since) (failures k more) a.rose b.rose);
-    traced = λ tell linked.
-        traces-then IsLinked setup k c since more (past first) (past mid) (past last) (a.traced tell linked)
-        (λ later. subst (λ (d : Cluster). IsTracedAt setup d k more (past mid) (past last)) (sym at)
-        (b.traced (subst IsTrue (sym a.told) tell)
-        (subst (λ (d : Cluster). IsLinked setup d k (now (past mid))) at later)));
-  }
-
   -- events without a crash of the node
-  pub goes-on : (cx : Cluster) (more : List ClusterEvent) (mid last : D) → HasNoCrash k more → One cx more mid last
+  pub goes-on : (cx : Cluster) (more : List ClusterEvent) (mid last : D) → HasNoCrash k more → One' cx more mid last
       → GoesOn cx more mid last
   goes-on cx more mid last calm so = λ c since first at one.
-      one-lives c since more first last calm (one-both cx c since more first mid last at one so)
-
-  -- nothing happened yet
-  pub one-none : (c : Cluster) (d : D) → One c [] d d
-  one-none c d = record {
-    told = refl;
-    rose = inl (omega arith);
-    traced = λ tell linked. (linked.promised, adds-none (IsPromised setup c k) (past d), linked);
-  }
+      one-lives c since more first last calm
+      (one-both tells past faults setup k cx c since more first mid last at one so)
 
   -- a crash of the node
-  pub goes-crashed : (cx : Cluster) (image : Image) (mid last : D) → IsLeft tells past image mid last
+  pub goes-crashed : (cx : Cluster) (image : Image) (mid last : D) → IsLeft given tells past image mid last
       → GoesOn cx (Crashes k image ∷ []) mid last
   goes-crashed cx image mid last left = λ c since first at one.
       crashed (crash_of k (Crashes k image)) (rw (eq-eqb k k refl) refl) c since first one
     where
       crashed : (o : Option Image) → o ≡ Some image → (c : Cluster) (since : List ClusterEvent) (first : D)
-          → One c since first mid
-          → at_crash o (λ old. One c since first old) (IsLeft tells past)
+          → One' c since first mid
+          → at_crash o (λ old. One' c since first old) (IsLeft given tells past)
           (λ new. Live (cluster_happens (cluster_after c since) (Crashes k image)) [] [] new last)
           (Live c (since ++ Crashes k image ∷ []) [] first last)
       crashed o is c since first one =
-          subst (λ (p : Option Image). at_crash p (λ old. One c since first old) (IsLeft tells past)
+          subst (λ (p : Option Image). at_crash p (λ old. One' c since first old) (IsLeft given tells past)
           (λ new. Live (cluster_happens (cluster_after c since) (Crashes k image)) [] [] new last)
           (Live c (since ++ Crashes k image ∷ []) [] first last)) (sym is)
-          (mid, (last, one, left, one-none (cluster_happens (cluster_after c since) (Crashes k image)) last))
+          (
+            mid,
+            (
+              last,
+              one,
+              left,
+              one-none tells past faults setup k (cluster_happens (cluster_after c since) (Crashes k image)) last,
+            ),
+          )

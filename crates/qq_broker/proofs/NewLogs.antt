@@ -1,6 +1,6 @@
 -- Over new disks a run begins with new logs.
 use Rattle.std.proofs.Common.{◌≡◌, ℕ, Bool, true, false, List, [], ◌∷◌, Ok, Option, Some, None, refl, sym, ap, subst, ◌∙◌, inl, inr}
-use Rattle.std.specs.Prelude.{IfNone, IsTrue, is_some, unwrap_or}
+use Rattle.std.specs.Prelude.{IsTrue, is_some, unwrap_or}
 use Rattle.std.proofs.Math.Path.{fun_ext}
 use Rattle.std.proofs.lemmas.Bool.{cases_Bool, false≢true}
 use Rattle.qq_base.specs.Fronts.{IsFront}
@@ -26,7 +26,7 @@ use Rattle.qq_cluster_laws.specs.Restarts.{first_restart}
 use Rattle.qq_cluster_run.specs.Inputs.{Input}
 use Rattle.qq_cluster_run.specs.Serving.{Behind, setup_behind}
 use Rattle.qq_cluster_run.specs.Setup.{new_logs}
-use Rattle.qq_broker.specs.Lives.{Became, BeginsBy, Giving, IsGiven, log_at}
+use Rattle.qq_broker.specs.Lives.{Became, BeginsBy, Giving, IsGiven, log_at, under}
 use Rattle.qq_broker.specs.Nodes.{Had}
 use Rattle.qq_broker.proofs.Opens.{no-ops}
 use Rattle.qq_broker.proofs.Restarted.{member-there, node-has, restarted}
@@ -71,15 +71,18 @@ module _ (readable : (queues : List QueueId) (noticed given : List Op) (d : Disk
 
   -- ---- the logs
 
-  module _ {D : Type 0} (given : Giving D) (tells : D → Bool) (past : D → List Disk) (faults : D → ℕ) (s : Setup)
-      (all left : List Input) (b : Behind (Had given tells past faults) s all left) (runs : IsRunnable (state_of s))
-      (none : given.root ≡ None) (shows : (disk : D) → IsTrue (tells disk)) where
+  module _ {D : Type 0} (is_given : Option (List ℕ) → ℕ → D → Bool) (tells : D → Bool) (past : D → List Disk)
+      (faults : D → ℕ) (s : Setup) (all left : List Input)
+      (b : Behind (Had (under is_given None) tells past faults) s all left)
+      (runs : IsRunnable (state_of s)) (shows : (disk : D) → IsTrue (tells disk)) where
+    abbrev given : Giving D
+    given = under is_given None
+
     abbrev S : ClusterSetup
     S = setup_behind b
 
     new-disk : (k : ℕ) (disk : D) → IsGiven given tells past k disk → IsNew (past disk)
-    new-disk k disk is =
-        subst (λ (o : Option (List ℕ)). IfNone o (IsTrue (tells disk) → IsNew (past disk))) none is.new (shows disk)
+    new-disk k disk is = is.new (shows disk)
 
     -- what a member's log holds
     own-new : (k place : ℕ) → In k S.nodes → In place (lot_of S k).places → b.logs place k ≡ []

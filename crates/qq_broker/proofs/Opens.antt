@@ -178,7 +178,7 @@ module _ {D : Type 0} (given : Giving D) (tells : D → Bool) (past : D → List
             first = own.0;
             given_is = own.2;
             begins = begun;
-            lives = goes-on tells past faults S k (new_cluster S) sv.did.events own.0 last (sv.no_crash k)
+            lives = goes-on given tells past faults S k (new_cluster S) sv.did.events own.0 last (sv.no_crash k)
                 (served-disk given tells past faults S (new_cluster S) Allowed After old new before later sv k there (few k)
                 own.0 last own.1 is)
                 (new_cluster S) [] own.0 refl (one-none tells past faults S k (new_cluster S) own.0);

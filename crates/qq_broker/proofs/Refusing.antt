@@ -23,7 +23,7 @@ use Rattle.qq_setup.specs.declared.setup.Setup.{Setup}
 use Rattle.qq_wal_chain.specs.Lanes.{Lanes}
 use Rattle.qq_cluster.specs.Cluster.{Cluster, ClusterEvent, Setup as ClusterSetup, cluster_after, new_cluster}
 use Rattle.qq_cluster.specs.Lines.{IsLine}
-use Rattle.qq_cluster.specs.Rules.{ForEach, IsRestart}
+use Rattle.qq_cluster.specs.Rules.{ForEach, IsOpening, IsRestart}
 use Rattle.qq_cluster_laws.specs.Linked.{lot_of}
 use Rattle.qq_cluster_laws.specs.Restarts.{first_restart}
 use Rattle.qq_cluster_laws.specs.Serves.{Seen}
@@ -40,13 +40,16 @@ use Rattle.qq_opening.specs.Restarting.{IsLostAt, IsRefused, Refuses, RestartsTo
 use Rattle.qq_nodes.specs.declared.nodes.Nodes.{Nodes}
 use Rattle.qq_opening.specs.declared.restarting.RestartFault.{RestartFault}
 use Rattle.qq_opening.specs.declared.restarting.RestartFault.TheVariants as faults_of
+use Rattle.qq_broker.specs.Broker.{MayNotReopen}
+use Rattle.qq_broker.specs.Faults.{stop_for}
 use Rattle.qq_broker.specs.Lives.{Became, Giving, failures}
 use Rattle.qq_broker.specs.Nodes.{Holds, IsDiskOf, Meets, damage_of}
 use Rattle.qq_broker.specs.Serving.{IsGivenUp, IsServed, IsStopOf, memory_stop}
 use Rattle.qq_broker.proofs.Beginning.{queue-own}
-use Rattle.qq_broker.proofs.Failing.{line-once, restarts-few}
+use Rattle.qq_broker.proofs.Failing.{line-once, opening-once, restarts-few}
 use Rattle.qq_broker.proofs.GoingOn.{became-served, disk-there, ends-spent, reached, served}
 use Rattle.qq_broker.proofs.Living.{not-first, restarted-stays}
+use Rattle.qq_broker.proofs.Stops.{own-stop}
 
 -- they count up
 record CountsUp (list : List ℕ) : Type 0 where
@@ -289,6 +292,25 @@ module _ {D : Type 0} (given : Giving D) (tells : D → Bool) (past : D → List
       (IsLine (setup_in s run) (Restart All)) old before after number h (all-lines (setup_in s run)) (once All)
       (so.spent number is (setup_in s run) (cluster_in s run) (reached given tells past faults s run) h.stands)))
       (so.refused (setup_in s run) (cluster_in s run) (reached given tells past faults s run) h.stands) stops
+
+-- ---- nodes that are opened again
+
+module _ {D : Type 0} (given : Giving D) (tells : D → Bool) (past : D → List Disk) (faults : D → ℕ)
+    (before after : ℕ) (s : Setup) (run : Run)
+    (old new : Nodes D) (h : Holds given tells past faults s old run) (said : List ℕ) (fault : RestartFault) where
+  pub refused-reopening : Refuses tells past faults all_nodes IsOpening old new said fault
+      → MayNotReopen (Meets given tells past faults before after) (setup_in s run) run.events (stop_for s fault)
+  refused-reopening so =
+      refused-so given tells past faults before after s run old h (setup_in s run).nodes
+      (record { first = 1; count = s.nodes; is = refl }) (λ k there. there) said
+      (MayNotReopen (Meets given tells past faults before after) (setup_in s run) run.events) fault (stop_for s fault)
+      (λ ending refused. inr refused) tt
+      (λ number is. inl (ends-spent given tells past faults s run (IsOpening (setup_in s run))
+      (IsOpening (setup_in s run)) old before after number h (λ c events allowed. allowed)
+      (λ k events allowed. opening-once k (setup_in s run) s.nodes refl (cluster_in s run) events allowed)
+      (so.spent number is (setup_in s run) (cluster_in s run) (reached given tells past faults s run) h.stands)))
+      (so.refused (setup_in s run) (cluster_in s run) (reached given tells past faults s run) h.stands)
+      (own-stop s fault)
 
 -- ---- a line that is given up
 

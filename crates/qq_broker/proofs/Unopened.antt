@@ -139,7 +139,7 @@ module _ {D : Type 0} (given : Giving D) (tells : D → Bool) (past : D → List
     first = disk;
     given_is = is;
     begins = subst (BeginsBy tells past setup k disk) (sym (no-restart k events unseen)) tt;
-    lives = goes-on tells past faults setup k (new_cluster setup) events disk disk (no-crash k events unseen)
+    lives = goes-on given tells past faults setup k (new_cluster setup) events disk disk (no-crash k events unseen)
         (same-disk tells past faults setup k (new_cluster setup) events disk unseen) (new_cluster setup) [] disk refl
         (one-none tells past faults setup k (new_cluster setup) disk);
   }

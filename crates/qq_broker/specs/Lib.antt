@@ -3,3 +3,5 @@ pub mod Nodes
 pub mod Serving
 pub mod Dumping
 pub mod Program
+pub mod Faults
+pub mod Broker

@@ -1,5 +1,5 @@
 -- What becomes of a node's disk while events happen.
-use Rattle.std.specs.Prelude.{◌≡◌, ◌⊎◌, ◌≤◌, ◌+◌, ◌-◌, ◌^◌, ℕ, Bool, true, false, List, [], ◌∷◌, ◌++◌, Ok, Option, Some, None, IfNone, IsTrue, filter, length, nat_eq, if◌then◌else◌}
+use Rattle.std.specs.Prelude.{◌≡◌, ◌⊎◌, ◌≤◌, ◌+◌, ◌-◌, ◌^◌, ℕ, zero, suc, Bool, true, false, List, [], ◌∷◌, ◌++◌, Ok, Option, Some, None, IfNone, IsTrue, filter, length, nat_eq, slice_get, if◌then◌else◌}
 use Rattle.qq_disk.specs.declared.image.Image.{Image}
 use Rattle.qq_disk.specs.Disk.{Disk, now}
 use Rattle.qq_log.specs.declared.op.Op.{Op}
@@ -19,21 +19,38 @@ use Rattle.qq_opening.specs.Opening.{told_of}
 
 -- ---- how disks are given
 
--- under which root a run asks its yard for disks, None without one; and for which root and node each disk was given
-pub record Giving (D : Type 0) : Type 0 where
-  pub is_given : Option (List ℕ) → ℕ → D → Bool
-  pub root : Option (List ℕ)
+-- where the disks of a run come from
+pub data Giving (D : Type 0) : Type 0 where
+  -- A yard gives them under a root, None without one; and for which root and node it gave each disk.
+  ByYard : (is_given : Option (List ℕ) → ℕ → D → Bool) → (root : Option (List ℕ)) → Giving D
+  -- They were handed in as this list: one for each node, in order.
+  ByHand : (disks : List D) → Giving D
 
 abbrev pub under : {D : Type 0} → (Option (List ℕ) → ℕ → D → Bool) → Option (List ℕ) → Giving D
-under is_given root = record { is_given = is_given; root = root }
+under is_given root = ByYard is_given root
 
--- The yard gave this disk for a node under the run's root. Where it shows its contents it was just opened, and without a root
--- nothing was ever on it.
-pub record IsGiven {D : Type 0} (given : Giving D) (tells : D → Bool) (past : D → List Disk) (k : ℕ) (disk : D) : Type 0
-  where
-    pub asked : given.is_given given.root k disk ≡ true
-    pub opened : IsTrue (tells disk) → IsOpened (past disk)
-    pub new : IfNone given.root (IsTrue (tells disk) → IsNew (past disk))
+-- The yard gave this disk for a node under this root. Where it shows its contents it was just opened, and without a
+-- root nothing was ever on it.
+pub record IsGivenUnder {D : Type 0} (is_given : Option (List ℕ) → ℕ → D → Bool) (root : Option (List ℕ))
+    (tells : D → Bool) (past : D → List Disk) (k : ℕ) (disk : D) : Type 0 where
+  pub asked : is_given root k disk ≡ true
+  pub opened : IsTrue (tells disk) → IsOpened (past disk)
+  pub new : IfNone root (IsTrue (tells disk) → IsNew (past disk))
+
+-- nodes are numbered from 1
+abbrev pub disk_at : {D : Type 0} → ℕ → List D → Option D
+disk_at zero disks = None
+disk_at (suc at) disks = slice_get disks at
+
+-- the disk was given for a node
+abbrev pub IsGiven : {D : Type 0} → Giving D → (D → Bool) → (D → List Disk) → ℕ → D → Type 0
+IsGiven (ByYard is_given root) tells past k disk = IsGivenUnder is_given root tells past k disk
+IsGiven (ByHand disks) tells past k disk = disk_at k disks ≡ Some disk
+
+-- disks that were handed in may be handed back and be handed in again
+abbrev pub IsByHand : {D : Type 0} → Giving D → Type 0
+IsByHand (ByYard is_given root) = ⊥
+IsByHand (ByHand disks) = Unit {0}
 
 -- ---- the logs with which a node begins
 
@@ -79,10 +96,15 @@ pub record IsOneDisk {D : Type 0} (tells : D → Bool) (past : D → List Disk) 
   pub traced : IsTrue (tells first) → IsLinked setup c k (now (past first))
       → IsTracedAt setup c k events (past first) (past last)
 
--- what a crash leaves of a disk
-pub record IsLeft {D : Type 0} (tells : D → Bool) (past : D → List Disk) (image : Image) (old new : D) : Type 0 where
+-- the named image of a disk
+pub record IsImage {D : Type 0} (tells : D → Bool) (past : D → List Disk) (image : Image) (old new : D) : Type 0 where
   pub told : tells new ≡ tells old
   pub left : IsTrue (tells old) → IsAfterCrash image (past old) (past new)
+
+-- What a crash leaves of a disk: its named image. A disk that goes by hand may also have come back as it was, whatever
+-- image the crash names.
+abbrev pub IsLeft : {D : Type 0} → Giving D → (D → Bool) → (D → List Disk) → Image → D → D → Type 0
+IsLeft given tells past image old new = IsImage tells past image old new ⊎ (IsByHand given × (new ≡ old))
 
 -- the image that a crash of a node names
 abbrev pub crash_of : ℕ → ClusterEvent → Option Image
@@ -97,18 +119,19 @@ at_crash {D} (Some image) Ends Left GoesOn Stays =
     (old : D) × ((new : D) × Ends old × Left image old new × GoesOn new)
 
 -- The first disk has become the last one while events happened, after those since the node was crashed last.
-abbrev pub Lives : {D : Type 0} → (D → Bool) → (D → List Disk) → (D → ℕ) → Setup → ℕ → Cluster
+abbrev pub Lives : {D : Type 0} → Giving D → (D → Bool) → (D → List Disk) → (D → ℕ) → Setup → ℕ → Cluster
     → (since events : List ClusterEvent) → (first last : D) → Type 0
-Lives tells past faults setup k c since [] first last = IsOneDisk tells past faults setup k c since first last
-Lives tells past faults setup k c since (event ∷ events) first last =
-    at_crash (crash_of k event) (λ old. IsOneDisk tells past faults setup k c since first old) (IsLeft tells past)
-    (λ new. Lives tells past faults setup k (cluster_happens (cluster_after c since) event) [] events new last)
-    (Lives tells past faults setup k c (since ++ event ∷ []) events first last)
+Lives given tells past faults setup k c since [] first last = IsOneDisk tells past faults setup k c since first last
+Lives given tells past faults setup k c since (event ∷ events) first last =
+    at_crash (crash_of k event) (λ old. IsOneDisk tells past faults setup k c since first old)
+    (IsLeft given tells past)
+    (λ new. Lives given tells past faults setup k (cluster_happens (cluster_after c since) event) [] events new last)
+    (Lives given tells past faults setup k c (since ++ event ∷ []) events first last)
 
--- A yard gave a disk for this node, with whose logs the run begins, and this has become of it.
+-- A disk was given for this node, with whose logs the run begins, and this has become of it.
 pub record Became {D : Type 0} (given : Giving D) (tells : D → Bool) (past : D → List Disk) (faults : D → ℕ)
     (setup : Setup) (events : List ClusterEvent) (k : ℕ) (last : D) : Type 0 where
   pub first : D
   pub given_is : IsGiven given tells past k first
   pub begins : BeginsBy tells past setup k first (first_restart k events)
-  pub lives : Lives tells past faults setup k (new_cluster setup) [] events first last
+  pub lives : Lives given tells past faults setup k (new_cluster setup) [] events first last

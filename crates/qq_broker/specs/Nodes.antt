@@ -30,7 +30,7 @@ MayRun s = IsRunnable (state_of s)
 
 -- ---- what the disks had
 
--- where these events happened, each node's disk is what has become of one that the yard gave for it
+-- where these events happened, each node's disk is what has become of one that was given for it
 abbrev pub Had : {D : Type 0} → Giving D → (D → Bool) → (D → List Disk) → (D → ℕ) → Histories
 Had {D} given tells past faults setup events =
     (k : ℕ) → In k setup.nodes → (last : D) × Became given tells past faults setup events k last
@@ -40,7 +40,7 @@ abbrev pub IsDiskOf : {D : Type 0} → (D → Bool) → (D → List Disk) → (D
 IsDiskOf tells past faults held k disk = seen tells past faults held k ≡ seen_of tells past faults disk
 
 -- Nodes stand for the cluster of a run, which has restarted each of them, and each one's disk is what has become of one that
--- the yard gave for it.
+-- was given for it.
 pub record Holds {D : Type 0} (given : Giving D) (tells : D → Bool) (past : D → List Disk) (faults : D → ℕ)
     (s : Setup) (held : Nodes D) (run : Run) : Type 0 where
   pub stands : Stands tells past (setup_in s run) held (cluster_in s run)
@@ -51,7 +51,7 @@ pub record Holds {D : Type 0} (given : Giving D) (tells : D → Bool) (past : D 
 
 -- ---- what a run meets in its yard, and in the disks that it gives
 
--- a disk's count of faults rose since the yard gave it for this node
+-- a disk's count of faults rose since it was given for this node
 pub record HasFailed {D : Type 0} (given : Giving D) (tells : D → Bool) (past : D → List Disk) (faults : D → ℕ)
     (k : ℕ) : Type 0 where
   pub first : D
@@ -66,7 +66,7 @@ damage_of (recover_faults.Damaged file place) = Some (AtPlace file.number place)
 damage_of (recover_faults.Version file byte) = Some (OfVersion file.number byte)
 damage_of _ = None
 
--- Until its first restart a node's disk is as the yard gave it.
+-- Until its first restart a node's disk is as it was given.
 abbrev pub IsAsGiven : {D : Type 0} {given : Giving D} {tells : D → Bool} {past : D → List Disk} {faults : D → ℕ}
     {setup : ClusterSetup} {events : List ClusterEvent} {k : ℕ} {last : D}
     → Became given tells past faults setup events k last → Type 0
@@ -92,7 +92,7 @@ pub record HoldsQueue {D : Type 0} (given : Giving D) (tells : D → Bool) (past
       × (lanes_read (ids_of (lot_of setup k)) (shown (now (past last))) ≡ Ok lanes)
       × (lane ≡ state_in lanes (setup.args place).queue)
 
--- After these events nodes have the number at its end. Each one's disk is what has become of one that the yard gave for it;
+-- After these events nodes have the number at its end. Each one's disk is what has become of one that was given for it;
 -- so where the number is of a log, that disk tells it, as it is or as a call has left it.
 pub record HasNumber {D : Type 0} (given : Giving D) (tells : D → Bool) (past : D → List Disk) (faults : D → ℕ)
     (setup : ClusterSetup) (events : List ClusterEvent) (number : ℕ) : Type 0 where

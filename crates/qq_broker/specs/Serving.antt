@@ -92,10 +92,6 @@ IsStopOf s (faults.Lost node queue noticed found) stop =
     (stop ≡ NoMemory) ⊎ (stop ≡ Ended (lost node.0 (name_by (row_at s.queues queue.0)) noticed found))
 IsStopOf s (faults.Memory memory) stop = stop ≡ memory_stop memory
 
-abbrev pub crash_stop : YardFault → AskStop
-crash_stop yard_faults.Failed = Ended yard_fault
-crash_stop (yard_faults.Memory memory) = NoMemory
-
 -- ---- crashes
 
 abbrev pub with_events : Run → List ClusterEvent → Run

@@ -1,5 +1,5 @@
 //! Laws of runs over nodes: the functions do nothing, and their contracts are the laws.
-ghost use Rattle.std.specs.Prelude.{◌≡◌, ◌⊎◌, ◌++◌, ℕ, IsTrue, List, None, Some};
+ghost use Rattle.std.specs.Prelude.{◌≡◌, ◌⊎◌, ◌++◌, ℕ, Bool, IsTrue, List, None, Option, Some};
 ghost use Rattle.qq_base.specs.Causes.{Rose};
 ghost use Rattle.qq_base.specs.declared.ids.NodeId.{NodeId};
 ghost use Rattle.qq_defs.specs.Runnable.{IsRunnable};
@@ -11,7 +11,7 @@ ghost use Rattle.qq_cluster_run.specs.Inputs.{Input};
 ghost use Rattle.qq_cluster_run.specs.Serving.{Behind};
 ghost use Rattle.qq_cluster_run.specs.Setup.{new_logs};
 ghost use Rattle.qq_broker.specs.Dumping.{DumpEnds};
-ghost use Rattle.qq_broker.specs.Lives.{Giving, IsGiven};
+ghost use Rattle.qq_broker.specs.Lives.{Giving, IsGiven, under};
 ghost use Rattle.qq_broker.specs.Nodes.{Had};
 
 use qq_disk::NodeDisk;
@@ -20,9 +20,9 @@ use qq_wal_chain::an_empty_disk_keeps_the_promise;
 
 /// A law: without a root a run begins with new logs, where all of its disks show their contents.
 pub fn a_run_without_a_root_begins_with_new_logs<D: NodeDisk>()
-    ensures { (given : Giving D) (s : Setup) (all left : List Input)
-        (b : Behind (Had given D.tells D.past D.faults) s all left) → IsRunnable (state_of s) →
-        given.root ≡ None → ((disk : D) → IsTrue (D.tells disk)) → b.logs ≡ new_logs }
+    ensures { (is_given : Option (List ℕ) → ℕ → D → Bool) (s : Setup) (all left : List Input)
+        (b : Behind (Had (under is_given None) D.tells D.past D.faults) s all left) →
+        IsRunnable (state_of s) → ((disk : D) → IsTrue (D.tells disk)) → b.logs ≡ new_logs }
 {
     a_promised_disk_is_read();
     an_empty_disk_keeps_the_promise();

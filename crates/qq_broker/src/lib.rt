@@ -1,17 +1,23 @@
-//! The program's top call: the nodes of a cluster are opened over the disks of a yard, and serve a script's lines.
+//! The program's top call: the nodes of a cluster are opened over the disks of a yard, and serve a script's lines. And
+//! the same cluster over disks that a program hands in, which embeds it.
 #![tactic(auto)]
 
 mod asking;
 mod auditing;
+mod broker;
 mod disk_laws;
 mod dumping;
+mod faults;
 mod laws;
 mod opening;
+mod over_disks;
 mod program;
 mod routing;
 mod serving;
+mod stepping;
 mod stopping;
 
+pub use broker::{Audits, Broker, Pumped};
 pub use disk_laws::{
     a_crash_leaves_the_named_image, a_given_disk_was_just_opened,
     a_node_fails_only_where_its_disk_did, a_restart_finds_what_the_disk_reads,
@@ -19,5 +25,8 @@ pub use disk_laws::{
     disks_keep_what_was_promised, what_is_met_is_what_recovery_reads,
     without_junk_nothing_is_damaged_or_lost,
 };
+pub use faults::{OpenFault, StepFault};
 pub use laws::{a_dump_tells_what_was_done, a_run_without_a_root_begins_with_new_logs};
+pub use over_disks::{open_disks, reopen_disks};
 pub use program::run;
+pub use stepping::step;

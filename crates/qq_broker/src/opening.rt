@@ -1,15 +1,16 @@
 //! The nodes of a run are opened over disks of its yard.
-ghost use Rattle.std.specs.Prelude.{◌≡◌, ◌≤◌, All, IfErr, IfOk, length, option_map};
+ghost use Rattle.std.specs.Prelude.{◌≡◌, ◌≤◌, [], All, IfErr, IfOk, IsOkUnless, OnErr, OnOk, length, option_map, vec_capacity};
 ghost use Rattle.qq_cluster_run.specs.Runs.{MayNotOpen, ending_of, stop_of};
 ghost use Rattle.qq_cluster_run.specs.Service.{HasOpened};
-ghost use Rattle.qq_nodes.specs.Setting.{IsWhole};
-ghost use Rattle.qq_broker.specs.Lives.{under};
+ghost use Rattle.qq_nodes.specs.Setting.{HaveDisks, IsWhole};
+ghost use Rattle.qq_broker.specs.Lives.{Giving, under};
 ghost use Rattle.qq_broker.specs.Nodes.{Had, Holds, MayRun, Meets};
 ghost use Rattle.qq_broker.specs.Serving.{AreGiven, AreUnopened, IsYardEnding, yard_ending};
 
 use crate::stopping::restart_stop;
-use qq_base::{NodeId, Text};
+use qq_base::{Memory, NodeId, Text};
 use qq_cluster_run::{Ending, Stop, clusters_begin_with_new_logs};
+use qq_disk::NodeDisk;
 use qq_nodes::Nodes;
 use qq_opening::open as open_nodes;
 use qq_ports::{Yard, YardFault};
@@ -66,7 +67,36 @@ fn path_of(root: &Option<Text>) -> Option<&str>
     }
 }
 
-// Nodes over these disks, all of them down, and the queues of a setup.
+/// Nodes over these disks, all of them down, and the queues of a setup. It moves the disks once there is memory for all
+/// else. The only error is `Memory::Want`, out of memory.
+///
+/// - `ok`: nothing has happened, and each node has its disk, however it was given.
+/// - `empty`, `room`: the disks' list is room for them.
+/// - `err`: after an error the disks are in their list as before.
+pub fn begin_over<D: NodeDisk>(
+    alloc: Global,
+    setup: &Setup,
+    disks: &mut Vec<D>,
+) -> Result<Nodes<D>, Memory>
+    requires may { MayRun setup.now }
+    requires count { length disks.old.items ≡ setup.now.nodes }
+    requires whole { All (IsWhole D.tells D.past) disks.old.items }
+    ensures ok { (given : Giving D) → AreGiven given D.tells D.past disks.old.items →
+        IfOk result (AreUnopened given D.tells D.past D.faults setup.now) }
+    ensures disks { IfOk result (HaveDisks D.tells D.past D.faults disks.old.items) }
+    ensures empty { OnOk result (disks.new.items ≡ []) }
+    ensures room { vec_capacity disks.new ≡ vec_capacity disks.old }
+    ensures err { OnErr result (disks.new ≡ disks.old) }
+    ensures want { IsOkUnless result Memory.Want }
+{
+    clusters_begin_with_new_logs();
+    match Nodes::new(alloc, setup.queues.as_slice(), disks, setup.log_bytes) {
+        Ok(nodes) => Ok(nodes),
+        Err(memory) => Err(memory),
+    }
+}
+
+// Nodes over disks of the yard.
 fn begin<Y: Yard>(
     alloc: Global,
     setup: &Setup,
@@ -79,12 +109,11 @@ fn begin<Y: Yard>(
     ensures cause { IfErr result (IsYardEnding (Y.faults yard.old) (Y.faults yard.new)) }
     ensures later { Y.faults yard.old ≤ Y.faults yard.new }
 {
-    clusters_begin_with_new_logs();
-    let disks = match disks_of(alloc, setup.nodes, path_of(root), yard) {
+    let mut disks = match disks_of(alloc, setup.nodes, path_of(root), yard) {
         Ok(disks) => disks,
         Err(ending) => return Err(ending),
     };
-    match Nodes::new(alloc, setup.queues.as_slice(), disks, setup.log_bytes) {
+    match begin_over(alloc, setup, &mut disks) {
         Ok(nodes) => Ok(nodes),
         Err(_) => Err(Ending::no_memory()),
     }

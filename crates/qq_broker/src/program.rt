@@ -18,6 +18,7 @@ use crate::auditing::write_audits;
 use crate::dumping::dump_node;
 use crate::opening::open;
 use crate::serving::serve;
+use crate::stopping::step_stop;
 use qq_base::Text;
 use qq_cluster_run::status::{DONE, WRITE_FAULT};
 use qq_cluster_run::{
@@ -55,9 +56,13 @@ fn answer<Y: Yard>(
         setup.now run (Some line.now)) }
     ensures later { Y.faults yard.old ≤ Y.faults yard.new }
 {
-    match ask(alloc, setup, before, line) {
-        Ok(said) => serve::<Y>(alloc, setup, nodes, yard, said, text),
-        Err(stop) => Err(stop),
+    let said = match ask(alloc, setup, before, line) {
+        Ok(said) => said,
+        Err(stop) => return Err(stop),
+    };
+    match serve::<Y>(alloc, setup, nodes, yard, said, text) {
+        Ok(()) => Ok(()),
+        Err(fault) => Err(step_stop(alloc, setup, fault)),
     }
 }
 

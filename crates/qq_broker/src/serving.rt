@@ -8,29 +8,29 @@ ghost use Rattle.qq_cluster.specs.Cluster.{Crashes};
 ghost use Rattle.qq_cluster_run.specs.Named.{AreNodes, IsNamed};
 ghost use Rattle.qq_cluster_run.specs.Service.{HasServeCause};
 ghost use Rattle.qq_cluster_run.specs.Serving.{Run, setup_in};
+ghost use Rattle.qq_broker.specs.Faults.{crash_fault, step_stop};
 ghost use Rattle.qq_broker.specs.Lives.{Giving};
 ghost use Rattle.qq_broker.specs.Nodes.{Holds, MayRun, Meets};
-ghost use Rattle.qq_broker.specs.Serving.{IsServed, crash_stop, crashes, with_events};
+ghost use Rattle.qq_broker.specs.Serving.{IsServed, crashes, with_events};
 
 use crate::asking::ask;
-use crate::stopping::{memory_stop, restart_stop};
+use crate::faults::StepFault;
 use qq_base::NodeId;
-use qq_cluster_run::{AskStop, Ending};
 use qq_disk::{Image, NodeDisk};
 use qq_nodes::{Nodes, crash_node};
-use qq_opening::{restart as restart_node, restart_each};
+use qq_opening::{RestartFault, restart as restart_node, restart_each};
 use qq_ports::{Yard, YardFault};
 use qq_script_lines::{Nodes as Which, ScriptLine};
 use qq_setup::Setup;
 use std::alloc::Global;
 
-// How a run ends whose yard makes no crash.
-fn crash_stop(fault: YardFault) -> AskStop
-    ensures { result ≡ crash_stop fault }
+// What is told where the yard makes no crash.
+fn crash_fault(fault: YardFault) -> StepFault
+    ensures { result ≡ crash_fault fault }
 {
     match fault {
-        YardFault::Failed => AskStop::Ended(Ending::yard_fault()),
-        YardFault::Memory(_) => AskStop::NoMemory,
+        YardFault::Failed => StepFault::Yard,
+        YardFault::Memory(memory) => StepFault::Nodes(RestartFault::Memory(memory)),
     }
 }
 
@@ -89,7 +89,7 @@ fn crash<Y: Yard>(
     yard: &mut Y,
     which: Which,
     image: &Image,
-) -> Result<(), AskStop>
+) -> Result<(), StepFault>
     requires { (given : Giving Y.Disk) × ((run : Run)
         × Holds given Y.Disk.tells Y.Disk.past Y.Disk.faults setup.now nodes.old run
         × AreNodes (setup_in setup.now run) which) }
@@ -97,19 +97,19 @@ fn crash<Y: Yard>(
         Holds given Y.Disk.tells Y.Disk.past Y.Disk.faults setup.now nodes.old run →
         OnOk result (IsServed given Y.Disk.tells Y.Disk.past Y.Disk.faults setup.now run
         (Crash which image.now) nodes.new text text) }
-    ensures cause { (given : Giving Y.Disk) (run : Run) → IfErr result (HasServeCause
+    ensures cause { (given : Giving Y.Disk) (run : Run) → IfErr result (λ fault. HasServeCause
         (Meets given Y.Disk.tells Y.Disk.past Y.Disk.faults (Y.faults yard.old) (Y.faults yard.new))
-        (setup_in setup.now run) run.events (Crash which image.now)) }
+        (setup_in setup.now run) run.events (Crash which image.now) (step_stop setup.now fault)) }
     ensures later { Y.faults yard.old ≤ Y.faults yard.new }
 {
     match which {
         Which::One(node) => match crash_one(alloc, nodes, yard, node, image) {
             Ok(()) => Ok(()),
-            Err(fault) => Err(crash_stop(fault)),
+            Err(fault) => Err(crash_fault(fault)),
         },
         Which::All => match crash_first(alloc, nodes, yard, setup.nodes, image) {
             Ok(()) => Ok(()),
-            Err(fault) => Err(crash_stop(fault)),
+            Err(fault) => Err(crash_fault(fault)),
         },
     }
 }
@@ -121,7 +121,7 @@ fn restart<D: NodeDisk>(
     nodes: &mut Nodes<D>,
     which: Which,
     text: &mut Vec<u8>,
-) -> Result<(), AskStop>
+) -> Result<(), StepFault>
     requires { (given : Giving D) × ((run : Run)
         × Holds given D.tells D.past D.faults setup.now nodes.old run
         × AreNodes (setup_in setup.now run) which) }
@@ -130,18 +130,18 @@ fn restart<D: NodeDisk>(
         OnOk result (IsServed given D.tells D.past D.faults setup.now run
         (Restart which) nodes.new text.old.items text.new.items) }
     ensures cause { (given : Giving D) (run : Run) (before after : ℕ) →
-        Holds given D.tells D.past D.faults setup.now nodes.old run → IfErr result (HasServeCause
-        (Meets given D.tells D.past D.faults before after) (setup_in setup.now run) run.events
-        (Restart which)) }
+        Holds given D.tells D.past D.faults setup.now nodes.old run →
+        IfErr result (λ fault. HasServeCause (Meets given D.tells D.past D.faults before after)
+        (setup_in setup.now run) run.events (Restart which) (step_stop setup.now fault)) }
 {
     match which {
         Which::One(node) => match restart_node(nodes, alloc, node, text) {
             Ok(()) => Ok(()),
-            Err(fault) => Err(restart_stop(alloc, setup, fault)),
+            Err(fault) => Err(StepFault::Nodes(fault)),
         },
         Which::All => match restart_each(nodes, alloc, text) {
             Ok(()) => Ok(()),
-            Err(fault) => Err(restart_stop(alloc, setup, fault)),
+            Err(fault) => Err(StepFault::Nodes(fault)),
         },
     }
 }
@@ -153,7 +153,7 @@ fn go_on<D: NodeDisk>(
     nodes: &mut Nodes<D>,
     line: ScriptLine,
     text: &mut Vec<u8>,
-) -> Result<(), AskStop>
+) -> Result<(), StepFault>
     requires may { MayRun setup.now }
     requires holds { (given : Giving D) × ((run : Run)
         × Holds given D.tells D.past D.faults setup.now nodes.old run
@@ -163,20 +163,20 @@ fn go_on<D: NodeDisk>(
         OnOk result (IsServed given D.tells D.past D.faults setup.now run
         line nodes.new text.old.items text.new.items) }
     ensures cause { (given : Giving D) (run : Run) (before after : ℕ) →
-        Holds given D.tells D.past D.faults setup.now nodes.old run → IfErr result (HasServeCause
-        (Meets given D.tells D.past D.faults before after)
-        (setup_in setup.now run) run.events line) }
+        Holds given D.tells D.past D.faults setup.now nodes.old run →
+        IfErr result (λ fault. HasServeCause (Meets given D.tells D.past D.faults before after)
+        (setup_in setup.now run) run.events line (step_stop setup.now fault)) }
 {
     match ask(alloc, setup, nodes, line, text) {
         Ok(()) => Ok(()),
-        Err(memory) => Err(memory_stop(memory)),
+        Err(memory) => Err(StepFault::Nodes(RestartFault::Memory(memory))),
     }
 }
 
 /// Nodes serve a line that names what is there, and add what it prints to `text`.
 ///
 /// - `ok`: what happened is what the line allows, and the nodes' disks had it.
-/// - `cause`: the line ends the run so, or there was no memory.
+/// - `cause`: the line ends a run so, or there was no memory.
 pub fn serve<Y: Yard>(
     alloc: Global,
     setup: &Setup,
@@ -184,7 +184,7 @@ pub fn serve<Y: Yard>(
     yard: &mut Y,
     line: ScriptLine,
     text: &mut Vec<u8>,
-) -> Result<(), AskStop>
+) -> Result<(), StepFault>
     requires may { MayRun setup.now }
     requires holds { (given : Giving Y.Disk) × ((run : Run)
         × Holds given Y.Disk.tells Y.Disk.past Y.Disk.faults setup.now nodes.old run
@@ -195,9 +195,9 @@ pub fn serve<Y: Yard>(
         line nodes.new text.old.items text.new.items) }
     ensures cause { (given : Giving Y.Disk) (run : Run) →
         Holds given Y.Disk.tells Y.Disk.past Y.Disk.faults setup.now nodes.old run →
-        IfErr result (HasServeCause
+        IfErr result (λ fault. HasServeCause
         (Meets given Y.Disk.tells Y.Disk.past Y.Disk.faults (Y.faults yard.old) (Y.faults yard.new))
-        (setup_in setup.now run) run.events line) }
+        (setup_in setup.now run) run.events line (step_stop setup.now fault)) }
     ensures later { Y.faults yard.old ≤ Y.faults yard.new }
 {
     match line {

@@ -2,16 +2,18 @@
 ghost use Rattle.std.specs.Prelude.{◌≡◌, nat_eq};
 ghost use Rattle.std.specs.Option.{option_copied};
 ghost use Rattle.qq_cluster_run.specs.Setup.{place_of, row_at};
+ghost use Rattle.qq_broker.specs.Faults.{IsStepStopOf};
 ghost use Rattle.qq_broker.specs.Serving.{IsStopOf, memory_stop};
 
+use crate::faults::StepFault;
 use qq_base::{Duplicate, Memory, QueueId};
 use qq_cluster_run::{AskStop, Ending};
 use qq_opening::RestartFault;
 use qq_setup::{QueueRow, Setup};
 use std::alloc::Global;
 
-/// There is no memory, or a number stands at its end.
-pub fn memory_stop(memory: Memory) -> AskStop
+// There is no memory, or a number stands at its end.
+fn memory_stop(memory: Memory) -> AskStop
     ensures { result ≡ memory_stop memory }
 {
     match memory {
@@ -64,5 +66,15 @@ pub fn restart_stop(alloc: Global, setup: &Setup, fault: RestartFault) -> AskSto
             }
         }
         RestartFault::Memory(memory) => memory_stop(memory),
+    }
+}
+
+/// A line isn't served.
+pub fn step_stop(alloc: Global, setup: &Setup, fault: StepFault) -> AskStop
+    ensures { IsStepStopOf setup.now fault result }
+{
+    match fault {
+        StepFault::Yard => AskStop::Ended(Ending::yard_fault()),
+        StepFault::Nodes(fault) => restart_stop(alloc, setup, fault),
     }
 }

@@ -22,11 +22,13 @@ use Rattle.qq_cluster_queue.specs.ClusterQueue.{Stands as IsQueue, all_present}
 use Rattle.qq_cluster_queue.specs.Sessions.{standings}
 use Rattle.qq_cluster_queue.specs.declared.cluster_queue.ClusterQueue.{ClusterQueue}
 use Rattle.qq_node_log.specs.declared.node_log.NodeLog.TheVariants.{Closed}
+use Rattle.qq_nodes.specs.Disks.{AreBareNodes, GetDisks}
 use Rattle.qq_nodes.specs.Nodes.{IsNodeOf, IsQueueOf, IsSetUp, Stands}
 use Rattle.qq_nodes.specs.Setting.{AreNew, AreNodesFor, AreQueuesFor, HaveDisks, IsNewNode, IsQueueFor, IsRowOf, IsSetupOver, IsWhole, ids_on, is_among}
 use Rattle.qq_nodes.specs.declared.node.Node.{Node}
 use Rattle.qq_nodes.specs.declared.nodes.Nodes.{Nodes as Held}
 use Rattle.qq_nodes.proofs.OwnStands.{seen-own}
+use Rattle.qq_nodes.proofs.Putting.{bare-new}
 use Rattle.qq_nodes.proofs.Quiet.{all-from}
 
 -- an item at each index
@@ -221,3 +223,25 @@ have-disks tells past faults rows disks held nodes at disk here =
     (subst (λ (i : ℕ). slice_get held.nodes.items i ≡ Some node.0) (let e : at ≡ (at + 1) - 1 = omega arith in e)
     node.1)
     own.log_is
+
+-- ---- bare nodes that got their disks
+
+pub record IsMade {D : Type 0} (rows : List QueueRow) (disks : List D) (held : Held D) : Type 0 where
+  pub queues : AreQueuesFor rows held.queues.items
+  pub nodes : AreNodesFor rows disks held.nodes.items
+  pub sessions : held.sessions ≡ []
+  pub active : held.active ≡ []
+  pub auto : held.auto ≡ true
+
+pub are-made : {D : Type 0} (rows : List QueueRow) (disks : List D) (count : ℕ) (bare held : Held D)
+    → held ≡ record bare { nodes = held.nodes } → AreQueuesFor rows bare.queues.items
+    → AreBareNodes rows count bare.nodes.items → GetDisks disks bare.nodes.items held.nodes.items
+    → bare.sessions ≡ [] → bare.active ≡ [] → bare.auto ≡ true → IsMade rows disks held
+are-made {D} rows disks count bare held same queues nodes get sessions active auto =
+    subst (IsMade rows disks) (sym same) (record {
+      queues = queues;
+      nodes = bare-new rows disks count bare.nodes.items held.nodes.items nodes get;
+      sessions = sessions;
+      active = active;
+      auto = auto;
+    })

@@ -1,5 +1,5 @@
--- Queues and nodes are made, one for each row and one for each disk.
-use Rattle.std.proofs.Common.{◌≡◌, ◌⊎◌, ◌<◌, ◌+◌, ℕ, zero, suc, Bool, List, [], ◌∷◌, ◌++◌, None, Some, get_or, length, take, refl, sym, ap, ◌∙◌, subst, inl, inr, arith, append_assoc, append-nil, length-append}
+-- Queues are made, one for each row.
+use Rattle.std.proofs.Common.{◌≡◌, ◌⊎◌, ◌<◌, ◌+◌, ℕ, zero, suc, Bool, List, [], ◌∷◌, ◌++◌, None, Some, get_or, length, take, refl, sym, ap, ◌∙◌, subst, inl, inr, arith, length-append}
 use Rattle.std.specs.Prelude.{IfOk, Ok, Result, nat_eq, slice_get}
 use Rattle.std.proofs.lemmas.List.{take_more}
 use Rattle.std.proofs.lemmas.Option.{slice_get_within}
@@ -13,16 +13,14 @@ use Rattle.qq_cluster_queue.specs.Agreeing.{BeginsWith}
 use Rattle.qq_cluster_queue.specs.ClusterQueue.{Opens}
 use Rattle.qq_cluster_queue.specs.Members.{AreSound}
 use Rattle.qq_cluster_queue.specs.declared.cluster_queue.ClusterQueue.{ClusterQueue}
-use Rattle.qq_nodes.specs.Setting.{AreNodesFor, AreQueuesFor, IsNewNode, IsQueueFor}
-use Rattle.qq_nodes.specs.declared.node.Node.{Node}
-use Rattle.qq_nodes.proofs.Items.{is-empty}
+use Rattle.qq_nodes.specs.Setting.{AreQueuesFor, IsQueueFor}
 
 -- what is said of a result, where it is this one
 pub of-ok : {A E : Type 0} (P : A → Type 0) (r : Result A E) (x : A) → r ≡ Ok x → IfOk r P → P x
 of-ok {A} {E} P r x is ok = subst (λ (s : Result A E). IfOk s P) is ok
 
 -- an item of a list with one more
-get-last : {A : Type 0} (xs : List A) (x y : A) (at : ℕ) → slice_get (xs ++ x ∷ []) at ≡ Some y
+pub get-last : {A : Type 0} (xs : List A) (x y : A) (at : ℕ) → slice_get (xs ++ x ∷ []) at ≡ Some y
     → (slice_get xs at ≡ Some y) ⊎ ((at ≡ length xs) × (y ≡ x))
 get-last [] x y zero is = inr (refl, (let e : y ≡ x = cc in e))
 get-last [] x y (suc at) is = absurd cc
@@ -120,47 +118,3 @@ queues-more rows at row queues all d here are own is =
     taken =
         take_more rows at row (slice_get_within rows at row here)
         ∙ ap (λ (r : QueueRow). take at rows ++ r ∷ []) (at-row rows at here)
-
--- ---- nodes
-
--- a node for each disk of those that came before the rest
-pub record NodesTo {D : Type 0} (rows : List QueueRow) (disks rest : List D) (number : ℕ) (nodes : List (Node D))
-    : Type 0 where
-  pub front : List D
-  pub is : disks ≡ front ++ rest
-  pub number_is : number ≡ length front
-  pub are : AreNodesFor rows front nodes
-
-pub nodes-none : {D : Type 0} (rows : List QueueRow) (disks rest : List D) (nodes : List (Node D)) → rest ≡ disks
-    → nodes ≡ [] → NodesTo rows disks rest 0 nodes
-nodes-none {D} rows disks rest nodes same empty =
-    subst (NodesTo rows disks rest 0) (sym empty) (record {
-      front = [];
-      is = sym same;
-      number_is = refl;
-      are = record { count = refl; each = λ at disk node here there. absurd (none at disk here) };
-    })
-  where
-    none : (at : ℕ) (disk : D) → slice_get [] at ≡ Some disk → ⊥
-    none at disk is = absurd cc
-
-pub nodes-next : {D : Type 0} (rows : List QueueRow) (disks rest later : List D) (disk : D) (number : ℕ)
-    (nodes all : List (Node D)) (node : Node D) → rest ≡ disk ∷ later → NodesTo rows disks rest number nodes
-    → IsNewNode rows (number + 1) disk node → all ≡ nodes ++ node ∷ [] → NodesTo rows disks later (number + 1) all
-nodes-next {D} rows disks rest later disk number nodes all node is to own more =
-    subst (NodesTo rows disks later (number + 1)) (sym more) (record {
-      front = to.front ++ disk ∷ [];
-      is = to.is ∙ ap (λ (l : List D). to.front ++ l) is ∙ sym (append_assoc to.front (disk ∷ []) later);
-      number_is = (let e = to.number_is in let long = length-append to.front (disk ∷ []) in omega (arith, e, long));
-      are = record {
-        count = one-more nodes to.front node disk to.are.count;
-        each = pairs-more (λ (i : ℕ) x n. IsNewNode rows (i + 1) x n) to.front nodes disk node to.are.count to.are.each
-            (subst (λ (i : ℕ). IsNewNode rows (i + 1) disk node) to.number_is own);
-      };
-    })
-
-pub nodes-all : {D : Type 0} (rows : List QueueRow) (disks rest : List D) (number : ℕ) (nodes : List (Node D))
-    → length rest ≡ 0 → NodesTo rows disks rest number nodes → AreNodesFor rows disks nodes
-nodes-all {D} rows disks rest number nodes none to =
-    subst (λ (l : List D). AreNodesFor rows l nodes)
-    (sym (to.is ∙ ap (λ (l : List D). to.front ++ l) (is-empty rest none) ∙ append-nil to.front)) to.are

@@ -34,7 +34,7 @@ use Rattle.qq_nodes.proofs.Owned.{own-fail}
 use Rattle.qq_nodes.proofs.Quiet.{quiet-stopped}
 
 -- what a log knows of a queue, it knows where its member stops
-stops-part : (k : ℕ) (q : Queue) → part_at k (happens q (Stops k)) ≡ part_at k q
+pub stops-part : (k : ℕ) (q : Queue) → part_at k (happens q (Stops k)) ≡ part_at k q
 stops-part k q =
     let seat : Seat = record { server = None; ops = (q.group.seat k).ops; noticed = (q.group.seat k).noticed } in
     let there = put-same k seat q.group.seat in

@@ -25,5 +25,7 @@ pub mod Crashed
 pub mod CrashedEach
 pub mod Shows
 pub mod Built
+pub mod Putting
+pub mod Stopped
 pub mod Begun
 pub mod Ticked

@@ -1,11 +1,13 @@
 -- A call of a node's log, as one of the node.
-use Rattle.std.proofs.Common.{◌≡◌, ◌<◌, ℕ, Bool, true, false, List, ◌++◌, Some, None, drop, get_or, length, take, refl, sym, ap, ◌∙◌, subst}
+use Rattle.std.proofs.Common.{◌≡◌, ◌≢◌, ◌⊎◌, ◌<◌, ℕ, Bool, true, false, List, ◌++◌, Some, None, drop, get_or, length, take, refl, sym, ap, ◌∙◌, subst, inl, inr}
 use Rattle.std.proofs.Math.Seq.{take-append_seam}
 use Rattle.std.specs.Prelude.{Result, Ok, Err, IfOk, IfErr, IsTrue, slice_get, slice_set}
+use Rattle.std.specs.List.{range_with_len}
 use Rattle.std.proofs.lemmas.Option.{slice_get-get_or}
 use Rattle.qq_base.specs.Causes.{Rose}
 use Rattle.qq_base.specs.declared.memory.Memory.{Memory}
 use Rattle.qq_disk.specs.Disk.{Disk, now}
+use Rattle.qq_cluster.specs.Cluster.{Setup}
 use Rattle.qq_log.specs.declared.op.Op.{Op}
 use Rattle.qq_lots.specs.Lots.{Lot, Parts, give_batch, keep_all}
 use Rattle.qq_node_log.specs.Batches.{IsLongIn, IsLongOn}
@@ -16,8 +18,9 @@ use Rattle.qq_node_log.specs.declared.node_log.NodeLog.{NodeLog}
 use Rattle.qq_node_log.specs.declared.syncing.SyncOutcome.{SyncOutcome}
 use Rattle.qq_node_log.specs.declared.syncing.SyncOutcome.TheVariants.{Whole}
 use Rattle.qq_nodes.specs.Logs.{Appends, AppendsInPart, ChangesLog, MayAppendAt, MaySyncAt, NodeTurns, Syncs, SyncsInPart}
+use Rattle.qq_nodes.specs.Nodes.{EachHasLog, HaveLogs}
 use Rattle.qq_nodes.specs.declared.node.Node.{Node}
-use Rattle.qq_nodes.proofs.OneQueue.{set-long}
+use Rattle.qq_nodes.proofs.OneQueue.{set-get, set-long}
 
 some-log : {A : Type 0} (x y : A) → Some x ≡ Some y → x ≡ y
 some-log x y e = cc
@@ -107,6 +110,26 @@ module _ {D : Type 0} {tells : D → Bool} {past : D → List Disk} {faults : D 
     last = last;
     shown = shown;
   }
+
+-- ---- each node has its log
+
+-- where one node has another one
+pub each-with : {D : Type 0} (olds news : List (Node D)) (at : ℕ) (y : Node D) (behind : NodeLog D)
+    → news ≡ slice_set olds at y → y.log ≡ Some behind → EachHasLog olds → EachHasLog news
+each-with {D} olds news at y behind is own each i z there =
+    by (set-get olds at i y z (ap (λ (l : List (Node D)). slice_get l i) (sym is) ∙ there))
+  where
+    by : ((i ≡ at) × (z ≡ y)) ⊎ ((i ≢ at) × (slice_get olds i ≡ Some z))
+        → (log : NodeLog D) × (z.log ≡ Some log)
+    by (inl same) = (behind, ap (λ (n : Node D). n.log) same.1 ∙ own)
+    by (inr other) = each i z other.1
+
+pub logs-with : {D : Type 0} (setup : Setup) (olds news : List (Node D)) (at : ℕ) (y : Node D) (behind : NodeLog D)
+    → news ≡ slice_set olds at y → y.log ≡ Some behind → HaveLogs setup olds → HaveLogs setup news
+logs-with setup olds news at y behind is own logs = record {
+  nodes_are = logs.nodes_are ∙ ap (range_with_len 1) (sym (ap length is ∙ set-long olds at y));
+  each = each-with olds news at y behind is own logs.each;
+}
 
 -- ---- the node at an index
 

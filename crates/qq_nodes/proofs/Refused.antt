@@ -28,7 +28,7 @@ use Rattle.qq_nodes.specs.Nodes.{GaveUp, seen}
 use Rattle.qq_nodes.specs.declared.asking.Ask.{Ask}
 use Rattle.qq_nodes.specs.declared.asking.Ask.TheVariants.{Submit, TellEnded, TellNotTaken, Resend, Fetch, Down, Tick, Notice, Deliver, Lose, Copy}
 use Rattle.qq_nodes.specs.declared.nodes.Nodes.{Nodes as Held}
-use Rattle.qq_nodes.proofs.Stands.{ends-now, same-seen}
+use Rattle.qq_nodes.proofs.Stands.{ends-now, same-logs, same-seen, stands-logs}
 
 -- what the law of refusals says
 abbrev pub StepEnds : Type 0
@@ -85,6 +85,7 @@ module _ {D : Type 0} {tells : D → Bool} {past : D → List Disk} {faults : D 
   gave_up-refused steps at ask old new memory nodes refused = record {
     gives_up = λ setup c r st. subst (λ (b : ℕ → Seen). GivesUp setup c (seen tells past faults old) b)
         (same-seen tells past faults old new nodes) (gives_up-same setup c (seen tells past faults old));
+    logs = λ setup c r st. same-logs setup old.nodes new.nodes nodes (stands-logs setup old c st);
     spent = λ number is setup c r st.
         (let caused : IsAskCaused ask refused.queue (Spent number) =
         subst (IsAskCaused ask refused.queue) is refused.caused in

@@ -1,5 +1,6 @@
 -- The lines of a queue's members.
 use Rattle.std.proofs.Common.{◌≡◌, ◌≢◌, ◌⊎◌, ◌<◌, ◌≤◌, ◌+◌, ◌-◌, ℕ, zero, suc, Bool, true, false, cond, ◌||◌, ◌&&◌, List, [], ◌∷◌, ◌++◌, Some, map, take, length, refl, sym, ap, ◌∙◌, subst, inl, inr, arith, append_assoc, append-nil, get_or}
+use Rattle.std.specs.Global.{Vec}
 use Rattle.std.specs.Prelude.{filter, nat_eq, slice_get}
 use Rattle.std.specs.List.{flat_map, list_any, range_with_len}
 use Rattle.std.proofs.lemmas.Bool.{cases_eq, eq-eqb, ne_eqb}
@@ -148,6 +149,17 @@ module _ {D : Type 0} {tells : D → Bool} {past : D → List Disk} where
       own (standings held.sessions) (c.queue queue.0) was.stands
       ∙ ap (λ (name : List ℕ). before ++ audit_text name 0 (audit_rows (c.queue queue.0))) was.name_is
 
+  -- of whatever nodes have these queues
+  pub audit-over : (held : Held D) (queue : QueueId) (x : ClusterQueue) (before later : List ℕ) → IsQueueAt queue held
+      → slice_get held.queues.items (queue.0 - 1) ≡ Some x
+      → OfItsQueue x (λ (q : Queue). later ≡ before ++ audit_text x.label.name 0 (audit_rows q))
+      → (setup : Setup) (c : Cluster) (other : Held D) → other.queues ≡ held.queues → Stands tells past setup other c
+      → later ≡ before ++ audit_text (setup.name queue.0) 0 (audit_rows (c.queue queue.0))
+  audit-over held queue x before later is here own setup c other same st =
+      audit-at other queue x before later
+      (subst (λ (v : Vec ClusterQueue). (0 < queue.0) × (queue.0 ≤ length v.items)) (sym same) is)
+      (ap (λ (v : Vec ClusterQueue). slice_get v.items (queue.0 - 1)) same ∙ here) own setup c st
+
   -- whether a node has a queue is whether the queue has a member there
   pub member-told : (held : Held D) (queue : QueueId) (at : ℕ) (y : Node D) → IsQueueAt queue held
       → slice_get held.nodes.items at ≡ Some y → (setup : Setup) (c : Cluster) → Stands tells past setup held c
@@ -203,3 +215,15 @@ module _ {D : Type 0} {tells : D → Bool} {past : D → List Disk} where
       (sym was.stands.args)
       (subst (λ (audit : List Entry). SpentOnlyWhere e NUMBER_END (stays_within (empty_queue x.args) audit ≡ false))
       (sym was.stands.group.represents.audit) cause)
+
+  -- nor for whatever nodes that have these queues
+  pub caused-over : (held : Held D) (queue : QueueId) (x : ClusterQueue) (e : Memory) → IsQueueAt queue held
+      → slice_get held.queues.items (queue.0 - 1) ≡ Some x
+      → SpentOnlyWhere e NUMBER_END (stays_within (empty_queue x.args) x.group.audit.items ≡ false)
+      → (setup : Setup) (c : Cluster) (other : Held D) → other.queues ≡ held.queues → Stands tells past setup other c
+      → SpentOnlyWhere e NUMBER_END
+      (stays_within (empty_queue (c.queue queue.0).args) (c.queue queue.0).group.audit ≡ false)
+  caused-over held queue x e is here cause setup c other same st =
+      audit-caused other queue x e
+      (subst (λ (v : Vec ClusterQueue). (0 < queue.0) × (queue.0 ≤ length v.items)) (sym same) is)
+      (ap (λ (v : Vec ClusterQueue). slice_get v.items (queue.0 - 1)) same ∙ here) cause setup c st

@@ -16,7 +16,7 @@ use Rattle.qq_cluster_laws.proofs.Reached.{after-both, reached-after}
 use Rattle.qq_cluster_laws.proofs.Serves.{gives_up-behind, gives_up-same, leads-more, leads-start, serves-both, serves-nothing, serves-unseen, serves-weaker}
 use Rattle.qq_nodes.specs.Active.{AreRising}
 use Rattle.qq_nodes.specs.Ends.{IsAtEnd, NumberAt}
-use Rattle.qq_nodes.specs.Nodes.{Begins, CanServe, EndsAt, GaveUp, LeadsIn, Served, Stands, node_at, nodes_in, places_in, seen, seen_in}
+use Rattle.qq_nodes.specs.Nodes.{Begins, CanServe, EndsAt, GaveUp, HaveLogs, LeadsIn, Served, Stands, node_at, nodes_in, places_in, seen, seen_in}
 use Rattle.qq_nodes.specs.declared.node.Node.{Node}
 use Rattle.qq_nodes.specs.declared.nodes.Nodes.{Nodes as Held}
 use Rattle.qq_nodes.proofs.Total.{Allowed, Total, total-each}
@@ -31,6 +31,19 @@ pub same-seen : {D : Type 0} (tells : D → Bool) (past : D → List Disk) (faul
     → new.nodes ≡ old.nodes → seen tells past faults old ≡ seen tells past faults new
 same-seen {D = D} tells past faults old new nodes =
     ap (λ (l : Vec (Node D)). λ (k : ℕ). seen_in tells past faults (node_at k l.items)) (sym nodes)
+
+-- nodes that stand for a cluster have their logs
+pub stands-logs : {D : Type 0} {tells : D → Bool} {past : D → List Disk} (setup : Setup) (held : Held D) (c : Cluster)
+    → Stands tells past setup held c → HaveLogs setup held.nodes.items
+stands-logs setup held c st = record {
+  nodes_are = st.set_up.nodes;
+  each = λ at node here. (let is = st.nodes at node here in (is.own, is.log_is));
+}
+
+-- and so have the same nodes
+pub same-logs : {D : Type 0} (setup : Setup) (olds news : Vec (Node D)) → news ≡ olds → HaveLogs setup olds.items
+    → HaveLogs setup news.items
+same-logs {D} setup olds news same logs = subst (λ (v : Vec (Node D)). HaveLogs setup v.items) (sym same) logs
 
 -- a rule that asks for nothing at a quiet queue
 abbrev pub PassesQuiet : {D : Type 0} → (D → Bool) → (D → List Disk)
@@ -174,6 +187,7 @@ module _ {D : Type 0} {tells : D → Bool} {past : D → List Disk} {faults : D 
     gives_up = λ setup c r st. subst (λ (b : ℕ → Seen). GivesUp setup c (seen tells past faults old) b)
         (same-seen tells past faults old new nodes)
         (gives_up-same setup c (seen tells past faults old));
+    logs = λ setup c r st. same-logs setup old.nodes new.nodes nodes (stands-logs setup old c st);
     spent = λ number is. absurd (let e : Want ≡ Spent number = sym want ∙ is in cc);
   }
 
@@ -184,6 +198,7 @@ module _ {D : Type 0} {tells : D → Bool} {past : D → List Disk} {faults : D 
       → GaveUp tells past faults First old new memory → GaveUp tells past faults Whole old new memory
   gave_up-by {First = First} {Whole = Whole} {old = old} begins first = record {
     gives_up = first.gives_up;
+    logs = first.logs;
     spent = λ number is setup c r st. (let e : EndsAt tells past faults setup (First setup) old c number =
         first.spent number is setup c r st in
         record {
@@ -237,6 +252,8 @@ module _ {D : Type 0} {tells : D → Bool} {past : D → List Disk} {faults : D 
         gives_up-behind setup c (First setup c) (Stands tells past setup mid) (seen tells past faults old)
         (seen tells past faults mid) (seen tells past faults new) before middle s
         (second.gives_up setup (cluster_after c s.did.events) (reached-after setup c s.did.events r) s.did.stands));
+    logs = λ setup c r st. (let s = first.serves setup c r st in
+        second.logs setup (cluster_after c s.did.events) (reached-after setup c s.did.events r) s.did.stands);
     spent = λ number is setup c r st. (let s = first.serves setup c r st in
         let events : List ClusterEvent = s.did.events in
         let d : Cluster = cluster_after c events in

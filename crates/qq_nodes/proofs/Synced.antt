@@ -47,15 +47,16 @@ use Rattle.qq_node_log.proofs.Running.{running-same}
 use Rattle.qq_nodes.specs.Active.{is_in}
 use Rattle.qq_nodes.specs.Ends.{HasLog, InNumbers, IsAtEnd}
 use Rattle.qq_nodes.specs.Logs.{ChangesLog, MaySyncAt, NodeTurns, Syncs, SyncsInPart}
-use Rattle.qq_nodes.specs.Nodes.{CanServe, GaveUp, IsNodeOf, IsSetUp, Served, Stands, seen}
+use Rattle.qq_nodes.specs.Nodes.{CanServe, GaveUp, HaveLogs, IsNodeOf, IsSetUp, Served, Stands, seen}
 use Rattle.qq_nodes.specs.Turning.{HasStopped, HasTurned}
 use Rattle.qq_nodes.specs.declared.node.Node.{Node}
 use Rattle.qq_nodes.specs.declared.nodes.Nodes.{Nodes as Held}
+use Rattle.qq_nodes.proofs.Logged.{logs-with}
 use Rattle.qq_nodes.proofs.OwnStands.{Changes, QueuesOf, call-gives_up, call-serves, log-moments, log-runs, log-whole, node-in, node-was, not-fresh, set-here, stands-own, stopped-nodes, stopped-queues, turned-queues}
 use Rattle.qq_nodes.proofs.Owned.{AllOwn, own-fail, own-sync}
 use Rattle.qq_nodes.proofs.Pumping.{rule-else, rule-if}
 use Rattle.qq_nodes.proofs.Quiet.{quiet-stopped, quiet-syncs}
-use Rattle.qq_nodes.proofs.Stands.{ends-now, served-nothing}
+use Rattle.qq_nodes.proofs.Stands.{ends-now, same-logs, served-nothing, stands-logs}
 use Rattle.qq_nodes.proofs.Told.{place-here}
 use Rattle.qq_nodes.proofs.Total.{Allowed, total-sync}
 
@@ -506,12 +507,20 @@ module _ {D : Type 0} {tells : D → Bool} {past : D → List Disk} where
           st.queues says turn.turns.failed;
     }
 
+    left-logs : (faults : D → ℕ) (P : Node D → Node D → Type 0) (turn : NodeTurns P (k - 1) old.nodes.items nodes.items)
+        → ChangesLog tells past faults (λ (lot : Lot) (parts : Parts). parts) turn.old turn.new → (setup : Setup)
+        (c : Cluster) → Stands tells past setup old c → HaveLogs setup nodes.items
+    left-logs faults P turn ch setup c st =
+        logs-with setup old.nodes.items nodes.items (k - 1) turn.new ch.behind turn.is
+        (ap (λ (y : Node D). y.log) ch.is) (stands-logs setup old c st)
+
     -- a number is at its end, or there was no memory
     pub sync-spent : (faults : D → ℕ) (memory : Memory)
         → NodeTurns (SyncsInPart tells past faults memory) (k - 1) old.nodes.items nodes.items
         → GaveUp tells past faults (λ setup. IsSync setup k) old after_log memory
     sync-spent faults memory turn = record {
       gives_up = left k old nodes low high up faults turn.old turn.new after_log turn.here turn.is turn.turns.change;
+      logs = λ setup c r st. left-logs faults (SyncsInPart tells past faults memory) turn turn.turns.change setup c st;
       spent = λ number is setup c r st.
           (let last : IsLastIn turn.turns.change.behind (Spent number) =
           subst (IsLastIn turn.turns.change.behind) is turn.turns.last in
@@ -533,5 +542,8 @@ module _ {D : Type 0} {tells : D → Bool} {past : D → List Disk} where
     sync-wants faults outcome last memory turn same want = record {
       gives_up = left k old nodes low high up faults turn.old turn.new last turn.here
           (ap (λ (v : Vec (Node D)). v.items) same ∙ turn.is) turn.turns.change;
+      logs = λ setup c r st.
+          same-logs setup nodes last.nodes same
+          (left-logs faults (Syncs tells past faults outcome) turn turn.turns.change setup c st);
       spent = λ number is. absurd (let e : Want ≡ Spent number = sym want ∙ is in cc);
     }

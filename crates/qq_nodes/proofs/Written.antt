@@ -47,15 +47,16 @@ use Rattle.qq_wal.specs.declared.batch.TheConstants.{BATCH_BYTES}
 use Rattle.qq_nodes.specs.Active.{is_in}
 use Rattle.qq_nodes.specs.Ends.{HasLog, InFile, IsAtEnd}
 use Rattle.qq_nodes.specs.Logs.{Appends, AppendsInPart, ChangesLog, MayAppendAt, NodeTurns}
-use Rattle.qq_nodes.specs.Nodes.{CanServe, GaveUp, IsNodeAt, IsNodeOf, IsSetUp, Served, Stands, seen}
+use Rattle.qq_nodes.specs.Nodes.{CanServe, GaveUp, HaveLogs, IsNodeAt, IsNodeOf, IsSetUp, Served, Stands, seen}
 use Rattle.qq_nodes.specs.Turning.{HasStopped, HasTaken}
 use Rattle.qq_nodes.specs.declared.node.Node.{Node}
 use Rattle.qq_nodes.specs.declared.nodes.Nodes.{Nodes as Held}
+use Rattle.qq_nodes.proofs.Logged.{logs-with}
 use Rattle.qq_nodes.proofs.OwnStands.{Changes, QueuesOf, call-gives_up, call-serves, log-moments, log-runs, log-whole, node-in, node-was, not-fresh, set-here, stands-own, stopped-nodes, stopped-queues, turned-queues}
 use Rattle.qq_nodes.proofs.Owned.{own-fail, own-write}
 use Rattle.qq_nodes.proofs.Pumping.{rule-else, rule-if}
 use Rattle.qq_nodes.proofs.Quiet.{quiet-stopped, quiet-writes}
-use Rattle.qq_nodes.proofs.Stands.{ends-now, served-nothing, served-still}
+use Rattle.qq_nodes.proofs.Stands.{ends-now, same-logs, served-nothing, served-still, stands-logs}
 use Rattle.qq_nodes.proofs.Taken.{apart-places, each-none, none-written, nothing-waits, some-written, taken-places, taken-waiting, waits_at}
 use Rattle.qq_nodes.proofs.Told.{place-here}
 use Rattle.qq_nodes.proofs.Total.{Allowed, total-write}
@@ -336,6 +337,15 @@ module _ {D : Type 0} {tells : D → Bool} {past : D → List Disk} where
         (all-waiting setup c r st) linked
         (log-moments setup c k turn.old turn.new later was (is-up setup c st) ch told linked).0)
 
+    left-logs : (faults : D → ℕ) (setup : Setup) (c : Cluster) (st : Stands tells past setup old c)
+        (nodes : Vec (Node D)) (P : Node D → Node D → Type 0)
+        (turn : NodeTurns P (k - 1) mid.nodes.items nodes.items)
+        → ChangesLog tells past faults (λ (lot : Lot). give_batch lot ops) turn.old turn.new
+        → HaveLogs setup nodes.items
+    left-logs faults setup c st nodes P turn ch =
+        logs-with setup mid.nodes.items nodes.items (k - 1) turn.new ch.behind turn.is
+        (ap (λ (y : Node D). y.log) ch.is) (same-logs setup old.nodes mid.nodes same-nodes (stands-logs setup old c st))
+
     -- the file is too long, or there was no memory
     pub write-spent : (faults : D → ℕ) (nodes : Vec (Node D)) (memory : Memory)
         → NodeTurns (AppendsInPart tells past faults ops memory) (k - 1) mid.nodes.items nodes.items
@@ -344,6 +354,8 @@ module _ {D : Type 0} {tells : D → Bool} {past : D → List Disk} where
       gives_up = λ setup c r st.
           left faults setup c r st nodes (record mid { nodes = nodes }) (AppendsInPart tells past faults ops memory) turn refl
           turn.turns.change;
+      logs = λ setup c r st.
+          left-logs faults setup c st nodes (AppendsInPart tells past faults ops memory) turn turn.turns.change;
       spent = λ number is setup c r st.
           (let long : IsLongIn turn.turns.change.behind (Spent number) =
           subst (IsLongIn turn.turns.change.behind) is turn.turns.long in
@@ -366,5 +378,7 @@ module _ {D : Type 0} {tells : D → Bool} {past : D → List Disk} where
       gives_up = λ setup c r st.
           left faults setup c r st nodes (record mid { nodes = nodes }) (Appends tells past faults ops false) turn refl
           turn.turns.change;
+      logs = λ setup c r st.
+          left-logs faults setup c st nodes (Appends tells past faults ops false) turn turn.turns.change;
       spent = λ number is. absurd (let e : Want ≡ Spent number = sym want ∙ is in cc);
     }

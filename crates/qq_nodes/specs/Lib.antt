@@ -8,3 +8,5 @@ pub mod Crashing
 pub mod Showing
 pub mod Sending
 pub mod Turning
+pub mod Disks
+pub mod Stopping

@@ -98,6 +98,17 @@ pub record Stands {D : Type 0} (tells : D → Bool) (past : D → List Disk) (se
 abbrev pub CanServe : {D : Type 0} → (D → Bool) → (D → List Disk) → Held D → Type 0
 CanServe tells past held = (setup : Setup) × (c : Cluster) × IsReached setup c × Stands tells past setup held c
 
+-- ---- the nodes' logs
+
+abbrev pub EachHasLog : {D : Type 0} → List (Node D) → Type 0
+EachHasLog {D} nodes =
+    (at : ℕ) (node : Node D) → slice_get nodes at ≡ Some node → (own : NodeLog D) × (node.log ≡ Some own)
+
+-- these are the nodes of a setup, and each has its log
+pub record HaveLogs {D : Type 0} (setup : Setup) (nodes : List (Node D)) : Type 0 where
+  pub nodes_are : setup.nodes ≡ range_with_len 1 (length nodes)
+  pub each : EachHasLog nodes
+
 -- a node that is there
 abbrev pub IsNodeAt : {D : Type 0} → NodeId → Held D → Type 0
 IsNodeAt node held = (0 < node.0) × (node.0 ≤ length held.nodes.items)
@@ -135,12 +146,14 @@ pub record EndsAt {D : Type 0} (tells : D → Bool) (past : D → List Disk) (fa
   pub at : NumberAt tells past mid number
   pub end : IsAtEnd number
 
--- Of whatever cluster they stood for, each disk keeps at each moment what the events so far promised. Where it isn't that
--- there was no memory, a number stands at its end.
+-- Of whatever cluster they stood for, each disk keeps at each moment what the events so far promised, and is still in
+-- its node's log. Where it isn't that there was no memory, a number stands at its end.
 pub record GaveUp {D : Type 0} (tells : D → Bool) (past : D → List Disk) (faults : D → ℕ)
     (Rule : Setup → Cluster → List ClusterEvent → Type 0) (old new : Held D) (memory : Memory) : Type 0 where
   pub gives_up : (setup : Setup) (c : Cluster) → IsReached setup c → Stands tells past setup old c
       → GivesUp setup c (seen tells past faults old) (seen tells past faults new)
+  pub logs : (setup : Setup) (c : Cluster) → IsReached setup c → Stands tells past setup old c
+      → HaveLogs setup new.nodes.items
   pub spent : (number : ℕ) → memory ≡ Spent number → (setup : Setup) (c : Cluster) → IsReached setup c
       → Stands tells past setup old c → EndsAt tells past faults setup (Rule setup) old c number
 

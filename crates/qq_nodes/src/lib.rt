@@ -4,6 +4,7 @@
 mod active;
 mod asking;
 mod crashing;
+mod disks;
 mod lines;
 mod logs;
 mod messages;
@@ -13,6 +14,7 @@ mod nodes;
 mod rounds;
 mod sending;
 mod showing;
+mod stopping;
 mod ticking;
 mod turning;
 mod writing;

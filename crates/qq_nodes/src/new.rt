@@ -1,11 +1,12 @@
 //! How the nodes of a cluster begin.
-ghost use Rattle.std.specs.Prelude.{◌≡◌, ◌≤◌, All, length, IfOk, IsOkUnless};
+ghost use Rattle.std.specs.Prelude.{◌≡◌, ◌≤◌, [], All, length, vec_capacity, IfOk, IsOkUnless, OnErr, OnOk};
 ghost use Rattle.qq_cluster.specs.Cluster.{Setup, new_cluster};
 ghost use Rattle.qq_log.specs.declared.limits.TheConstants.{NODE_LIMIT};
 ghost use Rattle.qq_raft_model.specs.Promises.{AreDistinct};
 ghost use Rattle.qq_setup.specs.declared.queue_row.QueueRow.{QueueRow as Row};
+ghost use Rattle.qq_nodes.specs.Disks.{AreBareNodes, IsBareNode};
 ghost use Rattle.qq_nodes.specs.Nodes.{Stands};
-ghost use Rattle.qq_nodes.specs.Setting.{AreNew, AreNodesFor, AreQueuesFor, HaveDisks, IsNewNode, IsQueueFor, IsRow, IsSetupOver, IsWhole, ids_on, is_among};
+ghost use Rattle.qq_nodes.specs.Setting.{AreNew, AreQueuesFor, HaveDisks, IsQueueFor, IsRow, IsSetupOver, IsWhole, ids_on, is_among};
 
 use crate::active::Active;
 use crate::node::Node;
@@ -14,7 +15,6 @@ use qq_base::{Duplicate, Memory, NodeId, QueueId, both};
 use qq_cluster_queue::{ClusterQueue, Sessions};
 use qq_disk::NodeDisk;
 use qq_group::events_reach_groups;
-use qq_node_log::NodeLog;
 use qq_setup::QueueRow;
 use std::alloc::Global;
 
@@ -68,14 +68,9 @@ fn queues_on(alloc: Global, rows: &[QueueRow], node: NodeId) -> Result<Vec<Queue
     Ok(ids)
 }
 
-// A node that wasn't opened yet.
-fn new_node<D: NodeDisk>(
-    alloc: Global,
-    rows: &[QueueRow],
-    id: NodeId,
-    disk: D,
-) -> Result<Node<D>, Memory>
-    ensures ok { IfOk result (IsNewNode rows.now id.0 disk) }
+// A node that has no disk yet.
+fn bare_node<D: NodeDisk>(alloc: Global, rows: &[QueueRow], id: NodeId) -> Result<Node<D>, Memory>
+    ensures ok { IfOk result (IsBareNode rows.now id.0) }
     ensures want { IsOkUnless result Memory.Want }
 {
     let queues = queues_on(alloc, rows, id)?;
@@ -84,25 +79,23 @@ fn new_node<D: NodeDisk>(
         up: false,
         empty: false,
         queues,
-        log: Some(NodeLog::Closed(disk)),
+        log: None,
     })
 }
 
-// A node for each disk.
-fn new_nodes<D: NodeDisk>(
+// So many of them, and no disk of theirs.
+fn bare_nodes<D: NodeDisk>(
     alloc: Global,
     rows: &[QueueRow],
-    disks: Vec<D>,
+    count: usize,
 ) -> Result<Vec<Node<D>>, Memory>
-    requires { length disks.items ≤ NODE_LIMIT }
-    ensures ok { IfOk result (λ nodes. AreNodesFor rows.now disks.items nodes.items) }
+    requires { count ≤ NODE_LIMIT }
+    ensures ok { IfOk result (λ nodes. AreBareNodes rows.now count nodes.items) }
     ensures want { IsOkUnless result Memory.Want }
 {
     let mut nodes = Vec::new(alloc);
-    let mut number: u8 = 0;
-    'disks: for disk in disks {
-        number += 1;
-        let node = new_node(alloc, rows, NodeId(number), disk)?;
+    'nodes: for at in 0..count {
+        let node = bare_node(alloc, rows, NodeId(at as u8 + 1))?;
         nodes.push(node)?;
     }
     Ok(nodes)
@@ -115,30 +108,39 @@ impl<D: NodeDisk> Nodes<D> {
     ///
     /// - `ok`: whatever logs the queues begin with, these stand for the cluster.
     /// - `new`: the nodes may be opened.
+    /// - `empty`, `room`: the disks are in the nodes, and their list is room for them.
+    /// - `err`: after an error the disks are in their list as before.
     pub fn new(
         alloc: Global,
         rows: &[QueueRow],
-        disks: Vec<D>,
+        disks: &mut Vec<D>,
         log_bytes: u64,
     ) -> Result<Self, Memory>
-        requires set { (setup : Setup) × IsSetupOver setup rows.now (length disks.items) }
+        requires set { (setup : Setup) × IsSetupOver setup rows.now (length disks.old.items) }
         requires rows { All IsRow rows.now }
-        requires few { length disks.items ≤ NODE_LIMIT }
-        requires whole { All (IsWhole D.tells D.past) disks.items }
-        ensures ok { (setup : Setup) → IsSetupOver setup rows.now (length disks.items) →
+        requires few { length disks.old.items ≤ NODE_LIMIT }
+        requires whole { All (IsWhole D.tells D.past) disks.old.items }
+        ensures ok { (setup : Setup) → IsSetupOver setup rows.now (length disks.old.items) →
             IfOk result (λ nodes. Stands D.tells D.past setup nodes (new_cluster setup)) }
         ensures new { IfOk result (AreNew D.tells D.past rows.now) }
-        ensures disks { IfOk result (HaveDisks D.tells D.past D.faults disks.items) }
+        ensures disks { IfOk result (HaveDisks D.tells D.past D.faults disks.old.items) }
+        ensures empty { OnOk result (disks.new.items ≡ []) }
+        ensures room { vec_capacity disks.new ≡ vec_capacity disks.old }
+        ensures err { OnErr result (disks.new ≡ disks.old) }
         ensures want { IsOkUnless result Memory.Want }
     {
-        let (queues, nodes) = both(new_queues(alloc, rows), new_nodes(alloc, rows, disks))?;
-        Ok(Nodes {
+        let count = disks.len();
+        // All memory is taken before a disk is moved.
+        let (queues, nodes) = both(new_queues(alloc, rows), bare_nodes(alloc, rows, count))?;
+        let mut nodes = Nodes {
             queues,
             nodes,
             sessions: Sessions::new(alloc),
             active: Active::new(alloc),
             auto: true,
             log_bytes,
-        })
+        };
+        nodes.put_disks(disks);
+        Ok(nodes)
     }
 }

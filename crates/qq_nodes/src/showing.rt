@@ -11,6 +11,7 @@ ghost use Rattle.qq_cluster.specs.Queue.{audit_rows};
 ghost use Rattle.qq_cluster.specs.Rules.{Is};
 ghost use Rattle.qq_nodes.specs.Nodes.{CanServe, IsQueueAt, Served, Stands};
 ghost use Rattle.qq_nodes.specs.Showing.{has_queue, member_text};
+ghost use Rattle.qq_nodes.specs.declared.nodes.Nodes.{Nodes as Held};
 
 use crate::nodes::Nodes;
 use qq_base::{Memory, QueueId};
@@ -66,7 +67,8 @@ impl<D: NodeDisk> Nodes<D> {
     }
 
     /// Adds the text of a queue's audit. `Spent` comes only where a number of the queue that the audit makes would be
-    /// past its end. After an error the text begins with what it had.
+    /// past its end. After an error the text begins with what it had. It is what the queues say, whatever the nodes
+    /// are.
     pub fn audit_text(
         &self,
         alloc: Global,
@@ -74,12 +76,14 @@ impl<D: NodeDisk> Nodes<D> {
         text: &mut Vec<u8>,
     ) -> Result<(), Memory>
         requires { IsQueueAt queue self.now }
-        ensures ok { OnOk result ((setup : Setup) (c : Cluster) →
-            Stands D.tells D.past setup self.now c → text.new.items ≡ text.old.items
+        ensures ok { OnOk result ((setup : Setup) (c : Cluster) (held : Held D) →
+            held.queues ≡ self.now.queues → Stands D.tells D.past setup held c →
+            text.new.items ≡ text.old.items
             ++ audit_text (setup.name queue.0) 0 (audit_rows (c.queue queue.0))) }
         ensures err { OnErr result (IsFront text.old.items text.new.items) }
-        ensures cause { IfErr result (λ e. (setup : Setup) (c : Cluster) →
-            Stands D.tells D.past setup self.now c → SpentOnlyWhere e NUMBER_END
+        ensures cause { IfErr result (λ e. (setup : Setup) (c : Cluster) (held : Held D) →
+            held.queues ≡ self.now.queues → Stands D.tells D.past setup held c →
+            SpentOnlyWhere e NUMBER_END
             (stays_within (empty_queue (c.queue queue.0).args) (c.queue queue.0).group.audit
             ≡ false)) }
     {

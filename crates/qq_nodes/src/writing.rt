@@ -29,7 +29,7 @@ impl<D: NodeDisk> Nodes<D> {
     }
 
     // A node is down from here on, and so are its members.
-    fn stop(&mut self, alloc: Global, node: NodeId)
+    pub(crate) fn stop(&mut self, alloc: Global, node: NodeId)
         requires node { IsNodeAt node self.old }
         requires sound { All (λ (d : Queue). AreSound d.group) self.old.queues.items }
         ensures { HasStopped node.0 self.old self.new }

@@ -23,6 +23,7 @@ pub mod Untouched
 pub mod LaneRead
 pub mod Noticed
 pub mod NewNodes
+pub mod HavingLogs
 pub mod OpenedMore
 pub mod OpenedStep
 pub mod OpenedRules
@@ -34,3 +35,4 @@ pub mod SomeSetup
 pub mod OpenedAll
 pub mod OpenedLater
 pub mod OpenedLoop
+pub mod Reopened

@@ -40,7 +40,9 @@ use Rattle.qq_opening.proofs.Changing.{AreApart, all-others}
 use Rattle.qq_opening.proofs.FoundEach.{IsAtPlace, at-place, known-seat, own-apart, own-changes, queue-of, to-lot}
 use Rattle.qq_opening.proofs.FoundLanes.{HasLane, HasNone, come-to_none, lane-none, lane-op, lane-told, pair-has}
 use Rattle.qq_opening.proofs.OwnDisk.{disk-gives_up, seen-before}
+use Rattle.qq_nodes.proofs.Logged.{logs-with}
 use Rattle.qq_nodes.proofs.OwnStands.{node-was, set-here}
+use Rattle.qq_nodes.proofs.Stands.{same-logs, stands-logs}
 use Rattle.qq_opening.proofs.Restarted.{found-lanes, read-then, restarted, same-disk, settles, some-same}
 use Rattle.qq_opening.proofs.Unrecovered.{not-recovered, not-restarted, restarts-none}
 
@@ -278,6 +280,9 @@ module _ {D : Type 0} {tells : D → Bool} {past : D → List Disk} {faults : D 
       → Refuses tells past faults (this_node k) (λ setup. IsRestart setup k) old new before fault
   lost-queue new before fault down same stays = record {
     gives_up = gives-up new same;
+    logs = λ setup c r st. same-logs setup finds.nodes new.nodes same
+        (logs-with setup old.nodes.items finds.nodes.items (k - 1) turn.new (Open rec.found.wal) turn.is
+        (ap (λ (y : Node D). y.log) rec.is) (stands-logs setup old c st));
     refused = λ setup c r st. is-refused setup c r st (down setup c st) before fault (cause-is fault stays);
     spent = λ number is. absurd
         (let want : Spent number ≡ Want = subst (λ (f : RestartFault). IsTakeEachCaused k handed

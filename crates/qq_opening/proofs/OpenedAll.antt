@@ -2,6 +2,7 @@
 use Rattle.std.proofs.Common.{◌≡◌, ◌⊎◌, ◌<◌, ◌≤◌, ◌+◌, ℕ, zero, suc, Bool, true, false, List, ◌++◌, Option, Some, None, length, refl, sym, ap, ◌∙◌, subst, inl, inr, arith, append_assoc}
 use Rattle.std.specs.Prelude.{All, is_some, slice_get}
 use Rattle.std.specs.List.{range_with_len}
+use Rattle.std.proofs.lemmas.List.FromFn.{length-range_with_len}
 use Rattle.qq_base.specs.Causes.{Rose}
 use Rattle.qq_base.specs.declared.ids.NodeId.{NodeId}
 use Rattle.qq_base.specs.declared.ids.QueueId.{QueueId}
@@ -22,7 +23,7 @@ use Rattle.qq_cluster_laws.specs.Linked.{IsReached}
 use Rattle.qq_cluster_laws.specs.Serves.{GivesUp, Serves}
 use Rattle.qq_cluster_laws.proofs.Restarts.{first-stays}
 use Rattle.qq_cluster_laws.proofs.Serves.{gives_up-behind, serves-both}
-use Rattle.qq_nodes.specs.Nodes.{Begins, CanServe, EndsAt, GaveUp, Served, Stands, seen}
+use Rattle.qq_nodes.specs.Nodes.{Begins, CanServe, EndsAt, GaveUp, HaveLogs, Served, Stands, seen}
 use Rattle.qq_nodes.specs.Setting.{AreNew, ids_on}
 use Rattle.qq_nodes.specs.declared.nodes.Nodes.{Nodes as Held}
 use Rattle.qq_nodes.proofs.Stands.{serves-from}
@@ -204,6 +205,14 @@ module _ {D : Type 0} {tells : D → Bool} {past : D → List Disk} {faults : D 
             (Stands tells past setup held) (seen tells past faults old) (seen tells past faults held)
             (seen tells past faults final) before middle s up
 
+        still-there : HaveLogs setup final.nodes.items
+        still-there = gave.logs setup c r s.did.stands
+
+        still-many : length final.nodes.items ≡ length old.nodes.items
+        still-many =
+            sym (length-range_with_len 1 (length final.nodes.items)) ∙ ap length (sym still-there.nodes_are ∙ sw.nodes)
+            ∙ length-range_with_len 1 (length old.nodes.items)
+
         module _ (number : ℕ) (is : memory ≡ Spent number) where
           e : EndsAt tells past faults setup (Opens setup) held c number
           e = gave.spent number is setup c r s.did.stands
@@ -270,6 +279,8 @@ module _ {D : Type 0} {tells : D → Bool} {past : D → List Disk} {faults : D 
     opens-gave_up final memory gave = record {
       cause = by memory refl;
       gives_up = inr (hold_all final rises, λ setup sw. gives-up setup sw final memory gave);
+      count = still-many own_setup own-with final memory gave;
+      logs = (still-there own_setup own-with final memory gave).each;
       never = λ logs setup sw groups linked none. tt;
     }
       where

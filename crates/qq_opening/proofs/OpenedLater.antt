@@ -31,6 +31,7 @@ use Rattle.qq_opening.specs.Opening.{AreReadLogs, GivesUpOver, IsLostOver, IsOpe
 use Rattle.qq_opening.specs.Restarting.{AreLinked, IsOfMemory}
 use Rattle.qq_opening.specs.declared.restarting.RestartFault.{RestartFault}
 use Rattle.qq_opening.specs.declared.restarting.RestartFault.TheVariants as faults_of
+use Rattle.qq_opening.proofs.HavingLogs.{opened-logs}
 use Rattle.qq_opening.proofs.Agreed.{begun-none, item-of, lost-logs}
 use Rattle.qq_opening.proofs.LostQueues.{contains-node}
 use Rattle.qq_opening.proofs.NewNodes.{own-at}
@@ -229,6 +230,8 @@ module _ {D : Type 0} {tells : D → Bool} {past : D → List Disk} {faults : D 
   lost-opens at lt disagrees fault told = record {
     cause = caused fault told;
     gives_up = give-up;
+    count = o.node_count;
+    logs = opened-logs rows old new n held o;
     never = never fault told;
   }
     where

@@ -30,6 +30,7 @@ use Rattle.qq_nodes.specs.Nodes.{seen}
 use Rattle.qq_nodes.specs.Setting.{AreNew, ids_on, is_among}
 use Rattle.qq_nodes.specs.declared.node.Node.{Node}
 use Rattle.qq_nodes.specs.declared.nodes.Nodes.{Nodes as Held}
+use Rattle.qq_nodes.proofs.Logged.{each-with}
 use Rattle.qq_nodes.proofs.OwnStands.{seen-others, seen-own, set-here}
 use Rattle.qq_opening.specs.Opened.{AreOpened}
 use Rattle.qq_opening.specs.Opening.{AreReadLogs, GivesUpOver, HasRead, IsLostOver, IsOpenCaused, IsReadAs, IsSetupWith, Logs, MayNotOpen, state_read, told_of}
@@ -38,7 +39,9 @@ use Rattle.qq_opening.specs.Taking.{FindsLanes, IsLostAmong, IsTakeEachCaused, R
 use Rattle.qq_opening.specs.declared.restarting.RestartFault.{RestartFault}
 use Rattle.qq_opening.specs.declared.restarting.RestartFault.TheVariants as faults_of
 use Rattle.qq_opening.specs.declared.taking.Handed.TheVariants.{AsFound}
+use Rattle.qq_opening.proofs.Changing.{set-long}
 use Rattle.qq_opening.proofs.FoundLanes.{HasLane, lane-op, pair-has}
+use Rattle.qq_opening.proofs.HavingLogs.{opened-logs}
 use Rattle.qq_opening.proofs.LaneRead.{from-in, lane-from}
 use Rattle.qq_opening.proofs.LostQueues.{contains-node, in-middle}
 use Rattle.qq_opening.proofs.NewNodes.{next-still, own-id, own-row}
@@ -366,5 +369,9 @@ module _ {D : Type 0} {tells : D → Bool} {past : D → List Disk} {faults : D 
     back-opens = record {
       cause = back-caused fault caused;
       gives_up = all-give_up left back-others back-keeps;
+      count = ap length (nodes-are ∙ finds.turn.is) ∙ set-long held.nodes.items (node.0 - 1) finds.turn.new
+          ∙ o.node_count;
+      logs = each-with held.nodes.items left.nodes.items (node.0 - 1) finds.turn.new (Open rec.found.wal)
+          (nodes-are ∙ finds.turn.is) (ap (λ (y : Node D). y.log) rec.is) (opened-logs rows old new at held o);
       never = back-never fault caused;
     }

@@ -28,6 +28,7 @@ use Rattle.qq_nodes.specs.Setting.{AreNew, IsSetupOver, ids_on, is_among}
 use Rattle.qq_nodes.specs.declared.node.Node.{Node}
 use Rattle.qq_nodes.specs.declared.nodes.Nodes.{Nodes as Held}
 use Rattle.qq_nodes.proofs.Begun.{ids-are, new-stands}
+use Rattle.qq_nodes.proofs.Logged.{each-with}
 use Rattle.qq_nodes.proofs.OwnStands.{seen-others, seen-own, set-here}
 use Rattle.qq_nodes.proofs.Total.{Allowed, total-each, total-then}
 use Rattle.qq_opening.specs.Opened.{AreOpened, IsOfOpsState, WasRead}
@@ -39,6 +40,8 @@ use Rattle.qq_opening.specs.declared.restarting.RestartFault.TheVariants as faul
 use Rattle.qq_opening.proofs.NewNodes.{next-still, next-was}
 use Rattle.qq_opening.proofs.Opened.{Opens, total-opens}
 use Rattle.qq_opening.proofs.OpenedDisks.{Keeps}
+use Rattle.qq_opening.proofs.Changing.{set-long}
+use Rattle.qq_opening.proofs.HavingLogs.{opened-logs}
 use Rattle.qq_opening.proofs.OpenedLost.{all-give_up, back-opens, before-read, range-split, read-as}
 use Rattle.qq_opening.proofs.OpenedMore.{seen-same}
 use Rattle.qq_opening.proofs.ReadLogs.{logs-come, logs_read, read-logs}
@@ -232,6 +235,9 @@ module _ {D : Type 0} {tells : D → Bool} {past : D → List Disk} {faults : D 
   refuses fault caused never = record {
     cause = caused;
     gives_up = give-up;
+    count = ap length none.turn.is ∙ set-long held.nodes.items (node.0 - 1) none.turn.new ∙ o.node_count;
+    logs = each-with held.nodes.items left.nodes.items (node.0 - 1) none.turn.new (Closed fails.left) none.turn.is
+        (ap (λ (n : Node D). n.log) fails.is) (opened-logs rows old new at held o);
     never = λ logs setup sw groups linked rose. never logs setup sw linked;
   }
 

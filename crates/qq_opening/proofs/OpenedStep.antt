@@ -247,6 +247,7 @@ module _ {D : Type 0} {tells : D → Bool} {past : D → List Disk} {faults : D 
           up_is = refl;
           empty_is = refl;
           queues_are = ap (λ (y : Node D). y.queues.items) (rec finds').is ∙ still.queues_are;
+          has_log = (Open (rec finds').found.wal, ap (λ (y : Node D). y.log) (rec finds').is);
         }
 
     pub opened-up : (more : AreOpened tells past faults rows (at + 1) old left)
@@ -341,6 +342,7 @@ module _ {D : Type 0} {tells : D → Bool} {past : D → List Disk} {faults : D 
           up_is = refl;
           empty_is = refl;
           queues_are = ap (λ (n : Node D). n.queues.items) fails.is ∙ still.queues_are;
+          has_log = (Closed fails.left, ap (λ (n : Node D). n.log) fails.is);
         }
 
     pub opened-empty : (more : AreOpened tells past faults rows (at + 1) old last)

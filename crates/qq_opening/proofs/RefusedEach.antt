@@ -103,6 +103,7 @@ module _ {D : Type 0} {tells : D → Bool} {past : D → List Disk} {faults : D 
       → Refuses tells past faults list Rule old new before (OfMemory memory)
   refuses-memory {memory = memory} given = record {
     gives_up = given.gives_up;
+    logs = given.logs;
     refused = λ setup c r st. tt;
     spent = λ number is. given.spent number (let e : memory ≡ Spent number = cc in e);
     never = λ setup c r st linked. tt;
@@ -113,6 +114,7 @@ module _ {D : Type 0} {tells : D → Bool} {past : D → List Disk} {faults : D 
       → GaveUp tells past faults Rule old new (Spent number)
   gave-spent number refuses is = record {
     gives_up = refuses.gives_up;
+    logs = refuses.logs;
     spent = λ n same. refuses.spent n (is ∙ ap OfMemory same);
   }
 
@@ -128,6 +130,8 @@ module _ {D : Type 0} {tells : D → Bool} {past : D → List Disk} {faults : D 
             gives_up-behind setup c (FirstTo at setup c) (Stands tells past setup mid) (seen tells past faults old)
             (seen tells past faults mid) (seen tells past faults new) before middle s
             (second.gives_up setup (cluster_after c s.did.events) (reached-after setup c s.did.events r) s.did.stands));
+        logs = λ setup c r st. (let s = first.serves setup c r st in
+            second.logs setup (cluster_after c s.did.events) (reached-after setup c s.did.events r) s.did.stands);
         refused = λ setup c r st. (let s = first.serves setup c r st in
             let d : Cluster = cluster_after c s.did.events in
             refused-behind tells past faults setup c at node.0 old mid before middle fault

@@ -79,7 +79,7 @@ taken-whole nodes n at are le =
 
 -- ---- one restart
 
-up-kept : (setup : Setup) (k j : ℕ) (c : Cluster) (events : List ClusterEvent) → IsRestart setup j c events
+pub up-kept : (setup : Setup) (k j : ℕ) (c : Cluster) (events : List ClusterEvent) → IsRestart setup j c events
     → (k ≡ j → ⊥) → (cluster_after c events).up k ≡ c.up k
 up-kept setup k j c events rule other = by (c.up j) rule
   where
@@ -113,7 +113,7 @@ was-found setup k c events rule down up none = by (c.up k) down rule
         ∙ sym (ap (λ (l : List ClusterEvent). (cluster_after c l).up k) failed) ∙ up)
 
 -- of one that is still down the disk failed
-has-failed : (setup : Setup) (k : ℕ) (c : Cluster) (events : List ClusterEvent) → IsRestart setup k c events
+pub has-failed : (setup : Setup) (k : ℕ) (c : Cluster) (events : List ClusterEvent) → IsRestart setup k c events
     → c.up k ≡ false → (cluster_after c events).up k ≡ false → fails_at k events ≡ true
 has-failed setup k c events rule down still = by (c.up k) down rule
   where

@@ -34,7 +34,7 @@ use Rattle.qq_node_log.specs.Steps.{AlwaysKeeps, SameDisk}
 use Rattle.qq_node_log.specs.declared.node_log.NodeLog.TheVariants.{Closed}
 use Rattle.qq_nodes.specs.Ends.{OnDisk}
 use Rattle.qq_nodes.specs.Logs.{NodeTurns}
-use Rattle.qq_nodes.specs.Nodes.{EndsAt, IsNodeAt, IsNodeOf, Served, Stands, seen}
+use Rattle.qq_nodes.specs.Nodes.{EndsAt, HaveLogs, IsNodeAt, IsNodeOf, Served, Stands, seen}
 use Rattle.qq_opening.specs.Restarting.{Refuses, RestartsTo, lanes_at, this_node}
 use Rattle.qq_opening.specs.Taking.{FailsToRecover, FindsNone, IsFaultOf}
 use Rattle.qq_nodes.specs.declared.node.Node.{Node}
@@ -45,7 +45,8 @@ use Rattle.qq_opening.proofs.FoundQueues.{down-server, not-stopped}
 use Rattle.qq_opening.proofs.OwnDisk.{disk-gives_up, disk-serves, seen-before}
 use Rattle.qq_opening.proofs.Serving.{serves-none}
 use Rattle.qq_nodes.proofs.OwnStands.{QueuesOf, node-was, stands-own}
-use Rattle.qq_nodes.proofs.Stands.{ends-now}
+use Rattle.qq_nodes.proofs.Logged.{logs-with}
+use Rattle.qq_nodes.proofs.Stands.{ends-now, stands-logs}
 use Rattle.qq_nodes.proofs.Owned.{own-fail}
 use Rattle.qq_nodes.proofs.Pumping.{rule-else}
 use Rattle.qq_nodes.proofs.Quiet.{quiet-stopped}
@@ -250,10 +251,17 @@ module _ {D : Type 0} {tells : D → Bool} {past : D → List Disk} {faults : D 
             → GivesUp setup c (seen tells past faults old) (seen tells past faults left)
         gives-up-all setup c r st = gives-up setup c r st (down setup c st)
 
+        still-there : (setup : Setup) (c : Cluster) → IsReached setup c → Stands tells past setup old c
+            → HaveLogs setup left.nodes.items
+        still-there setup c r st =
+            logs-with setup old.nodes.items left.nodes.items (k - 1) turn.new (Closed fails.left) turn.is
+            (ap (λ (y : Node D). y.log) fails.is) (stands-logs setup old c st)
+
         -- the disk has failed, and there was no memory to say so
         pub no-memory : Refused (faults_of.Memory Want)
         no-memory = record {
           gives_up = gives-up-all;
+          logs = still-there;
           refused = λ setup c r st. tt;
           spent = λ number is. absurd (let e : Want ≡ Spent number = cc in cc);
           never = λ setup c r st linked. tt;
@@ -263,6 +271,7 @@ module _ {D : Type 0} {tells : D → Bool} {past : D → List Disk} {faults : D 
         pub spent-memory : (memory : Memory) → fault ≡ recover_faults.Memory memory → Refused (faults_of.Memory memory)
         spent-memory memory is = record {
           gives_up = gives-up-all;
+          logs = still-there;
           refused = λ setup c r st. tt;
           spent = λ number same setup c r st. ends-at setup c r st (down setup c st) number
               (is ∙ (let e : memory ≡ Spent number = cc in ap recover_faults.Memory e));
@@ -274,6 +283,7 @@ module _ {D : Type 0} {tells : D → Bool} {past : D → List Disk} {faults : D 
             → Refused (faults_of.Damaged node file place)
         damaged file place is = record {
           gives_up = gives-up-all;
+          logs = still-there;
           refused = λ setup c r st. (
             restarts-none tells past faults setup c k old before st (down setup c st),
             λ told. subst (λ (f : RecoverFault). ReadsAs f (lanes_at tells past faults setup old k)) is
@@ -289,6 +299,7 @@ module _ {D : Type 0} {tells : D → Bool} {past : D → List Disk} {faults : D 
             → Refused (faults_of.Version node file byte)
         other-version file byte is = record {
           gives_up = gives-up-all;
+          logs = still-there;
           refused = λ setup c r st. (
             restarts-none tells past faults setup c k old before st (down setup c st),
             λ told. subst (λ (f : RecoverFault). ReadsAs f (lanes_at tells past faults setup old k)) is

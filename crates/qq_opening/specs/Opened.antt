@@ -14,6 +14,7 @@ use Rattle.qq_lots.specs.Kept.{KeepsPromised}
 use Rattle.qq_lots.specs.Left.{AllBetween, state_in}
 use Rattle.qq_lots.specs.Lots.{Lot, Parts, ids_of}
 use Rattle.qq_node_log.specs.Steps.{AlwaysKeeps}
+use Rattle.qq_node_log.specs.declared.node_log.NodeLog.{NodeLog}
 use Rattle.qq_raft_model.specs.Group.{Group as GroupState}
 use Rattle.qq_raft_model.specs.Promises.{IsOpened}
 use Rattle.qq_raft_protocol.specs.Facts.{In}
@@ -103,6 +104,7 @@ pub record IsOpenedNode {D : Type 0} (rows : List QueueRow) (k : ℕ) (lanes : O
   pub up_is : own.up ≡ is_some lanes
   pub empty_is : own.empty ≡ not (is_some lanes)
   pub queues_are : own.queues.items ≡ ids_on rows k
+  pub has_log : (log : NodeLog D) × (own.log ≡ Some log)
 
 -- the first so many nodes were opened, and the others are as they were
 pub record AreOpened {D : Type 0} (tells : D → Bool) (past : D → List Disk) (faults : D → ℕ) (rows : List QueueRow)

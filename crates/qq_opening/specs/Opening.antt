@@ -24,7 +24,7 @@ use Rattle.qq_cluster.specs.Rules.{ForEach, IsOpening, IsRestart}
 use Rattle.qq_cluster_laws.specs.Restarts.{first_restart}
 use Rattle.qq_cluster_laws.specs.Serves.{GivesUp, Serves}
 use Rattle.qq_cluster_laws.specs.Waiting.{HasOwnGroups, IsChangeOf}
-use Rattle.qq_nodes.specs.Nodes.{EndsAt, Stands, seen}
+use Rattle.qq_nodes.specs.Nodes.{EachHasLog, EndsAt, Stands, seen}
 use Rattle.qq_nodes.specs.Setting.{IsRowOf, ids_on, is_among}
 use Rattle.qq_nodes.specs.declared.nodes.Nodes.{Nodes as Held}
 use Rattle.qq_opening.specs.Restarting.{AreLinked, IsOfMemory, IsOpenedTo}
@@ -214,12 +214,15 @@ GivesUpOver tells past faults rows old new =
     × ((setup : Setup) → IsSetupWith setup rows (length old.nodes.items) hold.logs
     → GivesUp setup (new_cluster setup) (seen tells past faults old) (seen tells past faults new)))
 
--- What an opening leaves that is given up. It is so for want of memory or numbers alone, where logs support an audit,
--- each node's disk tells its contents and is linked to them, and no disk fails but those of nodes without a log.
+-- What an opening leaves that is given up: each disk is still in its node's log. It is so for want of memory or numbers
+-- alone, where logs support an audit, each node's disk tells its contents and is linked to them, and no disk fails but
+-- those of nodes without a log.
 pub record MayNotOpen {D : Type 0} (tells : D → Bool) (past : D → List Disk) (faults : D → ℕ) (rows : List QueueRow)
     (old new : Held D) (fault : RestartFault) : Type 0 where
   pub cause : IsOpenCaused tells past faults rows old new fault
   pub gives_up : GivesUpOver tells past faults rows old new
+  pub count : length new.nodes.items ≡ length old.nodes.items
+  pub logs : EachHasLog new.nodes.items
   pub never : (logs : Logs) (setup : Setup) → IsSetupWith setup rows (length old.nodes.items) logs
       → HasGroups setup → AreLinked tells past faults setup old (new_cluster setup) setup.nodes
       → ((k : ℕ) → In k setup.nodes

@@ -1,6 +1,6 @@
 -- What a restart and the opening of nodes have done, and why nodes aren't restarted.
 use Rattle.std.specs.Prelude.{◌≡◌, ◌++◌, ◌∷◌, ℕ, Bool, true, false, List, [], Some, Ok, Err, take, IsTrue, Contains}
-use Rattle.std.specs.List.{AllByRecursion}
+use Rattle.std.specs.List.{AllByRecursion, list_any}
 use Rattle.qq_base.specs.declared.ids.NodeId.{NodeId}
 use Rattle.qq_base.specs.declared.ids.QueueId.{QueueId}
 use Rattle.qq_base.specs.declared.memory.Memory.TheVariants.{Spent}
@@ -17,10 +17,10 @@ use Rattle.qq_wal_chain.specs.Lanes.{Lanes}
 use Rattle.qq_cluster.specs.Cluster.{Cluster, ClusterEvent, Setup, cluster_after, members}
 use Rattle.qq_cluster.specs.ClusterLaws.{findings}
 use Rattle.qq_cluster.specs.Queue.{Queue}
-use Rattle.qq_cluster.specs.Rules.{ForEach, IsOpening, IsRestart}
+use Rattle.qq_cluster.specs.Rules.{ForEach, IsFirstTick, IsOpening, IsPump, IsRestart, Then}
 use Rattle.qq_cluster_laws.specs.Linked.{IsLinked, IsReached, lot_of}
 use Rattle.qq_cluster_laws.specs.Serves.{GivesUp, Serves, fails_at}
-use Rattle.qq_nodes.specs.Nodes.{EndsAt, Stands, seen}
+use Rattle.qq_nodes.specs.Nodes.{EndsAt, HaveLogs, Stands, seen}
 use Rattle.qq_nodes.specs.declared.nodes.Nodes.{Nodes as Held}
 use Rattle.qq_opening.specs.declared.restarting.RestartFault.{RestartFault}
 use Rattle.qq_opening.specs.declared.restarting.RestartFault.TheVariants.{Damaged, Version, Lost, Memory}
@@ -39,6 +39,18 @@ abbrev pub IsOpenedTo : Bool → Setup → Cluster → List ClusterEvent → Typ
 IsOpenedTo true setup c events = IsOpening setup c events × (findings events ≡ [] → ⊥)
 IsOpenedTo false setup c events =
     IsOpening setup c events × ((k : ℕ) → In k setup.nodes → c.up k ≡ false → fails_at k events ≡ true)
+
+-- ---- what opening nodes again has done
+
+-- each node is restarted, and then some node is up, or none
+pub record IsRestartedTo (some : Bool) (setup : Setup) (c : Cluster) (events : List ClusterEvent) : Type 0 where
+  pub restarted : ForEach setup.nodes (IsRestart setup) c events
+  pub up : list_any (cluster_after c events).up setup.nodes ≡ some
+
+-- and what follows an opening's restarts
+abbrev pub IsReopening : Bool → Setup → Cluster → List ClusterEvent → Type 0
+IsReopening some setup =
+    Then (IsRestartedTo some setup) (Then (ForEach setup.places (IsFirstTick setup)) (IsPump setup))
 
 -- ---- why a node isn't restarted
 
@@ -110,14 +122,16 @@ AreLinked tells past faults setup held c list =
     list
 
 -- What a call leaves that restarts these nodes in order, by a rule, and is given up. Of whatever cluster they stood
--- for: each disk keeps at each moment what the events so far promised; one of the nodes isn't restarted, but for want
--- of memory or numbers; a number stands at its end where it is that; and it is none of the others where each of the
--- nodes' logs is linked.
+-- for: each disk keeps at each moment what the events so far promised, and is still in its node's log; one of the
+-- nodes isn't restarted, but for want of memory or numbers; a number stands at its end where it is that; and it is none
+-- of the others where each of the nodes' logs is linked.
 pub record Refuses {D : Type 0} (tells : D → Bool) (past : D → List Disk) (faults : D → ℕ) (list : Setup → List ℕ)
     (Rule : Setup → Cluster → List ClusterEvent → Type 0) (old new : Held D) (before : List ℕ) (fault : RestartFault)
     : Type 0 where
   pub gives_up : (setup : Setup) (c : Cluster) → IsReached setup c → Stands tells past setup old c
       → GivesUp setup c (seen tells past faults old) (seen tells past faults new)
+  pub logs : (setup : Setup) (c : Cluster) → IsReached setup c → Stands tells past setup old c
+      → HaveLogs setup new.nodes.items
   pub refused : (setup : Setup) (c : Cluster) → IsReached setup c → Stands tells past setup old c
       → IsRefused tells past faults setup c (list setup) old before fault
   pub spent : (number : ℕ) → fault ≡ Memory (Spent number) → (setup : Setup) (c : Cluster)

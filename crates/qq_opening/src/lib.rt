@@ -4,9 +4,11 @@
 mod agreeing;
 mod marking;
 mod opening;
+mod reopening;
 mod restarting;
 mod stepping;
 mod taking;
 
 pub use opening::open;
+pub use reopening::reopen;
 pub use restarting::{RestartFault, restart, restart_each};

@@ -1,4 +1,4 @@
-use Rattle.std.proofs.Common.{subst, arith}
+use Rattle.std.proofs.Common.{refl, subst, arith}
 use Rattle.std.specs.Io.KnownBytes.{Appends}
 use Rattle.qq_ports.specs.Faults.{AppendsPrefix}
 use Rattle.qq_broker.proofs.Audited.{audit-there, audits-cut, audits-next, audits-rest, audits-start, audits-stop, audits-whole}
@@ -29,8 +29,8 @@ loop-row-preserved g c =
       so = audits-next disk.tells disk.past disk.faults c.args.setup.now c.args.nodes.now (written c.args.output.now)
           (written c.loop-row.output) (written c.drain.new.output) c.loop-row.text.items c.audit_text.new.text.items
           c.drain.new.text.items c.as_slice-rows.result.now c.loop-row.row-index c.row-item.result c.requires.may
-          (c.as_slice-rows.ensures, c.loop-row-test.true, c.row-item.is) c.loop-row.invariant.so c.in_default.ensures.ok
-          c.in_default-drain.ensures.ok;
+          (c.as_slice-rows.ensures, c.loop-row-test.true, c.row-item.is) c.loop-row.invariant.so
+          (λ setup d st. c.in_default.ensures.ok setup d c.args.nodes.now refl st) c.in_default-drain.ensures.ok;
       later = omega (arith, c.loop-row.invariant.later, c.in_default-drain.ensures.cause.later);
     }
 
@@ -49,8 +49,8 @@ returns-in-Err-drain-clause-err g c =
     audits-cut disk.tells disk.past disk.faults c.args.setup.now c.args.nodes.now (written c.args.output.now)
     (written c.loop-row.output) (written c.drain.new.output) c.loop-row.text.items c.audit_text.new.text.items
     c.as_slice-rows.result.now c.loop-row.row-index c.row-item.result c.requires.may
-    (c.as_slice-rows.ensures, c.loop-row-test.true, c.row-item.is) c.loop-row.invariant.so c.in_default.ensures.ok
-    c.in-Err-drain.ensures.err
+    (c.as_slice-rows.ensures, c.loop-row-test.true, c.row-item.is) c.loop-row.invariant.so
+    (λ setup d st. c.in_default.ensures.ok setup d c.args.nodes.now refl st) c.in-Err-drain.ensures.err
 
 pub returns-in-Ok-clause-ok : goal.returns-in-Ok-clause-ok
 returns-in-Ok-clause-ok g c =

@@ -1,11 +1,13 @@
 use Rattle.std.proofs.Common.{◌≡◌, ℕ, Some, sym, subst}
-use Rattle.std.proofs.lemmas.Result.{IfErr-weaker, on_ok_weaker}
 use Rattle.qq_cluster_run.specs.Asking.{HasAskCause}
 use Rattle.qq_cluster_run.specs.Reading.{Asks, says}
+use Rattle.qq_cluster_run.specs.Service.{HasServeCause}
+use Rattle.qq_cluster_run.specs.Serving.{setup_in}
 use Rattle.qq_cluster_run.proofs.Answering.{answers_from, asks_from, stops_from}
 use Rattle.qq_cluster_run.proofs.Naming.{asked-named}
 use Rattle.qq_cluster_run.proofs.QueueRows.{rows-are}
-use Rattle.qq_broker.specs.Nodes.{Had, Holds}
+use Rattle.qq_broker.specs.Nodes.{Had, Holds, Meets}
+use Rattle.qq_broker.proofs.Stops.{told-stop}
 use Rattle.qq_broker.proofs.program.answer.Goals as goal
 
 pub serve-requires-clause-holds : goal.serve-requires-clause-holds
@@ -19,25 +21,29 @@ serve-requires-clause-holds g c = λ lifetimes outlive. (
   ),
 )
 
-pub returns-in-Ok-clause-ok : goal.returns-in-Ok-clause-ok
-returns-in-Ok-clause-ok g c =
+pub returns-in-Ok-serve-clause-ok : goal.returns-in-Ok-serve-clause-ok
+returns-in-Ok-serve-clause-ok g c =
     let s = c.args.setup.now in
     let disk = g.Y.Disk.NodeDisk in
     λ given run lines h.
-    on_ok_weaker c.serve.result
-    (answers_from (Had given disk.tells disk.past disk.faults) s run c.in-Ok.said c.args.line.now
+    answers_from (Had given disk.tells disk.past disk.faults) s run c.in-Ok.said c.args.line.now
     (Holds given disk.tells disk.past disk.faults s c.serve.new.nodes) c.args.text.now.items
     c.serve.new.text.items
-    (subst (λ (n : ℕ). says s n (Some c.args.line.now) ≡ Asks c.in-Ok.said) (sym lines) c.in-Ok.ensures.ok))
-    (c.serve.ensures.ok given run h)
+    (subst (λ (n : ℕ). says s n (Some c.args.line.now) ≡ Asks c.in-Ok.said) (sym lines) c.in-Ok.ensures.ok)
+    (c.in-Ok-serve.ensures.ok given run h)
 
-pub returns-in-Ok-clause-cause : goal.returns-in-Ok-clause-cause
-returns-in-Ok-clause-cause g c =
-    let s = c.args.setup.now in λ given run lines h.
-    IfErr-weaker c.serve.result _ _
-    (λ stop so. stops_from _ s run c.in-Ok.said c.args.line.now stop
-    (subst (λ (n : ℕ). says s n (Some c.args.line.now) ≡ Asks c.in-Ok.said) (sym lines) c.in-Ok.ensures.ok) so)
-    (c.serve.ensures.cause given run h)
+pub returns-in-Err-serve-clause-cause : goal.returns-in-Err-serve-clause-cause
+returns-in-Err-serve-clause-cause g c =
+    let s = c.args.setup.now in
+    let disk = g.Y.Disk.NodeDisk in
+    let before = g.Y.Yard.faults c.args.yard.now in
+    let after = g.Y.Yard.faults c.serve.new.yard in
+    λ given run lines h.
+    (let met = Meets given disk.tells disk.past disk.faults before after in
+    stops_from met s run c.in-Ok.said c.args.line.now c.step_stop.result
+    (subst (λ (n : ℕ). says s n (Some c.args.line.now) ≡ Asks c.in-Ok.said) (sym lines) c.in-Ok.ensures.ok)
+    (told-stop (HasServeCause met (setup_in s run) run.events c.in-Ok.said) s c.in-Err-serve.fault c.step_stop.result tt
+    c.step_stop.ensures (c.in-Err-serve.ensures.cause given run h)))
 
 pub returns-in-Err-clause-cause : goal.returns-in-Err-clause-cause
 returns-in-Err-clause-cause g c =

@@ -5,6 +5,7 @@ use Rattle.qq_cluster_run.specs.Named.{AreNodes}
 use Rattle.qq_cluster_run.specs.Serving.{setup_in}
 use Rattle.qq_broker.specs.Serving.{IsServed}
 use Rattle.qq_broker.proofs.Crashes.{all-served, one-served}
+use Rattle.qq_broker.proofs.Stops.{crash-caused}
 use Rattle.qq_broker.proofs.serving.crash.Goals as goal
 
 pub crash_one-requires-clause-holds : goal.crash_one-requires-clause-holds
@@ -40,3 +41,18 @@ returns-in-Ok-crash_first-clause-ok g c = λ given run text h.
     c.crash_first.new.nodes text text) (sym c.in-All.is)
     (all-served given tells past faults c.args.setup.now run c.crash_first.new.nodes c.args.image.now text
     (c.in-Ok-crash_first.ensures.ok given c.args.setup.now run h)))
+
+pub returns-in-Err-clause-cause : goal.returns-in-Err-clause-cause
+returns-in-Err-clause-cause g c = λ given run.
+    (let disk = g.Y.Disk.NodeDisk in
+    crash-caused given disk.tells disk.past disk.faults (g.Y.Yard.faults c.args.yard.now)
+    (g.Y.Yard.faults c.crash_one.new.yard) c.args.setup.now run c.args.which c.args.image.now c.in-Err.fault
+    c.crash_fault.result c.crash_fault.ensures c.in-Err.ensures.cause.cause)
+
+pub returns-in-Err-crash_first-clause-cause : goal.returns-in-Err-crash_first-clause-cause
+returns-in-Err-crash_first-clause-cause g c = λ given run.
+    (let disk = g.Y.Disk.NodeDisk in
+    crash-caused given disk.tells disk.past disk.faults (g.Y.Yard.faults c.args.yard.now)
+    (g.Y.Yard.faults c.crash_first.new.yard) c.args.setup.now run c.args.which c.args.image.now
+    c.in-Err-crash_first.fault c.crash_fault-in-Err-crash_first.result c.crash_fault-in-Err-crash_first.ensures
+    c.in-Err-crash_first.ensures.cause.cause)

@@ -4,10 +4,12 @@ use Rattle.qq_script_lines.specs.declared.line.ScriptLine.TheVariants.{Restart}
 use Rattle.qq_cluster_run.specs.Named.{AreNodes}
 use Rattle.qq_cluster_run.specs.Service.{HasServeCause}
 use Rattle.qq_cluster_run.specs.Serving.{setup_in}
+use Rattle.qq_broker.specs.Faults.{stop_for}
 use Rattle.qq_broker.specs.Nodes.{Meets}
 use Rattle.qq_broker.specs.Serving.{IsServed}
 use Rattle.qq_broker.proofs.GoingOn.{node-there}
 use Rattle.qq_broker.proofs.Refusing.{refused-all, refused-one, restarted-all, restarted-one}
+use Rattle.qq_broker.proofs.Stops.{own-stop}
 use Rattle.qq_broker.proofs.serving.restart.Goals as goal
 
 pub restart-requires-clause-node : goal.restart-requires-clause-node
@@ -47,10 +49,9 @@ returns-in-Err-clause-cause g c = λ given run before after h.
     let faults = g.D.NodeDisk.faults in
     let s = c.args.setup.now in
     subst (λ (w : Which). HasServeCause (Meets given tells past faults before after) (setup_in s run) run.events
-    (Restart w)
-    c.restart_stop.result) (sym c.in-One.is)
+    (Restart w) (stop_for s c.in-Err.fault)) (sym c.in-One.is)
     (refused-one given tells past faults before after s run c.args.nodes.now c.restart.new.nodes h c.args.text.now.items
-    c.in-Err.fault c.restart_stop.result c.restart_stop.ensures c.in-One.node
+    c.in-Err.fault (stop_for s c.in-Err.fault) (own-stop s c.in-Err.fault) c.in-One.node
     (subst (AreNodes (setup_in s c.requires.1.0)) c.in-One.is c.requires.1.2) c.in-Err.ensures.err))
 
 pub returns-in-Err-restart_each-clause-cause : goal.returns-in-Err-restart_each-clause-cause
@@ -60,9 +61,7 @@ returns-in-Err-restart_each-clause-cause g c = λ given run before after h.
     let faults = g.D.NodeDisk.faults in
     let s = c.args.setup.now in
     subst (λ (w : Which). HasServeCause (Meets given tells past faults before after) (setup_in s run) run.events
-    (Restart w)
-    c.restart_stop-in-Err-restart_each.result) (sym c.in-All.is)
+    (Restart w) (stop_for s c.in-Err-restart_each.fault)) (sym c.in-All.is)
     (refused-all given tells past faults before after s run c.args.nodes.now c.restart_each.new.nodes h
-    c.args.text.now.items
-    c.in-Err-restart_each.fault c.restart_stop-in-Err-restart_each.result c.restart_stop-in-Err-restart_each.ensures
-    c.in-Err-restart_each.ensures.err))
+    c.args.text.now.items c.in-Err-restart_each.fault (stop_for s c.in-Err-restart_each.fault)
+    (own-stop s c.in-Err-restart_each.fault) c.in-Err-restart_each.ensures.err))

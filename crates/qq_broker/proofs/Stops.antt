@@ -1,0 +1,65 @@
+-- How a fault ends a run.
+use Rattle.std.proofs.Common.{◌≡◌, ℕ, Bool, List, refl, sym, subst, inl, inr}
+use Rattle.qq_base.specs.declared.memory.Memory.{Memory}
+use Rattle.qq_disk.specs.declared.image.Image.{Image}
+use Rattle.qq_disk.specs.Disk.{Disk}
+use Rattle.qq_ports.specs.Yard.{IsYardCaused}
+use Rattle.qq_ports.specs.declared.yard_fault.YardFault.{YardFault}
+use Rattle.qq_ports.specs.declared.yard_fault.YardFault.TheVariants as yard_faults
+use Rattle.qq_script_lines.specs.declared.line.Nodes.{Nodes as Which}
+use Rattle.qq_script_lines.specs.declared.line.ScriptLine.TheVariants.{Crash}
+use Rattle.qq_setup.specs.declared.setup.Setup.{Setup}
+use Rattle.qq_cluster_run.specs.declared.stop.AskStop.{AskStop}
+use Rattle.qq_cluster_run.specs.declared.stop.AskStop.TheVariants.{NoMemory}
+use Rattle.qq_cluster_run.specs.Service.{HasServeCause}
+use Rattle.qq_cluster_run.specs.Serving.{Run, setup_in}
+use Rattle.qq_opening.specs.declared.restarting.RestartFault.{RestartFault}
+use Rattle.qq_opening.specs.declared.restarting.RestartFault.TheVariants as faults_of
+use Rattle.qq_broker.specs.Faults.{IsStepStopOf, crash_fault, step_stop, stop_for}
+use Rattle.qq_broker.specs.Lives.{Giving}
+use Rattle.qq_broker.specs.Nodes.{Meets}
+use Rattle.qq_broker.specs.Serving.{IsStopOf, memory_stop}
+use Rattle.qq_broker.specs.declared.faults.StepFault.{StepFault}
+use Rattle.qq_broker.specs.declared.faults.StepFault.TheVariants.{Yard, Nodes}
+
+-- where there is memory for a queue's name
+pub own-stop : (s : Setup) (fault : RestartFault) → IsStopOf s fault (stop_for s fault)
+own-stop s (faults_of.Damaged node file place) = refl
+own-stop s (faults_of.Version node file byte) = refl
+own-stop s (faults_of.Lost node queue noticed found) = inr refl
+own-stop s (faults_of.Memory memory) = refl
+
+-- what holds of the stop, and where there is no memory, holds of how a run ends
+nodes-stop : (P : AskStop → Type 0) (s : Setup) (fault : RestartFault) (stop : AskStop) → P NoMemory
+    → IsStopOf s fault stop → P (stop_for s fault) → P stop
+nodes-stop P s (faults_of.Damaged node file place) stop want is so = subst P (sym is) so
+nodes-stop P s (faults_of.Version node file byte) stop want is so = subst P (sym is) so
+nodes-stop P s (faults_of.Lost node queue noticed found) stop want (inl none) so = subst P (sym none) want
+nodes-stop P s (faults_of.Lost node queue noticed found) stop want (inr is) so = subst P (sym is) so
+nodes-stop P s (faults_of.Memory memory) stop want is so = subst P (sym is) so
+
+pub told-stop : (P : AskStop → Type 0) (s : Setup) (fault : StepFault) (stop : AskStop) → P NoMemory
+    → IsStepStopOf s fault stop → P (step_stop s fault) → P stop
+told-stop P s Yard stop want is so = subst P (sym is) so
+told-stop P s (Nodes fault) stop want is so = nodes-stop P s fault stop want is so
+
+-- a yard makes no crash
+pub crash-caused : {D : Type 0} (given : Giving D) (tells : D → Bool) (past : D → List Disk) (faults : D → ℕ)
+    (before after : ℕ) (s : Setup) (run : Run) (which : Which) (image : Image) (fault : YardFault) (told : StepFault)
+    → told ≡ crash_fault fault → IsYardCaused before after fault
+    → HasServeCause (Meets given tells past faults before after) (setup_in s run) run.events (Crash which image)
+    (step_stop s told)
+crash-caused given tells past faults before after s run which image yard_faults.Failed told is rose =
+    subst
+    (λ (f : StepFault). HasServeCause (Meets given tells past faults before after) (setup_in s run) run.events
+    (Crash which image) (step_stop s f))
+    (sym is) (inr (rose, refl))
+crash-caused given tells past faults before after s run which image (yard_faults.Memory memory) told is want =
+    subst
+    (λ (f : StepFault). HasServeCause (Meets given tells past faults before after) (setup_in s run) run.events
+    (Crash which image) (step_stop s f))
+    (sym is)
+    (subst
+    (λ (m : Memory). HasServeCause (Meets given tells past faults before after) (setup_in s run) run.events
+    (Crash which image) (memory_stop m))
+    (sym want) tt)

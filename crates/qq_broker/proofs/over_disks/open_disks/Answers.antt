@@ -1,0 +1,165 @@
+use Rattle.std.proofs.Common.{◌≤◌, length, refl, ap, arith, inl, inr, subst, sym}
+use Rattle.std.specs.Global.{Vec}
+use Rattle.std.specs.Prelude.{vec_capacity}
+use Rattle.qq_base.specs.declared.memory.Memory.{Memory}
+use Rattle.qq_cluster_run.specs.Runs.{MayNotOpen, ending_of, stop_of}
+use Rattle.qq_cluster_run.specs.Setup.{new_logs}
+use Rattle.qq_broker.specs.Faults.{stop_for}
+use Rattle.qq_broker.specs.Lives.{ByHand}
+use Rattle.qq_broker.specs.Nodes.{Meets}
+use Rattle.qq_broker.specs.Serving.{memory_stop}
+use Rattle.qq_broker.proofs.Beginning.{some-node}
+use Rattle.qq_broker.proofs.Handed.{all-failed, by-hand, failed-back, opened-runs, refused-back, still-logs, still-many}
+use Rattle.qq_broker.proofs.Opens.{count-is, has-opened, no-disk}
+use Rattle.qq_broker.proofs.Stops.{own-stop}
+use Rattle.qq_broker.proofs.Unopened.{not-opened}
+use Rattle.qq_broker.proofs.over_disks.open_disks.Goals as goal
+
+-- ---- there was no memory to begin
+
+pub returns-in-Err-clause-cause : goal.returns-in-Err-clause-cause
+returns-in-Err-clause-cause g c =
+    let disk = g.D.NodeDisk in
+    let s = c.args.setup in
+    let met = Meets (ByHand c.args.disks.items) disk.tells disk.past disk.faults 0 0 in
+    subst (λ (m : Memory). MayNotOpen met s (ending_of (stop_of (memory_stop m)))) (sym c.in-Err.ensures.want)
+    (inr (new_logs, inl refl))
+
+pub returns-in-Err-clause-back : goal.returns-in-Err-clause-back
+returns-in-Err-clause-back g c =
+    let same = ap (λ (v : Vec _). v.items) c.in-Err.ensures.err in (ap length same, inl same)
+
+-- ---- the nodes are opened
+
+pub open-requires : goal.open-requires
+open-requires g c =
+    let disk = g.D.NodeDisk in (
+      c.args.setup.queues,
+      (c.in-Ok.ensures.ok (ByHand c.args.disks.items) (by-hand disk.tells disk.past c.args.disks.items)).new,
+    )
+
+pub returns-then-some-clause-ok : goal.returns-then-some-clause-ok
+returns-then-some-clause-ok g c =
+    let disk = g.D.NodeDisk in
+    let s = c.args.setup in
+    let given = ByHand c.args.disks.items in
+    let u = c.in-Ok.ensures.ok given (by-hand disk.tells disk.past c.args.disks.items) in
+    let begins = c.clusters_begin_with_new_logs.ensures s c.requires.may in
+    let room : s.nodes ≤ vec_capacity c.begin_over.new.disks =
+    (let same = c.begin_over.ensures.room in let many = c.requires.count in let own = c.args.disks.ok.0 in
+    let most = c.args.disks.ok.1 in omega (arith, same, many, own, most)) in
+    opened-runs given disk.tells disk.past disk.faults s c.requires.may
+    (record { setup = s; nodes = c.open.new.nodes; text = c.open.new.text; room = c.begin_over.new.disks })
+    c.open.new.nodes c.new-text.result.items c.open.new.text.items refl refl c.in-Ok.ensures.empty room
+    c.new-text.ensures.items
+    (has-opened given disk.tells disk.past disk.faults s c.requires.may begins c.in-Ok.nodes u c.open.new.nodes
+    c.new-text.result.items c.open.new.text.items c.in-Ok-open_nodes.some c.if-some.true
+    (c.in-Ok-open_nodes.ensures.ok s.queues u.new))
+
+-- ---- each disk has failed
+
+pub hand_back-requires-clause-own : goal.hand_back-requires-clause-own
+hand_back-requires-clause-own g c =
+    let disk = g.D.NodeDisk in
+    let s = c.args.setup in
+    let given = ByHand c.args.disks.items in
+    let u = c.in-Ok.ensures.ok given (by-hand disk.tells disk.past c.args.disks.items) in
+    still-logs given disk.tells disk.past disk.faults s c.requires.may
+    (c.clusters_begin_with_new_logs.ensures s c.requires.may) c.in-Ok.nodes u c.open.new.nodes c.in-Ok-open_nodes.some
+    c.new-text.result.items c.open.new.text.items (c.in-Ok-open_nodes.ensures.ok s.queues u.new)
+
+pub hand_back-requires-clause-room : goal.hand_back-requires-clause-room
+hand_back-requires-clause-room g c =
+    let disk = g.D.NodeDisk in
+    let s = c.args.setup in
+    let given = ByHand c.args.disks.items in
+    let u = c.in-Ok.ensures.ok given (by-hand disk.tells disk.past c.args.disks.items) in
+    let count = still-many given disk.tells disk.past disk.faults s c.requires.may
+    (c.clusters_begin_with_new_logs.ensures s c.requires.may) c.in-Ok.nodes u c.open.new.nodes c.in-Ok-open_nodes.some
+    c.new-text.result.items c.open.new.text.items (c.in-Ok-open_nodes.ensures.ok s.queues u.new) in
+    let same = c.begin_over.ensures.room in
+    let many = c.requires.count in
+    let own = c.args.disks.ok.0 in
+    let most = c.args.disks.ok.1 in
+    omega (arith, count, same, many, own, most)
+
+pub returns-else-some-clause-cause : goal.returns-else-some-clause-cause
+returns-else-some-clause-cause g c =
+    let disk = g.D.NodeDisk in
+    let s = c.args.setup in
+    let given = ByHand c.args.disks.items in
+    let u = c.in-Ok.ensures.ok given (by-hand disk.tells disk.past c.args.disks.items) in
+    no-disk given disk.tells disk.past disk.faults s c.requires.may
+    (c.clusters_begin_with_new_logs.ensures s c.requires.may) c.in-Ok.nodes u c.open.new.nodes
+    c.new-text.result.items c.open.new.text.items 0 0 c.in-Ok-open_nodes.some c.if-some.false
+    (some-node s c.requires.may) (c.in-Ok-open_nodes.ensures.ok s.queues u.new)
+
+pub returns-else-some-clause-back : goal.returns-else-some-clause-back
+returns-else-some-clause-back g c =
+    let disk = g.D.NodeDisk in
+    let s = c.args.setup in
+    let given = ByHand c.args.disks.items in
+    let u = c.in-Ok.ensures.ok given (by-hand disk.tells disk.past c.args.disks.items) in
+    failed-back given disk.tells disk.past disk.faults s c.requires.may
+    (c.clusters_begin_with_new_logs.ensures s c.requires.may) c.in-Ok.nodes u c.args.disks.items c.requires.count
+    c.in-Ok.ensures.disks c.open.new.nodes c.hand_back.result.items c.hand_back.ensures.disks c.hand_back.ensures.count
+    c.in-Ok-open_nodes.some c.if-some.false c.new-text.result.items c.open.new.text.items
+    (c.in-Ok-open_nodes.ensures.ok s.queues u.new)
+
+pub returns-else-some-clause-failed : goal.returns-else-some-clause-failed
+returns-else-some-clause-failed g c =
+    let disk = g.D.NodeDisk in
+    let s = c.args.setup in
+    let given = ByHand c.args.disks.items in
+    let u = c.in-Ok.ensures.ok given (by-hand disk.tells disk.past c.args.disks.items) in
+    all-failed given disk.tells disk.past disk.faults s c.requires.may
+    (c.clusters_begin_with_new_logs.ensures s c.requires.may) c.in-Ok.nodes u c.args.disks.items c.requires.count
+    c.in-Ok.ensures.disks c.open.new.nodes c.hand_back.result.items c.hand_back.ensures.disks c.hand_back.ensures.count
+    c.in-Ok-open_nodes.some c.if-some.false c.new-text.result.items c.open.new.text.items
+    (c.in-Ok-open_nodes.ensures.ok s.queues u.new)
+
+-- ---- the opening is given up
+
+pub hand_back-in-Err-open_nodes-requires-clause-own : goal.hand_back-in-Err-open_nodes-requires-clause-own
+hand_back-in-Err-open_nodes-requires-clause-own g c =
+    let disk = g.D.NodeDisk in
+    let u = c.in-Ok.ensures.ok (ByHand c.args.disks.items) (by-hand disk.tells disk.past c.args.disks.items) in
+    (c.in-Err-open_nodes.ensures.err c.args.setup.queues u.new).logs
+
+pub hand_back-in-Err-open_nodes-requires-clause-room : goal.hand_back-in-Err-open_nodes-requires-clause-room
+hand_back-in-Err-open_nodes-requires-clause-room g c =
+    let disk = g.D.NodeDisk in
+    let s = c.args.setup in
+    let given = ByHand c.args.disks.items in
+    let u = c.in-Ok.ensures.ok given (by-hand disk.tells disk.past c.args.disks.items) in
+    let count = (c.in-Err-open_nodes.ensures.err s.queues u.new).count in
+    let nodes = count-is given disk.tells disk.past disk.faults s c.requires.may
+    (c.clusters_begin_with_new_logs.ensures s c.requires.may) c.in-Ok.nodes u in
+    let same = c.begin_over.ensures.room in
+    let many = c.requires.count in
+    let own = c.args.disks.ok.0 in
+    let most = c.args.disks.ok.1 in
+    omega (arith, count, nodes, same, many, own, most)
+
+pub returns-in-Err-open_nodes-clause-cause : goal.returns-in-Err-open_nodes-clause-cause
+returns-in-Err-open_nodes-clause-cause g c =
+    let disk = g.D.NodeDisk in
+    let s = c.args.setup in
+    let given = ByHand c.args.disks.items in
+    let u = c.in-Ok.ensures.ok given (by-hand disk.tells disk.past c.args.disks.items) in
+    not-opened given disk.tells disk.past disk.faults s c.requires.may
+    (c.clusters_begin_with_new_logs.ensures s c.requires.may) c.in-Ok.nodes c.open.new.nodes u 0 0
+    c.in-Err-open_nodes.fault (stop_for s c.in-Err-open_nodes.fault) (own-stop s c.in-Err-open_nodes.fault)
+    (c.in-Err-open_nodes.ensures.err s.queues u.new)
+
+pub returns-in-Err-open_nodes-clause-back : goal.returns-in-Err-open_nodes-clause-back
+returns-in-Err-open_nodes-clause-back g c =
+    let disk = g.D.NodeDisk in
+    let s = c.args.setup in
+    let given = ByHand c.args.disks.items in
+    let u = c.in-Ok.ensures.ok given (by-hand disk.tells disk.past c.args.disks.items) in
+    refused-back given disk.tells disk.past disk.faults s c.requires.may
+    (c.clusters_begin_with_new_logs.ensures s c.requires.may) c.in-Ok.nodes u c.args.disks.items c.requires.count
+    c.in-Ok.ensures.disks c.open.new.nodes c.hand_back-in-Err-open_nodes.result.items
+    c.hand_back-in-Err-open_nodes.ensures.disks c.hand_back-in-Err-open_nodes.ensures.count c.in-Err-open_nodes.fault
+    (c.in-Err-open_nodes.ensures.err s.queues u.new)

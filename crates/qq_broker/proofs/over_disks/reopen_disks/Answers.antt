@@ -1,0 +1,201 @@
+use Rattle.std.proofs.Common.{◌≡◌, length, refl, arith, sym}
+use Rattle.qq_broker.proofs.Reopened.{can-reopen, failed-where-none, has-reopened, kept-where-none, refused-cause, refused-keeps, refused-logs, refused-many, so-many, still-so-many, still-there}
+use Rattle.qq_broker.proofs.over_disks.reopen_disks.Goals as goal
+
+pub put_disks-requires : goal.put_disks-requires
+put_disks-requires g c =
+    let r = c.requires.rests in
+    let count = r.1.1.1.2.count in
+    let many = r.1.1.1.1.gave.many in
+    let nodes = r.1.1.1.1.gave.count in
+    omega (arith, count, many, nodes)
+
+pub reopen-requires : goal.reopen-requires
+reopen-requires g c =
+    let disk = g.D.NodeDisk in
+    let s = c.args.setup in
+    let again = c.args.disks.items in
+    let may = c.these_disks_may_be_recovered.ensures.opened in
+    let held = c.put_disks.new.self in
+    let same = c.put_disks.ensures.same in
+    let get = c.put_disks.ensures.disks in
+    let r = c.requires.rests in
+    let given = r.0 in
+    let run = r.1.0 in
+    let before = r.1.1.0 in
+    let images = r.1.1.1.0 in
+    let rests = r.1.1.1.1 in
+    let back = r.1.1.1.2 in
+    can-reopen given disk.tells disk.past disk.faults s before again c.args.audits run images rests
+    back may held same get
+
+-- ---- some node is up
+
+pub returns-then-some-clause-ok : goal.returns-then-some-clause-ok
+returns-then-some-clause-ok g c =
+    let disk = g.D.NodeDisk in
+    let s = c.args.setup in
+    let again = c.args.disks.items in
+    let may = c.these_disks_may_be_recovered.ensures.opened in
+    let held = c.put_disks.new.self in
+    let same = c.put_disks.ensures.same in
+    let get = c.put_disks.ensures.disks in
+    let own : length again ≡ c.args.disks.len = sym c.args.disks.ok.0 in
+    let room = c.put_disks.ensures.room in
+    let most = c.args.disks.ok.1 in
+    λ given run before images rests back.
+    has-reopened given disk.tells disk.past disk.faults s before again c.args.audits run images rests
+    back may held same get c.in-Ok.some c.reopen.new.nodes c.new-text.result.items c.reopen.new.text.items
+    c.in-Ok.ensures.ok
+    (record { setup = s; nodes = c.reopen.new.nodes; text = c.reopen.new.text; room = c.put_disks.new.disks })
+    c.if-some.true refl refl c.put_disks.ensures.empty
+    (let count = so-many given disk.tells disk.past disk.faults s before again c.args.audits run images rests back may
+    held same get in omega (arith, own, room, most, count))
+    c.new-text.ensures.items refl
+
+-- ---- none is
+
+pub hand_back-requires-clause-own : goal.hand_back-requires-clause-own
+hand_back-requires-clause-own g c =
+    let disk = g.D.NodeDisk in
+    let s = c.args.setup in
+    let again = c.args.disks.items in
+    let may = c.these_disks_may_be_recovered.ensures.opened in
+    let held = c.put_disks.new.self in
+    let same = c.put_disks.ensures.same in
+    let get = c.put_disks.ensures.disks in
+    let r = c.requires.rests in
+    let given = r.0 in
+    let run = r.1.0 in
+    let before = r.1.1.0 in
+    let images = r.1.1.1.0 in
+    let rests = r.1.1.1.1 in
+    let back = r.1.1.1.2 in
+    still-there given disk.tells disk.past disk.faults s before again c.args.audits run images rests
+    back may held same get
+    c.in-Ok.some c.reopen.new.nodes c.new-text.result.items c.reopen.new.text.items c.in-Ok.ensures.ok
+
+pub hand_back-requires-clause-room : goal.hand_back-requires-clause-room
+hand_back-requires-clause-room g c =
+    let disk = g.D.NodeDisk in
+    let s = c.args.setup in
+    let again = c.args.disks.items in
+    let may = c.these_disks_may_be_recovered.ensures.opened in
+    let held = c.put_disks.new.self in
+    let same = c.put_disks.ensures.same in
+    let get = c.put_disks.ensures.disks in
+    let r = c.requires.rests in
+    let given = r.0 in
+    let run = r.1.0 in
+    let before = r.1.1.0 in
+    let images = r.1.1.1.0 in
+    let rests = r.1.1.1.1 in
+    let back = r.1.1.1.2 in
+    let many = still-so-many given disk.tells disk.past disk.faults s before again c.args.audits run images rests
+    back may held same get
+    c.in-Ok.some c.reopen.new.nodes c.new-text.result.items c.reopen.new.text.items c.in-Ok.ensures.ok in
+    let whole = c.args.disks.ok.0 in
+    let most = c.args.disks.ok.1 in
+    let room = c.put_disks.ensures.room in
+    omega (arith, many, whole, most, room)
+
+pub returns-else-some-clause-cause : goal.returns-else-some-clause-cause
+returns-else-some-clause-cause g c =
+    let disk = g.D.NodeDisk in
+    let s = c.args.setup in
+    let again = c.args.disks.items in
+    let may = c.these_disks_may_be_recovered.ensures.opened in
+    let held = c.put_disks.new.self in
+    let same = c.put_disks.ensures.same in
+    let get = c.put_disks.ensures.disks in
+    λ given run before images rests back.
+    failed-where-none given disk.tells disk.past disk.faults s before again c.args.audits run images rests
+    back may held same get c.in-Ok.some c.reopen.new.nodes c.new-text.result.items c.reopen.new.text.items
+    c.in-Ok.ensures.ok c.hand_back.result.items c.hand_back.ensures.disks c.hand_back.ensures.count c.if-some.false
+
+pub returns-else-some-clause-back : goal.returns-else-some-clause-back
+returns-else-some-clause-back g c =
+    let disk = g.D.NodeDisk in
+    let s = c.args.setup in
+    let again = c.args.disks.items in
+    let may = c.these_disks_may_be_recovered.ensures.opened in
+    let held = c.put_disks.new.self in
+    let same = c.put_disks.ensures.same in
+    let get = c.put_disks.ensures.disks in
+    λ given run before images rests back.
+    kept-where-none given disk.tells disk.past disk.faults s before again c.args.audits run images rests
+    back may held same get c.in-Ok.some c.reopen.new.nodes c.new-text.result.items c.reopen.new.text.items
+    c.in-Ok.ensures.ok c.hand_back.result.items c.hand_back.ensures.disks c.hand_back.ensures.count
+
+-- ---- a node isn't restarted
+
+pub hand_back-in-Err-requires-clause-own : goal.hand_back-in-Err-requires-clause-own
+hand_back-in-Err-requires-clause-own g c =
+    let disk = g.D.NodeDisk in
+    let s = c.args.setup in
+    let again = c.args.disks.items in
+    let may = c.these_disks_may_be_recovered.ensures.opened in
+    let held = c.put_disks.new.self in
+    let same = c.put_disks.ensures.same in
+    let get = c.put_disks.ensures.disks in
+    let r = c.requires.rests in
+    let given = r.0 in
+    let run = r.1.0 in
+    let before = r.1.1.0 in
+    let images = r.1.1.1.0 in
+    let rests = r.1.1.1.1 in
+    let back = r.1.1.1.2 in
+    refused-logs given disk.tells disk.past disk.faults s before again c.args.audits run images rests
+    back may held same get
+    c.in-Err.fault c.reopen.new.nodes c.new-text.result.items c.in-Err.ensures.err
+
+pub hand_back-in-Err-requires-clause-room : goal.hand_back-in-Err-requires-clause-room
+hand_back-in-Err-requires-clause-room g c =
+    let disk = g.D.NodeDisk in
+    let s = c.args.setup in
+    let again = c.args.disks.items in
+    let may = c.these_disks_may_be_recovered.ensures.opened in
+    let held = c.put_disks.new.self in
+    let same = c.put_disks.ensures.same in
+    let get = c.put_disks.ensures.disks in
+    let r = c.requires.rests in
+    let given = r.0 in
+    let run = r.1.0 in
+    let before = r.1.1.0 in
+    let images = r.1.1.1.0 in
+    let rests = r.1.1.1.1 in
+    let back = r.1.1.1.2 in
+    let many = refused-many given disk.tells disk.past disk.faults s before again c.args.audits run images rests
+    back may held same get
+    c.in-Err.fault c.reopen.new.nodes c.new-text.result.items c.in-Err.ensures.err in
+    let whole = c.args.disks.ok.0 in
+    let most = c.args.disks.ok.1 in
+    let room = c.put_disks.ensures.room in
+    omega (arith, many, whole, most, room)
+
+pub returns-in-Err-clause-cause : goal.returns-in-Err-clause-cause
+returns-in-Err-clause-cause g c =
+    let disk = g.D.NodeDisk in
+    let s = c.args.setup in
+    let again = c.args.disks.items in
+    let may = c.these_disks_may_be_recovered.ensures.opened in
+    let held = c.put_disks.new.self in
+    let same = c.put_disks.ensures.same in
+    let get = c.put_disks.ensures.disks in
+    λ given run before images rests back.
+    refused-cause given disk.tells disk.past disk.faults s before again c.args.audits run images rests
+    back may held same get c.in-Err.fault c.reopen.new.nodes c.new-text.result.items c.in-Err.ensures.err
+
+pub returns-in-Err-clause-back : goal.returns-in-Err-clause-back
+returns-in-Err-clause-back g c =
+    let disk = g.D.NodeDisk in
+    let s = c.args.setup in
+    let again = c.args.disks.items in
+    let may = c.these_disks_may_be_recovered.ensures.opened in
+    let held = c.put_disks.new.self in
+    let same = c.put_disks.ensures.same in
+    let get = c.put_disks.ensures.disks in
+    λ given run before images rests back.
+    refused-keeps given disk.tells disk.past disk.faults s before again c.args.audits run images rests
+    back may held same get c.in-Err.fault c.reopen.new.nodes c.new-text.result.items c.in-Err.ensures.err
+    c.hand_back-in-Err.result.items c.hand_back-in-Err.ensures.disks c.hand_back-in-Err.ensures.count

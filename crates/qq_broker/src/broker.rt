@@ -1,0 +1,136 @@
+//! A broker over disks, for programs that embed the cluster.
+ghost use Rattle.std.specs.Prelude.{◌≡◌, ◌++◌, Contains, List, IfErr, IfOk, OnErr, OnOk, length};
+ghost use Rattle.qq_base.specs.Causes.{SpentOnlyWhere};
+ghost use Rattle.qq_base.specs.Fronts.{IsFront};
+ghost use Rattle.qq_base.specs.declared.memory.TheConstants.{NUMBER_END};
+ghost use Rattle.qq_cluster.specs.Queue.{audit_rows};
+ghost use Rattle.qq_cluster_run.specs.Serving.{Run, setup_in};
+ghost use Rattle.qq_script.specs.Audit.{audit_text};
+ghost use Rattle.qq_script_lines.specs.declared.line.ScriptLine.TheVariants.{Pump};
+ghost use Rattle.qq_setup.specs.Setup.{SetupState, state_of};
+ghost use Rattle.qq_nodes.specs.Setting.{HaveDisks};
+ghost use Rattle.qq_broker.specs.Broker.{HasPumped, IsPastEnd, Rests, Runs, cluster_at, is_done, setup_at};
+ghost use Rattle.qq_broker.specs.Lives.{Giving};
+ghost use Rattle.qq_broker.specs.Nodes.{Meets};
+ghost use Rattle.qq_broker.specs.Serving.{IsGivenUp};
+
+use qq_base::{Memory, QueueId};
+use qq_disk::NodeDisk;
+use qq_nodes::Nodes;
+use qq_setup::Setup;
+use std::alloc::Global;
+
+/// A cluster over disks, one for each node. It keeps what it has printed until a line's answer hands it out.
+///
+/// Its calls speak of a run: what happened to the cluster so far, and what has become of each disk that was handed in
+/// (`Runs`). After a fault the run ends, and the broker is used no more; only an opening hands disks back then.
+#[derive(Drop)]
+pub struct Broker<D: NodeDisk> {
+    pub(crate) setup: Setup,
+    pub(crate) nodes: Nodes<D>,
+    // What was printed, and not handed out yet.
+    pub(crate) text: Vec<u8>,
+    // The list in which the disks came, emptied: room for them.
+    pub(crate) room: Vec<D>,
+}
+
+/// Whether a pump has left work.
+#[derive(Clone, Copy, Debug, PartialEq, Eq)]
+pub enum Pumped {
+    /// There is nothing left to do.
+    Idle,
+    /// It has made all its rounds, and work is left.
+    Busy,
+}
+
+/// The queues of a cluster whose nodes were stopped, with their audits. The disks were handed back apart.
+#[derive(Drop)]
+pub struct Audits<D: NodeDisk> {
+    pub(crate) nodes: Nodes<D>,
+}
+
+impl<D: NodeDisk> Broker<D> {
+    /// What it is set up with.
+    pub fn setup(&self) -> &Setup
+        ensures { result.now ≡ self.now.setup }
+    {
+        &self.setup
+    }
+
+    /// Makes rounds until nothing is left to do, 10,000 at most. What that prints, the next line's answer hands out.
+    ///
+    /// - `ok`: what happened is what the line `pump` allows, and `Busy` comes where work is left.
+    /// - `cause`: there was no memory, or in the midst of it a number stands at its end.
+    pub fn pump(&mut self, alloc: Global) -> Result<Pumped, Memory>
+        requires { (given : Giving D) × ((run : Run)
+            × Runs given D.tells D.past D.faults self.old run) }
+        ensures ok { (given : Giving D) (run : Run) → Runs given D.tells D.past D.faults self.old run →
+            IfOk result (HasPumped given D.tells D.past D.faults self.old self.new run) }
+        ensures setup { self.new.setup ≡ self.old.setup }
+        ensures cause { (given : Giving D) (run : Run) → Runs given D.tells D.past D.faults self.old run →
+            IfErr result (IsGivenUp (Meets given D.tells D.past D.faults 0 0)
+            (setup_in self.old.setup run) run.events Pump) }
+    {
+        match self.nodes.pump(alloc, &mut self.text) {
+            Ok(()) => {
+                let idle = self.nodes.is_idle();
+                Ok(pumped(idle))
+            }
+            Err(memory) => Err(memory),
+        }
+    }
+
+    /// Stops all nodes, and hands their disks back, in order, as they are. It takes no memory.
+    ///
+    /// - `rests`: whoever knows the disks may go on with them and with the audits (`reopen_disks`).
+    /// - `count`, `disks`: each disk is its node's, and as it was.
+    pub fn crash_all(self, alloc: Global) -> (Vec<D>, Audits<D>)
+        requires { (given : Giving D) × ((run : Run)
+            × Runs given D.tells D.past D.faults self run) }
+        ensures rests { (given : Giving D) (run : Run) → Runs given D.tells D.past D.faults self run →
+            Rests given D.tells D.past D.faults (state_of self.setup) result.0.items result.1 run }
+        ensures count { length result.0.items ≡ self.setup.nodes }
+        ensures disks { HaveDisks D.tells D.past D.faults result.0.items self.nodes }
+    {
+        let Broker {
+            setup,
+            mut nodes,
+            text,
+            mut room,
+        } = self;
+        drop(setup);
+        drop(text);
+        nodes.stop_each(alloc);
+        nodes.take_disks(&mut room);
+        (room, Audits { nodes })
+    }
+}
+
+// What a pump tells by whether it has left nothing to do.
+fn pumped(idle: bool) -> Pumped
+    ensures { is_done result ≡ idle }
+{
+    if idle { Pumped::Idle } else { Pumped::Busy }
+}
+
+impl<D: NodeDisk> Audits<D> {
+    /// Adds the text of a queue's audit. After an error the text begins with what it had.
+    ///
+    /// - `ok`: it is the queue's audit as its nodes stopped.
+    /// - `cause`: `Spent` comes only where a number of the queue that the audit makes would be past its end.
+    pub fn write(&self, alloc: Global, queue: QueueId, text: &mut Vec<u8>) -> Result<(), Memory>
+        requires { (given : Giving D) × ((t : SetupState) × ((disks : List D) × ((run : Run)
+            × Rests given D.tells D.past D.faults t disks self.now run
+            × Contains (setup_at t run).places queue.0))) }
+        ensures ok { (given : Giving D) (t : SetupState) (disks : List D) (run : Run) →
+            Rests given D.tells D.past D.faults t disks self.now run →
+            OnOk result (text.new.items ≡ text.old.items ++ audit_text ((setup_at t run).name queue.0) 0
+            (audit_rows ((cluster_at t run).queue queue.0))) }
+        ensures err { OnErr result (IsFront text.old.items text.new.items) }
+        ensures cause { (given : Giving D) (t : SetupState) (disks : List D) (run : Run) →
+            Rests given D.tells D.past D.faults t disks self.now run →
+            IfErr result (λ e. SpentOnlyWhere e NUMBER_END (IsPastEnd ((cluster_at t run).queue queue.0))) }
+    {
+        self.nodes.audit_text(alloc, queue, text)
+    }
+}

@@ -1,0 +1,28 @@
+-- While nodes are opened each has its log.
+use Rattle.std.proofs.Common.{◌≡◌, ◌⊎◌, ◌<◌, ◌≤◌, ℕ, Bool, List, Some, sym, ◌∙◌, inl, inr}
+use Rattle.std.proofs.lemmas.Bool.{cases_lt}
+use Rattle.qq_disk.specs.Disk.{Disk}
+use Rattle.qq_node_log.specs.declared.node_log.NodeLog.{NodeLog}
+use Rattle.qq_node_log.specs.declared.node_log.NodeLog.TheVariants.{Closed}
+use Rattle.qq_setup.specs.declared.queue_row.QueueRow.{QueueRow}
+use Rattle.qq_nodes.specs.Nodes.{EachHasLog}
+use Rattle.qq_nodes.specs.Setting.{AreNew}
+use Rattle.qq_nodes.specs.declared.nodes.Nodes.{Nodes as Held}
+use Rattle.qq_nodes.proofs.Begun.{item-at}
+use Rattle.qq_opening.specs.Opened.{AreOpened}
+
+new-logs : {D : Type 0} {tells : D → Bool} {past : D → List Disk} (rows : List QueueRow) (old : Held D)
+    → AreNew tells past rows old → EachHasLog old.nodes.items
+new-logs rows old new at node here =
+    let disk = item-at new.disks old.nodes.items at node new.nodes.count here in
+    (Closed disk.0, (new.nodes.each at disk.0 node disk.1 here).log_is)
+
+module _ {D : Type 0} {tells : D → Bool} {past : D → List Disk} {faults : D → ℕ} (rows : List QueueRow) (old : Held D)
+    (new : AreNew tells past rows old) where
+  pub opened-logs : (at : ℕ) (held : Held D) → AreOpened tells past faults rows at old held
+      → EachHasLog held.nodes.items
+  opened-logs at held o i node here = by (cases_lt i at)
+    where
+      by : (i < at) ⊎ (at ≤ i) → (own : NodeLog D) × (node.log ≡ Some own)
+      by (inl first) = (o.opened i node first here).has_log
+      by (inr later) = new-logs rows old new i node (sym (o.left i later) ∙ here)
