@@ -7,6 +7,7 @@ pub mod Crashes
 pub mod Opens
 pub mod Untouched
 pub mod Unopened
+pub mod Restarted
 pub mod NewLogs
 pub mod Targets
 pub mod Meeting
@@ -17,6 +18,16 @@ pub mod Audited
 pub mod Looped
 pub mod Closed
 pub mod Dumped
+pub mod Opened
+pub mod Lifetimes
+pub mod Keeping
+pub mod Histories
+pub mod Undamaged
+pub mod Fair
+pub mod Following
+pub mod Unharmed
+pub mod Harmless
+pub mod RunDisks
 pub mod Stops
 pub mod Handed
 pub mod Stepped

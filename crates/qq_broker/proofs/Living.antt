@@ -19,7 +19,7 @@ use Rattle.qq_broker.proofs.Failing.{failures-both}
 
 -- ---- crashes
 
-not-crash : (k : ℕ) (event : ClusterEvent) → IsNoCrash k event → crash_of k event ≡ None
+pub not-crash : (k : ℕ) (event : ClusterEvent) → IsNoCrash k event → crash_of k event ≡ None
 not-crash k (Sets auto) calm = refl
 not-crash k (Alike event) calm = refl
 not-crash k (At place event) calm = refl

@@ -5,6 +5,7 @@
 mod asking;
 mod auditing;
 mod broker;
+mod disk_laws;
 mod dumping;
 mod faults;
 mod laws;
@@ -17,6 +18,13 @@ mod stepping;
 mod stopping;
 
 pub use broker::{Audits, Broker, Pumped};
+pub use disk_laws::{
+    a_crash_leaves_the_named_image, a_given_disk_was_just_opened,
+    a_node_fails_only_where_its_disk_did, a_restart_finds_what_the_disk_reads,
+    a_run_keeps_what_it_has_answered, a_run_without_junk_is_neither_damaged_nor_lost,
+    disks_keep_what_was_promised, what_is_met_is_what_recovery_reads,
+    without_junk_nothing_is_damaged_or_lost,
+};
 pub use faults::{OpenFault, StepFault};
 pub use laws::{a_dump_tells_what_was_done, a_run_without_a_root_begins_with_new_logs};
 pub use over_disks::{open_disks, reopen_disks};

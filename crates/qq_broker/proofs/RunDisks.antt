@@ -1,0 +1,44 @@
+-- What the disks of a run keep.
+use Rattle.std.proofs.Common.{ℕ, Bool, List}
+use Rattle.std.specs.Prelude.{IsTrue}
+use Rattle.qq_disk.specs.declared.image.Image.{Image}
+use Rattle.qq_disk.specs.Disk.{Disk, now}
+use Rattle.qq_raft_protocol.specs.Facts.{In}
+use Rattle.qq_script_lines.specs.declared.line.Nodes.{Nodes}
+use Rattle.qq_script_lines.specs.declared.line.ScriptLine.TheVariants as lines
+use Rattle.qq_setup.specs.declared.setup.Setup.{Setup}
+use Rattle.qq_wal_chain.specs.Image.{HasNoJunk}
+use Rattle.qq_cluster.specs.Cluster.{new_cluster}
+use Rattle.qq_cluster_laws.specs.Linked.{IsLinked}
+use Rattle.qq_cluster_run.specs.Inputs.{Input}
+use Rattle.qq_cluster_run.specs.Serving.{Behind, cluster_behind, setup_behind}
+use Rattle.qq_broker.specs.Lives.{Became, Giving}
+use Rattle.qq_broker.specs.Nodes.{Had}
+use Rattle.qq_broker.proofs.Fair.{fair-images, fair-run}
+use Rattle.qq_broker.proofs.Keeping.{AreNew, IsEmptyPromised, IsHonestWithoutJunk, IsReadWherePromised, kept-new}
+use Rattle.qq_broker.proofs.Restarted.{restarted}
+
+module _ (readable : IsReadWherePromised) (empty : IsEmptyPromised) (honest : IsHonestWithoutJunk) {D : Type 0}
+    (given : Giving D) (tells : D → Bool) (past : D → List Disk) (faults : D → ℕ) (s : Setup) (all left : List Input)
+    (b : Behind (Had given tells past faults) s all left) (all_new : (k : ℕ) → AreNew given tells past k)
+    (shows : (disk : D) → IsTrue (tells disk))
+    (clean : (nodes : Nodes) (image : Image) → In (lines.Crash nodes image) b.lines → HasNoJunk image) (k : ℕ)
+    (there : In k (setup_behind b).nodes) where
+  -- after each line the log of each node is linked to its disk
+  pub run-linked : (last : D) → Became given tells past faults (setup_behind b) b.events k last
+      → IsLinked (setup_behind b) (cluster_behind b) k (now (past last))
+  run-linked last became =
+      kept-new readable empty honest given tells past faults (setup_behind b) k b.events last b.begins.groups
+      (all_new k)
+      (shows last) (restarted s all left b k there)
+      (λ image here. fair-images (setup_behind b) HasNoJunk k image (new_cluster (setup_behind b)) b.events
+      (fair-run (setup_behind b) HasNoJunk b.lines clean (new_cluster (setup_behind b)) b.events b.allowed) here) became
+
+  pub run-disk : (last : D) × Became given tells past faults (setup_behind b) b.events k last
+      × IsLinked (setup_behind b) (cluster_behind b) k (now (past last))
+  run-disk = by (b.disks k there)
+    where
+      by : (last : D) × Became given tells past faults (setup_behind b) b.events k last
+          → (last : D) × Became given tells past faults (setup_behind b) b.events k last
+          × IsLinked (setup_behind b) (cluster_behind b) k (now (past last))
+      by (last, became) = (last, became, run-linked last became)
