@@ -18,7 +18,7 @@ use Rattle.qq_cluster_laws.specs.Restarts.{first_restart}
 use Rattle.qq_cluster_laws.specs.Serves.{fails_at, is_failure_at}
 use Rattle.qq_cluster_laws.specs.Traced.{HasNoCrash, IsPromisedSince}
 use Rattle.qq_cluster_laws.proofs.Traces.{trace-end, trace-moments}
-use Rattle.qq_broker.specs.Lives.{Became, BeginsBy, Giving, IsGiven, IsLeft, IsOneDisk, Lives}
+use Rattle.qq_broker.specs.Lives.{Became, BeginsBy, Giving, IsByHand, IsGiven, IsImage, IsLeft, IsOneDisk, Lives}
 use Rattle.qq_broker.proofs.Lifetimes.{begins-front, cut-there, failure-found, one-disk, rose-some}
 use Rattle.qq_broker.proofs.Living.{goes-on, lives-then, one-none}
 
@@ -30,12 +30,12 @@ module _ {D : Type 0} (given : Giving D) (tells : D → Bool) (past : D → List
 
     -- by fewer events
     became-front : (events early late : List ClusterEvent) (last mid : D) → events ≡ early ++ late
-        → (b : BecameSo events last) → Lives tells past faults setup k (new_cluster setup) [] early b.first mid
+        → (b : BecameSo events last) → Lives given tells past faults setup k (new_cluster setup) [] early b.first mid
         → BecameSo early mid
     became-front events early late last mid is b lives = record {
       first = b.first;
       given_is = b.given_is;
-      begins = begins-front tells past faults setup k b.first early late
+      begins = begins-front given tells past faults setup k b.first early late
           (subst (λ (l : List ClusterEvent). BeginsBy tells past setup k b.first (first_restart k l)) is b.begins);
       lives = lives;
     }
@@ -45,38 +45,49 @@ module _ {D : Type 0} (given : Giving D) (tells : D → Bool) (past : D → List
     abbrev Crashed : List ClusterEvent → Image → Cluster
     Crashed early image = cluster_happens (cluster_after (new_cluster setup) early) (Crashes k image)
 
-    abbrev pub LeavesNamed : (early since : List ClusterEvent) → Image → D → Type 0
-    LeavesNamed early since image last =
-        (old : D) × ((new : D) × BecameSo early old × (tells new ≡ tells old)
+    -- the new disk holds what the image leaves of the old one, opened again
+    abbrev pub IsNamed : Image → D → D → Type 0
+    IsNamed image old new =
+        (tells new ≡ tells old)
         × (IsTrue (tells old) → (newest : Option FileName) × IsNewestLog (now (past old)) image.removed_back newest
         × (past new ≡ reopen (image_of image newest (now (past old))) ∷ []))
-        × (tells last ≡ tells new)
+
+    abbrev pub Leaves : (D → D → Type 0) → (early since : List ClusterEvent) → Image → D → Type 0
+    Leaves Left early since image last =
+        (old : D) × ((new : D) × BecameSo early old × Left old new × (tells last ≡ tells new)
         × ((faults new + length (filter (is_failure_at k) since) ≤ faults last) ⊎ (2 ^ 64 - 1 ≤ faults last))
         × (let crashed = cluster_happens (cluster_after (new_cluster setup) early) (Crashes k image) in
         IsTrue (tells new) → IsLinked setup crashed k (now (past new))
         → Adds (IsPromisedSince setup crashed k since) (past new) (past last)
         × IsLinked setup (cluster_after crashed since) k (now (past last))))
 
-    pub crash-leaves : (early since : List ClusterEvent) (image : Image) (last : D) → HasNoCrash k since
-        → BecameSo (early ++ Crashes k image ∷ since) last → LeavesNamed early since image last
-    crash-leaves early since image last calm b =
-        by (cut-there tells past faults setup k (new_cluster setup) [] early since image b.first last calm b.lives)
+    is-named : (image : Image) (old new : D) → IsImage tells past image old new → IsNamed image old new
+    is-named image old new left = (
+      left.told,
+      λ tell. (
+        (left.left tell).left.newest,
+        (left.left tell).left.is_newest,
+        (left.left tell).alone ∙ ap (λ (d : Disk). d ∷ []) (left.left tell).left.left,
+      ),
+    )
+
+    crash-leaves : (Left : D → D → Type 0) (early since : List ClusterEvent) (image : Image) (last : D)
+        → ((old new : D) → IsLeft given tells past image old new → Left old new) → HasNoCrash k since
+        → BecameSo (early ++ Crashes k image ∷ since) last → Leaves Left early since image last
+    crash-leaves Left early since image last so calm b =
+        by (cut-there given tells past faults setup k (new_cluster setup) [] early since image b.first last calm
+        b.lives)
       where
-        by : (old : D) × ((new : D) × Lives tells past faults setup k (new_cluster setup) [] early b.first old
-            × IsLeft tells past image old new × IsOneDisk tells past faults setup k (Crashed early image) since new
-            last)
-            → LeavesNamed early since image last
+        by : (old : D) × ((new : D) × Lives given tells past faults setup k (new_cluster setup) [] early b.first old
+            × IsLeft given tells past image old new
+            × IsOneDisk tells past faults setup k (Crashed early image) since new last)
+            → Leaves Left early since image last
         by (old, (new, lives, left, one)) = (
           old,
           (
             new,
             became-front (early ++ Crashes k image ∷ since) early (Crashes k image ∷ since) last old refl b lives,
-            left.told,
-            λ tell. (
-              (left.left tell).left.newest,
-              (left.left tell).left.is_newest,
-              (left.left tell).alone ∙ ap (λ (d : Disk). d ∷ []) (left.left tell).left.left,
-            ),
+            so old new left,
             one.told,
             one.rose,
             λ tell linked. (
@@ -88,6 +99,27 @@ module _ {D : Type 0} (given : Giving D) (tells : D → Bool) (past : D → List
           ),
         )
 
+    -- of a disk that goes by a yard
+    pub yard-leaves : (early since : List ClusterEvent) (image : Image) (last : D) → (IsByHand given → ⊥)
+        → HasNoCrash k since → BecameSo (early ++ Crashes k image ∷ since) last
+        → Leaves (IsNamed image) early since image last
+    yard-leaves early since image last yard calm b = crash-leaves (IsNamed image) early since image last by calm b
+      where
+        by : (old new : D) → IsLeft given tells past image old new → IsNamed image old new
+        by old new (inl left) = is-named image old new left
+        by old new (inr (hand, same)) = absurd (yard hand)
+
+    -- one that goes by hand may come back as it was
+    pub hand-leaves : (early since : List ClusterEvent) (image : Image) (last : D) → HasNoCrash k since
+        → BecameSo (early ++ Crashes k image ∷ since) last
+        → Leaves (λ old new. IsNamed image old new ⊎ (new ≡ old)) early since image last
+    hand-leaves early since image last calm b =
+        crash-leaves (λ old new. IsNamed image old new ⊎ (new ≡ old)) early since image last by calm b
+      where
+        by : (old new : D) → IsLeft given tells past image old new → IsNamed image old new ⊎ (new ≡ old)
+        by old new (inl left) = inl (is-named image old new left)
+        by old new (inr (hand, same)) = inr same
+
     -- ---- failures
 
     -- without a crash the given disk counts each
@@ -97,7 +129,7 @@ module _ {D : Type 0} (given : Giving D) (tells : D → Bool) (past : D → List
     counts-each events last calm b = (
       b.first,
       b.given_is,
-      (one-disk tells past faults setup k (new_cluster setup) [] events b.first last calm b.lives).rose,
+      (one-disk given tells past faults setup k (new_cluster setup) [] events b.first last calm b.lives).rose,
     )
 
     abbrev pub HasCounted : List ClusterEvent → Type 0
@@ -110,14 +142,14 @@ module _ {D : Type 0} (given : Giving D) (tells : D → Bool) (past : D → List
     pub failure-counted : (events : List ClusterEvent) (last : D) → In (Fails k) events → BecameSo events last
         → HasCounted events
     failure-counted events last there b =
-        failure-found tells past faults setup k (new_cluster setup) b.first events (HasCounted events) found
+        failure-found given tells past faults setup k (new_cluster setup) b.first events (HasCounted events) found
         (new_cluster setup)
         [] [] events b.first last refl (one-none tells past faults setup k (new_cluster setup) b.first) tt refl
         (list_any-from_in (is_failure_at k) (Fails k) events there (eq-eqb k k refl)) b.lives
       where
         found : (behind since rest : List ClusterEvent) (before after : D) → events ≡ behind ++ (since ++ rest)
             → HasNoCrash k since → fails_at k since ≡ true
-            → Lives tells past faults setup k (new_cluster setup) [] behind b.first before
+            → Lives given tells past faults setup k (new_cluster setup) [] behind b.first before
             → IsOneDisk tells past faults setup k (cluster_after (new_cluster setup) behind) since before after
             → HasCounted events
         found behind since rest before after is calm any lives one = (
@@ -135,11 +167,11 @@ module _ {D : Type 0} (given : Giving D) (tells : D → Bool) (past : D → List
                   after,
                   became-front events behind (since ++ rest) last before is b lives,
                   became-front events (behind ++ since) rest last after (is ∙ sym (append_assoc behind since rest)) b
-                      (lives-then tells past faults setup k (cluster_after (new_cluster setup) behind)
+                      (lives-then given tells past faults setup k (cluster_after (new_cluster setup) behind)
                       (new_cluster setup) [] behind
                       since b.first before after refl lives
-                      (goes-on tells past faults setup k (cluster_after (new_cluster setup) behind) since before after
-                      calm
+                      (goes-on given tells past faults setup k (cluster_after (new_cluster setup) behind) since before
+                      after calm
                       one)),
                   one.told,
                   rose-some k since (faults before) (faults after) any one.rose,

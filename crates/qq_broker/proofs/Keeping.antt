@@ -1,8 +1,9 @@
 -- What the disks of a run keep, as long as crashes leave images without junk.
-use Rattle.std.proofs.Common.{◌≡◌, ◌≤◌, ℕ, Bool, true, List, [], ◌∷◌, ◌++◌, length, take, Ok, Option, Some, None, refl, sym, ap, subst, ◌∙◌, inl, inr, append-nil, append_assoc, arith}
+use Rattle.std.proofs.Common.{◌≡◌, ◌≤◌, ℕ, Bool, true, false, List, [], ◌∷◌, ◌++◌, length, take, Ok, Option, Some, None, refl, sym, ap, subst, ◌∙◌, inl, inr, append-nil, append_assoc, arith}
 use Rattle.std.specs.Prelude.{IsTrue, is_some}
-use Rattle.std.proofs.lemmas.Bool.{eq-eqb}
+use Rattle.std.proofs.lemmas.Bool.{eq-eqb, false≢true}
 use Rattle.qq_base.proofs.Lists.{AllByRecursion-in}
+use Rattle.qq_base.proofs.Puts.{put-same}
 use Rattle.qq_base.specs.declared.ids.QueueId.{QueueId}
 use Rattle.qq_disk.specs.declared.image.Image.{Image}
 use Rattle.qq_disk.specs.declared.name.FileName.{FileName}
@@ -28,12 +29,12 @@ use Rattle.qq_cluster.specs.ClusterLaws.{HasGroups}
 use Rattle.qq_cluster_laws.specs.Linked.{IsLinked, IsPromised, lot_of, parts_at}
 use Rattle.qq_cluster_laws.specs.Restarts.{first_of, first_restart}
 use Rattle.qq_cluster_laws.specs.Traced.{HasNoCrash, IsFair, IsNoCrash, IsTracedAt, KeepsWhere}
-use Rattle.qq_cluster_laws.proofs.Links.{begins-linked, crashed-linked}
+use Rattle.qq_cluster_laws.proofs.Links.{begins-linked, crashed-linked, stopped-promised}
 use Rattle.qq_cluster_laws.proofs.Reached.{after-both}
 use Rattle.qq_cluster_laws.proofs.Restarts.{first-both}
 use Rattle.qq_cluster_laws.proofs.Traces.{trace-end}
 use Rattle.qq_broker.specs.Lives.{Became, Giving, IsGiven, IsLeft, IsOneDisk, Lives, at_crash, crash_of, log_at}
-use Rattle.qq_broker.proofs.Lifetimes.{calm-more, crash-is, lives-told, one-disk}
+use Rattle.qq_broker.proofs.Lifetimes.{calm-more, crash-is, left-told, lives-told, one-disk}
 use Rattle.qq_broker.proofs.NewLogs.{no-log}
 
 -- crashes of a node leave images without junk
@@ -91,13 +92,13 @@ IsHonestWithoutJunk =
     (queues : List QueueId) (image : Image) (newest : Option FileName) (d : Disk) → HasNoJunk image
     → IsHonestImage queues d (image_of image newest d)
 
-module _ (honest : IsHonestWithoutJunk) {D : Type 0} (tells : D → Bool) (past : D → List Disk) (faults : D → ℕ)
-    (setup : Setup) (k : ℕ) where
+module _ (honest : IsHonestWithoutJunk) {D : Type 0} (given : Giving D) (tells : D → Bool) (past : D → List Disk)
+    (faults : D → ℕ) (setup : Setup) (k : ℕ) where
   abbrev One : Cluster → List ClusterEvent → D → D → Type 0
   One c events first last = IsOneDisk tells past faults setup k c events first last
 
   abbrev Live : Cluster → List ClusterEvent → List ClusterEvent → D → D → Type 0
-  Live c since events first last = Lives tells past faults setup k c since events first last
+  Live c since events first last = Lives given tells past faults setup k c since events first last
 
   abbrev LinkedOn : Cluster → D → Type 0
   LinkedOn c disk = IsLinked setup c k (now (past disk))
@@ -108,16 +109,28 @@ module _ (honest : IsHonestWithoutJunk) {D : Type 0} (tells : D → Bool) (past 
   -- the log is linked to what a crash leaves, where it was linked before
   crash-linked : (c : Cluster) (since : List ClusterEvent) (event : ClusterEvent) (image : Image) (first old new : D)
       → event ≡ Crashes k image → HasNoCrash k since → HasNoJunk image → IsTrue (tells first) → LinkedOn c first
-      → One c since first old → IsLeft tells past image old new
+      → One c since first old → IsLeft given tells past image old new
       → LinkedOn (Next c since event) new
   crash-linked c since event image first old new is calm clean tell linked ends left =
-      let d : Cluster = cluster_after c since in
-      let linked_old : LinkedOn d old =
-      trace-end IsLinked setup k c since (past first) (past old) calm (ends.traced tell linked) in
-      let after = left.left (subst IsTrue (sym ends.told) tell) in
-      subst (λ (e : ClusterEvent). LinkedOn (cluster_happens d e) new) (sym is)
-      (crashed-linked setup d k image (past old) (past new) linked_old.promised (after.left, after.alone)
-      (λ newest is_newest. honest (ids_of (lot_of setup k)) image newest (now (past old)) clean))
+      subst (λ (e : ClusterEvent). LinkedOn (cluster_happens (cluster_after c since) e) new) (sym is) (by left)
+    where
+      linked_old : LinkedOn (cluster_after c since) old
+      linked_old = trace-end IsLinked setup k c since (past first) (past old) calm (ends.traced tell linked)
+
+      by : IsLeft given tells past image old new
+          → LinkedOn (cluster_happens (cluster_after c since) (Crashes k image)) new
+      by (inl named) =
+          let after = named.left (subst IsTrue (sym ends.told) tell) in
+          crashed-linked setup (cluster_after c since) k image (past old) (past new) linked_old.promised
+          (after.left, after.alone)
+          (λ newest is_newest. honest (ids_of (lot_of setup k)) image newest (now (past old)) clean)
+      by (inr (hand, same)) =
+          subst (LinkedOn (cluster_happens (cluster_after c since) (Crashes k image))) (sym same) (record {
+            promised =
+                stopped-promised setup (cluster_after c since) k (Crashes k image) (now (past old)) (λ place. refl)
+                linked_old.promised;
+            tied = λ up. absurd (false≢true (sym (put-same k false (cluster_after c since).up) ∙ up));
+          })
 
   -- What follows of the last disk and of the events since the node was crashed last, with some more, follows of all.
   module _ (end : Cluster) (more : List ClusterEvent) (last : D) (P : Type 0)
@@ -128,8 +141,8 @@ module _ (honest : IsHonestWithoutJunk) {D : Type 0} (tells : D → Bool) (past 
         → cluster_after (cluster_after c since) events ≡ end → HasNoCrash k since → HasNoCrash k more
         → HasNoJunks k events → IsTrue (tells first) → LinkedOn c first → Live c since (events ++ more) first last → P
     last-linked c since [] first at calm calm_more clean tell linked so =
-        follows c since first calm at (one-disk tells past faults setup k c since more first last calm_more so) tell
-        linked
+        follows c since first calm at (one-disk given tells past faults setup k c since more first last calm_more so)
+        tell linked
     last-linked c since (event ∷ events) first at calm calm_more clean tell linked so =
         by (crash_of k event) refl
         (λ calm' same. last-linked c (since ++ event ∷ []) events first
@@ -143,14 +156,15 @@ module _ (honest : IsHonestWithoutJunk) {D : Type 0} (tells : D → Bool) (past 
             → (HasNoCrash k (since ++ event ∷ []) → Live c (since ++ event ∷ []) (events ++ more) first last → P)
             → ((new : D) → IsTrue (tells new) → LinkedOn (Next c since event) new
             → Live (Next c since event) [] (events ++ more) new last → P)
-            → at_crash o (λ old. One c since first old) (IsLeft tells past)
+            → at_crash o (λ old. One c since first old) (IsLeft given tells past)
             (λ new. Live (Next c since event) [] (events ++ more) new last)
             (Live c (since ++ event ∷ []) (events ++ more) first last)
             → P
         by None is further next same = further (calm-more k since event calm is) same
         by (Some image) is further next (old, (new, ends, left, goes)) =
             let crash : event ≡ Crashes k image = crash-is k event image is in
-            next new (subst IsTrue (sym left.told) (subst IsTrue (sym ends.told) tell))
+            next new (subst IsTrue (sym (left-told given tells past faults setup k image old new left))
+            (subst IsTrue (sym ends.told) tell))
             (crash-linked c since event image first old new crash calm (clean image (inl (sym crash))) tell linked
             ends left)
             goes
@@ -243,7 +257,7 @@ module _ (readable : IsReadWherePromised) (empty : IsEmptyPromised) {D : Type 0}
   pub first-tells : (events : List ClusterEvent) (last : D) (b : Became given tells past faults setup events k last)
       → IsTrue (tells last) → IsTrue (tells b.first)
   first-tells events last b tell =
-      subst IsTrue (lives-told tells past faults setup k (new_cluster setup) [] events b.first last b.lives) tell
+      subst IsTrue (lives-told given tells past faults setup k (new_cluster setup) [] events b.first last b.lives) tell
 
 module _ (readable : IsReadWherePromised) (empty : IsEmptyPromised) (honest : IsHonestWithoutJunk) {D : Type 0}
     (given : Giving D) (tells : D → Bool) (past : D → List Disk) (faults : D → ℕ) (setup : Setup) (k : ℕ) where
@@ -257,7 +271,7 @@ module _ (readable : IsReadWherePromised) (empty : IsEmptyPromised) (honest : Is
       → BecameSo events last → IsLinked setup (cluster_after (new_cluster setup) events) k (now (past last))
   kept-begun events last begins tell clean b =
       let tell_first = first-tells readable empty given tells past faults setup k events last b tell in
-      lives-linked honest tells past faults setup k events b.first last clean tell_first
+      lives-linked honest given tells past faults setup k events b.first last clean tell_first
       (begins-linked setup k (now (past b.first)) (begins b.first b.given_is tell_first)) b.lives
 
   -- and a new one
@@ -267,7 +281,7 @@ module _ (readable : IsReadWherePromised) (empty : IsEmptyPromised) (honest : Is
       → IsLinked setup (cluster_after (new_cluster setup) events) k (now (past last))
   kept-new events last groups all_new tell some clean b =
       let tell_first = first-tells readable empty given tells past faults setup k events last b tell in
-      lives-linked honest tells past faults setup k events b.first last clean tell_first
+      lives-linked honest given tells past faults setup k events b.first last clean tell_first
       (new-linked readable empty given tells past faults setup k events last b groups all_new tell_first some) b.lives
 
   -- a restart finds what it reads
@@ -277,6 +291,6 @@ module _ (readable : IsReadWherePromised) (empty : IsEmptyPromised) (honest : Is
   found-new events ops last groups all_new tell clean b =
       let all : List ClusterEvent = events ++ FindsEach k ops ∷ [] in
       let tell_first = first-tells readable empty given tells past faults setup k all last b tell in
-      lives-found honest tells past faults setup k events ops b.first last clean tell_first
+      lives-found honest given tells past faults setup k events ops b.first last clean tell_first
       (new-linked readable empty given tells past faults setup k all last b groups all_new tell_first
       (finds-first k events ops)) b.lives

@@ -13,7 +13,7 @@ use Rattle.qq_cluster_laws.specs.Serves.{fails_at, is_failure_at}
 use Rattle.qq_cluster_laws.specs.Traced.{HasNoCrash, IsNoCrash}
 use Rattle.qq_cluster_laws.proofs.Reached.{after-both}
 use Rattle.qq_cluster_laws.proofs.Restarts.{first-stays}
-use Rattle.qq_broker.specs.Lives.{BeginsBy, IsLeft, IsOneDisk, Lives, RoseBy, at_crash, crash_of, failures}
+use Rattle.qq_broker.specs.Lives.{BeginsBy, Giving, IsLeft, IsOneDisk, Lives, RoseBy, at_crash, crash_of, failures}
 use Rattle.qq_broker.proofs.Living.{goes-crashed, goes-on, lives-then, not-crash}
 
 -- ---- crashes
@@ -59,7 +59,13 @@ rose-some k events before after any (inl rose) =
     inl (let some = failures-some k events any in omega (arith, some, rose))
 rose-some k events before after any (inr end) = inr end
 
-module _ {D : Type 0} (tells : D → Bool) (past : D → List Disk) (faults : D → ℕ) (setup : Setup) (k : ℕ) where
+module _ {D : Type 0} (given : Giving D) (tells : D → Bool) (past : D → List Disk) (faults : D → ℕ) (setup : Setup)
+    (k : ℕ) where
+  -- what a crash leaves shows its contents as the old disk does
+  pub left-told : (image : Image) (old new : D) → IsLeft given tells past image old new → tells new ≡ tells old
+  left-told image old new (inl left) = left.told
+  left-told image old new (inr (hand, same)) = ap tells same
+
   -- with which logs a node begins, by fewer of the events
   pub begins-front : (disk : D) (early late : List ClusterEvent)
       → BeginsBy tells past setup k disk (first_restart k (early ++ late))
@@ -74,12 +80,12 @@ module _ {D : Type 0} (tells : D → Bool) (past : D → List Disk) (faults : D 
   One c events first last = IsOneDisk tells past faults setup k c events first last
 
   abbrev Live : Cluster → List ClusterEvent → List ClusterEvent → D → D → Type 0
-  Live c since events first last = Lives tells past faults setup k c since events first last
+  Live c since events first last = Lives given tells past faults setup k c since events first last
 
   -- at an event that names this image, or none
   abbrev AtEvent : Option Image → Cluster → List ClusterEvent → ClusterEvent → List ClusterEvent → D → D → Type 0
   AtEvent o c since event events first last =
-      at_crash o (λ old. One c since first old) (IsLeft tells past)
+      at_crash o (λ old. One c since first old) (IsLeft given tells past)
       (λ new. Live (cluster_happens (cluster_after c since) event) [] events new last)
       (Live c (since ++ event ∷ []) events first last)
 
@@ -96,7 +102,8 @@ module _ {D : Type 0} (tells : D → Bool) (past : D → List Disk) (faults : D 
           → tells last ≡ tells new)
           → AtEvent o c since event events first last → tells last ≡ tells first
       by None further next same = further same
-      by (Some image) further next (old, (new, ends, left, goes)) = next new goes ∙ left.told ∙ ends.told
+      by (Some image) further next (old, (new, ends, left, goes)) =
+          next new goes ∙ left-told image old new left ∙ ends.told
 
   -- without a crash of the node it is one disk
   pub one-disk : (c : Cluster) (since events : List ClusterEvent) (first last : D) → HasNoCrash k events
@@ -112,7 +119,7 @@ module _ {D : Type 0} (tells : D → Bool) (past : D → List Disk) (faults : D 
 
   abbrev pub IsCut : Cluster → Cluster → (since early later : List ClusterEvent) → Image → D → D → Type 0
   IsCut c crashed since early later image first last =
-      (old : D) × ((new : D) × Live c since early first old × IsLeft tells past image old new
+      (old : D) × ((new : D) × Live c since early first old × IsLeft given tells past image old new
       × One crashed later new last)
 
   abbrev Next : Cluster → List ClusterEvent → ClusterEvent → Cluster
@@ -124,7 +131,7 @@ module _ {D : Type 0} (tells : D → Bool) (past : D → List Disk) (faults : D 
   abbrev CutAt : Option Image → Cluster → (since : List ClusterEvent) → ClusterEvent
       → (early later : List ClusterEvent) → Image → D → D → Type 0
   CutAt o c since event early later image first last =
-      (old : D) × ((new : D) × AtEvent o c since event early first old × IsLeft tells past image old new
+      (old : D) × ((new : D) × AtEvent o c since event early first old × IsLeft given tells past image old new
       × One (Crashed (Next c since event) early image) later new last)
 
   pub cut-there : (c : Cluster) (since early later : List ClusterEvent) (image : Image) (first last : D)
@@ -142,7 +149,7 @@ module _ {D : Type 0} (tells : D → Bool) (past : D → List Disk) (faults : D 
         (
           new,
           ends,
-          subst (λ (i : Image). IsLeft tells past i old new) (let same : named ≡ image = cc in same) left,
+          subst (λ (i : Image). IsLeft given tells past i old new) (let same : named ≡ image = cc in same) left,
           one-disk (cluster_happens (cluster_after c since) (Crashes k image)) [] later new last calm goes,
         ),
       )
@@ -153,7 +160,7 @@ module _ {D : Type 0} (tells : D → Bool) (past : D → List Disk) (faults : D 
       (cut-there c (since ++ event ∷ []) early later image first last calm same))
       (λ new goes. cut-there (cluster_happens (cluster_after c since) event) [] early later image new last calm goes) so
     where
-      again : (named : Image) (mid begun : D) → One c since first mid → IsLeft tells past named mid begun
+      again : (named : Image) (mid begun : D) → One c since first mid → IsLeft given tells past named mid begun
           → IsCut (Next c since event) (Crashed (Next c since event) early image) [] early later image begun last
           → CutAt (Some named) c since event early later image first last
       again named mid begun ends left (old, (new, live, image_left, one)) =
@@ -173,23 +180,23 @@ module _ {D : Type 0} (tells : D → Bool) (past : D → List Disk) (faults : D 
   -- ---- a disk counts each failure
 
   -- with a disk that was given, before any event
-  module _ (c0 : Cluster) (given : D) (all : List ClusterEvent) (P : Type 0)
+  module _ (c0 : Cluster) (origin : D) (all : List ClusterEvent) (P : Type 0)
       (found : (behind since rest : List ClusterEvent) (before after : D) → all ≡ behind ++ (since ++ rest)
-      → HasNoCrash k since → fails_at k since ≡ true → Live c0 [] behind given before
+      → HasNoCrash k since → fails_at k since ≡ true → Live c0 [] behind origin before
       → One (cluster_after c0 behind) since before after → P) where
     -- the disk that is left of a crash has become of the given one
     lives-crashed : (c : Cluster) (behind since : List ClusterEvent) (event : ClusterEvent) (image : Image)
         (first old new : D) → cluster_after c0 behind ≡ c → HasNoCrash k since → crash_of k event ≡ Some image
-        → Live c0 [] behind given first → One c since first old → IsLeft tells past image old new
-        → Live c0 [] ((behind ++ since) ++ event ∷ []) given new
+        → Live c0 [] behind origin first → One c since first old → IsLeft given tells past image old new
+        → Live c0 [] ((behind ++ since) ++ event ∷ []) origin new
     lives-crashed c behind since event image first old new at calm is live ends left =
-        subst (λ (e : ClusterEvent). Live c0 [] ((behind ++ since) ++ e ∷ []) given new)
+        subst (λ (e : ClusterEvent). Live c0 [] ((behind ++ since) ++ e ∷ []) origin new)
         (sym (crash-is k event image is))
-        (lives-then tells past faults setup k (cluster_after c0 (behind ++ since)) c0 [] (behind ++ since)
-        (Crashes k image ∷ []) given old new refl
-        (lives-then tells past faults setup k c c0 [] behind since given first old at live
-        (goes-on tells past faults setup k c since first old calm ends))
-        (goes-crashed tells past faults setup k (cluster_after c0 (behind ++ since)) image old new left))
+        (lives-then given tells past faults setup k (cluster_after c0 (behind ++ since)) c0 [] (behind ++ since)
+        (Crashes k image ∷ []) origin old new refl
+        (lives-then given tells past faults setup k c c0 [] behind since origin first old at live
+        (goes-on given tells past faults setup k c since first old calm ends))
+        (goes-crashed given tells past faults setup k (cluster_after c0 (behind ++ since)) image old new left))
 
     -- a failure that isn't before a crash is after it
     later-fails : (since events : List ClusterEvent) (event : ClusterEvent) (image : Image)
@@ -203,7 +210,7 @@ module _ {D : Type 0} (tells : D → Bool) (past : D → List Disk) (faults : D 
         ap (λ (e : ClusterEvent). fails_at k (e ∷ events)) (sym (crash-is k event image is)) ∙ rest
 
     pub failure-found : (c : Cluster) (behind since events : List ClusterEvent) (first last : D)
-        → cluster_after c0 behind ≡ c → Live c0 [] behind given first → HasNoCrash k since
+        → cluster_after c0 behind ≡ c → Live c0 [] behind origin first → HasNoCrash k since
         → behind ++ (since ++ events) ≡ all → fails_at k (since ++ events) ≡ true → Live c since events first last → P
     failure-found c behind since [] first last at live calm whole any so =
         found behind since [] first last (sym whole) calm (ap (fails_at k) (sym (append-nil since)) ∙ any) live
@@ -225,7 +232,7 @@ module _ {D : Type 0} (tells : D → Bool) (past : D → List Disk) (faults : D 
       where
         by : (o : Option Image) → crash_of k event ≡ o
             → (HasNoCrash k (since ++ event ∷ []) → Live c (since ++ event ∷ []) events first last → P)
-            → ((new : D) → Live c0 [] ((behind ++ since) ++ event ∷ []) given new → fails_at k events ≡ true
+            → ((new : D) → Live c0 [] ((behind ++ since) ++ event ∷ []) origin new → fails_at k events ≡ true
             → Live (cluster_happens (cluster_after c since) event) [] events new last → P)
             → AtEvent o c since event events first last → P
         by None is further next same = further (calm-more k since event calm is) same

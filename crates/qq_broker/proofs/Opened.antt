@@ -1,11 +1,11 @@
 -- A disk that was just opened: whatever a crash leaves of it is what it shows.
-use Rattle.std.proofs.Common.{◌≡◌, ◌≤◌, ℕ, Bool, true, false, List, [], ◌∷◌, ◌++◌, length, Option, Some, None, refl, sym, ap, subst, ◌∙◌, inl, inr, suc, arith}
-use Rattle.std.specs.Prelude.{IfNone, IsTrue, option_map}
+use Rattle.std.proofs.Common.{◌≡◌, ◌+◌, ◌≤◌, ℕ, true, false, List, [], ◌∷◌, ◌++◌, length, Option, Some, None, refl, sym, ap, subst, ◌∙◌, inl, inr, zero, suc, arith}
+use Rattle.std.specs.Prelude.{option_map, slice_get}
 use Rattle.qq_disk.specs.declared.name.FileName.{FileName}
 use Rattle.qq_disk.specs.Crash.{IsImage, MayLeave, Remains}
 use Rattle.qq_disk.specs.Disk.{Disk, contents, file_content, now, whole}
-use Rattle.qq_ports.specs.Yard.{IsNew, IsOpened}
-use Rattle.qq_broker.specs.Lives.{Giving, IsGiven}
+use Rattle.qq_ports.specs.Yard.{IsOpened}
+use Rattle.qq_broker.specs.Lives.{disk_at}
 
 no-items : {A : Type 0} (xs : List A) → length xs ≡ 0 → xs ≡ []
 no-items [] none = refl
@@ -32,7 +32,8 @@ opened-left past opened image file is =
 pub opened-alone : (past : List Disk) → IsOpened past → length past ≡ 1
 opened-alone past opened = ap length opened.is
 
-pub given-empty : {D : Type 0} (given : Giving D) (tells : D → Bool) (past : D → List Disk) (k : ℕ) (disk : D)
-    → IsGiven given tells past k disk → given.root ≡ None → IsTrue (tells disk) → IsNew (past disk)
-given-empty given tells past k disk is none tell =
-    subst (λ (o : Option (List ℕ)). IfNone o (IsTrue (tells disk) → IsNew (past disk))) none is.new tell
+-- a disk that was handed in is at its node's place of the list
+pub handed-at : {D : Type 0} (disks : List D) (k : ℕ) (disk : D) → disk_at k disks ≡ Some disk
+    → (before : ℕ) × (k ≡ before + 1) × (slice_get disks before ≡ Some disk)
+handed-at disks zero disk is = absurd cc
+handed-at disks (suc at) disk is = (at, omega arith, is)

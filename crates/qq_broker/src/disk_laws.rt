@@ -1,5 +1,5 @@
 //! What becomes of the disks of a run, as laws: the functions do nothing, and their contracts are the laws.
-ghost use Rattle.std.specs.Prelude.{◌≡◌, ◌≤◌, ◌<◌, ◌+◌, ◌-◌, ◌^◌, ◌⊎◌, ◌++◌, [], ◌∷◌, ℕ, Bool, true, false, List, Option, Some, None, Ok, Err, IsTrue, filter, is_some, length, take};
+ghost use Rattle.std.specs.Prelude.{◌≡◌, ◌≤◌, ◌<◌, ◌+◌, ◌-◌, ◌^◌, ◌⊎◌, ◌++◌, [], ◌∷◌, ℕ, Bool, true, false, List, Option, Some, None, Ok, Err, IsTrue, filter, is_some, length, slice_get, take};
 ghost use Rattle.qq_base.specs.Causes.{Rose};
 ghost use Rattle.qq_defs.specs.Runnable.{IsRunnable};
 ghost use Rattle.qq_disk.specs.declared.image.Image.{Image};
@@ -34,7 +34,7 @@ ghost use Rattle.qq_cluster_run.specs.Reading.{Asks, says};
 ghost use Rattle.qq_cluster_run.specs.Runs.{HasRun};
 ghost use Rattle.qq_cluster_run.specs.Serving.{Behind, cluster_behind, setup_behind};
 ghost use Rattle.qq_cluster_run.specs.Troubles.{Damage, AtPlace, OfVersion, YardFails, DiskFails, FilesBreak, QueueIsFound};
-ghost use Rattle.qq_broker.specs.Lives.{Became, Giving, IsGiven};
+ghost use Rattle.qq_broker.specs.Lives.{Became, Giving, ByHand, IsGiven, under};
 ghost use Rattle.qq_broker.specs.Nodes.{Had, Meets};
 
 use qq_cluster_laws::{disks_support_the_audits, what_waits_goes_on, what_was_answered_is_kept};
@@ -45,35 +45,60 @@ use qq_wal_chain::{a_crash_without_junk_keeps_the_promise, an_empty_disk_keeps_t
 
 /// A law: a disk that a run is given.
 ///
-/// - `asked`: the yard gave it for this node under the run's root.
+/// - `asked`: a yard gave it for this node under the run's root.
 /// - `opened`: where it shows its contents no moment came before, and whatever a crash leaves of it is what it shows.
 /// - `new`: and without a root no file was ever on it.
+/// - `handed`: of disks that were handed in it is at the node's place, from 1 on.
 pub fn a_given_disk_was_just_opened<D: NodeDisk>()
-    ensures asked { (given : Giving D) (k : ℕ) (disk : D) → IsGiven given D.tells D.past k disk →
-        given.is_given given.root k disk ≡ true }
-    ensures opened { (given : Giving D) (k : ℕ) (disk : D) → IsGiven given D.tells D.past k disk →
+    ensures asked { (is_given : Option (List ℕ) → ℕ → D → Bool) (root : Option (List ℕ)) (k : ℕ)
+        (disk : D) → IsGiven (under is_given root) D.tells D.past k disk →
+        is_given root k disk ≡ true }
+    ensures opened { (is_given : Option (List ℕ) → ℕ → D → Bool) (root : Option (List ℕ)) (k : ℕ)
+        (disk : D) → IsGiven (under is_given root) D.tells D.past k disk →
         IsTrue (D.tells disk) → (length (D.past disk) ≡ 1) × ((image : Remains) (file : FileName) →
         IsImage (now (D.past disk)) image → image file ≡ contents (now (D.past disk)) file) }
-    ensures new { (given : Giving D) (k : ℕ) (disk : D) → IsGiven given D.tells D.past k disk →
-        given.root ≡ None → IsTrue (D.tells disk) → D.past disk ≡ (λ file. None) ∷ [] }
+    ensures new { (is_given : Option (List ℕ) → ℕ → D → Bool) (k : ℕ) (disk : D) →
+        IsGiven (under is_given None) D.tells D.past k disk → IsTrue (D.tells disk) →
+        D.past disk ≡ (λ file. None) ∷ [] }
+    ensures handed { (disks : List D) (k : ℕ) (disk : D) →
+        IsGiven (ByHand disks) D.tells D.past k disk →
+        (before : ℕ) × (k ≡ before + 1) × (slice_get disks before ≡ Some disk) }
 {}
 
 /// A law: where a node was crashed once more, a disk had become of a given one by the events before. What the named
 /// image leaves of that, opened again, is where the last disk comes from.
 ///
-/// - `left`: the new disk holds what the image leaves of the old one, where that shows its contents, and no moment
-///   came before.
-/// - `last`: the last disk is the new one but for later moments: each keeps what the log had promised by then,
+/// - `yard`: the new disk holds what the image leaves of the old one, where that shows its contents, and no moment
+///   came before. The last disk is the new one but for later moments: each keeps what the log had promised by then,
 ///   where the log was linked after the crash. Its count of faults rose as often as the node has failed since.
+/// - `hand`: a disk that was handed in may also have come back as it was.
 pub fn a_crash_leaves_the_named_image<D: NodeDisk>()
-    ensures { (given : Giving D) (setup : Setup) (early since : List ClusterEvent) (k : ℕ)
-        (image : Image) (last : D) → HasNoCrash k since →
-        Became given D.tells D.past D.faults setup (early ++ Crashes k image ∷ since) k last →
-        (old : D) × ((new : D) × Became given D.tells D.past D.faults setup early k old
-        × (D.tells new ≡ D.tells old)
+    ensures yard { (is_given : Option (List ℕ) → ℕ → D → Bool) (root : Option (List ℕ))
+        (setup : Setup) (early since : List ClusterEvent) (k : ℕ) (image : Image) (last : D) →
+        HasNoCrash k since → Became (under is_given root) D.tells D.past D.faults setup
+        (early ++ Crashes k image ∷ since) k last →
+        (old : D) × ((new : D)
+        × Became (under is_given root) D.tells D.past D.faults setup early k old
+        × ((D.tells new ≡ D.tells old)
         × (IsTrue (D.tells old) → (newest : Option FileName)
         × IsNewestLog (now (D.past old)) image.removed_back newest
-        × (D.past new ≡ reopen (image_of image newest (now (D.past old))) ∷ []))
+        × (D.past new ≡ reopen (image_of image newest (now (D.past old))) ∷ [])))
+        × (D.tells last ≡ D.tells new)
+        × ((D.faults new + length (filter (is_failure_at k) since) ≤ D.faults last)
+        ⊎ (2 ^ 64 - 1 ≤ D.faults last))
+        × (let crashed = cluster_happens (cluster_after (new_cluster setup) early) (Crashes k image)
+        in IsTrue (D.tells new) → IsLinked setup crashed k (now (D.past new)) →
+        Adds (IsPromisedSince setup crashed k since) (D.past new) (D.past last)
+        × IsLinked setup (cluster_after crashed since) k (now (D.past last)))) }
+    ensures hand { (disks : List D) (setup : Setup)
+        (early since : List ClusterEvent) (k : ℕ) (image : Image) (last : D) → HasNoCrash k since →
+        Became (ByHand disks) D.tells D.past D.faults setup
+        (early ++ Crashes k image ∷ since) k last →
+        (old : D) × ((new : D) × Became (ByHand disks) D.tells D.past D.faults setup early k old
+        × (((D.tells new ≡ D.tells old)
+        × (IsTrue (D.tells old) → (newest : Option FileName)
+        × IsNewestLog (now (D.past old)) image.removed_back newest
+        × (D.past new ≡ reopen (image_of image newest (now (D.past old))) ∷ []))) ⊎ (new ≡ old))
         × (D.tells last ≡ D.tells new)
         × ((D.faults new + length (filter (is_failure_at k) since) ≤ D.faults last)
         ⊎ (2 ^ 64 - 1 ≤ D.faults last))
@@ -92,7 +117,7 @@ pub fn a_crash_leaves_the_named_image<D: NodeDisk>()
 /// - `never`: and nothing says it where no disk's count rises, and none stands at its end.
 /// - `often`: without a crash of the node, the given disk's count rose as often as events say it.
 /// - `yard`, `met`: as a trouble, that the yard has failed means that its count rose; and that a node's disk has, that
-///   the count of a disk rose which the yard gave for the node.
+///   the count of a disk rose which was given for the node.
 pub fn a_node_fails_only_where_its_disk_did<D: NodeDisk>()
     ensures rose { (given : Giving D) (setup : Setup) (events : List ClusterEvent) (k : ℕ)
         (last : D) → In (Fails k) events →
