@@ -181,8 +181,7 @@ module _ {D : Type 0} (given : Giving D) (tells : D → Bool) (past : D → List
       crashed o is c since first one =
           subst (λ (p : Option Image). at_crash p (λ old. One' c since first old) (IsLeft given tells past)
           (λ new. Live (cluster_happens (cluster_after c since) (Crashes k image)) [] [] new last)
-          (Live c (since ++ Crashes k image ∷ []) [] first last)) (sym is)
-          (
+          (Live c (since ++ Crashes k image ∷ []) [] first last)) (sym is) (
             mid,
             (
               last,

@@ -183,7 +183,8 @@ module _ {D : Type 0} {given : Giving D} {tells : D → Bool} {past : D → List
       (cluster_after (cluster_at t run) (crashes_with (λ k. some_image) (setup_at t run).nodes)) rests.held
       (sym same-queues) (rests.stands (λ k. some_image))
       ∙ ap (λ (rows : List AuditRow). before ++ audit_text ((setup_at t run).name queue.0) 0 rows)
-      (audit-stays (λ (args : QueueArgs) (audit : List Entry). audit_of (empty_queue args) audit) (λ k. some_image) (setup_at t run).nodes (cluster_at t run) queue.0)
+      (audit-stays (λ (args : QueueArgs) (audit : List Entry). audit_of (empty_queue args) audit) (λ k. some_image)
+      (setup_at t run).nodes (cluster_at t run) queue.0)
 
   -- and why there is none
   pub caused-rests : (queue : QueueId) (e : Memory)

@@ -8,6 +8,7 @@ use Rattle.std.proofs.lemmas.Option.{slice_get_within}
 use Rattle.qq_base.proofs.Puts.{put-other, put-same}
 use Rattle.qq_base.specs.declared.ids.QueueId.{QueueId}
 use Rattle.qq_disk.specs.Crash.{Remains, reopen}
+use Rattle.qq_disk.specs.Image.{image_of}
 use Rattle.qq_disk.specs.declared.image.Image.{Image}
 use Rattle.qq_disk.specs.Disk.{Disk, now}
 use Rattle.qq_lots.specs.Lots.{ids_of}
@@ -155,7 +156,7 @@ module _ {D : Type 0} (given : Giving D) (tells : D → Bool) (past : D → List
   whole-back k ids old new (inl image) whole tell =
       let told : IsTrue (tells old) = subst IsTrue image.told tell in
       let left = (image.left told).left in
-      subst (MayRecover ids) (sym left.left) (may ids _)
+      subst (MayRecover ids) (sym left.left) (may ids (image_of (images k) left.newest (now (past old))))
   whole-back k ids old new (inr kept) whole tell =
       subst (λ (d : D). IsTrue (tells d) → MayRecover ids (now (past d))) (sym kept.1) whole tell
 

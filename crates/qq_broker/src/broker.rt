@@ -64,17 +64,19 @@ impl<D: NodeDisk> Broker<D> {
     pub fn pump(&mut self, alloc: Global) -> Result<Pumped, Memory>
         requires { (given : Giving D) × ((run : Run)
             × Runs given D.tells D.past D.faults self.old run) }
-        ensures ok { (given : Giving D) (run : Run) → Runs given D.tells D.past D.faults self.old run →
+        ensures ok { (given : Giving D) (run : Run) →
+            Runs given D.tells D.past D.faults self.old run →
             IfOk result (HasPumped given D.tells D.past D.faults self.old self.new run) }
         ensures setup { self.new.setup ≡ self.old.setup }
-        ensures cause { (given : Giving D) (run : Run) → Runs given D.tells D.past D.faults self.old run →
+        ensures cause { (given : Giving D) (run : Run) →
+            Runs given D.tells D.past D.faults self.old run →
             IfErr result (IsGivenUp (Meets given D.tells D.past D.faults 0 0)
             (setup_in self.old.setup run) run.events Pump) }
     {
         match self.nodes.pump(alloc, &mut self.text) {
             Ok(()) => {
                 let idle = self.nodes.is_idle();
-                Ok(pumped(idle))
+                Ok(pump_outcome(idle))
             }
             Err(memory) => Err(memory),
         }
@@ -87,7 +89,8 @@ impl<D: NodeDisk> Broker<D> {
     pub fn crash_all(self, alloc: Global) -> (Vec<D>, Audits<D>)
         requires { (given : Giving D) × ((run : Run)
             × Runs given D.tells D.past D.faults self run) }
-        ensures rests { (given : Giving D) (run : Run) → Runs given D.tells D.past D.faults self run →
+        ensures rests { (given : Giving D) (run : Run) →
+            Runs given D.tells D.past D.faults self run →
             Rests given D.tells D.past D.faults (state_of self.setup) result.0.items result.1 run }
         ensures count { length result.0.items ≡ self.setup.nodes }
         ensures disks { HaveDisks D.tells D.past D.faults result.0.items self.nodes }
@@ -107,7 +110,7 @@ impl<D: NodeDisk> Broker<D> {
 }
 
 // What a pump tells by whether it has left nothing to do.
-fn pumped(idle: bool) -> Pumped
+fn pump_outcome(idle: bool) -> Pumped
     ensures { is_done result ≡ idle }
 {
     if idle { Pumped::Idle } else { Pumped::Busy }
@@ -124,12 +127,13 @@ impl<D: NodeDisk> Audits<D> {
             × Contains (setup_at t run).places queue.0))) }
         ensures ok { (given : Giving D) (t : SetupState) (disks : List D) (run : Run) →
             Rests given D.tells D.past D.faults t disks self.now run →
-            OnOk result (text.new.items ≡ text.old.items ++ audit_text ((setup_at t run).name queue.0) 0
-            (audit_rows ((cluster_at t run).queue queue.0))) }
+            OnOk result (text.new.items ≡ text.old.items
+            ++ audit_text ((setup_at t run).name queue.0) 0 (audit_rows ((cluster_at t run).queue queue.0))) }
         ensures err { OnErr result (IsFront text.old.items text.new.items) }
         ensures cause { (given : Giving D) (t : SetupState) (disks : List D) (run : Run) →
             Rests given D.tells D.past D.faults t disks self.now run →
-            IfErr result (λ e. SpentOnlyWhere e NUMBER_END (IsPastEnd ((cluster_at t run).queue queue.0))) }
+            IfErr result (λ e. SpentOnlyWhere e NUMBER_END
+            (IsPastEnd ((cluster_at t run).queue queue.0))) }
     {
         self.nodes.audit_text(alloc, queue, text)
     }

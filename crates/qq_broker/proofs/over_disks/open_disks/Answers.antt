@@ -83,8 +83,8 @@ hand_back-requires-clause-room g c =
     let most = c.args.disks.ok.1 in
     omega (arith, count, same, many, own, most)
 
-pub returns-else-some-clause-cause : goal.returns-else-some-clause-cause
-returns-else-some-clause-cause g c =
+pub returns-in-Ok-open_nodes-clause-cause : goal.returns-in-Ok-open_nodes-clause-cause
+returns-in-Ok-open_nodes-clause-cause g c =
     let disk = g.D.NodeDisk in
     let s = c.args.setup in
     let given = ByHand c.args.disks.items in
@@ -94,8 +94,8 @@ returns-else-some-clause-cause g c =
     c.new-text.result.items c.open.new.text.items 0 0 c.in-Ok-open_nodes.some c.if-some.false
     (some-node s c.requires.may) (c.in-Ok-open_nodes.ensures.ok s.queues u.new)
 
-pub returns-else-some-clause-back : goal.returns-else-some-clause-back
-returns-else-some-clause-back g c =
+pub returns-in-Ok-open_nodes-clause-back : goal.returns-in-Ok-open_nodes-clause-back
+returns-in-Ok-open_nodes-clause-back g c =
     let disk = g.D.NodeDisk in
     let s = c.args.setup in
     let given = ByHand c.args.disks.items in
@@ -106,8 +106,8 @@ returns-else-some-clause-back g c =
     c.in-Ok-open_nodes.some c.if-some.false c.new-text.result.items c.open.new.text.items
     (c.in-Ok-open_nodes.ensures.ok s.queues u.new)
 
-pub returns-else-some-clause-failed : goal.returns-else-some-clause-failed
-returns-else-some-clause-failed g c =
+pub returns-in-Ok-open_nodes-clause-failed : goal.returns-in-Ok-open_nodes-clause-failed
+returns-in-Ok-open_nodes-clause-failed g c =
     let disk = g.D.NodeDisk in
     let s = c.args.setup in
     let given = ByHand c.args.disks.items in
@@ -120,14 +120,14 @@ returns-else-some-clause-failed g c =
 
 -- ---- the opening is given up
 
-pub hand_back-in-Err-open_nodes-requires-clause-own : goal.hand_back-in-Err-open_nodes-requires-clause-own
-hand_back-in-Err-open_nodes-requires-clause-own g c =
+pub hand_back-requires-in-Err-open_nodes-clause-own : goal.hand_back-requires-in-Err-open_nodes-clause-own
+hand_back-requires-in-Err-open_nodes-clause-own g c =
     let disk = g.D.NodeDisk in
     let u = c.in-Ok.ensures.ok (ByHand c.args.disks.items) (by-hand disk.tells disk.past c.args.disks.items) in
     (c.in-Err-open_nodes.ensures.err c.args.setup.queues u.new).logs
 
-pub hand_back-in-Err-open_nodes-requires-clause-room : goal.hand_back-in-Err-open_nodes-requires-clause-room
-hand_back-in-Err-open_nodes-requires-clause-room g c =
+pub hand_back-requires-in-Err-open_nodes-clause-room : goal.hand_back-requires-in-Err-open_nodes-clause-room
+hand_back-requires-in-Err-open_nodes-clause-room g c =
     let disk = g.D.NodeDisk in
     let s = c.args.setup in
     let given = ByHand c.args.disks.items in
@@ -141,8 +141,8 @@ hand_back-in-Err-open_nodes-requires-clause-room g c =
     let most = c.args.disks.ok.1 in
     omega (arith, count, nodes, same, many, own, most)
 
-pub returns-in-Err-open_nodes-clause-cause : goal.returns-in-Err-open_nodes-clause-cause
-returns-in-Err-open_nodes-clause-cause g c =
+pub returns-clause-cause : goal.returns-clause-cause
+returns-clause-cause g c =
     let disk = g.D.NodeDisk in
     let s = c.args.setup in
     let given = ByHand c.args.disks.items in
@@ -152,8 +152,8 @@ returns-in-Err-open_nodes-clause-cause g c =
     c.in-Err-open_nodes.fault (stop_for s c.in-Err-open_nodes.fault) (own-stop s c.in-Err-open_nodes.fault)
     (c.in-Err-open_nodes.ensures.err s.queues u.new)
 
-pub returns-in-Err-open_nodes-clause-back : goal.returns-in-Err-open_nodes-clause-back
-returns-in-Err-open_nodes-clause-back g c =
+pub returns-clause-back : goal.returns-clause-back
+returns-clause-back g c =
     let disk = g.D.NodeDisk in
     let s = c.args.setup in
     let given = ByHand c.args.disks.items in

@@ -99,8 +99,8 @@ hand_back-requires-clause-room g c =
     let room = c.put_disks.ensures.room in
     omega (arith, many, whole, most, room)
 
-pub returns-else-some-clause-cause : goal.returns-else-some-clause-cause
-returns-else-some-clause-cause g c =
+pub returns-in-Ok-clause-cause : goal.returns-in-Ok-clause-cause
+returns-in-Ok-clause-cause g c =
     let disk = g.D.NodeDisk in
     let s = c.args.setup in
     let again = c.args.disks.items in
@@ -113,8 +113,8 @@ returns-else-some-clause-cause g c =
     back may held same get c.in-Ok.some c.reopen.new.nodes c.new-text.result.items c.reopen.new.text.items
     c.in-Ok.ensures.ok c.hand_back.result.items c.hand_back.ensures.disks c.hand_back.ensures.count c.if-some.false
 
-pub returns-else-some-clause-back : goal.returns-else-some-clause-back
-returns-else-some-clause-back g c =
+pub returns-in-Ok-clause-back : goal.returns-in-Ok-clause-back
+returns-in-Ok-clause-back g c =
     let disk = g.D.NodeDisk in
     let s = c.args.setup in
     let again = c.args.disks.items in
@@ -129,8 +129,8 @@ returns-else-some-clause-back g c =
 
 -- ---- a node isn't restarted
 
-pub hand_back-in-Err-requires-clause-own : goal.hand_back-in-Err-requires-clause-own
-hand_back-in-Err-requires-clause-own g c =
+pub hand_back-requires-in-Err-clause-own : goal.hand_back-requires-in-Err-clause-own
+hand_back-requires-in-Err-clause-own g c =
     let disk = g.D.NodeDisk in
     let s = c.args.setup in
     let again = c.args.disks.items in
@@ -149,8 +149,8 @@ hand_back-in-Err-requires-clause-own g c =
     back may held same get
     c.in-Err.fault c.reopen.new.nodes c.new-text.result.items c.in-Err.ensures.err
 
-pub hand_back-in-Err-requires-clause-room : goal.hand_back-in-Err-requires-clause-room
-hand_back-in-Err-requires-clause-room g c =
+pub hand_back-requires-in-Err-clause-room : goal.hand_back-requires-in-Err-clause-room
+hand_back-requires-in-Err-clause-room g c =
     let disk = g.D.NodeDisk in
     let s = c.args.setup in
     let again = c.args.disks.items in
@@ -173,8 +173,8 @@ hand_back-in-Err-requires-clause-room g c =
     let room = c.put_disks.ensures.room in
     omega (arith, many, whole, most, room)
 
-pub returns-in-Err-clause-cause : goal.returns-in-Err-clause-cause
-returns-in-Err-clause-cause g c =
+pub returns-clause-cause : goal.returns-clause-cause
+returns-clause-cause g c =
     let disk = g.D.NodeDisk in
     let s = c.args.setup in
     let again = c.args.disks.items in
@@ -186,8 +186,8 @@ returns-in-Err-clause-cause g c =
     refused-cause given disk.tells disk.past disk.faults s before again c.args.audits run images rests
     back may held same get c.in-Err.fault c.reopen.new.nodes c.new-text.result.items c.in-Err.ensures.err
 
-pub returns-in-Err-clause-back : goal.returns-in-Err-clause-back
-returns-in-Err-clause-back g c =
+pub returns-clause-back : goal.returns-clause-back
+returns-clause-back g c =
     let disk = g.D.NodeDisk in
     let s = c.args.setup in
     let again = c.args.disks.items in
