@@ -1,6 +1,7 @@
 //! Checks of whole runs of the broker, by name.
 #![tactic(auto)]
 
+mod embedded;
 mod rolls;
 mod runs;
 mod script;
@@ -17,5 +18,6 @@ fn main(rt: HostRuntime) -> Result<()> {
     rolls::check(&mut trials)?;
     used::check(&mut trials)?;
     stops::check(&mut trials)?;
+    embedded::check(&mut trials)?;
     trials.end()
 }

@@ -1,0 +1,81 @@
+//! A check of brokers over disks that a program hands in.
+
+use anyhow::{Result, bail, ensure};
+use cases::{Trials, run_each};
+use qq_base::QueueId;
+use qq_broker::{Broker, Pumped, open_disks, reopen_disks, step};
+use qq_mem_disk::MemDisk;
+use qq_ports::MemYard;
+use qq_script_lines::{Place, parse_line};
+use qq_setup::Setup;
+
+/// A line stands in no client's section.
+const PLACE: Place = Place {
+    number: 1,
+    run: false,
+    section: None,
+};
+
+/// What a broker answers to lines.
+fn serve(rt: HostRuntime, broker: &mut Broker<MemDisk>, lines: &[&str]) -> Result<String> {
+    let alloc = rt.alloc();
+    let mut yard = MemYard::new(Vec::new(alloc), Vec::new(alloc));
+    let mut text = String::new(alloc);
+    for line in lines {
+        let Ok(said) = parse_line(alloc, line.as_bytes(), broker.setup(), PLACE) else {
+            bail!("{line:?} is refused");
+        };
+        match step(broker, alloc, said, &mut yard) {
+            Ok(answer) => text.push_str(str::from_utf8(answer.as_slice())?)?,
+            Err(fault) => bail!("{line:?}: {fault}"),
+        }
+    }
+    Ok(text)
+}
+
+fn setup(rt: HostRuntime) -> Result<Setup> {
+    match Setup::plain(rt.alloc(), 3, 3, 1, 4_194_304) {
+        Ok(setup) => Ok(setup),
+        Err(_) => bail!("no memory"),
+    }
+}
+
+/// Its nodes stop, and it is opened again with what it knew, and then by the disks alone.
+fn a_stopped_broker_goes_on_over_its_disks(rt: HostRuntime) -> Result<()> {
+    let alloc = rt.alloc();
+    let disks = vec![in alloc; MemDisk::new(alloc), MemDisk::new(alloc), MemDisk::new(alloc)]?;
+    let Ok(mut broker) = open_disks(alloc, disks, setup(rt)?) else {
+        bail!("not opened");
+    };
+    let said = serve(rt, &mut broker, &["publish a", "publish b"])?;
+    ensure!(said.as_str() == "confirmed 1\nconfirmed 2\n", "{said}");
+    ensure!(broker.pump(alloc) == Ok(Pumped::Idle));
+
+    let (disks, audits) = broker.crash_all(alloc);
+    ensure!(disks.len() == 3);
+    let mut text = Vec::new(alloc);
+    ensure!(audits.write(alloc, QueueId(1), &mut text) == Ok(()));
+    let audit = "audit q1 0 3\n1 1 noop 1 lead\n2 1 enqueue 1 1 1 confirmed 1\n\
+                 3 1 enqueue 1 2 1 confirmed 2\n";
+    ensure!(text.as_slice() == audit.as_bytes());
+
+    let Ok(mut broker) = reopen_disks(alloc, disks, setup(rt)?, audits) else {
+        bail!("not opened again");
+    };
+    let said = serve(rt, &mut broker, &["get", "crash 1 none", "crash 2 none", "publish c"])?;
+    ensure!(said.as_str() == "message 1 a\nno leader q1\n", "{said}");
+
+    let (disks, audits) = broker.crash_all(alloc);
+    drop(audits);
+    let Ok(mut broker) = open_disks(alloc, disks, setup(rt)?) else {
+        bail!("not opened by the disks alone");
+    };
+    let said = serve(rt, &mut broker, &["get 2 q1"])?;
+    ensure!(said.as_str() == "2 q1: message 2 b\n", "{said}");
+    Ok(())
+}
+
+pub fn check(trials: &mut Trials) -> Result<()> {
+    run_each!(trials; a_stopped_broker_goes_on_over_its_disks);
+    Ok(())
+}
