@@ -12,7 +12,8 @@ use Rattle.qq_script_lines.specs.declared.line.ScriptLine.{ScriptLine}
 use Rattle.qq_script_lines.specs.declared.line.ScriptLine.TheVariants.{Write, Sync, Notice, Tick}
 use Rattle.qq_session.specs.Printed.{IsAudited, IsConfirmedOnce}
 use Rattle.qq_session.specs.Shown.{Shown}
-use Rattle.qq_cluster.specs.Queue.{Queue, TellsEnded, TellsNotTaken, all_said, audit_rows, begin}
+use Rattle.qq_taker.specs.declared.taker.Verdict.{Verdict}
+use Rattle.qq_cluster.specs.Queue.{Queue, Event, Judges, TellsEnded, TellsNotTaken, all_said, audit_rows, begin}
 use Rattle.qq_cluster.specs.Cluster.{Setup, Cluster, ClusterEvent, At, Fails, FindsEach, SaysDown, SaysEnded, Printed, Of, new_cluster, cluster_after, parts_of, all_prints}
 use Rattle.qq_cluster.specs.Rules.{Rule, some_queue, is_idle, is_ended, not_taken, IsPump, IsGiven, IsResend}
 use Rattle.qq_cluster.specs.Lines.{IsLine, IsRun}
@@ -83,11 +84,24 @@ finding _ = []
 abbrev pub findings : List ClusterEvent → List (ℕ → ℕ)
 findings events = flat_map finding events
 
--- two lists of events that a rule allows, in neither of which a disk fails, and with the same findings, are one
+abbrev pub verdict_by : Event → List Verdict
+verdict_by (Judges verdict) = verdict ∷ []
+verdict_by _ = []
+
+abbrev pub verdict_at : ClusterEvent → List Verdict
+verdict_at (At place event) = verdict_by event
+verdict_at _ = []
+
+-- what takers have answered
+abbrev pub verdicts : List ClusterEvent → List Verdict
+verdicts events = flat_map verdict_at events
+
+-- two lists of events that a rule allows, in neither of which a disk fails, with the same findings and verdicts, are one
 abbrev pub LeavesNoChoice : Rule → Cluster → Type 0
 LeavesNoChoice Allows c =
     (events others : List ClusterEvent) → Allows c events → Allows c others → has_failure events ≡ false
-    → has_failure others ≡ false → findings events ≡ findings others → events ≡ others
+    → has_failure others ≡ false → findings events ≡ findings others → verdicts events ≡ verdicts others
+    → events ≡ others
 
 -- a script may be served to its end by these events, and no disk fails
 pub record IsServedBy (setup : Setup) (lines : List ScriptLine) (events : List ClusterEvent) : Type 0 where
@@ -122,3 +136,13 @@ TellsWhatIsNotTaken session c =
     (place id : ℕ) (body : Unstamped) (events : List ClusterEvent) → is_ended session (c.queue place) ≡ false
     → not_taken session body (c.queue place) ≡ Some id → IsGiven session body place c events
     → events ≡ At place (TellsNotTaken session id) ∷ []
+
+-- no delivery waits for a taker's verdict
+abbrev pub NothingWaits : Cluster → Type 0
+NothingWaits c = (place : ℕ) → (c.queue place).untold ≡ []
+
+-- what a rule allows leaves none that waits, where none has waited before
+abbrev pub LeavesNothingWaiting : Rule → Type 0
+LeavesNothingWaiting Allows =
+    (c : Cluster) (events : List ClusterEvent) → NothingWaits c → Allows c events
+    → NothingWaits (cluster_after c events)

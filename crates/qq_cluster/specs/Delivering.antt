@@ -5,6 +5,8 @@ use Rattle.qq_base.specs.Ids.{client, same_session}
 use Rattle.qq_consuming.specs.Consumers.{come, know_by, taken}
 use Rattle.qq_consuming.specs.Consuming.{Received, missing}
 use Rattle.qq_consuming.specs.Fetched.{out_from}
+use Rattle.qq_base.specs.declared.ids.ConsumerId.{ConsumerId}
+use Rattle.qq_entry.specs.declared.answer.Delivery.{Delivery}
 use Rattle.qq_entry.specs.declared.audit.Effect.{Effect}
 use Rattle.qq_entry.specs.declared.audit.Effect.TheVariants.{Deliver}
 use Rattle.qq_entry.specs.declared.command.Unstamped.{Unstamped}
@@ -13,9 +15,14 @@ use Rattle.qq_model.specs.Audit.{state_after}
 use Rattle.qq_model.specs.State.{State, empty_queue}
 use Rattle.qq_raft_model.specs.State.{Server}
 use Rattle.qq_session.specs.Clients.{Clients, may_hand}
-use Rattle.qq_session.specs.Shown.{Shown, Delivered, is_delivered_to}
+use Rattle.qq_session.specs.Shown.{is_delivered_to}
 
 -- ---- what comes, and what is handed out
+
+-- a delivery that was handed out to a consumer
+pub record Handed : Type 0 where
+  pub consumer : ConsumerId
+  pub delivery : Delivery
 
 -- an effect delivers, unless what comes to the session is lost; a dead letter comes to no consumer
 abbrev pub comes : Clients → Effect → List Received → List Received
@@ -24,20 +31,22 @@ comes clients (Deliver id delivery) all =
 comes clients _ all = all
 
 -- the deliveries that are handed out then
-abbrev pub shows : Clients → Effect → List Received → List Shown
-shows clients (Deliver id delivery) all =
-    if is_delivered_to clients id.session then map (Delivered id) (taken id delivery all) else []
-shows clients _ all = []
+abbrev pub hands : Clients → Effect → List Received → List Handed
+hands clients (Deliver id delivery) all =
+    if is_delivered_to clients id.session
+    then map (λ (d : Delivery). let h : Handed = record { consumer = id; delivery = d } in h) (taken id delivery all)
+    else []
+hands clients _ all = []
 
 -- effects one after the other
 abbrev pub come_all : Clients → List Effect → List Received → List Received
 come_all clients [] all = all
 come_all clients (effect ∷ effects) all = come_all clients effects (comes clients effect all)
 
-abbrev pub show_all : Clients → List Effect → List Received → List Shown
-show_all clients [] all = []
-show_all clients (effect ∷ effects) all =
-    shows clients effect all ++ show_all clients effects (comes clients effect all)
+abbrev pub hand_all : Clients → List Effect → List Received → List Handed
+hand_all clients [] all = []
+hand_all clients (effect ∷ effects) all =
+    hands clients effect all ++ hand_all clients effects (comes clients effect all)
 
 -- ---- which consumers a client knows
 

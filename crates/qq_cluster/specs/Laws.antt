@@ -1,5 +1,6 @@
 -- What holds of a queue of a cluster, whatever happens to it.
-use Rattle.std.specs.Prelude.{◌≡◌, ◌≤◌, ◌<◌, ℕ, List, [], ◌∷◌, ◌++◌, true, Option, Some, None, length, filter_map, nat_eq, All, Contains, if◌then◌else◌}
+use Rattle.std.specs.Prelude.{◌≡◌, ◌≤◌, ◌<◌, ℕ, List, [], ◌∷◌, ◌++◌, Bool, true, false, not, Option, Some, None, drop, length, filter_map, map, nat_eq, take, All, Contains, if◌then◌else◌}
+use Rattle.std.specs.List.{list_all}
 use Rattle.qq_base.specs.Fronts.{IsFront}
 use Rattle.qq_base.specs.Ids.{client, same_consumer}
 use Rattle.qq_base.specs.declared.ids.ConsumerId.{ConsumerId}
@@ -20,8 +21,13 @@ use Rattle.qq_raft_model.specs.State.{Server}
 use Rattle.qq_session.specs.Arriving.{Deed, Hands, handed}
 use Rattle.qq_session.specs.Publishing.{new_numbers}
 use Rattle.qq_session.specs.Deeds.{takes_of}
-use Rattle.qq_session.specs.Shown.{Shown, Delivered, NoLeader}
-use Rattle.qq_cluster.specs.Queue.{Queue, Event, Submits, Downs, Ends, acts, audit_rows, moves, happens, said, after, begin, leader, rows_told}
+use Rattle.qq_session.specs.Shown.{Shown, Delivered, NoLeader, Taken}
+use Rattle.qq_taker.specs.Seen.{seen_of}
+use Rattle.qq_taker.specs.declared.taker.Seen.{Seen}
+use Rattle.qq_cluster.specs.Delivering.{Handed}
+use Rattle.qq_taker.specs.Seats.{taker_of}
+use Rattle.qq_taker.specs.declared.seats.Seat.{Seat}
+use Rattle.qq_cluster.specs.Queue.{Queue, Event, Attaches, Submits, Downs, Ends, acts, audit_rows, moves, happens, said, after, begin, leader, rows_told}
 use Rattle.qq_cluster.specs.Rules.{is_ended}
 
 -- a group with which a queue may begin: no node has two of its members, and their logs support an audit
@@ -46,6 +52,8 @@ KeepsAudit q events = IsFront (audit_rows q) (audit_rows (after q events))
 -- what is printed as a delivery is an effect of an entry of the audit
 abbrev pub IsMade : Queue → Shown → Type 0
 IsMade q (Delivered consumer delivery) =
+    Contains (effects_of (empty_queue q.args) q.group.audit) (Deliver consumer delivery)
+IsMade q (Taken number consumer delivery verdict) =
     Contains (effects_of (empty_queue q.args) q.group.audit) (Deliver consumer delivery)
 IsMade q _ = Unit {0}
 
@@ -85,11 +93,33 @@ pub record CountsRise (q : Queue) (k : ℕ) : Type 0 where
 
 abbrev pub delivery_shown : ConsumerId → Shown → Option Delivery
 delivery_shown consumer (Delivered other delivery) = if same_consumer other consumer then Some delivery else None
+delivery_shown consumer (Taken number other delivery verdict) =
+    if same_consumer other consumer then Some delivery else None
 delivery_shown consumer _ = None
 
 -- the deliveries to a consumer that are shown, in order
 abbrev pub deliveries_shown : ConsumerId → List Shown → List Delivery
 deliveries_shown consumer shown = filter_map (delivery_shown consumer) shown
+
+-- and those that wait for a taker's verdict
+abbrev pub delivery_waiting : ConsumerId → Handed → Option Delivery
+delivery_waiting consumer h = if same_consumer h.consumer consumer then Some h.delivery else None
+
+abbrev pub deliveries_waiting : ConsumerId → List Handed → List Delivery
+deliveries_waiting consumer waiting = filter_map (delivery_waiting consumer) waiting
+
+-- what the taker of a number has seen
+abbrev pub seen_by : ℕ → Shown → Option Seen
+seen_by number (Taken other consumer delivery verdict) =
+    if nat_eq other number then Some (seen_of delivery verdict) else None
+seen_by number _ = None
+
+-- the deliveries of these are so many of all, from a place on, each once and in order
+pub record IsRun (seen : List Seen) (from : ℕ) (all : List Delivery) : Type 0 where
+  pub ids : map (λ (one : Seen). one.id) seen
+      ≡ map (λ (one : Delivery). one.id) (take (length seen) (drop from all))
+  pub arrivals : map (λ (one : Seen). one.arrival) seen
+      ≡ map (λ (one : Delivery). one.arrival) (take (length seen) (drop from all))
 
 -- A command for deliveries of these ids may be given where each of them was shown; else the first one that wasn't is told.
 abbrev pub AreClaimed : List ℕ → List ℕ → Option ℕ → Type 0
@@ -120,3 +150,17 @@ TellsOfEnd session q =
 pub record StaysEnded (session : ℕ) (q : Queue) : Type 0 where
   pub ends : is_ended session (happens q (Ends session)) ≡ true
   pub stays : (event : Event) → is_ended session q ≡ true → is_ended session (happens q event) ≡ true
+
+-- ---- takers
+
+abbrev pub gives : ℕ → Event → Bool
+gives number (Attaches session tag other) = nat_eq other number
+gives number _ = false
+
+-- a queue's taker of this number, among the events, is given to one consumer alone: no consumer has one of this number,
+-- this one has none, nothing waits for it, and no later event gives it again
+pub record IsNewTaker (number : ℕ) (consumer : ConsumerId) (q : Queue) (since : List Event) : Type 0 where
+  pub new : list_all (λ (seat : Seat). not (nat_eq seat.number number)) q.seats ≡ true
+  pub free : taker_of consumer q.seats ≡ None
+  pub told : deliveries_waiting consumer q.untold ≡ []
+  pub once : list_all (λ (event : Event). not (gives number event)) since ≡ true

@@ -1,4 +1,6 @@
 pub mod Delivering
+pub mod Taking
+pub mod Outcome
 pub mod Queue
 pub mod Cluster
 pub mod Texts

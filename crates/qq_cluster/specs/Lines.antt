@@ -7,9 +7,9 @@ use Rattle.qq_script_lines.specs.declared.line.Nodes.{Nodes}
 use Rattle.qq_script_lines.specs.declared.line.Nodes.TheVariants.{One, All}
 use Rattle.qq_script_lines.specs.declared.line.ScriptLine.{ScriptLine}
 use Rattle.qq_script_lines.specs.declared.line.ScriptLine.TheVariants as lines
-use Rattle.qq_cluster.specs.Queue.{Event, Ticks, Delivers, Loses, Copies, Notices, receiver_by}
+use Rattle.qq_cluster.specs.Queue.{Event, Attaches, Ticks, Delivers, Loses, Copies, Notices, receiver_by}
 use Rattle.qq_cluster.specs.Cluster.{Setup, Cluster, MutesEach, Sets, Alike, At, Crashes, Shows, SaysDown, SaysNoSuch, SaysUnroutable}
-use Rattle.qq_cluster.specs.Rules.{Rule, IsNothing, Is, Then, if_so, ForEach, IsWrite, IsSync, IsPump, IsPumped, IsGiven, IsResend, IsEnd, IsRestart, IsOpening}
+use Rattle.qq_cluster.specs.Rules.{Rule, IsNothing, Is, Then, if_so, ForEach, IsWrite, IsSync, IsPump, IsPumped, IsGiven, IsResend, IsEnd, IsRestart, IsOpening, Tells}
 
 -- ---- messages to exchanges
 
@@ -43,7 +43,7 @@ receiver_at c place at = receiver_by (drop at (c.queue place).group.bag)
 abbrev pub IsDelivered : ℕ → ℕ → Option ℕ → Rule
 IsDelivered place at None = Is SaysNoSuch
 IsDelivered place at (Some k) =
-    Then (Is (At place (Delivers at))) (λ c. if_so (c.up k) IsNothing (Is (SaysDown k)) c)
+    Then (Tells place (Delivers at)) (λ c. if_so (c.up k) IsNothing (Is (SaysDown k)) c)
 
 abbrev pub WhereThere : Option ℕ → Event → ℕ → Rule
 WhereThere None event place = Is SaysNoSuch
@@ -73,6 +73,7 @@ IsLine setup lines.Nothing = IsNothing
 IsLine setup (lines.Publish body) = AndPumped setup (IsSend setup 1 [] (setup.name setup.first) body)
 IsLine setup (lines.Send by exchange key body) = AndPumped setup (IsSend setup by.number exchange key body)
 IsLine setup (lines.Client by at body) = AndPumped setup (IsGiven by.number body at.0)
+IsLine setup (lines.Attach by at tag taker) = Is (At at.0 (Attaches by.number tag taker))
 IsLine setup (lines.End by) = AndPumped setup (IsEnd setup by.number)
 IsLine setup (lines.Resend by) = AndPumped setup (IsResend setup by.number)
 IsLine setup (lines.Mute by muted) = Is (Alike (MutesEach by.number muted))
@@ -80,7 +81,7 @@ IsLine setup (lines.Pace auto) = Is (Sets auto)
 IsLine setup lines.Pump = IsPump setup
 IsLine setup (lines.Write node) = WhereUp node.0 (IsWrite setup node.0)
 IsLine setup (lines.Sync node) = WhereUp node.0 (IsSync setup node.0)
-IsLine setup (lines.Notice node at) = WhereUp node.0 (Is (At at.0 (Notices node.0)))
+IsLine setup (lines.Notice node at) = WhereUp node.0 (Tells at.0 (Notices node.0))
 IsLine setup (lines.Tick node at) = WhereUp node.0 (Is (At at.0 (Ticks node.0)))
 IsLine setup (lines.Deliver at message) = IsDeliver at.0 message
 IsLine setup (lines.Lose at message) = IsLose at.0 message

@@ -3,6 +3,7 @@
 use Rattle.std.specs.Prelude.{ℕ, List, [], ◌∷◌, ◌++◌, Bool, true, ◌&&◌, Option, Some, None, is_some, length, drop, filter, map, flat_map, fold, replicate, take, nat_eq, nat_lt, if◌then◌else◌}
 use Rattle.qq_base.specs.Fronts.{put}
 use Rattle.qq_base.specs.Ids.{client}
+use Rattle.qq_base.specs.declared.ids.ConsumerId.{ConsumerId}
 use Rattle.qq_base.specs.declared.ids.NodeId.{NodeId}
 use Rattle.qq_consuming.specs.Consuming.{Received}
 use Rattle.qq_entry.specs.declared.audit.AuditRow.{AuditRow}
@@ -22,8 +23,12 @@ use Rattle.qq_raft_msg.specs.Rpc.{envelope}
 use Rattle.qq_raft_msg.specs.declared.rpc.Rpc.{Rpc}
 use Rattle.qq_session.specs.Publishing.{Numbers, next_command, hand, open_commands}
 use Rattle.qq_session.specs.Clients.{Clients, new_clients, hear_all, printed, may_hand, is_used}
-use Rattle.qq_session.specs.Shown.{Shown, Answered, WindowFull, HasEnded, NotTaken, effects_of_term, said_of}
-use Rattle.qq_cluster.specs.Delivering.{come_all, show_all, learn, fetch}
+use Rattle.qq_session.specs.Shown.{Shown, Attached, HasEnded, IsBusy, NotTaken, WindowFull, effects_of_term, said_of}
+use Rattle.qq_taker.specs.Seats.{sit, taker_of}
+use Rattle.qq_taker.specs.declared.seats.Seat.{Seat}
+use Rattle.qq_taker.specs.declared.taker.Verdict.{Verdict}
+use Rattle.qq_cluster.specs.Delivering.{Handed, come_all, hand_all, learn, fetch}
+use Rattle.qq_cluster.specs.Taking.{answers, delivered, judged, seated, told_then, unjudged, waiting_then}
 
 -- ---- the leader
 
@@ -59,6 +64,8 @@ pub record Queue : Type 0 where
   pub args : QueueArgs
   pub clients : Clients
   pub consumers : List Received  -- those that the clients know, in the order of their subscriptions
+  pub seats : List Seat  -- the consumers that have a taker, in the order of their tags
+  pub untold : List Handed  -- what was handed out from the first delivery on that waits for its taker's verdict
   pub group : Group
   pub synced : ℕ → ℕ  -- how many of the ops that each node's log was handed a sync has kept
 
@@ -69,6 +76,8 @@ begin args group =
       args = args;
       clients = new_clients args;
       consumers = [];
+      seats = [];
+      untold = [];
       group = group;
       synced = λ k. (group.seat k).noticed;
     }
@@ -84,6 +93,10 @@ pub data Event : Type 0 where
   TellsEnded : (session : ℕ) → Event
   -- a session is to give a command for a delivery of this id, which wasn't handed out
   TellsNotTaken : (session id : ℕ) → Event
+  -- the taker of this number is to be given to a consumer of a session
+  Attaches : (session tag number : ℕ) → Event
+  -- the taker of the first delivery that waits gives this verdict on it
+  Judges : (verdict : Verdict) → Event
   -- a client sends all its open commands again
   Resends : (session : ℕ) → Event
   -- a client asks the leader for what is out with its consumers and hasn't come to them
@@ -225,6 +238,29 @@ abbrev pub known : Clients → Event → List Received → List Received
 known clients (Submits session body) all = learn clients session body all
 known clients _ all = all
 
+-- the consumer of a client's session
+abbrev pub consumer_of : (session tag : ℕ) → ConsumerId
+consumer_of session tag = record { session = client session; tag = tag }
+
+-- a consumer that has a taker gets no second one
+abbrev pub attach : ConsumerId → ℕ → Option ℕ → List Seat → List Seat
+attach id number None seats = sit (record { consumer = id; number = number }) seats
+attach id number (Some other) seats = seats
+
+-- who has a taker then
+abbrev pub seats_after : Queue → Event → List Seat
+seats_after q (Attaches session tag number) =
+    let id : ConsumerId = consumer_of session tag in attach id number (taker_of id q.seats) q.seats
+seats_after q event = seated q.seats (printed (rows_told q event) q.clients)
+
+-- what is handed out
+abbrev pub handed_out : Queue → Event → List Handed
+handed_out q event = hand_all q.clients (effects_shown q event) (known q.clients event q.consumers)
+
+abbrev pub untold_after : Queue → Event → List Handed
+untold_after q (Judges verdict) = unjudged q.seats q.untold
+untold_after q event = waiting_then q.untold (seats_after q event) (handed_out q event)
+
 abbrev pub synced_after : Queue → Event → ℕ → ℕ
 synced_after q (Syncs k) =
     if is_some (q.group.seat k).server then put k (length (q.group.seat k).ops) q.synced else q.synced
@@ -236,17 +272,24 @@ happens q event =
     record q {
       clients = hear_all (rows_told q event) (acts event q.clients);
       consumers = come_all q.clients (effects_shown q event) (known q.clients event q.consumers);
+      seats = seats_after q event;
+      untold = untold_after q event;
       group = group_then q event;
       synced = synced_after q event;
     }
 
 -- ---- what an event shows
 
--- the answers in the order of their rows, and then the deliveries that are handed out
+-- the answers in the order of their rows, and then the deliveries that are handed out, up to the first one for a taker
 abbrev pub told : Queue → Event → List Shown
 told q event =
-    map Answered (printed (rows_told q event) q.clients)
-    ++ show_all q.clients (effects_shown q event) (known q.clients event q.consumers)
+    answers q.seats (printed (rows_told q event) q.clients)
+    ++ delivered (told_then q.untold (seats_after q event) (handed_out q event))
+
+-- a taker is given to a consumer, unless it has one
+abbrev pub attached : ℕ → ℕ → Option ℕ → List Shown
+attached session number None = Attached session number ∷ []
+attached session number (Some other) = IsBusy session other ∷ []
 
 abbrev pub has_leader : Queue → Bool
 has_leader q = is_some (leader q.group)
@@ -259,6 +302,8 @@ said q (Resends session) = said_of (has_leader q) session (offered q.clients (Re
 said q (Downs session) = said_of (has_leader q) session (offered q.clients (Downs session))
 said q (TellsEnded session) = HasEnded session ∷ []
 said q (TellsNotTaken session id) = NotTaken session id ∷ []
+said q (Attaches session tag number) = attached session number (taker_of (consumer_of session tag) q.seats)
+said q (Judges verdict) = judged q.seats verdict q.untold
 said q event = told q event
 
 -- ---- lists of events

@@ -1,13 +1,16 @@
 -- Which events may be what is asked of a cluster. A rule says of a cluster and a list of events whether these may be it;
 -- where no call of a disk fails it leaves no choice but what restarts found.
-use Rattle.std.specs.Prelude.{◌≡◌, ◌⊎◌, ℕ, zero, suc, List, [], ◌∷◌, ◌++◌, Bool, true, false, ◌&&◌, Option, Some, None, length, nat_eq, nat_lt, replicate, if◌then◌else◌}
+use Rattle.std.specs.Prelude.{◌≡◌, ◌⊎◌, ℕ, zero, suc, List, [], ◌∷◌, ◌++◌, Bool, true, false, ◌&&◌, Option, Some, None, length, nat_eq, nat_lt, if◌then◌else◌}
 use Rattle.std.specs.List.{list_all, list_any}
 use Rattle.qq_base.specs.Ids.{client}
 use Rattle.qq_base.specs.declared.ids.NodeId.{NodeId}
 use Rattle.qq_consuming.specs.Consumers.{not_taken_of}
 use Rattle.qq_entry.specs.declared.command.Unstamped.{Unstamped}
 use Rattle.qq_raft_model.specs.Group.{has_node, may_restart}
-use Rattle.qq_cluster.specs.Queue.{Queue, Submits, TellsEnded, TellsNotTaken, Resends, Fetches, Downs, Ticks, Delivers, Notices, waiting}
+use Rattle.qq_taker.specs.declared.taker.Verdict.{Verdict}
+use Rattle.qq_cluster.specs.Delivering.{Handed}
+use Rattle.qq_cluster.specs.Queue.{Queue, Event, Submits, TellsEnded, TellsNotTaken, Judges, Resends, Fetches, Downs, Ticks, Delivers, Notices, waiting}
+use Rattle.qq_cluster.specs.Taking.{command_for}
 use Rattle.qq_cluster.specs.Cluster.{Setup, Cluster, ClusterEvent, EndsEach, Alike, At, NodeWrites, NodeSyncs, Fails, FindsEach, SaysBusy, SaysEnded, cluster_after, members}
 
 abbrev pub Rule : Type 1
@@ -40,6 +43,59 @@ if_so false First Second = Second
 abbrev pub ForEach : {A : Type 0} → List A → (A → Rule) → Rule
 ForEach [] Each = IsNothing
 ForEach (x ∷ xs) Each = Then (Each x) (ForEach xs Each)
+
+-- a rule so many times
+abbrev pub Times : ℕ → Rule → Rule
+Times zero Each = IsNothing
+Times (suc more) Each = Then Each (Times more Each)
+
+-- ---- clients
+
+abbrev pub is_ended : ℕ → Queue → Bool
+is_ended session q = (q.clients session).ended
+
+-- the first delivery that a session's command ends and that wasn't handed out to its consumer
+abbrev pub not_taken : ℕ → Unstamped → Queue → Option ℕ
+not_taken session body q = not_taken_of (client session) body q.consumers
+
+abbrev pub IsClaimed : Option ℕ → ℕ → Unstamped → ℕ → Rule
+IsClaimed None session body place = Is (At place (Submits session body))
+IsClaimed (Some id) session body place = Is (At place (TellsNotTaken session id))
+
+-- a session gives a command, or is told that it has ended, or that a delivery of the command wasn't handed out
+abbrev pub IsGiven : ℕ → Unstamped → ℕ → Rule
+IsGiven session body place c events =
+    if_so (is_ended session (c.queue place)) (Is (At place (TellsEnded session)))
+    (IsClaimed (not_taken session body (c.queue place)) session body place) c events
+
+-- ---- takers
+
+-- what becomes of a delivery by a verdict is a command of its consumer's session
+abbrev pub IsCommanded : Option Unstamped → ℕ → ℕ → Rule
+IsCommanded None session place = IsNothing
+IsCommanded (Some body) session place = IsGiven session body place
+
+-- the taker of the first delivery that waits gives a verdict, and that is followed
+pub record IsJudged (place : ℕ) (h : Handed) (c : Cluster) (events : List ClusterEvent) : Type 0 where
+  pub verdict : Verdict
+  pub is : Then (Is (At place (Judges verdict))) (IsCommanded (command_for verdict h) h.consumer.session.number place)
+      c events
+
+-- of the first delivery that waits, where one does
+abbrev pub IsJudgedWhere : ℕ → List Handed → Rule
+IsJudgedWhere place [] = IsNothing
+IsJudgedWhere place (h ∷ more) = IsJudged place h
+
+abbrev pub IsNextJudged : ℕ → Rule
+IsNextJudged place c events = IsJudgedWhere place (c.queue place).untold c events
+
+-- takers are asked until no delivery waits
+abbrev pub IsTold : ℕ → Rule
+IsTold place c events = Times (length (c.queue place).untold) (IsNextJudged place) c events
+
+-- something happens to a queue, and takers are asked about what was handed out then
+abbrev pub Tells : ℕ → Event → Rule
+Tells place event = Then (Is (At place event)) (IsTold place)
 
 -- ---- a node's log
 
@@ -79,7 +135,7 @@ IsSync setup k c events =
 -- a queue's member notices what is synced of it
 abbrev pub IsNotice : ℕ → ℕ → Rule
 IsNotice k place c events =
-    if_so (c.up k && waits_noticed k (c.queue place)) (Is (At place (Notices k))) IsNothing c events
+    if_so (c.up k && waits_noticed k (c.queue place)) (Tells place (Notices k)) IsNothing c events
 
 -- ---- pumps
 
@@ -88,7 +144,7 @@ IsNodeRound setup k = Then (IsWrite setup k) (Then (IsSync setup k) (ForEach set
 
 -- the messages that are in a queue's bag are delivered from the front
 abbrev pub IsEmptied : ℕ → Rule
-IsEmptied place c events = events ≡ replicate (length (c.queue place).group.bag) (At place (Delivers 0))
+IsEmptied place c events = Times (length (c.queue place).group.bag) (Tells place (Delivers 0)) c events
 
 -- the nodes in order, and then the queues in order
 abbrev pub IsRound : Setup → Rule
@@ -124,31 +180,14 @@ IsPump setup = Pumps most_rounds setup
 abbrev pub IsPumped : Setup → Rule
 IsPumped setup c events = if_so c.auto (IsPump setup) IsNothing c events
 
--- ---- clients
-
-abbrev pub is_ended : ℕ → Queue → Bool
-is_ended session q = (q.clients session).ended
-
--- the first delivery that a session's command ends and that wasn't handed out to its consumer
-abbrev pub not_taken : ℕ → Unstamped → Queue → Option ℕ
-not_taken session body q = not_taken_of (client session) body q.consumers
-
-abbrev pub IsClaimed : Option ℕ → ℕ → Unstamped → ℕ → Rule
-IsClaimed None session body place = Is (At place (Submits session body))
-IsClaimed (Some id) session body place = Is (At place (TellsNotTaken session id))
-
--- a session gives a command, or is told that it has ended, or that a delivery of the command wasn't handed out
-abbrev pub IsGiven : ℕ → Unstamped → ℕ → Rule
-IsGiven session body place c events =
-    if_so (is_ended session (c.queue place)) (Is (At place (TellsEnded session)))
-    (IsClaimed (not_taken session body (c.queue place)) session body place) c events
+-- ---- lines of clients
 
 -- open commands are sent again, and then each queue is asked for the deliveries that haven't come
 abbrev pub IsResend : Setup → ℕ → Rule
 IsResend setup session c events =
     if_so (some_queue setup (is_ended session) c) (Is SaysEnded)
     (Then (ForEach setup.places (λ place. Is (At place (Resends session))))
-    (ForEach setup.places (λ place. Is (At place (Fetches session))))) c events
+    (ForEach setup.places (λ place. Tells place (Fetches session)))) c events
 
 -- a session ends at every queue, and each that had a command of it is told so
 abbrev pub IsEnd : Setup → ℕ → Rule

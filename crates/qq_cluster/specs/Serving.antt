@@ -1,10 +1,12 @@
--- The events of a script in which no call of a disk fails, given what restarts find.
-use Rattle.std.specs.Prelude.{ℕ, zero, suc, List, [], ◌∷◌, ◌++◌, Option, Some, None, length, replicate, ◌&&◌, if◌then◌else◌}
+-- The events of a script in which no call of a disk fails and each taker keeps what it is offered, given what restarts find.
+use Rattle.std.specs.Prelude.{ℕ, zero, suc, List, [], ◌∷◌, ◌++◌, Option, Some, None, length, ◌&&◌, if◌then◌else◌}
 use Rattle.qq_base.specs.declared.ids.NodeId.{NodeId}
 use Rattle.qq_entry.specs.declared.command.Unstamped.{Unstamped}
 use Rattle.qq_script_lines.specs.declared.line.ScriptLine.{ScriptLine}
 use Rattle.qq_script_lines.specs.declared.line.ScriptLine.TheVariants as lines
-use Rattle.qq_cluster.specs.Queue.{Event, Submits, TellsEnded, TellsNotTaken, Resends, Fetches, Downs, Ticks, Delivers, Loses, Copies, Notices}
+use Rattle.qq_cluster.specs.Queue.{Event, Submits, TellsEnded, TellsNotTaken, Attaches, Judges, Resends, Fetches, Downs, Ticks, Delivers, Loses, Copies, Notices}
+use Rattle.qq_taker.specs.declared.taker.Verdict.TheVariants.{Keep}
+use Rattle.qq_cluster.specs.Delivering.{Handed}
 use Rattle.qq_cluster.specs.Cluster.{Setup, Cluster, ClusterEvent, MutesEach, EndsEach, Sets, Alike, At, NodeWrites, NodeSyncs, Crashes, FindsEach, Shows, SaysDown, SaysNoSuch, SaysUnroutable, SaysBusy, SaysEnded, cluster_after, members}
 use Rattle.qq_cluster.specs.Rules.{some_queue, waits_written, waits_synced, waits_noticed, is_idle, most_rounds, is_ended, not_taken}
 use Rattle.qq_cluster.specs.Lines.{publish_with, nodes_of, receiver_at}
@@ -39,6 +41,26 @@ abbrev pub each : {A : Type 0} → List A → (A → Doing) → Doing
 each [] does = nothing
 each (x ∷ xs) does = both (does x) (each xs does)
 
+-- ---- takers
+
+abbrev pub times : ℕ → Doing → Doing
+times zero does = nothing
+times (suc more) does = both does (times more does)
+
+-- each keeps what it is offered
+abbrev pub keep_where : ℕ → List Handed → Doing
+keep_where place [] = nothing
+keep_where place (h ∷ more) = one (At place (Judges Keep))
+
+abbrev pub keep_next : ℕ → Doing
+keep_next place c = keep_where place (c.queue place).untold c
+
+abbrev pub tell : ℕ → Doing
+tell place c = times (length (c.queue place).untold) (keep_next place) c
+
+abbrev pub tells : ℕ → Event → Doing
+tells place event = both (one (At place event)) (tell place)
+
 -- ---- pumps
 
 abbrev pub write : Setup → ℕ → Doing
@@ -48,13 +70,13 @@ abbrev pub sync : Setup → ℕ → Doing
 sync setup k c = if c.up k then if some_queue setup (waits_synced k) c then NodeSyncs k ∷ [] else [] else []
 
 abbrev pub notice : ℕ → ℕ → Doing
-notice k place c = if c.up k && waits_noticed k (c.queue place) then At place (Notices k) ∷ [] else []
+notice k place c = if c.up k && waits_noticed k (c.queue place) then tells place (Notices k) c else []
 
 abbrev pub node_round : Setup → ℕ → Doing
 node_round setup k = both (write setup k) (both (sync setup k) (each setup.places (notice k)))
 
 abbrev pub empty : ℕ → Doing
-empty place c = replicate (length (c.queue place).group.bag) (At place (Delivers 0))
+empty place c = times (length (c.queue place).group.bag) (tells place (Delivers 0)) c
 
 abbrev pub round : Setup → Doing
 round setup = both (each setup.nodes (node_round setup)) (each setup.places empty)
@@ -91,7 +113,7 @@ abbrev pub resend : Setup → ℕ → Doing
 resend setup session c =
     if some_queue setup (is_ended session) c then SaysEnded ∷ []
     else both (each setup.places (λ place. one (At place (Resends session))))
-    (each setup.places (λ place. one (At place (Fetches session)))) c
+    (each setup.places (λ place. tells place (Fetches session))) c
 
 abbrev pub finish : Setup → ℕ → Doing
 finish setup session =
@@ -106,7 +128,7 @@ where_up k does c = if c.up k then does c else SaysDown k ∷ []
 abbrev pub deliver_by : ℕ → ℕ → Option ℕ → Doing
 deliver_by place at None = one SaysNoSuch
 deliver_by place at (Some k) =
-    both (one (At place (Delivers at))) (λ c. if c.up k then [] else SaysDown k ∷ [])
+    both (tells place (Delivers at)) (λ c. if c.up k then [] else SaysDown k ∷ [])
 
 abbrev pub deliver : ℕ → ℕ → Doing
 deliver place zero c = SaysNoSuch ∷ []
@@ -129,6 +151,7 @@ line setup find lines.Nothing = nothing
 line setup find (lines.Publish body) = and_pump setup (send setup 1 [] (setup.name setup.first) body)
 line setup find (lines.Send by exchange key body) = and_pump setup (send setup by.number exchange key body)
 line setup find (lines.Client by at body) = and_pump setup (give by.number body at.0)
+line setup find (lines.Attach by at tag taker) = one (At at.0 (Attaches by.number tag taker))
 line setup find (lines.End by) = and_pump setup (finish setup by.number)
 line setup find (lines.Resend by) = and_pump setup (resend setup by.number)
 line setup find (lines.Mute by muted) = one (Alike (MutesEach by.number muted))
@@ -136,7 +159,7 @@ line setup find (lines.Pace auto) = one (Sets auto)
 line setup find lines.Pump = pump setup
 line setup find (lines.Write node) = where_up node.0 (write setup node.0)
 line setup find (lines.Sync node) = where_up node.0 (sync setup node.0)
-line setup find (lines.Notice node at) = where_up node.0 (one (At at.0 (Notices node.0)))
+line setup find (lines.Notice node at) = where_up node.0 (tells at.0 (Notices node.0))
 line setup find (lines.Tick node at) = where_up node.0 (one (At at.0 (Ticks node.0)))
 line setup find (lines.Deliver at message) = deliver at.0 message
 line setup find (lines.Lose at message) = lose at.0 message

@@ -17,8 +17,8 @@ ghost use Rattle.qq_raft_model.specs.State.{Server};
 ghost use Rattle.qq_session.specs.Shown.{NotTaken};
 ghost use Rattle.qq_cluster.specs.Cluster.{Cluster, ClusterEvent, Setup};
 ghost use Rattle.qq_cluster.specs.ClusterLaws.{HasGroups, PrintsInOrder, TellsWhatIsNotTaken};
-ghost use Rattle.qq_cluster.specs.Laws.{AreClaimed, IsBegun, deliveries_shown, queue_after};
-ghost use Rattle.qq_cluster.specs.Queue.{Event, Fetches, all_said, audit_rows, begin, happens, leader};
+ghost use Rattle.qq_cluster.specs.Laws.{AreClaimed, IsBegun, deliveries_shown, deliveries_waiting, queue_after};
+ghost use Rattle.qq_cluster.specs.Queue.{Event, Fetches, all_said, audit_rows, begin, consumer_of, happens, leader};
 ghost use Rattle.qq_cluster.specs.Rules.{not_taken};
 ghost use Rattle.qq_cluster.specs.Texts.{shown_text};
 
@@ -44,13 +44,14 @@ pub fn deliveries_are_printed_in_order()
     what_is_out_was_delivered_as_it_is();
 }
 
-/// A law: a session settles, returns and discards what was printed of a consumer's deliveries, and nothing else. Where
-/// it is to do so with another id, the first such one is told, and no command is given.
+/// A law: a session settles, returns and discards what was printed of a consumer's deliveries, or waits for its taker
+/// (between two lines nothing does), and nothing else. Where it is to do so with another id, the first such one is told, and no command is given.
 pub fn claims_are_of_what_was_printed()
     ensures ids { (args : QueueArgs) (group : Group) (events : List Event) (session tag : ℕ)
         (body : Unstamped) (ids : List ℕ) → claimed body ≡ Some (tag, ids) →
-        AreClaimed ids (ids_of (deliveries_shown (record { session = client session; tag = tag })
-        (all_said (begin args group) events)))
+        AreClaimed ids (ids_of (deliveries_shown (consumer_of session tag)
+        (all_said (begin args group) events) ++ deliveries_waiting (consumer_of session tag)
+        (queue_after args group events).untold))
         (not_taken session body (queue_after args group events)) }
     ensures refused { (session : ℕ) (c : Cluster) → TellsWhatIsNotTaken session c }
     ensures told { (setup : Setup) (id : ℕ) → shown_text setup setup.first (NotTaken 1 id)

@@ -9,6 +9,7 @@ mod ended;
 mod examples;
 mod queues;
 mod sessions;
+mod takers;
 mod texts;
 
 pub use clusters::{
@@ -27,5 +28,8 @@ pub use queues::{
 pub use sessions::{
     answers_are_printed_once, carried_out_commands_were_given, sessions_go_on,
     what_is_printed_is_audited,
+};
+pub use takers::{
+    a_consumer_has_one_taker, nothing_waits_between_lines, takers_see_runs_of_deliveries,
 };
 pub use texts::{a_cluster_tells_its_state, a_lost_command_is_told};

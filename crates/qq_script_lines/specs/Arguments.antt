@@ -1,6 +1,6 @@
 -- What the words behind a line's first one say. Of each line all words are looked at for one kind of fault before the
 -- next: their number, the numbers among them, what they name, and last a body's length.
-use Rattle.std.specs.Prelude.{ℕ, nat_lt, List, [], ◌∷◌, length, codes, Option, Some, None, Result, Ok, Err, if◌then◌else◌}
+use Rattle.std.specs.Prelude.{ℕ, ◌-◌, ◌^◌, nat_lt, List, [], ◌∷◌, length, codes, Option, Some, None, Result, Ok, Err, if◌then◌else◌}
 use Rattle.std.specs.Str.{bytes_eq}
 use Rattle.qq_base.specs.declared.ids.NodeId.{NodeId}
 use Rattle.qq_base.specs.declared.ids.QueueId.{QueueId}
@@ -15,7 +15,7 @@ use Rattle.qq_script_lines.specs.declared.line.Nodes.TheVariants.{One, All}
 use Rattle.qq_script_lines.specs.declared.line.ScriptLine.{ScriptLine}
 use Rattle.qq_script_lines.specs.declared.line.ScriptLine.TheVariants as lines
 use Rattle.qq_script_lines.specs.Words.{◌>>=◌, or_fault, text_of, behind_four}
-use Rattle.qq_script_lines.specs.Numbers.{session_of, place_of}
+use Rattle.qq_script_lines.specs.Numbers.{is_number, number_in, place_of, session_of, tag_of}
 use Rattle.qq_script_lines.specs.Names.{row_of, node_of, is_member}
 use Rattle.qq_script_lines.specs.Bodies.{body_of, limited}
 use Rattle.qq_script_lines.specs.Images.{image_of}
@@ -77,6 +77,18 @@ one_message s (queue ∷ place ∷ []) =
 one_message s _ = Err Words
 
 -- ---- words of one line
+
+-- the number of a taker: any number is one, and whether it is there only the broker knows
+abbrev pub is_written : List ℕ → Result (Unit {0}) ScriptFault
+is_written word = if is_number word then Ok tt else Err Number
+
+-- S Q T K
+unfoldable pub attach : Setup → List (List ℕ) → Result ScriptLine ScriptFault
+attach s (session ∷ queue ∷ tag ∷ taker ∷ []) =
+    or_fault Number (session_of session) >>= λ by. or_fault Number (tag_of tag) >>= λ to.
+    is_written taker >>= λ _. queue_of s queue >>= λ at.
+    or_fault NoSuch (number_in 1 (2 ^ 32 - 1) taker) >>= λ number. Ok (lines.Attach by at to number)
+attach s _ = Err Words
 
 -- N IMAGE
 unfoldable pub crash : Setup → List (List ℕ) → Result ScriptLine ScriptFault

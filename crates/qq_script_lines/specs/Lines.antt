@@ -12,7 +12,7 @@ use Rattle.qq_script_lines.specs.declared.line.ScriptLine.TheVariants as lines
 use Rattle.qq_script_lines.specs.Words.{◌>>=◌, make, words_of}
 use Rattle.qq_script_lines.specs.Numbers.{is_empty}
 use Rattle.qq_script_lines.specs.Bodies.{begins_with}
-use Rattle.qq_script_lines.specs.Arguments.{no_word, one_session, one_queue, one_node, some_nodes, one_member, one_message, crash, send, publish}
+use Rattle.qq_script_lines.specs.Arguments.{no_word, one_session, one_queue, one_node, some_nodes, one_member, one_message, attach, crash, send, publish}
 use Rattle.qq_script_lines.specs.Commands.{client_line}
 
 -- an empty line, or a comment: a semicolon and any text
@@ -65,6 +65,7 @@ read s line word words =
     if bytes_eq word (codes "publish") then Err Words
     else if bytes_eq word (codes "send") then send line words
     else if bytes_eq word (codes "crash") then crash s words
+    else if bytes_eq word (codes "attach") then attach s words
     else plain_or_client s word words
 
 -- ---- lines where they stand

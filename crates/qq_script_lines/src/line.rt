@@ -62,6 +62,13 @@ pub enum ScriptLine {
         queue: QueueId,
         body: Unstamped,
     },
+    /// `attach S Q T K`: a consumer gets the taker of this number, from 1. Whether that is there the broker knows.
+    Attach {
+        session: SessionId,
+        queue: QueueId,
+        tag: u32,
+        taker: u32,
+    },
     /// `end S`: the session ends at each queue.
     End {
         session: SessionId,

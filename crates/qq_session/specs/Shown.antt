@@ -11,6 +11,7 @@ use Rattle.qq_entry.specs.declared.command.Command.{Command}
 use Rattle.qq_entry.specs.declared.audit.AuditRow.{AuditRow}
 use Rattle.qq_model.specs.State.{State}
 use Rattle.qq_model.specs.Audit.{next_step}
+use Rattle.qq_taker.specs.declared.taker.Verdict.{Verdict}
 use Rattle.qq_session.specs.Clients.{Clients}
 
 -- what entries do beside their answers, those of a term alone
@@ -34,6 +35,13 @@ pub data Shown : Type 0 where
   HasEnded : (session : ℕ) → Shown
   -- a delivery of this id wasn't handed out, so a session's command for it isn't given
   NotTaken : (session : ℕ) (id : ℕ) → Shown
+  -- the taker of this number is given to a consumer of a session, or isn't, since the consumer has that one
+  Attached : (session : ℕ) (number : ℕ) → Shown
+  IsBusy : (session : ℕ) (number : ℕ) → Shown
+  -- a delivery was offered to its consumer's taker, which gave this verdict on it
+  Taken : (number : ℕ) (consumer : ConsumerId) (delivery : Delivery) (verdict : Verdict) → Shown
+  -- the taker of a session's consumer is dropped
+  Dropped : (session : ℕ) (number : ℕ) → Shown
 
 -- a client's session gets its deliveries, unless what comes to it is lost
 abbrev pub is_delivered_to : Clients → SessionId → Bool

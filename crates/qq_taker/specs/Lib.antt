@@ -1,6 +1,4 @@
 pub mod Seen
+pub mod Takers
 pub mod Seats
 pub mod Noting
-pub mod Deeds
-pub mod Taking
-pub mod Numerals

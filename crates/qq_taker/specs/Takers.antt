@@ -1,0 +1,89 @@
+-- The takers of a run, under the numbers 1, 2, 3 and so on.
+use Rattle.std.specs.Prelude.{ℕ, zero, suc, List, Bool, false, true, Option, None, Some, map, slice_get}
+use Rattle.std.specs.List.{slice_set}
+use Rattle.std.specs.Option.{option_map_or}
+use Rattle.qq_entry.specs.declared.answer.Delivery.{Delivery}
+use Rattle.qq_taker.specs.declared.desk.Place.{Place}
+use Rattle.qq_taker.specs.declared.desk.Place.TheVariants as places
+use Rattle.qq_taker.specs.declared.taker.Seen.{Seen}
+use Rattle.qq_taker.specs.declared.taker.Verdict.{Verdict}
+use Rattle.qq_taker.specs.Seen.{see}
+
+-- a taker by what it has seen, None where it doesn't tell that
+pub data Held : Type 0 where
+  -- it may be given to a consumer
+  Free : (seen : Option (List Seen)) → Held
+  -- it was given to one
+  Given : (seen : Option (List Seen)) → Held
+  -- it was dropped
+  Gone : Held
+
+abbrev pub Takers : Type 0
+Takers = List Held
+
+-- the takers of a desk, where `seen` tells what each has seen
+abbrev pub held_by : {T : Type 0} → (T → Option (List Seen)) → Place T → Held
+held_by seen (places.Free taker) = Free (seen taker)
+held_by seen (places.Given taker) = Given (seen taker)
+held_by seen places.Gone = Gone
+
+abbrev pub takers_of : {T : Type 0} → (T → Option (List Seen)) → List (Place T) → Takers
+takers_of seen rows = map (held_by seen) rows
+
+-- ---- one of them
+
+-- the taker of a number, None where there is none
+abbrev pub taker_at : ℕ → Takers → Option Held
+taker_at zero all = None
+taker_at (suc at) all = slice_get all at
+
+-- it changes; where there is none nothing does
+abbrev pub change_at : ℕ → (Held → Held) → Takers → Takers
+change_at zero change all = all
+change_at (suc at) change all = option_map_or (λ (held : Held). slice_set all at (change held)) (slice_get all at) all
+
+-- ---- what becomes of it
+
+abbrev pub is_free_by : Held → Bool
+is_free_by (Free seen) = true
+is_free_by _ = false
+
+-- a taker of this number is there, and may be given to a consumer
+abbrev pub is_free : ℕ → Takers → Bool
+is_free number all = option_map_or is_free_by (taker_at number all) false
+
+abbrev pub hand : Held → Held
+hand (Free seen) = Given seen
+hand held = held
+
+abbrev pub look : Delivery → Verdict → Held → Held
+look delivery verdict (Given seen) = Given (see delivery verdict seen)
+look delivery verdict held = held
+
+-- it is given to a consumer
+abbrev pub give : ℕ → Takers → Takers
+give number all = change_at number hand all
+
+-- it has given a verdict on a delivery that it was offered
+abbrev pub judge : ℕ → Delivery → Verdict → Takers → Takers
+judge number delivery verdict all = change_at number (look delivery verdict) all
+
+-- it is dropped
+abbrev pub drop_at : ℕ → Takers → Takers
+drop_at number all = change_at number (λ held. Gone) all
+
+-- ---- offers
+
+-- it may be offered a delivery: it was given to a consumer, and wasn't dropped
+abbrev pub is_given_by : Held → Bool
+is_given_by (Given seen) = true
+is_given_by _ = false
+
+abbrev pub is_given : ℕ → Takers → Bool
+is_given number all = option_map_or is_given_by (taker_at number all) false
+
+-- a delivery was offered: the taker has given this verdict, or there was none
+abbrev pub IsOffered : ℕ → Delivery → Option Verdict → Takers → Takers → Type 0
+IsOffered number delivery None old new = (is_given number old ≡ false) × (new ≡ old)
+IsOffered number delivery (Some verdict) old new =
+    (is_given number old ≡ true) × (new ≡ judge number delivery verdict old)

@@ -1,0 +1,73 @@
+ghost use Rattle.std.specs.Prelude.{◌≡◌, ◌∷◌, [], find, IsOkUnless, OnErr, OnOk};
+ghost use Rattle.qq_taker.specs.Seats.{leaves, sit, taker_of, without_first};
+
+use qq_base::{ConsumerId, Memory, SessionId};
+use std::alloc::Global;
+use std::marker::Model;
+
+/// A consumer, and its taker's number.
+#[derive(Clone, Copy)]
+pub struct Seat {
+    pub consumer: ConsumerId,
+    /// From 1.
+    pub number: u32,
+}
+
+/// Who loses its taker.
+#[derive(Clone, Copy)]
+pub enum Leaving {
+    /// This consumer.
+    Consumer(ConsumerId),
+    /// Each consumer of this session.
+    Session(SessionId),
+}
+
+/// The consumers of a queue that have a taker. Contracts see them in the order of their tags.
+#[derive(Drop)]
+pub struct Seats {
+    rows: Vec<Seat>,
+}
+
+impl Model for Seats {
+    ghost use Rattle.std.specs.Prelude.{List};
+    ghost use Rattle.qq_taker.specs.declared.seats.Seat.{Seat};
+
+    ghost Value = { List Seat };
+
+    ghost view = { λ s. s.rows.items };
+}
+
+impl Seats {
+    /// No consumer has one. It takes no memory.
+    pub fn new(alloc: Global) -> Self
+        ensures { result ≡ [] }
+    {
+        Seats {
+            rows: Vec::new(alloc),
+        }
+    }
+
+    /// The number of a consumer's taker. None exactly where it has none.
+    pub fn taker_of(&self, id: ConsumerId) -> Option<u32>
+        ensures { result ≡ taker_of id self.now }
+    {
+        todo!()
+    }
+
+    /// Gives a consumer a taker, after those of lower tags. Out of memory, all is as before.
+    pub fn sit(&mut self, id: ConsumerId, number: u32) -> Result<(), Memory>
+        ensures ok { OnOk result (self.new ≡ sit (record { consumer = id; number = number }) self.old) }
+        ensures err { OnErr result (self.new ≡ self.old) }
+        ensures want { IsOkUnless result Memory.Want }
+    {
+        todo!()
+    }
+
+    /// The first of those that lose their takers gives it up, and is answered. None exactly where there is none.
+    pub fn leave_first(&mut self, whom: Leaving) -> Option<Seat>
+        ensures seat { result ≡ find (leaves whom) self.old }
+        ensures after { self.new ≡ without_first whom self.old }
+    {
+        todo!()
+    }
+}
