@@ -1,5 +1,5 @@
 -- The takers of a run, under the numbers 1, 2, 3 and so on.
-use Rattle.std.specs.Prelude.{ℕ, zero, suc, List, Bool, false, true, Option, None, Some, map, slice_get}
+use Rattle.std.specs.Prelude.{◌≡◌, ℕ, zero, suc, List, Bool, false, true, Option, None, Some, map, slice_get}
 use Rattle.std.specs.List.{slice_set}
 use Rattle.std.specs.Option.{option_map_or}
 use Rattle.qq_entry.specs.declared.answer.Delivery.{Delivery}
@@ -81,6 +81,10 @@ is_given_by _ = false
 
 abbrev pub is_given : ℕ → Takers → Bool
 is_given number all = option_map_or is_given_by (taker_at number all) false
+
+abbrev pub LooksAt : Delivery → Option Verdict → Held → Held → Type 0
+LooksAt delivery None old new = (is_given_by old ≡ false) × (new ≡ old)
+LooksAt delivery (Some verdict) old new = (is_given_by old ≡ true) × (new ≡ look delivery verdict old)
 
 -- a delivery was offered: the taker has given this verdict, or there was none
 abbrev pub IsOffered : ℕ → Delivery → Option Verdict → Takers → Takers → Type 0

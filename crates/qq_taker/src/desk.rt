@@ -1,11 +1,12 @@
 ghost use Rattle.std.specs.Prelude.{◌≡◌, ◌++◌, ◌∷◌, [], IfOk, IsOkUnless, OnErr, OnOk};
-ghost use Rattle.qq_taker.specs.Takers.{Free, Held, drop_at, give, is_free, is_given, judge};
+ghost use Rattle.qq_taker.specs.Takers.{Free, IsOffered, LooksAt, drop_at, give, hand, held_by, is_free, is_free_by};
 
 use crate::taker::{Taker, Verdict};
 use qq_base::Memory;
 use qq_entry::Delivery;
 use std::alloc::Global;
 use std::marker::Model;
+use std::mem;
 
 /// A taker at its place.
 #[derive(Drop)]
@@ -16,6 +17,47 @@ pub(crate) enum Place<T: Drop> {
     Given(T),
     /// It was dropped.
     Gone,
+}
+
+impl<T: Taker> Place<T> {
+    fn is_free(&self) -> bool
+        ensures { result ≡ is_free_by (held_by T.seen self.now) }
+    {
+        match self {
+            Place::Free(_) => true,
+            Place::Given(_) => false,
+            Place::Gone => false,
+        }
+    }
+
+    // It is given to a consumer, where it may be.
+    fn give(&mut self)
+        ensures { held_by T.seen self.new ≡ hand (held_by T.seen self.old) }
+    {
+        let place = mem::replace(self, Place::Gone);
+        *self = match place {
+            Place::Free(taker) => Place::Given(taker),
+            Place::Given(taker) => Place::Given(taker),
+            Place::Gone => Place::Gone,
+        };
+    }
+
+    // It is offered a delivery, where it was given to a consumer.
+    fn offer(&mut self, delivery: &Delivery) -> Result<Option<Verdict>, Memory>
+        ensures ok { IfOk result (λ answer. LooksAt delivery.now answer
+            (held_by T.seen self.old) (held_by T.seen self.new)) }
+        ensures err { OnErr result (held_by T.seen self.new ≡ held_by T.seen self.old) }
+        ensures want { IsOkUnless result Memory.Want }
+    {
+        match self {
+            Place::Given(taker) => match taker.take(delivery) {
+                Ok(verdict) => Ok(Some(verdict)),
+                Err(cause) => Err(cause),
+            },
+            Place::Free(_) => Ok(None),
+            Place::Gone => Ok(None),
+        }
+    }
 }
 
 /// The takers of a run, under the numbers 1, 2, 3 and so on. Each may be given to one consumer, once.
@@ -62,8 +104,8 @@ impl<T: Taker> Desk<T> {
             return false;
         }
         match self.rows.get(number as usize - 1) {
-            Some(Place::Free(_)) => true,
-            _ => false,
+            None => false,
+            Some(place) => place.is_free(),
         }
     }
 
@@ -71,7 +113,12 @@ impl<T: Taker> Desk<T> {
     pub fn give(&mut self, number: u32)
         ensures { self.new ≡ give number self.old }
     {
-        todo!()
+        if number == 0 {
+            return;
+        }
+        if let Some(place) = self.rows.get_mut(number as usize - 1) {
+            place.give();
+        }
     }
 
     /// Offers a delivery to the taker of this number, and answers its verdict. None exactly where none of this number
@@ -84,13 +131,24 @@ impl<T: Taker> Desk<T> {
         ensures err { OnErr result (self.new ≡ self.old) }
         ensures want { IsOkUnless result Memory.Want }
     {
-        todo!()
+        if number == 0 {
+            return Ok(None);
+        }
+        match self.rows.get_mut(number as usize - 1) {
+            None => Ok(None),
+            Some(place) => place.offer(delivery),
+        }
     }
 
     /// Drops the taker of this number, where there is one.
     pub fn drop_at(&mut self, number: u32)
         ensures { self.new ≡ drop_at number self.old }
     {
-        todo!()
+        if number == 0 {
+            return;
+        }
+        if let Some(place) = self.rows.get_mut(number as usize - 1) {
+            *place = Place::Gone;
+        }
     }
 }

@@ -3,6 +3,7 @@
 
 mod desk;
 mod fixed;
+mod handed;
 mod laws;
 mod noting;
 mod seats;
@@ -10,6 +11,7 @@ mod taker;
 
 pub use desk::Desk;
 pub use fixed::FixedTaker;
+pub use handed::Handed;
 pub use laws::{given_takers_see_what_they_are_offered, takers_are_given_once, takers_see_nothing_after_the_drop};
 pub use noting::NotingTaker;
 pub use qq_base::{ConsumerId, Memory};

@@ -22,6 +22,17 @@ pub enum Leaving {
     Session(SessionId),
 }
 
+impl Leaving {
+    fn leaves(&self, seat: &Seat) -> bool
+        ensures { result ≡ leaves self.now seat.now }
+    {
+        match self {
+            Leaving::Consumer(id) => seat.consumer == *id,
+            Leaving::Session(session) => seat.consumer.session == *session,
+        }
+    }
+}
+
 /// The consumers of a queue that have a taker. Contracts see them in the order of their tags.
 #[derive(Drop)]
 pub struct Seats {
@@ -51,7 +62,12 @@ impl Seats {
     pub fn taker_of(&self, id: ConsumerId) -> Option<u32>
         ensures { result ≡ taker_of id self.now }
     {
-        todo!()
+        for seat in &self.rows {
+            if seat.consumer == id {
+                return Some(seat.number);
+            }
+        }
+        None
     }
 
     /// Gives a consumer a taker, after those of lower tags. Out of memory, all is as before.
@@ -60,7 +76,20 @@ impl Seats {
         ensures err { OnErr result (self.new ≡ self.old) }
         ensures want { IsOkUnless result Memory.Want }
     {
-        todo!()
+        let mut at = 0;
+        let count = self.rows.len();
+        'rows: while at < count {
+            if id.tag < self.rows[at].consumer.tag {
+                break;
+            }
+            at += 1;
+        }
+        let seat = Seat {
+            consumer: id,
+            number,
+        };
+        self.rows.insert(at, seat)?;
+        Ok(())
     }
 
     /// The first of those that lose their takers gives it up, and is answered. None exactly where there is none.
@@ -68,6 +97,14 @@ impl Seats {
         ensures seat { result ≡ find (leaves whom) self.old }
         ensures after { self.new ≡ without_first whom self.old }
     {
-        todo!()
+        let count = self.rows.len();
+        'rows: for at in 0..count {
+            let seat = self.rows[at];
+            if whom.leaves(&seat) {
+                let _ = self.rows.remove(at);
+                return Some(seat);
+            }
+        }
+        None
     }
 }
