@@ -5,7 +5,6 @@ use Rattle.qq_base.specs.Ids.{client, same_session}
 use Rattle.qq_consuming.specs.Consumers.{come, know_by, taken}
 use Rattle.qq_consuming.specs.Consuming.{Received, missing}
 use Rattle.qq_consuming.specs.Fetched.{out_from}
-use Rattle.qq_base.specs.declared.ids.ConsumerId.{ConsumerId}
 use Rattle.qq_entry.specs.declared.answer.Delivery.{Delivery}
 use Rattle.qq_entry.specs.declared.audit.Effect.{Effect}
 use Rattle.qq_entry.specs.declared.audit.Effect.TheVariants.{Deliver}
@@ -15,14 +14,10 @@ use Rattle.qq_model.specs.Audit.{state_after}
 use Rattle.qq_model.specs.State.{State, empty_queue}
 use Rattle.qq_raft_model.specs.State.{Server}
 use Rattle.qq_session.specs.Clients.{Clients, may_hand}
+use Rattle.qq_taker.specs.declared.handed.Handed.{Handed}
 use Rattle.qq_session.specs.Shown.{is_delivered_to}
 
 -- ---- what comes, and what is handed out
-
--- a delivery that was handed out to a consumer
-pub record Handed : Type 0 where
-  pub consumer : ConsumerId
-  pub delivery : Delivery
 
 -- an effect delivers, unless what comes to the session is lost; a dead letter comes to no consumer
 abbrev pub comes : Clients → Effect → List Received → List Received

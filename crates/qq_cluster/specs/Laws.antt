@@ -24,7 +24,7 @@ use Rattle.qq_session.specs.Deeds.{takes_of}
 use Rattle.qq_session.specs.Shown.{Shown, Delivered, NoLeader, Taken}
 use Rattle.qq_taker.specs.Seen.{seen_of}
 use Rattle.qq_taker.specs.declared.taker.Seen.{Seen}
-use Rattle.qq_cluster.specs.Delivering.{Handed}
+use Rattle.qq_taker.specs.declared.handed.Handed.{Handed}
 use Rattle.qq_taker.specs.Seats.{taker_of}
 use Rattle.qq_taker.specs.declared.seats.Seat.{Seat}
 use Rattle.qq_cluster.specs.Queue.{Queue, Event, Attaches, Submits, Downs, Ends, acts, audit_rows, moves, happens, said, after, begin, leader, rows_told}

@@ -27,7 +27,8 @@ use Rattle.qq_session.specs.Shown.{Shown, Attached, HasEnded, IsBusy, NotTaken, 
 use Rattle.qq_taker.specs.Seats.{sit, taker_of}
 use Rattle.qq_taker.specs.declared.seats.Seat.{Seat}
 use Rattle.qq_taker.specs.declared.taker.Verdict.{Verdict}
-use Rattle.qq_cluster.specs.Delivering.{Handed, come_all, hand_all, learn, fetch}
+use Rattle.qq_taker.specs.declared.handed.Handed.{Handed}
+use Rattle.qq_cluster.specs.Delivering.{come_all, hand_all, learn, fetch}
 use Rattle.qq_cluster.specs.Taking.{answers, delivered, judged, seated, told_then, unjudged, waiting_then}
 
 -- ---- the leader

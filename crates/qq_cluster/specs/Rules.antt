@@ -8,7 +8,7 @@ use Rattle.qq_consuming.specs.Consumers.{not_taken_of}
 use Rattle.qq_entry.specs.declared.command.Unstamped.{Unstamped}
 use Rattle.qq_raft_model.specs.Group.{has_node, may_restart}
 use Rattle.qq_taker.specs.declared.taker.Verdict.{Verdict}
-use Rattle.qq_cluster.specs.Delivering.{Handed}
+use Rattle.qq_taker.specs.declared.handed.Handed.{Handed}
 use Rattle.qq_cluster.specs.Queue.{Queue, Event, Submits, TellsEnded, TellsNotTaken, Judges, Resends, Fetches, Downs, Ticks, Delivers, Notices, waiting}
 use Rattle.qq_cluster.specs.Taking.{command_for}
 use Rattle.qq_cluster.specs.Cluster.{Setup, Cluster, ClusterEvent, EndsEach, Alike, At, NodeWrites, NodeSyncs, Fails, FindsEach, SaysBusy, SaysEnded, cluster_after, members}

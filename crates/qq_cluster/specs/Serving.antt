@@ -6,7 +6,7 @@ use Rattle.qq_script_lines.specs.declared.line.ScriptLine.{ScriptLine}
 use Rattle.qq_script_lines.specs.declared.line.ScriptLine.TheVariants as lines
 use Rattle.qq_cluster.specs.Queue.{Event, Submits, TellsEnded, TellsNotTaken, Attaches, Judges, Resends, Fetches, Downs, Ticks, Delivers, Loses, Copies, Notices}
 use Rattle.qq_taker.specs.declared.taker.Verdict.TheVariants.{Keep}
-use Rattle.qq_cluster.specs.Delivering.{Handed}
+use Rattle.qq_taker.specs.declared.handed.Handed.{Handed}
 use Rattle.qq_cluster.specs.Cluster.{Setup, Cluster, ClusterEvent, MutesEach, EndsEach, Sets, Alike, At, NodeWrites, NodeSyncs, Crashes, FindsEach, Shows, SaysDown, SaysNoSuch, SaysUnroutable, SaysBusy, SaysEnded, cluster_after, members}
 use Rattle.qq_cluster.specs.Rules.{some_queue, waits_written, waits_synced, waits_noticed, is_idle, most_rounds, is_ended, not_taken}
 use Rattle.qq_cluster.specs.Lines.{publish_with, nodes_of, receiver_at}

@@ -15,7 +15,7 @@ use Rattle.qq_taker.specs.declared.seats.Leaving.TheVariants.{Consumer, Session}
 use Rattle.qq_taker.specs.declared.seats.Seat.{Seat}
 use Rattle.qq_taker.specs.declared.taker.Verdict.{Verdict}
 use Rattle.qq_taker.specs.declared.taker.Verdict.TheVariants.{Settle, Return, Discard, Keep}
-use Rattle.qq_cluster.specs.Delivering.{Handed}
+use Rattle.qq_taker.specs.declared.handed.Handed.{Handed}
 
 -- ---- what is told, and what waits
 
