@@ -210,7 +210,7 @@ at-commanded None session place = at-nothing place
 at-commanded (Some body) session place = at-given session place body
 
 at-judged : (place : ℕ) (all : List Handed) → AllowsAt place (IsJudgedWhere place all)
-at-judged place [] = at-nothing place
+at-judged place [] c events is = at-nothing place c events is
 at-judged place (h ∷ more) c events is =
     subst (AreAt place) (sym is.is.is)
     (AllByRecursion-append (IsAt place) is.is.early is.is.late
@@ -218,7 +218,7 @@ at-judged place (h ∷ more) c events is =
     (at-commanded _ h.consumer.session.number place (cluster_after c is.is.early) is.is.late is.is.second))
 
 at-times : (place n : ℕ) (Each : Rule) → AllowsAt place Each → AllowsAt place (Times n Each)
-at-times place zero Each each = at-nothing place
+at-times place zero Each each c events is = at-nothing place c events is
 at-times place (suc n) Each each c events is =
     subst (AreAt place) (sym is.is)
     (AllByRecursion-append (IsAt place) is.early is.late (each c is.early is.first)
