@@ -119,11 +119,11 @@ delivered-at id [] = refl
 delivered-at id (h ∷ more) =
     ap (cons_option (cond (same_consumer h.consumer id) (Some h.delivery) None)) (delivered-at id more)
 
-answers-none : (id : ConsumerId) (rows : List AuditRow) → deliveries_shown id (map Answered rows) ≡ []
+pub answers-none : (id : ConsumerId) (rows : List AuditRow) → deliveries_shown id (map Answered rows) ≡ []
 answers-none id [] = refl
 answers-none id (row ∷ rows) = answers-none id rows
 
-offered-none : (id : ConsumerId) (ready : Bool) (session : ℕ) (commands : List Command)
+pub offered-none : (id : ConsumerId) (ready : Bool) (session : ℕ) (commands : List Command)
     → deliveries_shown id (said_of ready session commands) ≡ []
 offered-none id true session commands = refl
 offered-none id false session [] = refl

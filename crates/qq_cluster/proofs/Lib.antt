@@ -15,6 +15,9 @@ mod SessionLaws
 pub mod Counts
 pub mod EachQueue
 mod Settling
+mod Judging
+mod Seating
+mod TakerRuns
 mod Serving
 mod Stopping
 mod Worked
