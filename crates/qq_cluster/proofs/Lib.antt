@@ -22,3 +22,4 @@ mod Serving
 mod Stopping
 mod Worked
 mod WorkedConsumers
+mod WorkedTakers
