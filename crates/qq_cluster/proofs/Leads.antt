@@ -116,10 +116,10 @@ full session body q most =
         group = group_after q.group (submits (leader q.group) (offered q.clients (Submits session body)));
       }) (waits-same q.untold q.seats)
           ∙ ap (λ (c : Clients). record q {
-        clients = c;
-        consumers = known q.clients (Submits session body) q.consumers;
-        group = group_after q.group (submits (leader q.group) (offered q.clients (Submits session body)));
-      }) clients
+            clients = c;
+            consumers = known q.clients (Submits session body) q.consumers;
+            group = group_after q.group (submits (leader q.group) (offered q.clients (Submits session body)));
+          }) clients
           ∙ ap (λ (l : List Received). record q {
             consumers = l;
             group = group_after q.group (submits (leader q.group) (offered q.clients (Submits session body)));
@@ -170,8 +170,8 @@ leader-told session q used =
         group = group_after q.group (submits (leader q.group) (offered q.clients (Downs session)));
       }) (waits-same q.untold q.seats)
           ∙ ap (λ (o : Option ℕ). record q {
-        group = group_after q.group (submits o (offered q.clients (Downs session)));
-      }) is
+            group = group_after q.group (submits o (offered q.clients (Downs session)));
+          }) is
           ∙ ap (λ (l : List Move). record q { group = group_after q.group l })
           (submits-none (offered q.clients (Downs session)));
       told = λ is. ap (λ (o : Option ℕ). said_of (is_some o) session (offered q.clients (Downs session))) is

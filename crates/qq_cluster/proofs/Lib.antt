@@ -15,8 +15,10 @@ mod SessionLaws
 pub mod Counts
 pub mod EachQueue
 mod Settling
+mod Quiet
 mod Judging
 mod Seating
+mod TakerSees
 mod TakerRuns
 mod Serving
 mod Stopping

@@ -1,9 +1,9 @@
 -- Who has the taker of a number: one consumer, until that taker is dropped, and then nobody.
-use Rattle.std.proofs.Common.{◌≡◌, ◌⊎◌, ℕ, Bool, true, false, not, cond, List, [], ◌∷◌, Option, Some, None, filter, refl, sym, ap, ◌∙◌, subst, inl, inr}
+use Rattle.std.proofs.Common.{◌≡◌, ◌⊎◌, ℕ, Bool, true, false, not, cond, List, [], ◌∷◌, Option, Some, None, refl, sym, ap, ◌∙◌, subst, inl, inr}
 use Rattle.std.specs.Prelude.{find, nat_eq, nat_lt}
 use Rattle.std.specs.List.{AllByRecursion}
 use Rattle.std.specs.Option.{option_map}
-use Rattle.std.proofs.lemmas.Bool.{cond_both, eq-eqb, eqb-true, false≢true}
+use Rattle.std.proofs.lemmas.Bool.{cond_both, eq-eqb, false≢true}
 use Rattle.qq_base.proofs.Lists.{AllByRecursion-filter}
 use Rattle.qq_base.specs.Ids.{same_consumer, same_session}
 use Rattle.qq_base.specs.declared.ids.ConsumerId.{ConsumerId}
@@ -85,7 +85,8 @@ sit-new new (seat ∷ more) none =
   where
     first : (rest : List Seat) → taker_of new.consumer (new ∷ rest) ≡ Some new.number
     first rest =
-        ap (λ (b : Bool). number_of (cond b (Some new) (find (is_of new.consumer) rest))) (same_consumer-refl new.consumer)
+        ap (λ (b : Bool). number_of (cond b (Some new) (find (is_of new.consumer) rest)))
+        (same_consumer-refl new.consumer)
 
     by : (b : Bool) → same_consumer seat.consumer new.consumer ≡ b
         → number_of (cond b (Some seat) (find (is_of new.consumer) more)) ≡ None
@@ -139,7 +140,8 @@ module _ (number : ℕ) (id : ConsumerId) where
       by false there none' rest = (own.0 ∙ there, rest none')
 
   -- nobody else has it
-  pub whose : (c : ConsumerId) (seats : List Seat) → AllByRecursion IsOwn seats → taker_of c seats ≡ Some number → c ≡ id
+  pub whose : (c : ConsumerId) (seats : List Seat) → AllByRecursion IsOwn seats → taker_of c seats ≡ Some number
+      → c ≡ id
   whose c [] own has = absurd (let e : None ≡ Some number = has in cc)
   whose c (seat ∷ more) own has = by (same_consumer seat.consumer c) refl has (whose c more own.1)
     where
@@ -221,7 +223,8 @@ module _ (number : ℕ) (id : ConsumerId) where
       → IsSeated (attach id number (taker_of id seats) seats)
   first-seated seats other none =
       subst (λ (o : Option ℕ). IsSeated (attach id number o seats)) (sym none) (record {
-        own = sit-all IsOwn new seats (eq-eqb number number refl ∙ sym (same_consumer-refl id)) (other-own seats other none);
+        own = sit-all IsOwn new seats (eq-eqb number number refl ∙ sym (same_consumer-refl id))
+            (other-own seats other none);
         has = sit-new new seats none;
       })
     where

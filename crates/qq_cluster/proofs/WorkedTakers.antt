@@ -101,7 +101,8 @@ round-is c told r = record {
     early = [];
     late = [];
     is = refl;
-    first = subst (λ (n : ℕ). Times n (Tells 1 (Delivers 0)) (cluster_after c (round_of_one ++ told)) []) (sym r.bag) refl;
+    first = subst (λ (n : ℕ). Times n (Tells 1 (Delivers 0)) (cluster_after c (round_of_one ++ told)) []) (sym r.bag)
+        refl;
     second = refl;
   };
 }

@@ -121,8 +121,8 @@ missed =
 abbrev pub settle_untaken : List ScriptLine
 settle_untaken = Client (client 1) (at_queue 1) (Settle 1 (1 ∷ [])) ∷ []
 
--- The second delivery comes, and waits for the first one, which was missed. Only once both were handed out it is settled,
--- and the next one comes.
+-- The second delivery comes, and waits for the first one, which was missed. Only once both were handed out it is
+-- settled, and the next one comes.
 abbrev pub in_order : List ScriptLine
 in_order =
     subscribe 2 ∷ Mute (client 2) true ∷ Publish (codes "a") ∷ Mute (client 2) false ∷ Publish (codes "b")
