@@ -1,4 +1,7 @@
 pub mod Groups
+pub mod Outcomes
+pub mod Takerless
+pub mod Handing
 mod Told
 mod Consumed
 mod Made
@@ -10,7 +13,6 @@ mod PrintedOnce
 mod Leads
 mod SessionLaws
 pub mod Counts
-pub mod Takerless
 pub mod EachQueue
 mod Settling
 mod Serving
