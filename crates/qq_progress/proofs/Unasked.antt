@@ -1,5 +1,5 @@
 -- An opening has nothing of a client, and what no client asks for leaves new sessions as they are.
-use Rattle.std.proofs.Common.{◌≡◌, ℕ, zero, suc, Bool, true, false, cond, eqb, List, [], ◌∷◌, Option, Some, None, refl, sym, ap, ◌∙◌, subst, inl, inr}
+use Rattle.std.proofs.Common.{◌≡◌, ℕ, zero, suc, Bool, true, false, cond, eqb, List, [], ◌∷◌, ◌++◌, Option, Some, None, refl, sym, ap, ◌∙◌, subst, inl, inr}
 use Rattle.std.specs.Prelude.{◌&&◌, length, replicate}
 use Rattle.std.specs.List.{AllByRecursion}
 use Rattle.std.proofs.lemmas.Bool.{cond_both}
@@ -14,6 +14,8 @@ use Rattle.qq_script.specs.Text.{seq_of}
 use Rattle.qq_session.specs.Publishing.{Numbers, closes, new_numbers, without}
 use Rattle.qq_session.specs.Clients.{Client, Clients, hear, hear_all, hear_by, new_client, sender, take_answer}
 use Rattle.qq_cluster.specs.Cluster.{Cluster, ClusterEvent, Sets, Alike, At, NodeWrites, NodeSyncs, Fails, Crashes, FindsEach, Shows, SaysDown, SaysNoSuch, SaysUnroutable, SaysBusy, SaysEnded, Setup, cluster_after, cluster_happens, members, new_cluster, part_of, parts_of}
+use Rattle.qq_cluster.specs.ClusterLaws.{verdict_at, verdicts}
+use Rattle.qq_taker.specs.declared.taker.Verdict.{Verdict}
 use Rattle.qq_cluster.specs.Queue.{Queue, Event, Mutes, Ends, Submits, TellsEnded, TellsNotTaken, Attaches, Judges, Resends, Fetches, Downs, Ticks, Delivers, Loses, Copies, Writes, Syncs, Notices, Stops, Finds, after, happens, rows_told}
 use Rattle.qq_cluster.specs.Rules.{ForEach, Is, IsEmptied, IsFirstTick, IsFound, IsNodeRound, IsNothing, IsNotice, IsOpening, IsPump, IsRestart, IsRound, IsSync, IsSynced, IsWrite, IsWritten, MayRoll, Pumps, Rule, Tells, Then, if_so, is_idle, most_rounds, some_queue, tick_at, waits_noticed, waits_synced, waits_written}
 use Rattle.qq_cluster.proofs.Takerless.{GivesNone, IsTakerless, emptied-is, takerless-all, takerless-begin, tells-one}
@@ -121,6 +123,17 @@ parts-unasked place [] calm = tt
 parts-unasked place (event ∷ events) calm =
     AllByRecursion-append IsUnasked (part_of place event) (parts_of place events) (part-unasked place event calm.0)
     (parts-unasked place events calm.1)
+
+-- no taker has given a verdict
+no-verdict : (event : ClusterEvent) → IsUnaskedOf event → verdict_at event ≡ []
+no-verdict (At place (Judges verdict)) calm = absurd calm
+no-verdict (At place event) calm = refl
+no-verdict event calm = refl
+
+pub no-verdicts : (events : List ClusterEvent) → AreUnasked events → verdicts events ≡ []
+no-verdicts [] calm = refl
+no-verdicts (event ∷ events) calm =
+    ap (λ (l : List Verdict). l ++ verdicts events) (no-verdict event calm.0) ∙ no-verdicts events calm.1
 
 -- where no queue has a taker, none has one after that
 abbrev pub AreTakerless : Cluster → Type 0
@@ -241,7 +254,7 @@ of-round setup =
     (of-each setup.places (IsNotice k) (of-notice k)))))
     (of-each setup.places IsEmptied of-emptied)
 
-of-pumps : (n : ℕ) (setup : Setup) → AllowsUnasked (Pumps n setup)
+pub of-pumps : (n : ℕ) (setup : Setup) → AllowsUnasked (Pumps n setup)
 of-pumps zero setup c =
     of-test (is_idle setup c) IsNothing (Is SaysBusy) of-nothing
     (λ d es free is. of-one es (SaysBusy ∷ []) (tt, tt) is) c
