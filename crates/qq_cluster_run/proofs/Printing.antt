@@ -266,8 +266,14 @@ prints_all options s ended = by (told 0 options s ended)
         let all = all-served options s so.over.setup so.over.served.left so.over.served.behind so.all in (
           so.over.setup,
           so.over.is_setup,
-          (all.behind, so.read, all.behind.disks, all-course options s so.over.setup so.over.served.left
-          so.over.served.behind all so.course, so.prints ∙ ap (λ (l : List ℕ). s.old ++ l) all.text),
+          (
+            all.behind,
+            so.read,
+            all.behind.disks,
+            all-course options s so.over.setup so.over.served.left
+                so.over.served.behind all so.course,
+            so.prints ∙ ap (λ (l : List ℕ). s.old ++ l) all.text,
+          ),
         )
     by (Refused is so) = absurd (omega (arith, is))
     by (ReadFault is so) = absurd (omega (arith, is))
