@@ -1,4 +1,7 @@
 pub mod Groups
+pub mod Outcomes
+pub mod Takerless
+pub mod Handing
 mod Told
 mod Consumed
 mod Made

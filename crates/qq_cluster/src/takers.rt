@@ -51,7 +51,7 @@ pub fn takers_see_runs_of_deliveries()
 
 /// A law: a consumer that has a taker gets no second one, and is told whose number it has.
 pub fn a_consumer_has_one_taker()
-    ensures { (q : Queue) (session tag number other : ℕ) →
+    ensures second { (q : Queue) (session tag number other : ℕ) →
         taker_of (consumer_of session tag) q.seats ≡ Some other →
         ((happens q (Attaches session tag number)).seats ≡ q.seats)
         × (said q (Attaches session tag number) ≡ IsBusy session other ∷ []) }

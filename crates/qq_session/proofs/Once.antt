@@ -29,7 +29,7 @@ use Rattle.qq_session.proofs.AuditRows.{RowAt, row_at, filter_map-append}
 use Rattle.qq_session.specs.ExactlyOne.{ExactlyOne}
 use Rattle.qq_session.specs.Printed.{IsAnswer, IsAudited, IsConfirmedPublish, IsConfirmedOnce}
 use Rattle.qq_session.specs.Clients.{sender, sender_by, ended_by}
-use Rattle.qq_session.specs.Shown.{Shown, Answered, Delivered, NoLeader, WindowFull, HasEnded, NotTaken}
+use Rattle.qq_session.specs.Shown.{Shown, Answered, Delivered, NoLeader, WindowFull, HasEnded, NotTaken, Attached, IsBusy, Taken, Dropped}
 use Rattle.qq_session.proofs.Confirming.{IsEnqueue, confirmed-enqueue}
 
 -- ---- places in a list
@@ -244,5 +244,9 @@ confirmed-once args entries counts answered (NoLeader session) audited = tt
 confirmed-once args entries counts answered (WindowFull session) audited = tt
 confirmed-once args entries counts answered (HasEnded session) audited = tt
 confirmed-once args entries counts answered (NotTaken session id) audited = tt
+confirmed-once args entries counts answered (Attached session number) audited = tt
+confirmed-once args entries counts answered (IsBusy session number) audited = tt
+confirmed-once args entries counts answered (Taken number consumer delivery verdict) audited = tt
+confirmed-once args entries counts answered (Dropped session number) audited = tt
 confirmed-once args entries counts answered (Answered row) audited =
     λ given is confirmed. answer-once args entries counts answered row audited given is confirmed

@@ -11,7 +11,7 @@ use Rattle.qq_session.proofs.AuditRows.{Contains-middle}
 use Rattle.qq_base.specs.Fronts.{IsFront}
 use Rattle.qq_session.specs.Printed.{IsAnswer, IsAudited}
 use Rattle.qq_session.specs.Clients.{Clients, sender, ended_by, tells_end, hear, is_printed_by, is_printed, printed}
-use Rattle.qq_session.specs.Shown.{Shown, Answered, Delivered, NoLeader, WindowFull, HasEnded, NotTaken, said_of}
+use Rattle.qq_session.specs.Shown.{Shown, Answered, Delivered, NoLeader, WindowFull, HasEnded, NotTaken, Attached, IsBusy, Taken, Dropped, said_of}
 
 pub each-contained : {A : Type 0} (xs : List A) → AllByRecursion (Contains xs) xs
 each-contained [] = tt
@@ -76,3 +76,7 @@ later-audited a b front (NoLeader session) is = tt
 later-audited a b front (WindowFull session) is = tt
 later-audited a b front (HasEnded session) is = tt
 later-audited a b front (NotTaken session id) is = tt
+later-audited a b front (Attached session number) is = tt
+later-audited a b front (IsBusy session number) is = tt
+later-audited a b front (Taken number consumer delivery verdict) is = tt
+later-audited a b front (Dropped session number) is = tt
