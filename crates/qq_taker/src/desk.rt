@@ -73,29 +73,32 @@ impl<T: Taker> Place<T> {
 #[derive(Drop)]
 pub struct Desk<T: Taker> {
     rows: Vec<Place<T>>,
+    heard: Option<Vec<Handed>>,
 }
 
 impl<T: Taker> Model for Desk<T> {
-    ghost use Rattle.qq_taker.specs.Takers.{Takers, takers_of};
+    ghost use Rattle.qq_taker.specs.Takers.{Takers, heard_of, held_of};
 
     ghost Value = { Takers };
 
-    ghost view = { λ d. takers_of T.seen d.rows.items };
+    ghost view = { λ d. record { held = held_of T.seen d.rows.items; heard = heard_of d.heard } };
 }
 
 impl<T: Taker> Desk<T> {
-    /// No taker. It takes no memory.
+    /// No taker, and nobody listens. It takes no memory.
     pub fn new(alloc: Global) -> Self
-        ensures { result ≡ [] }
+        ensures { result ≡ no_takers }
     {
         Desk {
             rows: Vec::new(alloc),
+            heard: None,
         }
     }
 
     /// Adds a taker that may be given to a consumer, under the next number. Out of memory, all is as before.
     pub fn add(&mut self, taker: T) -> Result<(), Memory>
-        ensures ok { OnOk result (self.new ≡ self.old ++ Free (T.seen taker) ∷ []) }
+        ensures ok { OnOk result (self.new
+            ≡ record self.old { held = self.old.held ++ Free (T.seen taker) ∷ [] }) }
         ensures err { OnErr result (self.new ≡ self.old) }
         ensures want { IsOkUnless result Memory.Want }
     {
@@ -159,5 +162,31 @@ impl<T: Taker> Desk<T> {
             return;
         };
         place.leave();
+    }
+
+    /// From here on the deliveries are kept that are told to consumers without a taker. What was kept before is
+    /// dropped.
+    pub fn listen(&mut self, alloc: Global)
+        ensures { self.new ≡ listen self.old }
+    {
+        self.heard = Some(Vec::new(alloc));
+    }
+
+    /// A delivery is told to a consumer without a taker. Out of memory, all is as before.
+    pub fn hear(&mut self, alloc: Global, handed: &Handed) -> Result<(), Memory>
+        ensures ok { OnOk result (self.new ≡ hear handed.now self.old) }
+        ensures err { OnErr result (self.new ≡ self.old) }
+        ensures want { IsOkUnless result Memory.Want }
+    {
+        todo!()
+    }
+
+    /// The deliveries that were kept, in order; from here on those are kept that come next. None exactly where nobody
+    /// listens.
+    pub fn take_heard(&mut self, alloc: Global) -> Option<Vec<Handed>>
+        ensures heard { option_map (λ (list : _). list.items) result ≡ self.old.heard }
+        ensures rest { self.new ≡ record self.old { heard = option_map (λ (list : _). []) self.old.heard } }
+    {
+        todo!()
     }
 }
