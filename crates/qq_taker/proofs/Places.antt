@@ -32,7 +32,8 @@ module _ {T : Type 0} (seen : T → Option (List Seen)) (heard : Option (List Ha
       → taker_at number (desk_of rows) ≡ option_map (held_by seen) (slice_get rows (number - 1))
   at-place zero rows some = absurd (some refl)
   at-place (suc at) rows some =
-      slice_get-map (held_by seen) rows at ∙ ap (λ (k : ℕ). option_map (held_by seen) (slice_get rows k)) (sym (minus-one at))
+      slice_get-map (held_by seen) rows at
+      ∙ ap (λ (k : ℕ). option_map (held_by seen) (slice_get rows k)) (sym (minus-one at))
 
   -- one of the places was written
   pub changed : (number : ℕ) (rows : List (Place T)) (change : Held → Held) (old new : Place T)

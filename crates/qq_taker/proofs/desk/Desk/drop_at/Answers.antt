@@ -8,5 +8,6 @@ returns g c =
     let rows = c.self.inside.rows.items in
     let kept = heard_of c.self.inside.heard in
     changed g.T.Taker.seen kept c.args.number rows (λ (held : Held). Gone) c.in-Some.place.now c.leave.new.self
-    c.if-number-eq0.false (there rows _ c.in-Some.place.now c.in-Some.ensures.item.3.0 c.in-Some.ensures.value) c.leave.ensures
+    c.if-number-eq0.false (there rows _ c.in-Some.place.now c.in-Some.ensures.item.3.0 c.in-Some.ensures.value)
+    c.leave.ensures
     ∙ ap (drop_at c.args.number) c.self.view_is
