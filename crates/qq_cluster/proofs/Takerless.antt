@@ -61,7 +61,7 @@ answers-none (row ∷ rows) =
     ∙ ap (λ (l : List Shown). Answered row ∷ l) (answers-none rows)
 
 -- where nothing more is handed out, what waits is as before
-waiting-still : (untold : List Handed) (seats : List Seat) → waiting_then untold seats [] ≡ untold
+pub waiting-still : (untold : List Handed) (seats : List Seat) → waiting_then untold seats [] ≡ untold
 waiting-still [] seats = refl
 waiting-still (h ∷ more) seats = append-nil (h ∷ more)
 

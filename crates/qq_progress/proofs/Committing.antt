@@ -33,7 +33,8 @@ use Rattle.qq_progress.specs.Soon.{AreOnce}
 use Rattle.qq_progress.proofs.Hearing.{HasHeardAll, IsGiven, LeaderIs, Shows, all-heard, leader-tells, leads-ready, shows-nothing, shows-then, shows-told, waits-out}
 use Rattle.qq_progress.proofs.Leader.{HasOwnCommit, Notices, Waits, notice-waits}
 use Rattle.qq_progress.proofs.Printing.{Tells as ToldOf, row_after}
-use Rattle.qq_progress.proofs.Rounds.{IsSettled, OneTells, one-tells, said-append}
+use Rattle.qq_progress.proofs.Rounds.{IsSettled, OneTells, one-tells}
+use Rattle.qq_progress.proofs.Following.{said-append}
 use Rattle.qq_progress.proofs.Sending.{AllNext, IsNext, other-in}
 use Rattle.qq_progress.proofs.Sound.{AreHanded, IsSound, ops-counted, sound-all}
 use Rattle.qq_progress.proofs.Turns.{HasNone, IsEven}

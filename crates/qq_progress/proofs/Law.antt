@@ -54,7 +54,8 @@ use Rattle.qq_progress.proofs.Hearing.{IsGiven}
 use Rattle.qq_progress.proofs.Line.{AreWithin, can-commit, counted-at, line-asked, pumps-two}
 use Rattle.qq_progress.proofs.Playing.{AreCounted, Plays, counted-after, parts-fine, played, plays-print, plays-then, queue-is, round-plays}
 use Rattle.qq_progress.proofs.Printing.{Awaits, IsOther, row_after, audit-more}
-use Rattle.qq_progress.proofs.Rounds.{IsSettled, said-append}
+use Rattle.qq_progress.proofs.Rounds.{IsSettled}
+use Rattle.qq_progress.proofs.Following.{said-append}
 use Rattle.qq_progress.proofs.Sending.{CanCommit, plan_of, with_entry}
 use Rattle.qq_raft_model.specs.Leading.{append_to}
 use Rattle.qq_raft_msg.specs.declared.rpc.Rpc.{Rpc}

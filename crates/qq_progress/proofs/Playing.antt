@@ -25,7 +25,7 @@ use Rattle.qq_session.specs.Shown.{Shown}
 use Rattle.qq_progress.specs.Alone.{round_alone, turn_where, turns}
 use Rattle.qq_progress.specs.Soon.{AreOnce}
 use Rattle.qq_progress.proofs.Hearing.{contains-map}
-use Rattle.qq_progress.proofs.Rounds.{said-append}
+use Rattle.qq_progress.proofs.Following.{said-append}
 
 -- ---- clusters
 

@@ -19,17 +19,10 @@ use Rattle.qq_progress.specs.Alone.{turn, turn_where, turns}
 use Rattle.qq_progress.proofs.Exchange.{same_some}
 use Rattle.qq_progress.proofs.Feeding.{fed}
 use Rattle.qq_progress.proofs.Sound.{AreHanded, IsSound, sound-all}
-use Rattle.qq_progress.proofs.Turns.{HasNone, IsEven, Rests, Tells, answers_at, turn-rests, turn-shows, turn-tells}
+use Rattle.qq_progress.proofs.Turns.{HasNone, IsEven, Rests, Tells, answers_at, rests-quiet, turn-rests, turn-shows, turn-tells}
+use Rattle.qq_progress.proofs.Following.{AllQuiet, IsQuiet, quiet-after, quiet-append, said-append}
 
 -- ---- one after the other
-
-pub said-append : (q : Queue) (first second : List Event)
-    → all_said q (first ++ second) ≡ all_said q first ++ all_said (after q first) second
-said-append q [] second = refl
-said-append q (event ∷ first) second =
-    ap (λ (l : List Shown). said q event ++ l) (said-append (happens q event) first second)
-    ∙ sym (append_assoc (said q event) (all_said (happens q event) first)
-    (all_said (after (happens q event) first) second))
 
 turns-after : (up : ℕ → Bool) (j : ℕ) (nodes : List ℕ) (q : Queue)
     → after q (turns up (j ∷ nodes) q)
@@ -86,6 +79,35 @@ turns-rest up (j ∷ nodes) q each =
     subst (Rests q) (sym (turns-after up j nodes q))
     (rests-then q next (after next (turns up nodes next)) first
     (turns-rest up nodes next (λ i here node_up. settled-rests q next i first (each i (inr here) node_up))))
+
+where-quiet : (b : Bool) (j : ℕ) (q : Queue) → (b ≡ true → IsSettled j q) → IsQuiet q → AllQuiet q (turn_where b j q)
+where-quiet true j q settled quiet = let s = settled refl in rests-quiet j q s.0 s.1 quiet
+where-quiet false j q settled quiet = tt
+
+-- and nothing is handed out
+pub turns-quiet : (up : ℕ → Bool) (nodes : List ℕ) (q : Queue)
+    → ((j : ℕ) → In j nodes → up j ≡ true → IsSettled j q) → IsQuiet q → AllQuiet q (turns up nodes q)
+turns-quiet up [] q each quiet = tt
+turns-quiet up (j ∷ nodes) q each quiet =
+    let events : List Event = turn_where (up j) j q in
+    let next : Queue = after q events in
+    let first : Rests q next = where-rests (up j) j q (each j (inl refl)) in
+    let one = where-quiet (up j) j q (each j (inl refl)) quiet in
+    quiet-append q events (turns up nodes next) one
+    (turns-quiet up nodes next (λ i here node_up. settled-rests q next i first (each i (inr here) node_up))
+    (quiet-after q events quiet one))
+
+-- some nodes' turns, and then those of others
+pub turns-append : (up : ℕ → Bool) (first second : List ℕ) (q : Queue)
+    → turns up (first ++ second) q ≡ turns up first q ++ turns up second (after q (turns up first q))
+turns-append up [] second q = refl
+turns-append up (j ∷ first) second q =
+    let events : List Event = turn_where (up j) j q in
+    let next : Queue = after q events in
+    ap (λ (l : List Event). events ++ l) (turns-append up first second next)
+    ∙ sym (append_assoc events (turns up first next) (turns up second (after next (turns up first next))))
+    ∙ ap (λ (r : Queue). (events ++ turns up first next) ++ turns up second r)
+    (sym (after-append q events (turns up first next)))
 
 -- ---- one member has something to do
 
