@@ -336,6 +336,8 @@ pub deliveries-quiet : (nodes : List NodeId) (p : Talk) → Goes p → (ms rs : 
 deliveries-quiet nodes p goes [] rs q sound d quiet = tt
 deliveries-quiet nodes p goes (m ∷ ms) rs q sound d quiet =
     let one = one-delivery nodes p goes q m ms rs sound d in
-    let next = one-quiet nodes p goes q m ms rs sound d quiet in
-    (next, deliveries-quiet nodes p goes ms one.1.0 (happens q (Delivers 0)) (sound-event nodes q (Delivers 0) sound)
-    one.1.1 next)
+    let next = one-quiet nodes p goes q m ms rs sound d quiet in (
+      next,
+      deliveries-quiet nodes p goes ms one.1.0 (happens q (Delivers 0)) (sound-event nodes q (Delivers 0) sound)
+          one.1.1 next,
+    )

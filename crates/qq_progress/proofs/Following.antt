@@ -1,12 +1,12 @@
 -- Events that follow others, up to one after which a delivery waits for a taker.
-use Rattle.std.proofs.Common.{◌≡◌, ◌⊎◌, ℕ, zero, suc, Bool, true, false, cond, List, [], ◌∷◌, ◌++◌, length, refl, sym, ap, ◌∙◌, subst, inl, inr, append_assoc, append-nil}
+use Rattle.std.proofs.Common.{◌≡◌, ◌⊎◌, ℕ, zero, suc, Bool, true, false, cond, List, [], ◌∷◌, ◌++◌, length, refl, sym, ap, ◌∙◌, subst, inl, inr, append_assoc}
 use Rattle.std.specs.Prelude.{replicate}
 use Rattle.std.specs.List.{AllByRecursion}
 use Rattle.qq_base.proofs.Lists.{AllByRecursion-append}
 use Rattle.qq_session.specs.Shown.{Shown}
 use Rattle.qq_cluster.specs.Queue.{Queue, Event, Delivers, Notices, Syncs, Writes, after, all_said, effects_told, handed_out, happens, said, seats_after}
 use Rattle.qq_cluster.specs.Rules.{waits_noticed}
-use Rattle.qq_cluster.specs.Taking.{waiting_of, waiting_then}
+use Rattle.qq_cluster.specs.Taking.{waiting_then}
 use Rattle.qq_cluster.specs.Delivering.{hand_all}
 use Rattle.qq_cluster.proofs.Groups.{after-append}
 use Rattle.qq_cluster.proofs.Takerless.{GivesNone, IsTakerless, takerless-event, waiting-still}
@@ -63,7 +63,7 @@ quiet-after q [] waits quiet = waits
 quiet-after q (event ∷ events) waits quiet = quiet-after (happens q event) events quiet.0 quiet.1
 
 -- an event that hands nothing out
-silent-waits : (q : Queue) (event : Event) → IsQuiet q
+pub silent-waits : (q : Queue) (event : Event) → IsQuiet q
     → ((happens q event).untold ≡ waiting_then q.untold (seats_after q event) (handed_out q event))
     → handed_out q event ≡ [] → IsQuiet (happens q event)
 silent-waits q event waits is none =
@@ -126,6 +126,15 @@ pub record IsSame (q : Queue) (first second : List Event) : Type 0 where
   pub after_is : after q first ≡ after q second
   pub said_is : all_said q first ≡ all_said q second
 
+pub same-then : (q : Queue) (a b c d : List Event) → IsSame q a b → IsSame (after q b) c d → IsSame q (a ++ c) (b ++ d)
+same-then q a b c d first second = record {
+  after_is = after-append q a c ∙ ap (λ (r : Queue). after r c) first.after_is ∙ second.after_is
+      ∙ sym (after-append q b d);
+  said_is = said-append q a c ∙ ap (λ (l : List Shown). l ++ all_said (after q a) c) first.said_is
+      ∙ ap (λ (r : Queue). all_said q b ++ all_said r c) first.after_is
+      ∙ ap (λ (l : List Shown). all_said q b ++ l) second.said_is ∙ sym (said-append q b d);
+}
+
 -- it does nothing
 abbrev pub IsIdle : Queue → Event → Type 0
 IsIdle q event = (happens q event ≡ q) × (said q event ≡ [])
@@ -147,12 +156,19 @@ follows-then q a [] c second waits first next =
     subst (λ (l : List Event). (IsQuiet (after q l) → Follows (after q l) c (second (after q l)))
     → Follows q (l ++ c) (second q)) (sym first) (λ go. go waits) next
 follows-then q a (event ∷ b) c second waits (inl (rest, is, go)) next =
-    inl (rest ++ c, ap (λ (l : List Event). l ++ c) is, λ quiet.
-    follows-then (happens q event) rest b c second quiet (go quiet)
-    (subst (λ (l : List Event). IsQuiet (after q l) → Follows (after q l) c (second (after q l))) is next))
+    inl (
+      rest ++ c,
+      ap (λ (l : List Event). l ++ c) is,
+      λ quiet.
+          follows-then (happens q event) rest b c second quiet (go quiet)
+          (subst (λ (l : List Event). IsQuiet (after q l) → Follows (after q l) c (second (after q l))) is next),
+    )
 follows-then q a (event ∷ b) c second waits (inr (idle, rest)) next =
-    inr (idle, subst (λ (r : Queue). Follows q (a ++ c) (b ++ second (after r b))) (sym idle.0)
-    (follows-then q a b c second waits rest next))
+    inr (
+      idle,
+      subst (λ (r : Queue). Follows q (a ++ c) (b ++ second (after r b))) (sym idle.0)
+          (follows-then q a b c second waits rest next),
+    )
 
 idle-said : (q : Queue) (event : Event) (events : List Event) → IsIdle q event
     → all_said q (event ∷ events) ≡ all_said q events

@@ -9,7 +9,7 @@ use Rattle.qq_raft_protocol.specs.Facts.{In}
 use Rattle.qq_raft_model.specs.Group.{Group, Seat}
 use Rattle.qq_raft_model.specs.Server.{notice}
 use Rattle.qq_raft_model.specs.State.{Server}
-use Rattle.qq_cluster.specs.Queue.{Queue, Event, after, all_said, happens, own_effects, own_rows, said}
+use Rattle.qq_cluster.specs.Queue.{Queue, Event, after, all_said, own_effects, own_rows}
 use Rattle.qq_cluster.proofs.Groups.{after-append}
 use Rattle.qq_session.specs.Clients.{Clients, hear_all, printed}
 use Rattle.qq_session.specs.Shown.{Answered, Shown}
