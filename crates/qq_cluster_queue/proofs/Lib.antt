@@ -3,6 +3,8 @@ mod Auditing
 mod Rows
 mod Current
 mod Members
+mod Showing
+mod Waits
 mod Happening
 pub mod Logs
 mod Offering
