@@ -1,10 +1,13 @@
 -- What comes out of a queue, one shown after the other.
-use Rattle.std.proofs.Common.{◌≡◌, ℕ, List, [], ◌∷◌, ◌++◌, refl, sym, ap, subst, ◌∙◌, append_assoc, append-nil}
+use Rattle.std.proofs.Common.{◌≡◌, ℕ, List, [], ◌∷◌, ◌++◌, Option, Some, refl, sym, ap, subst, ◌∙◌, append_assoc, append-nil}
 use Rattle.std.specs.List.{flat_map}
 use Rattle.qq_base.specs.Fronts.{IsFront}
 use Rattle.qq_cluster.specs.Outcome.{Outcome, sees_all}
 use Rattle.qq_cluster.specs.Texts.{shown_text_as}
-use Rattle.qq_session.specs.Shown.{Shown}
+use Rattle.qq_session.specs.Shown.{Shown, Taken}
+use Rattle.qq_taker.specs.Takers.{IsOffered, Takers, judge}
+use Rattle.qq_taker.specs.declared.handed.Handed.{Handed}
+use Rattle.qq_taker.specs.declared.taker.Verdict.{Verdict}
 use Rattle.qq_cluster_queue.specs.ClusterQueue.{Shows}
 use Rattle.qq_cluster_queue.specs.Telling.{show, show_all}
 use Rattle.qq_cluster_queue.specs.declared.cluster_queue.ClusterQueue.{ClusterQueue}
@@ -56,3 +59,18 @@ one-front label shown before after is = record {
   rest = shown_text_as label.first label.name shown;
   is = ap (λ (o : Outcome). o.text) is;
 }
+
+-- a delivery was offered to a taker, and its verdict is told
+pub taken-shown : (label : Label) (number : ℕ) (h : Handed) (verdict : Verdict) (answer : Option Verdict)
+    (text later : List ℕ) (old new : Takers) → answer ≡ Some verdict → IsOffered number h.delivery answer old new
+    → later ≡ text ++ shown_text_as label.first label.name (Taken number h.consumer h.delivery verdict)
+    → ◌≡◌ {A = Outcome} (record { text = later; takers = new })
+    (show label (Taken number h.consumer h.delivery verdict) (record { text = text; takers = old }))
+taken-shown label number h verdict answer text later old new is offered said =
+    let judged : new ≡ judge number h.delivery verdict old =
+    (subst (λ (a : Option Verdict). IsOffered number h.delivery a old new) is offered).1 in
+    ap (λ (t : List ℕ). let o : Outcome = record { text = t; takers = new } in o) said
+    ∙ ap (λ (all : Takers). let o : Outcome = record {
+      text = text ++ shown_text_as label.first label.name (Taken number h.consumer h.delivery verdict);
+      takers = all;
+    } in o) judged

@@ -1,6 +1,6 @@
 -- What waits for a verdict, and what is told at once.
 use Rattle.std.proofs.Common.{◌≡◌, ◌+◌, ◌<◌, ◌≤◌, ℕ, suc, Bool, true, false, cond, List, [], ◌∷◌, ◌++◌, length, map, Option, Some, None, refl, sym, ap, ◌∙◌, arith}
-use Rattle.std.specs.Prelude.{filter, find, not}
+use Rattle.std.specs.Prelude.{IfNone, IfSome, filter, find, not, option_to_list}
 use Rattle.std.proofs.lemmas.Bool.{cond-true, cond-false}
 use Rattle.qq_cluster.specs.Outcome.{Outcome}
 use Rattle.qq_cluster.specs.Taking.{delivered, dropped_by, has_taker, told_of, told_then, waiting_of, waiting_then}
@@ -10,6 +10,7 @@ use Rattle.qq_taker.specs.declared.handed.Handed.{Handed}
 use Rattle.qq_taker.specs.declared.seats.Leaving.{Leaving}
 use Rattle.qq_taker.specs.declared.seats.Seat.{Seat}
 use Rattle.qq_cluster_queue.specs.Telling.{show, show_all}
+use Rattle.qq_cluster_queue.specs.Waiting.{is_plain}
 use Rattle.qq_cluster_queue.specs.declared.label.Label.{Label}
 
 -- ---- takers that are dropped
@@ -133,19 +134,21 @@ pub popped-fewer : (h : Handed) (all more : List Handed) → all ≡ h ∷ more 
 popped-fewer h all more is =
     let long : length all ≡ suc (length more) = ap (λ (l : List Handed). length l) is in omega arith
 
+plain-of : (b : Bool) → not b ≡ true → b ≡ false
+plain-of true e = absurd (let n : false ≡ true = e in cc)
+plain-of false e = refl
+
 -- the first one is taken out
 pub plain-popped : (seats : List Seat) (all new : List Handed) (o : Option Handed) → is_plain seats all ≡ true
-    → all ≡ option_to_list o ++ new
-    → IfSome o (λ (h : Handed). (all ≡ h ∷ new) × (has_taker seats h ≡ false)) × IsSome o
-plain-popped seats all new o plain is = by all o plain is
-  where
-    by : (l : List Handed) (p : Option Handed) → is_plain seats l ≡ true → l ≡ option_to_list p ++ new
-        → IfSome p (λ (h : Handed). (l ≡ h ∷ new) × (has_taker seats h ≡ false)) × IsSome p
-    by [] p yes' e = absurd (let n : false ≡ true = yes' in cc)
-    by (x ∷ l) None yes' e = (tt, ?)
-    by (x ∷ l) (Some h) yes' e =
-        let same : x ≡ h = cc in
-        ((e, ap (has_taker seats) (sym same) ∙ plain-of (has_taker seats x) yes'), refl)
+    → all ≡ option_to_list o ++ new → IfNone o (all ≡ [])
+    → IfSome o (λ (h : Handed). (all ≡ h ∷ new) × (has_taker seats h ≡ false))
+    × IfNone o ((new ≡ all) × (told_of seats all ≡ []) × (waiting_of seats all ≡ all))
+plain-popped seats [] new o plain is none' = absurd (let n : false ≡ true = plain in cc)
+plain-popped seats (x ∷ l) new None plain is none' =
+    absurd (let n : ◌≡◌ {A = List Handed} (x ∷ l) [] = none' in cc)
+plain-popped seats (x ∷ l) new (Some h) plain is none' =
+    let same : x ≡ h = cc in
+    ((is, ap (has_taker seats) (sym same) ∙ plain-of (has_taker seats x) plain), tt)
 
 -- it stays
 pub plain-kept : (seats : List Seat) (all : List Handed) → is_plain seats all ≡ false

@@ -50,9 +50,10 @@ impl Untold {
         self.rows.front()
     }
 
-    /// Takes the first one out.
-    pub fn pop(&mut self) -> Option<Handed>
-        ensures { self.old ≡ option_to_list result ++ self.new }
+    // Takes the first one out.
+    fn pop(&mut self) -> Option<Handed>
+        ensures items { self.old ≡ option_to_list result ++ self.new }
+        ensures none { IfNone result (self.old ≡ []) }
     {
         self.rows.pop_front()
     }

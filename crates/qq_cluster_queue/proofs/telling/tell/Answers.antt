@@ -1,4 +1,5 @@
 use Rattle.std.proofs.Common.{◌≡◌, ◌++◌, List, sym, ap, ◌∙◌}
+use Rattle.qq_base.proofs.Fronts.{front-trans}
 use Rattle.qq_cluster.specs.Delivering.{hand_all}
 use Rattle.qq_cluster.specs.Taking.{answers, delivered, told_then, waiting_then}
 use Rattle.qq_entry.specs.declared.audit.AuditRow.{AuditRow}
@@ -10,7 +11,7 @@ use Rattle.qq_cluster_queue.specs.Members.{audit_rows_of, effects_in}
 use Rattle.qq_cluster_queue.specs.Sessions.{clients_of, no_numbers, numbers_of, standings}
 use Rattle.qq_cluster_queue.specs.Telling.{show_all}
 use Rattle.qq_cluster_queue.proofs.Hearing.{came-then, hand-same}
-use Rattle.qq_cluster_queue.proofs.Showing.{show_all-append}
+use Rattle.qq_cluster_queue.proofs.Showing.{show_all-append, shown-front}
 use Rattle.qq_cluster_queue.proofs.telling.tell.Goals as goal
 
 pub returns-clause-came : goal.returns-clause-came
@@ -42,3 +43,16 @@ returns-clause-said g c =
     ∙ ap (λ (l : List Handed). show_all c.args.label.now (first ++ told l) c.args.told.now)
     (hand-same (standings c.args.sessions.now) no_numbers (numbers_of c.args.publishers.now) effects
     c.args.consumers.now)
+
+pub returns-in-Err-deliver_rows-clause-err : goal.returns-in-Err-deliver_rows-clause-err
+returns-in-Err-deliver_rows-clause-err g c =
+    let own : Clients = clients_of (standings c.args.sessions.now) (numbers_of c.args.publishers.now) in
+    shown-front c.args.label.now (answers c.args.seats.now (printed (audit_rows_of c.args.rows.now) own)) c.args.told.now
+    c.tell_rows.new.told c.in_default.ensures.said
+
+pub returns-in-Err-release_behind-clause-err : goal.returns-in-Err-release_behind-clause-err
+returns-in-Err-release_behind-clause-err g c =
+    let own : Clients = clients_of (standings c.args.sessions.now) (numbers_of c.args.publishers.now) in
+    front-trans (shown-front c.args.label.now
+    (answers c.args.seats.now (printed (audit_rows_of c.args.rows.now) own)) c.args.told.now c.tell_rows.new.told
+    c.in_default.ensures.said) c.in-Err-release_behind.ensures.err
