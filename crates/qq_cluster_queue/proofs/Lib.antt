@@ -6,6 +6,7 @@ mod Members
 mod Showing
 mod Waits
 mod Happening
+mod Verdicts
 pub mod Logs
 mod Offering
 mod Known
