@@ -1,7 +1,7 @@
 -- Commands that are offered to the leader.
 use Rattle.std.proofs.Common.{◌≡◌, ◌⊎◌, ℕ, ◌<◌, Bool, true, false, cond, List, [], ◌∷◌, ◌++◌, drop, length, Option, Some, None, refl, sym, ap, subst, ◌∙◌, inl, inr, arith, append-nil, append_assoc}
 use Rattle.std.specs.Prelude.{is_some, nat_eq, nat_lt}
-use Rattle.std.specs.List.{flat_map, fold}
+use Rattle.std.specs.List.{fold}
 use Rattle.std.proofs.Math.Path.{fun_ext}
 use Rattle.std.proofs.lemmas.Bool.{cases_Bool, cond-true, cond-false, eqb-true, le-ltb, lt-ltb}
 use Rattle.std.proofs.lemmas.Grind.{flat_map-append}
@@ -22,7 +22,7 @@ use Rattle.qq_consuming.specs.Consumers.{know_by}
 use Rattle.qq_consuming.specs.Consuming.{Received}
 use Rattle.qq_session.specs.Publishing.{Numbers, hand, next_command, open_commands}
 use Rattle.qq_session.specs.Clients.{Client, Clients, is_used, may_hand}
-use Rattle.qq_session.specs.Shown.{Shown, WindowFull, HasEnded, NotTaken, said_of}
+use Rattle.qq_session.specs.Shown.{WindowFull, HasEnded, NotTaken, said_of}
 use Rattle.qq_cluster.specs.Delivering.{learn}
 use Rattle.qq_cluster.specs.Outcome.{Outcome}
 use Rattle.qq_cluster.specs.Queue.{Queue, Event, Leading, Submits, Resends, Downs, TellsEnded, TellsNotTaken, acts, group_then, happens, has_leader, later, leader, leading, moves, node_of, offered, said, submit_to, submits, synced_after}

@@ -1,24 +1,22 @@
 -- What becomes of a queue where a taker is given to a consumer, and where one gives a verdict.
-use Rattle.std.proofs.Common.{◌≡◌, ℕ, List, [], ◌∷◌, drop, Option, Some, None, refl, sym, ap, subst, ◌∙◌}
+use Rattle.std.proofs.Common.{◌≡◌, ℕ, List, [], ◌∷◌, drop, Option, Some, None, refl, sym, ap, ◌∙◌}
 use Rattle.std.specs.Prelude.{slice_get}
 use Rattle.qq_base.specs.declared.ids.ConsumerId.{ConsumerId}
 use Rattle.qq_cluster.specs.Outcome.{Outcome}
-use Rattle.qq_cluster.specs.Queue.{Attaches, Event, Judges, Queue, attach, attached, consumer_of, group_then, happens, said}
+use Rattle.qq_cluster.specs.Queue.{Attaches, Judges, Queue, attach, attached, consumer_of, happens, said}
 use Rattle.qq_cluster.specs.Taking.{delivered, judged, judged_by, told_of, unjudged, waiting_of}
-use Rattle.qq_group.specs.Group.{server_at}
-use Rattle.qq_session.specs.Shown.{Attached, IsBusy, Shown}
+use Rattle.qq_session.specs.Shown.{Attached, IsBusy}
 use Rattle.qq_taker.specs.Seats.{sit, taker_of}
 use Rattle.qq_taker.specs.declared.handed.Handed.{Handed}
 use Rattle.qq_taker.specs.declared.seats.Seat.{Seat}
 use Rattle.qq_taker.specs.declared.taker.Verdict.{Verdict}
 use Rattle.qq_cluster_queue.specs.ClusterQueue.{Shows, Stands}
 use Rattle.qq_cluster_queue.specs.Judging.{HasJudged, claim_of}
-use Rattle.qq_cluster_queue.specs.Members.{IsGroupOf, Members}
-use Rattle.qq_cluster_queue.specs.Sessions.{Standings, clients_of, numbers_of}
+use Rattle.qq_cluster_queue.specs.Sessions.{Standings}
 use Rattle.qq_cluster_queue.specs.Telling.{asked, show, show_all}
 use Rattle.qq_cluster_queue.specs.declared.claim.Claim.{Claim}
 use Rattle.qq_cluster_queue.specs.declared.cluster_queue.ClusterQueue.{ClusterQueue}
-use Rattle.qq_cluster_queue.proofs.Happening.{HasTakers, stands-then, waits-nothing}
+use Rattle.qq_cluster_queue.proofs.Happening.{stands-then, waits-nothing}
 use Rattle.qq_cluster_queue.proofs.Showing.{shows-of}
 
 -- ---- a taker is given to a consumer

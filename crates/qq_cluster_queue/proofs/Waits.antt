@@ -1,10 +1,10 @@
 -- What waits for a verdict, and what is told at once.
-use Rattle.std.proofs.Common.{◌≡◌, ◌+◌, ◌<◌, ◌≤◌, ℕ, suc, Bool, true, false, cond, List, [], ◌∷◌, ◌++◌, length, map, Option, Some, None, refl, sym, ap, ◌∙◌, arith}
-use Rattle.std.specs.Prelude.{IfNone, IfSome, filter, find, not, option_to_list}
+use Rattle.std.proofs.Common.{◌≡◌, ◌<◌, ◌≤◌, ℕ, suc, Bool, true, false, cond, List, [], ◌∷◌, ◌++◌, length, map, Option, Some, None, refl, sym, ap, ◌∙◌, arith}
+use Rattle.std.specs.Prelude.{IfNone, IfSome, find, not, option_to_list}
 use Rattle.std.proofs.lemmas.Bool.{cond-true, cond-false}
 use Rattle.qq_cluster.specs.Outcome.{Outcome}
 use Rattle.qq_cluster.specs.Taking.{delivered, dropped_by, has_taker, told_of, told_then, waiting_of, waiting_then}
-use Rattle.qq_session.specs.Shown.{Shown, Delivered, Dropped}
+use Rattle.qq_session.specs.Shown.{Delivered, Dropped}
 use Rattle.qq_taker.specs.Seats.{leaves, leaving, staying, without_first}
 use Rattle.qq_taker.specs.declared.handed.Handed.{Handed}
 use Rattle.qq_taker.specs.declared.seats.Leaving.{Leaving}

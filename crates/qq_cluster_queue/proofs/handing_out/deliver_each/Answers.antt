@@ -1,6 +1,6 @@
 use Rattle.std.proofs.Common.{◌≡◌, ◌+◌, ◌∷◌, ◌++◌, List, drop, sym, ap, ◌∙◌, append_assoc, arith}
 use Rattle.std.proofs.lemmas.List.{drop_more}
-use Rattle.qq_cluster.specs.Delivering.{come_all, comes, hand_all, hands}
+use Rattle.qq_cluster.specs.Delivering.{come_all, hand_all, hands}
 use Rattle.qq_consuming.specs.Consuming.{Received}
 use Rattle.qq_entry.specs.declared.audit.Effect.{Effect}
 use Rattle.qq_session.specs.Clients.{Clients}

@@ -1,4 +1,4 @@
-use Rattle.std.proofs.Common.{◌≡◌, ◌<◌, ◌∷◌, List, length, sym, ap, ◌∙◌, arith}
+use Rattle.std.proofs.Common.{List, sym, ap, ◌∙◌}
 use Rattle.qq_base.proofs.Fronts.{front-trans}
 use Rattle.qq_cluster.specs.Taking.{delivered, waiting_of}
 use Rattle.qq_session.specs.Shown.{Delivered}

@@ -1,4 +1,4 @@
-use Rattle.std.proofs.Common.{List, refl, ap, sym, ◌∙◌}
+use Rattle.std.proofs.Common.{List, ap, sym, ◌∙◌}
 use Rattle.qq_cluster.specs.Taking.{delivered}
 use Rattle.qq_taker.specs.declared.handed.Handed.{Handed}
 use Rattle.qq_cluster_queue.specs.Telling.{show_all}

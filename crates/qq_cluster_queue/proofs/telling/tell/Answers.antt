@@ -1,8 +1,7 @@
-use Rattle.std.proofs.Common.{◌≡◌, ◌++◌, List, sym, ap, ◌∙◌}
+use Rattle.std.proofs.Common.{◌++◌, List, sym, ap, ◌∙◌}
 use Rattle.qq_base.proofs.Fronts.{front-trans}
 use Rattle.qq_cluster.specs.Delivering.{hand_all}
 use Rattle.qq_cluster.specs.Taking.{answers, delivered, told_then, waiting_then}
-use Rattle.qq_entry.specs.declared.audit.AuditRow.{AuditRow}
 use Rattle.qq_entry.specs.declared.audit.Effect.{Effect}
 use Rattle.qq_session.specs.Clients.{Clients, printed}
 use Rattle.qq_session.specs.Shown.{Shown}

@@ -1,4 +1,4 @@
-use Rattle.std.proofs.Common.{drop, List, ap, ◌∙◌}
+use Rattle.std.proofs.Common.{List, ap, ◌∙◌}
 use Rattle.qq_cluster.specs.Taking.{delivered, told_of, waiting_of}
 use Rattle.qq_taker.specs.declared.handed.Handed.{Handed}
 use Rattle.qq_cluster_queue.specs.Telling.{show_all}

@@ -1,5 +1,5 @@
 use Rattle.std.proofs.Common.{◌++◌, ℕ, List, refl, ap, ◌∙◌}
-use Rattle.qq_cluster.specs.Texts.{shown_text_as, verdict_text}
+use Rattle.qq_cluster.specs.Texts.{shown_text_as}
 use Rattle.qq_session.specs.Shown.{Shown, Taken}
 use Rattle.qq_cluster_queue.specs.Lines.{taken_words}
 use Rattle.qq_cluster_queue.specs.Telling.{show}
