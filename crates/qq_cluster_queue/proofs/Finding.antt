@@ -86,7 +86,8 @@ synced-stands : (sessions : Standings) (old new : ClusterQueue) (q r : Queue) �
     → r.consumers ≡ q.consumers → r.seats ≡ q.seats → r.untold ≡ q.untold → r.group ≡ q.group
     → ((k : ℕ) (s : Member) → server_at k old.group ≡ Some s → r.synced k ≡ count_at new.synced.each k)
     → Stands sessions new r
-synced-stands sessions old new q r st args publishers consumers seats untold group a c known' seats' untold' g each = record {
+synced-stands sessions old new q r st args publishers consumers seats untold group a c known' seats' untold' g
+    each = record {
   args = a ∙ st.args ∙ sym args;
   clients = c ∙ st.clients ∙ ap (λ (p : _). clients_of sessions (numbers_of p)) (sym publishers);
   consumers = known' ∙ st.consumers ∙ sym consumers;

@@ -439,7 +439,8 @@ pub down-does : (sessions : Standings) (old new : ClusterQueue) (q : Queue) (ses
     → is_used (numbers_of old.publishers session) ≡ true → command ≡ commands.Down (client session)
     → o ≡ leader_of own_log old.group → Makes (submit_to (number_of o) command) old.group new.group
     → new.args ≡ old.args → new.synced ≡ old.synced → new.publishers ≡ old.publishers → new.consumers ≡ old.consumers
-    → new.seats ≡ old.seats → new.untold ≡ old.untold → after ≡ show_all old.label (said_of (is_some o) session (command ∷ [])) before
+    → new.seats ≡ old.seats → new.untold ≡ old.untold
+    → after ≡ show_all old.label (said_of (is_some o) session (command ∷ [])) before
     → Stands sessions new (happens q (Downs session))
     × Shows old (said q (Downs session)) before after
 down-does sessions old new q session command o before after st used is lead makes args synced publishers consumers
@@ -466,7 +467,8 @@ pub resend-does : (sessions : Standings) (old new : ClusterQueue) (q : Queue) (s
     → given ≡ open_commands (numbers_of old.publishers session) → o ≡ leader_of own_log old.group
     → Makes (submits (number_of o) given) old.group new.group → new.args ≡ old.args → new.synced ≡ old.synced
     → new.publishers ≡ old.publishers → new.consumers ≡ old.consumers
-    → new.seats ≡ old.seats → new.untold ≡ old.untold → after ≡ show_all old.label (said_of (is_some o) session given) before
+    → new.seats ≡ old.seats → new.untold ≡ old.untold
+    → after ≡ show_all old.label (said_of (is_some o) session given) before
     → Stands sessions new (happens q (Resends session))
     × Shows old (said q (Resends session)) before after
 resend-does sessions old new q session given o before after st is lead makes args synced publishers consumers seats

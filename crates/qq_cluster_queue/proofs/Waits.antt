@@ -29,7 +29,8 @@ leaving-first whom (x ∷ seats) seat found = by (leaves whom x) (leaving-first 
     by true rest is e = (let same : seat ≡ x = cc in ap (λ (s : Seat). s ∷ leaving whom seats) (sym same))
     by false rest is e =
         rest e
-        ∙ ap (λ (l : List Seat). seat ∷ l) (sym (cond-false (leaves whom x) (x ∷ leaving whom (without_first whom seats))
+        ∙ ap (λ (l : List Seat). seat ∷ l)
+        (sym (cond-false (leaves whom x) (x ∷ leaving whom (without_first whom seats))
         (leaving whom (without_first whom seats)) is))
 
 pub staying-first : (whom : Leaving) (seats : List Seat) → staying whom (without_first whom seats) ≡ staying whom seats

@@ -8,6 +8,7 @@ abbrev pub invariant-effects : goal.invariant-effects
 invariant-effects l = record {
   came : come_all (clients_of (standings l.sessions) no_numbers) (drop l.effect-index l.effects) l.consumers
       ≡ come_all (clients_of (standings l.sessions) no_numbers) l.effects l.fn.consumers;
-  handed : l.untold ++ hand_all (clients_of (standings l.sessions) no_numbers) (drop l.effect-index l.effects) l.consumers
+  handed : l.untold
+      ++ hand_all (clients_of (standings l.sessions) no_numbers) (drop l.effect-index l.effects) l.consumers
       ≡ l.fn.untold ++ hand_all (clients_of (standings l.sessions) no_numbers) l.effects l.fn.consumers;
 }

@@ -12,7 +12,8 @@ returns-then-waited-gt0-clause-ok g c = λ before more long whole.
 
 pub returns-clause-ok : goal.returns-clause-ok
 returns-clause-ok g c = λ before more long whole.
-    let b = behind-none c.args.seats.now before more c.args.untold.now c.args.waited c.if-waited-gt0.false long whole in (
+    let b = behind-none c.args.seats.now before more c.args.untold.now c.args.waited c.if-waited-gt0.false long
+    whole in (
       c.in_default.ensures.untold ∙ b.0,
       c.in_default.ensures.said
           ∙ ap (λ (l : List Handed). show_all c.args.label.now (delivered l) c.args.told.now) b.1,

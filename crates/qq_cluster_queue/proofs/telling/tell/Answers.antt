@@ -22,7 +22,8 @@ returns-clause-came g c =
 pub returns-clause-untold : goal.returns-clause-untold
 returns-clause-untold g c =
     let effects : List Effect = effects_in c.args.rows.now in
-    let more : List Handed = hand_all (clients_of (standings c.args.sessions.now) no_numbers) effects c.args.consumers.now in
+    let more : List Handed =
+    hand_all (clients_of (standings c.args.sessions.now) no_numbers) effects c.args.consumers.now in
     (c.in_default-release_behind.ensures.ok c.args.untold.now more c.count-waited.ensures
     c.in_default-deliver_rows.ensures.handed).0
     ∙ ap (waiting_then c.args.untold.now c.tell_rows.new.seats) (hand-same (standings c.args.sessions.now) no_numbers
@@ -31,7 +32,8 @@ returns-clause-untold g c =
 pub returns-clause-said : goal.returns-clause-said
 returns-clause-said g c =
     let effects : List Effect = effects_in c.args.rows.now in
-    let more : List Handed = hand_all (clients_of (standings c.args.sessions.now) no_numbers) effects c.args.consumers.now in
+    let more : List Handed =
+    hand_all (clients_of (standings c.args.sessions.now) no_numbers) effects c.args.consumers.now in
     let told : List Handed → List Shown = λ l. delivered (told_then c.args.untold.now c.tell_rows.new.seats l) in
     let own : Clients = clients_of (standings c.args.sessions.now) (numbers_of c.args.publishers.now) in
     let first : List Shown = answers c.args.seats.now (printed (audit_rows_of c.args.rows.now) own) in
@@ -46,8 +48,8 @@ returns-clause-said g c =
 pub returns-in-Err-deliver_rows-clause-err : goal.returns-in-Err-deliver_rows-clause-err
 returns-in-Err-deliver_rows-clause-err g c =
     let own : Clients = clients_of (standings c.args.sessions.now) (numbers_of c.args.publishers.now) in
-    shown-front c.args.label.now (answers c.args.seats.now (printed (audit_rows_of c.args.rows.now) own)) c.args.told.now
-    c.tell_rows.new.told c.in_default.ensures.said
+    shown-front c.args.label.now (answers c.args.seats.now (printed (audit_rows_of c.args.rows.now) own))
+    c.args.told.now c.tell_rows.new.told c.in_default.ensures.said
 
 pub returns-in-Err-release_behind-clause-err : goal.returns-in-Err-release_behind-clause-err
 returns-in-Err-release_behind-clause-err g c =

@@ -10,7 +10,8 @@ use Rattle.qq_cluster_queue.proofs.telling.tell_rows.Given as goal
 -- the rows from here on give what all gave at first
 abbrev pub invariant-rows : goal.invariant-rows
 invariant-rows g l = record {
-  heard : hear_all (audit_rows_of (drop l.applied-index l.rows)) (clients_of (standings l.sessions) (numbers_of l.publishers))
+  heard : hear_all (audit_rows_of (drop l.applied-index l.rows))
+      (clients_of (standings l.sessions) (numbers_of l.publishers))
       ≡ hear_all (audit_rows_of l.rows) (clients_of (standings l.sessions) (numbers_of l.fn.publishers));
   seats : seated l.seats (printed (audit_rows_of (drop l.applied-index l.rows))
       (clients_of (standings l.sessions) (numbers_of l.publishers)))

@@ -15,7 +15,8 @@ pub returns-clause-ok : goal.returns-clause-ok
 returns-clause-ok g c = λ q st.
     fetch-does c.what_is_committed_stays_in_the_audit.ensures.known c.what_a_group_committed_stays.ensures.commit
     c.parts_tell_the_queue.ensures c.deliveries_end.ensures (standings c.args.sessions.now) c.args.self.now
-    (record c.args.self.now { consumers = c.tell_effects.new.consumers; untold = c.tell_effects.new.untold }) q c.args.session c.in-Some.leader
+    (record c.args.self.now { consumers = c.tell_effects.new.consumers; untold = c.tell_effects.new.untold }) q
+    c.args.session c.in-Some.leader
     c.in-Some-machine.queue.now c.as_slice.result.now c.args.told.now c.tell_effects.new.told st
     c.in-Some.ensures c.in-Some-machine.ensures
     (c.as_slice.ensures.value ∙ c.in-Ok.ensures.ok

@@ -6,7 +6,8 @@ use Rattle.qq_cluster_queue.proofs.cluster_queue.ClusterQueue.tick.Goals as goal
 
 pub returns-clause-ok : goal.returns-clause-ok
 returns-clause-ok c =
-    plain-becomes (Ticks c.args.node.0) (Tick c.args.node.0 ∷ []) c.args.self.now (record c.args.self.now { group = c.happen.new.group })
+    plain-becomes (Ticks c.args.node.0) (Tick c.args.node.0 ∷ []) c.args.self.now
+    (record c.args.self.now { group = c.happen.new.group })
     (record {
       moves_are = λ q. refl;
       clients_are = λ q. refl;
