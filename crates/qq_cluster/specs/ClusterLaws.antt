@@ -11,7 +11,8 @@ use Rattle.qq_model.specs.State.{empty_queue}
 use Rattle.qq_script_lines.specs.declared.line.ScriptLine.{ScriptLine}
 use Rattle.qq_script_lines.specs.declared.line.ScriptLine.TheVariants.{Write, Sync, Notice, Tick}
 use Rattle.qq_session.specs.Printed.{IsAudited, IsConfirmedOnce}
-use Rattle.qq_session.specs.Shown.{Shown}
+use Rattle.qq_session.specs.Shown.{Shown, Delivered}
+use Rattle.qq_taker.specs.declared.handed.Handed.{Handed}
 use Rattle.qq_taker.specs.declared.taker.Verdict.{Verdict}
 use Rattle.qq_cluster.specs.Queue.{Queue, Event, Judges, TellsEnded, TellsNotTaken, all_said, audit_rows, begin}
 use Rattle.qq_cluster.specs.Cluster.{Setup, Cluster, ClusterEvent, At, Fails, FindsEach, SaysDown, SaysEnded, Printed, Of, new_cluster, cluster_after, parts_of, all_prints}
@@ -57,14 +58,22 @@ abbrev pub PrintsWhatIsTrue : Setup → List ClusterEvent → Type 0
 PrintsWhatIsTrue setup events =
     AllByRecursion (IsTrueOf (cluster_after (new_cluster setup) events)) (all_prints setup (new_cluster setup) events)
 
--- What is printed of a consumer's deliveries at a queue is a front of those that the queue's audit has for it: each once
--- and in order, and none is passed over.
+-- What is printed of a consumer's deliveries at a queue is a front of those that the queue's audit has for it: each
+-- once and in order, and none is passed over.
 abbrev pub PrintsInOrder : Setup → List ClusterEvent → Type 0
 PrintsInOrder setup events =
     (place : ℕ) (consumer : ConsumerId)
     → let q : Queue = (cluster_after (new_cluster setup) events).queue place in
     IsFront (deliveries_shown consumer (shown_at place (all_prints setup (new_cluster setup) events)))
     (deliveries (empty_queue (setup.args place)) (audit_rows q) consumer)
+
+-- what who listens hears: a delivery to a consumer without a taker
+abbrev pub delivery_heard : Printed → Option Handed
+delivery_heard (Of place (Delivered consumer delivery)) = Some (record { consumer = consumer; delivery = delivery })
+delivery_heard _ = None
+
+abbrev pub deliveries_heard : List Printed → List Handed
+deliveries_heard printed = filter_map delivery_heard printed
 
 -- ---- what rules leave open
 
@@ -96,7 +105,8 @@ verdict_at _ = []
 abbrev pub verdicts : List ClusterEvent → List Verdict
 verdicts events = flat_map verdict_at events
 
--- two lists of events that a rule allows, in neither of which a disk fails, with the same findings and verdicts, are one
+-- two lists of events that a rule allows, in neither of which a disk fails, with the same findings and verdicts, are
+-- one
 abbrev pub LeavesNoChoice : Rule → Cluster → Type 0
 LeavesNoChoice Allows c =
     (events others : List ClusterEvent) → Allows c events → Allows c others → has_failure events ≡ false

@@ -9,3 +9,5 @@ mod Times
 mod Calls
 mod Own
 mod Fresh
+mod Asked
+mod Looking

@@ -3,11 +3,11 @@ use Rattle.std.proofs.Common.{◌≡◌, ◌≢◌, ◌⊎◌, ℕ, zero, suc, B
 use Rattle.std.proofs.Math.Path.{fun_ext}
 use Rattle.std.specs.Prelude.{Contains, is_some, nat_eq, replicate}
 use Rattle.std.specs.List.{AllByRecursion, list_any}
-use Rattle.std.proofs.lemmas.Bool.{cases_eq, cond_both, cond-true, cond-false, eq-eqb, false≢true, ltb-false, ne_eqb, or_parts}
+use Rattle.std.proofs.lemmas.Bool.{cases_eq, cond_both, false≢true, ltb-false, or_parts}
 use Rattle.std.proofs.lemmas.Grind.{flat_map-append}
 use Rattle.std.proofs.lemmas.List.Elements.{Contains-append_left, Contains-append_right, Contains-append_cases}
 use Rattle.std.proofs.lemmas.List.Folds.{list_any-append}
-use Rattle.qq_base.proofs.Lists.{AllByRecursion-append}
+use Rattle.qq_base.proofs.Lists.{AllByRecursion-append, AllByRecursion-weaker}
 use Rattle.qq_base.proofs.Puts.{put-each}
 use Rattle.qq_base.specs.Fronts.{put}
 use Rattle.qq_raft_protocol.specs.Facts.{In}
@@ -16,14 +16,16 @@ use Rattle.qq_raft_model.specs.Group.Event.{Take}
 use Rattle.qq_cluster.specs.Cluster.{Cluster, ClusterEvent, Sets, Alike, At, NodeWrites, NodeSyncs, Fails, Crashes, FindsEach, Shows, SaysDown, SaysNoSuch, SaysUnroutable, SaysBusy, SaysEnded, Of, Setup, all_prints, cluster_after, cluster_happens, part_of, parts_of, prints}
 use Rattle.qq_cluster.specs.ClusterLaws.{has_failure, is_failure}
 use Rattle.qq_cluster.specs.Queue.{Queue, Event, Delivers, Notices, Syncs, Writes, after, all_said, happens, said, waiting}
-use Rattle.qq_cluster.specs.Rules.{ForEach, Is, IsEmptied, IsNodeRound, IsNothing, IsNotice, IsRound, IsSync, IsSynced, IsWrite, IsWritten, MayRoll, if_so, some_queue, waits_noticed, waits_synced, waits_written}
+use Rattle.qq_cluster.specs.Taking.{delivered, told_then, waiting_then}
+use Rattle.qq_cluster.specs.Rules.{ForEach, IsEmptied, IsNodeRound, IsNothing, IsNotice, IsRound, IsSync, IsSynced, IsWrite, IsWritten, MayRoll, Tells, Times, if_so, some_queue, waits_noticed, waits_synced, waits_written}
 use Rattle.qq_cluster.proofs.Counts.{IsCounted, counted-all}
 use Rattle.qq_cluster.proofs.Groups.{after-append}
+use Rattle.qq_cluster.proofs.Takerless.{AreAt, GivesNone, IsAt, IsTakerless, at-elsewhere, at-other, at-own, at-up, delivered-still, emptied-at, queue-at, takerless-all, tells-at, told-nothing, untold-still}
 use Rattle.qq_session.specs.Shown.{Shown}
 use Rattle.qq_progress.specs.Alone.{round_alone, turn_where, turns}
 use Rattle.qq_progress.specs.Soon.{AreOnce}
 use Rattle.qq_progress.proofs.Hearing.{contains-map}
-use Rattle.qq_progress.proofs.Rounds.{said-append}
+use Rattle.qq_progress.proofs.Following.{AllQuiet, Follows, IsQuiet, follows-same, follows-then, said-append, same-at}
 
 -- ---- clusters
 
@@ -39,7 +41,7 @@ pub after-both : (c : Cluster) (first second : List ClusterEvent)
 after-both c [] second = refl
 after-both c (event ∷ first) second = after-both (cluster_happens c event) first second
 
-parts-append : (place : ℕ) (first second : List ClusterEvent)
+pub parts-append : (place : ℕ) (first second : List ClusterEvent)
     → parts_of place (first ++ second) ≡ parts_of place first ++ parts_of place second
 parts-append place first second = flat_map-append (part_of place) first second
 
@@ -62,40 +64,44 @@ counted-after c events counted place =
 
 -- ---- what events of a round are to each queue
 
--- it is a write, a sync, or one of a queue
+-- it is a write, a sync, or one of a queue that gives no taker
 abbrev pub IsPlain : ClusterEvent → Type 0
-IsPlain (At place event) = Unit {0}
+IsPlain (At place event) = GivesNone event
 IsPlain (NodeWrites k) = Unit {0}
 IsPlain (NodeSyncs k) = Unit {0}
 IsPlain _ = ⊥
 
--- the same comes of both, and both show the same
-pub record IsSame (q : Queue) (first second : List Event) : Type 0 where
-  pub after_is : after q first ≡ after q second
-  pub said_is : all_said q first ≡ all_said q second
-
-pub same-of : (q : Queue) (first second : List Event) → first ≡ second → IsSame q first second
-same-of q first second is = record { after_is = ap (after q) is; said_is = ap (all_said q) is }
-
-same-then : (q : Queue) (a b c d : List Event) → IsSame q a b → IsSame (after q b) c d → IsSame q (a ++ c) (b ++ d)
-same-then q a b c d first second = record {
-  after_is = after-append q a c ∙ ap (λ (r : Queue). after r c) first.after_is ∙ second.after_is
-      ∙ sym (after-append q b d);
-  said_is = said-append q a c ∙ ap (λ (l : List Shown). l ++ all_said (after q a) c) first.said_is
-      ∙ ap (λ (r : Queue). all_said q b ++ all_said r c) first.after_is
-      ∙ ap (λ (l : List Shown). all_said q b ++ l) second.said_is ∙ sym (said-append q b d);
-}
-
--- each queue sees these
+-- each queue in which no delivery waits sees these, until one does
 pub record Plays (setup : Setup) (c : Cluster) (events : List ClusterEvent) (alone : ℕ → List Event) : Type 0 where
   pub up : (cluster_after c events).up ≡ c.up
-  pub each : (place : ℕ) → In place setup.places → IsSame (c.queue place) (parts_of place events) (alone place)
+  pub each : (place : ℕ) → In place setup.places → IsQuiet (c.queue place)
+      → Follows (c.queue place) (parts_of place events) (alone place)
   pub plain : AllByRecursion IsPlain events
 
 pub played : (setup : Setup) (c : Cluster) (events : List ClusterEvent) (alone : ℕ → List Event) (place : ℕ)
-    → In place setup.places → Plays setup c events alone
+    → In place setup.places → IsQuiet (c.queue place) → AllQuiet (c.queue place) (alone place) → Plays setup c events alone
     → (cluster_after c events).queue place ≡ after (c.queue place) (alone place)
-played setup c events alone place here plays = queue-is c events place ∙ (plays.each place here).after_is
+played setup c events alone place here quiet all plays =
+    queue-is c events place
+    ∙ (same-at (c.queue place) (parts_of place events) (alone place) (plays.each place here quiet) all).after_is
+
+-- where no consumer has a taker none has one then
+plain-part : (place : ℕ) (event : ClusterEvent) → IsPlain event → AllByRecursion GivesNone (part_of place event)
+plain-part place (At own event) plain = by (nat_eq own place)
+  where
+    by : (b : Bool) → AllByRecursion GivesNone (cond b (event ∷ []) [])
+    by true = (plain, tt)
+    by false = tt
+plain-part place (NodeWrites k) plain = (tt, tt)
+plain-part place (NodeSyncs k) plain = (tt, tt)
+plain-part place event plain = absurd plain
+
+pub takerless-after : (c : Cluster) (events : List ClusterEvent) (place : ℕ) → AllByRecursion IsPlain events
+    → IsTakerless (c.queue place) → IsTakerless ((cluster_after c events).queue place)
+takerless-after c [] place plain free = free
+takerless-after c (event ∷ events) place plain free =
+    takerless-after (cluster_happens c event) events place plain.1
+    (takerless-all (c.queue place) (part_of place event) (plain-part place event plain.0) free)
 
 pub plays-then : (setup : Setup) (c : Cluster) (events early late : List ClusterEvent) (first : ℕ → List Event)
     (second : Queue → List Event) → events ≡ early ++ late → Plays setup c early first
@@ -104,12 +110,12 @@ pub plays-then : (setup : Setup) (c : Cluster) (events early late : List Cluster
 plays-then setup c events early late first second is a b =
     subst (λ es. Plays setup c es (λ place. first place ++ second (after (c.queue place) (first place)))) (sym is) (record {
       up = ap (λ (d : Cluster). d.up) (after-both c early late) ∙ b.up ∙ a.up;
-      each = λ place here.
-          subst (λ (l : List Event). IsSame (c.queue place) l
+      each = λ place here quiet.
+          subst (λ (l : List Event). Follows (c.queue place) l
           (first place ++ second (after (c.queue place) (first place)))) (sym (parts-append place early late))
-          (same-then (c.queue place) (parts_of place early) (first place) (parts_of place late)
-          (second (after (c.queue place) (first place))) (a.each place here)
-          (subst (λ (r : Queue). IsSame r (parts_of place late) (second r)) (played setup c early first place here a)
+          (follows-then (c.queue place) (parts_of place early) (first place) (parts_of place late) second quiet
+          (a.each place here quiet)
+          (subst (λ (r : Queue). IsQuiet r → Follows r (parts_of place late) (second r)) (queue-is c early place)
           (b.each place here)));
       plain = AllByRecursion-append IsPlain early late a.plain b.plain;
     })
@@ -125,9 +131,10 @@ failed : (es fs : List ClusterEvent) → es ≡ fs → has_failure fs ≡ true �
 failed es fs is fails fine = false≢true (sym fine ∙ ap has_failure is ∙ fails)
 
 nothing-plays : (setup : Setup) (c : Cluster) (events : List ClusterEvent) (alone : ℕ → List Event) → events ≡ []
-    → ((place : ℕ) → In place setup.places → IsSame (c.queue place) [] (alone place)) → Plays setup c events alone
+    → ((place : ℕ) → In place setup.places → Follows (c.queue place) [] (alone place)) → Plays setup c events alone
 nothing-plays setup c events alone is each =
-    subst (λ es. Plays setup c es alone) (sym is) (record { up = refl; each = each; plain = tt })
+    subst (λ es. Plays setup c es alone) (sym is)
+    (record { up = refl; each = λ place here free. each place here; plain = tt })
 
 -- ---- a write
 
@@ -138,13 +145,22 @@ not-any test (p ∷ places) place none (inl own) = ap test own ∙ (or_parts (te
 not-any test (p ∷ places) place none (inr later) =
     not-any test places place (or_parts (test p) (list_any test places) none).1 later
 
-writes-nothing : (j : ℕ) (q : Queue) → waits_written j q ≡ false → IsSame q [] (Writes j ∷ [])
+said-still : (q : Queue) → [] ≡ delivered (told_then q.untold q.seats []) ++ []
+said-still q = sym (ap (λ (l : List Shown). l ++ []) (delivered-still q))
+
+writes-nothing : (j : ℕ) (q : Queue) → waits_written j q ≡ false → Follows q [] (Writes j ∷ [])
 writes-nothing j q none =
     let zero' : waiting j q.group ≡ 0 = (let le = ltb-false 0 (waiting j q.group) none in omega (arith, le)) in
-    record {
-      after_is = sym (ap (λ (n : ℕ). record q { group = group_after q.group (replicate n (Take j)) }) zero');
-      said_is = refl;
-    }
+    inr (
+      (
+        ap (λ (n : ℕ). record q {
+          untold = waiting_then q.untold q.seats [];
+          group = group_after q.group (replicate n (Take j));
+        }) zero' ∙ sym (untold-still q),
+        delivered-still q,
+      ),
+      refl,
+    )
 
 write-plays : (setup : Setup) (j : ℕ) (c : Cluster) (events : List ClusterEvent) → c.up j ≡ true
     → IsWrite setup j c events → has_failure events ≡ false → Plays setup c events (λ place. Writes j ∷ [])
@@ -156,7 +172,11 @@ write-plays setup j c events up is fine =
         → Plays setup c events (λ place. Writes j ∷ [])
     of true some (inl wrote) =
         subst (λ es. Plays setup c es (λ place. Writes j ∷ [])) (sym wrote)
-        (record { up = refl; each = λ place here. same-of (c.queue place) _ _ refl; plain = (tt, tt) })
+        (record {
+          up = refl;
+          each = λ place here quiet. follows-same (c.queue place) (Writes j ∷ []) (Writes j ∷ []) refl;
+          plain = (tt, tt);
+        })
     of true some (inr wrong) = absurd (failed events (NodeWrites j ∷ Fails j ∷ []) wrong refl fine)
     of false none nothing =
         nothing-plays setup c events (λ place. Writes j ∷ []) nothing
@@ -168,18 +188,22 @@ write-plays setup j c events up is fine =
 put-own : {A : Type 0} (k : ℕ) (x : A) (f : ℕ → A) → f k ≡ x → put k x f ≡ f
 put-own k x f is = fun_ext (λ i. put-each (λ (n : ℕ) y. y ≡ f n) k x f (sym is) (λ n other. refl) i)
 
-syncs-nothing : (j : ℕ) (q : Queue) → IsCounted q → waits_synced j q ≡ false → IsSame q [] (Syncs j ∷ [])
+syncs-nothing : (j : ℕ) (q : Queue) → IsCounted q → waits_synced j q ≡ false → Follows q [] (Syncs j ∷ [])
 syncs-nothing j q counted none =
     let le = ltb-false (q.synced j) (length (q.group.seat j).ops) none in
     let most = (counted j).synced_is in
     let same : q.synced j ≡ length (q.group.seat j).ops = omega (arith, le, most) in
-    record {
-      after_is = sym (ap (λ (synced : ℕ → ℕ). record q { synced = synced })
-          (cond_both (is_some (q.group.seat j).server) (put j (length (q.group.seat j).ops) q.synced) q.synced
-          (λ (synced : ℕ → ℕ). synced ≡ q.synced)
-          (λ _. put-own j (length (q.group.seat j).ops) q.synced same) (λ _. refl)));
-      said_is = refl;
-    }
+    inr (
+      (
+        ap (λ (synced : ℕ → ℕ). record q { untold = waiting_then q.untold q.seats []; synced = synced })
+            (cond_both (is_some (q.group.seat j).server) (put j (length (q.group.seat j).ops) q.synced) q.synced
+            (λ (synced : ℕ → ℕ). synced ≡ q.synced)
+            (λ _. put-own j (length (q.group.seat j).ops) q.synced same) (λ _. refl))
+            ∙ sym (untold-still q),
+        delivered-still q,
+      ),
+      refl,
+    )
 
 sync-plays : (setup : Setup) (j : ℕ) (c : Cluster) (events : List ClusterEvent) → AreCounted c → c.up j ≡ true
     → IsSync setup j c events → has_failure events ≡ false → Plays setup c events (λ place. Syncs j ∷ [])
@@ -192,7 +216,11 @@ sync-plays setup j c events counted up is fine =
         → Plays setup c events (λ place. Syncs j ∷ [])
     of true some (inl synced) =
         subst (λ es. Plays setup c es (λ place. Syncs j ∷ [])) (sym synced)
-        (record { up = refl; each = λ place here. same-of (c.queue place) _ _ refl; plain = (tt, tt) })
+        (record {
+          up = refl;
+          each = λ place here quiet. follows-same (c.queue place) (Syncs j ∷ []) (Syncs j ∷ []) refl;
+          plain = (tt, tt);
+        })
     of true some (inr (inl wrong)) = absurd (failed events (Fails j ∷ []) wrong refl fine)
     of true some (inr (inr wrong)) = absurd (failed events (NodeSyncs j ∷ Fails j ∷ []) wrong refl fine)
     of false none (inr wrong) = absurd (failed events (Fails j ∷ []) wrong refl fine)
@@ -206,7 +234,8 @@ sync-plays setup j c events counted up is fine =
 -- what each place does by itself, where no place is there twice
 record PlaysEach (c : Cluster) (places : List ℕ) (events : List ClusterEvent) (alone : Queue → List Event) : Type 0 where
   up : (cluster_after c events).up ≡ c.up
-  own : (place : ℕ) → In place places → parts_of place events ≡ alone (c.queue place)
+  own : (place : ℕ) → In place places → IsQuiet (c.queue place)
+      → Follows (c.queue place) (parts_of place events) (alone (c.queue place))
   others : (place : ℕ) → (In place places → ⊥) → parts_of place events ≡ []
   plain : AllByRecursion IsPlain events
 
@@ -223,20 +252,25 @@ joined c p places events alone once early late is a next =
     λ place. ap (parts_of place) is ∙ parts-append place early late in
     record {
       up = ap (λ es. (cluster_after c es).up) is ∙ ap (λ (x : Cluster). x.up) (after-both c early late) ∙ b.up ∙ a.up;
-      own = λ place here. elim here [
-        | inl same ↦ split place
+      own = λ place here quiet. elim here [
+        | inl same ↦
+            subst (λ (l : List Event). Follows (c.queue place) l (alone (c.queue place)))
+            (sym (split place
             ∙ ap (λ (l : List Event). parts_of place early ++ l)
             (b.others place (λ later. once.0 (subst (λ (n : ℕ). In n places) same later)))
-            ∙ append-nil (parts_of place early) ∙ a.own place (inl same)
+            ∙ append-nil (parts_of place early))) (a.own place (inl same) quiet)
         | inr later ↦
             let gone : In place (p ∷ []) → ⊥ =
             λ there. elim there [
               | inl same ↦ once.0 (subst (λ (n : ℕ). In n places) same later)
               | inr none ↦ none
             ] in
-            split place ∙ ap (λ (l : List Event). l ++ parts_of place late) (a.others place gone)
-            ∙ b.own place later
-            ∙ ap alone (queue-is c early place ∙ ap (after (c.queue place)) (a.others place gone))
+            let still : d.queue place ≡ c.queue place =
+            queue-is c early place ∙ ap (after (c.queue place)) (a.others place gone) in
+            subst (λ (l : List Event). Follows (c.queue place) l (alone (c.queue place)))
+            (sym (split place ∙ ap (λ (l : List Event). l ++ parts_of place late) (a.others place gone)))
+            (subst (λ (r : Queue). IsQuiet r → Follows r (parts_of place late) (alone r)) still (b.own place later)
+            quiet)
       ];
       others = λ place gone.
           split place
@@ -247,13 +281,71 @@ joined c p places events alone once early late is a next =
       plain = subst (AllByRecursion IsPlain) (sym is) (AllByRecursion-append IsPlain early late a.plain b.plain);
     }
 
-pub at-own : (place : ℕ) (event : Event) → part_of place (At place event) ≡ event ∷ []
-at-own place event =
-    cond-true (nat_eq place place) (event ∷ []) [] (eq-eqb place place refl)
+plain-at : (place : ℕ) (event : ClusterEvent) → IsAt place event → IsPlain event
+plain-at place (At own event) at = at.1
+plain-at place event at = absurd at
 
-pub at-other : (place other : ℕ) (event : Event) → (other ≡ place → ⊥) → part_of place (At other event) ≡ []
-at-other place other event differs =
-    cond-false (nat_eq other place) (event ∷ []) [] (ne_eqb other place differs)
+-- what happens to one queue alone
+at-one : (c : Cluster) (place : ℕ) (events : List ClusterEvent) (alone : Queue → List Event) → AreAt place events
+    → Follows (c.queue place) (parts_of place events) (alone (c.queue place)) → PlaysEach c (place ∷ []) events alone
+at-one c place events alone at own = record {
+  up = at-up place c events at;
+  own = λ p here quiet. elim here [
+    | inl same ↦ subst (λ (n : ℕ). Follows (c.queue n) (parts_of n events) (alone (c.queue n))) (sym same) own
+    | inr none ↦ absurd none
+  ];
+  others = λ p gone. at-elsewhere place p events (λ same. gone (inl (sym same))) at;
+  plain = AllByRecursion-weaker (IsAt place) IsPlain (plain-at place) events at;
+}
+
+-- an event, and then what takers answer
+parts-told : (place : ℕ) (event : Event) (c : Cluster) (events : List ClusterEvent) (is : Tells place event c events)
+    → parts_of place events ≡ event ∷ parts_of place is.late
+parts-told place event c events is =
+    ap (parts_of place) (is.is ∙ ap (λ es. es ++ is.late) is.first)
+    ∙ ap (λ (l : List Event). l ++ parts_of place is.late) (at-own place event)
+
+queue-told : (place : ℕ) (event : Event) (c : Cluster) (events : List ClusterEvent) (is : Tells place event c events)
+    → (cluster_after c is.early).queue place ≡ happens (c.queue place) event
+queue-told place event c events is =
+    ap (λ es. (cluster_after c es).queue place) is.first ∙ queue-at c place event
+
+none-told : (place : ℕ) (event : Event) (c : Cluster) (events : List ClusterEvent) (is : Tells place event c events)
+    → IsQuiet (happens (c.queue place) event) → is.late ≡ []
+none-told place event c events is quiet =
+    told-nothing place (cluster_after c is.early) is.late
+    (ap (λ (q : Queue). q.untold) (queue-told place event c events is) ∙ quiet) is.second
+
+tells-follows : (place : ℕ) (event : Event) (c : Cluster) (events : List ClusterEvent) → Tells place event c events
+    → Follows (c.queue place) (parts_of place events) (event ∷ [])
+tells-follows place event c events is =
+    inl (
+      parts_of place is.late,
+      parts-told place event c events is,
+      λ quiet. ap (parts_of place) (none-told place event c events is quiet),
+    )
+
+-- and so often
+each-follows : (place n : ℕ) (event : Event) (c : Cluster) (events : List ClusterEvent)
+    → Times n (Tells place event) c events → Follows (c.queue place) (parts_of place events) (replicate n event)
+each-follows place zero event c events is = ap (parts_of place) is
+each-follows place (suc n) event c events is =
+    let told : Tells place event c is.early = is.first in
+    let rest : List Event = parts_of place is.late in
+    inl (
+      parts_of place told.late ++ rest,
+      ap (parts_of place) is.is ∙ parts-append place is.early is.late
+          ∙ ap (λ (l : List Event). l ++ rest) (parts-told place event c is.early told),
+      λ quiet. (let none : told.late ≡ [] = none-told place event c is.early told quiet in
+          let all : is.early ≡ told.early =
+          told.is ∙ ap (λ es. told.early ++ es) none ∙ append-nil told.early in
+          let here : (cluster_after c is.early).queue place ≡ happens (c.queue place) event =
+          ap (λ es. (cluster_after c es).queue place) all ∙ queue-told place event c is.early told in
+          subst (λ (l : List Event). Follows (happens (c.queue place) event) l (replicate n event))
+          (sym (ap (λ es. parts_of place es ++ rest) none))
+          (subst (λ (r : Queue). Follows r rest (replicate n event)) here
+          (each-follows place n event (cluster_after c is.early) is.late is.second))),
+    )
 
 -- a member is told, where that is new
 abbrev notices : Bool → ℕ → Queue → List Event
@@ -263,41 +355,26 @@ notice-plays : (j : ℕ) (up : Bool) (c : Cluster) (place : ℕ) (events : List 
     → IsNotice j place c events → PlaysEach c (place ∷ []) events (notices up j)
 notice-plays j up c place events up_is is =
     of (up && waits_noticed j (c.queue place)) refl
-    (subst (λ (b : Bool). if_so (b && waits_noticed j (c.queue place)) (Is (At place (Notices j))) IsNothing c events)
+    (subst (λ (b : Bool). if_so (b && waits_noticed j (c.queue place)) (Tells place (Notices j)) IsNothing c events)
     up_is is)
   where
     of : (b : Bool) → (up && waits_noticed j (c.queue place)) ≡ b
-        → if_so b (Is (At place (Notices j))) IsNothing c events → PlaysEach c (place ∷ []) events (notices up j)
+        → if_so b (Tells place (Notices j)) IsNothing c events → PlaysEach c (place ∷ []) events (notices up j)
     of true waits told =
-        subst (λ es. PlaysEach c (place ∷ []) es (notices up j)) (sym told) (record {
-          up = refl;
-          own = λ p here. elim here [
-            | inl same ↦ subst (λ (n : ℕ). parts_of n (At place (Notices j) ∷ []) ≡ notices up j (c.queue n)) (sym same)
-                (ap (λ (l : List Event). l ++ []) (at-own place (Notices j))
-                ∙ sym (ap (λ (b : Bool). cond b (Notices j ∷ []) []) waits))
-            | inr none ↦ absurd none
-          ];
-          others = λ p gone. ap (λ (l : List Event). l ++ []) (at-other p place (Notices j) (λ same. gone (inl (sym same))));
-          plain = (tt, tt);
-        })
+        at-one c place events (notices up j) (tells-at place (Notices j) tt c events told)
+        (subst (λ (b : Bool). Follows (c.queue place) (parts_of place events) (cond b (Notices j ∷ []) [])) (sym waits)
+        (tells-follows place (Notices j) c events told))
     of false waits nothing =
-        subst (λ es. PlaysEach c (place ∷ []) es (notices up j)) (sym nothing) (record {
-          up = refl;
-          own = λ p here. elim here [
-            | inl same ↦ subst (λ (n : ℕ). [] ≡ notices up j (c.queue n)) (sym same)
-                (sym (ap (λ (b : Bool). cond b (Notices j ∷ []) []) waits))
-            | inr none ↦ absurd none
-          ];
-          others = λ p gone. refl;
-          plain = tt;
-        })
+        at-one c place events (notices up j) (subst (AreAt place) (sym nothing) tt)
+        (subst (λ (b : Bool). Follows (c.queue place) (parts_of place events) (cond b (Notices j ∷ []) [])) (sym waits)
+        (ap (parts_of place) nothing))
 
 notices-play : (j : ℕ) (up : Bool) (places : List ℕ) → AreOnce places → (c : Cluster) (events : List ClusterEvent)
     → c.up j ≡ up → ForEach places (IsNotice j) c events → PlaysEach c places events (notices up j)
 notices-play j up [] once c events up_is is =
     subst (λ es. PlaysEach c [] es (notices up j)) (sym is) (record {
       up = refl;
-      own = λ place here. absurd here;
+      own = λ place here quiet. absurd here;
       others = λ place gone. refl;
       plain = tt;
     })
@@ -312,7 +389,7 @@ sames-of : (setup : Setup) (c : Cluster) (events : List ClusterEvent) (alone : Q
     → PlaysEach c setup.places events alone → Plays setup c events (λ place. alone (c.queue place))
 sames-of setup c events alone a = record {
   up = a.up;
-  each = λ place here. same-of (c.queue place) (parts_of place events) (alone (c.queue place)) (a.own place here);
+  each = a.own;
   plain = a.plain;
 }
 
@@ -359,16 +436,16 @@ node-plays setup once j c events counted is fine = by (c.up j) refl
         sames-of setup c2 is.second.late (notices false j)
         (notices-play j false setup.places once c2 is.second.late at2 is.second.second) in
         plays-then setup c events is.early is.late (λ place. []) (λ q. []) is.is
-        (nothing-plays setup c is.early (λ place. []) first (λ place here. same-of (c.queue place) [] [] refl))
+        (nothing-plays setup c is.early (λ place. []) first (λ place here. refl))
         (plays-then setup c1 is.late is.second.early is.second.late (λ place. []) (λ q. []) is.second.is
-        (nothing-plays setup c1 is.second.early (λ place. []) second (λ place here. same-of (c1.queue place) [] [] refl))
+        (nothing-plays setup c1 is.second.early (λ place. []) second (λ place here. refl))
         third)
 
 nodes-play : (setup : Setup) → AreOnce setup.places → (nodes : List ℕ) (up : ℕ → Bool) (c : Cluster)
     (events : List ClusterEvent) → c.up ≡ up → AreCounted c → ForEach nodes (IsNodeRound setup) c events
     → has_failure events ≡ false → Plays setup c events (λ place. turns up nodes (c.queue place))
 nodes-play setup once [] up c events up_is counted is fine =
-    nothing-plays setup c events (λ place. []) is (λ place here. same-of (c.queue place) [] [] refl)
+    nothing-plays setup c events (λ place. []) is (λ place here. refl)
 nodes-play setup once (j ∷ nodes) up c events up_is counted is fine =
     let both = parts-fine events is.early is.late is.is fine in
     let first : Plays setup c is.early (λ place. turn_where (up j) j (c.queue place)) =
@@ -385,52 +462,18 @@ nodes-play setup once (j ∷ nodes) up c events up_is counted is fine =
 abbrev emptied : Queue → List Event
 emptied q = replicate (length q.group.bag) (Delivers 0)
 
-each-at : (place p : ℕ) (event : Event) (n : ℕ)
-    → parts_of place (replicate n (At p event)) ≡ cond (nat_eq p place) (replicate n event) []
-each-at place p event zero = both (nat_eq p place)
-  where
-    both : (b : Bool) → [] ≡ cond b (replicate 0 event) []
-    both true = refl
-    both false = refl
-each-at place p event (suc n) =
-    ap (λ (l : List Event). part_of place (At p event) ++ l) (each-at place p event n) ∙ both (nat_eq p place)
-  where
-    both : (b : Bool) → cond b (event ∷ []) [] ++ cond b (replicate n event) [] ≡ cond b (replicate (suc n) event) []
-    both true = refl
-    both false = refl
-
-plain-each : (p n : ℕ) (event : Event) → AllByRecursion IsPlain (replicate n (At p event))
-plain-each p zero event = tt
-plain-each p (suc n) event = (tt, plain-each p n event)
-
-up-each : (c : Cluster) (p n : ℕ) (event : Event) → (cluster_after c (replicate n (At p event))).up ≡ c.up
-up-each c p zero event = refl
-up-each c p (suc n) event = up-each (cluster_happens c (At p event)) p n event
-
 empty-plays : (c : Cluster) (place : ℕ) (events : List ClusterEvent) → IsEmptied place c events
     → PlaysEach c (place ∷ []) events emptied
 empty-plays c place events is =
-    let n = length (c.queue place).group.bag in
-    subst (λ es. PlaysEach c (place ∷ []) es emptied) (sym is) (record {
-      up = up-each c place n (Delivers 0);
-      own = λ p here. elim here [
-        | inl same ↦ subst (λ (m : ℕ). parts_of m (replicate n (At place (Delivers 0))) ≡ emptied (c.queue m)) (sym same)
-            (each-at place place (Delivers 0) n
-            ∙ cond-true (nat_eq place place) (replicate n (Delivers 0)) [] (eq-eqb place place refl))
-        | inr none ↦ absurd none
-      ];
-      others = λ p gone.
-          each-at p place (Delivers 0) n
-          ∙ cond-false (nat_eq place p) (replicate n (Delivers 0)) [] (ne_eqb place p (λ same. gone (inl (sym same))));
-      plain = plain-each place n (Delivers 0);
-    })
+    at-one c place events emptied (emptied-at place c events is)
+    (each-follows place (length (c.queue place).group.bag) (Delivers 0) c events is)
 
 empties-play : (places : List ℕ) → AreOnce places → (c : Cluster) (events : List ClusterEvent)
     → ForEach places IsEmptied c events → PlaysEach c places events emptied
 empties-play [] once c events is =
     subst (λ es. PlaysEach c [] es emptied) (sym is) (record {
       up = refl;
-      own = λ place here. absurd here;
+      own = λ place here quiet. absurd here;
       others = λ place gone. refl;
       plain = tt;
     })
@@ -473,8 +516,8 @@ plays-print setup c (event ∷ events) place x plain here =
 
     one : (e : ClusterEvent) → IsPlain e → Contains (all_said (c.queue place) (part_of place e)) x
         → Contains (prints setup c e) (Of place x)
-    one (NodeWrites k) is there = none there
-    one (NodeSyncs k) is there = none there
+    one (NodeWrites k) is there = none (subst (λ (l : List Shown). Contains l x) (sym (said-still (c.queue place))) there)
+    one (NodeSyncs k) is there = none (subst (λ (l : List Shown). Contains l x) (sym (said-still (c.queue place))) there)
     one (At p own) is there = by (cases_eq p place)
       where
         by : ((p ≡ place) ⊎ (p ≢ place)) → Contains (map (Of p) (said (c.queue p) own)) (Of place x)
