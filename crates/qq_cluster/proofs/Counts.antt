@@ -19,7 +19,7 @@ use Rattle.qq_raft_model.proofs.Noticed.{noticed-is, noticed_by}
 use Rattle.qq_raft_msg.specs.Rpc.{envelope}
 use Rattle.qq_raft_msg.specs.declared.rpc.Rpc.{Rpc}
 use Rattle.qq_cluster.specs.Laws.{CountsRise, IsBegun, queue_after}
-use Rattle.qq_cluster.specs.Queue.{Queue, Event, Mutes, Ends, Submits, TellsEnded, TellsNotTaken, Resends, Fetches, Downs, Ticks, Delivers, Loses, Copies, Writes, Syncs, Notices, Stops, Finds, after, begin, happens, leader, moves, offered, submits, synced_after, waiting}
+use Rattle.qq_cluster.specs.Queue.{Queue, Event, Mutes, Ends, Submits, TellsEnded, TellsNotTaken, Attaches, Judges, Resends, Fetches, Downs, Ticks, Delivers, Loses, Copies, Writes, Syncs, Notices, Stops, Finds, after, begin, happens, leader, moves, offered, submits, synced_after, waiting}
 
 -- ---- how many ops there are
 
@@ -300,6 +300,8 @@ counted-event q (Mutes session muted) right = right
 counted-event q (Ends session) right = right
 counted-event q (TellsEnded session) right = right
 counted-event q (TellsNotTaken session id) right = right
+counted-event q (Attaches session tag number) right = right
+counted-event q (Judges verdict) right = right
 counted-event q (Fetches session) right = right
 counted-event q (Submits session body) right = right-all q.synced (moves q (Submits session body)) q.group
     (submits-plain (leader q.group) (offered q.clients (Submits session body))) right

@@ -10,6 +10,7 @@ mod PrintedOnce
 mod Leads
 mod SessionLaws
 pub mod Counts
+pub mod Takerless
 pub mod EachQueue
 mod Settling
 mod Serving

@@ -1,18 +1,18 @@
 -- Calls one after the other.
 use Rattle.std.proofs.Common.{◌≡◌, ◌≢◌, ◌⊎◌, ◌≤◌, ℕ, Bool, true, false, ◌||◌, List, [], ◌∷◌, ◌++◌, Some, None, refl, sym, ap, ◌∙◌, subst, inl, inr, arith, append_assoc, append-nil}
 use Rattle.std.specs.Prelude.{IsTrue}
-use Rattle.std.specs.List.{flat_map}
 use Rattle.std.proofs.lemmas.Bool.{cases_eq, cases_lt, eq-eqb, eqb-false, false≢true}
-use Rattle.std.proofs.lemmas.Grind.{flat_map-append}
 use Rattle.std.proofs.lemmas.List.Folds.{list_any-append}
 use Rattle.qq_base.specs.Causes.{Rose}
 use Rattle.qq_disk.specs.Disk.{Disk, now}
 use Rattle.qq_disk.specs.Moments.{Adds}
 use Rattle.qq_disk.proofs.Moments.{adds-none}
 use Rattle.qq_raft_protocol.specs.Facts.{In}
-use Rattle.qq_cluster.specs.Cluster.{Cluster, ClusterEvent, Setup, Sets, Alike, At, NodeWrites, NodeSyncs, Fails, Crashes, FindsEach, Shows, SaysDown, SaysNoSuch, SaysUnroutable, SaysBusy, SaysEnded, Printed, all_prints, cluster_after, cluster_happens, prints}
+use Rattle.qq_cluster.specs.Cluster.{Cluster, ClusterEvent, Setup, Sets, Alike, At, NodeWrites, NodeSyncs, Fails, Crashes, FindsEach, Shows, SaysDown, SaysNoSuch, SaysUnroutable, SaysBusy, SaysEnded, cluster_after, cluster_happens}
 use Rattle.qq_cluster.specs.Rules.{Then}
-use Rattle.qq_cluster.specs.Texts.{printed_text, text_of}
+use Rattle.qq_cluster.specs.Outcome.{Outcome, takers_after}
+use Rattle.qq_cluster.specs.Texts.{text_of}
+use Rattle.qq_cluster.proofs.Outcomes.{takers-both, text-both}
 use Rattle.qq_cluster_laws.specs.Linked.{IsLinked, IsPromised, IsReached}
 use Rattle.qq_cluster_laws.specs.Serves.{GivesUp, Happened, Leads, Seen, Serves, fails_at, is_failure_at}
 use Rattle.qq_cluster_laws.specs.Traced.{HasNoCrash, IsBrokenAt, IsNoCrash, IsPromisedSince, IsTracedAt, KeepsWhere, TracesTo}
@@ -22,22 +22,7 @@ use Rattle.qq_cluster_laws.proofs.Reached.{after-both, reached-after}
 use Rattle.qq_cluster_laws.proofs.Traces.{trace-end, trace-moments, traced-none, traced-one, traces-then, traces-weaker}
 use Rattle.qq_cluster_laws.proofs.Unseen.{unseen-linked}
 
--- ---- texts and failures of lists of events
-
-prints-both : (setup : Setup) (c : Cluster) (events others : List ClusterEvent)
-    → all_prints setup c (events ++ others)
-    ≡ all_prints setup c events ++ all_prints setup (cluster_after c events) others
-prints-both setup c [] others = refl
-prints-both setup c (event ∷ events) others =
-    ap (λ (l : List Printed). prints setup c event ++ l) (prints-both setup (cluster_happens c event) events others)
-    ∙ sym (append_assoc (prints setup c event) (all_prints setup (cluster_happens c event) events)
-    (all_prints setup (cluster_after c (event ∷ events)) others))
-
-text-both : (setup : Setup) (c : Cluster) (events others : List ClusterEvent)
-    → text_of setup c (events ++ others) ≡ text_of setup c events ++ text_of setup (cluster_after c events) others
-text-both setup c events others =
-    ap (flat_map (printed_text setup)) (prints-both setup c events others)
-    ∙ flat_map-append (printed_text setup) (all_prints setup c events) (all_prints setup (cluster_after c events) others)
+-- ---- failures of lists of events
 
 no_crash-both : (k : ℕ) (events others : List ClusterEvent) → HasNoCrash k events → HasNoCrash k others
     → HasNoCrash k (events ++ others)
@@ -65,7 +50,7 @@ rose-either a m b false second before more one other failed = rose-late a m b be
 -- ---- one call and then another
 
 pub happened-both : (setup : Setup) (c : Cluster) (First Second Whole : List ClusterEvent → Type 0)
-    (Mid Last : Cluster → Type 0) (a m b : ℕ → Seen) (before mid later : List ℕ)
+    (Mid Last : Cluster → Type 0) (a m b : ℕ → Seen) (before mid later : Outcome)
     (s : Happened setup c First Mid a m before mid)
     (t : Happened setup (cluster_after c s.events) Second Last m b mid later) → Whole (s.events ++ t.events)
     → Happened setup c Whole Last a b before later
@@ -74,8 +59,10 @@ happened-both setup c First Second Whole Mid Last a m b before mid later s t who
   means = whole;
   stands = subst Last (sym (after-both c s.events t.events)) t.stands;
   says = t.says ∙ ap (λ (l : List ℕ). l ++ text_of setup (cluster_after c s.events) t.events) s.says
-      ∙ append_assoc before (text_of setup c s.events) (text_of setup (cluster_after c s.events) t.events)
-      ∙ ap (λ (l : List ℕ). before ++ l) (sym (text-both setup c s.events t.events));
+      ∙ append_assoc before.text (text_of setup c s.events) (text_of setup (cluster_after c s.events) t.events)
+      ∙ ap (λ (l : List ℕ). before.text ++ l) (sym (text-both setup c s.events t.events));
+  sees = t.sees ∙ ap (takers_after setup (cluster_after c s.events) t.events) s.sees
+      ∙ sym (takers-both setup c s.events t.events before.takers);
   told = λ k. t.told k ∙ s.told k;
   moments = λ k node tells linked.
       traces-then IsLinked setup k c s.events t.events (a k).past (m k).past (b k).past (s.moments k node tells linked)
@@ -83,7 +70,7 @@ happened-both setup c First Second Whole Mid Last a m b before mid later s t who
 }
 
 pub serves-both : (setup : Setup) (c : Cluster) (First Second Whole : List ClusterEvent → Type 0)
-    (Mid Last : Cluster → Type 0) (a m b : ℕ → Seen) (before mid later : List ℕ)
+    (Mid Last : Cluster → Type 0) (a m b : ℕ → Seen) (before mid later : Outcome)
     (s : Serves setup c First Mid a m before mid)
     (t : Serves setup (cluster_after c s.did.events) Second Last m b mid later) → Whole (s.did.events ++ t.did.events)
     → Serves setup c Whole Last a b before later
@@ -99,7 +86,7 @@ serves-both setup c First Second Whole Mid Last a m b before mid later s t whole
 
 -- one rule and then another
 pub happened-then : (setup : Setup) (c : Cluster) (First Second : Cluster → List ClusterEvent → Type 0)
-    (Mid Last : Cluster → Type 0) (a m b : ℕ → Seen) (before mid later : List ℕ)
+    (Mid Last : Cluster → Type 0) (a m b : ℕ → Seen) (before mid later : Outcome)
     → Happened setup c (First c) Mid a m before mid
     → ((d : Cluster) → IsReached setup d → Mid d → Happened setup d (Second d) Last m b mid later) → IsReached setup c
     → Happened setup c (Then First Second c) Last a b before later
@@ -110,7 +97,7 @@ happened-then setup c First Second Mid Last a m b before mid later s second r =
     (record { early = s.events; late = t.events; is = refl; first = s.means; second = t.means })
 
 pub serves-then : (setup : Setup) (c : Cluster) (First Second : Cluster → List ClusterEvent → Type 0)
-    (Mid Last : Cluster → Type 0) (a m b : ℕ → Seen) (before mid later : List ℕ)
+    (Mid Last : Cluster → Type 0) (a m b : ℕ → Seen) (before mid later : Outcome)
     → Serves setup c (First c) Mid a m before mid
     → ((d : Cluster) → IsReached setup d → Mid d → Serves setup d (Second d) Last m b mid later) → IsReached setup c
     → Serves setup c (Then First Second c) Last a b before later
@@ -123,7 +110,7 @@ serves-then setup c First Second Mid Last a m b before mid later s second r =
 
 -- the same call by a rule that allows more, with more behind it
 pub happened-weaker : (setup : Setup) (c : Cluster) (Allowed More : List ClusterEvent → Type 0)
-    (Stands Holds : Cluster → Type 0) (a b : ℕ → Seen) (before later : List ℕ)
+    (Stands Holds : Cluster → Type 0) (a b : ℕ → Seen) (before later : Outcome)
     → ((events : List ClusterEvent) → Allowed events → More events) → ((d : Cluster) → Stands d → Holds d)
     → Happened setup c Allowed Stands a b before later → Happened setup c More Holds a b before later
 happened-weaker setup c Allowed More Stands Holds a b before later rule holds s = record {
@@ -131,12 +118,13 @@ happened-weaker setup c Allowed More Stands Holds a b before later rule holds s 
   means = rule s.events s.means;
   stands = holds (cluster_after c s.events) s.stands;
   says = s.says;
+  sees = s.sees;
   told = s.told;
   moments = s.moments;
 }
 
 pub serves-weaker : (setup : Setup) (c : Cluster) (Allowed More : List ClusterEvent → Type 0)
-    (Stands Holds : Cluster → Type 0) (a b : ℕ → Seen) (before later : List ℕ)
+    (Stands Holds : Cluster → Type 0) (a b : ℕ → Seen) (before later : Outcome)
     → ((events : List ClusterEvent) → Allowed events → More events) → ((d : Cluster) → Stands d → Holds d)
     → Serves setup c Allowed Stands a b before later → Serves setup c More Holds a b before later
 unfolding happened-weaker
@@ -149,15 +137,21 @@ serves-weaker setup c Allowed More Stands Holds a b before later rule holds s = 
 
 -- ---- single calls
 
+-- what one event shows was added
+pub record ShowsOne (setup : Setup) (c : Cluster) (event : ClusterEvent) (before later : Outcome) : Type 0 where
+  pub text : later.text ≡ before.text ++ text_of setup c (event ∷ [])
+  pub takers : later.takers ≡ takers_after setup c (event ∷ []) before.takers
+
 -- nothing happened, and the disks are as they were
 pub serves-nothing : (setup : Setup) (c : Cluster) (Allowed : List ClusterEvent → Type 0) (Stands : Cluster → Type 0)
-    (a : ℕ → Seen) (text : List ℕ) → Allowed [] → Stands c → Serves setup c Allowed Stands a a text text
-serves-nothing setup c Allowed Stands a text allowed stands = record {
+    (a : ℕ → Seen) (now' : Outcome) → Allowed [] → Stands c → Serves setup c Allowed Stands a a now' now'
+serves-nothing setup c Allowed Stands a now' allowed stands = record {
   did = record {
     events = [];
     means = allowed;
     stands = stands;
-    says = sym (append-nil text);
+    says = sym (append-nil now'.text);
+    sees = refl;
     told = λ k. refl;
     moments = λ k node tells linked. traced-none setup c k (a k).past linked;
   };
@@ -253,31 +247,32 @@ module _ (setup : Setup) (c : Cluster) (k : ℕ) (event : ClusterEvent) (a b : �
       (unseen-traced setup c j event (a j).past (unseen j other) linked)))
 
   -- it happened, and it may be a crash
-  pub happened-event : (Allowed : List ClusterEvent → Type 0) (Stands : Cluster → Type 0) (before later : List ℕ)
-      → Allowed (event ∷ []) → Stands (cluster_happens c event) → later ≡ before ++ text_of setup c (event ∷ [])
+  pub happened-event : (Allowed : List ClusterEvent → Type 0) (Stands : Cluster → Type 0) (before later : Outcome)
+      → Allowed (event ∷ []) → Stands (cluster_happens c event) → ShowsOne setup c event before later
       → (In k setup.nodes → IsTrue (a k).tells → IsLinked setup c k (now (a k).past)
       → IsTracedAt setup c k (event ∷ []) (a k).past (b k).past)
       → Happened setup c Allowed Stands a b before later
-  happened-event Allowed Stands before later allowed stands says moments = record {
+  happened-event Allowed Stands before later allowed stands shown moments = record {
     events = event ∷ [];
     means = allowed;
     stands = stands;
-    says = says;
+    says = shown.text;
+    sees = shown.takers;
     told = all-told;
     moments = all-traced IsLinked (λ d j e linked. linked) moments;
   }
 
   -- it is none
-  pub serves-event : (Allowed : List ClusterEvent → Type 0) (Stands : Cluster → Type 0) (before later : List ℕ)
+  pub serves-event : (Allowed : List ClusterEvent → Type 0) (Stands : Cluster → Type 0) (before later : Outcome)
       → IsNoCrash k event → (a k).faults ≤ (b k).faults
       → (is_failure_at k event ≡ true → Rose (a k).faults (b k).faults)
-      → Allowed (event ∷ []) → Stands (cluster_happens c event) → later ≡ before ++ text_of setup c (event ∷ [])
+      → Allowed (event ∷ []) → Stands (cluster_happens c event) → ShowsOne setup c event before later
       → (In k setup.nodes → IsTrue (a k).tells → IsLinked setup c k (now (a k).past)
       → IsTracedAt setup c k (event ∷ []) (a k).past (b k).past)
       → Serves setup c Allowed Stands a b before later
   unfolding happened-event
-  serves-event Allowed Stands before later calm rises cause allowed stands says moments = record {
-    did = happened-event Allowed Stands before later allowed stands says moments;
+  serves-event Allowed Stands before later calm rises cause allowed stands shown moments = record {
+    did = happened-event Allowed Stands before later allowed stands shown moments;
     no_crash = all-calm calm;
     rises = all-rise rises;
     cause = λ j. by-node (λ (i : ℕ). fails_at i (event ∷ []) ≡ true → Rose (a i).faults (b i).faults) j
@@ -300,15 +295,16 @@ module _ (setup : Setup) (c : Cluster) (k : ℕ) (event : ClusterEvent) (a b : �
 
 -- one event that no log sees
 pub serves-unseen : (setup : Setup) (c : Cluster) (event : ClusterEvent) (Allowed : List ClusterEvent → Type 0)
-    (Stands : Cluster → Type 0) (a : ℕ → Seen) (before later : List ℕ) → seen_by event ≡ None → Allowed (event ∷ [])
-    → Stands (cluster_happens c event) → later ≡ before ++ text_of setup c (event ∷ [])
+    (Stands : Cluster → Type 0) (a : ℕ → Seen) (before later : Outcome) → seen_by event ≡ None → Allowed (event ∷ [])
+    → Stands (cluster_happens c event) → ShowsOne setup c event before later
     → Serves setup c Allowed Stands a a before later
-serves-unseen setup c event Allowed Stands a before later none allowed stands says = record {
+serves-unseen setup c event Allowed Stands a before later none allowed stands shown = record {
   did = record {
     events = event ∷ [];
     means = allowed;
     stands = stands;
-    says = says;
+    says = shown.text;
+    sees = shown.takers;
     told = λ k. refl;
     moments = λ k node tells linked. unseen-traced setup c k event (a k).past (unseen k) linked;
   };
@@ -354,7 +350,7 @@ gives_up-same setup c a = record {
 
 -- behind one that was served
 pub gives_up-behind : (setup : Setup) (c : Cluster) (First : List ClusterEvent → Type 0) (Mid : Cluster → Type 0)
-    (a m b : ℕ → Seen) (before mid : List ℕ) (s : Serves setup c First Mid a m before mid)
+    (a m b : ℕ → Seen) (before mid : Outcome) (s : Serves setup c First Mid a m before mid)
     → GivesUp setup (cluster_after c s.did.events) m b → GivesUp setup c a b
 gives_up-behind setup c First Mid a m b before mid s t = record {
   events = s.did.events ++ t.events;
@@ -369,21 +365,23 @@ gives_up-behind setup c First Mid a m b before mid s t = record {
 
 -- ---- what a call has done, in the words of its events
 
-abbrev ByEvents : Setup → Cluster → Cluster → List ClusterEvent → (ℕ → Seen) → (ℕ → Seen) → List ℕ → List ℕ → Type 0
+abbrev ByEvents : Setup → Cluster → Cluster → List ClusterEvent → (ℕ → Seen) → (ℕ → Seen) → Outcome → Outcome → Type 0
 ByEvents setup c last done a b before later =
     Serves setup c (λ (events : List ClusterEvent). events ≡ done) (λ (d : Cluster). d ≡ last) a b before later
 
 pub happened-text : (setup : Setup) (c last : Cluster) (done : List ClusterEvent) (a b : ℕ → Seen)
-    (before later : List ℕ)
+    (before later : Outcome)
     → Happened setup c (λ (events : List ClusterEvent). events ≡ done) (λ (d : Cluster). d ≡ last) a b before later
-    → (last ≡ cluster_after c done) × (later ≡ before ++ text_of setup c done)
+    → (last ≡ cluster_after c done) × (later.text ≡ before.text ++ text_of setup c done)
+    × (later.takers ≡ takers_after setup c done before.takers)
 happened-text setup c last done a b before later s = (
   sym s.stands ∙ ap (cluster_after c) s.means,
-  s.says ∙ ap (λ (l : List ClusterEvent). before ++ text_of setup c l) s.means,
+  s.says ∙ ap (λ (l : List ClusterEvent). before.text ++ text_of setup c l) s.means,
+  s.sees ∙ ap (λ (l : List ClusterEvent). takers_after setup c l before.takers) s.means,
 )
 
 pub happened-disks : (setup : Setup) (c last : Cluster) (done : List ClusterEvent) (a b : ℕ → Seen)
-    (before later : List ℕ) (k : ℕ)
+    (before later : Outcome) (k : ℕ)
     → Happened setup c (λ (events : List ClusterEvent). events ≡ done) (λ (d : Cluster). d ≡ last) a b before later
     → ((b k).tells ≡ (a k).tells) × (In k setup.nodes → IsTrue (a k).tells → IsLinked setup c k (now (a k).past)
     → IsTracedAt setup c k done (a k).past (b k).past)
@@ -394,7 +392,7 @@ happened-disks setup c last done a b before later k s = (
 )
 
 pub served-faults : (setup : Setup) (c last : Cluster) (done : List ClusterEvent) (a b : ℕ → Seen)
-    (before later : List ℕ) (k : ℕ) → ByEvents setup c last done a b before later
+    (before later : Outcome) (k : ℕ) → ByEvents setup c last done a b before later
     → HasNoCrash k done × ((a k).faults ≤ (b k).faults)
     × (fails_at k done ≡ true → Rose (a k).faults (b k).faults)
 served-faults setup c last done a b before later k s = (
@@ -404,7 +402,7 @@ served-faults setup c last done a b before later k s = (
 )
 
 pub served-moments : (setup : Setup) (c last : Cluster) (done : List ClusterEvent) (a b : ℕ → Seen)
-    (before later : List ℕ) (k : ℕ) → ByEvents setup c last done a b before later
+    (before later : Outcome) (k : ℕ) → ByEvents setup c last done a b before later
     → In k setup.nodes → IsTrue (a k).tells → IsLinked setup c k (now (a k).past)
     → Adds (IsPromisedSince setup c k done) (a k).past (b k).past × IsLinked setup last k (now (b k).past)
 served-moments setup c last done a b before later k s node tells linked =

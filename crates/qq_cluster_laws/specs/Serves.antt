@@ -5,6 +5,7 @@ use Rattle.qq_base.specs.Causes.{Rose}
 use Rattle.qq_disk.specs.Disk.{Disk, now}
 use Rattle.qq_raft_protocol.specs.Facts.{In}
 use Rattle.qq_cluster.specs.Cluster.{Cluster, ClusterEvent, Setup, Fails, cluster_after}
+use Rattle.qq_cluster.specs.Outcome.{Outcome, takers_after}
 use Rattle.qq_cluster.specs.Texts.{text_of}
 use Rattle.qq_cluster_laws.specs.Linked.{IsLinked}
 use Rattle.qq_cluster_laws.specs.Traced.{HasNoCrash, IsBrokenAt, IsTracedAt}
@@ -26,21 +27,22 @@ is_failure_at k _ = false
 abbrev pub fails_at : ℕ → List ClusterEvent → Bool
 fails_at k events = list_any (is_failure_at k) events
 
--- Some events happened, which the rule allows: the cluster is as they leave it, what they print was added to the text, and
--- each node's disk was at each moment what they say, where its log was linked before.
+-- Some events happened, which the rule allows: the cluster is as they leave it, what they print was added to the text, takers
+-- saw what they show, and each node's disk was at each moment what they say, where its log was linked before.
 pub record Happened (setup : Setup) (c : Cluster) (Allowed : List ClusterEvent → Type 0) (Stands : Cluster → Type 0)
-    (a b : ℕ → Seen) (before later : List ℕ) : Type 0 where
+    (a b : ℕ → Seen) (before later : Outcome) : Type 0 where
   pub events : List ClusterEvent
   pub means : Allowed events
   pub stands : Stands (cluster_after c events)
-  pub says : later ≡ before ++ text_of setup c events
+  pub says : later.text ≡ before.text ++ text_of setup c events
+  pub sees : later.takers ≡ takers_after setup c events before.takers
   pub told : (k : ℕ) → (b k).tells ≡ (a k).tells
   pub moments : (k : ℕ) → In k setup.nodes → IsTrue (a k).tells → IsLinked setup c k (now (a k).past)
       → IsTracedAt setup c k events (a k).past (b k).past
 
 -- and no node was crashed, so each disk is the one that it was. It failed only where its count rose.
 pub record Serves (setup : Setup) (c : Cluster) (Allowed : List ClusterEvent → Type 0) (Stands : Cluster → Type 0)
-    (a b : ℕ → Seen) (before later : List ℕ) : Type 0 where
+    (a b : ℕ → Seen) (before later : Outcome) : Type 0 where
   pub did : Happened setup c Allowed Stands a b before later
   pub no_crash : (k : ℕ) → HasNoCrash k did.events
   pub rises : (k : ℕ) → (a k).faults ≤ (b k).faults

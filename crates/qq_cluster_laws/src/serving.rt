@@ -6,6 +6,7 @@ ghost use Rattle.qq_disk.specs.Moments.{Adds};
 ghost use Rattle.qq_raft_protocol.specs.Facts.{In};
 ghost use Rattle.qq_cluster.specs.Cluster.{Cluster, ClusterEvent, Setup, cluster_after, new_cluster};
 ghost use Rattle.qq_cluster.specs.ClusterLaws.{HasGroups};
+ghost use Rattle.qq_cluster.specs.Outcome.{Outcome, takers_after};
 ghost use Rattle.qq_cluster.specs.Texts.{text_of};
 ghost use Rattle.qq_cluster_laws.specs.Answers.{KeepsAnswers};
 ghost use Rattle.qq_cluster_laws.specs.Linked.{IsLinked, IsPromised};
@@ -18,15 +19,16 @@ use qq_raft_model::{the_disks_support_the_audit, what_a_group_committed_stays};
 
 /// A law: of a call by which these events happened, so that this cluster stands.
 ///
-/// - `text`: the cluster is as they leave it, and what they print was added to the text.
+/// - `text`: the cluster is as they leave it, what they print was added to the text, and takers saw what they show.
 /// - `disks`: each disk tells what it told. Where it tells, and its log was linked, the events are traced on it.
 pub fn what_happened_is_on_the_disks()
     ensures text { (setup : Setup) (c last : Cluster) (done : List ClusterEvent) (a b : ℕ → Seen)
-        (before later : List ℕ) →
+        (before later : Outcome) →
         Happened setup c (λ events. events ≡ done) (λ d. d ≡ last) a b before later →
-        (last ≡ cluster_after c done) × (later ≡ before ++ text_of setup c done) }
+        (last ≡ cluster_after c done) × (later.text ≡ before.text ++ text_of setup c done)
+        × (later.takers ≡ takers_after setup c done before.takers) }
     ensures disks { (setup : Setup) (c last : Cluster) (done : List ClusterEvent) (a b : ℕ → Seen)
-        (before later : List ℕ) (k : ℕ) →
+        (before later : Outcome) (k : ℕ) →
         Happened setup c (λ events. events ≡ done) (λ d. d ≡ last) a b before later →
         ((b k).tells ≡ (a k).tells) × (In k setup.nodes → IsTrue (a k).tells →
         IsLinked setup c k (now (a k).past) →
@@ -41,12 +43,12 @@ pub fn what_happened_is_on_the_disks()
 ///   log had promised by then, and the log is linked to the cluster that stands now.
 pub fn what_was_served_keeps_the_promises()
     ensures faults { (setup : Setup) (c last : Cluster) (done : List ClusterEvent) (a b : ℕ → Seen)
-        (before later : List ℕ) (k : ℕ) →
+        (before later : Outcome) (k : ℕ) →
         Serves setup c (λ events. events ≡ done) (λ d. d ≡ last) a b before later →
         HasNoCrash k done × ((a k).faults ≤ (b k).faults)
         × (fails_at k done ≡ true → Rose (a k).faults (b k).faults) }
     ensures moments { (setup : Setup) (c last : Cluster) (done : List ClusterEvent) (a b : ℕ → Seen)
-        (before later : List ℕ) (k : ℕ) →
+        (before later : Outcome) (k : ℕ) →
         Serves setup c (λ events. events ≡ done) (λ d. d ≡ last) a b before later →
         In k setup.nodes → IsTrue (a k).tells → IsLinked setup c k (now (a k).past) →
         Adds (IsPromisedSince setup c k done) (a k).past (b k).past
