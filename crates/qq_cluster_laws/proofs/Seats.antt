@@ -13,7 +13,7 @@ use Rattle.qq_raft_model.specs.Server.{Input, restart, step}
 use Rattle.qq_raft_model.specs.State.{Server}
 use Rattle.qq_raft_msg.specs.Rpc.{envelope}
 use Rattle.qq_raft_msg.specs.declared.rpc.Rpc.{Rpc}
-use Rattle.qq_cluster.specs.Queue.{Queue, Event, Mutes, Ends, Submits, TellsEnded, TellsNotTaken, Resends, Fetches, Downs, Ticks, Delivers, Loses, Copies, Writes, Syncs, Notices, Stops, Finds, leader, moves, offered, submits, waiting}
+use Rattle.qq_cluster.specs.Queue.{Queue, Event, Mutes, Ends, Submits, TellsEnded, TellsNotTaken, Attaches, Judges, Resends, Fetches, Downs, Ticks, Delivers, Loses, Copies, Writes, Syncs, Notices, Stops, Finds, leader, moves, offered, submits, waiting}
 use Rattle.qq_cluster_laws.specs.Unseen.{touches}
 
 -- ---- what a step of a server leaves of its seat
@@ -124,6 +124,8 @@ event-leaves k q (Mutes session muted) not' = tt
 event-leaves k q (Ends session) not' = tt
 event-leaves k q (TellsEnded session) not' = tt
 event-leaves k q (TellsNotTaken session id) not' = tt
+event-leaves k q (Attaches session tag number) not' = tt
+event-leaves k q (Judges verdict) not' = tt
 event-leaves k q (Fetches session) not' = tt
 event-leaves k q (Submits session body) not' =
     submits-leave k (leader q.group) (offered q.clients (Submits session body))
