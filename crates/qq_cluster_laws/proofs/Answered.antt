@@ -14,7 +14,7 @@ use Rattle.qq_raft_model.specs.Group.{Group}
 use Rattle.qq_raft_model.specs.Promises.{whole_audit}
 use Rattle.qq_raft_protocol.specs.Facts.{add}
 use Rattle.qq_raft_protocol.proofs.Majorities.{Most-map}
-use Rattle.qq_session.specs.Shown.{Answered, Delivered, NoLeader, WindowFull, HasEnded, NotTaken}
+use Rattle.qq_session.specs.Shown.{Answered, Delivered, NoLeader, WindowFull, HasEnded, NotTaken, Attached, IsBusy, Taken, Dropped}
 use Rattle.qq_cluster.specs.Cluster.{Cluster, ClusterEvent, Setup, Printed, Of, Stopped, IsDown, NoSuch, Unroutable, Busy, Ended, State as StateOf, all_prints, cluster_after, new_cluster}
 use Rattle.qq_cluster.specs.ClusterLaws.{HasGroups, IsTrueOf, PrintsWhatIsTrue}
 use Rattle.qq_cluster.specs.Queue.{Queue}
@@ -85,6 +85,10 @@ module _ (knows : KnowsWhole) (setup : Setup) (groups : HasGroups setup) (events
   one (Of place (WindowFull session)) own = tt
   one (Of place (HasEnded session)) own = tt
   one (Of place (NotTaken session id)) own = tt
+  one (Of place (Attached session number)) own = tt
+  one (Of place (IsBusy session number)) own = tt
+  one (Of place (Taken number consumer delivery verdict)) own = tt
+  one (Of place (Dropped session number)) own = tt
   one (Stopped k) own = tt
   one (IsDown k) own = tt
   one NoSuch own = tt
