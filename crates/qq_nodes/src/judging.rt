@@ -63,10 +63,10 @@ impl<D: NodeDisk> Nodes<D> {
         ensures err { IfErr result (GaveUp D.tells D.past D.faults
             (λ setup. IsFollowed claim (at + 1)) self.old self.new) }
     {
-        let Some(claim) = claim else {
-            return Ok(());
-        };
-        self.give_active(alloc, at, claim.session, claim.body, told)
+        match claim {
+            None => Ok(()),
+            Some(claim) => self.give_active(alloc, at, claim.session, claim.body, told),
+        }
     }
 
     // The taker of the first delivery that waits is asked, where one does, and its verdict is followed.
