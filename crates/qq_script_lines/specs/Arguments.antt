@@ -82,12 +82,19 @@ one_message s _ = Err Words
 abbrev pub is_written : List ℕ → Result (Unit {0}) ScriptFault
 is_written word = if is_number word then Ok tt else Err Number
 
+unfoldable pub consumer_of : List ℕ → List ℕ → Result (SessionId × ℕ) ScriptFault
+consumer_of session tag =
+    or_fault Number (session_of session) >>= λ by. or_fault Number (tag_of tag) >>= λ to. Ok (by, to)
+
+unfoldable pub attach_to : Setup → SessionId → ℕ → List ℕ → List ℕ → Result ScriptLine ScriptFault
+attach_to s by to queue taker =
+    is_written taker >>= λ _. queue_of s queue >>= λ at.
+    or_fault NoSuch (number_in 1 (2 ^ 32 - 1) taker) >>= λ number. Ok (lines.Attach by at to number)
+
 -- S Q T K
 unfoldable pub attach : Setup → List (List ℕ) → Result ScriptLine ScriptFault
 attach s (session ∷ queue ∷ tag ∷ taker ∷ []) =
-    or_fault Number (session_of session) >>= λ by. or_fault Number (tag_of tag) >>= λ to.
-    is_written taker >>= λ _. queue_of s queue >>= λ at.
-    or_fault NoSuch (number_in 1 (2 ^ 32 - 1) taker) >>= λ number. Ok (lines.Attach by at to number)
+    consumer_of session tag >>= λ p. attach_to s p.0 p.1 queue taker
 attach s _ = Err Words
 
 -- N IMAGE

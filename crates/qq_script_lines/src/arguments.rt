@@ -1,6 +1,6 @@
 //! What the words behind a line's first one say.
 ghost use Rattle.std.specs.Prelude.{◌≡◌, map, Ok, IfOk, IfErr};
-ghost use Rattle.qq_script_lines.specs.Arguments.{no_word, one_session, one_queue, one_node, some_nodes, one_member, one_message, crash, key_of, send_to, send, publish};
+ghost use Rattle.qq_script_lines.specs.Arguments.{no_word, one_session, one_queue, one_node, some_nodes, one_member, one_message, is_written, consumer_of, attach_to, attach, crash, key_of, send_to, send, publish};
 ghost use Rattle.qq_script_lines.specs.Lines.{HasScriptCause, IsOfLine};
 ghost use Rattle.std.specs.Option.{option_map};
 
@@ -9,7 +9,7 @@ use crate::fault::ScriptFault;
 use crate::images::image_of;
 use crate::line::{Nodes, ScriptLine};
 use crate::names::{first_queue, node_of, nodes_of, queue_at, queue_of};
-use crate::numbers::{place_of, session_of};
+use crate::numbers::{is_number, number_in, place_of, session_of, tag_of};
 use crate::words::{behind_four, text_of};
 use qq_base::{NodeId, QueueId, SessionId, Text};
 use qq_entry::KEY_LIMIT;
@@ -104,6 +104,72 @@ pub fn one_message(setup: &Setup, words: &[&str]) -> Result<(QueueId, u32), Scri
     };
     let queue = queue_of(setup, queue)?;
     Ok((queue, place))
+}
+
+// The number of a taker. Whether that is there the broker knows.
+fn is_written(word: &str) -> Result<(), ScriptFault>
+    ensures said { result ≡ is_written word.now }
+    ensures fault { IfErr result IsOfLine }
+{
+    if is_number(word.as_bytes()) {
+        return Ok(());
+    }
+    Err(ScriptFault::Number)
+}
+
+// The session and the tag of a consumer.
+#[tactic(auto, unfolding(crate::specs::Arguments::consumer_of))]
+fn consumer_of(session: &str, tag: &str) -> Result<(SessionId, u32), ScriptFault>
+    ensures said { result ≡ consumer_of session.now tag.now }
+    ensures fault { IfErr result IsOfLine }
+{
+    let Some(session) = session_of(session) else {
+        return Err(ScriptFault::Number);
+    };
+    let Some(tag) = tag_of(tag) else {
+        return Err(ScriptFault::Number);
+    };
+    Ok((session, tag))
+}
+
+// The session and the tag of a consumer, a queue and a taker.
+#[tactic(auto, unfolding(crate::specs::Arguments::attach_to))]
+fn attach_to(
+    setup: &Setup,
+    session: SessionId,
+    tag: u32,
+    queue: &str,
+    taker: &str,
+) -> Result<ScriptLine, ScriptFault>
+    ensures said { result ≡ attach_to setup.now session tag queue.now taker.now }
+    ensures fault { IfErr result IsOfLine }
+{
+    is_written(taker)?;
+    let queue = queue_of(setup, queue)?;
+    let Some(taker) = number_in(1, 4_294_967_295, taker) else {
+        return Err(ScriptFault::NoSuch);
+    };
+    Ok(ScriptLine::Attach {
+        session,
+        queue,
+        tag,
+        taker: taker as u32,
+    })
+}
+
+/// `S Q T K` behind the first word of a line.
+#[tactic(auto, unfolding(crate::specs::Arguments::attach))]
+pub fn attach(setup: &Setup, words: &[&str]) -> Result<ScriptLine, ScriptFault>
+    ensures said { result ≡ attach setup.now (map (λ w. w.now) words.now) }
+    ensures fault { IfErr result IsOfLine }
+{
+    let [session, queue, tag, taker] = words else {
+        return Err(ScriptFault::Words);
+    };
+    match consumer_of(session, tag) {
+        Ok((session, tag)) => attach_to(setup, session, tag, queue, taker),
+        Err(fault) => Err(fault),
+    }
 }
 
 /// `N IMAGE`, or `all IMAGE`.

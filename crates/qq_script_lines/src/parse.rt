@@ -4,8 +4,8 @@ ghost use Rattle.std.specs.Str.{is_utf8};
 ghost use Rattle.qq_script_lines.specs.Lines.{is_nothing, publish_text, node_line, plain_line, plain_or_client, read, is_client, in_place, read_words, text_in, read_text, parse_line, HasScriptCause, IsOfLine};
 
 use crate::arguments::{
-    crash, no_word, one_member, one_message, one_node, one_queue, one_session, publish, send,
-    some_nodes,
+    attach, crash, no_word, one_member, one_message, one_node, one_queue, one_session, publish,
+    send, some_nodes,
 };
 use crate::bodies::begins_with;
 use crate::commands::client_line;
@@ -145,7 +145,7 @@ fn plain_or_client(
 }
 
 // What a whole line says, by its first word and the words behind it.
-#[tactic(auto, unfolding(crate::specs::Lines::read))]
+#[tactic(auto, using(crate::proofs::Causes::line_cause), unfolding(crate::specs::Lines::read))]
 fn read(
     alloc: Global,
     setup: &Setup,
@@ -162,6 +162,10 @@ fn read(
         "publish" => Err(ScriptFault::Words),
         "send" => send(alloc, line, words),
         "crash" => crash(alloc, setup, words),
+        "attach" => match attach(setup, words) {
+            Ok(said) => Ok(said),
+            Err(fault) => Err(fault),
+        },
         _ => plain_or_client(alloc, setup, word, words),
     }
 }

@@ -1,5 +1,5 @@
 -- Which consumers of a queue have a taker.
-use Rattle.std.specs.Prelude.{ℕ, List, [], ◌∷◌, Bool, not, Option, Some, None, filter, find, nat_lt, if◌then◌else◌}
+use Rattle.std.specs.Prelude.{ℕ, List, [], ◌∷◌, Bool, not, Option, filter, find, nat_lt, if◌then◌else◌}
 use Rattle.std.specs.Option.{option_map}
 use Rattle.qq_base.specs.Ids.{same_consumer, same_session}
 use Rattle.qq_base.specs.declared.ids.ConsumerId.{ConsumerId}
@@ -13,6 +13,9 @@ is_of id seat = same_consumer seat.consumer id
 -- the number of a consumer's taker, None where it has none
 abbrev pub taker_of : ConsumerId → List Seat → Option ℕ
 taker_of id seats = option_map (λ (seat : Seat). seat.number) (find (is_of id) seats)
+
+abbrev pub is_above : ℕ → Seat → Bool
+is_above tag seat = nat_lt tag seat.consumer.tag
 
 -- a consumer gets a taker; the seats are in the order of their tags
 abbrev pub sit : Seat → List Seat → List Seat

@@ -1,5 +1,5 @@
 ghost use Rattle.std.specs.Prelude.{◌≡◌, ◌++◌, ◌∷◌, [], IfOk, IsOkUnless, OnErr, OnOk};
-ghost use Rattle.qq_taker.specs.Takers.{Free, IsOffered, LooksAt, drop_at, give, hand, held_by, is_free, is_free_by};
+ghost use Rattle.qq_taker.specs.Takers.{Free, Gone, IsOffered, LooksAt, drop_at, give, hand, held_by, is_free, is_free_by};
 
 use crate::taker::{Taker, Verdict};
 use qq_base::Memory;
@@ -40,6 +40,13 @@ impl<T: Taker> Place<T> {
             Place::Given(taker) => Place::Given(taker),
             Place::Gone => Place::Gone,
         };
+    }
+
+    // It is dropped.
+    fn leave(&mut self)
+        ensures { held_by T.seen self.new ≡ Gone }
+    {
+        *self = Place::Gone;
     }
 
     // It is offered a delivery, where it was given to a consumer.
@@ -116,9 +123,10 @@ impl<T: Taker> Desk<T> {
         if number == 0 {
             return;
         }
-        if let Some(place) = self.rows.get_mut(number as usize - 1) {
-            place.give();
-        }
+        let Some(place) = self.rows.get_mut(number as usize - 1) else {
+            return;
+        };
+        place.give();
     }
 
     /// Offers a delivery to the taker of this number, and answers its verdict. None exactly where none of this number
@@ -134,10 +142,10 @@ impl<T: Taker> Desk<T> {
         if number == 0 {
             return Ok(None);
         }
-        match self.rows.get_mut(number as usize - 1) {
-            None => Ok(None),
-            Some(place) => place.offer(delivery),
-        }
+        let Some(place) = self.rows.get_mut(number as usize - 1) else {
+            return Ok(None);
+        };
+        place.offer(delivery)
     }
 
     /// Drops the taker of this number, where there is one.
@@ -147,8 +155,9 @@ impl<T: Taker> Desk<T> {
         if number == 0 {
             return;
         }
-        if let Some(place) = self.rows.get_mut(number as usize - 1) {
-            *place = Place::Gone;
-        }
+        let Some(place) = self.rows.get_mut(number as usize - 1) else {
+            return;
+        };
+        place.leave();
     }
 }

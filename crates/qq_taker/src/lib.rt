@@ -12,7 +12,10 @@ mod taker;
 pub use desk::Desk;
 pub use fixed::FixedTaker;
 pub use handed::Handed;
-pub use laws::{given_takers_see_what_they_are_offered, takers_are_given_once, takers_see_nothing_after_the_drop};
+pub use laws::{
+    given_takers_see_what_they_are_offered, takers_are_given_once,
+    takers_see_nothing_after_the_drop,
+};
 pub use noting::NotingTaker;
 pub use qq_base::{ConsumerId, Memory};
 pub use qq_entry::Delivery;

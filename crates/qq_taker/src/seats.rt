@@ -1,5 +1,6 @@
 ghost use Rattle.std.specs.Prelude.{◌≡◌, ◌∷◌, [], find, IsOkUnless, OnErr, OnOk};
-ghost use Rattle.qq_taker.specs.Seats.{leaves, sit, taker_of, without_first};
+ghost use Rattle.std.specs.List.{position, position_or_len};
+ghost use Rattle.qq_taker.specs.Seats.{is_above, leaves, sit, taker_of, without_first};
 
 use qq_base::{ConsumerId, Memory, SessionId};
 use std::alloc::Global;
@@ -30,6 +31,38 @@ impl Leaving {
             Leaving::Consumer(id) => seat.consumer == *id,
             Leaving::Session(session) => seat.consumer.session == *session,
         }
+    }
+}
+
+fn first_above(tag: u32, rows: &[Seat]) -> Option<usize>
+    ensures { result ≡ position (is_above tag) rows.now }
+{
+    rows.iter().position(|seat| tag < seat.consumer.tag)
+}
+
+fn first_leaving(whom: Leaving, rows: &[Seat]) -> Option<usize>
+    ensures { result ≡ position (leaves whom) rows.now }
+{
+    rows.iter().position(|seat| whom.leaves(seat))
+}
+
+// The place of the first of a higher tag, or their count.
+fn place_above(tag: u32, rows: &[Seat]) -> usize
+    ensures { result ≡ position_or_len (is_above tag) rows.now }
+{
+    match first_above(tag, rows) {
+        Some(at) => at,
+        None => rows.len(),
+    }
+}
+
+// The place of the first that loses its taker, or their count.
+fn place_leaving(whom: Leaving, rows: &[Seat]) -> usize
+    ensures { result ≡ position_or_len (leaves whom) rows.now }
+{
+    match first_leaving(whom, rows) {
+        Some(at) => at,
+        None => rows.len(),
     }
 }
 
@@ -76,14 +109,7 @@ impl Seats {
         ensures err { OnErr result (self.new ≡ self.old) }
         ensures want { IsOkUnless result Memory.Want }
     {
-        let mut at = 0;
-        let count = self.rows.len();
-        'rows: while at < count {
-            if id.tag < self.rows[at].consumer.tag {
-                break;
-            }
-            at += 1;
-        }
+        let at = place_above(id.tag, &self.rows);
         let seat = Seat {
             consumer: id,
             number,
@@ -97,14 +123,10 @@ impl Seats {
         ensures seat { result ≡ find (leaves whom) self.old }
         ensures after { self.new ≡ without_first whom self.old }
     {
-        let count = self.rows.len();
-        'rows: for at in 0..count {
-            let seat = self.rows[at];
-            if whom.leaves(&seat) {
-                let _ = self.rows.remove(at);
-                return Some(seat);
-            }
+        let at = place_leaving(whom, &self.rows);
+        if at >= self.rows.len() {
+            return None;
         }
-        None
+        Some(self.rows.remove(at))
     }
 }
