@@ -10,6 +10,7 @@ from group import Group, Log, entry_of, first_entry
 from lines import CLIENT_LINES, Fault, LONGEST_BODY, Reader, Refused, lines_of
 from machine import Command
 from raft import Server
+from takers import KEEP, Takers
 
 ROUNDS = 10_000
 PLAIN_FOLD = 2_000
@@ -67,6 +68,7 @@ class Cluster:
         self.down = set(self.nodes)
         self.muted, self.ended, self.numbers = set(), set(), {}
         self.consumers = [{} for _ in range(queues)]
+        self.takers = Takers(queues)
         self.auto = True
         self.lines = 0
         self.output = []
@@ -149,8 +151,24 @@ class Cluster:
         if consumer is None or delivery.session in self.muted:
             return
         for handed in consumer.come(delivery):
-            self.say_of(handed.session, place, texts.delivery(handed))
-            self.on_delivery(place, handed)
+            if not self.takers.hold(place, handed):
+                self.show(place, handed)
+
+    def show(self, place, delivery):
+        self.say_of(delivery.session, place, texts.delivery(delivery))
+        self.on_delivery(place, delivery)
+
+    def ask_takers(self, place):
+        """Takers give their verdicts on what waits, each of which is a command of the consumer's session."""
+        while self.takers.waiting[place]:
+            delivery, verdict, told = self.takers.judge(place)
+            self.say_of(delivery.session, place, texts.taken(delivery, verdict))
+            for each in told:
+                self.show(place, each)
+            if verdict == KEEP:
+                self.on_delivery(place, delivery)
+            else:
+                self.command(verdict, delivery.session, place, tag=delivery.tag, ids=(delivery.id,))
 
     def fetch(self, place, session):
         """What is out with a session's consumers comes again, from the least id on that hasn't come."""
@@ -165,18 +183,23 @@ class Cluster:
                 fetched += queue.out(session, tag, consumer.missing())
         for delivery in fetched:
             self.come(place, delivery)
+        self.ask_takers(place)
 
     def tell(self, place, command, answer):
-        """Prints an answer, where its client hears it and its number is open. Three answers leave it open."""
+        """Prints an answer, where its client hears it and its number is open. Three answers leave it open. What else
+        answers a cancel or an end drops takers."""
         if command.kind == "noop" or command.session in self.muted:
             return
+        closes = answer[0] not in ("gap", "window full", "sessions full")
         if command.kind != "down":
             numbers = self.numbers[command.session, place]
             if command.seq not in numbers.open:
                 return
-            if answer[0] not in ("gap", "window full", "sessions full"):
+            if closes:
                 del numbers.open[command.seq]
         self.say_of(command.session, place, texts.answer(answer))
+        for number in self.takers.leave(place, command) if closes else ():
+            self.say_of(command.session, place, f"dropped {number}")
 
     def submit(self, place, command):
         """Gives a command to the leader."""
@@ -215,6 +238,15 @@ class Cluster:
             self.command("enqueue", session, self.reader.names.index(key), key=key, body=body)
         else:
             self.say("unroutable")
+
+    def line_attach(self, session, place, tag, number):
+        if number not in self.takers.free:
+            raise Refused(f"line {self.lines}: no-such", 4)
+        other = self.takers.at(place, session, tag)
+        if other:
+            self.say_of(session, place, f"busy {other}")
+        else:
+            self.takers.give(place, session, tag, number)
 
     def line_end(self, session):
         self.ended.add(session)
@@ -272,7 +304,7 @@ class Cluster:
     def line_deliver(self, place, k):
         message = self.there(place, k)
         if message and not self.is_down(message.to):
-            self.act(place, message.to, "receive", message)
+            self.receive(place, message)
 
     def line_lose(self, place, k):
         self.there(place, k)
@@ -325,6 +357,11 @@ class Cluster:
 
     def notice(self, node, place):
         self.act(place, node, "notice", self.logs[node].lanes[place].op)
+        self.ask_takers(place)
+
+    def receive(self, place, message):
+        self.act(place, message.to, "receive", message)
+        self.ask_takers(place)
 
     def pump(self):
         for _ in range(ROUNDS):
@@ -346,4 +383,4 @@ class Cluster:
             for _ in range(len(group.bag)):
                 message = group.bag.pop(0)
                 if message.to not in self.down:
-                    self.act(place, message.to, "receive", message)
+                    self.receive(place, message)

@@ -168,6 +168,29 @@ class Consumers(Wild):
             self.bring_back()
 
 
+class Taken(Consumers):
+    """The same with takers, each of which is given to a consumer that has just subscribed, and then offered to others
+    that have one."""
+
+    def subscribe(self):
+        super().subscribe()
+        if self.one_in(2):
+            session, place, tag = self.consumers[-1]
+            self.attach(place, session, tag)
+
+    def rarely(self):
+        having = [(place, *consumer) for place, seats in enumerate(self.cluster.takers.seats) for consumer in seats]
+        if having and not self.one_in(3):
+            self.attach(*self.one_of(having))
+        else:
+            super().rarely()
+
+    def attach(self, place, session, tag):
+        free = list(self.cluster.takers.free)
+        if free:
+            self.add(f"attach {session} q{place + 1} {tag} {self.one_of(free)}")
+
+
 class Rooted(Consumers):
     """The same over folders, in which a crash loses nothing that was written. A run ends while much is on its way, and
     the next one has clients who know nothing of it. Some have new sessions; others give other commands the numbers of

@@ -6,9 +6,9 @@ U32, U64 = 2**32 - 1, 2**64 - 1
 # What a line's words are. A word in capitals is read by the function of that name below.
 FORMS = {
     "publish": "BODY", "send": "S EXCHANGE KEY BODY", "get": "S Q", "subscribe": "S Q TAG PREFETCH",
-    "link": "S Q TAG", "credit": "S Q TAG COUNT COUNT DRAIN", "settle": "S Q TAG IDS", "return": "S Q TAG IDS",
-    "discard": "S Q TAG IDS", "cancel": "S Q TAG", "purge": "S Q", "end": "S", "resend": "S", "mute": "S",
-    "unmute": "S", "tick": "N Q", "deliver": "Q COUNT", "lose": "Q COUNT", "copy": "Q COUNT", "notice": "N Q",
+    "link": "S Q TAG", "credit": "S Q TAG COUNT COUNT DRAIN", "attach": "S Q TAG TAKER",
+    "settle": "S Q TAG IDS", "return": "S Q TAG IDS", "discard": "S Q TAG IDS", "cancel": "S Q TAG", "purge": "S Q",
+    "end": "S", "resend": "S", "mute": "S", "unmute": "S", "tick": "N Q", "deliver": "Q COUNT", "lose": "Q COUNT", "copy": "Q COUNT", "notice": "N Q",
     "write": "N", "sync": "N", "crash": "NODES IMAGE", "restart": "NODES", "pump": "", "manual": "", "auto": "",
     "show": "Q"}
 CLIENT_LINES = {"publish", "send", "get", "subscribe", "link", "credit", "settle", "return", "discard", "cancel",
@@ -49,6 +49,9 @@ class Reader:
 
     def COUNT(self, word):
         return decimal(word, 0, U32)
+
+    def TAKER(self, word):
+        return decimal(word, 1, U32, past="no-such")
 
     def IDS(self, word):
         words = word.split(",")

@@ -20,6 +20,10 @@ def delivery(it):
     return f"deliver {it.tag} {it.id} {mark(it.arrival, it.count)} {it.body}"
 
 
+def taken(it, verdict):
+    return f"taken {it.tag} {it.id} {mark(it.arrival, it.count)} {verdict}"
+
+
 def member(name, node, server):
     if server is None:
         return f"{name} {node} down"

@@ -1,5 +1,5 @@
 -- A session claims what was shown of a consumer's deliveries.
-use Rattle.std.proofs.Common.{◌≡◌, ℕ, Bool, true, false, cond, not, List, [], ◌∷◌, Option, Some, None, refl, sym, ap, ◌∙◌, subst, inl, inr}
+use Rattle.std.proofs.Common.{◌≡◌, ℕ, Bool, true, false, cond, not, List, [], ◌∷◌, ◌++◌, Option, Some, None, refl, sym, ap, ◌∙◌, subst, inl, inr}
 use Rattle.std.specs.Prelude.{Contains, find, nat_eq}
 use Rattle.std.specs.List.{list_any}
 use Rattle.std.proofs.lemmas.Bool.{eq-eqb, eqb-true, false≢true, or_cases, or_left, or_right}
@@ -16,8 +16,8 @@ use Rattle.qq_entry.specs.declared.command.Unstamped.{Unstamped}
 use Rattle.qq_entry.specs.declared.queue.QueueArgs.{QueueArgs}
 use Rattle.qq_model.proofs.Soundness.{Contains-in, in_contains}
 use Rattle.qq_raft_model.specs.Group.{Group}
-use Rattle.qq_cluster.specs.Laws.{AreClaimed, deliveries_shown, queue_after}
-use Rattle.qq_cluster.specs.Queue.{Queue, Event, all_said, begin}
+use Rattle.qq_cluster.specs.Laws.{AreClaimed, deliveries_shown, deliveries_waiting, queue_after}
+use Rattle.qq_cluster.specs.Queue.{Queue, Event, all_said, begin, consumer_of}
 use Rattle.qq_cluster.specs.Rules.{not_taken}
 use Rattle.qq_cluster.proofs.Consumed.{after-at, all-at, all_deeds}
 
@@ -58,14 +58,17 @@ find-claims shown test is (n ∷ ids) = by (test n) refl (find-claims shown test
 
 pub claims-shown : (args : QueueArgs) (group : Group) (events : List Event) (session tag : ℕ) (body : Unstamped)
     (ids : List ℕ) → claimed body ≡ Some (tag, ids)
-    → AreClaimed ids (ids_of (deliveries_shown (record { session = client session; tag = tag })
-    (all_said (begin args group) events))) (not_taken session body (queue_after args group events))
+    → AreClaimed ids (ids_of (deliveries_shown (consumer_of session tag) (all_said (begin args group) events)
+    ++ deliveries_waiting (consumer_of session tag) (queue_after args group events).untold))
+    (not_taken session body (queue_after args group events))
 claims-shown args group events session tag body ids is =
-    let id : ConsumerId = record { session = client session; tag = tag } in
+    let id : ConsumerId = consumer_of session tag in
     let q : Queue = queue_after args group events in
     let deeds : List Deed = all_deeds id (begin args group) events in
-    let shown : List ℕ = ids_of (deliveries_shown id (all_said (begin args group) events)) in
+    let out : List Delivery =
+    deliveries_shown id (all_said (begin args group) events) ++ deliveries_waiting id q.untold in
+    let shown : List ℕ = ids_of out in
     subst (λ (o : Option (ℕ × List ℕ)). AreClaimed ids shown (not_taken_by (client session) o q.consumers)) (sym is)
     (find-claims shown (λ (n : ℕ). was_handed_out n (consumer_at id q.consumers))
     (λ n. ap (was_handed_out n) (after-at id (begin args group) events) ∙ handed-claimed id deeds n
-    ∙ ap (λ (ds : List Delivery). list_any (nat_eq n) (ids_of ds)) (sym (all-at id (begin args group) events))) ids)
+    ∙ ap (λ (ds : List Delivery). list_any (nat_eq n) (ids_of ds)) (sym (all-at id args group events))) ids)

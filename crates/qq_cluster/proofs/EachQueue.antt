@@ -24,8 +24,9 @@ use Rattle.qq_session.proofs.AuditRows.{filter_map-append}
 use Rattle.qq_cluster.specs.Cluster.{Setup, Cluster, ClusterEvent, MutesEach, EndsEach, Sets, Alike, At, NodeWrites, NodeSyncs, Fails, Crashes, FindsEach, Shows, SaysDown, SaysNoSuch, SaysUnroutable, SaysBusy, SaysEnded, Printed, Of, Stopped, IsDown, NoSuch, Unroutable, Busy, Ended, State, new_cluster, cluster_happens, cluster_after, part_of, parts_of, members_in_order, state_at, prints, all_prints}
 use Rattle.qq_cluster.specs.ClusterLaws.{HasGroups, HasItsQueues, IsTrueOf, PrintsInOrder, PrintsOfItsQueues, PrintsWhatIsTrue, shown_at, shown_of}
 use Rattle.qq_cluster.specs.Laws.{IsMade, deliveries_shown, queue_after}
-use Rattle.qq_cluster.specs.Queue.{Queue, Event, after, all_said, audit_rows, begin, happens, said}
+use Rattle.qq_cluster.specs.Queue.{Queue, Event, Mutes, Ends, Writes, Syncs, Stops, Finds, after, all_said, audit_rows, begin, happens, said}
 use Rattle.qq_cluster.proofs.Groups.{KnowsCommits, KeepsCommits, after-append}
+use Rattle.qq_cluster.proofs.Handing.{IsSilent, silent-said}
 use Rattle.qq_cluster.proofs.Made.{WasDelivered, deliveries-made, shown-front}
 use Rattle.qq_cluster.proofs.SessionLaws.{answers-audited, confirms-once}
 
@@ -63,6 +64,9 @@ states-none : (place own : ℕ) (c : Cluster) (nodes : List ℕ) → shown_at pl
 states-none place own c [] = refl
 states-none place own c (k ∷ nodes) = states-none place own c nodes
 
+silent-own : (q : Queue) (event : Event) → IsSilent event → [] ≡ all_said q (event ∷ [])
+silent-own q event silent = ap (λ (l : List Shown). l ++ []) (sym (silent-said q event silent))
+
 event-prints : (setup : Setup) (c : Cluster) (event : ClusterEvent) (place : ℕ)
     → shown_at place (prints setup c event) ≡ all_said (c.queue place) (part_of place event)
 event-prints setup c (At own event) place =
@@ -75,21 +79,21 @@ event-prints setup c (At own event) place =
         ∙ sym (append-nil (said (c.queue place) event))
     by false other = refl
 event-prints setup c (Shows own) place = states-none place own c (members_in_order setup own)
-event-prints setup c (Alike (MutesEach session muted)) place = refl
-event-prints setup c (Alike (EndsEach session)) place = refl
+event-prints setup c (Alike (MutesEach session muted)) place = silent-own (c.queue place) (Mutes session muted) tt
+event-prints setup c (Alike (EndsEach session)) place = silent-own (c.queue place) (Ends session) tt
 event-prints setup c (Sets auto) place = refl
-event-prints setup c (NodeWrites k) place = refl
-event-prints setup c (NodeSyncs k) place = refl
-event-prints setup c (Fails k) place = refl
-event-prints setup c (Crashes k image) place = refl
-event-prints setup c (FindsEach k ops) place = refl
+event-prints setup c (NodeWrites k) place = silent-own (c.queue place) (Writes k) tt
+event-prints setup c (NodeSyncs k) place = silent-own (c.queue place) (Syncs k) tt
+event-prints setup c (Fails k) place = silent-own (c.queue place) (Stops k) tt
+event-prints setup c (Crashes k image) place = silent-own (c.queue place) (Stops k) tt
+event-prints setup c (FindsEach k ops) place = silent-own (c.queue place) (Finds k (ops place)) tt
 event-prints setup c (SaysDown k) place = refl
 event-prints setup c SaysNoSuch place = refl
 event-prints setup c SaysUnroutable place = refl
 event-prints setup c SaysBusy place = refl
 event-prints setup c SaysEnded place = refl
 
-said-append : (q : Queue) (first second : List Event)
+pub said-append : (q : Queue) (first second : List Event)
     → all_said q (first ++ second) ≡ all_said q first ++ all_said (after q first) second
 said-append q [] second = refl
 said-append q (event ∷ first) second =

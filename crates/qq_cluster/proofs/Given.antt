@@ -37,7 +37,7 @@ use Rattle.qq_session.specs.Clients.{is_used, may_hand}
 use Rattle.qq_session.proofs.Heard.{deeds-append}
 use Rattle.qq_session.proofs.OpenCommands.{AreOpen, IsOfSession, client-same, deeds-open, deeds-session, first_numbers, handed-append, next-own}
 use Rattle.qq_cluster.specs.Laws.{IsBegun, all_moves, commands_of, deeds, deeds_at, queue_after}
-use Rattle.qq_cluster.specs.Queue.{Queue, Event, Mutes, Ends, Submits, TellsEnded, TellsNotTaken, Resends, Fetches, Downs, Ticks, Delivers, Loses, Copies, Writes, Syncs, Notices, Stops, Finds, acts, audit_rows, begin, happens, leader, moves, offered, rows_told, submits, waiting}
+use Rattle.qq_cluster.specs.Queue.{Queue, Event, Mutes, Ends, Submits, TellsEnded, TellsNotTaken, Attaches, Judges, Resends, Fetches, Downs, Ticks, Delivers, Loses, Copies, Writes, Syncs, Notices, Stops, Finds, acts, audit_rows, begin, happens, leader, moves, offered, rows_told, submits, waiting}
 use Rattle.qq_cluster.proofs.Groups.{args-are, group-is}
 use Rattle.qq_cluster.proofs.Numbers.{event-numbers}
 
@@ -74,6 +74,8 @@ moves-bring P q (Mutes session muted) each = submits-bring P (leader q.group) []
 moves-bring P q (Ends session) each = submits-bring P (leader q.group) [] tt
 moves-bring P q (TellsEnded session) each = submits-bring P (leader q.group) [] tt
 moves-bring P q (TellsNotTaken session id) each = submits-bring P (leader q.group) [] tt
+moves-bring P q (Attaches session tag number) each = submits-bring P (leader q.group) [] tt
+moves-bring P q (Judges verdict) each = submits-bring P (leader q.group) [] tt
 moves-bring P q (Fetches session) each = submits-bring P (leader q.group) [] tt
 moves-bring P q (Submits session body) each =
     submits-bring P (leader q.group) (offered q.clients (Submits session body)) each
@@ -201,6 +203,8 @@ offers-given queue so_far q (Mutes session muted) before i = tt
 offers-given queue so_far q (Ends session) before i = tt
 offers-given queue so_far q (TellsEnded session) before i = tt
 offers-given queue so_far q (TellsNotTaken session id) before i = tt
+offers-given queue so_far q (Attaches session tag number) before i = tt
+offers-given queue so_far q (Judges verdict) before i = tt
 offers-given queue so_far q (Fetches session) before i = tt
 offers-given queue so_far q (Ticks k) before i = tt
 offers-given queue so_far q (Delivers at) before i = tt

@@ -25,8 +25,10 @@ use Rattle.qq_raft_model.specs.Group.Event.{Submit}
 use Rattle.qq_session.specs.Publishing.{Numbers, next_command, hand, open_commands}
 use Rattle.qq_session.specs.Clients.{Client, Clients, is_used, may_hand}
 use Rattle.qq_session.specs.Shown.{NoLeader, WindowFull, effects_of_term, said_of}
+use Rattle.qq_taker.specs.declared.handed.Handed.{Handed}
 use Rattle.qq_cluster.specs.Laws.{IsOwnTo, LeaderIsTold, NobodyIsTold, TellsOfEnd}
 use Rattle.qq_cluster.specs.Queue.{Queue, Submits, Resends, Downs, acts, happens, is_shown, leader, moves, offered, own_effects, own_rows, said, submits, known}
+use Rattle.qq_cluster.proofs.Handing.{waits-same}
 
 -- a queue whose window for a session isn't full
 record Hands (session : ℕ) (body : Unstamped) (q : Queue) : Type 0 where
@@ -107,11 +109,17 @@ full session body q most =
     let clients : acts (Submits session body) q.clients ≡ q.clients =
     cond-false (may_hand n) (put session (record (q.clients session) { numbers = hand body n }) q.clients) q.clients
     none' in (
-      ap (λ (c : Clients). record q {
-        clients = c;
+      ap (λ (l : List Handed). record q {
+        clients = acts (Submits session body) q.clients;
         consumers = known q.clients (Submits session body) q.consumers;
+        untold = l;
         group = group_after q.group (submits (leader q.group) (offered q.clients (Submits session body)));
-      }) clients
+      }) (waits-same q.untold q.seats)
+          ∙ ap (λ (c : Clients). record q {
+            clients = c;
+            consumers = known q.clients (Submits session body) q.consumers;
+            group = group_after q.group (submits (leader q.group) (offered q.clients (Submits session body)));
+          }) clients
           ∙ ap (λ (l : List Received). record q {
             consumers = l;
             group = group_after q.group (submits (leader q.group) (offered q.clients (Submits session body)));
@@ -137,7 +145,11 @@ pub finds-no_leader : (session : ℕ) (q : Queue) → leader q.group ≡ None �
     × (said q (Resends session) ≡ map (λ (c : Command). NoLeader session) (open_commands (q.clients session).numbers))
 finds-no_leader session q is =
     let commands : List Command = open_commands (q.clients session).numbers in (
-      ap (λ (o : Option ℕ). record q { group = group_after q.group (submits o commands) }) is
+      ap (λ (l : List Handed). record q {
+        untold = l;
+        group = group_after q.group (submits (leader q.group) commands);
+      }) (waits-same q.untold q.seats)
+          ∙ ap (λ (o : Option ℕ). record q { group = group_after q.group (submits o commands) }) is
           ∙ ap (λ (l : List Move). record q { group = group_after q.group l }) (submits-none commands),
       ap (λ (o : Option ℕ). said_of (is_some o) session commands) is,
     )
@@ -153,9 +165,13 @@ leader-told session q used =
       handed = λ k is. ap (λ (o : Option ℕ). submits o (offered q.clients (Downs session))) is
           ∙ ap (submits (Some k)) given;
       silent = λ k is. ap (λ (o : Option ℕ). said_of (is_some o) session (offered q.clients (Downs session))) is;
-      lost = λ is. ap (λ (o : Option ℕ). record q {
-        group = group_after q.group (submits o (offered q.clients (Downs session)));
-      }) is
+      lost = λ is. ap (λ (l : List Handed). record q {
+        untold = l;
+        group = group_after q.group (submits (leader q.group) (offered q.clients (Downs session)));
+      }) (waits-same q.untold q.seats)
+          ∙ ap (λ (o : Option ℕ). record q {
+            group = group_after q.group (submits o (offered q.clients (Downs session)));
+          }) is
           ∙ ap (λ (l : List Move). record q { group = group_after q.group l })
           (submits-none (offered q.clients (Downs session)));
       told = λ is. ap (λ (o : Option ℕ). said_of (is_some o) session (offered q.clients (Downs session))) is
@@ -167,7 +183,11 @@ nobody-told session q unused =
     let none' : offered q.clients (Downs session) ≡ [] =
     cond-false (is_used (q.clients session).numbers) (Down (client session) ∷ []) [] unused in
     record {
-      same = ap (λ (l : List Command). record q { group = group_after q.group (submits (leader q.group) l) }) none';
+      same = ap (λ (l : List Handed). record q {
+        untold = l;
+        group = group_after q.group (submits (leader q.group) (offered q.clients (Downs session)));
+      }) (waits-same q.untold q.seats)
+          ∙ ap (λ (l : List Command). record q { group = group_after q.group (submits (leader q.group) l) }) none';
       silent = ap (said_of (is_some (leader q.group)) session) none' ∙ no-words (is_some (leader q.group));
     }
   where

@@ -1,4 +1,7 @@
 pub mod Groups
+pub mod Outcomes
+pub mod Takerless
+pub mod Handing
 mod Told
 mod Consumed
 mod Made
@@ -10,10 +13,15 @@ mod PrintedOnce
 mod Leads
 mod SessionLaws
 pub mod Counts
-pub mod Takerless
 pub mod EachQueue
 mod Settling
+mod Quiet
+mod Judging
+mod Seating
+mod TakerSees
+mod TakerRuns
 mod Serving
 mod Stopping
 mod Worked
 mod WorkedConsumers
+mod WorkedTakers

@@ -1,11 +1,12 @@
--- What a consumer is handed was delivered: it is an effect of an entry of the audit, and a front of the consumer's deliveries.
+-- What a consumer is handed was delivered: it is an effect of an entry of the audit, and a front of the consumer's
+-- deliveries.
 use Rattle.std.proofs.Common.{◌≡◌, ℕ, true, List, [], ◌∷◌, Option, Some, None, filter, map, take, refl, sym, subst, inl, inr}
 use Rattle.std.specs.Prelude.{All, Contains}
 use Rattle.std.specs.List.{AllByRecursion, flat_map}
 use Rattle.std.proofs.lemmas.Bool.{and_parts, cond-true}
 use Rattle.std.proofs.lemmas.List.Elements.{All-contains, All-from_recursion}
-use Rattle.qq_base.proofs.Fronts.{front-nil}
-use Rattle.qq_base.proofs.Lists.{In, AllByRecursion-append, AllByRecursion-in, AllByRecursion-weaker}
+use Rattle.qq_base.proofs.Fronts.{front-more, front-nil, front-trans}
+use Rattle.qq_base.proofs.Lists.{In, In-append_left, AllByRecursion-append, AllByRecursion-in, AllByRecursion-weaker}
 use Rattle.qq_base.specs.Fronts.{IsFront}
 use Rattle.qq_base.specs.Ids.{client, same_consumer, same_session}
 use Rattle.qq_base.specs.declared.ids.ConsumerId.{ConsumerId}
@@ -30,10 +31,11 @@ use Rattle.qq_model.proofs.Soundness.{Contains-in, in_contains}
 use Rattle.qq_raft_model.specs.Group.{Group}
 use Rattle.qq_raft_model.specs.State.{Server}
 use Rattle.qq_session.specs.Clients.{Clients}
-use Rattle.qq_session.specs.Shown.{Shown, Answered, Delivered, NoLeader, WindowFull, HasEnded, NotTaken}
+use Rattle.qq_session.specs.Shown.{Shown, Answered, Delivered, NoLeader, WindowFull, HasEnded, NotTaken, Attached, IsBusy, Taken, Dropped}
+use Rattle.qq_taker.specs.declared.taker.Verdict.{Verdict}
 use Rattle.qq_cluster.specs.Delivering.{applied_by, fetch, fetch_by, is_consumer_of}
-use Rattle.qq_cluster.specs.Laws.{IsBegun, IsMade, deliveries_shown, delivery_shown, queue_after}
-use Rattle.qq_cluster.specs.Queue.{Queue, Event, Mutes, Ends, Submits, TellsEnded, TellsNotTaken, Resends, Fetches, Downs, Ticks, Delivers, Loses, Copies, Writes, Syncs, Notices, Stops, Finds, after, all_said, audit_rows, begin, effects_shown, group_then, happens, leader, server_of, stepping}
+use Rattle.qq_cluster.specs.Laws.{IsBegun, IsMade, deliveries_shown, deliveries_waiting, delivery_shown, queue_after}
+use Rattle.qq_cluster.specs.Queue.{Queue, Event, Mutes, Ends, Submits, TellsEnded, TellsNotTaken, Attaches, Judges, Resends, Fetches, Downs, Ticks, Delivers, Loses, Copies, Writes, Syncs, Notices, Stops, Finds, after, all_said, audit_rows, begin, effects_shown, group_then, happens, leader, server_of, stepping}
 use Rattle.qq_cluster.proofs.Consumed.{Brings, all-at, all-bring, all_deeds}
 use Rattle.qq_cluster.proofs.Groups.{KnowsCommits, KeepsCommits, Reached, args-are, commits-grow, known-in, reached-new, reached-next}
 use Rattle.qq_cluster.proofs.Told.{AreKnown, HasEffect, effects-at, has-later}
@@ -91,6 +93,8 @@ module _ (was : WasDelivered) where
   shown-made q (Submits session body) known = tt
   shown-made q (TellsEnded session) known = tt
   shown-made q (TellsNotTaken session id) known = tt
+  shown-made q (Attaches session tag number) known = tt
+  shown-made q (Judges verdict) known = tt
   shown-made q (Resends session) known = tt
   shown-made q (Downs session) known = tt
   shown-made q (Ticks k) known = tt
@@ -163,7 +167,9 @@ module _ (knows : KnowsCommits) (keeps : KeepsCommits) (was : WasDelivered) (id 
         let deeds : List Deed = all_deeds id (begin args group) events in
         let out : List Delivery = handed (new_consumer id) deeds in
         let there : In d out =
-        subst (λ (ds : List Delivery). In d ds) (all-at id (begin args group) events) here in
+        subst (λ (ds : List Delivery). In d ds) (all-at id args group events)
+        (In-append_left d (deliveries_shown id (all_said (begin args group) events))
+        (deliveries_waiting id final.untold) here) in
         AllByRecursion-in (Came id final) d came came-each
         (in_contains came d (All-contains (Contains came) out d (of-arrivals id deeds) (Contains-in d out there)))
 
@@ -185,16 +191,17 @@ module _ (knows : KnowsCommits) (keeps : KeepsCommits) (was : WasDelivered) (id 
         whole numbered =
             subst (λ (own : QueueArgs). IsFront (deliveries_shown id (all_said (begin args group) events))
             (deliveries (empty_queue args) (queue_audit own final.group.audit) id)) (sym same)
-            (subst (λ (out : List Delivery). IsFront out
+            (front-trans (front-more (deliveries_shown id (all_said (begin args group) events))
+            (deliveries_waiting id final.untold)) (subst (λ (out : List Delivery). IsFront out
             (deliveries (empty_queue args) (queue_audit args final.group.audit) id))
-            (sym (all-at id (begin args group) events))
+            (sym (all-at id args group events))
             (law final.group.audit (all_deeds id (begin args group) events) numbered
             (All-from_recursion (Contains (deliveries (empty_queue args) (queue_audit args final.group.audit) id)) came
             (AllByRecursion-weaker (Came id final)
             (Contains (deliveries (empty_queue args) (queue_audit args final.group.audit) id))
             (λ d is. made-delivery args final.group.audit id d
             (subst (λ (own : QueueArgs). HasEffect own final.group.audit (Deliver id d)) same is.made)) came
-            came-each))))
+            came-each)))))
 
         by : (shown : List Delivery) → deliveries_shown id (all_said (begin args group) events) ≡ shown
             → IsFront (deliveries_shown id (all_said (begin args group) events)) all
@@ -205,28 +212,54 @@ module _ (knows : KnowsCommits) (keeps : KeepsCommits) (was : WasDelivered) (id 
 
 -- ---- what is printed as a delivery
 
-each-made : (q : Queue) (xs : List Shown)
-    → ((id : ConsumerId) (d : Delivery) → In (Delivered id d) xs → HasEffect q.args q.group.audit (Deliver id d))
-    → AllByRecursion (IsMade q) xs
-each-made q [] is = tt
-each-made q (x ∷ xs) is = (one x (λ id d same. is id d (inl same)), each-made q xs (λ id d here. is id d (inr here)))
+-- a delivery that is shown, by itself or with a taker's verdict, is of this kind
+record AreMade (q : Queue) (xs : List Shown) : Type 0 where
+  pub delivered : (id : ConsumerId) (d : Delivery) → In (Delivered id d) xs
+      → HasEffect q.args q.group.audit (Deliver id d)
+  pub taken : (number : ℕ) (id : ConsumerId) (d : Delivery) (verdict : Verdict) → In (Taken number id d verdict) xs
+      → HasEffect q.args q.group.audit (Deliver id d)
+
+each-made : (q : Queue) (xs : List Shown) → AreMade q xs → AllByRecursion (IsMade q) xs
+each-made q [] are = tt
+each-made q (x ∷ xs) are = (
+  one x (λ id d same. are.delivered id d (inl same))
+      (λ number id d verdict same. are.taken number id d verdict (inl same)),
+  each-made q xs (record {
+    delivered = λ id d here. are.delivered id d (inr here);
+    taken = λ number id d verdict here. are.taken number id d verdict (inr here);
+  }),
+)
   where
     one : (shown : Shown)
         → ((id : ConsumerId) (d : Delivery) → Delivered id d ≡ shown → HasEffect q.args q.group.audit (Deliver id d))
-        → IsMade q shown
-    one (Delivered id d) this = this id d refl
-    one (Answered row) this = tt
-    one (NoLeader session) this = tt
-    one (WindowFull session) this = tt
-    one (HasEnded session) this = tt
-    one (NotTaken session id) this = tt
+        → ((number : ℕ) (id : ConsumerId) (d : Delivery) (verdict : Verdict) → Taken number id d verdict ≡ shown
+        → HasEffect q.args q.group.audit (Deliver id d)) → IsMade q shown
+    one (Delivered id d) this that = this id d refl
+    one (Taken number id d verdict) this that = that number id d verdict refl
+    one (Answered row) this that = tt
+    one (NoLeader session) this that = tt
+    one (WindowFull session) this that = tt
+    one (HasEnded session) this that = tt
+    one (NotTaken session id) this that = tt
+    one (Attached session number) this that = tt
+    one (IsBusy session number) this that = tt
+    one (Dropped session number) this that = tt
 
 pub deliveries-made : KnowsCommits → KeepsCommits → WasDelivered → (args : QueueArgs) (group : Group)
     (events : List Event) → IsBegun group
     → AllByRecursion (IsMade (queue_after args group events)) (all_said (begin args group) events)
 deliveries-made knows keeps was args group events begun =
-    let shown : List Shown = all_said (begin args group) events in
-    each-made (queue_after args group events) shown
-    (λ id d here. (handed-came knows keeps was id args group events begun d
-    (In-filter_map (delivery_shown id) shown (Delivered id d) d
-    (cond-true (same_consumer id id) (Some d) None (same_consumer-refl id)) here)).made)
+    each-made (queue_after args group events) shown (record {
+      delivered = λ id d here. of id d (In-filter_map (delivery_shown id) shown (Delivered id d) d
+          (cond-true (same_consumer id id) (Some d) None (same_consumer-refl id)) here);
+      taken = λ number id d verdict here. of id d
+          (In-filter_map (delivery_shown id) shown (Taken number id d verdict) d
+          (cond-true (same_consumer id id) (Some d) None (same_consumer-refl id)) here);
+    })
+  where
+    shown : List Shown
+    shown = all_said (begin args group) events
+
+    of : (id : ConsumerId) (d : Delivery) → In d (deliveries_shown id shown)
+        → HasEffect (queue_after args group events).args (queue_after args group events).group.audit (Deliver id d)
+    of id d here = (handed-came knows keeps was id args group events begun d here).made

@@ -15,7 +15,7 @@ use Rattle.qq_session.specs.Clients.{Client, Clients, may_hand}
 use Rattle.qq_session.proofs.Heard.{deeds-append, heard-numbers}
 use Rattle.qq_session.proofs.Ended.{all-ended}
 use Rattle.qq_cluster.specs.Laws.{StaysEnded, deeds, deeds_at, hands_at, queue_after}
-use Rattle.qq_cluster.specs.Queue.{Queue, Event, Mutes, Ends, Submits, TellsEnded, TellsNotTaken, Resends, Fetches, Downs, Ticks, Delivers, Loses, Copies, Writes, Syncs, Notices, Stops, Finds, acts, after, happens, begin, rows_told}
+use Rattle.qq_cluster.specs.Queue.{Queue, Event, Mutes, Ends, Submits, TellsEnded, TellsNotTaken, Attaches, Judges, Resends, Fetches, Downs, Ticks, Delivers, Loses, Copies, Writes, Syncs, Notices, Stops, Finds, acts, after, happens, begin, rows_told}
 
 -- ---- what a client does by itself
 
@@ -68,6 +68,8 @@ acts-numbers session (Ends own) clients =
 acts-numbers session (Submits own body) clients = hand-numbers own session body clients
 acts-numbers session (TellsEnded own) clients = refl
 acts-numbers session (TellsNotTaken own id) clients = refl
+acts-numbers session (Attaches own tag number) clients = refl
+acts-numbers session (Judges verdict) clients = refl
 acts-numbers session (Fetches own) clients = refl
 acts-numbers session (Resends own) clients = refl
 acts-numbers session (Downs own) clients = refl
@@ -126,6 +128,8 @@ still-ended session (Submits own body) clients is =
     (record (clients own) { numbers = hand body n }) clients (λ e. e) (λ i other e. e) session is) (λ _. is)
 still-ended session (TellsEnded own) clients is = is
 still-ended session (TellsNotTaken own id) clients is = is
+still-ended session (Attaches own tag number) clients is = is
+still-ended session (Judges verdict) clients is = is
 still-ended session (Fetches own) clients is = is
 still-ended session (Resends own) clients is = is
 still-ended session (Downs own) clients is = is

@@ -1,62 +1,45 @@
 -- The answer that closes a number is printed once.
-use Rattle.std.proofs.Common.{◌≡◌, ◌≢◌, ℕ, List, [], ◌∷◌, ◌++◌, map, refl, sym, ap, ◌∙◌, subst, append-nil}
+use Rattle.std.proofs.Common.{◌≡◌, ◌≢◌, ℕ, List, [], ◌∷◌, ◌++◌, Option, None, refl, sym, ap, ◌∙◌, subst, append-nil}
 use Rattle.std.specs.Prelude.{filter_map, AllPairs}
 use Rattle.std.specs.List.{AllByRecursion}
 use Rattle.std.proofs.lemmas.Bool.{cond_both}
 use Rattle.qq_base.proofs.Lists.{AllByRecursion-append, AllByRecursion-weaker}
-use Rattle.qq_base.specs.declared.ids.ConsumerId.{ConsumerId}
-use Rattle.qq_consuming.specs.Consumers.{taken}
-use Rattle.qq_consuming.specs.Consuming.{Received}
 use Rattle.qq_entry.specs.declared.audit.AuditRow.{AuditRow}
-use Rattle.qq_entry.specs.declared.answer.Delivery.{Delivery}
-use Rattle.qq_entry.specs.declared.audit.Effect.{Effect}
-use Rattle.qq_entry.specs.declared.audit.Effect.TheVariants.{Deliver, DeadOnce, Offer}
 use Rattle.qq_entry.specs.declared.queue.QueueArgs.{QueueArgs}
 use Rattle.qq_session.proofs.AuditRows.{filter_map-append}
 use Rattle.qq_raft_model.specs.Group.{Group}
 use Rattle.qq_session.specs.Publishing.{Numbers}
 use Rattle.qq_session.specs.Printed.{closed_number}
 use Rattle.qq_session.specs.Clients.{Clients, hear_all, may_hand, printed}
-use Rattle.qq_session.specs.Shown.{Shown, Answered, Delivered, WindowFull, is_delivered_to, said_of}
+use Rattle.qq_session.specs.Shown.{Shown, WindowFull, said_of}
+use Rattle.qq_taker.specs.Seats.{taker_of}
+use Rattle.qq_taker.specs.declared.handed.Handed.{Handed}
 use Rattle.qq_session.proofs.PrintedOnce.{IsClosed, OpenBelow, closed-deeds, below-deeds, numbers_in, printed_numbers, Distinct, pairs-distinct, printed-distinct, printed-closed, never-printed, offered-none, distinct-append}
-use Rattle.qq_cluster.specs.Delivering.{comes, show_all, shows}
 use Rattle.qq_cluster.specs.Laws.{deeds_at}
-use Rattle.qq_cluster.specs.Queue.{Queue, Event, Mutes, Ends, Submits, TellsEnded, TellsNotTaken, Resends, Fetches, Downs, Ticks, Delivers, Loses, Copies, Writes, Syncs, Notices, Stops, Finds, all_said, effects_shown, happens, has_leader, begin, known, offered, rows_told, said, told}
+use Rattle.qq_cluster.specs.Queue.{Queue, Event, Mutes, Ends, Submits, TellsEnded, TellsNotTaken, Attaches, Judges, Resends, Fetches, Downs, Ticks, Delivers, Loses, Copies, Writes, Syncs, Notices, Stops, Finds, all_said, attached, begin, consumer_of, handed_out, happens, has_leader, offered, rows_told, said, seats_after, told}
+use Rattle.qq_cluster.specs.Taking.{answers, delivered, judged, told_then}
+use Rattle.qq_cluster.proofs.Handing.{IsSilent, all-attached, all-delivered, all-judged, answers-filter, filter-none, silent-said}
 use Rattle.qq_cluster.proofs.Numbers.{event-numbers}
-
--- a delivery closes no number
-handed-none : (session : ℕ) (id : ConsumerId) (ds : List Delivery) → numbers_in session (map (Delivered id) ds) ≡ []
-handed-none session id [] = refl
-handed-none session id (d ∷ ds) = handed-none session id ds
-
-shows-none : (session : ℕ) (clients : Clients) (effect : Effect) (all : List Received)
-    → numbers_in session (shows clients effect all) ≡ []
-shows-none session clients (Deliver id delivery) all =
-    cond_both (is_delivered_to clients id.session) (map (Delivered id) (taken id delivery all)) []
-    (λ (shown : List Shown). numbers_in session shown ≡ []) (λ _. handed-none session id (taken id delivery all))
-    (λ _. refl)
-shows-none session clients (DeadOnce reason message) all = refl
-shows-none session clients (Offer number reason message) all = refl
-
-shown-none : (session : ℕ) (clients : Clients) (effects : List Effect) (all : List Received)
-    → numbers_in session (show_all clients effects all) ≡ []
-shown-none session clients [] all = refl
-shown-none session clients (effect ∷ effects) all =
-    let next : List Received = comes clients effect all in
-    filter_map-append (closed_number session) (shows clients effect all) (show_all clients effects next)
-    ∙ ap (λ (l : List ℕ). l ++ numbers_in session (show_all clients effects next))
-    (shows-none session clients effect all) ∙ shown-none session clients effects next
 
 -- what is told closes the numbers of the rows that are printed
 told-numbers : (session : ℕ) (q : Queue) (event : Event)
     → numbers_in session (told q event) ≡ printed_numbers session (rows_told q event) q.clients
 told-numbers session q event =
-    let answers : List Shown = map Answered (printed (rows_told q event) q.clients) in
-    let effects : List Effect = effects_shown q event in
-    let all : List Received = known q.clients event q.consumers in
-    filter_map-append (closed_number session) answers (show_all q.clients effects all)
-    ∙ ap (λ (l : List ℕ). numbers_in session answers ++ l) (shown-none session q.clients effects all)
-    ∙ append-nil (numbers_in session answers)
+    let rows : List AuditRow = printed (rows_told q event) q.clients in
+    let out : List Handed = told_then q.untold (seats_after q event) (handed_out q event) in
+    filter_map-append (closed_number session) (answers q.seats rows) (delivered out)
+    ∙ ap (λ (l : List ℕ). numbers_in session (answers q.seats rows) ++ l)
+    (filter-none (closed_number session) (delivered out)
+    (all-delivered (λ (x : Shown). closed_number session x ≡ None) (λ id d. refl) out))
+    ∙ append-nil (numbers_in session (answers q.seats rows))
+    ∙ answers-filter (closed_number session) (λ own number. refl) q.seats rows
+
+silent-shows : (session : ℕ) (q : Queue) (event : Event) (P : Clients → List ℕ → Type 0)
+    → ((clients : Clients) → P clients []) → IsSilent event
+    → P (happens q event).clients (numbers_in session (said q event))
+silent-shows session q event P nothing silent =
+    subst (λ (shown : List Shown). P (happens q event).clients (numbers_in session shown))
+    (sym (silent-said q event silent)) (nothing (happens q event).clients)
 
 -- what an event shows closes no number, or it closes those of the rows that it tells of, which its clients hear
 event-shows : (session : ℕ) (q : Queue) (event : Event) (P : Clients → List ℕ → Type 0)
@@ -78,15 +61,24 @@ event-shows session q (Downs own) P nothing tells =
     subst (P q.clients) (sym (offered-none session own (has_leader q) given)) (nothing q.clients)
 event-shows session q (TellsEnded own) P nothing tells = nothing q.clients
 event-shows session q (TellsNotTaken own id) P nothing tells = nothing q.clients
-event-shows session q (Mutes own muted) P nothing tells = nothing (happens q (Mutes own muted)).clients
-event-shows session q (Ends own) P nothing tells = nothing (happens q (Ends own)).clients
-event-shows session q (Ticks k) P nothing tells = nothing q.clients
-event-shows session q (Loses at) P nothing tells = nothing q.clients
-event-shows session q (Copies at) P nothing tells = nothing q.clients
-event-shows session q (Writes k) P nothing tells = nothing q.clients
-event-shows session q (Syncs k) P nothing tells = nothing q.clients
-event-shows session q (Stops k) P nothing tells = nothing q.clients
-event-shows session q (Finds k op) P nothing tells = nothing q.clients
+event-shows session q (Attaches own tag number) P nothing tells =
+    let o : Option ℕ = taker_of (consumer_of own tag) q.seats in
+    subst (P q.clients) (sym (filter-none (closed_number session) (attached own number o)
+    (all-attached (λ (x : Shown). closed_number session x ≡ None) (λ s n. refl) (λ s n. refl) own number o)))
+    (nothing q.clients)
+event-shows session q (Judges verdict) P nothing tells =
+    subst (P q.clients) (sym (filter-none (closed_number session) (judged q.seats verdict q.untold)
+    (all-judged (λ (x : Shown). closed_number session x ≡ None) (λ id d. refl) (λ n id d v. refl) q.seats verdict
+    q.untold))) (nothing q.clients)
+event-shows session q (Mutes own muted) P nothing tells = silent-shows session q (Mutes own muted) P nothing tt
+event-shows session q (Ends own) P nothing tells = silent-shows session q (Ends own) P nothing tt
+event-shows session q (Ticks k) P nothing tells = silent-shows session q (Ticks k) P nothing tt
+event-shows session q (Loses at) P nothing tells = silent-shows session q (Loses at) P nothing tt
+event-shows session q (Copies at) P nothing tells = silent-shows session q (Copies at) P nothing tt
+event-shows session q (Writes k) P nothing tells = silent-shows session q (Writes k) P nothing tt
+event-shows session q (Syncs k) P nothing tells = silent-shows session q (Syncs k) P nothing tt
+event-shows session q (Stops k) P nothing tells = silent-shows session q (Stops k) P nothing tt
+event-shows session q (Finds k op) P nothing tells = silent-shows session q (Finds k op) P nothing tt
 event-shows session q (Fetches own) P nothing tells =
     subst (P (happens q (Fetches own)).clients) (sym (told-numbers session q (Fetches own))) tells
 event-shows session q (Delivers at) P nothing tells =

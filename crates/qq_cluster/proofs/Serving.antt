@@ -18,11 +18,13 @@ use Rattle.qq_raft_msg.specs.Rpc.{envelope}
 use Rattle.qq_raft_msg.specs.declared.rpc.Rpc.{Rpc}
 use Rattle.qq_script_lines.specs.declared.line.ScriptLine.{ScriptLine}
 use Rattle.qq_script_lines.specs.declared.line.ScriptLine.TheVariants as lines
+use Rattle.qq_taker.specs.declared.handed.Handed.{Handed}
+use Rattle.qq_taker.specs.declared.taker.Verdict.TheVariants.{Keep}
 use Rattle.qq_cluster.specs.Cluster.{Setup, Cluster, ClusterEvent, Sets, Alike, At, NodeWrites, NodeSyncs, Fails, Crashes, FindsEach, Shows, SaysDown, SaysNoSuch, SaysUnroutable, SaysBusy, SaysEnded, new_cluster, cluster_happens, cluster_after, members, part_of, up_after, MutesEach, EndsEach}
 use Rattle.qq_cluster.specs.ClusterLaws.{HasGroups, IsServedBy, has_failure}
 use Rattle.qq_cluster.specs.Lines.{AndPumped, IsCopy, IsDeliver, IsDelivered, IsLine, IsLose, IsRouted, IsScript, IsSend, WhereThere, WhereUp, nodes_of, publish_with, receiver_at}
-use Rattle.qq_cluster.specs.Queue.{Queue, Event, Mutes, Ends, Submits, TellsEnded, TellsNotTaken, Resends, Fetches, Downs, Ticks, Delivers, Loses, Copies, Writes, Syncs, Notices, Stops, Finds, after, happens, leader, moves, offered, submits, waiting}
-use Rattle.qq_cluster.specs.Rules.{Rule, ForEach, Is, IsEmptied, IsEnd, IsFirstTick, IsFound, IsGiven, IsNodeRound, IsNothing, IsNotice, IsOpening, IsPump, IsPumped, IsResend, IsRestart, IsRound, IsSync, IsSynced, IsWrite, IsWritten, MayRoll, Pumps, Then, if_so, is_ended, is_idle, may_find, most_rounds, some_queue, tick_at, waits_noticed, waits_synced, waits_written, IsClaimed, not_taken}
+use Rattle.qq_cluster.specs.Queue.{Queue, Event, Mutes, Ends, Submits, TellsEnded, TellsNotTaken, Attaches, Judges, Resends, Fetches, Downs, Ticks, Delivers, Loses, Copies, Writes, Syncs, Notices, Stops, Finds, after, happens, leader, moves, offered, submits, waiting}
+use Rattle.qq_cluster.specs.Rules.{Rule, ForEach, Is, IsEmptied, IsEnd, IsFirstTick, IsFound, IsGiven, IsNodeRound, IsNothing, IsNotice, IsOpening, IsPump, IsPumped, IsResend, IsRestart, IsRound, IsSync, IsSynced, IsWrite, IsWritten, MayRoll, Pumps, Then, if_so, is_ended, is_idle, may_find, most_rounds, some_queue, tick_at, waits_noticed, waits_synced, waits_written, IsClaimed, not_taken, Times, IsJudgedWhere, IsNextJudged, IsTold, Tells}
 use Rattle.qq_cluster.specs.Serving as does
 use Rattle.qq_cluster.proofs.Counts.{IsCounted, counted-all, counted-new}
 
@@ -141,6 +143,8 @@ down-event j q (Mutes session muted) none' down = down
 down-event j q (Ends session) none' down = down
 down-event j q (TellsEnded session) none' down = down
 down-event j q (TellsNotTaken session id) none' down = down
+down-event j q (Attaches session tag number) none' down = down
+down-event j q (Judges verdict) none' down = down
 down-event j q (Fetches session) none' down = down
 down-event j q (Submits session body) none' down =
     down-moves j (moves q (Submits session body)) q.group
@@ -248,10 +252,6 @@ calm-append : (first second : List ClusterEvent) → AreCalm first → AreCalm s
 calm-append [] second a b = b
 calm-append (event ∷ first) second a b = (a.0, calm-append first second a.1 b)
 
-calm-replicate : (event : ClusterEvent) → IsCalm event → (count : ℕ) → AreCalm (replicate count event)
-calm-replicate event calm zero = tt
-calm-replicate event calm (suc count) = (calm, calm-replicate event calm count)
-
 -- ---- rules that are met
 
 -- a rule allows these events, and no disk fails among them
@@ -296,6 +296,35 @@ serve-each [] Each doing each c sound = serve-nothing c
 serve-each (x ∷ xs) Each doing each c sound =
     serve-both (Each x) (ForEach xs Each) (doing x) (does.each xs doing) (each x) (serve-each xs Each doing each) c sound
 
+serve-times : (n : ℕ) (Each : Rule) (doing : does.Doing) → Serves Each doing
+    → Serves (Times n Each) (does.times n doing)
+serve-times zero Each doing each c sound = serve-nothing c
+serve-times (suc n) Each doing each c sound =
+    serve-both Each (Times n Each) doing (does.times n doing) each (serve-times n Each doing each) c sound
+
+-- ---- takers
+
+serve-keep : (place : ℕ) (waits : List Handed) (c : Cluster)
+    → Served (IsJudgedWhere place waits c (does.keep_where place waits c)) (does.keep_where place waits c)
+serve-keep place [] c = serve-nothing c
+serve-keep place (h ∷ more) c = record {
+  is = record {
+    verdict = Keep;
+    is = record { early = At place (Judges Keep) ∷ []; late = []; is = refl; first = refl; second = refl };
+  };
+  calm = (tt, tt);
+}
+
+serve-tell : (place : ℕ) → Serves (IsTold place) (does.tell place)
+serve-tell place c sound =
+    serve-times (length (c.queue place).untold) (IsNextJudged place) (does.keep_next place)
+    (λ d _. serve-keep place (d.queue place).untold d) c sound
+
+serve-tells : (event : Event) → FindsNothing event → (place : ℕ) → Serves (Tells place event) (does.tells place event)
+serve-tells event calm place =
+    serve-both (Is (At place event)) (IsTold place) (does.one (At place event)) (does.tell place)
+    (λ c _. serve-one (At place event) calm c) (serve-tell place)
+
 -- ---- the logs and pumps
 
 serve-write : (setup : Setup) (k : ℕ) → Serves (IsWrite setup k) (does.write setup k)
@@ -313,8 +342,8 @@ serve-sync setup k c sound =
 
 serve-notice : (k place : ℕ) → Serves (IsNotice k place) (does.notice k place)
 serve-notice k place c sound =
-    serve-if (c.up k && waits_noticed k (c.queue place)) (Is (At place (Notices k))) IsNothing c
-    (At place (Notices k) ∷ []) [] (λ _. serve-one (At place (Notices k)) tt c) (λ _. serve-nothing c)
+    serve-if (c.up k && waits_noticed k (c.queue place)) (Tells place (Notices k)) IsNothing c
+    (does.tells place (Notices k) c) [] (λ _. serve-tells (Notices k) tt place c sound) (λ _. serve-nothing c)
 
 serve-node : (setup : Setup) (k : ℕ) → Serves (IsNodeRound setup k) (does.node_round setup k)
 serve-node setup k =
@@ -326,7 +355,8 @@ serve-node setup k =
 
 serve-empty : (place : ℕ) → Serves (IsEmptied place) (does.empty place)
 serve-empty place c sound =
-    record { is = refl; calm = calm-replicate (At place (Delivers 0)) tt (length (c.queue place).group.bag) }
+    serve-times (length (c.queue place).group.bag) (Tells place (Delivers 0)) (does.tells place (Delivers 0))
+    (serve-tells (Delivers 0) tt place) c sound
 
 serve-round : (setup : Setup) → Serves (IsRound setup) (does.round setup)
 serve-round setup =
@@ -388,16 +418,16 @@ serve-at event calm place c sound = serve-one (At place event) calm c
 serve-resend : (setup : Setup) (session : ℕ) → Serves (IsResend setup session) (does.resend setup session)
 serve-resend setup session c sound =
     let sends : Rule = ForEach setup.places (λ place. Is (At place (Resends session))) in
-    let asks : Rule = ForEach setup.places (λ place. Is (At place (Fetches session))) in
+    let asks : Rule = ForEach setup.places (λ place. Tells place (Fetches session)) in
     let sending : does.Doing = does.each setup.places (λ place. does.one (At place (Resends session))) in
-    let asking : does.Doing = does.each setup.places (λ place. does.one (At place (Fetches session))) in
+    let asking : does.Doing = does.each setup.places (λ place. does.tells place (Fetches session)) in
     serve-if (some_queue setup (is_ended session) c) (Is SaysEnded) (Then sends asks) c (SaysEnded ∷ [])
     (does.both sending asking c) (λ _. serve-one SaysEnded tt c)
     (λ _. serve-both sends asks sending asking
     (serve-each setup.places (λ place. Is (At place (Resends session)))
     (λ place. does.one (At place (Resends session))) (serve-at (Resends session) tt))
-    (serve-each setup.places (λ place. Is (At place (Fetches session)))
-    (λ place. does.one (At place (Fetches session))) (serve-at (Fetches session) tt)) c sound)
+    (serve-each setup.places (λ place. Tells place (Fetches session)) (λ place. does.tells place (Fetches session))
+    (serve-tells (Fetches session) tt)) c sound)
 
 serve-end : (setup : Setup) (session : ℕ) → Serves (IsEnd setup session) (does.finish setup session)
 serve-end setup session =
@@ -458,9 +488,9 @@ serve-restart setup k c sound =
 serve-delivered : (place at : ℕ) (o : Option ℕ) → Serves (IsDelivered place at o) (does.deliver_by place at o)
 serve-delivered place at None c sound = serve-one SaysNoSuch tt c
 serve-delivered place at (Some k) c sound =
-    serve-both (Is (At place (Delivers at))) (λ c. if_so (c.up k) IsNothing (Is (SaysDown k)) c)
-    (does.one (At place (Delivers at))) (λ c. cond (c.up k) [] (SaysDown k ∷ []))
-    (serve-at (Delivers at) tt place)
+    serve-both (Tells place (Delivers at)) (λ c. if_so (c.up k) IsNothing (Is (SaysDown k)) c)
+    (does.tells place (Delivers at)) (λ c. cond (c.up k) [] (SaysDown k ∷ []))
+    (serve-tells (Delivers at) tt place)
     (λ d _. serve-if (d.up k) IsNothing (Is (SaysDown k)) d [] (SaysDown k ∷ []) (λ _. serve-nothing d)
     (λ _. serve-one (SaysDown k) tt d)) c sound
 
@@ -496,6 +526,7 @@ serve-line setup (lines.Send by exchange key body) c sound =
 serve-line setup (lines.Client by at body) c sound =
     serve-asked setup (IsGiven by.number body at.0) (does.give by.number body at.0)
     (serve-give by.number body at.0) c sound
+serve-line setup (lines.Attach by at tag taker) c sound = serve-one (At at.0 (Attaches by.number tag taker)) tt c
 serve-line setup (lines.End by) c sound =
     serve-asked setup (IsEnd setup by.number) (does.finish setup by.number) (serve-end setup by.number) c sound
 serve-line setup (lines.Resend by) c sound =
@@ -508,8 +539,8 @@ serve-line setup (lines.Write node) c sound =
 serve-line setup (lines.Sync node) c sound =
     serve-up node.0 (IsSync setup node.0) (does.sync setup node.0) (serve-sync setup node.0) c sound
 serve-line setup (lines.Notice node at) c sound =
-    serve-up node.0 (Is (At at.0 (Notices node.0))) (does.one (At at.0 (Notices node.0)))
-    (serve-at (Notices node.0) tt at.0) c sound
+    serve-up node.0 (Tells at.0 (Notices node.0)) (does.tells at.0 (Notices node.0))
+    (serve-tells (Notices node.0) tt at.0) c sound
 serve-line setup (lines.Tick node at) c sound =
     serve-up node.0 (Is (At at.0 (Ticks node.0))) (does.one (At at.0 (Ticks node.0)))
     (serve-at (Ticks node.0) tt at.0) c sound

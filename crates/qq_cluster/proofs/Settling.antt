@@ -1,5 +1,6 @@
--- Where no disk fails, the rules leave no choice but what restarts found.
-use Rattle.std.proofs.Common.{◌≡◌, ℕ, zero, suc, Bool, true, false, ◌&&◌, List, [], ◌∷◌, ◌++◌, Option, Some, None, refl, sym, ap, ◌∙◌, subst, inl, inr, append_assoc}
+-- Where no disk fails, the rules leave no choice but what restarts found and what takers answered.
+use Rattle.std.proofs.Common.{◌≡◌, ℕ, zero, suc, Bool, true, false, ◌&&◌, List, [], ◌∷◌, ◌++◌, Option, Some, None, length, refl, sym, ap, ◌∙◌, subst, inl, inr, append_assoc}
+use Rattle.std.specs.List.{flat_map}
 use Rattle.std.proofs.lemmas.Bool.{false≢true, or_parts}
 use Rattle.std.proofs.lemmas.Grind.{flat_map-append}
 use Rattle.std.proofs.lemmas.List.Folds.{list_any-append}
@@ -7,17 +8,25 @@ use Rattle.qq_base.specs.declared.ids.NodeId.{NodeId}
 use Rattle.qq_entry.specs.declared.command.Unstamped.{Unstamped}
 use Rattle.qq_script_lines.specs.declared.line.ScriptLine.{ScriptLine}
 use Rattle.qq_script_lines.specs.declared.line.ScriptLine.TheVariants as lines
+use Rattle.qq_taker.specs.declared.handed.Handed.{Handed}
+use Rattle.qq_taker.specs.declared.taker.Verdict.{Verdict}
 use Rattle.qq_cluster.specs.Cluster.{Setup, Cluster, ClusterEvent, Sets, Alike, At, NodeWrites, NodeSyncs, Fails, Crashes, FindsEach, Shows, SaysDown, SaysNoSuch, SaysUnroutable, SaysBusy, SaysEnded, new_cluster, cluster_after, members, MutesEach, EndsEach}
-use Rattle.qq_cluster.specs.ClusterLaws.{is_failure, has_failure, finding, findings, LeavesNoChoice}
+use Rattle.qq_cluster.specs.ClusterLaws.{is_failure, has_failure, finding, findings, verdict_at, verdicts, LeavesNoChoice}
 use Rattle.qq_cluster.specs.Lines.{publish_with, IsRouted, IsSend, WhereUp, nodes_of, receiver_at, IsDelivered, WhereThere, IsDeliver, IsLose, IsCopy, AndPumped, IsLine, IsScript, IsRun}
-use Rattle.qq_cluster.specs.Queue.{Event, Submits, TellsEnded, Resends, Downs, Ticks, Delivers, Loses, Copies, Notices, TellsNotTaken, Fetches}
-use Rattle.qq_cluster.specs.Rules.{Rule, IsNothing, Is, Then, if_so, ForEach, some_queue, waits_written, waits_synced, waits_noticed, IsWritten, IsWrite, MayRoll, IsSynced, IsSync, IsNotice, IsNodeRound, IsEmptied, IsRound, is_idle, Pumps, most_rounds, IsPump, IsPumped, is_ended, IsGiven, IsResend, IsEnd, IsFound, IsRestart, tick_at, IsFirstTick, IsOpening, IsClaimed, not_taken}
+use Rattle.qq_cluster.specs.Queue.{Event, Submits, TellsEnded, Attaches, Judges, Resends, Downs, Ticks, Delivers, Loses, Copies, Notices, TellsNotTaken, Fetches}
+use Rattle.qq_cluster.specs.Taking.{command_for}
+use Rattle.qq_cluster.specs.Rules.{Rule, IsNothing, Is, Then, if_so, ForEach, some_queue, waits_written, waits_synced, waits_noticed, IsWritten, IsWrite, MayRoll, IsSynced, IsSync, IsNotice, IsNodeRound, IsEmptied, IsRound, is_idle, Pumps, most_rounds, IsPump, IsPumped, is_ended, IsGiven, IsResend, IsEnd, IsFound, IsRestart, tick_at, IsFirstTick, IsOpening, IsClaimed, not_taken, Times, IsCommanded, IsJudged, IsJudgedWhere, IsNextJudged, IsTold, Tells}
 
--- whatever is found behind them
+-- what restarts found and takers answered, with more behind it, is what they found and answered otherwise
+record AreAlike (es fs : List ClusterEvent) (rest more : List (ℕ → ℕ)) (said heard : List Verdict) : Type 0 where
+  pub found : findings es ++ rest ≡ findings fs ++ more
+  pub judged : verdicts es ++ said ≡ verdicts fs ++ heard
+
+-- whatever is found and answered behind them
 abbrev Settles : Rule → Cluster → Type 0
 Settles Allows c =
-    (es fs : List ClusterEvent) (rest more : List (ℕ → ℕ)) → Allows c es → Allows c fs → has_failure es ≡ false
-    → has_failure fs ≡ false → findings es ++ rest ≡ findings fs ++ more → es ≡ fs
+    (es fs : List ClusterEvent) (rest more : List (ℕ → ℕ)) (said heard : List Verdict) → Allows c es → Allows c fs
+    → has_failure es ≡ false → has_failure fs ≡ false → AreAlike es fs rest more said heard → es ≡ fs
 
 cancel : {A : Type 0} (xs rest more : List A) → xs ++ rest ≡ xs ++ more → rest ≡ more
 cancel [] rest more same = same
@@ -31,30 +40,39 @@ whole es early late is fine =
     or_parts (has_failure early) (has_failure late)
     (sym (list_any-append is_failure early late) ∙ sym (ap has_failure is) ∙ fine)
 
-found : (es early late : List ClusterEvent) (rest : List (ℕ → ℕ)) → es ≡ early ++ late
-    → findings es ++ rest ≡ findings early ++ (findings late ++ rest)
-found es early late rest is =
-    ap (λ (l : List ClusterEvent). findings l ++ rest) is
-    ∙ ap (λ (l : List (ℕ → ℕ)). l ++ rest) (flat_map-append finding early late)
-    ∙ append_assoc (findings early) (findings late) rest
+apart : {A : Type 0} (f : ClusterEvent → List A) (es early late : List ClusterEvent) (rest : List A)
+    → es ≡ early ++ late → flat_map f es ++ rest ≡ flat_map f early ++ (flat_map f late ++ rest)
+apart {A} f es early late rest is =
+    ap (λ (l : List ClusterEvent). flat_map f l ++ rest) is
+    ∙ ap (λ (l : List A). l ++ rest) (flat_map-append f early late)
+    ∙ append_assoc (flat_map f early) (flat_map f late) rest
+
+-- the same first ones leave the same behind
+behind : {A : Type 0} (f : ClusterEvent → List A) (early other : List ClusterEvent) (rest more : List A) → early ≡ other
+    → flat_map f early ++ rest ≡ flat_map f other ++ more → rest ≡ more
+behind f early other rest more same all =
+    cancel (flat_map f other) rest more
+    (ap (λ (l : List ClusterEvent). flat_map f l ++ rest) (sym same) ∙ all)
 
 settles-then : (First Second : Rule) (c : Cluster) → Settles First c → ((d : Cluster) → Settles Second d)
     → Settles (Then First Second) c
-settles-then First Second c first second es fs rest more a b fine_es fine_fs finds =
+settles-then First Second c first second es fs rest more said heard a b fine_es fine_fs alike =
     let es_parts = whole es a.early a.late a.is fine_es in
     let fs_parts = whole fs b.early b.late b.is fine_fs in
-    let all : findings a.early ++ (findings a.late ++ rest) ≡ findings b.early ++ (findings b.late ++ more) =
-    sym (found es a.early a.late rest a.is) ∙ finds ∙ found fs b.early b.late more b.is in
+    let found : findings a.early ++ (findings a.late ++ rest) ≡ findings b.early ++ (findings b.late ++ more) =
+    sym (apart finding es a.early a.late rest a.is) ∙ alike.found ∙ apart finding fs b.early b.late more b.is in
+    let judged : verdicts a.early ++ (verdicts a.late ++ said) ≡ verdicts b.early ++ (verdicts b.late ++ heard) =
+    sym (apart verdict_at es a.early a.late said a.is) ∙ alike.judged ∙ apart verdict_at fs b.early b.late heard b.is in
     let early : a.early ≡ b.early =
-    first a.early b.early (findings a.late ++ rest) (findings b.late ++ more) a.first b.first es_parts.0 fs_parts.0
-    all in
-    let left : findings a.late ++ rest ≡ findings b.late ++ more =
-    cancel (findings b.early) (findings a.late ++ rest) (findings b.late ++ more)
-    (ap (λ (l : List ClusterEvent). findings l ++ (findings a.late ++ rest)) (sym early) ∙ all) in
+    first a.early b.early (findings a.late ++ rest) (findings b.late ++ more) (verdicts a.late ++ said)
+    (verdicts b.late ++ heard) a.first b.first es_parts.0 fs_parts.0 (record { found = found; judged = judged }) in
     let late : a.late ≡ b.late =
-    second (cluster_after c a.early) a.late b.late rest more a.second
+    second (cluster_after c a.early) a.late b.late rest more said heard a.second
     (subst (λ (l : List ClusterEvent). Second (cluster_after c l) b.late) (sym early) b.second) es_parts.1 fs_parts.1
-    left in
+    (record {
+      found = behind finding a.early b.early (findings a.late ++ rest) (findings b.late ++ more) early found;
+      judged = behind verdict_at a.early b.early (verdicts a.late ++ said) (verdicts b.late ++ heard) early judged;
+    }) in
     a.is ∙ ap (λ (l : List ClusterEvent). l ++ a.late) early ∙ ap (λ (l : List ClusterEvent). b.early ++ l) late
     ∙ sym b.is
 
@@ -64,17 +82,18 @@ settles-if true First Second c first second = first
 settles-if false First Second c first second = second
 
 settles-is : (event : ClusterEvent) (c : Cluster) → Settles (Is event) c
-settles-is event c es fs rest more a b fine_es fine_fs finds = a ∙ sym b
+settles-is event c es fs rest more said heard a b fine_es fine_fs alike = a ∙ sym b
 
 settles-nothing : (c : Cluster) → Settles IsNothing c
-settles-nothing c es fs rest more a b fine_es fine_fs finds = a ∙ sym b
+settles-nothing c es fs rest more said heard a b fine_es fine_fs alike = a ∙ sym b
 
 -- of the lists that a rule allows only one has no failure
 abbrev IsFine : Rule → List ClusterEvent → Cluster → Type 0
 IsFine Allows one c = (es : List ClusterEvent) → Allows c es → has_failure es ≡ false → es ≡ one
 
 settles-fine : (Allows : Rule) (one : List ClusterEvent) (c : Cluster) → IsFine Allows one c → Settles Allows c
-settles-fine Allows one c fine es fs rest more a b fine_es fine_fs finds = fine es a fine_es ∙ sym (fine fs b fine_fs)
+settles-fine Allows one c fine es fs rest more said heard a b fine_es fine_fs alike =
+    fine es a fine_es ∙ sym (fine fs b fine_fs)
 
 failed : (es fs : List ClusterEvent) → es ≡ fs → has_failure fs ≡ true → has_failure es ≡ false → ⊥
 failed es fs is fails fine = false≢true (sym fine ∙ ap has_failure is ∙ fails)
@@ -98,6 +117,64 @@ settles-each [] Each each c = settles-nothing c
 settles-each (x ∷ xs) Each each c =
     settles-then (Each x) (ForEach xs Each) c (each x c) (λ d. settles-each xs Each each d)
 
+settles-times : (n : ℕ) (Each : Rule) → ((d : Cluster) → Settles Each d) → (c : Cluster) → Settles (Times n Each) c
+settles-times zero Each each c = settles-nothing c
+settles-times (suc n) Each each c =
+    settles-then Each (Times n Each) c (each c) (λ d. settles-times n Each each d)
+
+-- ---- a session's commands
+
+settles-claimed : (o : Option ℕ) (session : ℕ) (body : Unstamped) (place : ℕ) (c : Cluster)
+    → Settles (IsClaimed o session body place) c
+settles-claimed None session body place c = settles-is (At place (Submits session body)) c
+settles-claimed (Some id) session body place c = settles-is (At place (TellsNotTaken session id)) c
+
+settles-given : (session : ℕ) (body : Unstamped) (place : ℕ) (c : Cluster) → Settles (IsGiven session body place) c
+settles-given session body place c =
+    let o : Option ℕ = not_taken session body (c.queue place) in
+    settles-if (is_ended session (c.queue place)) (Is (At place (TellsEnded session)))
+    (IsClaimed o session body place) c (settles-is (At place (TellsEnded session)) c)
+    (settles-claimed o session body place c)
+
+-- ---- takers
+
+settles-commanded : (o : Option Unstamped) (session place : ℕ) (c : Cluster) → Settles (IsCommanded o session place) c
+settles-commanded None session place c = settles-nothing c
+settles-commanded (Some body) session place c = settles-given session body place c
+
+-- what a verdict has made, and the verdict
+first-verdict : (place : ℕ) (verdict : Verdict) (es early late : List ClusterEvent) (said : List Verdict)
+    → es ≡ early ++ late → early ≡ At place (Judges verdict) ∷ []
+    → verdicts es ++ said ≡ verdict ∷ (verdicts late ++ said)
+first-verdict place verdict es early late said is first =
+    ap (λ (l : List ClusterEvent). verdicts l ++ said) (is ∙ ap (λ (l : List ClusterEvent). l ++ late) first)
+
+settles-judged : (place : ℕ) (h : Handed) (c : Cluster) → Settles (IsJudged place h) c
+settles-judged place h c es fs rest more said heard a b fine_es fine_fs alike =
+    let all : a.verdict ∷ (verdicts a.is.late ++ said) ≡ b.verdict ∷ (verdicts b.is.late ++ heard) =
+    sym (first-verdict place a.verdict es a.is.early a.is.late said a.is.is a.is.first) ∙ alike.judged
+    ∙ first-verdict place b.verdict fs b.is.early b.is.late heard b.is.is b.is.first in
+    let same : a.verdict ≡ b.verdict = cc in
+    let Rest : Verdict → Rule = λ verdict. IsCommanded (command_for verdict h) h.consumer.session.number place in
+    let First : Verdict → Rule = λ verdict. Is (At place (Judges verdict)) in
+    settles-then (First b.verdict) (Rest b.verdict) c (settles-is (At place (Judges b.verdict)) c)
+    (λ d. settles-commanded (command_for b.verdict h) h.consumer.session.number place d) es fs rest more said heard
+    (subst (λ (v : Verdict). Then (First v) (Rest v) c es) same a.is) b.is fine_es fine_fs alike
+
+settles-where : (place : ℕ) (waits : List Handed) (c : Cluster) → Settles (IsJudgedWhere place waits) c
+settles-where place [] c = settles-nothing c
+settles-where place (h ∷ more) c = settles-judged place h c
+
+settles-told : (place : ℕ) (c : Cluster) → Settles (IsTold place) c
+settles-told place c =
+    settles-times (length (c.queue place).untold) (IsNextJudged place)
+    (λ d. settles-where place (d.queue place).untold d) c
+
+settles-tells : (place : ℕ) (event : Event) (c : Cluster) → Settles (Tells place event) c
+settles-tells place event c =
+    settles-then (Is (At place event)) (IsTold place) c (settles-is (At place event) c)
+    (λ d. settles-told place d)
+
 -- ---- the logs and pumps
 
 settles-write : (setup : Setup) (k : ℕ) (c : Cluster) → Settles (IsWrite setup k) c
@@ -114,8 +191,8 @@ settles-sync setup k c =
 
 settles-notice : (k place : ℕ) (c : Cluster) → Settles (IsNotice k place) c
 settles-notice k place c =
-    settles-if (c.up k && waits_noticed k (c.queue place)) (Is (At place (Notices k))) IsNothing c
-    (settles-is (At place (Notices k)) c) (settles-nothing c)
+    settles-if (c.up k && waits_noticed k (c.queue place)) (Tells place (Notices k)) IsNothing c
+    (settles-tells place (Notices k) c) (settles-nothing c)
 
 settles-node : (setup : Setup) (k : ℕ) (c : Cluster) → Settles (IsNodeRound setup k) c
 settles-node setup k c =
@@ -125,7 +202,8 @@ settles-node setup k c =
     (λ e. settles-each setup.places (IsNotice k) (settles-notice k) e))
 
 settles-emptied : (place : ℕ) (c : Cluster) → Settles (IsEmptied place) c
-settles-emptied place c es fs rest more a b fine_es fine_fs finds = a ∙ sym b
+settles-emptied place c =
+    settles-times (length (c.queue place).group.bag) (Tells place (Delivers 0)) (settles-tells place (Delivers 0)) c
 
 settles-round : (setup : Setup) (c : Cluster) → Settles (IsRound setup) c
 settles-round setup c =
@@ -149,18 +227,6 @@ settles-asked setup Asked c asked = settles-then Asked (IsPumped setup) c asked 
 
 -- ---- clients
 
-settles-claimed : (o : Option ℕ) (session : ℕ) (body : Unstamped) (place : ℕ) (c : Cluster)
-    → Settles (IsClaimed o session body place) c
-settles-claimed None session body place c = settles-is (At place (Submits session body)) c
-settles-claimed (Some id) session body place c = settles-is (At place (TellsNotTaken session id)) c
-
-settles-given : (session : ℕ) (body : Unstamped) (place : ℕ) (c : Cluster) → Settles (IsGiven session body place) c
-settles-given session body place c =
-    let o : Option ℕ = not_taken session body (c.queue place) in
-    settles-if (is_ended session (c.queue place)) (Is (At place (TellsEnded session)))
-    (IsClaimed o session body place) c (settles-is (At place (TellsEnded session)) c)
-    (settles-claimed o session body place c)
-
 settles-routed : (session : ℕ) (body : Unstamped) (places : List ℕ) (c : Cluster)
     → Settles (IsRouted session body places) c
 settles-routed session body [] c = settles-is SaysUnroutable c
@@ -170,13 +236,13 @@ settles-routed session body (place ∷ places) c =
 settles-resend : (setup : Setup) (session : ℕ) (c : Cluster) → Settles (IsResend setup session) c
 settles-resend setup session c =
     let sends : Rule = ForEach setup.places (λ place. Is (At place (Resends session))) in
-    let asks : Rule = ForEach setup.places (λ place. Is (At place (Fetches session))) in
+    let asks : Rule = ForEach setup.places (λ place. Tells place (Fetches session)) in
     settles-if (some_queue setup (is_ended session) c) (Is SaysEnded) (Then sends asks) c (settles-is SaysEnded c)
     (settles-then sends asks c
     (settles-each setup.places (λ place. Is (At place (Resends session)))
     (λ place d. settles-is (At place (Resends session)) d) c)
-    (λ d. settles-each setup.places (λ place. Is (At place (Fetches session)))
-    (λ place e. settles-is (At place (Fetches session)) e) d))
+    (λ d. settles-each setup.places (λ place. Tells place (Fetches session))
+    (λ place e. settles-tells place (Fetches session) e) d))
 
 settles-end : (setup : Setup) (session : ℕ) (c : Cluster) → Settles (IsEnd setup session) c
 settles-end setup session c =
@@ -191,15 +257,15 @@ settles-up : (k : ℕ) (Up : Rule) (c : Cluster) → Settles Up c → Settles (W
 settles-up k Up c up = settles-if (c.up k) Up (Is (SaysDown k)) c up (settles-is (SaysDown k) c)
 
 settles-found : (setup : Setup) (k : ℕ) (c : Cluster) → Settles (IsFound setup k) c
-settles-found setup k c es fs rest more (inl a) (inl b) fine_es fine_fs finds =
+settles-found setup k c es fs rest more said heard (inl a) (inl b) fine_es fine_fs alike =
     let all : (a.ops ∷ []) ++ rest ≡ (b.ops ∷ []) ++ more =
-    ap (λ (l : List ClusterEvent). findings l ++ rest) (sym a.is) ∙ finds
+    ap (λ (l : List ClusterEvent). findings l ++ rest) (sym a.is) ∙ alike.found
     ∙ ap (λ (l : List ClusterEvent). findings l ++ more) b.is in
     let ops : a.ops ≡ b.ops = cc in
     a.is ∙ ap (λ (o : ℕ → ℕ). FindsEach k o ∷ []) ops ∙ sym b.is
-settles-found setup k c es fs rest more (inr a) b fine_es fine_fs finds =
+settles-found setup k c es fs rest more said heard (inr a) b fine_es fine_fs alike =
     absurd (failed es (Fails k ∷ []) a refl fine_es)
-settles-found setup k c es fs rest more (inl a) (inr b) fine_es fine_fs finds =
+settles-found setup k c es fs rest more said heard (inl a) (inr b) fine_es fine_fs alike =
     absurd (failed fs (Fails k ∷ []) b refl fine_fs)
 
 settles-restart : (setup : Setup) (k : ℕ) (c : Cluster) → Settles (IsRestart setup k) c
@@ -209,8 +275,8 @@ settles-restart setup k c =
 settles-delivered : (place at : ℕ) (o : Option ℕ) (c : Cluster) → Settles (IsDelivered place at o) c
 settles-delivered place at None c = settles-is SaysNoSuch c
 settles-delivered place at (Some k) c =
-    settles-then (Is (At place (Delivers at))) (λ d. if_so (d.up k) IsNothing (Is (SaysDown k)) d) c
-    (settles-is (At place (Delivers at)) c)
+    settles-then (Tells place (Delivers at)) (λ d. if_so (d.up k) IsNothing (Is (SaysDown k)) d) c
+    (settles-tells place (Delivers at) c)
     (λ d. settles-if (d.up k) IsNothing (Is (SaysDown k)) d (settles-nothing d) (settles-is (SaysDown k) d))
 
 settles-there : (o : Option ℕ) (event : Event) (place : ℕ) (c : Cluster) → Settles (WhereThere o event place) c
@@ -242,6 +308,7 @@ settles-line setup (lines.Send by exchange key body) c =
     (settles-routed by.number (publish_with key body) (setup.targets exchange key) c)
 settles-line setup (lines.Client by at body) c =
     settles-asked setup (IsGiven by.number body at.0) c (settles-given by.number body at.0 c)
+settles-line setup (lines.Attach by at tag taker) c = settles-is (At at.0 (Attaches by.number tag taker)) c
 settles-line setup (lines.End by) c =
     settles-asked setup (IsEnd setup by.number) c (settles-end setup by.number c)
 settles-line setup (lines.Resend by) c =
@@ -253,7 +320,7 @@ settles-line setup (lines.Write node) c =
     settles-up node.0 (IsWrite setup node.0) c (settles-write setup node.0 c)
 settles-line setup (lines.Sync node) c = settles-up node.0 (IsSync setup node.0) c (settles-sync setup node.0 c)
 settles-line setup (lines.Notice node at) c =
-    settles-up node.0 (Is (At at.0 (Notices node.0))) c (settles-is (At at.0 (Notices node.0)) c)
+    settles-up node.0 (Tells at.0 (Notices node.0)) c (settles-tells at.0 (Notices node.0) c)
 settles-line setup (lines.Tick node at) c =
     settles-up node.0 (Is (At at.0 (Ticks node.0))) c (settles-is (At at.0 (Ticks node.0)) c)
 settles-line setup (lines.Deliver at message) c = settles-deliver at.0 message c
@@ -285,8 +352,11 @@ settles-opening setup c =
     (λ e. settles-pumps most_rounds setup e))
 
 settled : (Allows : Rule) (c : Cluster) → Settles Allows c → LeavesNoChoice Allows c
-settled Allows c settles es fs a b fine_es fine_fs finds =
-    settles es fs [] [] a b fine_es fine_fs (ap (λ (l : List (ℕ → ℕ)). l ++ []) finds)
+settled Allows c settles es fs a b fine_es fine_fs found judged =
+    settles es fs [] [] [] [] a b fine_es fine_fs (record {
+      found = ap (λ (l : List (ℕ → ℕ)). l ++ []) found;
+      judged = ap (λ (l : List Verdict). l ++ []) judged;
+    })
 
 pub line-settles : (setup : Setup) (line : ScriptLine) (c : Cluster) → LeavesNoChoice (IsLine setup line) c
 line-settles setup line c = settled (IsLine setup line) c (settles-line setup line c)

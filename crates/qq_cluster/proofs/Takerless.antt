@@ -1,12 +1,14 @@
 -- Where no consumer of a queue has a taker and no delivery waits for one, all that is handed out is told at once.
-use Rattle.std.proofs.Common.{◌≡◌, ◌≢◌, ℕ, zero, suc, Bool, true, false, List, [], ◌∷◌, ◌++◌, length, map, Option, Some, None, refl, sym, ap, ◌∙◌, subst, append-nil}
-use Rattle.std.specs.Prelude.{nat_eq, replicate}
+use Rattle.std.proofs.Common.{◌≡◌, ◌≢◌, ℕ, zero, suc, Bool, true, false, List, [], ◌∷◌, ◌++◌, length, map, Option, Some, None, refl, sym, ap, ◌∙◌, subst, inl, inr, append-nil}
+use Rattle.std.specs.Prelude.{Contains, nat_eq, replicate}
 use Rattle.std.specs.List.{AllByRecursion}
 use Rattle.std.proofs.lemmas.Bool.{cond-true, cond-false, eq-eqb, ne_eqb}
-use Rattle.qq_base.proofs.Lists.{AllByRecursion-append}
+use Rattle.std.proofs.lemmas.List.Elements.{Contains-append_left}
+use Rattle.qq_base.proofs.Lists.{AllByRecursion-append, In, In-append_right}
 use Rattle.qq_entry.specs.declared.audit.AuditRow.{AuditRow}
 use Rattle.qq_entry.specs.declared.command.Unstamped.{Unstamped}
 use Rattle.qq_entry.specs.declared.queue.QueueArgs.{QueueArgs}
+use Rattle.qq_model.proofs.Soundness.{Contains-in, in_contains}
 use Rattle.qq_raft_model.specs.Group.{Group}
 use Rattle.qq_session.specs.Clients.{printed}
 use Rattle.qq_session.specs.Shown.{Shown, Answered}
@@ -57,6 +59,38 @@ answers-none (row ∷ rows) =
     (dropped-none (leaving_at row))
     ∙ ap (λ (seats : List Seat). Answered row ∷ answers seats rows) (staying-none (leaving_at row))
     ∙ ap (λ (l : List Shown). Answered row ∷ l) (answers-none rows)
+
+-- where nothing more is handed out, what waits is as before
+waiting-still : (untold : List Handed) (seats : List Seat) → waiting_then untold seats [] ≡ untold
+waiting-still [] seats = refl
+waiting-still (h ∷ more) seats = append-nil (h ∷ more)
+
+pub untold-still : (q : Queue) → q ≡ record q { untold = waiting_then q.untold q.seats [] }
+untold-still q = sym (ap (λ (l : List Handed). record q { untold = l }) (waiting-still q.untold q.seats))
+
+told-still : (untold : List Handed) (seats : List Seat) → told_then untold seats [] ≡ []
+told-still [] seats = refl
+told-still (h ∷ more) seats = refl
+
+pub delivered-still : (q : Queue) → delivered (told_then q.untold q.seats []) ≡ []
+delivered-still q = ap delivered (told-still q.untold q.seats)
+
+-- each row is answered, whoever has a taker
+answers-in : (x : Shown) (rows : List AuditRow) (seats : List Seat) → In x (map Answered rows)
+    → In x (answers seats rows)
+answers-in x [] seats here = here
+answers-in x (row ∷ rows) seats (inl same) = inl same
+answers-in x (row ∷ rows) seats (inr later) =
+    inr (In-append_right x (dropped_by (leaving_at row) seats) (answers (seated_by (leaving_at row) seats) rows)
+    (answers-in x rows (seated_by (leaving_at row) seats) later))
+
+pub told-answers : (q : Queue) (event : Event) (x : Shown)
+    → Contains (map Answered (printed (rows_told q event) q.clients)) x → Contains (told q event) x
+told-answers q event x here =
+    Contains-append_left (answers q.seats (printed (rows_told q event) q.clients)) _ x
+    (Contains-in x (answers q.seats (printed (rows_told q event) q.clients))
+    (answers-in x (printed (rows_told q event) q.clients) q.seats
+    (in_contains (map Answered (printed (rows_told q event) q.clients)) x here)))
 
 -- ---- events
 

@@ -1,19 +1,14 @@
 -- What is printed as an answer is a row of the audit, and what a step does is what an entry of it does.
-use Rattle.std.proofs.Common.{◌≡◌, ℕ, List, [], ◌∷◌, Option, Some, None, map, take, drop, refl, sym, subst, take-append-drop}
+use Rattle.std.proofs.Common.{◌≡◌, ℕ, List, [], ◌∷◌, Option, Some, None, take, drop, refl, sym, subst, take-append-drop}
 use Rattle.std.specs.Prelude.{Contains}
 use Rattle.std.specs.List.{AllByRecursion}
 use Rattle.std.proofs.lemmas.Bool.{cond_both}
 use Rattle.std.proofs.lemmas.List.Elements.{Contains-append_left, Contains-append_right}
 use Rattle.qq_base.proofs.Lists.{AllByRecursion-append, AllByRecursion-filter, AllByRecursion-map, AllByRecursion-weaker}
 use Rattle.qq_base.specs.Fronts.{IsFront}
-use Rattle.qq_base.specs.declared.ids.ConsumerId.{ConsumerId}
 use Rattle.qq_base.specs.declared.ids.Term.{Term}
-use Rattle.qq_consuming.specs.Consumers.{taken}
-use Rattle.qq_consuming.specs.Consuming.{Received}
-use Rattle.qq_entry.specs.declared.answer.Delivery.{Delivery}
 use Rattle.qq_entry.specs.declared.audit.AuditRow.{AuditRow}
 use Rattle.qq_entry.specs.declared.audit.Effect.{Effect}
-use Rattle.qq_entry.specs.declared.audit.Effect.TheVariants.{Deliver, DeadOnce, Offer}
 use Rattle.qq_entry.specs.declared.command.Entry.{Entry}
 use Rattle.qq_entry.specs.declared.queue.QueueArgs.{QueueArgs}
 use Rattle.qq_model.specs.Audit.{audit_of, effects_of, state_after}
@@ -23,13 +18,16 @@ use Rattle.qq_raft_model.specs.Promises.{IsUp}
 use Rattle.qq_raft_model.specs.Server.{is_ready}
 use Rattle.qq_raft_model.specs.State.{Server}
 use Rattle.qq_session.specs.Printed.{IsAnswer, IsAudited}
-use Rattle.qq_session.specs.Clients.{Clients, printed, may_hand}
-use Rattle.qq_session.specs.Shown.{Answered, Delivered, WindowFull, effects_of_term, is_delivered_to, said_of}
+use Rattle.qq_session.specs.Clients.{printed, may_hand}
+use Rattle.qq_session.specs.Shown.{Answered, WindowFull, effects_of_term, said_of}
+use Rattle.qq_taker.specs.Seats.{taker_of}
+use Rattle.qq_taker.specs.declared.handed.Handed.{Handed}
 use Rattle.qq_session.proofs.Audits.{audit-front}
 use Rattle.qq_session.proofs.EffectsOfTerm.{effects-append, of-term}
 use Rattle.qq_session.proofs.PrintedAnswers.{all-drop, each-contained, front-contains, later-audited, offered-audited, printed-are}
-use Rattle.qq_cluster.specs.Delivering.{comes, show_all, shows}
-use Rattle.qq_cluster.specs.Queue.{Queue, Event, Mutes, Ends, Submits, TellsEnded, TellsNotTaken, Resends, Fetches, Downs, Ticks, Delivers, Loses, Copies, Writes, Syncs, Notices, Stops, Finds, after, all_said, audit_rows, effects_at, effects_by, effects_shown, group_then, happens, has_leader, is_shown, known, offered, rows_at, rows_by, rows_told, said, stepping, told}
+use Rattle.qq_cluster.specs.Queue.{Queue, Event, Mutes, Ends, Submits, TellsEnded, TellsNotTaken, Attaches, Judges, Resends, Fetches, Downs, Ticks, Delivers, Loses, Copies, Writes, Syncs, Notices, Stops, Finds, after, all_said, audit_rows, consumer_of, effects_at, effects_by, group_then, handed_out, happens, has_leader, is_shown, offered, rows_at, rows_by, rows_told, said, seats_after, stepping, told}
+use Rattle.qq_cluster.specs.Taking.{answers, delivered, told_then}
+use Rattle.qq_cluster.proofs.Handing.{all-answers, all-attached, all-delivered, all-judged}
 use Rattle.qq_cluster.proofs.Groups.{KnowsCommits, KeepsCommits, Reached, audit-grows, known-in, reached-next}
 
 -- ---- rows
@@ -109,39 +107,18 @@ effects-at args g h known (Some k) =
 
 -- ---- what is said
 
--- a delivery isn't an answer
-handed-audited : (audit : List AuditRow) (id : ConsumerId) (ds : List Delivery)
-    → AllByRecursion (IsAudited audit) (map (Delivered id) ds)
-handed-audited audit id [] = tt
-handed-audited audit id (d ∷ ds) = (tt, handed-audited audit id ds)
-
-shows-audited : (audit : List AuditRow) (clients : Clients) (effect : Effect) (all : List Received)
-    → AllByRecursion (IsAudited audit) (shows clients effect all)
-shows-audited audit clients (Deliver id delivery) all =
-    cond_both (is_delivered_to clients id.session) (map (Delivered id) (taken id delivery all)) []
-    (AllByRecursion (IsAudited audit)) (λ _. handed-audited audit id (taken id delivery all)) (λ _. tt)
-shows-audited audit clients (DeadOnce reason message) all = tt
-shows-audited audit clients (Offer number reason message) all = tt
-
-shown-audited : (audit : List AuditRow) (clients : Clients) (effects : List Effect) (all : List Received)
-    → AllByRecursion (IsAudited audit) (show_all clients effects all)
-shown-audited audit clients [] all = tt
-shown-audited audit clients (effect ∷ effects) all =
-    let next : List Received = comes clients effect all in
-    AllByRecursion-append (IsAudited audit) (shows clients effect all) (show_all clients effects next)
-    (shows-audited audit clients effect all) (shown-audited audit clients effects next)
-
 told-audited : (q : Queue) (event : Event) → AreKnown (group_then q event)
     → AllByRecursion (IsAudited (audit_rows (happens q event))) (told q event)
 told-audited q event known' =
     let audit : List AuditRow = audit_rows (happens q event) in
     let rows : List AuditRow = printed (rows_told q event) q.clients in
-    let all : List Received = known q.clients event q.consumers in
-    AllByRecursion-append (IsAudited audit) (map Answered rows) (show_all q.clients (effects_shown q event) all)
+    let out : List Handed = told_then q.untold (seats_after q event) (handed_out q event) in
+    AllByRecursion-append (IsAudited audit) (answers q.seats rows) (delivered out)
+    (all-answers (IsAudited audit) (λ session number. tt) q.seats rows
     (AllByRecursion-map (IsAnswer audit) (IsAudited audit) Answered rows (λ row is. is)
     (printed-are audit (rows_told q event) q.clients
-    (rows-at q.args q.group (group_then q event) known' (stepping q event))))
-    (shown-audited audit q.clients (effects_shown q event) all)
+    (rows-at q.args q.group (group_then q event) known' (stepping q event)))))
+    (all-delivered (IsAudited audit) (λ id d. tt) out)
 
 said-audited : (q : Queue) (event : Event) → AreKnown (group_then q event)
     → AllByRecursion (IsAudited (audit_rows (happens q event))) (said q event)
@@ -158,6 +135,12 @@ said-audited q (Downs session) known' =
     offered-audited (audit_rows (happens q (Downs session))) (has_leader q) session (offered q.clients (Downs session))
 said-audited q (TellsEnded session) known' = (tt, tt)
 said-audited q (TellsNotTaken session id) known' = (tt, tt)
+said-audited q (Attaches session tag number) known' =
+    all-attached (IsAudited (audit_rows (happens q (Attaches session tag number)))) (λ own n. tt) (λ own n. tt) session
+    number (taker_of (consumer_of session tag) q.seats)
+said-audited q (Judges verdict) known' =
+    all-judged (IsAudited (audit_rows (happens q (Judges verdict)))) (λ id d. tt) (λ n id d v. tt) q.seats verdict
+    q.untold
 said-audited q (Mutes session muted) known' = told-audited q (Mutes session muted) known'
 said-audited q (Ends session) known' = told-audited q (Ends session) known'
 said-audited q (Fetches session) known' = told-audited q (Fetches session) known'

@@ -73,7 +73,8 @@ unfolding digits put most_rounds line step carry_out act gate admit keep_answer 
 fault-printed = refl
 
 -- the round in which the sync fails
-faulty-pump : IsPumped (setup_of 1 1) (cluster_after (new_cluster (setup_of 1 1)) (opened (setup_of 1 1) ++ publish_a ∷ []))
+faulty-pump : IsPumped (setup_of 1 1)
+    (cluster_after (cluster_after (new_cluster (setup_of 1 1)) (opened (setup_of 1 1))) (publish_a ∷ []))
     (NodeWrites 1 ∷ Fails 1 ∷ [])
 unfolding digits put most_rounds line step carry_out act gate admit keep_answer turn_away enqueue get check_out check_out_all drain_after drop_head keep_limits give_dead give_all_dead apply_op change_log send add_entry stand lead lead_if_elected advance refuse give_vote receive_vote receive_voted take_entries refuse_entries receive_append take_ack step_back receive_appended accept receive tick submit notice change enter say_all encoding payload fields session stamp origin body key death deaths content
 faulty-pump = record {

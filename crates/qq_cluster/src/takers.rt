@@ -15,9 +15,7 @@ ghost use Rattle.qq_cluster.specs.Lines.{IsLine, IsRun as IsRunOf};
 ghost use Rattle.qq_cluster.specs.Queue.{Attaches, Event, Queue, all_said, audit_rows, begin, consumer_of, happens, said};
 ghost use Rattle.qq_cluster.specs.Texts.{shown_text};
 
-use qq_consuming::{
-    consumers_are_handed_their_deliveries, what_is_out_was_delivered_as_it_is,
-};
+use qq_consuming::{consumers_are_handed_their_deliveries, what_is_out_was_delivered_as_it_is};
 use qq_raft_model::what_a_group_committed_stays;
 
 /// A law: between two lines no delivery waits for a taker's verdict: each is told in the line in which it is handed
@@ -51,7 +49,7 @@ pub fn takers_see_runs_of_deliveries()
 
 /// A law: a consumer that has a taker gets no second one, and is told whose number it has.
 pub fn a_consumer_has_one_taker()
-    ensures { (q : Queue) (session tag number other : ℕ) →
+    ensures second { (q : Queue) (session tag number other : ℕ) →
         taker_of (consumer_of session tag) q.seats ≡ Some other →
         ((happens q (Attaches session tag number)).seats ≡ q.seats)
         × (said q (Attaches session tag number) ≡ IsBusy session other ∷ []) }

@@ -1,15 +1,16 @@
 -- What restarts, writes and syncs may be.
-use Rattle.std.proofs.Common.{◌≡◌, ◌⊎◌, ◌≤◌, ◌<◌, ℕ, Bool, true, false, ◌&&◌, ◌||◌, List, [], ◌∷◌, length, Option, Some, None, refl, sym, ap, ◌∙◌, subst, inl, inr, arith}
+use Rattle.std.proofs.Common.{◌≡◌, ◌⊎◌, ◌≤◌, ◌<◌, ℕ, Bool, true, false, ◌&&◌, ◌||◌, List, [], ◌∷◌, ◌++◌, length, Option, Some, None, refl, sym, ap, ◌∙◌, subst, inl, inr, arith}
 use Rattle.std.specs.Prelude.{Contains, nat_le}
 use Rattle.std.specs.List.{list_all, list_any}
 use Rattle.std.proofs.lemmas.Bool.{and_from, and_parts, cond-true, false≢true, le-ltb, leb-true, lt-ltb}
-use Rattle.qq_base.proofs.Lists.{In, list_any-from_in}
+use Rattle.qq_base.proofs.Lists.{AllByRecursion-in, In, list_any-from_in}
 use Rattle.qq_model.proofs.Soundness.{Contains-in, in_contains}
 use Rattle.qq_raft_model.specs.Group.{Group, has_node, is_down, may_restart}
 use Rattle.qq_raft_model.specs.State.{Server}
-use Rattle.qq_cluster.specs.Cluster.{At, Cluster, ClusterEvent, Fails, FindsEach, NodeSyncs, NodeWrites, Setup}
-use Rattle.qq_cluster.specs.Queue.{Notices, Queue, waiting, waiting_by}
-use Rattle.qq_cluster.specs.Rules.{Is, IsFound, IsNothing, IsNotice, IsRestart, IsSync, IsSynced, IsWrite, IsWritten, MayRoll, if_so, may_find, some_queue, waits_noticed, waits_synced, waits_written}
+use Rattle.qq_cluster.proofs.Takerless.{AreAt, IsAt, queue-at, tells-at, told-nothing}
+use Rattle.qq_cluster.specs.Cluster.{At, Cluster, ClusterEvent, Fails, FindsEach, NodeSyncs, NodeWrites, Setup, cluster_after}
+use Rattle.qq_cluster.specs.Queue.{Notices, Queue, happens, waiting, waiting_by}
+use Rattle.qq_cluster.specs.Rules.{IsFound, IsNothing, IsNotice, IsRestart, IsSync, IsSynced, IsWrite, IsWritten, MayRoll, Tells, if_so, may_find, some_queue, waits_noticed, waits_synced, waits_written}
 
 -- ---- tests over queues
 
@@ -165,20 +166,37 @@ sync-down setup k c events down is =
 
 pub notice-is : (k place : ℕ) (c : Cluster) (events : List ClusterEvent) → c.up k ≡ true
     → ((c.queue place).group.seat k).noticed < (c.queue place).synced k → IsNotice k place c events
-    → events ≡ At place (Notices k) ∷ []
-notice-is k place c events up some is =
-    subst (λ (b : Bool). if_so b (Is (At place (Notices k))) IsNothing c events)
-    (and_from (c.up k) (waits_noticed k (c.queue place)) up
-    (lt-ltb ((c.queue place).group.seat k).noticed ((c.queue place).synced k) some)) is
+    → (asked : List ClusterEvent) × (events ≡ At place (Notices k) ∷ asked)
+    × ((happens (c.queue place) (Notices k)).untold ≡ [] → asked ≡ []) × ((j : ℕ) → Contains asked (Fails j) → ⊥)
+notice-is k place c events up some is = (
+  tells.late,
+  events-are,
+  λ none. told-nothing place (cluster_after c tells.early) tells.late
+      (ap (λ es. ((cluster_after c es).queue place).untold) tells.first
+      ∙ ap (λ (q : Queue). q.untold) (queue-at c place (Notices k)) ∙ none) tells.second,
+  λ j there. AllByRecursion-in (IsAt place) (Fails j) tells.late at.1 (in_contains tells.late (Fails j) there),
+)
+  where
+    tells : Tells place (Notices k) c events
+    tells =
+        subst (λ (b : Bool). if_so b (Tells place (Notices k)) IsNothing c events)
+        (and_from (c.up k) (waits_noticed k (c.queue place)) up
+        (lt-ltb ((c.queue place).group.seat k).noticed ((c.queue place).synced k) some)) is
+
+    events-are : events ≡ At place (Notices k) ∷ tells.late
+    events-are = tells.is ∙ ap (λ es. es ++ tells.late) tells.first
+
+    at : AreAt place (At place (Notices k) ∷ tells.late)
+    at = subst (AreAt place) events-are (tells-at place (Notices k) tt c events tells)
 
 pub notice-none : (k place : ℕ) (c : Cluster) (events : List ClusterEvent)
     → (c.queue place).synced k ≤ ((c.queue place).group.seat k).noticed → IsNotice k place c events → events ≡ []
 notice-none k place c events all is =
-    subst (λ (b : Bool). if_so b (Is (At place (Notices k))) IsNothing c events)
+    subst (λ (b : Bool). if_so b (Tells place (Notices k)) IsNothing c events)
     (both-no (c.up k) (le-ltb ((c.queue place).group.seat k).noticed ((c.queue place).synced k) all)) is
 
 pub notice-down : (k place : ℕ) (c : Cluster) (events : List ClusterEvent) → c.up k ≡ false
     → IsNotice k place c events → events ≡ []
 notice-down k place c events down is =
-    subst (λ (b : Bool). if_so (b && waits_noticed k (c.queue place)) (Is (At place (Notices k))) IsNothing c events)
+    subst (λ (b : Bool). if_so (b && waits_noticed k (c.queue place)) (Tells place (Notices k)) IsNothing c events)
     down is

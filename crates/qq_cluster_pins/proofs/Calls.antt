@@ -4,6 +4,7 @@ use Rattle.std.specs.Prelude.{◌⊎◌, ◌-◌, ◌^◌, Contains, IsTrue, tru
 use Rattle.qq_disk.specs.declared.image.Image.{Image}
 use Rattle.qq_disk.specs.Disk.{now}
 use Rattle.qq_cluster.specs.Cluster.{Cluster, ClusterEvent, Crashes, Fails, Setup, cluster_after}
+use Rattle.qq_cluster.specs.Outcome.{Outcome, takers_after}
 use Rattle.qq_cluster.specs.Texts.{text_of}
 use Rattle.qq_cluster_laws.specs.Linked.{IsLinked}
 use Rattle.qq_cluster_laws.specs.Serves.{GivesUp, Happened, Seen, Serves, fails_at}
@@ -11,7 +12,7 @@ use Rattle.qq_cluster_laws.specs.Traced.{HasNoCrash, IsBrokenAt, IsTracedAt}
 use Rattle.qq_cluster_pins.proofs.Images.{there}
 use Rattle.qq_cluster_pins.proofs.Times.{fails-there, never-crashes}
 
-module _ (setup : Setup) (c last : Cluster) (done : List ClusterEvent) (a b : ℕ → Seen) (before later : List ℕ) where
+module _ (setup : Setup) (c last : Cluster) (done : List ClusterEvent) (a b : ℕ → Seen) (before later : Outcome) where
   abbrev These : List ClusterEvent → Type 0
   These events = events ≡ done
 
@@ -19,10 +20,12 @@ module _ (setup : Setup) (c last : Cluster) (done : List ClusterEvent) (a b : �
   Stands d = d ≡ last
 
   pub happened-text : Happened setup c These Stands a b before later
-      → (last ≡ cluster_after c done) × (later ≡ before ++ text_of setup c done)
+      → (last ≡ cluster_after c done) × (later.text ≡ before.text ++ text_of setup c done)
+      × (later.takers ≡ takers_after setup c done before.takers)
   happened-text did = (
     sym did.stands ∙ ap (cluster_after c) did.means,
-    did.says ∙ ap (λ es. before ++ text_of setup c es) did.means,
+    did.says ∙ ap (λ es. before.text ++ text_of setup c es) did.means,
+    did.sees ∙ ap (λ es. takers_after setup c es before.takers) did.means,
   )
 
   pub happened-disks : Happened setup c These Stands a b before later → (k : ℕ)

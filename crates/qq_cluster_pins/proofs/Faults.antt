@@ -3,7 +3,26 @@ use Rattle.std.proofs.Common.{◌≡◌, ℕ, Bool, false, ◌||◌, List, [], �
 use Rattle.std.proofs.lemmas.Bool.{false≢true, or_parts}
 use Rattle.qq_base.proofs.Lists.{In}
 use Rattle.qq_cluster.specs.Cluster.{ClusterEvent, Sets, Alike, At, NodeWrites, NodeSyncs, Fails, Crashes, FindsEach, Shows, SaysDown, SaysNoSuch, SaysUnroutable, SaysBusy, SaysEnded}
-use Rattle.qq_cluster.specs.ClusterLaws.{finding, findings, has_failure, is_failure}
+use Rattle.qq_cluster.specs.ClusterLaws.{finding, findings, has_failure, is_failure, verdict_at, verdict_by, verdicts}
+use Rattle.qq_cluster.specs.Queue.{Event, Judges}
+use Rattle.qq_taker.specs.declared.taker.Verdict.{Verdict}
+
+verdict-one : (event : Event) → ((verdict : Verdict) → Judges verdict ≡ event → ⊥) → verdict_by event ≡ []
+verdict-one (Judges verdict) none = absurd (none verdict refl)
+verdict-one event none = refl
+
+verdict-none : (event : ClusterEvent) → ((place : ℕ) (verdict : Verdict) → At place (Judges verdict) ≡ event → ⊥)
+    → verdict_at event ≡ []
+verdict-none (At place event) none = verdict-one event (λ verdict same. none place verdict (ap (At place) same))
+verdict-none event none = refl
+
+pub verdicts-none : (events : List ClusterEvent)
+    → ((place : ℕ) (verdict : Verdict) → In (At place (Judges verdict)) events → ⊥) → verdicts events ≡ []
+verdicts-none [] none = refl
+verdicts-none (event ∷ events) none =
+    ap (λ (l : List Verdict). l ++ verdicts events)
+    (verdict-none event (λ place verdict same. none place verdict (inl same)))
+    ∙ verdicts-none events (λ place verdict later. none place verdict (inr later))
 
 abbrev pub HasNoFailure : List ClusterEvent → Type 0
 HasNoFailure events = (k : ℕ) → In (Fails k) events → ⊥

@@ -7,9 +7,11 @@ use Rattle.qq_base.proofs.Lists.{In}
 use Rattle.qq_model.proofs.Soundness.{Contains-in, in_contains}
 use Rattle.qq_raft_model.specs.State.{Server}
 use Rattle.qq_cluster.specs.Cluster.{At, Cluster, ClusterEvent, NodeSyncs, NodeWrites, SaysBusy, Setup, cluster_after, cluster_happens}
-use Rattle.qq_cluster.specs.Queue.{Notices, Queue, waiting, waiting_by}
-use Rattle.qq_cluster.specs.Rules.{ForEach, Is, IsEmptied, IsNodeRound, IsNothing, IsNotice, IsPump, IsRound, IsSync, IsSynced, IsWrite, IsWritten, MayRoll, Pumps, Rule, Then, if_so, is_idle, is_quiet, is_quiet_at, is_settled, most_rounds, some_queue, waits_noticed, waits_synced, waits_written}
+use Rattle.qq_cluster.specs.Queue.{Delivers, Event, Judges, Notices, Queue, waiting, waiting_by}
+use Rattle.qq_cluster.specs.Rules.{ForEach, Is, IsEmptied, IsJudgedWhere, IsNextJudged, IsNodeRound, IsNothing, IsNotice, IsPump, IsRound, IsSync, IsSynced, IsTold, IsWrite, IsWritten, MayRoll, Pumps, Rule, Tells, Then, Times, if_so, is_idle, is_quiet, is_quiet_at, is_settled, most_rounds, some_queue, waits_noticed, waits_synced, waits_written}
 use Rattle.qq_cluster.specs.Serving as does
+use Rattle.qq_taker.specs.declared.handed.Handed.{Handed}
+use Rattle.qq_taker.specs.declared.taker.Verdict.TheVariants.{Keep}
 
 after-both : (c : Cluster) (first second : List ClusterEvent)
     → cluster_after c (first ++ second) ≡ cluster_after (cluster_after c first) second
@@ -169,6 +171,25 @@ met-each [] Each doing each c = refl
 met-each (x ∷ xs) Each doing each c =
     met-both (Each x) (ForEach xs Each) (doing x) (does.each xs doing) (each x) (met-each xs Each doing each) c
 
+met-times : (n : ℕ) (Each : Rule) (doing : does.Doing) → Met Each doing → Met (Times n Each) (does.times n doing)
+met-times zero Each doing each c = refl
+met-times (suc n) Each doing each c =
+    met-both Each (Times n Each) doing (does.times n doing) each (met-times n Each doing each) c
+
+-- a taker that keeps what it is offered
+met-kept : (place : ℕ) (all : List Handed) → Met (IsJudgedWhere place all) (does.keep_where place all)
+met-kept place [] c = refl
+met-kept place (h ∷ more) c = record {
+  verdict = Keep;
+  is = record { early = At place (Judges Keep) ∷ []; late = []; is = refl; first = refl; second = refl };
+}
+
+met-tells : (place : ℕ) (event : Event) → Met (Tells place event) (does.tells place event)
+met-tells place event =
+    met-both (Is (At place event)) (IsTold place) (does.one (At place event)) (does.tell place) (λ c. refl) (λ c.
+    met-times (length (c.queue place).untold) (IsNextJudged place) (does.keep_next place)
+    (λ d. met-kept place (d.queue place).untold d) c)
+
 met-write : (setup : Setup) (k : ℕ) → Met (IsWrite setup k) (does.write setup k)
 met-write setup k c =
     met-if (c.up k && some_queue setup (waits_written k) c) (IsWritten k) IsNothing c (NodeWrites k ∷ []) [] (inl refl)
@@ -182,8 +203,8 @@ met-sync setup k c =
 
 met-notice : (k place : ℕ) → Met (IsNotice k place) (does.notice k place)
 met-notice k place c =
-    met-if (c.up k && waits_noticed k (c.queue place)) (Is (At place (Notices k))) IsNothing c
-    (At place (Notices k) ∷ []) [] refl refl
+    met-if (c.up k && waits_noticed k (c.queue place)) (Tells place (Notices k)) IsNothing c
+    (does.tells place (Notices k) c) [] (met-tells place (Notices k) c) refl
 
 met-round : (setup : Setup) → Met (IsRound setup) (does.round setup)
 met-round setup =
@@ -195,7 +216,9 @@ met-round setup =
     (met-both (IsSync setup k) (ForEach setup.places (IsNotice k)) (does.sync setup k)
     (does.each setup.places (does.notice k)) (met-sync setup k)
     (met-each setup.places (IsNotice k) (does.notice k) (met-notice k)))))
-    (met-each setup.places IsEmptied does.empty (λ place c. refl))
+    (met-each setup.places IsEmptied does.empty (λ place c.
+    met-times (length (c.queue place).group.bag) (Tells place (Delivers 0)) (does.tells place (Delivers 0))
+    (met-tells place (Delivers 0)) c))
 
 met-pumps : (most : ℕ) (setup : Setup) → Met (Pumps most setup) (does.pumps most setup)
 met-pumps zero setup c = met-if (is_idle setup c) IsNothing (Is SaysBusy) c [] (SaysBusy ∷ []) refl refl

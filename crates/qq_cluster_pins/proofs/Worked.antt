@@ -9,19 +9,22 @@ use Rattle.qq_raft_model.specs.Server.{refuse, give_vote, receive_vote, receive_
 use Rattle.qq_raft_model.specs.State.{change, enter, say_all}
 use Rattle.qq_script_lines.specs.declared.line.ScriptLine.TheVariants.{Pump}
 use Rattle.qq_cluster.specs.Cluster.{At, Cluster, ClusterEvent, FindsEach, NodeSyncs, NodeWrites, cluster_after, new_cluster}
-use Rattle.qq_cluster.specs.ClusterLaws.{findings, has_failure}
+use Rattle.qq_cluster.specs.ClusterLaws.{findings, has_failure, verdicts}
 use Rattle.qq_cluster.specs.Example.{setup_of}
 use Rattle.qq_cluster.specs.Lines.{IsLine}
 use Rattle.qq_cluster.specs.Queue.{Delivers, Notices, Ticks}
 use Rattle.qq_cluster.specs.Rules.{most_rounds}
 use Rattle.qq_cluster.specs.Serving.{pump}
+use Rattle.qq_progress.proofs.Unasked.{no-verdicts, of-pumps, takerless-new, takerless-then}
 use Rattle.qq_cluster_pins.proofs.Rounds.{met-pump}
 
+abbrev opened : List ClusterEvent
+opened =
+    FindsEach 1 (λ place. 0) ∷ FindsEach 2 (λ place. 0) ∷ At 1 (Ticks 1) ∷ At 2 (Ticks 1) ∷ At 1 (Ticks 2)
+    ∷ At 2 (Ticks 2) ∷ []
+
 abbrev pub standing : Cluster
-standing =
-    cluster_after (new_cluster (setup_of 2 2))
-    (FindsEach 1 (λ place. 0) ∷ FindsEach 2 (λ place. 0) ∷ At 1 (Ticks 1) ∷ At 2 (Ticks 1) ∷ At 1 (Ticks 2)
-    ∷ At 2 (Ticks 2) ∷ [])
+standing = cluster_after (new_cluster (setup_of 2 2)) opened
 
 abbrev pub made : List ClusterEvent
 made =
@@ -43,3 +46,13 @@ fine = refl
 
 pub none-found : findings made ≡ []
 none-found = refl
+
+pub none-given : verdicts made ≡ []
+none-given = refl
+
+pub none-judged : (events : List ClusterEvent) → IsLine (setup_of 2 2) Pump standing events → verdicts events ≡ []
+unfolding IsLine
+none-judged events is =
+    no-verdicts events (of-pumps most_rounds (setup_of 2 2) standing events
+    (takerless-then (new_cluster (setup_of 2 2)) opened (tt, (tt, (tt, (tt, (tt, (tt, tt))))))
+    (takerless-new (setup_of 2 2))) is)

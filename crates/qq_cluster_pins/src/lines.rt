@@ -4,9 +4,12 @@ ghost use Rattle.qq_base.specs.declared.ids.NodeId.{NodeId};
 ghost use Rattle.qq_base.specs.declared.ids.QueueId.{QueueId};
 ghost use Rattle.qq_script_lines.specs.declared.line.ScriptLine.{ScriptLine};
 ghost use Rattle.qq_script_lines.specs.declared.line.ScriptLine.TheVariants.{Notice, Sync, Tick, Write};
-ghost use Rattle.qq_cluster.specs.Cluster.{Cluster, ClusterEvent, Fails, FindsEach, SaysDown, Setup, new_cluster};
-ghost use Rattle.qq_cluster.specs.ClusterLaws.{HasGroups};
+ghost use Rattle.qq_taker.specs.declared.taker.Verdict.{Verdict};
+ghost use Rattle.qq_taker.specs.declared.taker.Verdict.TheVariants.{Discard, Keep, Return, Settle};
+ghost use Rattle.qq_cluster.specs.Cluster.{At, Cluster, ClusterEvent, Fails, FindsEach, SaysDown, Setup, new_cluster};
+ghost use Rattle.qq_cluster.specs.ClusterLaws.{HasGroups, verdicts};
 ghost use Rattle.qq_cluster.specs.Lines.{IsLine, IsRun};
+ghost use Rattle.qq_cluster.specs.Queue.{Judges, Notices};
 ghost use Rattle.qq_cluster.specs.Serving.{all_given, run};
 
 use qq_cluster::{a_node_that_is_down_says_so, lines_settle, scripts_may_be_served};
@@ -30,8 +33,10 @@ pub fn a_node_that_is_down_does_nothing()
 
 /// A law: what a line leaves open.
 ///
-/// - `line`: of two lists of events by which a line may be carried out, with no failure of a disk and no restart in
-///   them, the one is the other.
+/// - `line`: of two lists of events by which a line may be carried out, with no failure of a disk, no restart and no
+///   verdict of a taker in them, the one is the other.
+/// - `judged`: and so it is where takers have given the same verdicts in both.
+/// - `verdicts`: these are all verdicts, in order.
 /// - `served`: each script may be carried out, over a new cluster, by events without a failure.
 pub fn nothing_but_faults_is_left_open()
     ensures line { (setup : Setup) (line : ScriptLine) (c : Cluster)
@@ -40,7 +45,18 @@ pub fn nothing_but_faults_is_left_open()
         ((k : ℕ) → (Contains events (Fails k) → ⊥) × (Contains others (Fails k) → ⊥)) →
         ((k : ℕ) (ops : ℕ → ℕ) →
         (Contains events (FindsEach k ops) → ⊥) × (Contains others (FindsEach k ops) → ⊥)) →
-        events ≡ others }
+        ((place : ℕ) (verdict : Verdict) → (Contains events (At place (Judges verdict)) → ⊥)
+        × (Contains others (At place (Judges verdict)) → ⊥)) → events ≡ others }
+    ensures judged { (setup : Setup) (line : ScriptLine) (c : Cluster)
+        (events others : List ClusterEvent) → IsLine setup line c events →
+        IsLine setup line c others →
+        ((k : ℕ) → (Contains events (Fails k) → ⊥) × (Contains others (Fails k) → ⊥)) →
+        ((k : ℕ) (ops : ℕ → ℕ) →
+        (Contains events (FindsEach k ops) → ⊥) × (Contains others (FindsEach k ops) → ⊥)) →
+        verdicts events ≡ verdicts others → events ≡ others }
+    ensures verdicts { verdicts (At 1 (Notices 1) ∷ At 1 (Judges Settle) ∷ SaysDown 1
+        ∷ At 2 (Judges Keep) ∷ At 1 (Judges Return) ∷ At 1 (Judges Discard) ∷ [])
+        ≡ Settle ∷ Keep ∷ Return ∷ Discard ∷ [] }
     ensures served { (setup : Setup) (lines : List ScriptLine) → HasGroups setup →
         (events : List ClusterEvent) × IsRun setup lines (new_cluster setup) events
         × ((k : ℕ) → Contains events (Fails k) → ⊥) }

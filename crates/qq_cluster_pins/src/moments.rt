@@ -13,6 +13,7 @@ ghost use Rattle.qq_wal_chain.specs.Lanes.{Lanes};
 ghost use Rattle.qq_wal_chain.specs.Laws.{IsHonestImage, lanes_read};
 ghost use Rattle.qq_cluster.specs.Cluster.{At, Alike, Cluster, ClusterEvent, Crashes, EndsEach, Fails, FindsEach, NodeSyncs, NodeWrites, Setup, cluster_after, cluster_happens};
 ghost use Rattle.qq_cluster.specs.Queue.{Delivers, Notices, Submits, Ticks};
+ghost use Rattle.qq_cluster.specs.Outcome.{Outcome, takers_after};
 ghost use Rattle.qq_cluster.specs.Texts.{text_of};
 ghost use Rattle.qq_entry.specs.declared.command.Unstamped.{Unstamped};
 ghost use Rattle.qq_cluster_laws.specs.Linked.{IsLinked, IsPromised};
@@ -118,7 +119,8 @@ pub fn other_events_leave_the_disk()
 
 /// A law: of a call that served these events, or was given up, and of the disks then.
 ///
-/// - `text`: the cluster is as the events leave it, and what they print was added to the text.
+/// - `text`: the cluster is as the events leave it, what they print was added to the text, and takers saw what they
+///   show.
 /// - `faults`: no node was crashed, no count of faults falls, and where a call of a node's disk failed its count rose,
 ///   or stands at its end.
 /// - `disks`: each disk tells what it told. Over one that tells, where the log was linked, the events are traced.
@@ -127,25 +129,27 @@ pub fn other_events_leave_the_disk()
 /// - `leads`: what follows by the rest of a rule, the whole rule allows.
 pub fn a_call_keeps_what_was_synced()
     ensures text { (setup : Setup) (c last : Cluster) (done : List ClusterEvent) (a b : ℕ → Seen)
-        (before later : List ℕ) →
+        (before later : Outcome) →
         Serves setup c (λ events. events ≡ done) (λ d. d ≡ last) a b before later →
-        (last ≡ cluster_after c done) × (later ≡ before ++ text_of setup c done) }
+        (last ≡ cluster_after c done) × (later.text ≡ before.text ++ text_of setup c done)
+        × (later.takers ≡ takers_after setup c done before.takers) }
     ensures faults { (setup : Setup) (c last : Cluster) (done : List ClusterEvent) (a b : ℕ → Seen)
-        (before later : List ℕ) (k : ℕ) →
+        (before later : Outcome) (k : ℕ) →
         Serves setup c (λ events. events ≡ done) (λ d. d ≡ last) a b before later →
         ((image : Image) → Contains done (Crashes k image) → ⊥)
         × ((a k).faults ≤ (b k).faults) × (Contains done (Fails k) →
         ((a k).faults < (b k).faults) ⊎ ((b k).faults ≡ 2 ^ 64 - 1)) }
     ensures disks { (setup : Setup) (c last : Cluster) (done : List ClusterEvent) (a b : ℕ → Seen)
-        (before later : List ℕ) (k : ℕ) →
+        (before later : Outcome) (k : ℕ) →
         Serves setup c (λ events. events ≡ done) (λ d. d ≡ last) a b before later →
         ((b k).tells ≡ (a k).tells) × (Contains setup.nodes k → IsTrue (a k).tells →
         IsLinked setup c k (now (a k).past) →
         IsTracedAt setup c k done (a k).past (b k).past) }
     ensures happened { (setup : Setup) (c last : Cluster) (done : List ClusterEvent)
-        (a b : ℕ → Seen) (before later : List ℕ) (k : ℕ) →
+        (a b : ℕ → Seen) (before later : Outcome) (k : ℕ) →
         Happened setup c (λ events. events ≡ done) (λ d. d ≡ last) a b before later →
-        (last ≡ cluster_after c done) × (later ≡ before ++ text_of setup c done)
+        (last ≡ cluster_after c done) × (later.text ≡ before.text ++ text_of setup c done)
+        × (later.takers ≡ takers_after setup c done before.takers)
         × ((b k).tells ≡ (a k).tells) × (Contains setup.nodes k → IsTrue (a k).tells →
         IsLinked setup c k (now (a k).past) →
         IsTracedAt setup c k done (a k).past (b k).past) }

@@ -9,7 +9,7 @@ ghost use Rattle.qq_model.specs.State.{empty_queue};
 ghost use Rattle.qq_raft_model.specs.Group.{Group, has_node};
 ghost use Rattle.qq_raft_model.specs.State.{Server};
 ghost use Rattle.qq_cluster.specs.Cluster.{At, Cluster, ClusterEvent, Fails, FindsEach, NodeSyncs, NodeWrites, Setup};
-ghost use Rattle.qq_cluster.specs.Queue.{Event, Notices, after, begin};
+ghost use Rattle.qq_cluster.specs.Queue.{Event, Notices, after, begin, happens};
 ghost use Rattle.qq_cluster.specs.Rules.{IsNotice, IsRestart, IsSync, IsWrite};
 
 use qq_cluster::sessions_go_on;
@@ -38,7 +38,9 @@ pub fn a_restart_finds_what_was_noticed()
 /// - `nothing`: where none has, there is no write, and no failure.
 /// - `syncs`: where the log was given ops that aren't synced, it is synced, or the disk fails before or after that.
 /// - `rolls`: where all are synced, nothing happens, or the disk fails.
-/// - `notices`: a member is noticed of what is synced, and no disk fails.
+/// - `notices`: a member is noticed of what is synced, and takers are asked, where a delivery waits then. No disk
+///   fails.
+/// - `noticed`: where it was noticed of all, nothing happens.
 /// - `down`: at a node that is down nothing happens.
 pub fn a_disk_fails_where_it_is_called()
     ensures writes { (setup : Setup) (k place : ℕ) (c : Cluster) (s : Server)
@@ -61,7 +63,10 @@ pub fn a_disk_fails_where_it_is_called()
         IsSync setup k c events → (events ≡ []) ⊎ (events ≡ Fails k ∷ []) }
     ensures notices { (k place : ℕ) (c : Cluster) (events : List ClusterEvent) → c.up k ≡ true →
         ((c.queue place).group.seat k).noticed < (c.queue place).synced k →
-        IsNotice k place c events → events ≡ At place (Notices k) ∷ [] }
+        IsNotice k place c events → (asked : List ClusterEvent)
+        × (events ≡ At place (Notices k) ∷ asked)
+        × ((happens (c.queue place) (Notices k)).untold ≡ [] → asked ≡ [])
+        × ((j : ℕ) → Contains asked (Fails j) → ⊥) }
     ensures noticed { (k place : ℕ) (c : Cluster) (events : List ClusterEvent) →
         (c.queue place).synced k ≤ ((c.queue place).group.seat k).noticed →
         IsNotice k place c events → events ≡ [] }

@@ -34,7 +34,7 @@ use Rattle.qq_progress.proofs.Law.{KnowsWhole, line-commits}
 use Rattle.qq_progress.proofs.Line.{AreWithin}
 use Rattle.qq_progress.proofs.Opens.{opens}
 use Rattle.qq_progress.proofs.Sound.{AreHanded}
-use Rattle.qq_progress.proofs.Unasked.{AreUnasked, auto-stays, of-opening, sessions-new}
+use Rattle.qq_progress.proofs.Unasked.{AreUnasked, auto-stays, of-opening, sessions-new, takerless-new, takerless-then}
 
 -- new logs had no entry
 none-left : (queue : QueueId) (nodes : List NodeId) (before : List Entry) (e : Entry)
@@ -138,7 +138,7 @@ first-answered handed knows within whole submitted setup opening line session pl
     q = c.queue place
 
     calm : AreUnasked opening
-    calm = of-opening setup (new_cluster setup) opening opens_is
+    calm = of-opening setup (new_cluster setup) opening (takerless-new setup) opens_is
 
     fresh : (q.clients session) ≡ new_client (client session) q.args.queue
     fresh = sessions-new setup opening place calm session
@@ -160,4 +160,6 @@ first-answered handed knows within whole submitted setup opening line session pl
     soon =
         line-commits handed knows within whole submitted setup opening line session place given leads.first.0
         leads.server events groups once nodes here (new-to session (setup.group place) (new place here))
-        (auto-stays (new_cluster setup) opening calm) opened.idle leads.leads may gives is fine
+        (auto-stays (new_cluster setup) opening calm) opened.idle leads.leads
+        (let free = takerless-then (new_cluster setup) opening calm (takerless-new setup) place in
+        record { seats = free.seats; untold = free.untold }) may gives is fine

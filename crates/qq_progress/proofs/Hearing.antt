@@ -17,6 +17,7 @@ use Rattle.qq_raft_model.specs.Group.{Seat}
 use Rattle.qq_raft_model.specs.Server.{Input, is_ready, receive}
 use Rattle.qq_raft_model.specs.State.{Server, is_leader, last, term_at}
 use Rattle.qq_cluster.specs.Queue.{Queue, Delivers, after, all_said, happens, own_rows, rows_told, said}
+use Rattle.qq_cluster.proofs.Takerless.{told-answers}
 use Rattle.qq_session.specs.Clients.{Clients, hear_all, printed}
 use Rattle.qq_session.specs.Shown.{Answered, Shown}
 use Rattle.qq_progress.proofs.Delivering.{IsReply, Plan}
@@ -197,8 +198,7 @@ module _ (p : Plan) (e : Entry) (own : e.term.0 ≡ p.term) where
             (subst (λ (c : Clients). Tells p.upto s.commit t.commit session seq (row_after q.args p.log e) q.clients c
             (printed (own_rows q.args s t) q.clients)) (sym f.clients)
             (leader-tells p e session seq q.args s t q.clients given own waits log term_is (a.1.ready old)))
-            (λ here. Contains-append_left (map Answered (printed (rows_told q (Delivers 0)) q.clients)) _
-            (Answered (row_after q.args p.log e))
+            (λ here. told-answers q (Delivers 0) (Answered (row_after q.args p.log e))
             (subst (λ (l : List AuditRow). Contains (map Answered (printed l q.clients))
             (Answered (row_after q.args p.log e))) (sym rows) here));
       }

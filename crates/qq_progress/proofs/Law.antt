@@ -37,6 +37,7 @@ use Rattle.qq_cluster.specs.Queue.{Queue, Event, Submits, after, Delivers, Notic
 use Rattle.qq_cluster.specs.Rules.{IsNothing, IsRound, Then, if_so, is_idle, is_quiet, most_rounds, waits_noticed}
 use Rattle.qq_cluster.proofs.Groups.{KnowsCommits, after-append, group-append, group-is, known-in}
 use Rattle.qq_cluster.specs.Laws.{all_moves}
+use Rattle.qq_cluster.proofs.Takerless.{IsTakerless, at-own, takerless-event}
 use Rattle.qq_raft_model.specs.Group.{Event as Move, group_after}
 use Rattle.qq_raft_model.specs.Group.Event.{Submit, Take}
 use Rattle.qq_progress.proofs.Numbers.{AllBelow, BringsBelow, all-below, numbered-begin}
@@ -45,13 +46,13 @@ use Rattle.qq_base.proofs.Fronts.{front-trans}
 use Rattle.qq_base.proofs.Lists.{AllByRecursion-append}
 use Rattle.qq_progress.specs.Alone.{round_alone, turn, turn_where, turns}
 use Rattle.qq_progress.specs.Rounds.{Rounds}
-use Rattle.qq_progress.specs.Soon.{AreNodes, AreOnce, GivesOne, IsCommittedSoon, IsNewTo, LeadsMost, MayGive, command_of}
+use Rattle.qq_progress.specs.Soon.{AreNodes, AreOnce, GivesOne, HasNoTaker, IsCommittedSoon, IsNewTo, LeadsMost, MayGive, command_of}
 use Rattle.qq_progress.proofs.Asking.{Asks, asks-sends, commit-is, own-commit, submits-asks}
 use Rattle.qq_progress.proofs.Committing.{HasCommitted, HasRun, IsSending, first-busy, first-run, second-run}
 use Rattle.qq_progress.proofs.Delivering.{Plan}
 use Rattle.qq_progress.proofs.Hearing.{IsGiven}
 use Rattle.qq_progress.proofs.Line.{AreWithin, can-commit, counted-at, line-asked, pumps-two}
-use Rattle.qq_progress.proofs.Playing.{AreCounted, Plays, at-own, counted-after, parts-fine, played, plays-print, plays-then, queue-is, round-plays}
+use Rattle.qq_progress.proofs.Playing.{AreCounted, Plays, counted-after, parts-fine, played, plays-print, plays-then, queue-is, round-plays}
 use Rattle.qq_progress.proofs.Printing.{Awaits, IsOther, row_after, audit-more}
 use Rattle.qq_progress.proofs.Rounds.{IsSettled, said-append}
 use Rattle.qq_progress.proofs.Sending.{CanCommit, plan_of, with_entry}
@@ -148,6 +149,7 @@ module _ (handed : AreHanded) (knows : KnowsCommits) (within : AreWithin) (whole
     (place session : ℕ) (given : Unstamped) (k : ℕ) (s : Server) (groups : HasGroups setup)
     (once : AreOnce setup.places) (nodes : AreNodes setup) (here : In place setup.places)
     (idle : is_idle setup (cluster_after (new_cluster setup) made) ≡ true)
+    (free : IsTakerless ((cluster_after (new_cluster setup) made).queue place))
     (leads : LeadsMost setup (cluster_after (new_cluster setup) made) place k s)
     (may : MayGive session given ((cluster_after (new_cluster setup) made).queue place)) where
   abbrev c : Cluster
@@ -202,6 +204,9 @@ module _ (handed : AreHanded) (knows : KnowsCommits) (within : AreWithin) (whole
   one-is : c1.queue place ≡ one
   one-is = ap (after q) (at-own place (Submits session given))
 
+  free-one : IsTakerless (c1.queue place)
+  free-one = subst IsTakerless (sym one-is) (takerless-event q (Submits session given) tt free)
+
   counted-one : AreCounted c1
   counted-one = counted-after c (At place (Submits session given) ∷ []) (counted-at setup made groups)
 
@@ -244,7 +249,7 @@ module _ (handed : AreHanded) (knows : KnowsCommits) (within : AreWithin) (whole
       idle-ends es fs split none plays quiet =
           let c2 : Cluster = cluster_after c1 es in
           let r_is : c2.queue place ≡ after one (turn_round one) =
-          played setup c1 es (λ p. turn_round (c1.queue p)) place here plays
+          played setup c1 es (λ p. turn_round (c1.queue p)) place here free-one plays
           ∙ ap (λ (r : Queue). after r (turn_round r)) one-is in
           let still : is_quiet setup c.up (c2.queue place) ≡ true =
           ap (λ (u : ℕ → Bool). is_quiet setup u (c2.queue place)) (sym plays.up)
@@ -397,7 +402,7 @@ module _ (handed : AreHanded) (knows : KnowsCommits) (within : AreWithin) (whole
       let end = ends x.early both.0 x.rounds in
       let r : Queue = after one (end.alone one) in
       let r_is : (cluster_after c1 x.early).queue place ≡ r =
-      played setup c1 x.early (λ p. end.alone (c1.queue p)) place here end.plays
+      played setup c1 x.early (λ p. end.alone (c1.queue p)) place here free-one end.plays
       ∙ ap (λ (y : Queue). after y (end.alone y)) one-is in
       let known : IsGiven plan e session (q.clients session).numbers.next =
       record {
@@ -429,7 +434,7 @@ module _ (handed : AreHanded) (knows : KnowsCommits) (within : AreWithin) (whole
             Contains-append_right (prints setup c (At place (Submits session given))) (all_prints setup c1 x.early)
             (Of place (Answered row))
             (plays-print setup c1 x.early place (Answered row) end.plays.plain
-            (subst (λ (l : List Shown). Contains l (Answered row)) (sym ((end.plays.each place here).said_is))
+            (subst (λ (l : List Shown). Contains l (Answered row)) (sym ((end.plays.each place here free-one).said_is))
             (subst (λ (y : Queue). Contains (all_said y (end.alone y)) (Answered row)) (sym one-is)
             ((end.done.reaches.shows session (q.clients session).numbers.next known
             (own-commit handed (members setup place) up most q k s can one command sound-one asks)).tells
@@ -443,11 +448,12 @@ pub line-commits : AreHanded → KnowsCommits → AreWithin → KnowsWhole → W
     → IsNewTo session (setup.group place) → (cluster_after (new_cluster setup) made).auto ≡ true
     → is_idle setup (cluster_after (new_cluster setup) made) ≡ true
     → LeadsMost setup (cluster_after (new_cluster setup) made) place k s
+    → HasNoTaker ((cluster_after (new_cluster setup) made).queue place)
     → MayGive session given ((cluster_after (new_cluster setup) made).queue place)
     → GivesOne setup line session place given → IsLine setup line (cluster_after (new_cluster setup) made) events
     → has_failure events ≡ false
     → IsCommittedSoon setup (cluster_after (new_cluster setup) made) place session given s events
 line-commits handed knows within whole submitted setup made line session place given k s events groups once nodes here
-    new auto idle leads may gives is fine =
+    new auto idle leads free may gives is fine =
     committed-soon handed knows within whole submitted setup made place session given k s groups once nodes here idle
-    leads may line events auto new gives is fine
+    (record { seats = free.seats; untold = free.untold }) leads may line events auto new gives is fine

@@ -137,6 +137,7 @@ line-asked setup c (lines.Client by at body) place session given events auto liv
     (subst (λ (n : ℕ). AndPumped setup (IsGiven by.number given n) c events) (sym one.1)
     (subst (λ (g : Unstamped). AndPumped setup (IsGiven by.number g at.0) c events) (sym one.2) is)))
 line-asked setup c lines.Nothing place session given events auto lives taken one is = absurd one
+line-asked setup c (lines.Attach by at tag taker) place session given events auto lives taken one is = absurd one
 line-asked setup c (lines.End by) place session given events auto lives taken one is = absurd one
 line-asked setup c (lines.Resend by) place session given events auto lives taken one is = absurd one
 line-asked setup c (lines.Mute by muted) place session given events auto lives taken one is = absurd one

@@ -26,7 +26,7 @@ use Rattle.qq_session.specs.Clients.{Client, Clients, hear, hear_all, is_used, m
 use Rattle.qq_session.proofs.Heard.{heard}
 use Rattle.qq_session.proofs.OpenCommands.{client-same}
 use Rattle.qq_cluster.specs.Laws.{all_moves}
-use Rattle.qq_cluster.specs.Queue.{Queue, Event, Mutes, Ends, Submits, TellsEnded, TellsNotTaken, Resends, Fetches, Downs, Ticks, Delivers, Loses, Copies, Writes, Syncs, Notices, Stops, Finds, acts, after, begin, happens, leader, moves, offered, rows_told, submits, waiting}
+use Rattle.qq_cluster.specs.Queue.{Queue, Event, Mutes, Ends, Submits, TellsEnded, TellsNotTaken, Attaches, Judges, Resends, Fetches, Downs, Ticks, Delivers, Loses, Copies, Writes, Syncs, Notices, Stops, Finds, acts, after, begin, happens, leader, moves, offered, rows_told, submits, waiting}
 
 -- ---- sessions
 
@@ -138,6 +138,8 @@ acts-rises (Submits own body) clients are =
     (λ _. rises-refl clients are)
 acts-rises (TellsEnded own) clients are = rises-refl clients are
 acts-rises (TellsNotTaken own id) clients are = rises-refl clients are
+acts-rises (Attaches own tag number) clients are = rises-refl clients are
+acts-rises (Judges verdict) clients are = rises-refl clients are
 acts-rises (Fetches own) clients are = rises-refl clients are
 acts-rises (Resends own) clients are = rises-refl clients are
 acts-rises (Downs own) clients are = rises-refl clients are
@@ -232,6 +234,8 @@ offered-below session (Mutes own muted) clients are = tt
 offered-below session (Ends own) clients are = tt
 offered-below session (TellsEnded own) clients are = tt
 offered-below session (TellsNotTaken own id) clients are = tt
+offered-below session (Attaches own tag number) clients are = tt
+offered-below session (Judges verdict) clients are = tt
 offered-below session (Fetches own) clients are = tt
 offered-below session (Ticks k) clients are = tt
 offered-below session (Delivers at) clients are = tt
@@ -269,6 +273,8 @@ event-below session q (Mutes own muted) are = tt
 event-below session q (Ends own) are = tt
 event-below session q (TellsEnded own) are = tt
 event-below session q (TellsNotTaken own id) are = tt
+event-below session q (Attaches own tag number) are = tt
+event-below session q (Judges verdict) are = tt
 event-below session q (Fetches own) are = tt
 event-below session q (Ticks k) are = (tt, tt)
 event-below session q (Delivers at) are = (tt, tt)

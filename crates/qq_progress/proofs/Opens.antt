@@ -10,7 +10,7 @@ use Rattle.qq_raft_model.specs.State.{Server}
 use Rattle.qq_cluster.specs.Cluster.{Cluster, ClusterEvent, SaysBusy, Setup, cluster_after, members, new_cluster, parts_of}
 use Rattle.qq_cluster.specs.ClusterLaws.{HasGroups, has_failure}
 use Rattle.qq_cluster.specs.Queue.{Queue, Event, Ticks, after, begin}
-use Rattle.qq_cluster.specs.Rules.{ForEach, Is, IsFirstTick, IsNothing, IsOpening, IsRound, Pumps, Then, if_so, is_idle, is_quiet, most_rounds, tick_at}
+use Rattle.qq_cluster.specs.Rules.{ForEach, Is, IsFirstTick, IsNothing, IsOpening, IsRestart, IsRound, Pumps, Then, if_so, is_idle, is_quiet, most_rounds, tick_at}
 use Rattle.qq_progress.specs.Alone.{round_alone}
 use Rattle.qq_progress.specs.Opened.{AreNewGroups, FirstLeads, HasOpened}
 use Rattle.qq_progress.specs.Soon.{AreNodes, AreOnce, HasItsLog, LeadsMost}
@@ -18,7 +18,9 @@ use Rattle.qq_progress.proofs.Committing.{IsLedQuietly}
 use Rattle.qq_progress.proofs.Led.{idle-is, is-leader}
 use Rattle.qq_progress.proofs.Exchange.{same_some}
 use Rattle.qq_progress.proofs.Line.{counted-at, in-member, member-in, sound-at}
-use Rattle.qq_progress.proofs.Playing.{AreCounted, Plays, after-both, at-other, at-own, counted-after, parts-fine, played, queue-is, round-plays}
+use Rattle.qq_cluster.proofs.Takerless.{at-other, at-own}
+use Rattle.qq_progress.proofs.Playing.{AreCounted, Plays, after-both, counted-after, parts-fine, played, queue-is, round-plays, takerless-after}
+use Rattle.qq_progress.proofs.Unasked.{AreTakerless, of-each, of-restart, of-tick, takerless-new, takerless-then}
 use Rattle.qq_progress.proofs.Restarting.{HaveRisen, IsRising, all-rise}
 use Rattle.qq_progress.proofs.Rising.{IsFreshQueue}
 use Rattle.qq_progress.proofs.Rounds.{IsSettled}
@@ -143,23 +145,23 @@ module _ (setup : Setup) (once : AreOnce setup.places) (c : Cluster) (first : �
       quiet-settled setup c.up q j (counted place) u.1 u.0 still))))
 
   ends : (more r n : ℕ) → r + more ≡ 4 → more ≤ n → (d : Cluster) (events : List ClusterEvent) → d.up ≡ c.up
-      → AreCounted d → HasPlayed r d → Pumps n setup d events → has_failure events ≡ false
+      → AreCounted d → AreTakerless d → HasPlayed r d → Pumps n setup d events → has_failure events ≡ false
       → AreLed setup c (cluster_after d events) first
-  ends zero r n four le d events same counted played' is fine =
+  ends zero r n four le d events same counted free played' is fine =
       let all : r ≡ 4 = omega (arith, four) in
       let led : AreLed setup c d first =
       led-then d same (λ place here. subst (IsLedQuietly (members setup place) up (first place))
       (sym (played' place here ∙ ap (λ (m : ℕ). rounds up setup.nodes m (c.queue place)) all))
       (each place here).then) in
       subst (λ es. AreLed setup c (cluster_after d es) first) (sym (pumps-none setup n d events led.idle is)) led
-  ends (suc more) r zero four le d events same counted played' is fine = absurd (omega (arith, le))
-  ends (suc more) r (suc n) four le d events same counted played' is fine =
+  ends (suc more) r zero four le d events same counted free played' is fine = absurd (omega (arith, le))
+  ends (suc more) r (suc n) four le d events same counted free played' is fine =
       by (is_idle setup d) refl is
-      (λ x es same' counted' played'' is' fine'. ends more (suc r) n (omega (arith, four)) (omega (arith, le)) x es same'
-      counted' played'' is' fine')
+      (λ x es same' counted' free' played'' is' fine'. ends more (suc r) n (omega (arith, four)) (omega (arith, le)) x es
+      same' counted' free' played'' is' fine')
     where
       by : (b : Bool) → is_idle setup d ≡ b → if_so b IsNothing (Then (IsRound setup) (Pumps n setup)) d events
-          → ((x : Cluster) (es : List ClusterEvent) → x.up ≡ c.up → AreCounted x → HasPlayed (suc r) x
+          → ((x : Cluster) (es : List ClusterEvent) → x.up ≡ c.up → AreCounted x → AreTakerless x → HasPlayed (suc r) x
           → Pumps n setup x es → has_failure es ≡ false → AreLed setup c (cluster_after x es) first)
           → AreLed setup c (cluster_after d events) first
       by true idle none rest =
@@ -172,7 +174,8 @@ module _ (setup : Setup) (once : AreOnce setup.places) (c : Cluster) (first : �
           ap (cluster_after d) begun.is ∙ after-both d begun.early begun.late in
           subst (λ (x : Cluster). AreLed setup c x first) (sym end)
           (rest (cluster_after d begun.early) begun.late (plays.up ∙ same) (counted-after d begun.early counted)
-          (λ place here. played setup d begun.early (λ p. turn_round (d.queue p)) place here plays
+          (λ place. takerless-after d begun.early place plays.plain (free place))
+          (λ place here. played setup d begun.early (λ p. turn_round (d.queue p)) place here (free place) plays
           ∙ ap (λ (q : Queue). after q (turn_round q)) (played' place here)) begun.second both.1)
 
 -- ---- a queue that is led
@@ -301,6 +304,18 @@ opens handed setup events groups once nodes_once nodes new is fine =
     counted-two : AreCounted c2
     counted-two = counted-after c1 middle (counted-after c0 early (counted-at setup [] groups))
 
+    free-one : AreTakerless c1
+    free-one =
+        takerless-then c0 early
+        (of-each setup.nodes (IsRestart setup) (of-restart setup) c0 early (takerless-new setup) is.first)
+        (takerless-new setup)
+
+    free-two : AreTakerless c2
+    free-two =
+        takerless-then c1 middle
+        (of-each setup.places (IsFirstTick setup) (λ place. of-tick place (members setup place)) c1 middle free-one
+        is.second.first) free-one
+
     among : (j : ℕ) → runs setup c2 j ≡ true → In j setup.nodes
     among j j_up = (runs-up setup c2 j j_up).1
 
@@ -351,7 +366,7 @@ opens handed setup events groups once nodes_once nodes new is fine =
 
     led : AreLed setup c2 c3 first
     led =
-        ends setup once c2 first all-settle 4 zero most_rounds refl (omega arith) c2 late refl counted-two
+        ends setup once c2 first all-settle 4 zero most_rounds refl (omega arith) c2 late refl counted-two free-two
         (λ place here. refl) is.second.second fine-second.1
 
     sound-end : (place : ℕ) → IsSound (members setup place) (c3.queue place)

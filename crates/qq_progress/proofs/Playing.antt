@@ -3,11 +3,11 @@ use Rattle.std.proofs.Common.{◌≡◌, ◌≢◌, ◌⊎◌, ℕ, zero, suc, B
 use Rattle.std.proofs.Math.Path.{fun_ext}
 use Rattle.std.specs.Prelude.{Contains, is_some, nat_eq, replicate}
 use Rattle.std.specs.List.{AllByRecursion, list_any}
-use Rattle.std.proofs.lemmas.Bool.{cases_eq, cond_both, cond-true, cond-false, eq-eqb, false≢true, ltb-false, ne_eqb, or_parts}
+use Rattle.std.proofs.lemmas.Bool.{cases_eq, cond_both, false≢true, ltb-false, or_parts}
 use Rattle.std.proofs.lemmas.Grind.{flat_map-append}
 use Rattle.std.proofs.lemmas.List.Elements.{Contains-append_left, Contains-append_right, Contains-append_cases}
 use Rattle.std.proofs.lemmas.List.Folds.{list_any-append}
-use Rattle.qq_base.proofs.Lists.{AllByRecursion-append}
+use Rattle.qq_base.proofs.Lists.{AllByRecursion-append, AllByRecursion-weaker}
 use Rattle.qq_base.proofs.Puts.{put-each}
 use Rattle.qq_base.specs.Fronts.{put}
 use Rattle.qq_raft_protocol.specs.Facts.{In}
@@ -16,9 +16,11 @@ use Rattle.qq_raft_model.specs.Group.Event.{Take}
 use Rattle.qq_cluster.specs.Cluster.{Cluster, ClusterEvent, Sets, Alike, At, NodeWrites, NodeSyncs, Fails, Crashes, FindsEach, Shows, SaysDown, SaysNoSuch, SaysUnroutable, SaysBusy, SaysEnded, Of, Setup, all_prints, cluster_after, cluster_happens, part_of, parts_of, prints}
 use Rattle.qq_cluster.specs.ClusterLaws.{has_failure, is_failure}
 use Rattle.qq_cluster.specs.Queue.{Queue, Event, Delivers, Notices, Syncs, Writes, after, all_said, happens, said, waiting}
-use Rattle.qq_cluster.specs.Rules.{ForEach, Is, IsEmptied, IsNodeRound, IsNothing, IsNotice, IsRound, IsSync, IsSynced, IsWrite, IsWritten, MayRoll, if_so, some_queue, waits_noticed, waits_synced, waits_written}
+use Rattle.qq_cluster.specs.Taking.{delivered, told_then, waiting_then}
+use Rattle.qq_cluster.specs.Rules.{ForEach, IsEmptied, IsNodeRound, IsNothing, IsNotice, IsRound, IsSync, IsSynced, IsWrite, IsWritten, MayRoll, Tells, if_so, some_queue, waits_noticed, waits_synced, waits_written}
 use Rattle.qq_cluster.proofs.Counts.{IsCounted, counted-all}
 use Rattle.qq_cluster.proofs.Groups.{after-append}
+use Rattle.qq_cluster.proofs.Takerless.{AreAt, GivesNone, IsAt, IsTakerless, at-elsewhere, at-other, at-own, at-up, emptied-at, emptied-is, takerless-all, delivered-still, tells-at, tells-one, untold-still}
 use Rattle.qq_session.specs.Shown.{Shown}
 use Rattle.qq_progress.specs.Alone.{round_alone, turn_where, turns}
 use Rattle.qq_progress.specs.Soon.{AreOnce}
@@ -62,9 +64,9 @@ counted-after c events counted place =
 
 -- ---- what events of a round are to each queue
 
--- it is a write, a sync, or one of a queue
+-- it is a write, a sync, or one of a queue that gives no taker
 abbrev pub IsPlain : ClusterEvent → Type 0
-IsPlain (At place event) = Unit {0}
+IsPlain (At place event) = GivesNone event
 IsPlain (NodeWrites k) = Unit {0}
 IsPlain (NodeSyncs k) = Unit {0}
 IsPlain _ = ⊥
@@ -86,16 +88,35 @@ same-then q a b c d first second = record {
       ∙ ap (λ (l : List Shown). all_said q b ++ l) second.said_is ∙ sym (said-append q b d);
 }
 
--- each queue sees these
+-- each queue without takers sees these
 pub record Plays (setup : Setup) (c : Cluster) (events : List ClusterEvent) (alone : ℕ → List Event) : Type 0 where
   pub up : (cluster_after c events).up ≡ c.up
-  pub each : (place : ℕ) → In place setup.places → IsSame (c.queue place) (parts_of place events) (alone place)
+  pub each : (place : ℕ) → In place setup.places → IsTakerless (c.queue place)
+      → IsSame (c.queue place) (parts_of place events) (alone place)
   pub plain : AllByRecursion IsPlain events
 
 pub played : (setup : Setup) (c : Cluster) (events : List ClusterEvent) (alone : ℕ → List Event) (place : ℕ)
-    → In place setup.places → Plays setup c events alone
+    → In place setup.places → IsTakerless (c.queue place) → Plays setup c events alone
     → (cluster_after c events).queue place ≡ after (c.queue place) (alone place)
-played setup c events alone place here plays = queue-is c events place ∙ (plays.each place here).after_is
+played setup c events alone place here free plays = queue-is c events place ∙ (plays.each place here free).after_is
+
+-- and none has one then
+plain-part : (place : ℕ) (event : ClusterEvent) → IsPlain event → AllByRecursion GivesNone (part_of place event)
+plain-part place (At own event) plain = by (nat_eq own place)
+  where
+    by : (b : Bool) → AllByRecursion GivesNone (cond b (event ∷ []) [])
+    by true = (plain, tt)
+    by false = tt
+plain-part place (NodeWrites k) plain = (tt, tt)
+plain-part place (NodeSyncs k) plain = (tt, tt)
+plain-part place event plain = absurd plain
+
+pub takerless-after : (c : Cluster) (events : List ClusterEvent) (place : ℕ) → AllByRecursion IsPlain events
+    → IsTakerless (c.queue place) → IsTakerless ((cluster_after c events).queue place)
+takerless-after c [] place plain free = free
+takerless-after c (event ∷ events) place plain free =
+    takerless-after (cluster_happens c event) events place plain.1
+    (takerless-all (c.queue place) (part_of place event) (plain-part place event plain.0) free)
 
 pub plays-then : (setup : Setup) (c : Cluster) (events early late : List ClusterEvent) (first : ℕ → List Event)
     (second : Queue → List Event) → events ≡ early ++ late → Plays setup c early first
@@ -104,13 +125,13 @@ pub plays-then : (setup : Setup) (c : Cluster) (events early late : List Cluster
 plays-then setup c events early late first second is a b =
     subst (λ es. Plays setup c es (λ place. first place ++ second (after (c.queue place) (first place)))) (sym is) (record {
       up = ap (λ (d : Cluster). d.up) (after-both c early late) ∙ b.up ∙ a.up;
-      each = λ place here.
+      each = λ place here free.
           subst (λ (l : List Event). IsSame (c.queue place) l
           (first place ++ second (after (c.queue place) (first place)))) (sym (parts-append place early late))
           (same-then (c.queue place) (parts_of place early) (first place) (parts_of place late)
-          (second (after (c.queue place) (first place))) (a.each place here)
-          (subst (λ (r : Queue). IsSame r (parts_of place late) (second r)) (played setup c early first place here a)
-          (b.each place here)));
+          (second (after (c.queue place) (first place))) (a.each place here free)
+          (subst (λ (r : Queue). IsSame r (parts_of place late) (second r)) (played setup c early first place here free a)
+          (b.each place here (takerless-after c early place a.plain free))));
       plain = AllByRecursion-append IsPlain early late a.plain b.plain;
     })
 
@@ -127,7 +148,8 @@ failed es fs is fails fine = false≢true (sym fine ∙ ap has_failure is ∙ fa
 nothing-plays : (setup : Setup) (c : Cluster) (events : List ClusterEvent) (alone : ℕ → List Event) → events ≡ []
     → ((place : ℕ) → In place setup.places → IsSame (c.queue place) [] (alone place)) → Plays setup c events alone
 nothing-plays setup c events alone is each =
-    subst (λ es. Plays setup c es alone) (sym is) (record { up = refl; each = each; plain = tt })
+    subst (λ es. Plays setup c es alone) (sym is)
+    (record { up = refl; each = λ place here free. each place here; plain = tt })
 
 -- ---- a write
 
@@ -138,12 +160,19 @@ not-any test (p ∷ places) place none (inl own) = ap test own ∙ (or_parts (te
 not-any test (p ∷ places) place none (inr later) =
     not-any test places place (or_parts (test p) (list_any test places) none).1 later
 
+said-still : (q : Queue) → [] ≡ delivered (told_then q.untold q.seats []) ++ []
+said-still q = sym (ap (λ (l : List Shown). l ++ []) (delivered-still q))
+
 writes-nothing : (j : ℕ) (q : Queue) → waits_written j q ≡ false → IsSame q [] (Writes j ∷ [])
 writes-nothing j q none =
     let zero' : waiting j q.group ≡ 0 = (let le = ltb-false 0 (waiting j q.group) none in omega (arith, le)) in
     record {
-      after_is = sym (ap (λ (n : ℕ). record q { group = group_after q.group (replicate n (Take j)) }) zero');
-      said_is = refl;
+      after_is = untold-still q
+          ∙ sym (ap (λ (n : ℕ). record q {
+            untold = waiting_then q.untold q.seats [];
+            group = group_after q.group (replicate n (Take j));
+          }) zero');
+      said_is = said-still q;
     }
 
 write-plays : (setup : Setup) (j : ℕ) (c : Cluster) (events : List ClusterEvent) → c.up j ≡ true
@@ -156,7 +185,7 @@ write-plays setup j c events up is fine =
         → Plays setup c events (λ place. Writes j ∷ [])
     of true some (inl wrote) =
         subst (λ es. Plays setup c es (λ place. Writes j ∷ [])) (sym wrote)
-        (record { up = refl; each = λ place here. same-of (c.queue place) _ _ refl; plain = (tt, tt) })
+        (record { up = refl; each = λ place here free. same-of (c.queue place) _ _ refl; plain = (tt, tt) })
     of true some (inr wrong) = absurd (failed events (NodeWrites j ∷ Fails j ∷ []) wrong refl fine)
     of false none nothing =
         nothing-plays setup c events (λ place. Writes j ∷ []) nothing
@@ -174,11 +203,12 @@ syncs-nothing j q counted none =
     let most = (counted j).synced_is in
     let same : q.synced j ≡ length (q.group.seat j).ops = omega (arith, le, most) in
     record {
-      after_is = sym (ap (λ (synced : ℕ → ℕ). record q { synced = synced })
+      after_is = untold-still q
+          ∙ sym (ap (λ (synced : ℕ → ℕ). record q { untold = waiting_then q.untold q.seats []; synced = synced })
           (cond_both (is_some (q.group.seat j).server) (put j (length (q.group.seat j).ops) q.synced) q.synced
           (λ (synced : ℕ → ℕ). synced ≡ q.synced)
           (λ _. put-own j (length (q.group.seat j).ops) q.synced same) (λ _. refl)));
-      said_is = refl;
+      said_is = said-still q;
     }
 
 sync-plays : (setup : Setup) (j : ℕ) (c : Cluster) (events : List ClusterEvent) → AreCounted c → c.up j ≡ true
@@ -192,7 +222,7 @@ sync-plays setup j c events counted up is fine =
         → Plays setup c events (λ place. Syncs j ∷ [])
     of true some (inl synced) =
         subst (λ es. Plays setup c es (λ place. Syncs j ∷ [])) (sym synced)
-        (record { up = refl; each = λ place here. same-of (c.queue place) _ _ refl; plain = (tt, tt) })
+        (record { up = refl; each = λ place here free. same-of (c.queue place) _ _ refl; plain = (tt, tt) })
     of true some (inr (inl wrong)) = absurd (failed events (Fails j ∷ []) wrong refl fine)
     of true some (inr (inr wrong)) = absurd (failed events (NodeSyncs j ∷ Fails j ∷ []) wrong refl fine)
     of false none (inr wrong) = absurd (failed events (Fails j ∷ []) wrong refl fine)
@@ -206,7 +236,7 @@ sync-plays setup j c events counted up is fine =
 -- what each place does by itself, where no place is there twice
 record PlaysEach (c : Cluster) (places : List ℕ) (events : List ClusterEvent) (alone : Queue → List Event) : Type 0 where
   up : (cluster_after c events).up ≡ c.up
-  own : (place : ℕ) → In place places → parts_of place events ≡ alone (c.queue place)
+  own : (place : ℕ) → In place places → IsTakerless (c.queue place) → parts_of place events ≡ alone (c.queue place)
   others : (place : ℕ) → (In place places → ⊥) → parts_of place events ≡ []
   plain : AllByRecursion IsPlain events
 
@@ -223,20 +253,21 @@ joined c p places events alone once early late is a next =
     λ place. ap (parts_of place) is ∙ parts-append place early late in
     record {
       up = ap (λ es. (cluster_after c es).up) is ∙ ap (λ (x : Cluster). x.up) (after-both c early late) ∙ b.up ∙ a.up;
-      own = λ place here. elim here [
+      own = λ place here free. elim here [
         | inl same ↦ split place
             ∙ ap (λ (l : List Event). parts_of place early ++ l)
             (b.others place (λ later. once.0 (subst (λ (n : ℕ). In n places) same later)))
-            ∙ append-nil (parts_of place early) ∙ a.own place (inl same)
+            ∙ append-nil (parts_of place early) ∙ a.own place (inl same) free
         | inr later ↦
             let gone : In place (p ∷ []) → ⊥ =
             λ there. elim there [
               | inl same ↦ once.0 (subst (λ (n : ℕ). In n places) same later)
               | inr none ↦ none
             ] in
+            let still : d.queue place ≡ c.queue place =
+            queue-is c early place ∙ ap (after (c.queue place)) (a.others place gone) in
             split place ∙ ap (λ (l : List Event). l ++ parts_of place late) (a.others place gone)
-            ∙ b.own place later
-            ∙ ap alone (queue-is c early place ∙ ap (after (c.queue place)) (a.others place gone))
+            ∙ b.own place later (subst IsTakerless (sym still) free) ∙ ap alone still
       ];
       others = λ place gone.
           split place
@@ -247,13 +278,23 @@ joined c p places events alone once early late is a next =
       plain = subst (AllByRecursion IsPlain) (sym is) (AllByRecursion-append IsPlain early late a.plain b.plain);
     }
 
-pub at-own : (place : ℕ) (event : Event) → part_of place (At place event) ≡ event ∷ []
-at-own place event =
-    cond-true (nat_eq place place) (event ∷ []) [] (eq-eqb place place refl)
+plain-at : (place : ℕ) (event : ClusterEvent) → IsAt place event → IsPlain event
+plain-at place (At own event) at = at.1
+plain-at place event at = absurd at
 
-pub at-other : (place other : ℕ) (event : Event) → (other ≡ place → ⊥) → part_of place (At other event) ≡ []
-at-other place other event differs =
-    cond-false (nat_eq other place) (event ∷ []) [] (ne_eqb other place differs)
+-- what happens to one queue alone
+at-one : (c : Cluster) (place : ℕ) (events : List ClusterEvent) (alone : Queue → List Event) → AreAt place events
+    → (IsTakerless (c.queue place) → parts_of place events ≡ alone (c.queue place))
+    → PlaysEach c (place ∷ []) events alone
+at-one c place events alone at own = record {
+  up = at-up place c events at;
+  own = λ p here free. elim here [
+    | inl same ↦ subst (λ (n : ℕ). IsTakerless (c.queue n) → parts_of n events ≡ alone (c.queue n)) (sym same) own free
+    | inr none ↦ absurd none
+  ];
+  others = λ p gone. at-elsewhere place p events (λ same. gone (inl (sym same))) at;
+  plain = AllByRecursion-weaker (IsAt place) IsPlain (plain-at place) events at;
+}
 
 -- a member is told, where that is new
 abbrev notices : Bool → ℕ → Queue → List Event
@@ -263,41 +304,26 @@ notice-plays : (j : ℕ) (up : Bool) (c : Cluster) (place : ℕ) (events : List 
     → IsNotice j place c events → PlaysEach c (place ∷ []) events (notices up j)
 notice-plays j up c place events up_is is =
     of (up && waits_noticed j (c.queue place)) refl
-    (subst (λ (b : Bool). if_so (b && waits_noticed j (c.queue place)) (Is (At place (Notices j))) IsNothing c events)
+    (subst (λ (b : Bool). if_so (b && waits_noticed j (c.queue place)) (Tells place (Notices j)) IsNothing c events)
     up_is is)
   where
     of : (b : Bool) → (up && waits_noticed j (c.queue place)) ≡ b
-        → if_so b (Is (At place (Notices j))) IsNothing c events → PlaysEach c (place ∷ []) events (notices up j)
+        → if_so b (Tells place (Notices j)) IsNothing c events → PlaysEach c (place ∷ []) events (notices up j)
     of true waits told =
-        subst (λ es. PlaysEach c (place ∷ []) es (notices up j)) (sym told) (record {
-          up = refl;
-          own = λ p here. elim here [
-            | inl same ↦ subst (λ (n : ℕ). parts_of n (At place (Notices j) ∷ []) ≡ notices up j (c.queue n)) (sym same)
-                (ap (λ (l : List Event). l ++ []) (at-own place (Notices j))
-                ∙ sym (ap (λ (b : Bool). cond b (Notices j ∷ []) []) waits))
-            | inr none ↦ absurd none
-          ];
-          others = λ p gone. ap (λ (l : List Event). l ++ []) (at-other p place (Notices j) (λ same. gone (inl (sym same))));
-          plain = (tt, tt);
-        })
+        at-one c place events (notices up j) (tells-at place (Notices j) tt c events told)
+        (λ free. ap (parts_of place) (tells-one place (Notices j) c events tt free told)
+        ∙ ap (λ (l : List Event). l ++ []) (at-own place (Notices j))
+        ∙ sym (ap (λ (b : Bool). cond b (Notices j ∷ []) []) waits))
     of false waits nothing =
-        subst (λ es. PlaysEach c (place ∷ []) es (notices up j)) (sym nothing) (record {
-          up = refl;
-          own = λ p here. elim here [
-            | inl same ↦ subst (λ (n : ℕ). [] ≡ notices up j (c.queue n)) (sym same)
-                (sym (ap (λ (b : Bool). cond b (Notices j ∷ []) []) waits))
-            | inr none ↦ absurd none
-          ];
-          others = λ p gone. refl;
-          plain = tt;
-        })
+        at-one c place events (notices up j) (subst (AreAt place) (sym nothing) tt)
+        (λ free. ap (parts_of place) nothing ∙ sym (ap (λ (b : Bool). cond b (Notices j ∷ []) []) waits))
 
 notices-play : (j : ℕ) (up : Bool) (places : List ℕ) → AreOnce places → (c : Cluster) (events : List ClusterEvent)
     → c.up j ≡ up → ForEach places (IsNotice j) c events → PlaysEach c places events (notices up j)
 notices-play j up [] once c events up_is is =
     subst (λ es. PlaysEach c [] es (notices up j)) (sym is) (record {
       up = refl;
-      own = λ place here. absurd here;
+      own = λ place here free. absurd here;
       others = λ place gone. refl;
       plain = tt;
     })
@@ -312,7 +338,8 @@ sames-of : (setup : Setup) (c : Cluster) (events : List ClusterEvent) (alone : Q
     → PlaysEach c setup.places events alone → Plays setup c events (λ place. alone (c.queue place))
 sames-of setup c events alone a = record {
   up = a.up;
-  each = λ place here. same-of (c.queue place) (parts_of place events) (alone (c.queue place)) (a.own place here);
+  each = λ place here free.
+      same-of (c.queue place) (parts_of place events) (alone (c.queue place)) (a.own place here free);
   plain = a.plain;
 }
 
@@ -385,52 +412,25 @@ nodes-play setup once (j ∷ nodes) up c events up_is counted is fine =
 abbrev emptied : Queue → List Event
 emptied q = replicate (length q.group.bag) (Delivers 0)
 
-each-at : (place p : ℕ) (event : Event) (n : ℕ)
-    → parts_of place (replicate n (At p event)) ≡ cond (nat_eq p place) (replicate n event) []
-each-at place p event zero = both (nat_eq p place)
-  where
-    both : (b : Bool) → [] ≡ cond b (replicate 0 event) []
-    both true = refl
-    both false = refl
-each-at place p event (suc n) =
-    ap (λ (l : List Event). part_of place (At p event) ++ l) (each-at place p event n) ∙ both (nat_eq p place)
-  where
-    both : (b : Bool) → cond b (event ∷ []) [] ++ cond b (replicate n event) [] ≡ cond b (replicate (suc n) event) []
-    both true = refl
-    both false = refl
-
-plain-each : (p n : ℕ) (event : Event) → AllByRecursion IsPlain (replicate n (At p event))
-plain-each p zero event = tt
-plain-each p (suc n) event = (tt, plain-each p n event)
-
-up-each : (c : Cluster) (p n : ℕ) (event : Event) → (cluster_after c (replicate n (At p event))).up ≡ c.up
-up-each c p zero event = refl
-up-each c p (suc n) event = up-each (cluster_happens c (At p event)) p n event
+each-at : (place : ℕ) (event : Event) (n : ℕ) → parts_of place (replicate n (At place event)) ≡ replicate n event
+each-at place event zero = refl
+each-at place event (suc n) =
+    ap (λ (l : List Event). l ++ parts_of place (replicate n (At place event))) (at-own place event)
+    ∙ ap (λ (l : List Event). event ∷ l) (each-at place event n)
 
 empty-plays : (c : Cluster) (place : ℕ) (events : List ClusterEvent) → IsEmptied place c events
     → PlaysEach c (place ∷ []) events emptied
 empty-plays c place events is =
     let n = length (c.queue place).group.bag in
-    subst (λ es. PlaysEach c (place ∷ []) es emptied) (sym is) (record {
-      up = up-each c place n (Delivers 0);
-      own = λ p here. elim here [
-        | inl same ↦ subst (λ (m : ℕ). parts_of m (replicate n (At place (Delivers 0))) ≡ emptied (c.queue m)) (sym same)
-            (each-at place place (Delivers 0) n
-            ∙ cond-true (nat_eq place place) (replicate n (Delivers 0)) [] (eq-eqb place place refl))
-        | inr none ↦ absurd none
-      ];
-      others = λ p gone.
-          each-at p place (Delivers 0) n
-          ∙ cond-false (nat_eq place p) (replicate n (Delivers 0)) [] (ne_eqb place p (λ same. gone (inl (sym same))));
-      plain = plain-each place n (Delivers 0);
-    })
+    at-one c place events emptied (emptied-at place c events is) (λ free.
+    ap (parts_of place) (emptied-is place c events free is) ∙ each-at place (Delivers 0) n)
 
 empties-play : (places : List ℕ) → AreOnce places → (c : Cluster) (events : List ClusterEvent)
     → ForEach places IsEmptied c events → PlaysEach c places events emptied
 empties-play [] once c events is =
     subst (λ es. PlaysEach c [] es emptied) (sym is) (record {
       up = refl;
-      own = λ place here. absurd here;
+      own = λ place here free. absurd here;
       others = λ place gone. refl;
       plain = tt;
     })
@@ -473,8 +473,8 @@ plays-print setup c (event ∷ events) place x plain here =
 
     one : (e : ClusterEvent) → IsPlain e → Contains (all_said (c.queue place) (part_of place e)) x
         → Contains (prints setup c e) (Of place x)
-    one (NodeWrites k) is there = none there
-    one (NodeSyncs k) is there = none there
+    one (NodeWrites k) is there = none (subst (λ (l : List Shown). Contains l x) (sym (said-still (c.queue place))) there)
+    one (NodeSyncs k) is there = none (subst (λ (l : List Shown). Contains l x) (sym (said-still (c.queue place))) there)
     one (At p own) is there = by (cases_eq p place)
       where
         by : ((p ≡ place) ⊎ (p ≢ place)) → Contains (map (Of p) (said (c.queue p) own)) (Of place x)

@@ -2,7 +2,7 @@
 use Rattle.std.proofs.Common.{◌≡◌, ◌≢◌, ℕ, ◌≤◌, ◌+◌, true, false, List, [], ◌∷◌, ◌++◌, length, map, Option, Some, None, refl, sym, ap, ◌∙◌, subst, inl, inr, arith, append_assoc, append-nil, length-append}
 use Rattle.std.specs.Prelude.{Contains, nat_le, replicate, is_some}
 use Rattle.std.proofs.lemmas.Bool.{cases_eq, cond_both, cond-true, cond-false, lt-ltb, le-ltb, le-leb}
-use Rattle.std.proofs.lemmas.List.Elements.{Contains-append_left}
+use Rattle.std.proofs.lemmas.List.Elements.{Contains-append_left, Contains-append_right}
 use Rattle.qq_base.proofs.Puts.{put-same, put-other}
 use Rattle.qq_base.specs.Fronts.{put}
 use Rattle.qq_entry.specs.declared.audit.AuditRow.{AuditRow}
@@ -17,6 +17,7 @@ use Rattle.qq_base.specs.declared.ids.NodeId.{NodeId}
 use Rattle.qq_progress.proofs.Leader.{greater-high}
 use Rattle.qq_cluster.specs.Queue.{Queue, Event, Notices, Syncs, Writes, after, all_said, happens, own_rows, rows_told, said, waiting, waiting_by}
 use Rattle.qq_cluster.specs.Rules.{waits_noticed}
+use Rattle.qq_cluster.proofs.Takerless.{told-answers}
 use Rattle.qq_session.specs.Clients.{hear_all, printed}
 use Rattle.qq_session.specs.Shown.{Answered, Shown}
 use Rattle.qq_progress.specs.Alone.{turn}
@@ -254,10 +255,11 @@ module _ (handed : AreHanded) (nodes : List NodeId) (q : Queue) (sound : IsSound
       let same : rows_told two (Notices j) ≡ rows =
       rows-told two (Notices j) j (Input.Notice (two.synced j)) two.group.bag bare feeds up-two
       ∙ ap (λ (n : ℕ). own_rows q.args bare (record (notice n bare) { out = [] })) all in
-      Contains-append_left (map Answered (printed (rows_told two (Notices j)) two.clients)) _ x
+      told-answers two (Notices j) x
       (subst (λ (l : List AuditRow). Contains (map Answered (printed l q.clients)) x) (sym same) here)
 
   pub turn-shows : (x : Shown) → Contains (answers_at q s) x → Contains (all_said q (turn j q)) x
   turn-shows x here =
       subst (λ (es : List Event). Contains (all_said q es) x) (sym events)
-      (Contains-append_left (said two (Notices j)) [] x (shown x here))
+      (Contains-append_right (said q (Writes j)) _ x (Contains-append_right (said one (Syncs j)) _ x
+      (Contains-append_left (said two (Notices j)) [] x (shown x here))))

@@ -1,9 +1,9 @@
 -- An opening has nothing of a client, and what no client asks for leaves new sessions as they are.
-use Rattle.std.proofs.Common.{◌≡◌, ℕ, zero, suc, Bool, true, false, cond, eqb, List, [], ◌∷◌, Option, Some, None, refl, sym, ap, ◌∙◌, subst, inl, inr}
-use Rattle.std.specs.Prelude.{◌&&◌, replicate}
+use Rattle.std.proofs.Common.{◌≡◌, ℕ, zero, suc, Bool, true, false, cond, eqb, List, [], ◌∷◌, ◌++◌, Option, Some, None, refl, sym, ap, ◌∙◌, subst, inl, inr}
+use Rattle.std.specs.Prelude.{◌&&◌, length, replicate}
 use Rattle.std.specs.List.{AllByRecursion}
 use Rattle.std.proofs.lemmas.Bool.{cond_both}
-use Rattle.qq_base.proofs.Lists.{AllByRecursion-append}
+use Rattle.qq_base.proofs.Lists.{AllByRecursion-append, AllByRecursion-weaker}
 use Rattle.qq_base.proofs.Puts.{put-each}
 use Rattle.qq_base.specs.Ids.{client}
 use Rattle.qq_base.specs.declared.ids.NodeId.{NodeId}
@@ -14,8 +14,11 @@ use Rattle.qq_script.specs.Text.{seq_of}
 use Rattle.qq_session.specs.Publishing.{Numbers, closes, new_numbers, without}
 use Rattle.qq_session.specs.Clients.{Client, Clients, hear, hear_all, hear_by, new_client, sender, take_answer}
 use Rattle.qq_cluster.specs.Cluster.{Cluster, ClusterEvent, Sets, Alike, At, NodeWrites, NodeSyncs, Fails, Crashes, FindsEach, Shows, SaysDown, SaysNoSuch, SaysUnroutable, SaysBusy, SaysEnded, Setup, cluster_after, cluster_happens, members, new_cluster, part_of, parts_of}
-use Rattle.qq_cluster.specs.Queue.{Queue, Event, Mutes, Ends, Submits, TellsEnded, TellsNotTaken, Resends, Fetches, Downs, Ticks, Delivers, Loses, Copies, Writes, Syncs, Notices, Stops, Finds, after, happens, rows_told}
-use Rattle.qq_cluster.specs.Rules.{ForEach, Is, IsEmptied, IsFirstTick, IsFound, IsNodeRound, IsNothing, IsNotice, IsOpening, IsPump, IsRestart, IsRound, IsSync, IsSynced, IsWrite, IsWritten, MayRoll, Pumps, Rule, Then, if_so, is_idle, most_rounds, some_queue, tick_at, waits_noticed, waits_synced, waits_written}
+use Rattle.qq_cluster.specs.ClusterLaws.{verdict_at, verdicts}
+use Rattle.qq_taker.specs.declared.taker.Verdict.{Verdict}
+use Rattle.qq_cluster.specs.Queue.{Queue, Event, Mutes, Ends, Submits, TellsEnded, TellsNotTaken, Attaches, Judges, Resends, Fetches, Downs, Ticks, Delivers, Loses, Copies, Writes, Syncs, Notices, Stops, Finds, after, happens, rows_told}
+use Rattle.qq_cluster.specs.Rules.{ForEach, Is, IsEmptied, IsFirstTick, IsFound, IsNodeRound, IsNothing, IsNotice, IsOpening, IsPump, IsRestart, IsRound, IsSync, IsSynced, IsWrite, IsWritten, MayRoll, Pumps, Rule, Tells, Then, if_so, is_idle, most_rounds, some_queue, tick_at, waits_noticed, waits_synced, waits_written}
+use Rattle.qq_cluster.proofs.Takerless.{GivesNone, IsTakerless, emptied-is, takerless-all, takerless-begin, tells-one}
 use Rattle.qq_progress.proofs.Playing.{queue-is}
 
 -- ---- sessions
@@ -68,6 +71,8 @@ event-new q (Ends own) calm new = absurd calm
 event-new q (Submits own body) calm new = absurd calm
 event-new q (TellsEnded own) calm new = absurd calm
 event-new q (TellsNotTaken own id) calm new = absurd calm
+event-new q (Attaches own tag number) calm new = absurd calm
+event-new q (Judges verdict) calm new = absurd calm
 event-new q (Fetches own) calm new = absurd calm
 event-new q (Resends own) calm new = absurd calm
 event-new q (Downs own) calm new = absurd calm
@@ -119,6 +124,36 @@ parts-unasked place (event ∷ events) calm =
     AllByRecursion-append IsUnasked (part_of place event) (parts_of place events) (part-unasked place event calm.0)
     (parts-unasked place events calm.1)
 
+-- no taker has given a verdict
+no-verdict : (event : ClusterEvent) → IsUnaskedOf event → verdict_at event ≡ []
+no-verdict (At place (Judges verdict)) calm = absurd calm
+no-verdict (At place event) calm = refl
+no-verdict event calm = refl
+
+pub no-verdicts : (events : List ClusterEvent) → AreUnasked events → verdicts events ≡ []
+no-verdicts [] calm = refl
+no-verdicts (event ∷ events) calm =
+    ap (λ (l : List Verdict). l ++ verdicts events) (no-verdict event calm.0) ∙ no-verdicts events calm.1
+
+-- where no queue has a taker, none has one after that
+abbrev pub AreTakerless : Cluster → Type 0
+AreTakerless c = (place : ℕ) → IsTakerless (c.queue place)
+
+pub takerless-new : (setup : Setup) → AreTakerless (new_cluster setup)
+takerless-new setup place = takerless-begin (setup.args place) (setup.group place)
+
+gives-none : (event : Event) → IsUnasked event → GivesNone event
+gives-none (Attaches session tag number) calm = calm
+gives-none event calm = tt
+
+pub takerless-then : (c : Cluster) (events : List ClusterEvent) → AreUnasked events → AreTakerless c
+    → AreTakerless (cluster_after c events)
+takerless-then c events calm free place =
+    subst IsTakerless (sym (queue-is c events place))
+    (takerless-all (c.queue place) (parts_of place events)
+    (AllByRecursion-weaker IsUnasked GivesNone gives-none (parts_of place events) (parts-unasked place events calm))
+    (free place))
+
 -- its sessions are new after that
 pub sessions-new : (setup : Setup) (events : List ClusterEvent) (place : ℕ) → AreUnasked events
     → AreNew ((cluster_after (new_cluster setup) events).queue place)
@@ -150,33 +185,35 @@ auto-stays c (event ∷ events) calm =
 
 -- ---- rules
 
-abbrev AllowsUnasked : Rule → Type 0
-AllowsUnasked Allows = (c : Cluster) (events : List ClusterEvent) → Allows c events → AreUnasked events
+abbrev pub AllowsUnasked : Rule → Type 0
+AllowsUnasked Allows =
+    (c : Cluster) (events : List ClusterEvent) → AreTakerless c → Allows c events → AreUnasked events
 
 of-one : (events made : List ClusterEvent) → AreUnasked made → events ≡ made → AreUnasked events
 of-one events made calm is = subst AreUnasked (sym is) calm
 
 of-nothing : AllowsUnasked IsNothing
-of-nothing c events is = of-one events [] tt is
+of-nothing c events free is = of-one events [] tt is
 
 of-both : (First Second : Rule) → AllowsUnasked First → AllowsUnasked Second → AllowsUnasked (Then First Second)
-of-both First Second a b c events is =
-    of-one events _ (AllByRecursion-append IsUnaskedOf is.early is.late (a c is.early is.first)
-    (b (cluster_after c is.early) is.late is.second)) is.is
+of-both First Second a b c events free is =
+    let early = a c is.early free is.first in
+    of-one events _ (AllByRecursion-append IsUnaskedOf is.early is.late early
+    (b (cluster_after c is.early) is.late (takerless-then c is.early early free) is.second)) is.is
 
 of-test : (b : Bool) (First Second : Rule) → AllowsUnasked First → AllowsUnasked Second
     → AllowsUnasked (if_so b First Second)
 of-test true First Second first second = first
 of-test false First Second first second = second
 
-of-each : {A : Type 0} (xs : List A) (Each : A → Rule) → ((x : A) → AllowsUnasked (Each x))
+pub of-each : {A : Type 0} (xs : List A) (Each : A → Rule) → ((x : A) → AllowsUnasked (Each x))
     → AllowsUnasked (ForEach xs Each)
 of-each [] Each each = of-nothing
 of-each (x ∷ xs) Each each = of-both (Each x) (ForEach xs Each) (each x) (of-each xs Each each)
 
 of-write : (setup : Setup) (k : ℕ) → AllowsUnasked (IsWrite setup k)
 of-write setup k c =
-    of-test (c.up k && some_queue setup (waits_written k) c) (IsWritten k) IsNothing (λ d es wrote. elim wrote [
+    of-test (c.up k && some_queue setup (waits_written k) c) (IsWritten k) IsNothing (λ d es free wrote. elim wrote [
       | inl is ↦ of-one es (NodeWrites k ∷ []) (tt, tt) is
       | inr is ↦ of-one es (NodeWrites k ∷ Fails k ∷ []) (tt, (tt, tt)) is
     ]) of-nothing c
@@ -187,22 +224,26 @@ of-sync setup k c =
     (of-test (some_queue setup (waits_synced k) c) (IsSynced k) (MayRoll k) synced rolled) of-nothing c
   where
     synced : AllowsUnasked (IsSynced k)
-    synced d es (inl is) = of-one es (NodeSyncs k ∷ []) (tt, tt) is
-    synced d es (inr (inl is)) = of-one es (Fails k ∷ []) (tt, tt) is
-    synced d es (inr (inr is)) = of-one es (NodeSyncs k ∷ Fails k ∷ []) (tt, (tt, tt)) is
+    synced d es free (inl is) = of-one es (NodeSyncs k ∷ []) (tt, tt) is
+    synced d es free (inr (inl is)) = of-one es (Fails k ∷ []) (tt, tt) is
+    synced d es free (inr (inr is)) = of-one es (NodeSyncs k ∷ Fails k ∷ []) (tt, (tt, tt)) is
 
     rolled : AllowsUnasked (MayRoll k)
-    rolled d es (inl is) = of-one es [] tt is
-    rolled d es (inr is) = of-one es (Fails k ∷ []) (tt, tt) is
+    rolled d es free (inl is) = of-one es [] tt is
+    rolled d es free (inr is) = of-one es (Fails k ∷ []) (tt, tt) is
 
 of-notice : (k place : ℕ) → AllowsUnasked (IsNotice k place)
 of-notice k place c =
-    of-test (c.up k && waits_noticed k (c.queue place)) (Is (At place (Notices k))) IsNothing
-    (λ d es is. of-one es (At place (Notices k) ∷ []) (tt, tt) is) of-nothing c
+    of-test (c.up k && waits_noticed k (c.queue place)) (Tells place (Notices k)) IsNothing
+    (λ d es free is. of-one es (At place (Notices k) ∷ []) (tt, tt) (tells-one place (Notices k) d es tt (free place) is))
+    of-nothing c
 
-delivers-unasked : (place n : ℕ) → AreUnasked (replicate n (At place (Delivers 0)))
-delivers-unasked place zero = tt
-delivers-unasked place (suc n) = (tt, delivers-unasked place n)
+of-emptied : (place : ℕ) → AllowsUnasked (IsEmptied place)
+of-emptied place c es free is = of-one es _ (each (length (c.queue place).group.bag)) (emptied-is place c es (free place) is)
+  where
+    each : (n : ℕ) → AreUnasked (replicate n (At place (Delivers 0)))
+    each zero = tt
+    each (suc n) = (tt, each n)
 
 of-round : (setup : Setup) → AllowsUnasked (IsRound setup)
 of-round setup =
@@ -211,29 +252,30 @@ of-round setup =
     of-both (IsWrite setup k) (Then (IsSync setup k) (ForEach setup.places (IsNotice k))) (of-write setup k)
     (of-both (IsSync setup k) (ForEach setup.places (IsNotice k)) (of-sync setup k)
     (of-each setup.places (IsNotice k) (of-notice k)))))
-    (of-each setup.places IsEmptied (λ place c es is. of-one es _ (delivers-unasked place _) is))
+    (of-each setup.places IsEmptied of-emptied)
 
-of-pumps : (n : ℕ) (setup : Setup) → AllowsUnasked (Pumps n setup)
+pub of-pumps : (n : ℕ) (setup : Setup) → AllowsUnasked (Pumps n setup)
 of-pumps zero setup c =
-    of-test (is_idle setup c) IsNothing (Is SaysBusy) of-nothing (λ d es is. of-one es (SaysBusy ∷ []) (tt, tt) is) c
+    of-test (is_idle setup c) IsNothing (Is SaysBusy) of-nothing
+    (λ d es free is. of-one es (SaysBusy ∷ []) (tt, tt) is) c
 of-pumps (suc n) setup c =
     of-test (is_idle setup c) IsNothing (Then (IsRound setup) (Pumps n setup)) of-nothing
     (of-both (IsRound setup) (Pumps n setup) (of-round setup) (of-pumps n setup)) c
 
-of-restart : (setup : Setup) (k : ℕ) → AllowsUnasked (IsRestart setup k)
+pub of-restart : (setup : Setup) (k : ℕ) → AllowsUnasked (IsRestart setup k)
 of-restart setup k c =
-    of-test (c.up k) IsNothing (IsFound setup k) of-nothing (λ d es found. elim found [
+    of-test (c.up k) IsNothing (IsFound setup k) of-nothing (λ d es free found. elim found [
       | inl lanes ↦ of-one es (FindsEach k lanes.ops ∷ []) (tt, tt) lanes.is
       | inr fails ↦ of-one es (Fails k ∷ []) (tt, tt) fails
     ]) c
 
-of-tick : (place : ℕ) (ns : List NodeId) → AllowsUnasked (tick_at place ns)
+pub of-tick : (place : ℕ) (ns : List NodeId) → AllowsUnasked (tick_at place ns)
 of-tick place [] = of-nothing
-of-tick place (n ∷ ns) = λ c es is. of-one es (At place (Ticks n.0) ∷ []) (tt, tt) is
+of-tick place (n ∷ ns) = λ c es free is. of-one es (At place (Ticks n.0) ∷ []) (tt, tt) is
 
 -- an opening has nothing of a client
-pub of-opening : (setup : Setup) (c : Cluster) (events : List ClusterEvent) → IsOpening setup c events
-    → AreUnasked events
+pub of-opening : (setup : Setup) (c : Cluster) (events : List ClusterEvent) → AreTakerless c
+    → IsOpening setup c events → AreUnasked events
 of-opening setup =
     of-both (ForEach setup.nodes (IsRestart setup)) (Then (ForEach setup.places (IsFirstTick setup)) (IsPump setup))
     (of-each setup.nodes (IsRestart setup) (of-restart setup))

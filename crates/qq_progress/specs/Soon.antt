@@ -74,6 +74,11 @@ pub record MayGive (session : ℕ) (given : Unstamped) (q : Queue) : Type 0 wher
   pub taken : not_taken session given q ≡ None
   pub window : may_hand (q.clients session).numbers ≡ true
 
+-- no consumer of the queue has a taker, and no delivery waits for one
+pub record HasNoTaker (q : Queue) : Type 0 where
+  pub seats : q.seats ≡ []
+  pub untold : q.untold ≡ []
+
 -- the command that it gives
 abbrev pub command_of : ℕ → Unstamped → Queue → Command
 command_of session given q = next_command given (q.clients session).numbers

@@ -1,17 +1,31 @@
-use Rattle.std.proofs.Common.{sym, ◌∙◌}
+use Rattle.std.proofs.Common.{refl, sym, ◌∙◌}
 use Rattle.qq_model.proofs.Soundness.{Contains-in, in_contains}
-use Rattle.qq_cluster.specs.Cluster.{Fails, FindsEach, new_cluster}
+use Rattle.qq_cluster.specs.Cluster.{At, Fails, FindsEach, new_cluster}
+use Rattle.qq_cluster.specs.Queue.{Judges}
 use Rattle.qq_cluster.specs.Serving.{all_given, run}
-use Rattle.qq_cluster_pins.proofs.Faults.{fine-from, found-none, from-fine}
+use Rattle.qq_cluster_pins.proofs.Faults.{fine-from, found-none, from-fine, verdicts-none}
 use Rattle.qq_cluster_pins.proofs.lines.nothing_but_faults_is_left_open.Goals as goal
 
 pub returns-clause-line : goal.returns-clause-line
-returns-clause-line c = λ setup line d events others first second fine found.
+returns-clause-line c = λ setup line d events others first second fine found none.
     c.lines_settle.ensures.line setup line d events others first second
     (fine-from events (λ k here. (fine k).0 (Contains-in (Fails k) events here)))
     (fine-from others (λ k here. (fine k).1 (Contains-in (Fails k) others here)))
     (found-none events (λ k ops here. (found k ops).0 (Contains-in (FindsEach k ops) events here))
     ∙ sym (found-none others (λ k ops here. (found k ops).1 (Contains-in (FindsEach k ops) others here))))
+    (verdicts-none events (λ place v here. (none place v).0 (Contains-in (At place (Judges v)) events here))
+    ∙ sym (verdicts-none others (λ place v here. (none place v).1 (Contains-in (At place (Judges v)) others here))))
+
+pub returns-clause-judged : goal.returns-clause-judged
+returns-clause-judged c = λ setup line d events others first second fine found same.
+    c.lines_settle.ensures.line setup line d events others first second
+    (fine-from events (λ k here. (fine k).0 (Contains-in (Fails k) events here)))
+    (fine-from others (λ k here. (fine k).1 (Contains-in (Fails k) others here)))
+    (found-none events (λ k ops here. (found k ops).0 (Contains-in (FindsEach k ops) events here))
+    ∙ sym (found-none others (λ k ops here. (found k ops).1 (Contains-in (FindsEach k ops) others here)))) same
+
+pub returns-clause-verdicts : goal.returns-clause-verdicts
+returns-clause-verdicts c = refl
 
 pub returns-clause-served : goal.returns-clause-served
 returns-clause-served c = λ setup lines groups.
