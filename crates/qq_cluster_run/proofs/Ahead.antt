@@ -7,12 +7,14 @@ use Rattle.std.proofs.lemmas.Option.{IfSome_then}
 use Rattle.qq_setup.specs.declared.setup.Setup.{Setup}
 use Rattle.qq_ports.specs.Faults.{AppendsPrefix}
 use Rattle.qq_ports.specs.Lines.{first_line, TakesLine, BeginsTooLong, LosesSome, LosesPiece, FirstLineLeads}
+use Rattle.qq_cluster.specs.Outcome.{Outcome}
 use Rattle.qq_cluster_run.specs.Endings.{Ending}
 use Rattle.qq_cluster_run.specs.Inputs.{Input, inputs_of, EndsWith}
 use Rattle.qq_cluster_run.specs.Reading.{Ends, says}
 use Rattle.qq_cluster_run.specs.Service.{HasOpened}
-use Rattle.qq_cluster_run.specs.Serving.{Histories, Run, Serves, EndsRun, Behind, run_behind, text_behind, audits_behind, Goes, Served}
-use Rattle.qq_cluster_run.specs.Runs.{EndsBy, HasAnswers, BreaksOff, MayEnd, IsDoneOver}
+use Rattle.qq_cluster_run.specs.Serving.{Claims, Histories, Run, Serves, EndsRun, Behind, run_behind, setup_in, all_text, text_behind, audits_behind, Goes, Served}
+use Rattle.qq_cluster_run.specs.Runs.{EndsBy, HasAnswers, BreaksOff, IsCut, IsRefusal, MayEnd, IsDoneOver}
+use Rattle.qq_cluster_run.specs.Setup.{cluster_over}
 use Rattle.qq_cluster_run.specs.Troubles.{Trouble}
 use Rattle.qq_cluster_run.proofs.InputLines.{takes_input, takes_ends, BeginsLong, long_begins}
 use Rattle.qq_cluster_run.proofs.Going.{more}
@@ -26,12 +28,12 @@ with_nil a b xs grown = subst (Appends a b) (sym (append-nil xs)) grown
 -- ---- the opening
 
 -- the run that an opening begins
-abbrev pub first_run : {had : Histories} {s : Setup} {Stands : Run → Type 0} {before later : List ℕ}
+abbrev pub first_run : {had : Histories} {s : Setup} {Stands : Run → Type 0} {before later : Outcome}
     → HasOpened had s Stands before later → Run
 first_run o = record { lines = 0; logs = o.logs; events = o.events }
 
 -- a cluster was opened: nothing was served
-opened : (had : Histories) (s : Setup) (all : List Input) (Stands : Run → Type 0) (before later : List ℕ)
+opened : (had : Histories) (s : Setup) (all : List Input) (Stands : Run → Type 0) (before later : Outcome)
     → HasOpened had s Stands before later → Behind had s all all
 opened had s all Stands before later o = record {
   read = [];
@@ -92,13 +94,19 @@ led-more had s run next input said l serves =
     }) l.run_is serves in
     record { read = b.read ++ input ∷ []; behind = m.behind; run_is = m.run_is }
 
-may-end : (met : Trouble → Type 0) (had : Histories) (s : Setup) (run : Run) (input : Input) (ending : Ending)
-    → IsLed had s run → EndsRun met s run input ending → MayEnd met had s ending
-may-end met had s run input ending l ends = record {
+-- what is so of all events of a run
+abbrev pub IsSoOf : Claims → Setup → Run → Type 0
+IsSoOf claims s run = claims.finally (setup_in s run) run.events
+
+may-end : (met : Trouble → Type 0) (claims : Claims) (s : Setup) (run : Run) (input : Input) (ending : Ending)
+    → IsLed claims.during s run → EndsRun met s run input ending → (IsRefusal ending → IsSoOf claims s run)
+    → MayEnd met claims s ending
+may-end met claims s run input ending l ends is_so = record {
   read = l.read;
   behind = l.behind;
   input = input;
   ends = subst (λ (r : Run). EndsRun met s r input ending) l.run_is ends;
+  finally = λ refused. subst (IsSoOf claims s) l.run_is (is_so refused);
 }
 
 -- ---- what is ahead
@@ -163,16 +171,17 @@ Waiting had s (Some bytes) None run a b pending = ⊥
 Waiting had s (Some bytes) (Some rest) run a b pending = WaitsOver had s bytes rest run a b pending
 
 pub waiting_start : (had : Histories) (s : Setup) (left : Option (List ℕ)) (Stands : Run → Type 0) (a : Option (List ℕ))
-    (pending : List ℕ) → (o : HasOpened had s Stands [] pending)
-    → Waiting had s left (prepend_known [] left) (first_run o) a a pending
+    (before later : Outcome) → before.text ≡ [] → (o : HasOpened had s Stands before later)
+    → Waiting had s left (prepend_known [] left) (first_run o) a a later.text
 unfolding opened
-waiting_start had s None Stands a pending o = led had s [] [] (first_run o) (opened had s [] Stands [] pending o) refl
-waiting_start had s (Some bytes) Stands a pending o = record {
+waiting_start had s None Stands a before later none o =
+    led had s [] [] (first_run o) (opened had s [] Stands before later o) refl
+waiting_start had s (Some bytes) Stands a before later none o = record {
   waits = record {
-    behind = opened had s (inputs_of bytes) Stands [] pending o;
+    behind = opened had s (inputs_of bytes) Stands before later o;
     run_is = refl;
     first = [];
-    parts = sym o.says;
+    parts = sym (o.says ∙ ap (λ (l : List ℕ). l ++ all_text (cluster_over s o.logs) o.events) none);
     written = Appends-nil a;
   };
   ends = ([], refl);
@@ -223,60 +232,69 @@ waiting_line had s (Some bytes) (Some rest) (Some ahead) run run' line said a b 
 -- ---- how it ends
 
 -- a line ends the run
-ends_at : (met : Trouble → Type 0) (had : Histories) (s : Setup) (bytes now : List ℕ) (rest : Option (List ℕ)) (read : List ℕ) (run : Run)
-    (input : Input) (ahead : List Input) (ending : Ending) (a b : Option (List ℕ))
-    → GoesOver had s bytes now run a b → IsParted now rest read → inputs_of now ≡ input ∷ ahead
-    → EndsRun met s run input ending → EndsBy met had ending s bytes rest a b []
-ends_at met had s bytes now rest read run input ahead ending a b so parts is ends = record {
-  served = served had s bytes now rest read (inputs_of now) so.goes.behind refl so.ends parts;
+ends_at : (met : Trouble → Type 0) (claims : Claims) (s : Setup) (bytes now : List ℕ) (rest : Option (List ℕ))
+    (read : List ℕ) (run : Run) (input : Input) (ahead : List Input) (ending : Ending) (a b : Option (List ℕ))
+    → GoesOver claims.during s bytes now run a b → IsParted now rest read → inputs_of now ≡ input ∷ ahead
+    → EndsRun met s run input ending → (IsRefusal ending → IsSoOf claims s run)
+    → EndsBy met claims ending s bytes rest a b []
+ends_at met claims s bytes now rest read run input ahead ending a b so parts is ends is_so = record {
+  served = served claims.during s bytes now rest read (inputs_of now) so.goes.behind refl so.ends parts;
   next = record {
     input = input;
     more = ahead;
     is = is;
     ends = subst (λ (r : Run). EndsRun met s r input ending) so.goes.run_is ends;
   };
+  finally = λ refused. subst (IsSoOf claims s) so.goes.run_is (is_so refused);
   written = with_nil a b (text_behind so.goes.behind) so.goes.written;
 }
 
-pub going_ends : (met : Trouble → Type 0) (had : Histories) (s : Setup) (start now next rest : Option (List ℕ)) (ending : Ending) (run : Run)
-    (line : List ℕ) (a b : Option (List ℕ))
-    → ((bytes : List ℕ) → FirstLineLeads bytes (first_line bytes)) → Going had s start now run a b
+pub going_ends : (met : Trouble → Type 0) (claims : Claims) (s : Setup) (start now next rest : Option (List ℕ))
+    (ending : Ending) (run : Run) (line : List ℕ) (a b : Option (List ℕ))
+    → ((bytes : List ℕ) → FirstLineLeads bytes (first_line bytes)) → Going claims.during s start now run a b
     → TakesLine now next line → LosesSome now rest → EndsRun met s run (Some line) ending
-    → MayEnd met had s ending × IfSome start (λ bytes. EndsBy met had ending s bytes rest a b [])
-going_ends met had s None now next rest ending run line a b law so takes lost ends = (may-end met had s run (Some line) ending so ends, tt)
-going_ends met had s (Some bytes) None next rest ending run line a b law so takes lost ends = absurd so
-going_ends met had s (Some bytes) (Some xs) None rest ending run line a b law so takes lost ends = absurd takes
-going_ends met had s (Some bytes) (Some xs) (Some ahead) rest ending run line a b law so takes lost ends = (
-  may-end met had s run (Some line) ending
-      (led had s (inputs_of bytes) (inputs_of xs) run so.goes.behind so.goes.run_is) ends,
-  ends_at met had s bytes xs rest lost.0 run (Some line) (inputs_of ahead) ending a b so (parted xs rest lost.0 lost.1)
-      (takes_input xs line ahead law takes) ends,
+    → (IsRefusal ending → IsSoOf claims s run)
+    → MayEnd met claims s ending × IfSome start (λ bytes. EndsBy met claims ending s bytes rest a b [])
+going_ends met claims s None now next rest ending run line a b law so takes lost ends is_so =
+    (may-end met claims s run (Some line) ending so ends is_so, tt)
+going_ends met claims s (Some bytes) None next rest ending run line a b law so takes lost ends is_so = absurd so
+going_ends met claims s (Some bytes) (Some xs) None rest ending run line a b law so takes lost ends is_so = absurd takes
+going_ends met claims s (Some bytes) (Some xs) (Some ahead) rest ending run line a b law so takes lost ends is_so = (
+  may-end met claims s run (Some line) ending
+      (led claims.during s (inputs_of bytes) (inputs_of xs) run so.goes.behind so.goes.run_is) ends is_so,
+  ends_at met claims s bytes xs rest lost.0 run (Some line) (inputs_of ahead) ending a b so
+      (parted xs rest lost.0 lost.1) (takes_input xs line ahead law takes) ends is_so,
 )
 
 -- the next line is too long
-pub going_too_long : (met : Trouble → Type 0) (had : Histories) (s : Setup) (start now rest : Option (List ℕ)) (ending : Ending) (run : Run)
-    (a b : Option (List ℕ))
-    → ((bytes : List ℕ) → FirstLineLeads bytes (first_line bytes)) → Going had s start now run a b → BeginsTooLong now
-    → LosesSome now rest → says s run.lines None ≡ Ends ending
-    → MayEnd met had s ending × IfSome start (λ bytes. EndsBy met had ending s bytes rest a b [])
-going_too_long met had s None now rest ending run a b law so long lost ends = (may-end met had s run None ending so (inl ends), tt)
-going_too_long met had s (Some bytes) None rest ending run a b law so long lost ends = absurd so
-going_too_long met had s (Some bytes) (Some xs) rest ending run a b law so long lost ends =
+pub going_too_long : (met : Trouble → Type 0) (claims : Claims) (s : Setup) (start now rest : Option (List ℕ))
+    (ending : Ending) (run : Run) (a b : Option (List ℕ))
+    → ((bytes : List ℕ) → FirstLineLeads bytes (first_line bytes)) → Going claims.during s start now run a b
+    → BeginsTooLong now → LosesSome now rest → says s run.lines None ≡ Ends ending → IsSoOf claims s run
+    → MayEnd met claims s ending × IfSome start (λ bytes. EndsBy met claims ending s bytes rest a b [])
+going_too_long met claims s None now rest ending run a b law so long lost ends is_so =
+    (may-end met claims s run None ending so (inl ends) (λ refused. is_so), tt)
+going_too_long met claims s (Some bytes) None rest ending run a b law so long lost ends is_so = absurd so
+going_too_long met claims s (Some bytes) (Some xs) rest ending run a b law so long lost ends is_so =
     let begins : BeginsLong xs = long_begins xs (law xs) long in (
-      may-end met had s run None ending
-          (led had s (inputs_of bytes) (inputs_of xs) run so.goes.behind so.goes.run_is) (inl ends),
-      ends_at met had s bytes xs rest lost.0 run None begins.left ending a b so (parted xs rest lost.0 lost.1) begins.is
-          (inl ends),
+      may-end met claims s run None ending
+          (led claims.during s (inputs_of bytes) (inputs_of xs) run so.goes.behind so.goes.run_is) (inl ends)
+          (λ refused. is_so),
+      ends_at met claims s bytes xs rest lost.0 run None begins.left ending a b so (parted xs rest lost.0 lost.1)
+          begins.is (inl ends) (λ refused. is_so),
     )
 
 -- the source fails
-pub going_reads : (had : Histories) (s : Setup) (start now rest : Option (List ℕ)) (run : Run) (a b : Option (List ℕ))
-    → Going had s start now run a b → LosesPiece now rest → IfSome start (λ bytes. HasAnswers had s bytes rest a b [])
-going_reads had s None now rest run a b so lost = tt
-going_reads had s (Some bytes) None rest run a b so lost = absurd so
-going_reads had s (Some bytes) (Some xs) rest run a b so lost = record {
-  served = served had s bytes xs rest lost.0 (inputs_of xs) so.goes.behind refl so.ends (parted xs rest lost.0 lost.2);
+pub going_reads : (claims : Claims) (s : Setup) (start now rest : Option (List ℕ)) (run : Run) (a b : Option (List ℕ))
+    → Going claims.during s start now run a b → LosesPiece now rest → IsSoOf claims s run
+    → IfSome start (λ bytes. HasAnswers claims s bytes rest a b [])
+going_reads claims s None now rest run a b so lost is_so = tt
+going_reads claims s (Some bytes) None rest run a b so lost is_so = absurd so
+going_reads claims s (Some bytes) (Some xs) rest run a b so lost is_so = record {
+  served = served claims.during s bytes xs rest lost.0 (inputs_of xs) so.goes.behind refl so.ends
+      (parted xs rest lost.0 lost.2);
   is_piece = lost.1;
+  finally = subst (IsSoOf claims s) so.goes.run_is is_so;
   written = with_nil a b (text_behind so.goes.behind) so.goes.written;
 }
 
@@ -301,36 +319,43 @@ own_parts own None ahead is = tt
 own_parts own (Some unread) ahead is = let same : own ++ unread ≡ ahead = cc in sym same
 
 -- the sink fails in what was printed last
-waits_break : (had : Histories) (s : Setup) (bytes now : List ℕ) (own : List ℕ) (rest : Option (List ℕ)) (run : Run)
+waits_break : (claims : Claims) (s : Setup) (bytes now : List ℕ) (own : List ℕ) (rest : Option (List ℕ)) (run : Run)
     (a b c : Option (List ℕ)) (pending : List ℕ) → prepend_known own rest ≡ Some now
-    → WaitsOver had s bytes now run a b pending → AppendsPrefix b c pending → BreaksOff had s bytes rest a c []
-waits_break had s bytes now own rest run a b c pending is so (n, le, grown) =
+    → WaitsOver claims.during s bytes now run a b pending → AppendsPrefix b c pending → IsSoOf claims s run
+    → IsCut claims s bytes rest a c []
+waits_break claims s bytes now own rest run a b c pending is so (n, le, grown) is_so =
     let w = so.waits in
     record {
-      served = served had s bytes now rest own (inputs_of now) w.behind refl so.ends (own_parts own rest now is);
-      text = text_behind w.behind;
-      is = inl refl;
-      said = w.first ++ take n pending;
-      unsaid = drop n pending;
-      parts = w.parts ∙ ap (λ (l : List ℕ). w.first ++ l) (sym (take-append-drop n pending))
-          ∙ sym (append_assoc w.first (take n pending) (drop n pending));
-      written = with_nil a c (w.first ++ take n pending)
-          (Appends-trans a b c w.first (take n pending) w.written grown);
+      breaks = record {
+        served = served claims.during s bytes now rest own (inputs_of now) w.behind refl so.ends
+            (own_parts own rest now is);
+        text = text_behind w.behind;
+        is = inl refl;
+        said = w.first ++ take n pending;
+        unsaid = drop n pending;
+        parts = w.parts ∙ ap (λ (l : List ℕ). w.first ++ l) (sym (take-append-drop n pending))
+            ∙ sym (append_assoc w.first (take n pending) (drop n pending));
+        written = with_nil a c (w.first ++ take n pending)
+            (Appends-trans a b c w.first (take n pending) w.written grown);
+      };
+      finally = subst (IsSoOf claims s) w.run_is is_so;
     }
 
-breaks_by : (had : Histories) (s : Setup) (start now : Option (List ℕ)) (own : List ℕ) (rest : Option (List ℕ)) (run : Run)
-    (a b c : Option (List ℕ)) (pending : List ℕ) → prepend_known own rest ≡ now → Waiting had s start now run a b pending
-    → AppendsPrefix b c pending → IfSome start (λ bytes. BreaksOff had s bytes rest a c [])
-breaks_by had s None now own rest run a b c pending is so part = tt
-breaks_by had s (Some bytes) None own rest run a b c pending is so part = absurd so
-breaks_by had s (Some bytes) (Some now) own rest run a b c pending is so part =
-    waits_break had s bytes now own rest run a b c pending is so part
+breaks_by : (claims : Claims) (s : Setup) (start now : Option (List ℕ)) (own : List ℕ) (rest : Option (List ℕ))
+    (run : Run) (a b c : Option (List ℕ)) (pending : List ℕ) → prepend_known own rest ≡ now
+    → Waiting claims.during s start now run a b pending → AppendsPrefix b c pending → IsSoOf claims s run
+    → IfSome start (λ bytes. IsCut claims s bytes rest a c [])
+breaks_by claims s None now own rest run a b c pending is so part is_so = tt
+breaks_by claims s (Some bytes) None own rest run a b c pending is so part is_so = absurd so
+breaks_by claims s (Some bytes) (Some now) own rest run a b c pending is so part is_so =
+    waits_break claims s bytes now own rest run a b c pending is so part is_so
 
-pub waiting_breaks : (had : Histories) (s : Setup) (start : Option (List ℕ)) (own : List ℕ) (rest : Option (List ℕ)) (run : Run)
-    (a b c : Option (List ℕ)) (pending : List ℕ) → Waiting had s start (prepend_known own rest) run a b pending
-    → AppendsPrefix b c pending → IfSome start (λ bytes. BreaksOff had s bytes rest a c [])
-waiting_breaks had s start own rest run a b c pending so part =
-    breaks_by had s start (prepend_known own rest) own rest run a b c pending refl so part
+pub waiting_breaks : (claims : Claims) (s : Setup) (start : Option (List ℕ)) (own : List ℕ) (rest : Option (List ℕ))
+    (run : Run) (a b c : Option (List ℕ)) (pending : List ℕ)
+    → Waiting claims.during s start (prepend_known own rest) run a b pending → AppendsPrefix b c pending
+    → IsSoOf claims s run → IfSome start (λ bytes. IsCut claims s bytes rest a c [])
+waiting_breaks claims s start own rest run a b c pending so part is_so =
+    breaks_by claims s start (prepend_known own rest) own rest run a b c pending refl so part is_so
 
 -- ---- behind the last line
 
@@ -352,27 +377,32 @@ at_end None end = tt
 at_end (Some unread) end = sym end
 
 -- the audits were written
-pub done_over : (had : Histories) (s : Setup) (bytes : List ℕ) (run : Run) (rest a b c : Option (List ℕ))
-    → (so : Goes had s (inputs_of bytes) run [] a b) → IsAtEnd rest
-    → Appends b c (audits_behind so.behind) → IsDoneOver had s bytes rest a c
-done_over had s bytes run rest a b c so end grown = record {
-  served = served had s bytes [] rest [] [] so.behind refl (ends_whole bytes) (at_end rest end);
+pub done_over : (claims : Claims) (s : Setup) (bytes : List ℕ) (run : Run) (rest a b c : Option (List ℕ))
+    → (so : Goes claims.during s (inputs_of bytes) run [] a b) → IsAtEnd rest
+    → Appends b c (audits_behind so.behind) → IsSoOf claims s run → IsDoneOver claims s bytes rest a c
+done_over claims s bytes run rest a b c so end grown is_so = record {
+  served = served claims.during s bytes [] rest [] [] so.behind refl (ends_whole bytes) (at_end rest end);
   all = refl;
+  finally = subst (IsSoOf claims s) so.run_is is_so;
   written = Appends-trans a b c (text_behind so.behind) (audits_behind so.behind) so.written grown;
 }
 
 -- of the audits a first part was written
-pub done_breaks : (had : Histories) (s : Setup) (bytes : List ℕ) (run : Run) (rest a b c : Option (List ℕ)) (said unsaid : List ℕ)
-    → (so : Goes had s (inputs_of bytes) run [] a b) → IsAtEnd rest
-    → audits_behind so.behind ≡ said ++ unsaid → Appends b c said → BreaksOff had s bytes rest a c []
-done_breaks had s bytes run rest a b c said unsaid so end parts grown =
+pub done_breaks : (claims : Claims) (s : Setup) (bytes : List ℕ) (run : Run) (rest a b c : Option (List ℕ))
+    (said unsaid : List ℕ) → (so : Goes claims.during s (inputs_of bytes) run [] a b) → IsAtEnd rest
+    → audits_behind so.behind ≡ said ++ unsaid → Appends b c said → IsSoOf claims s run
+    → IsCut claims s bytes rest a c []
+done_breaks claims s bytes run rest a b c said unsaid so end parts grown is_so =
     let first : List ℕ = text_behind so.behind in
     record {
-      served = served had s bytes [] rest [] [] so.behind refl (ends_whole bytes) (at_end rest end);
-      text = first ++ audits_behind so.behind;
-      is = inr (refl, refl);
-      said = first ++ said;
-      unsaid = unsaid;
-      parts = ap (λ (l : List ℕ). first ++ l) parts ∙ sym (append_assoc first said unsaid);
-      written = with_nil a c (first ++ said) (Appends-trans a b c first said so.written grown);
+      breaks = record {
+        served = served claims.during s bytes [] rest [] [] so.behind refl (ends_whole bytes) (at_end rest end);
+        text = first ++ audits_behind so.behind;
+        is = inr (refl, refl);
+        said = first ++ said;
+        unsaid = unsaid;
+        parts = ap (λ (l : List ℕ). first ++ l) parts ∙ sym (append_assoc first said unsaid);
+        written = with_nil a c (first ++ said) (Appends-trans a b c first said so.written grown);
+      };
+      finally = subst (IsSoOf claims s) so.run_is is_so;
     }

@@ -3,9 +3,10 @@ use Rattle.std.proofs.Common.{◌≡◌, ℕ, ◌+◌, List, [], ◌++◌, Optio
 use Rattle.qq_log.specs.Stable.{Stable}
 use Rattle.qq_setup.specs.declared.setup.Setup.{Setup}
 use Rattle.qq_script_lines.specs.declared.line.ScriptLine.{ScriptLine}
-use Rattle.qq_script_lines.specs.declared.line.ScriptLine.TheVariants.{Crash, Restart}
+use Rattle.qq_script_lines.specs.declared.line.ScriptLine.TheVariants.{Attach, Crash, Restart}
 use Rattle.qq_ports.specs.Lines.{first_line, TakesLine, LosesSome, FirstLineLeads}
 use Rattle.qq_cluster.specs.Cluster.{Setup as ClusterSetup, Cluster, ClusterEvent}
+use Rattle.qq_cluster.specs.Outcome.{Outcome}
 use Rattle.qq_cluster.specs.Texts.{text_of}
 use Rattle.qq_cluster_run.specs.declared.stop.AskStop.{AskStop}
 use Rattle.qq_cluster_run.specs.declared.stop.AskStop.TheVariants as asks
@@ -14,11 +15,11 @@ use Rattle.qq_cluster_run.specs.Asking.{HasAskCause}
 use Rattle.qq_cluster_run.specs.Endings.{Ending}
 use Rattle.qq_cluster_run.specs.Inputs.{Input}
 use Rattle.qq_cluster_run.specs.Reading.{Asks, says}
-use Rattle.qq_cluster_run.specs.Runs.{HasStopped, stop_of}
+use Rattle.qq_cluster_run.specs.Runs.{HasStopped, IsRefusal, stop_of}
 use Rattle.qq_cluster_run.specs.Service.{HasServed, HasServeCause}
-use Rattle.qq_cluster_run.specs.Serving.{Histories, Run, EndsSpent, EndsDamaged, EndsLost, EndsUnsupported, IsReadOf, StopsAt, MayStop, EndsRun, cluster_in, setup_in}
+use Rattle.qq_cluster_run.specs.Serving.{Claims, Histories, Run, EndsSpent, EndsDamaged, EndsLost, EndsUnsupported, IsReadOf, StopsAt, MayStop, EndsRun, cluster_in, setup_in}
 use Rattle.qq_cluster_run.specs.Setup.{cluster_setup}
-use Rattle.qq_cluster_run.specs.Troubles.{Trouble, YardFails, DiskFails, FilesBreak, QueueIsFound, NumberEnds}
+use Rattle.qq_cluster_run.specs.Troubles.{Trouble, YardFails, DiskFails, FilesBreak, QueueIsFound, NumberEnds, TakerIsGone}
 use Rattle.qq_cluster_run.proofs.Ahead.{Going, going_ends, going_stops}
 
 -- what has happened once a line was served
@@ -26,7 +27,7 @@ abbrev pub run_after : Run → List ClusterEvent → Run
 run_after run events = record { lines = run.lines + 1; logs = run.logs; events = events }
 
 pub answers_from : (had : Histories) (s : Setup) (run : Run) (line : ScriptLine) (bytes : List ℕ)
-    (Stands : Run → Type 0) (old new : List ℕ) → says s run.lines (Some bytes) ≡ Asks line
+    (Stands : Run → Type 0) (old new : Outcome) → says s run.lines (Some bytes) ≡ Asks line
     → HasServed had (setup_in s run) run.events line (λ events. Stands (run_after run events)) old new
     → Answers had s run (Some bytes) Stands old new
 answers_from had s run line bytes Stands old new asks so = record {
@@ -43,10 +44,11 @@ answers_from had s run line bytes Stands old new asks so = record {
     said_is = refl;
   };
   says = so.says;
+  sees = so.sees;
 }
 
 pub stops_from : (met : Trouble → Type 0) (s : Setup) (run : Run) (line : ScriptLine) (bytes : List ℕ) (stop : AskStop)
-    → says s run.lines (Some bytes) ≡ Asks line → HasServeCause met (setup_in s run) run.events line stop
+    → says s run.lines (Some bytes) ≡ Asks line → HasServeCause met (setup_in s run) run.events (run.lines + 1) line stop
     → HasAnswerCause met s run (Some bytes) stop
 stops_from met s run line bytes (asks.Ended ending) asks cause =
     inr (record { line = line; asks = asks; stops = cause })
@@ -124,22 +126,24 @@ unsupported_earlier met met' f s ending so = record {
     by k (Some lane) found = f (QueueIsFound (cluster_setup s) [] k so.place lane) found
 
 stops_earlier : (met met' : Trouble → Type 0) → IsEarlier met met' → (setup : ClusterSetup)
-    (events : List ClusterEvent) (line : ScriptLine) (ending : Ending) → StopsAt met setup events line ending
-    → StopsAt met' setup events line ending
-stops_earlier met met' f setup events (Crash nodes image) ending (rose, is) = (f YardFails rose, is)
-stops_earlier met met' f setup events (Restart nodes) ending (inl damaged) =
+    (events : List ClusterEvent) (number : ℕ) (line : ScriptLine) (ending : Ending)
+    → StopsAt met setup events number line ending → StopsAt met' setup events number line ending
+stops_earlier met met' f setup events number (Attach by at tag taker) ending (gone, is) =
+    (f (TakerIsGone setup events taker) gone, is)
+stops_earlier met met' f setup events number (Crash nodes image) ending (rose, is) = (f YardFails rose, is)
+stops_earlier met met' f setup events number (Restart nodes) ending (inl damaged) =
     inl (damaged_earlier met met' f setup _ events ending damaged)
-stops_earlier met met' f setup events (Restart nodes) ending (inr lost) =
+stops_earlier met met' f setup events number (Restart nodes) ending (inr lost) =
     inr (lost_earlier met met' f setup _ events ending lost)
-stops_earlier met met' f setup events _ ending cause = absurd cause
+stops_earlier met met' f setup events number _ ending cause = absurd cause
 
 may_stop_earlier : (met met' : Trouble → Type 0) → IsEarlier met met' → (setup : ClusterSetup)
-    (events : List ClusterEvent) (line : ScriptLine) (ending : Ending) → MayStop met setup events line ending
-    → MayStop met' setup events line ending
-may_stop_earlier met met' f setup events line ending (inl spent) =
+    (events : List ClusterEvent) (number : ℕ) (line : ScriptLine) (ending : Ending)
+    → MayStop met setup events number line ending → MayStop met' setup events number line ending
+may_stop_earlier met met' f setup events number line ending (inl spent) =
     inl (spent_earlier met met' f setup _ events ending spent)
-may_stop_earlier met met' f setup events line ending (inr stops) =
-    inr (stops_earlier met met' f setup events line ending stops)
+may_stop_earlier met met' f setup events number line ending (inr stops) =
+    inr (stops_earlier met met' f setup events number line ending stops)
 
 pub met_earlier : (met met' : Trouble → Type 0) → IsEarlier met met' → (s : Setup) (run : Run) (input : Input)
     (ending : Ending) → EndsRun met s run input ending → EndsRun met' s run input ending
@@ -148,16 +152,22 @@ met_earlier met met' f s run input ending (inr stops) =
     inr (record {
       line = stops.line;
       asks = stops.asks;
-      stops = may_stop_earlier met met' f (setup_in s run) run.events stops.line ending stops.stops;
+      stops = may_stop_earlier met met' f (setup_in s run) run.events (run.lines + 1) stops.line ending stops.stops;
     })
 
-pub answer_stops : (met met' : Trouble → Type 0) (had : Histories) (source sink : Type 0) → IsEarlier met met'
+-- what is so, where a line is refused
+abbrev pub IsSoAt : Claims → Setup → Run → AskStop → Type 0
+IsSoAt claims s run (asks.Ended ending) = IsRefusal ending → claims.finally (setup_in s run) run.events
+IsSoAt claims s run asks.NoMemory = Unit {0}
+
+pub answer_stops : (met met' : Trouble → Type 0) (claims : Claims) (source sink : Type 0) → IsEarlier met met'
     → (stop : AskStop) (s : Setup) (start now next rest : Option (List ℕ)) (run : Run) (line : List ℕ)
     (a b : Option (List ℕ)) → ((bytes : List ℕ) → FirstLineLeads bytes (first_line bytes))
-    → Going had s start now run a b → TakesLine now next line → LosesSome now rest
-    → HasAnswerCause met s run (Some line) stop → HasStopped (stop_of stop) s start rest a b source sink met' had []
-answer_stops met met' had source sink f (asks.Ended ending) s start now next rest run line a b law so takes lost cause =
-    going_ends met' had s start now next rest ending run line a b law so takes lost
-    (met_earlier met met' f s run (Some line) ending cause)
-answer_stops met met' had source sink f asks.NoMemory s start now next rest run line a b law so takes lost cause =
-    going_stops had s start now rest run a b so lost
+    → Going claims.during s start now run a b → TakesLine now next line → LosesSome now rest
+    → HasAnswerCause met s run (Some line) stop → IsSoAt claims s run stop
+    → HasStopped (stop_of stop) s start rest a b source sink met' claims []
+answer_stops met met' claims source sink f (asks.Ended ending) s start now next rest run line a b law so takes lost cause is_so =
+    going_ends met' claims s start now next rest ending run line a b law so takes lost
+    (met_earlier met met' f s run (Some line) ending cause) is_so
+answer_stops met met' claims source sink f asks.NoMemory s start now next rest run line a b law so takes lost cause is_so =
+    going_stops claims.during s start now rest run a b so lost

@@ -12,7 +12,7 @@ use Rattle.qq_words.specs.declared.options.Options.{Options}
 use Rattle.qq_cluster_run.specs.Definitions.{Files, IsMadeBy, IsSetupOver, MayNotRead, made_text, read_export, refused_export}
 use Rattle.qq_cluster_run.specs.Endings.{Ending, no_memory}
 use Rattle.qq_cluster_run.specs.Runs.{Closes, HasRun, IsBehindMade, IsCutInMade, IsSetup}
-use Rattle.qq_cluster_run.specs.Statuses.{Had, HasEnded, HasEndedOver, Met, SinkRose, SourceRose, Streams, Told, Done, Refused, ReadFault, WriteFault, YardFault, Damaged, Lost, Limited, NoMemory, Spent}
+use Rattle.qq_cluster_run.specs.Statuses.{Claimed, HasEnded, HasEndedOver, Met, SinkRose, SourceRose, Streams, Told, Done, Refused, ReadFault, WriteFault, YardFault, Damaged, Lost, Limited, NoMemory, Spent}
 use Rattle.qq_cluster_run.proofs.Statuses.{told}
 
 -- ---- the setup
@@ -32,12 +32,12 @@ is-any files options s is = any-file options.definitions files options (state_of
 behind : (n : ℕ) (options : Options) (files : Files) (s : Streams) (setup : Setup) (made : Option Made)
     → IsSetupOver files options setup → setup.made ≡ made
     → IsBehindMade n setup (Some s.bytes) (Some s.rest) (Some s.old) (Some s.new) (SourceRose s) (SinkRose s) (Met s)
-    (Had s)
+    (Claimed s)
     → HasEnded n options (record s { old = s.old ++ made_text made })
 behind n options files s setup made is_setup is so = by so.mid so.made so.ends
   where
     by : (mid : Option (List ℕ)) → Appends (Some s.old) mid (made_text setup.made)
-        → HasRun n setup (Some s.bytes) (Some s.rest) mid (Some s.new) (SourceRose s) (SinkRose s) (Met s) (Had s)
+        → HasRun n setup (Some s.bytes) (Some s.rest) mid (Some s.new) (SourceRose s) (SinkRose s) (Met s) (Claimed s)
         → HasEnded n options (record s { old = s.old ++ made_text made })
     by None grown ends = absurd grown
     by (Some mid) grown ends = inr (record {
@@ -45,7 +45,7 @@ behind n options files s setup made is_setup is so = by so.mid so.made so.ends
       is_setup = is-any files options setup is_setup;
       ends = subst
           (λ (l : List ℕ). HasRun n setup (Some s.bytes) (Some s.rest) (Some l) (Some s.new) (SourceRose s) (SinkRose s)
-          (Met s) (Had s))
+          (Met s) (Claimed s))
           (grown ∙ ap (λ (m : Option Made). s.old ++ made_text m) is) ends;
     })
 
@@ -86,7 +86,7 @@ plain-ends n before after options files s none (inr script) = by script.ends
 
     by : IsCutInMade n script.setup (Some s.bytes) (Some s.rest) (Some s.old) (Some s.new) (SinkRose s)
         ⊎ IsBehindMade n script.setup (Some s.bytes) (Some s.rest) (Some s.old) (Some s.new) (SourceRose s)
-        (SinkRose s) (Met s) (Had s) → HasEnded n options s
+        (SinkRose s) (Met s) (Claimed s) → HasEnded n options s
     by (inl cut) = absurd (none-made script.setup.made made cut.some)
     by (inr so) = old-again n options s (behind n options files s script.setup None script.is_setup made so)
 
@@ -205,7 +205,7 @@ made-first n before after options files s name bytes v (inr script) named is rea
 
     by : IsCutInMade n script.setup (Some s.bytes) (Some s.rest) (Some s.old) (Some s.new) (SinkRose s)
         ⊎ IsBehindMade n script.setup (Some s.bytes) (Some s.rest) (Some s.old) (Some s.new) (SourceRose s)
-        (SinkRose s) (Met s) (Had s)
+        (SinkRose s) (Met s) (Claimed s)
         → HasEnded n options (record s { old = s.old ++ made_text v.made }) ⊎ Else n before after s
     by (inl cut) = inr (inr (inl (cut.status_is, cut.rose)))
     by (inr so) =
@@ -261,7 +261,7 @@ refused-by before after options files s (inr script) = by script.ends
   where
     by : IsCutInMade 3 script.setup (Some s.bytes) (Some s.rest) (Some s.old) (Some s.new) (SinkRose s)
         ⊎ IsBehindMade 3 script.setup (Some s.bytes) (Some s.rest) (Some s.old) (Some s.new) (SourceRose s)
-        (SinkRose s) (Met s) (Had s) → IsThree options files s
+        (SinkRose s) (Met s) (Claimed s) → IsThree options files s
     by (inl cut) = absurd (let e = cut.status_is in omega (arith, e))
     by (inr so) =
         let ended = behind 3 options (Some files) s script.setup script.setup.made script.is_setup refl so in

@@ -18,7 +18,8 @@ pub mod PrintedOnce
 pub mod Printing
 pub mod PlainRows
 pub mod QueueRows
-pub mod Said
+pub mod RefusalsTold
+mod Said
 pub mod Says
 pub mod Serial
 pub mod Statuses

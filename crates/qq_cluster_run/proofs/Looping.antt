@@ -5,14 +5,15 @@ use Rattle.std.specs.Io.KnownBytes.{Appends, IsAtEnd, prepend_known}
 use Rattle.std.proofs.lemmas.Option.{IfSome_then}
 use Rattle.qq_setup.specs.declared.setup.Setup.{Setup}
 use Rattle.qq_ports.specs.Lines.{first_line, ahead, TakesLine, FirstLineLeads}
+use Rattle.qq_cluster.specs.Outcome.{Outcome}
 use Rattle.qq_cluster.specs.Texts.{audits_text}
 use Rattle.qq_cluster_run.specs.declared.status.TheConstants.{DONE}
 use Rattle.qq_cluster_run.specs.Answers.{Answers, IsServedToEnd}
 use Rattle.qq_cluster_run.specs.Pieces.{HasSomePrefix}
-use Rattle.qq_cluster_run.specs.Runs.{BreaksOff, IsDone}
+use Rattle.qq_cluster_run.specs.Runs.{IsCut, IsDone}
 use Rattle.qq_cluster_run.specs.Service.{HasOpened}
-use Rattle.qq_cluster_run.specs.Serving.{Histories, Run, cluster_in, setup_in}
-use Rattle.qq_cluster_run.proofs.Ahead.{Going, Waiting, first_run, waiting_start, waiting_written, waiting_line, going_done, ahead_ends, done_over, done_breaks}
+use Rattle.qq_cluster_run.specs.Serving.{Claims, Histories, Run, cluster_in, setup_in}
+use Rattle.qq_cluster_run.proofs.Ahead.{Going, IsSoOf, Waiting, first_run, waiting_start, waiting_written, waiting_line, going_done, ahead_ends, done_over, done_breaks}
 
 -- the audits of a run's queues
 abbrev pub audits_in : Setup → Run → List ℕ
@@ -25,14 +26,15 @@ pub record LoopsOn (had : Histories) (s : Setup) (Stands : Run → Type 0) (star
   pub stands : Stands run
   pub waits : Waiting had s start now run a b pending
 
-pub loops_start : (had : Histories) (s : Setup) (Stands : Run → Type 0) (left a : Option (List ℕ)) (own text : List ℕ)
-    → own ≡ [] → HasOpened had s Stands [] text → LoopsOn had s Stands left (ahead own left) a a 0 text
-loops_start had s Stands left a own text none so = record {
+pub loops_start : (had : Histories) (s : Setup) (Stands : Run → Type 0) (left a : Option (List ℕ)) (own : List ℕ)
+    (before later : Outcome) → own ≡ [] → before.text ≡ [] → HasOpened had s Stands before later
+    → LoopsOn had s Stands left (ahead own left) a a 0 later.text
+loops_start had s Stands left a own before later none empty so = record {
   run = first_run so;
   lines = refl;
   stands = so.stands;
-  waits = subst (λ (p : List ℕ). Waiting had s left (prepend_known p left) (first_run so) a a text) (sym none)
-      (waiting_start had s left Stands a text so);
+  waits = subst (λ (p : List ℕ). Waiting had s left (prepend_known p left) (first_run so) a a later.text) (sym none)
+      (waiting_start had s left Stands a before later empty so);
 }
 
 -- what was pending is written
@@ -44,9 +46,10 @@ loops_written had s Stands start now a b c served pending piece so is grown =
 
 -- a line more is served
 pub loops_line : (had : Histories) (s : Setup) (Stands : Run → Type 0) (start now next a b : Option (List ℕ))
-    (served : ℕ) (run : Run) (line before later : List ℕ) → ((bytes : List ℕ) → FirstLineLeads bytes (first_line bytes))
-    → run.lines ≡ served → Going had s start now run a b → TakesLine now next line → before ≡ []
-    → Answers had s run (Some line) Stands before later → LoopsOn had s Stands start next a b (served + 1) later
+    (served : ℕ) (run : Run) (line : List ℕ) (before later : Outcome) → ((bytes : List ℕ) → FirstLineLeads bytes (first_line bytes))
+    → run.lines ≡ served → Going had s start now run a b → TakesLine now next line
+    → before.text ≡ [] → Answers had s run (Some line) Stands before later
+    → LoopsOn had s Stands start next a b (served + 1) later.text
 loops_line had s Stands start now next a b served run line before later law lines going takes none so = record {
   run = so.next;
   lines = ap (λ (r : Run). r.lines) so.serves.next_is ∙ ap (λ (n : ℕ). n + 1) lines;
@@ -69,21 +72,22 @@ loops_end had s Stands start now a b left run own stands going end stays = recor
 -- ---- behind the last line
 
 -- the audits were written
-pub served_done : (had : Histories) (s : Setup) (Stands : Run → Type 0) (left rest a b c : Option (List ℕ))
-    → (so : IsServedToEnd had s Stands left rest a b) → Appends b c (audits_in s so.run) → IsDone DONE had s left rest a c
-served_done had s Stands left rest a b c so grown = record {
+pub served_done : (claims : Claims) (s : Setup) (Stands : Run → Type 0) (left rest a b c : Option (List ℕ))
+    → (so : IsServedToEnd claims.during s Stands left rest a b) → Appends b c (audits_in s so.run)
+    → IsSoOf claims s so.run → IsDone DONE claims s left rest a c
+served_done claims s Stands left rest a b c so grown is_so = record {
   status_is = refl;
   ended = so.ended;
   over = IfSome_then left so.goes
-      (λ bytes goes. done_over had s bytes so.run rest a b c goes so.ended
-      (subst (λ (r : Run). Appends b c (audits_in s r)) goes.run_is grown));
+      (λ bytes goes. done_over claims s bytes so.run rest a b c goes so.ended
+      (subst (λ (r : Run). Appends b c (audits_in s r)) goes.run_is grown) is_so);
 }
 
 -- a part of them was
-pub served_breaks : (had : Histories) (s : Setup) (Stands : Run → Type 0) (left rest a b c : Option (List ℕ))
-    → (so : IsServedToEnd had s Stands left rest a b) → HasSomePrefix b c (audits_in s so.run)
-    → IfSome left (λ bytes. BreaksOff had s bytes rest a c [])
-served_breaks had s Stands left rest a b c so (unsaid, part) =
+pub served_breaks : (claims : Claims) (s : Setup) (Stands : Run → Type 0) (left rest a b c : Option (List ℕ))
+    → (so : IsServedToEnd claims.during s Stands left rest a b) → HasSomePrefix b c (audits_in s so.run)
+    → IsSoOf claims s so.run → IfSome left (λ bytes. IsCut claims s bytes rest a c [])
+served_breaks claims s Stands left rest a b c so (unsaid, part) is_so =
     IfSome_then left so.goes
-    (λ bytes goes. done_breaks had s bytes so.run rest a b c part.prefix unsaid goes so.ended
-    (ap (audits_in s) (sym goes.run_is) ∙ part.is) part.written)
+    (λ bytes goes. done_breaks claims s bytes so.run rest a b c part.prefix unsaid goes so.ended
+    (ap (audits_in s) (sym goes.run_is) ∙ part.is) part.written is_so)

@@ -9,8 +9,8 @@ use Rattle.qq_log.specs.Stable.{Stable}
 use Rattle.qq_setup.specs.declared.setup.Setup.{Setup}
 use Rattle.qq_words.specs.declared.options.Options.{Options}
 use Rattle.qq_script_lines.specs.declared.line.ScriptLine.{ScriptLine}
-use Rattle.qq_cluster.specs.Cluster.{Setup as ClusterSetup, new_cluster}
-use Rattle.qq_cluster.specs.ClusterLaws.{LeavesNoChoice, has_failure, findings}
+use Rattle.qq_cluster.specs.Cluster.{Setup as ClusterSetup, ClusterEvent, new_cluster}
+use Rattle.qq_cluster.specs.ClusterLaws.{LeavesNoChoice, has_failure, findings, verdicts}
 use Rattle.qq_cluster.specs.Lines.{IsRun}
 use Rattle.qq_cluster_run.specs.declared.ending.TheConstants.{LINES_LIMIT}
 use Rattle.qq_cluster_run.specs.Endings.{limit_lines}
@@ -18,9 +18,9 @@ use Rattle.qq_cluster_run.specs.Inputs.{Input, inputs_of}
 use Rattle.qq_cluster_run.specs.Reading.{Asks, Ends, read_input, says_by, says, AskFor}
 use Rattle.qq_cluster_run.specs.Serving.{AnyDisks, Behind, IsReadOf, setup_behind, text_behind, audits_behind}
 use Rattle.qq_cluster_run.specs.Setup.{Logs, cluster_over, cluster_setup}
-use Rattle.qq_cluster_run.specs.Troubles.{Trouble, YardFails, DiskFails}
+use Rattle.qq_cluster_run.specs.Troubles.{Trouble, YardFails, DiskFails, TakerIsGone}
 use Rattle.qq_cluster_run.specs.Runs.{IsSetup}
-use Rattle.qq_cluster_run.specs.Statuses.{Streams, Met, Had, HasEnded, Over, run_over, IsNext, IsYardFault, NoDisk, AtCrash, MeetsDamage, DamagedAtOpening, DamagedAtRestart, HasLost, LostAtOpening, LostAtRestart, IsSpent, SpentAtOpening, SpentAtLine, PassesLimit, Told, Done, Refused, ReadFault, WriteFault, YardFault, Damaged, Lost, Limited, NoMemory, Spent}
+use Rattle.qq_cluster_run.specs.Statuses.{Streams, Met, Had, HasEnded, Over, run_over, IsNext, IsFaulty, IsRefused, IsYardFault, NoDisk, AtCrash, MeetsDamage, DamagedAtOpening, DamagedAtRestart, HasLost, LostAtOpening, LostAtRestart, IsSpent, SpentAtOpening, SpentAtLine, PassesLimit, Told, Done, Refused, ReadFault, WriteFault, YardFault, Damaged, Lost, Limited, NoMemory, Spent}
 use Rattle.qq_cluster_run.specs.Printing.{HasNoFault}
 use Rattle.qq_cluster_run.proofs.Says.{says_within, says_past}
 use Rattle.qq_cluster_run.proofs.Statuses.{told}
@@ -31,7 +31,7 @@ use Rattle.qq_cluster_run.proofs.Statuses.{told}
 abbrev GoAlike : {s : Setup} {all : List Input} → Behind AnyDisks s all [] → Behind AnyDisks s all [] → Type 0
 GoAlike b c =
     b.logs ≡ c.logs → has_failure b.events ≡ false → has_failure c.events ≡ false → findings b.events ≡ findings c.events
-    → b.events ≡ c.events
+    → verdicts b.events ≡ verdicts c.events → b.events ≡ c.events
 
 pub asked-once : (s : Setup) (before : ℕ) (inputs : List Input) (lines others : List ScriptLine) → AskFor s before inputs lines
     → AskFor s before inputs others → lines ≡ others
@@ -50,7 +50,7 @@ abbrev pub Settles : Type 0
 Settles = (setup : ClusterSetup) (lines : List ScriptLine) → LeavesNoChoice (IsRun setup lines) (new_cluster setup)
 
 pub go_alike : Settles → (s : Setup) (all : List Input) (b c : Behind AnyDisks s all []) → GoAlike b c
-go_alike settle s all b c logs fine also same =
+go_alike settle s all b c logs fine also same judged =
     let whole : all ≡ b.read = b.is ∙ append-nil b.read in
     let other : all ≡ c.read = c.is ∙ append-nil c.read in
     let lines : c.lines ≡ b.lines = asked-once s 0 all c.lines b.lines
@@ -60,13 +60,21 @@ go_alike settle s all b c logs fine also same =
     (subst (λ (ls : List ScriptLine). IsRun (cluster_over s b.logs) ls (new_cluster (cluster_over s b.logs)) c.events)
     lines
     (subst (λ (logs : Logs). IsRun (cluster_over s logs) c.lines (new_cluster (cluster_over s logs)) c.events)
-    (sym logs) c.allowed)) fine also same
+    (sym logs) c.allowed)) fine also same judged
 
 -- ---- a line that asks for something doesn't end the script
 
--- all is served, the disk or its files stop the run, there is no memory, or a number stands at its end
-abbrev IsServedStatus : ℕ → Type 0
-IsServedStatus n = (n ≡ 0) ⊎ ((n ≡ 7) ⊎ ((n ≡ 8) ⊎ ((n ≡ 9) ⊎ ((n ≡ 12) ⊎ (n ≡ 20)))))
+-- a taker was to be given that isn't there
+abbrev IsMissing : Streams → Type 0
+IsMissing s =
+    (setup : ClusterSetup)
+    × ((events : List ClusterEvent) × ((number : ℕ) × Contains s.troubles (TakerIsGone setup events number)))
+
+-- all is served, a taker that is to be given isn't there, the disk or its files stop the run, there is no memory, or a
+-- number stands at its end
+abbrev IsServedStatus : Streams → ℕ → Type 0
+IsServedStatus s n =
+    (n ≡ 0) ⊎ (((n ≡ 4) × IsMissing s) ⊎ ((n ≡ 7) ⊎ ((n ≡ 8) ⊎ ((n ≡ 9) ⊎ ((n ≡ 12) ⊎ (n ≡ 20))))))
 
 record AsksFor (s : Setup) (lines : ℕ) (input : Input) : Type 0 where
   line : ScriptLine
@@ -117,25 +125,34 @@ passes-none s lines input text (inl (le, is)) asks =
     let e : Ends limit_lines ≡ Asks asks.line = sym (says_past s lines input le) ∙ asks.is in absurd cc
 passes-none s lines input text (inr (size, reads, is)) asks = says-fault s lines input (faults.Body size) reads asks
 
+-- a line that asks for something is refused for want of a taker alone
+refused-missing : (options : Options) (s : Streams) → HasNoFault options s → (so : IsRefused options s) → IsMissing s
+refused-missing options s fine so = by so.faulty
+  where
+    by : IsFaulty so.over so.input so.fault → IsMissing s
+    by (inl reads) =
+        absurd (says-fault so.over.setup (run_over so.over).lines so.input so.fault reads
+        (next-asks options s fine so.over so.input so.is_next))
+    by (inr (is, missing)) = (_, (_, (missing.number, missing.met)))
+
 pub served_status : (n : ℕ) (options : Options) (s : Streams) → HasEnded n options s → HasNoFault options s
-    → IsServedStatus n
+    → IsServedStatus s n
+unfolding refused-missing
 served_status n options s ended fine = by (told n options s ended)
   where
-    by : Told n options s → IsServedStatus n
+    by : Told n options s → IsServedStatus s n
     by (Done is served) = inl is
-    by (Refused is so) =
-        absurd (says-fault so.over.setup (run_over so.over).lines so.input so.fault so.reads
-        (next-asks options s fine so.over so.input so.is_next))
+    by (Refused is so) = inr (inl (is, refused-missing options s fine so))
     by (ReadFault is so) = absurd (fine.read so.rose)
     by (WriteFault is rose so) = absurd (fine.written rose)
-    by (YardFault is so) = inr (inl is)
-    by (Damaged is so) = inr (inr (inl is))
-    by (Lost is so) = inr (inr (inr (inl is)))
+    by (YardFault is so) = inr (inr (inl is))
+    by (Damaged is so) = inr (inr (inr (inl is)))
+    by (Lost is so) = inr (inr (inr (inr (inl is))))
     by (Limited is so) =
         absurd (passes-none so.over.setup (run_over so.over).lines so.input so.text so.passes
         (next-asks options s fine so.over so.input so.is_next))
-    by (NoMemory is so) = inr (inr (inr (inr (inl is))))
-    by (Spent is so) = inr (inr (inr (inr (inr is))))
+    by (NoMemory is so) = inr (inr (inr (inr (inr (inl is)))))
+    by (Spent is so) = inr (inr (inr (inr (inr (inr is)))))
 
 -- ---- no trouble
 
@@ -182,8 +199,8 @@ fine_status n options s ended fine none = by (told n options s ended)
     by : Told n options s → IsFineStatus n
     by (Done is served) = inl is
     by (Refused is so) =
-        absurd (says-fault so.over.setup (run_over so.over).lines so.input so.fault so.reads
-        (next-asks options s fine so.over so.input so.is_next))
+        let missing : IsMissing s = refused-missing options s fine so in
+        absurd (has-none s.troubles (TakerIsGone missing.0 missing.1.0 missing.1.1.0) none missing.1.1.1)
     by (ReadFault is so) = absurd (fine.read so.rose)
     by (WriteFault is rose so) = absurd (fine.written rose)
     by (YardFault is so) = absurd (no-yard options s none so)
@@ -202,12 +219,15 @@ abbrev PrintsAll : Options → Streams → Type 0
 PrintsAll options s =
     (setup : Setup) × IsSetup options setup
     × ((b : Behind (Had s) setup (inputs_of s.bytes) []) × (s.rest ≡ [])
-    × Contains s.histories (setup_behind b, b.events) × (s.new ≡ s.old ++ (text_behind b ++ audits_behind b)))
+    × Contains s.histories (setup_behind b, b.events) × Contains s.courses (setup_behind b, b.events)
+    × (s.new ≡ s.old ++ (text_behind b ++ audits_behind b)))
 
 -- what is left is nothing
 record AllServed (options : Options) (s : Streams) (setup : Setup) (left : List Input)
     (b : Behind (Had s) setup (inputs_of s.bytes) left) : Type 0 where
   behind : Behind (Had s) setup (inputs_of s.bytes) []
+  setup_is : setup_behind behind ≡ setup_behind b
+  events : behind.events ≡ b.events
   text : text_behind b ++ audits_behind b ≡ text_behind behind ++ audits_behind behind
 
 all-served : (options : Options) (s : Streams) (setup : Setup) (left : List Input)
@@ -225,8 +245,18 @@ all-served options s setup left b none = record {
     opened = b.opened;
     disks = b.disks;
   };
+  setup_is = refl;
+  events = refl;
   text = refl;
 }
+
+-- nothing has happened but what served all lines
+all-course : (options : Options) (s : Streams) (setup : Setup) (left : List Input)
+    (b : Behind (Had s) setup (inputs_of s.bytes) left) → (all : AllServed options s setup left b)
+    → Contains s.courses (setup_behind b, b.events) → Contains s.courses (setup_behind all.behind, all.behind.events)
+all-course options s setup left b all course =
+    subst (λ (es : List ClusterEvent). Contains s.courses (setup_behind all.behind, es)) (sym all.events)
+    (subst (λ (c : ClusterSetup). Contains s.courses (c, b.events)) (sym all.setup_is) course)
 
 pub prints_all : (options : Options) (s : Streams) → HasEnded 0 options s → PrintsAll options s
 prints_all options s ended = by (told 0 options s ended)
@@ -236,7 +266,14 @@ prints_all options s ended = by (told 0 options s ended)
         let all = all-served options s so.over.setup so.over.served.left so.over.served.behind so.all in (
           so.over.setup,
           so.over.is_setup,
-          (all.behind, so.read, all.behind.disks, so.prints ∙ ap (λ (l : List ℕ). s.old ++ l) all.text),
+          (
+            all.behind,
+            so.read,
+            all.behind.disks,
+            all-course options s so.over.setup so.over.served.left
+                so.over.served.behind all so.course,
+            so.prints ∙ ap (λ (l : List ℕ). s.old ++ l) all.text,
+          ),
         )
     by (Refused is so) = absurd (omega (arith, is))
     by (ReadFault is so) = absurd (omega (arith, is))

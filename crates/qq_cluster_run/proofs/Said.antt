@@ -24,7 +24,7 @@ use Rattle.qq_script_lines.specs.declared.line.Place.{Place}
 use Rattle.qq_script_lines.specs.declared.line.ScriptLine.{ScriptLine}
 use Rattle.qq_script_lines.specs.declared.line.ScriptLine.TheVariants as lines
 use Rattle.qq_script_lines.specs.Bodies.{limited, body_of}
-use Rattle.qq_script_lines.specs.Arguments.{publish, one_message, queue_of, first_queue, no_word, one_session, one_queue, one_node, nodes_of, some_nodes, served_at, queue_at, one_member, crash, key_of, send}
+use Rattle.qq_script_lines.specs.Arguments.{attach, attach_to, consumer_of, is_written, publish, one_message, queue_of, first_queue, no_word, one_session, one_queue, one_node, nodes_of, some_nodes, served_at, queue_at, one_member, crash, key_of, send}
 use Rattle.qq_script_lines.specs.Commands.{bare, bare_or_none, one_tag, deliveries, subscribe, is_drain, amount_of, credit, plain_command, command_of, client_at, client_line}
 use Rattle.qq_script_lines.specs.Images.{image_of}
 use Rattle.qq_script_lines.specs.Lines.{is_nothing, publish_text, node_line, plain_line, or_client, read, may_stand, in_place, read_words, text_in, read_text, read_bytes, parse_line}
@@ -435,6 +435,33 @@ crash-said s logs (node ∷ image) =
     (λ of. ok_then (AreNodes (cluster_over s logs)) (Names s logs) (nodes_of s node) _ (nodes-said s logs node)
     (λ nodes are. are))
 
+abbrev IsConsumer : SessionId × ℕ → Type 0
+IsConsumer p = IsClient p.0 × IsPositive 32 p.1
+
+consumer-said : (session tag : List ℕ) → IfOk (consumer_of session tag) IsConsumer
+unfolding consumer_of
+consumer-said session tag =
+    ok_then IsClient IsConsumer (or_fault Number (session_of session)) _ (session-said session)
+    (λ by client'. ok_then (IsPositive 32) IsConsumer (or_fault Number (tag_of tag)) _ (tag-said tag)
+    (λ to positive. (client', positive)))
+
+attach-to-said : (s : Setup) (logs : Logs) (p : SessionId × ℕ) (queue taker : List ℕ) → IsConsumer p
+    → IfOk (attach_to s p.0 p.1 queue taker) (Names s logs)
+unfolding attach_to
+attach-to-said s logs p queue taker of =
+    ok_next (Names s logs) (is_written taker) _
+    (λ none. ok_then (IsAt s) (Names s logs) (queue_of s queue) _ (queue-said s queue)
+    (λ at here. ok_then (IsPositive 32) (Names s logs) (or_fault NoSuch (number_in 1 (2 ^ 32 - 1) taker)) _
+    (some_ok (IsPositive 32) NoSuch (number_in 1 (2 ^ 32 - 1) taker) (positive-in 32 taker))
+    (λ number positive. (of.0, here, of.1, positive))))
+
+attach-said : (s : Setup) (logs : Logs) (words : List (List ℕ)) → IfOk (attach s words) (Names s logs)
+unfolding attach
+attach-said s logs (session ∷ queue ∷ tag ∷ taker ∷ []) =
+    ok_then IsConsumer (Names s logs) (consumer_of session tag) _ (consumer-said session tag)
+    (λ p of. attach-to-said s logs p queue taker of)
+attach-said s logs _ = tt
+
 node-line-said : (s : Setup) (logs : Logs) (word : List ℕ) (words : List (List ℕ)) → AreRows s.queues
     → IfOk (node_line s word words) (NamesIf s logs)
 unfolding node_line
@@ -503,8 +530,9 @@ read-said s logs line word words are =
     either (Names s logs) (bytes_eq word (codes "publish")) _ _ tt
     (either (Names s logs) (bytes_eq word (codes "send")) _ _ (send-said s logs line words)
     (either (Names s logs) (bytes_eq word (codes "crash")) _ _ (crash-said s logs words)
+    (either (Names s logs) (bytes_eq word (codes "attach")) _ _ (attach-said s logs words)
     (ok_then (NamesIf s logs) (Names s logs) (plain_line s word words) _ (plain-line-said s logs word words are)
-    (λ o says. or-client-said s logs word words o are says))))
+    (λ o says. or-client-said s logs word words o are says)))))
 
 read-words-said : (s : Setup) (logs : Logs) (place : Place) (line : List ℕ) (words : List (List ℕ)) → AreRows s.queues
     → IfOk (read_words s place line words) (Names s logs)

@@ -4,7 +4,7 @@ use Rattle.std.proofs.lemmas.Bool.{cases_lt}
 use Rattle.qq_script_lines.specs.declared.fault.ScriptFault.{ScriptFault}
 use Rattle.qq_script_lines.specs.declared.fault.ScriptFault.TheVariants as faults
 use Rattle.qq_script_lines.specs.declared.line.ScriptLine.{ScriptLine}
-use Rattle.qq_script_lines.specs.declared.line.ScriptLine.TheVariants.{Crash, Restart}
+use Rattle.qq_script_lines.specs.declared.line.ScriptLine.TheVariants.{Attach, Crash, Restart}
 use Rattle.qq_setup.specs.declared.setup.Setup.{Setup}
 use Rattle.qq_words.specs.declared.options.Options.{Options}
 use Rattle.qq_cluster_run.specs.declared.ending.TheConstants.{LINES_LIMIT}
@@ -14,11 +14,11 @@ use Rattle.qq_cluster_run.specs.Endings.{Ending, usage, refusal, limit_body, lim
 use Rattle.qq_cluster_run.specs.Inputs.{Input}
 use Rattle.qq_cluster_run.specs.Reading.{Asks, Ends, read_input, says_by, says}
 use Rattle.qq_cluster_run.specs.Serving.{StopsAt, MayStop, EndsRun}
-use Rattle.qq_cluster_run.specs.Runs.{HasStopped, ending_of, IsSetup, MayNotOpen, Closes, HasRun}
+use Rattle.qq_cluster_run.specs.Runs.{HasStopped, IsRefusal, ending_of, IsSetup, MayNotOpen, Closes, HasRun}
 use Rattle.qq_cluster_run.proofs.Says.{says_within, says_past}
 use Rattle.qq_cluster_run.proofs.Feeds.{all-served}
 use Rattle.qq_cluster_run.specs.Troubles.{Damage, AtPlace, OfVersion, damage_ending}
-use Rattle.qq_cluster_run.specs.Statuses.{Streams, SourceRose, SinkRose, HasEnded, HasEndedAtWords, Over, run_over, setup_over, Prints, IsNext, Met, Had, PrintsAlone, CutWithin, CutAtClosing, CutAtOpening, CutBeforeSetup, NoDisk, AtCrash, DamagedAtOpening, DamagedAtRestart, LostAtOpening, LostAtRestart, PassesLimit, NoneAtOpening, NoneWithin, SpentAtOpening, SpentAtLine, Told, Done, Refused, ReadFault, WriteFault, YardFault, Damaged, Lost, Limited, NoMemory, Spent}
+use Rattle.qq_cluster_run.specs.Statuses.{Streams, SourceRose, SinkRose, HasEnded, HasEndedAtWords, Over, run_over, setup_over, Prints, IsNext, Met, Claimed, IsCourse, PrintsAlone, CutWithin, CutAtClosing, CutAtOpening, CutBeforeSetup, NoDisk, AtCrash, DamagedAtOpening, DamagedAtRestart, LostAtOpening, LostAtRestart, PassesLimit, NoneAtOpening, NoneWithin, SpentAtOpening, SpentAtLine, Told, Done, Refused, ReadFault, WriteFault, YardFault, Damaged, Lost, Limited, NoMemory, Spent}
 
 -- ---- before a line is read
 
@@ -95,65 +95,88 @@ of_said setup lines input ending is = elim (cases_lt lines LINES_LIMIT) [
 ]
 
 said_told : (n : ℕ) (options : Options) (s : Streams) (over : Over options s) (input : Input) (ending : Ending)
-    → IsNext over input → n ≡ ending.status → Prints over ending.text
+    → IsNext over input → n ≡ ending.status → Prints over ending.text → (IsRefusal ending → IsCourse over)
     → IsSaid over.setup (run_over over).lines input ending → Told n options s
-said_told n options s over input ending next is grown (Refuses fault reads same) =
+said_told n options s over input ending next is grown course (Refuses fault reads same) =
     Refused (is ∙ ap (λ (e : Ending). e.status) same)
     (record {
       over = over;
       input = input;
       is_next = next;
       fault = fault;
-      reads = reads;
+      faulty = inl reads;
+      course = course (inl (ap (λ (e : Ending). e.status) same));
       prints = subst (Prints over) (ap (λ (e : Ending). e.text) same) grown;
     })
-said_told n options s over input ending next is grown (Passes passes eleven) =
+said_told n options s over input ending next is grown course (Passes passes eleven) =
     Limited (is ∙ eleven)
-    (record { over = over; input = input; is_next = next; text = ending.text; passes = passes; prints = grown })
+    (record {
+      over = over;
+      input = input;
+      is_next = next;
+      text = ending.text;
+      passes = passes;
+      course = course (inr eleven);
+      prints = grown;
+    })
 
 -- by what it asks for
 stops_told : (n : ℕ) (options : Options) (s : Streams) (over : Over options s) (input : Input) (line : ScriptLine)
     (ending : Ending) → IsNext over input → says over.setup (run_over over).lines input ≡ Asks line → n ≡ ending.status
-    → Prints over ending.text → StopsAt (Met s) (setup_over over) (run_over over).events line ending
+    → Prints over ending.text → (IsRefusal ending → IsCourse over)
+    → StopsAt (Met s) (setup_over over) (run_over over).events ((run_over over).lines + 1) line ending
     → Told n options s
-stops_told n options s over input (Crash nodes image) ending next asks is grown (rose, same) =
+stops_told n options s over input (Attach by at tag taker) ending next asks is grown course (gone, same) =
+    Refused (is ∙ ap (λ (e : Ending). e.status) same)
+    (record {
+      over = over;
+      input = input;
+      is_next = next;
+      fault = faults.NoSuch;
+      faulty = inr (refl, record { by = by; at = at; tag = tag; number = taker; asks = asks; met = gone });
+      course = course (inl (ap (λ (e : Ending). e.status) same));
+      prints = subst (Prints over) (ap (λ (e : Ending). e.text) same) grown;
+    })
+stops_told n options s over input (Crash nodes image) ending next asks is grown course (rose, same) =
     YardFault (is ∙ ap (λ (e : Ending). e.status) same)
     (AtCrash rose over nodes image (input, next, asks) (subst (Prints over) (ap (λ (e : Ending). e.text) same) grown))
-stops_told n options s over input (Restart nodes) ending next asks is grown (inl so) =
+stops_told n options s over input (Restart nodes) ending next asks is grown course (inl so) =
     Damaged (is ∙ ap (λ (e : Ending). e.status) so.is ∙ damage_status so.at.node so.damage)
     (DamagedAtRestart over nodes ending so (input, next, asks) grown)
-stops_told n options s over input (Restart nodes) ending next asks is grown (inr so) =
+stops_told n options s over input (Restart nodes) ending next asks is grown course (inr so) =
     Lost (is ∙ ap (λ (e : Ending). e.status) so.is) (LostAtRestart over nodes ending so (input, next, asks) grown)
-stops_told n options s over input _ ending next asks is grown stops = absurd stops
+stops_told n options s over input _ ending next asks is grown course stops = absurd stops
 
 may_stop_told : (n : ℕ) (options : Options) (s : Streams) (over : Over options s) (input : Input) (line : ScriptLine)
     (ending : Ending) → IsNext over input → says over.setup (run_over over).lines input ≡ Asks line → n ≡ ending.status
-    → Prints over ending.text → MayStop (Met s) (setup_over over) (run_over over).events line ending
+    → Prints over ending.text → (IsRefusal ending → IsCourse over)
+    → MayStop (Met s) (setup_over over) (run_over over).events ((run_over over).lines + 1) line ending
     → Told n options s
-may_stop_told n options s over input line ending next asks is grown (inl so) =
+may_stop_told n options s over input line ending next asks is grown course (inl so) =
     Spent (is ∙ ap (λ (e : Ending). e.status) so.is) (SpentAtLine over line ending so (input, next, asks) grown)
-may_stop_told n options s over input line ending next asks is grown (inr stops) =
-    stops_told n options s over input line ending next asks is grown stops
+may_stop_told n options s over input line ending next asks is grown course (inr stops) =
+    stops_told n options s over input line ending next asks is grown course stops
 
 ends_told : (n : ℕ) (options : Options) (s : Streams) (over : Over options s) (input : Input) (ending : Ending)
-    → IsNext over input → n ≡ ending.status → Prints over ending.text
+    → IsNext over input → n ≡ ending.status → Prints over ending.text → (IsRefusal ending → IsCourse over)
     → EndsRun (Met s) over.setup (run_over over) input ending → Told n options s
-ends_told n options s over input ending next is grown (inl says') =
-    said_told n options s over input ending next is grown
+ends_told n options s over input ending next is grown course (inl says') =
+    said_told n options s over input ending next is grown course
     (of_said over.setup (run_over over).lines input ending says')
-ends_told n options s over input ending next is grown (inr stops) =
-    may_stop_told n options s over input stops.line ending next stops.asks is grown stops.stops
+ends_told n options s over input ending next is grown course (inr stops) =
+    may_stop_told n options s over input stops.line ending next stops.asks is grown course stops.stops
 
 -- ---- a run that stopped
 
 stopped_told : (n : ℕ) (options : Options) (s : Streams) (setup : Setup) → IsSetup options setup → (stop : Stop)
     → n ≡ (ending_of stop).status
     → HasStopped stop setup (Some s.bytes) (Some s.rest) (Some s.old) (Some s.new) (SourceRose s) (SinkRose s)
-    (Met s) (Had s) (ending_of stop).text
+    (Met s) (Claimed s) (ending_of stop).text
     → Told n options s
 stopped_told n options s setup is_setup (stops.Ended ending) is (may, ends) =
     let over : Over options s = record { setup = setup; is_setup = is_setup; served = ends.served } in
-    ends_told n options s over ends.next.input ending (ends.next.more, ends.next.is) is ends.written ends.next.ends
+    ends_told n options s over ends.next.input ending (ends.next.more, ends.next.is) is ends.written
+    ends.finally ends.next.ends
 stopped_told n options s setup is_setup stops.ReadFault is (rose, answers) =
     ReadFault is
     (record {
@@ -162,6 +185,7 @@ stopped_told n options s setup is_setup stops.ReadFault is (rose, answers) =
       piece = answers.is_piece;
       all = λ read is. all-served s.bytes s.rest read answers.served.piece answers.served.behind.read
           answers.served.left answers.served.behind.is answers.served.unread answers.is_piece answers.served.ends is;
+      course = answers.finally;
       prints = answers.written;
     })
 stopped_told n options s setup is_setup stops.WriteFault is (rose, breaks) =
@@ -172,7 +196,7 @@ stopped_told n options s setup is_setup stops.NoMemory is breaks =
 closes_told : (n : ℕ) (options : Options) (s : Streams) (setup : Setup) → IsSetup options setup → (stop : Stop)
     → Closes n (ending_of stop) (SinkRose s)
     (λ more. HasStopped stop setup (Some s.bytes) (Some s.rest) (Some s.old) (Some s.new) (SourceRose s) (SinkRose s)
-    (Met s) (Had s) more)
+    (Met s) (Claimed s) more)
     → Told n options s
 closes_told n options s setup is_setup stop (inl (is, stands)) = stopped_told n options s setup is_setup stop is stands
 closes_told n options s setup is_setup stop (inr (is, rose, (count, stands))) =
@@ -197,7 +221,7 @@ none_closes n options s ending e rest (inr (is, rose, (count, grown))) =
 
 over_told : (n : ℕ) (options : Options) (s : Streams) (setup : Setup) → IsSetup options setup
     → HasRun n setup (Some s.bytes) (Some s.rest) (Some s.old) (Some s.new) (SourceRose s) (SinkRose s) (Met s)
-    (Had s) → Told n options s
+    (Claimed s) → Told n options s
 over_told n options s setup is_setup (inl unopened) =
     unopened_closes n options s setup is_setup unopened.ending unopened.may unopened.keeps unopened.closes
 over_told n options s setup is_setup (inr (inl done)) =
@@ -206,6 +230,7 @@ over_told n options s setup is_setup (inr (inl done)) =
       over = record { setup = setup; is_setup = is_setup; served = done.over.served };
       all = done.over.all;
       read = done.ended;
+      course = done.over.finally;
       prints = done.over.written;
     })
 over_told n options s setup is_setup (inr (inr stopped)) =

@@ -22,10 +22,10 @@ use Rattle.qq_words.specs.declared.options.Options.{Options}
 use Rattle.qq_script_lines.specs.declared.fault.ScriptFault.{ScriptFault}
 use Rattle.qq_script_lines.specs.declared.fault.ScriptFault.TheVariants.{Words, Body}
 use Rattle.qq_script_lines.specs.declared.line.ScriptLine.{ScriptLine}
-use Rattle.qq_script_lines.specs.declared.line.ScriptLine.TheVariants.{Publish}
+use Rattle.qq_script_lines.specs.declared.line.ScriptLine.TheVariants.{Attach, Publish}
 use Rattle.qq_script_lines.specs.Lines.{read}
 use Rattle.qq_cluster.specs.Cluster.{Setup as ClusterSetup, ClusterEvent, new_cluster, cluster_after}
-use Rattle.qq_cluster.specs.ClusterLaws.{HasGroups, IsServedBy, has_failure, findings}
+use Rattle.qq_cluster.specs.ClusterLaws.{HasGroups, IsServedBy, has_failure, findings, verdicts}
 use Rattle.qq_cluster.specs.Lines.{IsRun}
 use Rattle.qq_cluster.specs.Rules.{most_rounds}
 use Rattle.qq_cluster.specs.Serving.{all_given, line, run}
@@ -37,7 +37,7 @@ use Rattle.qq_cluster_run.specs.Serving.{Histories, Behind, text_behind, audits_
 use Rattle.qq_cluster_run.specs.Setup.{Logs, cluster_of, cluster_over, cluster_setup, new_logs}
 use Rattle.qq_cluster_run.specs.Printing.{IsQuiet}
 use Rattle.qq_cluster_run.specs.Runs.{BreaksOff, IsSetup}
-use Rattle.qq_cluster_run.specs.Statuses.{Had, Streams, run_over, IsServed, IsRefused, IsReadFault, PassesLimit, IsLimited}
+use Rattle.qq_cluster_run.specs.Statuses.{Had, Streams, run_over, IsFaulty, IsServed, IsRefused, TakerIsMissing, IsReadFault, PassesLimit, IsLimited}
 use Rattle.qq_defs.proofs.Runnable.{plain-runnable}
 use Rattle.qq_cluster_run.proofs.Exports.{plain-of}
 use Rattle.qq_cluster_run.proofs.Says.{asks_for, says_within}
@@ -116,6 +116,14 @@ one-found : findings (events_of (said ∷ [])) ≡ (λ (place : ℕ). 0) ∷ []
 unfolding digits put most_rounds line step carry_out act gate admit keep_answer turn_away enqueue get check_out check_out_all drain_after drop_head keep_limits give_dead give_all_dead apply_op change_log send add_entry stand lead lead_if_elected advance refuse give_vote receive_vote receive_voted take_entries refuse_entries receive_append take_ack step_back receive_appended accept receive tick submit notice change enter say_all
 one-found = refl
 
+none-unasked : verdicts (events_of []) ≡ []
+unfolding digits put most_rounds line step carry_out act gate admit keep_answer turn_away enqueue get check_out check_out_all drain_after drop_head keep_limits give_dead give_all_dead apply_op change_log send add_entry stand lead lead_if_elected advance refuse give_vote receive_vote receive_voted take_entries refuse_entries receive_append take_ack step_back receive_appended accept receive tick submit notice change enter say_all
+none-unasked = refl
+
+one-unasked : verdicts (events_of (said ∷ [])) ≡ []
+unfolding digits put most_rounds line step carry_out act gate admit keep_answer turn_away enqueue get check_out check_out_all drain_after drop_head keep_limits give_dead give_all_dead apply_op change_log send add_entry stand lead lead_if_elected advance refuse give_vote receive_vote receive_voted take_entries refuse_entries receive_append take_ack step_back receive_appended accept receive tick submit notice change enter say_all
+one-unasked = refl
+
 -- ---- the text
 
 none-text : text_of of_one (new_cluster of_one) (events_of []) ≡ []
@@ -137,7 +145,8 @@ worked-audits = refl
 pub record Knows : Type 0 where
   pub settle : (setup : ClusterSetup) (lines : List ScriptLine) (events others : List ClusterEvent)
       → IsRun setup lines (new_cluster setup) events → IsRun setup lines (new_cluster setup) others
-      → has_failure events ≡ false → has_failure others ≡ false → findings events ≡ findings others → events ≡ others
+      → has_failure events ≡ false → has_failure others ≡ false → findings events ≡ findings others
+      → verdicts events ≡ verdicts others → events ≡ others
   pub served : (setup : ClusterSetup) (lines : List ScriptLine) → HasGroups setup
       → IsServedBy setup lines (run setup all_given lines (new_cluster setup))
   pub begins : (s : Setup) → IsRunnable (state_of s) → HasGroups (cluster_setup s)
@@ -156,15 +165,15 @@ groups-one law s (log_bytes, is) =
 -- these lines ask for this, and the run was quiet
 events-are : Knows → (had : Histories) (s : Setup) → IsOne s → (all left : List Input) (b : Behind had s all left)
     → IsQuiet b → (lines : List ScriptLine) → b.lines ≡ lines → findings (events_of lines) ≡ (λ (place : ℕ). 0) ∷ []
-    → b.events ≡ events_of lines
-events-are law had s one all left b quiet lines are found =
+    → verdicts (events_of lines) ≡ [] → b.events ≡ events_of lines
+events-are law had s one all left b quiet lines are found unasked =
     let served = law.served of_one lines (groups-one law s one) in
     let allowed : IsRun of_one lines (new_cluster of_one) b.events =
     subst (λ (c : ClusterSetup). IsRun c lines (new_cluster c) b.events) (over-one s b.logs one quiet.new)
     (subst (λ (l : List ScriptLine). IsRun (cluster_over s b.logs) l (new_cluster (cluster_over s b.logs)) b.events) are
     b.allowed) in
     law.settle of_one lines b.events (events_of lines) allowed served.is quiet.fine served.fine
-    (quiet.found ∙ sym found)
+    (quiet.found ∙ sym found) (quiet.unasked ∙ sym unasked)
 
 lines-none : (had : Histories) (s : Setup) (all left : List Input) (b : Behind had s all left) → b.read ≡ []
     → b.lines ≡ []
@@ -194,7 +203,7 @@ audits-of had s one all left b new events is =
 events-one : Knows → (had : Histories) (s : Setup) → IsOne s → (all left : List Input) (b : Behind had s all left)
     → IsQuiet b → b.read ≡ publish ∷ [] → b.events ≡ events_of (said ∷ [])
 events-one law had s one all left b quiet read =
-    events-are law had s one all left b quiet (said ∷ []) (lines-one had s one all left b read) one-found
+    events-are law had s one all left b quiet (said ∷ []) (lines-one had s one all left b read) one-found one-unasked
 
 text-one : Knows → (had : Histories) (s : Setup) → IsOne s → (all left : List Input) (b : Behind had s all left)
     → IsQuiet b → b.read ≡ publish ∷ [] → text_behind b ≡ codes "confirmed 1\n"
@@ -213,7 +222,7 @@ text-none : Knows → (had : Histories) (s : Setup) → IsOne s → (all left : 
     → IsQuiet b → b.read ≡ [] → text_behind b ≡ []
 text-none law had s one all left b quiet read =
     text-of had s one all left b quiet.new (events_of [])
-    (events-are law had s one all left b quiet [] (lines-none had s all left b read) none-found)
+    (events-are law had s one all left b quiet [] (lines-none had s all left b read) none-found none-unasked)
     ∙ none-text
 
 -- ---- all lines were served
@@ -280,18 +289,44 @@ refused-text fault lines words one =
     ap (λ (f : ScriptFault). codes "line " ++ decimal (lines + 1) ++ codes ": " ++ fault_text f ++ codes "\n") words
     ∙ ap (λ (n : ℕ). codes "line " ++ decimal (n + 1) ++ codes ": " ++ codes "words" ++ codes "\n") one
 
+-- neither line is to give a taker
+no-missing : (options : Options) (s : Streams) (so : IsRefused options s) → IsOne so.over.setup
+    → Splits publish (Some (codes "publish")) so.over.served.behind.read so.input → TakerIsMissing so.over so.input → ⊥
+no-missing options s so rows (AtFirst read is) missing =
+    let e : Asks said ≡ Asks (Attach missing.by missing.at missing.tag missing.number) =
+    sym (asks-publish so.over.setup 1 1 (rows-of so.over.setup rows)) ∙ sym (ap (says so.over.setup 0) is)
+    ∙ ap (λ (r : List Input). says so.over.setup (length r) so.input) (sym read) ∙ missing.asks in
+    absurd cc
+no-missing options s so rows (AtSecond read is) missing =
+    let e : Ends (refusal 2 Words) ≡ Asks (Attach missing.by missing.at missing.tag missing.number) =
+    sym (says_within so.over.setup 1 (Some (codes "publish")) (omega arith) ∙ ap (says_by 2) (reads-bare so.over.setup))
+    ∙ sym (ap (says so.over.setup 1) is)
+    ∙ ap (λ (r : List Input). says so.over.setup (length r) so.input) (sym read) ∙ missing.asks in
+    absurd cc
+
+refused-reads : (options : Options) (s : Streams) (so : IsRefused options s) → IsOne so.over.setup
+    → Splits publish (Some (codes "publish")) so.over.served.behind.read so.input
+    → read_input so.over.setup (length so.over.served.behind.read + 1) so.input ≡ Err so.fault
+refused-reads options s so rows at = by so.faulty
+  where
+    by : IsFaulty so.over so.input so.fault
+        → read_input so.over.setup (length so.over.served.behind.read + 1) so.input ≡ Err so.fault
+    by (inl reads) = reads
+    by (inr (is, missing)) = absurd (no-missing options s so rows at missing)
+
 refused-by : Knows → (options : Options) (s : Streams) (so : IsRefused options s)
     → IsOne so.over.setup → IsQuiet so.over.served.behind
     → Splits publish (Some (codes "publish")) so.over.served.behind.read so.input
     → s.new ≡ s.old ++ codes "confirmed 1\nline 2: words\n"
 refused-by law options s so rows quiet (AtFirst read is) =
     let reads : read_input so.over.setup 1 so.input ≡ Err so.fault =
-    sym (ap (λ (r : List Input). read_input so.over.setup (length r + 1) so.input) read) ∙ so.reads in
+    sym (ap (λ (r : List Input). read_input so.over.setup (length r + 1) so.input) read)
+    ∙ refused-reads options s so rows (AtFirst read is) in
     absurd (no-fault so.over.setup so.input so.fault (rows-of so.over.setup rows) is reads)
 refused-by law options s so rows quiet (AtSecond read is) =
     let lines : length so.over.served.behind.read ≡ 1 = ap length read in
     let reads : Err so.fault ≡ Err Words =
-    sym so.reads ∙ ap (λ (n : ℕ). read_input so.over.setup (n + 1) so.input) lines
+    sym (refused-reads options s so rows (AtSecond read is)) ∙ ap (λ (n : ℕ). read_input so.over.setup (n + 1) so.input) lines
     ∙ ap (read_input so.over.setup 2) is ∙ reads-bare so.over.setup in
     let words : so.fault ≡ Words = cc in
     so.prints ∙ ap (λ (l : List ℕ). s.old ++ l)

@@ -57,6 +57,8 @@ IsNamed setup lines.Nothing = Unit {0}
 IsNamed setup (lines.Publish body) = Contains setup.places setup.first × IsShort (setup.name setup.first) body
 IsNamed setup (lines.Send by exchange key body) = IsClient by × IsShort key body
 IsNamed setup (lines.Client by queue body) = IsClient by × IsPlace setup queue × IsBody body
+IsNamed setup (lines.Attach by queue tag taker) =
+    IsClient by × IsPlace setup queue × IsPositive 32 tag × IsPositive 32 taker
 IsNamed setup (lines.End by) = IsClient by
 IsNamed setup (lines.Resend by) = IsClient by
 IsNamed setup (lines.Mute by muted) = IsClient by

@@ -10,7 +10,7 @@ use Rattle.qq_setup.specs.declared.setup.Setup.{Setup}
 use Rattle.qq_script_lines.specs.declared.line.ScriptLine.{ScriptLine}
 use Rattle.qq_words.specs.declared.options.Options.{Options}
 use Rattle.qq_cluster.specs.Cluster.{Printed, new_cluster, all_prints}
-use Rattle.qq_cluster.specs.ClusterLaws.{has_failure, findings}
+use Rattle.qq_cluster.specs.ClusterLaws.{has_failure, findings, verdicts}
 use Rattle.qq_cluster.specs.Queue.{Queue, audit_rows}
 use Rattle.qq_cluster_run.specs.Inputs.{Input, inputs_of}
 use Rattle.qq_cluster_run.specs.Reading.{AskFor}
@@ -40,11 +40,13 @@ abbrev pub is_confirmed_publish : SessionId → ℕ → AuditRow → Bool
 is_confirmed_publish session seq row =
     is_publish_of session seq row.entry.command && (row.fresh && is_confirmed row.answer)
 
--- the logs were new, no call of a disk has failed, the opening of one node has found nothing, and nothing was restarted
+-- the logs were new, no call of a disk has failed, the opening of one node has found nothing, nothing was restarted, and
+-- no taker was asked
 pub record IsQuiet {had : Histories} {s : Setup} {all left : List Input} (b : Behind had s all left) : Type 0 where
   pub new : b.logs ≡ new_logs
   pub fine : has_failure b.events ≡ false
   pub found : findings b.events ≡ (λ place. 0) ∷ []
+  pub unasked : verdicts b.events ≡ []
 
 -- each line of an input asks for something, and neither source nor sink has failed
 pub record HasNoFault (options : Options) (s : Streams) : Type 0 where

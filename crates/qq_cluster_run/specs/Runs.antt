@@ -7,7 +7,7 @@ use Rattle.qq_words.specs.declared.options.Options.{Options}
 use Rattle.qq_cluster.specs.Cluster.{Setup as ClusterSetup}
 use Rattle.qq_cluster.specs.Rules.{IsOpening}
 use Rattle.qq_ports.specs.Lines.{HasNoFeed}
-use Rattle.qq_cluster_run.specs.declared.status.TheConstants.{DONE, WRITE_FAULT}
+use Rattle.qq_cluster_run.specs.declared.status.TheConstants.{DONE, LIMIT, REFUSED, WRITE_FAULT}
 use Rattle.qq_cluster_run.specs.declared.stop.AskStop.{AskStop}
 use Rattle.qq_cluster_run.specs.declared.stop.AskStop.TheVariants as asks
 use Rattle.qq_cluster_run.specs.declared.stop.Stop.{Stop}
@@ -16,24 +16,30 @@ use Rattle.qq_ports.specs.Faults.{AppendsPrefix}
 use Rattle.qq_cluster_run.specs.Definitions.{Files, IsSetupOver, MayNotBegin, made_text}
 use Rattle.qq_cluster_run.specs.Endings.{Ending, usage, read_fault, write_fault, yard_fault, no_memory}
 use Rattle.qq_cluster_run.specs.Inputs.{Input}
-use Rattle.qq_cluster_run.specs.Serving.{Histories, Behind, EndsRun, NextEnds, EndsSpent, EndsDamaged, EndsUnsupported, run_behind, text_behind, audits_behind, Served, IsText}
+use Rattle.qq_cluster_run.specs.Serving.{Claims, Histories, Behind, EndsRun, NextEnds, EndsSpent, EndsDamaged, EndsUnsupported, run_behind, setup_behind, text_behind, audits_behind, Served, IsText}
 use Rattle.qq_cluster_run.specs.Setup.{Logs, cluster_over}
 use Rattle.qq_cluster_run.specs.Troubles.{Trouble, YardFails, DiskFails}
 
 -- ---- why a run stops, and what was written by then, and then `more`
 
+-- the ending of a line that isn't served at all: nothing happens then
+abbrev pub IsRefusal : Ending → Type 0
+IsRefusal ending = (ending.status ≡ REFUSED) ⊎ (ending.status ≡ LIMIT)
+
 -- Some lines were served, and the next one ends the run so.
-pub record EndsBy (met : Trouble → Type 0) (had : Histories) (ending : Ending) (s : Setup) (bytes : List ℕ)
+pub record EndsBy (met : Trouble → Type 0) (claims : Claims) (ending : Ending) (s : Setup) (bytes : List ℕ)
     (rest old new : Option (List ℕ)) (more : List ℕ) : Type 0 where
-  pub served : Served had s bytes rest
+  pub served : Served claims.during s bytes rest
   pub next : NextEnds met s (run_behind served.behind) served.left ending
+  pub finally : IsRefusal ending → claims.finally (setup_behind served.behind) served.behind.events
   pub written : Appends old new (text_behind served.behind ++ more)
 
 -- Each line that was read whole was served; what was read behind these lines is a piece of one.
-pub record HasAnswers (had : Histories) (s : Setup) (bytes : List ℕ) (rest old new : Option (List ℕ)) (more : List ℕ)
-    : Type 0 where
-  pub served : Served had s bytes rest
+pub record HasAnswers (claims : Claims) (s : Setup) (bytes : List ℕ) (rest old new : Option (List ℕ))
+    (more : List ℕ) : Type 0 where
+  pub served : Served claims.during s bytes rest
   pub is_piece : HasNoFeed served.piece
+  pub finally : claims.finally (setup_behind served.behind) served.behind.events
   pub written : Appends old new (text_behind served.behind ++ more)
 
 -- Some lines were served, and a first part of what is printed was written.
@@ -47,26 +53,33 @@ pub record BreaksOff (had : Histories) (s : Setup) (bytes : List ℕ) (rest old 
   pub parts : text ≡ said ++ unsaid
   pub written : Appends old new (said ++ more)
 
+-- and of no line more has anything happened
+pub record IsCut (claims : Claims) (s : Setup) (bytes : List ℕ) (rest old new : Option (List ℕ)) (more : List ℕ)
+    : Type 0 where
+  pub breaks : BreaksOff claims.during s bytes rest old new more
+  pub finally : claims.finally (setup_behind breaks.served.behind) breaks.served.behind.events
+
 -- some lines were served, whatever the source shows, and one more ends the run so
-pub record MayEnd (met : Trouble → Type 0) (had : Histories) (s : Setup) (ending : Ending) : Type 0 where
+pub record MayEnd (met : Trouble → Type 0) (claims : Claims) (s : Setup) (ending : Ending) : Type 0 where
   pub read : List Input
-  pub behind : Behind had s read []
+  pub behind : Behind claims.during s read []
   pub input : Input
   pub ends : EndsRun met s (run_behind behind) input ending
+  pub finally : IsRefusal ending → claims.finally (setup_behind behind) behind.events
 
 -- `left` is what the source had, and `rest` what it has in the end, where it tells; `old` and `new` are what the
--- sink had and has; `source` and `sink` say that their counts of faults rose, `met` what went wrong below, and `had` what
--- the disks had.
+-- sink had and has; `source` and `sink` say that their counts of faults rose, `met` what went wrong below, and `claims`
+-- what is so of the run's events.
 abbrev pub HasStopped : Stop → Setup → (left rest old new : Option (List ℕ)) → (source sink : Type 0)
-    → (met : Trouble → Type 0) → (had : Histories) → (more : List ℕ) → Type 0
-HasStopped (stops.Ended ending) s left rest old new source sink met had more =
-    MayEnd met had s ending × IfSome left (λ bytes. EndsBy met had ending s bytes rest old new more)
-HasStopped stops.ReadFault s left rest old new source sink met had more =
-    source × IfSome left (λ bytes. HasAnswers had s bytes rest old new more)
-HasStopped stops.WriteFault s left rest old new source sink met had more =
-    sink × IfSome left (λ bytes. BreaksOff had s bytes rest old new more)
-HasStopped stops.NoMemory s left rest old new source sink met had more =
-    IfSome left (λ bytes. BreaksOff had s bytes rest old new more)
+    → (met : Trouble → Type 0) → (claims : Claims) → (more : List ℕ) → Type 0
+HasStopped (stops.Ended ending) s left rest old new source sink met claims more =
+    MayEnd met claims s ending × IfSome left (λ bytes. EndsBy met claims ending s bytes rest old new more)
+HasStopped stops.ReadFault s left rest old new source sink met claims more =
+    source × IfSome left (λ bytes. HasAnswers claims s bytes rest old new more)
+HasStopped stops.WriteFault s left rest old new source sink met claims more =
+    sink × IfSome left (λ bytes. IsCut claims s bytes rest old new more)
+HasStopped stops.NoMemory s left rest old new source sink met claims more =
+    IfSome left (λ bytes. BreaksOff claims.during s bytes rest old new more)
 
 -- why the run stops where a line asks for nothing
 abbrev pub stop_of : AskStop → Stop
@@ -90,15 +103,16 @@ Closes status ending sink Stands =
 -- ---- how a run ends
 
 -- all lines were served, and all that is printed was written
-pub record IsDoneOver (had : Histories) (s : Setup) (bytes : List ℕ) (rest old new : Option (List ℕ)) : Type 0 where
-  pub served : Served had s bytes rest
+pub record IsDoneOver (claims : Claims) (s : Setup) (bytes : List ℕ) (rest old new : Option (List ℕ)) : Type 0 where
+  pub served : Served claims.during s bytes rest
   pub all : served.left ≡ []
+  pub finally : claims.finally (setup_behind served.behind) served.behind.events
   pub written : Appends old new (text_behind served.behind ++ audits_behind served.behind)
 
-pub record IsDone (status : ℕ) (had : Histories) (s : Setup) (left rest old new : Option (List ℕ)) : Type 0 where
+pub record IsDone (status : ℕ) (claims : Claims) (s : Setup) (left rest old new : Option (List ℕ)) : Type 0 where
   pub status_is : status ≡ DONE
   pub ended : IsAtEnd rest
-  pub over : IfSome left (λ bytes. IsDoneOver had s bytes rest old new)
+  pub over : IfSome left (λ bytes. IsDoneOver claims s bytes rest old new)
 
 -- the setup of a run with these options, whatever file an export is
 abbrev pub IsSetup : Options → Setup → Type 0
@@ -130,40 +144,40 @@ pub record IsUnopened (status : ℕ) (left rest old new : Option (List ℕ)) (si
 
 -- the run stopped, and then wrote the closing line of its stop
 pub record IsStopped (status : ℕ) (s : Setup) (left rest old new : Option (List ℕ)) (source sink : Type 0)
-    (met : Trouble → Type 0) (had : Histories) : Type 0 where
+    (met : Trouble → Type 0) (claims : Claims) : Type 0 where
   pub stop : Stop
   pub closes : Closes status (ending_of stop) sink
-      (λ more. HasStopped stop s left rest old new source sink met had more)
+      (λ more. HasStopped stop s left rest old new source sink met claims more)
 
 -- what a run over a setup has done: the cluster wasn't opened, or the script was served to its end, or the run stopped
 abbrev pub HasRun : (status : ℕ) → Setup → (left rest old new : Option (List ℕ)) → (source sink : Type 0)
-    → (met : Trouble → Type 0) → (had : Histories) → Type 0
-HasRun status s left rest old new source sink met had =
+    → (met : Trouble → Type 0) → (claims : Claims) → Type 0
+HasRun status s left rest old new source sink met claims =
     IsUnopened status left rest old new sink (MayNotOpen met s)
-    ⊎ (IsDone status had s left rest old new ⊎ IsStopped status s left rest old new source sink met had)
+    ⊎ (IsDone status claims s left rest old new ⊎ IsStopped status s left rest old new source sink met claims)
 
 -- a run over a cluster of a setup with these options
 pub record IsRunOver (status : ℕ) (options : Options) (left rest old new : Option (List ℕ))
-    (source sink : Type 0) (met : Trouble → Type 0) (had : Histories) : Type 0 where
+    (source sink : Type 0) (met : Trouble → Type 0) (claims : Claims) : Type 0 where
   pub setup : Setup
   pub is_setup : IsSetup options setup
-  pub ends : HasRun status setup left rest old new source sink met had
+  pub ends : HasRun status setup left rest old new source sink met claims
 
 -- and what it has done behind the line of what was made of an export, where there is one
 abbrev pub ScriptEnds : (status : ℕ) → Options → (left rest old new : Option (List ℕ)) → (source sink : Type 0)
-    → (met : Trouble → Type 0) → (had : Histories) → Type 0
-ScriptEnds status options left rest old new source sink met had =
+    → (met : Trouble → Type 0) → (claims : Claims) → Type 0
+ScriptEnds status options left rest old new source sink met claims =
     IsUnopened status left rest old new sink (λ ending. ending ≡ no_memory)
-    ⊎ IsRunOver status options left rest old new source sink met had
+    ⊎ IsRunOver status options left rest old new source sink met claims
 
 -- ---- from the first line on
 
 -- that line was written, and the run over the setup did this
 pub record IsBehindMade (status : ℕ) (setup : Setup) (left rest old new : Option (List ℕ)) (source sink : Type 0)
-    (met : Trouble → Type 0) (had : Histories) : Type 0 where
+    (met : Trouble → Type 0) (claims : Claims) : Type 0 where
   pub mid : Option (List ℕ)
   pub made : Appends old mid (made_text setup.made)
-  pub ends : HasRun status setup left rest mid new source sink met had
+  pub ends : HasRun status setup left rest mid new source sink met claims
 
 -- or, where there is one, the sink has failed in it
 pub record IsCutInMade (status : ℕ) (setup : Setup) (left rest old new : Option (List ℕ)) (sink : Type 0) : Type 0
@@ -176,18 +190,18 @@ pub record IsCutInMade (status : ℕ) (setup : Setup) (left rest old new : Optio
 
 -- a script over what its words and the shelf's file say of its setup
 pub record IsScript (status : ℕ) (options : Options) (files : Files) (left rest old new : Option (List ℕ))
-    (source sink : Type 0) (met : Trouble → Type 0) (had : Histories) : Type 0 where
+    (source sink : Type 0) (met : Trouble → Type 0) (claims : Claims) : Type 0 where
   pub setup : Setup
   pub is_setup : IsSetupOver files options setup
   pub ends : IsCutInMade status setup left rest old new sink
-      ⊎ IsBehindMade status setup left rest old new source sink met had
+      ⊎ IsBehindMade status setup left rest old new source sink met claims
 
 -- What a run has done that ends with this status, where the words are a script with these options, and where they are no
 -- command. There may be no memory to read them.
 abbrev pub RunEnds : (status : ℕ) → Option Options → Files → (left rest old new : Option (List ℕ))
-    → (source shelf sink : Type 0) → (met : Trouble → Type 0) → (had : Histories) → Type 0
-RunEnds status (Some options) files left rest old new source shelf sink met had =
+    → (source shelf sink : Type 0) → (met : Trouble → Type 0) → (claims : Claims) → Type 0
+RunEnds status (Some options) files left rest old new source shelf sink met claims =
     IsUnopened status left rest old new sink (MayNotBegin files shelf options)
-    ⊎ IsScript status options files left rest old new source sink met had
-RunEnds status None files left rest old new source shelf sink met had =
+    ⊎ IsScript status options files left rest old new source sink met claims
+RunEnds status None files left rest old new source shelf sink met claims =
     IsUnopened status left rest old new sink (λ ending. (ending ≡ usage) ⊎ (ending ≡ no_memory))

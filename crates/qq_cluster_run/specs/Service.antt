@@ -4,17 +4,18 @@ use Rattle.qq_setup.specs.declared.setup.Setup.{Setup}
 use Rattle.qq_script_lines.specs.declared.line.ScriptLine.{ScriptLine}
 use Rattle.qq_cluster.specs.Cluster.{Setup as ClusterSetup, ClusterEvent, new_cluster}
 use Rattle.qq_cluster.specs.Lines.{IsLine}
+use Rattle.qq_cluster.specs.Outcome.{Outcome, takers_after}
 use Rattle.qq_cluster.specs.Rules.{IsOpening}
 use Rattle.qq_cluster.specs.Texts.{text_of}
 use Rattle.qq_cluster_run.specs.declared.stop.AskStop.{AskStop}
 use Rattle.qq_cluster_run.specs.declared.stop.AskStop.TheVariants.{Ended, NoMemory}
-use Rattle.qq_cluster_run.specs.Serving.{Histories, HasRecovered, MayStop, Run, after_all, all_text}
+use Rattle.qq_cluster_run.specs.Serving.{Histories, HasRecovered, MayStop, Run, after_all, all_seen, all_text}
 use Rattle.qq_cluster_run.specs.Setup.{CanBegin, Logs, cluster_over}
 use Rattle.qq_cluster_run.specs.Troubles.{Trouble}
 
 -- A cluster was opened over logs that it may begin with, by events that the opening allows: some node was recovered.
 -- `Stands` says what represents it.
-pub record HasOpened (had : Histories) (s : Setup) (Stands : Run → Type 0) (before later : List ℕ) : Type 0 where
+pub record HasOpened (had : Histories) (s : Setup) (Stands : Run → Type 0) (before later : Outcome) : Type 0 where
   pub logs : Logs
   pub begins : CanBegin s logs
   pub events : List ClusterEvent
@@ -22,18 +23,21 @@ pub record HasOpened (had : Histories) (s : Setup) (Stands : Run → Type 0) (be
   pub opened : HasRecovered events
   pub disks : had (cluster_over s logs) events
   pub stands : Stands (record { lines = 0; logs = logs; events = events })
-  pub says : later ≡ before ++ all_text (cluster_over s logs) events
+  pub says : later.text ≡ before.text ++ all_text (cluster_over s logs) events
+  pub sees : later.takers ≡ all_seen (cluster_over s logs) events before.takers
 
 -- a line was served, by events that it allows
 pub record HasServed (had : Histories) (setup : ClusterSetup) (events : List ClusterEvent) (line : ScriptLine)
-    (Stands : List ClusterEvent → Type 0) (before later : List ℕ) : Type 0 where
+    (Stands : List ClusterEvent → Type 0) (before later : Outcome) : Type 0 where
   pub more : List ClusterEvent
   pub allowed : IsLine setup line (after_all setup events) more
   pub disks : had setup (events ++ more)
   pub stands : Stands (events ++ more)
-  pub says : later ≡ before ++ text_of setup (after_all setup events) more
+  pub says : later.text ≡ before.text ++ text_of setup (after_all setup events) more
+  pub sees : later.takers ≡ takers_after setup (after_all setup events) more before.takers
 
--- why a line isn't served
-abbrev pub HasServeCause : (Trouble → Type 0) → ClusterSetup → List ClusterEvent → ScriptLine → AskStop → Type 0
-HasServeCause met setup events line (Ended ending) = MayStop met setup events line ending
-HasServeCause met setup events line NoMemory = Unit {0}
+-- why the line of this number isn't served
+abbrev pub HasServeCause : (Trouble → Type 0) → ClusterSetup → List ClusterEvent → (number : ℕ) → ScriptLine → AskStop
+    → Type 0
+HasServeCause met setup events number line (Ended ending) = MayStop met setup events number line ending
+HasServeCause met setup events number line NoMemory = Unit {0}

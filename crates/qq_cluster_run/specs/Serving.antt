@@ -8,20 +8,23 @@ use Rattle.qq_log.specs.Stable.{Stable, new_state, stable}
 use Rattle.qq_raft_msg.specs.declared.bag.TheConstants.{BAG_LIMIT}
 use Rattle.qq_raft_model.specs.Group.{may_restart}
 use Rattle.qq_setup.specs.declared.setup.Setup.{Setup}
+use Rattle.qq_script_lines.specs.declared.fault.ScriptFault.TheVariants.{NoSuch}
 use Rattle.qq_script_lines.specs.declared.line.ScriptLine.{ScriptLine}
-use Rattle.qq_script_lines.specs.declared.line.ScriptLine.TheVariants.{Crash, Restart}
+use Rattle.qq_script_lines.specs.declared.line.ScriptLine.TheVariants.{Attach, Crash, Restart}
+use Rattle.qq_taker.specs.Takers.{Takers}
 use Rattle.qq_cluster.specs.Cluster.{Setup as ClusterSetup, Cluster, ClusterEvent, new_cluster, cluster_after, members}
 use Rattle.qq_cluster.specs.ClusterLaws.{findings}
 use Rattle.qq_cluster.specs.Laws.{IsBegun}
 use Rattle.qq_cluster.specs.Lines.{IsLine, IsRun, nodes_of}
+use Rattle.qq_cluster.specs.Outcome.{takers_after}
 use Rattle.qq_cluster.specs.Queue.{Queue}
 use Rattle.qq_cluster.specs.Rules.{ForEach, IsRestart}
 use Rattle.qq_cluster.specs.Texts.{text_of, audits_text}
-use Rattle.qq_cluster_run.specs.Endings.{Ending, yard_fault, lost, spent}
+use Rattle.qq_cluster_run.specs.Endings.{Ending, yard_fault, lost, refusal, spent}
 use Rattle.qq_cluster_run.specs.Inputs.{Input, inputs_of, EndsWith}
 use Rattle.qq_cluster_run.specs.Reading.{Asks, Ends, says, AskFor}
 use Rattle.qq_cluster_run.specs.Setup.{CanBegin, Logs, cluster_over, cluster_setup, is_change_of}
-use Rattle.qq_cluster_run.specs.Troubles.{Damage, damage_ending, Trouble, YardFails, DiskFails, FilesBreak, QueueIsFound, NumberEnds}
+use Rattle.qq_cluster_run.specs.Troubles.{Damage, damage_ending, Trouble, YardFails, DiskFails, FilesBreak, QueueIsFound, NumberEnds, TakerIsGone}
 
 -- a cluster to which these events have happened
 abbrev pub after_all : ClusterSetup → List ClusterEvent → Cluster
@@ -30,6 +33,10 @@ after_all setup events = cluster_after (new_cluster setup) events
 -- what these events have printed
 abbrev pub all_text : ClusterSetup → List ClusterEvent → List ℕ
 all_text setup events = text_of setup (new_cluster setup) events
+
+-- the takers after these events, where they were these before
+abbrev pub all_seen : ClusterSetup → List ClusterEvent → Takers → Takers
+all_seen setup events takers = takers_after setup (new_cluster setup) events takers
 
 -- A run between two lines: how many were served, what the logs held at first, and what has happened.
 pub record Run : Type 0 where
@@ -43,10 +50,14 @@ setup_in s run = cluster_over s run.logs
 abbrev pub cluster_in : Setup → Run → Cluster
 cluster_in s run = after_all (setup_in s run) run.events
 
--- What the nodes' disks of a run had, where these events are what happened. Who runs a script says of its disks what
--- that is.
+-- What is true of a run's disks and takers, where these events are what happened. Who runs a script says what that is.
 abbrev pub Histories : Type 1
 Histories = ClusterSetup → List ClusterEvent → Type 0
+
+-- What is so while a run goes on, of the events so far, and what when it has ended, of all events.
+pub record Claims : Type 1 where
+  pub during : Histories
+  pub finally : Histories
 
 -- whatever they had
 abbrev pub AnyDisks : ClusterSetup → List ClusterEvent → Type 0
@@ -125,22 +136,27 @@ pub record EndsLost (met : Trouble → Type 0) (setup : ClusterSetup) (nodes : L
       ≡ lost at.node (setup.name place)
       (((after_all setup (events ++ at.early)).queue place).group.seat at.node).noticed lane.op
 
--- At a crash the yard has failed, and a restart meets files that it can't go on from.
-abbrev pub StopsAt : (Trouble → Type 0) → ClusterSetup → List ClusterEvent → ScriptLine → Ending → Type 0
-StopsAt met setup events (Crash nodes image) ending = met YardFails × (ending ≡ yard_fault)
-StopsAt met setup events (Restart nodes) ending =
+-- At a crash the yard has failed, a restart meets files that it can't go on from, and a taker that is to be given to a
+-- consumer isn't there or was given away: then the line of this number is refused.
+abbrev pub StopsAt : (Trouble → Type 0) → ClusterSetup → List ClusterEvent → (number : ℕ) → ScriptLine → Ending
+    → Type 0
+StopsAt met setup events number (Attach by at tag taker) ending =
+    met (TakerIsGone setup events taker) × (ending ≡ refusal number NoSuch)
+StopsAt met setup events number (Crash nodes image) ending = met YardFails × (ending ≡ yard_fault)
+StopsAt met setup events number (Restart nodes) ending =
     EndsDamaged met setup (nodes_of setup nodes) events ending ⊎ EndsLost met setup (nodes_of setup nodes) events ending
-StopsAt met setup events _ ending = ⊥
+StopsAt met setup events number _ ending = ⊥
 
-abbrev pub MayStop : (Trouble → Type 0) → ClusterSetup → List ClusterEvent → ScriptLine → Ending → Type 0
-MayStop met setup events line ending =
-    EndsSpent met setup (IsLine setup line) events ending ⊎ StopsAt met setup events line ending
+abbrev pub MayStop : (Trouble → Type 0) → ClusterSetup → List ClusterEvent → (number : ℕ) → ScriptLine → Ending
+    → Type 0
+MayStop met setup events number line ending =
+    EndsSpent met setup (IsLine setup line) events ending ⊎ StopsAt met setup events number line ending
 
 -- a line asks for something, and that ends the run
 pub record Stops (met : Trouble → Type 0) (s : Setup) (run : Run) (input : Input) (ending : Ending) : Type 0 where
   pub line : ScriptLine
   pub asks : says s run.lines input ≡ Asks line
-  pub stops : MayStop met (setup_in s run) run.events line ending
+  pub stops : MayStop met (setup_in s run) run.events (run.lines + 1) line ending
 
 -- a line ends the run by what it says, or by what it asks for
 abbrev pub EndsRun : (Trouble → Type 0) → Setup → Run → Input → Ending → Type 0

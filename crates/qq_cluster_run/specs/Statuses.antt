@@ -2,13 +2,15 @@
 use Rattle.std.specs.Prelude.{◌≡◌, ◌⊎◌, ℕ, ◌+◌, ◌≤◌, List, [], ◌∷◌, ◌++◌, Some, None, Err, take, codes, Contains}
 use Rattle.std.specs.Fmt.{decimal}
 use Rattle.qq_base.specs.Causes.{Rose}
+use Rattle.qq_base.specs.declared.ids.QueueId.{QueueId}
+use Rattle.qq_base.specs.declared.ids.SessionId.{SessionId}
 use Rattle.qq_disk.specs.declared.image.Image.{Image}
 use Rattle.qq_setup.specs.declared.setup.Setup.{Setup}
 use Rattle.qq_script_lines.specs.declared.fault.ScriptFault.{ScriptFault}
-use Rattle.qq_script_lines.specs.declared.fault.ScriptFault.TheVariants.{Body}
+use Rattle.qq_script_lines.specs.declared.fault.ScriptFault.TheVariants.{Body, NoSuch}
 use Rattle.qq_script_lines.specs.declared.line.Nodes.{Nodes}
 use Rattle.qq_script_lines.specs.declared.line.ScriptLine.{ScriptLine}
-use Rattle.qq_script_lines.specs.declared.line.ScriptLine.TheVariants.{Crash, Restart}
+use Rattle.qq_script_lines.specs.declared.line.ScriptLine.TheVariants.{Attach, Crash, Restart}
 use Rattle.qq_words.specs.declared.options.Options.{Options}
 use Rattle.qq_ports.specs.Lines.{HasNoFeed}
 use Rattle.qq_cluster.specs.Cluster.{Setup as ClusterSetup, ClusterEvent}
@@ -19,13 +21,14 @@ use Rattle.qq_cluster_run.specs.Definitions.{Files}
 use Rattle.qq_cluster_run.specs.Endings.{Ending, fault_text, no_memory}
 use Rattle.qq_cluster_run.specs.Inputs.{Input, feed_count}
 use Rattle.qq_cluster_run.specs.Reading.{Asks, read_input, says}
-use Rattle.qq_cluster_run.specs.Serving.{Run, EndsSpent, EndsDamaged, EndsLost, EndsUnsupported, run_behind, setup_behind, text_behind, audits_behind, Served}
-use Rattle.qq_cluster_run.specs.Runs.{BreaksOff, HasNoDisk, HasStopped, ending_of, ScriptEnds, IsSetup, MayNotOpen, RunEnds}
+use Rattle.qq_cluster_run.specs.Serving.{Claims, Histories, Run, EndsSpent, EndsDamaged, EndsLost, EndsUnsupported, run_behind, setup_behind, text_behind, audits_behind, Served}
+use Rattle.qq_cluster_run.specs.Runs.{BreaksOff, IsCut, HasNoDisk, HasStopped, ending_of, ScriptEnds, IsSetup, MayNotOpen, RunEnds}
 use Rattle.qq_cluster_run.specs.Setup.{Logs, cluster_over}
-use Rattle.qq_cluster_run.specs.Troubles.{Trouble, YardFails}
+use Rattle.qq_cluster_run.specs.Troubles.{Trouble, YardFails, TakerIsGone}
 
 -- What the source had and has, what the sink had and has, and their counts of faults before and after; what went wrong
--- below; and what may have happened by then to the clusters whose disks these were.
+-- below; what may have happened by then to the clusters whose disks and takers these were; and what may have happened to
+-- them in all.
 pub record Streams : Type 0 where
   pub bytes : List ℕ
   pub rest : List ℕ
@@ -37,6 +40,7 @@ pub record Streams : Type 0 where
   pub sink_after : ℕ
   pub troubles : List Trouble
   pub histories : List (ClusterSetup × List ClusterEvent)
+  pub courses : List (ClusterSetup × List ClusterEvent)
 
 abbrev pub SourceRose : Streams → Type 0
 SourceRose s = Rose s.source_before s.source_after
@@ -47,26 +51,29 @@ SinkRose s = Rose s.sink_before s.sink_after
 abbrev pub Met : Streams → Trouble → Type 0
 Met s trouble = Contains s.troubles trouble
 
-abbrev pub Had : Streams → ClusterSetup → List ClusterEvent → Type 0
+abbrev pub Had : Streams → Histories
 Had s setup events = Contains s.histories (setup, events)
+
+abbrev pub Claimed : Streams → Claims
+Claimed s = record { during = Had s; finally = λ setup events. Contains s.courses (setup, events) }
 
 -- a script with these options has ended with this status; `old` is what stood there when the line of an export was written
 abbrev pub HasEnded : ℕ → Options → Streams → Type 0
 HasEnded status options s =
     ScriptEnds status options (Some s.bytes) (Some s.rest) (Some s.old) (Some s.new) (SourceRose s) (SinkRose s)
-    (Met s) (Had s)
+    (Met s) (Claimed s)
 
 -- and in all, over a shelf with these files that counted so many faults before and after
 abbrev pub HasEndedOver : ℕ → Options → Files → (before after : ℕ) → Streams → Type 0
 HasEndedOver status options files before after s =
     RunEnds status (Some options) files (Some s.bytes) (Some s.rest) (Some s.old) (Some s.new) (SourceRose s)
-    (Rose before after) (SinkRose s) (Met s) (Had s)
+    (Rose before after) (SinkRose s) (Met s) (Claimed s)
 
 -- words that are no command have ended with this status
 abbrev pub HasEndedAtWords : ℕ → Streams → Type 0
 HasEndedAtWords status s =
     RunEnds status None None (Some s.bytes) (Some s.rest) (Some s.old) (Some s.new) (SourceRose s) ⊥ (SinkRose s)
-    (Met s) (Had s)
+    (Met s) (Claimed s)
 
 -- ---- some lines were served, and more was printed
 
@@ -80,6 +87,10 @@ run_over over = run_behind over.served.behind
 
 abbrev pub setup_over : {options : Options} {s : Streams} → Over options s → ClusterSetup
 setup_over over = setup_behind over.served.behind
+
+-- nothing has happened but what served these lines
+abbrev pub IsCourse : {options : Options} {s : Streams} → Over options s → Type 0
+IsCourse {options} {s} over = Contains s.courses (setup_over over, (run_over over).events)
 
 -- behind the text so far stands this
 abbrev pub Prints : {options : Options} {s : Streams} → Over options s → List ℕ → Type 0
@@ -104,7 +115,23 @@ pub record IsServed (options : Options) (s : Streams) : Type 0 where
   pub over : Over options s
   pub all : over.served.left ≡ []
   pub read : s.rest ≡ []
+  pub course : IsCourse over
   pub prints : Prints over (audits_behind over.served.behind)
+
+-- a line that is read is to give a consumer a taker that isn't there, or was given away
+pub record TakerIsMissing {options : Options} {s : Streams} (over : Over options s) (input : Input) : Type 0 where
+  pub by : SessionId
+  pub at : QueueId
+  pub tag : ℕ
+  pub number : ℕ
+  pub asks : says over.setup (run_over over).lines input ≡ Asks (Attach by at tag number)
+  pub met : Met s (TakerIsGone (setup_over over) (run_over over).events number)
+
+-- the fault of the next line
+abbrev pub IsFaulty : {options : Options} {s : Streams} → Over options s → Input → ScriptFault → Type 0
+IsFaulty over input fault =
+    (read_input over.setup ((run_over over).lines + 1) input ≡ Err fault)
+    ⊎ ((fault ≡ NoSuch) × TakerIsMissing over input)
 
 -- 4: the next line is refused, by its number and its fault.
 pub record IsRefused (options : Options) (s : Streams) : Type 0 where
@@ -112,7 +139,8 @@ pub record IsRefused (options : Options) (s : Streams) : Type 0 where
   pub input : Input
   pub is_next : IsNext over input
   pub fault : ScriptFault
-  pub reads : read_input over.setup ((run_over over).lines + 1) input ≡ Err fault
+  pub faulty : IsFaulty over input fault
+  pub course : IsCourse over
   pub prints : Prints over
       (codes "line " ++ decimal ((run_over over).lines + 1) ++ codes ": " ++ fault_text fault ++ codes "\n")
 
@@ -122,15 +150,16 @@ pub record IsReadFault (options : Options) (s : Streams) : Type 0 where
   pub over : Over options s
   pub piece : HasNoFeed over.served.piece
   pub all : (read : List ℕ) → s.bytes ≡ read ++ s.rest → feed_count read ≤ (run_over over).lines
+  pub course : IsCourse over
   pub prints : Prints over (codes "read fault\n")
 
 -- 6: the sink has failed, in what the lines and audits print, or in a closing line.
 pub data IsCutOff (options : Options) (s : Streams) : Type 0 where
   CutWithin : (setup : Setup) → IsSetup options setup
-      → BreaksOff (Had s) setup s.bytes (Some s.rest) (Some s.old) (Some s.new) [] → IsCutOff options s
+      → IsCut (Claimed s) setup s.bytes (Some s.rest) (Some s.old) (Some s.new) [] → IsCutOff options s
   CutAtClosing : (setup : Setup) → IsSetup options setup → (stop : Stop) (count : ℕ)
       → HasStopped stop setup (Some s.bytes) (Some s.rest) (Some s.old) (Some s.new) (SourceRose s) (SinkRose s)
-      (Met s) (Had s) (take count (ending_of stop).text) → IsCutOff options s
+      (Met s) (Claimed s) (take count (ending_of stop).text) → IsCutOff options s
   CutAtOpening : (setup : Setup) → IsSetup options setup → (ending : Ending) → MayNotOpen (Met s) setup ending
       → (count : ℕ) → PrintsAlone s (take count ending.text) → IsCutOff options s
   CutBeforeSetup : (count : ℕ) → PrintsAlone s (take count no_memory.text) → IsCutOff options s
@@ -175,6 +204,7 @@ pub record IsLimited (options : Options) (s : Streams) : Type 0 where
   pub is_next : IsNext over input
   pub text : List ℕ
   pub passes : PassesLimit over.setup (run_over over).lines input text
+  pub course : IsCourse over
   pub prints : Prints over text
 
 -- 12: there was no memory, and a first part of what is printed was written.

@@ -1,4 +1,4 @@
--- What may go wrong below a run: in its yard, in a node's disk, in what that holds, and with numbers that rise.
+-- What may go wrong below a run: in its yard, in a node's disk, in what that holds, with numbers that rise, and with takers.
 use Rattle.std.specs.Prelude.{ℕ, List}
 use Rattle.qq_log.specs.Stable.{Stable}
 use Rattle.qq_cluster.specs.Cluster.{Setup as ClusterSetup, ClusterEvent}
@@ -25,3 +25,5 @@ pub data Trouble : Type 0 where
   QueueIsFound : ClusterSetup → List ClusterEvent → (node place : ℕ) → Stable → Trouble
   -- after these events this number would have to rise, and stands at its end
   NumberEnds : ClusterSetup → List ClusterEvent → (number : ℕ) → Trouble
+  -- after these events no taker of this number is there that may be given to a consumer
+  TakerIsGone : ClusterSetup → List ClusterEvent → (number : ℕ) → Trouble

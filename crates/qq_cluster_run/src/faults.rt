@@ -1,22 +1,28 @@
 //! What the statuses of a fault tell, in the words of the streams alone, as laws: the functions do nothing, and
 //! their contracts are the laws.
-ghost use Rattle.std.specs.Prelude.{◌≡◌, ◌⊎◌, ◌≤◌, ◌++◌, ◌^◌, [], ℕ, List, Option, Some, None, false, true, codes, Contains};
+ghost use Rattle.std.specs.Prelude.{◌≡◌, ◌⊎◌, ◌≤◌, ◌+◌, ◌++◌, ◌∷◌, ◌^◌, [], ℕ, Err, List, Option, Some, None, false, length, true, codes, Contains};
 ghost use Rattle.std.specs.List.{range_with_len};
 ghost use Rattle.std.specs.Fmt.{decimal};
 ghost use Rattle.qq_base.specs.declared.ids.NodeId.{NodeId};
+ghost use Rattle.qq_base.specs.declared.ids.QueueId.{QueueId};
+ghost use Rattle.qq_base.specs.declared.ids.SessionId.{SessionId};
 ghost use Rattle.qq_log.specs.declared.op.Op.{Op};
 ghost use Rattle.qq_log.specs.Stable.{Stable, stable};
 ghost use Rattle.qq_setup.specs.declared.setup.Setup.{Setup};
+ghost use Rattle.qq_script_lines.specs.declared.fault.ScriptFault.{ScriptFault};
+ghost use Rattle.qq_script_lines.specs.declared.fault.ScriptFault.TheVariants.{NoSuch};
+ghost use Rattle.qq_script_lines.specs.declared.line.ScriptLine.TheVariants.{Attach};
 ghost use Rattle.qq_words.specs.declared.options.Options.{Options};
 ghost use Rattle.qq_cluster.specs.Cluster.{Setup as ClusterSetup, ClusterEvent, members};
 ghost use Rattle.qq_cluster.specs.Laws.{IsBegun};
-ghost use Rattle.qq_cluster_run.specs.Endings.{lost};
+ghost use Rattle.qq_cluster_run.specs.Endings.{fault_text, lost};
 ghost use Rattle.qq_cluster_run.specs.Inputs.{Input, inputs_of};
+ghost use Rattle.qq_cluster_run.specs.Reading.{Asks, read_input, says};
 ghost use Rattle.qq_cluster_run.specs.Runs.{IsSetup};
 ghost use Rattle.qq_cluster_run.specs.Serving.{Behind, MayTakeUp, after_all, setup_behind, state_read, text_behind};
 ghost use Rattle.qq_cluster_run.specs.Setup.{Logs, cluster_over, cluster_setup, is_change_of};
 ghost use Rattle.qq_cluster_run.specs.Statuses.{Had, Streams, HasEnded};
-ghost use Rattle.qq_cluster_run.specs.Troubles.{Damage, AtPlace, OfVersion, damage_ending, YardFails, DiskFails, FilesBreak, QueueIsFound, NumberEnds};
+ghost use Rattle.qq_cluster_run.specs.Troubles.{Damage, AtPlace, OfVersion, damage_ending, YardFails, DiskFails, FilesBreak, QueueIsFound, NumberEnds, TakerIsGone};
 
 /// A law: what is printed of a node's files that break the rules, and of a queue that is lost.
 pub fn closing_lines_name_the_node()
@@ -30,6 +36,21 @@ pub fn closing_lines_name_the_node()
         (lost node name noticed found).text
         ≡ codes "lost node " ++ decimal node ++ codes " " ++ name ++ codes " noticed "
         ++ decimal noticed ++ codes " found " ++ decimal found ++ codes "\n" }
+{}
+
+/// A law: what status 4 tells. The next line is refused, and its fault is printed: it reads so; or it is to give a
+/// consumer a taker, and after the events that served the lines before it none of that number was there.
+pub fn refused_lines_are_told()
+    ensures { (options : Options) (s : Streams) → HasEnded 4 options s →
+        (setup : Setup) × IsSetup options setup × ((left : List Input)
+        × ((b : Behind (Had s) setup (inputs_of s.bytes) left) × ((input : Input)
+        × ((more : List Input) × (left ≡ input ∷ more)) × ((fault : ScriptFault)
+        × ((read_input setup (length b.read + 1) input ≡ Err fault)
+        ⊎ ((fault ≡ NoSuch) × ((by : SessionId) × ((at : QueueId) × ((tag : ℕ) × ((number : ℕ)
+        × (says setup (length b.read) input ≡ Asks (Attach by at tag number))
+        × Contains s.troubles (TakerIsGone (setup_behind b) b.events number)))))))
+        × (s.new ≡ s.old ++ (text_behind b ++ (codes "line " ++ decimal (length b.read + 1)
+        ++ codes ": " ++ fault_text fault ++ codes "\n"))))))) }
 {}
 
 /// A law: what statuses 7, 8 and 20 tell.

@@ -24,11 +24,11 @@ pub use examples::worked_scripts_print;
 pub use export_laws::{closing_lines_name_the_fault, exports_are_read_first};
 pub use faults::{
     closing_lines_name_the_node, faults_are_told, faults_come_where_they_are_asked_for,
-    lost_queues_are_told,
+    lost_queues_are_told, refused_lines_are_told,
 };
 pub use laws::{
-    a_script_has_ten_million_lines, a_status_tells_what_was_done, runs_settle, scripts_are_served,
-    what_was_printed_is_true,
+    a_script_has_ten_million_lines, a_status_tells_what_was_done,
+    ended_scripts_did_what_they_print, runs_settle, scripts_are_served, what_was_printed_is_true,
 };
 pub use named::{a_line_names_what_is_there, a_message_may_go_nowhere};
 pub use queues::{audits_are_serial, what_was_printed_is_there_once};
