@@ -20,7 +20,7 @@ use Rattle.qq_cluster_laws.specs.Serves.{Seen, Serves}
 use Rattle.qq_cluster_laws.specs.Unseen.{is_node, seen_by, sees, touched, touches}
 use Rattle.qq_cluster_laws.proofs.Serves.{ShowsOne}
 use Rattle.qq_cluster_laws.proofs.Unseen.{parts-stay, unseen-follow, unseen-linked, up-stays}
-use Rattle.qq_cluster_queue.specs.ClusterQueue.{Becomes, Does, DoesAlways, IsSameQueue, Stands as IsQueue, text_as}
+use Rattle.qq_cluster_queue.specs.ClusterQueue.{Becomes, Does, DoesAlways, IsSameQueue, Shows, Stands as IsQueue, text_as}
 use Rattle.qq_cluster_queue.specs.Sessions.{Standings, standings}
 use Rattle.qq_cluster_queue.specs.declared.cluster_queue.ClusterQueue.{ClusterQueue}
 use Rattle.qq_node_log.specs.Log.{Stands as IsLog}
@@ -65,11 +65,10 @@ pub becomes-does : (event : Event) (sessions : Standings) (old new : ClusterQueu
     → Becomes event old new → Does event sessions old new outcome outcome
 becomes-does event sessions old new outcome becomes q st =
     let both = becomes sessions q st in
-    (
-      both.0,
-      sym (append-nil outcome.text) ∙ ap (λ (l : List Shown). outcome.text ++ text_as old l) (sym both.1),
-      ap (λ (l : List Shown). sees_all l outcome.takers) (sym both.1),
-    )
+    (both.0, record {
+      text = sym (append-nil outcome.text) ∙ ap (λ (l : List Shown). outcome.text ++ text_as old l) (sym both.1);
+      takers = ap (λ (l : List Shown). sees_all l outcome.takers) (sym both.1);
+    })
 
 -- what is asked is the event
 pub asked-always : (ask : Ask) (event : Event) (sessions : Standings) (old new : ClusterQueue) (before after : Outcome)
@@ -130,13 +129,11 @@ text-at setup sessions c event place d is =
 
 -- and what comes of it
 pub shows-at : (setup : Setup) (sessions : Standings) (c : Cluster) (event : Event) (place : ℕ) (d : ClusterQueue)
-    (before later : Outcome) → IsQueueOf setup sessions c place d → {Now : Type 0}
-    → Now × (later.text ≡ before.text ++ text_as d (said (c.queue place) event))
-    × (later.takers ≡ sees_all (said (c.queue place) event) before.takers)
+    (before later : Outcome) → IsQueueOf setup sessions c place d → Shows d (said (c.queue place) event) before later
     → ShowsOne setup c (At place event) before later
-shows-at setup sessions c event place d before later is does = record {
-  text = does.1 ∙ ap (λ (l : List ℕ). before.text ++ l) (text-at setup sessions c event place d is);
-  takers = does.2 ∙ sym (takers-at setup c place event before.takers);
+shows-at setup sessions c event place d before later is shows = record {
+  text = shows.text ∙ ap (λ (l : List ℕ). before.text ++ l) (text-at setup sessions c event place d is);
+  takers = shows.takers ∙ sym (takers-at setup c place event before.takers);
 }
 
 -- ---- the cluster after an event at one place
@@ -235,7 +232,7 @@ module _ {D : Type 0} {tells : D → Bool} {past : D → List Disk} {faults : D 
         refl,
         stands-at setup c at event old new before later unseen active same does st,
         shows-at setup (standings old.sessions) c event (at + 1) does.old before later was
-            (does.does (c.queue (at + 1)) was.stands),
+            (does.does (c.queue (at + 1)) was.stands).1,
       )))
 
   -- a queue that is active from here on

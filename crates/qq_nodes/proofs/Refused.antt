@@ -58,7 +58,7 @@ ask-ends steps (Submit session body) d number sound (inr offer) =
     sound offer
 ask-ends steps (TellEnded session) d number sound cause = no-want number cause
 ask-ends steps (TellNotTaken session id) d number sound cause = no-want number cause
-ask-ends steps (Attach session tag number) d number sound cause = no-want number cause
+ask-ends steps (Attach session tag taker) d number sound cause = no-want number cause
 ask-ends steps (Fetch session) d number sound cause = no-want number cause
 ask-ends steps (Resend session) d number sound (inl want) = no-want number want
 ask-ends steps (Resend session) d number sound (inr refused) =

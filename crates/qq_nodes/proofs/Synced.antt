@@ -24,7 +24,8 @@ use Rattle.qq_raft_model.specs.Group.{has_node}
 use Rattle.qq_raft_protocol.specs.Facts.{In}
 use Rattle.qq_cluster.specs.Cluster.{Cluster, ClusterEvent, Fails, NodeSyncs, Setup, cluster_after, cluster_happens, members}
 use Rattle.qq_cluster.specs.Laws.{CountsRise}
-use Rattle.qq_cluster.specs.Queue.{Queue, Stops, Syncs as SyncsAt, happens}
+use Rattle.qq_cluster.specs.Queue.{Queue, Stops, Syncs as SyncsAt, happens, synced_after}
+use Rattle.qq_cluster.proofs.Takerless.{untold-still}
 use Rattle.qq_cluster.specs.Rules.{IsNothing, IsSync, IsSynced, MayRoll, if_so, is_quiet, some_queue, waits_synced}
 use Rattle.qq_cluster_laws.specs.Linked.{IsLinked, IsPromised, IsReached, MembersFollow, lot_of, part_at, parts_at}
 use Rattle.qq_cluster_laws.specs.Serves.{GivesUp, Serves}
@@ -94,7 +95,8 @@ module _ (setup : Setup) (c : Cluster) (k : ℕ) (r : IsReached setup c) where
   syncs-none : (place : ℕ) → CountsRise (c.queue place) k → waits_synced k (c.queue place) ≡ false
       → happens (c.queue place) (SyncsAt k) ≡ c.queue place
   syncs-none place rise none =
-      ap (λ (synced : ℕ → ℕ). record (c.queue place) { synced = synced })
+      sym (untold-still (record (c.queue place) { synced = synced_after (c.queue place) (SyncsAt k) }))
+      ∙ ap (λ (synced : ℕ → ℕ). record (c.queue place) { synced = synced })
       (cond_both (is_some ((c.queue place).group.seat k).server)
       (put k (length ((c.queue place).group.seat k).ops) (c.queue place).synced) (c.queue place).synced
       (λ (synced : ℕ → ℕ). synced ≡ (c.queue place).synced)
@@ -125,11 +127,11 @@ in-filter passes x (y ∷ ys) here = by (passes y) here (λ later. in-filter pas
 
 module _ {D : Type 0} {tells : D → Bool} {past : D → List Disk} {faults : D → ℕ} where
   -- a node that is down syncs nothing
-  pub sync-down : (k : ℕ) (held : Held D) (outcome : Outcome)
+  pub sync-down : (k : ℕ) (held : Held D) (told : Outcome)
       → ((setup : Setup) (c : Cluster) → Stands tells past setup held c → false ≡ c.up k)
-      → Served tells past faults (λ setup. IsSync setup k) held held outcome outcome
-  sync-down k held outcome down =
-      served-nothing held outcome
+      → Served tells past faults (λ setup. IsSync setup k) held held told told
+  sync-down k held told down =
+      served-nothing held told
       (λ setup c r st. rule-else (c.up k)
       (if_so (some_queue setup (waits_synced k) c) (IsSynced k) (MayRoll k)) IsNothing c [] (sym (down setup c st)) refl)
 
@@ -306,13 +308,13 @@ module _ {D : Type 0} {tells : D → Bool} {past : D → List Disk} where
       -- ---- all of it is synced
 
       -- something waited
-      synced-some : (last : Held D) (outcome : Outcome) → outcome ≡ Whole → HasTurned (SyncsAt k) mid last
+      synced-some : (last : Held D) (told : Outcome) → outcome ≡ Whole → HasTurned (SyncsAt k) mid last
           → some_queue setup (waits_synced k) c ≡ true
           → Serves setup c (IsSync setup k c) (Stands tells past setup last) (seen tells past faults old)
-          (seen tells past faults last) outcome outcome
-      synced-some last outcome whole marked some =
+          (seen tells past faults last) told told
+      synced-some last told whole marked some =
           call-serves setup c k (NodeSyncs k ∷ []) old last turn.old turn.new turn.new same_parts (own-sync k, tt) low
-          turn.here (changed last marked).nodes was (is-up setup c st) ch log-same (IsSync setup k c) outcome outcome
+          turn.here (changed last marked).nodes was (is-up setup c st) ch log-same (IsSync setup k c) told told
           (λ failed. absurd (false≢true failed))
           (sync-rule setup c (NodeSyncs k ∷ []) st
           (rule-if (some_queue setup (waits_synced k) c) (IsSynced k) (MayRoll k) c (NodeSyncs k ∷ []) some (inl refl)))
@@ -321,7 +323,7 @@ module _ {D : Type 0} {tells : D → Bool} {past : D → List Disk} where
           (same-ops (cluster_happens c (NodeSyncs k)) (λ place. refl) (lot_of setup k).places) was.members)
           (mid-queues last marked setup c (cluster_happens c (NodeSyncs k)) r st (λ at lt. refl)) refl
           (λ at lt calm. ap (is_quiet setup c.up) (still setup c r st at lt calm) ∙ st.quiet at lt calm))
-          (same-outcome outcome)
+          (same-outcome told)
           (λ told linked. whole-traced linked (whole-come whole told linked))
         where
           whole-traced : IsLinked setup c k (now (past (disk_in ch.before)))
@@ -339,20 +341,20 @@ module _ {D : Type 0} {tells : D → Bool} {past : D → List Disk} where
               (past (disk_in ch.behind))) is (come told linked)
 
       -- nothing did, and perhaps a full file is replaced
-      synced-none : (last : Held D) (outcome : Outcome) → outcome ≡ Whole → HasTurned (SyncsAt k) mid last
+      synced-none : (last : Held D) (told : Outcome) → outcome ≡ Whole → HasTurned (SyncsAt k) mid last
           → some_queue setup (waits_synced k) c ≡ false
           → Serves setup c (IsSync setup k c) (Stands tells past setup last) (seen tells past faults old)
-          (seen tells past faults last) outcome outcome
-      synced-none last outcome whole marked none =
+          (seen tells past faults last) told told
+      synced-none last told whole marked none =
           call-serves setup c k [] old last turn.old turn.new turn.new same_parts tt low turn.here
-          (changed last marked).nodes was (is-up setup c st) ch log-same (IsSync setup k c) outcome outcome
+          (changed last marked).nodes was (is-up setup c st) ch log-same (IsSync setup k c) told told
           (λ failed. absurd (false≢true failed))
           (sync-rule setup c [] st
           (rule-else (some_queue setup (waits_synced k) c) (IsSynced k) (MayRoll k) c [] none (inl refl)))
           (stands-own setup c k [] old last turn.old turn.new tt (changed last marked) st
           (goes c whole refl (same-ops c (λ place. refl) (lot_of setup k).places) was.members)
           (mid-queues last marked setup c c r st (unmoved setup c r st none)) refl st.quiet)
-          (same-outcome outcome)
+          (same-outcome told)
           (λ told linked. (
             linked.promised,
             moments told linked,
@@ -473,13 +475,13 @@ module _ {D : Type 0} {tells : D → Bool} {past : D → List Disk} where
     whether P false yes' no' = no' refl
 
     -- all of it is synced, and the log goes on
-    pub synced : (faults : D → ℕ) (last : Held D) (outcome : Outcome)
+    pub synced : (faults : D → ℕ) (last : Held D) (told : Outcome)
         → NodeTurns (Syncs tells past faults Whole) (k - 1) old.nodes.items nodes.items
-        → HasTurned (SyncsAt k) after_log last → Served tells past faults (λ setup. IsSync setup k) old last outcome outcome
-    synced faults last outcome turn marked = record {
+        → HasTurned (SyncsAt k) after_log last → Served tells past faults (λ setup. IsSync setup k) old last told told
+    synced faults last told turn marked = record {
       serves = λ setup c r st. whether _ (some_queue setup (waits_synced k) c)
-          (λ some. synced-some k old nodes low high up faults Whole turn setup c r st last outcome refl marked some)
-          (λ none. synced-none k old nodes low high up faults Whole turn setup c r st last outcome refl marked none);
+          (λ some. synced-some k old nodes low high up faults Whole turn setup c r st last told refl marked some)
+          (λ none. synced-none k old nodes low high up faults Whole turn setup c r st last told refl marked none);
     }
 
     -- the disk failed where a new file was begun

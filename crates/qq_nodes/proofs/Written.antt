@@ -25,6 +25,8 @@ use Rattle.qq_log.specs.Carries.{is_listed}
 use Rattle.qq_cluster.specs.Cluster.{Cluster, ClusterEvent, Fails, NodeWrites, Setup, cluster_after, cluster_happens}
 use Rattle.qq_cluster.specs.ClusterLaws.{HasGroups}
 use Rattle.qq_cluster.specs.Queue.{Queue, Stops, Writes, happens, waiting}
+use Rattle.qq_cluster.specs.Taking.{waiting_then}
+use Rattle.qq_cluster.proofs.Takerless.{untold-still}
 use Rattle.qq_cluster.specs.Rules.{IsNothing, IsWrite, IsWritten, is_quiet, some_queue, waits_written}
 use Rattle.qq_cluster_laws.specs.Linked.{IsLinked, IsReached, lot_of, part_at, parts_at}
 use Rattle.qq_cluster_laws.specs.Serves.{GivesUp}
@@ -78,8 +80,10 @@ long-ends (Closed disk) number long = absurd long
 
 -- a queue of which nothing waits is as it was
 waits-none : (k : ℕ) (q : Queue) (n : ℕ) → n ≡ 0
-    → record q { group = group_after q.group (replicate n (Take k)) } ≡ q
-waits-none k q n is = ap (λ (m : ℕ). record q { group = group_after q.group (replicate m (Take k)) }) is
+    → record q { group = group_after q.group (replicate n (Take k)); untold = waiting_then q.untold q.seats [] } ≡ q
+waits-none k q n is =
+    sym (untold-still (record q { group = group_after q.group (replicate n (Take k)) }))
+    ∙ ap (λ (m : ℕ). record q { group = group_after q.group (replicate m (Take k)) }) is
 
 module _ {D : Type 0} {tells : D → Bool} {past : D → List Disk} {faults : D → ℕ} where
   -- a node that is down writes nothing
