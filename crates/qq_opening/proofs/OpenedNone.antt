@@ -1,4 +1,5 @@
 -- A node's log isn't recovered as it is opened, after others were.
+use Rattle.qq_nodes.proofs.Outcomes.{no_outcome}
 use Rattle.std.proofs.Common.{◌≡◌, ◌≢◌, ◌<◌, ◌+◌, ◌-◌, ℕ, Bool, true, List, [], ◌∷◌, ◌++◌, Some, length, refl, sym, ap, ◌∙◌, subst, inl, inr, arith}
 use Rattle.std.specs.Prelude.{Err, IsTrue, slice_get}
 use Rattle.std.specs.List.{range_with_len}
@@ -213,7 +214,7 @@ module _ {D : Type 0} {tells : D → Bool} {past : D → List Disk} {faults : D 
         record {
           mid = old;
           before = [];
-          said = [];
+          said = no_outcome;
           serves = serves-none setup (new_cluster setup) (Begins (IsOpening setup) (new_cluster setup))
               (Stands tells past setup old) a [] (record { rest = more.0; allowed = more.1 })
               (new-stands rows old new setup (setup-over setup rows (length old.nodes.items) logs sw groups));
