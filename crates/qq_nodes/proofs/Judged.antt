@@ -1,12 +1,11 @@
 -- Takers are asked, and their verdicts are followed.
-use Rattle.std.proofs.Common.{◌≡◌, ◌⊎◌, ◌<◌, ◌+◌, ℕ, zero, suc, Bool, true, List, [], ◌∷◌, ◌++◌, Option, Some, None, get_or, length, refl, sym, ap, ◌∙◌, subst, inl, inr}
+use Rattle.std.proofs.Common.{◌≡◌, ◌<◌, ◌+◌, ℕ, zero, suc, Bool, true, List, [], ◌∷◌, ◌++◌, Option, Some, None, get_or, length, refl, sym, ap, ◌∙◌, subst}
 use Rattle.std.specs.List.{AllByRecursion}
 use Rattle.std.specs.Prelude.{slice_get, slice_set}
 use Rattle.std.proofs.lemmas.Option.{slice_get-get_or}
 use Rattle.qq_disk.specs.Disk.{Disk}
 use Rattle.qq_entry.specs.declared.command.Unstamped.{Unstamped}
 use Rattle.qq_taker.specs.declared.handed.Handed.{Handed}
-use Rattle.qq_taker.specs.declared.taker.Verdict.{Verdict}
 use Rattle.qq_cluster.specs.Cluster.{Cluster, ClusterEvent, Setup, cluster_after}
 use Rattle.qq_cluster.specs.Outcome.{Outcome}
 use Rattle.qq_cluster.specs.Queue.{Judges}

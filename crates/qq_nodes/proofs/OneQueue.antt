@@ -1,9 +1,8 @@
 -- One queue does what is asked of it.
-use Rattle.std.proofs.Common.{◌≡◌, ◌≢◌, ◌⊎◌, ◌<◌, ◌+◌, ◌-◌, ℕ, zero, suc, Bool, true, false, cond, List, [], ◌∷◌, ◌++◌, Option, Some, None, get_or, length, map, refl, sym, ap, ◌∙◌, subst, inl, inr, arith, append-nil}
-use Rattle.std.specs.Global.{Vec}
-use Rattle.std.specs.Prelude.{nat_eq, slice_get, slice_set}
+use Rattle.std.proofs.Common.{◌≡◌, ◌≢◌, ◌⊎◌, ◌<◌, ◌+◌, ℕ, zero, suc, Bool, true, false, cond, List, [], ◌∷◌, ◌++◌, Some, None, get_or, length, map, refl, sym, ap, ◌∙◌, subst, inl, inr, arith, append-nil}
+use Rattle.std.specs.Prelude.{slice_get, slice_set}
 use Rattle.std.specs.List.{AllByRecursion, flat_map}
-use Rattle.std.proofs.lemmas.Bool.{cases_eq, eq-eqb, false≢true, ne_eqb}
+use Rattle.std.proofs.lemmas.Bool.{eq-eqb, false≢true, ne_eqb}
 use Rattle.std.proofs.lemmas.Option.{slice_get-get_or}
 use Rattle.qq_cluster_queue.specs.Members.{AreSound}
 use Rattle.qq_disk.specs.Disk.{Disk}
@@ -15,18 +14,17 @@ use Rattle.qq_cluster.specs.Queue.{Event, Queue, after, happens, said}
 use Rattle.qq_cluster.specs.Rules.{Is, IsNothing, is_quiet}
 use Rattle.qq_cluster.specs.Texts.{is_first, printed_text, shown_text, shown_text_as, text_of}
 use Rattle.qq_cluster.proofs.Outcomes.{takers-at}
-use Rattle.qq_cluster_laws.specs.Linked.{IsReached, lot_of, parts_at}
-use Rattle.qq_cluster_laws.specs.Serves.{Seen, Serves}
-use Rattle.qq_cluster_laws.specs.Unseen.{is_node, seen_by, sees, touched, touches}
+use Rattle.qq_cluster_laws.specs.Linked.{lot_of, parts_at}
+use Rattle.qq_cluster_laws.specs.Unseen.{is_node, seen_by, sees, touched}
 use Rattle.qq_cluster_laws.proofs.Serves.{ShowsOne}
-use Rattle.qq_cluster_laws.proofs.Unseen.{parts-stay, unseen-follow, unseen-linked, up-stays}
+use Rattle.qq_cluster_laws.proofs.Unseen.{parts-stay, unseen-follow, up-stays}
 use Rattle.qq_cluster_queue.specs.ClusterQueue.{Becomes, Does, DoesAlways, IsSameQueue, Shows, Stands as IsQueue, text_as}
 use Rattle.qq_cluster_queue.specs.Sessions.{Standings, standings}
 use Rattle.qq_cluster_queue.specs.declared.cluster_queue.ClusterQueue.{ClusterQueue}
 use Rattle.qq_node_log.specs.Log.{Stands as IsLog}
 use Rattle.qq_nodes.specs.Active.{is_in, put_in}
 use Rattle.qq_nodes.specs.Asking.{DoesAt, asked}
-use Rattle.qq_nodes.specs.Nodes.{IsNodeOf, IsQueueOf, IsSetUp, Served, Stands, seen, seen_in}
+use Rattle.qq_nodes.specs.Nodes.{IsNodeOf, IsQueueOf, IsSetUp, Served, Stands}
 use Rattle.qq_nodes.specs.declared.asking.Ask.{Ask}
 use Rattle.qq_nodes.specs.declared.asking.Ask.TheVariants.{Submit, TellEnded, TellNotTaken, Attach, Resend, Fetch, Down, Tick, Notice, Deliver, Lose, Copy}
 use Rattle.qq_nodes.specs.declared.node.Node.{Node}

@@ -1,5 +1,5 @@
 -- A rule so many times.
-use Rattle.std.proofs.Common.{◌≡◌, ◌<◌, ◌≤◌, ◌+◌, ◌-◌, ℕ, suc, Bool, List, [], ◌∷◌, ◌++◌, refl, sym, subst, arith, append-nil}
+use Rattle.std.proofs.Common.{◌≡◌, ◌<◌, ◌≤◌, ◌+◌, ◌-◌, ℕ, suc, Bool, List, [], ◌++◌, refl, sym, subst, arith, append-nil}
 use Rattle.qq_base.specs.declared.memory.Memory.{Memory}
 use Rattle.qq_disk.specs.Disk.{Disk}
 use Rattle.qq_cluster.specs.Cluster.{Cluster, ClusterEvent, Setup, cluster_after}

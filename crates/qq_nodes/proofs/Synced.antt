@@ -1,33 +1,31 @@
 -- What a node's log was given is synced.
-use Rattle.std.proofs.Common.{◌≡◌, ◌⊎◌, ◌<◌, ◌≤◌, ◌+◌, ◌-◌, ℕ, Bool, true, false, ◌&&◌, cond, List, [], ◌∷◌, ◌++◌, Option, Some, None, length, refl, sym, ap, ◌∙◌, subst, inl, inr, arith, append-nil}
+use Rattle.std.proofs.Common.{◌≡◌, ◌<◌, ◌≤◌, ◌+◌, ◌-◌, ℕ, Bool, true, false, cond, List, [], ◌∷◌, ◌++◌, Some, length, refl, sym, ap, ◌∙◌, subst, inl, inr, arith}
 use Rattle.std.specs.Fmt.{decimal}
 use Rattle.std.specs.Global.{Vec}
-use Rattle.std.specs.Prelude.{IsTrue, codes, filter, is_some, nat_lt, slice_get, slice_set}
+use Rattle.std.specs.Prelude.{IsTrue, codes, filter, is_some, slice_get, slice_set}
 use Rattle.std.specs.List.{AllByRecursion, list_any}
 use Rattle.std.proofs.Math.Path.{fun_ext}
 use Rattle.std.proofs.lemmas.Bool.{cond_both, false≢true, ltb-false, or_parts}
 use Rattle.qq_base.specs.Causes.{Rose}
-use Rattle.qq_base.proofs.Lists.{AllByRecursion-weaker, In as InList}
+use Rattle.qq_base.proofs.Lists.{In as InList}
 use Rattle.qq_base.proofs.Puts.{put-each, put-same}
 use Rattle.qq_base.specs.Fronts.{put}
 use Rattle.qq_base.specs.declared.memory.Memory.{Memory}
 use Rattle.qq_base.specs.declared.memory.Memory.TheVariants.{Spent, Want}
-use Rattle.qq_base.specs.declared.memory.TheConstants.{NUMBER_END}
 use Rattle.qq_disk.specs.Disk.{Disk, now}
 use Rattle.qq_disk.proofs.Stored.{still_tells}
 use Rattle.qq_disk.specs.Moments.{Adds}
 use Rattle.qq_disk.proofs.Moments.{adds-now}
-use Rattle.qq_lots.specs.Kept.{IsTied, KeepsPromised}
-use Rattle.qq_lots.specs.Lots.{Lot, Part, Parts, keep, keep_all}
+use Rattle.qq_lots.specs.Lots.{Lot, Part, Parts, keep_all}
 use Rattle.qq_lots.proofs.Writes.{tied-same}
 use Rattle.qq_raft_model.specs.Group.{has_node}
 use Rattle.qq_raft_protocol.specs.Facts.{In}
-use Rattle.qq_cluster.specs.Cluster.{Cluster, ClusterEvent, Fails, NodeSyncs, Setup, cluster_after, cluster_happens, members}
+use Rattle.qq_cluster.specs.Cluster.{Cluster, ClusterEvent, Fails, NodeSyncs, Setup, cluster_happens, members}
 use Rattle.qq_cluster.specs.Laws.{CountsRise}
-use Rattle.qq_cluster.specs.Queue.{Queue, Stops, Syncs as SyncsAt, happens, synced_after}
+use Rattle.qq_cluster.specs.Queue.{Stops, Syncs as SyncsAt, happens, synced_after}
 use Rattle.qq_cluster.proofs.Takerless.{untold-still}
 use Rattle.qq_cluster.specs.Rules.{IsNothing, IsSync, IsSynced, MayRoll, if_so, is_quiet, some_queue, waits_synced}
-use Rattle.qq_cluster_laws.specs.Linked.{IsLinked, IsPromised, IsReached, MembersFollow, lot_of, part_at, parts_at}
+use Rattle.qq_cluster_laws.specs.Linked.{IsLinked, IsPromised, IsReached, MembersFollow, lot_of, parts_at}
 use Rattle.qq_cluster_laws.specs.Serves.{GivesUp, Serves}
 use Rattle.qq_cluster_laws.specs.Traced.{IsTracedAt}
 use Rattle.qq_cluster_laws.proofs.Calls.{failed-traced, sync_failed-traced, synced-traced}
@@ -36,7 +34,6 @@ use Rattle.qq_cluster_laws.proofs.Reached.{counts-at}
 use Rattle.qq_cluster_laws.proofs.Traces.{broken-none}
 use Rattle.qq_cluster_queue.specs.Sessions.{standings}
 use Rattle.qq_cluster_queue.specs.declared.sessions.Standing.{Standing}
-use Rattle.qq_cluster_queue.specs.declared.cluster_queue.ClusterQueue.{ClusterQueue}
 use Rattle.qq_node_log.specs.Log.{IsRunningIn, disk_in}
 use Rattle.qq_node_log.specs.Syncing.{HasCome, IsLastIn, IsLastOn}
 use Rattle.qq_node_log.specs.declared.node_log.NodeLog.{NodeLog}
@@ -47,15 +44,15 @@ use Rattle.qq_node_log.proofs.Running.{running-same}
 use Rattle.qq_cluster.specs.Outcome.{Outcome}
 use Rattle.qq_nodes.specs.Showing.{with_line}
 use Rattle.qq_nodes.specs.Active.{is_in}
-use Rattle.qq_nodes.specs.Ends.{HasLog, InNumbers, IsAtEnd}
+use Rattle.qq_nodes.specs.Ends.{InNumbers, IsAtEnd}
 use Rattle.qq_nodes.specs.Logs.{ChangesLog, MaySyncAt, NodeTurns, Syncs, SyncsInPart}
-use Rattle.qq_nodes.specs.Nodes.{CanServe, GaveUp, HaveLogs, IsNodeOf, IsSetUp, Served, Stands, seen}
+use Rattle.qq_nodes.specs.Nodes.{CanServe, GaveUp, HaveLogs, IsNodeOf, Served, Stands, seen}
 use Rattle.qq_nodes.specs.Turning.{HasStopped, HasTurned}
 use Rattle.qq_nodes.specs.declared.node.Node.{Node}
 use Rattle.qq_nodes.specs.declared.nodes.Nodes.{Nodes as Held}
 use Rattle.qq_nodes.proofs.Logged.{logs-with}
-use Rattle.qq_nodes.proofs.OwnStands.{Changes, QueuesOf, call-gives_up, call-serves, log-moments, log-runs, log-whole, node-in, node-was, not-fresh, set-here, stands-own, stopped-nodes, stopped-queues, turned-queues}
-use Rattle.qq_nodes.proofs.Owned.{AllOwn, own-fail, own-sync}
+use Rattle.qq_nodes.proofs.OwnStands.{Changes, QueuesOf, call-gives_up, call-serves, log-moments, log-runs, log-whole, node-in, node-was, not-fresh, stands-own, stopped-nodes, stopped-queues, turned-queues}
+use Rattle.qq_nodes.proofs.Owned.{own-fail, own-sync}
 use Rattle.qq_nodes.proofs.Pumping.{rule-else, rule-if}
 use Rattle.qq_nodes.proofs.Quiet.{quiet-stopped, quiet-syncs}
 use Rattle.qq_nodes.proofs.Stands.{ends-now, same-logs, served-nothing, stands-logs}
