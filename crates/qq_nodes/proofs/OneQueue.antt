@@ -62,11 +62,13 @@ set-long (y ∷ ys) (suc at) x = ap suc (set-long ys at x)
 pub becomes-does : (event : Event) (sessions : Standings) (old new : ClusterQueue) (outcome : Outcome)
     → Becomes event old new → Does event sessions old new outcome outcome
 becomes-does event sessions old new outcome becomes q st =
-    let both = becomes sessions q st in
-    (both.0, record {
-      text = sym (append-nil outcome.text) ∙ ap (λ (l : List Shown). outcome.text ++ text_as old l) (sym both.1);
-      takers = ap (λ (l : List Shown). sees_all l outcome.takers) (sym both.1);
-    })
+    let both = becomes sessions q st in (
+      both.0,
+      record {
+        text = sym (append-nil outcome.text) ∙ ap (λ (l : List Shown). outcome.text ++ text_as old l) (sym both.1);
+        takers = ap (λ (l : List Shown). sees_all l outcome.takers) (sym both.1);
+      },
+    )
 
 -- what is asked is the event
 pub asked-always : (ask : Ask) (event : Event) (sessions : Standings) (old new : ClusterQueue) (before after : Outcome)
