@@ -232,7 +232,12 @@ impl<T: Taker> Told<T> {
             None => return Err(Memory::Want),
         };
         words.push_str(verdict_text(verdict))?;
-        label.taken(alloc, handed.consumer.session, words.as_str(), &mut self.text)?;
+        label.taken(
+            alloc,
+            handed.consumer.session,
+            words.as_str(),
+            &mut self.text,
+        )?;
         Ok(verdict)
     }
 }
