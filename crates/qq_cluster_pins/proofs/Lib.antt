@@ -9,3 +9,4 @@ mod Times
 mod Calls
 mod Own
 mod Fresh
+mod Asked

@@ -10,6 +10,7 @@ mod moments;
 mod openings;
 mod queues;
 mod rules;
+mod takers;
 
 pub use counts::{
     a_majority_is_more_than_half, a_majority_of_logs_is_more_than_half, a_pump_makes_10000_rounds,
@@ -33,4 +34,8 @@ pub use queues::{a_queue_notices_and_answers, an_op_is_of_its_queue};
 pub use rules::{
     a_disk_fails_where_it_is_called, a_restart_finds_what_was_noticed,
     carried_out_commands_count_from_one,
+};
+pub use takers::{
+    a_verdict_is_told, deliveries_wait_for_takers, takers_are_asked_until_nothing_waits,
+    takers_are_dropped_at_answers, takers_are_given,
 };

@@ -119,7 +119,8 @@ pub fn other_events_leave_the_disk()
 
 /// A law: of a call that served these events, or was given up, and of the disks then.
 ///
-/// - `text`: the cluster is as the events leave it, what they print was added to the text, and takers saw what they show.
+/// - `text`: the cluster is as the events leave it, what they print was added to the text, and takers saw what they
+///   show.
 /// - `faults`: no node was crashed, no count of faults falls, and where a call of a node's disk failed its count rose,
 ///   or stands at its end.
 /// - `disks`: each disk tells what it told. Over one that tells, where the log was linked, the events are traced.

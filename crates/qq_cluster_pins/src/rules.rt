@@ -38,7 +38,8 @@ pub fn a_restart_finds_what_was_noticed()
 /// - `nothing`: where none has, there is no write, and no failure.
 /// - `syncs`: where the log was given ops that aren't synced, it is synced, or the disk fails before or after that.
 /// - `rolls`: where all are synced, nothing happens, or the disk fails.
-/// - `notices`: a member is noticed of what is synced, and takers are asked, where a delivery waits then. No disk fails.
+/// - `notices`: a member is noticed of what is synced, and takers are asked, where a delivery waits then. No disk
+///   fails.
 /// - `noticed`: where it was noticed of all, nothing happens.
 /// - `down`: at a node that is down nothing happens.
 pub fn a_disk_fails_where_it_is_called()
