@@ -1,5 +1,6 @@
 pub mod Failing
 pub mod Living
+mod GivenFree
 pub mod GoingOn
 pub mod Beginning
 pub mod Refusing
