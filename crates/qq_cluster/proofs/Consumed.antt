@@ -77,7 +77,8 @@ shown-map id own [] = by (same_consumer own id)
 shown-map id own (d ∷ ds) = by (same_consumer own id) (shown-map id own ds)
   where
     rest : List Delivery
-    rest = deliveries_waiting id (map (λ (d : Delivery). let h : Handed = record { consumer = own; delivery = d } in h) ds)
+    rest =
+        deliveries_waiting id (map (λ (d : Delivery). let h : Handed = record { consumer = own; delivery = d } in h) ds)
 
     by : (b : Bool) → rest ≡ cond b ds [] → cons_option (cond b (Some d) None) rest ≡ cond b (d ∷ ds) []
     by true is = ap (λ (l : List Delivery). d ∷ l) is
@@ -119,11 +120,11 @@ delivered-at id [] = refl
 delivered-at id (h ∷ more) =
     ap (cons_option (cond (same_consumer h.consumer id) (Some h.delivery) None)) (delivered-at id more)
 
-answers-none : (id : ConsumerId) (rows : List AuditRow) → deliveries_shown id (map Answered rows) ≡ []
+pub answers-none : (id : ConsumerId) (rows : List AuditRow) → deliveries_shown id (map Answered rows) ≡ []
 answers-none id [] = refl
 answers-none id (row ∷ rows) = answers-none id rows
 
-offered-none : (id : ConsumerId) (ready : Bool) (session : ℕ) (commands : List Command)
+pub offered-none : (id : ConsumerId) (ready : Bool) (session : ℕ) (commands : List Command)
     → deliveries_shown id (said_of ready session commands) ≡ []
 offered-none id true session commands = refl
 offered-none id false session [] = refl
@@ -194,7 +195,7 @@ next-at id q event =
     come_all-at id q.clients (effects_shown q event) (known q.clients event q.consumers)
     ∙ ap (after_deeds (event_deeds id q event)) (known-at id q.clients event q.consumers)
 
--- what an event shows of a consumer's deliveries, and those that wait then, are those that waited, and what it is handed
+-- what an event shows of a consumer's deliveries, and those that wait then, are those that waited, and what is handed out
 abbrev pub Goes : ConsumerId → Queue → Event → List Shown → List Handed → Type 0
 Goes id q event shown waits =
     deliveries_shown id shown ++ deliveries_waiting id waits
@@ -296,7 +297,8 @@ shown-at id q (event ∷ events) =
     let later : List Delivery = deliveries_shown id (all_said next events) in
     let rest : List Delivery = deliveries_waiting id (after next events).untold in
     let r : Received = consumer_at id q.consumers in
-    ap (λ (ds : List Delivery). ds ++ rest) (filter_map-append (delivery_shown id) (said q event) (all_said next events))
+    ap (λ (ds : List Delivery). ds ++ rest)
+    (filter_map-append (delivery_shown id) (said q event) (all_said next events))
     ∙ append_assoc here later rest
     ∙ ap (λ (ds : List Delivery). here ++ ds) (shown-at id next events)
     ∙ sym (append_assoc here (deliveries_waiting id next.untold) (handed (consumer_at id next.consumers) more))

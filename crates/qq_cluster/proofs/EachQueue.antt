@@ -93,7 +93,7 @@ event-prints setup c SaysUnroutable place = refl
 event-prints setup c SaysBusy place = refl
 event-prints setup c SaysEnded place = refl
 
-said-append : (q : Queue) (first second : List Event)
+pub said-append : (q : Queue) (first second : List Event)
     → all_said q (first ++ second) ≡ all_said q first ++ all_said (after q first) second
 said-append q [] second = refl
 said-append q (event ∷ first) second =

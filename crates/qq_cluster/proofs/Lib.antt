@@ -15,7 +15,13 @@ mod SessionLaws
 pub mod Counts
 pub mod EachQueue
 mod Settling
+mod Quiet
+mod Judging
+mod Seating
+mod TakerSees
+mod TakerRuns
 mod Serving
 mod Stopping
 mod Worked
 mod WorkedConsumers
+mod WorkedTakers

@@ -1,4 +1,5 @@
--- What a consumer is handed was delivered: it is an effect of an entry of the audit, and a front of the consumer's deliveries.
+-- What a consumer is handed was delivered: it is an effect of an entry of the audit, and a front of the consumer's
+-- deliveries.
 use Rattle.std.proofs.Common.{◌≡◌, ℕ, true, List, [], ◌∷◌, Option, Some, None, filter, map, take, refl, sym, subst, inl, inr}
 use Rattle.std.specs.Prelude.{All, Contains}
 use Rattle.std.specs.List.{AllByRecursion, flat_map}
@@ -167,8 +168,8 @@ module _ (knows : KnowsCommits) (keeps : KeepsCommits) (was : WasDelivered) (id 
         let out : List Delivery = handed (new_consumer id) deeds in
         let there : In d out =
         subst (λ (ds : List Delivery). In d ds) (all-at id args group events)
-        (In-append_left d (deliveries_shown id (all_said (begin args group) events)) (deliveries_waiting id final.untold)
-        here) in
+        (In-append_left d (deliveries_shown id (all_said (begin args group) events))
+        (deliveries_waiting id final.untold) here) in
         AllByRecursion-in (Came id final) d came came-each
         (in_contains came d (All-contains (Contains came) out d (of-arrivals id deeds) (Contains-in d out there)))
 
@@ -213,14 +214,16 @@ module _ (knows : KnowsCommits) (keeps : KeepsCommits) (was : WasDelivered) (id 
 
 -- a delivery that is shown, by itself or with a taker's verdict, is of this kind
 record AreMade (q : Queue) (xs : List Shown) : Type 0 where
-  pub delivered : (id : ConsumerId) (d : Delivery) → In (Delivered id d) xs → HasEffect q.args q.group.audit (Deliver id d)
+  pub delivered : (id : ConsumerId) (d : Delivery) → In (Delivered id d) xs
+      → HasEffect q.args q.group.audit (Deliver id d)
   pub taken : (number : ℕ) (id : ConsumerId) (d : Delivery) (verdict : Verdict) → In (Taken number id d verdict) xs
       → HasEffect q.args q.group.audit (Deliver id d)
 
 each-made : (q : Queue) (xs : List Shown) → AreMade q xs → AllByRecursion (IsMade q) xs
 each-made q [] are = tt
 each-made q (x ∷ xs) are = (
-  one x (λ id d same. are.delivered id d (inl same)) (λ number id d verdict same. are.taken number id d verdict (inl same)),
+  one x (λ id d same. are.delivered id d (inl same))
+      (λ number id d verdict same. are.taken number id d verdict (inl same)),
   each-made q xs (record {
     delivered = λ id d here. are.delivered id d (inr here);
     taken = λ number id d verdict here. are.taken number id d verdict (inr here);
@@ -249,7 +252,8 @@ deliveries-made knows keeps was args group events begun =
     each-made (queue_after args group events) shown (record {
       delivered = λ id d here. of id d (In-filter_map (delivery_shown id) shown (Delivered id d) d
           (cond-true (same_consumer id id) (Some d) None (same_consumer-refl id)) here);
-      taken = λ number id d verdict here. of id d (In-filter_map (delivery_shown id) shown (Taken number id d verdict) d
+      taken = λ number id d verdict here. of id d
+          (In-filter_map (delivery_shown id) shown (Taken number id d verdict) d
           (cond-true (same_consumer id id) (Some d) None (same_consumer-refl id)) here);
     })
   where

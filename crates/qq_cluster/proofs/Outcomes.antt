@@ -9,6 +9,11 @@ use Rattle.qq_cluster.specs.Outcome.{sees, sees_all, sees_printed, sees_prints, 
 use Rattle.qq_cluster.specs.Queue.{Event, said}
 use Rattle.qq_cluster.specs.Texts.{printed_text, text_of}
 
+pub cluster-append : (c : Cluster) (events others : List ClusterEvent)
+    → cluster_after c (events ++ others) ≡ cluster_after (cluster_after c events) others
+cluster-append c [] others = refl
+cluster-append c (event ∷ events) others = cluster-append (cluster_happens c event) events others
+
 pub prints-both : (setup : Setup) (c : Cluster) (events others : List ClusterEvent)
     → all_prints setup c (events ++ others)
     ≡ all_prints setup c events ++ all_prints setup (cluster_after c events) others

@@ -92,7 +92,8 @@ abbrev IsFine : Rule → List ClusterEvent → Cluster → Type 0
 IsFine Allows one c = (es : List ClusterEvent) → Allows c es → has_failure es ≡ false → es ≡ one
 
 settles-fine : (Allows : Rule) (one : List ClusterEvent) (c : Cluster) → IsFine Allows one c → Settles Allows c
-settles-fine Allows one c fine es fs rest more said heard a b fine_es fine_fs alike = fine es a fine_es ∙ sym (fine fs b fine_fs)
+settles-fine Allows one c fine es fs rest more said heard a b fine_es fine_fs alike =
+    fine es a fine_es ∙ sym (fine fs b fine_fs)
 
 failed : (es fs : List ClusterEvent) → es ≡ fs → has_failure fs ≡ true → has_failure es ≡ false → ⊥
 failed es fs is fails fine = false≢true (sym fine ∙ ap has_failure is ∙ fails)

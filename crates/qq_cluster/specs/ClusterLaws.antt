@@ -57,8 +57,8 @@ abbrev pub PrintsWhatIsTrue : Setup → List ClusterEvent → Type 0
 PrintsWhatIsTrue setup events =
     AllByRecursion (IsTrueOf (cluster_after (new_cluster setup) events)) (all_prints setup (new_cluster setup) events)
 
--- What is printed of a consumer's deliveries at a queue is a front of those that the queue's audit has for it: each once
--- and in order, and none is passed over.
+-- What is printed of a consumer's deliveries at a queue is a front of those that the queue's audit has for it: each
+-- once and in order, and none is passed over.
 abbrev pub PrintsInOrder : Setup → List ClusterEvent → Type 0
 PrintsInOrder setup events =
     (place : ℕ) (consumer : ConsumerId)
@@ -96,7 +96,8 @@ verdict_at _ = []
 abbrev pub verdicts : List ClusterEvent → List Verdict
 verdicts events = flat_map verdict_at events
 
--- two lists of events that a rule allows, in neither of which a disk fails, with the same findings and verdicts, are one
+-- two lists of events that a rule allows, in neither of which a disk fails, with the same findings and verdicts, are
+-- one
 abbrev pub LeavesNoChoice : Rule → Cluster → Type 0
 LeavesNoChoice Allows c =
     (events others : List ClusterEvent) → Allows c events → Allows c others → has_failure events ≡ false

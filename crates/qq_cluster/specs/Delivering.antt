@@ -1,5 +1,5 @@
--- What comes to the consumers of a queue's clients. A delivery may be lost on its way, as one to a muted session is; what
--- is out with a consumer comes to it again by a fetch.
+-- What comes to the consumers of a queue's clients. A delivery may be lost on its way, as one to a muted session is;
+-- what is out with a consumer comes to it again by a fetch.
 use Rattle.std.specs.Prelude.{ℕ, List, [], ◌∷◌, ◌++◌, Bool, Option, Some, None, filter, flat_map, map, take, if◌then◌else◌}
 use Rattle.qq_base.specs.Ids.{client, same_session}
 use Rattle.qq_consuming.specs.Consumers.{come, know_by, taken}

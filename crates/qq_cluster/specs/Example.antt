@@ -9,16 +9,17 @@ use Rattle.qq_base.specs.declared.ids.QueueId.{QueueId}
 use Rattle.qq_disk.specs.declared.image.Image.{Image}
 use Rattle.qq_disk.specs.declared.image.Tail.TheVariants.{Cut, Whole}
 use Rattle.qq_entry.specs.declared.command.Mode.TheVariants.{Prefetch}
-use Rattle.qq_entry.specs.declared.command.Unstamped.TheVariants.{Get, Settle, Subscribe}
+use Rattle.qq_entry.specs.declared.command.Unstamped.TheVariants.{Cancel, Get, Settle, Subscribe}
 use Rattle.qq_entry.specs.Queue.{default_args}
 use Rattle.qq_raft_model.specs.Group.{new_group}
 use Rattle.qq_setup.specs.Members.{members}
 use Rattle.qq_script_lines.specs.declared.line.Nodes.TheVariants.{One}
 use Rattle.qq_script_lines.specs.declared.line.ScriptLine.{ScriptLine}
-use Rattle.qq_script_lines.specs.declared.line.ScriptLine.TheVariants.{Publish, Send, Client, Resend, Mute, Pace, Pump, Write, Sync, Notice, Tick, Deliver, Lose, Crash, Restart, Show}
-use Rattle.qq_cluster.specs.Cluster.{Setup, ClusterEvent, At, NodeWrites, Fails, new_cluster, cluster_after}
+use Rattle.qq_script_lines.specs.declared.line.ScriptLine.TheVariants.{Publish, Send, Client, Attach, Resend, Mute, Pace, Pump, Write, Sync, Notice, Tick, Deliver, Lose, Crash, Restart, Show}
+use Rattle.qq_taker.specs.declared.taker.Verdict.TheVariants as Verdict
+use Rattle.qq_cluster.specs.Cluster.{Setup, ClusterEvent, At, NodeWrites, NodeSyncs, Fails, new_cluster, cluster_after}
 use Rattle.qq_cluster.specs.Lines.{publish_with}
-use Rattle.qq_cluster.specs.Queue.{Submits}
+use Rattle.qq_cluster.specs.Queue.{Attaches, Judges, Notices, Submits}
 use Rattle.qq_cluster.specs.Serving.{Finding, all_given, all_synced, opening, run}
 use Rattle.qq_cluster.specs.Texts.{text_of, audits_text}
 
@@ -120,8 +121,8 @@ missed =
 abbrev pub settle_untaken : List ScriptLine
 settle_untaken = Client (client 1) (at_queue 1) (Settle 1 (1 ∷ [])) ∷ []
 
--- The second delivery comes, and waits for the first one, which was missed. Only once both were handed out it is settled,
--- and the next one comes.
+-- The second delivery comes, and waits for the first one, which was missed. Only once both were handed out it is
+-- settled, and the next one comes.
 abbrev pub in_order : List ScriptLine
 in_order =
     subscribe 2 ∷ Mute (client 2) true ∷ Publish (codes "a") ∷ Mute (client 2) false ∷ Publish (codes "b")
@@ -130,6 +131,31 @@ in_order =
 -- a consumer is known from its subscription on, though the answer to that is missed
 abbrev pub subscribed_late : List ScriptLine
 subscribed_late = Mute (client 2) true ∷ subscribe 1 ∷ Publish (codes "a") ∷ Mute (client 2) false ∷ Resend (client 2) ∷ []
+
+-- ---- takers
+
+abbrev pub publish_a : ClusterEvent
+publish_a = At 1 (Submits 1 (publish_with (name_of 1) (codes "a")))
+
+-- a consumer gets a taker, which settles its delivery; at the cancel the taker is dropped
+abbrev pub with_a_taker : List ScriptLine
+with_a_taker =
+    Client (client 1) (at_queue 1) (Subscribe 1 (Prefetch 2)) ∷ Attach (client 1) (at_queue 1) 1 1 ∷ Publish (codes "a")
+    ∷ Client (client 1) (at_queue 1) (Cancel 1) ∷ []
+
+-- what one node does with what waits
+abbrev pub round_of_one : List ClusterEvent
+round_of_one = NodeWrites 1 ∷ NodeSyncs 1 ∷ At 1 (Notices 1) ∷ []
+
+abbrev pub settled_at_once : List ClusterEvent
+settled_at_once = At 1 (Judges Verdict.Settle) ∷ At 1 (Submits 1 (Settle 1 (1 ∷ []))) ∷ []
+
+abbrev pub at_the_taker : List ClusterEvent
+at_the_taker =
+    At 1 (Submits 1 (Subscribe 1 (Prefetch 2))) ∷ round_of_one ++ At 1 (Attaches 1 1 1) ∷ publish_a
+    ∷ round_of_one ++ settled_at_once ++ round_of_one ++ At 1 (Submits 1 (Cancel 1)) ∷ round_of_one
+
+-- ---- what is lost of a file
 
 -- a message to each of two queues is appended and not synced, and a crash leaves so much of the file
 abbrev pub cut_behind : Image → List ScriptLine
@@ -145,9 +171,6 @@ first_given c k place = if nat_eq place 1 then all_given c k place else all_sync
 -- the disk fails at the sync of a message, and then there is no leader
 abbrev pub with_a_fault : List ScriptLine
 with_a_fault = Publish (codes "a") ∷ get ∷ []
-
-abbrev pub publish_a : ClusterEvent
-publish_a = At 1 (Submits 1 (publish_with (name_of 1) (codes "a")))
 
 abbrev pub at_the_fault : List ClusterEvent
 at_the_fault = publish_a ∷ NodeWrites 1 ∷ Fails 1 ∷ At 1 (Submits 1 Get) ∷ []

@@ -121,7 +121,8 @@ pub record IsRun (seen : List Seen) (from : ℕ) (all : List Delivery) : Type 0 
   pub arrivals : map (λ (one : Seen). one.arrival) seen
       ≡ map (λ (one : Delivery). one.arrival) (take (length seen) (drop from all))
 
--- A command for deliveries of these ids may be given where each of them was shown; else the first one that wasn't is told.
+-- A command for deliveries of these ids may be given where each of them was shown; else the first one that wasn't is
+-- told.
 abbrev pub AreClaimed : List ℕ → List ℕ → Option ℕ → Type 0
 AreClaimed ids shown None = All (Contains shown) ids
 AreClaimed ids shown (Some id) =

@@ -1,6 +1,6 @@
 -- One queue of a cluster: the group of servers that replicates it (Ongaro's dissertation, chapter 3), its part of each
 -- node's log, and the sessions of its clients with their consumers. What may happen to it, and what is shown of that.
-use Rattle.std.specs.Prelude.{ℕ, List, [], ◌∷◌, ◌++◌, Bool, true, ◌&&◌, Option, Some, None, is_some, length, drop, filter, map, flat_map, fold, replicate, take, nat_eq, nat_lt, if◌then◌else◌}
+use Rattle.std.specs.Prelude.{ℕ, List, [], ◌∷◌, ◌++◌, Bool, true, ◌&&◌, Option, Some, None, is_some, length, drop, filter, flat_map, fold, replicate, take, nat_eq, nat_lt, if◌then◌else◌}
 use Rattle.qq_base.specs.Fronts.{put}
 use Rattle.qq_base.specs.Ids.{client}
 use Rattle.qq_base.specs.declared.ids.ConsumerId.{ConsumerId}

@@ -1,4 +1,5 @@
--- The events of a script in which no call of a disk fails and each taker keeps what it is offered, given what restarts find.
+-- The events of a script in which no call of a disk fails and each taker keeps what it is offered, given what restarts
+-- find.
 use Rattle.std.specs.Prelude.{ℕ, zero, suc, List, [], ◌∷◌, ◌++◌, Option, Some, None, length, ◌&&◌, if◌then◌else◌}
 use Rattle.qq_base.specs.declared.ids.NodeId.{NodeId}
 use Rattle.qq_entry.specs.declared.command.Unstamped.{Unstamped}

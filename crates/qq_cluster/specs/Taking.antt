@@ -1,7 +1,6 @@
--- What becomes of deliveries to consumers that have a taker: such a one waits, and all that are handed out after it, until
--- its taker has given a verdict on it.
-use Rattle.std.specs.Prelude.{ℕ, List, [], ◌∷◌, ◌++◌, Bool, Option, Some, None, filter, is_some, map, if◌then◌else◌}
-use Rattle.qq_base.specs.declared.ids.ConsumerId.{ConsumerId}
+-- What becomes of deliveries to consumers that have a taker: such a one waits, and all that are handed out after it,
+-- until its taker has given a verdict on it.
+use Rattle.std.specs.Prelude.{ℕ, List, [], ◌∷◌, ◌++◌, Bool, Option, Some, None, is_some, map, if◌then◌else◌}
 use Rattle.qq_entry.specs.declared.audit.AuditRow.{AuditRow}
 use Rattle.qq_entry.specs.declared.command.Command.{Command}
 use Rattle.qq_entry.specs.declared.command.Command.TheVariants as commands

@@ -45,7 +45,8 @@ pub fn deliveries_are_printed_in_order()
 }
 
 /// A law: a session settles, returns and discards what was printed of a consumer's deliveries, or waits for its taker
-/// (between two lines nothing does), and nothing else. Where it is to do so with another id, the first such one is told, and no command is given.
+/// (between two lines nothing does), and nothing else. Where it is to do so with another id, the first such one is
+/// told, and no command is given.
 pub fn claims_are_of_what_was_printed()
     ensures ids { (args : QueueArgs) (group : Group) (events : List Event) (session tag : ℕ)
         (body : Unstamped) (ids : List ℕ) → claimed body ≡ Some (tag, ids) →

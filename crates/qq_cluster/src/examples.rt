@@ -1,6 +1,6 @@
 //! Worked scripts: what they print, letter by letter.
 ghost use Rattle.std.specs.Prelude.{◌≡◌, ◌++◌, codes};
-ghost use Rattle.qq_cluster.specs.Example.{at_the_fault, cut, cut_behind, first_given, in_order, kept_by_followers, missed, muted, opened, output, output_of, publish_and_get, replaced, settle_untaken, setup_of, subscribed_late, with_a_fault};
+ghost use Rattle.qq_cluster.specs.Example.{at_the_fault, at_the_taker, cut, cut_behind, first_given, in_order, kept_by_followers, missed, muted, opened, output, output_of, publish_and_get, replaced, settle_untaken, setup_of, subscribed_late, with_a_fault, with_a_taker};
 ghost use Rattle.qq_cluster.specs.Cluster.{new_cluster};
 ghost use Rattle.qq_cluster.specs.Lines.{IsRun};
 ghost use Rattle.qq_cluster.specs.Serving.{all_given, all_synced};
@@ -78,3 +78,19 @@ pub fn worked_consumers_print()
         ++ codes "1 1 noop 1 lead\n2 1 subscribe 2 1 1 subscribed 1\n"
         ++ codes "3 1 enqueue 1 1 1 confirmed 1\n4 1 subscribe 2 1 1 subscribed 1 again\n" }
 {}
+
+/// A law: a worked script of a taker. A consumer gets one, which settles its delivery as it comes; the consumer is
+/// cancelled, and its taker dropped.
+///
+/// - `prints`: what that prints.
+/// - `run`: the script asks for these events.
+pub fn worked_takers_print()
+    ensures prints { output (setup_of 1 1) (opened (setup_of 1 1) ++ at_the_taker)
+        ≡ codes "subscribed 1\nconfirmed 2\ntaken 1 1 1 settle\ndone\ndone\ndropped 1\naudit q1 0 5\n"
+        ++ codes "1 1 noop 1 lead\n2 1 subscribe 1 1 1 subscribed 1\n"
+        ++ codes "3 1 enqueue 1 2 1 confirmed 2\n4 1 settle 1 3 1 1 done\n5 1 cancel 1 4 1 done\n" }
+    ensures run { IsRun (setup_of 1 1) with_a_taker (new_cluster (setup_of 1 1))
+        (opened (setup_of 1 1) ++ at_the_taker) }
+{
+    groups_are_opened();
+}

@@ -20,7 +20,7 @@ pub use consumers::{
     a_fetch_leaves_nothing_missing, claims_are_of_what_was_printed, deliveries_are_printed_in_order,
 };
 pub use ended::{an_ended_session_gives_no_commands, ends_go_to_the_leader};
-pub use examples::{worked_consumers_print, worked_scripts_print};
+pub use examples::{worked_consumers_print, worked_scripts_print, worked_takers_print};
 pub use queues::{
     a_leader_answers_its_own_term, a_queue_is_its_group, a_queue_may_begin_with_new_logs,
     an_audit_is_serial, commands_go_to_the_leader, ops_are_noticed_once_synced,

@@ -15,9 +15,7 @@ ghost use Rattle.qq_cluster.specs.Lines.{IsLine, IsRun as IsRunOf};
 ghost use Rattle.qq_cluster.specs.Queue.{Attaches, Event, Queue, all_said, audit_rows, begin, consumer_of, happens, said};
 ghost use Rattle.qq_cluster.specs.Texts.{shown_text};
 
-use qq_consuming::{
-    consumers_are_handed_their_deliveries, what_is_out_was_delivered_as_it_is,
-};
+use qq_consuming::{consumers_are_handed_their_deliveries, what_is_out_was_delivered_as_it_is};
 use qq_raft_model::what_a_group_committed_stays;
 
 /// A law: between two lines no delivery waits for a taker's verdict: each is told in the line in which it is handed

@@ -16,6 +16,7 @@ use Rattle.qq_group.specs.Reads.{leader_of}
 use Rattle.qq_group.specs.declared.event.Event.TheVariants.{Submit}
 use Rattle.qq_session.specs.Publishing.{Numbers, HasHandCause, next_command, open_commands}
 use Rattle.qq_session.specs.declared.publishing.HandFault.TheVariants as faults
+use Rattle.qq_cluster.specs.Outcome.{Outcome, sees_all}
 use Rattle.qq_cluster.specs.Queue.{Queue, Event, begin, happens, said, submits}
 use Rattle.qq_cluster.specs.Texts.{shown_text_as}
 use Rattle.qq_session.specs.Shown.{Shown}
@@ -32,6 +33,8 @@ pub record Stands (sessions : Standings) (d : ClusterQueue) (q : Queue) : Type 0
   pub args : q.args ≡ d.args
   pub clients : q.clients ≡ clients_of sessions (numbers_of d.publishers)
   pub consumers : q.consumers ≡ d.consumers
+  pub seats : q.seats ≡ d.seats
+  pub untold : q.untold ≡ d.untold
   pub group : IsGroupOf d.args q.group d.group
   pub synced : (k : ℕ) (s : Member) → server_at k d.group ≡ Some s → q.synced k ≡ count_at d.synced.each k
 
@@ -46,14 +49,19 @@ pub record IsSameQueue (old new : ClusterQueue) : Type 0 where
 abbrev pub text_as : ClusterQueue → List Shown → List ℕ
 text_as d shown = flat_map (shown_text_as d.label.first d.label.name) shown
 
--- whichever queue it stood for, it stands for what an event makes of that, and a text has grown by what it shows
-abbrev pub Does : Event → Standings → ClusterQueue → ClusterQueue → List ℕ → List ℕ → Type 0
+-- what is shown comes out of it: a text has grown by that, and the takers have seen it
+pub record Shows (d : ClusterQueue) (shown : List Shown) (before after : Outcome) : Type 0 where
+  pub text : after.text ≡ before.text ++ text_as d shown
+  pub takers : after.takers ≡ sees_all shown before.takers
+
+-- whichever queue it stood for, it stands for what an event makes of that, and shows what that shows
+abbrev pub Does : Event → Standings → ClusterQueue → ClusterQueue → Outcome → Outcome → Type 0
 Does event sessions old new before after =
     (q : Queue) → Stands sessions old q
-    → Stands sessions new (happens q event) × (after ≡ before ++ text_as old (said q event))
+    → Stands sessions new (happens q event) × Shows old (said q event) before after
 
 -- the same however the sessions stand
-abbrev pub DoesAlways : Event → ClusterQueue → ClusterQueue → List ℕ → List ℕ → Type 0
+abbrev pub DoesAlways : Event → ClusterQueue → ClusterQueue → Outcome → Outcome → Type 0
 DoesAlways event old new before after = (sessions : Standings) → Does event sessions old new before after
 
 -- the same, and nothing is shown

@@ -1,7 +1,11 @@
 pub mod Range
 pub mod Sessions
 pub mod Members
+pub mod Lines
+pub mod Telling
+pub mod Waiting
 pub mod ClusterQueue
+pub mod Judging
 pub mod Agreeing
 pub mod Handing
 pub mod Fetching

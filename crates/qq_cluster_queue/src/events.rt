@@ -11,8 +11,10 @@ use crate::cluster_queue::ClusterQueue;
 use crate::moves::happen;
 use crate::sessions::Sessions;
 use crate::telling::tell;
+use crate::told::Told;
 use qq_base::{Memory, NodeId};
 use qq_group::Event;
+use qq_taker::Taker;
 use std::alloc::Global;
 
 impl ClusterQueue {
@@ -77,23 +79,23 @@ impl ClusterQueue {
         };
     }
 
-    /// A member is told what of its log is synced, and `out` grows by the answers and then the deliveries that
-    /// come to the clients. After an error `out` begins with what it had. Where the step was refused the member
-    /// has crashed.
-    pub fn notice(
+    /// A member is told what of its log is synced, and the answers and then the deliveries that come to the clients
+    /// are told, up to the first delivery for a taker. After an error the text begins with what it had. Where the
+    /// step was refused the member has crashed.
+    pub fn notice<T: Taker>(
         &mut self,
         alloc: Global,
         sessions: &Sessions,
         node: NodeId,
-        out: &mut Vec<u8>,
+        told: &mut Told<T>,
     ) -> Result<(), Memory>
         requires { AreSound self.old.group }
 
         ensures sound { AreSound self.new.group }
         ensures same { IsSameQueue self.old self.new }
         ensures ok { OnOk result (Does (Notices node.0) (standings sessions.now) self.old self.new
-            out.old.items out.new.items) }
-        ensures err { OnErr result (IsFront out.old.items out.new.items) }
+            told.old told.new) }
+        ensures err { OnErr result (IsFront told.old.text told.new.text) }
         ensures left { OnErr result (LeavesGroup
             (events.Notice node (count_at self.old.synced.each node.0)) self.old.group
             self.new.group) }
@@ -111,24 +113,26 @@ impl ClusterQueue {
             sessions,
             &mut self.publishers,
             &mut self.consumers,
+            &mut self.seats,
+            &mut self.untold,
             rows,
             &self.label,
-            out,
+            told,
         ) {
             return Err(cause);
         }
         Ok(())
     }
 
-    /// The message at a place, from 1, reaches the member that it is for, and `out` grows by what that tells the
-    /// clients. Where there is none nothing happens. After an error `out` begins with what it had. Where the step
-    /// was refused the message is lost and the member has crashed.
-    pub fn deliver(
+    /// The message at a place, from 1, reaches the member that it is for, and what that tells the clients is told, up
+    /// to the first delivery for a taker. Where there is none nothing happens. After an error the text begins with
+    /// what it had. Where the step was refused the message is lost and the member has crashed.
+    pub fn deliver<T: Taker>(
         &mut self,
         alloc: Global,
         sessions: &Sessions,
         place: u32,
-        out: &mut Vec<u8>,
+        told: &mut Told<T>,
     ) -> Result<(), Memory>
         requires sound { AreSound self.old.group }
         requires place { 0 < place }
@@ -136,8 +140,8 @@ impl ClusterQueue {
         ensures sound { AreSound self.new.group }
         ensures same { IsSameQueue self.old self.new }
         ensures ok { OnOk result (Does (Delivers (place - 1)) (standings sessions.now) self.old
-            self.new out.old.items out.new.items) }
-        ensures err { OnErr result (IsFront out.old.items out.new.items) }
+            self.new told.old told.new) }
+        ensures err { OnErr result (IsFront told.old.text told.new.text) }
         ensures left { OnErr result
             (LeavesGroup (events.Deliver place) self.old.group self.new.group) }
         ensures cause { IfErr result (IsTellingCaused (events.Deliver place) self.old.group) }
@@ -152,9 +156,11 @@ impl ClusterQueue {
             sessions,
             &mut self.publishers,
             &mut self.consumers,
+            &mut self.seats,
+            &mut self.untold,
             rows,
             &self.label,
-            out,
+            told,
         ) {
             return Err(cause);
         }

@@ -9,8 +9,9 @@ ghost use Rattle.qq_cluster_queue.specs.Members.{AreSound};
 ghost use Rattle.qq_cluster_queue.specs.Sessions.{standings};
 
 use crate::cluster_queue::ClusterQueue;
+use crate::handing_out::tell_effects;
 use crate::sessions::Sessions;
-use crate::telling::deliver_each;
+use crate::told::Told;
 use qq_base::{ConsumerId, Memory, SessionId};
 use qq_consuming::{Consumers, Gap};
 use qq_entry::{Delivery, Effect};
@@ -20,6 +21,7 @@ use qq_machine::Machine;
 use qq_parts::{deliveries_end, parts_tell_the_queue};
 use qq_raft_model::what_a_group_committed_stays;
 use qq_raft_queues::MachineQueue;
+use qq_taker::Taker;
 use std::alloc::Global;
 use std::collections::VecDeque;
 
@@ -89,14 +91,14 @@ fn fetch_all(
 
 impl ClusterQueue {
     /// A session, numbered from 1, asks the leader for what is out with its consumers and hasn't come to them, and
-    /// `out` grows by what is handed out then. Without a leader nothing happens. The only error is `Memory::Want`,
-    /// out of memory, after which `out` begins with what it had.
-    pub fn fetch(
+    /// what is handed out then is told, up to the first delivery for a taker. Without a leader nothing happens. The
+    /// only error is `Memory::Want`, out of memory, after which the text begins with what it had.
+    pub fn fetch<T: Taker>(
         &mut self,
         alloc: Global,
         sessions: &Sessions,
         session: u64,
-        out: &mut Vec<u8>,
+        told: &mut Told<T>,
     ) -> Result<(), Memory>
         requires { AreSound self.old.group }
 
@@ -104,8 +106,8 @@ impl ClusterQueue {
         ensures same { IsSameQueue self.old self.new }
         ensures group { self.new.group ≡ self.old.group }
         ensures ok { OnOk result (Does (Fetches session) (standings sessions.now) self.old
-            self.new out.old.items out.new.items) }
-        ensures err { OnErr result (IsFront out.old.items out.new.items) }
+            self.new told.old told.new) }
+        ensures err { OnErr result (IsFront told.old.text told.new.text) }
         ensures want { IsOkUnless result Memory.Want }
     {
         what_is_committed_stays_in_the_audit::<MachineQueue, Log>();
@@ -125,13 +127,15 @@ impl ClusterQueue {
             Ok(effects) => effects,
             Err(cause) => return Err(cause),
         };
-        if let Err(cause) = deliver_each(
+        if let Err(cause) = tell_effects(
             alloc,
             sessions,
             &mut self.consumers,
+            &self.seats,
+            &mut self.untold,
             effects.as_slice(),
             &self.label,
-            out,
+            told,
         ) {
             return Err(cause);
         }

@@ -16,6 +16,7 @@ use crate::counts::Counts;
 use crate::label::Label;
 use crate::moves::Members;
 use crate::publishers::Publishers;
+use crate::untold::Untold;
 use crate::votes::Votes;
 use qq_base::{Memory, NodeId, Text};
 use qq_consuming::Consumers;
@@ -23,6 +24,7 @@ use qq_entry::QueueArgs;
 use qq_group::{Group, GroupFault};
 use qq_log::Log;
 use qq_raft_queues::MachineQueue;
+use qq_taker::Seats;
 use std::alloc::Global;
 
 /// A node, and the machine and the log that its member starts with.
@@ -93,6 +95,8 @@ impl ClusterQueue {
             args,
             publishers,
             consumers,
+            seats: Seats::new(alloc),
+            untold: Untold::new(alloc),
             group,
             synced: Counts::new(),
             votes: Votes::new(),

@@ -9,19 +9,22 @@ ghost use Rattle.qq_group.specs.Reads.{leader_of};
 ghost use Rattle.qq_consuming.specs.Consumers.{know_by};
 ghost use Rattle.qq_session.specs.Clients.{may_hand};
 ghost use Rattle.qq_session.specs.Shown.{WindowFull, said_of};
-ghost use Rattle.qq_cluster_queue.specs.ClusterQueue.{text_as, DoesAlways, IsOfferCaused, IsResendCaused, IsSameQueue, IsSubmitCaused, OfItsQueue};
+ghost use Rattle.qq_cluster_queue.specs.ClusterQueue.{DoesAlways, IsOfferCaused, IsResendCaused, IsSameQueue, IsSubmitCaused, OfItsQueue};
 ghost use Rattle.qq_cluster_queue.specs.Sessions.{numbers_of};
 ghost use Rattle.qq_cluster_queue.specs.Members.{AreSound, Makes, number_of, own_log};
 ghost use Rattle.qq_cluster_queue.specs.Range.{HasBytes, MayStamp};
+ghost use Rattle.qq_cluster_queue.specs.Telling.{show, show_all};
 
 use crate::cluster_queue::ClusterQueue;
 use crate::moves::happen;
 use crate::publishers::Publishers;
+use crate::told::Told;
 use qq_base::{Memory, NodeId, SessionId};
 use qq_consuming::Consumers;
 use qq_entry::{Command, Unstamped};
 use qq_group::Event;
 use qq_session::HandFault;
+use qq_taker::Taker;
 use std::alloc::Global;
 use std::collections::VecDeque;
 
@@ -49,13 +52,13 @@ fn learn(
 
 impl ClusterQueue {
     // A command goes to the leader, at time 0; where there is none the session is told so.
-    fn offer(
+    fn offer<T: Taker>(
         &mut self,
         alloc: Global,
         session: u64,
         leader: Option<NodeId>,
         command: Command,
-        out: &mut Vec<u8>,
+        told: &mut Told<T>,
     ) -> Result<(), Memory>
         requires sound { AreSound self.old.group }
         requires bytes { HasBytes command }
@@ -65,14 +68,14 @@ impl ClusterQueue {
         ensures rest { self.new ≡ record self.old { group = self.new.group } }
         ensures ok { OnOk result
             (Makes (submit_to (number_of leader) command) self.old.group self.new.group) }
-        ensures said { OnOk result (out.new.items ≡ out.old.items
-            ++ text_as self.old (said_of (is_some leader) session (command ∷ []))) }
-        ensures err { OnErr result (IsFront out.old.items out.new.items) }
+        ensures said { OnOk result (told.new ≡ show_all self.old.label
+            (said_of (is_some leader) session (command ∷ [])) told.old) }
+        ensures err { OnErr result (IsFront told.old.text told.new.text) }
         ensures audit { OnErr result (self.new.group.audit.items ≡ self.old.group.audit.items) }
         ensures cause { IfErr result (IsOfferCaused leader command self.old.group) }
     {
         let Some(node) = leader else {
-            return self.label.no_leader(alloc, session, out);
+            return told.no_leader(alloc, &self.label, session);
         };
         let event = Event::Submit {
             node,
@@ -86,24 +89,23 @@ impl ClusterQueue {
     }
 
     // A session is told that as many of its numbers are open as may be.
-    fn tell_full(&self, alloc: Global, session: u64, out: &mut Vec<u8>) -> Result<(), Memory>
-        ensures ok { OnOk result (out.new.items ≡ out.old.items
-            ++ text_as self.now (WindowFull session ∷ [])) }
-        ensures err { OnErr result (out.new.items ≡ out.old.items) }
+    fn tell_full<T: Taker>(&self, alloc: Global, session: u64, told: &mut Told<T>) -> Result<(), Memory>
+        ensures ok { OnOk result (told.new ≡ show self.now.label (WindowFull session) told.old) }
+        ensures err { OnErr result (told.new.text ≡ told.old.text) }
         ensures want { IsOkUnless result Memory.Want }
     {
-        self.label.window_full(alloc, session, out)
+        told.window_full(alloc, &self.label, session)
     }
 
-    /// A client, numbered from 1, gives a command in range the next number and sends it to the leader, and `out`
-    /// grows by what it is told: that its window is full, or that there is no leader. `Spent` comes only where a
-    /// number would be past its end. After an error `out` begins with what it had.
-    pub fn submit(
+    /// A client, numbered from 1, gives a command in range the next number and sends it to the leader, and is told
+    /// where its window is full, or where there is no leader. `Spent` comes only where a number would be past its
+    /// end. After an error the text begins with what it had.
+    pub fn submit<T: Taker>(
         &mut self,
         alloc: Global,
         session: u64,
         body: Unstamped,
-        out: &mut Vec<u8>,
+        told: &mut Told<T>,
     ) -> Result<(), Memory>
         requires sound { AreSound self.old.group }
         requires session { 0 < session }
@@ -112,8 +114,8 @@ impl ClusterQueue {
         ensures sound { AreSound self.new.group }
         ensures same { IsSameQueue self.old self.new }
         ensures ok { OnOk result (DoesAlways (Submits session body) self.old self.new
-            out.old.items out.new.items) }
-        ensures err { OnErr result (IsFront out.old.items out.new.items) }
+            told.old told.new) }
+        ensures err { OnErr result (IsFront told.old.text told.new.text) }
         ensures audit { OnErr result (self.new.group.audit.items ≡ self.old.group.audit.items) }
         ensures cause { IfErr result (IsSubmitCaused session body self.old) }
     {
@@ -123,32 +125,32 @@ impl ClusterQueue {
         }
         let command = match self.publishers.hand(alloc, session, body) {
             Ok(command) => command,
-            Err(HandFault::WindowFull) => return self.tell_full(alloc, session, out),
+            Err(HandFault::WindowFull) => return self.tell_full(alloc, session, told),
             Err(HandFault::Memory(cause)) => return Err(cause),
         };
-        if let Err(cause) = self.offer(alloc, session, leader, command, out) {
+        if let Err(cause) = self.offer(alloc, session, leader, command, told) {
             return Err(cause);
         }
         Ok(())
     }
 
-    /// A session that has ended is to give a command, and `out` grows by that. The only error is
-    /// `Memory::Want`, out of memory, after which `out` is as it was.
-    pub fn tell_ended(
+    /// A session that has ended is to give a command, and that is told. The only error is `Memory::Want`, out of
+    /// memory, after which the text is as it was.
+    pub fn tell_ended<T: Taker>(
         &mut self,
         alloc: Global,
         session: u64,
-        out: &mut Vec<u8>,
+        told: &mut Told<T>,
     ) -> Result<(), Memory>
         requires { AreSound self.old.group }
 
         ensures same { self.new ≡ self.old }
         ensures ok { OnOk result (DoesAlways (TellsEnded session) self.old self.new
-            out.old.items out.new.items) }
-        ensures err { OnErr result (out.new.items ≡ out.old.items) }
+            told.old told.new) }
+        ensures err { OnErr result (told.new.text ≡ told.old.text) }
         ensures want { IsOkUnless result Memory.Want }
     {
-        if let Err(cause) = self.label.has_ended(alloc, session, out) {
+        if let Err(cause) = told.has_ended(alloc, &self.label, session) {
             return Err(cause);
         }
         Ok(())
@@ -163,40 +165,40 @@ impl ClusterQueue {
             .not_taken(alloc, SessionId::client(session), body)
     }
 
-    /// A session is to give a command for a delivery of this id, which wasn't handed out, and `out` grows by that. The
-    /// only error is `Memory::Want`, out of memory, after which `out` is as it was.
-    pub fn tell_not_taken(
+    /// A session is to give a command for a delivery of this id, which wasn't handed out, and that is told. The only
+    /// error is `Memory::Want`, out of memory, after which the text is as it was.
+    pub fn tell_not_taken<T: Taker>(
         &mut self,
         alloc: Global,
         session: u64,
         id: u64,
-        out: &mut Vec<u8>,
+        told: &mut Told<T>,
     ) -> Result<(), Memory>
         requires { AreSound self.old.group }
 
         ensures same { self.new ≡ self.old }
         ensures ok { OnOk result (DoesAlways (TellsNotTaken session id) self.old self.new
-            out.old.items out.new.items) }
-        ensures err { OnErr result (out.new.items ≡ out.old.items) }
+            told.old told.new) }
+        ensures err { OnErr result (told.new.text ≡ told.old.text) }
         ensures want { IsOkUnless result Memory.Want }
     {
-        if let Err(cause) = self.label.not_taken(alloc, session, id, out) {
+        if let Err(cause) = told.not_taken(alloc, &self.label, session, id) {
             return Err(cause);
         }
         Ok(())
     }
 
-    /// The queue is told that a session, numbered from 1, has ended, where it has given commands, and `out`
-    /// grows by what becomes of that. After an error `out` begins with what it had.
-    pub fn down(&mut self, alloc: Global, session: u64, out: &mut Vec<u8>) -> Result<(), Memory>
+    /// The queue is told that a session, numbered from 1, has ended, where it has given commands, and
+    /// it is told where there is no leader. After an error the text begins with what it had.
+    pub fn down<T: Taker>(&mut self, alloc: Global, session: u64, told: &mut Told<T>) -> Result<(), Memory>
         requires sound { AreSound self.old.group }
         requires session { 0 < session }
 
         ensures sound { AreSound self.new.group }
         ensures same { IsSameQueue self.old self.new }
         ensures ok { OnOk result (DoesAlways (Downs session) self.old self.new
-            out.old.items out.new.items) }
-        ensures err { OnErr result (IsFront out.old.items out.new.items) }
+            told.old told.new) }
+        ensures err { OnErr result (IsFront told.old.text told.new.text) }
         ensures audit { OnErr result (self.new.group.audit.items ≡ self.old.group.audit.items) }
         ensures cause { IfErr result (IsOfferCaused (leader_of own_log self.old.group)
             (Down (client session)) self.old.group) }
@@ -209,22 +211,22 @@ impl ClusterQueue {
             session: SessionId::client(session),
         };
         let leader = self.group.leader();
-        if let Err(cause) = self.offer(alloc, session, leader, command, out) {
+        if let Err(cause) = self.offer(alloc, session, leader, command, told) {
             return Err(cause);
         }
         Ok(())
     }
 
-    /// A client sends its open commands again, and `out` grows by what it is told. After an error `out` begins
+    /// A client sends its open commands again, and is told where there is no leader. After an error the text begins
     /// with what it had, and some of the commands may have reached the leader.
-    pub fn resend(&mut self, alloc: Global, session: u64, out: &mut Vec<u8>) -> Result<(), Memory>
+    pub fn resend<T: Taker>(&mut self, alloc: Global, session: u64, told: &mut Told<T>) -> Result<(), Memory>
         requires { AreSound self.old.group }
 
         ensures sound { AreSound self.new.group }
         ensures same { IsSameQueue self.old self.new }
         ensures ok { OnOk result (DoesAlways (Resends session) self.old self.new
-            out.old.items out.new.items) }
-        ensures err { OnErr result (IsFront out.old.items out.new.items) }
+            told.old told.new) }
+        ensures err { OnErr result (IsFront told.old.text told.new.text) }
         ensures cause { IfErr result (IsResendCaused session self.old) }
     {
         let leader = self.group.leader();
@@ -233,7 +235,7 @@ impl ClusterQueue {
             Err(cause) => return Err(cause),
         };
         'commands: while let Some(command) = commands.pop_front() {
-            if let Err(cause) = self.offer(alloc, session, leader, command, out) {
+            if let Err(cause) = self.offer(alloc, session, leader, command, told) {
                 return Err(cause);
             }
         }

@@ -11,18 +11,18 @@ next_x x = (x * 6364136223846793005 + 1442695040888963407) % 2 ^ 64
 unfoldable pub drawn : ℕ → ℕ
 drawn x = x / 2 ^ 33
 
-abbrev pub deed : ℕ → Deed
-deed kind =
+abbrev pub deed_of : ℕ → Deed
+deed_of kind =
     if nat_lt kind 7 then Sends else if nat_lt kind 10 then Gets else if nat_lt kind 11 then Subscribes
     else if nat_lt kind 13 then Settles else if nat_lt kind 14 then Returns else if nat_lt kind 15 then Crashes
     else Ticks
 
 -- a number says at which of the four queues, what, at which node, and how many bytes a crash leaves
-abbrev pub draw : (nodes number : ℕ) → Draw
-draw nodes number =
+abbrev pub draw_of : (nodes number : ℕ) → Draw
+draw_of nodes number =
     record {
       queue = 1 + number % 4;
-      deed = deed (number / 4 % 16);
+      deed = deed_of (number / 4 % 16);
       node = 1 + number / 64 % nodes;
       cut = number / 512 % 128;
     }

@@ -1,8 +1,7 @@
 -- A drill: which lines its steps are, by what was drawn and by what the lines before them have shown.
-use Rattle.std.specs.Prelude.{ℕ, ◌+◌, ◌-◌, ◌%◌, List, [], ◌∷◌, ◌++◌, Bool, true, false, not, ◌&&◌, Option, Some, None, codes, map, nat_eq, nat_lt, replicate, slice_get, slice_set, if◌then◌else◌}
+use Rattle.std.specs.Prelude.{ℕ, ◌+◌, ◌-◌, ◌%◌, List, [], ◌∷◌, ◌++◌, Bool, true, false, not, ◌&&◌, Option, Some, None, codes, map, nat_eq, nat_lt, replicate, slice_index_or, slice_set, if◌then◌else◌}
 use Rattle.std.specs.Fmt.{decimal}
 use Rattle.std.specs.List.{list_any}
-use Rattle.std.specs.Option.{option_map_or}
 use Rattle.qq_base.specs.Ids.{client, same_session}
 use Rattle.qq_base.specs.declared.ids.ConsumerId.{ConsumerId}
 use Rattle.qq_base.specs.declared.ids.NodeId.{NodeId}
@@ -16,7 +15,7 @@ use Rattle.qq_script_lines.specs.declared.line.Nodes.TheVariants.{One}
 use Rattle.qq_script_lines.specs.declared.line.ScriptLine.{ScriptLine}
 use Rattle.qq_script_lines.specs.declared.line.ScriptLine.TheVariants as lines
 use Rattle.qq_setup.specs.Members.{members}
-use Rattle.qq_drill.specs.Draw.{draw, drawn, next_x}
+use Rattle.qq_drill.specs.Draw.{draw_of, drawn, next_x}
 use Rattle.qq_drill.specs.declared.draw.Deed.{Deed}
 use Rattle.qq_drill.specs.declared.draw.Deed.TheVariants.{Sends, Gets, Subscribes, Settles, Returns, Crashes, Ticks}
 use Rattle.qq_drill.specs.declared.draw.Draw.{Draw}
@@ -45,7 +44,7 @@ new_drill number nodes =
 -- ---- one queue
 
 abbrev pub side_at : ℕ → List Side → Side
-side_at queue sides = option_map_or (λ (side : Side). side) (slice_get sides (queue - 1)) new_side
+side_at queue sides = slice_index_or sides (queue - 1) new_side
 
 abbrev pub put_side : ℕ → Side → List Side → List Side
 put_side queue side sides = slice_set sides (queue - 1) side
@@ -65,10 +64,14 @@ taking queue = 10 + queue
 abbrev pub send : (step queue : ℕ) → ScriptLine
 send step queue = lines.Send (client queue) [] (codes "q" ++ decimal queue) (codes "m" ++ decimal step)
 
-abbrev pub subscribe : ℕ → Side → List ScriptLine
-subscribe queue side =
-    if nat_lt side.tags 8
-    then lines.Client (client (taking queue)) (queue_id queue) (commands.Subscribe (side.tags + 1) (Prefetch 4)) ∷ []
+abbrev pub get : (queue : ℕ) → ScriptLine
+get queue = lines.Client (client queue) (queue_id queue) commands.Get
+
+-- one consumer more than there are, of at most eight
+abbrev pub subscribe : (queue tags : ℕ) → List ScriptLine
+subscribe queue tags =
+    if nat_lt tags 8
+    then lines.Client (client (taking queue)) (queue_id queue) (commands.Subscribe (tags + 1) (Prefetch 4)) ∷ []
     else []
 
 -- the oldest delivery is ended, if there is one
@@ -85,24 +88,28 @@ crash step d None =
     lines.Pace false ∷ send step d.queue ∷ lines.Pace true ∷ lines.Write (node_id d.node)
     ∷ lines.Crash (One (node_id d.node)) (newest_left (Cut d.cut)) ∷ []
 
--- a node that is up and has a member of the queue
-abbrev pub may_tick : Draw → Drill → Bool
-may_tick d s =
-    not (option_map_or (λ (node : NodeId). nat_eq node.0 d.node) s.crashed false)
-    && list_any (λ (n : NodeId). nat_eq n.0 d.node) (members s.nodes 3 (d.queue - 1))
+-- time passes at a node that is up and has a member of the queue
+abbrev pub is_down : ℕ → Option NodeId → Bool
+is_down node None = false
+is_down node (Some down) = nat_eq down.0 node
 
-abbrev pub tick : Draw → Drill → List ScriptLine
-tick d s =
-    if may_tick d s then lines.Tick (node_id d.node) (queue_id d.queue) ∷ lines.Pump ∷ [] else lines.Pump ∷ []
+abbrev pub has_member : (nodes queue node : ℕ) → Bool
+has_member nodes queue node = list_any (λ (member : NodeId). nat_eq member.0 node) (members nodes 3 (queue - 1))
+
+abbrev pub tick : Draw → (nodes : ℕ) → Option NodeId → List ScriptLine
+tick d nodes crashed =
+    if has_member nodes d.queue d.node && not (is_down d.node crashed)
+    then lines.Tick (node_id d.node) (queue_id d.queue) ∷ lines.Pump ∷ []
+    else lines.Pump ∷ []
 
 abbrev pub lines_by : Deed → (step : ℕ) → Draw → Drill → List ScriptLine
 lines_by Sends step d s = send step d.queue ∷ []
-lines_by Gets step d s = lines.Client (client d.queue) (queue_id d.queue) commands.Get ∷ []
-lines_by Subscribes step d s = subscribe d.queue (side_at d.queue s.sides)
+lines_by Gets step d s = get d.queue ∷ []
+lines_by Subscribes step d s = subscribe d.queue (side_at d.queue s.sides).tags
 lines_by Settles step d s = end_first commands.Settle d.queue (side_at d.queue s.sides).held
 lines_by Returns step d s = end_first commands.Return d.queue (side_at d.queue s.sides).held
 lines_by Crashes step d s = crash step d s.crashed
-lines_by Ticks step d s = tick d s
+lines_by Ticks step d s = tick d s.nodes s.crashed
 
 -- ---- what becomes of the drill
 
@@ -135,11 +142,14 @@ after_by _ d s = s
 
 -- what the next step draws
 abbrev pub draw_next : Drill → Draw
-draw_next s = draw s.nodes (drawn (next_x s.x))
+draw_next s = draw_of s.nodes (drawn (next_x s.x))
 
 -- the lines of a step, and after each 16th one what all sessions send again
+abbrev pub resends_of : List ℕ → List ScriptLine
+resends_of sessions = map (λ (session : ℕ). lines.Resend (client session)) sessions
+
 abbrev pub resends : List ScriptLine
-resends = map (λ (session : ℕ). lines.Resend (client session)) (1 ∷ 2 ∷ 3 ∷ 4 ∷ 11 ∷ 12 ∷ 13 ∷ 14 ∷ [])
+resends = resends_of (1 ∷ 2 ∷ 3 ∷ 4 ∷ 11 ∷ 12 ∷ 13 ∷ 14 ∷ [])
 
 abbrev pub step_lines : (step : ℕ) → Drill → List ScriptLine
 step_lines step s = let d : Draw = draw_next s in lines_by d.deed step d s

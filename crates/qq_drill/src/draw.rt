@@ -1,6 +1,6 @@
 //! What a drill draws.
 ghost use Rattle.std.specs.Prelude.{◌≡◌, ◌<◌, ◌≤◌, ◌^◌};
-ghost use Rattle.qq_drill.specs.Draw.{draw, drawn, next_x};
+ghost use Rattle.qq_drill.specs.Draw.{deed_of, draw_of, drawn, next_x};
 
 /// What is done at a step.
 #[derive(Clone, Copy)]
@@ -34,6 +34,7 @@ pub struct Draw {
 }
 
 /// The generator's next state.
+#[tactic(auto, unfolding(crate::specs::Draw::next_x))]
 pub fn next_x(x: u64) -> u64
     ensures { result ≡ next_x x }
 {
@@ -42,6 +43,7 @@ pub fn next_x(x: u64) -> u64
 }
 
 /// The number that is drawn.
+#[tactic(auto, unfolding(crate::specs::Draw::drawn))]
 pub fn drawn(x: u64) -> u64
     ensures value { result ≡ drawn x }
     ensures small { result < 2 ^ 31 }
@@ -49,8 +51,8 @@ pub fn drawn(x: u64) -> u64
     x / (1 << 33)
 }
 
-fn deed(kind: u64) -> Deed
-    ensures { result ≡ deed kind }
+fn deed_of(kind: u64) -> Deed
+    ensures { result ≡ deed_of kind }
 {
     match kind {
         0..=6 => Deed::Sends,
@@ -64,13 +66,13 @@ fn deed(kind: u64) -> Deed
 }
 
 /// What a number says over so many nodes.
-pub fn draw(nodes: u8, number: u64) -> Draw
+pub fn draw_of(nodes: u8, number: u64) -> Draw
     requires { 0 < nodes }
-    ensures { result ≡ draw nodes number }
+    ensures { result ≡ draw_of nodes number }
 {
     Draw {
         queue: (1 + number % 4) as u32,
-        deed: deed(number / 4 % 16),
+        deed: deed_of(number / 4 % 16),
         node: (1 + number / 64 % nodes as u64) as u8,
         cut: number / 512 % 128,
     }

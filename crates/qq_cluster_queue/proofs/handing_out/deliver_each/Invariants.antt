@@ -4,7 +4,7 @@ use Rattle.qq_base.specs.Fronts.{IsFront}
 use Rattle.qq_cluster.specs.Delivering.{come_all, show_all}
 use Rattle.qq_cluster.specs.Texts.{shown_text_as}
 use Rattle.qq_cluster_queue.specs.Sessions.{clients_of, no_numbers, standings}
-use Rattle.qq_cluster_queue.proofs.telling.deliver_each.Given as goal
+use Rattle.qq_cluster_queue.proofs.handing_out.deliver_each.Given as goal
 
 -- what is left from here on gives what all gave at first
 abbrev pub invariant-effects : goal.invariant-effects

@@ -12,7 +12,7 @@ use Rattle.qq_consuming.specs.Consuming.{Received}
 use Rattle.qq_cluster_queue.specs.Members.{effects_in}
 use Rattle.qq_cluster_queue.specs.Sessions.{clients_of, no_numbers, standings}
 use Rattle.qq_cluster_queue.proofs.Hearing.{come-append, effects-then, grown-front}
-use Rattle.qq_cluster_queue.proofs.telling.deliver_rows.Goals as goal
+use Rattle.qq_cluster_queue.proofs.handing_out.deliver_rows.Goals as goal
 
 pub rows-preserved : goal.rows-preserved
 rows-preserved c =

@@ -6,7 +6,7 @@ use Rattle.qq_entry.specs.declared.answer.Delivery.{Delivery}
 use Rattle.qq_session.specs.Shown.{Delivered, Shown}
 use Rattle.qq_cluster_queue.specs.Sessions.{no_numbers, standings}
 use Rattle.qq_cluster_queue.proofs.Hearing.{comes-away, comes-here, shows-away, shows-here}
-use Rattle.qq_cluster_queue.proofs.telling.deliver_to.Goals as goal
+use Rattle.qq_cluster_queue.proofs.handing_out.deliver_to.Goals as goal
 
 pub returns-then-not-here-clause-came : goal.returns-then-not-here-clause-came
 returns-then-not-here-clause-came c =

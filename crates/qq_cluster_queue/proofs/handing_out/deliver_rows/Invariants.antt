@@ -5,7 +5,7 @@ use Rattle.qq_cluster.specs.Delivering.{come_all, show_all}
 use Rattle.qq_cluster.specs.Texts.{shown_text_as}
 use Rattle.qq_cluster_queue.specs.Members.{effects_in}
 use Rattle.qq_cluster_queue.specs.Sessions.{clients_of, no_numbers, standings}
-use Rattle.qq_cluster_queue.proofs.telling.deliver_rows.Given as goal
+use Rattle.qq_cluster_queue.proofs.handing_out.deliver_rows.Given as goal
 
 -- what is left from here on gives what all gave at first
 abbrev pub invariant-rows : goal.invariant-rows

@@ -9,7 +9,7 @@ use Rattle.qq_session.specs.Clients.{Clients}
 use Rattle.qq_session.specs.Shown.{Shown}
 use Rattle.qq_cluster_queue.specs.Sessions.{clients_of, no_numbers, standings}
 use Rattle.qq_cluster_queue.proofs.Hearing.{effect-then, grown-front}
-use Rattle.qq_cluster_queue.proofs.telling.deliver_each.Goals as goal
+use Rattle.qq_cluster_queue.proofs.handing_out.deliver_each.Goals as goal
 
 pub effects-preserved : goal.effects-preserved
 effects-preserved c =
