@@ -1,6 +1,5 @@
 pub mod Failing
 pub mod Living
-mod GivenFree
 pub mod GoingOn
 pub mod Beginning
 pub mod Refusing
@@ -16,6 +15,8 @@ pub mod Bodies
 pub mod Rows
 pub mod Asked
 pub mod Audited
+mod GivenFree
+mod Gone
 pub mod Looped
 pub mod Closed
 pub mod Dumped
