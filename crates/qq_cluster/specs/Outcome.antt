@@ -1,7 +1,7 @@
 -- What comes of events outside of a cluster: the text that they print, and what takers see.
 use Rattle.std.specs.Prelude.{ℕ, List, [], ◌∷◌}
-use Rattle.qq_session.specs.Shown.{Shown, Attached, Dropped, Taken}
-use Rattle.qq_taker.specs.Takers.{Takers, drop_at, give, judge}
+use Rattle.qq_session.specs.Shown.{Shown, Attached, Delivered, Dropped, Taken}
+use Rattle.qq_taker.specs.Takers.{Takers, drop_at, give, hear, judge}
 use Rattle.qq_cluster.specs.Cluster.{Cluster, ClusterEvent, Printed, Of, Setup, all_prints}
 
 -- a text so far, and the takers of a run
@@ -11,9 +11,10 @@ pub record Outcome : Type 0 where
 
 -- ---- what takers see
 
--- a taker is given to a consumer, sees a delivery, and is dropped
+-- a taker is given to a consumer, sees a delivery, and is dropped; who listens hears of the other deliveries
 abbrev pub sees : Shown → Takers → Takers
 sees (Attached session number) all = give number all
+sees (Delivered consumer delivery) all = hear (record { consumer = consumer; delivery = delivery }) all
 sees (Taken number consumer delivery verdict) all = judge number delivery verdict all
 sees (Dropped session number) all = drop_at number all
 sees _ all = all

@@ -1,5 +1,5 @@
 -- Which events may be what is asked of a cluster. A rule says of a cluster and a list of events whether these may be
--- it; where no call of a disk fails it leaves no choice but what restarts found.
+-- it; where no call of a disk fails it leaves no choice but what restarts found and takers answered.
 use Rattle.std.specs.Prelude.{◌≡◌, ◌⊎◌, ℕ, zero, suc, List, [], ◌∷◌, ◌++◌, Bool, true, false, ◌&&◌, Option, Some, None, length, nat_eq, nat_lt, if◌then◌else◌}
 use Rattle.std.specs.List.{list_all, list_any}
 use Rattle.qq_base.specs.Ids.{client}

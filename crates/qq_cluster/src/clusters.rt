@@ -35,7 +35,7 @@ pub fn a_cluster_prints_what_is_true()
 }
 
 /// A law: where no call of a disk fails, a line leaves no choice of events, and a whole run none,
-/// but for what restarts have found.
+/// but for what restarts have found and takers have answered.
 pub fn lines_settle()
     ensures line { (setup : Setup) (line : ScriptLine) (c : Cluster) →
         LeavesNoChoice (IsLine setup line) c }
@@ -44,7 +44,8 @@ pub fn lines_settle()
 {}
 
 /// A law: each script may be served to its end with no failure of a disk, whatever its lines crash
-/// and restart: by these events, where each restart finds all that its node's log was given.
+/// and restart: by these events, where each restart finds all that its node's log was given, and each
+/// taker keeps what it is offered.
 pub fn scripts_may_be_served()
     ensures { (setup : Setup) (lines : List ScriptLine) → HasGroups setup →
         IsServedBy setup lines (run setup all_given lines (new_cluster setup)) }

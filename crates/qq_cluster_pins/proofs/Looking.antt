@@ -1,5 +1,5 @@
 -- What takers see, in words.
-use Rattle.std.proofs.Common.{◌≡◌, ◌≢◌, ℕ, Bool, true, false, not, cond, ◌&&◌, List, [], ◌∷◌, Option, Some, None, map, refl, sym, ap, ◌∙◌, subst, inl, inr, append-nil}
+use Rattle.std.proofs.Common.{◌≡◌, ◌≢◌, ℕ, Bool, true, false, not, cond, List, [], ◌∷◌, Option, Some, None, map, refl, sym, ap, ◌∙◌, subst, inl, inr, append-nil}
 use Rattle.std.specs.Prelude.{Contains, find, nat_eq}
 use Rattle.std.specs.List.{cons_option, list_all}
 use Rattle.std.specs.Option.{option_map}
@@ -7,16 +7,14 @@ use Rattle.std.proofs.lemmas.Bool.{and_from, eqb-true, ne_eqb}
 use Rattle.qq_base.proofs.Lists.{In}
 use Rattle.qq_base.specs.Ids.{same_consumer}
 use Rattle.qq_base.specs.declared.ids.ConsumerId.{ConsumerId}
-use Rattle.qq_entry.specs.declared.answer.Delivery.{Delivery}
 use Rattle.qq_model.proofs.Soundness.{Contains-in}
-use Rattle.qq_taker.specs.Seats.{is_of, taker_of}
 use Rattle.qq_taker.specs.Takers.{Takers}
 use Rattle.qq_taker.specs.declared.handed.Handed.{Handed}
 use Rattle.qq_taker.specs.declared.seats.Seat.{Seat}
 use Rattle.qq_cluster.specs.Cluster.{Setup, Cluster, ClusterEvent, Sets, Alike, At, NodeWrites, NodeSyncs, Fails, Crashes, FindsEach, Shows, SaysDown, SaysNoSuch, SaysUnroutable, SaysBusy, SaysEnded, members_in_order, state_at}
 use Rattle.qq_cluster.specs.Laws.{IsNewTaker, deliveries_waiting, gives}
 use Rattle.qq_cluster.specs.Outcome.{sees_prints, takers_after}
-use Rattle.qq_cluster.specs.Queue.{Event, Queue, Mutes, Ends, Submits, TellsEnded, TellsNotTaken, Attaches, Judges, Resends, Fetches, Downs, Ticks, Delivers, Loses, Copies, Writes, Syncs, Notices, Stops, Finds}
+use Rattle.qq_cluster.specs.Queue.{Event, Queue, Attaches}
 
 -- ---- events of no queue
 

@@ -16,7 +16,8 @@ ghost use Rattle.qq_raft_model.specs.Group.Event.{Submit};
 ghost use Rattle.qq_raft_model.specs.Server.{is_ready};
 ghost use Rattle.qq_raft_model.specs.State.{Server};
 ghost use Rattle.qq_session.specs.Clients.{Clients, ended_by, is_printed, sender};
-ghost use Rattle.qq_session.specs.Shown.{Answered, Delivered, NoLeader};
+ghost use Rattle.qq_session.specs.Shown.{Answered, Delivered, NoLeader, Taken};
+ghost use Rattle.qq_taker.specs.declared.taker.Verdict.{Verdict};
 ghost use Rattle.qq_cluster.specs.Cluster.{At, Cluster, ClusterEvent, Of, SaysEnded, Setup, all_prints, cluster_after, new_cluster};
 ghost use Rattle.qq_cluster.specs.ClusterLaws.{HasGroups};
 ghost use Rattle.qq_cluster.specs.Laws.{IsBegun};
@@ -90,7 +91,8 @@ pub fn an_end_lasts()
 }
 
 /// A law: each answer that is printed is that of a row of the audit, to a command that a client has sent, or to the
-/// end of its session, of a queue and of a cluster. Each delivery that is printed is what an entry of the audit did.
+/// end of its session, of a queue and of a cluster. Each delivery that is printed, by itself or with a taker's verdict,
+/// is what an entry of the audit did.
 pub fn an_answer_is_to_a_client()
     ensures queue { (args : QueueArgs) (group : Group) (events : List Event) (row : AuditRow) →
         IsBegun group → Contains (all_said (begin args group) events) (Answered row) →
@@ -107,6 +109,12 @@ pub fn an_answer_is_to_a_client()
         (consumer : ConsumerId) (delivery : Delivery) → HasGroups setup →
         Contains (all_prints setup (new_cluster setup) events)
         (Of place (Delivered consumer delivery)) →
+        let q = (cluster_after (new_cluster setup) events).queue place in
+        Contains (effects_of (empty_queue q.args) q.group.audit) (Deliver consumer delivery) }
+    ensures taken { (setup : Setup) (events : List ClusterEvent) (place number : ℕ)
+        (consumer : ConsumerId) (delivery : Delivery) (verdict : Verdict) → HasGroups setup →
+        Contains (all_prints setup (new_cluster setup) events)
+        (Of place (Taken number consumer delivery verdict)) →
         let q = (cluster_after (new_cluster setup) events).queue place in
         Contains (effects_of (empty_queue q.args) q.group.audit) (Deliver consumer delivery) }
 {

@@ -32,7 +32,8 @@ use qq_taker::{
 /// A law: what a queue shows is what its takers see.
 ///
 /// - `given`, `taken`, `dropped`: a taker that is given to a consumer, takes a delivery, and is dropped.
-/// - `told`: it is dropped or given again by nothing else that is shown.
+/// - `told`, `heard`: a delivery to a consumer without a taker is heard by who listens, and no taker sees it.
+/// - `same`: what else is shown they don't see.
 /// - `event`, `later`: what an event of a queue shows, they see, and what comes later after that.
 /// - `none`: they see nothing at any other event.
 pub fn takers_see_what_is_shown()
@@ -46,15 +47,15 @@ pub fn takers_see_what_is_shown()
     ensures dropped { (all : Takers) (session number : ℕ) (held : Held) →
         taker_at number all ≡ Some held →
         taker_at number (sees (Dropped session number) all) ≡ Some Gone }
-    ensures told { (all : Takers) (number : ℕ) (row : AuditRow) (consumer : ConsumerId)
-        (d : Delivery) (session id : ℕ) →
-        (taker_at number (sees (Answered row) all) ≡ taker_at number all)
-        × (taker_at number (sees (Delivered consumer d) all) ≡ taker_at number all)
-        × (taker_at number (sees (NoLeader session) all) ≡ taker_at number all)
-        × (taker_at number (sees (WindowFull session) all) ≡ taker_at number all)
-        × (taker_at number (sees (HasEnded session) all) ≡ taker_at number all)
-        × (taker_at number (sees (NotTaken session id) all) ≡ taker_at number all)
-        × (taker_at number (sees (IsBusy session id) all) ≡ taker_at number all) }
+    ensures told { (all : Takers) (number : ℕ) (consumer : ConsumerId) (d : Delivery) →
+        taker_at number (sees (Delivered consumer d) all) ≡ taker_at number all }
+    ensures heard { (all : Takers) (list : List Handed) (consumer : ConsumerId) (d : Delivery) →
+        all.heard ≡ Some list → (sees (Delivered consumer d) all).heard
+        ≡ Some (list ++ record { consumer = consumer; delivery = d } ∷ []) }
+    ensures same { (all : Takers) (row : AuditRow) (session id : ℕ) →
+        (sees (Answered row) all ≡ all) × (sees (NoLeader session) all ≡ all)
+        × (sees (WindowFull session) all ≡ all) × (sees (HasEnded session) all ≡ all)
+        × (sees (NotTaken session id) all ≡ all) × (sees (IsBusy session id) all ≡ all) }
     ensures event { (setup : Setup) (c : Cluster) (place : ℕ) (event : Event) (all : Takers) →
         takers_after setup c (At place event ∷ []) all
         ≡ sees_all (said (c.queue place) event) all }

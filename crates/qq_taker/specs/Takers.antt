@@ -1,8 +1,10 @@
--- The takers of a run, under the numbers 1, 2, 3 and so on.
-use Rattle.std.specs.Prelude.{◌≡◌, ℕ, zero, suc, List, Bool, false, true, Option, None, Some, map, slice_get}
+-- The takers of a run, under the numbers 1, 2, 3 and so on, and who listens to deliveries beside them.
+use Rattle.std.specs.Prelude.{◌≡◌, ℕ, zero, suc, List, [], ◌∷◌, ◌++◌, Bool, false, true, Option, None, Some, map, slice_get}
+use Rattle.std.specs.Global.{Vec}
 use Rattle.std.specs.List.{slice_set}
-use Rattle.std.specs.Option.{option_map_or}
+use Rattle.std.specs.Option.{option_map, option_map_or}
 use Rattle.qq_entry.specs.declared.answer.Delivery.{Delivery}
+use Rattle.qq_taker.specs.declared.handed.Handed.{Handed}
 use Rattle.qq_taker.specs.declared.desk.Place.{Place}
 use Rattle.qq_taker.specs.declared.desk.Place.TheVariants as places
 use Rattle.qq_taker.specs.declared.taker.Seen.{Seen}
@@ -18,8 +20,10 @@ pub data Held : Type 0 where
   -- it was dropped
   Gone : Held
 
-abbrev pub Takers : Type 0
-Takers = List Held
+-- the takers, and the deliveries that were told to consumers without one, in order, where somebody listens
+pub record Takers : Type 0 where
+  pub held : List Held
+  pub heard : Option (List Handed)
 
 -- the takers of a desk, where `seen` tells what each has seen
 abbrev pub held_by : {T : Type 0} → (T → Option (List Seen)) → Place T → Held
@@ -27,20 +31,30 @@ held_by seen (places.Free taker) = Free (seen taker)
 held_by seen (places.Given taker) = Given (seen taker)
 held_by seen places.Gone = Gone
 
-abbrev pub takers_of : {T : Type 0} → (T → Option (List Seen)) → List (Place T) → Takers
-takers_of seen rows = map (held_by seen) rows
+abbrev pub held_of : {T : Type 0} → (T → Option (List Seen)) → List (Place T) → List Held
+held_of seen rows = map (held_by seen) rows
+
+abbrev pub no_takers : Takers
+no_takers = record { held = []; heard = None }
 
 -- ---- one of them
 
 -- the taker of a number, None where there is none
+abbrev pub held_at : ℕ → List Held → Option Held
+held_at zero held = None
+held_at (suc at) held = slice_get held at
+
 abbrev pub taker_at : ℕ → Takers → Option Held
-taker_at zero all = None
-taker_at (suc at) all = slice_get all at
+taker_at number all = held_at number all.held
 
 -- it changes; where there is none nothing does
+abbrev pub change_held : ℕ → (Held → Held) → List Held → List Held
+change_held zero change held = held
+change_held (suc at) change held =
+    option_map_or (λ (one : Held). slice_set held at (change one)) (slice_get held at) held
+
 abbrev pub change_at : ℕ → (Held → Held) → Takers → Takers
-change_at zero change all = all
-change_at (suc at) change all = option_map_or (λ (held : Held). slice_set all at (change held)) (slice_get all at) all
+change_at number change all = record all { held = change_held number change all.held }
 
 -- ---- what becomes of it
 
@@ -91,3 +105,21 @@ abbrev pub IsOffered : ℕ → Delivery → Option Verdict → Takers → Takers
 IsOffered number delivery None old new = (is_given number old ≡ false) × (new ≡ old)
 IsOffered number delivery (Some verdict) old new =
     (is_given number old ≡ true) × (new ≡ judge number delivery verdict old)
+
+-- ---- who listens
+
+-- from here on what is told is kept
+abbrev pub listen : Takers → Takers
+listen all = record all { heard = Some [] }
+
+-- a delivery is told to a consumer without a taker
+abbrev pub hear : Handed → Takers → Takers
+hear h all = record all { heard = option_map (λ (list : List Handed). list ++ h ∷ []) all.heard }
+
+-- what was kept is taken out, and what comes next is kept
+abbrev pub take_heard : Takers → Takers
+take_heard all = record all { heard = option_map (λ (list : List Handed). []) all.heard }
+
+-- what a desk has kept
+abbrev pub heard_of : Option (Vec Handed) → Option (List Handed)
+heard_of kept = option_map (λ (list : Vec Handed). list.items) kept

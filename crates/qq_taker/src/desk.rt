@@ -1,8 +1,9 @@
 ghost use Rattle.std.specs.Prelude.{◌≡◌, ◌++◌, ◌∷◌, [], IfOk, IsOkUnless, OnErr, OnOk};
-ghost use Rattle.qq_taker.specs.Takers.{Free, Gone, IsOffered, LooksAt, drop_at, give, hand, held_by, is_free, is_free_by};
+ghost use Rattle.qq_taker.specs.Takers.{Free, Gone, IsOffered, LooksAt, drop_at, give, hand, hear, heard_of, held_by, is_free, is_free_by, listen, no_takers, take_heard};
 
+use crate::handed::Handed;
 use crate::taker::{Taker, Verdict};
-use qq_base::Memory;
+use qq_base::{Duplicate, Memory};
 use qq_entry::Delivery;
 use std::alloc::Global;
 use std::marker::Model;
@@ -67,35 +68,53 @@ impl<T: Taker> Place<T> {
     }
 }
 
+// A copy of a delivery is kept.
+fn keep(alloc: Global, kept: &mut Vec<Handed>, handed: &Handed) -> Result<(), Memory>
+    ensures ok { OnOk result (kept.new.items ≡ kept.old.items ++ handed.now ∷ []) }
+    ensures err { OnErr result (kept.new.items ≡ kept.old.items) }
+    ensures want { IsOkUnless result Memory.Want }
+{
+    let delivery = handed.delivery.copy(alloc)?;
+    kept.push(Handed {
+        consumer: handed.consumer,
+        delivery,
+    })?;
+    Ok(())
+}
+
 /// The takers of a run, under the numbers 1, 2, 3 and so on. Each may be given to one consumer, once.
 ///
-/// Contracts see of each whether it was given, and what it has seen.
+/// Beside them, who listens is told the deliveries to consumers without a taker. Contracts see of each taker whether it
+/// was given and what it has seen, and the deliveries that were kept.
 #[derive(Drop)]
 pub struct Desk<T: Taker> {
     rows: Vec<Place<T>>,
+    heard: Option<Vec<Handed>>,
 }
 
 impl<T: Taker> Model for Desk<T> {
-    ghost use Rattle.qq_taker.specs.Takers.{Takers, takers_of};
+    ghost use Rattle.qq_taker.specs.Takers.{Takers, heard_of, held_of};
 
     ghost Value = { Takers };
 
-    ghost view = { λ d. takers_of T.seen d.rows.items };
+    ghost view = { λ d. record { held = held_of T.seen d.rows.items; heard = heard_of d.heard } };
 }
 
 impl<T: Taker> Desk<T> {
-    /// No taker. It takes no memory.
+    /// No taker, and nobody listens. It takes no memory.
     pub fn new(alloc: Global) -> Self
-        ensures { result ≡ [] }
+        ensures { result ≡ no_takers }
     {
         Desk {
             rows: Vec::new(alloc),
+            heard: None,
         }
     }
 
     /// Adds a taker that may be given to a consumer, under the next number. Out of memory, all is as before.
     pub fn add(&mut self, taker: T) -> Result<(), Memory>
-        ensures ok { OnOk result (self.new ≡ self.old ++ Free (T.seen taker) ∷ []) }
+        ensures ok { OnOk result (self.new
+            ≡ record self.old { held = self.old.held ++ Free (T.seen taker) ∷ [] }) }
         ensures err { OnErr result (self.new ≡ self.old) }
         ensures want { IsOkUnless result Memory.Want }
     {
@@ -159,5 +178,37 @@ impl<T: Taker> Desk<T> {
             return;
         };
         place.leave();
+    }
+
+    /// From here on the deliveries are kept that are told to consumers without a taker. What was kept before is
+    /// dropped.
+    pub fn listen(&mut self, alloc: Global)
+        ensures { self.new ≡ listen self.old }
+    {
+        self.heard = Some(Vec::new(alloc));
+    }
+
+    /// A delivery is told to a consumer without a taker. Out of memory, all is as before.
+    pub fn hear(&mut self, alloc: Global, handed: &Handed) -> Result<(), Memory>
+        ensures ok { OnOk result (self.new ≡ hear handed.now self.old) }
+        ensures err { OnErr result (self.new ≡ self.old) }
+        ensures want { IsOkUnless result Memory.Want }
+    {
+        match &mut self.heard {
+            None => Ok(()),
+            Some(kept) => keep(alloc, kept, handed),
+        }
+    }
+
+    /// The deliveries that were kept, in order; from here on those are kept that come next. None exactly where nobody
+    /// listens.
+    pub fn take_heard(&mut self, alloc: Global) -> Option<Vec<Handed>>
+        ensures heard { heard_of result ≡ self.old.heard }
+        ensures rest { self.new ≡ take_heard self.old }
+    {
+        match &mut self.heard {
+            None => None,
+            Some(kept) => Some(mem::replace(kept, Vec::new(alloc))),
+        }
     }
 }

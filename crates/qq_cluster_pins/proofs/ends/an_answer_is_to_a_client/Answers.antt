@@ -1,7 +1,7 @@
 use Rattle.qq_base.proofs.Lists.{AllByRecursion-in}
 use Rattle.qq_model.proofs.Soundness.{in_contains}
 use Rattle.qq_session.specs.Printed.{IsAnswer, IsAudited}
-use Rattle.qq_session.specs.Shown.{Answered, Delivered}
+use Rattle.qq_session.specs.Shown.{Answered, Delivered, Taken}
 use Rattle.qq_cluster.specs.Cluster.{Of, all_prints, cluster_after, new_cluster}
 use Rattle.qq_cluster.specs.ClusterLaws.{IsTrueOf}
 use Rattle.qq_cluster.specs.Laws.{queue_after}
@@ -30,4 +30,14 @@ returns-clause-delivered c = λ setup events place consumer delivery groups prin
     AllByRecursion-in (IsTrueOf (cluster_after (new_cluster setup) events)) (Of place (Delivered consumer delivery))
     (all_prints setup (new_cluster setup) events) (c.a_cluster_prints_what_is_true.ensures setup events groups)
     (in_contains (all_prints setup (new_cluster setup) events) (Of place (Delivered consumer delivery)) printed) in
+    is.2
+
+pub returns-clause-taken : goal.returns-clause-taken
+returns-clause-taken c = λ setup events place number consumer delivery verdict groups printed.
+    let is : IsTrueOf (cluster_after (new_cluster setup) events) (Of place (Taken number consumer delivery verdict)) =
+    AllByRecursion-in (IsTrueOf (cluster_after (new_cluster setup) events))
+    (Of place (Taken number consumer delivery verdict)) (all_prints setup (new_cluster setup) events)
+    (c.a_cluster_prints_what_is_true.ensures setup events groups)
+    (in_contains (all_prints setup (new_cluster setup) events) (Of place (Taken number consumer delivery verdict))
+    printed) in
     is.2

@@ -1,4 +1,6 @@
-use Rattle.std.proofs.Common.{Some, refl}
+use Rattle.std.proofs.Common.{List, [], ◌∷◌, ◌++◌, Some, ap, refl}
+use Rattle.std.specs.Option.{option_map}
+use Rattle.qq_taker.specs.declared.handed.Handed.{Handed}
 use Rattle.qq_cluster.proofs.Outcomes.{takers-at, takers-both}
 use Rattle.qq_cluster_pins.proofs.Looking.{others-unseen}
 use Rattle.qq_cluster_pins.proofs.seeing.takers_see_what_is_shown.Goals as goal
@@ -16,7 +18,14 @@ returns-clause-dropped c = λ all session number held there.
     c.takers_see_nothing_after_the_drop.ensures.gone all number held there
 
 pub returns-clause-told : goal.returns-clause-told
-returns-clause-told c = λ all number row consumer d session id. (refl, refl, refl, refl, refl, refl, refl)
+returns-clause-told c = λ all number consumer d. refl
+
+pub returns-clause-heard : goal.returns-clause-heard
+returns-clause-heard c = λ all list consumer d heard.
+    ap (option_map (λ (l : List Handed). l ++ record { consumer = consumer; delivery = d } ∷ [])) heard
+
+pub returns-clause-same : goal.returns-clause-same
+returns-clause-same c = λ all row session id. (refl, refl, refl, refl, refl, refl)
 
 pub returns-clause-event : goal.returns-clause-event
 returns-clause-event c = takers-at
