@@ -136,6 +136,16 @@ impl fmt::Display for Said<'_> {
                 queue,
                 body,
             } => write_command(f, Client(*session, *queue), body),
+            ScriptLine::Attach {
+                session,
+                queue,
+                tag,
+                taker,
+            } => write!(
+                f,
+                "attach session {} tag {tag} queue {} taker {taker}",
+                session.number, queue.0
+            ),
             ScriptLine::End { session } => write!(f, "end session {}", session.number),
             ScriptLine::Resend { session } => write!(f, "resend session {}", session.number),
             ScriptLine::Mute { session, muted } => {

@@ -1,7 +1,6 @@
 //! What comes of a run outside of its queues.
 ghost use Rattle.std.specs.Prelude.{◌≡◌, ◌++◌, [], IfOk, OnOk, OnErr, IsOkUnless};
 ghost use Rattle.qq_session.specs.Shown.{Answered, Attached, Delivered, Dropped, HasEnded, IsBusy, NoLeader, NotTaken, Taken, WindowFull};
-ghost use Rattle.qq_taker.specs.Takers.{heard_of, listen, take_heard};
 ghost use Rattle.qq_cluster_queue.specs.Telling.{show};
 
 use crate::label::{Label, taken_words, verdict_text};
@@ -17,7 +16,7 @@ const LINE_ROOM: usize = 512;
 
 /// What a run tells: its text, and the takers of consumers' deliveries.
 ///
-/// Contracts see the text so far, what each taker has seen, and what who listens has heard.
+/// Contracts see the text so far, and what each taker has seen.
 #[derive(Drop)]
 pub struct Told<T: Taker> {
     text: Vec<u8>,
@@ -41,6 +40,13 @@ impl<T: Taker> Told<T> {
             text: Vec::new(alloc),
             desk,
         }
+    }
+
+    /// This text was told already. It takes no memory.
+    pub fn over(text: Vec<u8>, desk: Desk<T>) -> Self
+        ensures { result ≡ record { text = text.items; takers = desk } }
+    {
+        Told { text, desk }
     }
 
     /// The text so far.
@@ -69,6 +75,21 @@ impl<T: Taker> Told<T> {
         mem::replace(&mut self.text, Vec::new(alloc))
     }
 
+    /// Forgets the text. The takers stay.
+    pub fn clear(&mut self)
+        ensures { self.new ≡ record self.old { text = [] } }
+    {
+        self.text.clear();
+    }
+
+    /// The text, and the takers with what they have seen.
+    pub fn into_parts(self) -> (Vec<u8>, Desk<T>)
+        ensures text { result.0.items ≡ self.text }
+        ensures takers { result.1 ≡ self.takers }
+    {
+        (self.text, self.desk)
+    }
+
     /// The takers.
     pub fn desk(&self) -> &Desk<T>
         ensures { result.now ≡ self.now.takers }
@@ -81,23 +102,6 @@ impl<T: Taker> Told<T> {
         ensures { result ≡ self.takers }
     {
         self.desk
-    }
-
-    /// From here on the deliveries are kept that are told to consumers without a taker. What was kept before is
-    /// dropped.
-    pub fn listen(&mut self, alloc: Global)
-        ensures { self.new ≡ record self.old { takers = listen self.old.takers } }
-    {
-        self.desk.listen(alloc);
-    }
-
-    /// The deliveries that were kept, in order; from here on those are kept that come next. None exactly where nobody
-    /// listens.
-    pub fn take_heard(&mut self, alloc: Global) -> Option<Vec<Handed>>
-        ensures heard { heard_of result ≡ self.old.takers.heard }
-        ensures rest { self.new ≡ record self.old { takers = take_heard self.old.takers } }
-    {
-        self.desk.take_heard(alloc)
     }
 
     /// The answer of a row is told.
@@ -115,8 +119,7 @@ impl<T: Taker> Told<T> {
         Ok(())
     }
 
-    /// A delivery to a consumer without a taker is told, and who listens hears it. It is heard first, so that an error
-    /// leaves the text as it is.
+    /// A delivery to a consumer without a taker is told, and who listens hears it first.
     pub(crate) fn delivered(
         &mut self,
         alloc: Global,

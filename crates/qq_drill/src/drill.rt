@@ -98,7 +98,8 @@ impl Drill {
     }
 
     fn after_by(&mut self, draw: Draw)
-        ensures { self.new ≡ after_by draw.deed draw self.old }
+        ensures after { self.new ≡ after_by draw.deed draw self.old }
+        ensures nodes { self.new.nodes ≡ self.old.nodes }
     {
         match draw.deed {
             Deed::Sends => {}
@@ -118,6 +119,7 @@ impl Drill {
         requires { 0 < self.old.nodes }
         ensures lines { IfOk result (λ lines. lines.items ≡ step_lines number self.old) }
         ensures after { OnOk result (self.new ≡ after_step self.old) }
+        ensures nodes { self.new.nodes ≡ self.old.nodes }
         ensures err { OnErr result (self.new ≡ self.old) }
         ensures want { IsOkUnless result Memory.Want }
     {
@@ -133,6 +135,7 @@ impl Drill {
     /// A delivery of this id was printed to a consumer. Out of memory, the drill stays.
     pub fn hear(&mut self, consumer: ConsumerId, id: u64) -> Result<(), Memory>
         ensures ok { OnOk result (self.new ≡ hear consumer id self.old) }
+        ensures nodes { self.new.nodes ≡ self.old.nodes }
         ensures err { OnErr result (self.new ≡ self.old) }
         ensures want { IsOkUnless result Memory.Want }
     {

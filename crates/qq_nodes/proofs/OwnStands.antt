@@ -1,17 +1,16 @@
 -- What stands where one node and the queues change, by events of that node's log.
-use Rattle.std.proofs.Common.{◌≡◌, ◌≢◌, ◌⊎◌, ◌<◌, ◌≤◌, ◌+◌, ◌-◌, ℕ, zero, suc, Bool, true, false, List, [], ◌∷◌, ◌++◌, Option, Some, None, length, refl, sym, ap, ◌∙◌, subst, inl, inr, arith}
+use Rattle.std.proofs.Common.{◌≡◌, ◌≢◌, ◌⊎◌, ◌<◌, ◌≤◌, ◌+◌, ◌-◌, ℕ, zero, suc, Bool, true, false, List, [], ◌∷◌, Some, length, refl, sym, ap, ◌∙◌, subst, inl, inr, arith}
 use Rattle.std.specs.Prelude.{IsTrue, nat_lt, slice_get, slice_set}
-use Rattle.std.specs.List.{AllByRecursion, range_with_len}
+use Rattle.std.specs.List.{AllByRecursion}
 use Rattle.std.proofs.lemmas.Bool.{false≢true, lt-ltb}
 use Rattle.qq_base.specs.Causes.{Rose}
-use Rattle.qq_cluster.specs.Texts.{text_of}
 use Rattle.qq_disk.specs.Disk.{Disk, now}
 use Rattle.qq_lots.specs.Lots.{Lot, Parts, ids_of}
 use Rattle.qq_raft_protocol.specs.Facts.{In}
 use Rattle.qq_cluster.specs.Cluster.{Cluster, ClusterEvent, Fails, Setup, cluster_after, cluster_happens}
-use Rattle.qq_cluster.specs.Queue.{Event, Queue, Stops, happens}
+use Rattle.qq_cluster.specs.Queue.{Event, Stops, happens}
 use Rattle.qq_cluster.specs.Rules.{is_quiet}
-use Rattle.qq_cluster_laws.specs.Linked.{IsLinked, IsReached, lot_of, parts_at}
+use Rattle.qq_cluster_laws.specs.Linked.{IsLinked, lot_of, parts_at}
 use Rattle.qq_cluster_laws.specs.Serves.{GivesUp, Seen, Serves, fails_at, seen_of}
 use Rattle.qq_cluster_laws.specs.Traced.{IsBrokenAt, IsTracedAt}
 use Rattle.qq_cluster_queue.specs.ClusterQueue.{Stands as IsQueue}
@@ -20,6 +19,7 @@ use Rattle.qq_cluster_queue.specs.declared.cluster_queue.ClusterQueue.{ClusterQu
 use Rattle.qq_node_log.specs.Log.{IsRunningIn, IsWhole, disk_in}
 use Rattle.qq_node_log.specs.Steps.{AlwaysKeeps, SameDisk}
 use Rattle.qq_node_log.specs.declared.node_log.NodeLog.{NodeLog}
+use Rattle.qq_cluster.specs.Outcome.{Outcome}
 use Rattle.qq_nodes.specs.Active.{is_in}
 use Rattle.qq_nodes.specs.Logs.{ChangesLog, NodeTurns}
 use Rattle.qq_nodes.specs.Nodes.{IsNodeOf, IsQueueOf, IsSetUp, Stands, node_at, seen, seen_in, seen_log}
@@ -32,6 +32,7 @@ use Rattle.qq_nodes.proofs.Turned.{set-other, within-length}
 use Rattle.qq_nodes.proofs.Walks.{in-range}
 use Rattle.std.proofs.lemmas.Option.{slice_get-get_or}
 use Rattle.std.specs.Prelude.{get_or}
+use Rattle.qq_nodes.proofs.Outcomes.{outcome_after}
 
 -- ---- queues
 
@@ -279,9 +280,9 @@ module _ {D : Type 0} {tells : D → Bool} {past : D → List Disk} {faults : D 
       → IsLinked setup c k (now (past (disk_in ch.before))) → Traced (past (disk_in ch.before)) b.past) (sym seen-new)
       traced)
 
-  pub call-serves : (Allowed : List ClusterEvent → Type 0) (before after : List ℕ)
+  pub call-serves : (Allowed : List ClusterEvent → Type 0) (before after : Outcome)
       → (fails_at k events ≡ true → Rose (faults (disk_in ch.before)) (faults (disk_in ch.behind))) → Allowed events
-      → Stands tells past setup new (cluster_after c events) → after ≡ before ++ text_of setup c events
+      → Stands tells past setup new (cluster_after c events) → after ≡ outcome_after setup c events before
       → (IsTrue (tells (disk_in ch.before)) → IsLinked setup c k (now (past (disk_in ch.before)))
       → IsTracedAt setup c k events (past (disk_in ch.before)) (past (disk_in ch.behind)))
       → Serves setup c Allowed (Stands tells past setup new) (seen tells past faults old) (seen tells past faults new)

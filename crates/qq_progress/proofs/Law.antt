@@ -1,7 +1,7 @@
 -- Two rounds of a cluster commit a command.
-use Rattle.std.proofs.Common.{map, ◌≡◌, ℕ, zero, suc, Bool, true, false, cond, ◌||◌, List, [], ◌∷◌, ◌++◌, length, Option, refl, sym, ap, ◌∙◌, subst, inl, inr, arith, append-nil, append_assoc}
+use Rattle.std.proofs.Common.{map, ◌≡◌, ℕ, Bool, true, false, ◌||◌, List, [], ◌∷◌, ◌++◌, Option, refl, sym, ap, ◌∙◌, subst, inl, inr, arith, append-nil, append_assoc}
 use Rattle.std.proofs.Math.Path.{fun_ext}
-use Rattle.std.specs.Prelude.{Contains, nat_eq, replicate, take}
+use Rattle.std.specs.Prelude.{Contains, nat_eq, take}
 use Rattle.std.specs.List.{AllByRecursion, flat_map, list_any}
 use Rattle.std.proofs.lemmas.Bool.{cond-true, eq-eqb}
 use Rattle.std.proofs.lemmas.List.{take_all}
@@ -33,22 +33,24 @@ use Rattle.qq_session.proofs.PrintedAnswers.{front-contains}
 use Rattle.qq_cluster.specs.Cluster.{Cluster, ClusterEvent, At, Of, Setup, all_prints, cluster_after, cluster_happens, members, new_cluster, parts_of, prints}
 use Rattle.qq_cluster.specs.ClusterLaws.{HasGroups, has_failure}
 use Rattle.qq_cluster.specs.Lines.{IsLine}
-use Rattle.qq_cluster.specs.Queue.{Queue, Event, Submits, after, Delivers, Notices, Syncs, Writes, all_said, audit_rows, begin, happens, leader, moves, submit_to, waiting}
-use Rattle.qq_cluster.specs.Rules.{IsNothing, IsRound, Then, if_so, is_idle, is_quiet, most_rounds, waits_noticed}
+use Rattle.qq_cluster.specs.Queue.{Queue, Event, Submits, after, all_said, audit_rows, begin, happens, leader, moves, submit_to}
+use Rattle.qq_cluster.specs.Rules.{IsNothing, IsRound, Then, if_so, is_idle, is_quiet, most_rounds}
 use Rattle.qq_cluster.proofs.Groups.{KeepsCommits, KnowsCommits, after-append, audit-grows, group-append, group-is, known-in}
 use Rattle.qq_cluster.specs.Laws.{all_moves}
 use Rattle.qq_cluster.proofs.Takerless.{IsTakerless, at-own, takerless-all, takerless-event}
 use Rattle.qq_raft_model.specs.Group.{Event as Move, group_after}
-use Rattle.qq_raft_model.specs.Group.Event.{Submit, Take}
+use Rattle.qq_raft_model.specs.Group.Event.{Submit}
 use Rattle.qq_progress.proofs.Numbers.{AllBelow, BringsBelow, all-below, numbered-begin}
-use Rattle.qq_progress.proofs.Earlier.{IsSilent, WereSubmitted, all-other}
+use Rattle.qq_progress.proofs.Earlier.{WereSubmitted, all-other}
+use Rattle.qq_progress.proofs.Silence.{AreSilent, silent-front, silent-round, silent-then}
 use Rattle.qq_base.proofs.Fronts.{front-trans}
 use Rattle.qq_base.proofs.Lists.{AllByRecursion-append}
-use Rattle.qq_progress.specs.Alone.{round_alone, turn, turn_where, turns}
+use Rattle.qq_progress.specs.Alone.{round_alone}
 use Rattle.qq_progress.specs.Rounds.{Rounds}
 use Rattle.qq_progress.specs.Soon.{AreNodes, AreOnce, GivesOne, IsCommittedSoon, IsNewTo, LeadsMost, MayGive, WaitsForNoTaker, command_of}
 use Rattle.qq_progress.proofs.Asking.{Asks, asks-sends, commit-is, own-commit, submits-asks}
-use Rattle.qq_progress.proofs.Committing.{CutAt, HasCommitted, HasCuts, HasRun, IsSending, cuts, first-busy, first-run, second-run}
+use Rattle.qq_progress.proofs.Committing.{HasCommitted, HasRun, IsSending, first-busy, first-run, second-run}
+use Rattle.qq_progress.proofs.Cutting.{CutAt, HasCuts, cuts}
 use Rattle.qq_progress.proofs.Delivering.{Plan}
 use Rattle.qq_progress.proofs.Hearing.{IsGiven}
 use Rattle.qq_progress.proofs.Line.{AreWithin, can-commit, counted-at, line-asked, pumps-two}
@@ -91,69 +93,6 @@ KnowsWhole =
     (g : Group) (whole : List Entry) (made : List Move) → AreDistinct g.nodes → IsOpened g whole
     → IsFront whole (whole_audit whole (group_after g made))
     × IsFront (group_after g made).audit (whole_audit whole (group_after g made))
-
--- ---- moves
-
-moves-append : (q : Queue) (first second : List Event)
-    → all_moves q (first ++ second) ≡ all_moves q first ++ all_moves (after q first) second
-moves-append q [] second = refl
-moves-append q (event ∷ first) second =
-    ap (λ (l : List Move). moves q event ++ l) (moves-append (happens q event) first second)
-    ∙ sym (append_assoc (moves q event) (all_moves (happens q event) first)
-    (all_moves (after (happens q event) first) second))
-
-all-both : {A : Type 0} (P : A → Type 0) (xs ys : List A) → AllByRecursion P (xs ++ ys)
-    → AllByRecursion P xs × AllByRecursion P ys
-all-both P [] ys all = (tt, all)
-all-both P (x ∷ xs) ys all = (let both = all-both P xs ys all.1 in ((all.0, both.0), both.1))
-
-abbrev AreSilent : Queue → List Event → Type 0
-AreSilent q events = AllByRecursion IsSilent (all_moves q events)
-
-silent-then : (q : Queue) (first second : List Event) → AreSilent q first → AreSilent (after q first) second
-    → AreSilent q (first ++ second)
-silent-then q first second a b =
-    subst (AllByRecursion IsSilent) (sym (moves-append q first second))
-    (AllByRecursion-append IsSilent (all_moves q first) (all_moves (after q first) second) a b)
-
-silent-takes : (j n : ℕ) → AllByRecursion IsSilent (replicate n (Take j))
-silent-takes j zero = tt
-silent-takes j (suc n) = (tt, silent-takes j n)
-
-silent-turn : (j : ℕ) (q : Queue) → AreSilent q (turn j q)
-silent-turn j q =
-    AllByRecursion-append IsSilent (moves q (Writes j)) _ (silent-takes j (waiting j q.group))
-    (by (waits_noticed j (happens (happens q (Writes j)) (Syncs j))))
-  where
-    by : (b : Bool) → AreSilent (happens (happens q (Writes j)) (Syncs j)) (cond b (Notices j ∷ []) [])
-    by true = (tt, tt)
-    by false = tt
-
-silent-where : (b : Bool) (j : ℕ) (q : Queue) → AreSilent q (turn_where b j q)
-silent-where true j q = silent-turn j q
-silent-where false j q = tt
-
-silent-turns : (up : ℕ → Bool) (nodes : List ℕ) (q : Queue) → AreSilent q (turns up nodes q)
-silent-turns up [] q = tt
-silent-turns up (j ∷ nodes) q =
-    silent-then q (turn_where (up j) j q) (turns up nodes (after q (turn_where (up j) j q))) (silent-where (up j) j q)
-    (silent-turns up nodes (after q (turn_where (up j) j q)))
-
-silent-delivers : (n : ℕ) (q : Queue) → AreSilent q (replicate n (Delivers 0))
-silent-delivers zero q = tt
-silent-delivers (suc n) q = (tt, silent-delivers n (happens q (Delivers 0)))
-
-silent-round : (up : ℕ → Bool) (nodes : List ℕ) (q : Queue) → AreSilent q (round_alone up nodes q)
-silent-round up nodes q =
-    silent-then q (turns up nodes q) (replicate (length (after q (turns up nodes q)).group.bag) (Delivers 0))
-    (silent-turns up nodes q) (silent-delivers (length (after q (turns up nodes q)).group.bag) (after q (turns up nodes q)))
-
-silent-front : (q : Queue) (first second : List Event) → AreSilent q (first ++ second) → AreSilent q first
-silent-front q [] second all = tt
-silent-front q (event ∷ first) second all =
-    let both = all-both IsSilent (moves q event) (all_moves (happens q event) (first ++ second)) all in
-    AllByRecursion-append IsSilent (moves q event) (all_moves (happens q event) first) both.0
-    (silent-front (happens q event) first second both.1)
 
 -- ---- two rounds
 

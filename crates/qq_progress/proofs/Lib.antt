@@ -15,8 +15,10 @@ pub mod Calm
 pub mod Following
 pub mod Sending
 pub mod Committing
+pub mod Cutting
 pub mod Asking
 pub mod Playing
+pub mod Silence
 pub mod Soon
 pub mod Line
 pub mod Law

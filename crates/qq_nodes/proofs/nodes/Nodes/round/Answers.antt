@@ -1,5 +1,3 @@
-use Rattle.std.specs.Prelude.{List, ◌++◌}
-use Rattle.std.proofs.Common.{append-nil, sym, subst}
 use Rattle.qq_nodes.proofs.Stands.{can-after, gave_up-first, gave_up-second, served-same, served-then}
 use Rattle.qq_nodes.proofs.Total.{total-empties}
 use Rattle.qq_nodes.proofs.nodes.Nodes.round.Goals as goal
@@ -14,7 +12,7 @@ drop_quiet-requires g c =
 pub returns-clause-ok : goal.returns-clause-ok
 returns-clause-ok g c =
     served-same (served-then c.in_default.ensures.ok c.in_default-empty_each.ensures.ok)
-    (c.drop_quiet.ensures c.empty_each.new.text.items)
+    (c.drop_quiet.ensures c.empty_each.new.told)
 
 pub returns-in-Err-clause-err : goal.returns-in-Err-clause-err
 returns-in-Err-clause-err g c = gave_up-first total-empties c.in-Err.ensures.err

@@ -1,15 +1,13 @@
-use Rattle.std.proofs.Common.{◌∙◌, ap, sym, subst, arith}
-use Rattle.std.specs.Prelude.{ℕ, length}
-use Rattle.qq_cluster.specs.Cluster.{Setup}
+use Rattle.std.proofs.Common.{arith}
 use Rattle.qq_cluster.specs.Rules.{IsNodeRound}
-use Rattle.qq_nodes.specs.Nodes.{IsNodeAt, Served, nodes_in}
+use Rattle.qq_nodes.specs.Nodes.{nodes_in}
 use Rattle.qq_nodes.proofs.Pumping.{many-after, node-of, nodes-end, nodes-gave_up, nodes-more}
 use Rattle.qq_nodes.proofs.Stands.{can-after, each-start}
 use Rattle.qq_nodes.proofs.Total.{total-node}
 use Rattle.qq_nodes.proofs.nodes.Nodes.round_each.Goals as goal
 
 pub nodes-init : goal.nodes-init
-nodes-init g c = each-start nodes_in IsNodeRound c.args.self.now c.args.text.now.items
+nodes-init g c = each-start nodes_in IsNodeRound c.args.self.now c.args.told.now
 
 pub node_id-node-requires : goal.node_id-node-requires
 node_id-node-requires g c = let many = (many-after c.requires c.nodes.invariant).1 in omega (arith, many, c.len-count.ensures)
