@@ -19,6 +19,7 @@ use Rattle.qq_model.proofs.Soundness.{Contains-in}
 use Rattle.qq_raft_protocol.specs.Facts.{In}
 use Rattle.qq_script_lines.specs.declared.line.ScriptLine.{ScriptLine}
 use Rattle.qq_setup.specs.declared.setup.Setup.{Setup}
+use Rattle.qq_taker.specs.Takers.{no_takers}
 use Rattle.qq_cluster.specs.Outcome.{Outcome}
 use Rattle.qq_cluster.specs.Cluster.{Cluster, ClusterEvent, Crashes, Setup as ClusterSetup, cluster_after, cluster_happens, new_cluster}
 use Rattle.qq_cluster.specs.Lines.{IsLine}
@@ -334,7 +335,7 @@ module _ {D : Type 0} (given : Giving D) (tells : D → Bool) (past : D → List
   crashed s run old new k image h happened leaves =
       let setup = setup_in s run in
       let c = cluster_in s run in
-      let so = (happened (record { text = []; takers = [] })).happened setup c (reached s run) h.stands in
+      let so = (happened (record { text = []; takers = no_takers })).happened setup c (reached s run) h.stands in
       let st : Stands tells past setup new (cluster_after c (Crashes k image ∷ [])) =
       subst (λ (l : List ClusterEvent). Stands tells past setup new (cluster_after c l)) so.means so.stands in
       holds-more s run old new (Crashes k image ∷ []) run.lines h st (λ j there mid last was is restarted b. record {

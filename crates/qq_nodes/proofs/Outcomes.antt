@@ -1,5 +1,6 @@
 -- What comes of events outside of the nodes.
 use Rattle.std.proofs.Common.{◌≡◌, ℕ, List, [], ◌∷◌, ◌++◌, sym, ap, append-nil}
+use Rattle.qq_taker.specs.Takers.{no_takers}
 use Rattle.qq_cluster.specs.Cluster.{Cluster, ClusterEvent, Setup}
 use Rattle.qq_cluster.specs.Outcome.{Outcome, takers_after}
 use Rattle.qq_cluster.specs.Texts.{text_of}
@@ -12,7 +13,7 @@ outcome_after setup c events before =
 
 -- nothing was printed, and there are no takers
 abbrev pub no_outcome : Outcome
-no_outcome = record { text = []; takers = [] }
+no_outcome = record { text = []; takers = no_takers }
 
 -- nothing comes of what shows nothing
 pub same-outcome : (outcome : Outcome) → outcome ≡ with_line [] outcome
