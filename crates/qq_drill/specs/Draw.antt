@@ -1,5 +1,5 @@
--- What a drill draws: numbers of a linear congruential generator with the multiplier of MMIX (Knuth, The Art of Computer
--- Programming, volume 2, section 3.3.4), of which the upper 31 bits count.
+-- What a drill draws: numbers of a linear congruential generator with the multiplier of MMIX (Knuth, The Art of
+-- Computer Programming, volume 2, section 3.3.4), of which the upper 31 bits count.
 use Rattle.std.specs.Prelude.{ℕ, ◌+◌, ◌*◌, ◌/◌, ◌%◌, ◌^◌, nat_lt, if◌then◌else◌}
 use Rattle.qq_drill.specs.declared.draw.Deed.{Deed}
 use Rattle.qq_drill.specs.declared.draw.Deed.TheVariants.{Sends, Gets, Subscribes, Settles, Returns, Crashes, Ticks}

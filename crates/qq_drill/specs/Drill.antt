@@ -80,8 +80,8 @@ end_first how queue [] = []
 end_first how queue (one ∷ more) =
     lines.Client (client (taking queue)) (queue_id queue) (how one.tag (one.id ∷ [])) ∷ []
 
--- where all nodes are up, a message is written at a node, and the node crashes with the first bytes of it; else the node
--- that is down restarts
+-- where all nodes are up, a message is written at a node, and the node crashes with the first bytes of it; else the
+-- node that is down restarts
 abbrev pub crash : (step : ℕ) → Draw → Option NodeId → List ScriptLine
 crash step d (Some node) = lines.Restart (One node) ∷ []
 crash step d None =

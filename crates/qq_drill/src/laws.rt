@@ -53,14 +53,16 @@ pub fn a_drill_of_seven_begins_with_a_get()
 pub fn consumers_are_at_most_eight()
     ensures second { let d = draw_of 3 40 in
         lines_by Subscribes 9 d (after_by Subscribes d (new_drill 7 3))
-        ≡ script_lines.Client (client 11) (record { 0 = 1 }) (commands.Subscribe 2 (Prefetch 4)) ∷ [] }
+        ≡ script_lines.Client (client 11) (record { 0 = 1 })
+        (commands.Subscribe 2 (Prefetch 4)) ∷ [] }
     ensures eighth { lines_by Subscribes 9 (draw_of 3 40) (record {
       x = 0;
       nodes = 3;
       crashed = None;
       sides = record { tags = 7; held = [] } ∷ [];
     })
-        ≡ script_lines.Client (client 11) (record { 0 = 1 }) (commands.Subscribe 8 (Prefetch 4)) ∷ [] }
+        ≡ script_lines.Client (client 11) (record { 0 = 1 })
+        (commands.Subscribe 8 (Prefetch 4)) ∷ [] }
     ensures ninth { lines_by Subscribes 9 (draw_of 3 40) (record {
       x = 0;
       nodes = 3;
@@ -83,8 +85,8 @@ pub fn deliveries_are_ended_oldest_first()
         (hear (record { session = client 12; tag = 1 }) 7 (new_drill 7 3))) ≡ [] }
     ensures other_queue { lines_by Settles 9 (draw_of 3 1)
         (hear (record { session = client 13; tag = 1 }) 7 (new_drill 7 3)) ≡ [] }
-    ensures other_session { (id : ℕ) → hear (record { session = client 2; tag = 1 }) id (new_drill 7 3)
-        ≡ new_drill 7 3 }
+    ensures other_session { (id : ℕ) → hear (record { session = client 2; tag = 1 })
+        id (new_drill 7 3) ≡ new_drill 7 3 }
 {}
 
 /// A law: a node crashes with some bytes of a message, is down, and restarts.
@@ -123,6 +125,6 @@ pub fn all_sessions_send_again_after_sixteen_steps()
         ∷ script_lines.Resend (client 3) ∷ script_lines.Resend (client 4)
         ∷ script_lines.Resend (client 11) ∷ script_lines.Resend (client 12)
         ∷ script_lines.Resend (client 13) ∷ script_lines.Resend (client 14) ∷ [] }
-    ensures steps { (is_sixteenth 16 ≡ true) × (is_sixteenth 3984 ≡ true) × (is_sixteenth 15 ≡ false)
-        × (is_sixteenth 17 ≡ false) }
+    ensures steps { (is_sixteenth 16 ≡ true) × (is_sixteenth 3984 ≡ true)
+        × (is_sixteenth 15 ≡ false) × (is_sixteenth 17 ≡ false) }
 {}
