@@ -114,14 +114,16 @@ opens-group queue nodes starts group is opens g reached down args =
     }
 
 pub opens-queue : (args : QueueArgs) (nodes : List NodeId) (d : ClusterQueue) → d.args ≡ args
-    → d.publishers ≡ record { queue = args.queue; rows = [] } → d.consumers ≡ []
+    → d.publishers ≡ record { queue = args.queue; rows = [] } → d.consumers ≡ [] → d.seats ≡ [] → d.untold ≡ []
     → OpensGroup args.queue nodes d.group → Opens args nodes d
-opens-queue args nodes d same publishers consumers opens g reached down =
+opens-queue args nodes d same publishers consumers seats untold opens g reached down =
     let group : IsGroupOf d.args g d.group = opens g reached down d.args in
     record {
       args = sym same;
       clients = ap (λ (p : _). clients_of all_present (numbers_of p)) (sym publishers);
       consumers = sym consumers;
+      seats = sym seats;
+      untold = sym untold;
       group = group;
       synced = λ k s up. absurd (none-some (server_of own_log s.raft) (sym (down.seats k)
           ∙ seat-is g d.group k group.represents ∙ ap raft_of up));

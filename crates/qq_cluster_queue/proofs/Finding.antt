@@ -30,6 +30,7 @@ use Rattle.qq_cluster_queue.specs.ClusterQueue.{Becomes, Stands, count_at}
 use Rattle.qq_cluster_queue.specs.Members.{IsCurrent, IsGroupOf, Member, Members, own_log, queue_stands, queue_step}
 use Rattle.qq_cluster_queue.specs.Sessions.{Standings, clients_of, numbers_of}
 use Rattle.qq_cluster_queue.specs.declared.cluster_queue.ClusterQueue.{ClusterQueue}
+use Rattle.qq_cluster_queue.proofs.Happening.{tells-nothing, waits-nothing}
 use Rattle.qq_cluster_queue.proofs.Members.{log-is, raft_of, seat-is}
 
 -- two functions that are put the same at a number, and agree where it counts
@@ -80,14 +81,18 @@ noticed-is g group k s r up = noticed-by g group k (slice_get group.seats.items 
 
 -- nothing of the queue but what is synced has changed
 synced-stands : (sessions : Standings) (old new : ClusterQueue) (q r : Queue) → Stands sessions old q
-    → new.args ≡ old.args → new.publishers ≡ old.publishers → new.consumers ≡ old.consumers → new.group ≡ old.group
-    → r.args ≡ q.args → r.clients ≡ q.clients → r.consumers ≡ q.consumers → r.group ≡ q.group
+    → new.args ≡ old.args → new.publishers ≡ old.publishers → new.consumers ≡ old.consumers → new.seats ≡ old.seats
+    → new.untold ≡ old.untold → new.group ≡ old.group → r.args ≡ q.args → r.clients ≡ q.clients
+    → r.consumers ≡ q.consumers → r.seats ≡ q.seats → r.untold ≡ q.untold → r.group ≡ q.group
     → ((k : ℕ) (s : Member) → server_at k old.group ≡ Some s → r.synced k ≡ count_at new.synced.each k)
     → Stands sessions new r
-synced-stands sessions old new q r st args publishers consumers group a c known' g each = record {
+synced-stands sessions old new q r st args publishers consumers seats untold group a c known' seats' untold' g
+    each = record {
   args = a ∙ st.args ∙ sym args;
   clients = c ∙ st.clients ∙ ap (λ (p : _). clients_of sessions (numbers_of p)) (sym publishers);
   consumers = known' ∙ st.consumers ∙ sym consumers;
+  seats = seats' ∙ st.seats ∙ sym seats;
+  untold = untold' ∙ st.untold ∙ sym untold;
   group = subst (λ (x : QueueArgs). IsGroupOf x r.group new.group) (sym args)
       (subst (λ (x : Members). IsGroupOf old.args r.group x) (sym group)
       (subst (λ (x : GroupState). IsGroupOf old.args x old.group) (sym g) st.group));
@@ -99,27 +104,29 @@ syncs-down k old new down same sessions q st =
     let none : is_some (q.group.seat k).server ≡ false =
     ap is_some (seat-is q.group old.group k st.group.represents ∙ ap raft_of down) in (
       subst (λ (d : ClusterQueue). Stands sessions d (happens q (Syncs k))) (sym same)
-          (synced-stands sessions old old q (happens q (Syncs k)) st refl refl refl refl refl refl refl refl
+          (synced-stands sessions old old q (happens q (Syncs k)) st refl refl refl refl refl refl refl refl refl refl
+          (waits-nothing q.untold q.seats) refl
           (λ i s up. ap (λ (f : ℕ → ℕ). f i) (cond-false (is_some (q.group.seat k).server)
           (put k (length (q.group.seat k).ops) q.synced) q.synced none) ∙ st.synced i s up)),
-      refl,
+      tells-nothing q.untold q.seats,
     )
 
 pub syncs-up : (k : ℕ) (s : Member) (old new : ClusterQueue) (count : ℕ) → server_at k old.group ≡ Some s
     → count ≡ handed_at (slice_get old.group.seats.items k)
     → ((i : ℕ) → count_at new.synced.each i ≡ put k count (count_at old.synced.each) i) → new.args ≡ old.args
-    → new.publishers ≡ old.publishers → new.consumers ≡ old.consumers → new.group ≡ old.group
-    → Becomes (Syncs k) old new
-syncs-up k s old new count up is set args publishers consumers group sessions q st =
+    → new.publishers ≡ old.publishers → new.consumers ≡ old.consumers → new.seats ≡ old.seats
+    → new.untold ≡ old.untold → new.group ≡ old.group → Becomes (Syncs k) old new
+syncs-up k s old new count up is set args publishers consumers seats untold group sessions q st =
     let some : is_some (q.group.seat k).server ≡ true =
     ap is_some (seat-is q.group old.group k st.group.represents ∙ ap raft_of up) in
     let long : length (q.group.seat k).ops ≡ count = sym (is ∙ handed-is old.args q.group old.group k s st.group up) in (
-      synced-stands sessions old new q (happens q (Syncs k)) st args publishers consumers group refl refl refl refl
+      synced-stands sessions old new q (happens q (Syncs k)) st args publishers consumers seats untold group refl refl
+          refl refl (waits-nothing q.untold q.seats) refl
           (λ i t there. ap (λ (f : ℕ → ℕ). f i) (cond-true (is_some (q.group.seat k).server)
           (put k (length (q.group.seat k).ops) q.synced) q.synced some)
           ∙ ap (λ (n : ℕ). put k n q.synced i) long
           ∙ put-both k count q.synced (count_at old.synced.each) i (λ _. st.synced i t there) ∙ sym (set i)),
-      refl,
+      tells-nothing q.untold q.seats,
     )
 
 -- ---- restarts
@@ -228,12 +235,15 @@ restarted args node l machine old new g r it audited reached unknown =
 pub find-stands : (sessions : Standings) (old new : ClusterQueue) (q : Queue) (k op : ℕ) → Stands sessions old q
     → may_restart k op q.group ≡ true → IsGroupOf old.args (moved (Restart k op) q.group) new.group
     → OthersStay k old.group new.group → new.args ≡ old.args → new.publishers ≡ old.publishers
-    → new.consumers ≡ old.consumers → ((i : ℕ) → count_at new.synced.each i ≡ put k op (count_at old.synced.each) i)
+    → new.consumers ≡ old.consumers → new.seats ≡ old.seats → new.untold ≡ old.untold
+    → ((i : ℕ) → count_at new.synced.each i ≡ put k op (count_at old.synced.each) i)
     → Stands sessions new (happens q (FindsOps k op))
-find-stands sessions old new q k op st may group others args publishers consumers set = record {
+find-stands sessions old new q k op st may group others args publishers consumers seats untold set = record {
   args = st.args ∙ sym args;
   clients = st.clients ∙ ap (λ (p : _). clients_of sessions (numbers_of p)) (sym publishers);
   consumers = st.consumers ∙ sym consumers;
+  seats = st.seats ∙ sym seats;
+  untold = waits-nothing q.untold q.seats ∙ st.untold ∙ sym untold;
   group = subst (λ (x : QueueArgs). IsGroupOf x (moved (Restart k op) q.group) new.group) (sym args) group;
   synced = λ i t up.
       ap (λ (f : ℕ → ℕ). f i) (cond-true (may_restart k op q.group) (put k op q.synced) q.synced may)

@@ -1,9 +1,8 @@
 -- What an event makes of a queue that its code stands for.
-use Rattle.std.proofs.Common.{◌≡◌, ℕ, zero, suc, ◌-◌, ◌<◌, List, [], ◌∷◌, ◌++◌, length, drop, map, Option, Some, None, refl, sym, ap, subst, ◌∙◌, arith}
+use Rattle.std.proofs.Common.{◌≡◌, ℕ, zero, suc, ◌-◌, ◌<◌, List, [], ◌∷◌, ◌++◌, length, drop, Option, Some, None, refl, sym, ap, subst, ◌∙◌, append-nil, arith}
 use Rattle.std.specs.Prelude.{nat_le, slice_get}
 use Rattle.std.proofs.lemmas.Bool.{cond_both}
 use Rattle.std.proofs.lemmas.Option.{none-some}
-use Rattle.qq_consuming.specs.Consuming.{Received}
 use Rattle.qq_entry.specs.declared.audit.AuditRow.{AuditRow}
 use Rattle.qq_entry.specs.declared.audit.Effect.{Effect}
 use Rattle.qq_entry.specs.declared.queue.QueueArgs.{QueueArgs}
@@ -17,14 +16,19 @@ use Rattle.qq_raft.specs.declared.row.AppliedRow.{AppliedRow}
 use Rattle.qq_group.specs.Group.{Represents, server_at}
 use Rattle.qq_group.specs.Reads.{receiver_of}
 use Rattle.qq_session.specs.Clients.{Clients, hear_all, printed}
-use Rattle.qq_session.specs.Shown.{Answered, Shown}
-use Rattle.qq_cluster.specs.Delivering.{come_all, show_all}
-use Rattle.qq_cluster.specs.Queue.{Queue, Event, Copies, Delivers, Loses, Notices, acts, effects_shown, effects_told, group_then, happens, known, moves, receiver_by, rows_told, said, stepping, synced_after, told}
-use Rattle.qq_cluster_queue.specs.ClusterQueue.{Becomes, Stands, count_at, text_as}
+use Rattle.qq_taker.specs.declared.handed.Handed.{Handed}
+use Rattle.qq_taker.specs.declared.seats.Seat.{Seat}
+use Rattle.qq_cluster.specs.Delivering.{come_all, hand_all}
+use Rattle.qq_cluster.specs.Outcome.{Outcome}
+use Rattle.qq_cluster.specs.Taking.{answers, delivered, seated, told_then, waiting_then}
+use Rattle.qq_cluster.specs.Queue.{Queue, Event, Copies, Delivers, Loses, Notices, acts, effects_shown, effects_told, group_then, handed_out, happens, known, moves, receiver_by, rows_told, said, seats_after, stepping, synced_after, told, untold_after}
+use Rattle.qq_cluster_queue.specs.ClusterQueue.{Becomes, Shows, Stands, count_at}
+use Rattle.qq_cluster_queue.specs.Telling.{show_all}
 use Rattle.qq_cluster_queue.specs.Members.{AreTold, IsGroupOf, Makes, Member, Members, StayDown, audit_rows_of, effects_in, move_at, number_of, own_log}
 use Rattle.qq_cluster_queue.specs.Sessions.{Standings, clients_of, numbers_of}
 use Rattle.qq_cluster_queue.specs.declared.cluster_queue.ClusterQueue.{ClusterQueue}
 use Rattle.qq_cluster_queue.proofs.Members.{raft_of, seat-is}
+use Rattle.qq_cluster_queue.proofs.Showing.{shows-of}
 
 -- ---- any event that syncs and finds nothing
 
@@ -37,20 +41,49 @@ was-up old new stay k t up = by (server_at k old) refl
     by None is = absurd (none-some t (sym (stay k is) ∙ up))
     by (Some s) is = (s, is)
 
+-- who has a taker then, and what waits
+pub record HasTakers (q : Queue) (event : Event) (new : ClusterQueue) : Type 0 where
+  pub seats : seats_after q event ≡ new.seats
+  pub untold : untold_after q event ≡ new.untold
+
 pub stands-then : (sessions : Standings) (old new : ClusterQueue) (q : Queue) (event : Event) → Stands sessions old q
     → IsGroupOf old.args (group_then q event) new.group × StayDown old.group new.group → new.args ≡ old.args
     → (happens q event).clients ≡ clients_of sessions (numbers_of new.publishers)
-    → (happens q event).consumers ≡ new.consumers → new.synced ≡ old.synced
+    → (happens q event).consumers ≡ new.consumers → HasTakers q event new → new.synced ≡ old.synced
     → synced_after q event ≡ q.synced → Stands sessions new (happens q event)
-stands-then sessions old new q event st group args clients consumers synced same = record {
+stands-then sessions old new q event st group args clients consumers takers synced same = record {
   args = st.args ∙ sym args;
   clients = clients;
   consumers = consumers;
+  seats = takers.seats;
+  untold = takers.untold;
   group = subst (λ (a : QueueArgs). IsGroupOf a (group_then q event) new.group) (sym args) group.0;
   synced = λ k t up.
       let s = was-up old.group new.group group.1 k t up in
       ap (λ (f : ℕ → ℕ). f k) same ∙ st.synced k s.0 s.1
       ∙ ap (λ (c : _). count_at c.each k) (sym synced);
+}
+
+-- ---- events at which nothing is answered or handed out
+
+pub waits-nothing : (waiting : List Handed) (seats : List Seat) → waiting_then waiting seats [] ≡ waiting
+waits-nothing [] seats = refl
+waits-nothing (h ∷ more) seats = ap (λ (l : List Handed). h ∷ l) (append-nil more)
+
+pub tells-nothing : (waiting : List Handed) (seats : List Seat) → delivered (told_then waiting seats []) ≡ []
+tells-nothing [] seats = refl
+tells-nothing (h ∷ more) seats = refl
+
+-- takers stay as they are
+pub record KeepsTakers (q : Queue) (event : Event) : Type 0 where
+  pub seats : seats_after q event ≡ q.seats
+  pub untold : untold_after q event ≡ q.untold
+
+pub keeps-takers : (sessions : Standings) (old new : ClusterQueue) (q : Queue) (event : Event) → Stands sessions old q
+    → KeepsTakers q event → new.seats ≡ old.seats → new.untold ≡ old.untold → HasTakers q event new
+keeps-takers sessions old new q event st keeps seats untold = record {
+  seats = keeps.seats ∙ st.seats ∙ sym seats;
+  untold = keeps.untold ∙ st.untold ∙ sym untold;
 }
 
 -- ---- events that show nothing, and that no client hears
@@ -60,20 +93,23 @@ pub record IsPlain (event : Event) (made : List Move) : Type 0 where
   pub moves_are : (q : Queue) → moves q event ≡ made
   pub clients_are : (q : Queue) → (happens q event).clients ≡ q.clients
   pub consumers_are : (q : Queue) → (happens q event).consumers ≡ q.consumers
+  pub takers_are : (q : Queue) → KeepsTakers q event
   pub synced_is : (q : Queue) → synced_after q event ≡ q.synced
   pub silent : (q : Queue) → said q event ≡ []
 
 pub plain-becomes : (event : Event) (made : List Move) (old new : ClusterQueue) → IsPlain event made
     → Makes made old.group new.group → new.args ≡ old.args → new.publishers ≡ old.publishers
-    → new.consumers ≡ old.consumers → new.synced ≡ old.synced → Becomes event old new
-plain-becomes event made old new plain makes args publishers consumers synced = λ sessions q st.
+    → new.consumers ≡ old.consumers → new.seats ≡ old.seats → new.untold ≡ old.untold → new.synced ≡ old.synced
+    → Becomes event old new
+plain-becomes event made old new plain makes args publishers consumers seats untold synced = λ sessions q st.
     let group = makes old.args q.group st.group in (
       stands-then sessions old new q event st (
         subst (λ (l : List Move). IsGroupOf old.args (group_after q.group l) new.group) (sym (plain.moves_are q)) group.0,
         group.1,
       ) args
           (plain.clients_are q ∙ st.clients ∙ ap (λ (p : _). clients_of sessions (numbers_of p)) (sym publishers))
-          (plain.consumers_are q ∙ st.consumers ∙ sym consumers) synced (plain.synced_is q),
+          (plain.consumers_are q ∙ st.consumers ∙ sym consumers)
+          (keeps-takers sessions old new q event st (plain.takers_are q) seats untold) synced (plain.synced_is q),
       plain.silent q,
     )
 
@@ -86,8 +122,9 @@ lose-plain (suc at) positive =
       moves_are = λ q. refl;
       clients_are = λ q. refl;
       consumers_are = λ q. refl;
+      takers_are = λ q. record { seats = refl; untold = waits-nothing q.untold q.seats };
       synced_is = λ q. refl;
-      silent = λ q. refl;
+      silent = λ q. tells-nothing q.untold q.seats;
     })
 
 pub copy-plain : (place : ℕ) → 0 < place → IsPlain (Copies (place - 1)) (move_at Copy place)
@@ -99,8 +136,9 @@ copy-plain (suc at) positive =
       moves_are = λ q. refl;
       clients_are = λ q. refl;
       consumers_are = λ q. refl;
+      takers_are = λ q. record { seats = refl; untold = waits-nothing q.untold q.seats };
       synced_is = λ q. refl;
-      silent = λ q. refl;
+      silent = λ q. tells-nothing q.untold q.seats;
     })
 
 -- ---- events that tell
@@ -112,6 +150,8 @@ pub record IsTelling (event : Event) (q : Queue) (made : List Move) (k : Option 
   pub acts_none : acts event q.clients ≡ q.clients
   pub known_none : known q.clients event q.consumers ≡ q.consumers
   pub shown_is : effects_shown q event ≡ effects_told q event
+  pub seats_is : seats_after q event ≡ seated q.seats (printed (rows_told q event) q.clients)
+  pub untold_is : untold_after q event ≡ waiting_then q.untold (seats_after q event) (handed_out q event)
   pub synced_is : synced_after q event ≡ q.synced
   pub says : said q event ≡ told q event
 
@@ -124,28 +164,45 @@ rows-are sessions old q event made k rows st t a =
     (subst (λ (j : Option ℕ). AreTold j old.args q.group (group_then q event) rows) (sym t.member)
     (subst (λ (h : GroupState). AreTold k old.args q.group h rows) (sym t.group_is) a))
 
+-- what a member tells, by the rows that the code was given
+pub record HasTold (own : Clients) (rows : List AppliedRow) (old new : ClusterQueue) (before after : Outcome) : Type 0
+  where
+    pub came : new.consumers ≡ come_all own (effects_in rows) old.consumers
+    pub seats : new.seats ≡ seated old.seats (printed (audit_rows_of rows) own)
+    pub untold : new.untold ≡ waiting_then old.untold new.seats (hand_all own (effects_in rows) old.consumers)
+    pub said : after ≡ show_all old.label (answers old.seats (printed (audit_rows_of rows) own)
+        ++ delivered (told_then old.untold new.seats (hand_all own (effects_in rows) old.consumers))) before
+
 pub telling-does : (sessions : Standings) (old new : ClusterQueue) (q : Queue) (event : Event) (made : List Move)
-    (k : Option ℕ) (rows slice : List AppliedRow) (before after : List ℕ) → Stands sessions old q
+    (k : Option ℕ) (rows slice : List AppliedRow) (before after : Outcome) → Stands sessions old q
     → IsTelling event q made k → Makes made old.group new.group → slice ≡ rows
     → AreTold k old.args q.group (group_after q.group made) rows → new.args ≡ old.args → new.synced ≡ old.synced
     → clients_of sessions (numbers_of new.publishers)
     ≡ hear_all (audit_rows_of slice) (clients_of sessions (numbers_of old.publishers))
-    → new.consumers ≡ come_all (clients_of sessions (numbers_of old.publishers)) (effects_in slice) old.consumers
-    → after ≡ before ++ text_as old
-    (map Answered (printed (audit_rows_of slice) (clients_of sessions (numbers_of old.publishers)))
-    ++ show_all (clients_of sessions (numbers_of old.publishers)) (effects_in slice) old.consumers)
-    → Stands sessions new (happens q event) × (after ≡ before ++ text_as old (said q event))
-telling-does sessions old new q event made k rows slice before after st t makes is a args synced heard came said' =
+    → HasTold (clients_of sessions (numbers_of old.publishers)) slice old new before after
+    → Stands sessions new (happens q event) × Shows old (said q event) before after
+telling-does sessions old new q event made k rows slice before after st t makes is a args synced heard told' =
     let group = makes old.args q.group st.group in
     let rows' : AreTold (stepping q event) q.args q.group (group_then q event) rows =
     rows-are sessions old q event made k rows st t a in
     let own : Clients = clients_of sessions (numbers_of old.publishers) in
-    let answers : List AuditRow → List Shown = λ l. map Answered (printed l own) in
-    let all : List AppliedRow → List ℕ = λ l. before ++ text_as old
-    (answers (audit_rows_of l) ++ show_all own (effects_in l) old.consumers) in
-    let effects : effects_in slice ≡ effects_shown q event =
-    ap effects_in is ∙ rows'.effects_are ∙ sym t.shown_is in
-    let known' : known q.clients event q.consumers ≡ old.consumers = t.known_none ∙ st.consumers in (
+    let effects : effects_shown q event ≡ effects_in slice =
+    t.shown_is ∙ sym rows'.effects_are ∙ ap effects_in (sym is) in
+    let known' : known q.clients event q.consumers ≡ old.consumers = t.known_none ∙ st.consumers in
+    let answered : printed (rows_told q event) q.clients ≡ printed (audit_rows_of slice) own =
+    ap (printed (rows_told q event)) st.clients
+    ∙ ap (λ (l : List AuditRow). printed l own) (sym rows'.rows_are ∙ ap audit_rows_of (sym is)) in
+    let handed : handed_out q event ≡ hand_all own (effects_in slice) old.consumers =
+    ap (λ (c : Clients). hand_all c (effects_shown q event) (known q.clients event q.consumers)) st.clients
+    ∙ ap (λ (l : List Effect). hand_all own l (known q.clients event q.consumers)) effects
+    ∙ ap (hand_all own (effects_in slice)) known' in
+    let seats : seats_after q event ≡ new.seats =
+    t.seats_is ∙ ap (seated q.seats) answered
+    ∙ ap (λ (l : List Seat). seated l (printed (audit_rows_of slice) own)) st.seats ∙ sym told'.seats in
+    let untold : untold_after q event ≡ new.untold =
+    t.untold_is ∙ ap (λ (l : List Handed). waiting_then l (seats_after q event) (handed_out q event)) st.untold
+    ∙ ap (λ (l : List Seat). waiting_then old.untold l (handed_out q event)) seats
+    ∙ ap (waiting_then old.untold new.seats) handed ∙ sym told'.untold in (
       stands-then sessions old new q event st
           (subst (λ (h : GroupState). IsGroupOf old.args h new.group) (sym t.group_is) group.0, group.1) args
           (ap (hear_all (rows_told q event)) (t.acts_none ∙ st.clients)
@@ -153,18 +210,23 @@ telling-does sessions old new q event made k rows slice before after st t makes 
           ∙ ap (λ (l : List AppliedRow). hear_all (audit_rows_of l) own) (sym is) ∙ sym heard)
           (ap (λ (c : Clients). come_all c (effects_shown q event) (known q.clients event q.consumers)) st.clients
           ∙ ap (come_all own (effects_shown q event)) known'
-          ∙ ap (λ (l : List Effect). come_all own l old.consumers) (sym effects) ∙ sym came) synced t.synced_is,
-      said' ∙ ap all is
-          ∙ ap (λ (l : List AuditRow). before ++ text_as old
-          (answers l ++ show_all own (effects_in rows) old.consumers)) rows'.rows_are
-          ∙ ap (λ (l : List Effect). before ++ text_as old
-          (answers (rows_told q event) ++ show_all own l old.consumers))
-          (rows'.effects_are ∙ sym t.shown_is)
-          ∙ ap (λ (l : List Received). before ++ text_as old
-          (answers (rows_told q event) ++ show_all own (effects_shown q event) l)) (sym known')
-          ∙ ap (λ (c : Clients). before ++ text_as old (map Answered (printed (rows_told q event) c)
-          ++ show_all c (effects_shown q event) (known q.clients event q.consumers))) (sym st.clients)
-          ∙ ap (λ (l : List Shown). before ++ text_as old l) (sym t.says),
+          ∙ ap (λ (l : List Effect). come_all own l old.consumers) effects ∙ sym told'.came)
+          (record { seats = seats; untold = untold }) synced t.synced_is,
+      shows-of old (answers old.seats (printed (audit_rows_of slice) own)
+          ++ delivered (told_then old.untold new.seats (hand_all own (effects_in slice) old.consumers))) (said q event)
+          before after
+          (t.says
+          ∙ ap (λ (l : List AuditRow). answers q.seats l
+          ++ delivered (told_then q.untold (seats_after q event) (handed_out q event))) answered
+          ∙ ap (λ (l : List Seat). answers l (printed (audit_rows_of slice) own)
+          ++ delivered (told_then q.untold (seats_after q event) (handed_out q event))) st.seats
+          ∙ ap (λ (l : List Handed). answers old.seats (printed (audit_rows_of slice) own)
+          ++ delivered (told_then l (seats_after q event) (handed_out q event))) st.untold
+          ∙ ap (λ (l : List Seat). answers old.seats (printed (audit_rows_of slice) own)
+          ++ delivered (told_then old.untold l (handed_out q event))) seats
+          ∙ ap (λ (l : List Handed). answers old.seats (printed (audit_rows_of slice) own)
+          ++ delivered (told_then old.untold new.seats l)) handed)
+          told'.said,
     )
 
 -- ---- notices
@@ -198,6 +260,8 @@ notice-telling sessions old q k op st is = record {
   acts_none = refl;
   known_none = refl;
   shown_is = refl;
+  seats_is = refl;
+  untold_is = refl;
   synced_is = refl;
   says = refl;
 }
@@ -234,6 +298,8 @@ deliver-telling sessions old q (suc at) st positive =
       acts_none = refl;
       known_none = refl;
       shown_is = refl;
+      seats_is = refl;
+      untold_is = refl;
       synced_is = refl;
       says = refl;
     })

@@ -1,12 +1,9 @@
 -- What the clients hear of a row.
 use Rattle.std.proofs.Common.{◌≡◌, ℕ, Bool, true, false, cond, List, [], ◌∷◌, ◌++◌, map, Some, None, refl, sym, ap, ◌∙◌, append_assoc, append-nil}
 use Rattle.std.specs.Prelude.{nat_eq}
-use Rattle.std.specs.List.{flat_map}
 use Rattle.std.proofs.lemmas.Bool.{cond-true, cond-false}
-use Rattle.std.proofs.lemmas.Grind.{flat_map-append}
-use Rattle.std.proofs.lemmas.List.{map-append}
 use Rattle.indexmap.specs.IndexMap.{IndexMap, get}
-use Rattle.qq_base.specs.Fronts.{IsFront, put}
+use Rattle.qq_base.specs.Fronts.{put}
 use Rattle.qq_base.specs.Ids.{client}
 use Rattle.qq_base.specs.declared.ids.ConsumerId.{ConsumerId}
 use Rattle.qq_base.specs.declared.ids.QueueId.{QueueId}
@@ -20,8 +17,12 @@ use Rattle.qq_entry.specs.declared.audit.Effect.TheVariants.{Deliver, DeadOnce, 
 use Rattle.qq_script.specs.Text.{seq_of}
 use Rattle.qq_session.specs.Publishing.{Numbers, answer, closes, new_numbers}
 use Rattle.qq_session.specs.Clients.{Client, Clients, hear_all, hear_by, is_printed, printed, take_answer}
-use Rattle.qq_session.specs.Shown.{Answered, Delivered, Shown, is_delivered_to}
-use Rattle.qq_cluster.specs.Delivering.{come_all, comes, show_all, shows}
+use Rattle.qq_session.specs.Shown.{Answered, Shown, is_delivered_to}
+use Rattle.qq_taker.specs.declared.handed.Handed.{Handed}
+use Rattle.qq_taker.specs.declared.seats.Seat.{Seat}
+use Rattle.qq_cluster.specs.Delivering.{come_all, comes, hand_all, hands}
+use Rattle.qq_cluster.specs.Taking.{answers, dropped_by, leaving_at, seated, seated_by}
+use Rattle.qq_cluster_queue.specs.Waiting.{handed_to}
 use Rattle.qq_cluster_queue.specs.Sessions.{Standings, clients_of}
 use Rattle.qq_cluster_queue.proofs.Known.{absent-at, at, put-itself}
 use Rattle.qq_cluster_queue.proofs.Offering.{put-numbers}
@@ -80,22 +81,27 @@ absent-hears {S} sessions queue session m n numbers row loud none view same =
 
 -- ---- rows one after the other
 
--- what is shown of one row, and then of the others, is what is shown of all
-pub shown-then : (text : Shown → List ℕ) (before : List ℕ) (row : AuditRow) (rows : List AuditRow)
-    (clients next : Clients) → next ≡ hear_all (row ∷ []) clients
-    → (before ++ flat_map text (map Answered (printed (row ∷ []) clients)))
-    ++ flat_map text (map Answered (printed rows next))
-    ≡ before ++ flat_map text (map Answered (printed (row ∷ rows) clients))
-shown-then text before row rows clients next is =
+-- one row, and then the others
+pub printed-then : (row : AuditRow) (rows : List AuditRow) (clients next : Clients) → next ≡ hear_all (row ∷ []) clients
+    → printed (row ∷ rows) clients ≡ printed (row ∷ []) clients ++ printed rows next
+printed-then row rows clients next is =
     let own : List AuditRow = cond (is_printed clients row) (row ∷ []) [] in
-    let others : Clients → List AuditRow = λ all. printed rows all in
-    ap (λ (l : List AuditRow). (before ++ flat_map text (map Answered l))
-    ++ flat_map text (map Answered (others next))) (append-nil own)
-    ∙ append_assoc before (flat_map text (map Answered own)) (flat_map text (map Answered (others next)))
-    ∙ ap (λ (l : List ℕ). before ++ l)
-    (sym (flat_map-append text (map Answered own) (map Answered (others next)))
-    ∙ ap (flat_map text) (sym (map-append Answered own (others next)))
-    ∙ ap (λ (all : Clients). flat_map text (map Answered (own ++ others all))) is)
+    ap (λ (all : Clients). own ++ printed rows all) (sym is)
+    ∙ ap (λ (l : List AuditRow). l ++ printed rows next) (sym (append-nil own))
+
+pub seated-append : (first rest : List AuditRow) (seats : List Seat)
+    → seated seats (first ++ rest) ≡ seated (seated seats first) rest
+seated-append [] rest seats = refl
+seated-append (row ∷ first) rest seats = seated-append first rest (seated_by (leaving_at row) seats)
+
+pub answers-append : (first rest : List AuditRow) (seats : List Seat)
+    → answers seats (first ++ rest) ≡ answers seats first ++ answers (seated seats first) rest
+answers-append [] rest seats = refl
+answers-append (row ∷ first) rest seats =
+    let next : List Seat = seated_by (leaving_at row) seats in
+    ap (λ (l : List Shown). Answered row ∷ dropped_by (leaving_at row) seats ++ l) (answers-append first rest next)
+    ∙ ap (λ (l : List Shown). Answered row ∷ l)
+    (sym (append_assoc (dropped_by (leaving_at row) seats) (answers next first) (answers (seated next first) rest)))
 
 -- ---- effects one after the other
 
@@ -108,38 +114,18 @@ come-same sessions m n (Deliver consumer delivery ∷ effects) all =
 come-same sessions m n (DeadOnce reason letter ∷ effects) all = come-same sessions m n effects all
 come-same sessions m n (Offer number reason letter ∷ effects) all = come-same sessions m n effects all
 
-show-same : (sessions : Standings) (m n : ℕ → Numbers) (effects : List Effect) (all : List Received)
-    → show_all (clients_of sessions m) effects all ≡ show_all (clients_of sessions n) effects all
-show-same sessions m n [] all = refl
-show-same sessions m n (Deliver consumer delivery ∷ effects) all =
-    ap (λ (l : List Shown). shows (clients_of sessions m) (Deliver consumer delivery) all ++ l)
-    (show-same sessions m n effects (comes (clients_of sessions m) (Deliver consumer delivery) all))
-show-same sessions m n (DeadOnce reason letter ∷ effects) all = show-same sessions m n effects all
-show-same sessions m n (Offer number reason letter ∷ effects) all = show-same sessions m n effects all
+pub hand-same : (sessions : Standings) (m n : ℕ → Numbers) (effects : List Effect) (all : List Received)
+    → hand_all (clients_of sessions m) effects all ≡ hand_all (clients_of sessions n) effects all
+hand-same sessions m n [] all = refl
+hand-same sessions m n (Deliver consumer delivery ∷ effects) all =
+    ap (λ (l : List Handed). hands (clients_of sessions m) (Deliver consumer delivery) all ++ l)
+    (hand-same sessions m n effects (comes (clients_of sessions m) (Deliver consumer delivery) all))
+hand-same sessions m n (DeadOnce reason letter ∷ effects) all = hand-same sessions m n effects all
+hand-same sessions m n (Offer number reason letter ∷ effects) all = hand-same sessions m n effects all
 
 pub came-then : (sessions : Standings) (m n : ℕ → Numbers) (effects : List Effect) (old new : List Received)
     → new ≡ come_all (clients_of sessions m) effects old → new ≡ come_all (clients_of sessions n) effects old
 came-then sessions m n effects old new is = is ∙ come-same sessions m n effects old
-
--- a text that grew by what is shown, for the same numbers
-pub shown-same : (text : Shown → List ℕ) (sessions : Standings) (m n : ℕ → Numbers) (before after : List ℕ)
-    (effects : List Effect) (all : List Received)
-    → after ≡ before ++ flat_map text (show_all (clients_of sessions m) effects all)
-    → after ≡ before ++ flat_map text (show_all (clients_of sessions n) effects all)
-shown-same text sessions m n before after effects all is =
-    is ∙ ap (λ (l : List Shown). before ++ flat_map text l) (show-same sessions m n effects all)
-
--- answers, and then deliveries
-pub told-then : (text : Shown → List ℕ) (sessions : Standings) (m n : ℕ → Numbers) (before mid after : List ℕ)
-    (answers : List Shown) (effects : List Effect) (all : List Received) → mid ≡ before ++ flat_map text answers
-    → after ≡ mid ++ flat_map text (show_all (clients_of sessions m) effects all)
-    → after ≡ before ++ flat_map text (answers ++ show_all (clients_of sessions n) effects all)
-told-then text sessions m n before mid after answers effects all first second =
-    let shown : List Shown = show_all (clients_of sessions m) effects all in
-    second ∙ ap (λ (l : List ℕ). l ++ flat_map text shown) first
-    ∙ append_assoc before (flat_map text answers) (flat_map text shown)
-    ∙ ap (λ (l : List ℕ). before ++ l) (sym (flat_map-append text answers shown)
-    ∙ ap (λ (l : List Shown). flat_map text (answers ++ l)) (show-same sessions m n effects all))
 
 -- some effects, and then the others
 pub come-append : (clients : Clients) (first rest : List Effect) (all : List Received)
@@ -147,41 +133,14 @@ pub come-append : (clients : Clients) (first rest : List Effect) (all : List Rec
 come-append clients [] rest all = refl
 come-append clients (effect ∷ first) rest all = come-append clients first rest (comes clients effect all)
 
-show-append : (clients : Clients) (first rest : List Effect) (all : List Received)
-    → show_all clients (first ++ rest) all
-    ≡ show_all clients first all ++ show_all clients rest (come_all clients first all)
-show-append clients [] rest all = refl
-show-append clients (effect ∷ first) rest all =
-    ap (λ (l : List Shown). shows clients effect all ++ l) (show-append clients first rest (comes clients effect all))
-    ∙ sym (append_assoc (shows clients effect all) (show_all clients first (comes clients effect all))
-    (show_all clients rest (come_all clients first (comes clients effect all))))
-
--- what a text grew by, once and then again
-pub grown-then : (text : Shown → List ℕ) (before : List ℕ) (first rest : List Shown)
-    → (before ++ flat_map text first) ++ flat_map text rest ≡ before ++ flat_map text (first ++ rest)
-grown-then text before first rest =
-    append_assoc before (flat_map text first) (flat_map text rest)
-    ∙ ap (λ (l : List ℕ). before ++ l) (sym (flat_map-append text first rest))
-
-pub grown-front : (before after more : List ℕ) → after ≡ before ++ more → IsFront before after
-grown-front before after more is = record { rest = more; is = is }
-
-pub effects-then : (text : Shown → List ℕ) (clients : Clients) (before : List ℕ) (first rest : List Effect)
-    (all next : List Received) → next ≡ come_all clients first all
-    → (before ++ flat_map text (show_all clients first all)) ++ flat_map text (show_all clients rest next)
-    ≡ before ++ flat_map text (show_all clients (first ++ rest) all)
-effects-then text clients before first rest all next is =
-    grown-then text before (show_all clients first all) (show_all clients rest next)
-    ∙ ap (λ (l : List Received). before ++ flat_map text (show_all clients first all ++ show_all clients rest l)) is
-    ∙ ap (λ (l : List Shown). before ++ flat_map text l) (sym (show-append clients first rest all))
-
-pub effect-then : (text : Shown → List ℕ) (clients : Clients) (before : List ℕ) (effect : Effect) (rest : List Effect)
-    (all next : List Received) → next ≡ comes clients effect all
-    → (before ++ flat_map text (shows clients effect all)) ++ flat_map text (show_all clients rest next)
-    ≡ before ++ flat_map text (show_all clients (effect ∷ rest) all)
-effect-then text clients before effect rest all next is =
-    grown-then text before (shows clients effect all) (show_all clients rest next)
-    ∙ ap (λ (l : List Received). before ++ flat_map text (shows clients effect all ++ show_all clients rest l)) is
+pub hand-append : (clients : Clients) (first rest : List Effect) (all : List Received)
+    → hand_all clients (first ++ rest) all
+    ≡ hand_all clients first all ++ hand_all clients rest (come_all clients first all)
+hand-append clients [] rest all = refl
+hand-append clients (effect ∷ first) rest all =
+    ap (λ (l : List Handed). hands clients effect all ++ l) (hand-append clients first rest (comes clients effect all))
+    ∙ sym (append_assoc (hands clients effect all) (hand_all clients first (comes clients effect all))
+    (hand_all clients rest (come_all clients first (comes clients effect all))))
 
 -- a delivery to a session that gets it
 pub comes-here : (sessions : Standings) (consumer : ConsumerId) (delivery : Delivery) (here : Bool)
@@ -192,14 +151,14 @@ comes-here sessions consumer delivery here is own numbers all =
     cond-true (is_delivered_to (clients_of sessions numbers) consumer.session) (come consumer delivery all) all
     (sym (is numbers) ∙ own)
 
-pub shows-here : (sessions : Standings) (consumer : ConsumerId) (delivery : Delivery) (here : Bool)
+pub hands-here : (sessions : Standings) (consumer : ConsumerId) (delivery : Delivery) (here : Bool)
     → ((numbers : ℕ → Numbers) → here ≡ is_delivered_to (clients_of sessions numbers) consumer.session)
     → here ≡ true → (numbers : ℕ → Numbers) (all : List Received)
-    → shows (clients_of sessions numbers) (Deliver consumer delivery) all
-    ≡ map (Delivered consumer) (taken consumer delivery all)
-shows-here sessions consumer delivery here is own numbers all =
+    → hands (clients_of sessions numbers) (Deliver consumer delivery) all
+    ≡ map (handed_to consumer) (taken consumer delivery all)
+hands-here sessions consumer delivery here is own numbers all =
     cond-true (is_delivered_to (clients_of sessions numbers) consumer.session)
-    (map (Delivered consumer) (taken consumer delivery all)) [] (sym (is numbers) ∙ own)
+    (map (handed_to consumer) (taken consumer delivery all)) [] (sym (is numbers) ∙ own)
 
 -- and to another
 pub comes-away : (sessions : Standings) (consumer : ConsumerId) (delivery : Delivery) (here : Bool)
@@ -210,10 +169,10 @@ comes-away sessions consumer delivery here is away numbers all =
     cond-false (is_delivered_to (clients_of sessions numbers) consumer.session) (come consumer delivery all) all
     (sym (is numbers) ∙ away)
 
-pub shows-away : (sessions : Standings) (consumer : ConsumerId) (delivery : Delivery) (here : Bool)
+pub hands-away : (sessions : Standings) (consumer : ConsumerId) (delivery : Delivery) (here : Bool)
     → ((numbers : ℕ → Numbers) → here ≡ is_delivered_to (clients_of sessions numbers) consumer.session)
     → here ≡ false → (numbers : ℕ → Numbers) (all : List Received)
-    → shows (clients_of sessions numbers) (Deliver consumer delivery) all ≡ []
-shows-away sessions consumer delivery here is away numbers all =
+    → hands (clients_of sessions numbers) (Deliver consumer delivery) all ≡ []
+hands-away sessions consumer delivery here is away numbers all =
     cond-false (is_delivered_to (clients_of sessions numbers) consumer.session)
-    (map (Delivered consumer) (taken consumer delivery all)) [] (sym (is numbers) ∙ away)
+    (map (handed_to consumer) (taken consumer delivery all)) [] (sym (is numbers) ∙ away)

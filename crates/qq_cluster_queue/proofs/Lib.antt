@@ -3,7 +3,10 @@ mod Auditing
 mod Rows
 mod Current
 mod Members
+mod Showing
+mod Waits
 mod Happening
+mod Verdicts
 pub mod Logs
 mod Offering
 mod Known

@@ -9,6 +9,7 @@ use Rattle.qq_session.specs.Clients.{Client}
 use Rattle.qq_cluster.specs.Queue.{Queue, Ends, Mutes, acts, happens, said}
 use Rattle.qq_cluster_queue.specs.ClusterQueue.{Stands}
 use Rattle.qq_cluster_queue.specs.Sessions.{Standings, clients_of, numbers_of, set_ended, set_muted}
+use Rattle.qq_cluster_queue.proofs.Happening.{tells-nothing, waits-nothing}
 use Rattle.qq_cluster_queue.specs.declared.cluster_queue.ClusterQueue.{ClusterQueue}
 use Rattle.qq_cluster_queue.specs.declared.sessions.Standing.{Standing}
 
@@ -35,10 +36,12 @@ mutes sessions session muted d q st = (
     clients = ap (acts (Mutes session muted)) st.clients
         ∙ put-standing sessions session (set_muted muted (sessions session)) (numbers_of d.publishers);
     consumers = st.consumers;
+    seats = st.seats;
+    untold = waits-nothing q.untold q.seats ∙ st.untold;
     group = st.group;
     synced = st.synced;
   },
-  refl,
+  tells-nothing q.untold q.seats,
 )
 
 pub ends : (sessions : Standings) (session : ℕ) (d : ClusterQueue) (q : Queue) → Stands sessions d q
@@ -51,8 +54,10 @@ ends sessions session d q st = (
     clients = ap (acts (Ends session)) st.clients
         ∙ put-standing sessions session (set_ended (sessions session)) (numbers_of d.publishers);
     consumers = st.consumers;
+    seats = st.seats;
+    untold = waits-nothing q.untold q.seats ∙ st.untold;
     group = st.group;
     synced = st.synced;
   },
-  refl,
+  tells-nothing q.untold q.seats,
 )

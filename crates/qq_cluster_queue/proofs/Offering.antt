@@ -1,7 +1,7 @@
 -- Commands that are offered to the leader.
 use Rattle.std.proofs.Common.{◌≡◌, ◌⊎◌, ℕ, ◌<◌, Bool, true, false, cond, List, [], ◌∷◌, ◌++◌, drop, length, Option, Some, None, refl, sym, ap, subst, ◌∙◌, inl, inr, arith, append-nil, append_assoc}
 use Rattle.std.specs.Prelude.{is_some, nat_eq, nat_lt}
-use Rattle.std.specs.List.{flat_map, fold}
+use Rattle.std.specs.List.{fold}
 use Rattle.std.proofs.Math.Path.{fun_ext}
 use Rattle.std.proofs.lemmas.Bool.{cases_Bool, cond-true, cond-false, eqb-true, le-ltb, lt-ltb}
 use Rattle.std.proofs.lemmas.Grind.{flat_map-append}
@@ -22,16 +22,20 @@ use Rattle.qq_consuming.specs.Consumers.{know_by}
 use Rattle.qq_consuming.specs.Consuming.{Received}
 use Rattle.qq_session.specs.Publishing.{Numbers, hand, next_command, open_commands}
 use Rattle.qq_session.specs.Clients.{Client, Clients, is_used, may_hand}
-use Rattle.qq_session.specs.Shown.{Shown, WindowFull, HasEnded, NotTaken, said_of}
+use Rattle.qq_session.specs.Shown.{WindowFull, HasEnded, NotTaken, said_of}
 use Rattle.qq_cluster.specs.Delivering.{learn}
+use Rattle.qq_cluster.specs.Outcome.{Outcome}
 use Rattle.qq_cluster.specs.Queue.{Queue, Event, Leading, Submits, Resends, Downs, TellsEnded, TellsNotTaken, acts, group_then, happens, has_leader, later, leader, leading, moves, node_of, offered, said, submit_to, submits, synced_after}
 use Rattle.qq_cluster.proofs.Groups.{group-append}
-use Rattle.qq_cluster_queue.specs.ClusterQueue.{HasRefused, IsOfferCaused, Stands, text_as}
+use Rattle.qq_cluster_queue.specs.ClusterQueue.{HasRefused, IsOfferCaused, Shows, Stands}
 use Rattle.qq_cluster_queue.specs.Members.{AreSound, IsGroupOf, Makes, Member, Members, number_of, own_log}
+use Rattle.qq_cluster_queue.specs.Telling.{show_all}
+use Rattle.qq_cluster_queue.specs.declared.label.Label.{Label}
 use Rattle.qq_cluster_queue.specs.Sessions.{Standings, clients_of, numbers_of}
 use Rattle.qq_cluster_queue.specs.declared.cluster_queue.ClusterQueue.{ClusterQueue}
 use Rattle.qq_cluster_queue.proofs.Members.{raft_of, seat-is}
-use Rattle.qq_cluster_queue.proofs.Happening.{stands-then}
+use Rattle.qq_cluster_queue.proofs.Happening.{KeepsTakers, keeps-takers, stands-then, waits-nothing}
+use Rattle.qq_cluster_queue.proofs.Showing.{shows-of}
 
 -- ---- the leader
 
@@ -154,22 +158,12 @@ submits-one o command = append-nil (submit_to o command)
 
 -- ---- what is said of commands
 
-said-more : (ready : Bool) (session : ℕ) (command : Command) (more : List Command)
-    → said_of ready session (command ∷ more) ≡ said_of ready session (command ∷ []) ++ said_of ready session more
-said-more true session command more = refl
-said-more false session command more = refl
-
 -- what one command says, and then the others, is what all say
-pub said-then : (text : Shown → List ℕ) (before : List ℕ) (ready : Bool) (session : ℕ) (command : Command)
-    (more : List Command)
-    → (before ++ flat_map text (said_of ready session (command ∷ []))) ++ flat_map text (said_of ready session more)
-    ≡ before ++ flat_map text (said_of ready session (command ∷ more))
-said-then text before ready session command more =
-    append_assoc before (flat_map text (said_of ready session (command ∷ [])))
-    (flat_map text (said_of ready session more))
-    ∙ ap (λ (l : List ℕ). before ++ l)
-    (sym (flat_map-append text (said_of ready session (command ∷ [])) (said_of ready session more))
-    ∙ ap (flat_map text) (sym (said-more ready session command more)))
+pub said-then : (label : Label) (ready : Bool) (session : ℕ) (command : Command) (more : List Command) (o : Outcome)
+    → show_all label (said_of ready session more) (show_all label (said_of ready session (command ∷ [])) o)
+    ≡ show_all label (said_of ready session (command ∷ more)) o
+said-then label true session command more o = refl
+said-then label false session command more o = refl
 
 pub said-none : (ready : Bool) (session : ℕ) → said_of ready session [] ≡ []
 said-none true session = refl
@@ -180,19 +174,20 @@ said-none false session = refl
 -- an event offers these commands, and that is all that it is to the group
 pub record IsOffering (event : Event) (q : Queue) (session : ℕ) (given : List Command) : Type 0 where
   pub moves_are : moves q event ≡ submits (leader q.group) given
+  pub takers : KeepsTakers q event
   pub synced_is : synced_after q event ≡ q.synced
   pub says : said q event ≡ said_of (has_leader q) session given
 
 pub offering-does : (sessions : Standings) (old new : ClusterQueue) (q : Queue) (event : Event) (session : ℕ)
-    (given : List Command) (o : Option NodeId) (before after : List ℕ) → Stands sessions old q
+    (given : List Command) (o : Option NodeId) (before after : Outcome) → Stands sessions old q
     → IsOffering event q session given → o ≡ leader_of own_log old.group
     → Makes (submits (number_of o) given) old.group new.group → new.args ≡ old.args → new.synced ≡ old.synced
     → (happens q event).clients ≡ clients_of sessions (numbers_of new.publishers)
-    → (happens q event).consumers ≡ new.consumers
-    → after ≡ before ++ text_as old (said_of (is_some o) session given)
-    → Stands sessions new (happens q event) × (after ≡ before ++ text_as old (said q event))
+    → (happens q event).consumers ≡ new.consumers → new.seats ≡ old.seats → new.untold ≡ old.untold
+    → after ≡ show_all old.label (said_of (is_some o) session given) before
+    → Stands sessions new (happens q event) × Shows old (said q event) before after
 offering-does sessions old new q event session given o before after st f lead makes args synced clients consumers
-    said' =
+    seats untold said' =
     let group = makes old.args q.group st.group in
     let own : leader q.group ≡ number_of o =
     leader-is q.group old.group st.group.represents ∙ ap number_of (sym lead) in (
@@ -200,11 +195,9 @@ offering-does sessions old new q event session given o before after st f lead ma
         subst (λ (l : List Move). IsGroupOf old.args (group_after q.group l) new.group)
             (sym (f.moves_are ∙ ap (λ (x : Option ℕ). submits x given) own)) group.0,
         group.1,
-      ) args clients consumers synced f.synced_is,
-      said'
-          ∙ ap (λ (b : Bool). before ++ text_as old (said_of b session given))
-          (sym (ap is_some own ∙ number-some o))
-          ∙ ap (λ (l : List Shown). before ++ text_as old l) (sym f.says),
+      ) args clients consumers (keeps-takers sessions old new q event st f.takers seats untold) synced f.synced_is,
+      shows-of old (said_of (is_some o) session given) (said q event) before after
+          (f.says ∙ ap (λ (b : Bool). said_of b session given) (ap is_some own ∙ number-some o)) said',
     )
 
 -- ---- a command with the next number
@@ -239,6 +232,7 @@ submit-offers sessions d q session body st room =
     ∙ cond-true (may_hand (numbers_of d.publishers session)) (command ∷ []) [] room in
     record {
       moves_are = ap (submits (leader q.group)) given;
+      takers = record { seats = refl; untold = waits-nothing q.untold q.seats };
       synced_is = refl;
       says = cond-true (may_hand (q.clients session).numbers)
           (said_of (has_leader q) session (offered q.clients (Submits session body))) (WindowFull session ∷ [])
@@ -274,19 +268,21 @@ pub record IsIdle (event : Event) (q : Queue) : Type 0 where
   pub moves_are : moves q event ≡ []
   pub clients_are : (happens q event).clients ≡ q.clients
   pub consumers_are : (happens q event).consumers ≡ q.consumers
+  pub takers : KeepsTakers q event
   pub synced_is : synced_after q event ≡ q.synced
 
 pub idle-stands : (sessions : Standings) (old new : ClusterQueue) (q : Queue) (event : Event) → Stands sessions old q
     → IsIdle event q → new.args ≡ old.args → new.group ≡ old.group → new.synced ≡ old.synced
-    → numbers_of new.publishers ≡ numbers_of old.publishers → new.consumers ≡ old.consumers
-    → Stands sessions new (happens q event)
-idle-stands sessions old new q event st f args group synced numbers consumers =
+    → numbers_of new.publishers ≡ numbers_of old.publishers → new.consumers ≡ old.consumers → new.seats ≡ old.seats
+    → new.untold ≡ old.untold → Stands sessions new (happens q event)
+idle-stands sessions old new q event st f args group synced numbers consumers seats untold =
     stands-then sessions old new q event st (
       subst (λ (x : Members). IsGroupOf old.args (group_then q event) x) (sym group)
           (subst (λ (l : List Move). IsGroupOf old.args (group_after q.group l) old.group) (sym f.moves_are) st.group),
       λ k down. ap (λ (x : Members). server_at k x) group ∙ down,
     ) args (f.clients_are ∙ st.clients ∙ ap (clients_of sessions) (sym numbers))
-    (f.consumers_are ∙ st.consumers ∙ sym consumers) synced f.synced_is
+    (f.consumers_are ∙ st.consumers ∙ sym consumers)
+    (keeps-takers sessions old new q event st f.takers seats untold) synced f.synced_is
 
 pub full-idle : (sessions : Standings) (d : ClusterQueue) (q : Queue) (session : ℕ) (body : Unstamped)
     → Stands sessions d q → may_hand (numbers_of d.publishers session) ≡ false
@@ -301,6 +297,7 @@ full-idle sessions d q session body st full =
         clients_are = cond-false (may_hand numbers)
             (put session (record (q.clients session) { numbers = hand body numbers }) q.clients) q.clients own;
         consumers_are = cond-false (may_hand numbers) (know_by (client session) body q.consumers) q.consumers own;
+        takers = record { seats = refl; untold = waits-nothing q.untold q.seats };
         synced_is = refl;
       },
       cond-false (may_hand numbers) (said_of (has_leader q) session (offered q.clients (Submits session body)))
@@ -311,6 +308,7 @@ pub resend-offers : (sessions : Standings) (d : ClusterQueue) (q : Queue) (sessi
     → IsOffering (Resends session) q session (open_commands (numbers_of d.publishers session))
 resend-offers sessions d q session st = record {
   moves_are = ap (λ (c : Clients). submits (leader q.group) (offered c (Resends session))) st.clients;
+  takers = record { seats = refl; untold = waits-nothing q.untold q.seats };
   synced_is = refl;
   says = ap (λ (c : Clients). said_of (has_leader q) session (offered c (Resends session))) st.clients;
 }
@@ -324,6 +322,7 @@ down-offers sessions d q session st used =
     ∙ cond-true (is_used (numbers_of d.publishers session)) (commands.Down (client session) ∷ []) [] used in
     record {
       moves_are = ap (submits (leader q.group)) given;
+      takers = record { seats = refl; untold = waits-nothing q.untold q.seats };
       synced_is = refl;
       says = ap (said_of (has_leader q) session) given;
     }
@@ -339,6 +338,7 @@ unused-idle sessions d q session st unused =
         moves_are = ap (submits (leader q.group)) given;
         clients_are = refl;
         consumers_are = refl;
+        takers = record { seats = refl; untold = waits-nothing q.untold q.seats };
         synced_is = refl;
       },
       ap (said_of (has_leader q) session) given ∙ said-none (has_leader q) session,
@@ -356,113 +356,127 @@ one-makes o command old new makes args g it =
 
 -- a command was given the next number and offered
 pub submit-does : (sessions : Standings) (old new : ClusterQueue) (q : Queue) (session : ℕ) (body : Unstamped)
-    (command : Command) (o : Option NodeId) (before after : List ℕ) → Stands sessions old q
+    (command : Command) (o : Option NodeId) (before after : Outcome) → Stands sessions old q
     → length (numbers_of old.publishers session).opened < WINDOW
     → command ≡ next_command body (numbers_of old.publishers session) → o ≡ leader_of own_log old.group
     → Makes (submit_to (number_of o) command) old.group new.group → new.args ≡ old.args → new.synced ≡ old.synced
     → numbers_of new.publishers
     ≡ put session (hand body (numbers_of old.publishers session)) (numbers_of old.publishers)
     → new.consumers ≡ cond (may_hand (numbers_of old.publishers session))
-    (know_by (client session) body old.consumers) old.consumers
-    → after ≡ before ++ text_as old (said_of (is_some o) session (command ∷ []))
+    (know_by (client session) body old.consumers) old.consumers → new.seats ≡ old.seats → new.untold ≡ old.untold
+    → after ≡ show_all old.label (said_of (is_some o) session (command ∷ [])) before
     → Stands sessions new (happens q (Submits session body))
-    × (after ≡ before ++ text_as old (said q (Submits session body)))
+    × Shows old (said q (Submits session body)) before after
 submit-does sessions old new q session body command o before after st less is lead makes args synced numbers knows
-    said' =
+    seats untold said' =
     let room : may_hand (numbers_of old.publishers session) ≡ true =
     lt-ltb (length (numbers_of old.publishers session).opened) WINDOW less in
     offering-does sessions old new q (Submits session body) session (command ∷ []) o before after st
     (subst (λ (x : Command). IsOffering (Submits session body) q session (x ∷ [])) (sym is)
     (submit-offers sessions old q session body st room)) lead (one-makes o command old.group new.group makes) args
     synced (submit-clients sessions old q session body (numbers_of new.publishers) st room numbers)
-    (submit-consumers sessions old q session body new.consumers st knows) said'
+    (submit-consumers sessions old q session body new.consumers st knows) seats untold said'
 
 -- the session's window is full
 pub full-does : (sessions : Standings) (old new : ClusterQueue) (q : Queue) (session : ℕ) (body : Unstamped)
-    (before after : List ℕ) → Stands sessions old q → length (numbers_of old.publishers session).opened ≡ WINDOW
+    (before after : Outcome) → Stands sessions old q → length (numbers_of old.publishers session).opened ≡ WINDOW
     → new.args ≡ old.args → new.group ≡ old.group → new.synced ≡ old.synced
     → numbers_of new.publishers ≡ numbers_of old.publishers
     → new.consumers ≡ cond (may_hand (numbers_of old.publishers session))
-    (know_by (client session) body old.consumers) old.consumers
-    → after ≡ before ++ text_as old (WindowFull session ∷ [])
+    (know_by (client session) body old.consumers) old.consumers → new.seats ≡ old.seats → new.untold ≡ old.untold
+    → after ≡ show_all old.label (WindowFull session ∷ []) before
     → Stands sessions new (happens q (Submits session body))
-    × (after ≡ before ++ text_as old (said q (Submits session body)))
-full-does sessions old new q session body before after st is args group synced numbers consumers said' =
+    × Shows old (said q (Submits session body)) before after
+full-does sessions old new q session body before after st is args group synced numbers consumers seats untold
+    said' =
     let full : may_hand (numbers_of old.publishers session) ≡ false =
     le-ltb (length (numbers_of old.publishers session).opened) WINDOW (omega (arith, is)) in
     let idle = full-idle sessions old q session body st full in (
       idle-stands sessions old new q (Submits session body) st idle.0 args group synced numbers
           (consumers ∙ cond-false (may_hand (numbers_of old.publishers session))
-          (know_by (client session) body old.consumers) old.consumers full),
-      said' ∙ ap (λ (l : List Shown). before ++ text_as old l) (sym idle.1),
+          (know_by (client session) body old.consumers) old.consumers full) seats untold,
+      shows-of old (WindowFull session ∷ []) (said q (Submits session body)) before after idle.1 said',
     )
 
 -- a session that has ended is told so
-pub ended-does : (sessions : Standings) (old new : ClusterQueue) (q : Queue) (session : ℕ) (before after : List ℕ)
-    → Stands sessions old q → new ≡ old → after ≡ before ++ text_as old (HasEnded session ∷ [])
+pub ended-does : (sessions : Standings) (old new : ClusterQueue) (q : Queue) (session : ℕ) (before after : Outcome)
+    → Stands sessions old q → new ≡ old → after ≡ show_all old.label (HasEnded session ∷ []) before
     → Stands sessions new (happens q (TellsEnded session))
-    × (after ≡ before ++ text_as old (said q (TellsEnded session)))
+    × Shows old (said q (TellsEnded session)) before after
 ended-does sessions old new q session before after st same said' = (
   subst (λ (d : ClusterQueue). Stands sessions d (happens q (TellsEnded session))) (sym same)
       (idle-stands sessions old old q (TellsEnded session) st
-      (record { moves_are = refl; clients_are = refl; consumers_are = refl; synced_is = refl }) refl refl refl refl
-      refl),
-  said',
+      (record {
+        moves_are = refl;
+        clients_are = refl;
+        consumers_are = refl;
+        takers = record { seats = refl; untold = waits-nothing q.untold q.seats };
+        synced_is = refl;
+      }) refl refl refl refl refl refl refl),
+  shows-of old (HasEnded session ∷ []) (said q (TellsEnded session)) before after refl said',
 )
 
 -- and one whose command ends what wasn't handed out
-pub untaken-does : (sessions : Standings) (old new : ClusterQueue) (q : Queue) (session id : ℕ) (before after : List ℕ)
-    → Stands sessions old q → new ≡ old → after ≡ before ++ text_as old (NotTaken session id ∷ [])
+pub untaken-does : (sessions : Standings) (old new : ClusterQueue) (q : Queue) (session id : ℕ) (before after : Outcome)
+    → Stands sessions old q → new ≡ old → after ≡ show_all old.label (NotTaken session id ∷ []) before
     → Stands sessions new (happens q (TellsNotTaken session id))
-    × (after ≡ before ++ text_as old (said q (TellsNotTaken session id)))
+    × Shows old (said q (TellsNotTaken session id)) before after
 untaken-does sessions old new q session id before after st same said' = (
   subst (λ (d : ClusterQueue). Stands sessions d (happens q (TellsNotTaken session id))) (sym same)
       (idle-stands sessions old old q (TellsNotTaken session id) st
-      (record { moves_are = refl; clients_are = refl; consumers_are = refl; synced_is = refl }) refl refl refl refl
-      refl),
-  said',
+      (record {
+        moves_are = refl;
+        clients_are = refl;
+        consumers_are = refl;
+        takers = record { seats = refl; untold = waits-nothing q.untold q.seats };
+        synced_is = refl;
+      }) refl refl refl refl refl refl refl),
+  shows-of old (NotTaken session id ∷ []) (said q (TellsNotTaken session id)) before after refl said',
 )
 
 pub down-does : (sessions : Standings) (old new : ClusterQueue) (q : Queue) (session : ℕ) (command : Command)
-    (o : Option NodeId) (before after : List ℕ) → Stands sessions old q
+    (o : Option NodeId) (before after : Outcome) → Stands sessions old q
     → is_used (numbers_of old.publishers session) ≡ true → command ≡ commands.Down (client session)
     → o ≡ leader_of own_log old.group → Makes (submit_to (number_of o) command) old.group new.group
     → new.args ≡ old.args → new.synced ≡ old.synced → new.publishers ≡ old.publishers → new.consumers ≡ old.consumers
-    → after ≡ before ++ text_as old (said_of (is_some o) session (command ∷ []))
+    → new.seats ≡ old.seats → new.untold ≡ old.untold
+    → after ≡ show_all old.label (said_of (is_some o) session (command ∷ [])) before
     → Stands sessions new (happens q (Downs session))
-    × (after ≡ before ++ text_as old (said q (Downs session)))
+    × Shows old (said q (Downs session)) before after
 down-does sessions old new q session command o before after st used is lead makes args synced publishers consumers
-    said' =
+    seats untold said' =
     offering-does sessions old new q (Downs session) session (command ∷ []) o before after st
     (subst (λ (x : Command). IsOffering (Downs session) q session (x ∷ [])) (sym is)
     (down-offers sessions old q session st used)) lead (one-makes o command old.group new.group makes) args synced
     (st.clients ∙ ap (λ (p : _). clients_of sessions (numbers_of p)) (sym publishers))
-    (st.consumers ∙ sym consumers) said'
+    (st.consumers ∙ sym consumers) seats untold said'
 
-pub unused-does : (sessions : Standings) (old new : ClusterQueue) (q : Queue) (session : ℕ) (before after : List ℕ)
+pub unused-does : (sessions : Standings) (old new : ClusterQueue) (q : Queue) (session : ℕ) (before after : Outcome)
     → Stands sessions old q → is_used (numbers_of old.publishers session) ≡ false → new ≡ old → after ≡ before
     → Stands sessions new (happens q (Downs session))
-    × (after ≡ before ++ text_as old (said q (Downs session)))
+    × Shows old (said q (Downs session)) before after
 unused-does sessions old new q session before after st unused same text =
     let idle = unused-idle sessions old q session st unused in (
       subst (λ (d : ClusterQueue). Stands sessions d (happens q (Downs session))) (sym same)
-          (idle-stands sessions old old q (Downs session) st idle.0 refl refl refl refl refl),
-      text ∙ sym (append-nil before) ∙ ap (λ (l : List Shown). before ++ text_as old l) (sym idle.1),
+          (idle-stands sessions old old q (Downs session) st idle.0 refl refl refl refl refl refl refl),
+      shows-of old [] (said q (Downs session)) before after idle.1 text,
     )
 
 pub resend-does : (sessions : Standings) (old new : ClusterQueue) (q : Queue) (session : ℕ) (given : List Command)
-    (o : Option NodeId) (before after : List ℕ) → Stands sessions old q
+    (o : Option NodeId) (before after : Outcome) → Stands sessions old q
     → given ≡ open_commands (numbers_of old.publishers session) → o ≡ leader_of own_log old.group
     → Makes (submits (number_of o) given) old.group new.group → new.args ≡ old.args → new.synced ≡ old.synced
     → new.publishers ≡ old.publishers → new.consumers ≡ old.consumers
-    → after ≡ before ++ text_as old (said_of (is_some o) session given)
+    → new.seats ≡ old.seats → new.untold ≡ old.untold
+    → after ≡ show_all old.label (said_of (is_some o) session given) before
     → Stands sessions new (happens q (Resends session))
-    × (after ≡ before ++ text_as old (said q (Resends session)))
-resend-does sessions old new q session given o before after st is lead makes args synced publishers consumers said' =
+    × Shows old (said q (Resends session)) before after
+resend-does sessions old new q session given o before after st is lead makes args synced publishers consumers seats
+    untold said' =
     offering-does sessions old new q (Resends session) session given o before after st
     (subst (IsOffering (Resends session) q session) (sym is) (resend-offers sessions old q session st)) lead makes args
     synced (st.clients ∙ ap (λ (p : _). clients_of sessions (numbers_of p)) (sym publishers))
-    (st.consumers ∙ sym consumers) said'
+    (st.consumers ∙ sym consumers) seats untold said'
 
 -- ---- commands that are sent again
 

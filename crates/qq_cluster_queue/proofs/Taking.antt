@@ -29,7 +29,7 @@ use Rattle.qq_cluster_queue.specs.Handing.{HandsOp, TakesOp}
 use Rattle.qq_cluster_queue.specs.Members.{AreSound, IsCurrent, IsGroupOf, Member, Members, StayDown, own_log, queue_stands, queue_step}
 use Rattle.qq_cluster_queue.specs.Sessions.{clients_of, numbers_of}
 use Rattle.qq_cluster_queue.specs.declared.cluster_queue.ClusterQueue.{ClusterQueue}
-use Rattle.qq_cluster_queue.proofs.Happening.{stands-then}
+use Rattle.qq_cluster_queue.proofs.Happening.{keeps-takers, stands-then, tells-nothing, waits-nothing}
 use Rattle.qq_cluster_queue.proofs.Members.{Follow, Reaches, group-then, one-current, one-down, raft_of, seat-is}
 
 -- ---- one op
@@ -312,6 +312,9 @@ module _ (k count taken : ℕ) (old new : ClusterQueue) (before later : List Op)
         ) h.same.args_is
             (st.clients ∙ ap (λ (d : ClusterQueue). clients_of sessions (numbers_of d.publishers)) (sym h.only))
             (st.consumers ∙ ap (λ (d : ClusterQueue). d.consumers) (sym h.only))
+            (keeps-takers sessions old new q (Writes k) st
+            (record { seats = refl; untold = waits-nothing q.untold q.seats })
+            (ap (λ (d : ClusterQueue). d.seats) h.only) (ap (λ (d : ClusterQueue). d.untold) h.only))
             (ap (λ (d : ClusterQueue). d.synced) h.only) refl,
-        refl,
+        tells-nothing q.untold q.seats,
       )

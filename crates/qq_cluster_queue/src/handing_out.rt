@@ -187,7 +187,10 @@ pub fn release_behind<T: Taker>(
     if waited > 0 {
         return Ok(());
     }
-    release(alloc, seats, untold, label, told)
+    if let Err(cause) = release(alloc, seats, untold, label, told) {
+        return Err(cause);
+    }
+    Ok(())
 }
 
 /// What was done comes to the sessions, one after the other, and what is handed out then is told, up to the first

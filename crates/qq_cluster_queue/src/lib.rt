@@ -1,5 +1,6 @@
-//! One queue of a cluster: the group of servers that replicates it, its clients' numbers and consumers with
-//! their takers, and how much of each node's log is synced of it. Whatever happens to it is an event of the definition of a queue (`qq_cluster`).
+//! One queue of a cluster: the group of servers that replicates it, its clients' numbers and consumers with their takers,
+//! and how much of each node's log is synced of it. Whatever happens to it is an event of the definition of a queue
+//! (`qq_cluster`).
 #![tactic(auto)]
 
 mod agreeing;

@@ -90,13 +90,15 @@ impl ClusterQueue {
         let group = down_group(alloc, &args, nodes)?;
         let publishers = Publishers::new(alloc, args.queue);
         let consumers = Consumers::new(alloc);
+        let seats = Seats::new(alloc);
+        let untold = Untold::new(alloc);
         Ok(ClusterQueue {
             label: Label { name, first },
             args,
             publishers,
             consumers,
-            seats: Seats::new(alloc),
-            untold: Untold::new(alloc),
+            seats,
+            untold,
             group,
             synced: Counts::new(),
             votes: Votes::new(),

@@ -89,7 +89,12 @@ impl ClusterQueue {
     }
 
     // A session is told that as many of its numbers are open as may be.
-    fn tell_full<T: Taker>(&self, alloc: Global, session: u64, told: &mut Told<T>) -> Result<(), Memory>
+    fn tell_full<T: Taker>(
+        &self,
+        alloc: Global,
+        session: u64,
+        told: &mut Told<T>,
+    ) -> Result<(), Memory>
         ensures ok { OnOk result (told.new ≡ show self.now.label (WindowFull session) told.old) }
         ensures err { OnErr result (told.new.text ≡ told.old.text) }
         ensures want { IsOkUnless result Memory.Want }
@@ -190,7 +195,12 @@ impl ClusterQueue {
 
     /// The queue is told that a session, numbered from 1, has ended, where it has given commands, and
     /// it is told where there is no leader. After an error the text begins with what it had.
-    pub fn down<T: Taker>(&mut self, alloc: Global, session: u64, told: &mut Told<T>) -> Result<(), Memory>
+    pub fn down<T: Taker>(
+        &mut self,
+        alloc: Global,
+        session: u64,
+        told: &mut Told<T>,
+    ) -> Result<(), Memory>
         requires sound { AreSound self.old.group }
         requires session { 0 < session }
 
@@ -219,7 +229,12 @@ impl ClusterQueue {
 
     /// A client sends its open commands again, and is told where there is no leader. After an error the text begins
     /// with what it had, and some of the commands may have reached the leader.
-    pub fn resend<T: Taker>(&mut self, alloc: Global, session: u64, told: &mut Told<T>) -> Result<(), Memory>
+    pub fn resend<T: Taker>(
+        &mut self,
+        alloc: Global,
+        session: u64,
+        told: &mut Told<T>,
+    ) -> Result<(), Memory>
         requires { AreSound self.old.group }
 
         ensures sound { AreSound self.new.group }

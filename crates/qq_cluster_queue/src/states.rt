@@ -46,12 +46,19 @@ fn push_state(line: &mut Vec<u8>, member: Option<MemberState>) -> Result<(), Mem
 impl ClusterQueue {
     /// The line of the state of the member on a node is told. The only error is `Memory::Want`, out of memory, after
     /// which all is as it was.
-    pub fn state_text<T: Taker>(&self, alloc: Global, node: NodeId, told: &mut Told<T>) -> Result<(), Memory>
+    pub fn state_text<T: Taker>(
+        &self,
+        alloc: Global,
+        node: NodeId,
+        told: &mut Told<T>,
+    ) -> Result<(), Memory>
         requires { AreSound self.now.group }
 
         ensures ok { OnOk result (OfItsQueue self.now (λ q. told.new
-            ≡ record told.old { text = told.old.text
-            ++ state_line self.now.label.name node.0 (q.group.seat node.0).server })) }
+            ≡ record told.old {
+              text = told.old.text
+                  ++ state_line self.now.label.name node.0 (q.group.seat node.0).server;
+            })) }
         ensures err { OnErr result (told.new ≡ told.old) }
         ensures want { IsOkUnless result Memory.Want }
     {

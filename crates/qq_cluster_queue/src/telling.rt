@@ -107,7 +107,15 @@ fn tell_rows<T: Taker>(
     ensures want { IsOkUnless result Memory.Want }
 {
     'rows: for applied in rows {
-        if let Err(cause) = tell_row(alloc, sessions, publishers, seats, &applied.row, label, told) {
+        if let Err(cause) = tell_row(
+            alloc,
+            sessions,
+            publishers,
+            seats,
+            &applied.row,
+            label,
+            told,
+        ) {
             return Err(cause);
         }
     }

@@ -119,7 +119,7 @@ impl<T: Taker> Told<T> {
         Ok(())
     }
 
-    /// A delivery to a consumer without a taker is told.
+    /// A delivery to a consumer without a taker is told, and who listens hears it first.
     pub(crate) fn delivered(
         &mut self,
         alloc: Global,
@@ -131,6 +131,7 @@ impl<T: Taker> Told<T> {
         ensures err { OnErr result (self.new.text ≡ self.old.text) }
         ensures want { IsOkUnless result Memory.Want }
     {
+        self.desk.hear(alloc, handed)?;
         label.delivered(alloc, handed.consumer, &handed.delivery, &mut self.text)?;
         Ok(())
     }
@@ -254,7 +255,12 @@ impl<T: Taker> Told<T> {
             None => return Err(Memory::Want),
         };
         words.push_str(verdict_text(verdict))?;
-        label.taken(alloc, handed.consumer.session, words.as_str(), &mut self.text)?;
+        label.taken(
+            alloc,
+            handed.consumer.session,
+            words.as_str(),
+            &mut self.text,
+        )?;
         Ok(verdict)
     }
 }

@@ -1,9 +1,8 @@
 //! The deliveries that were handed out and wait for a verdict.
-ghost use Rattle.std.specs.Prelude.{◌≡◌, ◌∷◌, ◌++◌, [], drop, false, length, map, slice_get, IfSome, IfNone, OnOk, OnErr, IsOkUnless};
-ghost use Rattle.std.specs.List.{option_to_list};
+ghost use Rattle.std.specs.Prelude.{◌≡◌, ◌∷◌, ◌++◌, [], drop, false, length, map, option_to_list, slice_get, IfSome, IfNone, OnOk, OnErr, IsOkUnless};
 ghost use Rattle.std.specs.Option.{option_copied};
 ghost use Rattle.qq_cluster.specs.Taking.{has_taker, told_of, waiting_of};
-ghost use Rattle.qq_cluster_queue.specs.Waiting.{handed_to};
+ghost use Rattle.qq_cluster_queue.specs.Waiting.{handed_to, is_plain};
 
 use qq_base::{ConsumerId, Memory};
 use qq_entry::Delivery;
@@ -51,9 +50,10 @@ impl Untold {
         self.rows.front()
     }
 
-    /// Takes the first one out.
-    pub fn pop(&mut self) -> Option<Handed>
-        ensures { self.old ≡ option_to_list result ++ self.new }
+    // Takes the first one out.
+    fn pop(&mut self) -> Option<Handed>
+        ensures items { self.old ≡ option_to_list result ++ self.new }
+        ensures none { IfNone result (self.old ≡ []) }
     {
         self.rows.pop_front()
     }
@@ -65,6 +65,17 @@ impl Untold {
         drop(self.rows.pop_front());
     }
 
+    // Whether there is a first one, and its consumer has no taker.
+    fn is_plain(&self, seats: &Seats) -> bool
+        ensures { result ≡ is_plain seats.now self.now }
+    {
+        let Some(first) = self.rows.front() else {
+            return false;
+        };
+        let taken = seats.taker_of(first.consumer).is_some();
+        !taken
+    }
+
     /// Takes the first one out, where its consumer has no taker.
     pub fn pop_plain(&mut self, seats: &Seats) -> Option<Handed>
         ensures some { IfSome result (λ h.
@@ -72,10 +83,8 @@ impl Untold {
         ensures none { IfNone result ((self.new ≡ self.old)
             × (told_of seats.now self.old ≡ []) × (waiting_of seats.now self.old ≡ self.old)) }
     {
-        let Some(first) = self.first() else {
-            return None;
-        };
-        if seats.taker_of(first.consumer).is_some() {
+        let plain = self.is_plain(seats);
+        if !plain {
             return None;
         }
         self.pop()

@@ -8,5 +8,6 @@ use Rattle.qq_cluster_queue.proofs.cluster_queue.ClusterQueue.copy.Goals as goal
 
 pub returns-clause-ok : goal.returns-clause-ok
 returns-clause-ok c =
-    plain-becomes (Copies (c.args.place - 1)) (move_at Copy c.args.place) c.args.self.now (record c.args.self.now { group = c.happen.new.group })
-    (copy-plain c.args.place c.requires.place) c.in_default.ensures.ok refl refl refl refl
+    plain-becomes (Copies (c.args.place - 1)) (move_at Copy c.args.place) c.args.self.now
+    (record c.args.self.now { group = c.happen.new.group })
+    (copy-plain c.args.place c.requires.place) c.in_default.ensures.ok refl refl refl refl refl refl

@@ -13,7 +13,7 @@ returns-clause-ok c = λ sessions q st unknown.
     let found = c.in_default.ensures.ok q.group st.group unknown in
     find-stands sessions c.args.self.now
     (record c.args.self.now { group = c.restart.new.group; synced = c.set.new.self; votes = c.set-2.new.self }) q
-    c.args.node.0 c.args.log.op st found.0 found.1 c.restart.ensures.others refl refl refl
+    c.args.node.0 c.args.log.op st found.0 found.1 c.restart.ensures.others refl refl refl refl refl
     (subst (λ (op : ℕ). (i : ℕ) → count_at c.set.new.self.each i
     ≡ put c.args.node.0 op (count_at c.args.self.now.synced.each) i)
     (ap (λ (t : ℕ × Term × Option NodeId). t.0) c.start-op.ensures) c.set.ensures)

@@ -5,7 +5,8 @@ use Rattle.qq_cluster_queue.proofs.cluster_queue.ClusterQueue.new.Goals as goal
 
 pub returns-clause-ok : goal.returns-clause-ok
 returns-clause-ok c =
-    opens-queue c.args.args c.args.nodes.now _ refl c.new-publishers.ensures c.new-consumers.ensures
+    opens-queue c.args.args c.args.nodes.now _ refl c.new-publishers.ensures c.new-consumers.ensures c.new-seats.ensures
+    c.new-untold.ensures
     c.in_ok-group.ensures.ok
 
 pub returns-clause-down : goal.returns-clause-down

@@ -1,41 +1,40 @@
-use Rattle.std.proofs.Common.{◌≡◌, ◌∷◌, [], ◌++◌, ℕ, List, sym, ap, subst, ◌∙◌, append-nil, inr}
+use Rattle.std.proofs.Common.{◌≡◌, ◌∷◌, [], List, sym, ap, subst, ◌∙◌, inr}
 use Rattle.std.specs.Prelude.{is_some}
-use Rattle.std.specs.List.{AllByRecursion, flat_map}
-use Rattle.qq_base.specs.Fronts.{IsFront}
-use Rattle.qq_base.proofs.Fronts.{front-more, front-trans}
-use Rattle.qq_cluster.specs.Texts.{shown_text_as}
+use Rattle.std.specs.List.{AllByRecursion}
+use Rattle.qq_base.proofs.Fronts.{front-trans}
 use Rattle.qq_entry.specs.declared.command.Command.{Command}
 use Rattle.qq_session.specs.Shown.{Shown, said_of}
-use Rattle.qq_cluster_queue.specs.ClusterQueue.{HasRefused, text_as}
+use Rattle.qq_cluster_queue.specs.ClusterQueue.{HasRefused}
 use Rattle.qq_cluster_queue.specs.Range.{HasBytes}
+use Rattle.qq_cluster_queue.specs.Telling.{show_all}
 use Rattle.qq_cluster_queue.specs.declared.cluster_queue.ClusterQueue.{ClusterQueue}
 use Rattle.qq_cluster_queue.proofs.Offering.{Resending, nil-of, resend-does, resending-more, resending-all, resending-refused, said-none, said-then}
+use Rattle.qq_cluster_queue.proofs.Showing.{shown-front}
 use Rattle.qq_cluster_queue.proofs.cluster_queue.ClusterQueue.resend.Goals as goal
 
 pub offer-requires-clause-bytes : goal.offer-requires-clause-bytes
-offer-requires-clause-bytes c =
+offer-requires-clause-bytes g c =
     (subst (AllByRecursion HasBytes) c.in-Some.ensures.items c.commands.invariant.bytes).0
 
 pub commands-preserved : goal.commands-preserved
-commands-preserved c =
+commands-preserved g c =
     let first : ClusterQueue = c.args.self.now in
     let given : List Command = c.from_vec-commands.result.items in
     let rest : List Command = c.pop_front.new.self.items in
     let ready = is_some c.leader-leader.result in
-    let text : Shown → List ℕ = shown_text_as first.label.first first.label.name in
     let shown : List Shown = said_of ready c.args.session (c.in-Some.command ∷ []) in
     let here : c.in-Some.command ∷ rest ≡ c.commands.commands.items = sym c.in-Some.ensures.items in
-    let said : c.offer.new.out.items ≡ c.commands.out.items ++ flat_map text shown =
+    let said : c.offer.new.told ≡ show_all first.label shown c.commands.told =
     c.in_default-offer.ensures.said
-    ∙ ap (λ (d : ClusterQueue). c.commands.out.items ++ text_as d shown) c.commands.invariant.so.only in
+    ∙ ap (λ (d : ClusterQueue). show_all d.label shown c.commands.told) c.commands.invariant.so.only in
     record {
       sound = c.offer.ensures.sound;
       so = resending-more c.leader-leader.result given rest c.in-Some.command first c.commands.self c.offer.new.self
           (subst (λ (l : List Command). Resending c.leader-leader.result given l first c.commands.self) (sym here)
           c.commands.invariant.so) c.in_default-offer.ensures.ok c.offer.ensures.rest;
-      said = ap (λ (t : List ℕ). t ++ flat_map text (said_of ready c.args.session rest)) said
-          ∙ said-then text c.commands.out.items ready c.args.session c.in-Some.command rest
-          ∙ ap (λ (l : List Command). c.commands.out.items ++ flat_map text (said_of ready c.args.session l)) here
+      said = ap (show_all first.label (said_of ready c.args.session rest)) said
+          ∙ said-then first.label ready c.args.session c.in-Some.command rest c.commands.told
+          ∙ ap (λ (l : List Command). show_all first.label (said_of ready c.args.session l) c.commands.told) here
           ∙ c.commands.invariant.said;
       same = record {
         label_is = c.offer.ensures.same.label_is ∙ c.commands.invariant.same.label_is;
@@ -44,31 +43,29 @@ commands-preserved c =
       };
       bytes = (subst (AllByRecursion HasBytes) (sym here) c.commands.invariant.bytes).1;
       front = front-trans c.commands.invariant.front
-          (subst (λ (t : List ℕ). IsFront c.commands.out.items t) (sym said)
-          (front-more c.commands.out.items (flat_map text shown)));
+          (shown-front first.label shown c.commands.told c.offer.new.told said);
     }
 
 pub returns-clause-ok : goal.returns-clause-ok
-returns-clause-ok c = λ sessions q st.
+returns-clause-ok g c = λ sessions q st.
     let first : ClusterQueue = c.args.self.now in
     let given : List Command = c.from_vec-commands.result.items in
-    let text : Shown → List ℕ = shown_text_as first.label.first first.label.name in
     let ready = is_some c.leader-leader.result in
     let none : c.commands.commands.items ≡ [] = nil-of c.commands.commands.items
     (c.in_default.ensures.items ∙ c.in_default.ensures.rest) in
     let so = c.commands.invariant.so in
-    resend-does sessions first c.commands.self q c.args.session given c.leader-leader.result c.args.out.now.items
-    c.commands.out.items st (c.from_vec-commands.ensures.items ∙ c.in-Ok.ensures.ok) c.leader-leader.ensures
+    resend-does sessions first c.commands.self q c.args.session given c.leader-leader.result c.args.told.now
+    c.commands.told st (c.from_vec-commands.ensures.items ∙ c.in-Ok.ensures.ok) c.leader-leader.ensures
     (resending-all c.leader-leader.result given c.commands.commands.items first c.commands.self so none)
     (ap (λ (d : ClusterQueue). d.args) so.only) (ap (λ (d : ClusterQueue). d.synced) so.only)
     (ap (λ (d : ClusterQueue). d.publishers) so.only) (ap (λ (d : ClusterQueue). d.consumers) so.only)
-    (sym (append-nil c.commands.out.items)
-    ∙ ap (λ (l : List Shown). c.commands.out.items ++ flat_map text l) (sym (said-none ready c.args.session))
-    ∙ ap (λ (l : List Command). c.commands.out.items ++ flat_map text (said_of ready c.args.session l)) (sym none)
+    (ap (λ (d : ClusterQueue). d.seats) so.only) (ap (λ (d : ClusterQueue). d.untold) so.only)
+    (ap (λ (l : List Shown). show_all first.label l c.commands.told) (sym (said-none ready c.args.session))
+    ∙ ap (λ (l : List Command). show_all first.label (said_of ready c.args.session l) c.commands.told) (sym none)
     ∙ c.commands.invariant.said)
 
 pub returns-in-Err-offer-clause-cause : goal.returns-in-Err-offer-clause-cause
-returns-in-Err-offer-clause-cause c =
+returns-in-Err-offer-clause-cause g c =
     let first : ClusterQueue = c.args.self.now in
     let given : List Command = c.from_vec-commands.result.items in
     let here : c.in-Some.command ∷ c.pop_front.new.self.items ≡ c.commands.commands.items =

@@ -12,4 +12,4 @@ pub returns-clause-ok : goal.returns-clause-ok
 returns-clause-ok c =
     let up = some-of (server_at c.args.node.0 c.args.self.now.group) (sym c.is_up-up.ensures ∙ c.if-not-up.false) in
     syncs-up c.args.node.0 up.0 c.args.self.now (record c.args.self.now { synced = c.set.new.self })
-    c.handed-count.result up.1 c.handed-count.ensures c.set.ensures refl refl refl refl
+    c.handed-count.result up.1 c.handed-count.ensures c.set.ensures refl refl refl refl refl refl

@@ -1,13 +1,8 @@
-use Rattle.std.proofs.Common.{◌++◌, ℕ, List, refl, sym, ap, ◌∙◌, append-nil}
-use Rattle.qq_cluster.specs.Texts.{shown_text_as}
-use Rattle.qq_session.specs.Shown.{HasEnded}
+use Rattle.std.proofs.Common.{refl}
 use Rattle.qq_cluster_queue.proofs.Offering.{ended-does}
 use Rattle.qq_cluster_queue.proofs.cluster_queue.ClusterQueue.tell_ended.Goals as goal
 
 pub returns-clause-ok : goal.returns-clause-ok
-returns-clause-ok c = λ sessions q st.
-    ended-does sessions c.args.self.now c.args.self.now q c.args.session c.args.out.now.items c.has_ended.new.out.items st
-    refl
-    (c.in_default.ensures.ok
-    ∙ ap (λ (l : List ℕ). c.args.out.now.items ++ l)
-    (sym (append-nil (shown_text_as c.args.self.now.label.first c.args.self.now.label.name (HasEnded c.args.session)))))
+returns-clause-ok g c = λ sessions q st.
+    ended-does sessions c.args.self.now c.args.self.now q c.args.session c.args.told.now c.has_ended.new.self st refl
+    c.in_default.ensures.ok
