@@ -1,5 +1,5 @@
 -- A node is crashed.
-use Rattle.std.proofs.Common.{◌≡◌, ◌⊎◌, ◌≢◌, ◌<◌, ◌≤◌, ◌+◌, ◌-◌, ℕ, Bool, true, false, List, [], ◌∷◌, ◌++◌, Some, None, length, refl, sym, ap, ◌∙◌, subst, inl, inr, arith, append-nil}
+use Rattle.std.proofs.Common.{◌≡◌, ◌<◌, ◌+◌, ◌-◌, ℕ, Bool, false, List, [], ◌∷◌, Some, None, length, refl, sym, ap, ◌∙◌, subst}
 use Rattle.std.specs.Global.{Vec}
 use Rattle.std.specs.Prelude.{IsTrue, nat_lt, slice_get, slice_set}
 use Rattle.std.proofs.lemmas.Bool.{eq-eqb, false≢true, lt-ltb}
@@ -10,12 +10,11 @@ use Rattle.qq_disk.specs.declared.image.Image.{Image}
 use Rattle.qq_lots.specs.Lots.{Lot, Parts}
 use Rattle.qq_ports.specs.Yard.{IsAfterCrash}
 use Rattle.qq_raft_model.specs.Group.{Seat}
-use Rattle.qq_raft_protocol.specs.Facts.{In}
-use Rattle.qq_cluster.specs.Cluster.{Cluster, ClusterEvent, Crashes, Fails, Setup, cluster_happens}
+use Rattle.qq_cluster.specs.Cluster.{Cluster, Crashes, Fails, Setup, cluster_happens}
 use Rattle.qq_cluster.specs.Queue.{Queue, Stops, happens}
 use Rattle.qq_cluster.specs.Rules.{Is}
-use Rattle.qq_cluster_laws.specs.Linked.{IsLinked, IsReached, lot_of, part_at, parts_at}
-use Rattle.qq_cluster_laws.specs.Serves.{Happened, Seen, seen_of}
+use Rattle.qq_cluster_laws.specs.Linked.{IsLinked, lot_of, part_at, parts_at}
+use Rattle.qq_cluster_laws.specs.Serves.{Seen, seen_of}
 use Rattle.qq_cluster_laws.specs.Traced.{IsTracedAt, KeepsWhere}
 use Rattle.qq_cluster_laws.proofs.Links.{crashed-follow, crashed-linked}
 use Rattle.qq_cluster_laws.proofs.Serves.{happened-event}
@@ -30,7 +29,7 @@ use Rattle.qq_nodes.specs.Crashing.{HasHappened, HasOwn, IsCrashedTo, LeavesDisk
 use Rattle.qq_nodes.specs.Turning.{TurnsWhere}
 use Rattle.qq_nodes.specs.declared.node.Node.{Node}
 use Rattle.qq_nodes.specs.declared.nodes.Nodes.{Nodes as Held}
-use Rattle.qq_nodes.proofs.OwnStands.{Changes, node-was, seen-others, seen-own, set-here, stands-own, turned-queues}
+use Rattle.qq_nodes.proofs.OwnStands.{node-was, seen-others, seen-own, set-here, stands-own, turned-queues}
 use Rattle.qq_nodes.proofs.Owned.{own-fail}
 use Rattle.qq_nodes.proofs.Quiet.{quiet-stopped}
 use Rattle.qq_nodes.proofs.Outcomes.{same-outcome, shows-one}

@@ -16,6 +16,7 @@ use Rattle.qq_cluster.specs.Outcome.{Outcome}
 use Rattle.qq_nodes.specs.Nodes.{CanServe, LeadsIn, Stands, nodes_in, seen}
 use Rattle.qq_nodes.specs.Crashing.{HasHappened}
 use Rattle.qq_nodes.specs.declared.nodes.Nodes.{Nodes as Held}
+use Rattle.qq_nodes.proofs.Outcomes.{no_outcome}
 use Rattle.qq_nodes.proofs.Walks.{drop-past, place-at}
 
 -- ---- why a node isn't crashed
@@ -58,7 +59,7 @@ module _ {D : Type 0} {tells : D → Bool} {past : D → List Disk} {faults : D 
       → CrashedTo tells past faults image at old new
       → CanServe tells past new × (length new.nodes.items ≡ length old.nodes.items)
   crashed-can image at old new can crashed =
-      let s = (crashed []).happened can.0 can.1 can.2 can.3 in
+      let s = (crashed no_outcome).happened can.0 can.1 can.2 can.3 in
       let first = ap length can.3.set_up.nodes in
       let last = ap length s.stands.set_up.nodes in
       let long = length-range_with_len 1 (length old.nodes.items) in

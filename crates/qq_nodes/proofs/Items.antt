@@ -1,5 +1,5 @@
 -- What is read of a queue and of a node.
-use Rattle.std.proofs.Common.{◌≡◌, ◌<◌, ◌+◌, ◌-◌, ℕ, List, [], ◌∷◌, Some, length, get_or, refl, sym, ap, ◌∙◌, subst, arith}
+use Rattle.std.proofs.Common.{◌≡◌, ◌<◌, ◌+◌, ◌-◌, ℕ, List, [], ◌∷◌, Some, length, get_or, refl, sym, ap, ◌∙◌, arith}
 use Rattle.std.specs.Prelude.{All, Bool, slice_get}
 use Rattle.std.proofs.lemmas.List.Elements.{All-from_all_within}
 use Rattle.std.proofs.lemmas.Option.{slice_get-get_or}

@@ -1,24 +1,22 @@
 -- Takers are asked, and their verdicts are followed.
-use Rattle.std.proofs.Common.{◌≡◌, ◌⊎◌, ◌<◌, ◌+◌, ℕ, zero, suc, Bool, true, List, [], ◌∷◌, ◌++◌, Option, Some, None, get_or, length, refl, sym, ap, ◌∙◌, subst, inl, inr}
+use Rattle.std.proofs.Common.{◌≡◌, ◌<◌, ◌+◌, ℕ, zero, suc, Bool, true, List, [], ◌∷◌, ◌++◌, Option, Some, None, get_or, length, refl, sym, ap, ◌∙◌, subst}
 use Rattle.std.specs.List.{AllByRecursion}
-use Rattle.std.specs.Option.{option_map}
 use Rattle.std.specs.Prelude.{slice_get, slice_set}
 use Rattle.std.proofs.lemmas.Option.{slice_get-get_or}
 use Rattle.qq_disk.specs.Disk.{Disk}
 use Rattle.qq_entry.specs.declared.command.Unstamped.{Unstamped}
 use Rattle.qq_taker.specs.declared.handed.Handed.{Handed}
-use Rattle.qq_taker.specs.declared.taker.Verdict.{Verdict}
 use Rattle.qq_cluster.specs.Cluster.{Cluster, ClusterEvent, Setup, cluster_after}
 use Rattle.qq_cluster.specs.Outcome.{Outcome}
 use Rattle.qq_cluster.specs.Queue.{Judges}
 use Rattle.qq_cluster.specs.Rules.{IsCommanded, IsJudgedWhere, IsNextJudged}
 use Rattle.qq_cluster.specs.Taking.{command_for}
 use Rattle.qq_cluster_queue.specs.ClusterQueue.{IsSameQueue}
-use Rattle.qq_cluster_queue.specs.Judging.{HasJudged, JudgesFirst, JudgesNone, claim_for, claim_of}
+use Rattle.qq_cluster_queue.specs.Judging.{HasJudged, claim_by}
 use Rattle.qq_cluster_queue.specs.Members.{AreSound}
 use Rattle.qq_cluster_queue.specs.Sessions.{standings}
 use Rattle.qq_cluster_queue.specs.declared.cluster_queue.ClusterQueue.{ClusterQueue}
-use Rattle.qq_cluster_queue.specs.declared.judging.Claim.{Claim}
+use Rattle.qq_cluster_queue.specs.declared.claim.Claim.{Claim}
 use Rattle.qq_nodes.specs.Active.{is_in}
 use Rattle.qq_nodes.specs.Judging.{IsClaimedBy, IsClaimedWhere, IsFollowed, JudgesAt}
 use Rattle.qq_nodes.specs.Nodes.{IsSetUp, Served, Stands}
@@ -29,7 +27,7 @@ use Rattle.qq_nodes.proofs.Stands.{served-still, served-weaker}
 -- the queue at an index
 pub judged-at : (claim : Option Claim) (at : ℕ) (olds : List ClusterQueue) (d new : ClusterQueue)
     (before after : Outcome) → at < length olds → AreSound new.group → IsSameQueue (get_or olds at d) new
-    → HasJudged claim (get_or olds at d) new before after
+    → HasJudged (get_or olds at d).untold (get_or olds at d) new before after claim
     → JudgesAt claim at olds (slice_set olds at new) before after
 judged-at claim at olds d new before after lt sound same judged = record {
   old = get_or olds at d;
@@ -48,10 +46,10 @@ set-own {A} (y ∷ ys) zero x here = ap (λ (z : A). z ∷ ys) (let e : x ≡ y 
 set-own {A} (y ∷ ys) (suc at) x here = ap (λ (l : List A). y ∷ l) (set-own ys at x here)
 
 -- a verdict's command is what follows
-followed-is : (o : Option Unstamped) (session place : ℕ) (c : Cluster) (events : List ClusterEvent)
-    → IsFollowed (option_map (claim_of session) o) place c events → IsCommanded o session place c events
-followed-is None session place c events is = is
-followed-is (Some body) session place c events is = is
+followed-is : (h : Handed) (o : Option Unstamped) (place : ℕ) (c : Cluster) (events : List ClusterEvent)
+    → IsFollowed (claim_by h o) place c events → IsCommanded o h.consumer.session.number place c events
+followed-is h None place c events is = is
+followed-is h (Some body) place c events is = is
 
 pub judged-then : (claim : Option Claim) (place : ℕ) (c : Cluster) (events others : List ClusterEvent)
     → IsClaimedBy claim place c events → IsFollowed claim place (cluster_after c events) others
@@ -70,7 +68,7 @@ judged-then claim place c events others = by (c.queue place).untold
         late = others;
         is = refl;
         first = claimed.is;
-        second = followed-is (command_for claimed.verdict h) h.consumer.session.number place (cluster_after c events) others
+        second = followed-is h (command_for claimed.verdict h) place (cluster_after c events) others
             (subst (λ (o : Option Claim). IsFollowed o place (cluster_after c events) others) claimed.claim_is followed);
       };
     }
@@ -95,37 +93,38 @@ module _ {D : Type 0} {tells : D → Bool} {past : D → List Disk} {faults : D 
       → is_in at old.active ≡ true → new ≡ record old { queues = new.queues }
       → JudgesAt claim at old.queues.items new.queues.items before later
       → Served tells past faults (λ setup. IsClaimedBy claim (at + 1)) old new before later
-  served-judged claim at old new before later active same judges = by judges.judged
+  served-judged claim at old new before later active same judges = by judges.old.untold refl judges.judged
     where
-      waits : (untold : List Handed) → judges.old.untold.items ≡ untold → (setup : Setup) (c : Cluster)
+      waits : (untold : List Handed) → judges.old.untold ≡ untold → (setup : Setup) (c : Cluster)
           → Stands tells past setup old c → untold ≡ (c.queue (at + 1)).untold
       waits untold is setup c st = sym is ∙ sym (st.queues at judges.old judges.here).stands.untold
 
-      by : HasJudged claim judges.old judges.new before later
+      by : (untold : List Handed) → judges.old.untold ≡ untold
+          → HasJudged untold judges.old judges.new before later claim
           → Served tells past faults (λ setup. IsClaimedBy claim (at + 1)) old new before later
-      by (inl none) =
+      by [] is none =
           subst (λ (o : Outcome). Served tells past faults (λ setup. IsClaimedBy claim (at + 1)) old new before o)
-          (sym none.told)
+          (sym none.1)
           (served-still old new before (ap (λ (h : Held D). h.nodes) same)
           (λ setup c r st. (
-            subst (λ (untold : List Handed). IsClaimedWhere claim (at + 1) untold []) (waits [] none.none setup c st)
-                (refl, none.claim_is),
+            subst (λ (untold : List Handed). IsClaimedWhere claim (at + 1) untold []) (waits [] is setup c st)
+                (refl, none.2),
             same-stands setup c old new same
-                (judges.is ∙ ap (slice_set old.queues.items at) none.same
+                (judges.is ∙ ap (slice_set old.queues.items at) none.0
                 ∙ set-own old.queues.items at judges.old judges.here) st,
           )))
-      by (inr first) =
+      by (h ∷ more) is judged =
           served-weaker
-          (served-at (Judges first.verdict) at old new before later refl active same (record {
+          (served-at (Judges judged.verdict) at old new before later refl active same (record {
             old = judges.old;
             new = judges.new;
             here = judges.here;
             is = judges.is;
             sound = judges.sound;
             same = judges.same;
-            does = first.does (standings old.sessions);
+            does = judged.does (standings old.sessions);
           }))
           (λ setup c events r st allowed.
           subst (λ (untold : List Handed). IsClaimedWhere claim (at + 1) untold events)
-          (waits (first.first ∷ first.more) first.waits setup c st)
-          (record { verdict = first.verdict; is = allowed; claim_is = first.claim_is }))
+          (waits (h ∷ more) is setup c st)
+          (record { verdict = judged.verdict; is = allowed; claim_is = judged.claim_is }))

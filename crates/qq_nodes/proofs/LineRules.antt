@@ -1,9 +1,7 @@
 -- The lines of a script.
-use Rattle.std.proofs.Common.{◌≡◌, ◌<◌, ◌≤◌, ◌+◌, ◌-◌, ℕ, Bool, true, false, List, [], ◌∷◌, ◌++◌, Option, Some, None, ◌⊎◌, inl, inr, get_or, length, drop, refl, sym, ap, ◌∙◌, subst, arith, append-nil}
+use Rattle.std.proofs.Common.{◌≡◌, ◌<◌, ◌≤◌, ◌+◌, ◌-◌, ℕ, Bool, true, false, List, Option, Some, None, ◌⊎◌, inl, inr, get_or, length, refl, sym, ap, ◌∙◌, subst, arith}
 use Rattle.std.specs.Prelude.{slice_get}
 use Rattle.std.proofs.lemmas.List.FromFn.{length-range_with_len}
-use Rattle.qq_base.specs.Fronts.{put}
-use Rattle.qq_base.specs.declared.ids.NodeId.{NodeId}
 use Rattle.qq_base.specs.declared.ids.QueueId.{QueueId}
 use Rattle.qq_disk.specs.Disk.{Disk}
 use Rattle.qq_entry.specs.declared.command.Unstamped.{Unstamped}
@@ -13,11 +11,10 @@ use Rattle.qq_cluster.specs.Lines.{WhereUp}
 use Rattle.qq_cluster.specs.Outcome.{Outcome}
 use Rattle.qq_cluster.specs.Queue.{Queue, TellsEnded, happens}
 use Rattle.qq_cluster.specs.Rules.{ForEach, Is, IsClaimed, IsGiven, is_ended, is_quiet, not_taken}
-use Rattle.qq_cluster_laws.specs.Linked.{IsReached}
 use Rattle.qq_cluster_queue.specs.ClusterQueue.{Stands as IsQueue}
 use Rattle.qq_cluster_queue.specs.Sessions.{Standings, standings}
 use Rattle.qq_cluster_queue.specs.declared.cluster_queue.ClusterQueue.{ClusterQueue}
-use Rattle.qq_nodes.specs.Nodes.{CanServe, GaveUp, IsQueueAt, LeadsIn, Served, Stands, places_in}
+use Rattle.qq_nodes.specs.Nodes.{GaveUp, IsQueueAt, LeadsIn, Served, Stands, places_in}
 use Rattle.qq_nodes.specs.declared.nodes.Nodes.{Nodes as Held}
 use Rattle.qq_nodes.proofs.OneQueue.{node-stays}
 use Rattle.qq_nodes.proofs.Outcomes.{same-outcome, shows-one}

@@ -1,18 +1,17 @@
 -- What waits at a node of a queue, where the node has a member of it and where it hasn't.
-use Rattle.std.proofs.Common.{◌≡◌, ◌⊎◌, ◌≤◌, ℕ, Bool, true, false, ◌&&◌, cond, List, [], ◌∷◌, Option, Some, None, length, refl, sym, ap, ◌∙◌, subst, inl, inr, arith}
-use Rattle.std.specs.Prelude.{is_some, nat_eq, nat_lt}
-use Rattle.std.proofs.lemmas.Bool.{and_from, and_right, cases_Bool, eqb-false, eq-eqb, false≢true, le-ltb, or_parts}
+use Rattle.std.proofs.Common.{◌≡◌, ◌⊎◌, ◌≤◌, ℕ, Bool, true, false, ◌&&◌, cond, List, [], ◌∷◌, length, refl, sym, ap, ◌∙◌, subst, inl, inr, arith}
+use Rattle.std.specs.Prelude.{is_some, nat_eq}
+use Rattle.std.proofs.lemmas.Bool.{and_from, and_right, eqb-false, eq-eqb, le-ltb, or_parts}
 use Rattle.qq_base.proofs.Lists.{AllByRecursion-in, In as InList, In-filter}
 use Rattle.qq_base.specs.declared.ids.NodeId.{NodeId}
 use Rattle.qq_raft_model.specs.Group.{has_node}
 use Rattle.qq_raft_model.specs.Promises.{members_of}
-use Rattle.qq_raft_model.specs.State.{Server}
 use Rattle.qq_raft_protocol.specs.Facts.{In}
 use Rattle.qq_cluster.specs.Cluster.{Cluster, Setup, members}
 use Rattle.qq_cluster.specs.ClusterLaws.{HasGroups}
 use Rattle.qq_cluster.specs.Laws.{CountsRise}
-use Rattle.qq_cluster.specs.Queue.{Queue, waiting, waiting_by}
-use Rattle.qq_cluster.specs.Rules.{is_quiet_at, is_settled, waits_noticed, waits_synced, waits_written}
+use Rattle.qq_cluster.specs.Queue.{waiting, waiting_by}
+use Rattle.qq_cluster.specs.Rules.{is_quiet_at, is_settled, waits_noticed, waits_synced}
 use Rattle.qq_cluster_laws.specs.Linked.{IsReached, MembersFollow, lot_of}
 use Rattle.qq_cluster_laws.specs.Waiting.{ops_by, ops_waiting}
 use Rattle.qq_cluster_laws.proofs.Reached.{counts-at, group-made, made}

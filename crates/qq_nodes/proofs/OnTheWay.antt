@@ -1,7 +1,7 @@
 -- Messages that are on their way.
-use Rattle.std.proofs.Common.{◌≡◌, ◌⊎◌, ◌<◌, ◌≤◌, ◌+◌, ◌-◌, ◌++◌, ℕ, zero, suc, Bool, true, false, cond, List, [], ◌∷◌, Option, Some, None, length, drop, refl, sym, ap, ◌∙◌, subst, inl, inr, arith, append-nil}
-use Rattle.std.specs.Prelude.{IfSome, filter, is_some, not, nat_eq}
-use Rattle.std.specs.List.{AllByRecursion, range_with_len}
+use Rattle.std.proofs.Common.{◌≡◌, ◌<◌, ◌+◌, ◌-◌, ℕ, zero, suc, Bool, true, false, cond, List, [], ◌∷◌, Option, Some, None, length, drop, refl, sym, ap, ◌∙◌, subst, inl, inr, arith}
+use Rattle.std.specs.Prelude.{IfSome, is_some, not, nat_eq}
+use Rattle.std.specs.List.{AllByRecursion}
 use Rattle.qq_base.specs.declared.ids.NodeId.{NodeId}
 use Rattle.qq_base.specs.declared.ids.QueueId.{QueueId}
 use Rattle.qq_base.specs.declared.memory.Memory.{Memory}
@@ -14,10 +14,10 @@ use Rattle.qq_raft_model.specs.Promises.{IsOpened}
 use Rattle.qq_raft_msg.specs.Rpc.{envelope}
 use Rattle.qq_raft_msg.specs.declared.rpc.Rpc.{Rpc}
 use Rattle.qq_raft_protocol.specs.Facts.{In}
-use Rattle.qq_cluster.specs.Cluster.{At, Cluster, ClusterEvent, SaysDown, SaysNoSuch, Setup, cluster_after, members}
+use Rattle.qq_cluster.specs.Cluster.{At, Cluster, ClusterEvent, SaysDown, SaysNoSuch, Setup, members}
 use Rattle.qq_cluster.specs.Lines.{IsCopy, IsDeliver, IsDelivered, IsLose, WhereThere, receiver_at}
-use Rattle.qq_cluster.specs.Queue.{Copies, Delivers, Event, Loses, Queue, receiver_by}
-use Rattle.qq_cluster.specs.Rules.{Is, IsNothing, Tells, Then, if_so}
+use Rattle.qq_cluster.specs.Queue.{Copies, Delivers, Event, Loses, receiver_by}
+use Rattle.qq_cluster.specs.Rules.{Is, IsNothing, Tells, if_so}
 use Rattle.qq_cluster_laws.specs.Linked.{IsReached}
 use Rattle.qq_cluster_laws.proofs.Reached.{group-made, made}
 use Rattle.qq_cluster_queue.specs.Members.{number_of}
@@ -26,7 +26,7 @@ use Rattle.qq_nodes.specs.Nodes.{CanServe, GaveUp, IsNodeAt, Served, Stands}
 use Rattle.qq_nodes.specs.declared.nodes.Nodes.{Nodes as Held}
 use Rattle.qq_nodes.proofs.LineRules.{at-queue, at-queue_gave_up}
 use Rattle.qq_nodes.proofs.Pumping.{rule-else, rule-if}
-use Rattle.qq_nodes.proofs.Stands.{Ruling, gave_up-first, gave_up-same, gave_up-second, gave_up-weaker, served-nothing, served-then, served-weaker}
+use Rattle.qq_nodes.proofs.Stands.{gave_up-first, gave_up-same, gave_up-second, gave_up-weaker, served-nothing, served-then, served-weaker}
 use Rattle.qq_nodes.proofs.Told.{place-here}
 use Rattle.qq_nodes.proofs.Total.{total-if, total-is, total-nothing}
 use Rattle.qq_nodes.proofs.Walks.{from-range}

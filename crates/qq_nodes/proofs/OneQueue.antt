@@ -1,9 +1,8 @@
 -- One queue does what is asked of it.
-use Rattle.std.proofs.Common.{◌≡◌, ◌≢◌, ◌⊎◌, ◌<◌, ◌+◌, ◌-◌, ℕ, zero, suc, Bool, true, false, cond, List, [], ◌∷◌, ◌++◌, Option, Some, None, get_or, length, map, refl, sym, ap, ◌∙◌, subst, inl, inr, arith, append-nil}
-use Rattle.std.specs.Global.{Vec}
-use Rattle.std.specs.Prelude.{nat_eq, slice_get, slice_set}
+use Rattle.std.proofs.Common.{◌≡◌, ◌≢◌, ◌⊎◌, ◌<◌, ◌+◌, ℕ, zero, suc, Bool, true, false, cond, List, [], ◌∷◌, ◌++◌, Some, None, get_or, length, map, refl, sym, ap, ◌∙◌, subst, inl, inr, arith, append-nil}
+use Rattle.std.specs.Prelude.{slice_get, slice_set}
 use Rattle.std.specs.List.{AllByRecursion, flat_map}
-use Rattle.std.proofs.lemmas.Bool.{cases_eq, eq-eqb, false≢true, ne_eqb}
+use Rattle.std.proofs.lemmas.Bool.{eq-eqb, false≢true, ne_eqb}
 use Rattle.std.proofs.lemmas.Option.{slice_get-get_or}
 use Rattle.qq_cluster_queue.specs.Members.{AreSound}
 use Rattle.qq_disk.specs.Disk.{Disk}
@@ -15,18 +14,17 @@ use Rattle.qq_cluster.specs.Queue.{Event, Queue, after, happens, said}
 use Rattle.qq_cluster.specs.Rules.{Is, IsNothing, is_quiet}
 use Rattle.qq_cluster.specs.Texts.{is_first, printed_text, shown_text, shown_text_as, text_of}
 use Rattle.qq_cluster.proofs.Outcomes.{takers-at}
-use Rattle.qq_cluster_laws.specs.Linked.{IsReached, lot_of, parts_at}
-use Rattle.qq_cluster_laws.specs.Serves.{Seen, Serves}
-use Rattle.qq_cluster_laws.specs.Unseen.{is_node, seen_by, sees, touched, touches}
+use Rattle.qq_cluster_laws.specs.Linked.{lot_of, parts_at}
+use Rattle.qq_cluster_laws.specs.Unseen.{is_node, seen_by, sees, touched}
 use Rattle.qq_cluster_laws.proofs.Serves.{ShowsOne}
-use Rattle.qq_cluster_laws.proofs.Unseen.{parts-stay, unseen-follow, unseen-linked, up-stays}
-use Rattle.qq_cluster_queue.specs.ClusterQueue.{Becomes, Does, DoesAlways, IsSameQueue, Stands as IsQueue, text_as}
+use Rattle.qq_cluster_laws.proofs.Unseen.{parts-stay, unseen-follow, up-stays}
+use Rattle.qq_cluster_queue.specs.ClusterQueue.{Becomes, Does, DoesAlways, IsSameQueue, Shows, Stands as IsQueue, text_as}
 use Rattle.qq_cluster_queue.specs.Sessions.{Standings, standings}
 use Rattle.qq_cluster_queue.specs.declared.cluster_queue.ClusterQueue.{ClusterQueue}
 use Rattle.qq_node_log.specs.Log.{Stands as IsLog}
 use Rattle.qq_nodes.specs.Active.{is_in, put_in}
 use Rattle.qq_nodes.specs.Asking.{DoesAt, asked}
-use Rattle.qq_nodes.specs.Nodes.{IsNodeOf, IsQueueOf, IsSetUp, Served, Stands, seen, seen_in}
+use Rattle.qq_nodes.specs.Nodes.{IsNodeOf, IsQueueOf, IsSetUp, Served, Stands}
 use Rattle.qq_nodes.specs.declared.asking.Ask.{Ask}
 use Rattle.qq_nodes.specs.declared.asking.Ask.TheVariants.{Submit, TellEnded, TellNotTaken, Attach, Resend, Fetch, Down, Tick, Notice, Deliver, Lose, Copy}
 use Rattle.qq_nodes.specs.declared.node.Node.{Node}
@@ -64,11 +62,12 @@ set-long (y ∷ ys) (suc at) x = ap suc (set-long ys at x)
 pub becomes-does : (event : Event) (sessions : Standings) (old new : ClusterQueue) (outcome : Outcome)
     → Becomes event old new → Does event sessions old new outcome outcome
 becomes-does event sessions old new outcome becomes q st =
-    let both = becomes sessions q st in
-    (
+    let both = becomes sessions q st in (
       both.0,
-      sym (append-nil outcome.text) ∙ ap (λ (l : List Shown). outcome.text ++ text_as old l) (sym both.1),
-      ap (λ (l : List Shown). sees_all l outcome.takers) (sym both.1),
+      record {
+        text = sym (append-nil outcome.text) ∙ ap (λ (l : List Shown). outcome.text ++ text_as old l) (sym both.1);
+        takers = ap (λ (l : List Shown). sees_all l outcome.takers) (sym both.1);
+      },
     )
 
 -- what is asked is the event
@@ -130,13 +129,11 @@ text-at setup sessions c event place d is =
 
 -- and what comes of it
 pub shows-at : (setup : Setup) (sessions : Standings) (c : Cluster) (event : Event) (place : ℕ) (d : ClusterQueue)
-    (before later : Outcome) → IsQueueOf setup sessions c place d → {Now : Type 0}
-    → Now × (later.text ≡ before.text ++ text_as d (said (c.queue place) event))
-    × (later.takers ≡ sees_all (said (c.queue place) event) before.takers)
+    (before later : Outcome) → IsQueueOf setup sessions c place d → Shows d (said (c.queue place) event) before later
     → ShowsOne setup c (At place event) before later
-shows-at setup sessions c event place d before later is does = record {
-  text = does.1 ∙ ap (λ (l : List ℕ). before.text ++ l) (text-at setup sessions c event place d is);
-  takers = does.2 ∙ sym (takers-at setup c place event before.takers);
+shows-at setup sessions c event place d before later is shows = record {
+  text = shows.text ∙ ap (λ (l : List ℕ). before.text ++ l) (text-at setup sessions c event place d is);
+  takers = shows.takers ∙ sym (takers-at setup c place event before.takers);
 }
 
 -- ---- the cluster after an event at one place
@@ -235,7 +232,7 @@ module _ {D : Type 0} {tells : D → Bool} {past : D → List Disk} {faults : D 
         refl,
         stands-at setup c at event old new before later unseen active same does st,
         shows-at setup (standings old.sessions) c event (at + 1) does.old before later was
-            (does.does (c.queue (at + 1)) was.stands),
+            (does.does (c.queue (at + 1)) was.stands).1,
       )))
 
   -- a queue that is active from here on

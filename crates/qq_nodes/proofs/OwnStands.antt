@@ -1,16 +1,16 @@
 -- What stands where one node and the queues change, by events of that node's log.
-use Rattle.std.proofs.Common.{◌≡◌, ◌≢◌, ◌⊎◌, ◌<◌, ◌≤◌, ◌+◌, ◌-◌, ℕ, zero, suc, Bool, true, false, List, [], ◌∷◌, ◌++◌, Option, Some, None, length, refl, sym, ap, ◌∙◌, subst, inl, inr, arith}
+use Rattle.std.proofs.Common.{◌≡◌, ◌≢◌, ◌⊎◌, ◌<◌, ◌≤◌, ◌+◌, ◌-◌, ℕ, zero, suc, Bool, true, false, List, [], ◌∷◌, Some, length, refl, sym, ap, ◌∙◌, subst, inl, inr, arith}
 use Rattle.std.specs.Prelude.{IsTrue, nat_lt, slice_get, slice_set}
-use Rattle.std.specs.List.{AllByRecursion, range_with_len}
+use Rattle.std.specs.List.{AllByRecursion}
 use Rattle.std.proofs.lemmas.Bool.{false≢true, lt-ltb}
 use Rattle.qq_base.specs.Causes.{Rose}
 use Rattle.qq_disk.specs.Disk.{Disk, now}
 use Rattle.qq_lots.specs.Lots.{Lot, Parts, ids_of}
 use Rattle.qq_raft_protocol.specs.Facts.{In}
 use Rattle.qq_cluster.specs.Cluster.{Cluster, ClusterEvent, Fails, Setup, cluster_after, cluster_happens}
-use Rattle.qq_cluster.specs.Queue.{Event, Queue, Stops, happens}
+use Rattle.qq_cluster.specs.Queue.{Event, Stops, happens}
 use Rattle.qq_cluster.specs.Rules.{is_quiet}
-use Rattle.qq_cluster_laws.specs.Linked.{IsLinked, IsReached, lot_of, parts_at}
+use Rattle.qq_cluster_laws.specs.Linked.{IsLinked, lot_of, parts_at}
 use Rattle.qq_cluster_laws.specs.Serves.{GivesUp, Seen, Serves, fails_at, seen_of}
 use Rattle.qq_cluster_laws.specs.Traced.{IsBrokenAt, IsTracedAt}
 use Rattle.qq_cluster_queue.specs.ClusterQueue.{Stands as IsQueue}

@@ -1,8 +1,8 @@
 -- Calls by which events of one node's log happen.
-use Rattle.std.proofs.Common.{◌≡◌, ◌⊎◌, ◌≢◌, ◌≤◌, ℕ, Bool, true, false, ◌||◌, List, [], ◌∷◌, ◌++◌, Option, Some, None, refl, sym, ap, ◌∙◌, subst, inl, inr, arith}
+use Rattle.std.proofs.Common.{◌≡◌, ◌≢◌, ◌≤◌, ℕ, Bool, true, false, List, [], ◌∷◌, Some, refl, sym, ap, ◌∙◌, subst, inl, inr, arith}
 use Rattle.std.specs.Prelude.{IsTrue}
 use Rattle.std.specs.List.{AllByRecursion}
-use Rattle.std.proofs.lemmas.Bool.{cases_eq, eq-eqb, eqb-false, false≢true, ne_eqb, or_from}
+use Rattle.std.proofs.lemmas.Bool.{cases_eq, eq-eqb, false≢true, or_from}
 use Rattle.qq_base.specs.Causes.{Rose}
 use Rattle.qq_disk.specs.Disk.{Disk, now}
 use Rattle.qq_raft_protocol.specs.Facts.{In}

@@ -1,30 +1,28 @@
 -- Rounds and pumps.
-use Rattle.std.proofs.Common.{◌≡◌, ◌<◌, ◌≤◌, ◌+◌, ◌-◌, ℕ, zero, suc, Bool, true, false, not, ◌&&◌, ◌||◌, List, [], ◌∷◌, ◌++◌, Option, Some, length, get_or, drop, take, refl, sym, ap, ◌∙◌, subst, inl, inr, arith, append_assoc, append-nil}
-use Rattle.std.specs.Prelude.{nat_eq, replicate, slice_get, remove}
+use Rattle.std.proofs.Common.{◌≡◌, ◌<◌, ◌≤◌, ◌+◌, ◌-◌, ℕ, zero, suc, Bool, true, false, ◌&&◌, ◌||◌, List, [], ◌∷◌, ◌++◌, length, get_or, drop, take, refl, sym, ap, ◌∙◌, subst, inl, inr, arith, append-nil}
+use Rattle.std.specs.Prelude.{nat_eq, remove}
 use Rattle.std.specs.List.{AllByRecursion, list_all, range_with_len}
 use Rattle.std.proofs.lemmas.Bool.{and_from, and_right, cases_Bool, cases_eq, eq-eqb, eqb-true, false≢true, ne_eqb, or_cases}
 use Rattle.std.proofs.lemmas.List.FromFn.{get_or-range_with_len, length-range_with_len}
 use Rattle.std.proofs.lemmas.List.Folds.{list_all_at, list_all_more}
-use Rattle.std.proofs.lemmas.Option.{slice_get-get_or}
 use Rattle.qq_disk.specs.Disk.{Disk}
 use Rattle.qq_raft_protocol.specs.Facts.{In}
-use Rattle.qq_cluster.specs.Cluster.{At, Cluster, ClusterEvent, SaysBusy, Setup, cluster_after}
+use Rattle.qq_cluster.specs.Cluster.{Cluster, ClusterEvent, SaysBusy, Setup, cluster_after}
 use Rattle.qq_cluster.specs.Laws.{CountsRise}
 use Rattle.qq_cluster.specs.Queue.{Delivers, Notices, Queue}
-use Rattle.qq_cluster.specs.Rules.{ForEach, Is, IsEmptied, IsNothing, IsNotice, IsPump, IsPumped, IsRound, Pumps, Tells, Then, Times, if_so, is_idle, is_quiet, is_quiet_at, is_settled, most_rounds, waits_noticed}
+use Rattle.qq_cluster.specs.Rules.{ForEach, Is, IsEmptied, IsNothing, IsNotice, IsPump, IsPumped, IsRound, Pumps, Tells, Then, Times, if_so, is_idle, is_quiet, is_quiet_at, most_rounds, waits_noticed}
 use Rattle.qq_cluster_laws.specs.Linked.{IsReached}
 use Rattle.qq_cluster_laws.specs.Serves.{Leads}
 use Rattle.qq_cluster_laws.proofs.Reached.{counts-at, reached-after}
 use Rattle.qq_cluster.specs.Outcome.{Outcome}
 use Rattle.qq_nodes.specs.Active.{AreRising, is_in}
-use Rattle.qq_nodes.specs.Nodes.{CanServe, GaveUp, IsNodeAt, IsNodeOf, LeadsIn, Served, Stands, nodes_in, places_in}
-use Rattle.qq_nodes.specs.declared.node.Node.{Node}
+use Rattle.qq_nodes.specs.Nodes.{CanServe, GaveUp, IsNodeAt, LeadsIn, Served, Stands, nodes_in, places_in}
 use Rattle.qq_nodes.specs.declared.nodes.Nodes.{Nodes as Held}
 use Rattle.qq_nodes.proofs.Rising.{in-removed, remove-all}
 use Rattle.qq_nodes.proofs.Quiet.{idle-from, idle-not, quiet-bag, quiet-noticed}
 use Rattle.qq_cluster_laws.proofs.Serves.{leads-more, leads-start}
 use Rattle.qq_base.specs.declared.ids.NodeId.{NodeId}
-use Rattle.qq_nodes.proofs.Stands.{PassesQuiet, Ruling, active-end, active-more, can-after, each-end, each-more, gave_up-after, gave_up-by, gave_up-each, gave_up-first, gave_up-leads, gave_up-same, gave_up-weaker, serves-means, served-both, served-nothing, served-still, served-weaker}
+use Rattle.qq_nodes.proofs.Stands.{PassesQuiet, Ruling, active-end, active-more, can-after, each-end, each-more, gave_up-each, gave_up-first, gave_up-leads, gave_up-same, gave_up-weaker, serves-means, served-both, served-nothing, served-still, served-weaker}
 use Rattle.qq_nodes.proofs.Total.{Total, total-pumps}
 use Rattle.qq_base.specs.declared.memory.Memory.{Memory}
 use Rattle.qq_base.specs.declared.memory.Memory.TheVariants.{Want}

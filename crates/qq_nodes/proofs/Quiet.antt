@@ -1,17 +1,18 @@
 -- A queue that is quiet does nothing in a round, and stays so where others act.
-use Rattle.std.proofs.Common.{◌≡◌, ◌≢◌, ◌⊎◌, ◌≤◌, ◌<◌, ℕ, zero, suc, Bool, true, false, ◌&&◌, cond, List, [], ◌∷◌, Option, Some, None, length, take, drop, refl, sym, ap, ◌∙◌, subst, inl, inr, arith}
+use Rattle.std.proofs.Common.{◌≡◌, ◌≢◌, ◌⊎◌, ℕ, Bool, true, false, ◌&&◌, cond, List, [], ◌∷◌, None, length, refl, sym, ap, ◌∙◌, subst, inl, inr, arith}
 use Rattle.std.proofs.Math.Path.{fun_ext}
 use Rattle.std.specs.Prelude.{is_some, nat_eq, nat_lt, replicate}
 use Rattle.std.specs.List.{list_all}
-use Rattle.std.proofs.lemmas.Bool.{and_parts, and_from, cases_eq, cond_both, eqb-true, eq-eqb, le-ltb}
+use Rattle.std.proofs.lemmas.Bool.{and_parts, and_from, cases_eq, cond_both, eqb-true, le-ltb}
 use Rattle.qq_base.proofs.Puts.{put-each, put-other, put-same}
 use Rattle.qq_base.specs.Fronts.{put}
-use Rattle.qq_raft_model.specs.Group.{Event as Move, Group, Seat, group_after}
-use Rattle.qq_raft_model.specs.Group.Event.{Take, Crash}
+use Rattle.qq_raft_model.specs.Group.{Seat, group_after}
+use Rattle.qq_raft_model.specs.Group.Event.{Take}
 use Rattle.qq_raft_protocol.specs.Facts.{In}
 use Rattle.qq_cluster.specs.Cluster.{Cluster, Setup}
 use Rattle.qq_cluster.specs.Laws.{CountsRise}
-use Rattle.qq_cluster.specs.Queue.{Event, Queue, Ends, Mutes, Stops, Syncs, Writes, happens, waiting}
+use Rattle.qq_cluster.specs.Queue.{Queue, Stops, Syncs, Writes, happens, synced_after, waiting}
+use Rattle.qq_cluster.proofs.Takerless.{untold-still}
 use Rattle.qq_cluster.specs.Rules.{is_idle, is_quiet, is_quiet_at, is_settled, waits_noticed, waits_synced, waits_written}
 
 -- ---- what a quiet queue has
@@ -56,7 +57,8 @@ quiet-bag setup up q quiet =
 pub quiet-writes : (setup : Setup) (up : ℕ → Bool) (q : Queue) (k : ℕ) → In k setup.nodes → up k ≡ true
     → is_quiet setup up q ≡ true → happens q (Writes k) ≡ q
 quiet-writes setup up q k node is quiet =
-    ap (λ (n : ℕ). record q { group = group_after q.group (replicate n (Take k)) })
+    sym (untold-still (record q { group = group_after q.group (replicate (waiting k q.group) (Take k)) }))
+    ∙ ap (λ (n : ℕ). record q { group = group_after q.group (replicate n (Take k)) })
     (done setup up q k node is quiet).written
 
 -- a function that is given the value that it has
@@ -75,7 +77,8 @@ synced-all setup up q k node is rise quiet =
 pub quiet-syncs : (setup : Setup) (up : ℕ → Bool) (q : Queue) (k : ℕ) → In k setup.nodes → up k ≡ true
     → CountsRise q k → is_quiet setup up q ≡ true → happens q (Syncs k) ≡ q
 quiet-syncs setup up q k node is rise quiet =
-    ap (λ (synced : ℕ → ℕ). record q { synced = synced })
+    sym (untold-still (record q { synced = synced_after q (Syncs k) }))
+    ∙ ap (λ (synced : ℕ → ℕ). record q { synced = synced })
     (cond_both (is_some (q.group.seat k).server) (put k (length (q.group.seat k).ops) q.synced) q.synced
     (λ (synced : ℕ → ℕ). synced ≡ q.synced)
     (λ _. put-own k (length (q.group.seat k).ops) q.synced (synced-all setup up q k node is rise quiet))

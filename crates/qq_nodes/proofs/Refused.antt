@@ -1,5 +1,5 @@
 -- What a queue refuses is refused for want of memory, or a number of it stands at its end.
-use Rattle.std.proofs.Common.{◌≡◌, ◌⊎◌, ◌<◌, ◌≤◌, ◌+◌, ℕ, Bool, List, [], ◌∷◌, Option, Some, None, get_or, length, refl, sym, ◌∙◌, ap, subst, inl, inr, arith}
+use Rattle.std.proofs.Common.{◌≡◌, ◌⊎◌, ◌<◌, ◌≤◌, ◌+◌, ℕ, Bool, List, [], ◌∷◌, Option, Some, None, get_or, length, refl, subst, inl, inr, arith}
 use Rattle.std.proofs.lemmas.Option.{slice_get-get_or}
 use Rattle.qq_base.specs.declared.ids.NodeId.{NodeId}
 use Rattle.qq_base.specs.declared.memory.Memory.{Memory}
@@ -58,7 +58,7 @@ ask-ends steps (Submit session body) d number sound (inr offer) =
     sound offer
 ask-ends steps (TellEnded session) d number sound cause = no-want number cause
 ask-ends steps (TellNotTaken session id) d number sound cause = no-want number cause
-ask-ends steps (Attach session tag number) d number sound cause = no-want number cause
+ask-ends steps (Attach session tag taker) d number sound cause = no-want number cause
 ask-ends steps (Fetch session) d number sound cause = no-want number cause
 ask-ends steps (Resend session) d number sound (inl want) = no-want number want
 ask-ends steps (Resend session) d number sound (inr refused) =

@@ -1,5 +1,5 @@
 -- A rule so many times.
-use Rattle.std.proofs.Common.{◌≡◌, ◌<◌, ◌≤◌, ◌+◌, ◌-◌, ℕ, suc, Bool, List, [], ◌∷◌, ◌++◌, refl, sym, subst, arith, append-nil}
+use Rattle.std.proofs.Common.{◌≡◌, ◌<◌, ◌≤◌, ◌+◌, ◌-◌, ℕ, suc, Bool, List, [], ◌++◌, refl, sym, subst, arith, append-nil}
 use Rattle.qq_base.specs.declared.memory.Memory.{Memory}
 use Rattle.qq_disk.specs.Disk.{Disk}
 use Rattle.qq_cluster.specs.Cluster.{Cluster, ClusterEvent, Setup, cluster_after}
@@ -16,11 +16,11 @@ use Rattle.qq_nodes.proofs.Total.{Total, total-times}
 abbrev pub TimesIn : ℕ → ℕ → (Cluster → List ClusterEvent → Type 0) → Setup → Cluster → List ClusterEvent → Type 0
 TimesIn done count Each setup c = Leads (Times (count - done) Each) (Times count Each) c
 
+left-of : (done count : ℕ) → done < count → count - done ≡ suc (count - (done + 1))
+left-of done count lt = omega (arith, lt)
+
 module _ {D : Type 0} {tells : D → Bool} {past : D → List Disk} {faults : D → ℕ}
     (Each : Cluster → List ClusterEvent → Type 0) where
-  left-of : (done count : ℕ) → done < count → count - done ≡ suc (count - (done + 1))
-  left-of done count lt = omega (arith, lt)
-
   pub times-start : (count : ℕ) (held : Held D) (outcome : Outcome)
       → Served tells past faults (TimesIn 0 count Each) held held outcome outcome
   times-start count held outcome =

@@ -1,5 +1,5 @@
 -- Commands that go to several queues.
-use Rattle.std.proofs.Common.{◌≡◌, ◌⊎◌, ◌<◌, ◌≤◌, ◌+◌, ◌-◌, ℕ, zero, suc, Bool, true, false, ◌||◌, List, [], ◌∷◌, Option, Some, None, get_or, length, map, drop, refl, sym, ap, ◌∙◌, subst, inl, inr, arith}
+use Rattle.std.proofs.Common.{◌≡◌, ◌<◌, ◌≤◌, ◌+◌, ◌-◌, ℕ, zero, suc, Bool, true, false, ◌||◌, List, [], ◌∷◌, Some, length, drop, refl, sym, ap, ◌∙◌, subst, arith}
 use Rattle.std.specs.Prelude.{All, slice_get}
 use Rattle.std.specs.List.{list_any, range_with_len}
 use Rattle.std.proofs.lemmas.Bool.{or_from}
@@ -11,11 +11,10 @@ use Rattle.qq_entry.specs.declared.command.Unstamped.{Unstamped}
 use Rattle.qq_cluster.specs.Cluster.{At, Cluster, ClusterEvent, SaysEnded, SaysUnroutable, Setup}
 use Rattle.qq_cluster.specs.Lines.{IsRouted}
 use Rattle.qq_cluster.specs.Queue.{Fetches, Resends}
-use Rattle.qq_cluster.specs.Rules.{ForEach, Is, IsGiven, IsNothing, IsResend, Tells, Then, is_ended, some_queue}
-use Rattle.qq_cluster_laws.specs.Serves.{Leads}
+use Rattle.qq_cluster.specs.Rules.{ForEach, Is, IsGiven, IsResend, Tells, Then, is_ended, some_queue}
 use Rattle.qq_cluster_queue.specs.Sessions.{standings}
 use Rattle.qq_cluster.specs.Outcome.{Outcome}
-use Rattle.qq_nodes.specs.Nodes.{CanServe, GaveUp, IsQueueAt, LeadsIn, Served, Stands}
+use Rattle.qq_nodes.specs.Nodes.{CanServe, GaveUp, IsQueueAt, Served, Stands}
 use Rattle.qq_nodes.specs.Sending.{GivesTo, Sends, numbers_of}
 use Rattle.qq_nodes.specs.declared.nodes.Nodes.{Nodes as Held}
 use Rattle.qq_nodes.proofs.LineRules.{at-queue, at-queue_gave_up, ended-at}

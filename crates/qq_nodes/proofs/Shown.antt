@@ -1,5 +1,5 @@
 -- The lines of a queue's members.
-use Rattle.std.proofs.Common.{◌≡◌, ◌≢◌, ◌⊎◌, ◌<◌, ◌≤◌, ◌+◌, ◌-◌, ℕ, zero, suc, Bool, true, false, cond, ◌||◌, ◌&&◌, List, [], ◌∷◌, ◌++◌, Some, map, take, length, refl, sym, ap, ◌∙◌, subst, inl, inr, arith, append_assoc, append-nil, get_or}
+use Rattle.std.proofs.Common.{◌≡◌, ◌≢◌, ◌⊎◌, ◌<◌, ◌≤◌, ◌+◌, ◌-◌, ℕ, Bool, true, false, cond, ◌||◌, ◌&&◌, List, [], ◌∷◌, ◌++◌, Some, map, length, refl, sym, ap, ◌∙◌, subst, inl, inr, arith, append-nil}
 use Rattle.std.specs.Global.{Vec}
 use Rattle.std.specs.Prelude.{filter, nat_eq, slice_get}
 use Rattle.std.specs.List.{flat_map, list_any, range_with_len}
@@ -27,7 +27,7 @@ use Rattle.qq_cluster_queue.specs.Sessions.{standings}
 use Rattle.qq_cluster_queue.specs.declared.cluster_queue.ClusterQueue.{ClusterQueue}
 use Rattle.qq_cluster.specs.Outcome.{Outcome, takers_after, sees_prints}
 use Rattle.qq_taker.specs.Takers.{Takers}
-use Rattle.qq_nodes.specs.Nodes.{IsNodeOf, IsQueueAt, IsQueueOf, Stands}
+use Rattle.qq_nodes.specs.Nodes.{IsQueueAt, IsQueueOf, Stands}
 use Rattle.qq_nodes.specs.Showing.{has_queue, member_text, with_line}
 use Rattle.qq_nodes.specs.declared.node.Node.{Node}
 use Rattle.qq_nodes.specs.declared.nodes.Nodes.{Nodes as Held}

@@ -1,7 +1,6 @@
 -- Which cluster is stood for after a call, and what the call has served.
-use Rattle.std.proofs.Common.{◌≡◌, ◌≢◌, ◌<◌, ◌≤◌, ◌+◌, ◌-◌, ℕ, Bool, true, false, ◌⊎◌, List, [], ◌∷◌, ◌++◌, Option, Some, None, length, get_or, drop, refl, sym, ap, ◌∙◌, subst, inl, inr, arith, append_assoc, append-nil}
+use Rattle.std.proofs.Common.{◌≡◌, ◌<◌, ◌≤◌, ◌+◌, ◌-◌, ℕ, Bool, true, List, [], ◌∷◌, ◌++◌, None, length, get_or, drop, refl, sym, ap, ◌∙◌, subst, arith, append_assoc, append-nil}
 use Rattle.std.specs.Global.{Vec}
-use Rattle.std.specs.Prelude.{slice_get}
 use Rattle.std.specs.List.{AllByRecursion}
 use Rattle.qq_base.specs.declared.memory.Memory.{Memory}
 use Rattle.qq_base.specs.declared.memory.Memory.TheVariants.{Spent, Want}
@@ -12,11 +11,11 @@ use Rattle.qq_cluster.specs.Rules.{ForEach, IsNothing, Then, is_quiet}
 use Rattle.qq_cluster_laws.specs.Linked.{IsReached}
 use Rattle.qq_cluster_laws.specs.Serves.{GivesUp, Leads, Seen, Serves}
 use Rattle.qq_cluster_laws.specs.Unseen.{seen_by}
-use Rattle.qq_cluster_laws.proofs.Reached.{after-both, reached-after}
+use Rattle.qq_cluster_laws.proofs.Reached.{reached-after}
 use Rattle.qq_cluster_laws.proofs.Serves.{ShowsOne, gives_up-behind, gives_up-same, leads-more, leads-start, serves-both, serves-nothing, serves-unseen, serves-weaker}
 use Rattle.qq_nodes.specs.Active.{AreRising}
 use Rattle.qq_nodes.specs.Ends.{IsAtEnd, NumberAt}
-use Rattle.qq_nodes.specs.Nodes.{Begins, CanServe, EndsAt, GaveUp, HaveLogs, LeadsIn, Served, Stands, node_at, nodes_in, places_in, seen, seen_in}
+use Rattle.qq_nodes.specs.Nodes.{Begins, CanServe, EndsAt, GaveUp, HaveLogs, LeadsIn, Served, Stands, node_at, places_in, seen, seen_in}
 use Rattle.qq_nodes.specs.declared.node.Node.{Node}
 use Rattle.qq_nodes.specs.declared.nodes.Nodes.{Nodes as Held}
 use Rattle.qq_nodes.proofs.Outcomes.{no_outcome, outcome_after}

@@ -1,32 +1,31 @@
 -- What a node's log was given is synced.
-use Rattle.std.proofs.Common.{◌≡◌, ◌⊎◌, ◌<◌, ◌≤◌, ◌+◌, ◌-◌, ℕ, Bool, true, false, ◌&&◌, cond, List, [], ◌∷◌, ◌++◌, Option, Some, None, length, refl, sym, ap, ◌∙◌, subst, inl, inr, arith, append-nil}
+use Rattle.std.proofs.Common.{◌≡◌, ◌<◌, ◌≤◌, ◌+◌, ◌-◌, ℕ, Bool, true, false, cond, List, [], ◌∷◌, ◌++◌, Some, length, refl, sym, ap, ◌∙◌, subst, inl, inr, arith}
 use Rattle.std.specs.Fmt.{decimal}
 use Rattle.std.specs.Global.{Vec}
-use Rattle.std.specs.Prelude.{IsTrue, codes, filter, is_some, nat_lt, slice_get, slice_set}
+use Rattle.std.specs.Prelude.{IsTrue, codes, filter, is_some, slice_get, slice_set}
 use Rattle.std.specs.List.{AllByRecursion, list_any}
 use Rattle.std.proofs.Math.Path.{fun_ext}
 use Rattle.std.proofs.lemmas.Bool.{cond_both, false≢true, ltb-false, or_parts}
 use Rattle.qq_base.specs.Causes.{Rose}
-use Rattle.qq_base.proofs.Lists.{AllByRecursion-weaker, In as InList}
+use Rattle.qq_base.proofs.Lists.{In as InList}
 use Rattle.qq_base.proofs.Puts.{put-each, put-same}
 use Rattle.qq_base.specs.Fronts.{put}
 use Rattle.qq_base.specs.declared.memory.Memory.{Memory}
 use Rattle.qq_base.specs.declared.memory.Memory.TheVariants.{Spent, Want}
-use Rattle.qq_base.specs.declared.memory.TheConstants.{NUMBER_END}
 use Rattle.qq_disk.specs.Disk.{Disk, now}
 use Rattle.qq_disk.proofs.Stored.{still_tells}
 use Rattle.qq_disk.specs.Moments.{Adds}
 use Rattle.qq_disk.proofs.Moments.{adds-now}
-use Rattle.qq_lots.specs.Kept.{IsTied, KeepsPromised}
-use Rattle.qq_lots.specs.Lots.{Lot, Part, Parts, keep, keep_all}
+use Rattle.qq_lots.specs.Lots.{Lot, Part, Parts, keep_all}
 use Rattle.qq_lots.proofs.Writes.{tied-same}
 use Rattle.qq_raft_model.specs.Group.{has_node}
 use Rattle.qq_raft_protocol.specs.Facts.{In}
-use Rattle.qq_cluster.specs.Cluster.{Cluster, ClusterEvent, Fails, NodeSyncs, Setup, cluster_after, cluster_happens, members}
+use Rattle.qq_cluster.specs.Cluster.{Cluster, ClusterEvent, Fails, NodeSyncs, Setup, cluster_happens, members}
 use Rattle.qq_cluster.specs.Laws.{CountsRise}
-use Rattle.qq_cluster.specs.Queue.{Queue, Stops, Syncs as SyncsAt, happens}
+use Rattle.qq_cluster.specs.Queue.{Stops, Syncs as SyncsAt, happens, synced_after}
+use Rattle.qq_cluster.proofs.Takerless.{untold-still}
 use Rattle.qq_cluster.specs.Rules.{IsNothing, IsSync, IsSynced, MayRoll, if_so, is_quiet, some_queue, waits_synced}
-use Rattle.qq_cluster_laws.specs.Linked.{IsLinked, IsPromised, IsReached, MembersFollow, lot_of, part_at, parts_at}
+use Rattle.qq_cluster_laws.specs.Linked.{IsLinked, IsPromised, IsReached, MembersFollow, lot_of, parts_at}
 use Rattle.qq_cluster_laws.specs.Serves.{GivesUp, Serves}
 use Rattle.qq_cluster_laws.specs.Traced.{IsTracedAt}
 use Rattle.qq_cluster_laws.proofs.Calls.{failed-traced, sync_failed-traced, synced-traced}
@@ -35,7 +34,6 @@ use Rattle.qq_cluster_laws.proofs.Reached.{counts-at}
 use Rattle.qq_cluster_laws.proofs.Traces.{broken-none}
 use Rattle.qq_cluster_queue.specs.Sessions.{standings}
 use Rattle.qq_cluster_queue.specs.declared.sessions.Standing.{Standing}
-use Rattle.qq_cluster_queue.specs.declared.cluster_queue.ClusterQueue.{ClusterQueue}
 use Rattle.qq_node_log.specs.Log.{IsRunningIn, disk_in}
 use Rattle.qq_node_log.specs.Syncing.{HasCome, IsLastIn, IsLastOn}
 use Rattle.qq_node_log.specs.declared.node_log.NodeLog.{NodeLog}
@@ -46,15 +44,15 @@ use Rattle.qq_node_log.proofs.Running.{running-same}
 use Rattle.qq_cluster.specs.Outcome.{Outcome}
 use Rattle.qq_nodes.specs.Showing.{with_line}
 use Rattle.qq_nodes.specs.Active.{is_in}
-use Rattle.qq_nodes.specs.Ends.{HasLog, InNumbers, IsAtEnd}
+use Rattle.qq_nodes.specs.Ends.{InNumbers, IsAtEnd}
 use Rattle.qq_nodes.specs.Logs.{ChangesLog, MaySyncAt, NodeTurns, Syncs, SyncsInPart}
-use Rattle.qq_nodes.specs.Nodes.{CanServe, GaveUp, HaveLogs, IsNodeOf, IsSetUp, Served, Stands, seen}
+use Rattle.qq_nodes.specs.Nodes.{CanServe, GaveUp, HaveLogs, IsNodeOf, Served, Stands, seen}
 use Rattle.qq_nodes.specs.Turning.{HasStopped, HasTurned}
 use Rattle.qq_nodes.specs.declared.node.Node.{Node}
 use Rattle.qq_nodes.specs.declared.nodes.Nodes.{Nodes as Held}
 use Rattle.qq_nodes.proofs.Logged.{logs-with}
-use Rattle.qq_nodes.proofs.OwnStands.{Changes, QueuesOf, call-gives_up, call-serves, log-moments, log-runs, log-whole, node-in, node-was, not-fresh, set-here, stands-own, stopped-nodes, stopped-queues, turned-queues}
-use Rattle.qq_nodes.proofs.Owned.{AllOwn, own-fail, own-sync}
+use Rattle.qq_nodes.proofs.OwnStands.{Changes, QueuesOf, call-gives_up, call-serves, log-moments, log-runs, log-whole, node-in, node-was, not-fresh, stands-own, stopped-nodes, stopped-queues, turned-queues}
+use Rattle.qq_nodes.proofs.Owned.{own-fail, own-sync}
 use Rattle.qq_nodes.proofs.Pumping.{rule-else, rule-if}
 use Rattle.qq_nodes.proofs.Quiet.{quiet-stopped, quiet-syncs}
 use Rattle.qq_nodes.proofs.Stands.{ends-now, same-logs, served-nothing, stands-logs}
@@ -94,7 +92,8 @@ module _ (setup : Setup) (c : Cluster) (k : ℕ) (r : IsReached setup c) where
   syncs-none : (place : ℕ) → CountsRise (c.queue place) k → waits_synced k (c.queue place) ≡ false
       → happens (c.queue place) (SyncsAt k) ≡ c.queue place
   syncs-none place rise none =
-      ap (λ (synced : ℕ → ℕ). record (c.queue place) { synced = synced })
+      sym (untold-still (record (c.queue place) { synced = synced_after (c.queue place) (SyncsAt k) }))
+      ∙ ap (λ (synced : ℕ → ℕ). record (c.queue place) { synced = synced })
       (cond_both (is_some ((c.queue place).group.seat k).server)
       (put k (length ((c.queue place).group.seat k).ops) (c.queue place).synced) (c.queue place).synced
       (λ (synced : ℕ → ℕ). synced ≡ (c.queue place).synced)
@@ -125,11 +124,11 @@ in-filter passes x (y ∷ ys) here = by (passes y) here (λ later. in-filter pas
 
 module _ {D : Type 0} {tells : D → Bool} {past : D → List Disk} {faults : D → ℕ} where
   -- a node that is down syncs nothing
-  pub sync-down : (k : ℕ) (held : Held D) (outcome : Outcome)
+  pub sync-down : (k : ℕ) (held : Held D) (told : Outcome)
       → ((setup : Setup) (c : Cluster) → Stands tells past setup held c → false ≡ c.up k)
-      → Served tells past faults (λ setup. IsSync setup k) held held outcome outcome
-  sync-down k held outcome down =
-      served-nothing held outcome
+      → Served tells past faults (λ setup. IsSync setup k) held held told told
+  sync-down k held told down =
+      served-nothing held told
       (λ setup c r st. rule-else (c.up k)
       (if_so (some_queue setup (waits_synced k) c) (IsSynced k) (MayRoll k)) IsNothing c [] (sym (down setup c st)) refl)
 
@@ -306,13 +305,13 @@ module _ {D : Type 0} {tells : D → Bool} {past : D → List Disk} where
       -- ---- all of it is synced
 
       -- something waited
-      synced-some : (last : Held D) (outcome : Outcome) → outcome ≡ Whole → HasTurned (SyncsAt k) mid last
+      synced-some : (last : Held D) (told : Outcome) → outcome ≡ Whole → HasTurned (SyncsAt k) mid last
           → some_queue setup (waits_synced k) c ≡ true
           → Serves setup c (IsSync setup k c) (Stands tells past setup last) (seen tells past faults old)
-          (seen tells past faults last) outcome outcome
-      synced-some last outcome whole marked some =
+          (seen tells past faults last) told told
+      synced-some last told whole marked some =
           call-serves setup c k (NodeSyncs k ∷ []) old last turn.old turn.new turn.new same_parts (own-sync k, tt) low
-          turn.here (changed last marked).nodes was (is-up setup c st) ch log-same (IsSync setup k c) outcome outcome
+          turn.here (changed last marked).nodes was (is-up setup c st) ch log-same (IsSync setup k c) told told
           (λ failed. absurd (false≢true failed))
           (sync-rule setup c (NodeSyncs k ∷ []) st
           (rule-if (some_queue setup (waits_synced k) c) (IsSynced k) (MayRoll k) c (NodeSyncs k ∷ []) some (inl refl)))
@@ -321,7 +320,7 @@ module _ {D : Type 0} {tells : D → Bool} {past : D → List Disk} where
           (same-ops (cluster_happens c (NodeSyncs k)) (λ place. refl) (lot_of setup k).places) was.members)
           (mid-queues last marked setup c (cluster_happens c (NodeSyncs k)) r st (λ at lt. refl)) refl
           (λ at lt calm. ap (is_quiet setup c.up) (still setup c r st at lt calm) ∙ st.quiet at lt calm))
-          (same-outcome outcome)
+          (same-outcome told)
           (λ told linked. whole-traced linked (whole-come whole told linked))
         where
           whole-traced : IsLinked setup c k (now (past (disk_in ch.before)))
@@ -339,20 +338,20 @@ module _ {D : Type 0} {tells : D → Bool} {past : D → List Disk} where
               (past (disk_in ch.behind))) is (come told linked)
 
       -- nothing did, and perhaps a full file is replaced
-      synced-none : (last : Held D) (outcome : Outcome) → outcome ≡ Whole → HasTurned (SyncsAt k) mid last
+      synced-none : (last : Held D) (told : Outcome) → outcome ≡ Whole → HasTurned (SyncsAt k) mid last
           → some_queue setup (waits_synced k) c ≡ false
           → Serves setup c (IsSync setup k c) (Stands tells past setup last) (seen tells past faults old)
-          (seen tells past faults last) outcome outcome
-      synced-none last outcome whole marked none =
+          (seen tells past faults last) told told
+      synced-none last told whole marked none =
           call-serves setup c k [] old last turn.old turn.new turn.new same_parts tt low turn.here
-          (changed last marked).nodes was (is-up setup c st) ch log-same (IsSync setup k c) outcome outcome
+          (changed last marked).nodes was (is-up setup c st) ch log-same (IsSync setup k c) told told
           (λ failed. absurd (false≢true failed))
           (sync-rule setup c [] st
           (rule-else (some_queue setup (waits_synced k) c) (IsSynced k) (MayRoll k) c [] none (inl refl)))
           (stands-own setup c k [] old last turn.old turn.new tt (changed last marked) st
           (goes c whole refl (same-ops c (λ place. refl) (lot_of setup k).places) was.members)
           (mid-queues last marked setup c c r st (unmoved setup c r st none)) refl st.quiet)
-          (same-outcome outcome)
+          (same-outcome told)
           (λ told linked. (
             linked.promised,
             moments told linked,
@@ -473,13 +472,13 @@ module _ {D : Type 0} {tells : D → Bool} {past : D → List Disk} where
     whether P false yes' no' = no' refl
 
     -- all of it is synced, and the log goes on
-    pub synced : (faults : D → ℕ) (last : Held D) (outcome : Outcome)
+    pub synced : (faults : D → ℕ) (last : Held D) (told : Outcome)
         → NodeTurns (Syncs tells past faults Whole) (k - 1) old.nodes.items nodes.items
-        → HasTurned (SyncsAt k) after_log last → Served tells past faults (λ setup. IsSync setup k) old last outcome outcome
-    synced faults last outcome turn marked = record {
+        → HasTurned (SyncsAt k) after_log last → Served tells past faults (λ setup. IsSync setup k) old last told told
+    synced faults last told turn marked = record {
       serves = λ setup c r st. whether _ (some_queue setup (waits_synced k) c)
-          (λ some. synced-some k old nodes low high up faults Whole turn setup c r st last outcome refl marked some)
-          (λ none. synced-none k old nodes low high up faults Whole turn setup c r st last outcome refl marked none);
+          (λ some. synced-some k old nodes low high up faults Whole turn setup c r st last told refl marked some)
+          (λ none. synced-none k old nodes low high up faults Whole turn setup c r st last told refl marked none);
     }
 
     -- the disk failed where a new file was begun

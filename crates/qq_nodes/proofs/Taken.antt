@@ -1,8 +1,8 @@
 -- What all queues have handed out is what waits at a node.
-use Rattle.std.proofs.Common.{◌≡◌, ◌≢◌, ◌⊎◌, ◌<◌, ◌≤◌, ◌+◌, ◌-◌, ℕ, zero, suc, Bool, true, false, cond, List, [], ◌∷◌, ◌++◌, Option, Some, None, length, refl, sym, ap, ◌∙◌, subst, inl, inr, arith}
+use Rattle.std.proofs.Common.{◌≡◌, ◌≢◌, ◌<◌, ◌≤◌, ◌+◌, ◌-◌, ℕ, zero, suc, Bool, true, false, cond, List, [], ◌∷◌, ◌++◌, Option, Some, None, length, refl, sym, ap, ◌∙◌, subst, inl, inr, arith}
 use Rattle.std.specs.Prelude.{filter, nat_eq, nat_lt}
 use Rattle.std.specs.List.{AllByRecursion, flat_map, list_any, range_with_len}
-use Rattle.std.proofs.lemmas.Bool.{cases_Bool, cases_eq, eq-eqb, false≢true, lt-ltb, ne_eqb, or_from, or_parts}
+use Rattle.std.proofs.lemmas.Bool.{cases_Bool, cases_eq, false≢true, lt-ltb, ne_eqb, or_from, or_parts}
 use Rattle.qq_base.proofs.Lists.{AllByRecursion-weaker}
 use Rattle.qq_disk.specs.Disk.{Disk}
 use Rattle.qq_log.specs.declared.op.Op.{Op}
@@ -10,9 +10,9 @@ use Rattle.qq_raft_model.specs.Group.{has_node}
 use Rattle.qq_raft_model.specs.State.{Server}
 use Rattle.qq_raft_protocol.specs.Facts.{In}
 use Rattle.qq_cluster.specs.Cluster.{Cluster, Setup, members}
-use Rattle.qq_cluster.specs.Queue.{Queue, waiting, waiting_by}
-use Rattle.qq_cluster.specs.Rules.{is_quiet, some_queue, waits_written}
-use Rattle.qq_cluster_laws.specs.Linked.{IsReached, lot_of}
+use Rattle.qq_cluster.specs.Queue.{waiting, waiting_by}
+use Rattle.qq_cluster.specs.Rules.{waits_written}
+use Rattle.qq_cluster_laws.specs.Linked.{IsReached}
 use Rattle.qq_cluster_laws.specs.Waiting.{AreApart, all_waiting, ops_by, ops_waiting}
 use Rattle.qq_nodes.specs.Active.{AreRising, is_in}
 use Rattle.qq_nodes.specs.Nodes.{Stands}
@@ -20,7 +20,7 @@ use Rattle.qq_nodes.specs.Turning.{HasTaken}
 use Rattle.qq_nodes.specs.declared.nodes.Nodes.{Nodes as Held}
 use Rattle.qq_nodes.proofs.Membership.{out-ops, outside}
 use Rattle.qq_nodes.proofs.Quiet.{done}
-use Rattle.qq_nodes.proofs.Walks.{from-range, in-range}
+use Rattle.qq_nodes.proofs.Walks.{in-range}
 
 -- ---- lists
 

@@ -1,12 +1,11 @@
 -- Whatever a cluster is, each rule allows something there.
-use Rattle.std.proofs.Common.{◌≡◌, ◌⊎◌, ℕ, zero, suc, Bool, true, false, ◌&&◌, List, [], ◌∷◌, ◌++◌, Option, Some, None, length, refl, inl, inr}
+use Rattle.std.proofs.Common.{ℕ, zero, suc, Bool, true, false, ◌&&◌, List, [], ◌∷◌, ◌++◌, Option, Some, None, length, refl, inl}
 use Rattle.qq_entry.specs.declared.command.Unstamped.{Unstamped}
-use Rattle.qq_cluster.specs.Cluster.{Cluster, ClusterEvent, Setup, Alike, At, NodeSyncs, NodeWrites, SaysBusy, SaysEnded, SaysUnroutable, cluster_after}
-use Rattle.qq_cluster.specs.Lines.{IsRouted}
-use Rattle.qq_cluster.specs.Queue.{Delivers, Downs, Event, Fetches, Judges, Notices, Resends, Submits, TellsEnded, TellsNotTaken}
+use Rattle.qq_cluster.specs.Cluster.{Cluster, ClusterEvent, Setup, At, NodeSyncs, NodeWrites, SaysBusy, cluster_after}
+use Rattle.qq_cluster.specs.Queue.{Delivers, Downs, Event, Fetches, Judges, Notices, Submits, TellsEnded, TellsNotTaken}
 use Rattle.qq_taker.specs.declared.handed.Handed.{Handed}
 use Rattle.qq_taker.specs.declared.taker.Verdict.TheVariants.{Keep}
-use Rattle.qq_cluster.specs.Rules.{Rule, ForEach, Is, IsClaimed, IsEmptied, IsEnd, IsGiven, IsJudgedWhere, IsNextJudged, IsNodeRound, IsNothing, IsNotice, IsPump, IsPumped, IsResend, IsRound, IsSync, IsSynced, IsTold, IsWrite, IsWritten, MayRoll, Pumps, Tells, Then, Times, if_so, is_ended, is_idle, most_rounds, not_taken, some_queue, waits_noticed, waits_synced, waits_written}
+use Rattle.qq_cluster.specs.Rules.{ForEach, Is, IsClaimed, IsEmptied, IsGiven, IsJudgedWhere, IsNextJudged, IsNodeRound, IsNothing, IsNotice, IsPump, IsPumped, IsRound, IsSync, IsSynced, IsTold, IsWrite, IsWritten, MayRoll, Pumps, Tells, Then, Times, if_so, is_ended, is_idle, most_rounds, not_taken, some_queue, waits_noticed, waits_synced, waits_written}
 
 abbrev pub Allowed : (Cluster → List ClusterEvent → Type 0) → Cluster → Type 0
 Allowed Allows c = (events : List ClusterEvent) × Allows c events

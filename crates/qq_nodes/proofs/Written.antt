@@ -1,59 +1,54 @@
 -- What waits at a node is written to its log.
-use Rattle.std.proofs.Common.{◌≡◌, ◌⊎◌, ◌<◌, ◌≤◌, ◌+◌, ◌-◌, ℕ, Bool, true, false, ◌&&◌, List, [], ◌∷◌, ◌++◌, Option, Some, None, length, refl, sym, ap, ◌∙◌, subst, inl, inr, arith, append-nil}
+use Rattle.std.proofs.Common.{◌≡◌, ◌<◌, ◌≤◌, ◌+◌, ◌-◌, ℕ, Bool, true, false, ◌&&◌, List, [], ◌∷◌, ◌++◌, Some, length, refl, sym, ap, ◌∙◌, subst, inl, inr, arith}
 use Rattle.std.specs.Fmt.{decimal}
 use Rattle.std.specs.Global.{Vec}
-use Rattle.std.specs.Prelude.{All, IsSome, IsTrue, codes, nat_lt, replicate, slice_get, slice_set}
+use Rattle.std.specs.Prelude.{All, IsSome, codes, replicate, slice_get, slice_set}
 use Rattle.std.specs.List.{AllByRecursion, flat_map}
-use Rattle.std.proofs.lemmas.Bool.{and_from, and_right, false≢true, le-ltb, lt-ltb}
-use Rattle.qq_base.specs.Causes.{Rose}
+use Rattle.std.proofs.lemmas.Bool.{and_from, and_right, false≢true}
 use Rattle.qq_base.proofs.Lists.{AllByRecursion-weaker}
 use Rattle.qq_base.proofs.Puts.{put-same}
-use Rattle.qq_base.specs.Fronts.{put}
 use Rattle.qq_base.specs.declared.memory.Memory.{Memory}
 use Rattle.qq_base.specs.declared.memory.Memory.TheVariants.{Spent, Want}
 use Rattle.qq_disk.specs.Disk.{Disk, now}
 use Rattle.qq_disk.proofs.Stored.{still_tells}
 use Rattle.qq_log.specs.Op.{queue}
 use Rattle.qq_log.specs.Stable.{stable}
-use Rattle.qq_log.specs.Writable.{MayWrite}
 use Rattle.qq_log.specs.declared.op.Op.{Op}
-use Rattle.qq_lots.specs.Lots.{Lot, Part, Parts, give, give_batch, ids_of, ops_at}
+use Rattle.qq_lots.specs.Lots.{Lot, Part, Parts, give_batch, ids_of, ops_at}
 use Rattle.qq_raft_model.specs.Group.{group_after}
 use Rattle.qq_raft_model.specs.Group.Event.{Take}
 use Rattle.qq_raft_protocol.specs.Facts.{In}
 use Rattle.qq_log.specs.Carries.{is_listed}
-use Rattle.qq_cluster.specs.Cluster.{Cluster, ClusterEvent, Fails, NodeWrites, Setup, cluster_after, cluster_happens}
+use Rattle.qq_cluster.specs.Cluster.{Cluster, ClusterEvent, Fails, NodeWrites, Setup, cluster_happens}
 use Rattle.qq_cluster.specs.ClusterLaws.{HasGroups}
-use Rattle.qq_cluster.specs.Queue.{Queue, Stops, Writes, happens, waiting}
+use Rattle.qq_cluster.specs.Queue.{Queue, Writes, happens, waiting}
+use Rattle.qq_cluster.specs.Taking.{waiting_then}
+use Rattle.qq_cluster.proofs.Takerless.{untold-still}
 use Rattle.qq_cluster.specs.Rules.{IsNothing, IsWrite, IsWritten, is_quiet, some_queue, waits_written}
-use Rattle.qq_cluster_laws.specs.Linked.{IsLinked, IsReached, lot_of, part_at, parts_at}
+use Rattle.qq_cluster_laws.specs.Linked.{IsReached, lot_of, parts_at}
 use Rattle.qq_cluster_laws.specs.Serves.{GivesUp}
-use Rattle.qq_cluster_laws.specs.Traced.{IsBrokenAt, IsTracedAt}
-use Rattle.qq_cluster_laws.specs.Waiting.{AllWait, HasOwnGroups, all_waiting, ops_waiting}
+use Rattle.qq_cluster_laws.specs.Waiting.{AllWait, ops_waiting}
 use Rattle.qq_cluster_laws.proofs.Calls.{write-broken, write_failed-traced, written-traced}
 use Rattle.qq_cluster_laws.proofs.Links.{failed-follow, writes-follow}
 use Rattle.qq_cluster_laws.proofs.Waiting.{all-listed, all-wait, gives-waiting}
-use Rattle.qq_cluster_queue.specs.Members.{AreSound}
 use Rattle.qq_cluster_queue.specs.Sessions.{standings}
-use Rattle.qq_cluster_queue.specs.declared.cluster_queue.ClusterQueue.{ClusterQueue}
 use Rattle.qq_node_log.specs.Batches.{IsLongIn, IsLongOn}
 use Rattle.qq_node_log.specs.Giving.{MayGive}
 use Rattle.qq_node_log.specs.Log.{IsRunningIn, disk_in}
 use Rattle.qq_node_log.specs.declared.node_log.NodeLog.{NodeLog}
 use Rattle.qq_node_log.specs.declared.node_log.NodeLog.TheVariants.{Open, Closed}
 use Rattle.qq_node_log.proofs.Running.{running-same}
-use Rattle.qq_wal.specs.declared.batch.TheConstants.{BATCH_BYTES}
 use Rattle.qq_cluster.specs.Outcome.{Outcome}
 use Rattle.qq_nodes.specs.Showing.{with_line}
 use Rattle.qq_nodes.specs.Active.{is_in}
-use Rattle.qq_nodes.specs.Ends.{HasLog, InFile, IsAtEnd}
+use Rattle.qq_nodes.specs.Ends.{InFile, IsAtEnd}
 use Rattle.qq_nodes.specs.Logs.{Appends, AppendsInPart, ChangesLog, MayAppendAt, NodeTurns}
-use Rattle.qq_nodes.specs.Nodes.{CanServe, GaveUp, HaveLogs, IsNodeAt, IsNodeOf, IsSetUp, Served, Stands, seen}
+use Rattle.qq_nodes.specs.Nodes.{CanServe, GaveUp, HaveLogs, IsNodeOf, IsSetUp, Served, Stands, seen}
 use Rattle.qq_nodes.specs.Turning.{HasStopped, HasTaken}
 use Rattle.qq_nodes.specs.declared.node.Node.{Node}
 use Rattle.qq_nodes.specs.declared.nodes.Nodes.{Nodes as Held}
 use Rattle.qq_nodes.proofs.Logged.{logs-with}
-use Rattle.qq_nodes.proofs.OwnStands.{Changes, QueuesOf, call-gives_up, call-serves, log-moments, log-runs, log-whole, node-in, node-was, not-fresh, set-here, stands-own, stopped-nodes, stopped-queues, turned-queues}
+use Rattle.qq_nodes.proofs.OwnStands.{QueuesOf, call-gives_up, call-serves, log-moments, log-runs, log-whole, node-in, node-was, not-fresh, stands-own, stopped-nodes, stopped-queues, turned-queues}
 use Rattle.qq_nodes.proofs.Owned.{own-fail, own-write}
 use Rattle.qq_nodes.proofs.Pumping.{rule-else, rule-if}
 use Rattle.qq_nodes.proofs.Quiet.{quiet-stopped, quiet-writes}
@@ -78,8 +73,10 @@ long-ends (Closed disk) number long = absurd long
 
 -- a queue of which nothing waits is as it was
 waits-none : (k : ℕ) (q : Queue) (n : ℕ) → n ≡ 0
-    → record q { group = group_after q.group (replicate n (Take k)) } ≡ q
-waits-none k q n is = ap (λ (m : ℕ). record q { group = group_after q.group (replicate m (Take k)) }) is
+    → record q { group = group_after q.group (replicate n (Take k)); untold = waiting_then q.untold q.seats [] } ≡ q
+waits-none k q n is =
+    sym (untold-still (record q { group = group_after q.group (replicate n (Take k)) }))
+    ∙ ap (λ (m : ℕ). record q { group = group_after q.group (replicate m (Take k)) }) is
 
 module _ {D : Type 0} {tells : D → Bool} {past : D → List Disk} {faults : D → ℕ} where
   -- a node that is down writes nothing

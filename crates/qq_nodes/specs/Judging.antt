@@ -1,5 +1,5 @@
 -- What comes of a verdict: it is given, and the consumer's session then gives the command that it is.
-use Rattle.std.specs.Prelude.{◌≡◌, ◌<◌, ℕ, List, [], ◌∷◌, Option, Some, None, slice_get, slice_set}
+use Rattle.std.specs.Prelude.{◌≡◌, ℕ, List, [], ◌∷◌, Option, Some, None, slice_get, slice_set}
 use Rattle.qq_taker.specs.declared.handed.Handed.{Handed}
 use Rattle.qq_taker.specs.declared.taker.Verdict.{Verdict}
 use Rattle.qq_cluster.specs.Cluster.{At, Cluster, ClusterEvent}
@@ -7,15 +7,10 @@ use Rattle.qq_cluster.specs.Outcome.{Outcome}
 use Rattle.qq_cluster.specs.Queue.{Judges}
 use Rattle.qq_cluster.specs.Rules.{IsGiven, IsNothing}
 use Rattle.qq_cluster_queue.specs.ClusterQueue.{IsSameQueue}
-use Rattle.qq_cluster_queue.specs.Judging.{HasJudged, claim_for}
+use Rattle.qq_cluster_queue.specs.Judging.{HasJudged, claim_of}
 use Rattle.qq_cluster_queue.specs.Members.{AreSound}
-use Rattle.qq_cluster_queue.specs.Range.{MayStamp}
 use Rattle.qq_cluster_queue.specs.declared.cluster_queue.ClusterQueue.{ClusterQueue}
-use Rattle.qq_cluster_queue.specs.declared.judging.Claim.{Claim}
-
--- a command that a queue may be handed
-abbrev pub MayClaim : Claim → Type 0
-MayClaim claim = (0 < claim.session) × MayStamp claim.body
+use Rattle.qq_cluster_queue.specs.declared.claim.Claim.{Claim}
 
 -- the first delivery that waits at the queue at an index was judged, and this command follows
 pub record JudgesAt (claim : Option Claim) (at : ℕ) (olds news : List ClusterQueue) (before after : Outcome)
@@ -26,7 +21,7 @@ pub record JudgesAt (claim : Option Claim) (at : ℕ) (olds news : List ClusterQ
   pub is : news ≡ slice_set olds at new
   pub sound : AreSound new.group
   pub same : IsSameQueue old new
-  pub judged : HasJudged claim old new before after
+  pub judged : HasJudged old.untold old new before after claim
 
 -- ---- the rules
 
@@ -34,7 +29,7 @@ pub record JudgesAt (claim : Option Claim) (at : ℕ) (olds news : List ClusterQ
 pub record GivesVerdict (claim : Option Claim) (place : ℕ) (h : Handed) (events : List ClusterEvent) : Type 0 where
   pub verdict : Verdict
   pub is : events ≡ At place (Judges verdict) ∷ []
-  pub claim_is : claim ≡ claim_for verdict h
+  pub claim_is : claim ≡ claim_of verdict h
 
 -- the first one that waits, where one does
 abbrev pub IsClaimedWhere : Option Claim → ℕ → List Handed → List ClusterEvent → Type 0

@@ -1,11 +1,12 @@
 //! What is asked of one queue.
 ghost use Rattle.std.specs.Prelude.{◌<◌, All, length, IfErr, IfOk, IfSome, IsOkUnless, OnOk};
 ghost use Rattle.qq_cluster_queue.specs.ClusterQueue.{Does, IsSameQueue};
+ghost use Rattle.qq_cluster_queue.specs.Judging.{MayClaim};
 ghost use Rattle.qq_cluster_queue.specs.Members.{AreSound};
 ghost use Rattle.qq_cluster_queue.specs.Sessions.{standings};
 ghost use Rattle.qq_nodes.specs.Asking.{DoesAt, MayAsk, asked};
 ghost use Rattle.qq_nodes.specs.Ends.{IsAskCaused, IsRefusedAt};
-ghost use Rattle.qq_nodes.specs.Judging.{JudgesAt, MayClaim};
+ghost use Rattle.qq_nodes.specs.Judging.{JudgesAt};
 
 use qq_base::{Memory, NodeId};
 use qq_cluster_queue::{Claim, ClusterQueue, Sessions, Told};

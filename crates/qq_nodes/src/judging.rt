@@ -2,9 +2,10 @@
 ghost use Rattle.std.specs.Prelude.{◌≡◌, ◌<◌, ◌+◌, true, length, IfErr, IfOk, IfSome, IsOkUnless, OnErr, OnOk};
 ghost use Rattle.qq_cluster.specs.Cluster.{Cluster, Setup};
 ghost use Rattle.qq_cluster.specs.Rules.{IsNextJudged, IsTold, Tells};
+ghost use Rattle.qq_cluster_queue.specs.Judging.{MayClaim};
 ghost use Rattle.qq_nodes.specs.Active.{is_in};
 ghost use Rattle.qq_nodes.specs.Asking.{MayAsk, asked};
-ghost use Rattle.qq_nodes.specs.Judging.{IsClaimedBy, IsFollowed, MayClaim};
+ghost use Rattle.qq_nodes.specs.Judging.{IsClaimedBy, IsFollowed};
 ghost use Rattle.qq_nodes.specs.Nodes.{CanServe, GaveUp, Served, Stands};
 
 use crate::asking::{Ask, judge_in};

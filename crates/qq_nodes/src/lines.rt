@@ -207,7 +207,12 @@ impl<D: NodeDisk> Nodes<D> {
     }
 
     /// What waits at a node is appended to its log; of a node that is down that is said.
-    pub fn write<T: Taker>(&mut self, alloc: Global, node: NodeId, told: &mut Told<T>) -> Result<(), Memory>
+    pub fn write<T: Taker>(
+        &mut self,
+        alloc: Global,
+        node: NodeId,
+        told: &mut Told<T>,
+    ) -> Result<(), Memory>
         requires serve { CanServe D.tells D.past self.old }
         requires node { IsNodeAt node self.old }
         ensures ok { OnOk result (Served D.tells D.past D.faults
@@ -230,7 +235,12 @@ impl<D: NodeDisk> Nodes<D> {
     }
 
     /// A node's log is synced; of a node that is down that is said.
-    pub fn sync<T: Taker>(&mut self, alloc: Global, node: NodeId, told: &mut Told<T>) -> Result<(), Memory>
+    pub fn sync<T: Taker>(
+        &mut self,
+        alloc: Global,
+        node: NodeId,
+        told: &mut Told<T>,
+    ) -> Result<(), Memory>
         requires serve { CanServe D.tells D.past self.old }
         requires node { IsNodeAt node self.old }
         ensures ok { OnOk result (Served D.tells D.past D.faults
@@ -278,7 +288,12 @@ impl<D: NodeDisk> Nodes<D> {
     }
 
     // Each queue is told that a session has ended.
-    fn down_each<T: Taker>(&mut self, alloc: Global, session: u64, told: &mut Told<T>) -> Result<(), Memory>
+    fn down_each<T: Taker>(
+        &mut self,
+        alloc: Global,
+        session: u64,
+        told: &mut Told<T>,
+    ) -> Result<(), Memory>
         requires serve { CanServe D.tells D.past self.old }
         requires session { 0 < session }
         ensures ok { OnOk result (Served D.tells D.past D.faults
@@ -298,7 +313,12 @@ impl<D: NodeDisk> Nodes<D> {
 
     /// A session ends at each queue: it gives no more commands, and each queue that had one is told so. A pump
     /// follows where one is to.
-    pub fn end<T: Taker>(&mut self, alloc: Global, session: u64, told: &mut Told<T>) -> Result<(), Memory>
+    pub fn end<T: Taker>(
+        &mut self,
+        alloc: Global,
+        session: u64,
+        told: &mut Told<T>,
+    ) -> Result<(), Memory>
         requires serve { CanServe D.tells D.past self.old }
         requires session { 0 < session }
         ensures ok { OnOk result (Served D.tells D.past D.faults

@@ -23,9 +23,10 @@ use std::alloc::Global;
 /// The nodes of a cluster, and the queues that are replicated over them.
 ///
 /// A call answers what its line in a script allows (`Served`, by a rule of `qq_cluster`): some events happened,
-/// these stand for the cluster after them, and their text was added. After an error, which is want of memory or
-/// a number at its end, the run ends: these and the text are used no more, each disk keeps what the events so
-/// far promised, and the number that is told stands at its end in a queue or in a node's log (`GaveUp`).
+/// these stand for the cluster after them, their text was added, and takers saw what they show. After an error,
+/// which is want of memory or a number at its end, the run ends: these and what is told are used no more, each
+/// disk keeps what the events so far promised, and the number that is told stands at its end in a queue or in a
+/// node's log (`GaveUp`).
 #[derive(Drop)]
 pub struct Nodes<D: NodeDisk> {
     /// By their numbers, from 1 on.

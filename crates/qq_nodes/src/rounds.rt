@@ -49,7 +49,12 @@ impl<D: NodeDisk> Nodes<D> {
     }
 
     // Each queue's member on a node notices what is synced of it.
-    fn notice_each<T: Taker>(&mut self, alloc: Global, node: NodeId, told: &mut Told<T>) -> Result<(), Memory>
+    fn notice_each<T: Taker>(
+        &mut self,
+        alloc: Global,
+        node: NodeId,
+        told: &mut Told<T>,
+    ) -> Result<(), Memory>
         requires serve { CanServe D.tells D.past self.old }
         requires node { IsNodeAt node self.old }
         ensures ok { OnOk result (Served D.tells D.past D.faults
@@ -70,7 +75,12 @@ impl<D: NodeDisk> Nodes<D> {
     }
 
     // The messages of a queue are delivered from the front, as many as there are now.
-    fn empty_active<T: Taker>(&mut self, alloc: Global, at: usize, told: &mut Told<T>) -> Result<(), Memory>
+    fn empty_active<T: Taker>(
+        &mut self,
+        alloc: Global,
+        at: usize,
+        told: &mut Told<T>,
+    ) -> Result<(), Memory>
         requires serve { CanServe D.tells D.past self.old }
         requires place { at < length self.old.queues.items }
         requires active { is_in at self.old.active ≡ true }
@@ -109,7 +119,12 @@ impl<D: NodeDisk> Nodes<D> {
     }
 
     // A node's log is written and synced, and its members notice that.
-    fn node_round<T: Taker>(&mut self, alloc: Global, node: NodeId, told: &mut Told<T>) -> Result<(), Memory>
+    fn node_round<T: Taker>(
+        &mut self,
+        alloc: Global,
+        node: NodeId,
+        told: &mut Told<T>,
+    ) -> Result<(), Memory>
         requires serve { CanServe D.tells D.past self.old }
         requires node { IsNodeAt node self.old }
         ensures ok { OnOk result (Served D.tells D.past D.faults
@@ -256,7 +271,11 @@ impl<D: NodeDisk> Nodes<D> {
     }
 
     // A pump follows, unless it is to be asked for.
-    pub(crate) fn pumped<T: Taker>(&mut self, alloc: Global, told: &mut Told<T>) -> Result<(), Memory>
+    pub(crate) fn pumped<T: Taker>(
+        &mut self,
+        alloc: Global,
+        told: &mut Told<T>,
+    ) -> Result<(), Memory>
         requires { CanServe D.tells D.past self.old }
         ensures ok { OnOk result (Served D.tells D.past D.faults IsPumped
             self.old self.new told.old told.new) }

@@ -122,7 +122,12 @@ impl<D: NodeDisk> Nodes<D> {
     }
 
     // A session sends its open commands again, at each queue.
-    fn resend_each<T: Taker>(&mut self, alloc: Global, session: u64, told: &mut Told<T>) -> Result<(), Memory>
+    fn resend_each<T: Taker>(
+        &mut self,
+        alloc: Global,
+        session: u64,
+        told: &mut Told<T>,
+    ) -> Result<(), Memory>
         requires { CanServe D.tells D.past self.old }
         ensures ok { OnOk result (Served D.tells D.past D.faults
             (λ (setup : Setup). ForEach setup.places (λ place. Is (At place (Resends session))))
@@ -141,7 +146,12 @@ impl<D: NodeDisk> Nodes<D> {
     }
 
     // A session fetches what is out with its consumers, at each queue.
-    fn fetch_each<T: Taker>(&mut self, alloc: Global, session: u64, told: &mut Told<T>) -> Result<(), Memory>
+    fn fetch_each<T: Taker>(
+        &mut self,
+        alloc: Global,
+        session: u64,
+        told: &mut Told<T>,
+    ) -> Result<(), Memory>
         requires { CanServe D.tells D.past self.old }
         ensures ok { OnOk result (Served D.tells D.past D.faults
             (λ (setup : Setup). ForEach setup.places (λ place. Tells place (Fetches session)))
@@ -216,7 +226,12 @@ impl<D: NodeDisk> Nodes<D> {
 
     /// A session sends its open commands again, at each queue in order, and then fetches at each what is out with its
     /// consumers; of one that has ended that is said. A pump follows where one is to.
-    pub fn resend<T: Taker>(&mut self, alloc: Global, session: u64, told: &mut Told<T>) -> Result<(), Memory>
+    pub fn resend<T: Taker>(
+        &mut self,
+        alloc: Global,
+        session: u64,
+        told: &mut Told<T>,
+    ) -> Result<(), Memory>
         requires { CanServe D.tells D.past self.old }
         ensures ok { OnOk result (Served D.tells D.past D.faults
             (λ (setup : Setup). AndPumped setup (IsResend setup session))

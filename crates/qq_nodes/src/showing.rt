@@ -52,7 +52,12 @@ impl<D: NodeDisk> Nodes<D> {
     }
 
     /// Adds the states of a queue's members, in order of their nodes. The only error is `Memory::Want`, out of memory.
-    pub fn show<T: Taker>(&self, alloc: Global, queue: QueueId, told: &mut Told<T>) -> Result<(), Memory>
+    pub fn show<T: Taker>(
+        &self,
+        alloc: Global,
+        queue: QueueId,
+        told: &mut Told<T>,
+    ) -> Result<(), Memory>
         requires serve { CanServe D.tells D.past self.now }
         requires queue { IsQueueAt queue self.now }
         ensures ok { OnOk result (Served D.tells D.past D.faults (λ setup. Is (Shows queue.0))

@@ -14,7 +14,12 @@ use std::alloc::Global;
 
 impl<D: NodeDisk> Nodes<D> {
     // Time passes at a queue's first member.
-    fn tick_first<T: Taker>(&mut self, alloc: Global, at: usize, told: &mut Told<T>) -> Result<(), Memory>
+    fn tick_first<T: Taker>(
+        &mut self,
+        alloc: Global,
+        at: usize,
+        told: &mut Told<T>,
+    ) -> Result<(), Memory>
         requires serve { CanServe D.tells D.past self.old }
         requires place { at < length self.old.queues.items }
         ensures ok { OnOk result (Served D.tells D.past D.faults

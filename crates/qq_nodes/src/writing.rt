@@ -42,7 +42,12 @@ impl<D: NodeDisk> Nodes<D> {
     }
 
     // A call of a node's disk has failed: that is said, and the node stops. After an error nothing has changed.
-    fn fail<T: Taker>(&mut self, alloc: Global, node: NodeId, told: &mut Told<T>) -> Result<(), Memory>
+    fn fail<T: Taker>(
+        &mut self,
+        alloc: Global,
+        node: NodeId,
+        told: &mut Told<T>,
+    ) -> Result<(), Memory>
         requires node { IsNodeAt node self.old }
         requires sound { All (λ (d : Queue). AreSound d.group) self.old.queues.items }
         ensures ok { OnOk result (HasStopped node.0 self.old self.new) }

@@ -1,4 +1,5 @@
 -- A node that is down was recovered, but one of its members may not go on with what was found.
+use Rattle.qq_cluster.specs.Outcome.{Outcome}
 use Rattle.std.proofs.Common.{◌≡◌, ◌-◌, ℕ, suc, Bool, true, false, ◌||◌, List, [], ◌∷◌, ◌++◌, Option, Some, refl, sym, ap, ◌∙◌, subst, inl, inr, arith}
 use Rattle.std.specs.Global.{Vec}
 use Rattle.std.specs.Prelude.{Contains, IsTrue, Ok, nat_eq, slice_get}
@@ -240,7 +241,7 @@ module _ {D : Type 0} {tells : D → Bool} {past : D → List Disk} {faults : D 
     abbrev Caused : RestartFault → Type 0
     Caused fault = IsTakeEachCaused k handed own_pairs old.queues.items fault
 
-    is-refused : (before : List ℕ) (fault : RestartFault) → Caused fault
+    is-refused : (before : Outcome) (fault : RestartFault) → Caused fault
         → IsRefused tells past faults setup c (k ∷ []) old before fault
     is-refused before (faults_of.Damaged other file place) cause = absurd cause
     is-refused before (faults_of.Version other file byte) cause = absurd cause
@@ -274,7 +275,7 @@ module _ {D : Type 0} {tells : D → Bool} {past : D → List Disk} {faults : D 
       fault)
       (some-same stays.own turn.new (sym stays.here ∙ there) ∙ rec.is) stays.cause
 
-  pub lost-queue : (new : Held D) (before : List ℕ) (fault : RestartFault)
+  pub lost-queue : (new : Held D) (before : Outcome) (fault : RestartFault)
       → ((setup : Setup) (c : Cluster) → Stands tells past setup old c → c.up node.0 ≡ false)
       → new.nodes ≡ finds.nodes → StaysDown node false found mid fault
       → Refuses tells past faults (this_node k) (λ setup. IsRestart setup k) old new before fault
@@ -293,7 +294,7 @@ module _ {D : Type 0} {tells : D → Bool} {past : D → List Disk} {faults : D 
 
 -- why a node isn't restarted that was opened before
 pub step-refuses : {D : Type 0} {tells : D → Bool} {past : D → List Disk} {faults : D → ℕ} (node : NodeId)
-    (old new : Held D) (before : List ℕ) (fault : RestartFault) → IsNodeAt node old
+    (old new : Held D) (before : Outcome) (fault : RestartFault) → IsNodeAt node old
     → ((setup : Setup) (c : Cluster) → Stands tells past setup old c → c.up node.0 ≡ false)
     → MayNotStep tells past faults node false old new fault
     → Refuses tells past faults (this_node node.0) (λ setup. IsRestart setup node.0) old new before fault
@@ -304,7 +305,7 @@ step-refuses node old new before fault at down (inr none) =
 
 -- or it is, or its disk fails
 pub step-serves : {D : Type 0} {tells : D → Bool} {past : D → List Disk} {faults : D → ℕ} (node : NodeId)
-    (old new : Held D) (before later : List ℕ) → IsNodeAt node old
+    (old new : Held D) (before later : Outcome) → IsNodeAt node old
     → ((setup : Setup) (c : Cluster) → Stands tells past setup old c → c.up node.0 ≡ false)
     → Steps tells past faults node false old new before later
     → Served tells past faults (λ setup. IsRestart setup node.0) old new before later

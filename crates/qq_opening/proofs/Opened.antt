@@ -1,4 +1,5 @@
 -- What follows the restarts of an opening.
+use Rattle.qq_cluster.specs.Outcome.{Outcome}
 use Rattle.std.proofs.Common.{ℕ, Bool, true, false, List, ◌++◌, refl}
 use Rattle.qq_base.specs.declared.memory.Memory.{Memory}
 use Rattle.qq_disk.specs.Disk.{Disk}
@@ -37,7 +38,7 @@ abbrev Ticks : Setup → Cluster → List ClusterEvent → Type 0
 Ticks setup = ForEach setup.places (IsFirstTick setup)
 
 module _ {D : Type 0} {tells : D → Bool} {past : D → List Disk} {faults : D → ℕ} where
-  pub opens-served : {mid last new : Held D} {before middle later : List ℕ}
+  pub opens-served : {mid last new : Held D} {before middle later : Outcome}
       → Served tells past faults (λ (setup : Setup). ForEach setup.places (IsFirstTick setup)) mid last before middle
       → Served tells past faults IsPump last new middle later → Served tells past faults Opens mid new before later
   opens-served first second = served-then {First = Ticks} {Second = IsPump} first second
@@ -47,7 +48,7 @@ module _ {D : Type 0} {tells : D → Bool} {past : D → List Disk} {faults : D 
       → GaveUp tells past faults Opens mid new memory
   ticks-gave_up given = gave_up-first {First = Ticks} {Second = IsPump} (total-pumps most_rounds) given
 
-  pub pump-gave_up : {mid last new : Held D} {before middle : List ℕ} {memory : Memory}
+  pub pump-gave_up : {mid last new : Held D} {before middle : Outcome} {memory : Memory}
       → Served tells past faults (λ (setup : Setup). ForEach setup.places (IsFirstTick setup)) mid last before middle
       → GaveUp tells past faults IsPump last new memory → GaveUp tells past faults Opens mid new memory
   pump-gave_up first given = gave_up-second {First = Ticks} {Second = IsPump} first given

@@ -1,4 +1,6 @@
 -- All nodes are opened: the logs that were read support an audit, or those of some queue support none.
+use Rattle.qq_cluster.specs.Outcome.{Outcome}
+use Rattle.qq_nodes.proofs.Outcomes.{outcome_after}
 use Rattle.std.proofs.Common.{◌≡◌, ◌⊎◌, ◌<◌, ◌≤◌, ◌+◌, ℕ, zero, suc, Bool, true, false, List, ◌++◌, Option, Some, None, length, refl, sym, ap, ◌∙◌, subst, inl, inr, arith, append_assoc}
 use Rattle.std.specs.Prelude.{All, is_some, slice_get}
 use Rattle.std.specs.List.{range_with_len}
@@ -59,7 +61,7 @@ rose-still a m b before (inr end) more = by (cases_less m b more)
     by (inr less) = inl (omega (arith, before, less))
 
 module _ {D : Type 0} {tells : D → Bool} {past : D → List Disk} {faults : D → ℕ} (rows : List QueueRow) (old : Held D)
-    (new : AreNew tells past rows old) (some : Bool) (held : Held D) (before middle : List ℕ)
+    (new : AreNew tells past rows old) (some : Bool) (held : Held D) (before middle : Outcome)
     (to : OpenedTo tells past faults rows (length old.nodes.items) some old held before middle) where
   abbrev n : ℕ
   n = length old.nodes.items
@@ -165,7 +167,7 @@ module _ {D : Type 0} {tells : D → Bool} {past : D → List Disk} {faults : D 
           first-stays k s.did.events others (is_some (o.lanes k)) ((serves-of setup sw).came k here)
 
       -- it was served
-      module _ (final : Held D) (later : List ℕ) (served : Served tells past faults Opens held final middle later) where
+      module _ (final : Held D) (later : Outcome) (served : Served tells past faults Opens held final middle later) where
         t : Serves setup c (Opens setup c) (Stands tells past setup final) (seen tells past faults held)
             (seen tells past faults final) middle later
         t = served.serves setup c r s.did.stands
@@ -223,8 +225,8 @@ module _ {D : Type 0} {tells : D → Bool} {past : D → List Disk} {faults : D 
           abbrev rest : List ClusterEvent
           rest = e.serves.did.means.rest
 
-          abbrev said : List ℕ
-          said = middle ++ text_of setup c early
+          abbrev said : Outcome
+          said = outcome_after setup c early middle
 
           abbrev Spending : List ClusterEvent → Type 0
           Spending all =
@@ -267,7 +269,7 @@ module _ {D : Type 0} {tells : D → Bool} {past : D → List Disk} {faults : D 
 
     -- ---- the calls
 
-    pub opens-over : (final : Held D) (later : List ℕ) → Served tells past faults Opens held final middle later
+    pub opens-over : (final : Held D) (later : Outcome) → Served tells past faults Opens held final middle later
         → OpensOver tells past faults rows some old final before later
     opens-over final later served = record {
       hold = hold_all final (rises-served own_setup own-with final later served);

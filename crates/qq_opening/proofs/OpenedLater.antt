@@ -1,4 +1,5 @@
 -- All nodes are opened, and the logs of some queue support no audit.
+use Rattle.qq_cluster.specs.Outcome.{Outcome}
 use Rattle.std.proofs.Common.{◌≡◌, ◌⊎◌, ◌<◌, ◌≤◌, ◌+◌, ◌-◌, ℕ, zero, suc, Bool, true, List, [], ◌∷◌, Option, Some, None, length, refl, sym, ap, ◌∙◌, subst, inl, inr, arith, append-nil}
 use Rattle.std.specs.Prelude.{Contains, is_some, slice_get}
 use Rattle.std.specs.List.{range_with_len}
@@ -49,7 +50,7 @@ from-contains x (y ∷ xs) (zero, lt, is) = inl (sym is)
 from-contains x (y ∷ xs) (suc i, lt, is) = inr (from-contains x xs (i, omega (arith, lt), is))
 
 module _ {D : Type 0} {tells : D → Bool} {past : D → List Disk} {faults : D → ℕ} (rows : List QueueRow) (old : Held D)
-    (new : AreNew tells past rows old) (some : Bool) (held : Held D) (before middle : List ℕ)
+    (new : AreNew tells past rows old) (some : Bool) (held : Held D) (before middle : Outcome)
     (to : OpenedTo tells past faults rows (length old.nodes.items) some old held before middle) where
   abbrev n : ℕ
   n = length old.nodes.items

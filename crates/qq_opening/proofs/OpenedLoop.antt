@@ -1,4 +1,5 @@
 -- Nodes are opened, one after the other.
+use Rattle.qq_cluster.specs.Outcome.{Outcome}
 use Rattle.std.proofs.Common.{◌≡◌, ◌<◌, ◌+◌, ◌-◌, ℕ, Bool, true, false, ◌||◌, List, Option, Some, None, length, refl, sym, ap, ◌∙◌, subst, inl, inr, arith}
 use Rattle.std.specs.Prelude.{slice_get}
 use Rattle.std.specs.List.{range_with_len}
@@ -31,18 +32,18 @@ use Rattle.qq_opening.proofs.Untouched.{in-first, range-below}
 
 module _ {D : Type 0} {tells : D → Bool} {past : D → List Disk} {faults : D → ℕ} (rows : List QueueRow) (old : Held D)
     (new : AreNew tells past rows old) where
-  pub loop-none : (text : List ℕ) → OpenedTo tells past faults rows 0 false old old text text
-  loop-none text = record {
+  pub loop-none : (outcome : Outcome) → OpenedTo tells past faults rows 0 false old old outcome outcome
+  loop-none outcome = record {
     opened = opened-none rows old new;
     serves = λ logs setup sw groups own are. record {
       serves = serves-nothing setup (new_cluster setup) (RestartedTo 0 false setup (new_cluster setup))
-          (Stands tells past setup old) (seen tells past faults old) text (refl, λ k here. absurd here)
+          (Stands tells past setup old) (seen tells past faults old) outcome (refl, λ k here. absurd here)
           (new-stands rows old new setup (setup-over setup rows (length old.nodes.items) logs sw groups));
       came = λ k here. absurd here;
     };
   }
 
-  module _ (at : ℕ) (some : Bool) (held : Held D) (before middle : List ℕ)
+  module _ (at : ℕ) (some : Bool) (held : Held D) (before middle : Outcome)
       (to : OpenedTo tells past faults rows at some old held before middle) (node : NodeId) (is : node.0 ≡ at + 1)
       (lt : at < length old.nodes.items) where
     pub loop-may : MayStep tells past node held
@@ -83,7 +84,7 @@ module _ {D : Type 0} {tells : D → Bool} {past : D → List Disk} {faults : D 
     )
 
     -- what follows of logs that are what was read, with these lanes
-    more-opened : (last : Held D) (x : Option Lanes) (more : Bool) (later : List ℕ)
+    more-opened : (last : Held D) (x : Option Lanes) (more : Bool) (later : Outcome)
         → ((o : AreOpened tells past faults rows (at + 1) old last) × (o.lanes ≡ put (at + 1) x to.opened.lanes))
         → ((logs : Logs) (setup : Setup) → IsSetupWith setup rows (length old.nodes.items) logs → HasGroups setup
         → AreLogsOf rows logs → AreReadLogs rows (range_with_len 1 (at + 1)) (put (at + 1) x to.opened.lanes) logs
@@ -97,7 +98,7 @@ module _ {D : Type 0} {tells : D → Bool} {past : D → List Disk} {faults : D 
           (serves logs setup sw groups own);
     }
 
-    pub loop-more : (left last : Held D) (up more : Bool) (later : List ℕ)
+    pub loop-more : (left last : Held D) (up more : Bool) (later : Outcome)
         → Steps tells past faults node true held left middle later → IsMarked at up left last → more ≡ (some || up)
         → OpenedTo tells past faults rows (at + 1) more old last before later
     loop-more left last true more later (inl (step, says)) (same, up) more_is =
@@ -124,7 +125,7 @@ module _ {D : Type 0} {tells : D → Bool} {past : D → List Disk} {faults : D 
         more more_is)
 
     -- the node is there afterwards
-    pub loop-here : (left : Held D) (later : List ℕ) → Steps tells past faults node true held left middle later
+    pub loop-here : (left : Held D) (later : Outcome) → Steps tells past faults node true held left middle later
         → at < length left.nodes.items
     loop-here left later steps =
         let long = by steps in
@@ -140,7 +141,7 @@ module _ {D : Type 0} {tells : D → Bool} {past : D → List Disk} {faults : D 
             ap length none.turn.is ∙ set-long held.nodes.items (node.0 - 1) none.turn.new
 
   -- all of them
-  pub loop-all : (at : ℕ) (some : Bool) (held : Held D) (before later : List ℕ) → at ≡ length old.nodes.items
+  pub loop-all : (at : ℕ) (some : Bool) (held : Held D) (before later : Outcome) → at ≡ length old.nodes.items
       → OpenedTo tells past faults rows at some old held before later
       → OpenedTo tells past faults rows (length old.nodes.items) some old held before later
   loop-all at some held before later is to =

@@ -1,4 +1,5 @@
 -- A node's log isn't recovered as it is opened, after others were.
+use Rattle.qq_nodes.proofs.Outcomes.{no_outcome}
 use Rattle.std.proofs.Common.{◌≡◌, ◌≢◌, ◌<◌, ◌+◌, ◌-◌, ℕ, Bool, true, List, [], ◌∷◌, ◌++◌, Some, length, refl, sym, ap, ◌∙◌, subst, inl, inr, arith}
 use Rattle.std.specs.Prelude.{Err, IsTrue, slice_get}
 use Rattle.std.specs.List.{range_with_len}
@@ -212,10 +213,10 @@ module _ {D : Type 0} {tells : D → Bool} {past : D → List Disk} {faults : D 
       (total-each setup.nodes (IsRestart setup) (total-restart setup)) (total-opens setup) (new_cluster setup) in (
         record {
           mid = old;
-          before = [];
-          said = [];
+          before = no_outcome;
+          said = no_outcome;
           serves = serves-none setup (new_cluster setup) (Begins (IsOpening setup) (new_cluster setup))
-              (Stands tells past setup old) a [] (record { rest = more.0; allowed = more.1 })
+              (Stands tells past setup old) a no_outcome (record { rest = more.0; allowed = more.1 })
               (new-stands rows old new setup (setup-over setup rows (length old.nodes.items) logs sw groups));
           at = OnDisk at fails.own
               (record { node = y; here = next-was rows old new at held o node is lt y none.turn.here; is = fails.was })

@@ -1,4 +1,7 @@
 -- One more node is opened, over logs that support an audit and are what was read: what the cluster is then.
+use Rattle.qq_cluster.specs.Outcome.{Outcome}
+use Rattle.qq_nodes.proofs.Outcomes.{line-outcome}
+use Rattle.qq_nodes.specs.Showing.{with_line}
 use Rattle.std.proofs.Common.{◌≡◌, ◌<◌, ◌+◌, ◌-◌, ℕ, zero, suc, Bool, true, false, not, ◌&&◌, ◌||◌, List, [], ◌∷◌, ◌++◌, Option, Some, None, length, refl, sym, ap, ◌∙◌, subst, arith, append-nil}
 use Rattle.std.specs.Fmt.{decimal}
 use Rattle.std.specs.Global.{Vec}
@@ -61,7 +64,7 @@ module _ {D : Type 0} {tells : D → Bool} {past : D → List Disk} {faults : D 
     (new : AreNew tells past rows old) (at : ℕ) (held : Held D) (o : AreOpened tells past faults rows at old held)
     (node : NodeId) (is : node.0 ≡ at + 1) (lt : at < length old.nodes.items) (logs : Logs) (setup : Setup)
     (sw : IsSetupWith setup rows (length old.nodes.items) logs) (groups : HasGroups setup) (some : Bool)
-    (before middle : List ℕ)
+    (before middle : Outcome)
     (s : OpenedServes tells past faults setup at o.lanes some old held before middle) where
   low : 0 < node.0
   low = omega (arith, is)
@@ -95,7 +98,7 @@ module _ {D : Type 0} {tells : D → Bool} {past : D → List Disk} {faults : D 
 
   -- ---- with one more
 
-  module _ (left : Held D) (own : Option Lanes) (more up : Bool) (later : List ℕ) (more_is : more ≡ (some || up))
+  module _ (left : Held D) (own : Option Lanes) (more up : Bool) (later : Outcome) (more_is : more ≡ (some || up))
       (t : Serves setup c (IsRestart setup node.0 c) (Stands tells past setup left) (seen tells past faults held)
       (seen tells past faults left) middle later)
       (up_is : up ≡ (cluster_after c t.did.events).up node.0) (own_is : is_some own ≡ up) where
@@ -212,8 +215,8 @@ module _ {D : Type 0} {tells : D → Bool} {past : D → List Disk} {faults : D 
   module _ (left : Held D) (none : FindsNone tells past faults node held left recover_faults.Disk) (last : Held D)
       (marked : NodeTurns (λ (y z : Node D). z ≡ record y { up = false; empty = true }) at left.nodes.items
       last.nodes.items) (same : last ≡ record left { nodes = last.nodes }) (own : AreLogsOf rows logs)
-      (are : AreReadLogs rows (range_with_len 1 (at + 1)) (put (at + 1) None o.lanes) logs) (later : List ℕ)
-      (says : later ≡ middle ++ (codes "node " ++ decimal node.0 ++ codes " stopped\n")) where
+      (are : AreReadLogs rows (range_with_len 1 (at + 1)) (put (at + 1) None o.lanes) logs) (later : Outcome)
+      (says : later ≡ with_line (codes "node " ++ decimal node.0 ++ codes " stopped\n") middle) where
     abbrev k : ℕ
     k = node.0
 
@@ -306,8 +309,7 @@ module _ {D : Type 0} {tells : D → Bool} {past : D → List Disk} {faults : D 
         (same-disk node held left recover_faults.Disk at-node none setup c r st down)
         (λ all. IsRestart setup k c all × (all ≡ Fails k ∷ [])) middle later
         (λ failed. fails.cause) (fails-restart setup k c down, refl) z-stands
-        (says ∙ ap (λ (l : List ℕ). middle ++ l)
-        (sym (append-nil (codes "node " ++ decimal k ++ codes " stopped\n"))))
+        (says ∙ line-outcome (codes "node " ++ decimal k ++ codes " stopped\n") middle)
         (λ told linked. failed-traced setup c k (past (disk_in fails.own)) (past fails.left) linked.promised
         (always node held left recover_faults.Disk at-node none setup c r st down told linked).1.0)
 

@@ -1,4 +1,6 @@
 -- Calls that change the disk of one node, whether it is up or down, by events of that node's log.
+use Rattle.qq_cluster.specs.Outcome.{Outcome}
+use Rattle.qq_nodes.proofs.Outcomes.{outcome_after}
 use Rattle.std.proofs.Common.{◌≡◌, ◌≢◌, ◌<◌, ◌≤◌, ◌-◌, ℕ, Bool, true, List, ◌++◌, Some, sym, ap, ◌∙◌, subst, arith}
 use Rattle.std.specs.Prelude.{IsTrue, slice_get, slice_set}
 use Rattle.qq_base.specs.Causes.{Rose}
@@ -60,9 +62,9 @@ module _ {D : Type 0} {tells : D → Bool} {past : D → List Disk} {faults : D 
       traced)
 
   -- they happened
-  pub disk-serves : (Allowed : List ClusterEvent → Type 0) (first last : List ℕ)
+  pub disk-serves : (Allowed : List ClusterEvent → Type 0) (first last : Outcome)
       → (fails_at k events ≡ true → Rose (faults (disk_in before)) (faults (disk_in behind))) → Allowed events
-      → Stands tells past setup new (cluster_after c events) → last ≡ first ++ text_of setup c events
+      → Stands tells past setup new (cluster_after c events) → last ≡ outcome_after setup c events first
       → (IsTrue (tells (disk_in before)) → IsLinked setup c k (now (past (disk_in before)))
       → IsTracedAt setup c k events (past (disk_in before)) (past (disk_in behind)))
       → Serves setup c Allowed (Stands tells past setup new) (seen tells past faults old) (seen tells past faults new)

@@ -1,4 +1,5 @@
 -- Nodes are restarted in order, and one of them isn't.
+use Rattle.qq_cluster.specs.Outcome.{Outcome}
 use Rattle.std.proofs.Common.{◌≡◌, ◌<◌, ◌+◌, ℕ, Bool, List, [], ◌∷◌, drop, get_or, length, refl, sym, ap, ◌∙◌, subst, inr, arith}
 use Rattle.std.specs.Prelude.{Err, IsTrue}
 use Rattle.std.specs.List.{range_with_len}
@@ -37,7 +38,7 @@ total-restart setup k c =
 
 -- a log that was linked is still
 still-linked : (setup : Setup) (c : Cluster) (k : ℕ) (Allowed : List ClusterEvent → Type 0) (Holds : Cluster → Type 0)
-    (a b : ℕ → Seen) (before later : List ℕ) (s : Serves setup c Allowed Holds a b before later) → In k setup.nodes
+    (a b : ℕ → Seen) (before later : Outcome) (s : Serves setup c Allowed Holds a b before later) → In k setup.nodes
     → IsTrue (a k).tells × IsLinked setup c k (now (a k).past)
     → IsTrue (b k).tells × IsLinked setup (cluster_after c s.did.events) k (now (b k).past)
 still-linked setup c k Allowed Holds a b before later s node linked = (
@@ -68,7 +69,7 @@ module _ {D : Type 0} (tells : D → Bool) (past : D → List Disk) (faults : D 
 
   -- why the next isn't
   refused-behind : (setup : Setup) (c : Cluster) (at k : ℕ) (old mid : Held D)
-      (before middle : List ℕ) (fault : RestartFault) → drop at setup.nodes ≡ k ∷ drop (at + 1) setup.nodes
+      (before middle : Outcome) (fault : RestartFault) → drop at setup.nodes ≡ k ∷ drop (at + 1) setup.nodes
       → (s : Serves setup c (FirstTo at setup c) (Stands tells past setup mid) (seen tells past faults old)
       (seen tells past faults mid) before middle)
       → IsRefused tells past faults setup (cluster_after c s.did.events) (k ∷ []) mid middle fault
@@ -98,7 +99,7 @@ module _ {D : Type 0} (tells : D → Bool) (past : D → List Disk) (faults : D 
 module _ {D : Type 0} {tells : D → Bool} {past : D → List Disk} {faults : D → ℕ} where
   -- ---- for want of memory or numbers
 
-  pub refuses-memory : {list : Setup → List ℕ} {Rule : Ruling} {old new : Held D} {before : List ℕ} {memory : Memory}
+  pub refuses-memory : {list : Setup → List ℕ} {Rule : Ruling} {old new : Held D} {before : Outcome} {memory : Memory}
       → GaveUp tells past faults Rule old new memory
       → Refuses tells past faults list Rule old new before (OfMemory memory)
   refuses-memory {memory = memory} given = record {
@@ -109,7 +110,7 @@ module _ {D : Type 0} {tells : D → Bool} {past : D → List Disk} {faults : D 
     never = λ setup c r st linked. tt;
   }
 
-  pub gave-spent : {list : Setup → List ℕ} {Rule : Ruling} {old new : Held D} {before : List ℕ} {fault : RestartFault}
+  pub gave-spent : {list : Setup → List ℕ} {Rule : Ruling} {old new : Held D} {before : Outcome} {fault : RestartFault}
       (number : ℕ) → Refuses tells past faults list Rule old new before fault → fault ≡ OfMemory (Spent number)
       → GaveUp tells past faults Rule old new (Spent number)
   gave-spent number refuses is = record {
@@ -118,7 +119,7 @@ module _ {D : Type 0} {tells : D → Bool} {past : D → List Disk} {faults : D 
     spent = λ n same. refuses.spent n (is ∙ ap OfMemory same);
   }
 
-  pub refuses-each : (at : ℕ) (node : NodeId) {old mid new : Held D} {before middle : List ℕ}
+  pub refuses-each : (at : ℕ) (node : NodeId) {old mid new : Held D} {before middle : Outcome}
       {fault : RestartFault}
       → ((setup : Setup) (c : Cluster) → Stands tells past setup mid c → node.0 ≡ at + 1) → at < length mid.nodes.items
       → Served tells past faults (FirstTo at) old mid before middle

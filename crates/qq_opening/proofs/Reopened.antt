@@ -1,4 +1,5 @@
 -- Nodes are opened again.
+use Rattle.qq_cluster.specs.Outcome.{Outcome}
 use Rattle.std.proofs.Common.{◌≡◌, ◌⊎◌, ◌≢◌, ◌<◌, ◌≤◌, ◌+◌, ℕ, zero, suc, Bool, true, false, ◌||◌, List, [], ◌∷◌, length, refl, sym, ap, ◌∙◌, subst, inl, inr, arith}
 use Rattle.std.specs.List.{list_any, range_with_len}
 use Rattle.std.proofs.lemmas.Bool.{cases_eq, false≢true, or_left, or_right, true≢false}
@@ -157,7 +158,7 @@ reopening-opens some setup c events so =
 -- ---- the call
 
 module _ {D : Type 0} {tells : D → Bool} {past : D → List Disk} {faults : D → ℕ} where
-  restarted-to : {old mid : Held D} {before middle : List ℕ} (some : Bool)
+  restarted-to : {old mid : Held D} {before middle : Outcome} (some : Bool)
       → Served tells past faults Restarts old mid before middle
       → ((setup : Setup) (c : Cluster) → Stands tells past setup mid c → some ≡ list_any c.up setup.nodes)
       → Served tells past faults (IsRestartedTo some) old mid before middle
@@ -169,7 +170,7 @@ module _ {D : Type 0} {tells : D → Bool} {past : D → List Disk} {faults : D 
         }));
   }
 
-  pub reopens : {old mid new : Held D} {before middle later : List ℕ} (some : Bool)
+  pub reopens : {old mid new : Held D} {before middle later : Outcome} (some : Bool)
       → Served tells past faults Restarts old mid before middle
       → ((setup : Setup) (c : Cluster) → Stands tells past setup mid c → some ≡ list_any c.up setup.nodes)
       → Served tells past faults Opens mid new middle later
@@ -177,13 +178,13 @@ module _ {D : Type 0} {tells : D → Bool} {past : D → List Disk} {faults : D 
   reopens some first up second =
       served-then {First = IsRestartedTo some} {Second = Opens} (restarted-to some first up) second
 
-  pub reopens-gave_up : {old mid new : Held D} {before middle : List ℕ} {memory : Memory}
+  pub reopens-gave_up : {old mid new : Held D} {before middle : Outcome} {memory : Memory}
       → Served tells past faults Restarts old mid before middle → GaveUp tells past faults Opens mid new memory
       → Refuses tells past faults all_nodes IsOpening old new before (OfMemory memory)
   reopens-gave_up first given = refuses-memory (gave_up-second {First = Restarts} {Second = Opens} first given)
 
   -- a node isn't restarted
-  pub reopens-refuses : {old new : Held D} {before : List ℕ} {fault : RestartFault}
+  pub reopens-refuses : {old new : Held D} {before : Outcome} {fault : RestartFault}
       → Refuses tells past faults all_nodes Restarts old new before fault
       → Refuses tells past faults all_nodes IsOpening old new before fault
   reopens-refuses refuses = record {

@@ -1,4 +1,6 @@
 -- A node that was down is recovered, and its members go on with what was found.
+use Rattle.qq_cluster.specs.Outcome.{Outcome}
+use Rattle.qq_nodes.proofs.Outcomes.{same-outcome}
 use Rattle.std.proofs.Common.{◌≡◌, ◌-◌, ℕ, Bool, true, false, List, [], ◌∷◌, Option, Some, length, refl, sym, ap, ◌∙◌, subst, append-nil}
 use Rattle.std.specs.Prelude.{IsTrue, Ok, slice_get, slice_set}
 use Rattle.std.proofs.lemmas.Bool.{false≢true}
@@ -43,10 +45,10 @@ some-same x y e = cc
 
 -- a node that is up stays as it is
 pub restart-up : {D : Type 0} {tells : D → Bool} {past : D → List Disk} {faults : D → ℕ} (k : ℕ) (held : Held D)
-    (text : List ℕ) → ((setup : Setup) (c : Cluster) → Stands tells past setup held c → true ≡ c.up k)
-    → Served tells past faults (λ setup. IsRestart setup k) held held text text
-restart-up k held text up =
-    served-nothing held text
+    (outcome : Outcome) → ((setup : Setup) (c : Cluster) → Stands tells past setup held c → true ≡ c.up k)
+    → Served tells past faults (λ setup. IsRestart setup k) held held outcome outcome
+restart-up k held outcome up =
+    served-nothing held outcome
     (λ setup c r st. rule-if (c.up k) IsNothing (IsFound setup k) c [] (sym (up setup c st)) refl)
 
 -- ---- a node that was recovered
@@ -183,25 +185,25 @@ module _ {D : Type 0} {tells : D → Bool} {past : D → List Disk} {faults : D 
           st.set_up.groups r down (was-node setup c st).members (read-then setup c st told) s.between
           s.stays s.tied
 
-      pub serves-then : (text : List ℕ) → Serves setup c (IsRestart setup k c) (Stands tells past setup new)
-          (seen tells past faults old) (seen tells past faults new) text text
-      serves-then text =
+      pub serves-then : (outcome : Outcome) → Serves setup c (IsRestart setup k c) (Stands tells past setup new)
+          (seen tells past faults old) (seen tells past faults new) outcome outcome
+      serves-then outcome =
           disk-serves setup c k events old new was_node up_node rec.own (Open rec.found.wal) own-events at.0
           finds.turn.here nodes-are rec.was (ap (λ (y : Node D). y.log) rec.is) (same-disk setup c st)
-          (IsRestart setup k c) text text
+          (IsRestart setup k c) outcome outcome
           (λ failed. absurd (false≢true failed))
           (found-rule setup c k old new.queues.items was_node handed rec.has.lanes own_lanes r st
           (was-node setup c st) down (found-lanes setup c st) take-up fits)
-          stands-then (sym (append-nil text)) traced
+          stands-then (same-outcome outcome) traced
 
 -- a node that was opened before
 pub restarted : {D : Type 0} {tells : D → Bool} {past : D → List Disk} {faults : D → ℕ} (node : NodeId)
-    (old new : Held D) (text : List ℕ) → IsNodeAt node old
+    (old new : Held D) (outcome : Outcome) → IsNodeAt node old
     → ((setup : Setup) (c : Cluster) → Stands tells past setup old c → c.up node.0 ≡ false)
     → StepsUp tells past faults node false old new
-    → Served tells past faults (λ setup. IsRestart setup node.0) old new text text
-restarted node old new text at down step = record {
+    → Served tells past faults (λ setup. IsRestart setup node.0) old new outcome outcome
+restarted node old new outcome at down step = record {
   serves = λ setup c r st. serves-then node old at step.found false new step.goes setup c r st (down setup c st)
       (λ y here place same. known-seat setup c node.0 old st step.found.turn.old r
-      (was-node node old at step.found setup c st) place y.1) text;
+      (was-node node old at step.found setup c st) place y.1) outcome;
 }

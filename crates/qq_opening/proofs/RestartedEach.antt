@@ -1,4 +1,5 @@
 -- Nodes are restarted, one after the other.
+use Rattle.qq_cluster.specs.Outcome.{Outcome}
 use Rattle.std.proofs.Common.{◌≡◌, ◌<◌, ◌≤◌, ◌+◌, ℕ, Bool, List, [], ◌∷◌, ◌++◌, drop, length, take, refl, sym, ap, ◌∙◌, append_assoc}
 use Rattle.std.proofs.lemmas.List.{take-append-drop}
 use Rattle.qq_base.specs.declared.ids.NodeId.{NodeId}
@@ -16,11 +17,11 @@ use Rattle.qq_opening.specs.Opened.{FirstTo}
 use Rattle.qq_opening.proofs.RestartRules.{each-both, first-more, first-whole}
 
 module _ {D : Type 0} {tells : D → Bool} {past : D → List Disk} {faults : D → ℕ} where
-  pub first-none : (held : Held D) (text : List ℕ) → Served tells past faults (FirstTo 0) held held text text
-  first-none held text = served-nothing held text (λ setup c r st. refl)
+  pub first-none : (held : Held D) (outcome : Outcome) → Served tells past faults (FirstTo 0) held held outcome outcome
+  first-none held outcome = served-nothing held outcome (λ setup c r st. refl)
 
   -- one more
-  pub first-next : (at : ℕ) (node : NodeId) {old mid new : Held D} {before middle later : List ℕ}
+  pub first-next : (at : ℕ) (node : NodeId) {old mid new : Held D} {before middle later : Outcome}
       → ((setup : Setup) (c : Cluster) → Stands tells past setup mid c → node.0 ≡ at + 1) → at < length mid.nodes.items
       → Served tells past faults (FirstTo at) old mid before middle
       → Served tells past faults (λ setup. IsRestart setup node.0) mid new middle later
@@ -38,7 +39,7 @@ module _ {D : Type 0} {tells : D → Bool} {past : D → List Disk} {faults : D 
       }
 
   -- all of them
-  pub first-all : (at : ℕ) {old new : Held D} {before later : List ℕ} → length old.nodes.items ≤ at
+  pub first-all : (at : ℕ) {old new : Held D} {before later : Outcome} → length old.nodes.items ≤ at
       → Served tells past faults (FirstTo at) old new before later
       → Served tells past faults (λ (setup : Setup). ForEach setup.nodes (IsRestart setup)) old new before later
   first-all at {old = old} le served =
@@ -49,15 +50,15 @@ module _ {D : Type 0} {tells : D → Bool} {past : D → List Disk} {faults : D 
   -- ---- one of them isn't restarted
 
   -- a node that isn't, after others were
-  pub record IsBehind (setup : Setup) (c : Cluster) (old : Held D) (before : List ℕ) (d : Cluster) (list : List ℕ)
-      (mid : Held D) (middle : List ℕ) (node : ℕ) (to : RestartsTo tells past faults setup d list mid middle node)
+  pub record IsBehind (setup : Setup) (c : Cluster) (old : Held D) (before : Outcome) (d : Cluster) (list : List ℕ)
+      (mid : Held D) (middle : Outcome) (node : ℕ) (to : RestartsTo tells past faults setup d list mid middle node)
       : Type 0 where
     pub whole : RestartsTo tells past faults setup c setup.nodes old before node
     pub same : whole.mid ≡ to.mid
     pub after : cluster_after c whole.serves.did.events ≡ cluster_after d to.serves.did.events
 
   pub behind : (setup : Setup) (c : Cluster) (at k node : ℕ) (old mid : Held D)
-      (before middle : List ℕ) → drop at setup.nodes ≡ k ∷ drop (at + 1) setup.nodes
+      (before middle : Outcome) → drop at setup.nodes ≡ k ∷ drop (at + 1) setup.nodes
       → (s : Serves setup c (FirstTo at setup c) (Stands tells past setup mid) (seen tells past faults old)
       (seen tells past faults mid) before middle)
       → (to : RestartsTo tells past faults setup (cluster_after c s.did.events) (k ∷ []) mid middle node)

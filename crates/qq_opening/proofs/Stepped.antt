@@ -1,4 +1,6 @@
 -- A node that is down was recovered, or not, as a step leaves it.
+use Rattle.qq_cluster.specs.Outcome.{Outcome}
+use Rattle.qq_nodes.specs.Showing.{with_line}
 use Rattle.std.proofs.Common.{◌≡◌, ◌++◌, ◌-◌, ℕ, Bool, List, Option, refl, ap, subst, inl, inr}
 use Rattle.std.specs.Global.{Vec}
 use Rattle.std.specs.Prelude.{codes}
@@ -33,12 +35,12 @@ module _ {D : Type 0} {tells : D → Bool} {past : D → List Disk} {faults : D 
       nodes.items → FindsLanes tells past faults node old
   finds lanes turn = record { nodes = nodes; lanes = lanes; turn = turn }
 
-  pub steps-up : (lanes : List (Option Lane)) (new : Held D) (text : List ℕ)
+  pub steps-up : (lanes : List (Option Lane)) (new : Held D) (outcome : Outcome)
       → NodeTurns (λ (x y : Node D). Recovers tells past faults old.log_bytes x y lanes) (node.0 - 1) old.nodes.items
       nodes.items
       → GoesOn node opens lanes (record old { nodes = nodes }) new
-      → Steps tells past faults node opens old new text text
-  steps-up lanes new text turn goes = inl (record { found = finds lanes turn; goes = goes }, refl)
+      → Steps tells past faults node opens old new outcome outcome
+  steps-up lanes new outcome turn goes = inl (record { found = finds lanes turn; goes = goes }, refl)
 
   pub steps-back : (lanes : List (Option Lane)) (new : Held D) (fault : RestartFault)
       → NodeTurns (λ (x y : Node D). Recovers tells past faults old.log_bytes x y lanes) (node.0 - 1) old.nodes.items
@@ -54,9 +56,9 @@ module _ {D : Type 0} {tells : D → Bool} {past : D → List Disk} {faults : D 
       → FindsNone tells past faults node old (record old { nodes = nodes }) cause
   none cause turn = record { turn = turn; same = refl }
 
-  pub steps-failed : (cause : RecoverFault) (before later : List ℕ)
+  pub steps-failed : (cause : RecoverFault) (before later : Outcome)
       → IsNotFound tells past faults node old nodes cause → cause ≡ recover_faults.Disk
-      → later ≡ before ++ (codes "node " ++ decimal node.0 ++ codes " stopped\n")
+      → later ≡ with_line (codes "node " ++ decimal node.0 ++ codes " stopped\n") before
       → Steps tells past faults node opens old (record old { nodes = nodes }) before later
   steps-failed cause before later turn is says =
       inr (none recover_faults.Disk (subst (IsNotFound tells past faults node old nodes) is turn), says)

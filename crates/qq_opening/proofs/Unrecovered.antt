@@ -1,4 +1,7 @@
 -- A node that is down isn't recovered: its disk has failed, or the restart is given up.
+use Rattle.qq_cluster.specs.Outcome.{Outcome}
+use Rattle.qq_nodes.proofs.Outcomes.{line-outcome}
+use Rattle.qq_nodes.specs.Showing.{with_line}
 use Rattle.std.proofs.Common.{◌≡◌, ◌<◌, ◌+◌, ◌-◌, ℕ, Bool, false, List, [], ◌∷◌, ◌++◌, Some, None, length, refl, sym, ap, ◌∙◌, subst, inr, append-nil}
 use Rattle.std.specs.Fmt.{decimal}
 use Rattle.std.specs.Global.{Vec}
@@ -60,7 +63,7 @@ fails-restart setup k c down = rule-else (c.up k) IsNothing (IsFound setup k) c 
 
 -- the first node of the list isn't restarted
 abbrev pub restarts-none : {D : Type 0} (tells : D → Bool) (past : D → List Disk) (faults : D → ℕ) (setup : Setup)
-    (c : Cluster) (k : ℕ) (old : Held D) (before : List ℕ) → Stands tells past setup old c → c.up k ≡ false
+    (c : Cluster) (k : ℕ) (old : Held D) (before : Outcome) → Stands tells past setup old c → c.up k ≡ false
     → RestartsTo tells past faults setup c (this_node k setup) old before k
 restarts-none tells past faults setup c k old before st down = record {
   first = [];
@@ -207,8 +210,8 @@ module _ {D : Type 0} {tells : D → Bool} {past : D → List Disk} {faults : D 
           failed-node failed-queues refl (λ i lt calm. quiet-stopped setup c.up (c.queue (i + 1)) k
           (st.quiet i lt calm))
 
-      pub failed-serves : fault ≡ recover_faults.Disk → (before after : List ℕ)
-          → after ≡ before ++ (codes "node " ++ decimal k ++ codes " stopped\n")
+      pub failed-serves : fault ≡ recover_faults.Disk → (before after : Outcome)
+          → after ≡ with_line (codes "node " ++ decimal k ++ codes " stopped\n") before
           → Serves setup c (IsRestart setup k c) (Stands tells past setup left) (seen tells past faults old)
           (seen tells past faults left) before after
       failed-serves is before after says =
@@ -217,8 +220,7 @@ module _ {D : Type 0} {tells : D → Bool} {past : D → List Disk} {faults : D 
           after
           (λ failed. subst (IsRecoverCaused (faults (disk_in fails.own)) (faults fails.left)) is fails.cause)
           (fails-restart setup k c down) failed-stands
-          (says ∙ ap (λ (l : List ℕ). before ++ l)
-          (sym (append-nil (codes "node " ++ decimal k ++ codes " stopped\n"))))
+          (says ∙ line-outcome (codes "node " ++ decimal k ++ codes " stopped\n") before)
           (λ told linked. failed-traced setup c k (past (disk_in fails.own)) (past fails.left) linked.promised
           (always told linked).1.0)
 
@@ -234,14 +236,14 @@ module _ {D : Type 0} {tells : D → Bool} {past : D → List Disk} {faults : D 
 
     -- ---- as a restart leaves it
 
-    module _ (before : List ℕ) (down : (setup : Setup) (c : Cluster) → Stands tells past setup old c → c.up k ≡ false)
+    module _ (before : Outcome) (down : (setup : Setup) (c : Cluster) → Stands tells past setup old c → c.up k ≡ false)
       where
         abbrev Refused : RestartFault → Type 0
         Refused = Refuses tells past faults (this_node k) (λ setup. IsRestart setup k) old left before
 
         -- the disk has failed, and that is said
-        pub not-recovered : fault ≡ recover_faults.Disk → (after : List ℕ)
-            → after ≡ before ++ (codes "node " ++ decimal k ++ codes " stopped\n")
+        pub not-recovered : fault ≡ recover_faults.Disk → (after : Outcome)
+            → after ≡ with_line (codes "node " ++ decimal k ++ codes " stopped\n") before
             → Served tells past faults (λ setup. IsRestart setup k) old left before after
         not-recovered is after says = record {
           serves = λ setup c r st. failed-serves setup c r st (down setup c st) is before after says;
@@ -314,7 +316,7 @@ module _ {D : Type 0} {tells : D → Bool} {past : D → List Disk} {faults : D 
 pub not-restarted : {D : Type 0} {tells : D → Bool} {past : D → List Disk} {faults : D → ℕ} (node : NodeId)
     (old left : Held D) (at : IsNodeAt node old) (cause : RecoverFault)
     → FindsNone tells past faults node old left cause
-    → (before : List ℕ) (fault : RestartFault)
+    → (before : Outcome) (fault : RestartFault)
     → ((setup : Setup) (c : Cluster) → Stands tells past setup old c → c.up node.0 ≡ false)
     → IsFaultOf node cause fault
     → Refuses tells past faults (this_node node.0) (λ setup. IsRestart setup node.0) old left before fault

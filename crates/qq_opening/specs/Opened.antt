@@ -1,5 +1,6 @@
 -- What stands while nodes are opened: what was read of the first of them, and what the cluster is where that turns
 -- out to support an audit.
+use Rattle.qq_cluster.specs.Outcome.{Outcome}
 use Rattle.std.specs.Prelude.{◌≡◌, ◌<◌, ◌≤◌, ◌+◌, ℕ, Bool, true, false, not, List, [], Option, Some, None, Ok, Contains, IsTrue, is_some, length, map, slice_get, take}
 use Rattle.std.specs.List.{range_with_len}
 use Rattle.qq_base.specs.Causes.{Rose}
@@ -125,13 +126,13 @@ pub record AreOpened {D : Type 0} (tells : D → Bool) (past : D → List Disk) 
 
 -- over logs that support an audit, and are what was read
 pub record OpenedServes {D : Type 0} (tells : D → Bool) (past : D → List Disk) (faults : D → ℕ) (setup : Setup) (at : ℕ)
-    (lanes : ℕ → Option Lanes) (some : Bool) (old held : Held D) (before later : List ℕ) : Type 0 where
+    (lanes : ℕ → Option Lanes) (some : Bool) (old held : Held D) (before later : Outcome) : Type 0 where
   pub serves : Serves setup (new_cluster setup) (RestartedTo at some setup (new_cluster setup))
       (Stands tells past setup held) (seen tells past faults old) (seen tells past faults held) before later
   pub came : HaveRestarted (range_with_len 1 at) lanes serves.did.events
 
 pub record OpenedTo {D : Type 0} (tells : D → Bool) (past : D → List Disk) (faults : D → ℕ) (rows : List QueueRow)
-    (at : ℕ) (some : Bool) (old held : Held D) (before later : List ℕ) : Type 0 where
+    (at : ℕ) (some : Bool) (old held : Held D) (before later : Outcome) : Type 0 where
   pub opened : AreOpened tells past faults rows at old held
   pub serves : (logs : Logs) (setup : Setup) → IsSetupWith setup rows (length old.nodes.items) logs → HasGroups setup
       → AreLogsOf rows logs → AreReadLogs rows (range_with_len 1 at) opened.lanes logs

@@ -1,5 +1,6 @@
 -- Nodes are opened over disks that may hold the logs of an earlier run: what they read, and over which logs the
 -- cluster begins.
+use Rattle.qq_cluster.specs.Outcome.{Outcome}
 use Rattle.std.specs.Prelude.{◌≡◌, ◌⊎◌, ◌<◌, ◌+◌, ◌-◌, ◌++◌, ◌∷◌, ℕ, Bool, true, false, List, [], Option, Some, None, Ok, Err, Contains, IsTrue, is_some, length, slice_get}
 use Rattle.std.specs.List.{AllByRecursion, range_with_len}
 use Rattle.qq_base.specs.Causes.{Rose}
@@ -116,7 +117,7 @@ all_of held = range_with_len 1 (length held.nodes.items)
 
 -- The cluster begins with logs that support an audit: it was opened, and the nodes stand for it.
 pub record OpensTo {D : Type 0} (tells : D → Bool) (past : D → List Disk) (faults : D → ℕ) (setup : Setup)
-    (lanes : ℕ → Option Lanes) (some : Bool) (old new : Held D) (before later : List ℕ) : Type 0 where
+    (lanes : ℕ → Option Lanes) (some : Bool) (old new : Held D) (before later : Outcome) : Type 0 where
   pub groups : HasGroups setup
   pub serves : Serves setup (new_cluster setup) (IsOpenedTo some setup (new_cluster setup))
       (Stands tells past setup new) (seen tells past faults old) (seen tells past faults new) before later
@@ -124,7 +125,7 @@ pub record OpensTo {D : Type 0} (tells : D → Bool) (past : D → List Disk) (f
 
 -- Nodes over disks that hold some logs were opened: of each setup with these logs.
 pub record OpensOver {D : Type 0} (tells : D → Bool) (past : D → List Disk) (faults : D → ℕ) (rows : List QueueRow)
-    (some : Bool) (old new : Held D) (before later : List ℕ) : Type 0 where
+    (some : Bool) (old new : Held D) (before later : Outcome) : Type 0 where
   pub hold : HoldLogs tells past faults rows (all_of old) old new
   pub opens : (setup : Setup) → IsSetupWith setup rows (length old.nodes.items) hold.logs
       → OpensTo tells past faults setup hold.read.lanes some old new before later

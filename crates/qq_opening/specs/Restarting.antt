@@ -1,4 +1,5 @@
 -- What a restart and the opening of nodes have done, and why nodes aren't restarted.
+use Rattle.qq_cluster.specs.Outcome.{Outcome}
 use Rattle.std.specs.Prelude.{◌≡◌, ◌++◌, ◌∷◌, ℕ, Bool, true, false, List, [], Some, Ok, Err, take, IsTrue, Contains}
 use Rattle.std.specs.List.{AllByRecursion, list_any}
 use Rattle.qq_base.specs.declared.ids.NodeId.{NodeId}
@@ -80,12 +81,12 @@ pub record IsLostAt {D : Type 0} (tells : D → Bool) (past : D → List Disk) (
 -- Nodes of a list were restarted in order, and this one isn't: those before it have restarted, and it is down.
 pub record RestartsTo {D : Type 0} (tells : D → Bool) (past : D → List Disk) (faults : D → ℕ) (setup : Setup)
     (c : Cluster)
-    (list : List ℕ) (old : Held D) (before : List ℕ) (node : ℕ) : Type 0 where
+    (list : List ℕ) (old : Held D) (before : Outcome) (node : ℕ) : Type 0 where
   pub first : List ℕ
   pub later : List ℕ
   pub are : list ≡ first ++ node ∷ later
   pub mid : Held D
-  pub said : List ℕ
+  pub said : Outcome
   pub serves : Serves setup c (ForEach first (IsRestart setup) c) (Stands tells past setup mid)
       (seen tells past faults old) (seen tells past faults mid) before said
   pub down : (cluster_after c serves.did.events).up node ≡ false
@@ -93,7 +94,7 @@ pub record RestartsTo {D : Type 0} (tells : D → Bool) (past : D → List Disk)
 -- Why it isn't: its files break the rules of a log, first at this place, or are of another version, as recovery reads
 -- them of a disk that tells its contents; or a queue is lost.
 abbrev pub IsRefused : {D : Type 0} → (D → Bool) → (D → List Disk) → (D → ℕ) → Setup → Cluster → List ℕ → Held D
-    → List ℕ → RestartFault → Type 0
+    → Outcome → RestartFault → Type 0
 IsRefused tells past faults setup c list old before (Damaged node file place) =
     (to : RestartsTo tells past faults setup c list old before node.0)
     × (IsTrue (seen tells past faults to.mid node.0).tells
@@ -126,7 +127,7 @@ AreLinked tells past faults setup held c list =
 -- nodes isn't restarted, but for want of memory or numbers; a number stands at its end where it is that; and it is none
 -- of the others where each of the nodes' logs is linked.
 pub record Refuses {D : Type 0} (tells : D → Bool) (past : D → List Disk) (faults : D → ℕ) (list : Setup → List ℕ)
-    (Rule : Setup → Cluster → List ClusterEvent → Type 0) (old new : Held D) (before : List ℕ) (fault : RestartFault)
+    (Rule : Setup → Cluster → List ClusterEvent → Type 0) (old new : Held D) (before : Outcome) (fault : RestartFault)
     : Type 0 where
   pub gives_up : (setup : Setup) (c : Cluster) → IsReached setup c → Stands tells past setup old c
       → GivesUp setup c (seen tells past faults old) (seen tells past faults new)

@@ -1,4 +1,6 @@
 -- What a restart does to a node's queues and its log, step by step.
+use Rattle.qq_cluster.specs.Outcome.{Outcome}
+use Rattle.qq_nodes.specs.Showing.{with_line}
 use Rattle.std.specs.Prelude.{◌≡◌, ◌⊎◌, ◌<◌, ◌-◌, ◌++◌, ℕ, Bool, true, false, List, [], ◌∷◌, Option, Some, None, All, IsTrue, IfSome, codes, is_some, length, slice_get, slice_set}
 use Rattle.std.specs.Global.{Vec}
 use Rattle.std.specs.List.{AllByRecursion}
@@ -352,11 +354,11 @@ IsFaultOf node (recover_faults.Memory memory) fault = fault ≡ node_faults.Memo
 
 -- A node is up with what was found, or its disk has failed and that is said.
 abbrev pub Steps : {D : Type 0} → (D → Bool) → (D → List Disk) → (D → ℕ) → NodeId → (opens : Bool) → (old new : Held D)
-    → (before later : List ℕ) → Type 0
+    → (before later : Outcome) → Type 0
 Steps tells past faults node opens old new before later =
     (StepsUp tells past faults node opens old new × (later ≡ before))
     ⊎ (FindsNone tells past faults node old new recover_faults.Disk
-    × (later ≡ before ++ (codes "node " ++ decimal node.0 ++ codes " stopped\n")))
+    × (later ≡ with_line (codes "node " ++ decimal node.0 ++ codes " stopped\n") before))
 
 abbrev pub MayNotStep : {D : Type 0} → (D → Bool) → (D → List Disk) → (D → ℕ) → NodeId → (opens : Bool)
     → (old new : Held D) → NodeFault → Type 0

@@ -11,8 +11,10 @@ use crate::restarting::RestartFault;
 use crate::stepping::recover_node;
 use qq_base::NodeId;
 use qq_cluster::a_queue_may_begin_with_new_logs;
+use qq_cluster_queue::Told;
 use qq_disk::NodeDisk;
 use qq_nodes::Nodes;
+use qq_taker::Taker;
 use std::alloc::Global;
 
 // Whether the node at an index is up. If its disk has failed, its log counts as empty from here on.
@@ -36,15 +38,15 @@ fn has_opened(some: bool, up: bool) -> bool
 }
 
 // Each node is recovered, in order, and its members go on with what was found of them, whatever that is.
-fn open_each<D: NodeDisk>(
+fn open_each<D: NodeDisk, T: Taker>(
     nodes: &mut Nodes<D>,
     alloc: Global,
-    text: &mut Vec<u8>,
+    told: &mut Told<T>,
 ) -> Result<bool, RestartFault>
     requires { (rows : List Row) × AreNew D.tells D.past rows nodes.old }
     ensures ok { IfOk result (λ some. (rows : List Row) → AreNew D.tells D.past rows nodes.old →
         OpenedTo D.tells D.past D.faults rows (length nodes.old.nodes.items) some nodes.old nodes.new
-        text.old.items text.new.items) }
+        told.old told.new) }
     ensures err { IfErr result (λ fault. (rows : List Row) → AreNew D.tells D.past rows nodes.old →
         MayNotOpen D.tells D.past D.faults rows nodes.old nodes.new fault) }
 {
@@ -52,7 +54,7 @@ fn open_each<D: NodeDisk>(
     let count = nodes.nodes.len();
     'nodes: for at in 0..count {
         let node = NodeId(at as u8 + 1);
-        if let Err(fault) = recover_node(nodes, alloc, node, true, text) {
+        if let Err(fault) = recover_node(nodes, alloc, node, true, told) {
             return Err(fault);
         }
         let up = settle(nodes, at);
@@ -69,29 +71,29 @@ fn open_each<D: NodeDisk>(
 ///   failed counts as one with empty logs, and so does its disk: it may be restarted only with empty logs.
 /// - `err`: a node's files break the rules of a log; the logs of a queue support no audit, so that they aren't of one
 ///   run (`Lost`, where nothing counts as noticed); there was no memory, or a number stands at its end.
-pub fn open<D: NodeDisk>(
+pub fn open<D: NodeDisk, T: Taker>(
     nodes: &mut Nodes<D>,
     alloc: Global,
-    text: &mut Vec<u8>,
+    told: &mut Told<T>,
 ) -> Result<bool, RestartFault>
     requires { (rows : List Row) × AreNew D.tells D.past rows nodes.old }
     ensures ok { IfOk result (λ some. (rows : List Row) → AreNew D.tells D.past rows nodes.old →
-        OpensOver D.tells D.past D.faults rows some nodes.old nodes.new text.old.items text.new.items) }
+        OpensOver D.tells D.past D.faults rows some nodes.old nodes.new told.old told.new) }
     ensures err { IfErr result (λ fault. (rows : List Row) → AreNew D.tells D.past rows nodes.old →
         MayNotOpen D.tells D.past D.faults rows nodes.old nodes.new fault) }
 {
     a_queue_may_begin_with_new_logs();
-    let some = match open_each(nodes, alloc, text) {
+    let some = match open_each(nodes, alloc, told) {
         Ok(some) => some,
         Err(fault) => return Err(fault),
     };
     if let Some(at) = first_lost(nodes) {
         return Err(lost(nodes, at));
     }
-    if let Err(memory) = nodes.tick_each(alloc, text) {
+    if let Err(memory) = nodes.tick_each(alloc, told) {
         return Err(RestartFault::Memory(memory));
     }
-    if let Err(memory) = nodes.pump(alloc, text) {
+    if let Err(memory) = nodes.pump(alloc, told) {
         return Err(RestartFault::Memory(memory));
     }
     Ok(some)

@@ -7,8 +7,10 @@ ghost use Rattle.qq_nodes.specs.Nodes.{CanServe, Served, Stands};
 ghost use Rattle.qq_opening.specs.Restarting.{IsReopening, Refuses, all_nodes};
 
 use crate::restarting::{RestartFault, restart_each};
+use qq_cluster_queue::Told;
 use qq_disk::NodeDisk;
 use qq_nodes::Nodes;
+use qq_taker::Taker;
 use std::alloc::Global;
 
 // Whether some node is up.
@@ -30,25 +32,25 @@ fn has_up<D: NodeDisk>(nodes: &Nodes<D>) -> bool
 
 /// Restarts each node, in order. Then time passes at each queue's first member, and a pump follows. It answers whether
 /// some node is up after the restarts. After an error the run ends.
-pub fn reopen<D: NodeDisk>(
+pub fn reopen<D: NodeDisk, T: Taker>(
     nodes: &mut Nodes<D>,
     alloc: Global,
-    text: &mut Vec<u8>,
+    told: &mut Told<T>,
 ) -> Result<bool, RestartFault>
     requires { CanServe D.tells D.past nodes.old }
     ensures ok { IfOk result (λ some. Served D.tells D.past D.faults (IsReopening some)
-        nodes.old nodes.new text.old.items text.new.items) }
+        nodes.old nodes.new told.old told.new) }
     ensures err { IfErr result (Refuses D.tells D.past D.faults all_nodes
-        IsOpening nodes.old nodes.new text.old.items) }
+        IsOpening nodes.old nodes.new told.old) }
 {
-    if let Err(fault) = restart_each(nodes, alloc, text) {
+    if let Err(fault) = restart_each(nodes, alloc, told) {
         return Err(fault);
     }
     let some = has_up(nodes);
-    if let Err(memory) = nodes.tick_each(alloc, text) {
+    if let Err(memory) = nodes.tick_each(alloc, told) {
         return Err(RestartFault::Memory(memory));
     }
-    if let Err(memory) = nodes.pump(alloc, text) {
+    if let Err(memory) = nodes.pump(alloc, told) {
         return Err(RestartFault::Memory(memory));
     }
     Ok(some)

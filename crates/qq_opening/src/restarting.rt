@@ -7,8 +7,10 @@ ghost use Rattle.qq_opening.specs.Restarting.{Refuses, RestartEachTo, all_nodes,
 
 use crate::stepping::recover_node;
 use qq_base::{Memory, NodeId, QueueId};
+use qq_cluster_queue::Told;
 use qq_disk::{FileName, NodeDisk};
 use qq_nodes::Nodes;
+use qq_taker::Taker;
 use std::alloc::Global;
 use thiserror::Error;
 
@@ -55,47 +57,47 @@ pub enum RestartFault {
 /// Restarts a node: its log is recovered, and each of its queues' members goes on with what was found of it.
 /// If the disk fails, the node stays down and says so. A node that is up stays as it is. After an error the run
 /// ends.
-pub fn restart<D: NodeDisk>(
+pub fn restart<D: NodeDisk, T: Taker>(
     nodes: &mut Nodes<D>,
     alloc: Global,
     node: NodeId,
-    text: &mut Vec<u8>,
+    told: &mut Told<T>,
 ) -> Result<(), RestartFault>
     requires serve { CanServe D.tells D.past nodes.old }
     requires node { IsNodeAt node nodes.old }
     ensures ok { OnOk result (Served D.tells D.past D.faults
         (λ (setup : Setup). IsRestart setup node.0)
-        nodes.old nodes.new text.old.items text.new.items) }
+        nodes.old nodes.new told.old told.new) }
     ensures err { IfErr result (Refuses D.tells D.past D.faults (this_node node.0)
-        (λ (setup : Setup). IsRestart setup node.0) nodes.old nodes.new text.old.items) }
+        (λ (setup : Setup). IsRestart setup node.0) nodes.old nodes.new told.old) }
 {
     let up = nodes.is_up(node);
     if up {
         return Ok(());
     }
-    match recover_node(nodes, alloc, node, false, text) {
+    match recover_node(nodes, alloc, node, false, told) {
         Ok(()) => Ok(()),
         Err(fault) => Err(fault),
     }
 }
 
 /// Restarts each node, in order, up to the first error.
-pub fn restart_each<D: NodeDisk>(
+pub fn restart_each<D: NodeDisk, T: Taker>(
     nodes: &mut Nodes<D>,
     alloc: Global,
-    text: &mut Vec<u8>,
+    told: &mut Told<T>,
 ) -> Result<(), RestartFault>
     requires { CanServe D.tells D.past nodes.old }
     ensures ok { OnOk result (Served D.tells D.past D.faults
         (λ (setup : Setup). ForEach setup.nodes (IsRestart setup))
-        nodes.old nodes.new text.old.items text.new.items) }
+        nodes.old nodes.new told.old told.new) }
     ensures err { IfErr result (Refuses D.tells D.past D.faults all_nodes
-        (λ (setup : Setup). ForEach setup.nodes (IsRestart setup)) nodes.old nodes.new text.old.items) }
+        (λ (setup : Setup). ForEach setup.nodes (IsRestart setup)) nodes.old nodes.new told.old) }
 {
     let count = nodes.nodes.len();
     'nodes: for at in 0..count {
         let node = nodes.node_id(at);
-        if let Err(fault) = restart(nodes, alloc, node, text) {
+        if let Err(fault) = restart(nodes, alloc, node, told) {
             return Err(fault);
         }
     }

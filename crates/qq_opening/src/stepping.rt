@@ -9,11 +9,13 @@ use crate::marking::mark_in;
 use crate::restarting::RestartFault;
 use crate::taking::{handed_of, take_up_each};
 use qq_base::NodeId;
+use qq_cluster_queue::Told;
 use qq_disk::NodeDisk;
 use qq_log::Lane;
 use qq_node_log::{Found, NodeLog, recover_log};
 use qq_nodes::{Node, Nodes};
 use qq_recover::RecoverFault;
+use qq_taker::Taker;
 use std::alloc::Global;
 
 // A node's log is recovered. It answers what is found of each of its queues.
@@ -112,16 +114,16 @@ fn go_on<D: NodeDisk>(
 /// Recovers a node that is down: each of its queues' members goes on with what was found of it, and the node is up. If
 /// the disk fails, that is said, and the node stays down. `opens` is whether the node is opened: else what is found
 /// has to be what its members' logs were handed.
-pub(crate) fn recover_node<D: NodeDisk>(
+pub(crate) fn recover_node<D: NodeDisk, T: Taker>(
     nodes: &mut Nodes<D>,
     alloc: Global,
     node: NodeId,
     opens: bool,
-    text: &mut Vec<u8>,
+    told: &mut Told<T>,
 ) -> Result<(), RestartFault>
     requires { MayStep D.tells D.past node nodes.old }
     ensures ok { OnOk result (Steps D.tells D.past D.faults node opens nodes.old nodes.new
-        text.old.items text.new.items) }
+        told.old told.new) }
     ensures err { IfErr result (MayNotStep D.tells D.past D.faults node opens nodes.old nodes.new) }
 {
     match recover_in(
@@ -134,7 +136,7 @@ pub(crate) fn recover_node<D: NodeDisk>(
             Ok(()) => Ok(()),
             Err(fault) => Err(fault),
         },
-        Err(RecoverFault::Disk) => match nodes.say_stopped(node, text) {
+        Err(RecoverFault::Disk) => match nodes.say_stopped(node, told) {
             Ok(()) => Ok(()),
             Err(memory) => Err(RestartFault::Memory(memory)),
         },

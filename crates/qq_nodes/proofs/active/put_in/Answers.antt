@@ -1,5 +1,5 @@
-use Rattle.std.proofs.Common.{◌≡◌, sym, ap, ◌∙◌, arith}
-use Rattle.std.specs.Prelude.{Bool, List, insert, ℕ}
+use Rattle.std.proofs.Common.{sym, ap, ◌∙◌, arith}
+use Rattle.std.specs.Prelude.{insert, ℕ}
 use Rattle.qq_nodes.specs.Active.{is_at, place_of}
 use Rattle.qq_nodes.proofs.Rising.{place-most, put-new, put-there}
 use Rattle.qq_nodes.proofs.active.put_in.Goals as goal

@@ -1,7 +1,6 @@
-use Rattle.std.proofs.Common.{ap, subst, sym, ◌-◌}
+use Rattle.std.proofs.Common.{ap, ◌-◌}
 use Rattle.std.proofs.lemmas.Result.{on_ok_weaker}
-use Rattle.qq_cluster.specs.Queue.{Copies, Event, Loses, Ticks}
-use Rattle.qq_cluster_queue.specs.ClusterQueue.{Does}
+use Rattle.qq_cluster.specs.Queue.{Copies, Loses, Ticks}
 use Rattle.qq_cluster_queue.specs.Sessions.{standings}
 use Rattle.qq_nodes.specs.Asking.{asked}
 use Rattle.qq_nodes.proofs.OneQueue.{asked-always, asked-becomes}

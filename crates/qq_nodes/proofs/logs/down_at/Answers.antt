@@ -1,6 +1,5 @@
 use Rattle.std.proofs.Common.{◌≡◌}
 use Rattle.std.specs.Prelude.{false}
-use Rattle.qq_nodes.specs.declared.node.Node.{Node}
 use Rattle.qq_nodes.proofs.Logged.{node-turns}
 use Rattle.qq_nodes.proofs.logs.down_at.Goals as goal
 

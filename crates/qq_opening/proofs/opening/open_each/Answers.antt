@@ -4,33 +4,33 @@ use Rattle.qq_opening.proofs.OpenedNone.{step-stops}
 use Rattle.qq_opening.proofs.opening.open_each.Goals as goal
 
 pub nodes-init : goal.nodes-init
-nodes-init g c = λ rows new. loop-none rows c.args.nodes.now new c.args.text.now.items
+nodes-init g c = λ rows new. loop-none rows c.args.nodes.now new c.args.told.now
 
 pub recover_node-requires : goal.recover_node-requires
 recover_node-requires g c =
     let rows = c.requires.0 in
     let new = c.requires.1 in
-    loop-may rows c.args.nodes.now new c.nodes.at c.nodes.some c.nodes.nodes c.args.text.now.items c.nodes.text.items
+    loop-may rows c.args.nodes.now new c.nodes.at c.nodes.some c.nodes.nodes c.args.told.now c.nodes.told
     (c.nodes.invariant rows new) _ refl (omega (arith, c.len-count.ensures))
 
 pub settle-up-requires : goal.settle-up-requires
 settle-up-requires g c =
     let rows = c.requires.0 in
     let new = c.requires.1 in
-    loop-here rows c.args.nodes.now new c.nodes.at c.nodes.some c.nodes.nodes c.args.text.now.items c.nodes.text.items
+    loop-here rows c.args.nodes.now new c.nodes.at c.nodes.some c.nodes.nodes c.args.told.now c.nodes.told
     (c.nodes.invariant rows new) _ refl (omega (arith, c.len-count.ensures)) c.recover_node.new.nodes
-    c.recover_node.new.text.items c.in_default.ensures.ok
+    c.recover_node.new.told c.in_default.ensures.ok
 
 pub nodes-preserved : goal.nodes-preserved
 nodes-preserved g c = λ rows new.
-    loop-more rows c.args.nodes.now new c.nodes.at c.nodes.some c.nodes.nodes c.args.text.now.items c.nodes.text.items
+    loop-more rows c.args.nodes.now new c.nodes.at c.nodes.some c.nodes.nodes c.args.told.now c.nodes.told
     (c.nodes.invariant rows new) _ refl (omega (arith, c.len-count.ensures)) c.recover_node.new.nodes
-    c.settle-up.new.nodes c.settle-up.result c.has_opened-some.result c.recover_node.new.text.items
+    c.settle-up.new.nodes c.settle-up.result c.has_opened-some.result c.recover_node.new.told
     c.in_default.ensures.ok c.settle-up.ensures c.has_opened-some.ensures
 
 pub returns-clause-ok : goal.returns-clause-ok
 returns-clause-ok g c = λ rows new.
-    loop-all rows c.args.nodes.now new c.nodes.at c.nodes.some c.nodes.nodes c.args.text.now.items c.nodes.text.items
+    loop-all rows c.args.nodes.now new c.nodes.at c.nodes.some c.nodes.nodes c.args.told.now c.nodes.told
     (omega (arith, c.len-count.ensures)) (c.nodes.invariant rows new)
 
 pub returns-in-Err-clause-err : goal.returns-in-Err-clause-err

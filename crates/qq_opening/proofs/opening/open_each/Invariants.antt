@@ -9,4 +9,4 @@ abbrev pub invariant-nodes : goal.invariant-nodes
 invariant-nodes g l =
     (rows : List QueueRow) → AreNew g.D.NodeDisk.tells g.D.NodeDisk.past rows l.fn.nodes
     → OpenedTo g.D.NodeDisk.tells g.D.NodeDisk.past g.D.NodeDisk.faults rows l.at l.some l.fn.nodes l.nodes
-    l.fn.text.items l.text.items
+    l.fn.told l.told

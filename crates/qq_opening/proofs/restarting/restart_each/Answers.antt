@@ -6,7 +6,7 @@ use Rattle.qq_opening.proofs.RestartedEach.{first-all, first-next, first-none}
 use Rattle.qq_opening.proofs.restarting.restart_each.Goals as goal
 
 pub nodes-init : goal.nodes-init
-nodes-init g c = first-none c.args.nodes.now c.args.text.now.items
+nodes-init g c = first-none c.args.nodes.now c.args.told.now
 
 pub node_id-node-requires : goal.node_id-node-requires
 node_id-node-requires g c =

@@ -6,4 +6,4 @@ use Rattle.qq_opening.proofs.restarting.restart_each.Given as goal
 abbrev pub invariant-nodes : goal.invariant-nodes
 invariant-nodes g l =
     Served g.D.NodeDisk.tells g.D.NodeDisk.past g.D.NodeDisk.faults (FirstTo l.at) l.fn.nodes l.nodes
-    l.fn.text.items l.text.items
+    l.fn.told l.told

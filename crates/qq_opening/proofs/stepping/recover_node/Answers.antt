@@ -23,7 +23,7 @@ go_on-requires-clause-lanes g c =
 pub returns-in-Ok-go_on-clause-ok : goal.returns-in-Ok-go_on-clause-ok
 returns-in-Ok-go_on-clause-ok g c =
     steps-up c.args.node c.args.opens c.args.nodes.now c.recover_in.new.nodes c.in-Ok.lanes.items c.go_on.new.nodes
-    c.args.text.now.items c.in-Ok.ensures.ok c.in-Ok-go_on.ensures.ok
+    c.args.told.now c.in-Ok.ensures.ok c.in-Ok-go_on.ensures.ok
 
 pub returns-in-Err-clause-err : goal.returns-in-Err-clause-err
 returns-in-Err-clause-err g c =
@@ -33,7 +33,7 @@ returns-in-Err-clause-err g c =
 pub returns-in-Ok-say_stopped-clause-ok : goal.returns-in-Ok-say_stopped-clause-ok
 returns-in-Ok-say_stopped-clause-ok g c =
     steps-failed c.args.node c.args.opens c.args.nodes.now c.recover_in.new.nodes c.in-Err-Disk.field-0
-    c.args.text.now.items c.say_stopped.new.text.items c.in-Err-Disk.ensures.err c.in-Err-Disk.field-0-is
+    c.args.told.now c.say_stopped.new.told c.in-Err-Disk.ensures.err c.in-Err-Disk.field-0-is
     c.in-Ok-say_stopped.ensures.ok
 
 pub returns-in-Err-say_stopped-clause-err : goal.returns-in-Err-say_stopped-clause-err

@@ -1,5 +1,3 @@
-use Rattle.std.specs.Prelude.{Result, Ok, Err, OnErr, OnOk, List, ℕ}
-use Rattle.std.proofs.Common.{◌≡◌, sym, subst}
 use Rattle.qq_nodes.proofs.Rising.{rises-either}
 use Rattle.qq_nodes.proofs.active.Active.add.Goals as goal
 

@@ -1,6 +1,6 @@
-use Rattle.std.proofs.Common.{arith, refl}
+use Rattle.std.proofs.Common.{arith}
 use Rattle.qq_nodes.proofs.Pumping.{many-after}
-use Rattle.qq_nodes.proofs.Stands.{after-nothing, can-after, gave_up-nothing, gave_up-same}
+use Rattle.qq_nodes.proofs.Stands.{after-nothing, can-after, gave_up-nothing}
 use Rattle.qq_nodes.proofs.nodes.Nodes.ask.Goals as goal
 
 pub ask_active-requires-clause-serve : goal.ask_active-requires-clause-serve

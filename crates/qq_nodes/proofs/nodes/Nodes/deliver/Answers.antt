@@ -1,6 +1,5 @@
 use Rattle.std.proofs.Common.{refl, arith}
 use Rattle.qq_cluster.specs.Lines.{IsDeliver}
-use Rattle.qq_nodes.proofs.LineRules.{queue-index}
 use Rattle.qq_nodes.proofs.OnTheWay.{delivers, delivers-gave_up, delivers-none, no-message}
 use Rattle.qq_nodes.proofs.Stands.{gave_up-same}
 use Rattle.qq_nodes.proofs.nodes.Nodes.deliver.Goals as goal

@@ -1,5 +1,6 @@
-use Rattle.std.proofs.Common.{◌-◌, ◌∙◌, [], length, ap, refl, sym, arith}
+use Rattle.std.proofs.Common.{◌-◌, ◌∙◌, length, ap, refl, sym, arith}
 use Rattle.std.proofs.lemmas.List.Edits.{length-remove}
+use Rattle.qq_nodes.proofs.Outcomes.{no_outcome}
 use Rattle.qq_nodes.proofs.Pumping.{below-active, served-dropped}
 use Rattle.qq_nodes.proofs.Stands.{can-after, served-nothing, served-same}
 use Rattle.qq_nodes.proofs.nodes.Nodes.drop_quiet.Goals as goal
@@ -11,11 +12,11 @@ pub at-at-requires : goal.at-at-requires
 at-at-requires g c = omega (arith, c.active.invariant.1, c.active-test.true)
 
 pub is_quiet-quiet-requires-clause-serve : goal.is_quiet-quiet-requires-clause-serve
-is_quiet-quiet-requires-clause-serve g c = can-after c.requires (c.active.invariant.0 [])
+is_quiet-quiet-requires-clause-serve g c = can-after c.requires (c.active.invariant.0 no_outcome)
 
 pub is_quiet-quiet-requires-clause-place : goal.is_quiet-quiet-requires-clause-place
 is_quiet-quiet-requires-clause-place g c =
-    below-active (c.active.left - 1) c.at-at.result (can-after c.requires (c.active.invariant.0 []))
+    below-active (c.active.left - 1) c.at-at.result (can-after c.requires (c.active.invariant.0 no_outcome))
     (omega (arith, c.active.invariant.1, c.active-test.true)) c.at-at.ensures
 
 pub active-preserved-then-quiet : goal.active-preserved-then-quiet

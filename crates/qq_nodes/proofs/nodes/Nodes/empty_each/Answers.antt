@@ -2,7 +2,7 @@ use Rattle.std.proofs.Common.{◌∙◌, ap, refl, arith}
 use Rattle.std.specs.Prelude.{length}
 use Rattle.qq_cluster.specs.Cluster.{Setup}
 use Rattle.qq_cluster.specs.Rules.{IsEmptied}
-use Rattle.qq_nodes.proofs.Pumping.{below-active, emptied-passes, is-active, node-after, walk-end, walk-gave_up, walk-more}
+use Rattle.qq_nodes.proofs.Pumping.{below-active, emptied-passes, is-active, walk-end, walk-gave_up, walk-more}
 use Rattle.qq_nodes.proofs.Stands.{active-start, can-after}
 use Rattle.qq_nodes.proofs.Total.{total-emptied}
 use Rattle.qq_nodes.proofs.nodes.Nodes.empty_each.Goals as goal

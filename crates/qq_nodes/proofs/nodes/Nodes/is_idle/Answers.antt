@@ -1,5 +1,5 @@
-use Rattle.std.proofs.Common.{◌≡◌, ◌∙◌, ◌<◌, ◌+◌, ap, inl, inr, refl, sym, subst, arith}
-use Rattle.std.specs.Prelude.{ℕ, true, get_or, length}
+use Rattle.std.proofs.Common.{◌≡◌, ◌∙◌, ◌+◌, ap, inl, inr, sym, arith}
+use Rattle.std.specs.Prelude.{ℕ, get_or}
 use Rattle.std.proofs.lemmas.Bool.{cases_lt}
 use Rattle.qq_cluster.specs.Rules.{is_quiet}
 use Rattle.qq_nodes.proofs.Pumping.{below-active, idle-all, idle-none}

@@ -1,5 +1,5 @@
-use Rattle.std.proofs.Common.{◌≡◌, ◌∙◌, ◌+◌, ap, refl, sym, subst, arith}
-use Rattle.std.specs.Prelude.{ℕ, length}
+use Rattle.std.proofs.Common.{◌∙◌, ◌+◌, ap, refl, sym, arith}
+use Rattle.std.specs.Prelude.{length}
 use Rattle.qq_cluster.specs.Rules.{is_quiet_at}
 use Rattle.qq_nodes.proofs.Pumping.{busy-bag, busy-node, node-of, quiet-all, quiet-more}
 use Rattle.qq_nodes.proofs.nodes.Nodes.is_quiet.Goals as goal

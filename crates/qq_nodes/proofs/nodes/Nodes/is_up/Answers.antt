@@ -1,4 +1,4 @@
-use Rattle.std.proofs.Common.{◌∙◌, ap, arith}
+use Rattle.std.proofs.Common.{arith}
 use Rattle.qq_nodes.proofs.Items.{node-here, node-up}
 use Rattle.qq_nodes.proofs.nodes.Nodes.is_up.Goals as goal
 

@@ -1,6 +1,6 @@
 use Rattle.qq_nodes.proofs.Pumping.{node-after}
 use Rattle.qq_cluster.specs.Cluster.{Setup}
-use Rattle.qq_cluster.specs.Rules.{ForEach, IsNotice, IsSync, Then}
+use Rattle.qq_cluster.specs.Rules.{ForEach, IsNotice, IsSync}
 use Rattle.qq_nodes.proofs.Stands.{can-after, gave_up-first, gave_up-second, served-then}
 use Rattle.qq_nodes.proofs.Total.{total-notices, total-sync, total-then}
 use Rattle.qq_nodes.proofs.nodes.Nodes.node_round.Goals as goal

@@ -1,5 +1,3 @@
-use Rattle.std.specs.Prelude.{List, ◌++◌}
-use Rattle.std.proofs.Common.{append-nil, sym, subst}
 use Rattle.qq_nodes.proofs.Stands.{can-after, gave_up-first, gave_up-second, served-same, served-then}
 use Rattle.qq_nodes.proofs.Total.{total-empties}
 use Rattle.qq_nodes.proofs.nodes.Nodes.round.Goals as goal

@@ -1,8 +1,6 @@
-use Rattle.std.proofs.Common.{◌∙◌, ap, sym, subst, arith}
-use Rattle.std.specs.Prelude.{ℕ, length}
-use Rattle.qq_cluster.specs.Cluster.{Setup}
+use Rattle.std.proofs.Common.{arith}
 use Rattle.qq_cluster.specs.Rules.{IsNodeRound}
-use Rattle.qq_nodes.specs.Nodes.{IsNodeAt, Served, nodes_in}
+use Rattle.qq_nodes.specs.Nodes.{nodes_in}
 use Rattle.qq_nodes.proofs.Pumping.{many-after, node-of, nodes-end, nodes-gave_up, nodes-more}
 use Rattle.qq_nodes.proofs.Stands.{can-after, each-start}
 use Rattle.qq_nodes.proofs.Total.{total-node}

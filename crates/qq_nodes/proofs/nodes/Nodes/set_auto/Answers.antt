@@ -1,5 +1,3 @@
-use Rattle.std.proofs.Common.{refl}
-use Rattle.qq_cluster.specs.Cluster.{Sets}
 use Rattle.qq_nodes.proofs.OneQueue.{served-auto}
 use Rattle.qq_nodes.proofs.nodes.Nodes.set_auto.Goals as goal
 

@@ -1,4 +1,4 @@
-use Rattle.std.proofs.Common.{ap, refl, ◌∙◌, arith}
+use Rattle.std.proofs.Common.{ap, refl, arith}
 use Rattle.std.specs.Prelude.{length}
 use Rattle.qq_cluster.specs.Queue.{Writes}
 use Rattle.qq_nodes.proofs.Turned.{taking-all, taking-more, taking-none, turning-active, turning-below, turning-sound}
