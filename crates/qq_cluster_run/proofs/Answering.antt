@@ -166,8 +166,10 @@ pub answer_stops : (met met' : Trouble → Type 0) (claims : Claims) (source sin
     → Going claims.during s start now run a b → TakesLine now next line → LosesSome now rest
     → HasAnswerCause met s run (Some line) stop → IsSoAt claims s run stop
     → HasStopped (stop_of stop) s start rest a b source sink met' claims []
-answer_stops met met' claims source sink f (asks.Ended ending) s start now next rest run line a b law so takes lost cause is_so =
+answer_stops met met' claims source sink f (asks.Ended ending) s start now next rest run line a b law so takes lost cause
+    is_so =
     going_ends met' claims s start now next rest ending run line a b law so takes lost
     (met_earlier met met' f s run (Some line) ending cause) is_so
-answer_stops met met' claims source sink f asks.NoMemory s start now next rest run line a b law so takes lost cause is_so =
+answer_stops met met' claims source sink f asks.NoMemory s start now next rest run line a b law so takes lost cause
+    is_so =
     going_stops claims.during s start now rest run a b so lost

@@ -46,8 +46,8 @@ loops_written had s Stands start now a b c served pending piece so is grown =
 
 -- a line more is served
 pub loops_line : (had : Histories) (s : Setup) (Stands : Run → Type 0) (start now next a b : Option (List ℕ))
-    (served : ℕ) (run : Run) (line : List ℕ) (before later : Outcome) → ((bytes : List ℕ) → FirstLineLeads bytes (first_line bytes))
-    → run.lines ≡ served → Going had s start now run a b → TakesLine now next line
+    (served : ℕ) (run : Run) (line : List ℕ) (before later : Outcome)
+    → ((bytes : List ℕ) → FirstLineLeads bytes (first_line bytes)) → run.lines ≡ served → Going had s start now run a b → TakesLine now next line
     → before.text ≡ [] → Answers had s run (Some line) Stands before later
     → LoopsOn had s Stands start next a b (served + 1) later.text
 loops_line had s Stands start now next a b served run line before later law lines going takes none so = record {

@@ -1,5 +1,5 @@
 -- What is told of lines that are refused, and that nothing has happened but what served those before them.
-use Rattle.std.proofs.Common.{◌≡◌, ◌⊎◌, ℕ, ◌+◌, Err, List, ◌∷◌, ◌++◌, length, inl, inr, ap, sym, arith}
+use Rattle.std.proofs.Common.{◌≡◌, ◌⊎◌, ℕ, ◌+◌, Err, List, ◌∷◌, ◌++◌, length, inl, inr, arith}
 use Rattle.std.specs.Prelude.{Contains, codes}
 use Rattle.std.specs.Fmt.{decimal}
 use Rattle.qq_base.specs.declared.ids.QueueId.{QueueId}

@@ -1,4 +1,5 @@
--- What may go wrong below a run: in its yard, in a node's disk, in what that holds, with numbers that rise, and with takers.
+-- What may go wrong below a run: in its yard, in a node's disk, in what that holds, with numbers that rise, and with
+-- takers.
 use Rattle.std.specs.Prelude.{ℕ, List}
 use Rattle.qq_log.specs.Stable.{Stable}
 use Rattle.qq_cluster.specs.Cluster.{Setup as ClusterSetup, ClusterEvent}

@@ -19,16 +19,16 @@ use qq_cluster::{a_cluster_prints_what_is_true, lines_settle};
 /// A law: what an exit status tells of a run, where source and sink tell their bytes.
 ///
 /// - `told`: 0, all lines were served, and behind their text stand the audits. 4, some lines were served,
-///   and the next one is refused by its number and its fault, or since no taker is there that it is to give. 5, the source has failed, and all lines
-///   that end within what was read were served. 6, the sink has failed, and what it has is a first part
-///   of what is printed. 7, the yard has failed at the opening or at a crash, or each node's disk has at
-///   the opening. 8, nodes were recovered in order, at the opening or at a restart, and the log files of
-///   the printed one break the rules at the printed place. 9, at the opening what recovery reads of a
-///   queue supports no audit, or at a restart it finds of a queue what its member may not take up. 11, the
-///   next line is behind the 10,000,000th, or its body is too long. 12, there was no memory, and what was
-///   written is a first part of what is printed, and then `memory`. 20, in the midst of a line or of the
-///   opening the printed number would rise, and stands at its end, 2^63 or more, or the most messages that
-///   a bag holds. There is no other status.
+///   and the next one is refused by its number and its fault, or since no taker is there that it is to give.
+///   5, the source has failed, and all lines that end within what was read were served. 6, the sink has
+///   failed, and what it has is a first part of what is printed. 7, the yard has failed at the opening or at
+///   a crash, or each node's disk has at the opening. 8, nodes were recovered in order, at the opening or at
+///   a restart, and the log files of the printed one break the rules at the printed place. 9, at the opening
+///   what recovery reads of a queue supports no audit, or at a restart it finds of a queue what its member
+///   may not take up. 11, the next line is behind the 10,000,000th, or its body is too long. 12, there was no
+///   memory, and what was written is a first part of what is printed, and then `memory`. 20, in the midst of
+///   a line or of the opening the printed number would rise, and stands at its end, 2^63 or more, or the most
+///   messages that a bag holds. There is no other status.
 /// - `usage`: nothing was read, and the usage was printed.
 pub fn a_status_tells_what_was_done()
     ensures told { (status : ℕ) (options : Options) (s : Streams) → HasEnded status options s
