@@ -7,6 +7,7 @@ use crate::memory::most_memory;
 use crate::words::number;
 use anyhow::{Result, ensure};
 use qq_ports::{MemShelf, MemSink, MemSource, MemYard};
+use qq_taker::{Desk, FixedTaker};
 use std::alloc::Global;
 use std::time::Instant;
 
@@ -72,7 +73,16 @@ pub fn run(rt: HostRuntime, words: &[String]) -> Result<()> {
     let mut sink = MemSink::new(alloc, room, Vec::new(alloc))?;
 
     let start = Instant::now(&rt)?;
-    let status = qq_broker::run(&rt, &words, &mut source, &mut sink, &mut shelf, &mut yard);
+    let mut takers: Desk<FixedTaker> = Desk::new(alloc);
+    let status = qq_broker::run(
+        &rt,
+        &words,
+        &mut source,
+        &mut sink,
+        &mut shelf,
+        &mut yard,
+        &mut takers,
+    );
     let spent = start.elapsed(&rt)?.as_nanos();
     ensure!(status == 0, "the run has failed");
     let printed = str::from_utf8(sink.bytes())?;

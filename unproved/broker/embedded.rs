@@ -3,11 +3,13 @@
 use anyhow::{Result, bail, ensure};
 use cases::{Trials, run_each};
 use qq_base::QueueId;
-use qq_broker::{Broker, Pumped, open_disks, reopen_disks, step};
+use crate::runs::four_takers;
+use qq_broker::{Broker, Pumped, StepFault, open_disks, reopen_disks, step};
 use qq_mem_disk::MemDisk;
 use qq_ports::MemYard;
 use qq_script_lines::{Place, parse_line};
 use qq_setup::Setup;
+use qq_taker::{Desk, FixedTaker};
 
 /// A line stands in no client's section.
 const PLACE: Place = Place {
@@ -17,7 +19,12 @@ const PLACE: Place = Place {
 };
 
 /// What a broker answers to lines.
-fn serve(rt: HostRuntime, broker: &mut Broker<MemDisk>, lines: &[&str]) -> Result<String> {
+fn serve(
+    rt: HostRuntime,
+    broker: &mut Broker<MemDisk>,
+    takers: &mut Desk<FixedTaker>,
+    lines: &[&str],
+) -> Result<String> {
     let alloc = rt.alloc();
     let mut yard = MemYard::new(Vec::new(alloc), Vec::new(alloc));
     let mut text = String::new(alloc);
@@ -25,7 +32,7 @@ fn serve(rt: HostRuntime, broker: &mut Broker<MemDisk>, lines: &[&str]) -> Resul
         let Ok(said) = parse_line(alloc, line.as_bytes(), broker.setup(), PLACE) else {
             bail!("{line:?} is refused");
         };
-        match step(broker, alloc, said, &mut yard) {
+        match step(broker, alloc, said, &mut yard, takers) {
             Ok(answer) => text.push_str(str::from_utf8(answer.as_slice())?)?,
             Err(fault) => bail!("{line:?}: {fault}"),
         }
@@ -44,12 +51,13 @@ fn setup(rt: HostRuntime) -> Result<Setup> {
 fn a_stopped_broker_goes_on_over_its_disks(rt: HostRuntime) -> Result<()> {
     let alloc = rt.alloc();
     let disks = vec![in alloc; MemDisk::new(alloc), MemDisk::new(alloc), MemDisk::new(alloc)]?;
-    let Ok(mut broker) = open_disks(alloc, disks, setup(rt)?) else {
+    let mut takers = four_takers(alloc)?;
+    let Ok(mut broker) = open_disks(alloc, disks, setup(rt)?, &mut takers) else {
         bail!("not opened");
     };
-    let said = serve(rt, &mut broker, &["publish a", "publish b"])?;
+    let said = serve(rt, &mut broker, &mut takers, &["publish a", "publish b"])?;
     ensure!(said.as_str() == "confirmed 1\nconfirmed 2\n", "{said}");
-    ensure!(broker.pump(alloc) == Ok(Pumped::Idle));
+    ensure!(broker.pump(alloc, &mut takers) == Ok(Pumped::Idle));
 
     let (disks, audits) = broker.crash_all(alloc);
     ensure!(disks.len() == 3);
@@ -59,23 +67,50 @@ fn a_stopped_broker_goes_on_over_its_disks(rt: HostRuntime) -> Result<()> {
                  3 1 enqueue 1 2 1 confirmed 2\n";
     ensure!(text.as_slice() == audit.as_bytes());
 
-    let Ok(mut broker) = reopen_disks(alloc, disks, setup(rt)?, audits) else {
+    let Ok(mut broker) = reopen_disks(alloc, disks, setup(rt)?, audits, &mut takers) else {
         bail!("not opened again");
     };
-    let said = serve(rt, &mut broker, &["get", "crash 1 none", "crash 2 none", "publish c"])?;
+    let lines = ["get", "crash 1 none", "crash 2 none", "publish c"];
+    let said = serve(rt, &mut broker, &mut takers, &lines)?;
     ensure!(said.as_str() == "message 1 a\nno leader q1\n", "{said}");
 
     let (disks, audits) = broker.crash_all(alloc);
     drop(audits);
-    let Ok(mut broker) = open_disks(alloc, disks, setup(rt)?) else {
+    let Ok(mut broker) = open_disks(alloc, disks, setup(rt)?, &mut takers) else {
         bail!("not opened by the disks alone");
     };
-    let said = serve(rt, &mut broker, &["get 2 q1"])?;
+    let said = serve(rt, &mut broker, &mut takers, &["get 2 q1"])?;
     ensure!(said.as_str() == "2 q1: message 2 b\n", "{said}");
     Ok(())
 }
 
+/// A taker's verdict is served in the step in which it sees the delivery, and one that was given isn't there any more.
+fn a_taker_is_given_once(rt: HostRuntime) -> Result<()> {
+    let alloc = rt.alloc();
+    let mut takers = four_takers(alloc)?;
+    let disks = vec![in alloc; MemDisk::new(alloc), MemDisk::new(alloc), MemDisk::new(alloc)]?;
+    let Ok(mut broker) = open_disks(alloc, disks, setup(rt)?, &mut takers) else {
+        bail!("not opened");
+    };
+    ensure!(takers.is_free(1));
+    let lines = ["subscribe 1 q1 1 2", "attach 1 q1 1 1", "publish a", "attach 1 q1 1 2"];
+    let said = serve(rt, &mut broker, &mut takers, &lines)?;
+    let wanted = "subscribed 1\nconfirmed 2\ntaken 1 1 1 settle\ndone\nbusy 1\n";
+    ensure!(said.as_str() == wanted, "{said}");
+    ensure!(!takers.is_free(1));
+    ensure!(takers.is_free(2));
+
+    let mut yard = MemYard::new(Vec::new(alloc), Vec::new(alloc));
+    let Ok(line) = parse_line(alloc, b"attach 1 q1 2 1", broker.setup(), PLACE) else {
+        bail!("the line is refused");
+    };
+    let Err(StepFault::NoSuch) = step(&mut broker, alloc, line, &mut yard, &mut takers) else {
+        bail!("a taker was given twice");
+    };
+    Ok(())
+}
+
 pub fn check(trials: &mut Trials) -> Result<()> {
-    run_each!(trials; a_stopped_broker_goes_on_over_its_disks);
+    run_each!(trials; a_stopped_broker_goes_on_over_its_disks, a_taker_is_given_once);
     Ok(())
 }

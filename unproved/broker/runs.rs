@@ -4,6 +4,8 @@ use anyhow::{Result, ensure};
 use cases::{Trials, run_each};
 use qq_broker::run;
 use qq_ports::{MemShelf, MemSink, MemSource, MemYard, Yard};
+use qq_taker::{Desk, FixedTaker, Verdict};
+use std::alloc::Global;
 
 /// A run prints no more.
 const ROOM: usize = 1 << 20;
@@ -19,6 +21,15 @@ impl Ran {
     pub fn printed(&self) -> Result<&str> {
         Ok(str::from_utf8(self.sink.bytes())?)
     }
+}
+
+/// The takers of the program: 1 settles, 2 returns, 3 discards, 4 keeps.
+pub fn four_takers(alloc: Global) -> Result<Desk<FixedTaker>> {
+    let mut takers = Desk::new(alloc);
+    for verdict in [Verdict::Settle, Verdict::Return, Verdict::Discard, Verdict::Keep] {
+        ensure!(takers.add(FixedTaker::new(verdict)) == Ok(()));
+    }
+    Ok(takers)
 }
 
 /// Runs a script with options over a yard, where the source and the sink fail at calls of these numbers, from
@@ -40,7 +51,8 @@ pub fn serve<Y: Yard>(
     let mut source = MemSource::new(script, vec![in alloc; read]?);
     let mut sink = MemSink::new(alloc, ROOM, vec![in alloc; write]?)?;
     let mut shelf = MemShelf::new(Vec::new(alloc), Vec::new(alloc));
-    let status = run(&rt, &words, &mut source, &mut sink, &mut shelf, yard);
+    let mut takers = four_takers(alloc)?;
+    let status = run(&rt, &words, &mut source, &mut sink, &mut shelf, yard, &mut takers);
     Ok(Ran { status, sink })
 }
 
@@ -91,7 +103,16 @@ fn a_failing_shelf_or_a_refused_export_ends_the_run(rt: HostRuntime) -> Result<(
         let mut source = MemSource::new(Vec::new(alloc), Vec::new(alloc));
         let mut sink = MemSink::new(alloc, ROOM, vec![in alloc; write]?)?;
         let mut yard = MemYard::new(Vec::new(alloc), Vec::new(alloc));
-        let ended = run(&rt, &words, &mut source, &mut sink, &mut shelf, &mut yard);
+        let mut takers = four_takers(alloc)?;
+        let ended = run(
+            &rt,
+            &words,
+            &mut source,
+            &mut sink,
+            &mut shelf,
+            &mut yard,
+            &mut takers,
+        );
         ensure!(ended == status, "{export:?}: status {ended}");
         let text = str::from_utf8(sink.bytes())?;
         ensure!(text == printed, "{export:?}: {text:?}");
