@@ -97,7 +97,7 @@ impl<T: Taker> Told<T> {
         Ok(())
     }
 
-    /// A delivery to a consumer without a taker is told.
+    /// A delivery to a consumer without a taker is told, and who listens hears it first.
     pub(crate) fn delivered(
         &mut self,
         alloc: Global,
@@ -109,6 +109,7 @@ impl<T: Taker> Told<T> {
         ensures err { OnErr result (self.new.text ≡ self.old.text) }
         ensures want { IsOkUnless result Memory.Want }
     {
+        self.desk.hear(alloc, handed)?;
         label.delivered(alloc, handed.consumer, &handed.delivery, &mut self.text)?;
         Ok(())
     }
