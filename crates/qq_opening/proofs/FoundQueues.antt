@@ -14,7 +14,8 @@ use Rattle.qq_raft_model.specs.State.{Server}
 use Rattle.qq_raft_protocol.specs.Facts.{In}
 use Rattle.qq_cluster.specs.Cluster.{Cluster, Setup, members}
 use Rattle.qq_cluster.specs.ClusterLaws.{HasGroups}
-use Rattle.qq_cluster.specs.Queue.{Finds, Queue, Stops, happens, waiting_by}
+use Rattle.qq_cluster.proofs.Takerless.{untold-still}
+use Rattle.qq_cluster.specs.Queue.{Finds, Queue, Stops, group_then, happens, synced_after, waiting_by}
 use Rattle.qq_cluster.specs.Rules.{is_quiet, is_quiet_at, is_settled}
 use Rattle.qq_cluster_laws.specs.Linked.{IsReached, MembersFollow}
 use Rattle.qq_nodes.proofs.Membership.{member-up, outside}
@@ -112,7 +113,8 @@ pub not-found : (k op : ℕ) (q : Queue) → has_node k q.group.nodes ≡ false 
 not-found k op q other =
     let seat : Seat = q.group.seat k in
     let bounds : Bool = nat_le seat.noticed op && nat_le op (length seat.ops) in
-    ap (λ (b : Bool). record q {
+    sym (untold-still (record q { group = group_then q (Finds k op); synced = synced_after q (Finds k op) }))
+    ∙ ap (λ (b : Bool). record q {
       group = cond b (restart_by k op (stable (take op seat.ops)) q.group) q.group;
       synced = cond b (put k op q.synced) q.synced;
     })
@@ -126,7 +128,9 @@ not-stopped k q down =
     let seat : Seat = record { server = None; ops = (q.group.seat k).ops; noticed = (q.group.seat k).noticed } in
     let same : q.group.seat k ≡ seat =
     λ i. record { server = down i; ops = (q.group.seat k).ops; noticed = (q.group.seat k).noticed } in
-    ap (λ (seats : ℕ → Seat). record q { group = record q.group { seat = seats } }) (put-own k seat q.group.seat same)
+    sym (untold-still (record q { group = group_then q (Stops k) }))
+    ∙ ap (λ (seats : ℕ → Seat). record q { group = record q.group { seat = seats } })
+    (put-own k seat q.group.seat same)
 
 none-down : (o : Option Server) → is_some o ≡ false → o ≡ None
 none-down None is = refl

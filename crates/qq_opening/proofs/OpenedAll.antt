@@ -20,7 +20,6 @@ use Rattle.qq_cluster.specs.Cluster.{Cluster, ClusterEvent, Setup, cluster_after
 use Rattle.qq_cluster.specs.ClusterLaws.{HasGroups}
 use Rattle.qq_cluster.specs.Laws.{IsBegun}
 use Rattle.qq_cluster.specs.Rules.{ForEach, IsOpening, IsRestart}
-use Rattle.qq_cluster.specs.Texts.{text_of}
 use Rattle.qq_cluster_laws.specs.Linked.{IsReached}
 use Rattle.qq_cluster_laws.specs.Serves.{GivesUp, Serves}
 use Rattle.qq_cluster_laws.proofs.Restarts.{first-stays}

@@ -1,13 +1,12 @@
 -- Calls that change the disk of one node, whether it is up or down, by events of that node's log.
 use Rattle.qq_cluster.specs.Outcome.{Outcome}
 use Rattle.qq_nodes.proofs.Outcomes.{outcome_after}
-use Rattle.std.proofs.Common.{◌≡◌, ◌≢◌, ◌<◌, ◌≤◌, ◌-◌, ℕ, Bool, true, List, ◌++◌, Some, sym, ap, ◌∙◌, subst, arith}
+use Rattle.std.proofs.Common.{◌≡◌, ◌≢◌, ◌<◌, ◌≤◌, ◌-◌, ℕ, Bool, true, List, Some, sym, ap, ◌∙◌, subst, arith}
 use Rattle.std.specs.Prelude.{IsTrue, slice_get, slice_set}
 use Rattle.qq_base.specs.Causes.{Rose}
 use Rattle.qq_disk.specs.Disk.{Disk, now}
 use Rattle.qq_lots.specs.Lots.{ids_of}
 use Rattle.qq_cluster.specs.Cluster.{Cluster, ClusterEvent, Setup, cluster_after}
-use Rattle.qq_cluster.specs.Texts.{text_of}
 use Rattle.qq_cluster_laws.specs.Linked.{IsLinked, lot_of}
 use Rattle.qq_cluster_laws.specs.Serves.{GivesUp, Seen, Serves, fails_at, seen_of}
 use Rattle.qq_cluster_laws.specs.Traced.{IsBrokenAt, IsTracedAt}

@@ -1,7 +1,7 @@
 -- A node that was down is recovered, and its members go on with what was found.
 use Rattle.qq_cluster.specs.Outcome.{Outcome}
 use Rattle.qq_nodes.proofs.Outcomes.{same-outcome}
-use Rattle.std.proofs.Common.{◌≡◌, ◌-◌, ℕ, Bool, true, false, List, [], ◌∷◌, Option, Some, length, refl, sym, ap, ◌∙◌, subst, append-nil}
+use Rattle.std.proofs.Common.{◌≡◌, ◌-◌, ℕ, Bool, true, false, List, [], ◌∷◌, Option, Some, length, refl, sym, ap, ◌∙◌, subst}
 use Rattle.std.specs.Prelude.{IsTrue, Ok, slice_get, slice_set}
 use Rattle.std.proofs.lemmas.Bool.{false≢true}
 use Rattle.qq_base.specs.declared.ids.NodeId.{NodeId}

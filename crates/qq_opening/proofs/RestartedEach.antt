@@ -76,6 +76,7 @@ module _ {D : Type 0} {tells : D → Bool} {past : D → List Disk} {faults : D 
           means = q.did.means.0;
           stands = q.did.stands;
           says = q.did.says;
+          sees = q.did.sees;
           told = q.did.told;
           moments = q.did.moments;
         };
