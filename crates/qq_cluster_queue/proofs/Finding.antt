@@ -88,16 +88,16 @@ synced-stands : (sessions : Standings) (old new : ClusterQueue) (q r : Queue) �
     → Stands sessions new r
 synced-stands sessions old new q r st args publishers consumers seats untold group a c known' seats' untold' g
     each = record {
-  args = a ∙ st.args ∙ sym args;
-  clients = c ∙ st.clients ∙ ap (λ (p : _). clients_of sessions (numbers_of p)) (sym publishers);
-  consumers = known' ∙ st.consumers ∙ sym consumers;
-  seats = seats' ∙ st.seats ∙ sym seats;
-  untold = untold' ∙ st.untold ∙ sym untold;
-  group = subst (λ (x : QueueArgs). IsGroupOf x r.group new.group) (sym args)
-      (subst (λ (x : Members). IsGroupOf old.args r.group x) (sym group)
-      (subst (λ (x : GroupState). IsGroupOf old.args x old.group) (sym g) st.group));
-  synced = λ k s up. each k s (ap (λ (x : Members). server_at k x) (sym group) ∙ up);
-}
+      args = a ∙ st.args ∙ sym args;
+      clients = c ∙ st.clients ∙ ap (λ (p : _). clients_of sessions (numbers_of p)) (sym publishers);
+      consumers = known' ∙ st.consumers ∙ sym consumers;
+      seats = seats' ∙ st.seats ∙ sym seats;
+      untold = untold' ∙ st.untold ∙ sym untold;
+      group = subst (λ (x : QueueArgs). IsGroupOf x r.group new.group) (sym args)
+          (subst (λ (x : Members). IsGroupOf old.args r.group x) (sym group)
+          (subst (λ (x : GroupState). IsGroupOf old.args x old.group) (sym g) st.group));
+      synced = λ k s up. each k s (ap (λ (x : Members). server_at k x) (sym group) ∙ up);
+    }
 
 pub syncs-down : (k : ℕ) (old new : ClusterQueue) → server_at k old.group ≡ None → new ≡ old → Becomes (Syncs k) old new
 syncs-down k old new down same sessions q st =
