@@ -1,5 +1,5 @@
 -- Takers that the events of a run give to consumers are free then.
-use Rattle.std.proofs.Common.{◌≡◌, ◌∙◌, ℕ, Bool, List, [], ◌∷◌, ◌++◌, ap, sym, subst}
+use Rattle.std.proofs.Common.{◌≡◌, ◌∙◌, ℕ, Bool, true, List, [], ◌∷◌, ◌++◌, ap, sym, subst}
 use Rattle.qq_disk.specs.Disk.{Disk}
 use Rattle.qq_disk.specs.declared.image.Image.{Image}
 use Rattle.qq_base.specs.declared.ids.QueueId.{QueueId}
@@ -7,7 +7,7 @@ use Rattle.qq_base.specs.declared.ids.SessionId.{SessionId}
 use Rattle.qq_setup.specs.declared.setup.Setup.{Setup}
 use Rattle.qq_script_lines.specs.declared.line.ScriptLine.{ScriptLine}
 use Rattle.qq_script_lines.specs.declared.line.ScriptLine.TheVariants.{Attach}
-use Rattle.qq_taker.specs.Takers.{Takers}
+use Rattle.qq_taker.specs.Takers.{Takers, is_free}
 use Rattle.qq_cluster.specs.Cluster.{At, Cluster, ClusterEvent, Setup as ClusterSetup, cluster_after, cluster_happens, new_cluster}
 use Rattle.qq_cluster.specs.Lines.{IsLine}
 use Rattle.qq_cluster.specs.Outcome.{Outcome, takers_after}
@@ -35,6 +35,16 @@ free-both setup c (event ∷ first) second takers one other = (
       (subst (AreFree setup (cluster_after (cluster_happens c event) first) second)
       (takers-both setup c (event ∷ []) first takers) other),
 )
+
+-- so each one among them is
+pub given-free : (setup : ClusterSetup) (c : Cluster) (before since : List ClusterEvent) (takers : Takers)
+    (place session tag number : ℕ) → AreFree setup c (before ++ At place (Attaches session tag number) ∷ since) takers
+    → is_free number (takers_after setup c before takers) ≡ true
+given-free setup c [] since takers place session tag number free = free.0
+given-free setup c (event ∷ before) since takers place session tag number free =
+    subst (λ (all : Takers). is_free number all ≡ true) (sym (takers-both setup c (event ∷ []) before takers))
+    (given-free setup (cluster_happens c event) before since (takers_after setup c (event ∷ []) takers) place session
+    tag number free.1)
 
 -- ---- events that give none
 

@@ -1,6 +1,6 @@
 -- A taker that a line is to give to a consumer is free, or the line is refused.
-use Rattle.std.proofs.Common.{◌≡◌, ℕ, Bool, false, List, Result, Err, refl, inr, subst}
-use Rattle.std.specs.Prelude.{IfErr}
+use Rattle.std.proofs.Common.{◌≡◌, ℕ, Bool, false, List, Result, Ok, Err, refl, inr, subst}
+use Rattle.std.specs.Prelude.{IfErr, OnOk}
 use Rattle.std.proofs.lemmas.Result.{IfErr-weaker}
 use Rattle.qq_disk.specs.Disk.{Disk}
 use Rattle.qq_script_lines.specs.declared.line.ScriptLine.{ScriptLine}
@@ -11,13 +11,13 @@ use Rattle.qq_cluster.specs.Cluster.{ClusterEvent, Setup as ClusterSetup}
 use Rattle.qq_cluster_run.specs.declared.stop.AskStop.{AskStop}
 use Rattle.qq_cluster_run.specs.declared.stop.AskStop.TheVariants as asks
 use Rattle.qq_cluster_run.specs.Service.{HasServeCause}
-use Rattle.qq_cluster_run.specs.Serving.{all_seen}
+use Rattle.qq_cluster_run.specs.Serving.{Claims, Run, all_seen, setup_in}
 use Rattle.qq_cluster_run.specs.Troubles.{Trouble}
-use Rattle.qq_cluster_run.proofs.Answering.{IsEarlier, may_stop_earlier}
+use Rattle.qq_cluster_run.proofs.Answering.{IsEarlier, IsSoAt, may_stop_earlier}
 use Rattle.qq_broker.specs.Faults.{step_stop}
 use Rattle.qq_broker.specs.Lives.{Giving}
 use Rattle.qq_broker.specs.Nodes.{Meets}
-use Rattle.qq_broker.specs.Takers.{AsksFree, AsksGone, IsGoneCaused, RunMeets}
+use Rattle.qq_broker.specs.Takers.{AsksFree, AsksGone, IsGoneCaused, IsRefusedBy, RunMeets}
 use Rattle.qq_broker.specs.declared.faults.StepFault.{StepFault}
 use Rattle.qq_broker.specs.declared.faults.StepFault.TheVariants.{NoSuch, Nodes, Yard}
 use Rattle.qq_broker.proofs.Meeting.{run-meets}
@@ -77,3 +77,14 @@ run-causes given tells past faults first before after s setup events number line
     (λ fault so. cause-earlier (Meets given tells past faults before after)
     (RunMeets given tells past faults first before after) (run-meets given tells past faults first before after) setup
     events number line (step_stop s number fault) so)
+
+-- ---- a line that is served, and one that is refused
+
+pub always-ok : {A : Type 0} (r : Result A StepFault) (P : Type 0) → P → OnOk r P
+always-ok (Ok x) P so = so
+always-ok (Err e) P so = tt
+
+pub so-at : (claims : Claims) (s : Setup) (run : Run) (stop : AskStop)
+    → (IsRefusedBy stop → claims.finally (setup_in s run) run.events) → IsSoAt claims s run stop
+so-at claims s run (asks.Ended ending) so = so
+so-at claims s run asks.NoMemory so = tt

@@ -9,6 +9,7 @@ use Rattle.qq_base.specs.Causes.{Rose}
 use Rattle.qq_disk.specs.Disk.{Disk}
 use Rattle.qq_raft_protocol.specs.Facts.{In}
 use Rattle.qq_setup.specs.declared.setup.Setup.{Setup}
+use Rattle.qq_taker.specs.Takers.{Takers}
 use Rattle.qq_cluster.specs.Outcome.{Outcome}
 use Rattle.qq_cluster.specs.Cluster.{ClusterEvent, Setup as ClusterSetup, cluster_after, new_cluster}
 use Rattle.qq_cluster.specs.ClusterLaws.{HasGroups}
@@ -117,6 +118,17 @@ module _ {D : Type 0} (tells : D → Bool) (past : D → List Disk) (faults : D 
       subst (λ (n : ℕ). Rose n (faults last)) (ap (λ (v : Seen). v.faults) (have at disk here))
       (subst (λ (n : ℕ). Rose (seen tells past faults old (at + 1)).faults n)
       (ap (λ (v : Seen). v.faults) (still at last there)) (rose at (slice_get_within disks at disk here)))
+
+-- what was told over a text and takers that were lent
+pub told-so : (So : Outcome → Outcome → Type 0) (first later : Outcome) (text said : List ℕ) (before after : Takers)
+    → first ≡ record { text = text; takers = before } → text ≡ [] → said ≡ later.text → after ≡ later.takers
+    → So first later → So (record { text = []; takers = before }) (record { text = said; takers = after })
+told-so So first later text said before after is none told seen so =
+    let own : later ≡ record { text = said; takers = after } =
+    λ i. record { text = sym told i; takers = sym seen i } in
+    subst (So (record { text = []; takers = before })) own
+    (subst (λ (l : List ℕ). So (record { text = l; takers = before }) later) none
+    (subst (λ (o : Outcome). So o later) is so))
 
 -- ---- an opening
 

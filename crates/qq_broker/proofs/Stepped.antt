@@ -1,15 +1,18 @@
 -- A broker goes on: it serves lines, and pumps.
-use Rattle.std.proofs.Common.{◌≡◌, ℕ, Bool, List, ◌++◌, sym, subst, ◌∙◌}
+use Rattle.std.proofs.Common.{◌≡◌, ℕ, Bool, List, ◌++◌, ap, sym, subst, ◌∙◌}
 use Rattle.qq_disk.specs.Disk.{Disk}
 use Rattle.qq_script_lines.specs.declared.line.ScriptLine.{ScriptLine}
 use Rattle.qq_script_lines.specs.declared.line.ScriptLine.TheVariants.{Pump}
 use Rattle.qq_cluster.specs.Cluster.{Cluster, ClusterEvent, Setup as ClusterSetup}
+use Rattle.qq_taker.specs.Takers.{Takers}
 use Rattle.qq_cluster.specs.Lines.{IsLine}
+use Rattle.qq_cluster.specs.Outcome.{Outcome, takers_after}
+use Rattle.qq_cluster.specs.Texts.{text_of}
 use Rattle.qq_cluster.specs.Rules.{IsPump, is_idle}
 use Rattle.qq_cluster_laws.specs.Linked.{IsReached}
-use Rattle.qq_cluster_run.specs.Serving.{Run, setup_in}
+use Rattle.qq_cluster_run.specs.Serving.{Run, cluster_in, setup_in}
 use Rattle.qq_nodes.specs.Nodes.{Served, Stands}
-use Rattle.qq_broker.specs.Broker.{HasPumped, HasStepped, Runs, is_done}
+use Rattle.qq_broker.specs.Broker.{HasPumped, HasStepped, Runs, is_done, told_of}
 use Rattle.qq_broker.specs.Lives.{Giving}
 use Rattle.qq_broker.specs.Nodes.{Holds}
 use Rattle.qq_broker.specs.Serving.{IsServed, run_after}
@@ -43,27 +46,31 @@ module _ {D : Type 0} (given : Giving D) (tells : D → Bool) (past : D → List
         room = sym room i;
       }
 
-  pub has-stepped : (old new : Broker D) (line : ScriptLine) (said later : List ℕ)
-      → Runs given tells past faults old run → new.setup ≡ old.setup → new.room ≡ old.room → said ≡ later
-      → IsServed given tells past faults old.setup run line new.nodes old.text.items later
-      → HasStepped given tells past faults old new run line said
-  has-stepped old new line said later so same room is sv = record {
+  pub has-stepped : (old new : Broker D) (line : ScriptLine) (said : List ℕ) (before after : Takers)
+      (first later : Outcome) → Runs given tells past faults old run → new.setup ≡ old.setup → new.room ≡ old.room
+      → first ≡ told_of old before → said ≡ later.text → after ≡ later.takers
+      → IsServed given tells past faults old.setup run line new.nodes first later
+      → HasStepped given tells past faults old new run line said before after
+  has-stepped old new line said before after first later so same room start is seen sv = record {
     more = sv.more;
     allowed = sv.allowed;
     disks = sv.disks;
     stands = runs-on old new (run_after run (run.events ++ sv.more)) so same room sv.stands;
-    says = is ∙ sv.says;
+    says = is ∙ sv.says
+        ∙ ap (λ (o : Outcome). o.text ++ text_of (setup_in old.setup run) (cluster_in old.setup run) sv.more) start;
+    sees = seen ∙ sv.sees
+        ∙ ap (λ (o : Outcome). takers_after (setup_in old.setup run) (cluster_in old.setup run) sv.more o.takers) start;
   }
 
-  pub has-pumped : (old new : Broker D) (pumped : Pumped) (idle : Bool) → Runs given tells past faults old run
-      → new.setup ≡ old.setup → new.room ≡ old.room
-      → Served tells past faults IsPump old.nodes new.nodes old.text.items new.text.items → is_done pumped ≡ idle
+  pub has-pumped : (old new : Broker D) (before after : Takers) (first later : Outcome) (pumped : Pumped)
+      (idle : Bool) → Runs given tells past faults old run → new.setup ≡ old.setup → new.room ≡ old.room
+      → first ≡ told_of old before → new.text.items ≡ later.text → after ≡ later.takers
+      → Served tells past faults IsPump old.nodes new.nodes first later → is_done pumped ≡ idle
       → ((setup : ClusterSetup) (c : Cluster) → IsReached setup c → Stands tells past setup new.nodes c
       → idle ≡ is_idle setup c)
-      → HasPumped given tells past faults old new run pumped
-  has-pumped old new pumped idle so same room pumps done quiet =
-      let sv = served given tells past faults old.setup run Pump IsPump old.nodes new.nodes old.text.items
-      new.text.items so.holds
+      → HasPumped given tells past faults old new run before after pumped
+  has-pumped old new before after first later pumped idle so same room start text seen pumps done quiet =
+      let sv = served given tells past faults old.setup run Pump IsPump old.nodes new.nodes first later so.holds
       (λ events allowed. pump-line (setup_in old.setup run) _ events allowed) pumps in
       let next : Run = run_after run (run.events ++ sv.more) in
       record {
@@ -74,5 +81,9 @@ module _ {D : Type 0} (given : Giving D) (tells : D → Bool) (past : D → List
           runs-on old new next so same room sv.stands,
           done ∙ quiet (setup_in old.setup next) _ (reached given tells past faults old.setup next) sv.stands.stands,
         );
-        says = sv.says;
+        says = text ∙ sv.says
+            ∙ ap (λ (o : Outcome). o.text ++ text_of (setup_in old.setup run) (cluster_in old.setup run) sv.more) start;
+        sees = seen ∙ sv.sees
+            ∙ ap (λ (o : Outcome). takers_after (setup_in old.setup run) (cluster_in old.setup run) sv.more o.takers)
+            start;
       }

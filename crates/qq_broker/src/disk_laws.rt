@@ -35,7 +35,9 @@ ghost use Rattle.qq_cluster_run.specs.Runs.{HasRun};
 ghost use Rattle.qq_cluster_run.specs.Serving.{Behind, cluster_behind, setup_behind};
 ghost use Rattle.qq_cluster_run.specs.Troubles.{Damage, AtPlace, OfVersion, YardFails, DiskFails, FilesBreak, QueueIsFound};
 ghost use Rattle.qq_broker.specs.Lives.{Became, Giving, ByHand, IsGiven, under};
-ghost use Rattle.qq_broker.specs.Nodes.{Had, Meets};
+ghost use Rattle.qq_broker.specs.Nodes.{Meets};
+ghost use Rattle.qq_broker.specs.Takers.{RunClaims, RunHad, RunMeets};
+ghost use Rattle.qq_taker.specs.Takers.{Takers};
 
 use qq_cluster_laws::{disks_support_the_audits, what_waits_goes_on, what_was_answered_is_kept};
 use qq_cluster_run::clusters_begin_with_new_logs;
@@ -174,8 +176,8 @@ pub fn disks_keep_what_was_promised<D: NodeDisk>()
         ((image : Image) → In (Crashes k image) events → HasNoJunk image) →
         Became given D.tells D.past D.faults setup events k last →
         IsLinked setup (cluster_after (new_cluster setup) events) k (now (D.past last)) }
-    ensures run { (given : Giving D) (s : ScriptSetup) (all left : List Input)
-        (b : Behind (Had given D.tells D.past D.faults) s all left) →
+    ensures run { (given : Giving D) (first : Takers) (s : ScriptSetup) (all left : List Input)
+        (b : Behind (RunHad given D.tells D.past D.faults first) s all left) →
         ((k : ℕ) (disk : D) → IsGiven given D.tells D.past k disk → IsTrue (D.tells disk) →
         D.past disk ≡ (λ file. None) ∷ []) →
         ((disk : D) → IsTrue (D.tells disk)) →
@@ -195,8 +197,8 @@ pub fn disks_keep_what_was_promised<D: NodeDisk>()
 /// - `audits`: that supports the audit of each queue.
 /// - `answers`: the entry of each answer that was printed is in the logs of a majority.
 pub fn a_run_keeps_what_it_has_answered<D: NodeDisk>()
-    ensures audits { (given : Giving D) (s : ScriptSetup) (all left : List Input)
-        (b : Behind (Had given D.tells D.past D.faults) s all left) (disks : ℕ → D) →
+    ensures audits { (given : Giving D) (first : Takers) (s : ScriptSetup) (all left : List Input)
+        (b : Behind (RunHad given D.tells D.past D.faults first) s all left) (disks : ℕ → D) →
         ((k : ℕ) (disk : D) → IsGiven given D.tells D.past k disk → IsTrue (D.tells disk) →
         D.past disk ≡ (λ file. None) ∷ []) →
         ((disk : D) → IsTrue (D.tells disk)) →
@@ -204,8 +206,8 @@ pub fn a_run_keeps_what_it_has_answered<D: NodeDisk>()
         ((k : ℕ) → In k (setup_behind b).nodes →
         Became given D.tells D.past D.faults (setup_behind b) b.events k (disks k)) →
         Supports (setup_behind b) b.begins.groups (cluster_behind b) (λ k. now (D.past (disks k))) }
-    ensures answers { (given : Giving D) (s : ScriptSetup) (all left : List Input)
-        (b : Behind (Had given D.tells D.past D.faults) s all left) (disks : ℕ → D) →
+    ensures answers { (given : Giving D) (first : Takers) (s : ScriptSetup) (all left : List Input)
+        (b : Behind (RunHad given D.tells D.past D.faults first) s all left) (disks : ℕ → D) →
         ((k : ℕ) (disk : D) → IsGiven given D.tells D.past k disk → IsTrue (D.tells disk) →
         D.past disk ≡ (λ file. None) ∷ []) →
         ((disk : D) → IsTrue (D.tells disk)) →
@@ -315,7 +317,7 @@ pub fn without_junk_nothing_is_damaged_or_lost<D: NodeDisk>()
 /// A law: a run over new disks that show their contents ends with neither status 8 nor 9, if no line of its input
 /// leaves an image with junk.
 pub fn a_run_without_junk_is_neither_damaged_nor_lost<D: NodeDisk>()
-    ensures { (given : Giving D) (status : ℕ) (s : ScriptSetup) (bytes : List ℕ)
+    ensures { (given : Giving D) (first last : Takers) (status : ℕ) (s : ScriptSetup) (bytes : List ℕ)
         (rest old new : Option (List ℕ))
         (source_before source_after sink_before sink_after before after : ℕ) →
         IsRunnable (state_of s) →
@@ -325,8 +327,8 @@ pub fn a_run_without_junk_is_neither_damaged_nor_lost<D: NodeDisk>()
         ((lines : ℕ) (input : Input) (nodes : Nodes) (image : Image) → In input (inputs_of bytes) →
         says s lines input ≡ Asks (Crash nodes image) → HasNoJunk image) →
         HasRun status s (Some bytes) rest old new (Rose source_before source_after)
-        (Rose sink_before sink_after) (Meets given D.tells D.past D.faults before after)
-        (Had given D.tells D.past D.faults) → (status ≡ 8) ⊎ (status ≡ 9) → ⊥ }
+        (Rose sink_before sink_after) (RunMeets given D.tells D.past D.faults first before after)
+        (RunClaims given D.tells D.past D.faults first last) → (status ≡ 8) ⊎ (status ≡ 9) → ⊥ }
 {
     clusters_begin_with_new_logs();
     what_waits_goes_on();

@@ -12,7 +12,8 @@ ghost use Rattle.qq_cluster_run.specs.Serving.{Behind};
 ghost use Rattle.qq_cluster_run.specs.Setup.{new_logs};
 ghost use Rattle.qq_broker.specs.Dumping.{DumpEnds};
 ghost use Rattle.qq_broker.specs.Lives.{Giving, IsGiven, under};
-ghost use Rattle.qq_broker.specs.Nodes.{Had};
+ghost use Rattle.qq_broker.specs.Takers.{RunHad};
+ghost use Rattle.qq_taker.specs.Takers.{Takers};
 
 use qq_disk::NodeDisk;
 use qq_recover::a_promised_disk_is_read;
@@ -20,8 +21,9 @@ use qq_wal_chain::an_empty_disk_keeps_the_promise;
 
 /// A law: without a root a run begins with new logs, where all of its disks show their contents.
 pub fn a_run_without_a_root_begins_with_new_logs<D: NodeDisk>()
-    ensures { (is_given : Option (List ℕ) → ℕ → D → Bool) (s : Setup) (all left : List Input)
-        (b : Behind (Had (under is_given None) D.tells D.past D.faults) s all left) →
+    ensures { (is_given : Option (List ℕ) → ℕ → D → Bool) (first : Takers) (s : Setup)
+        (all left : List Input)
+        (b : Behind (RunHad (under is_given None) D.tells D.past D.faults first) s all left) →
         IsRunnable (state_of s) → ((disk : D) → IsTrue (D.tells disk)) → b.logs ≡ new_logs }
 {
     a_promised_disk_is_read();

@@ -16,6 +16,7 @@ mod routing;
 mod serving;
 mod stepping;
 mod stopping;
+mod taker_laws;
 
 pub use broker::{Audits, Broker, Pumped};
 pub use disk_laws::{
@@ -30,3 +31,4 @@ pub use laws::{a_dump_tells_what_was_done, a_run_without_a_root_begins_with_new_
 pub use over_disks::{open_disks, reopen_disks};
 pub use program::run;
 pub use stepping::step;
+pub use taker_laws::takers_of_a_run_see_what_it_shows;

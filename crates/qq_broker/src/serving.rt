@@ -1,5 +1,5 @@
 //! The nodes of a run serve lines.
-ghost use Rattle.std.specs.Prelude.{◌≡◌, ◌≤◌, ◌++◌, ◌∷◌, [], ℕ, false, Contains, IfErr, IsTrue, OnOk};
+ghost use Rattle.std.specs.Prelude.{◌≡◌, ◌≤◌, ◌++◌, ◌∷◌, [], ℕ, false, true, Contains, IfErr, OnOk};
 ghost use Rattle.qq_base.specs.Causes.{HasCause};
 ghost use Rattle.qq_ports.specs.Yard.{IsYardCaused};
 ghost use Rattle.qq_script_lines.specs.declared.line.ScriptLine.TheVariants.{Crash, Restart};
@@ -186,7 +186,7 @@ fn go_on<D: NodeDisk, T: Taker>(
 
 // Whether a taker that a line is to give to a consumer isn't there, or was given away.
 fn asks_gone<T: Taker>(line: &ScriptLine, takers: &Desk<T>) -> bool
-    ensures gone { IsTrue result → AsksGone line.now takers.now }
+    ensures gone { result ≡ true → AsksGone line.now takers.now }
     ensures free { result ≡ false → AsksFree line.now takers.now }
 {
     match line {

@@ -15,7 +15,7 @@ returns-clause-begun g c = λ given setup events k.
     g.D.NodeDisk.faults setup k events
 
 pub returns-clause-run : goal.returns-clause-run
-returns-clause-run g c = λ given s all left b all_new shows clean.
+returns-clause-run g c = λ given first s all left b all_new shows clean.
     run-disk c.a_promised_disk_is_read.ensures.now c.an_empty_disk_keeps_the_promise.ensures
     c.a_crash_without_junk_keeps_the_promise.ensures.image given g.D.NodeDisk.tells g.D.NodeDisk.past
-    g.D.NodeDisk.faults s all left b all_new shows clean
+    g.D.NodeDisk.faults first s all left b all_new shows clean

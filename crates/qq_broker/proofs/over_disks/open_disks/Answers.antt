@@ -6,10 +6,13 @@ use Rattle.qq_cluster_run.specs.Runs.{MayNotOpen, ending_of, stop_of}
 use Rattle.qq_cluster_run.specs.Setup.{new_logs}
 use Rattle.qq_broker.specs.Faults.{stop_for}
 use Rattle.qq_broker.specs.Lives.{ByHand}
-use Rattle.qq_broker.specs.Nodes.{Meets}
+use Rattle.qq_cluster_run.specs.Service.{HasOpened}
+use Rattle.qq_broker.specs.Broker.{Runs}
+use Rattle.qq_broker.specs.Nodes.{Had, Meets}
+use Rattle.qq_broker.specs.declared.broker.Broker.{Broker}
 use Rattle.qq_broker.specs.Serving.{memory_stop}
 use Rattle.qq_broker.proofs.Beginning.{some-node}
-use Rattle.qq_broker.proofs.Handed.{all-failed, by-hand, failed-back, opened-runs, refused-back, still-logs, still-many}
+use Rattle.qq_broker.proofs.Handed.{all-failed, by-hand, failed-back, opened-runs, refused-back, still-logs, still-many, told-so}
 use Rattle.qq_broker.proofs.Opens.{count-is, has-opened, no-disk}
 use Rattle.qq_broker.proofs.Stops.{own-stop}
 use Rattle.qq_broker.proofs.Unopened.{not-opened}
@@ -48,13 +51,18 @@ returns-then-some-clause-ok g c =
     let room : s.nodes ≤ vec_capacity c.begin_over.new.disks =
     (let same = c.begin_over.ensures.room in let many = c.requires.count in let own = c.args.disks.ok.0 in
     let most = c.args.disks.ok.1 in omega (arith, same, many, own, most)) in
-    opened-runs given disk.tells disk.past disk.faults s c.requires.may
-    (record { setup = s; nodes = c.open.new.nodes; text = c.open.new.text; room = c.begin_over.new.disks })
-    c.open.new.nodes c.new-text.result.items c.open.new.text.items refl refl c.in-Ok.ensures.empty room
-    c.new-text.ensures.items
+    let broker : Broker _ =
+    record { setup = s; nodes = c.open.new.nodes; text = c.give_back.new.text; room = c.begin_over.new.disks } in
+    told-so
+    (λ before later. HasOpened (Had given disk.tells disk.past disk.faults) s
+    (Runs given disk.tells disk.past disk.faults broker) before later)
+    c.lend.result c.open.new.told _ c.give_back.new.text.items c.args.takers.now c.give_back.new.takers c.lend.ensures
+    c.new-text.ensures.items c.give_back.ensures.text c.give_back.ensures.takers
+    (opened-runs given disk.tells disk.past disk.faults s c.requires.may broker
+    c.open.new.nodes c.lend.result c.open.new.told refl refl c.in-Ok.ensures.empty room
     (has-opened given disk.tells disk.past disk.faults s c.requires.may begins c.in-Ok.nodes u c.open.new.nodes
-    c.new-text.result.items c.open.new.text.items c.in-Ok-open_nodes.some c.if-some.true
-    (c.in-Ok-open_nodes.ensures.ok s.queues u.new))
+    c.lend.result c.open.new.told c.in-Ok-open_nodes.some c.if-some.true
+    (c.in-Ok-open_nodes.ensures.ok s.queues u.new)))
 
 -- ---- each disk has failed
 
@@ -66,7 +74,7 @@ hand_back-requires-clause-own g c =
     let u = c.in-Ok.ensures.ok given (by-hand disk.tells disk.past c.args.disks.items) in
     still-logs given disk.tells disk.past disk.faults s c.requires.may
     (c.clusters_begin_with_new_logs.ensures s c.requires.may) c.in-Ok.nodes u c.open.new.nodes c.in-Ok-open_nodes.some
-    c.new-text.result.items c.open.new.text.items (c.in-Ok-open_nodes.ensures.ok s.queues u.new)
+    c.lend.result c.open.new.told (c.in-Ok-open_nodes.ensures.ok s.queues u.new)
 
 pub hand_back-requires-clause-room : goal.hand_back-requires-clause-room
 hand_back-requires-clause-room g c =
@@ -76,7 +84,7 @@ hand_back-requires-clause-room g c =
     let u = c.in-Ok.ensures.ok given (by-hand disk.tells disk.past c.args.disks.items) in
     let count = still-many given disk.tells disk.past disk.faults s c.requires.may
     (c.clusters_begin_with_new_logs.ensures s c.requires.may) c.in-Ok.nodes u c.open.new.nodes c.in-Ok-open_nodes.some
-    c.new-text.result.items c.open.new.text.items (c.in-Ok-open_nodes.ensures.ok s.queues u.new) in
+    c.lend.result c.open.new.told (c.in-Ok-open_nodes.ensures.ok s.queues u.new) in
     let same = c.begin_over.ensures.room in
     let many = c.requires.count in
     let own = c.args.disks.ok.0 in
@@ -91,7 +99,7 @@ returns-in-Ok-open_nodes-clause-cause g c =
     let u = c.in-Ok.ensures.ok given (by-hand disk.tells disk.past c.args.disks.items) in
     no-disk given disk.tells disk.past disk.faults s c.requires.may
     (c.clusters_begin_with_new_logs.ensures s c.requires.may) c.in-Ok.nodes u c.open.new.nodes
-    c.new-text.result.items c.open.new.text.items 0 0 c.in-Ok-open_nodes.some c.if-some.false
+    c.lend.result c.open.new.told 0 0 c.in-Ok-open_nodes.some c.if-some.false
     (some-node s c.requires.may) (c.in-Ok-open_nodes.ensures.ok s.queues u.new)
 
 pub returns-in-Ok-open_nodes-clause-back : goal.returns-in-Ok-open_nodes-clause-back
@@ -103,7 +111,7 @@ returns-in-Ok-open_nodes-clause-back g c =
     failed-back given disk.tells disk.past disk.faults s c.requires.may
     (c.clusters_begin_with_new_logs.ensures s c.requires.may) c.in-Ok.nodes u c.args.disks.items c.requires.count
     c.in-Ok.ensures.disks c.open.new.nodes c.hand_back.result.items c.hand_back.ensures.disks c.hand_back.ensures.count
-    c.in-Ok-open_nodes.some c.if-some.false c.new-text.result.items c.open.new.text.items
+    c.in-Ok-open_nodes.some c.if-some.false c.lend.result c.open.new.told
     (c.in-Ok-open_nodes.ensures.ok s.queues u.new)
 
 pub returns-in-Ok-open_nodes-clause-failed : goal.returns-in-Ok-open_nodes-clause-failed
@@ -115,7 +123,7 @@ returns-in-Ok-open_nodes-clause-failed g c =
     all-failed given disk.tells disk.past disk.faults s c.requires.may
     (c.clusters_begin_with_new_logs.ensures s c.requires.may) c.in-Ok.nodes u c.args.disks.items c.requires.count
     c.in-Ok.ensures.disks c.open.new.nodes c.hand_back.result.items c.hand_back.ensures.disks c.hand_back.ensures.count
-    c.in-Ok-open_nodes.some c.if-some.false c.new-text.result.items c.open.new.text.items
+    c.in-Ok-open_nodes.some c.if-some.false c.lend.result c.open.new.told
     (c.in-Ok-open_nodes.ensures.ok s.queues u.new)
 
 -- ---- the opening is given up

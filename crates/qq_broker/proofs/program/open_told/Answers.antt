@@ -1,15 +1,71 @@
-use Rattle.std.proofs.Common.{[], inl, inr, subst}
-use Rattle.qq_taker.specs.Takers.{Takers}
+use Rattle.std.proofs.Common.{◌≡◌, ℕ, List, [], inl, inr, subst}
 use Rattle.qq_cluster.specs.Outcome.{Outcome}
+use Rattle.qq_cluster_run.proofs.Beginnings.{closed-at-once}
 use Rattle.qq_cluster_run.proofs.Closings.{unopened_earlier}
+use Rattle.qq_cluster_run.specs.Runs.{MayNotOpen}
 use Rattle.qq_cluster_run.specs.Service.{HasOpened}
 use Rattle.qq_broker.specs.Lives.{under}
-use Rattle.qq_broker.specs.Nodes.{Had, Holds}
+use Rattle.qq_broker.specs.Nodes.{Had, Holds, Meets}
+use Rattle.qq_broker.specs.Takers.{RunMeets}
 use Rattle.qq_broker.proofs.Closed.{run-stopped}
+use Rattle.qq_broker.proofs.Meeting.{run-meets}
 use Rattle.qq_broker.proofs.program.open_told.Goals as goal
 
+-- what the opening told began with no text
+opened-so : {A : Type 0} (Opened : Outcome → A → Type 0) (told : Outcome) (later : A) → told.text ≡ []
+    → Opened told later → Opened (record { text = []; takers = told.takers }) later
+opened-so Opened told later none so =
+    subst (λ (l : List ℕ). let o : Outcome = record { text = l; takers = told.takers } in Opened o later) none so
+
+pub returns-in-Err-clause-ends : goal.returns-in-Err-clause-ends
+returns-in-Err-clause-ends g c =
+    let disk = g.Y.Disk.NodeDisk in
+    let given = under g.Y.Yard.is_given c.args.root.now in
+    let written = g.O.Sink.written in
+    let faults = g.O.Sink.faults in
+    let yards = g.Y.Yard.faults in
+    let s = c.args.setup.now in
+    let takers = c.args.told.now.takers in
+    let below = Meets given disk.tells disk.past disk.faults (yards c.args.yard.now) (yards c.open.new.yard) in
+    let met = RunMeets given disk.tells disk.past disk.faults takers (yards c.args.yard.now) (yards c.open.new.yard) in
+    inl (closed-at-once c.close.result c.in-Err.ending (g.I.Source.left c.args.input.now) (written c.args.output.now)
+    (written c.args.output.now) (written c.close.new.output) (faults c.args.output.now) (faults c.args.output.now)
+    (faults c.close.new.output) (MayNotOpen met s) (omega arith) refl
+    (unopened_earlier below met
+    (run-meets given disk.tells disk.past disk.faults takers (yards c.args.yard.now) (yards c.open.new.yard)) s
+    c.in-Err.ending c.in-Err.ensures.cause)
+    c.close.ensures.closes)
+
 pub returns-clause-ends : goal.returns-clause-ends
-returns-clause-ends g c = ?
+returns-clause-ends g c =
+    let disk = g.Y.Disk.NodeDisk in
+    let written = g.O.Sink.written in
+    let faults = g.O.Sink.faults in
+    let yards = g.Y.Yard.faults in
+    let given = under g.Y.Yard.is_given c.args.root.now in
+    let s = c.args.setup.now in
+    let opened = opened-so
+    (λ before later. HasOpened (Had given disk.tells disk.past disk.faults) s
+    (Holds given disk.tells disk.past disk.faults s c.in-Ok.nodes) before later) c.args.told.now c.open.new.told
+    c.requires.empty c.in-Ok.ensures.ok in
+    run-stopped given disk.tells disk.past disk.faults c.args.told.now.takers c.serve_script.new.told.takers s
+    c.in-Err-serve_script.stop
+    c.close-in-Err-serve_script.result c.ending.result (g.I.Source.left c.args.input.now)
+    (g.I.Source.left c.serve_script.new.input) (written c.args.output.now) (written c.serve_script.new.output)
+    (written c.close-in-Err-serve_script.new.output) _ (yards c.args.yard.now) (yards c.open.new.yard)
+    (yards c.serve_script.new.yard) (faults c.args.output.now) (faults c.serve_script.new.output)
+    (faults c.close-in-Err-serve_script.new.output) c.in-Ok.ensures.later c.serve_script.ensures.sink_later
+    c.close-in-Err-serve_script.ensures.later
+    (c.in-Err-serve_script.ensures.cause given c.args.told.now.takers opened)
+    c.close-in-Err-serve_script.ensures.closes c.ending.ensures
 
 pub returns-in-Ok-serve_script-clause-ends : goal.returns-in-Ok-serve_script-clause-ends
-returns-in-Ok-serve_script-clause-ends g c = ?
+returns-in-Ok-serve_script-clause-ends g c =
+    let disk = g.Y.Disk.NodeDisk in
+    let given = under g.Y.Yard.is_given c.args.root.now in
+    let s = c.args.setup.now in
+    let opened = opened-so
+    (λ before later. HasOpened (Had given disk.tells disk.past disk.faults) s
+    (Holds given disk.tells disk.past disk.faults s c.in-Ok.nodes) before later) c.args.told.now c.open.new.told
+    c.requires.empty c.in-Ok.ensures.ok in
+    inr (inl (c.in-Ok-serve_script.ensures.ok given c.args.told.now.takers opened))

@@ -1,8 +1,11 @@
-use Rattle.std.proofs.Common.{[], refl, sym, subst, arith}
+use Rattle.std.proofs.Common.{[], ap, refl, sym, subst, ◌∙◌, arith}
 use Rattle.qq_ports.specs.Lines.{ahead, TakesLine}
 use Rattle.qq_cluster_run.proofs.Closings.{Rose_earlier}
 use Rattle.qq_cluster_run.proofs.Looping.{loops_start}
-use Rattle.qq_broker.specs.Takers.{HoldsAll, RunHad}
+use Rattle.qq_taker.specs.Takers.{Takers}
+use Rattle.qq_cluster.specs.Outcome.{Outcome}
+use Rattle.qq_broker.specs.Takers.{HoldsAll, RunClaims, RunHad}
+use Rattle.qq_broker.proofs.Gone.{so-at}
 use Rattle.qq_broker.proofs.GivenFree.{opened-all}
 use Rattle.qq_broker.proofs.Looped.{lines-break, lines-end, lines-fail, lines-go-on, lines-pass, lines-starve, lines-stop}
 use Rattle.qq_broker.proofs.program.serve_lines.Goals as goal
@@ -101,9 +104,13 @@ returns-in-Err-answer-clause-cause g c = λ given first opened.
     c.in_default.ensures.ok _ _ (yards c.args.yard.now) (yards c.lines.yard) (yards c.answer.new.yard) c.from.result
     c.in-Err-answer.stop next (g.I.Source.left c.next_line.new.input) c.as_slice.result.now c.answer.new.told.takers
     c.lines.invariant.yard_later c.lines_law.ensures takes c.in-Ok-Some.ensures.read
-    (c.in-Err-answer.ensures.cause given first so.run so.lines (cleared so.stands))
+    (c.in-Err-answer.ensures.cause given first so.run so.lines
+    (subst (λ (t : Takers). HoldsAll given disk.tells disk.past disk.faults c.args.setup.now first c.lines.nodes t so.run)
+    (sym (ap (λ (o : Outcome). o.takers) c.clear.ensures)) so.stands))
     (so-at (RunClaims given disk.tells disk.past disk.faults first c.answer.new.told.takers) c.args.setup.now so.run
-    c.in-Err-answer.stop (λ refused. ?))
+    c.in-Err-answer.stop
+    (λ refused. ap (λ (o : Outcome). o.takers) (c.in-Err-answer.ensures.same refused)
+    ∙ ap (λ (o : Outcome). o.takers) c.clear.ensures ∙ so.stands.seen))
     c.from.ensures)
 
 pub lines-preserved : goal.lines-preserved
@@ -120,8 +127,12 @@ lines-preserved g c =
           (g.O.Sink.written c.args.output.now) c.lines.nodes c.lines.told.takers now (g.O.Sink.written c.lines.output)
           (g.O.Sink.written c.write_all.new.out) c.lines.served c.lines.told.text c.text.result.now so
           c.text.ensures c.in_default.ensures.ok c.answer.new.nodes c.answer.new.told.takers next
-          c.as_slice.result.now c.clear.new.self c.answer.new.told c.lines_law.ensures takes ?
-          (c.in_default-answer.ensures.ok given first so.run so.lines ?));
+          c.as_slice.result.now c.clear.new.self c.answer.new.told c.lines_law.ensures takes
+          (ap (λ (o : Outcome). o.text) c.clear.ensures)
+          (c.in_default-answer.ensures.ok given first so.run so.lines
+          (subst
+          (λ (t : Takers). HoldsAll given disk.tells disk.past disk.faults c.args.setup.now first c.lines.nodes t so.run)
+          (sym (ap (λ (o : Outcome). o.takers) c.clear.ensures)) so.stands)));
       within = omega (arith, c.in_default-answer.ensures.within);
       source_later = omega (arith, c.lines.invariant.source_later, c.in-Ok-Some.ensures.later);
       sink_later = omega (arith, c.lines.invariant.sink_later, c.in_default.ensures.cause.later);

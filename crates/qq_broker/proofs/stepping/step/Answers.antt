@@ -1,5 +1,10 @@
-use Rattle.std.proofs.Common.{refl, ap}
+use Rattle.std.proofs.Common.{◌≡◌, ap, refl, sym, subst, ◌∙◌}
 use Rattle.std.specs.Global.{Vec}
+use Rattle.std.proofs.lemmas.Result.{IfErr-weaker, on_ok_weaker}
+use Rattle.qq_taker.specs.Takers.{Takers}
+use Rattle.qq_cluster.specs.Outcome.{Outcome}
+use Rattle.qq_broker.specs.Broker.{told_of}
+use Rattle.qq_broker.specs.Takers.{AsksFree, IsGoneCaused}
 use Rattle.qq_broker.proofs.Stepped.{has-stepped}
 use Rattle.qq_broker.proofs.stepping.step.Goals as goal
 
@@ -17,8 +22,23 @@ returns-in-Ok-clause-ok g c = λ given run so.
     (let disk = g.Y.Disk.NodeDisk in
     has-stepped given disk.tells disk.past disk.faults run c.args.broker.now
     (record c.args.broker.now { nodes = c.serve.new.nodes; text = c.replace.new.dest }) c.args.line
-    c.replace.result.items c.serve.new.text.items so refl refl
-    (ap (λ (v : Vec _). v.items) c.replace.ensures.value) (c.in-Ok.ensures.ok given run so.holds))
+    c.replace.result.items c.args.takers.now c.give_back.new.takers c.lend.result c.serve.new.told so refl refl
+    c.lend.ensures (ap (λ (v : Vec _). v.items) c.replace.ensures.value ∙ c.give_back.ensures.text)
+    c.give_back.ensures.takers (c.in-Ok.ensures.ok given run so.holds))
+
+pub returns-in-Ok-clause-free : goal.returns-in-Ok-clause-free
+returns-in-Ok-clause-free g c =
+    subst (λ (o : Outcome). AsksFree c.args.line o.takers) c.lend.ensures c.in-Ok.ensures.free
+
+pub returns-in-Err-clause-gone : goal.returns-in-Err-clause-gone
+returns-in-Err-clause-gone g c =
+    subst (λ (o : Outcome). IsGoneCaused c.in-Err.fault c.args.line o.takers) c.lend.ensures c.in-Err.ensures.gone
+
+pub returns-in-Err-clause-same : goal.returns-in-Err-clause-same
+returns-in-Err-clause-same g c = λ is.
+    c.give_back.ensures.takers ∙ ap (λ (o : Outcome). o.takers) (c.in-Err.ensures.same is)
+    ∙ ap (λ (o : Outcome). o.takers) c.lend.ensures
 
 pub returns-in-Err-clause-cause : goal.returns-in-Err-clause-cause
-returns-in-Err-clause-cause g c = λ given run so. c.in-Err.ensures.cause given run so.holds
+returns-in-Err-clause-cause g c = λ given first run number so seen.
+    c.in-Err.ensures.cause given first run number so.holds (ap (λ (o : Outcome). o.takers) c.lend.ensures ∙ seen)

@@ -25,8 +25,10 @@ pub returns-in-Ok-clause-ok : goal.returns-in-Ok-clause-ok
 returns-in-Ok-clause-ok g c = λ given run so.
     (let disk = g.D.NodeDisk in
     has-pumped given disk.tells disk.past disk.faults run c.args.self.now
-    (record c.args.self.now { nodes = c.pump.new.self; text = c.pump.new.text }) c.pump_outcome.result
-    c.is_idle-idle.result so refl refl c.in-Ok.ensures.ok c.pump_outcome.ensures c.is_idle-idle.ensures)
+    (record c.args.self.now { nodes = c.pump.new.self; text = c.give_back.new.text }) c.args.takers.now
+    c.give_back.new.takers c.lend.result c.pump.new.told c.pump_outcome.result c.is_idle-idle.result so refl refl
+    c.lend.ensures c.give_back.ensures.text c.give_back.ensures.takers c.in-Ok.ensures.ok c.pump_outcome.ensures
+    c.is_idle-idle.ensures)
 
 pub returns-in-Err-clause-cause : goal.returns-in-Err-clause-cause
 returns-in-Err-clause-cause g c = λ given run so.
