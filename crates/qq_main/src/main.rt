@@ -48,12 +48,24 @@ fn main(rt: HostRuntime) -> ExitCode {
     };
     let status = match words(&rt) {
         Ok(words) => run(
-            &rt, &words, &mut input, &mut output, &mut shelf, &mut yard, &mut desk,
+            &rt,
+            &words,
+            &mut input,
+            &mut output,
+            &mut shelf,
+            &mut yard,
+            &mut desk,
         ),
         Err(error) if error.kind() == io::ErrorKind::OutOfMemory => no_memory(&mut output),
         // Words that aren't text are no command.
         Err(_) => run(
-            &rt, &[], &mut input, &mut output, &mut shelf, &mut yard, &mut desk,
+            &rt,
+            &[],
+            &mut input,
+            &mut output,
+            &mut shelf,
+            &mut yard,
+            &mut desk,
         ),
     };
     ExitCode::from(status)
