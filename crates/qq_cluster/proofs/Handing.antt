@@ -1,5 +1,5 @@
 -- What is handed out is told at once or waits for a taker's verdict, and what is shown then.
-use Rattle.std.proofs.Common.{◌≡◌, ℕ, Bool, true, false, cond, List, [], ◌∷◌, ◌++◌, Option, Some, None, map, refl, ap, ◌∙◌, append-nil}
+use Rattle.std.proofs.Common.{◌≡◌, ℕ, Bool, true, false, cond, List, [], ◌∷◌, ◌++◌, Option, Some, None, map, refl, ap, ◌∙◌}
 use Rattle.std.specs.Prelude.{filter_map}
 use Rattle.std.specs.List.{AllByRecursion, cons_option}
 use Rattle.qq_base.proofs.Lists.{AllByRecursion-append}
@@ -15,6 +15,7 @@ use Rattle.qq_taker.specs.declared.seats.Seat.{Seat}
 use Rattle.qq_taker.specs.declared.taker.Verdict.{Verdict}
 use Rattle.qq_cluster.specs.Queue.{Queue, Event, Mutes, Ends, Attaches, Judges, Fetches, Ticks, Delivers, Loses, Copies, Writes, Syncs, Notices, Stops, Finds, attached, said, seats_after, untold_after}
 use Rattle.qq_cluster.specs.Taking.{answers, delivered, dropped_by, has_taker, judged, judged_by, leaving_at, seated_by, told_of, told_then, waiting_of, waiting_then}
+use Rattle.qq_cluster.proofs.Takerless.{delivered-still, waiting-still}
 
 -- ---- what is told, and what waits
 
@@ -33,14 +34,6 @@ pub told-waiting : (waits : List Handed) (seats : List Seat) (new : List Handed)
 told-waiting [] seats new = told_of-waiting seats new
 told-waiting (h ∷ more) seats new = refl
 
-pub waits-same : (waits : List Handed) (seats : List Seat) → waiting_then waits seats [] ≡ waits
-waits-same [] seats = refl
-waits-same (h ∷ more) seats = ap (λ (l : List Handed). h ∷ l) (append-nil more)
-
-pub tells-none : (waits : List Handed) (seats : List Seat) → told_then waits seats [] ≡ []
-tells-none [] seats = refl
-tells-none (h ∷ more) seats = refl
-
 -- nothing is handed out at it, and it is no verdict
 abbrev pub HandsNothing : Event → Type 0
 HandsNothing (Delivers at) = ⊥
@@ -55,8 +48,8 @@ untold-same q (Fetches session) none = absurd none
 untold-same q (Judges verdict) none = absurd none
 untold-same q (Notices k) none = absurd none
 untold-same q (Attaches session tag number) none =
-    waits-same q.untold (seats_after q (Attaches session tag number))
-untold-same q event none = waits-same q.untold q.seats
+    waiting-still q.untold (seats_after q (Attaches session tag number))
+untold-same q event none = waiting-still q.untold q.seats
 
 -- it is shown by nothing
 abbrev pub IsSilent : Event → Type 0
@@ -71,19 +64,16 @@ IsSilent (Stops k) = Unit {0}
 IsSilent (Finds k op) = Unit {0}
 IsSilent _ = ⊥
 
-nothing-told : (q : Queue) → delivered (told_then q.untold q.seats []) ≡ []
-nothing-told q = ap delivered (tells-none q.untold q.seats)
-
 pub silent-said : (q : Queue) (event : Event) → IsSilent event → said q event ≡ []
-silent-said q (Mutes session muted) silent = nothing-told q
-silent-said q (Ends session) silent = nothing-told q
-silent-said q (Ticks k) silent = nothing-told q
-silent-said q (Loses at) silent = nothing-told q
-silent-said q (Copies at) silent = nothing-told q
-silent-said q (Writes k) silent = nothing-told q
-silent-said q (Syncs k) silent = nothing-told q
-silent-said q (Stops k) silent = nothing-told q
-silent-said q (Finds k op) silent = nothing-told q
+silent-said q (Mutes session muted) silent = delivered-still q
+silent-said q (Ends session) silent = delivered-still q
+silent-said q (Ticks k) silent = delivered-still q
+silent-said q (Loses at) silent = delivered-still q
+silent-said q (Copies at) silent = delivered-still q
+silent-said q (Writes k) silent = delivered-still q
+silent-said q (Syncs k) silent = delivered-still q
+silent-said q (Stops k) silent = delivered-still q
+silent-said q (Finds k op) silent = delivered-still q
 silent-said q event silent = absurd silent
 
 -- ---- what holds of all that is shown

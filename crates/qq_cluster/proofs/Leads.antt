@@ -28,7 +28,7 @@ use Rattle.qq_session.specs.Shown.{NoLeader, WindowFull, effects_of_term, said_o
 use Rattle.qq_taker.specs.declared.handed.Handed.{Handed}
 use Rattle.qq_cluster.specs.Laws.{IsOwnTo, LeaderIsTold, NobodyIsTold, TellsOfEnd}
 use Rattle.qq_cluster.specs.Queue.{Queue, Submits, Resends, Downs, acts, happens, is_shown, leader, moves, offered, own_effects, own_rows, said, submits, known}
-use Rattle.qq_cluster.proofs.Handing.{waits-same}
+use Rattle.qq_cluster.proofs.Takerless.{waiting-still}
 
 -- a queue whose window for a session isn't full
 record Hands (session : ℕ) (body : Unstamped) (q : Queue) : Type 0 where
@@ -114,7 +114,7 @@ full session body q most =
         consumers = known q.clients (Submits session body) q.consumers;
         untold = l;
         group = group_after q.group (submits (leader q.group) (offered q.clients (Submits session body)));
-      }) (waits-same q.untold q.seats)
+      }) (waiting-still q.untold q.seats)
           ∙ ap (λ (c : Clients). record q {
             clients = c;
             consumers = known q.clients (Submits session body) q.consumers;
@@ -148,7 +148,7 @@ finds-no_leader session q is =
       ap (λ (l : List Handed). record q {
         untold = l;
         group = group_after q.group (submits (leader q.group) commands);
-      }) (waits-same q.untold q.seats)
+      }) (waiting-still q.untold q.seats)
           ∙ ap (λ (o : Option ℕ). record q { group = group_after q.group (submits o commands) }) is
           ∙ ap (λ (l : List Move). record q { group = group_after q.group l }) (submits-none commands),
       ap (λ (o : Option ℕ). said_of (is_some o) session commands) is,
@@ -168,7 +168,7 @@ leader-told session q used =
       lost = λ is. ap (λ (l : List Handed). record q {
         untold = l;
         group = group_after q.group (submits (leader q.group) (offered q.clients (Downs session)));
-      }) (waits-same q.untold q.seats)
+      }) (waiting-still q.untold q.seats)
           ∙ ap (λ (o : Option ℕ). record q {
             group = group_after q.group (submits o (offered q.clients (Downs session)));
           }) is
@@ -186,7 +186,7 @@ nobody-told session q unused =
       same = ap (λ (l : List Handed). record q {
         untold = l;
         group = group_after q.group (submits (leader q.group) (offered q.clients (Downs session)));
-      }) (waits-same q.untold q.seats)
+      }) (waiting-still q.untold q.seats)
           ∙ ap (λ (l : List Command). record q { group = group_after q.group (submits (leader q.group) l) }) none';
       silent = ap (said_of (is_some (leader q.group)) session) none' ∙ no-words (is_some (leader q.group));
     }

@@ -20,6 +20,7 @@ mod Judging
 mod Seating
 mod TakerSees
 mod TakerRuns
+mod Listening
 mod Serving
 mod Stopping
 mod Worked

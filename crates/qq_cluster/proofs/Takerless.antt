@@ -61,14 +61,14 @@ answers-none (row ∷ rows) =
     ∙ ap (λ (l : List Shown). Answered row ∷ l) (answers-none rows)
 
 -- where nothing more is handed out, what waits is as before
-waiting-still : (untold : List Handed) (seats : List Seat) → waiting_then untold seats [] ≡ untold
+pub waiting-still : (untold : List Handed) (seats : List Seat) → waiting_then untold seats [] ≡ untold
 waiting-still [] seats = refl
 waiting-still (h ∷ more) seats = append-nil (h ∷ more)
 
 pub untold-still : (q : Queue) → q ≡ record q { untold = waiting_then q.untold q.seats [] }
 untold-still q = sym (ap (λ (l : List Handed). record q { untold = l }) (waiting-still q.untold q.seats))
 
-told-still : (untold : List Handed) (seats : List Seat) → told_then untold seats [] ≡ []
+pub told-still : (untold : List Handed) (seats : List Seat) → told_then untold seats [] ≡ []
 told-still [] seats = refl
 told-still (h ∷ more) seats = refl
 

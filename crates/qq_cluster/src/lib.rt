@@ -31,5 +31,6 @@ pub use sessions::{
 };
 pub use takers::{
     a_consumer_has_one_taker, nothing_waits_between_lines, takers_see_runs_of_deliveries,
+    who_listens_hears_what_is_delivered,
 };
 pub use texts::{a_cluster_tells_its_state, a_lost_command_is_told};

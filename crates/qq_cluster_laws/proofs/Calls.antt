@@ -1,5 +1,5 @@
 -- What a call of a node's log does to its disk is a trace of its events.
-use Rattle.std.proofs.Common.{◌≡◌, ℕ, Bool, true, false, List, [], ◌∷◌, Ok, Some, take, refl, sym, ◌∙◌, subst, arith}
+use Rattle.std.proofs.Common.{◌≡◌, ℕ, Bool, true, false, List, [], ◌∷◌, Ok, Some, take, refl, sym, subst, arith}
 use Rattle.std.proofs.lemmas.Bool.{eq-eqb}
 use Rattle.qq_base.proofs.Fronts.{front-more}
 use Rattle.qq_base.proofs.Lists.{AllByRecursion-weaker}

@@ -10,3 +10,4 @@ mod Calls
 mod Own
 mod Fresh
 mod Asked
+mod Looking

@@ -10,6 +10,7 @@ mod moments;
 mod openings;
 mod queues;
 mod rules;
+mod seeing;
 mod takers;
 
 pub use counts::{
@@ -34,6 +35,9 @@ pub use queues::{a_queue_notices_and_answers, an_op_is_of_its_queue};
 pub use rules::{
     a_disk_fails_where_it_is_called, a_restart_finds_what_was_noticed,
     carried_out_commands_count_from_one,
+};
+pub use seeing::{
+    a_taker_sees_a_run_of_deliveries, no_delivery_waits_between_lines, takers_see_what_is_shown,
 };
 pub use takers::{
     a_verdict_is_told, deliveries_wait_for_takers, takers_are_asked_until_nothing_waits,

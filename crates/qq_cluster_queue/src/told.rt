@@ -1,6 +1,7 @@
 //! What comes of a run outside of its queues.
 ghost use Rattle.std.specs.Prelude.{◌≡◌, ◌++◌, [], IfOk, OnOk, OnErr, IsOkUnless};
 ghost use Rattle.qq_session.specs.Shown.{Answered, Attached, Delivered, Dropped, HasEnded, IsBusy, NoLeader, NotTaken, Taken, WindowFull};
+ghost use Rattle.qq_taker.specs.Takers.{heard_of, listen, take_heard};
 ghost use Rattle.qq_cluster_queue.specs.Telling.{show};
 
 use crate::label::{Label, taken_words, verdict_text};
@@ -16,7 +17,7 @@ const LINE_ROOM: usize = 512;
 
 /// What a run tells: its text, and the takers of consumers' deliveries.
 ///
-/// Contracts see the text so far, and what each taker has seen.
+/// Contracts see the text so far, what each taker has seen, and what who listens has heard.
 #[derive(Drop)]
 pub struct Told<T: Taker> {
     text: Vec<u8>,
@@ -82,6 +83,23 @@ impl<T: Taker> Told<T> {
         self.desk
     }
 
+    /// From here on the deliveries are kept that are told to consumers without a taker. What was kept before is
+    /// dropped.
+    pub fn listen(&mut self, alloc: Global)
+        ensures { self.new ≡ record self.old { takers = listen self.old.takers } }
+    {
+        self.desk.listen(alloc);
+    }
+
+    /// The deliveries that were kept, in order; from here on those are kept that come next. None exactly where nobody
+    /// listens.
+    pub fn take_heard(&mut self, alloc: Global) -> Option<Vec<Handed>>
+        ensures heard { heard_of result ≡ self.old.takers.heard }
+        ensures rest { self.new ≡ record self.old { takers = take_heard self.old.takers } }
+    {
+        self.desk.take_heard(alloc)
+    }
+
     /// The answer of a row is told.
     pub(crate) fn answered(
         &mut self,
@@ -97,7 +115,8 @@ impl<T: Taker> Told<T> {
         Ok(())
     }
 
-    /// A delivery to a consumer without a taker is told.
+    /// A delivery to a consumer without a taker is told, and who listens hears it. It is heard first, so that an error
+    /// leaves the text as it is.
     pub(crate) fn delivered(
         &mut self,
         alloc: Global,
@@ -109,6 +128,7 @@ impl<T: Taker> Told<T> {
         ensures err { OnErr result (self.new.text ≡ self.old.text) }
         ensures want { IsOkUnless result Memory.Want }
     {
+        self.desk.hear(alloc, handed)?;
         label.delivered(alloc, handed.consumer, &handed.delivery, &mut self.text)?;
         Ok(())
     }
@@ -232,7 +252,12 @@ impl<T: Taker> Told<T> {
             None => return Err(Memory::Want),
         };
         words.push_str(verdict_text(verdict))?;
-        label.taken(alloc, handed.consumer.session, words.as_str(), &mut self.text)?;
+        label.taken(
+            alloc,
+            handed.consumer.session,
+            words.as_str(),
+            &mut self.text,
+        )?;
         Ok(verdict)
     }
 }

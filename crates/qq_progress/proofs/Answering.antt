@@ -15,11 +15,12 @@ use Rattle.qq_cluster.specs.Queue.{Queue, Event, after}
 use Rattle.qq_cluster.proofs.Groups.{after-append}
 use Rattle.qq_session.specs.Clients.{hear_all}
 use Rattle.qq_progress.specs.Alone.{turn, turn_where, turns}
-use Rattle.qq_progress.proofs.Exchange.{Goes, HasHeard, Pends, Replied, Talk, heard-more, none-own, replied-left, replied-right, same_some, some_none}
+use Rattle.qq_progress.proofs.Exchange.{Goes, HasHeard, Pends, Replied, Talk, heard-more, none-effects, none-own, replied-left, replied-right, same_some, some_none}
 use Rattle.qq_progress.proofs.Member.{follower-notice, rpcs_of}
 use Rattle.qq_progress.proofs.Rounds.{IsSettled, rests-refl}
 use Rattle.qq_progress.proofs.Sound.{AreHanded, IsSound, ops-counted, sound-all}
-use Rattle.qq_progress.proofs.Turns.{HasNone, IsEven, Rests, Tells, turn-rests, turn-tells}
+use Rattle.qq_progress.proofs.Turns.{HasNone, IsEven, Rests, Tells, rests-quiet, turn-quiet, turn-rests, turn-tells}
+use Rattle.qq_progress.proofs.Following.{AllQuiet, IsQuiet, quiet-after, quiet-append}
 
 -- all others have heard of the entry, and only answers are on their way
 pub record IsAnswering (p : Talk) (q : Queue) (rs : List Rpc) : Type 0 where
@@ -156,6 +157,13 @@ module _ (handed : AreHanded) (members : List NodeId) (p : Talk) (goes : Goes p)
     server : (next.group.seat j).server ≡ Some then'
     server = ap (λ (s : Seat). s.server) tells.seat ∙ ap (λ (s : Server). Some (record s { out = [] })) told
 
+    -- it hands nothing out
+    told-quiet : IsQuiet q → AllQuiet q (turn j q)
+    told-quiet quiet =
+        turn-quiet handed members q sound j t up (a.even j node_up) op ops some quiet
+        (none-effects q.args (record t { ops = [] }) (record (notice t.op (record t { ops = [] })) { out = [] })
+        (ap (λ (s : Server). s.role) told ∙ (a.heard j other).follows t up))
+
     own-heard : HasHeard p (rs ++ left) j (next.group.seat j)
     own-heard = record {
       follows = λ s is.
@@ -262,6 +270,30 @@ module _ (handed : AreHanded) (members : List NodeId) (p : Talk) (goes : Goes p)
         | inr other ↦ at node_up other (q.group.seat j).server refl
       ]
 
+  one-quiet : (q : Queue) (rs : List Rpc) (j : ℕ) → IsSound members q → IsAnswering p q rs → IsQuiet q
+      → AllQuiet q (turn_where (p.up j) j q)
+  one-quiet q rs j sound a quiet = by (p.up j) refl
+    where
+      rests : p.up j ≡ true → HasNone j q → AllQuiet q (turn j q)
+      rests node_up none = rests-quiet j q (a.even j node_up) none quiet
+
+      of : p.up j ≡ true → j ≢ p.node → (t : Server) → (q.group.seat j).server ≡ Some t → (all : List Op)
+          → t.ops ≡ all → AllQuiet q (turn j q)
+      of node_up other t up [] none =
+          rests node_up (λ s is. ap (λ (x : Server). x.ops) (same_some s t (sym is ∙ up)) ∙ none)
+      of node_up other t up (op ∷ ops) some = told-quiet q rs j sound a node_up other t up op ops some quiet
+
+      at : p.up j ≡ true → j ≢ p.node → (o : Option Server) → (q.group.seat j).server ≡ o → AllQuiet q (turn j q)
+      at node_up other None down = rests node_up (λ s is. absurd (some_none s (sym is ∙ down)))
+      at node_up other (Some t) up = of node_up other t up t.ops refl
+
+      by : (b : Bool) → p.up j ≡ b → AllQuiet q (turn_where b j q)
+      by false down = tt
+      by true node_up = elim (cases_eq j p.node) [
+        | inl own ↦ rests node_up (subst (λ (n : ℕ). HasNone n q) (sym own) a.leader)
+        | inr other ↦ at node_up other (q.group.seat j).server refl
+      ]
+
   -- all turns
   pub all-answered : (nodes : List ℕ) (q : Queue) (rs : List Rpc) → IsSound members q → IsAnswering p q rs
       → HaveAnswered p q (after q (turns p.up nodes q)) rs nodes
@@ -295,3 +327,16 @@ module _ (handed : AreHanded) (members : List NodeId) (p : Talk) (goes : Goes p)
           | inr later ↦ rest.own i later i_up other counts
         ];
       })
+
+  -- and they hand nothing out
+  pub answers-quiet : (nodes : List ℕ) (q : Queue) (rs : List Rpc) → IsSound members q → IsAnswering p q rs → IsQuiet q
+      → AllQuiet q (turns p.up nodes q)
+  answers-quiet [] q rs sound a quiet = tt
+  answers-quiet (j ∷ nodes) q rs sound a quiet =
+      let events : List Event = turn_where (p.up j) j q in
+      let next : Queue = after q events in
+      let first = one-answered q rs j sound a in
+      let one = one-quiet q rs j sound a quiet in
+      quiet-append q events (turns p.up nodes next) one
+      (answers-quiet nodes next first.more (sound-all members q events sound) first.answering
+      (quiet-after q events quiet one))

@@ -1,5 +1,5 @@
 -- One member's messages go to the others, and each answers once.
-use Rattle.std.proofs.Common.{◌≡◌, ◌≢◌, ◌⊎◌, ℕ, ◌<◌, Bool, true, false, ◌&&◌, eqb, List, [], ◌∷◌, ◌++◌, length, map, drop, take, Option, Some, None, refl, sym, ap, ◌∙◌, subst, inl, inr, append_assoc}
+use Rattle.std.proofs.Common.{◌≡◌, ◌≢◌, ◌⊎◌, ℕ, ◌<◌, Bool, true, false, cond, ◌&&◌, eqb, List, [], ◌∷◌, ◌++◌, length, map, drop, take, Option, Some, None, refl, sym, ap, ◌∙◌, subst, inl, inr, append_assoc}
 use Rattle.std.specs.Prelude.{replicate, filter}
 use Rattle.std.specs.List.{AllByRecursion}
 use Rattle.std.proofs.lemmas.Bool.{cases_eq, cond-false}
@@ -13,16 +13,19 @@ use Rattle.qq_raft_msg.specs.Rpc.{envelope}
 use Rattle.qq_raft_msg.specs.declared.rpc.Rpc.{Rpc}
 use Rattle.qq_raft_msg.specs.declared.state.Role.{Role}
 use Rattle.qq_raft_msg.specs.declared.state.Role.TheVariants.{Follower}
-use Rattle.qq_model.specs.Audit.{audit_of}
+use Rattle.qq_model.specs.Audit.{audit_of, state_after}
 use Rattle.qq_model.specs.State.{empty_queue}
 use Rattle.qq_raft_model.specs.Group.{Seat, deliver_by}
 use Rattle.qq_raft_model.specs.Server.{Input, receive}
 use Rattle.qq_raft_model.specs.State.{Server, is_leader, term_at}
 use Rattle.qq_raft_model.proofs.Noticed.{noticed-is}
-use Rattle.qq_cluster.specs.Queue.{Queue, Delivers, after, happens, is_shown, own_rows, receiver_by}
+use Rattle.qq_cluster.specs.Queue.{Queue, Delivers, after, happens, is_shown, own_effects, own_rows, receiver_by}
 use Rattle.qq_session.specs.Clients.{hear_all}
+use Rattle.qq_session.specs.Shown.{effects_of_term}
+use Rattle.qq_entry.specs.declared.command.Entry.{Entry}
 use Rattle.qq_progress.specs.Soon.{AreOnce}
-use Rattle.qq_progress.proofs.Feeding.{Feeds, FeedsNobody, FeedsOne, fed, feeds-nobody, feeds-one}
+use Rattle.qq_progress.proofs.Feeding.{Feeds, FeedsNobody, FeedsOne, effects-nobody, effects-told, fed, feeds-nobody, feeds-one}
+use Rattle.qq_progress.proofs.Following.{AllQuiet, IsQuiet, delivers-quiet}
 use Rattle.qq_progress.proofs.Fit.{IsFit}
 use Rattle.qq_progress.proofs.Member.{rpcs_of}
 use Rattle.qq_progress.proofs.Sound.{IsSound, sound-event}
@@ -156,6 +159,12 @@ none-own args s t follows =
     filter-none (is_shown t) (drop s.commit (audit_of (empty_queue args) (take t.commit t.log)))
     (λ row. ap (λ (r : Role). (is_leader r && eqb (term_at t.log t.commit) t.term.0) && eqb row.entry.term.0 t.term.0)
     follows)
+
+pub none-effects : (args : QueueArgs) (s t : Server) → t.role ≡ Follower → own_effects args s t ≡ []
+none-effects args s t follows =
+    let all : List Entry = take t.commit t.log in
+    ap (λ (r : Role). cond (is_leader r && eqb (term_at t.log t.commit) t.term.0)
+    (effects_of_term t.term (state_after (empty_queue args) (take s.commit all)) (drop s.commit all)) []) follows
 
 -- how a talk goes: its messages are for others; who counts is there; who hears one answers once; and a notice leaves what a
 -- member is then
@@ -293,6 +302,22 @@ module _ (nodes : List NodeId) (p : Talk) (goes : Goes p) (q : Queue) (m : Rpc) 
       by None down = nobody down
       by (Some t) up = somebody t up
 
+  -- it hands nothing out
+  one-quiet : IsQuiet q → IsQuiet next
+  one-quiet quiet = by (q.group.seat j).server refl
+    where
+      by : (o : Option Server) → (q.group.seat j).server ≡ o → IsQuiet next
+      by None down =
+          delivers-quiet q 0 quiet (effects-nobody q (Delivers 0) j (Input.Receive m) (ms ++ rs) feeds down)
+      by (Some t) up =
+          let u : Server = receive m t in
+          let fit = sound.fit.each j t up in
+          let r : Replies p rs j (fed (q.group.seat j) u) u.out =
+          goes.answers rs j (q.group.seat j) t m d.sent.0 refl up fit.node fit.out fresh in
+          delivers-quiet q 0 quiet
+          (effects-told q (Delivers 0) j (Input.Receive m) (ms ++ rs) t feeds up
+          ∙ none-effects q.args t (record u { out = [] }) (r.heard.follows (record u { out = [] }) refl))
+
 -- all messages that were sent are delivered
 pub all-delivered : (nodes : List NodeId) (p : Talk) → Goes p → (ms rs : List Rpc) (q : Queue) → IsSound nodes q
     → IsDelivering p q ms rs
@@ -304,3 +329,15 @@ all-delivered nodes p goes (m ∷ ms) rs q sound d =
     let next : Queue = happens q (Delivers 0) in
     let rest = all-delivered nodes p goes ms one.1.0 next (sound-event nodes q (Delivers 0) sound) one.1.1 in
     (leaves-then p q next (after next (replicate (length ms) (Delivers 0))) one.0 rest.0, rest.1)
+
+-- and hand nothing out
+pub deliveries-quiet : (nodes : List NodeId) (p : Talk) → Goes p → (ms rs : List Rpc) (q : Queue) → IsSound nodes q
+    → IsDelivering p q ms rs → IsQuiet q → AllQuiet q (replicate (length ms) (Delivers 0))
+deliveries-quiet nodes p goes [] rs q sound d quiet = tt
+deliveries-quiet nodes p goes (m ∷ ms) rs q sound d quiet =
+    let one = one-delivery nodes p goes q m ms rs sound d in
+    let next = one-quiet nodes p goes q m ms rs sound d quiet in (
+      next,
+      deliveries-quiet nodes p goes ms one.1.0 (happens q (Delivers 0)) (sound-event nodes q (Delivers 0) sound)
+          one.1.1 next,
+    )

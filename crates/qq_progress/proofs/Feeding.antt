@@ -6,7 +6,7 @@ use Rattle.qq_raft_msg.specs.declared.rpc.Rpc.{Rpc}
 use Rattle.qq_raft_model.specs.Group.{Group, Seat, after_step, feed, feed_by}
 use Rattle.qq_raft_model.specs.Server.{Input, step}
 use Rattle.qq_raft_model.specs.State.{Server}
-use Rattle.qq_cluster.specs.Queue.{Queue, Event, acts, group_then, happens, own_rows, rows_at, rows_by, rows_told, stepping, synced_after}
+use Rattle.qq_cluster.specs.Queue.{Queue, Event, acts, effects_at, effects_by, effects_told, group_then, happens, own_effects, own_rows, rows_at, rows_by, rows_told, stepping, synced_after}
 use Rattle.qq_session.specs.Clients.{hear_all}
 
 -- an event gives one member an input, once these messages are left
@@ -49,6 +49,25 @@ rows-told q event j input rest s feeds up =
     ∙ ap (λ (seat : Seat). rows_by q.args (q.group.seat j).server seat.server)
     (put-same j (fed (q.group.seat j) u) q.group.seat)
     ∙ ap (λ (o : Option Server). rows_by q.args o (Some (record u { out = [] }))) up
+
+pub effects-told : (q : Queue) (event : Event) (j : ℕ) (input : Input) (rest : List Rpc) (s : Server)
+    → Feeds q event j input rest → (q.group.seat j).server ≡ Some s
+    → effects_told q event ≡ own_effects q.args s (record (step s input) { out = [] })
+effects-told q event j input rest s feeds up =
+    let u = step s input in
+    let here : Group = record q.group { bag = rest } in
+    ap (λ (o : Option ℕ). effects_at o q.args q.group (group_then q event)) feeds.steps
+    ∙ ap (λ (g : Group). effects_by q.args (q.group.seat j).server (g.seat j).server)
+    (feeds.is ∙ ap (λ (o : Option Server). feed_by j input o here) up)
+    ∙ ap (λ (seat : Seat). effects_by q.args (q.group.seat j).server seat.server)
+    (put-same j (fed (q.group.seat j) u) q.group.seat)
+    ∙ ap (λ (o : Option Server). effects_by q.args o (Some (record u { out = [] }))) up
+
+pub effects-nobody : (q : Queue) (event : Event) (j : ℕ) (input : Input) (rest : List Rpc) → Feeds q event j input rest
+    → (q.group.seat j).server ≡ None → effects_told q event ≡ []
+effects-nobody q event j input rest feeds down =
+    ap (λ (o : Option ℕ). effects_at o q.args q.group (group_then q event)) feeds.steps
+    ∙ ap (λ (o : Option Server). effects_by q.args o ((group_then q event).seat j).server) down
 
 pub feeds-one : (q : Queue) (event : Event) (j : ℕ) (input : Input) (rest : List Rpc) (s : Server)
     → Feeds q event j input rest → (q.group.seat j).server ≡ Some s

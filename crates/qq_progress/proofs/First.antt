@@ -1,5 +1,5 @@
 -- The first command that is given to a new cluster.
-use Rattle.std.proofs.Common.{◌≡◌, ℕ, zero, suc, ◌≤◌, Bool, true, false, List, [], ◌∷◌, ◌++◌, None, length, take, sym, ap, ◌∙◌, subst, arith, length-append}
+use Rattle.std.proofs.Common.{◌≡◌, ℕ, zero, suc, ◌≤◌, Bool, true, false, List, [], ◌∷◌, ◌++◌, None, length, take, sym, ap, ◌∙◌, subst, inl, arith, length-append}
 use Rattle.std.specs.Prelude.{Contains}
 use Rattle.qq_base.proofs.Fronts.{front-length}
 use Rattle.qq_base.specs.Fronts.{IsFront}
@@ -24,7 +24,7 @@ use Rattle.qq_cluster.specs.ClusterLaws.{HasGroups, has_failure}
 use Rattle.qq_cluster.specs.Lines.{IsLine}
 use Rattle.qq_cluster.specs.Queue.{Queue, Submits, audit_rows}
 use Rattle.qq_cluster.specs.Rules.{ForEach, IsNothing, IsOpening, IsRound, Then, if_so, is_idle, not_taken}
-use Rattle.qq_cluster.proofs.Groups.{KnowsCommits}
+use Rattle.qq_cluster.proofs.Groups.{KeepsCommits, KnowsCommits}
 use Rattle.qq_progress.specs.Rounds.{Rounds}
 use Rattle.qq_progress.specs.Opened.{AreNewGroups, FirstLeads, HasOpened, IsNewGroup}
 use Rattle.qq_progress.specs.Soon.{AreNodes, AreOnce, GivesOne, IsCommittedSoon, IsNewTo, MayGive}
@@ -119,7 +119,7 @@ in-words setup c place session given s events fresh soon =
           (soon.printed (ap (λ (x : Client). x.muted) fresh)),
     )
 
-pub first-answered : AreHanded → KnowsCommits → AreWithin → KnowsWhole → WereSubmitted → (setup : Setup)
+pub first-answered : AreHanded → KnowsCommits → KeepsCommits → AreWithin → KnowsWhole → WereSubmitted → (setup : Setup)
     (opening : List ClusterEvent) (line : ScriptLine) (session place : ℕ) (given : Unstamped)
     (events : List ClusterEvent) → HasGroups setup → AreOnce setup.places → AreOnce setup.nodes → AreNodes setup
     → AreNewGroups setup → In place setup.places → GivesOne setup line session place given
@@ -127,7 +127,7 @@ pub first-answered : AreHanded → KnowsCommits → AreWithin → KnowsWhole →
     → not_taken session given ((cluster_after (new_cluster setup) opening).queue place) ≡ None
     → IsLine setup line (cluster_after (new_cluster setup) opening) events → has_failure events ≡ false
     → IsAnswered setup (cluster_after (new_cluster setup) opening) place session given events
-first-answered handed knows within whole submitted setup opening line session place given events groups once nodes_once
+first-answered handed knows keeps within whole submitted setup opening line session place given events groups once nodes_once
     nodes new here gives opens_is opens_fine taken is fine =
     in-words setup c place session given leads.server events fresh soon
   where
@@ -158,8 +158,8 @@ first-answered handed knows within whole submitted setup opening line session pl
 
     soon : IsCommittedSoon setup c place session given leads.server events
     soon =
-        line-commits handed knows within whole submitted setup opening line session place given leads.first.0
+        line-commits handed knows keeps within whole submitted setup opening line session place given leads.first.0
         leads.server events groups once nodes here (new-to session (setup.group place) (new place here))
         (auto-stays (new_cluster setup) opening calm) opened.idle leads.leads
         (let free = takerless-then (new_cluster setup) opening calm (takerless-new setup) place in
-        record { seats = free.seats; untold = free.untold }) may gives is fine
+        record { untold = free.untold; calm = inl free.seats }) may gives is fine

@@ -1,5 +1,7 @@
 -- The leader hears the answers.
-use Rattle.std.proofs.Common.{◌≡◌, ◌≢◌, ℕ, ◌≤◌, ◌<◌, ◌+◌, Bool, true, eqb, List, [], ◌∷◌, ◌++◌, length, map, Some, refl, sym, ap, ◌∙◌, subst, inl, inr, arith, append_assoc, length-append}
+use Rattle.std.proofs.Common.{◌≡◌, ◌≢◌, ◌⊎◌, ℕ, suc, ◌≤◌, ◌<◌, ◌+◌, Bool, true, false, cond, eqb, List, [], ◌∷◌, ◌++◌, length, map, take, Some, refl, sym, ap, ◌∙◌, subst, inl, inr, arith, append_assoc, append-nil, length-append}
+use Rattle.std.proofs.Math.ListN.{drop_of_length-le}
+use Rattle.std.proofs.lemmas.List.{length-take}
 use Rattle.std.specs.Prelude.{Contains, replicate}
 use Rattle.std.specs.List.{AllByRecursion}
 use Rattle.std.proofs.lemmas.Bool.{and_from, eq-eqb, cases_lt}
@@ -16,13 +18,17 @@ use Rattle.qq_raft_msg.specs.declared.rpc.Rpc.TheVariants.{Appended}
 use Rattle.qq_raft_model.specs.Group.{Seat}
 use Rattle.qq_raft_model.specs.Server.{Input, is_ready, receive}
 use Rattle.qq_raft_model.specs.State.{Server, is_leader, last, term_at}
-use Rattle.qq_cluster.specs.Queue.{Queue, Delivers, after, all_said, happens, own_rows, rows_told, said}
+use Rattle.qq_cluster.specs.Queue.{Queue, Delivers, after, all_said, happens, own_effects, own_rows, rows_told, said}
 use Rattle.qq_cluster.proofs.Takerless.{told-answers}
 use Rattle.qq_session.specs.Clients.{Clients, hear_all, printed}
-use Rattle.qq_session.specs.Shown.{Answered, Shown}
+use Rattle.qq_session.specs.Shown.{Answered, Shown, effects_of_term}
+use Rattle.qq_entry.specs.declared.audit.Effect.{Effect}
+use Rattle.qq_model.specs.Audit.{state_after}
+use Rattle.qq_model.specs.State.{empty_queue}
 use Rattle.qq_progress.proofs.Delivering.{IsReply, Plan}
-use Rattle.qq_progress.proofs.Exchange.{Replied, delivers}
-use Rattle.qq_progress.proofs.Feeding.{Feeds, FeedsOne, feeds-one, rows-told}
+use Rattle.qq_progress.proofs.Exchange.{Replied, delivers, same_some}
+use Rattle.qq_progress.proofs.Feeding.{Feeds, FeedsOne, effects-told, feeds-one, rows-told}
+use Rattle.qq_progress.proofs.Following.{IsQuiet, QuietBefore, delivers-quiet, quiet-cons}
 use Rattle.qq_progress.proofs.Leader.{HasOwnCommit, HasUpTo, Hears, Waits, appended-hears}
 use Rattle.qq_progress.proofs.Printing.{Awaits, IsAskedBy, IsOther, Tells, own-tells, row_after}
 
@@ -135,6 +141,19 @@ pub record HasHeardAll (p : Plan) (e : Entry) (q r : Queue) (s : Server) (rs : L
     pub ready : HasOwnCommit s → HasOwnCommit server
     pub shows : (session seq : ℕ) → IsGiven p e session seq → HasOwnCommit s
         → Shows p.upto s.commit server.commit session seq (row_after q.args p.log e) q.clients r.clients shown
+
+-- where the commit doesn't rise nothing is done
+pub no-effects : (args : QueueArgs) (s t : Server) → t.commit ≤ s.commit → own_effects args s t ≡ []
+no-effects args s t le =
+    let all : List Entry = take t.commit t.log in
+    let short : length all ≤ s.commit = (let l = length-take t.commit t.log in omega (arith, l, le)) in
+    ap (λ (l : List Entry). cond (is_ready t)
+    (effects_of_term t.term (state_after (empty_queue args) (take s.commit all)) l) []) (drop_of_length-le all short)
+    ∙ both (is_ready t)
+  where
+    both : (b : Bool) → cond {A = List Effect} b [] [] ≡ []
+    both true = refl
+    both false = refl
 
 module _ (p : Plan) (e : Entry) (own : e.term.0 ≡ p.term) where
   -- one answer
@@ -259,3 +278,129 @@ module _ (p : Plan) (e : Entry) (own : e.term.0 ≡ p.term) where
             (row_after args p.log e) next.clients (after next (replicate (length rs) (Delivers 0))).clients
             (all_said next (replicate (length rs) (Delivers 0)))) one.args (two.shows session seq given (one.ready old)));
       }
+
+  -- ---- where nothing is handed out before the entry is committed
+
+  heard-quiet : (q : Queue) (s t : Server) (m : AppendedMsg) (rest rs : List Rpc) (shown : List Shown) → LeaderIs p e q s
+      → q.group.bag ≡ Appended m ∷ rest → m.to.0 ≡ p.node → HasHeardAll p e q (happens q (Delivers 0)) s rs shown
+      → t.commit ≤ s.commit → LeaderIs p e (happens q (Delivers 0)) t → IsQuiet q → IsQuiet (happens q (Delivers 0))
+  heard-quiet q s t m rest rs shown leader bag to one le is quiet =
+      let u : Server = receive (Appended m) s in
+      let feeds : Feeds q (Delivers 0) p.node (Input.Receive (Appended m)) rest =
+      subst (λ (n : ℕ). Feeds q (Delivers 0) n (Input.Receive (Appended m)) rest) to
+      (delivers q (Appended m) rest bag) in
+      let f : FeedsOne q (happens q (Delivers 0)) p.node s u rest =
+      feeds-one q (Delivers 0) p.node (Input.Receive (Appended m)) rest s feeds leader.up in
+      let same : record u { out = [] } ≡ t =
+      same_some (record u { out = [] }) t (sym (ap (λ (x : Seat). x.server) f.seat) ∙ is.up) in
+      delivers-quiet q 0 quiet
+      (effects-told q (Delivers 0) p.node (Input.Receive (Appended m)) rest s feeds leader.up
+      ∙ ap (own_effects q.args s) same ∙ no-effects q.args s t le)
+
+  heard-then : (q next r : Queue) (s : Server) (rs : List Rpc) (a b : List Shown)
+      → (one : HasHeardAll p e q next s rs a) → HasHeardAll p e next r one.server [] b
+      → HasHeardAll p e q r s [] (a ++ b)
+  heard-then q next r s rs a b one two =
+      let x = one.rises in
+      let y = two.rises in
+      record {
+        server = two.server;
+        is = two.is;
+        rises = omega (arith, x, y);
+        keeps = λ j has. two.keeps j (one.keeps j has);
+        gains = λ j counts replied. absurd replied.here;
+        args = two.args ∙ one.args;
+        others = λ i other. two.others i other ∙ one.others i other;
+        synced = two.synced ∙ one.synced;
+        given = two.given ∙ one.given;
+        ops = two.ops ∙ one.ops;
+        ready = λ old. two.ready (one.ready old);
+        shows = λ session seq given old.
+            shows-then p.upto s.commit one.server.commit two.server.commit session seq (row_after q.args p.log e)
+            q.clients next.clients r.clients a b y (one.shows session seq given old)
+            (subst (λ (args : QueueArgs). Shows p.upto one.server.commit two.server.commit session seq
+            (row_after args p.log e) next.clients r.clients b) one.args (two.shows session seq given (one.ready old)));
+      }
+
+  -- one answer, in the words of the first answers
+  heard-one : (q : Queue) (s : Server) (rs : List Rpc)
+      → (one : HasHeardAll p e q (happens q (Delivers 0)) s rs (said q (Delivers 0)))
+      → HasHeardAll p e q (after q (Delivers 0 ∷ [])) s [] (all_said q (Delivers 0 ∷ []))
+  heard-one q s rs one =
+      subst (HasHeardAll p e q (happens q (Delivers 0)) s []) (sym (append-nil (said q (Delivers 0)))) (record {
+        server = one.server;
+        is = one.is;
+        rises = one.rises;
+        keeps = one.keeps;
+        gains = λ j counts replied. absurd replied.here;
+        args = one.args;
+        others = one.others;
+        synced = one.synced;
+        given = one.given;
+        ops = one.ops;
+        ready = one.ready;
+        shows = one.shows;
+      })
+
+  -- the first answers, by which the entry is committed
+  pub record HeardPart (q : Queue) (s : Server) (n : ℕ) : Type 0 where
+    pub count : ℕ
+    pub rest : ℕ
+    pub split : count + rest ≡ n
+    pub quiet : QuietBefore q (replicate count (Delivers 0))
+    pub heard : HasHeardAll p e q (after q (replicate count (Delivers 0))) s []
+        (all_said q (replicate count (Delivers 0)))
+    pub reaches : p.upto ≤ heard.server.commit
+
+  part-one : (q : Queue) (s : Server) (rs : List Rpc) (n : ℕ)
+      → (one : HasHeardAll p e q (happens q (Delivers 0)) s rs (said q (Delivers 0))) → p.upto ≤ one.server.commit
+      → HeardPart q s (n + 1)
+  unfolding heard-one
+  part-one q s rs n one reaches = record {
+    count = 1;
+    rest = n;
+    split = omega arith;
+    quiet = tt;
+    heard = heard-one q s rs one;
+    reaches = reaches;
+  }
+
+  part-more : (q : Queue) (s : Server) (rs : List Rpc) (n : ℕ)
+      → (one : HasHeardAll p e q (happens q (Delivers 0)) s rs (said q (Delivers 0)))
+      → IsQuiet (happens q (Delivers 0)) → HeardPart (happens q (Delivers 0)) one.server n → HeardPart q s (n + 1)
+  unfolding heard-then
+  part-more q s rs n one quiet part = record {
+    count = suc part.count;
+    rest = part.rest;
+    split = (let split = part.split in omega (arith, split));
+    quiet = quiet-cons q (Delivers 0) (replicate part.count (Delivers 0)) quiet part.quiet;
+    heard = heard-then q (happens q (Delivers 0)) (after q (replicate (suc part.count) (Delivers 0))) s rs
+        (said q (Delivers 0)) (all_said (happens q (Delivers 0)) (replicate part.count (Delivers 0))) one part.heard;
+    reaches = part.reaches;
+  }
+
+  pub heard-cut : (rs more : List Rpc) (q : Queue) (s : Server) → LeaderIs p e q s → q.group.bag ≡ rs ++ more
+      → AllByRecursion (IsReply p) rs → p.upto ≡ s.commit + 1 → IsQuiet q
+      → QuietBefore q (replicate (length rs) (Delivers 0)) ⊎ HeardPart q s (length rs)
+  heard-cut [] more q s leader bag replies next-is quiet = inl tt
+  heard-cut (r ∷ rs) more q s leader bag replies next-is quiet =
+      let reply : IsReply p r = replies.0 in
+      let m : AppendedMsg = reply.msg in
+      let here : q.group.bag ≡ Appended m ∷ rs ++ more = bag ∙ ap (λ (x : Rpc). x ∷ rs ++ more) reply.is in
+      let first = one-heard q s m (rs ++ more) leader here reply.term reply.to reply.good in
+      let next : Queue = happens q (Delivers 0) in
+      let one = first.2 in
+      let rose = one.rises in
+      elim (cases_lt one.server.commit p.upto) [
+        | inl below ↦
+            let waits : IsQuiet next =
+            heard-quiet q s one.server m (rs ++ more) (Appended m ∷ []) (said q (Delivers 0)) leader here reply.to one
+            (omega (arith, below, next-is)) one.is quiet in
+            elim (heard-cut rs (more ++ first.0) next one.server one.is (first.1 ∙ append_assoc rs more first.0) replies.1
+            (omega (arith, below, next-is, rose)) waits) [
+              | inl all ↦ inl (quiet-cons q (Delivers 0) (replicate (length rs) (Delivers 0)) waits all)
+              | inr part ↦ inr (subst (HeardPart q s) (omega arith)
+                  (part-more q s (Appended m ∷ []) (length rs) one waits part))
+            ]
+        | inr reaches ↦ inr (subst (HeardPart q s) (omega arith) (part-one q s (Appended m ∷ []) (length rs) one reaches))
+      ]

@@ -1,11 +1,11 @@
 -- Two rounds of a cluster commit a command.
-use Rattle.std.proofs.Common.{map, ◌≡◌, ℕ, zero, suc, Bool, true, false, cond, ◌||◌, List, [], ◌∷◌, ◌++◌, length, Option, refl, sym, ap, ◌∙◌, subst, arith, append-nil, append_assoc}
+use Rattle.std.proofs.Common.{map, ◌≡◌, ℕ, zero, suc, Bool, true, false, cond, ◌||◌, List, [], ◌∷◌, ◌++◌, length, Option, refl, sym, ap, ◌∙◌, subst, inl, inr, arith, append-nil, append_assoc}
 use Rattle.std.proofs.Math.Path.{fun_ext}
 use Rattle.std.specs.Prelude.{Contains, nat_eq, replicate, take}
 use Rattle.std.specs.List.{AllByRecursion, flat_map, list_any}
 use Rattle.std.proofs.lemmas.Bool.{cond-true, eq-eqb}
 use Rattle.std.proofs.lemmas.List.{take_all}
-use Rattle.std.proofs.lemmas.List.Elements.{Contains-append_right}
+use Rattle.std.proofs.lemmas.List.Elements.{Contains-append_left, Contains-append_right}
 use Rattle.std.proofs.lemmas.List.Folds.{list_any-append}
 use Rattle.qq_base.specs.Fronts.{IsFront, put}
 use Rattle.qq_base.specs.Ids.{client}
@@ -35,9 +35,9 @@ use Rattle.qq_cluster.specs.ClusterLaws.{HasGroups, has_failure}
 use Rattle.qq_cluster.specs.Lines.{IsLine}
 use Rattle.qq_cluster.specs.Queue.{Queue, Event, Submits, after, Delivers, Notices, Syncs, Writes, all_said, audit_rows, begin, happens, leader, moves, submit_to, waiting}
 use Rattle.qq_cluster.specs.Rules.{IsNothing, IsRound, Then, if_so, is_idle, is_quiet, most_rounds, waits_noticed}
-use Rattle.qq_cluster.proofs.Groups.{KnowsCommits, after-append, group-append, group-is, known-in}
+use Rattle.qq_cluster.proofs.Groups.{KeepsCommits, KnowsCommits, after-append, audit-grows, group-append, group-is, known-in}
 use Rattle.qq_cluster.specs.Laws.{all_moves}
-use Rattle.qq_cluster.proofs.Takerless.{IsTakerless, at-own, takerless-event}
+use Rattle.qq_cluster.proofs.Takerless.{IsTakerless, at-own, takerless-all, takerless-event}
 use Rattle.qq_raft_model.specs.Group.{Event as Move, group_after}
 use Rattle.qq_raft_model.specs.Group.Event.{Submit, Take}
 use Rattle.qq_progress.proofs.Numbers.{AllBelow, BringsBelow, all-below, numbered-begin}
@@ -46,15 +46,16 @@ use Rattle.qq_base.proofs.Fronts.{front-trans}
 use Rattle.qq_base.proofs.Lists.{AllByRecursion-append}
 use Rattle.qq_progress.specs.Alone.{round_alone, turn, turn_where, turns}
 use Rattle.qq_progress.specs.Rounds.{Rounds}
-use Rattle.qq_progress.specs.Soon.{AreNodes, AreOnce, GivesOne, HasNoTaker, IsCommittedSoon, IsNewTo, LeadsMost, MayGive, command_of}
+use Rattle.qq_progress.specs.Soon.{AreNodes, AreOnce, GivesOne, IsCommittedSoon, IsNewTo, LeadsMost, MayGive, WaitsForNoTaker, command_of}
 use Rattle.qq_progress.proofs.Asking.{Asks, asks-sends, commit-is, own-commit, submits-asks}
-use Rattle.qq_progress.proofs.Committing.{HasCommitted, HasRun, IsSending, first-busy, first-run, second-run}
+use Rattle.qq_progress.proofs.Committing.{CutAt, HasCommitted, HasCuts, HasRun, IsSending, cuts, first-busy, first-run, second-run}
 use Rattle.qq_progress.proofs.Delivering.{Plan}
 use Rattle.qq_progress.proofs.Hearing.{IsGiven}
 use Rattle.qq_progress.proofs.Line.{AreWithin, can-commit, counted-at, line-asked, pumps-two}
-use Rattle.qq_progress.proofs.Playing.{AreCounted, Plays, counted-after, parts-fine, played, plays-print, plays-then, queue-is, round-plays}
+use Rattle.qq_progress.proofs.Playing.{AreCounted, IsPlain, Plays, counted-after, parts-append, parts-fine, plays-print, queue-is, round-plays}
 use Rattle.qq_progress.proofs.Printing.{Awaits, IsOther, row_after, audit-more}
-use Rattle.qq_progress.proofs.Rounds.{IsSettled, said-append}
+use Rattle.qq_progress.proofs.Rounds.{IsSettled}
+use Rattle.qq_progress.proofs.Following.{AllQuiet, Cut, Follows, IsQuiet, IsSame, cut-at, free-quiet, none-round, quiet-after, quiet-before, said-append, same-at, same-then, silent-waits}
 use Rattle.qq_progress.proofs.Sending.{CanCommit, plan_of, with_entry}
 use Rattle.qq_raft_model.specs.Leading.{append_to}
 use Rattle.qq_raft_msg.specs.declared.rpc.Rpc.{Rpc}
@@ -101,6 +102,11 @@ moves-append q (event ∷ first) second =
     ∙ sym (append_assoc (moves q event) (all_moves (happens q event) first)
     (all_moves (after (happens q event) first) second))
 
+all-both : {A : Type 0} (P : A → Type 0) (xs ys : List A) → AllByRecursion P (xs ++ ys)
+    → AllByRecursion P xs × AllByRecursion P ys
+all-both P [] ys all = (tt, all)
+all-both P (x ∷ xs) ys all = (let both = all-both P xs ys all.1 in ((all.0, both.0), both.1))
+
 abbrev AreSilent : Queue → List Event → Type 0
 AreSilent q events = AllByRecursion IsSilent (all_moves q events)
 
@@ -142,15 +148,22 @@ silent-round up nodes q =
     silent-then q (turns up nodes q) (replicate (length (after q (turns up nodes q)).group.bag) (Delivers 0))
     (silent-turns up nodes q) (silent-delivers (length (after q (turns up nodes q)).group.bag) (after q (turns up nodes q)))
 
+silent-front : (q : Queue) (first second : List Event) → AreSilent q (first ++ second) → AreSilent q first
+silent-front q [] second all = tt
+silent-front q (event ∷ first) second all =
+    let both = all-both IsSilent (moves q event) (all_moves (happens q event) (first ++ second)) all in
+    AllByRecursion-append IsSilent (moves q event) (all_moves (happens q event) first) both.0
+    (silent-front (happens q event) first second both.1)
+
 -- ---- two rounds
 
-module _ (handed : AreHanded) (knows : KnowsCommits) (within : AreWithin) (whole : KnowsWhole)
+module _ (handed : AreHanded) (knows : KnowsCommits) (keeps : KeepsCommits) (within : AreWithin) (whole : KnowsWhole)
     (submitted : WereSubmitted) (setup : Setup) (made : List ClusterEvent)
     (place session : ℕ) (given : Unstamped) (k : ℕ) (s : Server) (groups : HasGroups setup)
     (once : AreOnce setup.places) (nodes : AreNodes setup) (here : In place setup.places)
     (idle : is_idle setup (cluster_after (new_cluster setup) made) ≡ true)
-    (free : IsTakerless ((cluster_after (new_cluster setup) made).queue place))
     (leads : LeadsMost setup (cluster_after (new_cluster setup) made) place k s)
+    (calm : WaitsForNoTaker ((cluster_after (new_cluster setup) made).queue place) s)
     (may : MayGive session given ((cluster_after (new_cluster setup) made).queue place)) where
   abbrev c : Cluster
   c = cluster_after (new_cluster setup) made
@@ -204,9 +217,6 @@ module _ (handed : AreHanded) (knows : KnowsCommits) (within : AreWithin) (whole
   one-is : c1.queue place ≡ one
   one-is = ap (after q) (at-own place (Submits session given))
 
-  free-one : IsTakerless (c1.queue place)
-  free-one = subst IsTakerless (sym one-is) (takerless-event q (Submits session given) tt free)
-
   counted-one : AreCounted c1
   counted-one = counted-after c (At place (Submits session given) ∷ []) (counted-at setup made groups)
 
@@ -232,11 +242,42 @@ module _ (handed : AreHanded) (knows : KnowsCommits) (within : AreWithin) (whole
       first-busy handed (members setup place) setup.nodes plan e one first messages sends among
       (subst (λ (r : Queue). IsSettled k r) one-is settled)
 
+  -- its first events at the queue, after which the entry is committed
   record Ends (early : List ClusterEvent) : Type 0 where
-    alone : Queue → List Event
-    plays : Plays setup c1 early (λ p. alone (c1.queue p))
-    done : HasCommitted plan e first one (after one (alone one)) (all_said one (alone one))
-    silent : AreSilent one (alone one)
+    front : List Event
+    cut : Cut one (parts_of place early) front
+    plain : AllByRecursion IsPlain early
+    done : HasCommitted plan e first one (after one front) (all_said one front)
+    silent : AreSilent one front
+
+  quiet-one : IsQuiet one
+  quiet-one = silent-waits q (Submits session given) calm.untold refl refl
+
+  -- where nothing is handed out before, and where no consumer has a taker
+  cuts-are : HasCuts plan e first one turn_round
+  cuts-are = elim calm.calm [
+    | inl seats ↦
+        let free : IsTakerless one =
+        takerless-event q (Submits session given) tt (record { seats = seats; untold = calm.untold }) in
+        let r : Queue = after one (turn_round one) in
+        let begun : List Event = turn_round one in
+        let free-then : IsTakerless r = takerless-all one begun (none-round up setup.nodes one) free in
+        inr (
+          free-quiet one begun (none-round up setup.nodes one) free,
+          record {
+            first = turn_round r;
+            rest = [];
+            is = sym (append-nil (turn_round r));
+            quiet = quiet-before r (turn_round r)
+                (free-quiet r (turn_round r) (none-round up setup.nodes r) free-then);
+            done = second-run handed (members setup place) setup.nodes plan e one first messages sends among;
+          },
+        )
+    | inr all ↦
+        cuts handed (members setup place) setup.nodes plan e one first messages sends among
+        (let c = commit-is handed (members setup place) up most q k s can one command sound-one asks in
+        omega (arith, all, c)) quiet-one
+  ]
 
   ends : (early : List ClusterEvent) → has_failure early ≡ false → Rounds 2 setup c1 early → Ends early
   ends early fine is = by (is_idle setup c1) refl is
@@ -244,20 +285,68 @@ module _ (handed : AreHanded) (knows : KnowsCommits) (within : AreWithin) (whole
       ran : HasRun plan e first one (after one (turn_round one)) (all_said one (turn_round one))
       ran = first-run handed (members setup place) setup.nodes plan e one first messages sends among
 
+      begun-follows : (es : List ClusterEvent) → Plays setup c1 es (λ p. turn_round (c1.queue p))
+          → Follows one (parts_of place es) (turn_round one)
+      begun-follows es plays =
+          subst (λ (r : Queue). IsQuiet r → Follows r (parts_of place es) (turn_round r)) one-is (plays.each place here)
+          quiet-one
+
+      parts-are : (es fs : List ClusterEvent) → early ≡ es ++ fs
+          → parts_of place early ≡ parts_of place es ++ parts_of place fs
+      parts-are es fs split = ap (parts_of place) split ∙ parts-append place es fs
+
+      plain-are : (es fs : List ClusterEvent) → early ≡ es ++ fs → AllByRecursion IsPlain es → AllByRecursion IsPlain fs
+          → AllByRecursion IsPlain early
+      plain-are es fs split a b =
+          subst (AllByRecursion IsPlain) (sym split) (AllByRecursion-append IsPlain es fs a b)
+
+      -- it is committed in the first round
+      first-ends : (es fs : List ClusterEvent) → early ≡ es ++ fs → Plays setup c1 es (λ p. turn_round (c1.queue p))
+          → AllByRecursion IsPlain fs → CutAt plan e first one one [] (turn_round one) → Ends early
+      first-ends es fs split plays plain at =
+          let k = cut-at one (parts_of place es) at.first at.rest
+          (subst (λ (l : List Event). Follows one (parts_of place es) l) at.is (begun-follows es plays)) at.quiet in
+          record {
+            front = at.first;
+            cut = record {
+              first = k.first;
+              second = k.second ++ parts_of place fs;
+              is = parts-are es fs split ∙ ap (λ (l : List Event). l ++ parts_of place fs) k.is
+                  ∙ append_assoc k.first k.second (parts_of place fs);
+              same = k.same;
+            };
+            plain = plain-are es fs split plays.plain plain;
+            done = at.done;
+            silent = silent-front one at.first at.rest (subst (AreSilent one) at.is (silent-round up setup.nodes one));
+          }
+
+      same-first : (es : List ClusterEvent) → Plays setup c1 es (λ p. turn_round (c1.queue p))
+          → AllQuiet one (turn_round one) → IsSame one (parts_of place es) (turn_round one)
+      same-first es plays quiet = same-at one (parts_of place es) (turn_round one) (begun-follows es plays) quiet
+
+      queue-first : (es : List ClusterEvent) → Plays setup c1 es (λ p. turn_round (c1.queue p))
+          → AllQuiet one (turn_round one) → (cluster_after c1 es).queue place ≡ after one (turn_round one)
+      queue-first es plays quiet =
+          queue-is c1 es place ∙ ap (λ (r : Queue). after r (parts_of place es)) one-is ∙ (same-first es plays quiet).after_is
+
       idle-ends : (es fs : List ClusterEvent) → early ≡ es ++ fs → fs ≡ []
-          → Plays setup c1 es (λ p. turn_round (c1.queue p)) → is_idle setup (cluster_after c1 es) ≡ true → Ends early
-      idle-ends es fs split none plays quiet =
+          → Plays setup c1 es (λ p. turn_round (c1.queue p)) → AllQuiet one (turn_round one)
+          → is_idle setup (cluster_after c1 es) ≡ true → Ends early
+      idle-ends es fs split none plays all-quiet quiet =
           let c2 : Cluster = cluster_after c1 es in
-          let r_is : c2.queue place ≡ after one (turn_round one) =
-          played setup c1 es (λ p. turn_round (c1.queue p)) place here free-one plays
-          ∙ ap (λ (r : Queue). after r (turn_round r)) one-is in
+          let r_is : c2.queue place ≡ after one (turn_round one) = queue-first es plays all-quiet in
           let still : is_quiet setup c.up (c2.queue place) ≡ true =
           ap (λ (u : ℕ → Bool). is_quiet setup u (c2.queue place)) (sym plays.up)
           ∙ all-in (λ (p : ℕ). is_quiet setup c2.up (c2.queue p)) setup.places place quiet here in
-          let all : early ≡ es = split ∙ ap (λ l. es ++ l) none ∙ append-nil es in
           record {
-            alone = turn_round;
-            plays = subst (λ l. Plays setup c1 l (λ p. turn_round (c1.queue p))) (sym all) plays;
+            front = turn_round one;
+            cut = record {
+              first = parts_of place es;
+              second = parts_of place fs;
+              is = parts-are es fs split;
+              same = same-first es plays all-quiet;
+            };
+            plain = plain-are es fs split plays.plain (subst (AllByRecursion IsPlain) (sym none) tt);
             done = record {
               reaches = ran.reaches;
               committed = ran.enough
@@ -269,32 +358,54 @@ module _ (handed : AreHanded) (knows : KnowsCommits) (within : AreWithin) (whole
           }
 
       more-ends : (es fs : List ClusterEvent) → early ≡ es ++ fs → Plays setup c1 es (λ p. turn_round (c1.queue p))
-          → Plays setup (cluster_after c1 es) fs (λ p. turn_round ((cluster_after c1 es).queue p)) → Ends early
-      more-ends es fs split begun next =
-          let r : Queue = after one (turn_round one) in
+          → Plays setup (cluster_after c1 es) fs (λ p. turn_round ((cluster_after c1 es).queue p))
+          → AllQuiet one (turn_round one)
+          → CutAt plan e first one (after one (turn_round one)) (all_said one (turn_round one))
+          (turn_round (after one (turn_round one))) → Ends early
+      more-ends es fs split begun next all-quiet at =
+          let begins : List Event = turn_round one in
+          let r : Queue = after one begins in
+          let r_is : (cluster_after c1 es).queue place ≡ r = queue-first es begun all-quiet in
+          let follows : Follows r (parts_of place fs) (turn_round r) =
+          subst (λ (x : Queue). IsQuiet x → Follows x (parts_of place fs) (turn_round x)) r_is (next.each place here)
+          (quiet-after one begins quiet-one all-quiet) in
+          let k = cut-at r (parts_of place fs) at.first at.rest
+          (subst (λ (l : List Event). Follows r (parts_of place fs) l) at.is follows) at.quiet in
           record {
-            alone = λ x. turn_round x ++ turn_round (after x (turn_round x));
-            plays = plays-then setup c1 early es fs (λ p. turn_round (c1.queue p)) turn_round split begun next;
+            front = begins ++ at.first;
+            cut = record {
+              first = parts_of place es ++ k.first;
+              second = k.second;
+              is = parts-are es fs split ∙ ap (λ (l : List Event). parts_of place es ++ l) k.is
+                  ∙ sym (append_assoc (parts_of place es) k.first k.second);
+              same = same-then one (parts_of place es) begins k.first at.first (same-first es begun all-quiet) k.same;
+            };
+            plain = plain-are es fs split begun.plain next.plain;
             done =
-                subst (λ (x : Queue). HasCommitted plan e first one x
-                (all_said one (turn_round one ++ turn_round r))) (sym (after-append one (turn_round one) (turn_round r)))
-                (subst (HasCommitted plan e first one (after r (turn_round r)))
-                (sym (said-append one (turn_round one) (turn_round r)))
-                (second-run handed (members setup place) setup.nodes plan e one first messages sends among));
-            silent = silent-then one (turn_round one) (turn_round r) (silent-round up setup.nodes one)
-                (silent-round up setup.nodes r);
+                subst (λ (x : Queue). HasCommitted plan e first one x (all_said one (begins ++ at.first)))
+                (sym (after-append one begins at.first))
+                (subst (HasCommitted plan e first one (after r at.first)) (sym (said-append one begins at.first)) at.done);
+            silent = silent-then one begins at.first (silent-round up setup.nodes one)
+                (silent-front r at.first at.rest (subst (AreSilent r) at.is (silent-round up setup.nodes r)));
           }
 
       then-ends : (es fs : List ClusterEvent) → early ≡ es ++ fs → has_failure fs ≡ false
           → Plays setup c1 es (λ p. turn_round (c1.queue p)) → (b : Bool) → is_idle setup (cluster_after c1 es) ≡ b
           → if_so b IsNothing (Then (IsRound setup) (Rounds 0 setup)) (cluster_after c1 es) fs → Ends early
-      then-ends es fs split fine_fs plays true quiet none = idle-ends es fs split none plays quiet
+      then-ends es fs split fine_fs plays true quiet none = elim cuts-are [
+        | inl at ↦ first-ends es fs split plays (subst (AllByRecursion IsPlain) (sym none) tt) at
+        | inr later ↦ idle-ends es fs split none plays later.0 quiet
+      ]
       then-ends es fs split fine_fs plays false busy' some =
           let whole : fs ≡ some.early = some.is ∙ ap (λ l. some.early ++ l) some.second ∙ append-nil some.early in
-          more-ends es fs split plays
-          (subst (λ l. Plays setup (cluster_after c1 es) l (λ p. turn_round ((cluster_after c1 es).queue p))) (sym whole)
+          let next : Plays setup (cluster_after c1 es) fs (λ p. turn_round ((cluster_after c1 es).queue p)) =
+          subst (λ l. Plays setup (cluster_after c1 es) l (λ p. turn_round ((cluster_after c1 es).queue p))) (sym whole)
           (a-round (cluster_after c1 es) some.early plays.up (counted-after c1 es counted-one) some.first
-          (ap has_failure (sym whole) ∙ fine_fs)))
+          (ap has_failure (sym whole) ∙ fine_fs)) in
+          elim cuts-are [
+            | inl at ↦ first-ends es fs split plays next.plain at
+            | inr later ↦ more-ends es fs split plays next later.0 later.1
+          ]
 
       by : (b : Bool) → is_idle setup c1 ≡ b → if_so b IsNothing (Then (IsRound setup) (Rounds 1 setup)) c1 early
           → Ends early
@@ -368,19 +479,19 @@ module _ (handed : AreHanded) (knows : KnowsCommits) (within : AreWithin) (whole
       → AllByRecursion (IsOther session seq) s.log
   others early end new =
       let b = groups place in
-      let r : Queue = after one (end.alone one) in
-      let behind : List Move = all_moves one (end.alone one) in
+      let r : Queue = after one end.front in
+      let behind : List Move = all_moves one end.front in
       let before : List Move = all_moves start past in
       let r_is : r.group ≡ group_after group (before ++ Submit k 0 command ∷ behind) =
-      group-is one (end.alone one)
+      group-is one end.front
       ∙ ap (λ (l : List Move). group_after (group_after q.group l) behind) asks-moves
       ∙ ap (λ (g : Group). group_after g (Submit k 0 command ∷ behind)) group-then
       ∙ sym (group-append group before (Submit k 0 command ∷ behind)) in
       let sound : IsSound (members setup place) r =
-      sound-all (members setup place) one (end.alone one) sound-one in
+      sound-all (members setup place) one end.front sound-one in
       let front : IsFront s.log (whole_audit b.whole r.group) =
       front-trans (record { rest = e ∷ []; is = refl })
-      (front-trans (begins-audit r (all_said one (end.alone one)) sound end.done)
+      (front-trans (begins-audit r (all_said one end.front) sound end.done)
       (subst (λ (g : Group). IsFront g.audit (whole_audit b.whole g)) (sym r_is)
       (whole group b.whole (before ++ Submit k 0 command ∷ behind) b.distinct b.opened).1)) in
       all-other submitted group b.whole b.distinct b.opened session seq new before behind k command s
@@ -400,10 +511,13 @@ module _ (handed : AreHanded) (knows : KnowsCommits) (within : AreWithin) (whole
       parts-fine events (At place (Submits session given) ∷ x.early) x.late
       (a.is ∙ ap (λ es. At place (Submits session given) ∷ es) x.is) fine in
       let end = ends x.early both.0 x.rounds in
-      let r : Queue = after one (end.alone one) in
-      let r_is : (cluster_after c1 x.early).queue place ≡ r =
-      played setup c1 x.early (λ p. end.alone (c1.queue p)) place here free-one end.plays
-      ∙ ap (λ (y : Queue). after y (end.alone y)) one-is in
+      let r : Queue = after one end.front in
+      let cut = end.cut in
+      let r_is : (cluster_after c1 x.early).queue place ≡ after r cut.second =
+      queue-is c1 x.early place ∙ ap (λ (y : Queue). after y (parts_of place x.early)) one-is
+      ∙ ap (after one) cut.is ∙ after-append one cut.first cut.second
+      ∙ ap (λ (y : Queue). after y cut.second) cut.same.after_is in
+      let sound-r : IsSound (members setup place) r = sound-all (members setup place) one end.front sound-one in
       let known : IsGiven plan e session (q.clients session).numbers.next =
       record {
         others = others x.early end new;
@@ -428,32 +542,35 @@ module _ (handed : AreHanded) (knows : KnowsCommits) (within : AreWithin) (whole
         row = row;
         entry = refl;
         audited = subst (λ (y : Queue). Contains (audit_rows y) row) (sym r_is)
-            (audited r (all_said one (end.alone one))
-            (sound-all (members setup place) one (end.alone one) sound-one) end.done);
+            (front-contains (audit_rows r) (audit_rows (after r cut.second)) row
+            (audit-grows keeps r cut.second sound-r.reached) (audited r (all_said one end.front) sound-r end.done));
         printed = λ hears.
             Contains-append_right (prints setup c (At place (Submits session given))) (all_prints setup c1 x.early)
             (Of place (Answered row))
-            (plays-print setup c1 x.early place (Answered row) end.plays.plain
-            (subst (λ (l : List Shown). Contains l (Answered row)) (sym ((end.plays.each place here free-one).said_is))
-            (subst (λ (y : Queue). Contains (all_said y (end.alone y)) (Answered row)) (sym one-is)
+            (plays-print setup c1 x.early place (Answered row) end.plain
+            (subst (λ (y : Queue). Contains (all_said y (parts_of place x.early)) (Answered row)) (sym one-is)
+            (subst (λ (l : List Shown). Contains l (Answered row))
+            (sym (ap (all_said one) cut.is ∙ said-append one cut.first cut.second))
+            (Contains-append_left (all_said one cut.first) (all_said (after one cut.first) cut.second) (Answered row)
+            (subst (λ (l : List Shown). Contains l (Answered row)) (sym cut.same.said_is)
             ((end.done.reaches.shows session (q.clients session).numbers.next known
             (own-commit handed (members setup place) up most q k s can one command sound-one asks)).tells
             (let w = can.within in let c = commit-is handed (members setup place) up most q k s can one command sound-one
-            asks in omega (arith, w, c)) end.done.committed (gives-awaits q session given may hears)))));
+            asks in omega (arith, w, c)) end.done.committed (gives-awaits q session given may hears)))))));
       }
 
-pub line-commits : AreHanded → KnowsCommits → AreWithin → KnowsWhole → WereSubmitted → (setup : Setup)
+pub line-commits : AreHanded → KnowsCommits → KeepsCommits → AreWithin → KnowsWhole → WereSubmitted → (setup : Setup)
     (made : List ClusterEvent) (line : ScriptLine) (session place : ℕ) (given : Unstamped) (k : ℕ) (s : Server)
     (events : List ClusterEvent) → HasGroups setup → AreOnce setup.places → AreNodes setup → In place setup.places
     → IsNewTo session (setup.group place) → (cluster_after (new_cluster setup) made).auto ≡ true
     → is_idle setup (cluster_after (new_cluster setup) made) ≡ true
     → LeadsMost setup (cluster_after (new_cluster setup) made) place k s
-    → HasNoTaker ((cluster_after (new_cluster setup) made).queue place)
+    → WaitsForNoTaker ((cluster_after (new_cluster setup) made).queue place) s
     → MayGive session given ((cluster_after (new_cluster setup) made).queue place)
     → GivesOne setup line session place given → IsLine setup line (cluster_after (new_cluster setup) made) events
     → has_failure events ≡ false
     → IsCommittedSoon setup (cluster_after (new_cluster setup) made) place session given s events
-line-commits handed knows within whole submitted setup made line session place given k s events groups once nodes here
-    new auto idle leads free may gives is fine =
-    committed-soon handed knows within whole submitted setup made place session given k s groups once nodes here idle
-    (record { seats = free.seats; untold = free.untold }) leads may line events auto new gives is fine
+line-commits handed knows keeps within whole submitted setup made line session place given k s events groups once nodes here
+    new auto idle leads calm may gives is fine =
+    committed-soon handed knows keeps within whole submitted setup made place session given k s groups once nodes here idle
+    leads calm may line events auto new gives is fine

@@ -12,6 +12,7 @@ pub mod Answering
 pub mod Printing
 pub mod Hearing
 pub mod Calm
+pub mod Following
 pub mod Sending
 pub mod Committing
 pub mod Asking

@@ -17,6 +17,7 @@ use Rattle.qq_progress.specs.Soon.{AreNodes, AreOnce, HasItsLog, LeadsMost}
 use Rattle.qq_progress.proofs.Committing.{IsLedQuietly}
 use Rattle.qq_progress.proofs.Led.{idle-is, is-leader}
 use Rattle.qq_progress.proofs.Exchange.{same_some}
+use Rattle.qq_progress.proofs.Following.{free-quiet, none-round}
 use Rattle.qq_progress.proofs.Line.{counted-at, in-member, member-in, sound-at}
 use Rattle.qq_cluster.proofs.Takerless.{at-other, at-own}
 use Rattle.qq_progress.proofs.Playing.{AreCounted, Plays, after-both, counted-after, parts-fine, played, queue-is, round-plays, takerless-after}
@@ -175,7 +176,9 @@ module _ (setup : Setup) (once : AreOnce setup.places) (c : Cluster) (first : �
           subst (λ (x : Cluster). AreLed setup c x first) (sym end)
           (rest (cluster_after d begun.early) begun.late (plays.up ∙ same) (counted-after d begun.early counted)
           (λ place. takerless-after d begun.early place plays.plain (free place))
-          (λ place here. played setup d begun.early (λ p. turn_round (d.queue p)) place here (free place) plays
+          (λ place here. played setup d begun.early (λ p. turn_round (d.queue p)) place here (free place).untold
+          (free-quiet (d.queue place) (turn_round (d.queue place)) (none-round up setup.nodes (d.queue place)) (free place))
+          plays
           ∙ ap (λ (q : Queue). after q (turn_round q)) (played' place here)) begun.second both.1)
 
 -- ---- a queue that is led

@@ -17,15 +17,15 @@ use Rattle.qq_cluster.specs.Cluster.{Cluster, ClusterEvent, Sets, Alike, At, Nod
 use Rattle.qq_cluster.specs.ClusterLaws.{has_failure, is_failure}
 use Rattle.qq_cluster.specs.Queue.{Queue, Event, Delivers, Notices, Syncs, Writes, after, all_said, happens, said, waiting}
 use Rattle.qq_cluster.specs.Taking.{delivered, told_then, waiting_then}
-use Rattle.qq_cluster.specs.Rules.{ForEach, IsEmptied, IsNodeRound, IsNothing, IsNotice, IsRound, IsSync, IsSynced, IsWrite, IsWritten, MayRoll, Tells, if_so, some_queue, waits_noticed, waits_synced, waits_written}
+use Rattle.qq_cluster.specs.Rules.{ForEach, IsEmptied, IsNodeRound, IsNothing, IsNotice, IsRound, IsSync, IsSynced, IsWrite, IsWritten, MayRoll, Tells, Times, if_so, some_queue, waits_noticed, waits_synced, waits_written}
 use Rattle.qq_cluster.proofs.Counts.{IsCounted, counted-all}
 use Rattle.qq_cluster.proofs.Groups.{after-append}
-use Rattle.qq_cluster.proofs.Takerless.{AreAt, GivesNone, IsAt, IsTakerless, at-elsewhere, at-other, at-own, at-up, emptied-at, emptied-is, takerless-all, delivered-still, tells-at, tells-one, untold-still}
+use Rattle.qq_cluster.proofs.Takerless.{AreAt, GivesNone, IsAt, IsTakerless, at-elsewhere, at-other, at-own, at-up, delivered-still, emptied-at, queue-at, takerless-all, tells-at, told-nothing, untold-still}
 use Rattle.qq_session.specs.Shown.{Shown}
 use Rattle.qq_progress.specs.Alone.{round_alone, turn_where, turns}
 use Rattle.qq_progress.specs.Soon.{AreOnce}
 use Rattle.qq_progress.proofs.Hearing.{contains-map}
-use Rattle.qq_progress.proofs.Rounds.{said-append}
+use Rattle.qq_progress.proofs.Following.{AllQuiet, Follows, IsQuiet, follows-same, follows-then, said-append, same-at}
 
 -- ---- clusters
 
@@ -41,7 +41,7 @@ pub after-both : (c : Cluster) (first second : List ClusterEvent)
 after-both c [] second = refl
 after-both c (event ∷ first) second = after-both (cluster_happens c event) first second
 
-parts-append : (place : ℕ) (first second : List ClusterEvent)
+pub parts-append : (place : ℕ) (first second : List ClusterEvent)
     → parts_of place (first ++ second) ≡ parts_of place first ++ parts_of place second
 parts-append place first second = flat_map-append (part_of place) first second
 
@@ -71,36 +71,21 @@ IsPlain (NodeWrites k) = Unit {0}
 IsPlain (NodeSyncs k) = Unit {0}
 IsPlain _ = ⊥
 
--- the same comes of both, and both show the same
-pub record IsSame (q : Queue) (first second : List Event) : Type 0 where
-  pub after_is : after q first ≡ after q second
-  pub said_is : all_said q first ≡ all_said q second
-
-pub same-of : (q : Queue) (first second : List Event) → first ≡ second → IsSame q first second
-same-of q first second is = record { after_is = ap (after q) is; said_is = ap (all_said q) is }
-
-same-then : (q : Queue) (a b c d : List Event) → IsSame q a b → IsSame (after q b) c d → IsSame q (a ++ c) (b ++ d)
-same-then q a b c d first second = record {
-  after_is = after-append q a c ∙ ap (λ (r : Queue). after r c) first.after_is ∙ second.after_is
-      ∙ sym (after-append q b d);
-  said_is = said-append q a c ∙ ap (λ (l : List Shown). l ++ all_said (after q a) c) first.said_is
-      ∙ ap (λ (r : Queue). all_said q b ++ all_said r c) first.after_is
-      ∙ ap (λ (l : List Shown). all_said q b ++ l) second.said_is ∙ sym (said-append q b d);
-}
-
--- each queue without takers sees these
+-- each queue in which no delivery waits sees these, until one does
 pub record Plays (setup : Setup) (c : Cluster) (events : List ClusterEvent) (alone : ℕ → List Event) : Type 0 where
   pub up : (cluster_after c events).up ≡ c.up
-  pub each : (place : ℕ) → In place setup.places → IsTakerless (c.queue place)
-      → IsSame (c.queue place) (parts_of place events) (alone place)
+  pub each : (place : ℕ) → In place setup.places → IsQuiet (c.queue place)
+      → Follows (c.queue place) (parts_of place events) (alone place)
   pub plain : AllByRecursion IsPlain events
 
 pub played : (setup : Setup) (c : Cluster) (events : List ClusterEvent) (alone : ℕ → List Event) (place : ℕ)
-    → In place setup.places → IsTakerless (c.queue place) → Plays setup c events alone
+    → In place setup.places → IsQuiet (c.queue place) → AllQuiet (c.queue place) (alone place) → Plays setup c events alone
     → (cluster_after c events).queue place ≡ after (c.queue place) (alone place)
-played setup c events alone place here free plays = queue-is c events place ∙ (plays.each place here free).after_is
+played setup c events alone place here quiet all plays =
+    queue-is c events place
+    ∙ (same-at (c.queue place) (parts_of place events) (alone place) (plays.each place here quiet) all).after_is
 
--- and none has one then
+-- where no consumer has a taker none has one then
 plain-part : (place : ℕ) (event : ClusterEvent) → IsPlain event → AllByRecursion GivesNone (part_of place event)
 plain-part place (At own event) plain = by (nat_eq own place)
   where
@@ -125,13 +110,13 @@ pub plays-then : (setup : Setup) (c : Cluster) (events early late : List Cluster
 plays-then setup c events early late first second is a b =
     subst (λ es. Plays setup c es (λ place. first place ++ second (after (c.queue place) (first place)))) (sym is) (record {
       up = ap (λ (d : Cluster). d.up) (after-both c early late) ∙ b.up ∙ a.up;
-      each = λ place here free.
-          subst (λ (l : List Event). IsSame (c.queue place) l
+      each = λ place here quiet.
+          subst (λ (l : List Event). Follows (c.queue place) l
           (first place ++ second (after (c.queue place) (first place)))) (sym (parts-append place early late))
-          (same-then (c.queue place) (parts_of place early) (first place) (parts_of place late)
-          (second (after (c.queue place) (first place))) (a.each place here free)
-          (subst (λ (r : Queue). IsSame r (parts_of place late) (second r)) (played setup c early first place here free a)
-          (b.each place here (takerless-after c early place a.plain free))));
+          (follows-then (c.queue place) (parts_of place early) (first place) (parts_of place late) second quiet
+          (a.each place here quiet)
+          (subst (λ (r : Queue). IsQuiet r → Follows r (parts_of place late) (second r)) (queue-is c early place)
+          (b.each place here)));
       plain = AllByRecursion-append IsPlain early late a.plain b.plain;
     })
 
@@ -146,7 +131,7 @@ failed : (es fs : List ClusterEvent) → es ≡ fs → has_failure fs ≡ true �
 failed es fs is fails fine = false≢true (sym fine ∙ ap has_failure is ∙ fails)
 
 nothing-plays : (setup : Setup) (c : Cluster) (events : List ClusterEvent) (alone : ℕ → List Event) → events ≡ []
-    → ((place : ℕ) → In place setup.places → IsSame (c.queue place) [] (alone place)) → Plays setup c events alone
+    → ((place : ℕ) → In place setup.places → Follows (c.queue place) [] (alone place)) → Plays setup c events alone
 nothing-plays setup c events alone is each =
     subst (λ es. Plays setup c es alone) (sym is)
     (record { up = refl; each = λ place here free. each place here; plain = tt })
@@ -163,17 +148,19 @@ not-any test (p ∷ places) place none (inr later) =
 said-still : (q : Queue) → [] ≡ delivered (told_then q.untold q.seats []) ++ []
 said-still q = sym (ap (λ (l : List Shown). l ++ []) (delivered-still q))
 
-writes-nothing : (j : ℕ) (q : Queue) → waits_written j q ≡ false → IsSame q [] (Writes j ∷ [])
+writes-nothing : (j : ℕ) (q : Queue) → waits_written j q ≡ false → Follows q [] (Writes j ∷ [])
 writes-nothing j q none =
     let zero' : waiting j q.group ≡ 0 = (let le = ltb-false 0 (waiting j q.group) none in omega (arith, le)) in
-    record {
-      after_is = untold-still q
-          ∙ sym (ap (λ (n : ℕ). record q {
-            untold = waiting_then q.untold q.seats [];
-            group = group_after q.group (replicate n (Take j));
-          }) zero');
-      said_is = said-still q;
-    }
+    inr (
+      (
+        ap (λ (n : ℕ). record q {
+          untold = waiting_then q.untold q.seats [];
+          group = group_after q.group (replicate n (Take j));
+        }) zero' ∙ sym (untold-still q),
+        delivered-still q,
+      ),
+      refl,
+    )
 
 write-plays : (setup : Setup) (j : ℕ) (c : Cluster) (events : List ClusterEvent) → c.up j ≡ true
     → IsWrite setup j c events → has_failure events ≡ false → Plays setup c events (λ place. Writes j ∷ [])
@@ -185,7 +172,11 @@ write-plays setup j c events up is fine =
         → Plays setup c events (λ place. Writes j ∷ [])
     of true some (inl wrote) =
         subst (λ es. Plays setup c es (λ place. Writes j ∷ [])) (sym wrote)
-        (record { up = refl; each = λ place here free. same-of (c.queue place) _ _ refl; plain = (tt, tt) })
+        (record {
+          up = refl;
+          each = λ place here quiet. follows-same (c.queue place) (Writes j ∷ []) (Writes j ∷ []) refl;
+          plain = (tt, tt);
+        })
     of true some (inr wrong) = absurd (failed events (NodeWrites j ∷ Fails j ∷ []) wrong refl fine)
     of false none nothing =
         nothing-plays setup c events (λ place. Writes j ∷ []) nothing
@@ -197,19 +188,22 @@ write-plays setup j c events up is fine =
 put-own : {A : Type 0} (k : ℕ) (x : A) (f : ℕ → A) → f k ≡ x → put k x f ≡ f
 put-own k x f is = fun_ext (λ i. put-each (λ (n : ℕ) y. y ≡ f n) k x f (sym is) (λ n other. refl) i)
 
-syncs-nothing : (j : ℕ) (q : Queue) → IsCounted q → waits_synced j q ≡ false → IsSame q [] (Syncs j ∷ [])
+syncs-nothing : (j : ℕ) (q : Queue) → IsCounted q → waits_synced j q ≡ false → Follows q [] (Syncs j ∷ [])
 syncs-nothing j q counted none =
     let le = ltb-false (q.synced j) (length (q.group.seat j).ops) none in
     let most = (counted j).synced_is in
     let same : q.synced j ≡ length (q.group.seat j).ops = omega (arith, le, most) in
-    record {
-      after_is = untold-still q
-          ∙ sym (ap (λ (synced : ℕ → ℕ). record q { untold = waiting_then q.untold q.seats []; synced = synced })
-          (cond_both (is_some (q.group.seat j).server) (put j (length (q.group.seat j).ops) q.synced) q.synced
-          (λ (synced : ℕ → ℕ). synced ≡ q.synced)
-          (λ _. put-own j (length (q.group.seat j).ops) q.synced same) (λ _. refl)));
-      said_is = said-still q;
-    }
+    inr (
+      (
+        ap (λ (synced : ℕ → ℕ). record q { untold = waiting_then q.untold q.seats []; synced = synced })
+            (cond_both (is_some (q.group.seat j).server) (put j (length (q.group.seat j).ops) q.synced) q.synced
+            (λ (synced : ℕ → ℕ). synced ≡ q.synced)
+            (λ _. put-own j (length (q.group.seat j).ops) q.synced same) (λ _. refl))
+            ∙ sym (untold-still q),
+        delivered-still q,
+      ),
+      refl,
+    )
 
 sync-plays : (setup : Setup) (j : ℕ) (c : Cluster) (events : List ClusterEvent) → AreCounted c → c.up j ≡ true
     → IsSync setup j c events → has_failure events ≡ false → Plays setup c events (λ place. Syncs j ∷ [])
@@ -222,7 +216,11 @@ sync-plays setup j c events counted up is fine =
         → Plays setup c events (λ place. Syncs j ∷ [])
     of true some (inl synced) =
         subst (λ es. Plays setup c es (λ place. Syncs j ∷ [])) (sym synced)
-        (record { up = refl; each = λ place here free. same-of (c.queue place) _ _ refl; plain = (tt, tt) })
+        (record {
+          up = refl;
+          each = λ place here quiet. follows-same (c.queue place) (Syncs j ∷ []) (Syncs j ∷ []) refl;
+          plain = (tt, tt);
+        })
     of true some (inr (inl wrong)) = absurd (failed events (Fails j ∷ []) wrong refl fine)
     of true some (inr (inr wrong)) = absurd (failed events (NodeSyncs j ∷ Fails j ∷ []) wrong refl fine)
     of false none (inr wrong) = absurd (failed events (Fails j ∷ []) wrong refl fine)
@@ -236,7 +234,8 @@ sync-plays setup j c events counted up is fine =
 -- what each place does by itself, where no place is there twice
 record PlaysEach (c : Cluster) (places : List ℕ) (events : List ClusterEvent) (alone : Queue → List Event) : Type 0 where
   up : (cluster_after c events).up ≡ c.up
-  own : (place : ℕ) → In place places → IsTakerless (c.queue place) → parts_of place events ≡ alone (c.queue place)
+  own : (place : ℕ) → In place places → IsQuiet (c.queue place)
+      → Follows (c.queue place) (parts_of place events) (alone (c.queue place))
   others : (place : ℕ) → (In place places → ⊥) → parts_of place events ≡ []
   plain : AllByRecursion IsPlain events
 
@@ -253,11 +252,13 @@ joined c p places events alone once early late is a next =
     λ place. ap (parts_of place) is ∙ parts-append place early late in
     record {
       up = ap (λ es. (cluster_after c es).up) is ∙ ap (λ (x : Cluster). x.up) (after-both c early late) ∙ b.up ∙ a.up;
-      own = λ place here free. elim here [
-        | inl same ↦ split place
+      own = λ place here quiet. elim here [
+        | inl same ↦
+            subst (λ (l : List Event). Follows (c.queue place) l (alone (c.queue place)))
+            (sym (split place
             ∙ ap (λ (l : List Event). parts_of place early ++ l)
             (b.others place (λ later. once.0 (subst (λ (n : ℕ). In n places) same later)))
-            ∙ append-nil (parts_of place early) ∙ a.own place (inl same) free
+            ∙ append-nil (parts_of place early))) (a.own place (inl same) quiet)
         | inr later ↦
             let gone : In place (p ∷ []) → ⊥ =
             λ there. elim there [
@@ -266,8 +267,10 @@ joined c p places events alone once early late is a next =
             ] in
             let still : d.queue place ≡ c.queue place =
             queue-is c early place ∙ ap (after (c.queue place)) (a.others place gone) in
-            split place ∙ ap (λ (l : List Event). l ++ parts_of place late) (a.others place gone)
-            ∙ b.own place later (subst IsTakerless (sym still) free) ∙ ap alone still
+            subst (λ (l : List Event). Follows (c.queue place) l (alone (c.queue place)))
+            (sym (split place ∙ ap (λ (l : List Event). l ++ parts_of place late) (a.others place gone)))
+            (subst (λ (r : Queue). IsQuiet r → Follows r (parts_of place late) (alone r)) still (b.own place later)
+            quiet)
       ];
       others = λ place gone.
           split place
@@ -284,17 +287,65 @@ plain-at place event at = absurd at
 
 -- what happens to one queue alone
 at-one : (c : Cluster) (place : ℕ) (events : List ClusterEvent) (alone : Queue → List Event) → AreAt place events
-    → (IsTakerless (c.queue place) → parts_of place events ≡ alone (c.queue place))
-    → PlaysEach c (place ∷ []) events alone
+    → Follows (c.queue place) (parts_of place events) (alone (c.queue place)) → PlaysEach c (place ∷ []) events alone
 at-one c place events alone at own = record {
   up = at-up place c events at;
-  own = λ p here free. elim here [
-    | inl same ↦ subst (λ (n : ℕ). IsTakerless (c.queue n) → parts_of n events ≡ alone (c.queue n)) (sym same) own free
+  own = λ p here quiet. elim here [
+    | inl same ↦ subst (λ (n : ℕ). Follows (c.queue n) (parts_of n events) (alone (c.queue n))) (sym same) own
     | inr none ↦ absurd none
   ];
   others = λ p gone. at-elsewhere place p events (λ same. gone (inl (sym same))) at;
   plain = AllByRecursion-weaker (IsAt place) IsPlain (plain-at place) events at;
 }
+
+-- an event, and then what takers answer
+parts-told : (place : ℕ) (event : Event) (c : Cluster) (events : List ClusterEvent) (is : Tells place event c events)
+    → parts_of place events ≡ event ∷ parts_of place is.late
+parts-told place event c events is =
+    ap (parts_of place) (is.is ∙ ap (λ es. es ++ is.late) is.first)
+    ∙ ap (λ (l : List Event). l ++ parts_of place is.late) (at-own place event)
+
+queue-told : (place : ℕ) (event : Event) (c : Cluster) (events : List ClusterEvent) (is : Tells place event c events)
+    → (cluster_after c is.early).queue place ≡ happens (c.queue place) event
+queue-told place event c events is =
+    ap (λ es. (cluster_after c es).queue place) is.first ∙ queue-at c place event
+
+none-told : (place : ℕ) (event : Event) (c : Cluster) (events : List ClusterEvent) (is : Tells place event c events)
+    → IsQuiet (happens (c.queue place) event) → is.late ≡ []
+none-told place event c events is quiet =
+    told-nothing place (cluster_after c is.early) is.late
+    (ap (λ (q : Queue). q.untold) (queue-told place event c events is) ∙ quiet) is.second
+
+tells-follows : (place : ℕ) (event : Event) (c : Cluster) (events : List ClusterEvent) → Tells place event c events
+    → Follows (c.queue place) (parts_of place events) (event ∷ [])
+tells-follows place event c events is =
+    inl (
+      parts_of place is.late,
+      parts-told place event c events is,
+      λ quiet. ap (parts_of place) (none-told place event c events is quiet),
+    )
+
+-- and so often
+each-follows : (place n : ℕ) (event : Event) (c : Cluster) (events : List ClusterEvent)
+    → Times n (Tells place event) c events → Follows (c.queue place) (parts_of place events) (replicate n event)
+each-follows place zero event c events is = ap (parts_of place) is
+each-follows place (suc n) event c events is =
+    let told : Tells place event c is.early = is.first in
+    let rest : List Event = parts_of place is.late in
+    inl (
+      parts_of place told.late ++ rest,
+      ap (parts_of place) is.is ∙ parts-append place is.early is.late
+          ∙ ap (λ (l : List Event). l ++ rest) (parts-told place event c is.early told),
+      λ quiet. (let none : told.late ≡ [] = none-told place event c is.early told quiet in
+          let all : is.early ≡ told.early =
+          told.is ∙ ap (λ es. told.early ++ es) none ∙ append-nil told.early in
+          let here : (cluster_after c is.early).queue place ≡ happens (c.queue place) event =
+          ap (λ es. (cluster_after c es).queue place) all ∙ queue-told place event c is.early told in
+          subst (λ (l : List Event). Follows (happens (c.queue place) event) l (replicate n event))
+          (sym (ap (λ es. parts_of place es ++ rest) none))
+          (subst (λ (r : Queue). Follows r rest (replicate n event)) here
+          (each-follows place n event (cluster_after c is.early) is.late is.second))),
+    )
 
 -- a member is told, where that is new
 abbrev notices : Bool → ℕ → Queue → List Event
@@ -311,19 +362,19 @@ notice-plays j up c place events up_is is =
         → if_so b (Tells place (Notices j)) IsNothing c events → PlaysEach c (place ∷ []) events (notices up j)
     of true waits told =
         at-one c place events (notices up j) (tells-at place (Notices j) tt c events told)
-        (λ free. ap (parts_of place) (tells-one place (Notices j) c events tt free told)
-        ∙ ap (λ (l : List Event). l ++ []) (at-own place (Notices j))
-        ∙ sym (ap (λ (b : Bool). cond b (Notices j ∷ []) []) waits))
+        (subst (λ (b : Bool). Follows (c.queue place) (parts_of place events) (cond b (Notices j ∷ []) [])) (sym waits)
+        (tells-follows place (Notices j) c events told))
     of false waits nothing =
         at-one c place events (notices up j) (subst (AreAt place) (sym nothing) tt)
-        (λ free. ap (parts_of place) nothing ∙ sym (ap (λ (b : Bool). cond b (Notices j ∷ []) []) waits))
+        (subst (λ (b : Bool). Follows (c.queue place) (parts_of place events) (cond b (Notices j ∷ []) [])) (sym waits)
+        (ap (parts_of place) nothing))
 
 notices-play : (j : ℕ) (up : Bool) (places : List ℕ) → AreOnce places → (c : Cluster) (events : List ClusterEvent)
     → c.up j ≡ up → ForEach places (IsNotice j) c events → PlaysEach c places events (notices up j)
 notices-play j up [] once c events up_is is =
     subst (λ es. PlaysEach c [] es (notices up j)) (sym is) (record {
       up = refl;
-      own = λ place here free. absurd here;
+      own = λ place here quiet. absurd here;
       others = λ place gone. refl;
       plain = tt;
     })
@@ -338,8 +389,7 @@ sames-of : (setup : Setup) (c : Cluster) (events : List ClusterEvent) (alone : Q
     → PlaysEach c setup.places events alone → Plays setup c events (λ place. alone (c.queue place))
 sames-of setup c events alone a = record {
   up = a.up;
-  each = λ place here free.
-      same-of (c.queue place) (parts_of place events) (alone (c.queue place)) (a.own place here free);
+  each = a.own;
   plain = a.plain;
 }
 
@@ -386,16 +436,16 @@ node-plays setup once j c events counted is fine = by (c.up j) refl
         sames-of setup c2 is.second.late (notices false j)
         (notices-play j false setup.places once c2 is.second.late at2 is.second.second) in
         plays-then setup c events is.early is.late (λ place. []) (λ q. []) is.is
-        (nothing-plays setup c is.early (λ place. []) first (λ place here. same-of (c.queue place) [] [] refl))
+        (nothing-plays setup c is.early (λ place. []) first (λ place here. refl))
         (plays-then setup c1 is.late is.second.early is.second.late (λ place. []) (λ q. []) is.second.is
-        (nothing-plays setup c1 is.second.early (λ place. []) second (λ place here. same-of (c1.queue place) [] [] refl))
+        (nothing-plays setup c1 is.second.early (λ place. []) second (λ place here. refl))
         third)
 
 nodes-play : (setup : Setup) → AreOnce setup.places → (nodes : List ℕ) (up : ℕ → Bool) (c : Cluster)
     (events : List ClusterEvent) → c.up ≡ up → AreCounted c → ForEach nodes (IsNodeRound setup) c events
     → has_failure events ≡ false → Plays setup c events (λ place. turns up nodes (c.queue place))
 nodes-play setup once [] up c events up_is counted is fine =
-    nothing-plays setup c events (λ place. []) is (λ place here. same-of (c.queue place) [] [] refl)
+    nothing-plays setup c events (λ place. []) is (λ place here. refl)
 nodes-play setup once (j ∷ nodes) up c events up_is counted is fine =
     let both = parts-fine events is.early is.late is.is fine in
     let first : Plays setup c is.early (λ place. turn_where (up j) j (c.queue place)) =
@@ -412,25 +462,18 @@ nodes-play setup once (j ∷ nodes) up c events up_is counted is fine =
 abbrev emptied : Queue → List Event
 emptied q = replicate (length q.group.bag) (Delivers 0)
 
-each-at : (place : ℕ) (event : Event) (n : ℕ) → parts_of place (replicate n (At place event)) ≡ replicate n event
-each-at place event zero = refl
-each-at place event (suc n) =
-    ap (λ (l : List Event). l ++ parts_of place (replicate n (At place event))) (at-own place event)
-    ∙ ap (λ (l : List Event). event ∷ l) (each-at place event n)
-
 empty-plays : (c : Cluster) (place : ℕ) (events : List ClusterEvent) → IsEmptied place c events
     → PlaysEach c (place ∷ []) events emptied
 empty-plays c place events is =
-    let n = length (c.queue place).group.bag in
-    at-one c place events emptied (emptied-at place c events is) (λ free.
-    ap (parts_of place) (emptied-is place c events free is) ∙ each-at place (Delivers 0) n)
+    at-one c place events emptied (emptied-at place c events is)
+    (each-follows place (length (c.queue place).group.bag) (Delivers 0) c events is)
 
 empties-play : (places : List ℕ) → AreOnce places → (c : Cluster) (events : List ClusterEvent)
     → ForEach places IsEmptied c events → PlaysEach c places events emptied
 empties-play [] once c events is =
     subst (λ es. PlaysEach c [] es emptied) (sym is) (record {
       up = refl;
-      own = λ place here free. absurd here;
+      own = λ place here quiet. absurd here;
       others = λ place gone. refl;
       plain = tt;
     })

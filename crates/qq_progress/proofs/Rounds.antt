@@ -9,7 +9,7 @@ use Rattle.qq_raft_protocol.specs.Facts.{In}
 use Rattle.qq_raft_model.specs.Group.{Group, Seat}
 use Rattle.qq_raft_model.specs.Server.{notice}
 use Rattle.qq_raft_model.specs.State.{Server}
-use Rattle.qq_cluster.specs.Queue.{Queue, Event, after, all_said, happens, own_rows, said}
+use Rattle.qq_cluster.specs.Queue.{Queue, Event, after, all_said, own_effects, own_rows}
 use Rattle.qq_cluster.proofs.Groups.{after-append}
 use Rattle.qq_session.specs.Clients.{Clients, hear_all, printed}
 use Rattle.qq_session.specs.Shown.{Answered, Shown}
@@ -19,17 +19,10 @@ use Rattle.qq_progress.specs.Alone.{turn, turn_where, turns}
 use Rattle.qq_progress.proofs.Exchange.{same_some}
 use Rattle.qq_progress.proofs.Feeding.{fed}
 use Rattle.qq_progress.proofs.Sound.{AreHanded, IsSound, sound-all}
-use Rattle.qq_progress.proofs.Turns.{HasNone, IsEven, Rests, Tells, answers_at, turn-rests, turn-shows, turn-tells}
+use Rattle.qq_progress.proofs.Turns.{HasNone, IsEven, Rests, Tells, answers_at, rests-quiet, turn-quiet, turn-rests, turn-shows, turn-tells}
+use Rattle.qq_progress.proofs.Following.{AllQuiet, IsQuiet, quiet-after, quiet-append, said-append}
 
 -- ---- one after the other
-
-pub said-append : (q : Queue) (first second : List Event)
-    → all_said q (first ++ second) ≡ all_said q first ++ all_said (after q first) second
-said-append q [] second = refl
-said-append q (event ∷ first) second =
-    ap (λ (l : List Shown). said q event ++ l) (said-append (happens q event) first second)
-    ∙ sym (append_assoc (said q event) (all_said (happens q event) first)
-    (all_said (after (happens q event) first) second))
 
 turns-after : (up : ℕ → Bool) (j : ℕ) (nodes : List ℕ) (q : Queue)
     → after q (turns up (j ∷ nodes) q)
@@ -86,6 +79,35 @@ turns-rest up (j ∷ nodes) q each =
     subst (Rests q) (sym (turns-after up j nodes q))
     (rests-then q next (after next (turns up nodes next)) first
     (turns-rest up nodes next (λ i here node_up. settled-rests q next i first (each i (inr here) node_up))))
+
+where-quiet : (b : Bool) (j : ℕ) (q : Queue) → (b ≡ true → IsSettled j q) → IsQuiet q → AllQuiet q (turn_where b j q)
+where-quiet true j q settled quiet = let s = settled refl in rests-quiet j q s.0 s.1 quiet
+where-quiet false j q settled quiet = tt
+
+-- and nothing is handed out
+pub turns-quiet : (up : ℕ → Bool) (nodes : List ℕ) (q : Queue)
+    → ((j : ℕ) → In j nodes → up j ≡ true → IsSettled j q) → IsQuiet q → AllQuiet q (turns up nodes q)
+turns-quiet up [] q each quiet = tt
+turns-quiet up (j ∷ nodes) q each quiet =
+    let events : List Event = turn_where (up j) j q in
+    let next : Queue = after q events in
+    let first : Rests q next = where-rests (up j) j q (each j (inl refl)) in
+    let one = where-quiet (up j) j q (each j (inl refl)) quiet in
+    quiet-append q events (turns up nodes next) one
+    (turns-quiet up nodes next (λ i here node_up. settled-rests q next i first (each i (inr here) node_up))
+    (quiet-after q events quiet one))
+
+-- some nodes' turns, and then those of others
+pub turns-append : (up : ℕ → Bool) (first second : List ℕ) (q : Queue)
+    → turns up (first ++ second) q ≡ turns up first q ++ turns up second (after q (turns up first q))
+turns-append up [] second q = refl
+turns-append up (j ∷ first) second q =
+    let events : List Event = turn_where (up j) j q in
+    let next : Queue = after q events in
+    ap (λ (l : List Event). events ++ l) (turns-append up first second next)
+    ∙ sym (append_assoc events (turns up first next) (turns up second (after next (turns up first next))))
+    ∙ ap (λ (r : Queue). (events ++ turns up first next) ++ turns up second r)
+    (sym (after-append q events (turns up first next)))
 
 -- ---- one member has something to do
 
@@ -215,3 +237,57 @@ module _ (handed : AreHanded) (members : List NodeId) (up : ℕ → Bool) (k : �
                 (Contains-append_right (all_said q events) (all_said next (turns up nodes next)) x
                 (more.shows x (subst (λ (l : List Shown). Contains l x) (sym (answers-rest q next s rests)) shown)));
           }
+
+  -- where nothing is handed out then
+  pub tells-quiet : (nodes : List ℕ) (q : Queue) → IsSound members q → (q.group.seat k).server ≡ Some s → IsEven k q
+      → ((j : ℕ) → In j nodes → j ≢ k → up j ≡ true → IsSettled j q)
+      → (notice s.op (record s { ops = [] })).ops ≡ [] → IsQuiet q
+      → own_effects q.args (record s { ops = [] }) (record (notice s.op (record s { ops = [] })) { out = [] }) ≡ []
+      → AllQuiet q (turns up nodes q)
+  tells-quiet [] q sound here even each done quiet none = tt
+  tells-quiet (j ∷ nodes) q sound here even each done quiet none =
+      by (cases_eq j k) (λ r safe up_there evens settled waits same. tells-quiet nodes r safe up_there evens settled done
+      waits same)
+    where
+      told : Server
+      told = record (notice s.op (record s { ops = [] })) { out = [] }
+
+      own : AllQuiet q (turns up (k ∷ nodes) q)
+      own =
+          let events : List Event = turn_where (up k) k q in
+          let next : Queue = after q events in
+          let is : events ≡ turn k q = cond-true (up k) (turn k q) [] node_up in
+          let tells : Tells q next k s =
+          subst (λ (es : List Event). Tells q (after q es) k s) (sym is)
+          (turn-tells handed members q sound k s here even op ops some) in
+          let first : AllQuiet q events =
+          subst (AllQuiet q) (sym is) (turn-quiet handed members q sound k s here even op ops some quiet none) in
+          let settled : IsSettled k next = (
+            tells.even,
+            λ t at. ap (λ (x : Server). x.ops) (sym (same_some told t (ap (λ (x : Seat). x.server) (sym tells.seat) ∙ at)))
+                ∙ done,
+          ) in
+          quiet-append q events (turns up nodes next) first
+          (turns-quiet up nodes next (λ i there i_up. elim (cases_eq i k) [
+            | inl same ↦ subst (λ (n : ℕ). IsSettled n next) (sym same) settled
+            | inr other ↦ (let i_there : In i (j ∷ nodes) = inr there in
+                settled-tells q next k i s other tells (each i i_there other i_up))
+          ]) (quiet-after q events quiet first))
+
+      by : ((j ≡ k) ⊎ (j ≢ k))
+          → ((r : Queue) → IsSound members r → (r.group.seat k).server ≡ Some s → IsEven k r
+          → ((i : ℕ) → In i nodes → i ≢ k → up i ≡ true → IsSettled i r) → IsQuiet r
+          → own_effects r.args (record s { ops = [] }) told ≡ [] → AllQuiet r (turns up nodes r))
+          → AllQuiet q (turns up (j ∷ nodes) q)
+      by (inl same) more = subst (λ (n : ℕ). AllQuiet q (turns up (n ∷ nodes) q)) (sym same) own
+      by (inr other) go =
+          let events : List Event = turn_where (up j) j q in
+          let next : Queue = after q events in
+          let rests : Rests q next = where-rests (up j) j q (λ j_up. each j (inl refl) other j_up) in
+          let one = where-quiet (up j) j q (λ j_up. each j (inl refl) other j_up) quiet in
+          quiet-append q events (turns up nodes next) one
+          (go next (sound-all members q events sound) (ap (λ (g : Group). (g.seat k).server) rests.group ∙ here)
+          (even-rests q next k rests even)
+          (λ i there differs i_up. settled-rests q next i rests (each i (inr there) differs i_up))
+          (quiet-after q events quiet one)
+          (ap (λ (args : QueueArgs). own_effects args (record s { ops = [] }) told) rests.args ∙ none))

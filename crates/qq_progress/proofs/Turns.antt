@@ -1,5 +1,5 @@
 -- What a node's turn in a round leaves of one of its queues.
-use Rattle.std.proofs.Common.{◌≡◌, ◌≢◌, ℕ, ◌≤◌, ◌+◌, true, false, List, [], ◌∷◌, ◌++◌, length, map, Option, Some, None, refl, sym, ap, ◌∙◌, subst, inl, inr, arith, append_assoc, append-nil, length-append}
+use Rattle.std.proofs.Common.{◌≡◌, ◌≢◌, ℕ, ◌≤◌, ◌+◌, Bool, true, false, cond, List, [], ◌∷◌, ◌++◌, length, map, Option, Some, None, refl, sym, ap, ◌∙◌, subst, inl, inr, arith, append_assoc, append-nil, length-append}
 use Rattle.std.specs.Prelude.{Contains, nat_le, replicate, is_some}
 use Rattle.std.proofs.lemmas.Bool.{cases_eq, cond_both, cond-true, cond-false, lt-ltb, le-ltb, le-leb}
 use Rattle.std.proofs.lemmas.List.Elements.{Contains-append_left, Contains-append_right}
@@ -15,13 +15,14 @@ use Rattle.qq_raft_model.proofs.Noticed.{noticed-is}
 use Rattle.qq_raft_msg.specs.declared.rpc.Rpc.{Rpc}
 use Rattle.qq_base.specs.declared.ids.NodeId.{NodeId}
 use Rattle.qq_progress.proofs.Leader.{greater-high}
-use Rattle.qq_cluster.specs.Queue.{Queue, Event, Notices, Syncs, Writes, after, all_said, happens, own_rows, rows_told, said, waiting, waiting_by}
+use Rattle.qq_cluster.specs.Queue.{Queue, Event, Notices, Syncs, Writes, after, all_said, effects_told, happens, own_effects, own_rows, rows_told, said, waiting, waiting_by}
 use Rattle.qq_cluster.specs.Rules.{waits_noticed}
 use Rattle.qq_cluster.proofs.Takerless.{told-answers}
 use Rattle.qq_session.specs.Clients.{hear_all, printed}
 use Rattle.qq_session.specs.Shown.{Answered, Shown}
 use Rattle.qq_progress.specs.Alone.{turn}
-use Rattle.qq_progress.proofs.Feeding.{Feeds, FeedsOne, fed, feeds-one, rows-told}
+use Rattle.qq_progress.proofs.Feeding.{Feeds, FeedsOne, effects-told, fed, feeds-one, rows-told}
+use Rattle.qq_progress.proofs.Following.{AllQuiet, IsQuiet, QuietBefore, notices-quiet, syncs-quiet, writes-quiet}
 use Rattle.qq_progress.proofs.Sound.{AreHanded, IsSound, ops-counted}
 
 -- ---- a log is given all that waits
@@ -110,10 +111,13 @@ syncs-same j q is i =
     (λ _. refl)
 
 -- it has nothing to do
-pub turn-rests : (j : ℕ) (q : Queue) → IsEven j q → HasNone j q → Rests q (after q (turn j q))
-turn-rests j q even none =
-    subst (λ (es : List Event). Rests q (after two es))
-    (sym (cond-false (waits_noticed j two) (Notices j ∷ []) [] silent)) rests
+rests-silent : (j : ℕ) (q : Queue) → IsEven j q → HasNone j q
+    → Rests q (after q (turn j q)) × (turn j q ≡ Writes j ∷ Syncs j ∷ [])
+rests-silent j q even none = (
+  subst (λ (es : List Event). Rests q (after two es))
+      (sym (cond-false (waits_noticed j two) (Notices j ∷ []) [] silent)) rests,
+  ap (λ (l : List Event). Writes j ∷ Syncs j ∷ l) (cond-false (waits_noticed j two) (Notices j ∷ []) [] silent),
+)
   where
     one : Queue
     one = happens q (Writes j)
@@ -142,6 +146,22 @@ turn-rests j q even none =
         le-ltb (two.group.seat j).noticed (two.synced j)
         (let a = synced j in let b = ap (λ (g : Group). (g.seat j).noticed) wrote in let c = even.synced in
         let d = even.noticed in omega (arith, a, b, c, d))
+
+pub turn-rests : (j : ℕ) (q : Queue) → IsEven j q → HasNone j q → Rests q (after q (turn j q))
+turn-rests j q even none = (rests-silent j q even none).0
+
+pub rests-quiet : (j : ℕ) (q : Queue) → IsEven j q → HasNone j q → IsQuiet q → AllQuiet q (turn j q)
+rests-quiet j q even none quiet =
+    let wrote = writes-quiet q j quiet in
+    subst (AllQuiet q) (sym (rests-silent j q even none).1) (wrote, (syncs-quiet (happens q (Writes j)) j wrote, tt))
+
+-- before it is told something
+pub turn-before : (j : ℕ) (q : Queue) → IsQuiet q → QuietBefore q (turn j q)
+turn-before j q quiet = (writes-quiet q j quiet, by (waits_noticed j (happens (happens q (Writes j)) (Syncs j))))
+  where
+    by : (b : Bool) → QuietBefore (happens q (Writes j)) (Syncs j ∷ cond b (Notices j ∷ []) [])
+    by true = (syncs-quiet (happens q (Writes j)) j (writes-quiet q j quiet), tt)
+    by false = tt
 
 -- it tells its member what is synced
 pub record Tells (q r : Queue) (j : ℕ) (s : Server) : Type 0 where
@@ -248,6 +268,17 @@ module _ (handed : AreHanded) (nodes : List NodeId) (q : Queue) (sound : IsSound
 
   pub turn-tells : Tells q (after q (turn j q)) j s
   turn-tells = subst (λ (es : List Event). Tells q (after q es) j s) (sym events) tells
+
+  -- where that hands nothing out
+  pub turn-quiet : IsQuiet q → own_effects q.args bare (record (notice s.op bare) { out = [] }) ≡ []
+      → AllQuiet q (turn j q)
+  turn-quiet quiet none =
+      let a = writes-quiet q j quiet in
+      let b = syncs-quiet one j a in
+      let same : effects_told two (Notices j) ≡ [] =
+      effects-told two (Notices j) j (Input.Notice (two.synced j)) two.group.bag bare feeds up-two
+      ∙ ap (λ (n : ℕ). own_effects q.args bare (record (notice n bare) { out = [] })) all ∙ none in
+      subst (AllQuiet q) (sym events) (a, (b, (notices-quiet two j b same, tt)))
 
   shown : (x : Shown) → Contains (answers_at q s) x → Contains (said two (Notices j)) x
   shown x here =

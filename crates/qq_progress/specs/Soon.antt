@@ -1,5 +1,5 @@
 -- When a command that is given to a queue is committed soon, and what that is.
-use Rattle.std.specs.Prelude.{◌≡◌, ◌≢◌, ◌≤◌, ◌+◌, ℕ, List, [], ◌∷◌, ◌++◌, true, false, Some, None, Contains}
+use Rattle.std.specs.Prelude.{◌≡◌, ◌≢◌, ◌⊎◌, ◌≤◌, ◌+◌, ℕ, List, [], ◌∷◌, ◌++◌, true, false, Some, None, Contains}
 use Rattle.qq_base.specs.Ids.{client}
 use Rattle.qq_entry.specs.Command.{stamp}
 use Rattle.qq_entry.specs.declared.audit.AuditRow.{AuditRow}
@@ -74,10 +74,11 @@ pub record MayGive (session : ℕ) (given : Unstamped) (q : Queue) : Type 0 wher
   pub taken : not_taken session given q ≡ None
   pub window : may_hand (q.clients session).numbers ≡ true
 
--- no consumer of the queue has a taker, and no delivery waits for one
-pub record HasNoTaker (q : Queue) : Type 0 where
-  pub seats : q.seats ≡ []
+-- No delivery waits for a taker. And no consumer of the queue has one, or its leader knows its whole log to be committed,
+-- so that nothing is handed out before the command is carried out.
+pub record WaitsForNoTaker (q : Queue) (s : Server) : Type 0 where
   pub untold : q.untold ≡ []
+  pub calm : (q.seats ≡ []) ⊎ (s.commit ≡ last s)
 
 -- the command that it gives
 abbrev pub command_of : ℕ → Unstamped → Queue → Command

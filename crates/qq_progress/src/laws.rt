@@ -15,7 +15,7 @@ ghost use Rattle.qq_cluster.specs.Lines.{IsLine};
 ghost use Rattle.qq_cluster.specs.Queue.{Submits, audit_rows};
 ghost use Rattle.qq_cluster.specs.Rules.{ForEach, IsOpening, IsRound, is_idle, not_taken};
 ghost use Rattle.qq_progress.specs.Opened.{AreNewGroups, HasOpened};
-ghost use Rattle.qq_progress.specs.Soon.{AreOnce, AreNodes, GivesOne, HasNoTaker, IsCommittedSoon, IsNewTo, LeadsMost, MayGive};
+ghost use Rattle.qq_progress.specs.Soon.{AreOnce, AreNodes, GivesOne, IsCommittedSoon, IsNewTo, LeadsMost, MayGive, WaitsForNoTaker};
 
 use qq_raft_model::{
     a_log_was_handed_the_changes_of_its_server, each_row_was_submitted,
@@ -24,8 +24,9 @@ use qq_raft_model::{
 
 /// A law: two rounds commit a command. Where nothing is left to do in the whole cluster, and a queue's leader
 /// takes commands, a majority of the members is up with its log, it sends each of these the entry
-/// after its last one next, no member that is up has a later term, and no consumer of that queue has a taker: then a
-/// line that gives that queue one command makes a row of it after two rounds of the line's pump, if no call of a disk fails. Its answer is
+/// after its last one next, no member that is up has a later term, no delivery of the queue waits for a taker, and
+/// the leader knows its whole log to be committed, or no consumer of the queue has a taker: then a line that gives that
+/// queue one command makes a row of it after two rounds of the line's pump, if no call of a disk fails. Its answer is
 /// printed, unless the session is muted.
 pub fn a_command_is_committed_soon()
     ensures { (setup : Setup) (made : List ClusterEvent) (line : ScriptLine) (session place : ℕ)
@@ -35,7 +36,7 @@ pub fn a_command_is_committed_soon()
         (cluster_after (new_cluster setup) made).auto ≡ true →
         is_idle setup (cluster_after (new_cluster setup) made) ≡ true →
         LeadsMost setup (cluster_after (new_cluster setup) made) place k s →
-        HasNoTaker ((cluster_after (new_cluster setup) made).queue place) →
+        WaitsForNoTaker ((cluster_after (new_cluster setup) made).queue place) s →
         MayGive session given ((cluster_after (new_cluster setup) made).queue place) →
         GivesOne setup line session place given →
         IsLine setup line (cluster_after (new_cluster setup) made) events →

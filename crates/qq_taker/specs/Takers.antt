@@ -1,5 +1,6 @@
 -- The takers of a run, under the numbers 1, 2, 3 and so on, and who listens to deliveries beside them.
 use Rattle.std.specs.Prelude.{◌≡◌, ℕ, zero, suc, List, [], ◌∷◌, ◌++◌, Bool, false, true, Option, None, Some, map, slice_get}
+use Rattle.std.specs.Global.{Vec}
 use Rattle.std.specs.List.{slice_set}
 use Rattle.std.specs.Option.{option_map, option_map_or}
 use Rattle.qq_entry.specs.declared.answer.Delivery.{Delivery}
@@ -114,6 +115,10 @@ listen all = record all { heard = Some [] }
 -- a delivery is told to a consumer without a taker
 abbrev pub hear : Handed → Takers → Takers
 hear h all = record all { heard = option_map (λ (list : List Handed). list ++ h ∷ []) all.heard }
+
+-- what was kept is taken out, and what comes next is kept
+abbrev pub take_heard : Takers → Takers
+take_heard all = record all { heard = option_map (λ (list : List Handed). []) all.heard }
 
 -- what a desk has kept
 abbrev pub heard_of : Option (Vec Handed) → Option (List Handed)

@@ -1,8 +1,9 @@
 ghost use Rattle.std.specs.Prelude.{◌≡◌, ◌++◌, ◌∷◌, [], IfOk, IsOkUnless, OnErr, OnOk};
-ghost use Rattle.qq_taker.specs.Takers.{Free, Gone, IsOffered, LooksAt, drop_at, give, hand, held_by, is_free, is_free_by};
+ghost use Rattle.qq_taker.specs.Takers.{Free, Gone, IsOffered, LooksAt, drop_at, give, hand, hear, heard_of, held_by, is_free, is_free_by, listen, no_takers, take_heard};
 
+use crate::handed::Handed;
 use crate::taker::{Taker, Verdict};
-use qq_base::Memory;
+use qq_base::{Duplicate, Memory};
 use qq_entry::Delivery;
 use std::alloc::Global;
 use std::marker::Model;
@@ -67,9 +68,24 @@ impl<T: Taker> Place<T> {
     }
 }
 
+// A copy of a delivery is kept.
+fn keep(alloc: Global, kept: &mut Vec<Handed>, handed: &Handed) -> Result<(), Memory>
+    ensures ok { OnOk result (kept.new.items ≡ kept.old.items ++ handed.now ∷ []) }
+    ensures err { OnErr result (kept.new.items ≡ kept.old.items) }
+    ensures want { IsOkUnless result Memory.Want }
+{
+    let delivery = handed.delivery.copy(alloc)?;
+    kept.push(Handed {
+        consumer: handed.consumer,
+        delivery,
+    })?;
+    Ok(())
+}
+
 /// The takers of a run, under the numbers 1, 2, 3 and so on. Each may be given to one consumer, once.
 ///
-/// Contracts see of each whether it was given, and what it has seen.
+/// Beside them, who listens is told the deliveries to consumers without a taker. Contracts see of each taker whether it
+/// was given and what it has seen, and the deliveries that were kept.
 #[derive(Drop)]
 pub struct Desk<T: Taker> {
     rows: Vec<Place<T>>,
@@ -178,15 +194,21 @@ impl<T: Taker> Desk<T> {
         ensures err { OnErr result (self.new ≡ self.old) }
         ensures want { IsOkUnless result Memory.Want }
     {
-        todo!()
+        match &mut self.heard {
+            None => Ok(()),
+            Some(kept) => keep(alloc, kept, handed),
+        }
     }
 
     /// The deliveries that were kept, in order; from here on those are kept that come next. None exactly where nobody
     /// listens.
     pub fn take_heard(&mut self, alloc: Global) -> Option<Vec<Handed>>
-        ensures heard { option_map (λ (list : _). list.items) result ≡ self.old.heard }
-        ensures rest { self.new ≡ record self.old { heard = option_map (λ (list : _). []) self.old.heard } }
+        ensures heard { heard_of result ≡ self.old.heard }
+        ensures rest { self.new ≡ take_heard self.old }
     {
-        todo!()
+        match &mut self.heard {
+            None => None,
+            Some(kept) => Some(mem::replace(kept, Vec::new(alloc))),
+        }
     }
 }

@@ -14,7 +14,7 @@ pub use fixed::FixedTaker;
 pub use handed::Handed;
 pub use laws::{
     given_takers_see_what_they_are_offered, takers_are_given_once,
-    takers_see_nothing_after_the_drop,
+    takers_see_nothing_after_the_drop, who_listens_hears_each_delivery,
 };
 pub use noting::NotingTaker;
 pub use qq_base::{ConsumerId, Memory};

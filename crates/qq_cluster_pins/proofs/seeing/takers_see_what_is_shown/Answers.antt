@@ -1,0 +1,37 @@
+use Rattle.std.proofs.Common.{List, [], ◌∷◌, ◌++◌, Some, ap, refl}
+use Rattle.std.specs.Option.{option_map}
+use Rattle.qq_taker.specs.declared.handed.Handed.{Handed}
+use Rattle.qq_cluster.proofs.Outcomes.{takers-at, takers-both}
+use Rattle.qq_cluster_pins.proofs.Looking.{others-unseen}
+use Rattle.qq_cluster_pins.proofs.seeing.takers_see_what_is_shown.Goals as goal
+
+pub returns-clause-given : goal.returns-clause-given
+returns-clause-given c = λ all session number seen free.
+    c.takers_are_given_once.ensures.first all number seen free
+
+pub returns-clause-taken : goal.returns-clause-taken
+returns-clause-taken c = λ all number seen consumer d verdict given.
+    c.given_takers_see_what_they_are_offered.ensures.sees all number (Some seen) d verdict given
+
+pub returns-clause-dropped : goal.returns-clause-dropped
+returns-clause-dropped c = λ all session number held there.
+    c.takers_see_nothing_after_the_drop.ensures.gone all number held there
+
+pub returns-clause-told : goal.returns-clause-told
+returns-clause-told c = λ all number consumer d. refl
+
+pub returns-clause-heard : goal.returns-clause-heard
+returns-clause-heard c = λ all list consumer d heard.
+    ap (option_map (λ (l : List Handed). l ++ record { consumer = consumer; delivery = d } ∷ [])) heard
+
+pub returns-clause-same : goal.returns-clause-same
+returns-clause-same c = λ all row session id. (refl, refl, refl, refl, refl, refl)
+
+pub returns-clause-event : goal.returns-clause-event
+returns-clause-event c = takers-at
+
+pub returns-clause-later : goal.returns-clause-later
+returns-clause-later c = takers-both
+
+pub returns-clause-none : goal.returns-clause-none
+returns-clause-none c = others-unseen
