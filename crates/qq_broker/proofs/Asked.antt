@@ -13,6 +13,7 @@ use Rattle.qq_script_lines.specs.declared.line.ScriptLine.{ScriptLine}
 use Rattle.qq_script_lines.specs.declared.line.ScriptLine.TheVariants.{Nothing, Publish, Send}
 use Rattle.qq_setup.specs.declared.setup.Setup.{Setup}
 use Rattle.qq_setup.specs.Setup.{state_of}
+use Rattle.qq_cluster.specs.Outcome.{Outcome}
 use Rattle.qq_cluster.specs.Cluster.{Cluster, ClusterEvent, Setup as ClusterSetup}
 use Rattle.qq_cluster.specs.Lines.{AndPumped, IsLine, IsRouted, publish_with}
 use Rattle.qq_cluster_run.specs.Serving.{Run, after_all, cluster_in, setup_in}
@@ -45,7 +46,7 @@ want-given-up met setup events line r want =
 module _ {D : Type 0} (given : Giving D) (tells : D → Bool) (past : D → List Disk) (faults : D → ℕ)
     (s : Setup) where
   -- by a rule that is the line's
-  pub all-served : {T : Type 0} (line : ScriptLine) (r : Result T Memory) (old new : Nodes D) (before later : List ℕ)
+  pub all-served : {T : Type 0} (line : ScriptLine) (r : Result T Memory) (old new : Nodes D) (before later : Outcome)
       → OnOk r (Served tells past faults (of_line line) old new before later) → (run : Run)
       → Holds given tells past faults s old run → OnOk r (IsServed given tells past faults s run line new before later)
   all-served line r old new before later so = λ run h.
@@ -54,7 +55,7 @@ module _ {D : Type 0} (given : Giving D) (tells : D → Bool) (past : D → List
       sv) so
 
   -- of a call that has no result
-  pub just-served : (line : ScriptLine) (old new : Nodes D) (before later : List ℕ)
+  pub just-served : (line : ScriptLine) (old new : Nodes D) (before later : Outcome)
       → Served tells past faults (of_line line) old new before later → (run : Run)
       → Holds given tells past faults s old run
       → IsServed given tells past faults s run line new before later
@@ -81,17 +82,18 @@ module _ {D : Type 0} (given : Giving D) (tells : D → Bool) (past : D → List
       (record { lines = lines; logs = run.logs; events = l }))
       (sym is) (record { stands = h.stands; restarted = h.restarted; disks = h.disks })
 
-  pub nothing-served : (held : Nodes D) (text : List ℕ) (run : Run) → Holds given tells past faults s held run
-      → IsServed given tells past faults s run Nothing held text text
+  pub nothing-served : (held : Nodes D) (told : Outcome) (run : Run) → Holds given tells past faults s held run
+      → IsServed given tells past faults s run Nothing held told told
   unfolding IsLine
-  nothing-served held text run h =
+  nothing-served held told run h =
       let next = same-run held run (run.lines + 1) (run.events ++ []) (append-nil run.events) h in
       record {
         more = [];
         allowed = refl;
         disks = had-so given tells past faults s held (run_after run (run.events ++ [])) next;
         stands = next;
-        says = sym (append-nil text);
+        says = sym (append-nil told.text);
+        sees = refl;
       }
 
   -- ---- messages
@@ -114,7 +116,7 @@ module _ {D : Type 0} (given : Giving D) (tells : D → Bool) (past : D → List
   Routed by command queues setup = AndPumped setup (IsRouted by.number command (numbers_of queues))
 
   pub sent : {T : Type 0} (by : SessionId) (exchange key body : List ℕ) (command : Unstamped) (queues : List QueueId)
-      (r : Result T Memory) (old new : Nodes D) (before later : List ℕ) → command ≡ publish_with key body
+      (r : Result T Memory) (old new : Nodes D) (before later : Outcome) → command ≡ publish_with key body
       → numbers_of queues ≡ places_for (state_of s).table exchange key
       → OnOk r (Served tells past faults (Routed by command queues) old new before later) → (run : Run)
       → Holds given tells past faults s old run
@@ -139,7 +141,7 @@ module _ {D : Type 0} (given : Giving D) (tells : D → Bool) (past : D → List
 
   -- ---- a line that is as another one
 
-  pub served-as : {T : Type 0} (line other : ScriptLine) (r : Result T Memory) (held : Nodes D) (before later : List ℕ)
+  pub served-as : {T : Type 0} (line other : ScriptLine) (r : Result T Memory) (held : Nodes D) (before later : Outcome)
       (run : Run) → IsAs line other (setup_in s run) → OnOk r
       (IsServed given tells past faults s run line held before later)
       → OnOk r (IsServed given tells past faults s run other held before later)
@@ -151,6 +153,7 @@ module _ {D : Type 0} (given : Giving D) (tells : D → Bool) (past : D → List
         disks = so.disks;
         stands = so.stands;
         says = so.says;
+        sees = so.sees;
       })
 
 pub given-up-as : {T : Type 0} (line other : ScriptLine) (r : Result T Memory) (met : Trouble → Type 0)

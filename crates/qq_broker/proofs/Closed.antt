@@ -9,28 +9,29 @@ use Rattle.qq_cluster_run.specs.Endings.{Ending}
 use Rattle.qq_cluster_run.specs.Runs.{Closes, HasRun, HasStopped, ending_of}
 use Rattle.qq_cluster_run.proofs.Closings.{stop_closes, stopped_earlier}
 use Rattle.qq_broker.specs.Lives.{Giving}
-use Rattle.qq_broker.specs.Nodes.{Had, Meets}
-use Rattle.qq_broker.proofs.Meeting.{meets-earlier}
+use Rattle.qq_broker.specs.Takers.{RunClaims, RunMeets}
+use Rattle.qq_taker.specs.Takers.{Takers}
+use Rattle.qq_broker.proofs.Meeting.{run-earlier}
 
 -- `first` is the yard's count of faults when the run began, and `old` the sink's; at the stop they are `after` and `mid`
 pub run-stopped : {D : Type 0} (given : Giving D) (tells : D → Bool) (past : D → List Disk) (faults : D → ℕ)
-    (s : Setup) (stop : Stop) (status : ℕ) (ending : Ending) (left rest a b c : Option (List ℕ)) (source : Type 0)
+    (takers later : Takers) (s : Setup) (stop : Stop) (status : ℕ) (ending : Ending) (left rest a b c : Option (List ℕ)) (source : Type 0)
     (first before after : ℕ) (old mid new : ℕ) → first ≤ before → old ≤ mid → mid ≤ new
-    → HasStopped stop s left rest a b source (Rose old mid) (Meets given tells past faults before after)
-    (Had given tells past faults) []
+    → HasStopped stop s left rest a b source (Rose old mid) (RunMeets given tells past faults takers before after)
+    (RunClaims given tells past faults takers later) []
     → Closes status ending (Rose mid new) (λ more. Appends b c more) → ending ≡ ending_of stop
-    → HasRun status s left rest a c source (Rose old new) (Meets given tells past faults first after)
-    (Had given tells past faults)
-run-stopped given tells past faults s stop status ending left rest a b c source first before after old mid new earlier
+    → HasRun status s left rest a c source (Rose old new) (RunMeets given tells past faults takers first after)
+    (RunClaims given tells past faults takers later)
+run-stopped given tells past faults takers later s stop status ending left rest a b c source first before after old mid new earlier
     le more so closes is =
-    let met = Meets given tells past faults first after in
-    let had = Had given tells past faults in
-    let stopped = stopped_earlier (Meets given tells past faults before after) met had
-    (meets-earlier given tells past faults first before after earlier) stop s left rest a b source (Rose old mid) [] so in
+    let met = RunMeets given tells past faults takers first after in
+    let claims = RunClaims given tells past faults takers later in
+    let stopped = stopped_earlier (RunMeets given tells past faults takers before after) met claims
+    (run-earlier given tells past faults takers first before after earlier) stop s left rest a b source (Rose old mid) [] so in
     inr (inr (record {
       stop = stop;
       closes = subst
           (λ (e : Ending). Closes status e (Rose old new)
-          (λ more'. HasStopped stop s left rest a c source (Rose old new) met had more')) is
-          (stop_closes stop status ending s left rest a b c source met had old mid new le more stopped closes);
+          (λ more'. HasStopped stop s left rest a c source (Rose old new) met claims more')) is
+          (stop_closes stop status ending s left rest a b c source met claims old mid new le more stopped closes);
     }))

@@ -1,6 +1,6 @@
 -- Nodes of a run are crashed, one after the other.
 use Rattle.std.proofs.Common.{◌≡◌, ◌≤◌, ◌+◌, ℕ, zero, suc, Bool, List, [], ◌∷◌, ◌++◌, map, refl, sym, ap, subst, ◌∙◌, append-nil, append_assoc, arith}
-use Rattle.std.specs.List.{range_with_len}
+use Rattle.std.specs.List.{flat_map, range_with_len}
 use Rattle.std.proofs.lemmas.List.FromFn.{map-range_with_len_more}
 use Rattle.qq_base.specs.declared.ids.NodeId.{NodeId}
 use Rattle.qq_disk.specs.declared.image.Image.{Image}
@@ -12,10 +12,11 @@ use Rattle.qq_script_lines.specs.declared.line.Nodes.{Nodes as Which}
 use Rattle.qq_script_lines.specs.declared.line.Nodes.TheVariants.{All, One}
 use Rattle.qq_script_lines.specs.declared.line.ScriptLine.TheVariants.{Crash}
 use Rattle.qq_setup.specs.declared.setup.Setup.{Setup}
-use Rattle.qq_cluster.specs.Cluster.{Cluster, ClusterEvent, Crashes, Setup as ClusterSetup, cluster_happens}
+use Rattle.qq_cluster.specs.Cluster.{Cluster, ClusterEvent, Crashes, Printed, Setup as ClusterSetup, all_prints, cluster_happens}
 use Rattle.qq_cluster.specs.Lines.{IsLine}
 use Rattle.qq_cluster.specs.Rules.{ForEach, Is}
-use Rattle.qq_cluster.specs.Texts.{text_of}
+use Rattle.qq_cluster.specs.Outcome.{Outcome, sees_prints}
+use Rattle.qq_cluster.specs.Texts.{printed_text}
 use Rattle.qq_cluster_run.specs.Serving.{Run, cluster_in, setup_in}
 use Rattle.qq_cluster_run.proofs.Closings.{Rose_earlier}
 use Rattle.qq_nodes.specs.declared.nodes.Nodes.{Nodes}
@@ -56,10 +57,10 @@ unfolding IsLine
 all-lines s run c image = all-crash 1 s.nodes image c
 
 -- a crash prints nothing
-no-text : (setup : ClusterSetup) (c : Cluster) (image : Image) (list : List ℕ)
-    → text_of setup c (map (λ (k : ℕ). Crashes k image) list) ≡ []
-no-text setup c image [] = refl
-no-text setup c image (k ∷ list) = no-text setup (cluster_happens c (Crashes k image)) image list
+no-prints : (setup : ClusterSetup) (c : Cluster) (image : Image) (list : List ℕ)
+    → all_prints setup c (map (λ (k : ℕ). Crashes k image) list) ≡ []
+no-prints setup c image [] = refl
+no-prints setup c image (k ∷ list) = no-prints setup (cluster_happens c (Crashes k image)) image list
 
 -- ---- the nodes
 
@@ -93,12 +94,12 @@ module _ {D : Type 0} (given : Giving D) (tells : D → Bool) (past : D → List
 
 module _ {D : Type 0} (given : Giving D) (tells : D → Bool) (past : D → List Disk) (faults : D → ℕ) (s : Setup)
     (run : Run) (new : Nodes D)
-    (image : Image) (text : List ℕ) where
+    (image : Image) (told : Outcome) where
   served-so : (which : Which) (more : List ClusterEvent)
       → IsLine (setup_in s run) (Crash which image) (cluster_in s run) more
-      → text_of (setup_in s run) (cluster_in s run) more ≡ []
+      → all_prints (setup_in s run) (cluster_in s run) more ≡ []
       → Holds given tells past faults s new (with_events run (run.events ++ more))
-      → IsServed given tells past faults s run (Crash which image) new text text
+      → IsServed given tells past faults s run (Crash which image) new told told
   served-so which more allowed silent h =
       let holds : Holds given tells past faults s new (run_after run (run.events ++ more)) =
       record { stands = h.stands; restarted = h.restarted; disks = h.disks } in
@@ -107,18 +108,20 @@ module _ {D : Type 0} (given : Giving D) (tells : D → Bool) (past : D → List
         allowed = allowed;
         disks = had-so given tells past faults s new (run_after run (run.events ++ more)) holds;
         stands = holds;
-        says = sym (append-nil text) ∙ ap (λ (l : List ℕ). text ++ l) (sym silent);
+        says = sym (append-nil told.text)
+            ∙ ap (λ (l : List Printed). told.text ++ flat_map (printed_text (setup_in s run)) l) (sym silent);
+        sees = ap (λ (l : List Printed). sees_prints l told.takers) (sym silent);
       }
 
   pub one-served : (node : NodeId)
       → Holds given tells past faults s new (with_events run (run.events ++ Crashes node.0 image ∷ []))
-      → IsServed given tells past faults s run (Crash (One node) image) new text text
+      → IsServed given tells past faults s run (Crash (One node) image) new told told
   one-served node h =
       served-so (One node) (Crashes node.0 image ∷ []) (one-line (setup_in s run) (cluster_in s run) node image)
-      (no-text (setup_in s run) (cluster_in s run) image (node.0 ∷ [])) h
+      (no-prints (setup_in s run) (cluster_in s run) image (node.0 ∷ [])) h
 
   pub all-served : Holds given tells past faults s new (with_events run (run.events ++ crashes 1 s.nodes image))
-      → IsServed given tells past faults s run (Crash All image) new text text
+      → IsServed given tells past faults s run (Crash All image) new told told
   all-served h =
       served-so All (crashes 1 s.nodes image) (all-lines s run (cluster_in s run) image)
-      (no-text (setup_in s run) (cluster_in s run) image (range_with_len 1 s.nodes)) h
+      (no-prints (setup_in s run) (cluster_in s run) image (range_with_len 1 s.nodes)) h

@@ -1,6 +1,6 @@
 -- No line fails a node twice: a call of its disk that fails stops the node, and no line restarts a node twice.
 use Rattle.std.proofs.Common.{◌≡◌, ◌≢◌, ◌≤◌, ◌<◌, ◌+◌, ◌⊎◌, ℕ, zero, suc, Bool, true, false, ◌&&◌, List, [], ◌∷◌, ◌++◌, length, Option, Some, None, refl, sym, ap, subst, ◌∙◌, inl, inr, arith}
-use Rattle.std.specs.Prelude.{filter, replicate}
+use Rattle.std.specs.Prelude.{filter}
 use Rattle.std.specs.List.{range_with_len}
 use Rattle.std.proofs.lemmas.Bool.{and_parts, eq-eqb, ne_eqb}
 use Rattle.std.proofs.lemmas.Bool.Decides.{eqb_tells}
@@ -17,8 +17,9 @@ use Rattle.qq_script_lines.specs.declared.line.ScriptLine.TheVariants as lines
 use Rattle.qq_entry.specs.declared.command.Unstamped.{Unstamped}
 use Rattle.qq_cluster.specs.Cluster.{Cluster, ClusterEvent, Setup, MutesEach, EndsEach, Sets, Alike, At, NodeWrites, NodeSyncs, Fails, Crashes, Shows, SaysDown, SaysNoSuch, SaysUnroutable, SaysBusy, SaysEnded, cluster_after, cluster_happens, members}
 use Rattle.qq_cluster.specs.Lines.{AndPumped, IsCopy, IsDeliver, IsDelivered, IsLine, IsLose, IsRouted, IsSend, WhereThere, WhereUp, nodes_of, publish_with, receiver_at}
-use Rattle.qq_cluster.specs.Queue.{Copies, Delivers, Downs, Event, Fetches, Loses, Notices, Resends, Submits, TellsEnded, TellsNotTaken, Ticks}
-use Rattle.qq_cluster.specs.Rules.{ForEach, Is, IsClaimed, IsEmptied, IsEnd, IsFirstTick, IsFound, IsGiven, IsNodeRound, IsNotice, IsNothing, IsOpening, IsPump, IsPumped, IsResend, IsRestart, IsRound, IsSync, IsSynced, IsWrite, IsWritten, MayRoll, Pumps, Rule, Then, if_so, is_ended, is_idle, most_rounds, not_taken, some_queue, tick_at, waits_noticed, waits_synced, waits_written}
+use Rattle.qq_cluster.specs.Queue.{Attaches, Copies, Delivers, Downs, Event, Fetches, Loses, Notices, Resends, Submits, TellsEnded, TellsNotTaken, Ticks}
+use Rattle.qq_cluster.specs.Rules.{ForEach, Is, IsClaimed, IsEmptied, IsEnd, IsFirstTick, IsFound, IsGiven, IsNodeRound, IsNotice, IsNothing, IsOpening, IsPump, IsPumped, IsResend, IsRestart, IsRound, IsSync, IsSynced, IsWrite, IsWritten, MayRoll, Pumps, Rule, Tells, Then, if_so, is_ended, is_idle, most_rounds, not_taken, some_queue, tick_at, waits_noticed, waits_synced, waits_written}
+use Rattle.qq_cluster.proofs.Takerless.{AreAt, GivesNone, emptied-at, tells-at}
 use Rattle.qq_cluster_laws.proofs.Reached.{after-both}
 use Rattle.qq_cluster_laws.specs.Serves.{is_failure_at}
 use Rattle.qq_broker.specs.Lives.{failures}
@@ -83,6 +84,15 @@ module _ (k : ℕ) where
     | inr (isnt, other) ↦ rw (put-other j false c.up k (λ e. other (sym e))) (no-more (ups (c.up k)))
   ]
 
+  -- what happens to a queue alone
+  stops-at : (place : ℕ) (c : Cluster) (events : List ClusterEvent) → AreAt place events → Stops k c events
+  stops-at place c [] are = calm c
+  stops-at place c (At own event ∷ events) are = stops-at place (cluster_happens c (At own event)) events are.1
+  stops-at place c (_ ∷ events) are = absurd are.0
+
+  stops-tells : (place : ℕ) (event : Event) → GivesNone event → AllStop (Tells place event)
+  stops-tells place event none c events so = stops-at place c events (tells-at place event none c events so)
+
   -- ---- rules
 
   stops-then : (First Second : Rule) → AllStop First → AllStop Second → AllStop (Then First Second)
@@ -137,21 +147,16 @@ module _ (k : ℕ) where
 
     stops-notice : (j place : ℕ) → AllStop (IsNotice j place)
     stops-notice j place c events so =
-        stops-if (c.up j && waits_noticed j (c.queue place)) (Is (At place (Notices j))) IsNothing c events
-        (λ is. stops-is (At place (Notices j)) calm c events) (stops-none c events) so
+        stops-if (c.up j && waits_noticed j (c.queue place)) (Tells place (Notices j)) IsNothing c events
+        (λ is. stops-tells place (Notices j) tt c events) (stops-none c events) so
 
     stops-node : (j : ℕ) → AllStop (IsNodeRound setup j)
     stops-node j =
         stops-then (IsWrite setup j) (Then (IsSync setup j) (ForEach setup.places (IsNotice j))) (stops-write j)
         (stops-then (IsSync setup j) (ForEach setup.places (IsNotice j)) (stops-sync j) (stops-each setup.places (IsNotice j) (stops-notice j)))
 
-    delivered-all : (n place : ℕ) (c : Cluster) → Stops k c (replicate n (At place (Delivers 0)))
-    delivered-all zero place c = calm c
-    delivered-all (suc n) place c = delivered-all n place (cluster_happens c (At place (Delivers 0)))
-
     stops-emptied : (place : ℕ) → AllStop (IsEmptied place)
-    stops-emptied place c events is =
-        subst (Stops k c) (sym is) (delivered-all (length (c.queue place).group.bag) place c)
+    stops-emptied place c events so = stops-at place c events (emptied-at place c events so)
 
     stops-round : AllStop (IsRound setup)
     stops-round =
@@ -201,8 +206,8 @@ module _ (k : ℕ) where
     stops-delivered : (place at : ℕ) (to : Option ℕ) → AllStop (IsDelivered place at to)
     stops-delivered place at None = stops-is SaysNoSuch calm
     stops-delivered place at (Some j) =
-        stops-then (Is (At place (Delivers at))) (λ c. if_so (c.up j) IsNothing (Is (SaysDown j)) c)
-        (stops-is (At place (Delivers at)) calm)
+        stops-then (Tells place (Delivers at)) (λ c. if_so (c.up j) IsNothing (Is (SaysDown j)) c)
+        (stops-tells place (Delivers at) tt)
         (λ c events so. stops-if (c.up j) IsNothing (Is (SaysDown j)) c events (λ up. stops-none c events)
         (stops-is (SaysDown j) calm c events) so)
 
@@ -226,11 +231,12 @@ module _ (k : ℕ) where
     stops-resend session c events so =
         stops-if (some_queue setup (is_ended session) c) (Is SaysEnded)
         (Then (ForEach setup.places (λ (place : ℕ). Is (At place (Resends session))))
-        (ForEach setup.places (λ (place : ℕ). Is (At place (Fetches session))))) c events
+        (ForEach setup.places (λ (place : ℕ). Tells place (Fetches session)))) c events
         (λ is. stops-is SaysEnded calm c events)
         (stops-then (ForEach setup.places (λ (place : ℕ). Is (At place (Resends session))))
-        (ForEach setup.places (λ (place : ℕ). Is (At place (Fetches session)))) (stops-ats (Resends session))
-        (stops-ats (Fetches session)) c events) so
+        (ForEach setup.places (λ (place : ℕ). Tells place (Fetches session))) (stops-ats (Resends session))
+        (stops-each setup.places (λ (place : ℕ). Tells place (Fetches session))
+        (λ place. stops-tells place (Fetches session) tt)) c events) so
 
     stops-first : (place : ℕ) → AllStop (IsFirstTick setup place)
     stops-first place = by (members setup place)
@@ -371,6 +377,8 @@ module _ (k : ℕ) where
         (stops-routed by.number (publish_with key body) (setup.targets exchange key)) c events so)
     line-once n are (lines.Client by at body) c events so =
         few c events (and-pumped (IsGiven by.number body at.0) (stops-given by.number body at.0) c events so)
+    line-once n are (lines.Attach by at tag taker) c events so =
+        few c events (stops-is (At at.0 (Attaches by.number tag taker)) calm c events so)
     line-once n are (lines.End by) c events so =
         few c events
         (and-pumped (IsEnd setup by.number) (stops-then (Is (Alike (EndsEach by.number)))
@@ -388,7 +396,7 @@ module _ (k : ℕ) where
         few c events (stops-where node.0 (IsSync setup node.0) (stops-sync node.0) c events so)
     line-once n are (lines.Notice node at) c events so =
         few c events
-        (stops-where node.0 (Is (At at.0 (Notices node.0))) (stops-is (At at.0 (Notices node.0)) calm) c events so)
+        (stops-where node.0 (Tells at.0 (Notices node.0)) (stops-tells at.0 (Notices node.0) tt) c events so)
     line-once n are (lines.Tick node at) c events so =
         few c events
         (stops-where node.0 (Is (At at.0 (Ticks node.0))) (stops-is (At at.0 (Ticks node.0)) calm) c events so)

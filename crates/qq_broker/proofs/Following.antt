@@ -85,10 +85,10 @@ module _ (comes : Comes) (setup : Setup) (groups : HasGroups setup) (k : ℕ) wh
       takes-up c r place (ops place) parts.1
       (all-in (λ (p : ℕ). may_find k (ops p) (c.queue p)) setup.places place may parts.0))))
 
-  module _ (May : Image → Type 0) where
-    follow-seen : (c : Cluster) (event : ClusterEvent) → IsReached setup c → Fair setup May c event
+  module _ (May : Image → Type 0) (MayGive : ℕ → Type 0) where
+    follow-seen : (c : Cluster) (event : ClusterEvent) → IsReached setup c → Fair setup May MayGive c event
         → sees k event ≡ true → MembersFollow setup c k → MembersFollow setup (cluster_happens c event) k
-    follow-seen c (At place event) r fair seen follow = absurd (false≢true (sym (ap (is_node k) fair) ∙ seen))
+    follow-seen c (At place event) r fair seen follow = absurd (false≢true (sym (ap (is_node k) fair.0) ∙ seen))
     follow-seen c (NodeWrites j) r fair seen follow =
         subst (λ (i : ℕ). MembersFollow setup (cluster_happens c (NodeWrites i)) k) (sym (eqb-true j k seen))
         (writes-follow setup c k follow)
@@ -106,7 +106,7 @@ module _ (comes : Comes) (setup : Setup) (groups : HasGroups setup) (k : ℕ) wh
         (eqb-true j k seen) fair))
     follow-seen c _ r fair seen follow = absurd (false≢true seen)
 
-    pub follow-all : (c : Cluster) (events : List ClusterEvent) → IsReached setup c → AreFair setup May c events
+    pub follow-all : (c : Cluster) (events : List ClusterEvent) → IsReached setup c → AreFair setup May MayGive c events
         → MembersFollow setup c k → MembersFollow setup (cluster_after c events) k
     follow-all c [] r fair follow = follow
     follow-all c (event ∷ events) r fair follow =

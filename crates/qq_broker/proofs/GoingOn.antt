@@ -19,6 +19,7 @@ use Rattle.qq_model.proofs.Soundness.{Contains-in}
 use Rattle.qq_raft_protocol.specs.Facts.{In}
 use Rattle.qq_script_lines.specs.declared.line.ScriptLine.{ScriptLine}
 use Rattle.qq_setup.specs.declared.setup.Setup.{Setup}
+use Rattle.qq_cluster.specs.Outcome.{Outcome}
 use Rattle.qq_cluster.specs.Cluster.{Cluster, ClusterEvent, Crashes, Setup as ClusterSetup, cluster_after, cluster_happens, new_cluster}
 use Rattle.qq_cluster.specs.Lines.{IsLine}
 use Rattle.qq_cluster.specs.Rules.{Is}
@@ -104,7 +105,7 @@ module _ {D : Type 0} (given : Giving D) (tells : D → Bool) (past : D → List
 
   -- what a call has done to a node's disk
   pub served-disk : (setup : ClusterSetup) (c : Cluster) (Allowed : List ClusterEvent → Type 0) (After : Cluster → Type 0)
-      (old new : Nodes D) (before later : List ℕ) (s : Serves setup c Allowed After (See old) (See new) before later)
+      (old new : Nodes D) (before later : Outcome) (s : Serves setup c Allowed After (See old) (See new) before later)
       (k : ℕ) → In k setup.nodes → failures k s.did.events ≤ 1 → (mid last : D) → IsDiskOf tells past faults old k mid
       → IsDiskOf tells past faults new k last → IsOneDisk tells past faults setup k c s.did.events mid last
   served-disk setup c Allowed After old new before later s k there few mid last was is = record {
@@ -138,7 +139,7 @@ module _ {D : Type 0} (given : Giving D) (tells : D → Bool) (past : D → List
   Grown setup events more k last = Became given tells past faults setup (events ++ more) k last
 
   pub became-served : (setup : ClusterSetup) (events : List ClusterEvent) (Allowed : List ClusterEvent → Type 0)
-      (After : Cluster → Type 0) (old new : Nodes D) (before later : List ℕ)
+      (After : Cluster → Type 0) (old new : Nodes D) (before later : Outcome)
       (s : Serves setup (after_all setup events) Allowed After (See old) (See new) before later)
       (k : ℕ) → In k setup.nodes → failures k s.did.events ≤ 1 → (mid last : D) → IsDiskOf tells past faults old k mid
       → IsDiskOf tells past faults new k last → is_some (first_restart k events) ≡ true
@@ -189,7 +190,7 @@ module _ {D : Type 0} (given : Giving D) (tells : D → Bool) (past : D → List
   -- ---- a line
 
   pub served-line : (s : Setup) (run : Run) (line : ScriptLine) (Allowed : List ClusterEvent → Type 0)
-      (old new : Nodes D) (before later : List ℕ) → Holds given tells past faults s old run
+      (old new : Nodes D) (before later : Outcome) → Holds given tells past faults s old run
       → ((events : List ClusterEvent) → Allowed events → IsLine (setup_in s run) line (cluster_in s run) events)
       → Serves (setup_in s run) (cluster_in s run) Allowed (Stands tells past (setup_in s run) new) (See old) (See new)
       before later
@@ -207,10 +208,11 @@ module _ {D : Type 0} (given : Giving D) (tells : D → Bool) (past : D → List
         disks = had-so s new (run_after run (run.events ++ sv.did.events)) holds;
         stands = holds;
         says = sv.did.says;
+        sees = sv.did.sees;
       }
 
   pub served : (s : Setup) (run : Run) (line : ScriptLine) (Rule : ClusterSetup → Cluster → List ClusterEvent → Type 0)
-      (old new : Nodes D) (before later : List ℕ) → Holds given tells past faults s old run
+      (old new : Nodes D) (before later : Outcome) → Holds given tells past faults s old run
       → ((events : List ClusterEvent) → Rule (setup_in s run) (cluster_in s run) events
       → IsLine (setup_in s run) line (cluster_in s run) events)
       → Served tells past faults Rule old new before later
@@ -325,14 +327,14 @@ module _ {D : Type 0} (given : Giving D) (tells : D → Bool) (past : D → List
 
   pub crashed : (s : Setup) (run : Run) (old new : Nodes D) (k : ℕ) (image : Image)
       → Holds given tells past faults s old run
-      → ((text : List ℕ) → HasHappened tells past faults (λ (setup : ClusterSetup). Is (Crashes k image)) old new
-      text text)
+      → ((told : Outcome) → HasHappened tells past faults (λ (setup : ClusterSetup). Is (Crashes k image)) old new
+      told told)
       → LeavesDisks tells past faults k image old new
       → Holds given tells past faults s new (with_events run (run.events ++ Crashes k image ∷ []))
   crashed s run old new k image h happened leaves =
       let setup = setup_in s run in
       let c = cluster_in s run in
-      let so = (happened []).happened setup c (reached s run) h.stands in
+      let so = (happened (record { text = []; takers = [] })).happened setup c (reached s run) h.stands in
       let st : Stands tells past setup new (cluster_after c (Crashes k image ∷ [])) =
       subst (λ (l : List ClusterEvent). Stands tells past setup new (cluster_after c l)) so.means so.stands in
       holds-more s run old new (Crashes k image ∷ []) run.lines h st (λ j there mid last was is restarted b. record {

@@ -9,6 +9,7 @@ use Rattle.qq_base.specs.Causes.{Rose}
 use Rattle.qq_disk.specs.Disk.{Disk}
 use Rattle.qq_raft_protocol.specs.Facts.{In}
 use Rattle.qq_setup.specs.declared.setup.Setup.{Setup}
+use Rattle.qq_cluster.specs.Outcome.{Outcome}
 use Rattle.qq_cluster.specs.Cluster.{ClusterEvent, Setup as ClusterSetup, cluster_after, new_cluster}
 use Rattle.qq_cluster.specs.ClusterLaws.{HasGroups}
 use Rattle.qq_cluster_laws.specs.Serves.{GivesUp, Seen, seen_of}
@@ -122,11 +123,11 @@ module _ {D : Type 0} (tells : D → Bool) (past : D → List Disk) (faults : D 
 module _ {D : Type 0} (given : Giving D) (tells : D → Bool) (past : D → List Disk) (faults : D → ℕ) (s : Setup)
     (may : MayRun s) where
   -- a broker that was opened runs
-  pub opened-runs : (b : Broker D) (nodes : Nodes D) (before later : List ℕ) → b.setup ≡ s → b.nodes ≡ nodes
-      → b.room.items ≡ [] → s.nodes ≤ vec_capacity b.room → before ≡ []
+  pub opened-runs : (b : Broker D) (nodes : Nodes D) (before later : Outcome) → b.setup ≡ s → b.nodes ≡ nodes
+      → b.room.items ≡ [] → s.nodes ≤ vec_capacity b.room
       → HasOpened (Had given tells past faults) s (Holds given tells past faults s nodes) before later
-      → HasOpened (Had given tells past faults) s (Runs given tells past faults b) [] later
-  opened-runs b nodes before later same own empty room none so = record {
+      → HasOpened (Had given tells past faults) s (Runs given tells past faults b) before later
+  opened-runs b nodes before later same own empty room so = record {
     logs = so.logs;
     begins = so.begins;
     events = so.events;
@@ -146,12 +147,13 @@ module _ {D : Type 0} (given : Giving D) (tells : D → Bool) (past : D → List
       empty = empty;
       room = subst (λ (t : Setup). t.nodes ≤ vec_capacity b.room) (sym same) room;
     };
-    says = so.says ∙ ap (λ (l : List ℕ). l ++ all_text (cluster_over s so.logs) so.events) none;
+    says = so.says;
+    sees = so.sees;
   }
 
   -- nodes that were opened, some of them or none
   module _ (begins : HasGroups (cluster_setup s)) (old : Nodes D) (u : AreUnopened given tells past faults s old)
-      (new : Nodes D) (some : Bool) (before later : List ℕ)
+      (new : Nodes D) (some : Bool) (before later : Outcome)
       (so : OpensOver tells past faults s.queues some old new before later) where
     abbrev over_logs : ClusterSetup
     over_logs = cluster_over s so.hold.logs
@@ -193,7 +195,7 @@ module _ {D : Type 0} (given : Giving D) (tells : D → Bool) (past : D → List
     )
 
     -- each disk has failed
-    module _ (some : Bool) (none : some ≡ false) (before later : List ℕ)
+    module _ (some : Bool) (none : some ≡ false) (before later : Outcome)
         (so : OpensOver tells past faults s.queues some old new before later) where
       pub failed-back : HandsBack tells past faults s disks left
       failed-back = (

@@ -23,11 +23,12 @@ use Rattle.qq_cluster_run.specs.Endings.{Ending, limit_body, limit_lines, refusa
 use Rattle.qq_cluster_run.specs.Inputs.{Input, inputs_of}
 use Rattle.qq_cluster_run.specs.Reading.{AskFor, Asks, Ends, read_input, says, says_by}
 use Rattle.qq_cluster_run.specs.Runs.{Closes, HasRun, HasStopped, MayNotOpen, ending_of}
-use Rattle.qq_cluster_run.specs.Serving.{Behind, EndsRun, MayStop, StopsAt, run_behind, setup_behind}
+use Rattle.qq_cluster_run.specs.Serving.{Behind, Claims, EndsRun, MayStop, StopsAt, run_behind, setup_behind}
 use Rattle.qq_cluster_run.specs.Troubles.{Trouble}
 use Rattle.qq_cluster_run.proofs.Says.{says_past, says_within}
 use Rattle.qq_broker.specs.Lives.{Giving}
-use Rattle.qq_broker.specs.Nodes.{Had, Meets}
+use Rattle.qq_broker.specs.Takers.{RunClaims, RunHad, RunMeets}
+use Rattle.qq_taker.specs.Takers.{Takers}
 use Rattle.qq_broker.proofs.Keeping.{AreNew}
 use Rattle.qq_broker.proofs.Unharmed.{Known, loses-nothing, opens-supported, opens-whole, stays-whole}
 
@@ -85,14 +86,17 @@ asked-by P s line before (input ∷ read) (first ∷ script) asked (inr there) s
     asked-by P s line (before + 1) read script asked.1 there (λ number other here is. so number other (inr here) is)
 
 module _ (law : Known) {D : Type 0} (given : Giving D) (tells : D → Bool) (past : D → List Disk) (faults : D → ℕ)
-    (before after : ℕ) (s : Setup) (runs : IsRunnable (state_of s)) (all_new : (k : ℕ) → AreNew given tells past k)
+    (first last : Takers) (before after : ℕ) (s : Setup) (runs : IsRunnable (state_of s)) (all_new : (k : ℕ) → AreNew given tells past k)
     (shows : (disk : D) → IsTrue (tells disk)) where
   abbrev Met : Trouble → Type 0
-  Met trouble = Meets given tells past faults before after trouble
+  Met trouble = RunMeets given tells past faults first before after trouble
+
+  abbrev pub Claimed : Claims
+  Claimed = RunClaims given tells past faults first last
 
   not-opened : (ending : Ending) → MayNotOpen Met s ending → IsHarm ending.status → ⊥
   not-opened ending (inl so) harm =
-      opens-supported law given tells past faults before after s runs all_new shows ending so
+      opens-supported law given tells past faults first before after s runs all_new shows ending so
   not-opened ending (inr (logs, inl is)) harm =
       other-harm ending.status 12 (ap (λ (e : Ending). e.status) is) (λ e. absurd (omega (arith, e)))
       (λ e. absurd (omega (arith, e))) harm
@@ -100,30 +104,33 @@ module _ (law : Known) {D : Type 0} (given : Giving D) (tells : D → Bool) (pas
       other-harm ending.status 7 (ap (λ (e : Ending). e.status) is) (λ e. absurd (omega (arith, e)))
       (λ e. absurd (omega (arith, e))) harm
   not-opened ending (inr (logs, inr (inr (inl so)))) harm =
-      opens-whole law given tells past faults before after s runs all_new shows logs ending so
+      opens-whole law given tells past faults first before after s runs all_new shows logs ending so
   not-opened ending (inr (logs, inr (inr (inr so)))) harm =
       other-harm ending.status 20 (ap (λ (e : Ending). e.status) so.is) (λ e. absurd (omega (arith, e)))
       (λ e. absurd (omega (arith, e))) harm
 
-  module _ (all left : List Input) (b : Behind (Had given tells past faults) s all left)
+  module _ (all left : List Input) (b : Behind (RunHad given tells past faults first) s all left)
       (clean : (nodes : Nodes) (image : Image) → In (lines.Crash nodes image) b.lines → HasNoJunk image) where
-    not-stopped : (line : ScriptLine) (ending : Ending) → StopsAt Met (setup_behind b) b.events line ending
-        → IsHarm ending.status → ⊥
-    not-stopped (lines.Crash nodes image) ending (met, is) harm =
+    not-stopped : (number : ℕ) (line : ScriptLine) (ending : Ending)
+        → StopsAt Met (setup_behind b) b.events number line ending → IsHarm ending.status → ⊥
+    not-stopped number (lines.Attach by at tag taker) ending (met, is) harm =
+        other-harm ending.status 4 (ap (λ (e : Ending). e.status) is) (λ e. absurd (omega (arith, e)))
+        (λ e. absurd (omega (arith, e))) harm
+    not-stopped number (lines.Crash nodes image) ending (met, is) harm =
         other-harm ending.status 7 (ap (λ (e : Ending). e.status) is) (λ e. absurd (omega (arith, e)))
         (λ e. absurd (omega (arith, e))) harm
-    not-stopped (lines.Restart nodes) ending (inl so) harm =
-        stays-whole law given tells past faults before after s runs all_new shows all left b clean _ ending so
-    not-stopped (lines.Restart nodes) ending (inr so) harm =
-        loses-nothing law given tells past faults before after s runs all_new shows all left b clean _ ending so
-    not-stopped _ ending so harm = absurd so
+    not-stopped number (lines.Restart nodes) ending (inl so) harm =
+        stays-whole law given tells past faults first before after s runs all_new shows all left b clean _ ending so
+    not-stopped number (lines.Restart nodes) ending (inr so) harm =
+        loses-nothing law given tells past faults first before after s runs all_new shows all left b clean _ ending so
+    not-stopped number _ ending so harm = absurd so
 
-    may-not-stop : (line : ScriptLine) (ending : Ending) → MayStop Met (setup_behind b) b.events line ending
-        → IsHarm ending.status → ⊥
-    may-not-stop line ending (inl so) harm =
+    may-not-stop : (number : ℕ) (line : ScriptLine) (ending : Ending)
+        → MayStop Met (setup_behind b) b.events number line ending → IsHarm ending.status → ⊥
+    may-not-stop number line ending (inl so) harm =
         other-harm ending.status 20 (ap (λ (e : Ending). e.status) so.is) (λ e. absurd (omega (arith, e)))
         (λ e. absurd (omega (arith, e))) harm
-    may-not-stop line ending (inr so) harm = not-stopped line ending so harm
+    may-not-stop number line ending (inr so) harm = not-stopped number line ending so harm
 
     not-ended : (input : Input) (ending : Ending) → EndsRun Met s (run_behind b) input ending → IsHarm ending.status → ⊥
     not-ended input ending (inl is) harm = by (said-status s (run_behind b).lines input ending is)
@@ -133,14 +140,14 @@ module _ (law : Known) {D : Type 0} (given : Giving D) (tells : D → Bool) (pas
             other-harm ending.status 4 four (λ e. absurd (omega (arith, e))) (λ e. absurd (omega (arith, e))) harm
         by (inr eleven) =
             other-harm ending.status 11 eleven (λ e. absurd (omega (arith, e))) (λ e. absurd (omega (arith, e))) harm
-    not-ended input ending (inr so) harm = may-not-stop so.line ending so.stops harm
+    not-ended input ending (inr so) harm = may-not-stop ((run_behind b).lines + 1) so.line ending so.stops harm
 
   -- ---- the whole run
 
   module _ (bytes : List ℕ) (rest old new : Option (List ℕ)) (source sink : Type 0)
       (clean : (number : ℕ) (input : Input) (nodes : Nodes) (image : Image) → In input (inputs_of bytes)
       → says s number input ≡ Asks (lines.Crash nodes image) → HasNoJunk image) where
-    clean-behind : (left : List Input) (b : Behind (Had given tells past faults) s (inputs_of bytes) left)
+    clean-behind : (left : List Input) (b : Behind (RunHad given tells past faults first) s (inputs_of bytes) left)
         (nodes : Nodes) (image : Image) → In (lines.Crash nodes image) b.lines → HasNoJunk image
     clean-behind left b nodes image there =
         asked-by (HasNoJunk image) s (lines.Crash nodes image) 0 b.read b.lines b.asked there
@@ -148,7 +155,7 @@ module _ (law : Known) {D : Type 0} (given : Giving D) (tells : D → Bool) (pas
         (subst (In input) (sym b.is) (In-append_left input b.read left here)) is)
 
     stopped : (stop : Stop) (more : List ℕ)
-        → HasStopped stop s (Some bytes) rest old new source sink Met (Had given tells past faults) more
+        → HasStopped stop s (Some bytes) rest old new source sink Met Claimed more
         → IsHarm (ending_of stop).status → ⊥
     stopped (stops.Ended ending) more (may, ends) harm =
         not-ended (inputs_of bytes) ends.served.left ends.served.behind
@@ -167,13 +174,13 @@ module _ (law : Known) {D : Type 0} (given : Giving D) (tells : D → Bool) (pas
         other-harm status 6 is (λ e. absurd (omega (arith, e))) (λ e. absurd (omega (arith, e))) harm
 
     pub no-harm : (status : ℕ)
-        → HasRun status s (Some bytes) rest old new source sink Met (Had given tells past faults) → IsHarm status → ⊥
+        → HasRun status s (Some bytes) rest old new source sink Met Claimed → IsHarm status → ⊥
     no-harm status (inl so) harm =
         closes status so.ending (λ more. Appends old new more) so.closes (λ stands. not-opened so.ending so.may) harm
     no-harm status (inr (inl so)) harm =
         other-harm status 0 so.status_is (λ e. absurd (omega (arith, e))) (λ e. absurd (omega (arith, e))) harm
     no-harm status (inr (inr so)) harm =
         closes status (ending_of so.stop)
-        (λ more. HasStopped so.stop s (Some bytes) rest old new source sink Met (Had given tells past faults) more)
+        (λ more. HasStopped so.stop s (Some bytes) rest old new source sink Met Claimed more)
         so.closes
         (λ stands. stopped so.stop (ending_of so.stop).text stands) harm

@@ -15,6 +15,8 @@ pub mod Bodies
 pub mod Rows
 pub mod Asked
 pub mod Audited
+mod GivenFree
+mod Gone
 pub mod Looped
 pub mod Closed
 pub mod Dumped

@@ -27,7 +27,8 @@ use Rattle.qq_cluster_run.specs.Inputs.{Input}
 use Rattle.qq_cluster_run.specs.Serving.{Behind, setup_behind}
 use Rattle.qq_cluster_run.specs.Setup.{new_logs}
 use Rattle.qq_broker.specs.Lives.{Became, BeginsBy, Giving, IsGiven, log_at, under}
-use Rattle.qq_broker.specs.Nodes.{Had}
+use Rattle.qq_broker.specs.Takers.{RunHad}
+use Rattle.qq_taker.specs.Takers.{Takers}
 use Rattle.qq_broker.proofs.Opens.{no-ops}
 use Rattle.qq_broker.proofs.Restarted.{member-there, node-has, restarted}
 
@@ -72,8 +73,8 @@ module _ (readable : (queues : List QueueId) (noticed given : List Op) (d : Disk
   -- ---- the logs
 
   module _ {D : Type 0} (is_given : Option (List ℕ) → ℕ → D → Bool) (tells : D → Bool) (past : D → List Disk)
-      (faults : D → ℕ) (s : Setup) (all left : List Input)
-      (b : Behind (Had (under is_given None) tells past faults) s all left)
+      (faults : D → ℕ) (first : Takers) (s : Setup) (all left : List Input)
+      (b : Behind (RunHad (under is_given None) tells past faults first) s all left)
       (runs : IsRunnable (state_of s)) (shows : (disk : D) → IsTrue (tells disk)) where
     abbrev given : Giving D
     given = under is_given None
@@ -87,9 +88,9 @@ module _ (readable : (queues : List QueueId) (noticed given : List Op) (d : Disk
     -- what a member's log holds
     own-new : (k place : ℕ) → In k S.nodes → In place (lot_of S k).places → b.logs place k ≡ []
     own-new k place there on =
-        let became : (last : D) × Became given tells past faults S b.events k last = b.disks k there in
-        let first : D = became.1.first in
-        no-log tells past S k place first (shows first) (new-disk k first became.1.given_is) on
+        let became : (last : D) × Became given tells past faults S b.events k last = b.disks.0 k there in
+        let given_disk : D = became.1.first in
+        no-log tells past S k place given_disk (shows given_disk) (new-disk k given_disk became.1.given_is) on
         (first_restart k b.events)
         (restarted s all left b k there) became.1.begins
 

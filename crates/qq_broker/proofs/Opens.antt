@@ -21,6 +21,7 @@ use Rattle.qq_recover.specs.Reading.{lanes_read, shown}
 use Rattle.qq_setup.specs.declared.queue_row.QueueRow.{QueueRow}
 use Rattle.qq_setup.specs.declared.setup.Setup.{Setup}
 use Rattle.qq_wal_chain.specs.Lanes.{Lanes}
+use Rattle.qq_cluster.specs.Outcome.{Outcome}
 use Rattle.qq_cluster.specs.Cluster.{Cluster, ClusterEvent, Setup as ClusterSetup, cluster_after, members, new_cluster}
 use Rattle.qq_cluster.specs.ClusterLaws.{HasGroups}
 use Rattle.qq_cluster_laws.specs.Linked.{lot_of}
@@ -166,7 +167,7 @@ module _ {D : Type 0} (given : Giving D) (tells : D → Bool) (past : D → List
           }
 
     -- what has become of a node's disk since it was given
-    module _ (Allowed : List ClusterEvent → Type 0) (After : Cluster → Type 0) (new : Nodes D) (before later : List ℕ)
+    module _ (Allowed : List ClusterEvent → Type 0) (After : Cluster → Type 0) (new : Nodes D) (before later : Outcome)
         (sv : Serves S (new_cluster S) Allowed After (See old) (See new) before later)
         (few : (k : ℕ) → failures k sv.did.events ≤ 1) where
       pub became-first : (k : ℕ) (there : In k S.nodes) (last : D) → IsDiskOf tells past faults new k last
@@ -192,7 +193,7 @@ module _ {D : Type 0} (given : Giving D) (tells : D → Bool) (past : D → List
 
   -- ---- the nodes were opened
 
-  module _ (new : Nodes D) (before later : List ℕ) where
+  module _ (new : Nodes D) (before later : Outcome) where
     module _ (some : Bool) (so : OpensOver tells past faults s.queues some old new before later) where
       abbrev L : Logs
       L = so.hold.logs
@@ -245,6 +246,7 @@ module _ {D : Type 0} (given : Giving D) (tells : D → Bool) (past : D → List
           disks = had-so given tells past faults s new (record { lines = 0; logs = logs; events = sv.did.events }) holds;
           stands = holds;
           says = sv.did.says;
+          sees = sv.did.sees;
         }
 
     -- ---- each disk has failed

@@ -21,6 +21,7 @@ use Rattle.qq_script_lines.specs.declared.line.ScriptLine.{ScriptLine}
 use Rattle.qq_script_lines.specs.declared.line.ScriptLine.TheVariants.{Restart}
 use Rattle.qq_setup.specs.declared.setup.Setup.{Setup}
 use Rattle.qq_wal_chain.specs.Lanes.{Lanes}
+use Rattle.qq_cluster.specs.Outcome.{Outcome}
 use Rattle.qq_cluster.specs.Cluster.{Cluster, ClusterEvent, Setup as ClusterSetup, cluster_after, new_cluster}
 use Rattle.qq_cluster.specs.Lines.{IsLine}
 use Rattle.qq_cluster.specs.Rules.{ForEach, IsOpening, IsRestart}
@@ -60,7 +61,7 @@ record CountsUp (list : List ℕ) : Type 0 where
 module _ {D : Type 0} (given : Giving D) (tells : D → Bool) (past : D → List Disk) (faults : D → ℕ)
     (before after : ℕ) (s : Setup) (run : Run)
     (old : Nodes D) (h : Holds given tells past faults s old run) (list : List ℕ) (up : CountsUp list)
-    (there : (k : ℕ) → In k list → In k (setup_in s run).nodes) (said : List ℕ) where
+    (there : (k : ℕ) → In k list → In k (setup_in s run).nodes) (said : Outcome) where
   -- the one that isn't restarted
   abbrev To : ℕ → Type 0
   To node = RestartedTo tells past faults (setup_in s run) (cluster_in s run) list old said node
@@ -231,7 +232,7 @@ all-lines setup c events so = so
 
 module _ {D : Type 0} (given : Giving D) (tells : D → Bool) (past : D → List Disk) (faults : D → ℕ) (s : Setup)
     (run : Run) (old new : Nodes D)
-    (before later : List ℕ) (h : Holds given tells past faults s old run) where
+    (before later : Outcome) (h : Holds given tells past faults s old run) where
   pub restarted-one : (node : NodeId)
       → Served tells past faults (λ (setup : ClusterSetup). IsRestart setup node.0) old new before later
       → IsServed given tells past faults s run (Restart (One node)) new before later
@@ -249,11 +250,12 @@ module _ {D : Type 0} (given : Giving D) (tells : D → Bool) (past : D → List
 
 module _ {D : Type 0} (given : Giving D) (tells : D → Bool) (past : D → List Disk) (faults : D → ℕ)
     (before after : ℕ) (s : Setup) (run : Run)
-    (old new : Nodes D) (h : Holds given tells past faults s old run) (said : List ℕ) (fault : RestartFault)
+    (old new : Nodes D) (h : Holds given tells past faults s old run) (said : Outcome) (fault : RestartFault)
     (stop : AskStop)
-    (stops : IsStopOf s fault stop) where
+    (stops : IsStopOf s fault stop) (number : ℕ) where
   abbrev Cause : Which → AskStop → Type 0
-  Cause which = HasServeCause (Meets given tells past faults before after) (setup_in s run) run.events (Restart which)
+  Cause which =
+      HasServeCause (Meets given tells past faults before after) (setup_in s run) run.events number (Restart which)
 
   -- no node fails twice
   once : (which : Which) (k : ℕ) (events : List ClusterEvent)
@@ -297,7 +299,7 @@ module _ {D : Type 0} (given : Giving D) (tells : D → Bool) (past : D → List
 
 module _ {D : Type 0} (given : Giving D) (tells : D → Bool) (past : D → List Disk) (faults : D → ℕ)
     (before after : ℕ) (s : Setup) (run : Run)
-    (old new : Nodes D) (h : Holds given tells past faults s old run) (said : List ℕ) (fault : RestartFault) where
+    (old new : Nodes D) (h : Holds given tells past faults s old run) (said : Outcome) (fault : RestartFault) where
   pub refused-reopening : Refuses tells past faults all_nodes IsOpening old new said fault
       → MayNotReopen (Meets given tells past faults before after) (setup_in s run) run.events (stop_for s fault)
   refused-reopening so =
@@ -314,9 +316,9 @@ module _ {D : Type 0} (given : Giving D) (tells : D → Bool) (past : D → List
 
 -- ---- a line that is given up
 
-pub given-stop : (met : Trouble → Type 0) (setup : ClusterSetup) (events : List ClusterEvent) (line : ScriptLine)
-    (memory : Memory) (stop : AskStop) → stop ≡ memory_stop memory → IsGivenUp met setup events line memory
-    → HasServeCause met setup events line stop
-given-stop met setup events line Want stop is so = subst (HasServeCause met setup events line) (sym is) tt
-given-stop met setup events line (Spent number) stop is so =
-    subst (HasServeCause met setup events line) (sym is) (inl so)
+pub given-stop : (met : Trouble → Type 0) (setup : ClusterSetup) (events : List ClusterEvent) (at : ℕ)
+    (line : ScriptLine) (memory : Memory) (stop : AskStop) → stop ≡ memory_stop memory
+    → IsGivenUp met setup events line memory → HasServeCause met setup events at line stop
+given-stop met setup events at line Want stop is so = subst (HasServeCause met setup events at line) (sym is) tt
+given-stop met setup events at line (Spent number) stop is so =
+    subst (HasServeCause met setup events at line) (sym is) (inl so)

@@ -9,6 +9,7 @@ use Rattle.qq_disk.specs.Disk.{Disk}
 use Rattle.qq_raft_protocol.specs.Facts.{In}
 use Rattle.qq_setup.specs.declared.setup.Setup.{Setup}
 use Rattle.qq_setup.specs.Setup.{state_of}
+use Rattle.qq_cluster.specs.Outcome.{Outcome}
 use Rattle.qq_cluster.specs.Cluster.{Cluster, ClusterEvent, Setup as ClusterSetup, cluster_after}
 use Rattle.qq_cluster.specs.Rules.{IsOpening}
 use Rattle.qq_cluster.specs.Texts.{text_of}
@@ -73,7 +74,7 @@ module _ {D : Type 0} (given : Giving D) (tells : D → Bool) (past : D → List
 
   -- ---- each node was restarted
 
-  module _ (some : Bool) (new : Nodes D) (first later : List ℕ)
+  module _ (some : Bool) (new : Nodes D) (first later : Outcome)
       (so : Served tells past faults (IsReopening some) held new first later) where
     sv : Serves S c (IsReopening some S c) (Stands tells past S new) (seen tells past faults held)
         (seen tells past faults new) first later
@@ -100,10 +101,10 @@ module _ {D : Type 0} (given : Giving D) (tells : D → Bool) (past : D → List
 
     -- some node is up
     pub has-reopened : (b : Broker D) → some ≡ true → b.setup ≡ s → b.nodes ≡ new → b.room.items ≡ []
-        → s.nodes ≤ vec_capacity b.room → first ≡ [] → later ≡ b.text.items
+        → s.nodes ≤ vec_capacity b.room
         → HasReopened (Had given tells past faults) S (crashed_events S run.events images)
-        (λ (events : List ClusterEvent). Runs given tells past faults b (with_events run events)) b.text.items
-    has-reopened b up own_setup own_nodes empty room none text = record {
+        (λ (events : List ClusterEvent). Runs given tells past faults b (with_events run events)) first later
+    has-reopened b up own_setup own_nodes empty room = record {
       more = sv.did.events;
       allowed = subst (λ (x : Bool). IsReopening x S c sv.did.events) up sv.did.means;
       disks = had-so given tells past faults s new (with_events run (gone_on.events ++ sv.did.events)) holds;
@@ -118,7 +119,8 @@ module _ {D : Type 0} (given : Giving D) (tells : D → Bool) (past : D → List
         empty = empty;
         room = subst (λ (t : Setup). t.nodes ≤ vec_capacity b.room) (sym own_setup) room;
       };
-      says = sym text ∙ sv.did.says ∙ ap (λ (l : List ℕ). l ++ text_of S c sv.did.events) none;
+      says = sv.did.says;
+      sees = sv.did.sees;
     }
 
     -- none is, and these are left of the disks

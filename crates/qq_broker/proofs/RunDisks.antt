@@ -13,14 +13,15 @@ use Rattle.qq_cluster_laws.specs.Linked.{IsLinked}
 use Rattle.qq_cluster_run.specs.Inputs.{Input}
 use Rattle.qq_cluster_run.specs.Serving.{Behind, cluster_behind, setup_behind}
 use Rattle.qq_broker.specs.Lives.{Became, Giving}
-use Rattle.qq_broker.specs.Nodes.{Had}
-use Rattle.qq_broker.proofs.Fair.{fair-images, fair-run}
+use Rattle.qq_broker.specs.Takers.{RunHad}
+use Rattle.qq_taker.specs.Takers.{Takers}
+use Rattle.qq_broker.proofs.Fair.{AnyTaker, fair-images, fair-run}
 use Rattle.qq_broker.proofs.Keeping.{AreNew, IsEmptyPromised, IsHonestWithoutJunk, IsReadWherePromised, kept-new}
 use Rattle.qq_broker.proofs.Restarted.{restarted}
 
 module _ (readable : IsReadWherePromised) (empty : IsEmptyPromised) (honest : IsHonestWithoutJunk) {D : Type 0}
-    (given : Giving D) (tells : D → Bool) (past : D → List Disk) (faults : D → ℕ) (s : Setup) (all left : List Input)
-    (b : Behind (Had given tells past faults) s all left) (all_new : (k : ℕ) → AreNew given tells past k)
+    (given : Giving D) (tells : D → Bool) (past : D → List Disk) (faults : D → ℕ) (first : Takers) (s : Setup)
+    (all left : List Input) (b : Behind (RunHad given tells past faults first) s all left) (all_new : (k : ℕ) → AreNew given tells past k)
     (shows : (disk : D) → IsTrue (tells disk))
     (clean : (nodes : Nodes) (image : Image) → In (lines.Crash nodes image) b.lines → HasNoJunk image) (k : ℕ)
     (there : In k (setup_behind b).nodes) where
@@ -31,12 +32,12 @@ module _ (readable : IsReadWherePromised) (empty : IsEmptyPromised) (honest : Is
       kept-new readable empty honest given tells past faults (setup_behind b) k b.events last b.begins.groups
       (all_new k)
       (shows last) (restarted s all left b k there)
-      (λ image here. fair-images (setup_behind b) HasNoJunk k image (new_cluster (setup_behind b)) b.events
-      (fair-run (setup_behind b) HasNoJunk b.lines clean (new_cluster (setup_behind b)) b.events b.allowed) here) became
+      (λ image here. fair-images (setup_behind b) HasNoJunk AnyTaker k image (new_cluster (setup_behind b)) b.events
+      (fair-run (setup_behind b) HasNoJunk AnyTaker b.lines clean (λ n. tt) (new_cluster (setup_behind b)) b.events b.allowed) here) became
 
   pub run-disk : (last : D) × Became given tells past faults (setup_behind b) b.events k last
       × IsLinked (setup_behind b) (cluster_behind b) k (now (past last))
-  run-disk = by (b.disks k there)
+  run-disk = by (b.disks.0 k there)
     where
       by : (last : D) × Became given tells past faults (setup_behind b) b.events k last
           → (last : D) × Became given tells past faults (setup_behind b) b.events k last

@@ -1,6 +1,7 @@
 -- How a fault ends a run.
-use Rattle.std.proofs.Common.{◌≡◌, ℕ, Bool, List, refl, sym, subst, inl, inr}
+use Rattle.std.proofs.Common.{◌≡◌, ℕ, Bool, List, refl, sym, subst, inl, inr, arith}
 use Rattle.qq_base.specs.declared.memory.Memory.{Memory}
+use Rattle.qq_base.specs.declared.memory.Memory.TheVariants.{Spent, Want}
 use Rattle.qq_disk.specs.declared.image.Image.{Image}
 use Rattle.qq_disk.specs.Disk.{Disk}
 use Rattle.qq_ports.specs.Yard.{IsYardCaused}
@@ -19,8 +20,9 @@ use Rattle.qq_broker.specs.Faults.{IsStepStopOf, crash_fault, step_stop, stop_fo
 use Rattle.qq_broker.specs.Lives.{Giving}
 use Rattle.qq_broker.specs.Nodes.{Meets}
 use Rattle.qq_broker.specs.Serving.{IsStopOf, memory_stop}
+use Rattle.qq_broker.specs.Takers.{IsRefusedBy}
 use Rattle.qq_broker.specs.declared.faults.StepFault.{StepFault}
-use Rattle.qq_broker.specs.declared.faults.StepFault.TheVariants.{Yard, Nodes}
+use Rattle.qq_broker.specs.declared.faults.StepFault.TheVariants.{NoSuch, Yard, Nodes}
 
 -- where there is memory for a queue's name
 pub own-stop : (s : Setup) (fault : RestartFault) → IsStopOf s fault (stop_for s fault)
@@ -38,28 +40,49 @@ nodes-stop P s (faults_of.Lost node queue noticed found) stop want (inl none) so
 nodes-stop P s (faults_of.Lost node queue noticed found) stop want (inr is) so = subst P (sym is) so
 nodes-stop P s (faults_of.Memory memory) stop want is so = subst P (sym is) so
 
-pub told-stop : (P : AskStop → Type 0) (s : Setup) (fault : StepFault) (stop : AskStop) → P NoMemory
-    → IsStepStopOf s fault stop → P (step_stop s fault) → P stop
-told-stop P s Yard stop want is so = subst P (sym is) so
-told-stop P s (Nodes fault) stop want is so = nodes-stop P s fault stop want is so
+pub told-stop : (P : AskStop → Type 0) (s : Setup) (number : ℕ) (fault : StepFault) (stop : AskStop) → P NoMemory
+    → IsStepStopOf s number fault stop → P (step_stop s number fault) → P stop
+told-stop P s number NoSuch stop want is so = subst P (sym is) so
+told-stop P s number Yard stop want is so = subst P (sym is) so
+told-stop P s number (Nodes fault) stop want is so = nodes-stop P s fault stop want is so
+
+-- a yard and nodes refuse no line
+nodes-refuse : (s : Setup) (fault : RestartFault) → IsRefusedBy (stop_for s fault) → ⊥
+nodes-refuse s (faults_of.Damaged node file place) (inl is) = absurd (omega (arith, is))
+nodes-refuse s (faults_of.Damaged node file place) (inr is) = absurd (omega (arith, is))
+nodes-refuse s (faults_of.Version node file byte) (inl is) = absurd (omega (arith, is))
+nodes-refuse s (faults_of.Version node file byte) (inr is) = absurd (omega (arith, is))
+nodes-refuse s (faults_of.Lost node queue noticed found) (inl is) = absurd (omega (arith, is))
+nodes-refuse s (faults_of.Lost node queue noticed found) (inr is) = absurd (omega (arith, is))
+nodes-refuse s (faults_of.Memory Want) refused = refused
+nodes-refuse s (faults_of.Memory (Spent number)) (inl is) = absurd (omega (arith, is))
+nodes-refuse s (faults_of.Memory (Spent number)) (inr is) = absurd (omega (arith, is))
+
+-- so a line that is refused has no such taker
+pub refused-gone : (s : Setup) (number : ℕ) (fault : StepFault) → IsRefusedBy (step_stop s number fault)
+    → fault ≡ NoSuch
+refused-gone s number NoSuch refused = refl
+refused-gone s number Yard (inl is) = absurd (omega (arith, is))
+refused-gone s number Yard (inr is) = absurd (omega (arith, is))
+refused-gone s number (Nodes fault) refused = absurd (nodes-refuse s fault refused)
 
 -- a yard makes no crash
 pub crash-caused : {D : Type 0} (given : Giving D) (tells : D → Bool) (past : D → List Disk) (faults : D → ℕ)
-    (before after : ℕ) (s : Setup) (run : Run) (which : Which) (image : Image) (fault : YardFault) (told : StepFault)
-    → told ≡ crash_fault fault → IsYardCaused before after fault
-    → HasServeCause (Meets given tells past faults before after) (setup_in s run) run.events (Crash which image)
-    (step_stop s told)
-crash-caused given tells past faults before after s run which image yard_faults.Failed told is rose =
+    (before after : ℕ) (s : Setup) (run : Run) (number : ℕ) (which : Which) (image : Image) (fault : YardFault)
+    (told : StepFault) → told ≡ crash_fault fault → IsYardCaused before after fault
+    → HasServeCause (Meets given tells past faults before after) (setup_in s run) run.events number
+    (Crash which image) (step_stop s number told)
+crash-caused given tells past faults before after s run number which image yard_faults.Failed told is rose =
     subst
-    (λ (f : StepFault). HasServeCause (Meets given tells past faults before after) (setup_in s run) run.events
-    (Crash which image) (step_stop s f))
+    (λ (f : StepFault). HasServeCause (Meets given tells past faults before after) (setup_in s run) run.events number
+    (Crash which image) (step_stop s number f))
     (sym is) (inr (rose, refl))
-crash-caused given tells past faults before after s run which image (yard_faults.Memory memory) told is want =
+crash-caused given tells past faults before after s run number which image (yard_faults.Memory memory) told is want =
     subst
-    (λ (f : StepFault). HasServeCause (Meets given tells past faults before after) (setup_in s run) run.events
-    (Crash which image) (step_stop s f))
+    (λ (f : StepFault). HasServeCause (Meets given tells past faults before after) (setup_in s run) run.events number
+    (Crash which image) (step_stop s number f))
     (sym is)
     (subst
-    (λ (m : Memory). HasServeCause (Meets given tells past faults before after) (setup_in s run) run.events
+    (λ (m : Memory). HasServeCause (Meets given tells past faults before after) (setup_in s run) run.events number
     (Crash which image) (memory_stop m))
     (sym want) tt)

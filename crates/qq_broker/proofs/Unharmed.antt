@@ -29,8 +29,9 @@ use Rattle.qq_cluster_run.specs.Serving.{Behind, EndsDamaged, EndsLost, EndsUnsu
 use Rattle.qq_cluster_run.specs.Setup.{Logs, cluster_over, cluster_setup, new_logs}
 use Rattle.qq_cluster_run.specs.Troubles.{Trouble}
 use Rattle.qq_broker.specs.Lives.{Giving}
-use Rattle.qq_broker.specs.Nodes.{Had, Meets}
-use Rattle.qq_broker.proofs.Fair.{AreFair, fair-both, fair-images, fair-restarts, fair-run}
+use Rattle.qq_broker.specs.Takers.{RunHad, RunMeets}
+use Rattle.qq_taker.specs.Takers.{Takers}
+use Rattle.qq_broker.proofs.Fair.{AnyTaker, AreFair, fair-both, fair-images, fair-restarts, fair-run}
 use Rattle.qq_broker.proofs.Following.{Comes, follow-all}
 use Rattle.qq_broker.proofs.Keeping.{AreNew, IsEmptyPromised, IsHonestWithoutJunk, IsReadWherePromised}
 use Rattle.qq_broker.proofs.Living.{restarted-stays}
@@ -65,10 +66,10 @@ pub record Known : Type 0 where
   pub begins : (s : Setup) → IsRunnable (state_of s) → HasGroups (cluster_setup s)
 
 module _ (law : Known) {D : Type 0} (given : Giving D) (tells : D → Bool) (past : D → List Disk) (faults : D → ℕ)
-    (before after : ℕ) (s : Setup) (runs : IsRunnable (state_of s)) (all_new : (k : ℕ) → AreNew given tells past k)
+    (first : Takers) (before after : ℕ) (s : Setup) (runs : IsRunnable (state_of s)) (all_new : (k : ℕ) → AreNew given tells past k)
     (shows : (disk : D) → IsTrue (tells disk)) where
   abbrev Met : Trouble → Type 0
-  Met trouble = Meets given tells past faults before after trouble
+  Met trouble = RunMeets given tells past faults first before after trouble
 
   -- ---- the opening
 
@@ -99,18 +100,18 @@ module _ (law : Known) {D : Type 0} (given : Giving D) (tells : D → Bool) (pas
 
   -- ---- after some lines
 
-  module _ (all left : List Input) (b : Behind (Had given tells past faults) s all left)
+  module _ (all left : List Input) (b : Behind (RunHad given tells past faults first) s all left)
       (clean : (nodes : Nodes) (image : Image) → In (lines.Crash nodes image) b.lines → HasNoJunk image) where
     abbrev S : ClusterSetup
     S = setup_behind b
 
     fair-early : (nodes : List ℕ) (early : List ClusterEvent)
         → ForEach nodes (IsRestart S) (after_all S b.events) early
-        → AreFair S HasNoJunk (new_cluster S) (b.events ++ early)
+        → AreFair S HasNoJunk AnyTaker (new_cluster S) (b.events ++ early)
     fair-early nodes early so =
-        fair-both S HasNoJunk (new_cluster S) b.events early
-        (fair-run S HasNoJunk b.lines clean (new_cluster S) b.events b.allowed)
-        (fair-restarts S HasNoJunk nodes (after_all S b.events) early so)
+        fair-both S HasNoJunk AnyTaker (new_cluster S) b.events early
+        (fair-run S HasNoJunk AnyTaker b.lines clean (λ n. tt) (new_cluster S) b.events b.allowed)
+        (fair-restarts S HasNoJunk AnyTaker nodes (after_all S b.events) early so)
 
     pub stays-whole : (nodes : List ℕ) (ending : Ending) → EndsDamaged Met S nodes b.events ending → ⊥
     stays-whole nodes ending so =
@@ -118,14 +119,14 @@ module _ (law : Known) {D : Type 0} (given : Giving D) (tells : D → Bool) (pas
         not-broken law.readable law.empty law.honest given tells past faults S events so.at.node (all_new so.at.node)
         shows so.damage
         b.begins.groups
-        (λ image there. fair-images S HasNoJunk so.at.node image (new_cluster S) events
+        (λ image there. fair-images S HasNoJunk AnyTaker so.at.node image (new_cluster S) events
         (fair-early so.at.before so.at.early so.at.restarted) there) so.broken
 
     pub loses-nothing : (nodes : List ℕ) (ending : Ending) → EndsLost Met S nodes b.events ending → ⊥
     loses-nothing nodes ending so =
         let k : ℕ = so.at.node in
         let events : List ClusterEvent = b.events ++ so.at.early in
-        let fair : AreFair S HasNoJunk (new_cluster S) events = fair-early so.at.before so.at.early so.at.restarted in
+        let fair : AreFair S HasNoJunk AnyTaker (new_cluster S) events = fair-early so.at.before so.at.early so.at.restarted in
         let id : NodeId = record { 0 = k } in
         let has : has_node k (members S so.place) ≡ true =
         node-has k (members S so.place)
@@ -135,11 +136,11 @@ module _ (law : Known) {D : Type 0} (given : Giving D) (tells : D → Bool) (pas
         restarted-stays k b.events so.at.early
         (restarted s all left b k there.0) in
         let follow : MembersFollow S (after_all S events) k =
-        follow-all law.comes S b.begins.groups k HasNoJunk (new_cluster S) events ([], refl) fair
+        follow-all law.comes S b.begins.groups k HasNoJunk AnyTaker (new_cluster S) events ([], refl) fair
         (new-follow S k b.begins.groups) in
         so.refused
         (takes-found law.readable law.empty law.honest given tells past faults S events k (all_new k) shows so.place
         so.lane
-        b.begins.groups some (λ image here. fair-images S HasNoJunk k image (new_cluster S) events fair here)
+        b.begins.groups some (λ image here. fair-images S HasNoJunk AnyTaker k image (new_cluster S) events fair here)
         so.at.down follow
         there.1 so.found)

@@ -8,12 +8,14 @@ use Rattle.qq_model.specs.State.{empty_queue}
 use Rattle.qq_raft_protocol.specs.Facts.{In}
 use Rattle.qq_script_lines.specs.declared.line.ScriptLine.{ScriptLine}
 use Rattle.qq_script_lines.specs.declared.line.ScriptLine.TheVariants.{Pump}
+use Rattle.qq_taker.specs.Takers.{Takers}
 use Rattle.qq_defs.specs.Runnable.{IsRunnable}
 use Rattle.qq_setup.specs.declared.setup.Setup.{Setup}
 use Rattle.qq_setup.specs.Setup.{SetupState}
 use Rattle.qq_cluster.specs.Cluster.{Cluster, ClusterEvent, Setup as ClusterSetup, cluster_after}
 use Rattle.qq_cluster.specs.Queue.{Queue}
 use Rattle.qq_cluster.specs.Rules.{IsOpening, is_idle}
+use Rattle.qq_cluster.specs.Outcome.{Outcome, takers_after}
 use Rattle.qq_cluster.specs.Texts.{text_of}
 use Rattle.qq_cluster_laws.specs.Restarts.{first_restart}
 use Rattle.qq_cluster_laws.specs.Serves.{GivesUp, Seen, seen_of}
@@ -51,12 +53,17 @@ pub record Runs {D : Type 0} (given : Giving D) (tells : D → Bool) (past : D �
   pub empty : b.room.items ≡ []
   pub room : b.setup.nodes ≤ vec_capacity b.room
 
--- a line was served, and all is handed out that was printed since text was handed out last
+-- what a broker has printed that isn't handed out yet, and the takers that it is called with
+abbrev pub told_of : {D : Type 0} → Broker D → Takers → Outcome
+told_of b takers = record { text = b.text.items; takers = takers }
+
+-- a line was served, takers saw what it shows, and all is handed out that was printed since text was handed out last
 abbrev pub HasStepped : {D : Type 0} → Giving D → (D → Bool) → (D → List Disk) → (D → ℕ) → Broker D → Broker D → Run
-    → ScriptLine → List ℕ → Type 0
-HasStepped given tells past faults old new run line said =
+    → ScriptLine → List ℕ → (before later : Takers) → Type 0
+HasStepped given tells past faults old new run line said before later =
     HasServed (Had given tells past faults) (setup_in old.setup run) run.events line
-    (λ events. Runs given tells past faults new (run_after run events)) old.text.items said
+    (λ events. Runs given tells past faults new (run_after run events)) (told_of old before)
+    (record { text = said; takers = later })
 
 -- whether a pump has left nothing to do
 abbrev pub is_done : Pumped → Bool
@@ -65,12 +72,12 @@ is_done Busy = false
 
 -- what the line `pump` allows was done, and it is told whether work is left
 abbrev pub HasPumped : {D : Type 0} → Giving D → (D → Bool) → (D → List Disk) → (D → ℕ) → Broker D → Broker D → Run
-    → Pumped → Type 0
-HasPumped given tells past faults old new run pumped =
+    → (before later : Takers) → Pumped → Type 0
+HasPumped given tells past faults old new run before later pumped =
     HasServed (Had given tells past faults) (setup_in old.setup run) run.events Pump
     (λ events. Runs given tells past faults new (run_after run events)
     × (is_done pumped ≡ is_idle (setup_in old.setup run) (after_all (setup_in old.setup run) events)))
-    old.text.items new.text.items
+    (told_of old before) (told_of new later)
 
 -- ---- disks that an opening hands back
 
@@ -151,12 +158,13 @@ crashed_events setup events images = events ++ crashes_with images setup.nodes
 -- The run went on: after the crashes each node was restarted, of which one at least was recovered, and what follows an
 -- opening's restarts has followed. `Stands` says what represents it.
 pub record HasReopened (had : Histories) (setup : ClusterSetup) (events : List ClusterEvent)
-    (Stands : List ClusterEvent → Type 0) (text : List ℕ) : Type 0 where
+    (Stands : List ClusterEvent → Type 0) (before later : Outcome) : Type 0 where
   pub more : List ClusterEvent
   pub allowed : IsReopening true setup (after_all setup events) more
   pub disks : had setup (events ++ more)
   pub stands : Stands (events ++ more)
-  pub says : text ≡ text_of setup (after_all setup events) more
+  pub says : later.text ≡ before.text ++ text_of setup (after_all setup events) more
+  pub sees : later.takers ≡ takers_after setup (after_all setup events) more before.takers
 
 -- why it doesn't, after these events
 abbrev pub MayNotReopen : (Trouble → Type 0) → ClusterSetup → List ClusterEvent → AskStop → Type 0

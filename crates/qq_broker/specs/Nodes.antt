@@ -18,7 +18,7 @@ use Rattle.qq_cluster_laws.specs.Linked.{lot_of}
 use Rattle.qq_cluster_laws.specs.Restarts.{first_restart}
 use Rattle.qq_cluster_laws.specs.Serves.{seen_of}
 use Rattle.qq_cluster_run.specs.Serving.{Histories, Run, after_all, cluster_in, setup_in}
-use Rattle.qq_cluster_run.specs.Troubles.{Damage, AtPlace, OfVersion, Trouble, YardFails, DiskFails, FilesBreak, QueueIsFound, NumberEnds}
+use Rattle.qq_cluster_run.specs.Troubles.{Damage, AtPlace, OfVersion, Trouble, YardFails, DiskFails, FilesBreak, QueueIsFound, NumberEnds, TakerIsGone}
 use Rattle.qq_nodes.specs.Ends.{NumberAt}
 use Rattle.qq_nodes.specs.Nodes.{Stands, seen}
 use Rattle.qq_nodes.specs.declared.nodes.Nodes.{Nodes}
@@ -112,3 +112,4 @@ Meets given tells past faults before after (QueueIsFound setup events k place la
     HoldsQueue given tells past faults setup events k place lane
 Meets given tells past faults before after (NumberEnds setup events number) =
     HasNumber given tells past faults setup events number
+Meets given tells past faults before after (TakerIsGone setup events number) = ⊥

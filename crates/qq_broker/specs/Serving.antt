@@ -14,6 +14,7 @@ use Rattle.qq_script_lines.specs.declared.line.ScriptLine.{ScriptLine}
 use Rattle.qq_setup.specs.declared.setup.Setup.{Setup}
 use Rattle.qq_cluster.specs.Cluster.{ClusterEvent, Crashes, Setup as ClusterSetup, new_cluster}
 use Rattle.qq_cluster.specs.Lines.{IsLine}
+use Rattle.qq_cluster.specs.Outcome.{Outcome}
 use Rattle.qq_cluster_run.specs.declared.stop.AskStop.{AskStop}
 use Rattle.qq_cluster_run.specs.declared.stop.AskStop.TheVariants.{Ended, NoMemory}
 use Rattle.qq_cluster_run.specs.Endings.{Ending, damaged, lost, no_memory, other_version, spent, yard_fault}
@@ -35,7 +36,7 @@ run_after run events = record { lines = run.lines + 1; logs = run.logs; events =
 
 -- a line was served
 abbrev pub IsServed : {D : Type 0} → Giving D → (D → Bool) → (D → List Disk) → (D → ℕ) → Setup → Run → ScriptLine
-    → Nodes D → List ℕ → List ℕ → Type 0
+    → Nodes D → Outcome → Outcome → Type 0
 IsServed given tells past faults s run line held before later =
     HasServed (Had given tells past faults) (setup_in s run) run.events line
     (λ events. Holds given tells past faults s held (run_after run events)) before later

@@ -10,14 +10,16 @@ ghost use Rattle.qq_broker.specs.Serving.{IsGivenUp, IsServed};
 
 use crate::routing::{publish_with, targets};
 use qq_base::{Bytes, Duplicate, Memory, SessionId, Text};
+use qq_cluster_queue::Told;
 use qq_disk::NodeDisk;
 use qq_nodes::Nodes;
 use qq_script_lines::ScriptLine;
 use qq_setup::Setup;
+use qq_taker::Taker;
 use std::alloc::Global;
 
 // A client's message to an exchange.
-fn send<D: NodeDisk>(
+fn send<D: NodeDisk, T: Taker>(
     alloc: Global,
     setup: &Setup,
     nodes: &mut Nodes<D>,
@@ -25,7 +27,7 @@ fn send<D: NodeDisk>(
     exchange: Text,
     key: Text,
     body: Bytes,
-    text: &mut Vec<u8>,
+    told: &mut Told<T>,
 ) -> Result<(), Memory>
     requires may { MayRun setup.now }
     requires holds { (given : Giving D) × ((run : Run)
@@ -35,7 +37,7 @@ fn send<D: NodeDisk>(
     ensures ok { (given : Giving D) (run : Run) →
         Holds given D.tells D.past D.faults setup.now nodes.old run →
         OnOk result (IsServed given D.tells D.past D.faults setup.now run
-        (Send session exchange key body) nodes.new text.old.items text.new.items) }
+        (Send session exchange key body) nodes.new told.old told.new) }
     ensures cause { (given : Giving D) (run : Run) (before after : ℕ) →
         Holds given D.tells D.past D.faults setup.now nodes.old run →
         IfErr result (IsGivenUp (Meets given D.tells D.past D.faults before after)
@@ -49,16 +51,16 @@ fn send<D: NodeDisk>(
         Ok(command) => command,
         Err(memory) => return Err(memory),
     };
-    nodes.send(alloc, queues.as_slice(), session.number, command, text)
+    nodes.send(alloc, queues.as_slice(), session.number, command, told)
 }
 
 // A message of session 1 to the first queue.
-fn publish<D: NodeDisk>(
+fn publish<D: NodeDisk, T: Taker>(
     alloc: Global,
     setup: &Setup,
     nodes: &mut Nodes<D>,
     body: Bytes,
-    text: &mut Vec<u8>,
+    told: &mut Told<T>,
 ) -> Result<(), Memory>
     requires may { MayRun setup.now }
     requires holds { (given : Giving D) × ((run : Run)
@@ -67,7 +69,7 @@ fn publish<D: NodeDisk>(
     ensures ok { (given : Giving D) (run : Run) →
         Holds given D.tells D.past D.faults setup.now nodes.old run →
         OnOk result (IsServed given D.tells D.past D.faults setup.now run
-        (Publish body) nodes.new text.old.items text.new.items) }
+        (Publish body) nodes.new told.old told.new) }
     ensures cause { (given : Giving D) (run : Run) (before after : ℕ) →
         Holds given D.tells D.past D.faults setup.now nodes.old run →
         IfErr result (IsGivenUp (Meets given D.tells D.past D.faults before after)
@@ -87,22 +89,22 @@ fn publish<D: NodeDisk>(
         exchange,
         key,
         body,
-        text,
+        told,
     )
 }
 
-/// Nodes do what a line asks of them, and `text` grows by what that prints. A crash and a restart aren't asked
+/// Nodes do what a line asks of them, and tell what that prints. A crash and a restart aren't asked
 /// of them: they are answered as if there were no memory.
 ///
 /// - `ok`: what happened is what the line allows.
 /// - `cause`: there was no memory, or in the midst of the line a number stands at its end.
 #[tactic(none)]
-pub fn ask<D: NodeDisk>(
+pub fn ask<D: NodeDisk, T: Taker>(
     alloc: Global,
     setup: &Setup,
     nodes: &mut Nodes<D>,
     line: ScriptLine,
-    text: &mut Vec<u8>,
+    told: &mut Told<T>,
 ) -> Result<(), Memory>
     requires may { MayRun setup.now }
     requires holds { (given : Giving D) × ((run : Run)
@@ -111,7 +113,7 @@ pub fn ask<D: NodeDisk>(
     ensures ok { (given : Giving D) (run : Run) →
         Holds given D.tells D.past D.faults setup.now nodes.old run →
         OnOk result (IsServed given D.tells D.past D.faults setup.now run
-        line nodes.new text.old.items text.new.items) }
+        line nodes.new told.old told.new) }
     ensures cause { (given : Giving D) (run : Run) (before after : ℕ) →
         Holds given D.tells D.past D.faults setup.now nodes.old run →
         IfErr result (IsGivenUp (Meets given D.tells D.past D.faults before after)
@@ -119,34 +121,40 @@ pub fn ask<D: NodeDisk>(
 {
     match line {
         ScriptLine::Nothing => Ok(()),
-        ScriptLine::Publish { body } => publish(alloc, setup, nodes, body, text),
+        ScriptLine::Publish { body } => publish(alloc, setup, nodes, body, told),
         ScriptLine::Send {
             session,
             exchange,
             key,
             body,
-        } => send(alloc, setup, nodes, session, exchange, key, body, text),
+        } => send(alloc, setup, nodes, session, exchange, key, body, told),
         ScriptLine::Client {
             session,
             queue,
             body,
-        } => nodes.give(alloc, queue, session.number, body, text),
-        ScriptLine::End { session } => nodes.end(alloc, session.number, text),
-        ScriptLine::Resend { session } => nodes.resend(alloc, session.number, text),
+        } => nodes.give(alloc, queue, session.number, body, told),
+        ScriptLine::Attach {
+            session,
+            queue,
+            tag,
+            taker,
+        } => nodes.attach(alloc, queue, session.number, tag, taker, told),
+        ScriptLine::End { session } => nodes.end(alloc, session.number, told),
+        ScriptLine::Resend { session } => nodes.resend(alloc, session.number, told),
         ScriptLine::Mute { session, muted } => nodes.mute(alloc, session.number, muted),
         ScriptLine::Pace { auto } => {
             nodes.set_auto(auto);
             Ok(())
         }
-        ScriptLine::Pump => nodes.pump(alloc, text),
-        ScriptLine::Write { node } => nodes.write(alloc, node, text),
-        ScriptLine::Sync { node } => nodes.sync(alloc, node, text),
-        ScriptLine::Notice { node, queue } => nodes.notice(alloc, node, queue, text),
-        ScriptLine::Tick { node, queue } => nodes.tick(alloc, node, queue, text),
-        ScriptLine::Deliver { queue, message } => nodes.deliver(alloc, queue, message, text),
-        ScriptLine::Lose { queue, message } => nodes.lose(alloc, queue, message, text),
-        ScriptLine::Copy { queue, message } => nodes.copy(alloc, queue, message, text),
-        ScriptLine::Show { queue } => nodes.show(alloc, queue, text),
+        ScriptLine::Pump => nodes.pump(alloc, told),
+        ScriptLine::Write { node } => nodes.write(alloc, node, told),
+        ScriptLine::Sync { node } => nodes.sync(alloc, node, told),
+        ScriptLine::Notice { node, queue } => nodes.notice(alloc, node, queue, told),
+        ScriptLine::Tick { node, queue } => nodes.tick(alloc, node, queue, told),
+        ScriptLine::Deliver { queue, message } => nodes.deliver(alloc, queue, message, told),
+        ScriptLine::Lose { queue, message } => nodes.lose(alloc, queue, message, told),
+        ScriptLine::Copy { queue, message } => nodes.copy(alloc, queue, message, told),
+        ScriptLine::Show { queue } => nodes.show(alloc, queue, told),
         ScriptLine::Crash { .. } => Err(Memory::Want),
         ScriptLine::Restart { .. } => Err(Memory::Want),
     }

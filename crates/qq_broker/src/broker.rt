@@ -15,10 +15,13 @@ ghost use Rattle.qq_broker.specs.Nodes.{Meets};
 ghost use Rattle.qq_broker.specs.Serving.{IsGivenUp};
 
 use qq_base::{Memory, QueueId};
+use qq_cluster_queue::Told;
 use qq_disk::NodeDisk;
 use qq_nodes::Nodes;
 use qq_setup::Setup;
+use qq_taker::{Desk, Taker};
 use std::alloc::Global;
+use std::mem;
 
 /// A cluster over disks, one for each node. It keeps what it has printed until a line's answer hands it out.
 ///
@@ -57,23 +60,28 @@ impl<D: NodeDisk> Broker<D> {
         &self.setup
     }
 
-    /// Makes rounds until nothing is left to do, 10,000 at most. What that prints, the next line's answer hands out.
+    /// Makes rounds until nothing is left to do, 10,000 at most. What that prints, the next line's answer hands out;
+    /// these takers see it.
     ///
     /// - `ok`: what happened is what the line `pump` allows, and `Busy` comes where work is left.
     /// - `cause`: there was no memory, or in the midst of it a number stands at its end.
-    pub fn pump(&mut self, alloc: Global) -> Result<Pumped, Memory>
+    pub fn pump<T: Taker>(&mut self, alloc: Global, takers: &mut Desk<T>) -> Result<Pumped, Memory>
         requires { (given : Giving D) × ((run : Run)
             × Runs given D.tells D.past D.faults self.old run) }
         ensures ok { (given : Giving D) (run : Run) →
             Runs given D.tells D.past D.faults self.old run →
-            IfOk result (HasPumped given D.tells D.past D.faults self.old self.new run) }
+            IfOk result (HasPumped given D.tells D.past D.faults self.old self.new run
+            takers.old takers.new) }
         ensures setup { self.new.setup ≡ self.old.setup }
         ensures cause { (given : Giving D) (run : Run) →
             Runs given D.tells D.past D.faults self.old run →
             IfErr result (IsGivenUp (Meets given D.tells D.past D.faults 0 0)
             (setup_in self.old.setup run) run.events Pump) }
     {
-        match self.nodes.pump(alloc, &mut self.text) {
+        let mut told = lend(alloc, &mut self.text, takers);
+        let pumped = self.nodes.pump(alloc, &mut told);
+        give_back(told, &mut self.text, takers);
+        match pumped {
             Ok(()) => {
                 let idle = self.nodes.is_idle();
                 Ok(pump_outcome(idle))
@@ -107,6 +115,25 @@ impl<D: NodeDisk> Broker<D> {
         nodes.take_disks(&mut room);
         (room, Audits { nodes })
     }
+}
+
+/// A broker's text and takers, lent to a call. It takes no memory.
+pub(crate) fn lend<T: Taker>(alloc: Global, text: &mut Vec<u8>, takers: &mut Desk<T>) -> Told<T>
+    ensures { result ≡ record { text = text.old.items; takers = takers.old } }
+{
+    let text = mem::replace(text, Vec::new(alloc));
+    let takers = mem::replace(takers, Desk::new(alloc));
+    Told::over(text, takers)
+}
+
+/// They are given back.
+pub(crate) fn give_back<T: Taker>(told: Told<T>, text: &mut Vec<u8>, takers: &mut Desk<T>)
+    ensures text { text.new.items ≡ told.text }
+    ensures takers { takers.new ≡ told.takers }
+{
+    let (own, desk) = told.into_parts();
+    drop(mem::replace(text, own));
+    drop(mem::replace(takers, desk));
 }
 
 // What a pump tells by whether it has left nothing to do.

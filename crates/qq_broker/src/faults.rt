@@ -16,6 +16,9 @@ pub enum OpenFault {
 /// Why a line isn't served.
 #[derive(Clone, Copy, Debug, PartialEq, Eq, Error)]
 pub enum StepFault {
+    /// No taker is there of the number that the line names, or it was given away.
+    #[error("no such taker")]
+    NoSuch,
     /// The yard makes no crash.
     #[error("the yard has failed")]
     Yard,

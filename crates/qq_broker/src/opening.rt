@@ -9,6 +9,7 @@ ghost use Rattle.qq_broker.specs.Serving.{AreGiven, AreUnopened, IsYardEnding, y
 
 use crate::stopping::restart_stop;
 use qq_base::{Memory, NodeId, Text};
+use qq_cluster_queue::Told;
 use qq_cluster_run::{Ending, Stop, clusters_begin_with_new_logs};
 use qq_disk::NodeDisk;
 use qq_nodes::Nodes;
@@ -16,6 +17,7 @@ use qq_opening::open as open_nodes;
 use qq_ports::{Yard, YardFault};
 use qq_recover::these_disks_may_be_recovered;
 use qq_setup::Setup;
+use qq_taker::Taker;
 use std::alloc::Global;
 
 /// How a run ends whose yard gives no disk.
@@ -120,25 +122,25 @@ fn begin<Y: Yard>(
 }
 
 /// Opens nodes with the queues of a setup over the disks that the yard gives under a root, new ones without a root,
-/// and adds what that prints to `text`.
+/// and tells what that prints.
 ///
 /// - `ok`: each node is recovered, some of them without a fault, and its members begin with what its disk holds of
 ///   their queues. Each queue's first member has stood for election, and a pump has followed.
 /// - `cause`: the yard has failed or each node's disk has, a node's files break the rules, what is read of a queue
 ///   supports no audit, there was no memory, or a number stands at its end.
-pub fn open<Y: Yard>(
+pub fn open<Y: Yard, T: Taker>(
     alloc: Global,
     setup: &Setup,
     root: &Option<Text>,
     yard: &mut Y,
-    text: &mut Vec<u8>,
+    told: &mut Told<T>,
 ) -> Result<Nodes<Y::Disk>, Ending>
     requires { MayRun setup.now }
     ensures ok { IfOk result (λ nodes. HasOpened
         (Had (under Y.is_given root.now) Y.Disk.tells Y.Disk.past Y.Disk.faults)
         setup.now
         (Holds (under Y.is_given root.now) Y.Disk.tells Y.Disk.past Y.Disk.faults
-        setup.now nodes) text.old.items text.new.items) }
+        setup.now nodes) told.old told.new) }
     ensures cause { IfErr result (MayNotOpen
         (Meets (under Y.is_given root.now) Y.Disk.tells Y.Disk.past Y.Disk.faults
         (Y.faults yard.old) (Y.faults yard.new)) setup.now) }
@@ -149,7 +151,7 @@ pub fn open<Y: Yard>(
         Ok(nodes) => nodes,
         Err(ending) => return Err(ending),
     };
-    match open_nodes(&mut nodes, alloc, text) {
+    match open_nodes(&mut nodes, alloc, told) {
         Ok(some) => {
             if some {
                 return Ok(nodes);

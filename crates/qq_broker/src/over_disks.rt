@@ -7,13 +7,13 @@ ghost use Rattle.qq_cluster_run.specs.Serving.{Run, setup_in};
 ghost use Rattle.qq_setup.specs.Setup.{state_of};
 ghost use Rattle.qq_nodes.specs.Nodes.{EachHasLog};
 ghost use Rattle.qq_nodes.specs.Setting.{HaveDisks, IsWhole};
-ghost use Rattle.qq_broker.specs.Broker.{ComeBack, FailsBy, HandsBack, HasReopened, IsReopenCaused, Rests, Runs, StillKeep, crashed_events};
+ghost use Rattle.qq_broker.specs.Broker.{ComeBack, FailsBy, HandsBack, HasReopened, IsReopenCaused, Rests, Runs, StillKeep, crashed_events, told_of};
 ghost use Rattle.qq_broker.specs.Faults.{open_stop};
 ghost use Rattle.qq_broker.specs.Lives.{ByHand, Giving};
 ghost use Rattle.qq_broker.specs.Nodes.{Had, MayRun, Meets};
 ghost use Rattle.qq_broker.specs.Serving.{with_events};
 
-use crate::broker::{Audits, Broker};
+use crate::broker::{Audits, Broker, give_back, lend};
 use crate::faults::OpenFault;
 use crate::opening::begin_over;
 use qq_cluster_run::clusters_begin_with_new_logs;
@@ -22,6 +22,7 @@ use qq_nodes::Nodes;
 use qq_opening::{RestartFault, open as open_nodes, reopen as reopen_nodes};
 use qq_recover::these_disks_may_be_recovered;
 use qq_setup::Setup;
+use qq_taker::{Desk, Taker};
 use std::alloc::Global;
 
 // Nodes that are used no more give their disks back.
@@ -48,17 +49,19 @@ fn hand_back<D: NodeDisk>(nodes: Nodes<D>, room: Vec<D>) -> Vec<D>
 ///   was no memory, or a number stands at its end.
 /// - `back`: each disk keeps what its log had promised by then.
 /// - `failed`: `Disk` comes only where the count of each disk rose.
-pub fn open_disks<D: NodeDisk>(
+pub fn open_disks<D: NodeDisk, T: Taker>(
     alloc: Global,
     disks: Vec<D>,
     setup: Setup,
+    takers: &mut Desk<T>,
 ) -> Result<Broker<D>, (OpenFault, Vec<D>)>
     requires may { MayRun setup }
     requires count { length disks.items ≡ setup.nodes }
     requires whole { All (IsWhole D.tells D.past) disks.items }
     ensures ok { IfOk result (λ broker. HasOpened
         (Had (ByHand disks.items) D.tells D.past D.faults) setup
-        (Runs (ByHand disks.items) D.tells D.past D.faults broker) [] broker.text.items) }
+        (Runs (ByHand disks.items) D.tells D.past D.faults broker)
+        (record { text = []; takers = takers.old }) (told_of broker takers.new)) }
     ensures setup { IfOk result (λ broker. broker.setup ≡ setup) }
     ensures cause { IfErr result (λ refusal. MayNotOpen
         (Meets (ByHand disks.items) D.tells D.past D.faults 0 0) setup
@@ -70,12 +73,15 @@ pub fn open_disks<D: NodeDisk>(
 {
     clusters_begin_with_new_logs();
     let mut room = disks;
-    let mut text = Vec::new(alloc);
     let mut nodes = match begin_over(alloc, &setup, &mut room) {
         Ok(nodes) => nodes,
         Err(memory) => return Err((OpenFault::Nodes(RestartFault::Memory(memory)), room)),
     };
-    match open_nodes(&mut nodes, alloc, &mut text) {
+    let mut text = Vec::new(alloc);
+    let mut told = lend(alloc, &mut text, takers);
+    let opened = open_nodes(&mut nodes, alloc, &mut told);
+    give_back(told, &mut text, takers);
+    match opened {
         Ok(some) => {
             if some {
                 return Ok(Broker {
@@ -99,11 +105,12 @@ pub fn open_disks<D: NodeDisk>(
 /// - `ok`: of whatever run these are the audits and the disks, it has gone on after a crash of each node.
 /// - `cause`: each disk has failed, a node isn't restarted, there was no memory, or a number stands at its end.
 /// - `back`: each disk keeps what its log had promised by then.
-pub fn reopen_disks<D: NodeDisk>(
+pub fn reopen_disks<D: NodeDisk, T: Taker>(
     alloc: Global,
     disks: Vec<D>,
     setup: Setup,
     audits: Audits<D>,
+    takers: &mut Desk<T>,
 ) -> Result<Broker<D>, (OpenFault, Vec<D>)>
     requires rests { (given : Giving D) × ((run : Run) × ((before : List D) × ((images : ℕ → Image)
         × Rests given D.tells D.past D.faults (state_of setup) before audits run
@@ -114,7 +121,7 @@ pub fn reopen_disks<D: NodeDisk>(
         IfOk result (λ broker. HasReopened (Had given D.tells D.past D.faults) (setup_in setup run)
         (crashed_events (setup_in setup run) run.events images)
         (λ events. Runs given D.tells D.past D.faults broker (with_events run events))
-        broker.text.items) }
+        (record { text = []; takers = takers.old }) (told_of broker takers.new)) }
     ensures setup { IfOk result (λ broker. broker.setup ≡ setup) }
     ensures cause { (given : Giving D) (run : Run) (before : List D) (images : ℕ → Image) →
         Rests given D.tells D.past D.faults (state_of setup) before audits run →
@@ -131,9 +138,12 @@ pub fn reopen_disks<D: NodeDisk>(
     these_disks_may_be_recovered();
     let Audits { mut nodes } = audits;
     let mut room = disks;
-    let mut text = Vec::new(alloc);
     nodes.put_disks(&mut room);
-    match reopen_nodes(&mut nodes, alloc, &mut text) {
+    let mut text = Vec::new(alloc);
+    let mut told = lend(alloc, &mut text, takers);
+    let opened = reopen_nodes(&mut nodes, alloc, &mut told);
+    give_back(told, &mut text, takers);
+    match opened {
         Ok(some) => {
             if some {
                 return Ok(Broker {

@@ -11,15 +11,19 @@ ghost use Rattle.qq_cluster_run.specs.Serving.{Run, cluster_in, setup_in};
 ghost use Rattle.qq_cluster_run.specs.declared.status.TheConstants.{DONE};
 ghost use Rattle.qq_words.specs.Words.{read_words};
 ghost use Rattle.qq_broker.specs.Lives.{Giving, under};
-ghost use Rattle.qq_broker.specs.Nodes.{Had, Holds, MayRun, Meets};
+ghost use Rattle.qq_broker.specs.Nodes.{Had, Holds, MayRun};
 ghost use Rattle.qq_broker.specs.Program.{ProgramEnds};
+ghost use Rattle.qq_broker.specs.Takers.{HoldsAll, IsRefusedBy, RunClaims, RunHad, RunMeets};
+ghost use Rattle.qq_taker.specs.Takers.{Takers};
 
 use crate::auditing::write_audits;
+use crate::broker::{give_back, lend};
 use crate::dumping::dump_node;
 use crate::opening::open;
 use crate::serving::serve;
 use crate::stopping::step_stop;
 use qq_base::Text;
+use qq_cluster_queue::Told;
 use qq_cluster_run::status::{DONE, WRITE_FAULT};
 use qq_cluster_run::{
     AskStop, Ending, LINES_LIMIT, PrintFault, Stop, ask, refuse_long_line, set_up, write_made,
@@ -27,77 +31,85 @@ use qq_cluster_run::{
 use qq_nodes::Nodes;
 use qq_ports::{LineFault, Lines, Shelf, Sink, Source, Yard, lines_law, next_line, write_all};
 use qq_setup::Setup;
+use qq_taker::{Desk, Taker};
 use qq_words::{Command, Options, read_words};
 use std::alloc::Global;
 
 // Reads a line that has so many before it, and serves it.
-fn answer<Y: Yard>(
+fn answer<Y: Yard, T: Taker>(
     alloc: Global,
     setup: &Setup,
     nodes: &mut Nodes<Y::Disk>,
     yard: &mut Y,
     before: u64,
     line: &[u8],
-    text: &mut Vec<u8>,
+    told: &mut Told<T>,
 ) -> Result<(), AskStop>
     requires may { MayRun setup.now }
     requires holds { (given : Giving Y.Disk) × ((run : Run)
         × Holds given Y.Disk.tells Y.Disk.past Y.Disk.faults setup.now nodes.old run) }
-    ensures ok { (given : Giving Y.Disk) (run : Run) → run.lines ≡ before →
-        Holds given Y.Disk.tells Y.Disk.past Y.Disk.faults setup.now nodes.old run →
-        OnOk result (Answers (Had given Y.Disk.tells Y.Disk.past Y.Disk.faults) setup.now run
-        (Some line.now) (Holds given Y.Disk.tells Y.Disk.past Y.Disk.faults setup.now nodes.new)
-        text.old.items text.new.items) }
+    ensures ok { (given : Giving Y.Disk) (first : Takers) (run : Run) → run.lines ≡ before →
+        HoldsAll given Y.Disk.tells Y.Disk.past Y.Disk.faults setup.now first nodes.old
+        told.old.takers run →
+        OnOk result (Answers (RunHad given Y.Disk.tells Y.Disk.past Y.Disk.faults first) setup.now
+        run (Some line.now) (HoldsAll given Y.Disk.tells Y.Disk.past Y.Disk.faults setup.now first
+        nodes.new told.new.takers) told.old told.new) }
     ensures within { IfOk result (λ _. before < LINES_LIMIT) }
-    ensures cause { (given : Giving Y.Disk) (run : Run) → run.lines ≡ before →
-        Holds given Y.Disk.tells Y.Disk.past Y.Disk.faults setup.now nodes.old run →
-        IfErr result (HasAnswerCause
-        (Meets given Y.Disk.tells Y.Disk.past Y.Disk.faults (Y.faults yard.old) (Y.faults yard.new))
-        setup.now run (Some line.now)) }
+    ensures cause { (given : Giving Y.Disk) (first : Takers) (run : Run) → run.lines ≡ before →
+        HoldsAll given Y.Disk.tells Y.Disk.past Y.Disk.faults setup.now first nodes.old
+        told.old.takers run →
+        IfErr result (HasAnswerCause (RunMeets given Y.Disk.tells Y.Disk.past Y.Disk.faults first
+        (Y.faults yard.old) (Y.faults yard.new)) setup.now run (Some line.now)) }
+    ensures same { IfErr result (λ stop. IsRefusedBy stop → told.new ≡ told.old) }
     ensures later { Y.faults yard.old ≤ Y.faults yard.new }
 {
     let said = match ask(alloc, setup, before, line) {
         Ok(said) => said,
         Err(stop) => return Err(stop),
     };
-    match serve::<Y>(alloc, setup, nodes, yard, said, text) {
+    match serve::<Y, T>(alloc, setup, nodes, yard, said, told) {
         Ok(()) => Ok(()),
-        Err(fault) => Err(step_stop(alloc, setup, fault)),
+        Err(fault) => Err(step_stop(alloc, setup, before + 1, fault)),
     }
 }
 
 // Serves the lines of the input to its end. What the nodes' opening has printed stands in the text. Each
 // answer is written before the next line is read: whoever types the script sees it.
-fn serve_lines<Y: Yard, I: Source, O: Sink>(
+fn serve_lines<Y: Yard, T: Taker, I: Source, O: Sink>(
     alloc: Global,
     setup: &Setup,
     nodes: &mut Nodes<Y::Disk>,
     yard: &mut Y,
-    text: &mut Vec<u8>,
+    told: &mut Told<T>,
     input: &mut I,
     output: &mut O,
 ) -> Result<(), Stop>
     requires may { MayRun setup.now }
-    requires opened { (given : Giving Y.Disk)
+    requires opened { (given : Giving Y.Disk) × ((first : Takers)
         × HasOpened (Had given Y.Disk.tells Y.Disk.past Y.Disk.faults) setup.now
-        (Holds given Y.Disk.tells Y.Disk.past Y.Disk.faults setup.now nodes.old) [] text.old.items }
-    ensures ok { (given : Giving Y.Disk) →
+        (Holds given Y.Disk.tells Y.Disk.past Y.Disk.faults setup.now nodes.old)
+        (record { text = []; takers = first }) told.old) }
+    ensures ok { (given : Giving Y.Disk) (first : Takers) →
         HasOpened (Had given Y.Disk.tells Y.Disk.past Y.Disk.faults) setup.now
-        (Holds given Y.Disk.tells Y.Disk.past Y.Disk.faults setup.now nodes.old) [] text.old.items →
-        OnOk result (IsServedToEnd (Had given Y.Disk.tells Y.Disk.past Y.Disk.faults) setup.now
-        (Holds given Y.Disk.tells Y.Disk.past Y.Disk.faults setup.now nodes.new)
+        (Holds given Y.Disk.tells Y.Disk.past Y.Disk.faults setup.now nodes.old)
+        (record { text = []; takers = first }) told.old →
+        OnOk result (IsServedToEnd
+        (RunHad given Y.Disk.tells Y.Disk.past Y.Disk.faults first) setup.now
+        (HoldsAll given Y.Disk.tells Y.Disk.past Y.Disk.faults setup.now first nodes.new
+        told.new.takers)
         (I.left input.old) (I.left input.new)
         (O.written output.old) (O.written output.new)) }
-    ensures cause { (given : Giving Y.Disk) →
+    ensures cause { (given : Giving Y.Disk) (first : Takers) →
         HasOpened (Had given Y.Disk.tells Y.Disk.past Y.Disk.faults) setup.now
-        (Holds given Y.Disk.tells Y.Disk.past Y.Disk.faults setup.now nodes.old) [] text.old.items →
+        (Holds given Y.Disk.tells Y.Disk.past Y.Disk.faults setup.now nodes.old)
+        (record { text = []; takers = first }) told.old →
         IfErr result (λ stop. HasStopped stop setup.now (I.left input.old)
         (I.left input.new) (O.written output.old) (O.written output.new)
         (Rose (I.faults input.old) (I.faults input.new))
         (Rose (O.faults output.old) (O.faults output.new))
-        (Meets given Y.Disk.tells Y.Disk.past Y.Disk.faults
+        (RunMeets given Y.Disk.tells Y.Disk.past Y.Disk.faults first
         (Y.faults yard.old) (Y.faults yard.new))
-        (Had given Y.Disk.tells Y.Disk.past Y.Disk.faults) []) }
+        (RunClaims given Y.Disk.tells Y.Disk.past Y.Disk.faults first told.new.takers) []) }
     ensures source_later { I.faults input.old ≤ I.faults input.new }
     ensures sink_later { O.faults output.old ≤ O.faults output.new }
     ensures yard_later { Y.faults yard.old ≤ Y.faults yard.new }
@@ -106,10 +118,10 @@ fn serve_lines<Y: Yard, I: Source, O: Sink>(
     let mut lines = Lines::new();
     let mut served: u64 = 0;
     'lines: loop {
-        if let Err(_) = write_all(output, text) {
+        if let Err(_) = write_all(output, told.text()) {
             return Err(Stop::WriteFault);
         }
-        text.clear();
+        told.clear();
         let line = match next_line(alloc, input, &mut lines) {
             Ok(Some(line)) => line,
             Ok(None) => return Ok(()),
@@ -119,7 +131,7 @@ fn serve_lines<Y: Yard, I: Source, O: Sink>(
             }
             Err(LineFault::Memory(_)) => return Err(Stop::NoMemory),
         };
-        if let Err(stop) = answer(alloc, setup, nodes, yard, served, line.as_slice(), text) {
+        if let Err(stop) = answer(alloc, setup, nodes, yard, served, line.as_slice(), told) {
             return Err(Stop::from(stop));
         }
         served += 1;
@@ -127,44 +139,51 @@ fn serve_lines<Y: Yard, I: Source, O: Sink>(
 }
 
 // Serves a script over nodes that were opened, and writes the audits.
-fn serve_script<Y: Yard, I: Source, O: Sink>(
+fn serve_script<Y: Yard, T: Taker, I: Source, O: Sink>(
     alloc: Global,
     setup: &Setup,
     nodes: &mut Nodes<Y::Disk>,
     yard: &mut Y,
-    text: &mut Vec<u8>,
+    told: &mut Told<T>,
     input: &mut I,
     output: &mut O,
 ) -> Result<(), Stop>
     requires may { MayRun setup.now }
-    requires opened { (given : Giving Y.Disk)
+    requires opened { (given : Giving Y.Disk) × ((first : Takers)
         × HasOpened (Had given Y.Disk.tells Y.Disk.past Y.Disk.faults) setup.now
-        (Holds given Y.Disk.tells Y.Disk.past Y.Disk.faults setup.now nodes.old) [] text.old.items }
-    ensures ok { (given : Giving Y.Disk) →
+        (Holds given Y.Disk.tells Y.Disk.past Y.Disk.faults setup.now nodes.old)
+        (record { text = []; takers = first }) told.old) }
+    ensures ok { (given : Giving Y.Disk) (first : Takers) →
         HasOpened (Had given Y.Disk.tells Y.Disk.past Y.Disk.faults) setup.now
-        (Holds given Y.Disk.tells Y.Disk.past Y.Disk.faults setup.now nodes.old) [] text.old.items →
-        OnOk result (IsDone DONE (Had given Y.Disk.tells Y.Disk.past Y.Disk.faults) setup.now
+        (Holds given Y.Disk.tells Y.Disk.past Y.Disk.faults setup.now nodes.old)
+        (record { text = []; takers = first }) told.old →
+        OnOk result (IsDone DONE (RunClaims given Y.Disk.tells Y.Disk.past Y.Disk.faults first
+        told.new.takers) setup.now
         (I.left input.old) (I.left input.new) (O.written output.old) (O.written output.new)) }
-    ensures cause { (given : Giving Y.Disk) →
+    ensures cause { (given : Giving Y.Disk) (first : Takers) →
         HasOpened (Had given Y.Disk.tells Y.Disk.past Y.Disk.faults) setup.now
-        (Holds given Y.Disk.tells Y.Disk.past Y.Disk.faults setup.now nodes.old) [] text.old.items →
+        (Holds given Y.Disk.tells Y.Disk.past Y.Disk.faults setup.now nodes.old)
+        (record { text = []; takers = first }) told.old →
         IfErr result (λ stop. HasStopped stop setup.now (I.left input.old)
         (I.left input.new) (O.written output.old) (O.written output.new)
         (Rose (I.faults input.old) (I.faults input.new))
         (Rose (O.faults output.old) (O.faults output.new))
-        (Meets given Y.Disk.tells Y.Disk.past Y.Disk.faults
+        (RunMeets given Y.Disk.tells Y.Disk.past Y.Disk.faults first
         (Y.faults yard.old) (Y.faults yard.new))
-        (Had given Y.Disk.tells Y.Disk.past Y.Disk.faults) []) }
+        (RunClaims given Y.Disk.tells Y.Disk.past Y.Disk.faults first told.new.takers) []) }
     ensures source_later { I.faults input.old ≤ I.faults input.new }
     ensures sink_later { O.faults output.old ≤ O.faults output.new }
     ensures yard_later { Y.faults yard.old ≤ Y.faults yard.new }
 {
-    match serve_lines(alloc, setup, nodes, yard, text, input, output) {
-        Ok(()) => match write_audits(alloc, setup, nodes, text, output) {
-            Ok(()) => Ok(()),
-            Err(PrintFault::Failed) => Err(Stop::WriteFault),
-            Err(PrintFault::NoMemory) => Err(Stop::NoMemory),
-        },
+    match serve_lines(alloc, setup, nodes, yard, told, input, output) {
+        Ok(()) => {
+            let mut text = Vec::new(alloc);
+            match write_audits(alloc, setup, nodes, &mut text, output) {
+                Ok(()) => Ok(()),
+                Err(PrintFault::Failed) => Err(Stop::WriteFault),
+                Err(PrintFault::NoMemory) => Err(Stop::NoMemory),
+            }
+        }
         Err(stop) => Err(stop),
     }
 }
@@ -181,12 +200,47 @@ pub fn close<O: Sink>(output: &mut O, ending: Ending) -> u8
     }
 }
 
-// Opens nodes over disks of the yard, and serves a script.
-fn open_script<Y: Yard, I: Source, O: Sink>(
+// Opens nodes over disks of the yard, and serves a script. Nothing was told yet.
+fn open_told<Y: Yard, T: Taker, I: Source, O: Sink>(
     alloc: Global,
     setup: &Setup,
     root: &Option<Text>,
     yard: &mut Y,
+    told: &mut Told<T>,
+    input: &mut I,
+    output: &mut O,
+) -> u8
+    requires may { MayRun setup.now }
+    requires empty { told.old.text ≡ [] }
+    ensures ends { HasRun result setup.now (I.left input.old) (I.left input.new)
+        (O.written output.old) (O.written output.new)
+        (Rose (I.faults input.old) (I.faults input.new))
+        (Rose (O.faults output.old) (O.faults output.new))
+        (RunMeets (under Y.is_given root.now) Y.Disk.tells Y.Disk.past Y.Disk.faults
+        told.old.takers (Y.faults yard.old) (Y.faults yard.new))
+        (RunClaims (under Y.is_given root.now) Y.Disk.tells Y.Disk.past Y.Disk.faults
+        told.old.takers told.new.takers) }
+    ensures source_later { I.faults input.old ≤ I.faults input.new }
+    ensures sink_later { O.faults output.old ≤ O.faults output.new }
+    ensures yard_later { Y.faults yard.old ≤ Y.faults yard.new }
+{
+    let mut nodes = match open(alloc, setup, root, yard, told) {
+        Ok(nodes) => nodes,
+        Err(ending) => return close(output, ending),
+    };
+    match serve_script(alloc, setup, &mut nodes, yard, told, input, output) {
+        Ok(()) => DONE,
+        Err(stop) => close(output, stop.ending()),
+    }
+}
+
+// The takers go with the text to where something is told.
+fn open_script<Y: Yard, T: Taker, I: Source, O: Sink>(
+    alloc: Global,
+    setup: &Setup,
+    root: &Option<Text>,
+    yard: &mut Y,
+    takers: &mut Desk<T>,
     input: &mut I,
     output: &mut O,
 ) -> u8
@@ -195,30 +249,28 @@ fn open_script<Y: Yard, I: Source, O: Sink>(
         (O.written output.old) (O.written output.new)
         (Rose (I.faults input.old) (I.faults input.new))
         (Rose (O.faults output.old) (O.faults output.new))
-        (Meets (under Y.is_given root.now) Y.Disk.tells Y.Disk.past Y.Disk.faults
-        (Y.faults yard.old) (Y.faults yard.new))
-        (Had (under Y.is_given root.now) Y.Disk.tells Y.Disk.past Y.Disk.faults) }
+        (RunMeets (under Y.is_given root.now) Y.Disk.tells Y.Disk.past Y.Disk.faults
+        takers.old (Y.faults yard.old) (Y.faults yard.new))
+        (RunClaims (under Y.is_given root.now) Y.Disk.tells Y.Disk.past Y.Disk.faults
+        takers.old takers.new) }
     ensures source_later { I.faults input.old ≤ I.faults input.new }
     ensures sink_later { O.faults output.old ≤ O.faults output.new }
     ensures yard_later { Y.faults yard.old ≤ Y.faults yard.new }
 {
     let mut text = Vec::new(alloc);
-    let mut nodes = match open(alloc, setup, root, yard, &mut text) {
-        Ok(nodes) => nodes,
-        Err(ending) => return close(output, ending),
-    };
-    match serve_script(alloc, setup, &mut nodes, yard, &mut text, input, output) {
-        Ok(()) => DONE,
-        Err(stop) => close(output, stop.ending()),
-    }
+    let mut told = lend(alloc, &mut text, takers);
+    let status = open_told(alloc, setup, root, yard, &mut told, input, output);
+    give_back(told, &mut text, takers);
+    status
 }
 
 // Writes the line of what was made of an export, if there is one, and runs a script over the setup.
-fn begin_script<Y: Yard, I: Source, O: Sink>(
+fn begin_script<Y: Yard, T: Taker, I: Source, O: Sink>(
     alloc: Global,
     setup: &Setup,
     root: &Option<Text>,
     yard: &mut Y,
+    takers: &mut Desk<T>,
     input: &mut I,
     output: &mut O,
 ) -> u8
@@ -233,56 +285,60 @@ fn begin_script<Y: Yard, I: Source, O: Sink>(
         (O.written output.old) (O.written output.new)
         (Rose (I.faults input.old) (I.faults input.new))
         (Rose (O.faults output.old) (O.faults output.new))
-        (Meets (under Y.is_given root.now) Y.Disk.tells Y.Disk.past Y.Disk.faults
-        (Y.faults yard.old) (Y.faults yard.new))
-        (Had (under Y.is_given root.now) Y.Disk.tells Y.Disk.past Y.Disk.faults)) }
+        (RunMeets (under Y.is_given root.now) Y.Disk.tells Y.Disk.past Y.Disk.faults
+        takers.old (Y.faults yard.old) (Y.faults yard.new))
+        (RunClaims (under Y.is_given root.now) Y.Disk.tells Y.Disk.past Y.Disk.faults
+        takers.old takers.new)) }
     ensures source_later { I.faults input.old ≤ I.faults input.new }
     ensures sink_later { O.faults output.old ≤ O.faults output.new }
     ensures yard_later { Y.faults yard.old ≤ Y.faults yard.new }
 {
     match write_made(alloc, &setup.made, output) {
-        Ok(()) => open_script(alloc, setup, root, yard, input, output),
+        Ok(()) => open_script(alloc, setup, root, yard, takers, input, output),
         Err(PrintFault::Failed) => WRITE_FAULT,
         Err(PrintFault::NoMemory) => close(output, Ending::no_memory()),
     }
 }
 
 // Runs a script with these options.
-fn run_script<S: Shelf, Y: Yard, I: Source, O: Sink>(
+fn run_script<S: Shelf, Y: Yard, T: Taker, I: Source, O: Sink>(
     alloc: Global,
     options: &Options,
     input: &mut I,
     output: &mut O,
     shelf: &mut S,
     yard: &mut Y,
+    takers: &mut Desk<T>,
 ) -> u8
     ensures ends { RunEnds result (Some options.now) (S.files shelf.old)
         (I.left input.old) (I.left input.new) (O.written output.old) (O.written output.new)
         (Rose (I.faults input.old) (I.faults input.new))
         (Rose (S.faults shelf.old) (S.faults shelf.new))
         (Rose (O.faults output.old) (O.faults output.new))
-        (Meets (under Y.is_given options.now.root) Y.Disk.tells Y.Disk.past Y.Disk.faults
-        (Y.faults yard.old) (Y.faults yard.new))
-        (Had (under Y.is_given options.now.root) Y.Disk.tells Y.Disk.past Y.Disk.faults) }
+        (RunMeets (under Y.is_given options.now.root) Y.Disk.tells Y.Disk.past Y.Disk.faults
+        takers.old (Y.faults yard.old) (Y.faults yard.new))
+        (RunClaims (under Y.is_given options.now.root) Y.Disk.tells Y.Disk.past Y.Disk.faults
+        takers.old takers.new) }
     ensures source_later { I.faults input.old ≤ I.faults input.new }
     ensures sink_later { O.faults output.old ≤ O.faults output.new }
     ensures shelf_later { S.faults shelf.old ≤ S.faults shelf.new }
     ensures yard_later { Y.faults yard.old ≤ Y.faults yard.new }
 {
     match set_up(alloc, options, shelf) {
-        Ok(setup) => begin_script(alloc, &setup, &options.root, yard, input, output),
+        Ok(setup) => begin_script(alloc, &setup, &options.root, yard, takers, input, output),
         Err(ending) => close(output, ending),
     }
 }
 
 // Does what a command says.
-fn run_command<S: Shelf, Y: Yard, I: Source, O: Sink>(
+fn run_command<S: Shelf, Y: Yard, T: Taker, I: Source, O: Sink>(
     alloc: Global,
     command: &Command,
     input: &mut I,
     output: &mut O,
     shelf: &mut S,
     yard: &mut Y,
+    takers: &mut Desk<T>,
 ) -> u8
     ensures ends { ProgramEnds Y.is_given Y.Disk.tells Y.Disk.past Y.Disk.faults result
         (Some command.now) (S.files shelf.old) (I.left input.old) (I.left input.new)
@@ -290,20 +346,20 @@ fn run_command<S: Shelf, Y: Yard, I: Source, O: Sink>(
         (Rose (I.faults input.old) (I.faults input.new))
         (Rose (S.faults shelf.old) (S.faults shelf.new))
         (Rose (O.faults output.old) (O.faults output.new))
-        (Y.faults yard.old) (Y.faults yard.new) }
+        (Y.faults yard.old) (Y.faults yard.new) takers.old takers.new }
     ensures source_later { I.faults input.old ≤ I.faults input.new }
     ensures sink_later { O.faults output.old ≤ O.faults output.new }
     ensures shelf_later { S.faults shelf.old ≤ S.faults shelf.new }
     ensures yard_later { Y.faults yard.old ≤ Y.faults yard.new }
 {
     match command {
-        Command::Script(options) => run_script(alloc, options, input, output, shelf, yard),
+        Command::Script(options) => run_script(alloc, options, input, output, shelf, yard, takers),
         Command::Dump { root, node } => dump_node(alloc, root.as_str(), *node, yard, output),
     }
 }
 
-/// Runs the program on its words, an input, an output, a shelf and a yard, and answers the exit status. The words are
-/// read by `read_words`.
+/// Runs the program on its words, an input, an output, a shelf, a yard and takers, and answers the exit status. The words
+/// are read by `read_words`.
 ///
 /// - `script`: its setup is made of the words alone, or of the shelf's file that they name. The nodes of a cluster are
 ///   opened over disks of the yard, those under the root that the words name or new ones, the input's lines are served,
@@ -313,16 +369,19 @@ fn run_command<S: Shelf, Y: Yard, I: Source, O: Sink>(
 ///   `a_dump_tells_what_was_done`). What a script has written is the line of what was made of an export, the text of
 ///   some events that the lines allow, and then the audits, or a first part of that and a closing line. Where these
 ///   events happened, each node's disk is what has become of one that the yard gave for that node under the root, and
-///   the run's logs are those that the disk held (`Had`); without a root nothing was ever on it. Each trouble was met
-///   in the yard, in such a disk or in the nodes (`Meets`). A dump reads no input and changes nothing on the disk.
+///   the run's logs are those that the disk held (`Had`); without a root nothing was ever on it. Each taker that a line
+///   gave to a consumer was free then, and once all is served, or the next line is refused, the takers have seen what the
+///   events show (`RunClaims`). Each trouble was met in the yard, in such a disk, in the nodes or with the takers
+///   (`RunMeets`). A dump reads no input and changes nothing on the disk.
 /// - `source_later`, `sink_later`, `shelf_later`, `yard_later`: the counts of faults don't fall.
-pub fn run<R: AllocGlobal, I: Source, O: Sink, S: Shelf, Y: Yard>(
+pub fn run<R: AllocGlobal, I: Source, O: Sink, S: Shelf, Y: Yard, T: Taker>(
     rt: &R,
     words: &[String],
     input: &mut I,
     output: &mut O,
     shelf: &mut S,
     yard: &mut Y,
+    takers: &mut Desk<T>,
 ) -> u8
     ensures ends { ProgramEnds Y.is_given Y.Disk.tells Y.Disk.past Y.Disk.faults result
         (read_words (map string_bytes words.now)) (S.files shelf.old)
@@ -330,7 +389,7 @@ pub fn run<R: AllocGlobal, I: Source, O: Sink, S: Shelf, Y: Yard>(
         (Rose (I.faults input.old) (I.faults input.new))
         (Rose (S.faults shelf.old) (S.faults shelf.new))
         (Rose (O.faults output.old) (O.faults output.new))
-        (Y.faults yard.old) (Y.faults yard.new) }
+        (Y.faults yard.old) (Y.faults yard.new) takers.old takers.new }
     ensures source_later { I.faults input.old ≤ I.faults input.new }
     ensures sink_later { O.faults output.old ≤ O.faults output.new }
     ensures shelf_later { S.faults shelf.old ≤ S.faults shelf.new }
@@ -338,7 +397,7 @@ pub fn run<R: AllocGlobal, I: Source, O: Sink, S: Shelf, Y: Yard>(
 {
     let alloc = rt.alloc();
     match read_words(alloc, words) {
-        Ok(Some(command)) => run_command(alloc, &command, input, output, shelf, yard),
+        Ok(Some(command)) => run_command(alloc, &command, input, output, shelf, yard, takers),
         Ok(None) => close(output, Ending::usage()),
         Err(_) => close(output, Ending::no_memory()),
     }

@@ -1,27 +1,33 @@
 //! The nodes of a run serve lines.
-ghost use Rattle.std.specs.Prelude.{◌≡◌, ◌≤◌, ◌++◌, ◌∷◌, [], ℕ, List, Contains, IfErr, OnOk};
+ghost use Rattle.std.specs.Prelude.{◌≡◌, ◌≤◌, ◌++◌, ◌∷◌, [], ℕ, false, Contains, IfErr, IsTrue, OnOk};
 ghost use Rattle.qq_base.specs.Causes.{HasCause};
 ghost use Rattle.qq_ports.specs.Yard.{IsYardCaused};
 ghost use Rattle.qq_script_lines.specs.declared.line.ScriptLine.TheVariants.{Crash, Restart};
 ghost use Rattle.qq_setup.specs.declared.setup.Setup.{Setup as SetupOf};
+ghost use Rattle.qq_taker.specs.Takers.{Takers};
 ghost use Rattle.qq_cluster.specs.Cluster.{Crashes};
+ghost use Rattle.qq_cluster.specs.Outcome.{Outcome};
 ghost use Rattle.qq_cluster_run.specs.Named.{AreNodes, IsNamed};
 ghost use Rattle.qq_cluster_run.specs.Service.{HasServeCause};
-ghost use Rattle.qq_cluster_run.specs.Serving.{Run, setup_in};
+ghost use Rattle.qq_cluster_run.specs.Serving.{Run, all_seen, setup_in};
 ghost use Rattle.qq_broker.specs.Faults.{crash_fault, step_stop};
 ghost use Rattle.qq_broker.specs.Lives.{Giving};
 ghost use Rattle.qq_broker.specs.Nodes.{Holds, MayRun, Meets};
 ghost use Rattle.qq_broker.specs.Serving.{IsServed, crashes, with_events};
+ghost use Rattle.qq_broker.specs.Takers.{AsksFree, AsksGone, IsGoneCaused, RunMeets};
+ghost use Rattle.qq_broker.specs.declared.faults.StepFault.TheVariants.{NoSuch};
 
 use crate::asking::ask;
 use crate::faults::StepFault;
 use qq_base::NodeId;
+use qq_cluster_queue::Told;
 use qq_disk::{Image, NodeDisk};
 use qq_nodes::{Nodes, crash_node};
 use qq_opening::{RestartFault, restart as restart_node, restart_each};
 use qq_ports::{Yard, YardFault};
 use qq_script_lines::{Nodes as Which, ScriptLine};
 use qq_setup::Setup;
+use qq_taker::{Desk, Taker};
 use std::alloc::Global;
 
 // What is told where the yard makes no crash.
@@ -93,13 +99,15 @@ fn crash<Y: Yard>(
     requires { (given : Giving Y.Disk) × ((run : Run)
         × Holds given Y.Disk.tells Y.Disk.past Y.Disk.faults setup.now nodes.old run
         × AreNodes (setup_in setup.now run) which) }
-    ensures ok { (given : Giving Y.Disk) (run : Run) (text : List ℕ) →
+    ensures ok { (given : Giving Y.Disk) (run : Run) (told : Outcome) →
         Holds given Y.Disk.tells Y.Disk.past Y.Disk.faults setup.now nodes.old run →
         OnOk result (IsServed given Y.Disk.tells Y.Disk.past Y.Disk.faults setup.now run
-        (Crash which image.now) nodes.new text text) }
-    ensures cause { (given : Giving Y.Disk) (run : Run) → IfErr result (λ fault. HasServeCause
+        (Crash which image.now) nodes.new told told) }
+    ensures cause { (given : Giving Y.Disk) (run : Run) (number : ℕ) → IfErr result (λ fault. HasServeCause
         (Meets given Y.Disk.tells Y.Disk.past Y.Disk.faults (Y.faults yard.old) (Y.faults yard.new))
-        (setup_in setup.now run) run.events (Crash which image.now) (step_stop setup.now fault)) }
+        (setup_in setup.now run) run.events number (Crash which image.now)
+        (step_stop setup.now number fault)) }
+    ensures other { IfErr result (λ fault. fault ≡ NoSuch → ⊥) }
     ensures later { Y.faults yard.old ≤ Y.faults yard.new }
 {
     match which {
@@ -115,12 +123,12 @@ fn crash<Y: Yard>(
 }
 
 // Nodes that are down are restarted.
-fn restart<D: NodeDisk>(
+fn restart<D: NodeDisk, T: Taker>(
     alloc: Global,
     setup: &Setup,
     nodes: &mut Nodes<D>,
     which: Which,
-    text: &mut Vec<u8>,
+    told: &mut Told<T>,
 ) -> Result<(), StepFault>
     requires { (given : Giving D) × ((run : Run)
         × Holds given D.tells D.past D.faults setup.now nodes.old run
@@ -128,18 +136,20 @@ fn restart<D: NodeDisk>(
     ensures ok { (given : Giving D) (run : Run) →
         Holds given D.tells D.past D.faults setup.now nodes.old run →
         OnOk result (IsServed given D.tells D.past D.faults setup.now run
-        (Restart which) nodes.new text.old.items text.new.items) }
-    ensures cause { (given : Giving D) (run : Run) (before after : ℕ) →
+        (Restart which) nodes.new told.old told.new) }
+    ensures cause { (given : Giving D) (run : Run) (number before after : ℕ) →
         Holds given D.tells D.past D.faults setup.now nodes.old run →
         IfErr result (λ fault. HasServeCause (Meets given D.tells D.past D.faults before after)
-        (setup_in setup.now run) run.events (Restart which) (step_stop setup.now fault)) }
+        (setup_in setup.now run) run.events number (Restart which)
+        (step_stop setup.now number fault)) }
+    ensures other { IfErr result (λ fault. fault ≡ NoSuch → ⊥) }
 {
     match which {
-        Which::One(node) => match restart_node(nodes, alloc, node, text) {
+        Which::One(node) => match restart_node(nodes, alloc, node, told) {
             Ok(()) => Ok(()),
             Err(fault) => Err(StepFault::Nodes(fault)),
         },
-        Which::All => match restart_each(nodes, alloc, text) {
+        Which::All => match restart_each(nodes, alloc, told) {
             Ok(()) => Ok(()),
             Err(fault) => Err(StepFault::Nodes(fault)),
         },
@@ -147,12 +157,12 @@ fn restart<D: NodeDisk>(
 }
 
 // Nodes do what a line asks of them that neither crashes nor restarts one.
-fn go_on<D: NodeDisk>(
+fn go_on<D: NodeDisk, T: Taker>(
     alloc: Global,
     setup: &Setup,
     nodes: &mut Nodes<D>,
     line: ScriptLine,
-    text: &mut Vec<u8>,
+    told: &mut Told<T>,
 ) -> Result<(), StepFault>
     requires may { MayRun setup.now }
     requires holds { (given : Giving D) × ((run : Run)
@@ -161,29 +171,38 @@ fn go_on<D: NodeDisk>(
     ensures ok { (given : Giving D) (run : Run) →
         Holds given D.tells D.past D.faults setup.now nodes.old run →
         OnOk result (IsServed given D.tells D.past D.faults setup.now run
-        line nodes.new text.old.items text.new.items) }
-    ensures cause { (given : Giving D) (run : Run) (before after : ℕ) →
+        line nodes.new told.old told.new) }
+    ensures cause { (given : Giving D) (run : Run) (number before after : ℕ) →
         Holds given D.tells D.past D.faults setup.now nodes.old run →
         IfErr result (λ fault. HasServeCause (Meets given D.tells D.past D.faults before after)
-        (setup_in setup.now run) run.events line (step_stop setup.now fault)) }
+        (setup_in setup.now run) run.events number line (step_stop setup.now number fault)) }
+    ensures other { IfErr result (λ fault. fault ≡ NoSuch → ⊥) }
 {
-    match ask(alloc, setup, nodes, line, text) {
+    match ask(alloc, setup, nodes, line, told) {
         Ok(()) => Ok(()),
         Err(memory) => Err(StepFault::Nodes(RestartFault::Memory(memory))),
     }
 }
 
-/// Nodes serve a line that names what is there, and add what it prints to `text`.
-///
-/// - `ok`: what happened is what the line allows, and the nodes' disks had it.
-/// - `cause`: the line ends a run so, or there was no memory.
-pub fn serve<Y: Yard>(
+// Whether a taker that a line is to give to a consumer isn't there, or was given away.
+fn asks_gone<T: Taker>(line: &ScriptLine, takers: &Desk<T>) -> bool
+    ensures gone { IsTrue result → AsksGone line.now takers.now }
+    ensures free { result ≡ false → AsksFree line.now takers.now }
+{
+    match line {
+        ScriptLine::Attach { taker, .. } => !takers.is_free(*taker),
+        _ => false,
+    }
+}
+
+// Nodes serve a line whose taker, if it is to give one, is free.
+fn serve_free<Y: Yard, T: Taker>(
     alloc: Global,
     setup: &Setup,
     nodes: &mut Nodes<Y::Disk>,
     yard: &mut Y,
     line: ScriptLine,
-    text: &mut Vec<u8>,
+    told: &mut Told<T>,
 ) -> Result<(), StepFault>
     requires may { MayRun setup.now }
     requires holds { (given : Giving Y.Disk) × ((run : Run)
@@ -192,12 +211,13 @@ pub fn serve<Y: Yard>(
     ensures ok { (given : Giving Y.Disk) (run : Run) →
         Holds given Y.Disk.tells Y.Disk.past Y.Disk.faults setup.now nodes.old run →
         OnOk result (IsServed given Y.Disk.tells Y.Disk.past Y.Disk.faults setup.now run
-        line nodes.new text.old.items text.new.items) }
-    ensures cause { (given : Giving Y.Disk) (run : Run) →
+        line nodes.new told.old told.new) }
+    ensures cause { (given : Giving Y.Disk) (run : Run) (number : ℕ) →
         Holds given Y.Disk.tells Y.Disk.past Y.Disk.faults setup.now nodes.old run →
         IfErr result (λ fault. HasServeCause
         (Meets given Y.Disk.tells Y.Disk.past Y.Disk.faults (Y.faults yard.old) (Y.faults yard.new))
-        (setup_in setup.now run) run.events line (step_stop setup.now fault)) }
+        (setup_in setup.now run) run.events number line (step_stop setup.now number fault)) }
+    ensures other { IfErr result (λ fault. fault ≡ NoSuch → ⊥) }
     ensures later { Y.faults yard.old ≤ Y.faults yard.new }
 {
     match line {
@@ -205,7 +225,49 @@ pub fn serve<Y: Yard>(
             nodes: which,
             image,
         } => { crash(alloc, setup, nodes, yard, which, &image) }
-        ScriptLine::Restart { nodes: which } => restart(alloc, setup, nodes, which, text),
-        line => go_on(alloc, setup, nodes, line, text),
+        ScriptLine::Restart { nodes: which } => restart(alloc, setup, nodes, which, told),
+        line => go_on(alloc, setup, nodes, line, told),
     }
+}
+
+/// Nodes serve a line that names what is there, and tell what it prints.
+///
+/// - `ok`: what happened is what the line allows, and the nodes' disks had it.
+/// - `free`: a taker that the line is to give to a consumer is free.
+/// - `gone`: `NoSuch` comes exactly where it isn't.
+/// - `same`: nothing has happened then.
+/// - `cause`: the line ends a run so, or there was no memory.
+pub fn serve<Y: Yard, T: Taker>(
+    alloc: Global,
+    setup: &Setup,
+    nodes: &mut Nodes<Y::Disk>,
+    yard: &mut Y,
+    line: ScriptLine,
+    told: &mut Told<T>,
+) -> Result<(), StepFault>
+    requires may { MayRun setup.now }
+    requires holds { (given : Giving Y.Disk) × ((run : Run)
+        × Holds given Y.Disk.tells Y.Disk.past Y.Disk.faults setup.now nodes.old run
+        × IsNamed (setup_in setup.now run) line) }
+    ensures ok { (given : Giving Y.Disk) (run : Run) →
+        Holds given Y.Disk.tells Y.Disk.past Y.Disk.faults setup.now nodes.old run →
+        OnOk result (IsServed given Y.Disk.tells Y.Disk.past Y.Disk.faults setup.now run
+        line nodes.new told.old told.new) }
+    ensures free { OnOk result (AsksFree line told.old.takers) }
+    ensures gone { IfErr result (λ fault. IsGoneCaused fault line told.old.takers) }
+    ensures same { IfErr result (λ fault. fault ≡ NoSuch → told.new ≡ told.old) }
+    ensures cause { (given : Giving Y.Disk) (first : Takers) (run : Run) (number : ℕ) →
+        Holds given Y.Disk.tells Y.Disk.past Y.Disk.faults setup.now nodes.old run →
+        told.old.takers ≡ all_seen (setup_in setup.now run) run.events first →
+        IfErr result (λ fault. HasServeCause (RunMeets given Y.Disk.tells Y.Disk.past Y.Disk.faults
+        first (Y.faults yard.old) (Y.faults yard.new))
+        (setup_in setup.now run) run.events number line (step_stop setup.now number fault)) }
+    ensures later { Y.faults yard.old ≤ Y.faults yard.new }
+{
+    let gone = asks_gone(&line, told.desk());
+    if gone {
+        drop(line);
+        return Err(StepFault::NoSuch);
+    }
+    serve_free::<Y, T>(alloc, setup, nodes, yard, line, told)
 }

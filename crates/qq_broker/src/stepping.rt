@@ -1,34 +1,41 @@
 //! A broker serves lines.
-ghost use Rattle.std.specs.Prelude.{◌≡◌, ◌≤◌, [], IfErr, IfOk};
+ghost use Rattle.std.specs.Prelude.{◌≡◌, ◌≤◌, ℕ, [], IfErr, IfOk, OnOk};
 ghost use Rattle.qq_cluster_run.specs.Named.{IsNamed};
 ghost use Rattle.qq_cluster_run.specs.Service.{HasServeCause};
-ghost use Rattle.qq_cluster_run.specs.Serving.{Run, setup_in};
+ghost use Rattle.qq_cluster_run.specs.Serving.{Run, all_seen, setup_in};
 ghost use Rattle.qq_broker.specs.Broker.{HasStepped, Runs};
 ghost use Rattle.qq_broker.specs.Faults.{step_stop};
 ghost use Rattle.qq_broker.specs.Lives.{Giving};
-ghost use Rattle.qq_broker.specs.Nodes.{Meets};
+ghost use Rattle.qq_broker.specs.Takers.{AsksFree, IsGoneCaused, RunMeets};
+ghost use Rattle.qq_broker.specs.declared.faults.StepFault.TheVariants.{NoSuch};
+ghost use Rattle.qq_taker.specs.Takers.{Takers};
 
-use crate::broker::Broker;
+use crate::broker::{Broker, give_back, lend};
 use crate::faults::StepFault;
 use crate::serving::serve;
 use qq_ports::Yard;
 use qq_script_lines::ScriptLine;
+use qq_taker::{Desk, Taker};
 use std::alloc::Global;
 use std::mem;
 
 /// Serves a line that names what is there, as each that `parse_line` gives for the broker's setup does, and answers
-/// what was printed since text was handed out last: that of an opening and of pumps, and then that of the line.
+/// what was printed since text was handed out last: that of an opening and of pumps, and then that of the line. What the
+/// line hands out to consumers with a taker is offered to these takers.
 ///
-/// - `ok`: what happened is what the line allows.
+/// - `ok`: what happened is what the line allows, and the takers have seen what it shows.
 /// - `text`: all that was printed is handed out.
-/// - `cause`: the yard has failed at a crash, a node isn't restarted, there was no memory, or in the midst of the line
-///   a number stands at its end. Then the run ends.
+/// - `free`: a taker that the line is to give to a consumer was free.
+/// - `gone`: `NoSuch` comes exactly where it wasn't. Then nothing has happened.
+/// - `cause`: there is no such taker, the yard has failed at a crash, a node isn't restarted, there was no memory, or in
+///   the midst of the line a number stands at its end. But for the first the run ends then.
 /// - `later`: the yard's count of faults doesn't fall.
-pub fn step<Y: Yard>(
+pub fn step<Y: Yard, T: Taker>(
     broker: &mut Broker<Y::Disk>,
     alloc: Global,
     line: ScriptLine,
     yard: &mut Y,
+    takers: &mut Desk<T>,
 ) -> Result<Vec<u8>, StepFault>
     requires runs { (given : Giving Y.Disk) × ((run : Run)
         × Runs given Y.Disk.tells Y.Disk.past Y.Disk.faults broker.old run
@@ -36,24 +43,32 @@ pub fn step<Y: Yard>(
     ensures ok { (given : Giving Y.Disk) (run : Run) →
         Runs given Y.Disk.tells Y.Disk.past Y.Disk.faults broker.old run →
         IfOk result (λ said. HasStepped given Y.Disk.tells Y.Disk.past Y.Disk.faults
-        broker.old broker.new run line said.items) }
+        broker.old broker.new run line said.items takers.old takers.new) }
     ensures text { IfOk result (λ said. broker.new.text.items ≡ []) }
     ensures setup { broker.new.setup ≡ broker.old.setup }
-    ensures cause { (given : Giving Y.Disk) (run : Run) →
+    ensures free { OnOk result (AsksFree line takers.old) }
+    ensures gone { IfErr result (λ fault. IsGoneCaused fault line takers.old) }
+    ensures same { IfErr result (λ fault. fault ≡ NoSuch → takers.new ≡ takers.old) }
+    ensures cause { (given : Giving Y.Disk) (first : Takers) (run : Run) (number : ℕ) →
         Runs given Y.Disk.tells Y.Disk.past Y.Disk.faults broker.old run →
-        IfErr result (λ fault. HasServeCause
-        (Meets given Y.Disk.tells Y.Disk.past Y.Disk.faults (Y.faults yard.old) (Y.faults yard.new))
-        (setup_in broker.old.setup run) run.events line (step_stop broker.old.setup fault)) }
+        takers.old ≡ all_seen (setup_in broker.old.setup run) run.events first →
+        IfErr result (λ fault. HasServeCause (RunMeets given Y.Disk.tells Y.Disk.past Y.Disk.faults
+        first (Y.faults yard.old) (Y.faults yard.new))
+        (setup_in broker.old.setup run) run.events number line
+        (step_stop broker.old.setup number fault)) }
     ensures later { Y.faults yard.old ≤ Y.faults yard.new }
 {
-    match serve::<Y>(
+    let mut told = lend(alloc, &mut broker.text, takers);
+    let served = serve::<Y, T>(
         alloc,
         &broker.setup,
         &mut broker.nodes,
         yard,
         line,
-        &mut broker.text,
-    ) {
+        &mut told,
+    );
+    give_back(told, &mut broker.text, takers);
+    match served {
         Ok(()) => Ok(mem::replace(&mut broker.text, Vec::new(alloc))),
         Err(fault) => Err(fault),
     }

@@ -9,6 +9,7 @@ use crate::faults::StepFault;
 use qq_base::{Duplicate, Memory, QueueId};
 use qq_cluster_run::{AskStop, Ending};
 use qq_opening::RestartFault;
+use qq_script_lines::ScriptFault;
 use qq_setup::{QueueRow, Setup};
 use std::alloc::Global;
 
@@ -69,11 +70,12 @@ pub fn restart_stop(alloc: Global, setup: &Setup, fault: RestartFault) -> AskSto
     }
 }
 
-/// A line isn't served.
-pub fn step_stop(alloc: Global, setup: &Setup, fault: StepFault) -> AskStop
-    ensures { IsStepStopOf setup.now fault result }
+/// The line of this number isn't served.
+pub fn step_stop(alloc: Global, setup: &Setup, number: u64, fault: StepFault) -> AskStop
+    ensures { IsStepStopOf setup.now number fault result }
 {
     match fault {
+        StepFault::NoSuch => AskStop::Ended(Ending::refusal(number, ScriptFault::NoSuch)),
         StepFault::Yard => AskStop::Ended(Ending::yard_fault()),
         StepFault::Nodes(fault) => restart_stop(alloc, setup, fault),
     }

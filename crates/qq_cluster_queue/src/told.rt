@@ -43,6 +43,13 @@ impl<T: Taker> Told<T> {
         }
     }
 
+    /// This text was told already. It takes no memory.
+    pub fn over(text: Vec<u8>, desk: Desk<T>) -> Self
+        ensures { result ≡ record { text = text.items; takers = desk } }
+    {
+        Told { text, desk }
+    }
+
     /// The text so far.
     pub fn text(&self) -> &[u8]
         ensures { result.now ≡ self.now.text }
@@ -67,6 +74,21 @@ impl<T: Taker> Told<T> {
         ensures rest { self.new ≡ record self.old { text = [] } }
     {
         mem::replace(&mut self.text, Vec::new(alloc))
+    }
+
+    /// Forgets the text. The takers stay.
+    pub fn clear(&mut self)
+        ensures { self.new ≡ record self.old { text = [] } }
+    {
+        self.text.clear();
+    }
+
+    /// The text, and the takers with what they have seen.
+    pub fn into_parts(self) -> (Vec<u8>, Desk<T>)
+        ensures text { result.0.items ≡ self.text }
+        ensures takers { result.1 ≡ self.takers }
+    {
+        (self.text, self.desk)
     }
 
     /// The takers.

@@ -137,7 +137,7 @@ stops_earlier met met' f setup events number (Restart nodes) ending (inr lost) =
     inr (lost_earlier met met' f setup _ events ending lost)
 stops_earlier met met' f setup events number _ ending cause = absurd cause
 
-may_stop_earlier : (met met' : Trouble → Type 0) → IsEarlier met met' → (setup : ClusterSetup)
+pub may_stop_earlier : (met met' : Trouble → Type 0) → IsEarlier met met' → (setup : ClusterSetup)
     (events : List ClusterEvent) (number : ℕ) (line : ScriptLine) (ending : Ending)
     → MayStop met setup events number line ending → MayStop met' setup events number line ending
 may_stop_earlier met met' f setup events number line ending (inl spent) =

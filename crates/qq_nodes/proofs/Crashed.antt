@@ -23,6 +23,7 @@ use Rattle.qq_cluster_laws.proofs.Traces.{traced-one}
 use Rattle.qq_cluster_queue.specs.Sessions.{standings}
 use Rattle.qq_node_log.specs.Log.{Stands as IsLog, disk_in}
 use Rattle.qq_node_log.specs.declared.node_log.NodeLog.{NodeLog}
+use Rattle.qq_cluster.specs.Outcome.{Outcome}
 use Rattle.qq_nodes.specs.Logs.{NodeTurns}
 use Rattle.qq_nodes.specs.Nodes.{CanServe, IsNodeOf, Stands, seen}
 use Rattle.qq_nodes.specs.Crashing.{HasHappened, HasOwn, IsCrashedTo, LeavesDisks}
@@ -32,6 +33,7 @@ use Rattle.qq_nodes.specs.declared.nodes.Nodes.{Nodes as Held}
 use Rattle.qq_nodes.proofs.OwnStands.{Changes, node-was, seen-others, seen-own, set-here, stands-own, turned-queues}
 use Rattle.qq_nodes.proofs.Owned.{own-fail}
 use Rattle.qq_nodes.proofs.Quiet.{quiet-stopped}
+use Rattle.qq_nodes.proofs.Outcomes.{same-outcome, shows-one}
 
 -- what a log knows of a queue, it knows where its member stops
 pub stops-part : (k : ℕ) (q : Queue) → part_at k (happens q (Stops k)) ≡ part_at k q
@@ -99,15 +101,16 @@ module _ {D : Type 0} (tells : D → Bool) (past : D → List Disk) (faults : D 
       (λ fair. crashed-linked setup c k image (past (disk_in crash.own)) (past (disk_in crash.left)) linked.promised
       (after.left, after.alone) (fair refl))
 
-  pub has-crashed : (text : List ℕ)
-      → HasHappened tells past faults (λ setup. Is (Crashes k image)) old new text text
-  has-crashed text = record {
+  pub has-crashed : (outcome : Outcome)
+      → HasHappened tells past faults (λ setup. Is (Crashes k image)) old new outcome outcome
+  has-crashed outcome = record {
     happened = λ setup c r st.
         happened-event setup c k (Crashes k image) (seen tells past faults old) (seen tells past faults new) refl
         (λ j other. seen-others tells past faults k old new y low nodes j other)
         (ap (λ (s : Seen). s.tells) seen-new ∙ crash.told ∙ sym (ap (λ (s : Seen). s.tells) seen-old))
-        (λ events. Is (Crashes k image) c events) (Stands tells past setup new) text text refl
-        (crashed-stands setup c st) (sym (append-nil text))
+        (λ events. Is (Crashes k image) c events) (Stands tells past setup new) outcome outcome refl
+        (crashed-stands setup c st)
+        (shows-one setup c (Crashes k image) outcome outcome (same-outcome outcome))
         (λ node. moved setup c);
   }
     where
@@ -138,11 +141,11 @@ pub crash-done : {D : Type 0} (tells : D → Bool) (past : D → List Disk) (fau
     → NodeTurns (IsCrashedTo tells past image) (k - 1) old.nodes.items mids.items
     → new ≡ record old { nodes = mids; queues = new.queues }
     → TurnsWhere (λ at. nat_lt at (length old.queues.items)) (Stops k) old.queues.items new.queues.items
-    → (text : List ℕ) → HasHappened tells past faults (λ setup. Is (Crashes k image)) old new text text
-crash-done tells past faults k image old mids new low turn same turns text =
+    → (outcome : Outcome) → HasHappened tells past faults (λ setup. Is (Crashes k image)) old new outcome outcome
+crash-done tells past faults k image old mids new low turn same turns outcome =
     has-crashed tells past faults k image old new turn.old turn.new low turn.here
     (same ∙ ap (λ (v : Vec (Node _)). record old { nodes = v; queues = new.queues }) (sym (ap (λ (h : Held _). h.nodes) same)))
-    (ap (λ (h : Held _). h.nodes.items) same ∙ turn.is) turns turn.turns text
+    (ap (λ (h : Held _). h.nodes.items) same ∙ turn.is) turns turn.turns outcome
 
 pub crash-leaves : {D : Type 0} (tells : D → Bool) (past : D → List Disk) (faults : D → ℕ) (k : ℕ) (image : Image)
     (old : Held D) (mids : Vec (Node D)) (new : Held D) → 0 < k

@@ -12,6 +12,7 @@ use Rattle.qq_cluster.specs.Cluster.{Cluster, ClusterEvent, Crashes, Setup, clus
 use Rattle.qq_cluster.specs.Rules.{ForEach, Is}
 use Rattle.qq_cluster_laws.proofs.Reached.{reached-after}
 use Rattle.qq_cluster_laws.proofs.Serves.{happened-both, leads-more, leads-start, serves-nothing}
+use Rattle.qq_cluster.specs.Outcome.{Outcome}
 use Rattle.qq_nodes.specs.Nodes.{CanServe, LeadsIn, Stands, nodes_in, seen}
 use Rattle.qq_nodes.specs.Crashing.{HasHappened}
 use Rattle.qq_nodes.specs.declared.nodes.Nodes.{Nodes as Held}
@@ -43,14 +44,14 @@ Crash image setup k = Is (Crashes k image)
 -- the first nodes were crashed
 abbrev pub CrashedTo : {D : Type 0} → (D → Bool) → (D → List Disk) → (D → ℕ) → Image → ℕ → Held D → Held D → Type 0
 CrashedTo tells past faults image at old new =
-    (text : List ℕ) → HasHappened tells past faults (LeadsIn nodes_in at (Crash image)) old new text text
+    (outcome : Outcome) → HasHappened tells past faults (LeadsIn nodes_in at (Crash image)) old new outcome outcome
 
 module _ {D : Type 0} {tells : D → Bool} {past : D → List Disk} {faults : D → ℕ} where
   pub crashed-none : (image : Image) (held : Held D) → CrashedTo tells past faults image 0 held held
-  crashed-none image held text = record {
+  crashed-none image held outcome = record {
     happened = λ setup c r st.
         (serves-nothing setup c (LeadsIn nodes_in 0 (Crash image) setup c) (Stands tells past setup held)
-        (seen tells past faults held) text (leads-start (ForEach setup.nodes (Crash image setup)) c) st).did;
+        (seen tells past faults held) outcome (leads-start (ForEach setup.nodes (Crash image setup)) c) st).did;
   }
 
   pub crashed-can : (image : Image) (at : ℕ) (old new : Held D) → CanServe tells past old
@@ -69,15 +70,15 @@ module _ {D : Type 0} {tells : D → Bool} {past : D → List Disk} {faults : D 
   pub crashed-more : (image : Image) (at : ℕ) (node : NodeId) (old mid new : Held D) → at < length mid.nodes.items
       → ((setup : Setup) (c : Cluster) → Stands tells past setup mid c → node.0 ≡ at + 1)
       → CrashedTo tells past faults image at old mid
-      → ((text : List ℕ) → HasHappened tells past faults (λ setup. Crash image setup node.0) mid new text text)
+      → ((outcome : Outcome) → HasHappened tells past faults (λ setup. Crash image setup node.0) mid new outcome outcome)
       → CrashedTo tells past faults image (at + 1) old new
-  crashed-more image at node old mid new lt is first second text = record {
-    happened = λ setup c r st. (let s = (first text).happened setup c r st in
+  crashed-more image at node old mid new lt is first second outcome = record {
+    happened = λ setup c r st. (let s = (first outcome).happened setup c r st in
         let d : Cluster = cluster_after c s.events in
-        let t = (second text).happened setup d (reached-after setup c s.events r) s.stands in
+        let t = (second outcome).happened setup d (reached-after setup c s.events r) s.stands in
         happened-both setup c (LeadsIn nodes_in at (Crash image) setup c) (Crash image setup node.0 d)
         (LeadsIn nodes_in (at + 1) (Crash image) setup c) (Stands tells past setup mid) (Stands tells past setup new)
-        (seen tells past faults old) (seen tells past faults mid) (seen tells past faults new) text text text s t
+        (seen tells past faults old) (seen tells past faults mid) (seen tells past faults new) outcome outcome outcome s t
         (leads-more (ForEach (drop at setup.nodes) (Crash image setup))
         (ForEach (drop (at + 1) setup.nodes) (Crash image setup)) (ForEach setup.nodes (Crash image setup)) c s.events
         t.events s.means
@@ -88,10 +89,10 @@ module _ {D : Type 0} {tells : D → Bool} {past : D → List Disk} {faults : D 
   }
 
   pub crashed-all : (image : Image) (at : ℕ) (old new : Held D) → length new.nodes.items ≤ at
-      → CrashedTo tells past faults image at old new → (text : List ℕ)
-      → HasHappened tells past faults (λ (setup : Setup). ForEach setup.nodes (Crash image setup)) old new text text
-  crashed-all image at old new le crashed text = record {
-    happened = λ setup c r st. (let s = (crashed text).happened setup c r st in
+      → CrashedTo tells past faults image at old new → (outcome : Outcome)
+      → HasHappened tells past faults (λ (setup : Setup). ForEach setup.nodes (Crash image setup)) old new outcome outcome
+  crashed-all image at old new le crashed outcome = record {
+    happened = λ setup c r st. (let s = (crashed outcome).happened setup c r st in
         let d : Cluster = cluster_after c s.events in
         record {
           events = s.events;
@@ -102,6 +103,7 @@ module _ {D : Type 0} {tells : D → Bool} {past : D → List Disk} {faults : D 
               omega (arith, e, long, le)))) refl));
           stands = s.stands;
           says = s.says;
+          sees = s.sees;
           told = s.told;
           moments = s.moments;
         });

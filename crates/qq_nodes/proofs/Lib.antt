@@ -4,8 +4,11 @@ pub mod Quiet
 pub mod Walks
 pub mod Outside
 pub mod Items
+pub mod Outcomes
 pub mod Stands
 pub mod OneQueue
+pub mod Repeated
+pub mod Judged
 pub mod Refused
 pub mod Membership
 pub mod Told

@@ -10,9 +10,9 @@ use Rattle.qq_entry.specs.declared.command.Unstamped.{Unstamped}
 use Rattle.qq_session.specs.Clients.{Clients}
 use Rattle.qq_cluster.specs.Cluster.{Alike, At, Cluster, ClusterEvent, SaysDown, Setup, Standing, cluster_happens, event_of}
 use Rattle.qq_cluster.specs.Lines.{WhereUp}
+use Rattle.qq_cluster.specs.Outcome.{Outcome}
 use Rattle.qq_cluster.specs.Queue.{Queue, TellsEnded, happens}
 use Rattle.qq_cluster.specs.Rules.{ForEach, Is, IsClaimed, IsGiven, is_ended, is_quiet, not_taken}
-use Rattle.qq_cluster.specs.Texts.{text_of}
 use Rattle.qq_cluster_laws.specs.Linked.{IsReached}
 use Rattle.qq_cluster_queue.specs.ClusterQueue.{Stands as IsQueue}
 use Rattle.qq_cluster_queue.specs.Sessions.{Standings, standings}
@@ -20,6 +20,7 @@ use Rattle.qq_cluster_queue.specs.declared.cluster_queue.ClusterQueue.{ClusterQu
 use Rattle.qq_nodes.specs.Nodes.{CanServe, GaveUp, IsQueueAt, LeadsIn, Served, Stands, places_in}
 use Rattle.qq_nodes.specs.declared.nodes.Nodes.{Nodes as Held}
 use Rattle.qq_nodes.proofs.OneQueue.{node-stays}
+use Rattle.qq_nodes.proofs.Outcomes.{same-outcome, shows-one}
 use Rattle.qq_nodes.proofs.Pumping.{rule-else, rule-if}
 use Rattle.qq_base.specs.declared.memory.Memory.{Memory}
 use Rattle.qq_nodes.proofs.Stands.{Ruling, each-end, each-more, gave_up-each, gave_up-weaker, served-unseen, served-weaker}
@@ -54,7 +55,7 @@ module _ {D : Type 0} {tells : D → Bool} {past : D → List Disk} where
 module _ {D : Type 0} {tells : D → Bool} {past : D → List Disk} {faults : D → ℕ} where
   -- a rule for the place of a queue
   pub at-queue : (Each : ℕ → Setup → Cluster → List ClusterEvent → Type 0) {old new : Held D}
-      {before later : List ℕ} (queue : QueueId) → 0 < queue.0
+      {before later : Outcome} (queue : QueueId) → 0 < queue.0
       → Served tells past faults (Each ((queue.0 - 1) + 1)) old new before later
       → Served tells past faults (Each queue.0) old new before later
   at-queue Each {old = old} {new = new} {before = before} {later = later} queue low served =
@@ -63,7 +64,7 @@ module _ {D : Type 0} {tells : D → Bool} {past : D → List Disk} {faults : D 
 
   -- ---- a session that has ended, or not
 
-  pub gives-ended : (at session : ℕ) (body : Unstamped) {old new : Held D} {before later : List ℕ}
+  pub gives-ended : (at session : ℕ) (body : Unstamped) {old new : Held D} {before later : Outcome}
       → at < length old.queues.items → true ≡ (standings old.sessions session).ended
       → Served tells past faults (λ setup. Is (At (at + 1) (TellsEnded session))) old new before later
       → Served tells past faults (λ setup. IsGiven session body (at + 1)) old new before later
@@ -74,7 +75,7 @@ module _ {D : Type 0} {tells : D → Bool} {past : D → List Disk} {faults : D 
       (IsClaimed (not_taken session body (c.queue (at + 1))) session body (at + 1)) c events
       (ended-at setup c old at session st lt ∙ sym ended) allowed)
 
-  pub gives : (at session : ℕ) (body : Unstamped) {old new : Held D} {before later : List ℕ} (o : Option ℕ)
+  pub gives : (at session : ℕ) (body : Unstamped) {old new : Held D} {before later : Outcome} (o : Option ℕ)
       → at < length old.queues.items → false ≡ (standings old.sessions session).ended
       → ((setup : Setup) (c : Cluster) → Stands tells past setup old c
       → o ≡ not_taken session body (c.queue (at + 1)))
@@ -91,7 +92,7 @@ module _ {D : Type 0} {tells : D → Bool} {past : D → List Disk} {faults : D 
 
   -- ---- where a node is up, or down
 
-  pub where-up : {Rule : Ruling} (k : ℕ) {old new : Held D} {before later : List ℕ}
+  pub where-up : {Rule : Ruling} (k : ℕ) {old new : Held D} {before later : Outcome}
       → ((setup : Setup) (c : Cluster) → Stands tells past setup old c → true ≡ c.up k)
       → Served tells past faults Rule old new before later
       → Served tells past faults (λ setup. WhereUp k (Rule setup)) old new before later
@@ -100,7 +101,7 @@ module _ {D : Type 0} {tells : D → Bool} {past : D → List Disk} {faults : D 
       (λ setup c events r st allowed. rule-if (c.up k) (Rule setup) (Is (SaysDown k)) c events (sym (up setup c st))
       allowed)
 
-  pub where-down : {Rule : Ruling} (k : ℕ) {old new : Held D} {before later : List ℕ}
+  pub where-down : {Rule : Ruling} (k : ℕ) {old new : Held D} {before later : Outcome}
       → ((setup : Setup) (c : Cluster) → Stands tells past setup old c → false ≡ c.up k)
       → Served tells past faults (λ setup. Is (SaysDown k)) old new before later
       → Served tells past faults (λ setup. WhereUp k (Rule setup)) old new before later
@@ -111,14 +112,14 @@ module _ {D : Type 0} {tells : D → Bool} {past : D → List Disk} {faults : D 
 
   -- ---- what happens to all queues alike
 
-  pub served-alike : (standing : Standing) (old new : Held D) (text : List ℕ)
+  pub served-alike : (standing : Standing) (old new : Held D) (outcome : Outcome)
       → new ≡ record old { sessions = new.sessions }
       → ((q : Queue) → (happens q (event_of standing)).group ≡ q.group)
       → ((d : ClusterQueue) (q : Queue) → IsQueue (standings old.sessions) d q
       → IsQueue (standings new.sessions) d (happens q (event_of standing)))
-      → Served tells past faults (λ setup. Is (Alike standing)) old new text text
-  served-alike standing old new text same group does =
-      served-unseen (Alike standing) old new text text refl (ap (λ (h : Held D). h.nodes) same)
+      → Served tells past faults (λ setup. Is (Alike standing)) old new outcome outcome
+  served-alike standing old new outcome same group does =
+      served-unseen (Alike standing) old new outcome outcome refl (ap (λ (h : Held D). h.nodes) same)
       (λ setup c r st. (
         refl,
         subst (λ (h : Held D). Stands tells past setup h (cluster_happens c (Alike standing))) (sym same) (record {
@@ -135,13 +136,13 @@ module _ {D : Type 0} {tells : D → Bool} {past : D → List Disk} {faults : D 
           quiet = λ i lt calm. ap (λ g. is_quiet setup c.up (record (c.queue (i + 1)) { group = g }))
               (group (c.queue (i + 1))) ∙ st.quiet i lt calm;
         }),
-        sym (append-nil text),
+        shows-one setup c (Alike standing) outcome outcome (same-outcome outcome),
       ))
 
   -- ---- loops over all places
 
   pub places-more : (Each : Setup → ℕ → Cluster → List ClusterEvent → Type 0) {old mid new : Held D}
-      {before middle later : List ℕ} (at : ℕ) → at < length mid.queues.items
+      {before middle later : Outcome} (at : ℕ) → at < length mid.queues.items
       → Served tells past faults (LeadsIn places_in at Each) old mid before middle
       → Served tells past faults (λ setup. Each setup (at + 1)) mid new middle later
       → Served tells past faults (LeadsIn places_in (at + 1) Each) old new before later
@@ -149,7 +150,7 @@ module _ {D : Type 0} {tells : D → Bool} {past : D → List Disk} {faults : D 
       each-more places_in Each at (at + 1)
       (λ setup c st. place-at setup.places (length mid.queues.items) at st.set_up.places lt) first second
 
-  pub places-end : (Each : Setup → ℕ → Cluster → List ClusterEvent → Type 0) {old new : Held D} {before later : List ℕ}
+  pub places-end : (Each : Setup → ℕ → Cluster → List ClusterEvent → Type 0) {old new : Held D} {before later : Outcome}
       (at : ℕ) → length new.queues.items ≤ at
       → Served tells past faults (LeadsIn places_in at Each) old new before later
       → Served tells past faults (λ setup. ForEach setup.places (Each setup)) old new before later
@@ -205,7 +206,7 @@ module _ {D : Type 0} {tells : D → Bool} {past : D → List Disk} {faults : D 
       allowed) given
 
   pub places-gave_up : (Each : Setup → ℕ → Cluster → List ClusterEvent → Type 0) {old mid new : Held D}
-      {before middle : List ℕ} {memory : Memory} (at : ℕ) → ((setup : Setup) (place : ℕ) → Total (Each setup place))
+      {before middle : Outcome} {memory : Memory} (at : ℕ) → ((setup : Setup) (place : ℕ) → Total (Each setup place))
       → at < length mid.queues.items → Served tells past faults (LeadsIn places_in at Each) old mid before middle
       → GaveUp tells past faults (λ setup. Each setup (at + 1)) mid new memory
       → GaveUp tells past faults (λ setup. ForEach setup.places (Each setup)) old new memory

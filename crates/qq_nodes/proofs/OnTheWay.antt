@@ -17,10 +17,11 @@ use Rattle.qq_raft_protocol.specs.Facts.{In}
 use Rattle.qq_cluster.specs.Cluster.{At, Cluster, ClusterEvent, SaysDown, SaysNoSuch, Setup, cluster_after, members}
 use Rattle.qq_cluster.specs.Lines.{IsCopy, IsDeliver, IsDelivered, IsLose, WhereThere, receiver_at}
 use Rattle.qq_cluster.specs.Queue.{Copies, Delivers, Event, Loses, Queue, receiver_by}
-use Rattle.qq_cluster.specs.Rules.{Is, IsNothing, Then, if_so}
+use Rattle.qq_cluster.specs.Rules.{Is, IsNothing, Tells, Then, if_so}
 use Rattle.qq_cluster_laws.specs.Linked.{IsReached}
 use Rattle.qq_cluster_laws.proofs.Reached.{group-made, made}
 use Rattle.qq_cluster_queue.specs.Members.{number_of}
+use Rattle.qq_cluster.specs.Outcome.{Outcome}
 use Rattle.qq_nodes.specs.Nodes.{CanServe, GaveUp, IsNodeAt, Served, Stands}
 use Rattle.qq_nodes.specs.declared.nodes.Nodes.{Nodes as Held}
 use Rattle.qq_nodes.proofs.LineRules.{at-queue, at-queue_gave_up}
@@ -143,7 +144,7 @@ Receives tells past held at n o =
 module _ {D : Type 0} {tells : D → Bool} {past : D → List Disk} {faults : D → ℕ} where
   -- ---- where there is one, or none
 
-  pub there : (at n : ℕ) (event : Event) (o : Option NodeId) (k : NodeId) {old new : Held D} {before later : List ℕ}
+  pub there : (at n : ℕ) (event : Event) (o : Option NodeId) (k : NodeId) {old new : Held D} {before later : Outcome}
       → o ≡ Some k → Receives tells past old at n o → Served tells past faults (λ setup. Is (At (at + 1) event)) old new before later
       → Served tells past faults (λ setup c. WhereThere (receiver_at c (at + 1) n) event (at + 1) c) old new before later
   there at n event o k is receives served =
@@ -151,7 +152,7 @@ module _ {D : Type 0} {tells : D → Bool} {past : D → List Disk} {faults : D 
       (λ setup c events r st allowed. there-some (receiver_at c (at + 1) n) k.0 event (at + 1) c events
       (sym (receives setup c st) ∙ ap number_of is) allowed)
 
-  pub not-there : (at n : ℕ) (event : Event) (o : Option NodeId) {old new : Held D} {before later : List ℕ} → o ≡ None
+  pub not-there : (at n : ℕ) (event : Event) (o : Option NodeId) {old new : Held D} {before later : Outcome} → o ≡ None
       → Receives tells past old at n o → Served tells past faults (λ setup. Is SaysNoSuch) old new before later
       → Served tells past faults (λ setup c. WhereThere (receiver_at c (at + 1) n) event (at + 1) c) old new before later
   not-there at n event o is receives served =
@@ -169,18 +170,18 @@ module _ {D : Type 0} {tells : D → Bool} {past : D → List Disk} {faults : D 
 
   -- ---- deliveries
 
-  pub delivered-up : (place at : ℕ) (node : NodeId) {old mid : Held D} {before middle : List ℕ}
+  pub delivered-up : (place at : ℕ) (node : NodeId) {old mid : Held D} {before middle : Outcome}
       → ((setup : Setup) (c : Cluster) → Stands tells past setup mid c → true ≡ c.up node.0)
-      → Served tells past faults (λ setup. Is (At place (Delivers at))) old mid before middle
+      → Served tells past faults (λ setup. Tells place (Delivers at)) old mid before middle
       → Served tells past faults (λ setup. IsDelivered place at (Some node.0)) old mid before middle
   delivered-up place at node {mid = mid} {middle = middle} up served =
       served-then served
       (served-nothing {Rule = λ setup c. if_so (c.up node.0) IsNothing (Is (SaysDown node.0)) c} mid middle
       (λ setup c r st. rule-if (c.up node.0) IsNothing (Is (SaysDown node.0)) c [] (sym (up setup c st)) refl))
 
-  pub delivered-down : (place at : ℕ) (node : NodeId) {old mid new : Held D} {before middle later : List ℕ}
+  pub delivered-down : (place at : ℕ) (node : NodeId) {old mid new : Held D} {before middle later : Outcome}
       → ((setup : Setup) (c : Cluster) → Stands tells past setup mid c → false ≡ c.up node.0)
-      → Served tells past faults (λ setup. Is (At place (Delivers at))) old mid before middle
+      → Served tells past faults (λ setup. Tells place (Delivers at)) old mid before middle
       → Served tells past faults (λ setup. Is (SaysDown node.0)) mid new middle later
       → Served tells past faults (λ setup. IsDelivered place at (Some node.0)) old new before later
   delivered-down place at node down first second =
@@ -190,15 +191,15 @@ module _ {D : Type 0} {tells : D → Bool} {past : D → List Disk} {faults : D 
       (sym (down setup c st)) allowed))
 
   pub deliver-gave_up : (place at : ℕ) (node : NodeId) {old new : Held D} {memory : Memory}
-      → GaveUp tells past faults (λ setup. Is (At place (Delivers at))) old new memory
+      → GaveUp tells past faults (λ setup. Tells place (Delivers at)) old new memory
       → GaveUp tells past faults (λ setup. IsDelivered place at (Some node.0)) old new memory
   deliver-gave_up place at node given =
       gave_up-first {Second = λ setup c. if_so (c.up node.0) IsNothing (Is (SaysDown node.0)) c}
       (λ setup c. total-if (c.up node.0) IsNothing (Is (SaysDown node.0)) c (total-nothing c)
       (total-is (SaysDown node.0) c)) given
 
-  pub delivered-wants : (place at : ℕ) (node : NodeId) {old mid new : Held D} {before middle : List ℕ} {memory : Memory}
-      → Served tells past faults (λ setup. Is (At place (Delivers at))) old mid before middle → new.nodes ≡ mid.nodes
+  pub delivered-wants : (place at : ℕ) (node : NodeId) {old mid new : Held D} {before middle : Outcome} {memory : Memory}
+      → Served tells past faults (λ setup. Tells place (Delivers at)) old mid before middle → new.nodes ≡ mid.nodes
       → memory ≡ Want → GaveUp tells past faults (λ setup. IsDelivered place at (Some node.0)) old new memory
   delivered-wants place at node {mid = mid} {new = new} {memory = memory} first nodes want =
       gave_up-second {Second = λ setup c. if_so (c.up node.0) IsNothing (Is (SaysDown node.0)) c} first
@@ -207,7 +208,7 @@ module _ {D : Type 0} {tells : D → Bool} {past : D → List Disk} {faults : D 
   -- ---- lines
 
   pub no-message : (message : ℕ) (Rule : ℕ → ℕ → Cluster → List ClusterEvent → Type 0) (place : ℕ) {old new : Held D}
-      {before later : List ℕ} → message ≡ 0
+      {before later : Outcome} → message ≡ 0
       → ((c : Cluster) (events : List ClusterEvent) → Is SaysNoSuch c events → Rule place 0 c events)
       → Served tells past faults (λ setup. Is SaysNoSuch) old new before later
       → Served tells past faults (λ setup. Rule place message) old new before later
@@ -216,7 +217,7 @@ module _ {D : Type 0} {tells : D → Bool} {past : D → List Disk} {faults : D 
       (served-weaker served (λ setup c events r st allowed. is c events allowed))
 
   pub delivers : (queue : QueueId) (message : ℕ) (o : Option NodeId) (k : NodeId) {old new : Held D}
-      {before later : List ℕ} → 0 < queue.0 → 0 < message → o ≡ Some k → Receives tells past old (queue.0 - 1) (message - 1) o
+      {before later : Outcome} → 0 < queue.0 → 0 < message → o ≡ Some k → Receives tells past old (queue.0 - 1) (message - 1) o
       → Served tells past faults (λ setup. IsDelivered ((queue.0 - 1) + 1) (message - 1) (number_of (Some k))) old new
       before later
       → Served tells past faults (λ setup. IsDeliver queue.0 message) old new before later
@@ -227,7 +228,7 @@ module _ {D : Type 0} {tells : D → Bool} {past : D → List Disk} {faults : D 
       (subst (λ (p : Option ℕ). IsDelivered ((queue.0 - 1) + 1) (message - 1) p c events)
       (sym (ap number_of is) ∙ receives setup c st) allowed)))
 
-  pub delivers-none : (queue : QueueId) (message : ℕ) (o : Option NodeId) {old new : Held D} {before later : List ℕ}
+  pub delivers-none : (queue : QueueId) (message : ℕ) (o : Option NodeId) {old new : Held D} {before later : Outcome}
       → 0 < queue.0 → 0 < message → o ≡ None → Receives tells past old (queue.0 - 1) (message - 1) o
       → Served tells past faults (λ setup. Is SaysNoSuch) old new before later
       → Served tells past faults (λ setup. IsDeliver queue.0 message) old new before later
@@ -254,7 +255,7 @@ module _ {D : Type 0} {tells : D → Bool} {past : D → List Disk} {faults : D 
   pub happens-there : (Rule : ℕ → ℕ → Cluster → List ClusterEvent → Type 0) (event : ℕ → Event)
       → ((place message : ℕ) (c : Cluster) (events : List ClusterEvent) → 0 < message
       → WhereThere (receiver_at c place (message - 1)) (event (message - 1)) place c events → Rule place message c events)
-      → (queue : QueueId) (message : ℕ) {old new : Held D} {before later : List ℕ} → 0 < queue.0 → 0 < message
+      → (queue : QueueId) (message : ℕ) {old new : Held D} {before later : Outcome} → 0 < queue.0 → 0 < message
       → Served tells past faults (λ setup c. WhereThere (receiver_at c ((queue.0 - 1) + 1) (message - 1))
       (event (message - 1)) ((queue.0 - 1) + 1) c) old new before later
       → Served tells past faults (λ setup. Rule queue.0 message) old new before later

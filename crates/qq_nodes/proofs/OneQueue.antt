@@ -10,12 +10,15 @@ use Rattle.qq_disk.specs.Disk.{Disk}
 use Rattle.qq_lots.specs.Lots.{Parts}
 use Rattle.qq_session.specs.Shown.{Shown}
 use Rattle.qq_cluster.specs.Cluster.{At, Cluster, ClusterEvent, Of, Sets, Setup, cluster_happens}
+use Rattle.qq_cluster.specs.Outcome.{Outcome, sees_all}
 use Rattle.qq_cluster.specs.Queue.{Event, Queue, after, happens, said}
 use Rattle.qq_cluster.specs.Rules.{Is, IsNothing, is_quiet}
 use Rattle.qq_cluster.specs.Texts.{is_first, printed_text, shown_text, shown_text_as, text_of}
+use Rattle.qq_cluster.proofs.Outcomes.{takers-at}
 use Rattle.qq_cluster_laws.specs.Linked.{IsReached, lot_of, parts_at}
 use Rattle.qq_cluster_laws.specs.Serves.{Seen, Serves}
 use Rattle.qq_cluster_laws.specs.Unseen.{is_node, seen_by, sees, touched, touches}
+use Rattle.qq_cluster_laws.proofs.Serves.{ShowsOne}
 use Rattle.qq_cluster_laws.proofs.Unseen.{parts-stay, unseen-follow, unseen-linked, up-stays}
 use Rattle.qq_cluster_queue.specs.ClusterQueue.{Becomes, Does, DoesAlways, IsSameQueue, Stands as IsQueue, text_as}
 use Rattle.qq_cluster_queue.specs.Sessions.{Standings, standings}
@@ -25,9 +28,10 @@ use Rattle.qq_nodes.specs.Active.{is_in, put_in}
 use Rattle.qq_nodes.specs.Asking.{DoesAt, asked}
 use Rattle.qq_nodes.specs.Nodes.{IsNodeOf, IsQueueOf, IsSetUp, Served, Stands, seen, seen_in}
 use Rattle.qq_nodes.specs.declared.asking.Ask.{Ask}
-use Rattle.qq_nodes.specs.declared.asking.Ask.TheVariants.{Submit, TellEnded, TellNotTaken, Resend, Fetch, Down, Tick, Notice, Deliver, Lose, Copy}
+use Rattle.qq_nodes.specs.declared.asking.Ask.TheVariants.{Submit, TellEnded, TellNotTaken, Attach, Resend, Fetch, Down, Tick, Notice, Deliver, Lose, Copy}
 use Rattle.qq_nodes.specs.declared.node.Node.{Node}
 use Rattle.qq_nodes.specs.declared.nodes.Nodes.{Nodes as Held}
+use Rattle.qq_nodes.proofs.Outcomes.{outcome_after, same-outcome, shows-one}
 use Rattle.qq_nodes.proofs.Rising.{in-put, put-all}
 use Rattle.qq_nodes.proofs.Stands.{served-still, served-unseen}
 
@@ -57,26 +61,30 @@ set-long (y ∷ ys) (suc at) x = ap suc (set-long ys at x)
 -- ---- one queue
 
 -- what shows nothing adds nothing to a text
-pub becomes-does : (event : Event) (sessions : Standings) (old new : ClusterQueue) (text : List ℕ)
-    → Becomes event old new → Does event sessions old new text text
-becomes-does event sessions old new text becomes q st =
+pub becomes-does : (event : Event) (sessions : Standings) (old new : ClusterQueue) (outcome : Outcome)
+    → Becomes event old new → Does event sessions old new outcome outcome
+becomes-does event sessions old new outcome becomes q st =
     let both = becomes sessions q st in
-    (both.0, sym (append-nil text) ∙ ap (λ (l : List Shown). text ++ text_as old l) (sym both.1))
+    (
+      both.0,
+      sym (append-nil outcome.text) ∙ ap (λ (l : List Shown). outcome.text ++ text_as old l) (sym both.1),
+      ap (λ (l : List Shown). sees_all l outcome.takers) (sym both.1),
+    )
 
 -- what is asked is the event
-pub asked-always : (ask : Ask) (event : Event) (sessions : Standings) (old new : ClusterQueue) (before after : List ℕ)
+pub asked-always : (ask : Ask) (event : Event) (sessions : Standings) (old new : ClusterQueue) (before after : Outcome)
     → asked ask ≡ event → DoesAlways event old new before after → Does (asked ask) sessions old new before after
 asked-always ask event sessions old new before after is does =
     subst (λ (e : Event). Does e sessions old new before after) (sym is) (does sessions)
 
-pub asked-becomes : (ask : Ask) (event : Event) (sessions : Standings) (old new : ClusterQueue) (text : List ℕ)
-    → asked ask ≡ event → Becomes event old new → Does (asked ask) sessions old new text text
-asked-becomes ask event sessions old new text is becomes =
-    subst (λ (e : Event). Does e sessions old new text text) (sym is)
-    (becomes-does event sessions old new text becomes)
+pub asked-becomes : (ask : Ask) (event : Event) (sessions : Standings) (old new : ClusterQueue) (outcome : Outcome)
+    → asked ask ≡ event → Becomes event old new → Does (asked ask) sessions old new outcome outcome
+asked-becomes ask event sessions old new outcome is becomes =
+    subst (λ (e : Event). Does e sessions old new outcome outcome) (sym is)
+    (becomes-does event sessions old new outcome becomes)
 
 pub does-at : (event : Event) (sessions : Standings) (at : ℕ) (olds : List ClusterQueue) (d new : ClusterQueue)
-    (before after : List ℕ) → at < length olds → AreSound new.group → IsSameQueue (get_or olds at d) new
+    (before after : Outcome) → at < length olds → AreSound new.group → IsSameQueue (get_or olds at d) new
     → Does event sessions (get_or olds at d) new before after
     → DoesAt event sessions at olds (slice_set olds at new) before after
 does-at event sessions at olds d new before after lt sound same does = record {
@@ -93,6 +101,7 @@ pub asked-unseen : (ask : Ask) → touched (asked ask) ≡ None
 asked-unseen (Submit session body) = refl
 asked-unseen (TellEnded session) = refl
 asked-unseen (TellNotTaken session id) = refl
+asked-unseen (Attach session tag number) = refl
 asked-unseen (Resend session) = refl
 asked-unseen (Fetch session) = refl
 asked-unseen (Down session) = refl
@@ -118,6 +127,17 @@ text-at setup sessions c event place d is =
     ∙ ap (λ (name : List ℕ). flat_map (shown_text_as (is_first setup place) name) (said (c.queue place) event)) is.name_is
     ∙ shown-all setup place (said (c.queue place) event)
     ∙ ap (flat_map (printed_text setup)) (sym (append-nil (map (Of place) (said (c.queue place) event))))
+
+-- and what comes of it
+pub shows-at : (setup : Setup) (sessions : Standings) (c : Cluster) (event : Event) (place : ℕ) (d : ClusterQueue)
+    (before later : Outcome) → IsQueueOf setup sessions c place d → {Now : Type 0}
+    → Now × (later.text ≡ before.text ++ text_as d (said (c.queue place) event))
+    × (later.takers ≡ sees_all (said (c.queue place) event) before.takers)
+    → ShowsOne setup c (At place event) before later
+shows-at setup sessions c event place d before later is does = record {
+  text = does.1 ∙ ap (λ (l : List ℕ). before.text ++ l) (text-at setup sessions c event place d is);
+  takers = does.2 ∙ sym (takers-at setup c place event before.takers);
+}
 
 -- ---- the cluster after an event at one place
 
@@ -150,7 +170,7 @@ module _ {D : Type 0} {tells : D → Bool} {past : D → List Disk} where
         (sym (parts-stay c k event unseen)) is.log);
   }
 
-  stands-at : (setup : Setup) (c : Cluster) (at : ℕ) (event : Event) (old new : Held D) (before later : List ℕ)
+  stands-at : (setup : Setup) (c : Cluster) (at : ℕ) (event : Event) (old new : Held D) (before later : Outcome)
       → touched event ≡ None → is_in at old.active ≡ true
       → new ≡ record old { queues = new.queues }
       → DoesAt event (standings old.sessions) at old.queues.items new.queues.items before later
@@ -205,7 +225,7 @@ module _ {D : Type 0} {tells : D → Bool} {past : D → List Disk} where
 
 module _ {D : Type 0} {tells : D → Bool} {past : D → List Disk} {faults : D → ℕ} where
   -- a queue that is active does what is asked of it
-  pub served-at : (event : Event) (at : ℕ) (old new : Held D) (before later : List ℕ)
+  pub served-at : (event : Event) (at : ℕ) (old new : Held D) (before later : Outcome)
       → touched event ≡ None → is_in at old.active ≡ true → new ≡ record old { queues = new.queues }
       → DoesAt event (standings old.sessions) at old.queues.items new.queues.items before later
       → Served tells past faults (λ setup. Is (At (at + 1) event)) old new before later
@@ -214,16 +234,16 @@ module _ {D : Type 0} {tells : D → Bool} {past : D → List Disk} {faults : D 
       (λ setup c r st. (let was = st.queues at does.old does.here in (
         refl,
         stands-at setup c at event old new before later unseen active same does st,
-        (does.does (c.queue (at + 1)) was.stands).1
-            ∙ ap (λ (l : List ℕ). before ++ l) (text-at setup (standings old.sessions) c event (at + 1) does.old was),
+        shows-at setup (standings old.sessions) c event (at + 1) does.old before later was
+            (does.does (c.queue (at + 1)) was.stands),
       )))
 
   -- a queue that is active from here on
-  pub served-woken : (at : ℕ) (old new : Held D) (text : List ℕ) → at < length old.queues.items
+  pub served-woken : (at : ℕ) (old new : Held D) (outcome : Outcome) → at < length old.queues.items
       → new ≡ record old { active = new.active } → new.active ≡ put_in at old.active
-      → Served tells past faults (λ setup. IsNothing) old new text text
-  served-woken at old new text lt same active =
-      served-still old new text (ap (λ (h : Held D). h.nodes) same)
+      → Served tells past faults (λ setup. IsNothing) old new outcome outcome
+  served-woken at old new outcome lt same active =
+      served-still old new outcome (ap (λ (h : Held D). h.nodes) same)
       (λ setup c r st. (
         refl,
         subst (λ (h : Held D). Stands tells past setup h c) (sym same) (record {
@@ -241,10 +261,10 @@ module _ {D : Type 0} {tells : D → Bool} {past : D → List Disk} {faults : D 
   -- ---- all of them
 
   -- nothing happens to any queue or node, and a text has grown
-  pub served-said : (event : ClusterEvent) (held : Held D) (before later : List ℕ) → seen_by event ≡ None
+  pub served-said : (event : ClusterEvent) (held : Held D) (before later : Outcome) → seen_by event ≡ None
       → ((c : Cluster) (place : ℕ) → (cluster_happens c event).queue place ≡ c.queue place)
       → ((c : Cluster) → (cluster_happens c event).up ≡ c.up) → ((c : Cluster) → (cluster_happens c event).auto ≡ c.auto)
-      → ((setup : Setup) (c : Cluster) → later ≡ before ++ text_of setup c (event ∷ []))
+      → ((setup : Setup) (c : Cluster) → later ≡ outcome_after setup c (event ∷ []) before)
       → Served tells past faults (λ setup. Is event) held held before later
   served-said event held before later unseen queues ups autos says =
       served-unseen event held held before later unseen refl
@@ -264,13 +284,13 @@ module _ {D : Type 0} {tells : D → Bool} {past : D → List Disk} {faults : D 
           quiet = λ i lt calm. ap (λ (up : ℕ → Bool). is_quiet setup up ((cluster_happens c event).queue (i + 1))) (ups c)
               ∙ ap (is_quiet setup c.up) (queues c (i + 1)) ∙ st.quiet i lt calm;
         },
-        says setup c,
+        shows-one setup c event before later (says setup c),
       ))
 
-  pub served-auto : (auto : Bool) (held : Held D) (text : List ℕ)
-      → Served tells past faults (λ setup. Is (Sets auto)) held (record held { auto = auto }) text text
-  served-auto auto held text =
-      served-unseen (Sets auto) held (record held { auto = auto }) text text refl refl
+  pub served-auto : (auto : Bool) (held : Held D) (outcome : Outcome)
+      → Served tells past faults (λ setup. Is (Sets auto)) held (record held { auto = auto }) outcome outcome
+  served-auto auto held outcome =
+      served-unseen (Sets auto) held (record held { auto = auto }) outcome outcome refl refl
       (λ setup c r st. (
         refl,
         record {
@@ -286,5 +306,5 @@ module _ {D : Type 0} {tells : D → Bool} {past : D → List Disk} {faults : D 
           within = st.within;
           quiet = st.quiet;
         },
-        sym (append-nil text),
+        shows-one setup c (Sets auto) outcome outcome (same-outcome outcome),
       ))

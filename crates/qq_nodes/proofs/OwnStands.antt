@@ -4,7 +4,6 @@ use Rattle.std.specs.Prelude.{IsTrue, nat_lt, slice_get, slice_set}
 use Rattle.std.specs.List.{AllByRecursion, range_with_len}
 use Rattle.std.proofs.lemmas.Bool.{false≢true, lt-ltb}
 use Rattle.qq_base.specs.Causes.{Rose}
-use Rattle.qq_cluster.specs.Texts.{text_of}
 use Rattle.qq_disk.specs.Disk.{Disk, now}
 use Rattle.qq_lots.specs.Lots.{Lot, Parts, ids_of}
 use Rattle.qq_raft_protocol.specs.Facts.{In}
@@ -20,6 +19,7 @@ use Rattle.qq_cluster_queue.specs.declared.cluster_queue.ClusterQueue.{ClusterQu
 use Rattle.qq_node_log.specs.Log.{IsRunningIn, IsWhole, disk_in}
 use Rattle.qq_node_log.specs.Steps.{AlwaysKeeps, SameDisk}
 use Rattle.qq_node_log.specs.declared.node_log.NodeLog.{NodeLog}
+use Rattle.qq_cluster.specs.Outcome.{Outcome}
 use Rattle.qq_nodes.specs.Active.{is_in}
 use Rattle.qq_nodes.specs.Logs.{ChangesLog, NodeTurns}
 use Rattle.qq_nodes.specs.Nodes.{IsNodeOf, IsQueueOf, IsSetUp, Stands, node_at, seen, seen_in, seen_log}
@@ -32,6 +32,7 @@ use Rattle.qq_nodes.proofs.Turned.{set-other, within-length}
 use Rattle.qq_nodes.proofs.Walks.{in-range}
 use Rattle.std.proofs.lemmas.Option.{slice_get-get_or}
 use Rattle.std.specs.Prelude.{get_or}
+use Rattle.qq_nodes.proofs.Outcomes.{outcome_after}
 
 -- ---- queues
 
@@ -279,9 +280,9 @@ module _ {D : Type 0} {tells : D → Bool} {past : D → List Disk} {faults : D 
       → IsLinked setup c k (now (past (disk_in ch.before))) → Traced (past (disk_in ch.before)) b.past) (sym seen-new)
       traced)
 
-  pub call-serves : (Allowed : List ClusterEvent → Type 0) (before after : List ℕ)
+  pub call-serves : (Allowed : List ClusterEvent → Type 0) (before after : Outcome)
       → (fails_at k events ≡ true → Rose (faults (disk_in ch.before)) (faults (disk_in ch.behind))) → Allowed events
-      → Stands tells past setup new (cluster_after c events) → after ≡ before ++ text_of setup c events
+      → Stands tells past setup new (cluster_after c events) → after ≡ outcome_after setup c events before
       → (IsTrue (tells (disk_in ch.before)) → IsLinked setup c k (now (past (disk_in ch.before)))
       → IsTracedAt setup c k events (past (disk_in ch.before)) (past (disk_in ch.behind)))
       → Serves setup c Allowed (Stands tells past setup new) (seen tells past faults old) (seen tells past faults new)

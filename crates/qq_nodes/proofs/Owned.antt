@@ -7,7 +7,6 @@ use Rattle.qq_base.specs.Causes.{Rose}
 use Rattle.qq_disk.specs.Disk.{Disk, now}
 use Rattle.qq_raft_protocol.specs.Facts.{In}
 use Rattle.qq_cluster.specs.Cluster.{Cluster, ClusterEvent, Setup, Sets, Alike, At, NodeWrites, NodeSyncs, Fails, Crashes, FindsEach, Shows, SaysDown, SaysNoSuch, SaysUnroutable, SaysBusy, SaysEnded, cluster_after, cluster_happens}
-use Rattle.qq_cluster.specs.Texts.{text_of}
 use Rattle.qq_cluster_laws.specs.Linked.{IsLinked, IsPromised}
 use Rattle.qq_cluster_laws.specs.Serves.{GivesUp, Seen, Serves, fails_at, is_failure_at}
 use Rattle.qq_cluster_laws.specs.Traced.{HasNoCrash, IsBrokenAt, IsNoCrash, IsTracedAt, KeepsWhere, TracesTo}
@@ -15,6 +14,8 @@ use Rattle.qq_cluster_laws.specs.Unseen.{is_node, seen_by, sees}
 use Rattle.qq_cluster_laws.proofs.Moments.{one-log}
 use Rattle.qq_cluster_laws.proofs.Traces.{traced-none, traces-event, traces-weaker}
 use Rattle.qq_cluster_laws.proofs.Unseen.{unseen-linked}
+use Rattle.qq_cluster.specs.Outcome.{Outcome}
+use Rattle.qq_nodes.proofs.Outcomes.{outcome_after}
 
 -- an event of a node's log that is no crash
 pub record IsOwn (k : ℕ) (event : ClusterEvent) : Type 0 where
@@ -108,9 +109,9 @@ module _ (setup : Setup) (c : Cluster) (k : ℕ) (events : List ClusterEvent) (a
       (unseen-all setup c k j events (a j).past own other linked)))
 
   -- they happened
-  pub serves-own : (Allowed : List ClusterEvent → Type 0) (Stands : Cluster → Type 0) (before later : List ℕ)
+  pub serves-own : (Allowed : List ClusterEvent → Type 0) (Stands : Cluster → Type 0) (before later : Outcome)
       → (fails_at k events ≡ true → Rose (a k).faults (b k).faults) → Allowed events → Stands (cluster_after c events)
-      → later ≡ before ++ text_of setup c events
+      → later ≡ outcome_after setup c events before
       → (In k setup.nodes → IsTrue (a k).tells → IsLinked setup c k (now (a k).past)
       → IsTracedAt setup c k events (a k).past (b k).past)
       → Serves setup c Allowed Stands a b before later
@@ -119,7 +120,8 @@ module _ (setup : Setup) (c : Cluster) (k : ℕ) (events : List ClusterEvent) (a
       events = events;
       means = allowed;
       stands = stands;
-      says = says;
+      says = ap (λ (o : Outcome). o.text) says;
+      sees = ap (λ (o : Outcome). o.takers) says;
       told = all-told;
       moments = all-traced IsLinked (λ d j e linked. linked) moments;
     };

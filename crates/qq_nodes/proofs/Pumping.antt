@@ -11,10 +11,11 @@ use Rattle.qq_raft_protocol.specs.Facts.{In}
 use Rattle.qq_cluster.specs.Cluster.{At, Cluster, ClusterEvent, SaysBusy, Setup, cluster_after}
 use Rattle.qq_cluster.specs.Laws.{CountsRise}
 use Rattle.qq_cluster.specs.Queue.{Delivers, Notices, Queue}
-use Rattle.qq_cluster.specs.Rules.{ForEach, Is, IsEmptied, IsNothing, IsNotice, IsPump, IsPumped, IsRound, Pumps, Then, if_so, is_idle, is_quiet, is_quiet_at, is_settled, most_rounds, waits_noticed}
+use Rattle.qq_cluster.specs.Rules.{ForEach, Is, IsEmptied, IsNothing, IsNotice, IsPump, IsPumped, IsRound, Pumps, Tells, Then, Times, if_so, is_idle, is_quiet, is_quiet_at, is_settled, most_rounds, waits_noticed}
 use Rattle.qq_cluster_laws.specs.Linked.{IsReached}
 use Rattle.qq_cluster_laws.specs.Serves.{Leads}
 use Rattle.qq_cluster_laws.proofs.Reached.{counts-at, reached-after}
+use Rattle.qq_cluster.specs.Outcome.{Outcome}
 use Rattle.qq_nodes.specs.Active.{AreRising, is_in}
 use Rattle.qq_nodes.specs.Nodes.{CanServe, GaveUp, IsNodeAt, IsNodeOf, LeadsIn, Served, Stands, nodes_in, places_in}
 use Rattle.qq_nodes.specs.declared.node.Node.{Node}
@@ -62,26 +63,12 @@ same-get [] i d e lt = absurd (omega (arith, lt))
 same-get (number ∷ numbers) zero d e lt = refl
 same-get (number ∷ numbers) (suc i) d e lt = same-get numbers i d e (omega (arith, lt))
 
--- as often once more
-pub replicate-more : {A : Type 0} (x : A) (n : ℕ) → replicate n x ++ x ∷ [] ≡ replicate (n + 1) x
-replicate-more {A = A} x n = by n ∙ ap (λ (k : ℕ). replicate k x) (let e : suc n ≡ n + 1 = omega arith in e)
-  where
-    by : (k : ℕ) → replicate k x ++ x ∷ [] ≡ replicate (suc k) x
-    by zero = refl
-    by (suc k) = ap (λ (l : List A). x ∷ l) (by k)
-
-pub replicate-both : {A : Type 0} (x : A) (m n : ℕ) → replicate m x ++ replicate n x ≡ replicate (m + n) x
-replicate-both x zero n = ap (λ (i : ℕ). replicate i x) (let e : n ≡ 0 + n = omega arith in e)
-replicate-both {A = A} x (suc m) n =
-    ap (λ (l : List A). x ∷ l) (replicate-both x m n)
-    ∙ ap (λ (i : ℕ). replicate i x) (let e : suc (m + n) ≡ suc m + n = omega arith in e)
-
 -- ---- what the rules ask of a quiet queue
 
 notice-passes_by : (k : ℕ) (setup : Setup) (c : Cluster) (place n : ℕ) → setup.nodes ≡ range_with_len 1 n → 1 ≤ k
     → k ≤ n → CountsRise (c.queue place) k → is_quiet setup c.up (c.queue place) ≡ true → IsNotice k place c []
 notice-passes_by k setup c place n nodes low high rise quiet =
-    rule-else (c.up k && waits_noticed k (c.queue place)) (Is (At place (Notices k))) IsNothing c []
+    rule-else (c.up k && waits_noticed k (c.queue place)) (Tells place (Notices k)) IsNothing c []
     (quiet-noticed setup c.up (c.queue place) k
     (subst (In k) (sym nodes) (in-node k n low high)) rise quiet) refl
   where
@@ -93,7 +80,7 @@ notice-passes_by k setup c place n nodes low high rise quiet =
 emptied-passes_by : (setup : Setup) (c : Cluster) (place : ℕ) → is_quiet setup c.up (c.queue place) ≡ true
     → IsEmptied place c []
 emptied-passes_by setup c place quiet =
-    sym (ap (λ (n : ℕ). replicate n (At place (Delivers 0))) (quiet-bag setup c.up (c.queue place) quiet))
+    subst (λ (n : ℕ). Times n (Tells place (Delivers 0)) c []) (sym (quiet-bag setup c.up (c.queue place) quiet)) refl
 
 -- ---- whether a queue is quiet
 
@@ -150,10 +137,6 @@ idle-pumps (suc left) setup c idle =
 
 as-many : (m n : ℕ) → range_with_len 1 m ≡ range_with_len 1 n → m ≡ n
 as-many m n same = sym (length-range_with_len 1 m) ∙ ap length same ∙ length-range_with_len 1 n
-
--- so many messages of a queue were delivered
-abbrev pub Delivered : ℕ → ℕ → Setup → Cluster → List ClusterEvent → Type 0
-Delivered count at setup c events = events ≡ replicate count (At (at + 1) (Delivers 0))
 
 pub is-active : {D : Type 0} (held : Held D) (i at : ℕ) → i < length held.active → at ≡ get_or held.active i 0
     → is_in at held.active ≡ true
@@ -220,7 +203,7 @@ module _ {D : Type 0} {tells : D → Bool} {past : D → List Disk} {faults : D 
   -- ---- what holds whatever was served
 
   -- there are as many queues and nodes
-  pub many-after : {Rule : Ruling} {old new : Held D} {before later : List ℕ} → CanServe tells past old
+  pub many-after : {Rule : Ruling} {old new : Held D} {before later : Outcome} → CanServe tells past old
       → Served tells past faults Rule old new before later
       → (length new.queues.items ≡ length old.queues.items) × (length new.nodes.items ≡ length old.nodes.items)
   many-after {old = old} {new = new} can served =
@@ -231,7 +214,7 @@ module _ {D : Type 0} {tells : D → Bool} {past : D → List Disk} {faults : D 
         as-many (length new.nodes.items) (length old.nodes.items) (sym now.nodes ∙ was.nodes),
       )
 
-  pub node-after : {Rule : Ruling} {old new : Held D} {before later : List ℕ} (node : NodeId)
+  pub node-after : {Rule : Ruling} {old new : Held D} {before later : Outcome} (node : NodeId)
       → CanServe tells past old → Served tells past faults Rule old new before later → IsNodeAt node old
       → IsNodeAt node new
   node-after node can served is = let many = (many-after can served).1 in (is.0, omega (arith, many, is.1))
@@ -240,7 +223,7 @@ module _ {D : Type 0} {tells : D → Bool} {past : D → List Disk} {faults : D 
 
   -- one active place more
   pub walk-more : (Each : Setup → ℕ → Cluster → List ClusterEvent → Type 0) {old mid new : Held D}
-      {before middle later : List ℕ} (i at : ℕ) → CanServe tells past old → AreRising old.active
+      {before middle later : Outcome} (i at : ℕ) → CanServe tells past old → AreRising old.active
       → mid.active ≡ old.active → new.active ≡ mid.active → i < length old.active → at ≡ get_or mid.active i 0
       → PassesQuiet tells past Each new
       → Served tells past faults (LeadsIn places_in (get_or mid.active i (length mid.queues.items)) Each) old mid before
@@ -254,7 +237,7 @@ module _ {D : Type 0} {tells : D → Bool} {past : D → List Disk} {faults : D 
       active-more Each i at passes (subst AreRising (sym (same ∙ so)) rising) same (many-after now second).0
       now.3.within small (is ∙ same-get mid.active i 0 (length mid.queues.items) small) first second
 
-  pub walk-end : (Each : Setup → ℕ → Cluster → List ClusterEvent → Type 0) {old new : Held D} {before later : List ℕ}
+  pub walk-end : (Each : Setup → ℕ → Cluster → List ClusterEvent → Type 0) {old new : Held D} {before later : Outcome}
       (i : ℕ) → new.active ≡ old.active → length old.active ≤ i
       → Served tells past faults (LeadsIn places_in (get_or new.active i (length new.queues.items)) Each) old new before
       later
@@ -264,7 +247,7 @@ module _ {D : Type 0} {tells : D → Bool} {past : D → List Disk} {faults : D 
   -- ---- loops over the nodes
 
   pub nodes-more : (Each : Setup → ℕ → Cluster → List ClusterEvent → Type 0) {old mid new : Held D}
-      {before middle later : List ℕ} (at : ℕ) (node : NodeId) → CanServe tells past mid
+      {before middle later : Outcome} (at : ℕ) (node : NodeId) → CanServe tells past mid
       → ((setup : Setup) (c : Cluster) → Stands tells past setup mid c → node.0 ≡ at + 1) → at < length mid.nodes.items
       → Served tells past faults (LeadsIn nodes_in at Each) old mid before middle
       → Served tells past faults (λ setup. Each setup node.0) mid new middle later
@@ -274,7 +257,7 @@ module _ {D : Type 0} {tells : D → Bool} {past : D → List Disk} {faults : D 
       (λ setup c st. subst (λ (k : ℕ). drop at setup.nodes ≡ k ∷ drop (at + 1) setup.nodes) (sym (is setup c st))
       (place-at setup.nodes (length mid.nodes.items) at st.set_up.nodes lt)) first second
 
-  pub nodes-end : (Each : Setup → ℕ → Cluster → List ClusterEvent → Type 0) {old new : Held D} {before later : List ℕ}
+  pub nodes-end : (Each : Setup → ℕ → Cluster → List ClusterEvent → Type 0) {old new : Held D} {before later : Outcome}
       (at : ℕ) → length new.nodes.items ≤ at
       → Served tells past faults (LeadsIn nodes_in at Each) old new before later
       → Served tells past faults (λ setup. ForEach setup.nodes (Each setup)) old new before later
@@ -283,61 +266,36 @@ module _ {D : Type 0} {tells : D → Bool} {past : D → List Disk} {faults : D 
 
   -- ---- notices
 
-  pub notices-nothing : (k at : ℕ) (held : Held D) (text : List ℕ)
+  pub notices-nothing : (k at : ℕ) (held : Held D) (outcome : Outcome)
       → ((setup : Setup) (c : Cluster) → IsReached setup c → Stands tells past setup held c
       → (c.up k && waits_noticed k (c.queue (at + 1))) ≡ false)
-      → Served tells past faults (λ setup. IsNotice k (at + 1)) held held text text
-  notices-nothing k at held text none =
-      served-nothing held text
-      (λ setup c r st. rule-else (c.up k && waits_noticed k (c.queue (at + 1))) (Is (At (at + 1) (Notices k))) IsNothing
+      → Served tells past faults (λ setup. IsNotice k (at + 1)) held held outcome outcome
+  notices-nothing k at held outcome none =
+      served-nothing held outcome
+      (λ setup c r st. rule-else (c.up k && waits_noticed k (c.queue (at + 1))) (Tells (at + 1) (Notices k)) IsNothing
       c [] (none setup c r st) refl)
 
-  pub notices : (k at : ℕ) {old new : Held D} {before later : List ℕ}
+  pub notices : (k at : ℕ) {old new : Held D} {before later : Outcome}
       → ((setup : Setup) (c : Cluster) → IsReached setup c → Stands tells past setup old c
       → (c.up k && waits_noticed k (c.queue (at + 1))) ≡ true)
-      → Served tells past faults (λ setup. Is (At (at + 1) (Notices k))) old new before later
+      → Served tells past faults (λ setup. Tells (at + 1) (Notices k)) old new before later
       → Served tells past faults (λ setup. IsNotice k (at + 1)) old new before later
   notices k at some served =
       served-weaker served
       (λ setup c events r st allowed. rule-if (c.up k && waits_noticed k (c.queue (at + 1)))
-      (Is (At (at + 1) (Notices k))) IsNothing c events (some setup c r st) allowed)
-
-  -- ---- messages
-
-  pub delivered-none : (at : ℕ) (held : Held D) (text : List ℕ)
-      → Served tells past faults (Delivered 0 at) held held text text
-  delivered-none at held text = served-nothing held text (λ setup c r st. refl)
-
-  pub delivered-more : (count at : ℕ) {old mid new : Held D} {before middle later : List ℕ}
-      → Served tells past faults (Delivered count at) old mid before middle
-      → Served tells past faults (λ setup. Is (At (at + 1) (Delivers (1 - 1)))) mid new middle later
-      → Served tells past faults (Delivered (count + 1) at) old new before later
-  delivered-more count at first second =
-      served-both first second
-      (λ setup c events others one other. ap (λ (l : List ClusterEvent). l ++ others) one
-      ∙ ap (λ (l : List ClusterEvent). replicate count (At (at + 1) (Delivers 0)) ++ l) other
-      ∙ replicate-more (At (at + 1) (Delivers 0)) count)
-
-  pub delivered-all : (count at : ℕ) {old new : Held D} {before later : List ℕ}
-      → ((setup : Setup) (c : Cluster) → Stands tells past setup old c → count ≡ length (c.queue (at + 1)).group.bag)
-      → Served tells past faults (Delivered count at) old new before later
-      → Served tells past faults (λ setup. IsEmptied (at + 1)) old new before later
-  delivered-all count at all served =
-      served-weaker served
-      (λ setup c events r st allowed. allowed
-      ∙ ap (λ (n : ℕ). replicate n (At (at + 1) (Delivers 0))) (all setup c st))
+      (Tells (at + 1) (Notices k)) IsNothing c events (some setup c r st) allowed)
 
   -- ---- quiet queues
 
   -- one that is quiet isn't active any more
-  pub served-dropped : (place at : ℕ) (old new : Held D) (text : List ℕ)
+  pub served-dropped : (place at : ℕ) (old new : Held D) (outcome : Outcome)
       → new ≡ record old { active = new.active } → new.active ≡ remove old.active place
       → at ≡ get_or old.active place 0
       → ((setup : Setup) (c : Cluster) → IsReached setup c → Stands tells past setup old c
       → is_quiet setup c.up (c.queue (at + 1)) ≡ true)
-      → Served tells past faults (λ setup. IsNothing) old new text text
-  served-dropped place at old new text same active is quiet =
-      served-still old new text (ap (λ (h : Held D). h.nodes) same)
+      → Served tells past faults (λ setup. IsNothing) old new outcome outcome
+  served-dropped place at old new outcome same active is quiet =
+      served-still old new outcome (ap (λ (h : Held D). h.nodes) same)
       (λ setup c r st. (
         refl,
         subst (λ (h : Held D). Stands tells past setup h c) (sym same) (record {
@@ -357,12 +315,12 @@ module _ {D : Type 0} {tells : D → Bool} {past : D → List Disk} {faults : D 
 
   -- ---- pumps
 
-  pub pump-start : (held : Held D) (text : List ℕ)
-      → Served tells past faults (PumpLeads most_rounds) held held text text
-  pump-start held text = served-nothing held text (λ setup c r st. leads-start (IsPump setup) c)
+  pub pump-start : (held : Held D) (outcome : Outcome)
+      → Served tells past faults (PumpLeads most_rounds) held held outcome outcome
+  pump-start held outcome = served-nothing held outcome (λ setup c r st. leads-start (IsPump setup) c)
 
   -- a round more
-  pub pump-more : (left : ℕ) {old mid new : Held D} {before middle later : List ℕ}
+  pub pump-more : (left : ℕ) {old mid new : Held D} {before middle later : Outcome}
       → Served tells past faults (PumpLeads (suc left)) old mid before middle
       → ((setup : Setup) (c : Cluster) → IsReached setup c → Stands tells past setup mid c
       → false ≡ is_idle setup c)
@@ -387,7 +345,7 @@ module _ {D : Type 0} {tells : D → Bool} {past : D → List Disk} {faults : D 
           (record { early = others; late = late; is = refl; first = round; second = more })
 
   -- nothing is left to do
-  pub pump-idle : (left : ℕ) {old new : Held D} {before later : List ℕ}
+  pub pump-idle : (left : ℕ) {old new : Held D} {before later : Outcome}
       → Served tells past faults (PumpLeads left) old new before later
       → ((setup : Setup) (c : Cluster) → IsReached setup c → Stands tells past setup new c
       → true ≡ is_idle setup c)
@@ -400,7 +358,7 @@ module _ {D : Type 0} {tells : D → Bool} {past : D → List Disk} {faults : D 
   }
 
   -- all rounds are made, and work is left
-  pub pump-busy : {old mid new : Held D} {before middle later : List ℕ}
+  pub pump-busy : {old mid new : Held D} {before middle later : Outcome}
       → Served tells past faults (PumpLeads 0) old mid before middle
       → ((setup : Setup) (c : Cluster) → IsReached setup c → Stands tells past setup mid c
       → false ≡ is_idle setup c)
@@ -414,13 +372,13 @@ module _ {D : Type 0} {tells : D → Bool} {past : D → List Disk} {faults : D 
       (λ setup c events others one other. one others other)
 
   -- a pump is to be asked for
-  pub not-pumped : (held : Held D) (text : List ℕ) → held.auto ≡ false
-      → Served tells past faults IsPumped held held text text
-  not-pumped held text off =
-      served-nothing held text
+  pub not-pumped : (held : Held D) (outcome : Outcome) → held.auto ≡ false
+      → Served tells past faults IsPumped held held outcome outcome
+  not-pumped held outcome off =
+      served-nothing held outcome
       (λ setup c r st. rule-else c.auto (IsPump setup) IsNothing c [] (sym st.auto ∙ off) refl)
 
-  pub is-pumped : {old new : Held D} {before later : List ℕ} → old.auto ≡ true
+  pub is-pumped : {old new : Held D} {before later : Outcome} → old.auto ≡ true
       → Served tells past faults IsPump old new before later → Served tells past faults IsPumped old new before later
   is-pumped on served =
       served-weaker served
@@ -430,7 +388,7 @@ module _ {D : Type 0} {tells : D → Bool} {past : D → List Disk} {faults : D 
 
   -- at an active place
   pub walk-gave_up : (Each : Setup → ℕ → Cluster → List ClusterEvent → Type 0) {old mid new : Held D}
-      {before middle : List ℕ} {memory : Memory} (i at : ℕ) → ((setup : Setup) (place : ℕ) → Total (Each setup place))
+      {before middle : Outcome} {memory : Memory} (i at : ℕ) → ((setup : Setup) (place : ℕ) → Total (Each setup place))
       → CanServe tells past old → mid.active ≡ old.active → i < length old.active → at ≡ get_or mid.active i 0
       → Served tells past faults (LeadsIn places_in (get_or mid.active i (length mid.queues.items)) Each) old mid before
       middle
@@ -449,7 +407,7 @@ module _ {D : Type 0} {tells : D → Bool} {past : D → List Disk} {faults : D 
       second
 
   pub nodes-gave_up : (Each : Setup → ℕ → Cluster → List ClusterEvent → Type 0) {old mid new : Held D}
-      {before middle : List ℕ} {memory : Memory} (at : ℕ) (node : NodeId)
+      {before middle : Outcome} {memory : Memory} (at : ℕ) (node : NodeId)
       → ((setup : Setup) (k : ℕ) → Total (Each setup k))
       → ((setup : Setup) (c : Cluster) → Stands tells past setup mid c → node.0 ≡ at + 1) → at < length mid.nodes.items
       → Served tells past faults (LeadsIn nodes_in at Each) old mid before middle
@@ -463,40 +421,14 @@ module _ {D : Type 0} {tells : D → Bool} {past : D → List Disk} {faults : D 
   pub notice-gave_up : (k at : ℕ) {old new : Held D} {memory : Memory}
       → ((setup : Setup) (c : Cluster) → IsReached setup c → Stands tells past setup old c
       → (c.up k && waits_noticed k (c.queue (at + 1))) ≡ true)
-      → GaveUp tells past faults (λ setup. Is (At (at + 1) (Notices k))) old new memory
+      → GaveUp tells past faults (λ setup. Tells (at + 1) (Notices k)) old new memory
       → GaveUp tells past faults (λ setup. IsNotice k (at + 1)) old new memory
   notice-gave_up k at some given =
       gave_up-weaker
       (λ setup c events r st allowed. rule-if (c.up k && waits_noticed k (c.queue (at + 1)))
-      (Is (At (at + 1) (Notices k))) IsNothing c events (some setup c r st) allowed) given
+      (Tells (at + 1) (Notices k)) IsNothing c events (some setup c r st) allowed) given
 
-  -- a message more would have been delivered
-  pub delivered-gave_up : (count all at : ℕ) {old mid new : Held D} {before middle : List ℕ} {memory : Memory}
-      → count < all
-      → ((setup : Setup) (c : Cluster) → Stands tells past setup old c → all ≡ length (c.queue (at + 1)).group.bag)
-      → Served tells past faults (Delivered count at) old mid before middle
-      → GaveUp tells past faults (λ setup. Is (At (at + 1) (Delivers (1 - 1)))) mid new memory
-      → GaveUp tells past faults (λ setup. IsEmptied (at + 1)) old new memory
-  delivered-gave_up count all at {old = old} {mid = mid} {new = new} {memory = memory} lt bag first second =
-      gave_up-weaker {First = Delivered all at}
-      (λ setup c events r st allowed. allowed ∙ ap (λ (n : ℕ). replicate n (At (at + 1) (Delivers 0))) (bag setup c st))
-      (gave_up-after {Second = Delivered (all - count) at} {Whole = Delivered all at}
-      (λ setup c events others one other. ap (λ (l : List ClusterEvent). l ++ others) one
-      ∙ ap (λ (l : List ClusterEvent). replicate count (At (at + 1) (Delivers 0)) ++ l) other
-      ∙ replicate-both (At (at + 1) (Delivers 0)) count (all - count)
-      ∙ ap (λ (n : ℕ). replicate n (At (at + 1) (Delivers 0))) (let e : count + (all - count) ≡ all = omega (arith, lt) in e))
-      first
-      (gave_up-by {First = λ setup. Is (At (at + 1) (Delivers (1 - 1)))} {Whole = Delivered (all - count) at}
-      (λ setup c early r st b. record {
-        rest = b.rest ++ replicate (all - count - 1) (At (at + 1) (Delivers 0));
-        allowed = sym (append_assoc early b.rest (replicate (all - count - 1) (At (at + 1) (Delivers 0))))
-            ∙ ap (λ (l : List ClusterEvent). l ++ replicate (all - count - 1) (At (at + 1) (Delivers 0))) b.allowed
-            ∙ replicate-both (At (at + 1) (Delivers 0)) 1 (all - count - 1)
-            ∙ ap (λ (n : ℕ). replicate n (At (at + 1) (Delivers 0)))
-            (let e : 1 + (all - count - 1) ≡ all - count = omega (arith, lt) in e);
-      }) second))
-
-  pub pump-gave_up : (left : ℕ) {old mid new : Held D} {before middle : List ℕ} {memory : Memory}
+  pub pump-gave_up : (left : ℕ) {old mid new : Held D} {before middle : Outcome} {memory : Memory}
       → Served tells past faults (PumpLeads (suc left)) old mid before middle
       → ((setup : Setup) (c : Cluster) → IsReached setup c → Stands tells past setup mid c
       → false ≡ is_idle setup c)
@@ -509,7 +441,7 @@ module _ {D : Type 0} {tells : D → Bool} {past : D → List Disk} {faults : D 
       (gave_up-first {First = IsRound} {Second = Pumps left} (total-pumps left) second))
 
   -- for want of memory
-  pub pump-wants : (left : ℕ) {old mid new : Held D} {before middle : List ℕ} {memory : Memory}
+  pub pump-wants : (left : ℕ) {old mid new : Held D} {before middle : Outcome} {memory : Memory}
       → Served tells past faults (PumpLeads left) old mid before middle → new.nodes ≡ mid.nodes → memory ≡ Want
       → GaveUp tells past faults IsPump old new memory
   pump-wants left {mid = mid} {new = new} {memory = memory} first nodes want =

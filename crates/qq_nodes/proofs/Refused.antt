@@ -26,7 +26,7 @@ use Rattle.qq_nodes.specs.Asking.{asked}
 use Rattle.qq_nodes.specs.Ends.{InQueue, IsAskCaused, IsAtEnd, IsRefusedAt}
 use Rattle.qq_nodes.specs.Nodes.{GaveUp, seen}
 use Rattle.qq_nodes.specs.declared.asking.Ask.{Ask}
-use Rattle.qq_nodes.specs.declared.asking.Ask.TheVariants.{Submit, TellEnded, TellNotTaken, Resend, Fetch, Down, Tick, Notice, Deliver, Lose, Copy}
+use Rattle.qq_nodes.specs.declared.asking.Ask.TheVariants.{Submit, TellEnded, TellNotTaken, Attach, Resend, Fetch, Down, Tick, Notice, Deliver, Lose, Copy}
 use Rattle.qq_nodes.specs.declared.nodes.Nodes.{Nodes as Held}
 use Rattle.qq_nodes.proofs.Stands.{ends-now, same-logs, same-seen, stands-logs}
 
@@ -58,6 +58,7 @@ ask-ends steps (Submit session body) d number sound (inr offer) =
     sound offer
 ask-ends steps (TellEnded session) d number sound cause = no-want number cause
 ask-ends steps (TellNotTaken session id) d number sound cause = no-want number cause
+ask-ends steps (Attach session tag number) d number sound cause = no-want number cause
 ask-ends steps (Fetch session) d number sound cause = no-want number cause
 ask-ends steps (Resend session) d number sound (inl want) = no-want number want
 ask-ends steps (Resend session) d number sound (inr refused) =

@@ -11,9 +11,10 @@ use Rattle.qq_entry.specs.declared.command.Unstamped.{Unstamped}
 use Rattle.qq_cluster.specs.Cluster.{At, Cluster, ClusterEvent, SaysEnded, SaysUnroutable, Setup}
 use Rattle.qq_cluster.specs.Lines.{IsRouted}
 use Rattle.qq_cluster.specs.Queue.{Fetches, Resends}
-use Rattle.qq_cluster.specs.Rules.{ForEach, Is, IsGiven, IsNothing, IsResend, Then, is_ended, some_queue}
+use Rattle.qq_cluster.specs.Rules.{ForEach, Is, IsGiven, IsNothing, IsResend, Tells, Then, is_ended, some_queue}
 use Rattle.qq_cluster_laws.specs.Serves.{Leads}
 use Rattle.qq_cluster_queue.specs.Sessions.{standings}
+use Rattle.qq_cluster.specs.Outcome.{Outcome}
 use Rattle.qq_nodes.specs.Nodes.{CanServe, GaveUp, IsQueueAt, LeadsIn, Served, Stands}
 use Rattle.qq_nodes.specs.Sending.{GivesTo, Sends, numbers_of}
 use Rattle.qq_nodes.specs.declared.nodes.Nodes.{Nodes as Held}
@@ -77,7 +78,7 @@ module _ {D : Type 0} {tells : D → Bool} {past : D → List Disk} where
 
 module _ {D : Type 0} {tells : D → Bool} {past : D → List Disk} {faults : D → ℕ} where
   -- the queues are there still
-  pub queues-after : {Rule : Setup → Cluster → List ClusterEvent → Type 0} {old new : Held D} {before later : List ℕ}
+  pub queues-after : {Rule : Setup → Cluster → List ClusterEvent → Type 0} {old new : Held D} {before later : Outcome}
       (queues : List QueueId) → CanServe tells past old → Served tells past faults Rule old new before later
       → All (λ (queue : QueueId). IsQueueAt queue old) queues → All (λ (queue : QueueId). IsQueueAt queue new) queues
   queues-after queues can served all k d lt =
@@ -85,13 +86,13 @@ module _ {D : Type 0} {tells : D → Bool} {past : D → List Disk} {faults : D 
       let many = (many-after can served).0 in
       (is.0, (let le = is.1 in omega (arith, le, many)))
 
-  pub gives-none : (session : ℕ) (body : Unstamped) (places : List ℕ) (held : Held D) (text : List ℕ)
-      → Served tells past faults (GivesTo session body places 0) held held text text
-  gives-none session body places held text =
-      each-start (λ setup. places) (λ setup. IsGiven session body) held text
+  pub gives-none : (session : ℕ) (body : Unstamped) (places : List ℕ) (held : Held D) (outcome : Outcome)
+      → Served tells past faults (GivesTo session body places 0) held held outcome outcome
+  gives-none session body places held outcome =
+      each-start (λ setup. places) (λ setup. IsGiven session body) held outcome
 
   pub gives-more : (session : ℕ) (body : Unstamped) (queues : List QueueId) (at : ℕ) (queue : QueueId)
-      {old mid new : Held D} {before middle later : List ℕ} → slice_get queues at ≡ Some queue → 0 < queue.0
+      {old mid new : Held D} {before middle later : Outcome} → slice_get queues at ≡ Some queue → 0 < queue.0
       → Served tells past faults (GivesTo session body (numbers_of queues) at) old mid before middle
       → Served tells past faults (λ setup. IsGiven session body ((queue.0 - 1) + 1)) mid new middle later
       → Served tells past faults (GivesTo session body (numbers_of queues) (at + 1)) old new before later
@@ -102,7 +103,7 @@ module _ {D : Type 0} {tells : D → Bool} {past : D → List Disk} {faults : D 
 
   -- a copy of it
   pub gives-copy : (session : ℕ) (own body : Unstamped) (queues : List QueueId) (at : ℕ) (queue : QueueId)
-      {old mid new : Held D} {before middle later : List ℕ} → own ≡ body → slice_get queues at ≡ Some queue → 0 < queue.0
+      {old mid new : Held D} {before middle later : Outcome} → own ≡ body → slice_get queues at ≡ Some queue → 0 < queue.0
       → Served tells past faults (GivesTo session body (numbers_of queues) at) old mid before middle
       → Served tells past faults (λ setup. IsGiven session own ((queue.0 - 1) + 1)) mid new middle later
       → Served tells past faults (GivesTo session body (numbers_of queues) (at + 1)) old new before later
@@ -113,7 +114,7 @@ module _ {D : Type 0} {tells : D → Bool} {past : D → List Disk} {faults : D 
 
   -- all of them
   pub gives-all : (session : ℕ) (body : Unstamped) (queues : List QueueId) (at : ℕ) (queue : QueueId)
-      {old mid new : Held D} {before middle later : List ℕ} → slice_get queues at ≡ Some queue → 0 < queue.0
+      {old mid new : Held D} {before middle later : Outcome} → slice_get queues at ≡ Some queue → 0 < queue.0
       → length queues ≤ at + 1
       → Served tells past faults (GivesTo session body (numbers_of queues) at) old mid before middle
       → Served tells past faults (λ setup. IsGiven session body ((queue.0 - 1) + 1)) mid new middle later
@@ -127,7 +128,7 @@ module _ {D : Type 0} {tells : D → Bool} {past : D → List Disk} {faults : D 
       (λ setup c events r st given. routed-some session body (numbers_of queues) c events
       (let lt = within-length queues at queue here in let long = long-numbers queues in omega (arith, lt, long)) given)
 
-  pub unrouted : (session : ℕ) (body : Unstamped) (queues : List QueueId) {old new : Held D} {before later : List ℕ}
+  pub unrouted : (session : ℕ) (body : Unstamped) (queues : List QueueId) {old new : Held D} {before later : Outcome}
       → length queues ≡ 0 → Served tells past faults (λ setup. Is SaysUnroutable) old new before later
       → Served tells past faults (λ setup. IsRouted session body (numbers_of queues)) old new before later
   unrouted session body queues none served =
@@ -137,7 +138,7 @@ module _ {D : Type 0} {tells : D → Bool} {past : D → List Disk} {faults : D 
   -- ---- it is given up
 
   pub gives-gave_up : (session : ℕ) (body : Unstamped) (queues : List QueueId) (at : ℕ) (queue : QueueId)
-      {old mid new : Held D} {before middle : List ℕ} {memory : Memory} → slice_get queues at ≡ Some queue
+      {old mid new : Held D} {before middle : Outcome} {memory : Memory} → slice_get queues at ≡ Some queue
       → 0 < queue.0 → Served tells past faults (GivesTo session body (numbers_of queues) at) old mid before middle
       → GaveUp tells past faults (λ setup. IsGiven session body ((queue.0 - 1) + 1)) mid new memory
       → GaveUp tells past faults (λ setup. ForEach (numbers_of queues) (IsGiven session body)) old new memory
@@ -147,7 +148,7 @@ module _ {D : Type 0} {tells : D → Bool} {past : D → List Disk} {faults : D 
       (at-queue_gave_up (λ k setup. IsGiven session body k) queue low second)
 
   pub gives-copy_gave_up : (session : ℕ) (own body : Unstamped) (queues : List QueueId) (at : ℕ) (queue : QueueId)
-      {old mid new : Held D} {before middle : List ℕ} {memory : Memory} → own ≡ body → slice_get queues at ≡ Some queue
+      {old mid new : Held D} {before middle : Outcome} {memory : Memory} → own ≡ body → slice_get queues at ≡ Some queue
       → 0 < queue.0 → Served tells past faults (GivesTo session body (numbers_of queues) at) old mid before middle
       → GaveUp tells past faults (λ setup. IsGiven session own ((queue.0 - 1) + 1)) mid new memory
       → GaveUp tells past faults (λ setup. ForEach (numbers_of queues) (IsGiven session body)) old new memory
@@ -157,7 +158,7 @@ module _ {D : Type 0} {tells : D → Bool} {past : D → List Disk} {faults : D 
       same second)
 
   pub gives-wants : (session : ℕ) (body : Unstamped) (places : List ℕ) (at : ℕ) {old mid new : Held D}
-      {before middle : List ℕ} {memory : Memory} → new.nodes ≡ mid.nodes → memory ≡ Want
+      {before middle : Outcome} {memory : Memory} → new.nodes ≡ mid.nodes → memory ≡ Want
       → Served tells past faults (GivesTo session body places at) old mid before middle
       → GaveUp tells past faults (λ setup. ForEach places (IsGiven session body)) old new memory
   gives-wants session body places at {mid = mid} {new = new} {memory = memory} nodes want first =
@@ -176,20 +177,20 @@ module _ {D : Type 0} {tells : D → Bool} {past : D → List Disk} {faults : D 
   -- ---- commands that are sent again, and then a fetch
 
   -- there is no queue
-  pub resends-none : (session : ℕ) (held : Held D) (text : List ℕ) → length held.queues.items ≡ 0
-      → Served tells past faults (λ setup. IsResend setup session) held held text text
-  resends-none session held text none =
-      served-nothing held text
+  pub resends-none : (session : ℕ) (held : Held D) (outcome : Outcome) → length held.queues.items ≡ 0
+      → Served tells past faults (λ setup. IsResend setup session) held held outcome outcome
+  resends-none session held outcome none =
+      served-nothing held outcome
       (λ setup c r st. rule-else (some_queue setup (is_ended session) c) (Is SaysEnded)
       (Sends setup session) c []
       (ap (list_any (λ (place : ℕ). is_ended session (c.queue place)))
       (st.set_up.places ∙ ap (range_with_len 1) none))
       (subst (λ (l : List ℕ). Then (ForEach l (λ place. Is (At place (Resends session))))
-      (ForEach l (λ place. Is (At place (Fetches session)))) c [])
+      (ForEach l (λ place. Tells place (Fetches session))) c [])
       (sym (st.set_up.places ∙ ap (range_with_len 1) none))
       (record { early = []; late = []; is = refl; first = refl; second = refl })))
 
-  pub resends-ended : (session : ℕ) {old new : Held D} {before later : List ℕ}
+  pub resends-ended : (session : ℕ) {old new : Held D} {before later : Outcome}
       → true ≡ (standings old.sessions session).ended → 0 < length old.queues.items
       → Served tells past faults (λ setup. Is SaysEnded) old new before later
       → Served tells past faults (λ setup. IsResend setup session) old new before later
@@ -199,7 +200,7 @@ module _ {D : Type 0} {tells : D → Bool} {past : D → List Disk} {faults : D 
       (Sends setup session) c events
       (some-ended setup c old session true st (sym ended) (λ none. absurd (omega (arith, some, none)))) allowed)
 
-  pub resends-each : (session : ℕ) {old new : Held D} {before later : List ℕ}
+  pub resends-each : (session : ℕ) {old new : Held D} {before later : Outcome}
       → false ≡ (standings old.sessions session).ended
       → Served tells past faults (λ setup. Sends setup session) old new before later
       → Served tells past faults (λ setup. IsResend setup session) old new before later

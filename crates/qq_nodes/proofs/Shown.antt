@@ -15,7 +15,7 @@ use Rattle.qq_model.specs.State.{empty_queue}
 use Rattle.qq_disk.specs.Disk.{Disk}
 use Rattle.qq_raft_model.specs.Group.{has_node}
 use Rattle.qq_raft_protocol.specs.Facts.{In}
-use Rattle.qq_cluster.specs.Cluster.{Cluster, Setup, Shows, members, members_in_order, state_at}
+use Rattle.qq_cluster.specs.Cluster.{Cluster, Setup, Shows, members, members_in_order, state_at, Printed}
 use Rattle.qq_cluster.specs.Texts.{printed_text, state_line, text_of}
 use Rattle.qq_cluster_laws.specs.Linked.{lot_of}
 use Rattle.qq_lots.specs.Lots.{ids_of}
@@ -25,11 +25,14 @@ use Rattle.qq_cluster.specs.Queue.{Queue, audit_rows}
 use Rattle.qq_cluster_queue.specs.ClusterQueue.{OfItsQueue}
 use Rattle.qq_cluster_queue.specs.Sessions.{standings}
 use Rattle.qq_cluster_queue.specs.declared.cluster_queue.ClusterQueue.{ClusterQueue}
+use Rattle.qq_cluster.specs.Outcome.{Outcome, takers_after, sees_prints}
+use Rattle.qq_taker.specs.Takers.{Takers}
 use Rattle.qq_nodes.specs.Nodes.{IsNodeOf, IsQueueAt, IsQueueOf, Stands}
-use Rattle.qq_nodes.specs.Showing.{has_queue, member_text}
+use Rattle.qq_nodes.specs.Showing.{has_queue, member_text, with_line}
 use Rattle.qq_nodes.specs.declared.node.Node.{Node}
 use Rattle.qq_nodes.specs.declared.nodes.Nodes.{Nodes as Held}
 use Rattle.qq_nodes.proofs.Walks.{in-range}
+use Rattle.qq_nodes.proofs.Outcomes.{same-outcome}
 
 -- ---- the queues of a node
 
@@ -116,6 +119,18 @@ shows-text setup c place =
     lines-of setup c place setup.nodes
     ∙ ap (flat_map (printed_text setup)) (sym (append-nil (map (state_at c place) (members_in_order setup place))))
 
+-- takers see nothing of it
+states-unseen : (c : Cluster) (place : ℕ) (nodes : List ℕ) (all : Takers)
+    → sees_prints (map (state_at c place) nodes) all ≡ all
+states-unseen c place [] all = refl
+states-unseen c place (k ∷ nodes) all = states-unseen c place nodes all
+
+pub shows-takers : (setup : Setup) (c : Cluster) (place : ℕ) (all : Takers)
+    → takers_after setup c (Shows place ∷ []) all ≡ all
+shows-takers setup c place all =
+    ap (λ (l : List Printed). sees_prints l all) (append-nil (map (state_at c place) (members_in_order setup place)))
+    ∙ states-unseen c place (members_in_order setup place) all
+
 -- a node that has no member of the queue shows nothing, and one that has it a line
 pub shows-none : (setup : Setup) (c : Cluster) (place k : ℕ) → has_node k (members setup place) ≡ false
     → member_text setup c place k ≡ []
@@ -175,30 +190,31 @@ module _ {D : Type 0} {tells : D → Bool} {past : D → List Disk} where
 
   -- the line of a member that is there
   pub line-at : (held : Held D) (queue : QueueId) (node : NodeId) (at : ℕ) (x : ClusterQueue) (y : Node D)
-      (before later : List ℕ) → IsQueueAt queue held → slice_get held.queues.items (queue.0 - 1) ≡ Some x
+      (before later : Outcome) → IsQueueAt queue held → slice_get held.queues.items (queue.0 - 1) ≡ Some x
       → slice_get held.nodes.items at ≡ Some y → has_queue queue.0 y.queues.items ≡ true
       → ((setup : Setup) (c : Cluster) → Stands tells past setup held c → node.0 ≡ at + 1)
       → OfItsQueue x (λ (q : Queue).
-      later ≡ before ++ state_line x.label.name node.0 (q.group.seat node.0).server)
+      later ≡ with_line (state_line x.label.name node.0 (q.group.seat node.0).server) before)
       → (setup : Setup) (c : Cluster) → Stands tells past setup held c
-      → later ≡ before ++ member_text setup c queue.0 (at + 1)
+      → later ≡ with_line (member_text setup c queue.0 (at + 1)) before
   line-at held queue node at x y before later is here there has number own setup c st =
       let was : IsQueueOf setup (standings held.sessions) c queue.0 x = queue-was setup c held queue x is here st in
       own (standings held.sessions) (c.queue queue.0) was.stands
-      ∙ ap (λ (name : List ℕ). before ++ state_line name node.0 ((c.queue queue.0).group.seat node.0).server) was.name_is
-      ∙ ap (λ (k : ℕ). before ++ state_line (setup.name queue.0) k ((c.queue queue.0).group.seat k).server)
+      ∙ ap (λ (name : List ℕ). with_line (state_line name node.0 ((c.queue queue.0).group.seat node.0).server) before)
+      was.name_is
+      ∙ ap (λ (k : ℕ). with_line (state_line (setup.name queue.0) k ((c.queue queue.0).group.seat k).server) before)
       (number setup c st)
-      ∙ ap (λ (l : List ℕ). before ++ l)
+      ∙ ap (λ (l : List ℕ). with_line l before)
       (sym (shows-line setup c queue.0 (at + 1) (sym (member-told held queue at y is there setup c st) ∙ has)))
 
   -- and nothing where there is none
-  pub none-at : (held : Held D) (queue : QueueId) (at : ℕ) (y : Node D) (text : List ℕ) → IsQueueAt queue held
+  pub none-at : (held : Held D) (queue : QueueId) (at : ℕ) (y : Node D) (outcome : Outcome) → IsQueueAt queue held
       → slice_get held.nodes.items at ≡ Some y → has_queue queue.0 y.queues.items ≡ false
       → (setup : Setup) (c : Cluster) → Stands tells past setup held c
-      → text ≡ text ++ member_text setup c queue.0 (at + 1)
-  none-at held queue at y text is there has setup c st =
-      sym (append-nil text)
-      ∙ ap (λ (l : List ℕ). text ++ l)
+      → outcome ≡ with_line (member_text setup c queue.0 (at + 1)) outcome
+  none-at held queue at y outcome is there has setup c st =
+      same-outcome outcome
+      ∙ ap (λ (l : List ℕ). with_line l outcome)
       (sym (shows-none setup c queue.0 (at + 1) (sym (member-told held queue at y is there setup c st) ∙ has)))
 
   -- why there is none

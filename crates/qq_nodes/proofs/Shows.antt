@@ -5,11 +5,15 @@ use Rattle.std.proofs.lemmas.List.{flat_map_more, take_more}
 use Rattle.std.proofs.lemmas.List.FromFn.{get_or-range_with_len, length-range_with_len}
 use Rattle.qq_disk.specs.Disk.{Disk}
 use Rattle.qq_cluster.specs.Cluster.{Cluster, Setup, Shows}
+use Rattle.qq_cluster.specs.Outcome.{Outcome}
 use Rattle.qq_cluster.specs.Rules.{Is}
+use Rattle.qq_cluster.specs.Texts.{text_of}
+use Rattle.qq_taker.specs.Takers.{Takers}
 use Rattle.qq_nodes.specs.Nodes.{Served, Stands}
-use Rattle.qq_nodes.specs.Showing.{member_text}
+use Rattle.qq_nodes.specs.Showing.{member_text, with_line}
 use Rattle.qq_nodes.specs.declared.nodes.Nodes.{Nodes as Held}
-use Rattle.qq_nodes.proofs.Shown.{shows-text}
+use Rattle.qq_nodes.proofs.Outcomes.{shows-one}
+use Rattle.qq_nodes.proofs.Shown.{shows-takers, shows-text}
 use Rattle.qq_nodes.proofs.Stands.{served-unseen}
 
 take-whole : (xs : List ℕ) (n : ℕ) → length xs ≤ n → take n xs ≡ xs
@@ -19,23 +23,24 @@ take-whole (x ∷ xs) zero le = absurd (omega (arith, le))
 take-whole (x ∷ xs) (suc n) le = ap (λ (l : List ℕ). x ∷ l) (take-whole xs n (omega (arith, le)))
 
 -- the lines of the first nodes
-abbrev pub ShownTo : {D : Type 0} → (D → Bool) → (D → List Disk) → ℕ → ℕ → Held D → List ℕ → List ℕ → Type 0
+abbrev pub ShownTo : {D : Type 0} → (D → Bool) → (D → List Disk) → ℕ → ℕ → Held D → Outcome → Outcome → Type 0
 ShownTo tells past place at held before later =
     (setup : Setup) (c : Cluster) → Stands tells past setup held c
-    → later ≡ before ++ flat_map (member_text setup c place) (take at setup.nodes)
+    → later ≡ with_line (flat_map (member_text setup c place) (take at setup.nodes)) before
 
 module _ {D : Type 0} {tells : D → Bool} {past : D → List Disk} where
   -- one more
-  pub shown-more : (place at : ℕ) (held : Held D) (before mid later : List ℕ) → at < length held.nodes.items
+  pub shown-more : (place at : ℕ) (held : Held D) (before mid later : Outcome) → at < length held.nodes.items
       → ShownTo tells past place at held before mid
       → ((setup : Setup) (c : Cluster) → Stands tells past setup held c
-      → later ≡ mid ++ member_text setup c place (at + 1))
+      → later ≡ with_line (member_text setup c place (at + 1)) mid)
       → ShownTo tells past place (at + 1) held before later
   shown-more place at held before mid later lt first second setup c st =
       second setup c st
-      ∙ ap (λ (l : List ℕ). l ++ member_text setup c place (at + 1)) (first setup c st)
-      ∙ flat_map_more (member_text setup c place) before (take at setup.nodes) (at + 1)
-      ∙ ap (λ (l : List ℕ). before ++ flat_map (member_text setup c place) l)
+      ∙ ap (with_line (member_text setup c place (at + 1))) (first setup c st)
+      ∙ ap (λ (l : List ℕ). record before { text = l })
+      (flat_map_more (member_text setup c place) before.text (take at setup.nodes) (at + 1))
+      ∙ ap (λ (l : List ℕ). with_line (flat_map (member_text setup c place) l) before)
       (ap (λ (k : ℕ). take at setup.nodes ++ k ∷ []) (sym own)
       ∙ sym (take_more setup.nodes at 0
       (let e = ap length st.set_up.nodes in let long = length-range_with_len 1 (length held.nodes.items) in
@@ -47,7 +52,7 @@ module _ {D : Type 0} {tells : D → Bool} {past : D → List Disk} where
           ∙ get_or-range_with_len 1 (length held.nodes.items) at 0 lt ∙ (let e : 1 + at ≡ at + 1 = omega arith in e)
 
   -- all of them
-  pub shown-all : {faults : D → ℕ} (place at : ℕ) (held : Held D) (before later : List ℕ) → length held.nodes.items ≤ at
+  pub shown-all : {faults : D → ℕ} (place at : ℕ) (held : Held D) (before later : Outcome) → length held.nodes.items ≤ at
       → ShownTo tells past place at held before later
       → Served tells past faults (λ setup. Is (Shows place)) held held before later
   shown-all place at held before later le shown =
@@ -55,10 +60,12 @@ module _ {D : Type 0} {tells : D → Bool} {past : D → List Disk} where
       (λ setup c r st. (
         refl,
         st,
-        shown setup c st
-            ∙ ap (λ (l : List ℕ). before ++ flat_map (member_text setup c place) l)
+        shows-one setup c (Shows place) before later (shown setup c st
+            ∙ ap (λ (l : List ℕ). with_line (flat_map (member_text setup c place) l) before)
             (take-whole setup.nodes at
             (let e = ap length st.set_up.nodes in let long = length-range_with_len 1 (length held.nodes.items) in
             omega (arith, e, long, le)))
-            ∙ ap (λ (l : List ℕ). before ++ l) (shows-text setup c place),
+            ∙ ap (λ (l : List ℕ). with_line l before) (shows-text setup c place)
+            ∙ ap (λ (all : Takers). record { text = before.text ++ text_of setup c (Shows place ∷ []); takers = all })
+            (sym (shows-takers setup c place before.takers))),
       ))

@@ -7,18 +7,19 @@ use Rattle.qq_base.specs.declared.memory.Memory.{Memory}
 use Rattle.qq_base.specs.declared.memory.Memory.TheVariants.{Spent, Want}
 use Rattle.qq_disk.specs.Disk.{Disk}
 use Rattle.qq_cluster.specs.Cluster.{Cluster, ClusterEvent, Setup, cluster_after, cluster_happens}
+use Rattle.qq_cluster.specs.Outcome.{Outcome}
 use Rattle.qq_cluster.specs.Rules.{ForEach, IsNothing, Then, is_quiet}
-use Rattle.qq_cluster.specs.Texts.{text_of}
 use Rattle.qq_cluster_laws.specs.Linked.{IsReached}
 use Rattle.qq_cluster_laws.specs.Serves.{GivesUp, Leads, Seen, Serves}
 use Rattle.qq_cluster_laws.specs.Unseen.{seen_by}
 use Rattle.qq_cluster_laws.proofs.Reached.{after-both, reached-after}
-use Rattle.qq_cluster_laws.proofs.Serves.{gives_up-behind, gives_up-same, leads-more, leads-start, serves-both, serves-nothing, serves-unseen, serves-weaker}
+use Rattle.qq_cluster_laws.proofs.Serves.{ShowsOne, gives_up-behind, gives_up-same, leads-more, leads-start, serves-both, serves-nothing, serves-unseen, serves-weaker}
 use Rattle.qq_nodes.specs.Active.{AreRising}
 use Rattle.qq_nodes.specs.Ends.{IsAtEnd, NumberAt}
 use Rattle.qq_nodes.specs.Nodes.{Begins, CanServe, EndsAt, GaveUp, HaveLogs, LeadsIn, Served, Stands, node_at, nodes_in, places_in, seen, seen_in}
 use Rattle.qq_nodes.specs.declared.node.Node.{Node}
 use Rattle.qq_nodes.specs.declared.nodes.Nodes.{Nodes as Held}
+use Rattle.qq_nodes.proofs.Outcomes.{no_outcome, outcome_after}
 use Rattle.qq_nodes.proofs.Total.{Allowed, Total, total-each}
 use Rattle.qq_nodes.proofs.Walks.{all-get, next-above, next-end, next-most, none-before, none-between, none-left, place-at, skip}
 
@@ -54,7 +55,7 @@ PassesQuiet tells past Each held =
 
 -- the same call by another rule that allows its events
 pub serves-means : {setup : Setup} {c : Cluster} {First More : List ClusterEvent → Type 0} {Stands : Cluster → Type 0}
-    {a b : ℕ → Seen} {before later : List ℕ} (s : Serves setup c First Stands a b before later) → More s.did.events
+    {a b : ℕ → Seen} {before later : Outcome} (s : Serves setup c First Stands a b before later) → More s.did.events
     → Serves setup c More Stands a b before later
 serves-means s more = record {
   did = record {
@@ -62,6 +63,7 @@ serves-means s more = record {
     means = more;
     stands = s.did.stands;
     says = s.did.says;
+    sees = s.did.sees;
     told = s.did.told;
     moments = s.did.moments;
   };
@@ -70,16 +72,17 @@ serves-means s more = record {
   cause = s.cause;
 }
 
--- or behind another text
+-- or from another outcome on
 abbrev pub serves-from : {setup : Setup} {c : Cluster} {Allowed : List ClusterEvent → Type 0} {Stands : Cluster → Type 0}
-    {a b : ℕ → Seen} {before later : List ℕ} (text : List ℕ) (s : Serves setup c Allowed Stands a b before later)
-    → Serves setup c Allowed Stands a b text (text ++ text_of setup c s.did.events)
-serves-from text s = record {
+    {a b : ℕ → Seen} {before later : Outcome} (outcome : Outcome) (s : Serves setup c Allowed Stands a b before later)
+    → Serves setup c Allowed Stands a b outcome (outcome_after setup c s.did.events outcome)
+serves-from outcome s = record {
   did = record {
     events = s.did.events;
     means = s.did.means;
     stands = s.did.stands;
     says = refl;
+    sees = refl;
     told = s.did.told;
     moments = s.did.moments;
   };
@@ -95,9 +98,9 @@ pub ends-now : {D : Type 0} {tells : D → Bool} {past : D → List Disk} {fault
     → EndsAt tells past faults setup Allows old c number
 ends-now {tells = tells} {past = past} {faults = faults} setup Allows old c number st more at end = record {
   mid = old;
-  before = [];
-  said = [];
-  serves = serves-nothing setup c (Begins Allows c) (Stands tells past setup old) (seen tells past faults old) []
+  before = no_outcome;
+  said = no_outcome;
+  serves = serves-nothing setup c (Begins Allows c) (Stands tells past setup old) (seen tells past faults old) no_outcome
       (record { rest = more.0; allowed = more.1 }) st;
   at = at;
   end = end;
@@ -113,14 +116,14 @@ after-none Rule setup c events others one other =
 module _ {D : Type 0} {tells : D → Bool} {past : D → List Disk} {faults : D → ℕ} where
   -- ---- calls, one after the other
 
-  pub can-after : {Rule : Ruling} {old new : Held D} {before later : List ℕ} → CanServe tells past old
+  pub can-after : {Rule : Ruling} {old new : Held D} {before later : Outcome} → CanServe tells past old
       → Served tells past faults Rule old new before later → CanServe tells past new
   can-after can served =
       let s = served.serves can.0 can.1 can.2 can.3 in
       (can.0, cluster_after can.1 s.did.events, reached-after can.0 can.1 s.did.events can.2, s.did.stands)
 
   -- what the first and then the second allow is what the whole allows
-  pub served-both : {First Second Whole : Ruling} {old mid new : Held D} {before middle later : List ℕ}
+  pub served-both : {First Second Whole : Ruling} {old mid new : Held D} {before middle later : Outcome}
       → Served tells past faults First old mid before middle → Served tells past faults Second mid new middle later
       → ((setup : Setup) (c : Cluster) (events others : List ClusterEvent) → First setup c events
       → Second setup (cluster_after c events) others → Whole setup c (events ++ others))
@@ -134,7 +137,7 @@ module _ {D : Type 0} {tells : D → Bool} {past : D → List Disk} {faults : D 
         (seen tells past faults new) before middle later s t (join setup c s.did.events t.did.events s.did.means t.did.means));
   }
 
-  pub served-then : {First Second : Ruling} {old mid new : Held D} {before middle later : List ℕ}
+  pub served-then : {First Second : Ruling} {old mid new : Held D} {before middle later : Outcome}
       → Served tells past faults First old mid before middle → Served tells past faults Second mid new middle later
       → Served tells past faults (λ setup. Then (First setup) (Second setup)) old new before later
   served-then {First = First} {Second = Second} first second =
@@ -143,7 +146,7 @@ module _ {D : Type 0} {tells : D → Bool} {past : D → List Disk} {faults : D 
       record { early = events; late = others; is = refl; first = one; second = other })
 
   -- and then nothing
-  pub served-same : {Rule : Ruling} {old mid new : Held D} {before middle later : List ℕ}
+  pub served-same : {Rule : Ruling} {old mid new : Held D} {before middle later : Outcome}
       → Served tells past faults Rule old mid before middle
       → Served tells past faults (λ setup. IsNothing) mid new middle later
       → Served tells past faults Rule old new before later
@@ -153,14 +156,14 @@ module _ {D : Type 0} {tells : D → Bool} {past : D → List Disk} {faults : D 
       (sym (append-nil events) ∙ ap (λ (l : List ClusterEvent). events ++ l) (sym other)) one)
 
   -- nothing, and then the rest
-  pub after-nothing : {Rule : Ruling} {old mid new : Held D} {before middle later : List ℕ}
+  pub after-nothing : {Rule : Ruling} {old mid new : Held D} {before middle later : Outcome}
       → Served tells past faults (λ setup. IsNothing) old mid before middle
       → Served tells past faults Rule mid new middle later → Served tells past faults Rule old new before later
   after-nothing {Rule = Rule} first second =
       served-both {Whole = Rule} first second
       (λ setup c events others one other. after-none Rule setup c events others one other)
 
-  pub served-weaker : {Rule More : Ruling} {old new : Held D} {before later : List ℕ}
+  pub served-weaker : {Rule More : Ruling} {old new : Held D} {before later : Outcome}
       → Served tells past faults Rule old new before later
       → ((setup : Setup) (c : Cluster) (events : List ClusterEvent) → IsReached setup c → Stands tells past setup old c
       → Rule setup c events → More setup c events) → Served tells past faults More old new before later
@@ -170,12 +173,12 @@ module _ {D : Type 0} {tells : D → Bool} {past : D → List Disk} {faults : D 
         (λ events allowed. more setup c events r st allowed) (λ d is. is) (served.serves setup c r st);
   }
 
-  pub served-nothing : {Rule : Ruling} (held : Held D) (text : List ℕ)
+  pub served-nothing : {Rule : Ruling} (held : Held D) (outcome : Outcome)
       → ((setup : Setup) (c : Cluster) → IsReached setup c → Stands tells past setup held c → Rule setup c [])
-      → Served tells past faults Rule held held text text
-  served-nothing {Rule = Rule} held text allowed = record {
+      → Served tells past faults Rule held held outcome outcome
+  served-nothing {Rule = Rule} held outcome allowed = record {
     serves = λ setup c r st. serves-nothing setup c (Rule setup c) (Stands tells past setup held)
-        (seen tells past faults held) text (allowed setup c r st) st;
+        (seen tells past faults held) outcome (allowed setup c r st) st;
   }
 
   -- ---- calls that are given up
@@ -242,7 +245,7 @@ module _ {D : Type 0} {tells : D → Bool} {past : D → List Disk} {faults : D 
       })) first
 
   -- after a call that was served
-  pub gave_up-after : {First Second Whole : Ruling} {old mid new : Held D} {before middle : List ℕ} {memory : Memory}
+  pub gave_up-after : {First Second Whole : Ruling} {old mid new : Held D} {before middle : Outcome} {memory : Memory}
       → ((setup : Setup) (c : Cluster) (events others : List ClusterEvent) → First setup c events
       → Second setup (cluster_after c events) others → Whole setup c (events ++ others))
       → Served tells past faults First old mid before middle → GaveUp tells past faults Second mid new memory
@@ -264,10 +267,10 @@ module _ {D : Type 0} {tells : D → Bool} {past : D → List Disk} {faults : D 
         record {
           mid = e.mid;
           before = before;
-          said = middle ++ text_of setup d early;
+          said = outcome_after setup d early middle;
           serves = serves-both setup c (First setup c) (Begins (Second setup) d) (Begins (Whole setup) c)
               (Stands tells past setup mid) (Stands tells past setup e.mid) (seen tells past faults old)
-              (seen tells past faults mid) (seen tells past faults e.mid) before middle (middle ++ text_of setup d early) s
+              (seen tells past faults mid) (seen tells past faults e.mid) before middle (outcome_after setup d early middle) s
               (serves-from middle e.serves) (record {
                 rest = rest;
                 allowed = subst (Whole setup c) (sym (append_assoc events early rest))
@@ -279,7 +282,7 @@ module _ {D : Type 0} {tells : D → Bool} {past : D → List Disk} {faults : D 
   }
 
   -- in the second of two
-  pub gave_up-second : {First Second : Ruling} {old mid new : Held D} {before middle : List ℕ} {memory : Memory}
+  pub gave_up-second : {First Second : Ruling} {old mid new : Held D} {before middle : Outcome} {memory : Memory}
       → Served tells past faults First old mid before middle → GaveUp tells past faults Second mid new memory
       → GaveUp tells past faults (λ setup. Then (First setup) (Second setup)) old new memory
   gave_up-second {First = First} {Second = Second} first second =
@@ -288,7 +291,7 @@ module _ {D : Type 0} {tells : D → Bool} {past : D → List Disk} {faults : D 
       record { early = events; late = others; is = refl; first = one; second = other }) first second
 
   -- after nothing
-  pub gave_up-nothing : {Rule : Ruling} {old mid new : Held D} {before middle : List ℕ} {memory : Memory}
+  pub gave_up-nothing : {Rule : Ruling} {old mid new : Held D} {before middle : Outcome} {memory : Memory}
       → Served tells past faults (λ setup. IsNothing) old mid before middle
       → GaveUp tells past faults Rule mid new memory → GaveUp tells past faults Rule old new memory
   gave_up-nothing {Rule = Rule} first second =
@@ -296,7 +299,7 @@ module _ {D : Type 0} {tells : D → Bool} {past : D → List Disk} {faults : D 
       first second
 
   -- within a loop
-  pub gave_up-leads : {Rest Whole : Ruling} {old mid new : Held D} {before middle : List ℕ} {memory : Memory}
+  pub gave_up-leads : {Rest Whole : Ruling} {old mid new : Held D} {before middle : Outcome} {memory : Memory}
       → Served tells past faults (λ setup. Leads (Rest setup) (Whole setup)) old mid before middle
       → GaveUp tells past faults Rest mid new memory → GaveUp tells past faults Whole old new memory
   gave_up-leads {Rest = Rest} {Whole = Whole} first second =
@@ -304,7 +307,7 @@ module _ {D : Type 0} {tells : D → Bool} {past : D → List Disk} {faults : D 
 
   -- the loop's next item
   pub gave_up-each : (list : Setup → List ℕ) (Each : Setup → ℕ → Cluster → List ClusterEvent → Type 0)
-      {old mid new : Held D} {before middle : List ℕ} {memory : Memory} (at x : ℕ)
+      {old mid new : Held D} {before middle : Outcome} {memory : Memory} (at x : ℕ)
       → ((setup : Setup) (place : ℕ) → Total (Each setup place))
       → ((setup : Setup) (c : Cluster) → Stands tells past setup mid c
       → drop at (list setup) ≡ x ∷ drop (at + 1) (list setup))
@@ -321,24 +324,24 @@ module _ {D : Type 0} {tells : D → Bool} {past : D → List Disk} {faults : D 
   -- ---- single events
 
   -- nothing happens, and they stand for what they stood for
-  pub served-still : {Rule : Ruling} (old new : Held D) (text : List ℕ) → new.nodes ≡ old.nodes
+  pub served-still : {Rule : Ruling} (old new : Held D) (outcome : Outcome) → new.nodes ≡ old.nodes
       → ((setup : Setup) (c : Cluster) → IsReached setup c → Stands tells past setup old c
       → Rule setup c [] × Stands tells past setup new c)
-      → Served tells past faults Rule old new text text
-  served-still {Rule = Rule} old new text nodes still = record {
+      → Served tells past faults Rule old new outcome outcome
+  served-still {Rule = Rule} old new outcome nodes still = record {
     serves = λ setup c r st. (let both = still setup c r st in
         subst (λ (b : ℕ → Seen). Serves setup c (Rule setup c) (Stands tells past setup new)
-        (seen tells past faults old) b text text) (same-seen tells past faults old new nodes)
-        (serves-nothing setup c (Rule setup c) (Stands tells past setup new) (seen tells past faults old) text both.0
+        (seen tells past faults old) b outcome outcome) (same-seen tells past faults old new nodes)
+        (serves-nothing setup c (Rule setup c) (Stands tells past setup new) (seen tells past faults old) outcome both.0
         both.1));
   }
 
   -- an event that no node's log sees
-  pub served-unseen : {Rule : Ruling} (event : ClusterEvent) (old new : Held D) (before later : List ℕ)
+  pub served-unseen : {Rule : Ruling} (event : ClusterEvent) (old new : Held D) (before later : Outcome)
       → seen_by event ≡ None → new.nodes ≡ old.nodes
       → ((setup : Setup) (c : Cluster) → IsReached setup c → Stands tells past setup old c
       → Rule setup c (event ∷ []) × Stands tells past setup new (cluster_happens c event)
-      × (later ≡ before ++ text_of setup c (event ∷ [])))
+      × ShowsOne setup c event before later)
       → Served tells past faults Rule old new before later
   served-unseen {Rule = Rule} event old new before later unseen nodes does = record {
     serves = λ setup c r st. (let d = does setup c r st in
@@ -351,13 +354,13 @@ module _ {D : Type 0} {tells : D → Bool} {past : D → List Disk} {faults : D 
   -- ---- loops
 
   pub each-start : (list : Setup → List ℕ) (Each : Setup → ℕ → Cluster → List ClusterEvent → Type 0) (held : Held D)
-      (text : List ℕ) → Served tells past faults (LeadsIn list 0 Each) held held text text
-  each-start list Each held text =
-      served-nothing held text (λ setup c r st. leads-start (ForEach (list setup) (Each setup)) c)
+      (outcome : Outcome) → Served tells past faults (LeadsIn list 0 Each) held held outcome outcome
+  each-start list Each held outcome =
+      served-nothing held outcome (λ setup c r st. leads-start (ForEach (list setup) (Each setup)) c)
 
   -- one more is served
   pub each-more : (list : Setup → List ℕ) (Each : Setup → ℕ → Cluster → List ClusterEvent → Type 0)
-      {old mid new : Held D} {before middle later : List ℕ} (at x : ℕ)
+      {old mid new : Held D} {before middle later : Outcome} (at x : ℕ)
       → ((setup : Setup) (c : Cluster) → Stands tells past setup mid c
       → drop at (list setup) ≡ x ∷ drop (at + 1) (list setup))
       → Served tells past faults (LeadsIn list at Each) old mid before middle
@@ -379,7 +382,7 @@ module _ {D : Type 0} {tells : D → Bool} {past : D → List Disk} {faults : D 
 
   -- all of them
   pub each-end : (list : Setup → List ℕ) (Each : Setup → ℕ → Cluster → List ClusterEvent → Type 0) {old new : Held D}
-      {before later : List ℕ} (at : ℕ)
+      {before later : Outcome} (at : ℕ)
       → ((setup : Setup) (c : Cluster) → Stands tells past setup new c → drop at (list setup) ≡ [])
       → Served tells past faults (LeadsIn list at Each) old new before later
       → Served tells past faults (λ setup. ForEach (list setup) (Each setup)) old new before later
@@ -393,7 +396,7 @@ module _ {D : Type 0} {tells : D → Bool} {past : D → List Disk} {faults : D 
   -- ---- loops over the places that are active
 
   -- places at which nothing has to happen are passed over
-  pub each-skip : (Each : Setup → ℕ → Cluster → List ClusterEvent → Type 0) {old new : Held D} {before later : List ℕ}
+  pub each-skip : (Each : Setup → ℕ → Cluster → List ClusterEvent → Type 0) {old new : Held D} {before later : Outcome}
       (from to : ℕ) → from ≤ to → to ≤ length new.queues.items
       → ((setup : Setup) (c : Cluster) → IsReached setup c → Stands tells past setup new c → (at : ℕ) → from ≤ at → at < to
       → Each setup (at + 1) c []) → Served tells past faults (LeadsIn places_in from Each) old new before later
@@ -407,21 +410,21 @@ module _ {D : Type 0} {tells : D → Bool} {past : D → List Disk} {faults : D 
   }
 
   -- before the first active place
-  pub active-start : (Each : Setup → ℕ → Cluster → List ClusterEvent → Type 0) (held : Held D) (text : List ℕ)
+  pub active-start : (Each : Setup → ℕ → Cluster → List ClusterEvent → Type 0) (held : Held D) (outcome : Outcome)
       → AreRising held.active → PassesQuiet tells past Each held → AllByRecursion (λ (at : ℕ). at < length held.queues.items) held.active
       → Served tells past faults (LeadsIn places_in (get_or held.active 0 (length held.queues.items)) Each) held held
-      text text
-  active-start Each held text rising passes within =
+      outcome outcome
+  active-start Each held outcome rising passes within =
       each-skip Each 0 (get_or held.active 0 (length held.queues.items)) (omega arith)
       (next-most held.active (length held.queues.items) 0 within)
       (λ setup c r st at low high. passes setup c (at + 1) r st
       (st.quiet at (let most = next-most held.active (length held.queues.items) 0 within in omega (arith, high, most))
       (none-before held.active (length held.queues.items) at rising high)))
-      (each-start places_in Each held text)
+      (each-start places_in Each held outcome)
 
   -- from one active place to the next
   pub active-more : (Each : Setup → ℕ → Cluster → List ClusterEvent → Type 0) {old mid new : Held D}
-      {before middle later : List ℕ} (i at : ℕ) → PassesQuiet tells past Each new → AreRising new.active → new.active ≡ mid.active
+      {before middle later : Outcome} (i at : ℕ) → PassesQuiet tells past Each new → AreRising new.active → new.active ≡ mid.active
       → length new.queues.items ≡ length mid.queues.items
       → AllByRecursion (λ (n : ℕ). n < length mid.queues.items) mid.active → i < length mid.active
       → at ≡ get_or mid.active i (length mid.queues.items)
@@ -464,7 +467,7 @@ module _ {D : Type 0} {tells : D → Bool} {past : D → List Disk} {faults : D 
           (subst (AllByRecursion (λ (k : ℕ). k < length mid.queues.items)) (sym same) within)
 
   -- after the last one
-  pub active-end : (Each : Setup → ℕ → Cluster → List ClusterEvent → Type 0) {old new : Held D} {before later : List ℕ}
+  pub active-end : (Each : Setup → ℕ → Cluster → List ClusterEvent → Type 0) {old new : Held D} {before later : Outcome}
       (i : ℕ) → length new.active ≤ i
       → Served tells past faults (LeadsIn places_in (get_or new.active i (length new.queues.items)) Each) old new before
       later

@@ -26,7 +26,6 @@ use Rattle.qq_cluster.specs.Cluster.{Cluster, ClusterEvent, Fails, NodeSyncs, Se
 use Rattle.qq_cluster.specs.Laws.{CountsRise}
 use Rattle.qq_cluster.specs.Queue.{Queue, Stops, Syncs as SyncsAt, happens}
 use Rattle.qq_cluster.specs.Rules.{IsNothing, IsSync, IsSynced, MayRoll, if_so, is_quiet, some_queue, waits_synced}
-use Rattle.qq_cluster.specs.Texts.{text_of}
 use Rattle.qq_cluster_laws.specs.Linked.{IsLinked, IsPromised, IsReached, MembersFollow, lot_of, part_at, parts_at}
 use Rattle.qq_cluster_laws.specs.Serves.{GivesUp, Serves}
 use Rattle.qq_cluster_laws.specs.Traced.{IsTracedAt}
@@ -44,6 +43,8 @@ use Rattle.qq_node_log.specs.declared.node_log.NodeLog.TheVariants.{Open, Closed
 use Rattle.qq_node_log.specs.declared.syncing.SyncOutcome.{SyncOutcome}
 use Rattle.qq_node_log.specs.declared.syncing.SyncOutcome.TheVariants.{Whole, NoFile, Nothing}
 use Rattle.qq_node_log.proofs.Running.{running-same}
+use Rattle.qq_cluster.specs.Outcome.{Outcome}
+use Rattle.qq_nodes.specs.Showing.{with_line}
 use Rattle.qq_nodes.specs.Active.{is_in}
 use Rattle.qq_nodes.specs.Ends.{HasLog, InNumbers, IsAtEnd}
 use Rattle.qq_nodes.specs.Logs.{ChangesLog, MaySyncAt, NodeTurns, Syncs, SyncsInPart}
@@ -59,6 +60,7 @@ use Rattle.qq_nodes.proofs.Quiet.{quiet-stopped, quiet-syncs}
 use Rattle.qq_nodes.proofs.Stands.{ends-now, same-logs, served-nothing, stands-logs}
 use Rattle.qq_nodes.proofs.Told.{place-here}
 use Rattle.qq_nodes.proofs.Total.{Allowed, total-sync}
+use Rattle.qq_nodes.proofs.Outcomes.{same-outcome, line-outcome}
 
 -- a number of a file ends at 2^63
 last-ends : {D : Type 0} (log : NodeLog D) (number : ℕ) → IsLastIn log (Spent number) → IsAtEnd number
@@ -123,11 +125,11 @@ in-filter passes x (y ∷ ys) here = by (passes y) here (λ later. in-filter pas
 
 module _ {D : Type 0} {tells : D → Bool} {past : D → List Disk} {faults : D → ℕ} where
   -- a node that is down syncs nothing
-  pub sync-down : (k : ℕ) (held : Held D) (text : List ℕ)
+  pub sync-down : (k : ℕ) (held : Held D) (outcome : Outcome)
       → ((setup : Setup) (c : Cluster) → Stands tells past setup held c → false ≡ c.up k)
-      → Served tells past faults (λ setup. IsSync setup k) held held text text
-  sync-down k held text down =
-      served-nothing held text
+      → Served tells past faults (λ setup. IsSync setup k) held held outcome outcome
+  sync-down k held outcome down =
+      served-nothing held outcome
       (λ setup c r st. rule-else (c.up k)
       (if_so (some_queue setup (waits_synced k) c) (IsSynced k) (MayRoll k)) IsNothing c [] (sym (down setup c st)) refl)
 
@@ -304,13 +306,13 @@ module _ {D : Type 0} {tells : D → Bool} {past : D → List Disk} where
       -- ---- all of it is synced
 
       -- something waited
-      synced-some : (last : Held D) (text : List ℕ) → outcome ≡ Whole → HasTurned (SyncsAt k) mid last
+      synced-some : (last : Held D) (outcome : Outcome) → outcome ≡ Whole → HasTurned (SyncsAt k) mid last
           → some_queue setup (waits_synced k) c ≡ true
           → Serves setup c (IsSync setup k c) (Stands tells past setup last) (seen tells past faults old)
-          (seen tells past faults last) text text
-      synced-some last text whole marked some =
+          (seen tells past faults last) outcome outcome
+      synced-some last outcome whole marked some =
           call-serves setup c k (NodeSyncs k ∷ []) old last turn.old turn.new turn.new same_parts (own-sync k, tt) low
-          turn.here (changed last marked).nodes was (is-up setup c st) ch log-same (IsSync setup k c) text text
+          turn.here (changed last marked).nodes was (is-up setup c st) ch log-same (IsSync setup k c) outcome outcome
           (λ failed. absurd (false≢true failed))
           (sync-rule setup c (NodeSyncs k ∷ []) st
           (rule-if (some_queue setup (waits_synced k) c) (IsSynced k) (MayRoll k) c (NodeSyncs k ∷ []) some (inl refl)))
@@ -319,7 +321,7 @@ module _ {D : Type 0} {tells : D → Bool} {past : D → List Disk} where
           (same-ops (cluster_happens c (NodeSyncs k)) (λ place. refl) (lot_of setup k).places) was.members)
           (mid-queues last marked setup c (cluster_happens c (NodeSyncs k)) r st (λ at lt. refl)) refl
           (λ at lt calm. ap (is_quiet setup c.up) (still setup c r st at lt calm) ∙ st.quiet at lt calm))
-          (sym (append-nil text))
+          (same-outcome outcome)
           (λ told linked. whole-traced linked (whole-come whole told linked))
         where
           whole-traced : IsLinked setup c k (now (past (disk_in ch.before)))
@@ -337,20 +339,20 @@ module _ {D : Type 0} {tells : D → Bool} {past : D → List Disk} where
               (past (disk_in ch.behind))) is (come told linked)
 
       -- nothing did, and perhaps a full file is replaced
-      synced-none : (last : Held D) (text : List ℕ) → outcome ≡ Whole → HasTurned (SyncsAt k) mid last
+      synced-none : (last : Held D) (outcome : Outcome) → outcome ≡ Whole → HasTurned (SyncsAt k) mid last
           → some_queue setup (waits_synced k) c ≡ false
           → Serves setup c (IsSync setup k c) (Stands tells past setup last) (seen tells past faults old)
-          (seen tells past faults last) text text
-      synced-none last text whole marked none =
+          (seen tells past faults last) outcome outcome
+      synced-none last outcome whole marked none =
           call-serves setup c k [] old last turn.old turn.new turn.new same_parts tt low turn.here
-          (changed last marked).nodes was (is-up setup c st) ch log-same (IsSync setup k c) text text
+          (changed last marked).nodes was (is-up setup c st) ch log-same (IsSync setup k c) outcome outcome
           (λ failed. absurd (false≢true failed))
           (sync-rule setup c [] st
           (rule-else (some_queue setup (waits_synced k) c) (IsSynced k) (MayRoll k) c [] none (inl refl)))
           (stands-own setup c k [] old last turn.old turn.new tt (changed last marked) st
           (goes c whole refl (same-ops c (λ place. refl) (lot_of setup k).places) was.members)
           (mid-queues last marked setup c c r st (unmoved setup c r st none)) refl st.quiet)
-          (sym (append-nil text))
+          (same-outcome outcome)
           (λ told linked. (
             linked.promised,
             moments told linked,
@@ -369,8 +371,8 @@ module _ {D : Type 0} {tells : D → Bool} {past : D → List Disk} where
       abbrev line : List ℕ
       line = codes "node " ++ decimal k ++ codes " stopped\n"
 
-      said : (before after : List ℕ) → after ≡ before ++ line → after ≡ before ++ (line ++ [])
-      said before after is = is ∙ ap (λ (l : List ℕ). before ++ l) (sym (append-nil line))
+      said : (before after : Outcome) → after ≡ with_line line before → after ≡ with_line (line ++ []) before
+      said before after is = is ∙ line-outcome line before
 
       quiet-still : (d : Cluster) → ((at : ℕ) → at < length old.queues.items → is_in at old.active ≡ false
           → d.queue (at + 1) ≡ c.queue (at + 1)) → d.up ≡ c.up → (at : ℕ) → at < length old.queues.items
@@ -382,10 +384,10 @@ module _ {D : Type 0} {tells : D → Bool} {past : D → List Disk} where
           ∙ ap (is_quiet setup c.up) (same at lt calm) ∙ st.quiet at lt calm)
 
       -- in the sync, or where nothing waited for one
-      failed-alone : (before last : Held D) (first after : List ℕ) → HasStopped k before last
+      failed-alone : (before last : Held D) (first after : Outcome) → HasStopped k before last
           → before ≡ record old { queues = before.queues; nodes = nodes }
           → length before.queues.items ≡ length old.queues.items
-          → QueuesOf setup (standings old.sessions) c before.queues.items → after ≡ first ++ line
+          → QueuesOf setup (standings old.sessions) c before.queues.items → after ≡ with_line line first
           → Rose (faults (disk_in ch.before)) (faults (disk_in ch.behind))
           → Serves setup c (IsSync setup k c) (Stands tells past setup last) (seen tells past faults old)
           (seen tells past faults last) first after
@@ -411,8 +413,8 @@ module _ {D : Type 0} {tells : D → Bool} {past : D → List Disk} where
           either false = inr refl
 
       -- after the sync, where a new file was begun
-      failed-after : (before last : Held D) (first after : List ℕ) → outcome ≡ NoFile → HasTurned (SyncsAt k) mid before
-          → HasStopped k before last → some_queue setup (waits_synced k) c ≡ true → after ≡ first ++ line
+      failed-after : (before last : Held D) (first after : Outcome) → outcome ≡ NoFile → HasTurned (SyncsAt k) mid before
+          → HasStopped k before last → some_queue setup (waits_synced k) c ≡ true → after ≡ with_line line first
           → Rose (faults (disk_in ch.before)) (faults (disk_in ch.behind))
           → Serves setup c (IsSync setup k c) (Stands tells past setup last) (seen tells past faults old)
           (seen tells past faults last) first after
@@ -471,20 +473,20 @@ module _ {D : Type 0} {tells : D → Bool} {past : D → List Disk} where
     whether P false yes' no' = no' refl
 
     -- all of it is synced, and the log goes on
-    pub synced : (faults : D → ℕ) (last : Held D) (text : List ℕ)
+    pub synced : (faults : D → ℕ) (last : Held D) (outcome : Outcome)
         → NodeTurns (Syncs tells past faults Whole) (k - 1) old.nodes.items nodes.items
-        → HasTurned (SyncsAt k) after_log last → Served tells past faults (λ setup. IsSync setup k) old last text text
-    synced faults last text turn marked = record {
+        → HasTurned (SyncsAt k) after_log last → Served tells past faults (λ setup. IsSync setup k) old last outcome outcome
+    synced faults last outcome turn marked = record {
       serves = λ setup c r st. whether _ (some_queue setup (waits_synced k) c)
-          (λ some. synced-some k old nodes low high up faults Whole turn setup c r st last text refl marked some)
-          (λ none. synced-none k old nodes low high up faults Whole turn setup c r st last text refl marked none);
+          (λ some. synced-some k old nodes low high up faults Whole turn setup c r st last outcome refl marked some)
+          (λ none. synced-none k old nodes low high up faults Whole turn setup c r st last outcome refl marked none);
     }
 
     -- the disk failed where a new file was begun
-    pub synced-failed : (faults : D → ℕ) (marked last : Held D) (before after : List ℕ)
+    pub synced-failed : (faults : D → ℕ) (marked last : Held D) (before after : Outcome)
         → NodeTurns (Syncs tells past faults NoFile) (k - 1) old.nodes.items nodes.items
         → HasTurned (SyncsAt k) after_log marked → HasStopped k marked last
-        → after ≡ before ++ (codes "node " ++ decimal k ++ codes " stopped\n")
+        → after ≡ with_line (codes "node " ++ decimal k ++ codes " stopped\n") before
         → Served tells past faults (λ setup. IsSync setup k) old last before after
     synced-failed faults marked last before after turn turned stopped says = record {
       serves = λ setup c r st. whether _ (some_queue setup (waits_synced k) c)
@@ -497,9 +499,9 @@ module _ {D : Type 0} {tells : D → Bool} {past : D → List Disk} where
     }
 
     -- it failed in the sync
-    pub sync-failed : (faults : D → ℕ) (last : Held D) (before after : List ℕ)
+    pub sync-failed : (faults : D → ℕ) (last : Held D) (before after : Outcome)
         → NodeTurns (Syncs tells past faults Nothing) (k - 1) old.nodes.items nodes.items
-        → HasStopped k after_log last → after ≡ before ++ (codes "node " ++ decimal k ++ codes " stopped\n")
+        → HasStopped k after_log last → after ≡ with_line (codes "node " ++ decimal k ++ codes " stopped\n") before
         → Served tells past faults (λ setup. IsSync setup k) old last before after
     sync-failed faults last before after turn stopped says = record {
       serves = λ setup c r st.

@@ -12,6 +12,7 @@ use Rattle.qq_cluster_laws.specs.Linked.{IsReached}
 use Rattle.qq_cluster_laws.proofs.Reached.{group-made, made}
 use Rattle.qq_cluster_laws.proofs.Seats.{nodes-same}
 use Rattle.qq_cluster_queue.specs.declared.cluster_queue.ClusterQueue.{ClusterQueue}
+use Rattle.qq_cluster.specs.Outcome.{Outcome}
 use Rattle.qq_nodes.specs.Nodes.{GaveUp, Served, Stands}
 use Rattle.qq_nodes.specs.declared.nodes.Nodes.{Nodes as Held}
 use Rattle.qq_nodes.proofs.Stands.{gave_up-weaker, served-nothing, served-weaker}
@@ -46,15 +47,15 @@ members-are setup c held at x r st here =
 
 module _ {D : Type 0} {tells : D → Bool} {past : D → List Disk} {faults : D → ℕ} where
   -- time passes at a queue's first member, where it has one
-  pub ticks-none : (at : ℕ) (held : Held D) (x : ClusterQueue) (text : List ℕ)
+  pub ticks-none : (at : ℕ) (held : Held D) (x : ClusterQueue) (outcome : Outcome)
       → slice_get held.queues.items at ≡ Some x → slice_get x.group.nodes.items 0 ≡ None
-      → Served tells past faults (λ (setup : Setup). IsFirstTick setup (at + 1)) held held text text
-  ticks-none at held x text here none =
-      served-nothing held text
+      → Served tells past faults (λ (setup : Setup). IsFirstTick setup (at + 1)) held held outcome outcome
+  ticks-none at held x outcome here none =
+      served-nothing held outcome
       (λ setup c r st. tick-none (at + 1) (members setup (at + 1)) c
       (ap (λ (l : List NodeId). slice_get l 0) (sym (members-are setup c held at x r st here)) ∙ none))
 
-  pub ticks : (at : ℕ) (node : NodeId) (x : ClusterQueue) {old new : Held D} {before later : List ℕ}
+  pub ticks : (at : ℕ) (node : NodeId) (x : ClusterQueue) {old new : Held D} {before later : Outcome}
       → slice_get old.queues.items at ≡ Some x → slice_get x.group.nodes.items 0 ≡ Some node
       → Served tells past faults (λ setup. Is (At (at + 1) (Ticks node.0))) old new before later
       → Served tells past faults (λ (setup : Setup). IsFirstTick setup (at + 1)) old new before later

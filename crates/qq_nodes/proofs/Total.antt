@@ -1,11 +1,12 @@
 -- Whatever a cluster is, each rule allows something there.
 use Rattle.std.proofs.Common.{◌≡◌, ◌⊎◌, ℕ, zero, suc, Bool, true, false, ◌&&◌, List, [], ◌∷◌, ◌++◌, Option, Some, None, length, refl, inl, inr}
-use Rattle.std.specs.Prelude.{replicate}
 use Rattle.qq_entry.specs.declared.command.Unstamped.{Unstamped}
 use Rattle.qq_cluster.specs.Cluster.{Cluster, ClusterEvent, Setup, Alike, At, NodeSyncs, NodeWrites, SaysBusy, SaysEnded, SaysUnroutable, cluster_after}
 use Rattle.qq_cluster.specs.Lines.{IsRouted}
-use Rattle.qq_cluster.specs.Queue.{Delivers, Downs, Fetches, Notices, Resends, Submits, TellsEnded, TellsNotTaken}
-use Rattle.qq_cluster.specs.Rules.{Rule, ForEach, Is, IsClaimed, IsEmptied, IsEnd, IsGiven, IsNodeRound, IsNothing, IsNotice, IsPump, IsPumped, IsResend, IsRound, IsSync, IsSynced, IsWrite, IsWritten, MayRoll, Pumps, Then, if_so, is_ended, is_idle, most_rounds, not_taken, some_queue, waits_noticed, waits_synced, waits_written}
+use Rattle.qq_cluster.specs.Queue.{Delivers, Downs, Event, Fetches, Judges, Notices, Resends, Submits, TellsEnded, TellsNotTaken}
+use Rattle.qq_taker.specs.declared.handed.Handed.{Handed}
+use Rattle.qq_taker.specs.declared.taker.Verdict.TheVariants.{Keep}
+use Rattle.qq_cluster.specs.Rules.{Rule, ForEach, Is, IsClaimed, IsEmptied, IsEnd, IsGiven, IsJudgedWhere, IsNextJudged, IsNodeRound, IsNothing, IsNotice, IsPump, IsPumped, IsResend, IsRound, IsSync, IsSynced, IsTold, IsWrite, IsWritten, MayRoll, Pumps, Tells, Then, Times, if_so, is_ended, is_idle, most_rounds, not_taken, some_queue, waits_noticed, waits_synced, waits_written}
 
 abbrev pub Allowed : (Cluster → List ClusterEvent → Type 0) → Cluster → Type 0
 Allowed Allows c = (events : List ClusterEvent) × Allows c events
@@ -38,6 +39,32 @@ pub total-each : {A : Type 0} (xs : List A) (Each : A → Cluster → List Clust
 total-each [] Each each c = total-nothing c
 total-each (x ∷ xs) Each each c = total-then (Each x) (ForEach xs Each) (each x) (total-each xs Each each) c
 
+pub total-times : (n : ℕ) (Each : Cluster → List ClusterEvent → Type 0) → Total Each → Total (Times n Each)
+total-times zero Each each c = total-nothing c
+total-times (suc n) Each each c = total-then Each (Times n Each) each (total-times n Each each) c
+
+-- ---- takers
+
+pub total-next : (place : ℕ) → Total (IsNextJudged place)
+total-next place c = by (c.queue place).untold
+  where
+    by : (untold : List Handed) → (events : List ClusterEvent) × IsJudgedWhere place untold c events
+    by [] = total-nothing c
+    by (h ∷ more) = (
+      At place (Judges Keep) ∷ [],
+      record {
+        verdict = Keep;
+        is = record { early = At place (Judges Keep) ∷ []; late = []; is = refl; first = refl; second = refl };
+      },
+    )
+
+pub total-told : (place : ℕ) → Total (IsTold place)
+total-told place c = total-times (length (c.queue place).untold) (IsNextJudged place) (total-next place) c
+
+pub total-tells : (place : ℕ) (event : Event) → Total (Tells place event)
+total-tells place event =
+    total-then (Is (At place event)) (IsTold place) (total-is (At place event)) (total-told place)
+
 -- ---- pumps
 
 pub total-write : (setup : Setup) (k : ℕ) → Total (IsWrite setup k)
@@ -53,8 +80,8 @@ total-sync setup k c =
 
 pub total-notice : (k place : ℕ) → Total (IsNotice k place)
 total-notice k place c =
-    total-if (c.up k && waits_noticed k (c.queue place)) (Is (At place (Notices k))) IsNothing c
-    (total-is (At place (Notices k)) c) (total-nothing c)
+    total-if (c.up k && waits_noticed k (c.queue place)) (Tells place (Notices k)) IsNothing c
+    (total-tells place (Notices k) c) (total-nothing c)
 
 pub total-notices : (setup : Setup) (k : ℕ) → Total (ForEach setup.places (IsNotice k))
 total-notices setup k = total-each setup.places (IsNotice k) (total-notice k)
@@ -65,7 +92,8 @@ total-node setup k =
     (total-then (IsSync setup k) (ForEach setup.places (IsNotice k)) (total-sync setup k) (total-notices setup k))
 
 pub total-emptied : (place : ℕ) → Total (IsEmptied place)
-total-emptied place c = (replicate (length (c.queue place).group.bag) (At place (Delivers 0)), refl)
+total-emptied place c =
+    total-times (length (c.queue place).group.bag) (Tells place (Delivers 0)) (total-tells place (Delivers 0)) c
 
 pub total-empties : (setup : Setup) → Total (ForEach setup.places IsEmptied)
 total-empties setup = total-each setup.places IsEmptied total-emptied
@@ -99,9 +127,9 @@ total-given session body place c =
     by (Some id) = total-is (At place (TellsNotTaken session id)) c
 
 pub total-fetches : (setup : Setup) (session : ℕ)
-    → Total (ForEach setup.places (λ place. Is (At place (Fetches session))))
+    → Total (ForEach setup.places (λ place. Tells place (Fetches session)))
 total-fetches setup session =
-    total-each setup.places (λ place. Is (At place (Fetches session))) (λ place. total-is (At place (Fetches session)))
+    total-each setup.places (λ place. Tells place (Fetches session)) (λ place. total-tells place (Fetches session))
 
 pub total-downs : (setup : Setup) (session : ℕ) → Total (ForEach setup.places (λ place. Is (At place (Downs session))))
 total-downs setup session =

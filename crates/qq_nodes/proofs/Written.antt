@@ -26,7 +26,6 @@ use Rattle.qq_cluster.specs.Cluster.{Cluster, ClusterEvent, Fails, NodeWrites, S
 use Rattle.qq_cluster.specs.ClusterLaws.{HasGroups}
 use Rattle.qq_cluster.specs.Queue.{Queue, Stops, Writes, happens, waiting}
 use Rattle.qq_cluster.specs.Rules.{IsNothing, IsWrite, IsWritten, is_quiet, some_queue, waits_written}
-use Rattle.qq_cluster.specs.Texts.{text_of}
 use Rattle.qq_cluster_laws.specs.Linked.{IsLinked, IsReached, lot_of, part_at, parts_at}
 use Rattle.qq_cluster_laws.specs.Serves.{GivesUp}
 use Rattle.qq_cluster_laws.specs.Traced.{IsBrokenAt, IsTracedAt}
@@ -44,6 +43,8 @@ use Rattle.qq_node_log.specs.declared.node_log.NodeLog.{NodeLog}
 use Rattle.qq_node_log.specs.declared.node_log.NodeLog.TheVariants.{Open, Closed}
 use Rattle.qq_node_log.proofs.Running.{running-same}
 use Rattle.qq_wal.specs.declared.batch.TheConstants.{BATCH_BYTES}
+use Rattle.qq_cluster.specs.Outcome.{Outcome}
+use Rattle.qq_nodes.specs.Showing.{with_line}
 use Rattle.qq_nodes.specs.Active.{is_in}
 use Rattle.qq_nodes.specs.Ends.{HasLog, InFile, IsAtEnd}
 use Rattle.qq_nodes.specs.Logs.{Appends, AppendsInPart, ChangesLog, MayAppendAt, NodeTurns}
@@ -60,6 +61,7 @@ use Rattle.qq_nodes.proofs.Stands.{ends-now, same-logs, served-nothing, served-s
 use Rattle.qq_nodes.proofs.Taken.{apart-places, each-none, none-written, nothing-waits, some-written, taken-places, taken-waiting, waits_at}
 use Rattle.qq_nodes.proofs.Told.{place-here}
 use Rattle.qq_nodes.proofs.Total.{Allowed, total-write}
+use Rattle.qq_nodes.proofs.Outcomes.{same-outcome, line-outcome}
 
 -- what the law of what waits says
 abbrev pub GoesOn : Type 0
@@ -81,11 +83,11 @@ waits-none k q n is = ap (λ (m : ℕ). record q { group = group_after q.group (
 
 module _ {D : Type 0} {tells : D → Bool} {past : D → List Disk} {faults : D → ℕ} where
   -- a node that is down writes nothing
-  pub write-down : (k : ℕ) (held : Held D) (text : List ℕ)
+  pub write-down : (k : ℕ) (held : Held D) (outcome : Outcome)
       → ((setup : Setup) (c : Cluster) → Stands tells past setup held c → false ≡ c.up k)
-      → Served tells past faults (λ setup. IsWrite setup k) held held text text
-  write-down k held text down =
-      served-nothing held text
+      → Served tells past faults (λ setup. IsWrite setup k) held held outcome outcome
+  write-down k held outcome down =
+      served-nothing held outcome
       (λ setup c r st. rule-else (c.up k && some_queue setup (waits_written k) c) (IsWritten k) IsNothing c []
       (ap (λ (b : Bool). b && some_queue setup (waits_written k) c) (sym (down setup c st))) refl)
 
@@ -124,10 +126,10 @@ module _ {D : Type 0} {tells : D → Bool} {past : D → List Disk} where
 
     -- ---- nothing waits
 
-    pub write-none : (faults : D → ℕ) (text : List ℕ) → ops ≡ []
-        → Served tells past faults (λ setup. IsWrite setup k) old mid text text
-    write-none faults text none =
-        served-still old mid text same-nodes
+    pub write-none : (faults : D → ℕ) (outcome : Outcome) → ops ≡ []
+        → Served tells past faults (λ setup. IsWrite setup k) old mid outcome outcome
+    write-none faults outcome none =
+        served-still old mid outcome same-nodes
         (λ setup c r st. (
           rule-else (c.up k && some_queue setup (waits_written k) c) (IsWritten k) IsNothing c []
               (and_right (c.up k) (some_queue setup (waits_written k) c)
@@ -203,10 +205,10 @@ module _ {D : Type 0} {tells : D → Bool} {past : D → List Disk} where
         ∙ ap (λ (own : List Op). ((c.queue place).group.seat k).ops ++ own) (sym is)) (lot_of setup k).places waits)
         running
 
-    pub written : (faults : D → ℕ) (nodes : Vec (Node D)) (text : List ℕ) → (ops ≡ [] → ⊥)
+    pub written : (faults : D → ℕ) (nodes : Vec (Node D)) (outcome : Outcome) → (ops ≡ [] → ⊥)
         → NodeTurns (Appends tells past faults ops true) (k - 1) mid.nodes.items nodes.items
-        → Served tells past faults (λ setup. IsWrite setup k) old (record mid { nodes = nodes }) text text
-    written faults nodes text some turn = record {
+        → Served tells past faults (λ setup. IsWrite setup k) old (record mid { nodes = nodes }) outcome outcome
+    written faults nodes outcome some turn = record {
       serves = λ setup c r st.
           (let d : Cluster = cluster_happens c (NodeWrites k) in
           let new : Held D = record mid { nodes = nodes } in
@@ -221,7 +223,7 @@ module _ {D : Type 0} {tells : D → Bool} {past : D → List Disk} where
           let running : IsRunningIn tells past (lot_of setup k) (parts_at c k) ch.before =
           log-runs setup c k turn.old turn.new later was (is-up setup c st) ch in
           call-serves setup c k (NodeWrites k ∷ []) old new turn.old turn.new turn.new later (own-write k, tt) low here is
-          was (is-up setup c st) ch (ap (λ (y : Node D). y.log) ch.is) (IsWrite setup k c) text text
+          was (is-up setup c st) ch (ap (λ (y : Node D). y.log) ch.is) (IsWrite setup k c) outcome outcome
           (λ failed. absurd (false≢true failed))
           (rule-if (c.up k && some_queue setup (waits_written k) c) (IsWritten k) IsNothing c (NodeWrites k ∷ [])
           (some-waits setup c r st some) (inl refl))
@@ -249,7 +251,7 @@ module _ {D : Type 0} {tells : D → Bool} {past : D → List Disk} where
           }))
           (mid-queues setup c d st (λ at lt. refl)) refl
           (λ at lt calm. ap (is_quiet setup c.up) (still setup c st at lt calm) ∙ st.quiet at lt calm))
-          (sym (append-nil text))
+          (same-outcome outcome)
           (λ told linked. written-traced setup c k ops (past (disk_in ch.before)) (past (disk_in ch.behind)) waits linked
           (log-moments setup c k turn.old turn.new later was (is-up setup c st) ch told linked).0
           (runs.tied (lot_of setup k) (parts_at c k) running told (linked.tied (is-up setup c st)))));
@@ -257,10 +259,10 @@ module _ {D : Type 0} {tells : D → Bool} {past : D → List Disk} where
 
     -- ---- the disk failed
 
-    pub write-failed : (faults : D → ℕ) (nodes : Vec (Node D)) (last : Held D) (before after : List ℕ) → (ops ≡ [] → ⊥)
+    pub write-failed : (faults : D → ℕ) (nodes : Vec (Node D)) (last : Held D) (before after : Outcome) → (ops ≡ [] → ⊥)
         → NodeTurns (Appends tells past faults ops false) (k - 1) mid.nodes.items nodes.items
         → HasStopped k (record mid { nodes = nodes }) last
-        → after ≡ before ++ (codes "node " ++ decimal k ++ codes " stopped\n")
+        → after ≡ with_line (codes "node " ++ decimal k ++ codes " stopped\n") before
         → Served tells past faults (λ setup. IsWrite setup k) old last before after
     write-failed faults nodes last before after some turn stopped says = record {
       serves = λ setup c r st.
@@ -311,8 +313,7 @@ module _ {D : Type 0} {tells : D → Bool} {past : D → List Disk} where
           (mid-queues setup c d st (λ at lt. refl))) refl
           (λ at lt calm. quiet-stopped setup c.up (happens (c.queue (at + 1)) (Writes k)) k
           (ap (is_quiet setup c.up) (still setup c st at lt calm) ∙ st.quiet at lt calm)))
-          (says ∙ ap (λ (l : List ℕ). before ++ l)
-          (sym (append-nil (codes "node " ++ decimal k ++ codes " stopped\n"))))
+          (says ∙ line-outcome (codes "node " ++ decimal k ++ codes " stopped\n") before)
           (λ told linked. write_failed-traced setup c k ops (past (disk_in ch.before)) (past (disk_in ch.behind)) waits
           linked (log-moments setup c k turn.old turn.new later was (is-up setup c st) ch told linked).0));
     }

@@ -1,19 +1,21 @@
 -- What is asked of one queue.
 use Rattle.std.specs.Prelude.{◌≡◌, ◌<◌, ◌-◌, ℕ, List, Some, slice_get, slice_set}
-use Rattle.qq_cluster.specs.Queue.{Event, Submits, TellsEnded, TellsNotTaken, Resends, Fetches, Downs, Ticks, Notices, Delivers, Loses, Copies}
+use Rattle.qq_cluster.specs.Outcome.{Outcome}
+use Rattle.qq_cluster.specs.Queue.{Event, Submits, TellsEnded, TellsNotTaken, Attaches, Resends, Fetches, Downs, Ticks, Notices, Delivers, Loses, Copies}
 use Rattle.qq_cluster_queue.specs.ClusterQueue.{Does, IsSameQueue}
 use Rattle.qq_cluster_queue.specs.Members.{AreSound}
 use Rattle.qq_cluster_queue.specs.Range.{MayStamp}
 use Rattle.qq_cluster_queue.specs.Sessions.{Standings}
 use Rattle.qq_cluster_queue.specs.declared.cluster_queue.ClusterQueue.{ClusterQueue}
 use Rattle.qq_nodes.specs.declared.asking.Ask.{Ask}
-use Rattle.qq_nodes.specs.declared.asking.Ask.TheVariants.{Submit, TellEnded, TellNotTaken, Resend, Fetch, Down, Tick, Notice, Deliver, Lose, Copy}
+use Rattle.qq_nodes.specs.declared.asking.Ask.TheVariants.{Submit, TellEnded, TellNotTaken, Attach, Resend, Fetch, Down, Tick, Notice, Deliver, Lose, Copy}
 
 -- what is asked of a queue is this event
 abbrev pub asked : Ask → Event
 asked (Submit session body) = Submits session body
 asked (TellEnded session) = TellsEnded session
 asked (TellNotTaken session id) = TellsNotTaken session id
+asked (Attach session tag number) = Attaches session tag number
 asked (Resend session) = Resends session
 asked (Fetch session) = Fetches session
 asked (Down session) = Downs session
@@ -32,9 +34,9 @@ MayAsk (Lose message) = 0 < message
 MayAsk (Copy message) = 0 < message
 MayAsk _ = Unit {0}
 
--- an event has happened to the queue at an index, and a text has grown by what it shows
+-- an event has happened to the queue at an index, and what it shows has come of it
 pub record DoesAt (event : Event) (sessions : Standings) (at : ℕ) (olds news : List ClusterQueue)
-    (before after : List ℕ) : Type 0 where
+    (before after : Outcome) : Type 0 where
   pub old : ClusterQueue
   pub new : ClusterQueue
   pub here : slice_get olds at ≡ Some old

@@ -7,6 +7,7 @@ use Rattle.qq_node_log.specs.Log.{Stands as IsLog, disk_in}
 use Rattle.qq_node_log.specs.declared.node_log.NodeLog.{NodeLog}
 use Rattle.qq_ports.specs.Yard.{IsAfterCrash}
 use Rattle.qq_cluster.specs.Cluster.{Cluster, ClusterEvent, Setup}
+use Rattle.qq_cluster.specs.Outcome.{Outcome}
 use Rattle.qq_cluster_laws.specs.Linked.{IsReached}
 use Rattle.qq_cluster_laws.specs.Serves.{Happened}
 use Rattle.qq_nodes.specs.Nodes.{Stands, seen}
@@ -35,7 +36,7 @@ pub record IsCrashedTo {D : Type 0} (tells : D → Bool) (past : D → List Disk
 -- Of whatever cluster they stood for, what has happened is what a rule allows there, and they stand for the cluster after
 -- it. A node may have been crashed.
 pub record HasHappened {D : Type 0} (tells : D → Bool) (past : D → List Disk) (faults : D → ℕ)
-    (Rule : Setup → Cluster → List ClusterEvent → Type 0) (old new : Held D) (before later : List ℕ) : Type 0 where
+    (Rule : Setup → Cluster → List ClusterEvent → Type 0) (old new : Held D) (before later : Outcome) : Type 0 where
   pub happened : (setup : Setup) (c : Cluster) → IsReached setup c → Stands tells past setup old c
       → Happened setup c (Rule setup c) (Stands tells past setup new) (seen tells past faults old)
       (seen tells past faults new) before later

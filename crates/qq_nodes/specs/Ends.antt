@@ -19,7 +19,7 @@ use Rattle.qq_node_log.specs.Log.{IsLater, disk_in}
 use Rattle.qq_node_log.specs.Syncing.{HasLastLog}
 use Rattle.qq_node_log.specs.declared.node_log.NodeLog.{NodeLog}
 use Rattle.qq_nodes.specs.declared.asking.Ask.{Ask}
-use Rattle.qq_nodes.specs.declared.asking.Ask.TheVariants.{Submit, TellEnded, TellNotTaken, Resend, Fetch, Down, Tick, Notice, Deliver, Lose, Copy}
+use Rattle.qq_nodes.specs.declared.asking.Ask.TheVariants.{Submit, TellEnded, TellNotTaken, Attach, Resend, Fetch, Down, Tick, Notice, Deliver, Lose, Copy}
 use Rattle.qq_nodes.specs.declared.node.Node.{Node}
 use Rattle.qq_nodes.specs.declared.nodes.Nodes.{Nodes as Held}
 
@@ -32,6 +32,7 @@ abbrev pub IsAskCaused : Ask → ClusterQueue → Memory → Type 0
 IsAskCaused (Submit session body) d e = IsSubmitCaused session body d e
 IsAskCaused (TellEnded session) d e = e ≡ Want
 IsAskCaused (TellNotTaken session id) d e = e ≡ Want
+IsAskCaused (Attach session tag number) d e = e ≡ Want
 IsAskCaused (Resend session) d e = IsResendCaused session d e
 IsAskCaused (Fetch session) d e = e ≡ Want
 IsAskCaused (Down session) d e = IsOfferCaused (leader_of own_log d.group) (DownOf (client session)) d.group e

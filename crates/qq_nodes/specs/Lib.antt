@@ -1,5 +1,6 @@
 pub mod Active
 pub mod Asking
+pub mod Judging
 pub mod Ends
 pub mod Logs
 pub mod Nodes

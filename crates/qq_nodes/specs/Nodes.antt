@@ -8,6 +8,7 @@ use Rattle.qq_base.specs.declared.memory.Memory.TheVariants.{Spent}
 use Rattle.qq_disk.specs.Disk.{Disk}
 use Rattle.qq_cluster.specs.Cluster.{Cluster, ClusterEvent, Setup, cluster_after, members}
 use Rattle.qq_cluster.specs.ClusterLaws.{HasGroups}
+use Rattle.qq_cluster.specs.Outcome.{Outcome}
 use Rattle.qq_cluster.specs.Rules.{ForEach, is_quiet}
 use Rattle.qq_cluster.specs.Texts.{is_first}
 use Rattle.qq_cluster_laws.specs.Linked.{IsReached, MembersFollow, lot_of, parts_at}
@@ -121,7 +122,7 @@ IsQueueAt queue held = (0 < queue.0) × (queue.0 ≤ length held.queues.items)
 
 -- of whatever cluster they stood for, what has happened is what a rule allows there, and they stand for the cluster after it
 pub record Served {D : Type 0} (tells : D → Bool) (past : D → List Disk) (faults : D → ℕ)
-    (Rule : Setup → Cluster → List ClusterEvent → Type 0) (old new : Held D) (before later : List ℕ) : Type 0 where
+    (Rule : Setup → Cluster → List ClusterEvent → Type 0) (old new : Held D) (before later : Outcome) : Type 0 where
   pub serves : (setup : Setup) (c : Cluster) → IsReached setup c → Stands tells past setup old c
       → Serves setup c (Rule setup c) (Stands tells past setup new) (seen tells past faults old)
       (seen tells past faults new) before later
@@ -139,8 +140,8 @@ pub record Begins (Allows : Cluster → List ClusterEvent → Type 0) (c : Clust
 pub record EndsAt {D : Type 0} (tells : D → Bool) (past : D → List Disk) (faults : D → ℕ) (setup : Setup)
     (Allows : Cluster → List ClusterEvent → Type 0) (old : Held D) (c : Cluster) (number : ℕ) : Type 0 where
   pub mid : Held D
-  pub before : List ℕ
-  pub said : List ℕ
+  pub before : Outcome
+  pub said : Outcome
   pub serves : Serves setup c (Begins Allows c) (Stands tells past setup mid) (seen tells past faults old)
       (seen tells past faults mid) before said
   pub at : NumberAt tells past mid number

@@ -1,14 +1,16 @@
 //! What is asked of one queue.
-ghost use Rattle.std.specs.Prelude.{◌<◌, All, length, IfErr, OnOk};
+ghost use Rattle.std.specs.Prelude.{◌<◌, All, length, IfErr, IfOk, IfSome, IsOkUnless, OnOk};
 ghost use Rattle.qq_cluster_queue.specs.ClusterQueue.{Does, IsSameQueue};
 ghost use Rattle.qq_cluster_queue.specs.Members.{AreSound};
 ghost use Rattle.qq_cluster_queue.specs.Sessions.{standings};
 ghost use Rattle.qq_nodes.specs.Asking.{DoesAt, MayAsk, asked};
 ghost use Rattle.qq_nodes.specs.Ends.{IsAskCaused, IsRefusedAt};
+ghost use Rattle.qq_nodes.specs.Judging.{JudgesAt, MayClaim};
 
 use qq_base::{Memory, NodeId};
-use qq_cluster_queue::{ClusterQueue, Sessions};
+use qq_cluster_queue::{Claim, ClusterQueue, Sessions, Told};
 use qq_entry::Unstamped;
+use qq_taker::Taker;
 use std::alloc::Global;
 
 /// What is asked of one queue.
@@ -26,6 +28,8 @@ pub(crate) enum Ask {
     Fetch { session: u64 },
     /// The queue is told that a session has ended.
     Down { session: u64 },
+    /// A consumer is given the taker of a number.
+    Attach { session: u64, tag: u32, number: u32 },
     /// Time passes at a member.
     Tick { node: NodeId },
     /// A member notices what is synced.
@@ -38,31 +42,36 @@ pub(crate) enum Ask {
     Copy { message: u32 },
 }
 
-fn ask_queue(
+fn ask_queue<T: Taker>(
     queue: &mut ClusterQueue,
     alloc: Global,
     sessions: &Sessions,
     ask: Ask,
-    out: &mut Vec<u8>,
+    told: &mut Told<T>,
 ) -> Result<(), Memory>
     requires sound { AreSound queue.old.group }
     requires may { MayAsk ask }
     ensures sound { AreSound queue.new.group }
     ensures same { IsSameQueue queue.old queue.new }
     ensures ok { OnOk result (Does (asked ask) (standings sessions.now) queue.old queue.new
-        out.old.items out.new.items) }
+        told.old told.new) }
     ensures cause { IfErr result (IsAskCaused ask queue.old) }
 {
     match ask {
-        Ask::Submit { session, body } => queue.submit(alloc, session, body, out),
-        Ask::TellEnded { session } => queue.tell_ended(alloc, session, out),
-        Ask::TellNotTaken { session, id } => queue.tell_not_taken(alloc, session, id, out),
-        Ask::Resend { session } => queue.resend(alloc, session, out),
-        Ask::Fetch { session } => queue.fetch(alloc, sessions, session, out),
-        Ask::Down { session } => queue.down(alloc, session, out),
+        Ask::Submit { session, body } => queue.submit(alloc, session, body, told),
+        Ask::TellEnded { session } => queue.tell_ended(alloc, session, told),
+        Ask::TellNotTaken { session, id } => queue.tell_not_taken(alloc, session, id, told),
+        Ask::Resend { session } => queue.resend(alloc, session, told),
+        Ask::Fetch { session } => queue.fetch(alloc, sessions, session, told),
+        Ask::Down { session } => queue.down(alloc, session, told),
+        Ask::Attach {
+            session,
+            tag,
+            number,
+        } => queue.attach(alloc, session, tag, number, told),
         Ask::Tick { node } => queue.tick(alloc, node),
-        Ask::Notice { node } => queue.notice(alloc, sessions, node, out),
-        Ask::Deliver { message } => queue.deliver(alloc, sessions, message, out),
+        Ask::Notice { node } => queue.notice(alloc, sessions, node, told),
+        Ask::Deliver { message } => queue.deliver(alloc, sessions, message, told),
         Ask::Lose { message } => {
             queue.lose(alloc, message);
             Ok(())
@@ -72,39 +81,73 @@ fn ask_queue(
 }
 
 /// The queue at an index does what is asked of it.
-pub(crate) fn ask_at(
+pub(crate) fn ask_at<T: Taker>(
     queues: &mut [ClusterQueue],
     alloc: Global,
     sessions: &Sessions,
     at: usize,
     ask: Ask,
-    out: &mut Vec<u8>,
+    told: &mut Told<T>,
 ) -> Result<(), Memory>
     requires place { at < length queues.old }
     requires sound { All (λ (d : ClusterQueue). AreSound d.group) queues.old }
     requires may { MayAsk ask }
     ensures ok { OnOk result (DoesAt (asked ask) (standings sessions.now) at queues.old queues.new
-        out.old.items out.new.items) }
+        told.old told.new) }
     ensures cause { IfErr result (IsRefusedAt ask at queues.old) }
 {
-    ask_queue(&mut queues[at], alloc, sessions, ask, out)
+    ask_queue(&mut queues[at], alloc, sessions, ask, told)
 }
 
 /// The same of all of them.
-pub(crate) fn ask_in(
+pub(crate) fn ask_in<T: Taker>(
     queues: &mut Vec<ClusterQueue>,
     alloc: Global,
     sessions: &Sessions,
     at: usize,
     ask: Ask,
-    out: &mut Vec<u8>,
+    told: &mut Told<T>,
 ) -> Result<(), Memory>
     requires place { at < length queues.old.items }
     requires sound { All (λ (d : ClusterQueue). AreSound d.group) queues.old.items }
     requires may { MayAsk ask }
     ensures ok { OnOk result (DoesAt (asked ask) (standings sessions.now) at queues.old.items
-        queues.new.items out.old.items out.new.items) }
+        queues.new.items told.old told.new) }
     ensures cause { IfErr result (IsRefusedAt ask at queues.old.items) }
 {
-    ask_at(queues, alloc, sessions, at, ask, out)
+    ask_at(queues, alloc, sessions, at, ask, told)
+}
+
+/// The taker of the first delivery that waits at the queue at an index is asked, where one does. The answer is the
+/// command that follows.
+pub(crate) fn judge_at<T: Taker>(
+    queues: &mut [ClusterQueue],
+    alloc: Global,
+    at: usize,
+    told: &mut Told<T>,
+) -> Result<Option<Claim>, Memory>
+    requires place { at < length queues.old }
+    requires sound { All (λ (d : ClusterQueue). AreSound d.group) queues.old }
+    ensures ok { IfOk result (λ claim. JudgesAt claim at queues.old queues.new told.old told.new) }
+    ensures may { IfOk result (λ claim. IfSome claim MayClaim) }
+    ensures want { IsOkUnless result Memory.Want }
+{
+    queues[at].judge(alloc, told)
+}
+
+/// The same of all of them.
+pub(crate) fn judge_in<T: Taker>(
+    queues: &mut Vec<ClusterQueue>,
+    alloc: Global,
+    at: usize,
+    told: &mut Told<T>,
+) -> Result<Option<Claim>, Memory>
+    requires place { at < length queues.old.items }
+    requires sound { All (λ (d : ClusterQueue). AreSound d.group) queues.old.items }
+    ensures ok { IfOk result (λ claim.
+        JudgesAt claim at queues.old.items queues.new.items told.old told.new) }
+    ensures may { IfOk result (λ claim. IfSome claim MayClaim) }
+    ensures want { IsOkUnless result Memory.Want }
+{
+    judge_at(queues, alloc, at, told)
 }

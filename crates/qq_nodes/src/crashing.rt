@@ -1,7 +1,8 @@
 //! Nodes are crashed.
-ghost use Rattle.std.specs.Prelude.{◌≡◌, ◌<◌, ℕ, List, OnOk, Some, length, slice_get};
+ghost use Rattle.std.specs.Prelude.{◌≡◌, ◌<◌, ℕ, OnOk, Some, length, slice_get};
 ghost use Rattle.qq_base.specs.Causes.{HasCause};
 ghost use Rattle.qq_cluster.specs.Cluster.{Crashes, Setup};
+ghost use Rattle.qq_cluster.specs.Outcome.{Outcome};
 ghost use Rattle.qq_cluster.specs.Rules.{ForEach, Is};
 ghost use Rattle.qq_ports.specs.Yard.{IsYardCaused};
 ghost use Rattle.qq_nodes.specs.Crashing.{HasHappened, HasOwn, IsCrashedTo, LeavesDisks};
@@ -87,8 +88,8 @@ pub fn crash_node<Y: Yard>(
 ) -> Result<(), YardFault>
     requires serve { CanServe Y.Disk.tells Y.Disk.past nodes.old }
     requires node { IsNodeAt node nodes.old }
-    ensures ok { OnOk result ((text : List ℕ) → HasHappened Y.Disk.tells Y.Disk.past Y.Disk.faults
-        (λ setup. Is (Crashes node.0 image.now)) nodes.old nodes.new text text) }
+    ensures ok { OnOk result ((outcome : Outcome) → HasHappened Y.Disk.tells Y.Disk.past Y.Disk.faults
+        (λ setup. Is (Crashes node.0 image.now)) nodes.old nodes.new outcome outcome) }
     ensures leaves { OnOk result (LeavesDisks Y.Disk.tells Y.Disk.past Y.Disk.faults
         node.0 image.now nodes.old nodes.new) }
     ensures cause { HasCause IsYardCaused (Y.faults yard.old) (Y.faults yard.new) result }
@@ -111,9 +112,9 @@ pub fn crash_each<Y: Yard>(
     image: &Image,
 ) -> Result<(), YardFault>
     requires serve { CanServe Y.Disk.tells Y.Disk.past nodes.old }
-    ensures ok { OnOk result ((text : List ℕ) → HasHappened Y.Disk.tells Y.Disk.past Y.Disk.faults
+    ensures ok { OnOk result ((outcome : Outcome) → HasHappened Y.Disk.tells Y.Disk.past Y.Disk.faults
         (λ (setup : Setup). ForEach setup.nodes (λ (k : ℕ). Is (Crashes k image.now)))
-        nodes.old nodes.new text text) }
+        nodes.old nodes.new outcome outcome) }
     ensures cause { HasCause IsYardCaused (Y.faults yard.old) (Y.faults yard.new) result }
 {
     let count = nodes.nodes.len();

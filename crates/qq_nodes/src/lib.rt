@@ -5,6 +5,7 @@ mod active;
 mod asking;
 mod crashing;
 mod disks;
+mod judging;
 mod lines;
 mod logs;
 mod messages;

@@ -11,8 +11,10 @@ ghost use Rattle.qq_nodes.specs.Nodes.{CanServe, GaveUp, IsNodeAt, IsQueueAt, Se
 use crate::asking::Ask;
 use crate::nodes::Nodes;
 use qq_base::{Memory, NodeId, QueueId};
+use qq_cluster_queue::Told;
 use qq_disk::NodeDisk;
 use qq_group_laws::a_message_is_from_one_member_to_another;
+use qq_taker::Taker;
 use std::alloc::Global;
 
 impl<D: NodeDisk> Nodes<D> {
@@ -30,13 +32,13 @@ impl<D: NodeDisk> Nodes<D> {
     }
 
     // An event of a message, or it is said that there is none.
-    fn ask_where_there(
+    fn ask_where_there<T: Taker>(
         &mut self,
         alloc: Global,
         at: usize,
         message: u32,
         ask: Ask,
-        text: &mut Vec<u8>,
+        told: &mut Told<T>,
     ) -> Result<(), Memory>
         requires serve { CanServe D.tells D.past self.old }
         requires place { at < length self.old.queues.items }
@@ -44,32 +46,32 @@ impl<D: NodeDisk> Nodes<D> {
         requires may { MayAsk ask }
         ensures ok { OnOk result (Served D.tells D.past D.faults (λ (setup : Setup) (c : Cluster).
             WhereThere (receiver_at c (at + 1) (message - 1)) (asked ask) (at + 1) c)
-            self.old self.new text.old.items text.new.items) }
+            self.old self.new told.old told.new) }
         ensures err { IfErr result (GaveUp D.tells D.past D.faults (λ (setup : Setup) (c : Cluster).
             WhereThere (receiver_at c (at + 1) (message - 1)) (asked ask) (at + 1) c)
             self.old self.new) }
     {
         let there = self.receiver(at, message).is_some();
         if !there {
-            if let Err(cause) = self.say_no_such(text) {
+            if let Err(cause) = self.say_no_such(told) {
                 return Err(cause);
             }
             return Ok(());
         }
-        if let Err(cause) = self.ask(alloc, at, ask, text) {
+        if let Err(cause) = self.ask(alloc, at, ask, told) {
             return Err(cause);
         }
         Ok(())
     }
 
     // A message reaches its receiver, or is lost where that is down, which is said.
-    fn deliver_to(
+    fn deliver_to<T: Taker>(
         &mut self,
         alloc: Global,
         at: usize,
         message: u32,
         node: NodeId,
-        text: &mut Vec<u8>,
+        told: &mut Told<T>,
     ) -> Result<(), Memory>
         requires serve { CanServe D.tells D.past self.old }
         requires place { at < length self.old.queues.items }
@@ -77,19 +79,19 @@ impl<D: NodeDisk> Nodes<D> {
         requires node { IsNodeAt node self.old }
         ensures ok { OnOk result (Served D.tells D.past D.faults
             (λ (setup : Setup). IsDelivered (at + 1) (message - 1) (number_of (Some node)))
-            self.old self.new text.old.items text.new.items) }
+            self.old self.new told.old told.new) }
         ensures err { IfErr result (GaveUp D.tells D.past D.faults
             (λ (setup : Setup). IsDelivered (at + 1) (message - 1) (number_of (Some node)))
             self.old self.new) }
     {
-        if let Err(cause) = self.ask(alloc, at, Ask::Deliver { message }, text) {
+        if let Err(cause) = self.tell(alloc, at, Ask::Deliver { message }, told) {
             return Err(cause);
         }
         let up = self.is_up(node);
         if up {
             return Ok(());
         }
-        if let Err(cause) = self.say_down(node, text) {
+        if let Err(cause) = self.say_down(node, told) {
             return Err(cause);
         }
         Ok(())
@@ -97,90 +99,90 @@ impl<D: NodeDisk> Nodes<D> {
 
     /// A message of a queue, the first one is 1, reaches its receiver. Where that is down the message is lost, and
     /// that it is down is said; where there is no such message that is said.
-    pub fn deliver(
+    pub fn deliver<T: Taker>(
         &mut self,
         alloc: Global,
         queue: QueueId,
         message: u32,
-        text: &mut Vec<u8>,
+        told: &mut Told<T>,
     ) -> Result<(), Memory>
         requires serve { CanServe D.tells D.past self.old }
         requires queue { IsQueueAt queue self.old }
         ensures ok { OnOk result (Served D.tells D.past D.faults (λ setup. IsDeliver queue.0 message)
-            self.old self.new text.old.items text.new.items) }
+            self.old self.new told.old told.new) }
         ensures err { IfErr result (GaveUp D.tells D.past D.faults (λ setup. IsDeliver queue.0 message)
             self.old self.new) }
     {
         let at = queue.0 as usize - 1;
         if message == 0 {
-            if let Err(cause) = self.say_no_such(text) {
+            if let Err(cause) = self.say_no_such(told) {
                 return Err(cause);
             }
             return Ok(());
         }
         let Some(node) = self.receiver(at, message) else {
-            if let Err(cause) = self.say_no_such(text) {
+            if let Err(cause) = self.say_no_such(told) {
                 return Err(cause);
             }
             return Ok(());
         };
-        if let Err(cause) = self.deliver_to(alloc, at, message, node, text) {
+        if let Err(cause) = self.deliver_to(alloc, at, message, node, told) {
             return Err(cause);
         }
         Ok(())
     }
 
     /// A message of a queue, the first one is 1, is lost; where there is none that is said.
-    pub fn lose(
+    pub fn lose<T: Taker>(
         &mut self,
         alloc: Global,
         queue: QueueId,
         message: u32,
-        text: &mut Vec<u8>,
+        told: &mut Told<T>,
     ) -> Result<(), Memory>
         requires serve { CanServe D.tells D.past self.old }
         requires queue { IsQueueAt queue self.old }
         ensures ok { OnOk result (Served D.tells D.past D.faults (λ setup. IsLose queue.0 message)
-            self.old self.new text.old.items text.new.items) }
+            self.old self.new told.old told.new) }
         ensures err { IfErr result (GaveUp D.tells D.past D.faults (λ setup. IsLose queue.0 message)
             self.old self.new) }
     {
         if message == 0 {
-            if let Err(cause) = self.say_no_such(text) {
+            if let Err(cause) = self.say_no_such(told) {
                 return Err(cause);
             }
             return Ok(());
         }
         let at = queue.0 as usize - 1;
-        if let Err(cause) = self.ask_where_there(alloc, at, message, Ask::Lose { message }, text) {
+        if let Err(cause) = self.ask_where_there(alloc, at, message, Ask::Lose { message }, told) {
             return Err(cause);
         }
         Ok(())
     }
 
     /// A message of a queue, the first one is 1, comes again behind all others; where there is none that is said.
-    pub fn copy(
+    pub fn copy<T: Taker>(
         &mut self,
         alloc: Global,
         queue: QueueId,
         message: u32,
-        text: &mut Vec<u8>,
+        told: &mut Told<T>,
     ) -> Result<(), Memory>
         requires serve { CanServe D.tells D.past self.old }
         requires queue { IsQueueAt queue self.old }
         ensures ok { OnOk result (Served D.tells D.past D.faults (λ setup. IsCopy queue.0 message)
-            self.old self.new text.old.items text.new.items) }
+            self.old self.new told.old told.new) }
         ensures err { IfErr result (GaveUp D.tells D.past D.faults (λ setup. IsCopy queue.0 message)
             self.old self.new) }
     {
         if message == 0 {
-            if let Err(cause) = self.say_no_such(text) {
+            if let Err(cause) = self.say_no_such(told) {
                 return Err(cause);
             }
             return Ok(());
         }
         let at = queue.0 as usize - 1;
-        if let Err(cause) = self.ask_where_there(alloc, at, message, Ask::Copy { message }, text) {
+        if let Err(cause) = self.ask_where_there(alloc, at, message, Ask::Copy { message }, told) {
             return Err(cause);
         }
         Ok(())

@@ -1,20 +1,23 @@
 //! The nodes of a cluster and its queues, side by side.
-ghost use Rattle.std.specs.Prelude.{◌≡◌, ◌<◌, ◌-◌, ◌+◌, ◌++◌, ◌&&◌, ℕ, Some, true, length, List, slice_get, IfErr, IsOkUnless, OnOk};
+ghost use Rattle.std.specs.Prelude.{◌≡◌, ◌<◌, ◌-◌, ◌+◌, ◌++◌, ◌&&◌, ℕ, Some, true, length, slice_get, IfErr, IsOkUnless, OnOk};
 ghost use Rattle.std.specs.Fmt.{decimal};
 ghost use Rattle.qq_cluster.specs.Cluster.{Cluster, Setup, At, SaysBusy, SaysDown, SaysEnded, SaysNoSuch, SaysUnroutable, Sets};
+ghost use Rattle.qq_cluster.specs.Outcome.{Outcome};
 ghost use Rattle.qq_cluster.specs.Rules.{Is, IsNothing, is_quiet_at, waits_noticed};
 ghost use Rattle.qq_cluster_laws.specs.Linked.{IsReached};
 ghost use Rattle.qq_nodes.specs.Active.{is_in};
 ghost use Rattle.qq_nodes.specs.Asking.{MayAsk, asked};
 ghost use Rattle.qq_nodes.specs.Nodes.{CanServe, GaveUp, IsNodeAt, Served, Stands};
+ghost use Rattle.qq_nodes.specs.Showing.{with_line};
 
 use crate::active::Active;
 use crate::asking::{Ask, ask_in};
 use crate::node::Node;
+use itoa::Buffer;
 use qq_base::{Memory, NodeId};
-use qq_cluster_queue::{ClusterQueue, Sessions, a_refusal_tells_an_end};
+use qq_cluster_queue::{ClusterQueue, Sessions, Told, a_refusal_tells_an_end};
 use qq_disk::NodeDisk;
-use qq_script::{push_number, push_text};
+use qq_taker::Taker;
 use std::alloc::Global;
 
 /// The nodes of a cluster, and the queues that are replicated over them.
@@ -40,23 +43,24 @@ pub struct Nodes<D: NodeDisk> {
 }
 
 // A node's number between two words.
-pub(crate) fn add_node_line(
+pub(crate) fn add_node_line<T: Taker>(
     first: &str,
     node: NodeId,
     last: &str,
-    text: &mut Vec<u8>,
+    told: &mut Told<T>,
 ) -> Result<(), Memory>
-    ensures ok { OnOk result (text.new.items
-        ≡ text.old.items ++ (first.now ++ decimal node.0 ++ last.now)) }
+    ensures ok { OnOk result (told.new
+        ≡ with_line (first.now ++ decimal node.0 ++ last.now) told.old) }
     ensures want { IsOkUnless result Memory.Want }
 {
-    if let Err(cause) = push_text(text, first) {
+    let mut buffer = Buffer::new();
+    if let Err(cause) = told.write(first.as_bytes()) {
         return Err(cause);
     }
-    if let Err(cause) = push_number(text, u64::from(node.0)) {
+    if let Err(cause) = told.write(buffer.format(u64::from(node.0)).as_bytes()) {
         return Err(cause);
     }
-    if let Err(cause) = push_text(text, last) {
+    if let Err(cause) = told.write(last.as_bytes()) {
         return Err(cause);
     }
     Ok(())
@@ -118,8 +122,8 @@ impl<D: NodeDisk> Nodes<D> {
     // From here on a queue may have something to do.
     pub(crate) fn wake(&mut self, at: usize) -> Result<(), Memory>
         requires { at < length self.old.queues.items }
-        ensures ok { OnOk result ((text : List ℕ) → Served D.tells D.past D.faults (λ setup. IsNothing)
-            self.old self.new text text) }
+        ensures ok { OnOk result ((outcome : Outcome) → Served D.tells D.past D.faults (λ setup. IsNothing)
+            self.old self.new outcome outcome) }
         ensures active { OnOk result (is_in at self.new.active ≡ true) }
         ensures err { IfErr result (GaveUp D.tells D.past D.faults
             (λ setup. IsNothing) self.old self.new) }
@@ -129,101 +133,101 @@ impl<D: NodeDisk> Nodes<D> {
     }
 
     // A queue that is active does what is asked of it.
-    pub(crate) fn ask_active(
+    pub(crate) fn ask_active<T: Taker>(
         &mut self,
         alloc: Global,
         at: usize,
         ask: Ask,
-        text: &mut Vec<u8>,
+        told: &mut Told<T>,
     ) -> Result<(), Memory>
         requires serve { CanServe D.tells D.past self.old }
         requires place { at < length self.old.queues.items }
         requires active { is_in at self.old.active ≡ true }
         requires may { MayAsk ask }
         ensures ok { OnOk result (Served D.tells D.past D.faults (λ setup. Is (At (at + 1) (asked ask)))
-            self.old self.new text.old.items text.new.items) }
+            self.old self.new told.old told.new) }
         ensures active { self.new.active ≡ self.old.active }
         ensures err { IfErr result (GaveUp D.tells D.past D.faults
             (λ setup. Is (At (at + 1) (asked ask))) self.old self.new) }
     {
         a_refusal_tells_an_end();
-        ask_in(&mut self.queues, alloc, &self.sessions, at, ask, text)
+        ask_in(&mut self.queues, alloc, &self.sessions, at, ask, told)
     }
 
     // A queue does what is asked of it.
-    pub(crate) fn ask(
+    pub(crate) fn ask<T: Taker>(
         &mut self,
         alloc: Global,
         at: usize,
         ask: Ask,
-        text: &mut Vec<u8>,
+        told: &mut Told<T>,
     ) -> Result<(), Memory>
         requires serve { CanServe D.tells D.past self.old }
         requires place { at < length self.old.queues.items }
         requires may { MayAsk ask }
         ensures ok { OnOk result (Served D.tells D.past D.faults (λ setup. Is (At (at + 1) (asked ask)))
-            self.old self.new text.old.items text.new.items) }
+            self.old self.new told.old told.new) }
         ensures err { IfErr result (GaveUp D.tells D.past D.faults
             (λ setup. Is (At (at + 1) (asked ask))) self.old self.new) }
     {
         if let Err(cause) = self.wake(at) {
             return Err(cause);
         }
-        if let Err(cause) = self.ask_active(alloc, at, ask, text) {
+        if let Err(cause) = self.ask_active(alloc, at, ask, told) {
             return Err(cause);
         }
         Ok(())
     }
 
     // A line is for a node that is down.
-    pub(crate) fn say_down(&self, node: NodeId, text: &mut Vec<u8>) -> Result<(), Memory>
+    pub(crate) fn say_down<T: Taker>(&self, node: NodeId, told: &mut Told<T>) -> Result<(), Memory>
         ensures ok { OnOk result (Served D.tells D.past D.faults (λ setup. Is (SaysDown node.0))
-            self.now self.now text.old.items text.new.items) }
+            self.now self.now told.old told.new) }
         ensures want { IsOkUnless result Memory.Want }
     {
-        add_node_line("down ", node, "\n", text)
+        add_node_line("down ", node, "\n", told)
     }
 
     // A pump has made all its rounds.
-    pub(crate) fn say_busy(&self, text: &mut Vec<u8>) -> Result<(), Memory>
+    pub(crate) fn say_busy<T: Taker>(&self, told: &mut Told<T>) -> Result<(), Memory>
         ensures ok { OnOk result (Served D.tells D.past D.faults (λ setup. Is SaysBusy)
-            self.now self.now text.old.items text.new.items) }
+            self.now self.now told.old told.new) }
         ensures want { IsOkUnless result Memory.Want }
     {
-        push_text(text, "busy\n")
+        told.write(b"busy\n")
     }
 
     // The commands of a session that has ended are to be sent again.
-    pub(crate) fn say_ended(&self, text: &mut Vec<u8>) -> Result<(), Memory>
+    pub(crate) fn say_ended<T: Taker>(&self, told: &mut Told<T>) -> Result<(), Memory>
         ensures ok { OnOk result (Served D.tells D.past D.faults (λ setup. Is SaysEnded)
-            self.now self.now text.old.items text.new.items) }
+            self.now self.now told.old told.new) }
         ensures want { IsOkUnless result Memory.Want }
     {
-        push_text(text, "ended\n")
+        told.write(b"ended\n")
     }
 
     // A line is for a message that isn't there.
-    pub(crate) fn say_no_such(&self, text: &mut Vec<u8>) -> Result<(), Memory>
+    pub(crate) fn say_no_such<T: Taker>(&self, told: &mut Told<T>) -> Result<(), Memory>
         ensures ok { OnOk result (Served D.tells D.past D.faults (λ setup. Is SaysNoSuch)
-            self.now self.now text.old.items text.new.items) }
+            self.now self.now told.old told.new) }
         ensures want { IsOkUnless result Memory.Want }
     {
-        push_text(text, "no such\n")
+        told.write(b"no such\n")
     }
 
     // A message is routed to no queue.
-    pub(crate) fn say_unroutable(&self, text: &mut Vec<u8>) -> Result<(), Memory>
+    pub(crate) fn say_unroutable<T: Taker>(&self, told: &mut Told<T>) -> Result<(), Memory>
         ensures ok { OnOk result (Served D.tells D.past D.faults (λ setup. Is SaysUnroutable)
-            self.now self.now text.old.items text.new.items) }
+            self.now self.now told.old told.new) }
         ensures want { IsOkUnless result Memory.Want }
     {
-        push_text(text, "unroutable\n")
+        told.write(b"unroutable\n")
     }
 
     /// Whether a pump follows each line of a client from here on.
     pub fn set_auto(&mut self, auto: bool)
-        ensures { (text : List ℕ) → Served D.tells D.past D.faults (λ setup. Is (Sets auto))
-            self.old self.new text text }
+        ensures { (outcome : Outcome) → Served D.tells D.past D.faults (λ setup. Is (Sets auto))
+            self.old self.new outcome outcome }
     {
         self.auto = auto;
     }

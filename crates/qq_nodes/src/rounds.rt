@@ -1,7 +1,8 @@
 //! Rounds and pumps: what waits is written, synced and noticed node by node, then messages are delivered queue by
 //! queue, until nothing is left to do.
-ghost use Rattle.std.specs.Prelude.{◌≡◌, ◌<◌, ◌+◌, ℕ, List, true, length, IfErr, IsOkUnless, OnOk};
+ghost use Rattle.std.specs.Prelude.{◌≡◌, ◌<◌, ◌+◌, true, length, IfErr, IsOkUnless, OnOk};
 ghost use Rattle.qq_cluster.specs.Cluster.{Cluster, Setup};
+ghost use Rattle.qq_cluster.specs.Outcome.{Outcome};
 ghost use Rattle.qq_cluster.specs.Rules.{ForEach, IsEmptied, IsNodeRound, IsNothing, IsNotice, IsPump, IsPumped, IsRound, is_idle, is_quiet};
 ghost use Rattle.qq_cluster_laws.specs.Linked.{IsReached};
 ghost use Rattle.qq_nodes.specs.Active.{is_in};
@@ -10,7 +11,9 @@ ghost use Rattle.qq_nodes.specs.Nodes.{CanServe, GaveUp, IsNodeAt, Served, Stand
 use crate::asking::Ask;
 use crate::nodes::Nodes;
 use qq_base::{Memory, NodeId};
+use qq_cluster_queue::Told;
 use qq_disk::NodeDisk;
+use qq_taker::Taker;
 use std::alloc::Global;
 
 /// How many rounds a pump makes at most.
@@ -18,19 +21,19 @@ pub const MOST_ROUNDS: u64 = 10_000;
 
 impl<D: NodeDisk> Nodes<D> {
     // A queue's member notices what is synced of it, where something is and the node is up.
-    fn notice_active(
+    fn notice_active<T: Taker>(
         &mut self,
         alloc: Global,
         at: usize,
         node: NodeId,
-        text: &mut Vec<u8>,
+        told: &mut Told<T>,
     ) -> Result<(), Memory>
         requires serve { CanServe D.tells D.past self.old }
         requires place { at < length self.old.queues.items }
         requires active { is_in at self.old.active ≡ true }
         requires node { IsNodeAt node self.old }
         ensures ok { OnOk result (Served D.tells D.past D.faults (λ setup. IsNotice node.0 (at + 1))
-            self.old self.new text.old.items text.new.items) }
+            self.old self.new told.old told.new) }
         ensures active { self.new.active ≡ self.old.active }
         ensures err { IfErr result (GaveUp D.tells D.past D.faults
             (λ setup. IsNotice node.0 (at + 1)) self.old self.new) }
@@ -39,19 +42,19 @@ impl<D: NodeDisk> Nodes<D> {
         if !waits {
             return Ok(());
         }
-        if let Err(cause) = self.ask_active(alloc, at, Ask::Notice { node }, text) {
+        if let Err(cause) = self.tell_active(alloc, at, Ask::Notice { node }, told) {
             return Err(cause);
         }
         Ok(())
     }
 
     // Each queue's member on a node notices what is synced of it.
-    fn notice_each(&mut self, alloc: Global, node: NodeId, text: &mut Vec<u8>) -> Result<(), Memory>
+    fn notice_each<T: Taker>(&mut self, alloc: Global, node: NodeId, told: &mut Told<T>) -> Result<(), Memory>
         requires serve { CanServe D.tells D.past self.old }
         requires node { IsNodeAt node self.old }
         ensures ok { OnOk result (Served D.tells D.past D.faults
             (λ (setup : Setup). ForEach setup.places (IsNotice node.0))
-            self.old self.new text.old.items text.new.items) }
+            self.old self.new told.old told.new) }
         ensures err { IfErr result (GaveUp D.tells D.past D.faults
             (λ (setup : Setup). ForEach setup.places (IsNotice node.0)) self.old self.new) }
     {
@@ -59,7 +62,7 @@ impl<D: NodeDisk> Nodes<D> {
         let count = self.active.len();
         'active: for place in 0..count {
             let at = self.active.at(place);
-            if let Err(cause) = self.notice_active(alloc, at, node, text) {
+            if let Err(cause) = self.notice_active(alloc, at, node, told) {
                 return Err(cause);
             }
         }
@@ -67,19 +70,19 @@ impl<D: NodeDisk> Nodes<D> {
     }
 
     // The messages of a queue are delivered from the front, as many as there are now.
-    fn empty_active(&mut self, alloc: Global, at: usize, text: &mut Vec<u8>) -> Result<(), Memory>
+    fn empty_active<T: Taker>(&mut self, alloc: Global, at: usize, told: &mut Told<T>) -> Result<(), Memory>
         requires serve { CanServe D.tells D.past self.old }
         requires place { at < length self.old.queues.items }
         requires active { is_in at self.old.active ≡ true }
         ensures ok { OnOk result (Served D.tells D.past D.faults (λ setup. IsEmptied (at + 1))
-            self.old self.new text.old.items text.new.items) }
+            self.old self.new told.old told.new) }
         ensures active { self.new.active ≡ self.old.active }
         ensures err { IfErr result (GaveUp D.tells D.past D.faults
             (λ setup. IsEmptied (at + 1)) self.old self.new) }
     {
         let count = self.messages(at);
         'messages: for message in 0..count {
-            if let Err(cause) = self.ask_active(alloc, at, Ask::Deliver { message: 1 }, text) {
+            if let Err(cause) = self.tell_active(alloc, at, Ask::Deliver { message: 1 }, told) {
                 return Err(cause);
             }
         }
@@ -87,18 +90,18 @@ impl<D: NodeDisk> Nodes<D> {
     }
 
     // The messages of each queue are delivered.
-    fn empty_each(&mut self, alloc: Global, text: &mut Vec<u8>) -> Result<(), Memory>
+    fn empty_each<T: Taker>(&mut self, alloc: Global, told: &mut Told<T>) -> Result<(), Memory>
         requires { CanServe D.tells D.past self.old }
         ensures ok { OnOk result (Served D.tells D.past D.faults
             (λ (setup : Setup). ForEach setup.places IsEmptied)
-            self.old self.new text.old.items text.new.items) }
+            self.old self.new told.old told.new) }
         ensures err { IfErr result (GaveUp D.tells D.past D.faults
             (λ (setup : Setup). ForEach setup.places IsEmptied) self.old self.new) }
     {
         let count = self.active.len();
         'active: for place in 0..count {
             let at = self.active.at(place);
-            if let Err(cause) = self.empty_active(alloc, at, text) {
+            if let Err(cause) = self.empty_active(alloc, at, told) {
                 return Err(cause);
             }
         }
@@ -106,40 +109,40 @@ impl<D: NodeDisk> Nodes<D> {
     }
 
     // A node's log is written and synced, and its members notice that.
-    fn node_round(&mut self, alloc: Global, node: NodeId, text: &mut Vec<u8>) -> Result<(), Memory>
+    fn node_round<T: Taker>(&mut self, alloc: Global, node: NodeId, told: &mut Told<T>) -> Result<(), Memory>
         requires serve { CanServe D.tells D.past self.old }
         requires node { IsNodeAt node self.old }
         ensures ok { OnOk result (Served D.tells D.past D.faults
             (λ (setup : Setup). IsNodeRound setup node.0)
-            self.old self.new text.old.items text.new.items) }
+            self.old self.new told.old told.new) }
         ensures err { IfErr result (GaveUp D.tells D.past D.faults
             (λ (setup : Setup). IsNodeRound setup node.0) self.old self.new) }
     {
-        if let Err(cause) = self.write_up(alloc, node, text) {
+        if let Err(cause) = self.write_up(alloc, node, told) {
             return Err(cause);
         }
-        if let Err(cause) = self.sync_up(alloc, node, text) {
+        if let Err(cause) = self.sync_up(alloc, node, told) {
             return Err(cause);
         }
-        if let Err(cause) = self.notice_each(alloc, node, text) {
+        if let Err(cause) = self.notice_each(alloc, node, told) {
             return Err(cause);
         }
         Ok(())
     }
 
     // The rounds of all nodes.
-    fn round_each(&mut self, alloc: Global, text: &mut Vec<u8>) -> Result<(), Memory>
+    fn round_each<T: Taker>(&mut self, alloc: Global, told: &mut Told<T>) -> Result<(), Memory>
         requires { CanServe D.tells D.past self.old }
         ensures ok { OnOk result (Served D.tells D.past D.faults
             (λ (setup : Setup). ForEach setup.nodes (IsNodeRound setup))
-            self.old self.new text.old.items text.new.items) }
+            self.old self.new told.old told.new) }
         ensures err { IfErr result (GaveUp D.tells D.past D.faults
             (λ (setup : Setup). ForEach setup.nodes (IsNodeRound setup)) self.old self.new) }
     {
         let count = self.nodes.len();
         'nodes: for at in 0..count {
             let node = self.node_id(at);
-            if let Err(cause) = self.node_round(alloc, node, text) {
+            if let Err(cause) = self.node_round(alloc, node, told) {
                 return Err(cause);
             }
         }
@@ -172,8 +175,8 @@ impl<D: NodeDisk> Nodes<D> {
     // Queues at which nothing is to be done aren't active any more.
     fn drop_quiet(&mut self)
         requires { CanServe D.tells D.past self.old }
-        ensures { (text : List ℕ) → Served D.tells D.past D.faults (λ setup. IsNothing)
-            self.old self.new text text }
+        ensures { (outcome : Outcome) → Served D.tells D.past D.faults (λ setup. IsNothing)
+            self.old self.new outcome outcome }
     {
         let mut left = self.active.len();
         // From the end, so that where all are quiet none of them is moved.
@@ -205,17 +208,17 @@ impl<D: NodeDisk> Nodes<D> {
     }
 
     // The nodes in order, and then the queues in order.
-    fn round(&mut self, alloc: Global, text: &mut Vec<u8>) -> Result<(), Memory>
+    fn round<T: Taker>(&mut self, alloc: Global, told: &mut Told<T>) -> Result<(), Memory>
         requires { CanServe D.tells D.past self.old }
         ensures ok { OnOk result (Served D.tells D.past D.faults IsRound
-            self.old self.new text.old.items text.new.items) }
+            self.old self.new told.old told.new) }
         ensures err { IfErr result (GaveUp D.tells D.past D.faults
             IsRound self.old self.new) }
     {
-        if let Err(cause) = self.round_each(alloc, text) {
+        if let Err(cause) = self.round_each(alloc, told) {
             return Err(cause);
         }
-        if let Err(cause) = self.empty_each(alloc, text) {
+        if let Err(cause) = self.empty_each(alloc, told) {
             return Err(cause);
         }
         self.drop_quiet();
@@ -224,10 +227,10 @@ impl<D: NodeDisk> Nodes<D> {
 
     /// Rounds are made until nothing is left to do: `MOST_ROUNDS` at most, after which it says that it is
     /// busy.
-    pub fn pump(&mut self, alloc: Global, text: &mut Vec<u8>) -> Result<(), Memory>
+    pub fn pump<T: Taker>(&mut self, alloc: Global, told: &mut Told<T>) -> Result<(), Memory>
         requires { CanServe D.tells D.past self.old }
         ensures ok { OnOk result (Served D.tells D.past D.faults IsPump
-            self.old self.new text.old.items text.new.items) }
+            self.old self.new told.old told.new) }
         ensures err { IfErr result (GaveUp D.tells D.past D.faults
             IsPump self.old self.new) }
     {
@@ -237,7 +240,7 @@ impl<D: NodeDisk> Nodes<D> {
             if idle {
                 return Ok(());
             }
-            if let Err(cause) = self.round(alloc, text) {
+            if let Err(cause) = self.round(alloc, told) {
                 return Err(cause);
             }
             left -= 1;
@@ -246,24 +249,24 @@ impl<D: NodeDisk> Nodes<D> {
         if idle {
             return Ok(());
         }
-        if let Err(cause) = self.say_busy(text) {
+        if let Err(cause) = self.say_busy(told) {
             return Err(cause);
         }
         Ok(())
     }
 
     // A pump follows, unless it is to be asked for.
-    pub(crate) fn pumped(&mut self, alloc: Global, text: &mut Vec<u8>) -> Result<(), Memory>
+    pub(crate) fn pumped<T: Taker>(&mut self, alloc: Global, told: &mut Told<T>) -> Result<(), Memory>
         requires { CanServe D.tells D.past self.old }
         ensures ok { OnOk result (Served D.tells D.past D.faults IsPumped
-            self.old self.new text.old.items text.new.items) }
+            self.old self.new told.old told.new) }
         ensures err { IfErr result (GaveUp D.tells D.past D.faults
             IsPumped self.old self.new) }
     {
         if !self.auto {
             return Ok(());
         }
-        if let Err(cause) = self.pump(alloc, text) {
+        if let Err(cause) = self.pump(alloc, told) {
             return Err(cause);
         }
         Ok(())

@@ -4,7 +4,7 @@ ghost use Rattle.qq_base.specs.declared.ids.QueueId.{QueueId as Id};
 ghost use Rattle.qq_cluster.specs.Cluster.{At, Setup};
 ghost use Rattle.qq_cluster.specs.Lines.{AndPumped, IsRouted};
 ghost use Rattle.qq_cluster.specs.Queue.{Fetches, Resends};
-ghost use Rattle.qq_cluster.specs.Rules.{ForEach, Is, IsGiven, IsResend};
+ghost use Rattle.qq_cluster.specs.Rules.{ForEach, Is, IsGiven, IsResend, Tells};
 ghost use Rattle.qq_cluster_queue.specs.Range.{MayStamp};
 ghost use Rattle.qq_nodes.specs.Nodes.{CanServe, GaveUp, IsQueueAt, Served};
 ghost use Rattle.qq_nodes.specs.Sending.{GivesTo, Sends, numbers_of};
@@ -12,20 +12,22 @@ ghost use Rattle.qq_nodes.specs.Sending.{GivesTo, Sends, numbers_of};
 use crate::asking::Ask;
 use crate::nodes::Nodes;
 use qq_base::{Duplicate, Memory, QueueId};
+use qq_cluster_queue::Told;
 use qq_disk::NodeDisk;
 use qq_entry::Unstamped;
+use qq_taker::Taker;
 use std::alloc::Global;
 
 impl<D: NodeDisk> Nodes<D> {
     // A session gives a copy of a command at the first of these queues, so many of them.
-    fn give_first(
+    fn give_first<T: Taker>(
         &mut self,
         alloc: Global,
         queues: &[QueueId],
         count: usize,
         session: u64,
         body: &Unstamped,
-        text: &mut Vec<u8>,
+        told: &mut Told<T>,
     ) -> Result<(), Memory>
         requires serve { CanServe D.tells D.past self.old }
         requires queues { All (λ queue. IsQueueAt queue self.old) queues.now }
@@ -34,7 +36,7 @@ impl<D: NodeDisk> Nodes<D> {
         requires range { MayStamp body.now }
         ensures ok { OnOk result (Served D.tells D.past D.faults
             (GivesTo session body.now (numbers_of queues.now) count)
-            self.old self.new text.old.items text.new.items) }
+            self.old self.new told.old told.new) }
         ensures err { IfErr result (GaveUp D.tells D.past D.faults
             (λ (setup : Setup). ForEach (numbers_of queues.now) (IsGiven session body.now))
             self.old self.new) }
@@ -45,7 +47,7 @@ impl<D: NodeDisk> Nodes<D> {
                 Err(cause) => return Err(cause),
             };
             let queue = queues[at];
-            if let Err(cause) = self.give_at(alloc, queue.0 as usize - 1, session, own, text) {
+            if let Err(cause) = self.give_at(alloc, queue.0 as usize - 1, session, own, told) {
                 return Err(cause);
             }
         }
@@ -53,13 +55,13 @@ impl<D: NodeDisk> Nodes<D> {
     }
 
     // A session gives a command at each of these queues; where there are none that is said.
-    fn route(
+    fn route<T: Taker>(
         &mut self,
         alloc: Global,
         queues: &[QueueId],
         session: u64,
         body: Unstamped,
-        text: &mut Vec<u8>,
+        told: &mut Told<T>,
     ) -> Result<(), Memory>
         requires serve { CanServe D.tells D.past self.old }
         requires queues { All (λ queue. IsQueueAt queue self.old) queues.now }
@@ -67,23 +69,23 @@ impl<D: NodeDisk> Nodes<D> {
         requires range { MayStamp body }
         ensures ok { OnOk result (Served D.tells D.past D.faults
             (λ (setup : Setup). IsRouted session body (numbers_of queues.now))
-            self.old self.new text.old.items text.new.items) }
+            self.old self.new told.old told.new) }
         ensures err { IfErr result (GaveUp D.tells D.past D.faults
             (λ (setup : Setup). IsRouted session body (numbers_of queues.now)) self.old self.new) }
     {
         let count = queues.len();
         if count == 0 {
-            if let Err(cause) = self.say_unroutable(text) {
+            if let Err(cause) = self.say_unroutable(told) {
                 return Err(cause);
             }
             return Ok(());
         }
         let last = count - 1;
-        if let Err(cause) = self.give_first(alloc, queues, last, session, &body, text) {
+        if let Err(cause) = self.give_first(alloc, queues, last, session, &body, told) {
             return Err(cause);
         }
         let queue = queues[last];
-        if let Err(cause) = self.give_at(alloc, queue.0 as usize - 1, session, body, text) {
+        if let Err(cause) = self.give_at(alloc, queue.0 as usize - 1, session, body, told) {
             return Err(cause);
         }
         Ok(())
@@ -91,13 +93,13 @@ impl<D: NodeDisk> Nodes<D> {
 
     /// A session's command at each of these queues, in their order; where there are none it is said that it can't
     /// be routed. A pump follows where one is to.
-    pub fn send(
+    pub fn send<T: Taker>(
         &mut self,
         alloc: Global,
         queues: &[QueueId],
         session: u64,
         body: Unstamped,
-        text: &mut Vec<u8>,
+        told: &mut Told<T>,
     ) -> Result<(), Memory>
         requires serve { CanServe D.tells D.past self.old }
         requires queues { All (λ queue. IsQueueAt queue self.old) queues.now }
@@ -105,33 +107,33 @@ impl<D: NodeDisk> Nodes<D> {
         requires range { MayStamp body }
         ensures ok { OnOk result (Served D.tells D.past D.faults
             (λ (setup : Setup). AndPumped setup (IsRouted session body (numbers_of queues.now)))
-            self.old self.new text.old.items text.new.items) }
+            self.old self.new told.old told.new) }
         ensures err { IfErr result (GaveUp D.tells D.past D.faults
             (λ (setup : Setup). AndPumped setup (IsRouted session body (numbers_of queues.now)))
             self.old self.new) }
     {
-        if let Err(cause) = self.route(alloc, queues, session, body, text) {
+        if let Err(cause) = self.route(alloc, queues, session, body, told) {
             return Err(cause);
         }
-        if let Err(cause) = self.pumped(alloc, text) {
+        if let Err(cause) = self.pumped(alloc, told) {
             return Err(cause);
         }
         Ok(())
     }
 
     // A session sends its open commands again, at each queue.
-    fn resend_each(&mut self, alloc: Global, session: u64, text: &mut Vec<u8>) -> Result<(), Memory>
+    fn resend_each<T: Taker>(&mut self, alloc: Global, session: u64, told: &mut Told<T>) -> Result<(), Memory>
         requires { CanServe D.tells D.past self.old }
         ensures ok { OnOk result (Served D.tells D.past D.faults
             (λ (setup : Setup). ForEach setup.places (λ place. Is (At place (Resends session))))
-            self.old self.new text.old.items text.new.items) }
+            self.old self.new told.old told.new) }
         ensures err { IfErr result (GaveUp D.tells D.past D.faults
             (λ (setup : Setup). ForEach setup.places (λ place. Is (At place (Resends session))))
             self.old self.new) }
     {
         let count = self.queues.len();
         'places: for at in 0..count {
-            if let Err(cause) = self.ask(alloc, at, Ask::Resend { session }, text) {
+            if let Err(cause) = self.ask(alloc, at, Ask::Resend { session }, told) {
                 return Err(cause);
             }
         }
@@ -139,18 +141,18 @@ impl<D: NodeDisk> Nodes<D> {
     }
 
     // A session fetches what is out with its consumers, at each queue.
-    fn fetch_each(&mut self, alloc: Global, session: u64, text: &mut Vec<u8>) -> Result<(), Memory>
+    fn fetch_each<T: Taker>(&mut self, alloc: Global, session: u64, told: &mut Told<T>) -> Result<(), Memory>
         requires { CanServe D.tells D.past self.old }
         ensures ok { OnOk result (Served D.tells D.past D.faults
-            (λ (setup : Setup). ForEach setup.places (λ place. Is (At place (Fetches session))))
-            self.old self.new text.old.items text.new.items) }
+            (λ (setup : Setup). ForEach setup.places (λ place. Tells place (Fetches session)))
+            self.old self.new told.old told.new) }
         ensures err { IfErr result (GaveUp D.tells D.past D.faults
-            (λ (setup : Setup). ForEach setup.places (λ place. Is (At place (Fetches session))))
+            (λ (setup : Setup). ForEach setup.places (λ place. Tells place (Fetches session)))
             self.old self.new) }
     {
         let count = self.queues.len();
         'places: for at in 0..count {
-            if let Err(cause) = self.ask(alloc, at, Ask::Fetch { session }, text) {
+            if let Err(cause) = self.tell(alloc, at, Ask::Fetch { session }, told) {
                 return Err(cause);
             }
         }
@@ -158,39 +160,39 @@ impl<D: NodeDisk> Nodes<D> {
     }
 
     // A session's open commands go out again, and then it fetches.
-    fn resend_and_fetch(
+    fn resend_and_fetch<T: Taker>(
         &mut self,
         alloc: Global,
         session: u64,
-        text: &mut Vec<u8>,
+        told: &mut Told<T>,
     ) -> Result<(), Memory>
         requires { CanServe D.tells D.past self.old }
         ensures ok { OnOk result (Served D.tells D.past D.faults
             (λ (setup : Setup). Sends setup session)
-            self.old self.new text.old.items text.new.items) }
+            self.old self.new told.old told.new) }
         ensures err { IfErr result (GaveUp D.tells D.past D.faults
             (λ (setup : Setup). Sends setup session) self.old self.new) }
     {
-        if let Err(cause) = self.resend_each(alloc, session, text) {
+        if let Err(cause) = self.resend_each(alloc, session, told) {
             return Err(cause);
         }
-        if let Err(cause) = self.fetch_each(alloc, session, text) {
+        if let Err(cause) = self.fetch_each(alloc, session, told) {
             return Err(cause);
         }
         Ok(())
     }
 
     // And one that has ended is told so.
-    fn resend_or_tell(
+    fn resend_or_tell<T: Taker>(
         &mut self,
         alloc: Global,
         session: u64,
-        text: &mut Vec<u8>,
+        told: &mut Told<T>,
     ) -> Result<(), Memory>
         requires { CanServe D.tells D.past self.old }
         ensures ok { OnOk result (Served D.tells D.past D.faults
             (λ (setup : Setup). IsResend setup session)
-            self.old self.new text.old.items text.new.items) }
+            self.old self.new told.old told.new) }
         ensures err { IfErr result (GaveUp D.tells D.past D.faults
             (λ (setup : Setup). IsResend setup session) self.old self.new) }
     {
@@ -201,12 +203,12 @@ impl<D: NodeDisk> Nodes<D> {
             if !some {
                 return Ok(());
             }
-            if let Err(cause) = self.say_ended(text) {
+            if let Err(cause) = self.say_ended(told) {
                 return Err(cause);
             }
             return Ok(());
         }
-        if let Err(cause) = self.resend_and_fetch(alloc, session, text) {
+        if let Err(cause) = self.resend_and_fetch(alloc, session, told) {
             return Err(cause);
         }
         Ok(())
@@ -214,18 +216,18 @@ impl<D: NodeDisk> Nodes<D> {
 
     /// A session sends its open commands again, at each queue in order, and then fetches at each what is out with its
     /// consumers; of one that has ended that is said. A pump follows where one is to.
-    pub fn resend(&mut self, alloc: Global, session: u64, text: &mut Vec<u8>) -> Result<(), Memory>
+    pub fn resend<T: Taker>(&mut self, alloc: Global, session: u64, told: &mut Told<T>) -> Result<(), Memory>
         requires { CanServe D.tells D.past self.old }
         ensures ok { OnOk result (Served D.tells D.past D.faults
             (λ (setup : Setup). AndPumped setup (IsResend setup session))
-            self.old self.new text.old.items text.new.items) }
+            self.old self.new told.old told.new) }
         ensures err { IfErr result (GaveUp D.tells D.past D.faults
             (λ (setup : Setup). AndPumped setup (IsResend setup session)) self.old self.new) }
     {
-        if let Err(cause) = self.resend_or_tell(alloc, session, text) {
+        if let Err(cause) = self.resend_or_tell(alloc, session, told) {
             return Err(cause);
         }
-        if let Err(cause) = self.pumped(alloc, text) {
+        if let Err(cause) = self.pumped(alloc, told) {
             return Err(cause);
         }
         Ok(())

@@ -10,12 +10,14 @@ ghost use Rattle.qq_cluster.specs.Cluster.{Cluster, Setup, Shows};
 ghost use Rattle.qq_cluster.specs.Queue.{audit_rows};
 ghost use Rattle.qq_cluster.specs.Rules.{Is};
 ghost use Rattle.qq_nodes.specs.Nodes.{CanServe, IsQueueAt, Served, Stands};
-ghost use Rattle.qq_nodes.specs.Showing.{has_queue, member_text};
+ghost use Rattle.qq_nodes.specs.Showing.{has_queue, member_text, with_line};
 ghost use Rattle.qq_nodes.specs.declared.nodes.Nodes.{Nodes as Held};
 
 use crate::nodes::Nodes;
 use qq_base::{Memory, QueueId};
+use qq_cluster_queue::Told;
 use qq_disk::NodeDisk;
+use qq_taker::Taker;
 use std::alloc::Global;
 
 fn has_queue(queue: QueueId, queues: &[QueueId]) -> bool
@@ -26,19 +28,19 @@ fn has_queue(queue: QueueId, queues: &[QueueId]) -> bool
 
 impl<D: NodeDisk> Nodes<D> {
     // Adds the state of a queue's member on a node, where it has one.
-    fn show_member(
+    fn show_member<T: Taker>(
         &self,
         alloc: Global,
         queue: QueueId,
         at: usize,
-        text: &mut Vec<u8>,
+        told: &mut Told<T>,
     ) -> Result<(), Memory>
         requires serve { CanServe D.tells D.past self.now }
         requires queue { IsQueueAt queue self.now }
         requires place { at < length self.now.nodes.items }
         ensures ok { OnOk result ((setup : Setup) (c : Cluster) →
             Stands D.tells D.past setup self.now c →
-            text.new.items ≡ text.old.items ++ member_text setup c queue.0 (at + 1)) }
+            told.new ≡ with_line (member_text setup c queue.0 (at + 1)) told.old) }
         ensures want { IsOkUnless result Memory.Want }
     {
         let node = self.node_id(at);
@@ -46,20 +48,20 @@ impl<D: NodeDisk> Nodes<D> {
         if !here {
             return Ok(());
         }
-        self.queues[queue.0 as usize - 1].state_text(alloc, node, text)
+        self.queues[queue.0 as usize - 1].state_text(alloc, node, told)
     }
 
     /// Adds the states of a queue's members, in order of their nodes. The only error is `Memory::Want`, out of memory.
-    pub fn show(&self, alloc: Global, queue: QueueId, text: &mut Vec<u8>) -> Result<(), Memory>
+    pub fn show<T: Taker>(&self, alloc: Global, queue: QueueId, told: &mut Told<T>) -> Result<(), Memory>
         requires serve { CanServe D.tells D.past self.now }
         requires queue { IsQueueAt queue self.now }
         ensures ok { OnOk result (Served D.tells D.past D.faults (λ setup. Is (Shows queue.0))
-            self.now self.now text.old.items text.new.items) }
+            self.now self.now told.old told.new) }
         ensures want { IsOkUnless result Memory.Want }
     {
         let count = self.nodes.len();
         'nodes: for at in 0..count {
-            if let Err(cause) = self.show_member(alloc, queue, at, text) {
+            if let Err(cause) = self.show_member(alloc, queue, at, told) {
                 return Err(cause);
             }
         }

@@ -7,17 +7,19 @@ ghost use Rattle.qq_nodes.specs.Nodes.{CanServe, GaveUp, Served};
 use crate::asking::Ask;
 use crate::nodes::Nodes;
 use qq_base::Memory;
+use qq_cluster_queue::Told;
 use qq_disk::NodeDisk;
+use qq_taker::Taker;
 use std::alloc::Global;
 
 impl<D: NodeDisk> Nodes<D> {
     // Time passes at a queue's first member.
-    fn tick_first(&mut self, alloc: Global, at: usize, text: &mut Vec<u8>) -> Result<(), Memory>
+    fn tick_first<T: Taker>(&mut self, alloc: Global, at: usize, told: &mut Told<T>) -> Result<(), Memory>
         requires serve { CanServe D.tells D.past self.old }
         requires place { at < length self.old.queues.items }
         ensures ok { OnOk result (Served D.tells D.past D.faults
             (λ (setup : Setup). IsFirstTick setup (at + 1))
-            self.old self.new text.old.items text.new.items) }
+            self.old self.new told.old told.new) }
         ensures err { IfErr result (GaveUp D.tells D.past D.faults
             (λ (setup : Setup). IsFirstTick setup (at + 1)) self.old self.new) }
     {
@@ -25,24 +27,24 @@ impl<D: NodeDisk> Nodes<D> {
         let Some(node) = first else {
             return Ok(());
         };
-        if let Err(cause) = self.ask(alloc, at, Ask::Tick { node }, text) {
+        if let Err(cause) = self.ask(alloc, at, Ask::Tick { node }, told) {
             return Err(cause);
         }
         Ok(())
     }
 
     /// Time passes at each queue's first member, in order.
-    pub fn tick_each(&mut self, alloc: Global, text: &mut Vec<u8>) -> Result<(), Memory>
+    pub fn tick_each<T: Taker>(&mut self, alloc: Global, told: &mut Told<T>) -> Result<(), Memory>
         requires { CanServe D.tells D.past self.old }
         ensures ok { OnOk result (Served D.tells D.past D.faults
             (λ (setup : Setup). ForEach setup.places (IsFirstTick setup))
-            self.old self.new text.old.items text.new.items) }
+            self.old self.new told.old told.new) }
         ensures err { IfErr result (GaveUp D.tells D.past D.faults
             (λ (setup : Setup). ForEach setup.places (IsFirstTick setup)) self.old self.new) }
     {
         let count = self.queues.len();
         'places: for at in 0..count {
-            if let Err(cause) = self.tick_first(alloc, at, text) {
+            if let Err(cause) = self.tick_first(alloc, at, told) {
                 return Err(cause);
             }
         }

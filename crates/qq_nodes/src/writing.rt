@@ -8,24 +8,27 @@ ghost use Rattle.qq_cluster_queue.specs.Members.{AreSound};
 ghost use Rattle.qq_cluster_queue.specs.declared.cluster_queue.ClusterQueue.{ClusterQueue as Queue};
 ghost use Rattle.qq_nodes.specs.Logs.{NodeTurns};
 ghost use Rattle.qq_nodes.specs.Nodes.{CanServe, GaveUp, IsNodeAt, Served};
+ghost use Rattle.qq_nodes.specs.Showing.{with_line};
 ghost use Rattle.qq_nodes.specs.Turning.{HasStopped};
 
 use crate::logs::{append_in, down_in, sync_in};
 use crate::nodes::{Nodes, add_node_line};
 use qq_base::{Memory, NodeId};
 use qq_cluster_laws::what_waits_goes_on;
+use qq_cluster_queue::Told;
 use qq_disk::NodeDisk;
 use qq_node_log::SyncOutcome;
+use qq_taker::Taker;
 use std::alloc::Global;
 
 impl<D: NodeDisk> Nodes<D> {
     /// A call of a node's disk has failed.
-    pub fn say_stopped(&self, node: NodeId, text: &mut Vec<u8>) -> Result<(), Memory>
-        ensures ok { OnOk result (text.new.items
-            ≡ text.old.items ++ (codes "node " ++ decimal node.0 ++ codes " stopped\n")) }
+    pub fn say_stopped<T: Taker>(&self, node: NodeId, told: &mut Told<T>) -> Result<(), Memory>
+        ensures ok { OnOk result (told.new
+            ≡ with_line (codes "node " ++ decimal node.0 ++ codes " stopped\n") told.old) }
         ensures want { IsOkUnless result Memory.Want }
     {
-        add_node_line("node ", node, " stopped\n", text)
+        add_node_line("node ", node, " stopped\n", told)
     }
 
     // A node is down from here on, and so are its members.
@@ -39,16 +42,16 @@ impl<D: NodeDisk> Nodes<D> {
     }
 
     // A call of a node's disk has failed: that is said, and the node stops. After an error nothing has changed.
-    fn fail(&mut self, alloc: Global, node: NodeId, text: &mut Vec<u8>) -> Result<(), Memory>
+    fn fail<T: Taker>(&mut self, alloc: Global, node: NodeId, told: &mut Told<T>) -> Result<(), Memory>
         requires node { IsNodeAt node self.old }
         requires sound { All (λ (d : Queue). AreSound d.group) self.old.queues.items }
         ensures ok { OnOk result (HasStopped node.0 self.old self.new) }
-        ensures says { OnOk result (text.new.items
-            ≡ text.old.items ++ (codes "node " ++ decimal node.0 ++ codes " stopped\n")) }
+        ensures says { OnOk result (told.new
+            ≡ with_line (codes "node " ++ decimal node.0 ++ codes " stopped\n") told.old) }
         ensures err { OnErr result (self.new ≡ self.old) }
         ensures want { IsOkUnless result Memory.Want }
     {
-        if let Err(cause) = self.say_stopped(node, text) {
+        if let Err(cause) = self.say_stopped(node, told) {
             return Err(cause);
         }
         self.stop(alloc, node);
@@ -56,16 +59,16 @@ impl<D: NodeDisk> Nodes<D> {
     }
 
     // What waits at a node is appended, where it is up and something waits.
-    pub(crate) fn write_up(
+    pub(crate) fn write_up<T: Taker>(
         &mut self,
         alloc: Global,
         node: NodeId,
-        text: &mut Vec<u8>,
+        told: &mut Told<T>,
     ) -> Result<(), Memory>
         requires serve { CanServe D.tells D.past self.old }
         requires node { IsNodeAt node self.old }
         ensures ok { OnOk result (Served D.tells D.past D.faults (λ (setup : Setup). IsWrite setup node.0)
-            self.old self.new text.old.items text.new.items) }
+            self.old self.new told.old told.new) }
         ensures err { IfErr result (GaveUp D.tells D.past D.faults
             (λ (setup : Setup). IsWrite setup node.0) self.old self.new) }
     {
@@ -89,23 +92,23 @@ impl<D: NodeDisk> Nodes<D> {
         if more {
             return Ok(());
         }
-        if let Err(cause) = self.fail(alloc, node, text) {
+        if let Err(cause) = self.fail(alloc, node, told) {
             return Err(cause);
         }
         Ok(())
     }
 
     // A node's log is synced, where the node is up.
-    pub(crate) fn sync_up(
+    pub(crate) fn sync_up<T: Taker>(
         &mut self,
         alloc: Global,
         node: NodeId,
-        text: &mut Vec<u8>,
+        told: &mut Told<T>,
     ) -> Result<(), Memory>
         requires serve { CanServe D.tells D.past self.old }
         requires node { IsNodeAt node self.old }
         ensures ok { OnOk result (Served D.tells D.past D.faults (λ (setup : Setup). IsSync setup node.0)
-            self.old self.new text.old.items text.new.items) }
+            self.old self.new told.old told.new) }
         ensures err { IfErr result (GaveUp D.tells D.past D.faults
             (λ (setup : Setup). IsSync setup node.0) self.old self.new) }
     {
@@ -124,13 +127,13 @@ impl<D: NodeDisk> Nodes<D> {
             }
             SyncOutcome::NoFile => {
                 self.mark_synced(node);
-                if let Err(cause) = self.fail(alloc, node, text) {
+                if let Err(cause) = self.fail(alloc, node, told) {
                     return Err(cause);
                 }
                 Ok(())
             }
             SyncOutcome::Nothing => {
-                if let Err(cause) = self.fail(alloc, node, text) {
+                if let Err(cause) = self.fail(alloc, node, told) {
                     return Err(cause);
                 }
                 Ok(())

@@ -29,10 +29,37 @@ returns-in-Client g c =
     rw c.in-Client.is (record {
       ok = λ given. all-served given disk.tells disk.past disk.faults s
           (lines.Client c.in-Client.session c.in-Client.queue c.in-Client.body) c.give.result c.args.nodes.now
-          c.give.new.self c.args.text.now.items c.give.new.text.items c.give.ensures.ok;
+          c.give.new.self c.args.told.now c.give.new.told c.give.ensures.ok;
       cause = λ given. all-given-up given disk.tells disk.past disk.faults s
           (lines.Client c.in-Client.session c.in-Client.queue c.in-Client.body) c.give.result c.args.nodes.now
           c.give.new.self c.give.ensures.err;
+    })
+
+pub attach-requires : goal.attach-requires
+attach-requires g c =
+    let disk = g.D.NodeDisk in
+    let s = c.args.setup.now in
+    let named = rw c.in-Attach.is at c.requires.holds.1.2 in
+    record {
+      serve = can-serve c.requires.holds.0 disk.tells disk.past disk.faults s c.args.nodes.now c.requires.holds.1.0
+          c.requires.holds.1.1;
+      queue = queue-there c.requires.holds.0 disk.tells disk.past disk.faults s c.requires.holds.1.0 c.args.nodes.now
+          c.in-Attach.queue
+          c.requires.holds.1.1 named.1;
+    }
+
+pub returns-in-Attach : goal.returns-in-Attach
+unfolding IsLine
+returns-in-Attach g c =
+    let disk = g.D.NodeDisk in
+    let s = c.args.setup.now in
+    rw c.in-Attach.is (record {
+      ok = λ given. all-served given disk.tells disk.past disk.faults s
+          (lines.Attach c.in-Attach.session c.in-Attach.queue c.in-Attach.tag c.in-Attach.taker) c.attach.result
+          c.args.nodes.now c.attach.new.self c.args.told.now c.attach.new.told c.attach.ensures.ok;
+      cause = λ given. all-given-up given disk.tells disk.past disk.faults s
+          (lines.Attach c.in-Attach.session c.in-Attach.queue c.in-Attach.tag c.in-Attach.taker) c.attach.result
+          c.args.nodes.now c.attach.new.self c.attach.ensures.err;
     })
 
 pub end-requires : goal.end-requires
@@ -54,7 +81,7 @@ returns-in-End g c =
     rw c.in-End.is (record {
       ok = λ given. all-served given disk.tells disk.past disk.faults s (lines.End c.in-End.session) c.end.result
           c.args.nodes.now
-          c.end.new.self c.args.text.now.items c.end.new.text.items c.end.ensures.ok;
+          c.end.new.self c.args.told.now c.end.new.told c.end.ensures.ok;
       cause = λ given. all-given-up given disk.tells disk.past disk.faults s (lines.End c.in-End.session) c.end.result
           c.args.nodes.now
           c.end.new.self c.end.ensures.err;
@@ -75,7 +102,7 @@ returns-in-Resend g c =
     rw c.in-Resend.is (record {
       ok = λ given. all-served given disk.tells disk.past disk.faults s (lines.Resend c.in-Resend.session)
           c.resend.result
-          c.args.nodes.now c.resend.new.self c.args.text.now.items c.resend.new.text.items c.resend.ensures.ok;
+          c.args.nodes.now c.resend.new.self c.args.told.now c.resend.new.told c.resend.ensures.ok;
       cause = λ given. all-given-up given disk.tells disk.past disk.faults s (lines.Resend c.in-Resend.session)
           c.resend.result
           c.args.nodes.now c.resend.new.self c.resend.ensures.err;
@@ -89,8 +116,8 @@ returns-in-Mute g c =
     rw c.in-Mute.is (record {
       ok = λ given. all-served given disk.tells disk.past disk.faults s (lines.Mute c.in-Mute.session c.in-Mute.muted)
           c.mute.result
-          c.args.nodes.now c.mute.new.self c.args.text.now.items c.args.text.now.items
-          (on_ok_weaker c.mute.result (λ so. so c.args.text.now.items) c.mute.ensures.ok);
+          c.args.nodes.now c.mute.new.self c.args.told.now c.args.told.now
+          (on_ok_weaker c.mute.result (λ so. so c.args.told.now) c.mute.ensures.ok);
       cause = λ given. all-given-up given disk.tells disk.past disk.faults s
           (lines.Mute c.in-Mute.session c.in-Mute.muted)
           c.mute.result c.args.nodes.now c.mute.new.self c.mute.ensures.err;
@@ -103,7 +130,7 @@ returns-in-Pace g c =
     let s = c.args.setup.now in
     rw c.in-Pace.is (record {
       ok = λ given. just-served given disk.tells disk.past disk.faults s (lines.Pace c.in-Pace.auto) c.args.nodes.now
-          c.set_auto.new.self c.args.text.now.items c.args.text.now.items (c.set_auto.ensures c.args.text.now.items);
+          c.set_auto.new.self c.args.told.now c.args.told.now (c.set_auto.ensures c.args.told.now);
       cause = λ given run before after h. tt;
     })
 
@@ -122,7 +149,7 @@ returns-in-Pump g c =
     rw c.in-Pump.is (record {
       ok = λ given. all-served given disk.tells disk.past disk.faults s lines.Pump c.pump.result c.args.nodes.now
           c.pump.new.self
-          c.args.text.now.items c.pump.new.text.items c.pump.ensures.ok;
+          c.args.told.now c.pump.new.told c.pump.ensures.ok;
       cause = λ given. all-given-up given disk.tells disk.past disk.faults s lines.Pump c.pump.result c.args.nodes.now
           c.pump.new.self
           c.pump.ensures.err;
@@ -149,7 +176,7 @@ returns-in-Write g c =
     rw c.in-Write.is (record {
       ok = λ given. all-served given disk.tells disk.past disk.faults s (lines.Write c.in-Write.node) c.write.result
           c.args.nodes.now
-          c.write.new.self c.args.text.now.items c.write.new.text.items c.write.ensures.ok;
+          c.write.new.self c.args.told.now c.write.new.told c.write.ensures.ok;
       cause = λ given. all-given-up given disk.tells disk.past disk.faults s (lines.Write c.in-Write.node)
           c.write.result
           c.args.nodes.now c.write.new.self c.write.ensures.err;
@@ -176,7 +203,7 @@ returns-in-Sync g c =
     rw c.in-Sync.is (record {
       ok = λ given. all-served given disk.tells disk.past disk.faults s (lines.Sync c.in-Sync.node) c.sync.result
           c.args.nodes.now
-          c.sync.new.self c.args.text.now.items c.sync.new.text.items c.sync.ensures.ok;
+          c.sync.new.self c.args.told.now c.sync.new.told c.sync.ensures.ok;
       cause = λ given. all-given-up given disk.tells disk.past disk.faults s (lines.Sync c.in-Sync.node) c.sync.result
           c.args.nodes.now
           c.sync.new.self c.sync.ensures.err;
@@ -206,7 +233,7 @@ returns-in-Notice g c =
     rw c.in-Notice.is (record {
       ok = λ given. all-served given disk.tells disk.past disk.faults s
           (lines.Notice c.in-Notice.node c.in-Notice.queue)
-          c.notice.result c.args.nodes.now c.notice.new.self c.args.text.now.items c.notice.new.text.items
+          c.notice.result c.args.nodes.now c.notice.new.self c.args.told.now c.notice.new.told
           c.notice.ensures.ok;
       cause = λ given. all-given-up given disk.tells disk.past disk.faults s
           (lines.Notice c.in-Notice.node c.in-Notice.queue)
@@ -237,7 +264,7 @@ returns-in-Tick g c =
     rw c.in-Tick.is (record {
       ok = λ given. all-served given disk.tells disk.past disk.faults s (lines.Tick c.in-Tick.node c.in-Tick.queue)
           c.tick.result
-          c.args.nodes.now c.tick.new.self c.args.text.now.items c.tick.new.text.items c.tick.ensures.ok;
+          c.args.nodes.now c.tick.new.self c.args.told.now c.tick.new.told c.tick.ensures.ok;
       cause = λ given. all-given-up given disk.tells disk.past disk.faults s (lines.Tick c.in-Tick.node c.in-Tick.queue)
           c.tick.result
           c.args.nodes.now c.tick.new.self c.tick.ensures.err;
@@ -264,7 +291,7 @@ returns-in-Deliver g c =
     rw c.in-Deliver.is (record {
       ok = λ given. all-served given disk.tells disk.past disk.faults s
           (lines.Deliver c.in-Deliver.queue c.in-Deliver.message)
-          c.deliver.result c.args.nodes.now c.deliver.new.self c.args.text.now.items c.deliver.new.text.items
+          c.deliver.result c.args.nodes.now c.deliver.new.self c.args.told.now c.deliver.new.told
           c.deliver.ensures.ok;
       cause = λ given. all-given-up given disk.tells disk.past disk.faults s
           (lines.Deliver c.in-Deliver.queue c.in-Deliver.message)
@@ -292,7 +319,7 @@ returns-in-Lose g c =
     rw c.in-Lose.is (record {
       ok = λ given. all-served given disk.tells disk.past disk.faults s (lines.Lose c.in-Lose.queue c.in-Lose.message)
           c.lose.result
-          c.args.nodes.now c.lose.new.self c.args.text.now.items c.lose.new.text.items c.lose.ensures.ok;
+          c.args.nodes.now c.lose.new.self c.args.told.now c.lose.new.told c.lose.ensures.ok;
       cause = λ given. all-given-up given disk.tells disk.past disk.faults s
           (lines.Lose c.in-Lose.queue c.in-Lose.message)
           c.lose.result c.args.nodes.now c.lose.new.self c.lose.ensures.err;
@@ -319,7 +346,7 @@ returns-in-Copy g c =
     rw c.in-Copy.is (record {
       ok = λ given. all-served given disk.tells disk.past disk.faults s (lines.Copy c.in-Copy.queue c.in-Copy.message)
           c.copy.result
-          c.args.nodes.now c.copy.new.self c.args.text.now.items c.copy.new.text.items c.copy.ensures.ok;
+          c.args.nodes.now c.copy.new.self c.args.told.now c.copy.new.told c.copy.ensures.ok;
       cause = λ given. all-given-up given disk.tells disk.past disk.faults s
           (lines.Copy c.in-Copy.queue c.in-Copy.message)
           c.copy.result c.args.nodes.now c.copy.new.self c.copy.ensures.err;
@@ -346,7 +373,7 @@ returns-in-Show g c =
     rw c.in-Show.is (record {
       ok = λ given. all-served given disk.tells disk.past disk.faults s (lines.Show c.in-Show.queue) c.show.result
           c.args.nodes.now
-          c.args.nodes.now c.args.text.now.items c.show.new.text.items c.show.ensures.ok;
+          c.args.nodes.now c.args.told.now c.show.new.told c.show.ensures.ok;
       cause = λ given run before after h. want-given-up _ _ _ (lines.Show c.in-Show.queue) c.show.result
           c.show.ensures.want;
     })
@@ -364,7 +391,7 @@ returns-in-Nothing g c =
     let disk = g.D.NodeDisk in
     let s = c.args.setup.now in
     rw c.in-Nothing.is (record {
-      ok = λ given. nothing-served given disk.tells disk.past disk.faults s c.args.nodes.now c.args.text.now.items;
+      ok = λ given. nothing-served given disk.tells disk.past disk.faults s c.args.nodes.now c.args.told.now;
       cause = λ given run before after h. tt;
     })
 

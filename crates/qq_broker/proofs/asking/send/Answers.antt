@@ -24,7 +24,7 @@ returns-clause-ok g c =
     let disk = g.D.NodeDisk in λ given.
     sent given disk.tells disk.past disk.faults c.args.setup.now c.args.session c.args.exchange c.args.key c.args.body
     c.in-Ok-publish_with.command c.as_slice.result.now c.send.result c.args.nodes.now c.send.new.self
-    c.args.text.now.items c.send.new.text.items c.in-Ok-publish_with.ensures.ok
+    c.args.told.now c.send.new.told c.in-Ok-publish_with.ensures.ok
     (rw c.as_slice.ensures.value c.in-Ok.ensures.ok)
     c.send.ensures.ok
 

@@ -21,7 +21,7 @@ returns-then-some-clause-ok g c =
     has-opened (under g.Y.Yard.is_given c.args.root.now) g.Y.Disk.NodeDisk.tells
     g.Y.Disk.NodeDisk.past g.Y.Disk.NodeDisk.faults s c.requires
     (c.clusters_begin_with_new_logs.ensures s c.requires) c.in-Ok.nodes c.in-Ok.ensures.ok c.open.new.nodes
-    c.args.text.now.items c.open.new.text.items c.in-Ok-open_nodes.some c.if-some.true
+    c.args.told.now c.open.new.told c.in-Ok-open_nodes.some c.if-some.true
     (c.in-Ok-open_nodes.ensures.ok s.queues c.in-Ok.ensures.ok.new)
 
 pub returns-else-some-clause-cause : goal.returns-else-some-clause-cause
@@ -35,7 +35,7 @@ returns-else-some-clause-cause g c =
     let s = c.args.setup.now in
     subst (MayNotOpen (Meets given tells past faults before after) s) (sym c.yard_fault.ensures)
     (no-disk given tells past faults s c.requires (c.clusters_begin_with_new_logs.ensures s c.requires)
-    c.in-Ok.nodes c.in-Ok.ensures.ok c.open.new.nodes c.args.text.now.items c.open.new.text.items before after
+    c.in-Ok.nodes c.in-Ok.ensures.ok c.open.new.nodes c.args.told.now c.open.new.told before after
     c.in-Ok-open_nodes.some c.if-some.false (some-node s c.requires)
     (c.in-Ok-open_nodes.ensures.ok s.queues c.in-Ok.ensures.ok.new))
 

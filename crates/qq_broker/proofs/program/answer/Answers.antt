@@ -1,4 +1,4 @@
-use Rattle.std.proofs.Common.{◌≡◌, ℕ, Some, sym, subst}
+use Rattle.std.proofs.Common.{◌≡◌, ◌+◌, ℕ, Some, refl, sym, subst}
 use Rattle.qq_cluster_run.specs.Asking.{HasAskCause}
 use Rattle.qq_cluster_run.specs.Reading.{Asks, says}
 use Rattle.qq_cluster_run.specs.Service.{HasServeCause}
@@ -6,8 +6,11 @@ use Rattle.qq_cluster_run.specs.Serving.{setup_in}
 use Rattle.qq_cluster_run.proofs.Answering.{answers_from, asks_from, stops_from}
 use Rattle.qq_cluster_run.proofs.Naming.{asked-named}
 use Rattle.qq_cluster_run.proofs.QueueRows.{rows-are}
-use Rattle.qq_broker.specs.Nodes.{Had, Holds, Meets}
-use Rattle.qq_broker.proofs.Stops.{told-stop}
+use Rattle.qq_cluster_run.specs.declared.stop.AskStop.{AskStop}
+use Rattle.qq_broker.specs.Takers.{HoldsAll, IsRefusedBy, RunHad, RunMeets}
+use Rattle.qq_broker.specs.declared.faults.StepFault.TheVariants.{NoSuch}
+use Rattle.qq_broker.proofs.GivenFree.{served-all}
+use Rattle.qq_broker.proofs.Stops.{refused-gone, told-stop}
 use Rattle.qq_broker.proofs.program.answer.Goals as goal
 
 pub serve-requires-clause-holds : goal.serve-requires-clause-holds
@@ -25,12 +28,13 @@ pub returns-in-Ok-serve-clause-ok : goal.returns-in-Ok-serve-clause-ok
 returns-in-Ok-serve-clause-ok g c =
     let s = c.args.setup.now in
     let disk = g.Y.Disk.NodeDisk in
-    λ given run lines h.
-    answers_from (Had given disk.tells disk.past disk.faults) s run c.in-Ok.said c.args.line.now
-    (Holds given disk.tells disk.past disk.faults s c.serve.new.nodes) c.args.text.now.items
-    c.serve.new.text.items
+    λ given first run lines h.
+    answers_from (RunHad given disk.tells disk.past disk.faults first) s run c.in-Ok.said c.args.line.now
+    (HoldsAll given disk.tells disk.past disk.faults s first c.serve.new.nodes c.serve.new.told.takers)
+    c.args.told.now c.serve.new.told
     (subst (λ (n : ℕ). says s n (Some c.args.line.now) ≡ Asks c.in-Ok.said) (sym lines) c.in-Ok.ensures.ok)
-    (c.in-Ok-serve.ensures.ok given run h)
+    (served-all given disk.tells disk.past disk.faults s first run c.in-Ok.said c.args.nodes.now c.serve.new.nodes
+    c.args.told.now c.serve.new.told h c.in-Ok-serve.ensures.free (c.in-Ok-serve.ensures.ok given run h.holds))
 
 pub returns-in-Err-serve-clause-cause : goal.returns-in-Err-serve-clause-cause
 returns-in-Err-serve-clause-cause g c =
@@ -38,15 +42,28 @@ returns-in-Err-serve-clause-cause g c =
     let disk = g.Y.Disk.NodeDisk in
     let before = g.Y.Yard.faults c.args.yard.now in
     let after = g.Y.Yard.faults c.serve.new.yard in
-    λ given run lines h.
-    (let met = Meets given disk.tells disk.past disk.faults before after in
+    λ given first run lines h.
+    (let met = RunMeets given disk.tells disk.past disk.faults first before after in
     stops_from met s run c.in-Ok.said c.args.line.now c.step_stop.result
     (subst (λ (n : ℕ). says s n (Some c.args.line.now) ≡ Asks c.in-Ok.said) (sym lines) c.in-Ok.ensures.ok)
-    (told-stop (HasServeCause met (setup_in s run) run.events c.in-Ok.said) s c.in-Err-serve.fault c.step_stop.result tt
-    c.step_stop.ensures (c.in-Err-serve.ensures.cause given run h)))
+    (subst (λ (n : ℕ). HasServeCause met (setup_in s run) run.events (n + 1) c.in-Ok.said c.step_stop.result)
+    (sym lines)
+    (told-stop (HasServeCause met (setup_in s run) run.events (c.args.before + 1) c.in-Ok.said) s (c.args.before + 1)
+    c.in-Err-serve.fault c.step_stop.result tt c.step_stop.ensures
+    (c.in-Err-serve.ensures.cause given first run (c.args.before + 1) h.holds h.seen))))
+
+pub returns-in-Err-serve-clause-same : goal.returns-in-Err-serve-clause-same
+returns-in-Err-serve-clause-same g c = λ refused.
+    c.in-Err-serve.ensures.same
+    (told-stop (λ (stop : AskStop). IsRefusedBy stop → c.in-Err-serve.fault ≡ NoSuch) c.args.setup.now
+    (c.args.before + 1) c.in-Err-serve.fault c.step_stop.result (λ none. absurd none) c.step_stop.ensures
+    (refused-gone c.args.setup.now (c.args.before + 1) c.in-Err-serve.fault) refused)
 
 pub returns-in-Err-clause-cause : goal.returns-in-Err-clause-cause
 returns-in-Err-clause-cause g c =
-    let s = c.args.setup.now in λ given run lines h.
+    let s = c.args.setup.now in λ given first run lines h.
     asks_from _ s run c.args.line.now c.in-Err.stop
     (subst (λ (n : ℕ). HasAskCause c.in-Err.stop (says s n (Some c.args.line.now))) (sym lines) c.in-Err.ensures.cause)
+
+pub returns-in-Err-clause-same : goal.returns-in-Err-clause-same
+returns-in-Err-clause-same g c = λ refused. refl

@@ -1,8 +1,9 @@
-use Rattle.std.proofs.Common.{sym, subst, arith}
+use Rattle.std.proofs.Common.{[], refl, sym, subst, arith}
 use Rattle.qq_ports.specs.Lines.{ahead, TakesLine}
 use Rattle.qq_cluster_run.proofs.Closings.{Rose_earlier}
 use Rattle.qq_cluster_run.proofs.Looping.{loops_start}
-use Rattle.qq_broker.specs.Nodes.{Had, Holds}
+use Rattle.qq_broker.specs.Takers.{HoldsAll, RunHad}
+use Rattle.qq_broker.proofs.GivenFree.{opened-all}
 use Rattle.qq_broker.proofs.Looped.{lines-break, lines-end, lines-fail, lines-go-on, lines-pass, lines-starve, lines-stop}
 use Rattle.qq_broker.proofs.program.serve_lines.Goals as goal
 
@@ -11,10 +12,12 @@ lines-init g c =
     let disk = g.Y.Disk.NodeDisk in
     let s = c.args.setup.now in
     record {
-      going = λ given opened.
-          loops_start (Had given disk.tells disk.past disk.faults) s
-          (Holds given disk.tells disk.past disk.faults s c.args.nodes.now) (g.I.Source.left c.args.input.now)
-          (g.O.Sink.written c.args.output.now) c.new-lines.result c.args.text.now.items c.new-lines.ensures opened;
+      going = λ given first opened.
+          loops_start (RunHad given disk.tells disk.past disk.faults first) s
+          (HoldsAll given disk.tells disk.past disk.faults s first c.args.nodes.now c.args.told.now.takers)
+          (g.I.Source.left c.args.input.now) (g.O.Sink.written c.args.output.now) c.new-lines.result
+          (record { text = []; takers = first }) c.args.told.now c.new-lines.ensures refl
+          (opened-all given disk.tells disk.past disk.faults s first c.args.nodes.now [] c.args.told.now opened);
       within = omega arith;
       source_later = omega arith;
       sink_later = omega arith;
@@ -22,84 +25,85 @@ lines-init g c =
     }
 
 pub returns-in-Err-clause-cause : goal.returns-in-Err-clause-cause
-returns-in-Err-clause-cause g c = λ given opened.
+returns-in-Err-clause-cause g c = λ given first opened.
     (let disk = g.Y.Disk.NodeDisk in
     let faults = g.O.Sink.faults in (
       Rose_earlier (faults c.args.output.now) (faults c.lines.output) (faults c.write_all.new.out)
           c.lines.invariant.sink_later c.in-Err.ensures.cause.cause,
-      lines-break given disk.tells disk.past disk.faults c.args.setup.now (g.I.Source.left c.args.input.now)
-          (g.O.Sink.written c.args.output.now) c.lines.nodes c.lines.lines (g.I.Source.left c.lines.input)
-          (g.O.Sink.written c.lines.output) (g.O.Sink.written c.write_all.new.out) c.lines.served c.lines.text.items
-          c.deref.result.now (c.lines.invariant.going given opened) c.deref.ensures.value c.in-Err.ensures.err,
+      lines-break given disk.tells disk.past disk.faults first c.args.setup.now (g.I.Source.left c.args.input.now)
+          (g.O.Sink.written c.args.output.now) c.lines.nodes c.lines.told.takers c.lines.lines (g.I.Source.left c.lines.input)
+          (g.O.Sink.written c.lines.output) (g.O.Sink.written c.write_all.new.out) c.lines.served c.lines.told.text
+          c.text.result.now (c.lines.invariant.going given first opened) c.text.ensures c.in-Err.ensures.err,
     ))
 
 pub returns-in-Ok-None-clause-ok : goal.returns-in-Ok-None-clause-ok
-returns-in-Ok-None-clause-ok g c = λ given opened.
+returns-in-Ok-None-clause-ok g c = λ given first opened.
     (let disk = g.Y.Disk.NodeDisk in
-    lines-end given disk.tells disk.past disk.faults c.args.setup.now (g.I.Source.left c.args.input.now)
-    (g.O.Sink.written c.args.output.now) c.lines.nodes (ahead c.lines.lines (g.I.Source.left c.lines.input))
-    (g.O.Sink.written c.lines.output) (g.O.Sink.written c.write_all.new.out) c.lines.served c.lines.text.items
-    c.deref.result.now (c.lines.invariant.going given opened) c.deref.ensures.value c.in_default.ensures.ok c.next_line.new.lines
+    lines-end given disk.tells disk.past disk.faults first c.args.setup.now (g.I.Source.left c.args.input.now)
+    (g.O.Sink.written c.args.output.now) c.lines.nodes c.lines.told.takers (ahead c.lines.lines (g.I.Source.left c.lines.input))
+    (g.O.Sink.written c.lines.output) (g.O.Sink.written c.write_all.new.out) c.lines.served c.lines.told.text
+    c.text.result.now (c.lines.invariant.going given first opened) c.text.ensures c.in_default.ensures.ok c.next_line.new.lines
     (g.I.Source.left c.next_line.new.input) (rw c.in-Ok-None.field-0-is at c.in-Ok-None.ensures.end)
     (rw c.in-Ok-None.field-0-is at c.in-Ok-None.ensures.stays))
 
 pub returns-in-Err-Failed-clause-cause : goal.returns-in-Err-Failed-clause-cause
-returns-in-Err-Failed-clause-cause g c = λ given opened.
+returns-in-Err-Failed-clause-cause g c = λ given first opened.
     (let disk = g.Y.Disk.NodeDisk in
     let faults = g.I.Source.faults in
     let cause = rw c.in-Err-Failed.field-0-is at c.in-Err-Failed.ensures.cause in (
       Rose_earlier (faults c.args.input.now) (faults c.lines.input) (faults c.next_line.new.input)
           c.lines.invariant.source_later cause.0,
-      lines-fail given disk.tells disk.past disk.faults c.args.setup.now (g.I.Source.left c.args.input.now)
-          (g.O.Sink.written c.args.output.now) c.lines.nodes (ahead c.lines.lines (g.I.Source.left c.lines.input))
-          (g.O.Sink.written c.lines.output) (g.O.Sink.written c.write_all.new.out) c.lines.served c.lines.text.items
-          c.deref.result.now (c.lines.invariant.going given opened) c.deref.ensures.value c.in_default.ensures.ok
+      lines-fail given disk.tells disk.past disk.faults first c.args.setup.now (g.I.Source.left c.args.input.now)
+          (g.O.Sink.written c.args.output.now) c.lines.nodes c.lines.told.takers (ahead c.lines.lines (g.I.Source.left c.lines.input))
+          (g.O.Sink.written c.lines.output) (g.O.Sink.written c.write_all.new.out) c.lines.served c.lines.told.text
+          c.text.result.now (c.lines.invariant.going given first opened) c.text.ensures c.in_default.ensures.ok
           (g.I.Source.left c.next_line.new.input) cause.1,
     ))
 
 pub returns-in-Err-TooLong-clause-cause : goal.returns-in-Err-TooLong-clause-cause
-returns-in-Err-TooLong-clause-cause g c = λ given opened.
+returns-in-Err-TooLong-clause-cause g c = λ given first opened.
     (let disk = g.Y.Disk.NodeDisk in
     let yards = g.Y.Yard.faults in
     let long = rw c.in-Err-TooLong.field-0-is at c.in-Err-TooLong.ensures.cause in
-    lines-pass given disk.tells disk.past disk.faults c.args.setup.now (g.I.Source.left c.args.input.now)
-    (g.O.Sink.written c.args.output.now) c.lines.nodes (ahead c.lines.lines (g.I.Source.left c.lines.input))
-    (g.O.Sink.written c.lines.output) (g.O.Sink.written c.write_all.new.out) c.lines.served c.lines.text.items
-    c.deref.result.now (c.lines.invariant.going given opened) c.deref.ensures.value c.in_default.ensures.ok (yards c.args.yard.now)
+    lines-pass given disk.tells disk.past disk.faults first c.args.setup.now (g.I.Source.left c.args.input.now)
+    (g.O.Sink.written c.args.output.now) c.lines.nodes c.lines.told.takers (ahead c.lines.lines (g.I.Source.left c.lines.input))
+    (g.O.Sink.written c.lines.output) (g.O.Sink.written c.write_all.new.out) c.lines.served c.lines.told.text
+    c.text.result.now (c.lines.invariant.going given first opened) c.text.ensures c.in_default.ensures.ok (yards c.args.yard.now)
     (yards c.lines.yard) (g.I.Source.left c.next_line.new.input) c.refuse_long_line.result c.lines_law.ensures long.1
     c.in-Err-TooLong.ensures.read (c.refuse_long_line.ensures c.args.setup.now))
 
 pub returns-in-Err-Memory-clause-cause : goal.returns-in-Err-Memory-clause-cause
-returns-in-Err-Memory-clause-cause g c = λ given opened.
+returns-in-Err-Memory-clause-cause g c = λ given first opened.
     (let disk = g.Y.Disk.NodeDisk in
-    lines-starve given disk.tells disk.past disk.faults c.args.setup.now (g.I.Source.left c.args.input.now)
-    (g.O.Sink.written c.args.output.now) c.lines.nodes (ahead c.lines.lines (g.I.Source.left c.lines.input))
-    (g.O.Sink.written c.lines.output) (g.O.Sink.written c.write_all.new.out) c.lines.served c.lines.text.items
-    c.deref.result.now (c.lines.invariant.going given opened) c.deref.ensures.value c.in_default.ensures.ok
+    lines-starve given disk.tells disk.past disk.faults first c.args.setup.now (g.I.Source.left c.args.input.now)
+    (g.O.Sink.written c.args.output.now) c.lines.nodes c.lines.told.takers (ahead c.lines.lines (g.I.Source.left c.lines.input))
+    (g.O.Sink.written c.lines.output) (g.O.Sink.written c.write_all.new.out) c.lines.served c.lines.told.text
+    c.text.result.now (c.lines.invariant.going given first opened) c.text.ensures c.in_default.ensures.ok
     (g.I.Source.left c.next_line.new.input) c.in-Err-Memory.ensures.read)
 
 pub answer-requires-clause-holds : goal.answer-requires-clause-holds
 answer-requires-clause-holds g c =
-    let so = c.lines.invariant.going c.requires.opened.0 c.requires.opened.1 in λ lifetimes outlive. (
-      c.requires.opened.0,
-      (so.run, so.stands),
-    )
+    let so = c.lines.invariant.going c.requires.opened.0 c.requires.opened.1.0 c.requires.opened.1.1 in
+    λ lifetimes outlive. (c.requires.opened.0, (so.run, so.stands.holds))
 
 pub returns-in-Err-answer-clause-cause : goal.returns-in-Err-answer-clause-cause
-returns-in-Err-answer-clause-cause g c = λ given opened.
+returns-in-Err-answer-clause-cause g c = λ given first opened.
     (let disk = g.Y.Disk.NodeDisk in
     let now = ahead c.lines.lines (g.I.Source.left c.lines.input) in
     let next = ahead c.next_line.new.lines (g.I.Source.left c.next_line.new.input) in
     let yards = g.Y.Yard.faults in
-    let so = (c.lines.invariant.going given opened) in
+    let so = (c.lines.invariant.going given first opened) in
     let takes : TakesLine now next c.as_slice.result.now = subst (TakesLine now next) (sym c.as_slice.ensures)
     (rw c.in-Ok-Some.field-0-is at c.in-Ok-Some.ensures.line) in
-    lines-stop given disk.tells disk.past disk.faults c.args.setup.now (g.I.Source.left c.args.input.now)
-    (g.O.Sink.written c.args.output.now) c.lines.nodes now (g.O.Sink.written c.lines.output)
-    (g.O.Sink.written c.write_all.new.out) c.lines.served c.lines.text.items c.deref.result.now so c.deref.ensures.value
+    lines-stop given disk.tells disk.past disk.faults first c.args.setup.now (g.I.Source.left c.args.input.now)
+    (g.O.Sink.written c.args.output.now) c.lines.nodes c.lines.told.takers now (g.O.Sink.written c.lines.output)
+    (g.O.Sink.written c.write_all.new.out) c.lines.served c.lines.told.text c.text.result.now so c.text.ensures
     c.in_default.ensures.ok _ _ (yards c.args.yard.now) (yards c.lines.yard) (yards c.answer.new.yard) c.from.result
-    c.in-Err-answer.stop next (g.I.Source.left c.next_line.new.input) c.as_slice.result.now c.lines.invariant.yard_later
-    c.lines_law.ensures takes c.in-Ok-Some.ensures.read (c.in-Err-answer.ensures.cause given so.run so.lines so.stands)
+    c.in-Err-answer.stop next (g.I.Source.left c.next_line.new.input) c.as_slice.result.now c.answer.new.told.takers
+    c.lines.invariant.yard_later c.lines_law.ensures takes c.in-Ok-Some.ensures.read
+    (c.in-Err-answer.ensures.cause given first so.run so.lines (cleared so.stands))
+    (so-at (RunClaims given disk.tells disk.past disk.faults first c.answer.new.told.takers) c.args.setup.now so.run
+    c.in-Err-answer.stop (λ refused. ?))
     c.from.ensures)
 
 pub lines-preserved : goal.lines-preserved
@@ -110,14 +114,14 @@ lines-preserved g c =
     let takes : TakesLine now next c.as_slice.result.now = subst (TakesLine now next) (sym c.as_slice.ensures)
     (rw c.in-Ok-Some.field-0-is at c.in-Ok-Some.ensures.line) in
     record {
-      going = λ given opened. (let so = c.lines.invariant.going given opened in
-          lines-go-on given disk.tells disk.past disk.faults c.args.setup.now
+      going = λ given first opened. (let so = c.lines.invariant.going given first opened in
+          lines-go-on given disk.tells disk.past disk.faults first c.args.setup.now
           (g.I.Source.left c.args.input.now)
-          (g.O.Sink.written c.args.output.now) c.lines.nodes now (g.O.Sink.written c.lines.output)
-          (g.O.Sink.written c.write_all.new.out) c.lines.served c.lines.text.items c.deref.result.now so
-          c.deref.ensures.value c.in_default.ensures.ok c.answer.new.nodes next c.as_slice.result.now
-          c.clear.new.self.items c.answer.new.text.items c.lines_law.ensures takes c.clear.ensures.items
-          (c.in_default-answer.ensures.ok given so.run so.lines so.stands));
+          (g.O.Sink.written c.args.output.now) c.lines.nodes c.lines.told.takers now (g.O.Sink.written c.lines.output)
+          (g.O.Sink.written c.write_all.new.out) c.lines.served c.lines.told.text c.text.result.now so
+          c.text.ensures c.in_default.ensures.ok c.answer.new.nodes c.answer.new.told.takers next
+          c.as_slice.result.now c.clear.new.self c.answer.new.told c.lines_law.ensures takes ?
+          (c.in_default-answer.ensures.ok given first so.run so.lines ?));
       within = omega (arith, c.in_default-answer.ensures.within);
       source_later = omega (arith, c.lines.invariant.source_later, c.in-Ok-Some.ensures.later);
       sink_later = omega (arith, c.lines.invariant.sink_later, c.in_default.ensures.cause.later);

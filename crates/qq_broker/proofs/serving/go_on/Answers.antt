@@ -6,7 +6,7 @@ use Rattle.qq_broker.proofs.Refusing.{given-stop}
 use Rattle.qq_broker.proofs.serving.go_on.Goals as goal
 
 pub returns-in-Err-clause-cause : goal.returns-in-Err-clause-cause
-returns-in-Err-clause-cause g c = λ given run before after h.
+returns-in-Err-clause-cause g c = λ given run number before after h.
     given-stop (Meets given g.D.NodeDisk.tells g.D.NodeDisk.past g.D.NodeDisk.faults before after)
-    (setup_in c.args.setup.now run) run.events c.args.line c.in-Err.memory (memory_stop c.in-Err.memory) refl
+    (setup_in c.args.setup.now run) run.events number c.args.line c.in-Err.memory (memory_stop c.in-Err.memory) refl
     (c.in-Err.ensures.cause given run before after h)

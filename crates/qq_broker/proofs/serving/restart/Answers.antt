@@ -25,11 +25,11 @@ returns-in-Ok-clause-ok g c = λ given run h.
     let past = g.D.NodeDisk.past in
     let faults = g.D.NodeDisk.faults in
     subst (λ (w : Which). IsServed given tells past faults c.args.setup.now run (Restart w) c.restart.new.nodes
-    c.args.text.now.items
-    c.restart.new.text.items) (sym c.in-One.is)
+    c.args.told.now
+    c.restart.new.told) (sym c.in-One.is)
     (restarted-one given tells past faults c.args.setup.now run c.args.nodes.now c.restart.new.nodes
-    c.args.text.now.items
-    c.restart.new.text.items h c.in-One.node c.in-Ok.ensures.ok))
+    c.args.told.now
+    c.restart.new.told h c.in-One.node c.in-Ok.ensures.ok))
 
 pub returns-in-Ok-restart_each-clause-ok : goal.returns-in-Ok-restart_each-clause-ok
 returns-in-Ok-restart_each-clause-ok g c = λ given run h.
@@ -37,31 +37,31 @@ returns-in-Ok-restart_each-clause-ok g c = λ given run h.
     let past = g.D.NodeDisk.past in
     let faults = g.D.NodeDisk.faults in
     subst (λ (w : Which). IsServed given tells past faults c.args.setup.now run (Restart w) c.restart_each.new.nodes
-    c.args.text.now.items c.restart_each.new.text.items) (sym c.in-All.is)
+    c.args.told.now c.restart_each.new.told) (sym c.in-All.is)
     (restarted-all given tells past faults c.args.setup.now run c.args.nodes.now c.restart_each.new.nodes
-    c.args.text.now.items
-    c.restart_each.new.text.items h c.in-Ok-restart_each.ensures.ok))
+    c.args.told.now
+    c.restart_each.new.told h c.in-Ok-restart_each.ensures.ok))
 
 pub returns-in-Err-clause-cause : goal.returns-in-Err-clause-cause
-returns-in-Err-clause-cause g c = λ given run before after h.
+returns-in-Err-clause-cause g c = λ given run number before after h.
     (let tells = g.D.NodeDisk.tells in
     let past = g.D.NodeDisk.past in
     let faults = g.D.NodeDisk.faults in
     let s = c.args.setup.now in
-    subst (λ (w : Which). HasServeCause (Meets given tells past faults before after) (setup_in s run) run.events
+    subst (λ (w : Which). HasServeCause (Meets given tells past faults before after) (setup_in s run) run.events number
     (Restart w) (stop_for s c.in-Err.fault)) (sym c.in-One.is)
-    (refused-one given tells past faults before after s run c.args.nodes.now c.restart.new.nodes h c.args.text.now.items
-    c.in-Err.fault (stop_for s c.in-Err.fault) (own-stop s c.in-Err.fault) c.in-One.node
+    (refused-one given tells past faults before after s run c.args.nodes.now c.restart.new.nodes h c.args.told.now
+    c.in-Err.fault (stop_for s c.in-Err.fault) (own-stop s c.in-Err.fault) number c.in-One.node
     (subst (AreNodes (setup_in s c.requires.1.0)) c.in-One.is c.requires.1.2) c.in-Err.ensures.err))
 
 pub returns-in-Err-restart_each-clause-cause : goal.returns-in-Err-restart_each-clause-cause
-returns-in-Err-restart_each-clause-cause g c = λ given run before after h.
+returns-in-Err-restart_each-clause-cause g c = λ given run number before after h.
     (let tells = g.D.NodeDisk.tells in
     let past = g.D.NodeDisk.past in
     let faults = g.D.NodeDisk.faults in
     let s = c.args.setup.now in
-    subst (λ (w : Which). HasServeCause (Meets given tells past faults before after) (setup_in s run) run.events
+    subst (λ (w : Which). HasServeCause (Meets given tells past faults before after) (setup_in s run) run.events number
     (Restart w) (stop_for s c.in-Err-restart_each.fault)) (sym c.in-All.is)
     (refused-all given tells past faults before after s run c.args.nodes.now c.restart_each.new.nodes h
-    c.args.text.now.items c.in-Err-restart_each.fault (stop_for s c.in-Err-restart_each.fault)
-    (own-stop s c.in-Err-restart_each.fault) c.in-Err-restart_each.ensures.err))
+    c.args.told.now c.in-Err-restart_each.fault (stop_for s c.in-Err-restart_each.fault)
+    (own-stop s c.in-Err-restart_each.fault) number c.in-Err-restart_each.ensures.err))

@@ -1,15 +1,26 @@
+use Rattle.std.proofs.Common.{◌≡◌}
+use Rattle.qq_cluster_run.specs.Serving.{setup_in}
+use Rattle.qq_broker.proofs.Gone.{gone-caused, other-faults, others-same, run-causes}
 use Rattle.qq_broker.proofs.serving.serve.Goals as goal
 
-pub returns-in-Crash-clause-cause : goal.returns-in-Crash-clause-cause
-returns-in-Crash-clause-cause g c = rw c.in-Crash.is (λ given run h. c.crash.ensures.cause given run)
-
-pub returns-in-Restart-clause-cause : goal.returns-in-Restart-clause-cause
-returns-in-Restart-clause-cause g c =
+pub returns-then-gone-clause-cause : goal.returns-then-gone-clause-cause
+returns-then-gone-clause-cause g c = λ given first run number h seen.
+    (let disk = g.Y.Disk.NodeDisk in
     let yards = g.Y.Yard.faults in
-    rw c.in-Restart.is (λ given run h. c.restart.ensures.cause given run (yards c.args.yard.now)
-    (yards c.args.yard.now) h)
+    gone-caused given disk.tells disk.past disk.faults first c.args.told.now.takers (yards c.args.yard.now)
+    (yards c.args.yard.now) c.args.setup.now (setup_in c.args.setup.now run) run.events number c.args.line seen ?)
 
-pub returns-in_default-clause-cause : goal.returns-in_default-clause-cause
-returns-in_default-clause-cause g c = λ given run h.
-    (let yards = g.Y.Yard.faults in
-    c.go_on.ensures.cause given run (yards c.args.yard.now) (yards c.args.yard.now) h)
+pub returns-clause-gone : goal.returns-clause-gone
+returns-clause-gone g c = other-faults c.serve_free.result c.args.line c.args.told.now.takers ? c.serve_free.ensures.other
+
+pub returns-clause-same : goal.returns-clause-same
+returns-clause-same g c =
+    others-same c.serve_free.result (c.serve_free.new.told ≡ c.args.told.now) c.serve_free.ensures.other
+
+pub returns-clause-cause : goal.returns-clause-cause
+returns-clause-cause g c = λ given first run number h seen.
+    (let disk = g.Y.Disk.NodeDisk in
+    let yards = g.Y.Yard.faults in
+    run-causes given disk.tells disk.past disk.faults first (yards c.args.yard.now) (yards c.serve_free.new.yard)
+    c.args.setup.now (setup_in c.args.setup.now run) run.events number c.args.line c.serve_free.result
+    (c.serve_free.ensures.cause given run number h))

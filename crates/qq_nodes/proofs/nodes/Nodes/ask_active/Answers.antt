@@ -13,7 +13,7 @@ pub returns-clause-ok : goal.returns-clause-ok
 returns-clause-ok g c =
     on_ok_weaker c.ask_in.result
     (λ does. served-at (asked c.args.ask) c.args.at c.args.self.now
-    (record c.args.self.now { queues = c.ask_in.new.queues }) c.args.text.now.items c.ask_in.new.out.items
+    (record c.args.self.now { queues = c.ask_in.new.queues }) c.args.told.now c.ask_in.new.told
     (asked-unseen c.args.ask) c.requires.active refl does) c.ask_in.ensures.ok
 
 pub returns-clause-err : goal.returns-clause-err

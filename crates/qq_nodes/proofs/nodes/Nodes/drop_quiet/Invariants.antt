@@ -1,12 +1,13 @@
 use Rattle.std.proofs.Common.{◌≤◌, ℕ, List, length}
 use Rattle.qq_cluster.specs.Rules.{IsNothing}
+use Rattle.qq_cluster.specs.Outcome.{Outcome}
 use Rattle.qq_nodes.specs.Nodes.{Served}
 use Rattle.qq_nodes.proofs.nodes.Nodes.drop_quiet.Given as goal
 
 abbrev pub invariant-active : goal.invariant-active
 invariant-active g l =
-    ((text : List ℕ) → Served g.D.NodeDisk.tells g.D.NodeDisk.past g.D.NodeDisk.faults (λ setup. IsNothing) l.fn.self
-    l.self text text)
+    ((outcome : Outcome) → Served g.D.NodeDisk.tells g.D.NodeDisk.past g.D.NodeDisk.faults (λ setup. IsNothing) l.fn.self
+    l.self outcome outcome)
     × (l.left ≤ length l.self.active)
 
 abbrev pub decreases-active : goal.decreases-active

@@ -1,11 +1,13 @@
-use Rattle.std.proofs.Common.{◌≡◌}
+use Rattle.std.proofs.Common.{◌≡◌, ◌+◌}
+use Rattle.qq_cluster.specs.Queue.{Delivers}
+use Rattle.qq_cluster.specs.Rules.{Tells}
 use Rattle.qq_nodes.specs.Nodes.{Served}
-use Rattle.qq_nodes.proofs.Pumping.{Delivered}
+use Rattle.qq_nodes.proofs.Repeated.{TimesIn}
 use Rattle.qq_nodes.proofs.nodes.Nodes.empty_active.Given as goal
 
 -- so many messages were delivered
 abbrev pub invariant-messages : goal.invariant-messages
 invariant-messages g l =
-    Served g.D.NodeDisk.tells g.D.NodeDisk.past g.D.NodeDisk.faults (Delivered l.message l.at) l.fn.self l.self
-    l.fn.text.items l.text.items
+    Served g.D.NodeDisk.tells g.D.NodeDisk.past g.D.NodeDisk.faults
+    (TimesIn l.message l.count (Tells (l.at + 1) (Delivers 0))) l.fn.self l.self l.fn.told l.told
     × (l.self.active ≡ l.fn.self.active)

@@ -9,7 +9,7 @@ use Rattle.qq_nodes.proofs.nodes.Nodes.empty_each.Goals as goal
 
 pub active-init : goal.active-init
 active-init g c = (
-  active-start (λ (setup : Setup). IsEmptied) c.args.self.now c.args.text.now.items c.len-count.ensures.rising
+  active-start (λ (setup : Setup). IsEmptied) c.args.self.now c.args.told.now c.len-count.ensures.rising
       (emptied-passes c.args.self.now) c.requires.3.within,
   refl,
 )

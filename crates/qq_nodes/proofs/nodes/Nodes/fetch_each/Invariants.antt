@@ -1,6 +1,6 @@
-use Rattle.qq_cluster.specs.Cluster.{At, Setup}
+use Rattle.qq_cluster.specs.Cluster.{Setup}
 use Rattle.qq_cluster.specs.Queue.{Fetches}
-use Rattle.qq_cluster.specs.Rules.{Is}
+use Rattle.qq_cluster.specs.Rules.{Tells}
 use Rattle.qq_nodes.specs.Nodes.{LeadsIn, Served, places_in}
 use Rattle.qq_nodes.proofs.nodes.Nodes.fetch_each.Given as goal
 
@@ -8,5 +8,5 @@ use Rattle.qq_nodes.proofs.nodes.Nodes.fetch_each.Given as goal
 abbrev pub invariant-places : goal.invariant-places
 invariant-places g l =
     Served g.D.NodeDisk.tells g.D.NodeDisk.past g.D.NodeDisk.faults
-    (LeadsIn places_in l.at (λ (setup : Setup) place. Is (At place (Fetches l.session))))
-    l.fn.self l.self l.fn.text.items l.text.items
+    (LeadsIn places_in l.at (λ (setup : Setup) place. Tells place (Fetches l.session)))
+    l.fn.self l.self l.fn.told l.told

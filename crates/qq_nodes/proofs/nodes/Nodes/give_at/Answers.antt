@@ -1,40 +1,19 @@
-use Rattle.std.proofs.Common.{None, Some, sym, ◌∙◌}
-use Rattle.std.proofs.lemmas.Result.{IfErr-weaker, on_ok_weaker}
-use Rattle.qq_nodes.proofs.LineRules.{ended-gave_up, gives, gives-ended, submit-gave_up}
+use Rattle.std.proofs.Common.{arith}
+use Rattle.qq_nodes.proofs.Pumping.{many-after}
+use Rattle.qq_nodes.proofs.Stands.{after-nothing, can-after, gave_up-nothing}
 use Rattle.qq_nodes.proofs.nodes.Nodes.give_at.Goals as goal
 
-pub returns-then-ended-clause-ok : goal.returns-then-ended-clause-ok
-returns-then-ended-clause-ok g c =
-    on_ok_weaker c.ask.result
-    (λ served. gives-ended c.args.at c.args.session c.args.body c.requires.place
-    (sym c.if-ended.true ∙ c.is_ended-ended.ensures) served) c.ask.ensures.ok
+pub give_active-requires-clause-serve : goal.give_active-requires-clause-serve
+give_active-requires-clause-serve g c = can-after c.requires.serve (c.in_default.ensures.ok c.args.told.now)
 
-pub returns-in-Some-clause-ok : goal.returns-in-Some-clause-ok
-returns-in-Some-clause-ok g c =
-    on_ok_weaker c.ask-in-Some.result
-    (λ served. gives c.args.at c.args.session c.args.body (Some c.in-Some.id) c.requires.place
-    (sym c.if-ended.false ∙ c.is_ended-ended.ensures) c.in-Some.ensures served) c.ask-in-Some.ensures.ok
+pub give_active-requires-clause-place : goal.give_active-requires-clause-place
+give_active-requires-clause-place g c =
+    let many = (many-after c.requires.serve (c.in_default.ensures.ok c.args.told.now)).0 in
+    omega (arith, many, c.requires.place)
 
 pub returns-clause-ok : goal.returns-clause-ok
-returns-clause-ok g c =
-    on_ok_weaker c.ask-2.result
-    (λ served. gives c.args.at c.args.session c.args.body None c.requires.place
-    (sym c.if-ended.false ∙ c.is_ended-ended.ensures) c.in_default.ensures served) c.ask-2.ensures.ok
+returns-clause-ok g c = after-nothing (c.in_default.ensures.ok c.args.told.now) c.in_default-give_active.ensures.ok
 
-pub returns-then-ended-clause-err : goal.returns-then-ended-clause-err
-returns-then-ended-clause-err g c =
-    IfErr-weaker c.ask.result _ _
-    (λ memory given. ended-gave_up c.args.at c.args.session c.args.body c.requires.place
-    (sym c.if-ended.true ∙ c.is_ended-ended.ensures) given) c.ask.ensures.err
-
-pub returns-in-Some-clause-err : goal.returns-in-Some-clause-err
-returns-in-Some-clause-err g c =
-    IfErr-weaker c.ask-in-Some.result _ _
-    (λ memory given. submit-gave_up c.args.at c.args.session c.args.body (Some c.in-Some.id) c.requires.place
-    (sym c.if-ended.false ∙ c.is_ended-ended.ensures) c.in-Some.ensures given) c.ask-in-Some.ensures.err
-
-pub returns-clause-err : goal.returns-clause-err
-returns-clause-err g c =
-    IfErr-weaker c.ask-2.result _ _
-    (λ memory given. submit-gave_up c.args.at c.args.session c.args.body None c.requires.place
-    (sym c.if-ended.false ∙ c.is_ended-ended.ensures) c.in_default.ensures given) c.ask-2.ensures.err
+pub returns-in-Err-give_active-clause-err : goal.returns-in-Err-give_active-clause-err
+returns-in-Err-give_active-clause-err g c =
+    gave_up-nothing (c.in_default.ensures.ok c.args.told.now) c.in-Err-give_active.ensures.err

@@ -9,7 +9,7 @@ use Rattle.qq_nodes.proofs.nodes.Nodes.give_first.Goals as goal
 
 pub queues-init : goal.queues-init
 queues-init g c =
-    gives-none c.args.session c.args.body.now (numbers_of c.args.queues.now) c.args.self.now c.args.text.now.items
+    gives-none c.args.session c.args.body.now (numbers_of c.args.queues.now) c.args.self.now c.args.told.now
 
 pub returns-in-Err-clause-err : goal.returns-in-Err-clause-err
 returns-in-Err-clause-err g c =
@@ -42,4 +42,4 @@ returns-clause-ok g c =
     subst
     (λ n. Served g.D.NodeDisk.tells g.D.NodeDisk.past g.D.NodeDisk.faults
     (GivesTo c.args.session c.args.body.now (numbers_of c.args.queues.now) n) c.args.self.now c.queues.self
-    c.args.text.now.items c.queues.text.items) (omega (arith, c.requires.count)) c.queues.invariant
+    c.args.told.now c.queues.told) (omega (arith, c.requires.count)) c.queues.invariant

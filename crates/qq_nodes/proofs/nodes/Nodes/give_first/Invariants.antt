@@ -6,4 +6,4 @@ use Rattle.qq_nodes.proofs.nodes.Nodes.give_first.Given as goal
 abbrev pub invariant-queues : goal.invariant-queues
 invariant-queues g l =
     Served g.D.NodeDisk.tells g.D.NodeDisk.past g.D.NodeDisk.faults (GivesTo l.session l.body (numbers_of l.queues) l.at)
-    l.fn.self l.self l.fn.text.items l.text.items
+    l.fn.self l.self l.fn.told l.told

@@ -4,7 +4,7 @@ use Rattle.qq_nodes.proofs.nodes.Nodes.notice_active.Goals as goal
 
 pub returns-then-not-waits-clause-ok : goal.returns-then-not-waits-clause-ok
 returns-then-not-waits-clause-ok g c =
-    notices-nothing c.args.node.0 c.args.at c.args.self.now c.args.text.now.items
+    notices-nothing c.args.node.0 c.args.at c.args.self.now c.args.told.now
     (λ setup d r st. sym (sym c.if-not-waits.true ∙ c.waits_noticed-waits.ensures setup d r st))
 
 pub returns-clause-ok : goal.returns-clause-ok

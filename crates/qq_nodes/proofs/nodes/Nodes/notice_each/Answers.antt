@@ -9,7 +9,7 @@ use Rattle.qq_nodes.proofs.nodes.Nodes.notice_each.Goals as goal
 
 pub active-init : goal.active-init
 active-init g c = (
-  active-start (λ (setup : Setup). IsNotice c.args.node.0) c.args.self.now c.args.text.now.items c.len-count.ensures.rising
+  active-start (λ (setup : Setup). IsNotice c.args.node.0) c.args.self.now c.args.told.now c.len-count.ensures.rising
       (notice-passes c.args.node c.args.self.now c.requires.node) c.requires.serve.3.within,
   refl,
 )

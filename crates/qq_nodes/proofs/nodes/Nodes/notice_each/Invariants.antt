@@ -9,5 +9,5 @@ abbrev pub invariant-active : goal.invariant-active
 invariant-active g l =
     Served g.D.NodeDisk.tells g.D.NodeDisk.past g.D.NodeDisk.faults
     (LeadsIn places_in (get_or l.self.active l.place (length l.self.queues.items)) (λ (setup : Setup). IsNotice l.node.0))
-    l.fn.self l.self l.fn.text.items l.text.items
+    l.fn.self l.self l.fn.told l.told
     × (l.self.active ≡ l.fn.self.active)

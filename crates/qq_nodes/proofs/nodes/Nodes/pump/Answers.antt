@@ -7,7 +7,7 @@ use Rattle.qq_nodes.proofs.nodes.Nodes.pump.Goals as goal
 
 pub rounds-init : goal.rounds-init
 unfolding most_rounds
-rounds-init g c = pump-start c.args.self.now c.args.text.now.items
+rounds-init g c = pump-start c.args.self.now c.args.told.now
 
 pub is_idle-idle-requires : goal.is_idle-idle-requires
 is_idle-idle-requires g c = can-after c.requires c.rounds.invariant
@@ -25,7 +25,7 @@ rounds-preserved g c =
     let one : c.rounds.left ≡ suc (c.rounds.left - 1) = omega (arith, c.rounds-test.true) in
     pump-more (c.rounds.left - 1)
     (subst (λ (k : ℕ). Served g.D.NodeDisk.tells g.D.NodeDisk.past g.D.NodeDisk.faults (PumpLeads k) c.args.self.now
-    c.rounds.self c.args.text.now.items c.rounds.text.items) one c.rounds.invariant)
+    c.rounds.self c.args.told.now c.rounds.told) one c.rounds.invariant)
     (λ setup n r st. sym c.if-idle.false ∙ c.is_idle-idle.ensures setup n r st) c.in_default.ensures.ok
 
 pub is_idle-idle-requires-2 : goal.is_idle-idle-requires-2
@@ -41,7 +41,7 @@ returns-clause-ok g c =
     let none : c.rounds.left ≡ 0 = omega (arith, c.rounds-test.false) in
     pump-busy
     (subst (λ (k : ℕ). Served g.D.NodeDisk.tells g.D.NodeDisk.past g.D.NodeDisk.faults (PumpLeads k) c.args.self.now
-    c.rounds.self c.args.text.now.items c.rounds.text.items) none c.rounds.invariant)
+    c.rounds.self c.args.told.now c.rounds.told) none c.rounds.invariant)
     (λ setup n r st. sym c.if-idle-2.false ∙ c.is_idle-idle-2.ensures setup n r st) c.in_default-say_busy.ensures.ok
 
 pub returns-in-Err-clause-err : goal.returns-in-Err-clause-err
@@ -49,7 +49,7 @@ returns-in-Err-clause-err g c =
     let one : c.rounds.left ≡ suc (c.rounds.left - 1) = omega (arith, c.rounds-test.true) in
     pump-gave_up (c.rounds.left - 1)
     (subst (λ (k : ℕ). Served g.D.NodeDisk.tells g.D.NodeDisk.past g.D.NodeDisk.faults (PumpLeads k) c.args.self.now
-    c.rounds.self c.args.text.now.items c.rounds.text.items) one c.rounds.invariant)
+    c.rounds.self c.args.told.now c.rounds.told) one c.rounds.invariant)
     (λ setup n r st. sym c.if-idle.false ∙ c.is_idle-idle.ensures setup n r st) c.in-Err.ensures.err
 
 pub returns-in-Err-say_busy-clause-err : goal.returns-in-Err-say_busy-clause-err

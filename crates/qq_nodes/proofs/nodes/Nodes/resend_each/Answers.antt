@@ -12,7 +12,7 @@ use Rattle.qq_nodes.proofs.nodes.Nodes.resend_each.Goals as goal
 pub places-init : goal.places-init
 places-init g c =
     each-start places_in (λ (setup : Setup) place. Is (At place (Resends c.args.session))) c.args.self.now
-    c.args.text.now.items
+    c.args.told.now
 
 pub ask-requires-clause-serve : goal.ask-requires-clause-serve
 ask-requires-clause-serve g c = can-after c.requires c.places.invariant

@@ -5,7 +5,7 @@ use Rattle.qq_nodes.proofs.nodes.Nodes.resend_or_tell.Goals as goal
 
 pub returns-then-not-some-clause-ok : goal.returns-then-not-some-clause-ok
 returns-then-not-some-clause-ok g c =
-    resends-none c.args.session c.args.self.now c.args.text.now.items (omega (arith, c.len-some.ensures))
+    resends-none c.args.session c.args.self.now c.args.told.now (omega (arith, c.len-some.ensures))
 
 pub returns-in-Err-clause-err : goal.returns-in-Err-clause-err
 returns-in-Err-clause-err g c = gave_up-same c.args.self.now c.args.self.now c.in-Err.cause refl c.in-Err.ensures.want

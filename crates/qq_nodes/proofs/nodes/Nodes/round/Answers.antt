@@ -14,7 +14,7 @@ drop_quiet-requires g c =
 pub returns-clause-ok : goal.returns-clause-ok
 returns-clause-ok g c =
     served-same (served-then c.in_default.ensures.ok c.in_default-empty_each.ensures.ok)
-    (c.drop_quiet.ensures c.empty_each.new.text.items)
+    (c.drop_quiet.ensures c.empty_each.new.told)
 
 pub returns-in-Err-clause-err : goal.returns-in-Err-clause-err
 returns-in-Err-clause-err g c = gave_up-first total-empties c.in-Err.ensures.err

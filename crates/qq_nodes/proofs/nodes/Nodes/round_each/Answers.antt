@@ -9,7 +9,7 @@ use Rattle.qq_nodes.proofs.Total.{total-node}
 use Rattle.qq_nodes.proofs.nodes.Nodes.round_each.Goals as goal
 
 pub nodes-init : goal.nodes-init
-nodes-init g c = each-start nodes_in IsNodeRound c.args.self.now c.args.text.now.items
+nodes-init g c = each-start nodes_in IsNodeRound c.args.self.now c.args.told.now
 
 pub node_id-node-requires : goal.node_id-node-requires
 node_id-node-requires g c = let many = (many-after c.requires c.nodes.invariant).1 in omega (arith, many, c.len-count.ensures)

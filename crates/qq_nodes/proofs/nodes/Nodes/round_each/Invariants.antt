@@ -6,4 +6,4 @@ use Rattle.qq_nodes.proofs.nodes.Nodes.round_each.Given as goal
 abbrev pub invariant-nodes : goal.invariant-nodes
 invariant-nodes g l =
     Served g.D.NodeDisk.tells g.D.NodeDisk.past g.D.NodeDisk.faults (LeadsIn nodes_in l.at IsNodeRound) l.fn.self l.self
-    l.fn.text.items l.text.items
+    l.fn.told l.told

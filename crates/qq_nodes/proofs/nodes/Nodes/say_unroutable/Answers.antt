@@ -6,6 +6,6 @@ use Rattle.qq_nodes.proofs.nodes.Nodes.say_unroutable.Goals as goal
 
 pub returns-clause-ok : goal.returns-clause-ok
 returns-clause-ok g c =
-    on_ok_weaker c.push_text.result
-    (λ said. served-said SaysUnroutable c.args.self.now c.args.text.now.items c.push_text.new.out.items refl
-    (λ d place. refl) (λ d. refl) (λ d. refl) (λ setup d. said)) c.push_text.ensures.ok
+    on_ok_weaker c.write.result
+    (λ said. served-said SaysUnroutable c.args.self.now c.args.told.now c.write.new.told refl
+    (λ d place. refl) (λ d. refl) (λ d. refl) (λ setup d. said)) c.write.ensures.ok

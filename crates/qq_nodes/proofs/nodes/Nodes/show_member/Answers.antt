@@ -8,7 +8,7 @@ use Rattle.qq_nodes.proofs.nodes.Nodes.show_member.Goals as goal
 
 pub returns-then-not-here-clause-ok : goal.returns-then-not-here-clause-ok
 returns-then-not-here-clause-ok g c =
-    none-at c.args.self.now c.args.queue c.args.at c.index.result.now c.args.text.now.items c.requires.queue
+    none-at c.args.self.now c.args.queue c.args.at c.index.result.now c.args.told.now c.requires.queue
     (item-here c.args.self.now.nodes.items c.args.at _ c.requires.place c.index.ensures)
     (ap (has_queue c.args.queue.0) (sym c.deref.ensures.value) ∙ sym c.has_queue-here.ensures ∙ c.if-not-here.true)
 
@@ -22,7 +22,7 @@ pub returns-clause-ok : goal.returns-clause-ok
 returns-clause-ok g c =
     on_ok_weaker c.state_text.result
     (λ own. line-at c.args.self.now c.args.queue c.node_id-node.result c.args.at c.index-2.result.now c.index.result.now
-    c.args.text.now.items c.state_text.new.out.items c.requires.queue
+    c.args.told.now c.state_text.new.told c.requires.queue
     (item-here c.args.self.now.queues.items (c.args.queue.0 - 1) _
     (queue-index c.args.self.now c.args.queue c.requires.queue) c.index-2.ensures)
     (item-here c.args.self.now.nodes.items c.args.at _ c.requires.place c.index.ensures)

@@ -9,7 +9,7 @@ use Rattle.qq_nodes.proofs.nodes.Nodes.sync_up.Goals as goal
 
 pub returns-then-not-up-clause-ok : goal.returns-then-not-up-clause-ok
 returns-then-not-up-clause-ok g c =
-    sync-down c.args.node.0 c.args.self.now c.args.text.now.items
+    sync-down c.args.node.0 c.args.self.now c.args.told.now
     (λ setup d st. sym c.if-not-up.true ∙ c.is_up-up.ensures setup d st)
 
 pub sync_in-requires-clause-may : goal.sync_in-requires-clause-may
@@ -57,7 +57,7 @@ pub returns-in-Whole-clause-ok : goal.returns-in-Whole-clause-ok
 returns-in-Whole-clause-ok g c =
     synced c.args.node.0 c.args.self.now c.sync_in.new.nodes c.requires.node.0 c.requires.node.1
     (λ setup d st. sym c.if-not-up.false ∙ c.is_up-up.ensures setup d st)
-    g.D.NodeDisk.faults c.mark_synced.new.self c.args.text.now.items (subst
+    g.D.NodeDisk.faults c.mark_synced.new.self c.args.told.now (subst
     (λ outcome. NodeTurns (Syncs g.D.NodeDisk.tells g.D.NodeDisk.past g.D.NodeDisk.faults outcome) (c.args.node.0 - 1)
     c.args.self.now.nodes.items c.sync_in.new.nodes.items) c.in-Whole.is c.in-Ok.ensures.ok) c.mark_synced.ensures
 
@@ -65,7 +65,7 @@ pub returns-in_default-clause-ok : goal.returns-in_default-clause-ok
 returns-in_default-clause-ok g c =
     synced-failed c.args.node.0 c.args.self.now c.sync_in.new.nodes c.requires.node.0 c.requires.node.1
     (λ setup d st. sym c.if-not-up.false ∙ c.is_up-up.ensures setup d st)
-    g.D.NodeDisk.faults c.mark_synced-in-NoFile.new.self c.fail.new.self c.args.text.now.items c.fail.new.text.items (subst
+    g.D.NodeDisk.faults c.mark_synced-in-NoFile.new.self c.fail.new.self c.args.told.now c.fail.new.told (subst
     (λ outcome. NodeTurns (Syncs g.D.NodeDisk.tells g.D.NodeDisk.past g.D.NodeDisk.faults outcome) (c.args.node.0 - 1)
     c.args.self.now.nodes.items c.sync_in.new.nodes.items) c.in-NoFile.is c.in-Ok.ensures.ok)
     c.mark_synced-in-NoFile.ensures c.in_default.ensures.ok c.in_default.ensures.says
@@ -74,7 +74,7 @@ pub returns-in_default-fail-clause-ok : goal.returns-in_default-fail-clause-ok
 returns-in_default-fail-clause-ok g c =
     sync-failed c.args.node.0 c.args.self.now c.sync_in.new.nodes c.requires.node.0 c.requires.node.1
     (λ setup d st. sym c.if-not-up.false ∙ c.is_up-up.ensures setup d st)
-    g.D.NodeDisk.faults c.fail-in-Nothing.new.self c.args.text.now.items c.fail-in-Nothing.new.text.items (subst
+    g.D.NodeDisk.faults c.fail-in-Nothing.new.self c.args.told.now c.fail-in-Nothing.new.told (subst
     (λ outcome. NodeTurns (Syncs g.D.NodeDisk.tells g.D.NodeDisk.past g.D.NodeDisk.faults outcome) (c.args.node.0 - 1)
     c.args.self.now.nodes.items c.sync_in.new.nodes.items) c.in-Nothing.is c.in-Ok.ensures.ok)
     c.in_default-fail.ensures.ok c.in_default-fail.ensures.says

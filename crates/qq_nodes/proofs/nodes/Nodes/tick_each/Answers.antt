@@ -9,7 +9,7 @@ use Rattle.qq_nodes.proofs.Stands.{can-after, each-start}
 use Rattle.qq_nodes.proofs.nodes.Nodes.tick_each.Goals as goal
 
 pub places-init : goal.places-init
-places-init g c = each-start places_in (λ (setup : Setup). IsFirstTick setup) c.args.self.now c.args.text.now.items
+places-init g c = each-start places_in (λ (setup : Setup). IsFirstTick setup) c.args.self.now c.args.told.now
 
 pub tick_first-requires-clause-serve : goal.tick_first-requires-clause-serve
 tick_first-requires-clause-serve g c = can-after c.requires c.places.invariant

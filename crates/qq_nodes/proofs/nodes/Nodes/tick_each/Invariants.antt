@@ -7,4 +7,4 @@ use Rattle.qq_nodes.proofs.nodes.Nodes.tick_each.Given as goal
 abbrev pub invariant-places : goal.invariant-places
 invariant-places g l =
     Served g.D.NodeDisk.tells g.D.NodeDisk.past g.D.NodeDisk.faults
-    (LeadsIn places_in l.at (λ (setup : Setup). IsFirstTick setup)) l.fn.self l.self l.fn.text.items l.text.items
+    (LeadsIn places_in l.at (λ (setup : Setup). IsFirstTick setup)) l.fn.self l.self l.fn.told l.told

@@ -6,7 +6,7 @@ use Rattle.qq_nodes.proofs.nodes.Nodes.tick_first.Goals as goal
 
 pub returns-in_default-clause-ok : goal.returns-in_default-clause-ok
 returns-in_default-clause-ok g c =
-    ticks-none c.args.at c.args.self.now c.index.result.now c.args.text.now.items
+    ticks-none c.args.at c.args.self.now c.index.result.now c.args.told.now
     (item-here c.args.self.now.queues.items c.args.at _ c.requires.place c.index.ensures)
     (ap (λ l. slice_get l 0) (sym c.members.ensures) ∙ sym c.first.ensures.value ∙ sym c.copied-first.ensures
     ∙ c.in_default.is)

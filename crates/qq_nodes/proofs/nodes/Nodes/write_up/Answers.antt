@@ -11,7 +11,7 @@ use Rattle.qq_nodes.proofs.nodes.Nodes.write_up.Goals as goal
 
 pub returns-then-not-up-clause-ok : goal.returns-then-not-up-clause-ok
 returns-then-not-up-clause-ok g c =
-    write-down c.args.node.0 c.args.self.now c.args.text.now.items
+    write-down c.args.node.0 c.args.self.now c.args.told.now
     (λ setup d st. sym c.if-not-up.true ∙ c.is_up-up.ensures setup d st)
 
 pub take_ops-requires-clause-sound : goal.take_ops-requires-clause-sound
@@ -28,7 +28,7 @@ pub returns-then-count-eq0-clause-ok : goal.returns-then-count-eq0-clause-ok
 returns-then-count-eq0-clause-ok g c =
     write-none c.args.node.0 c.args.self.now c.take_ops.new.self c.in-Ok.ops.items c.requires.node.0 c.requires.node.1
     (λ setup d st. sym c.if-not-up.false ∙ c.is_up-up.ensures setup d st) c.in-Ok.ensures.ok g.D.NodeDisk.faults
-    c.args.text.now.items (is-empty c.in-Ok.ops.items (omega (arith, c.len-count.ensures)))
+    c.args.told.now (is-empty c.in-Ok.ops.items (omega (arith, c.len-count.ensures)))
 
 pub append_in-requires-clause-may : goal.append_in-requires-clause-may
 append_in-requires-clause-may g c =
@@ -46,7 +46,7 @@ pub returns-then-more-clause-ok : goal.returns-then-more-clause-ok
 returns-then-more-clause-ok g c =
     written c.args.node.0 c.args.self.now c.take_ops.new.self c.in-Ok.ops.items c.requires.node.0 c.requires.node.1
     (λ setup d st. sym c.if-not-up.false ∙ c.is_up-up.ensures setup d st) c.in-Ok.ensures.ok g.D.NodeDisk.faults
-    c.append_in.new.nodes c.args.text.now.items (not-empty c.in-Ok.ops.items (omega (arith, c.len-count.ensures))) (subst
+    c.append_in.new.nodes c.args.told.now (not-empty c.in-Ok.ops.items (omega (arith, c.len-count.ensures))) (subst
     (λ more. NodeTurns (Appends g.D.NodeDisk.tells g.D.NodeDisk.past g.D.NodeDisk.faults c.in-Ok.ops.items more) (c.args.node.0 - 1)
     c.take_ops.new.self.nodes.items c.append_in.new.nodes.items) c.if-more.true c.in-Ok-append_in.ensures.ok)
 
@@ -70,7 +70,7 @@ pub returns-clause-ok : goal.returns-clause-ok
 returns-clause-ok g c =
     write-failed c.args.node.0 c.args.self.now c.take_ops.new.self c.in-Ok.ops.items c.requires.node.0 c.requires.node.1
     (λ setup d st. sym c.if-not-up.false ∙ c.is_up-up.ensures setup d st) c.in-Ok.ensures.ok g.D.NodeDisk.faults
-    c.append_in.new.nodes c.fail.new.self c.args.text.now.items c.fail.new.text.items (not-empty c.in-Ok.ops.items (omega (arith, c.len-count.ensures))) (subst
+    c.append_in.new.nodes c.fail.new.self c.args.told.now c.fail.new.told (not-empty c.in-Ok.ops.items (omega (arith, c.len-count.ensures))) (subst
     (λ more. NodeTurns (Appends g.D.NodeDisk.tells g.D.NodeDisk.past g.D.NodeDisk.faults c.in-Ok.ops.items more) (c.args.node.0 - 1)
     c.take_ops.new.self.nodes.items c.append_in.new.nodes.items) c.if-more.false c.in-Ok-append_in.ensures.ok)
     c.in_default.ensures.ok c.in_default.ensures.says

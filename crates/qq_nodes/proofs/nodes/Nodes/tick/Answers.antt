@@ -1,14 +1,14 @@
 use Rattle.std.proofs.Common.{refl, sym, ◌∙◌}
 use Rattle.qq_cluster.specs.Cluster.{At, Setup}
+use Rattle.qq_cluster.specs.Queue.{Ticks}
 use Rattle.qq_cluster.specs.Rules.{Is}
-use Rattle.qq_nodes.specs.Asking.{asked}
 use Rattle.qq_nodes.proofs.LineRules.{at-queue, at-queue_gave_up, queue-index, up-gave_up, where-down, where-up}
 use Rattle.qq_nodes.proofs.Stands.{gave_up-same}
-use Rattle.qq_nodes.proofs.nodes.Nodes.ask_where_up.Goals as goal
+use Rattle.qq_nodes.proofs.nodes.Nodes.tick.Goals as goal
 
 pub returns-then-not-up-clause-ok : goal.returns-then-not-up-clause-ok
 returns-then-not-up-clause-ok g c =
-    where-down {Rule = λ (setup : Setup). Is (At c.args.queue.0 (asked c.args.ask))} c.args.node.0
+    where-down {Rule = λ (setup : Setup). Is (At c.args.queue.0 (Ticks c.args.node.0))} c.args.node.0
     (λ setup d st. sym c.if-not-up.true ∙ c.is_up-up.ensures setup d st) c.in_default.ensures.ok
 
 pub returns-in-Err-clause-err : goal.returns-in-Err-clause-err
@@ -19,14 +19,12 @@ ask-requires-clause-place g c = queue-index c.args.self.now c.args.queue c.requi
 
 pub returns-clause-ok : goal.returns-clause-ok
 returns-clause-ok g c =
-    where-up {Rule = λ (setup : Setup). Is (At c.args.queue.0 (asked c.args.ask))} c.args.node.0
+    where-up {Rule = λ (setup : Setup). Is (At c.args.queue.0 (Ticks c.args.node.0))} c.args.node.0
     (λ setup d st. sym c.if-not-up.false ∙ c.is_up-up.ensures setup d st)
-    (at-queue (λ k (setup : Setup). Is (At k (asked c.args.ask))) c.args.queue c.requires.queue.0
-    c.in_default-ask.ensures.ok)
+    (at-queue (λ k (setup : Setup). Is (At k (Ticks c.args.node.0))) c.args.queue c.requires.queue.0 c.in_default-ask.ensures.ok)
 
 pub returns-in-Err-ask-clause-err : goal.returns-in-Err-ask-clause-err
 returns-in-Err-ask-clause-err g c =
-    up-gave_up {Rule = λ (setup : Setup). Is (At c.args.queue.0 (asked c.args.ask))} c.args.node.0
+    up-gave_up {Rule = λ (setup : Setup). Is (At c.args.queue.0 (Ticks c.args.node.0))} c.args.node.0
     (λ setup d st. sym c.if-not-up.false ∙ c.is_up-up.ensures setup d st)
-    (at-queue_gave_up (λ k (setup : Setup). Is (At k (asked c.args.ask))) c.args.queue c.requires.queue.0
-    c.in-Err-ask.ensures.err)
+    (at-queue_gave_up (λ k (setup : Setup). Is (At k (Ticks c.args.node.0))) c.args.queue c.requires.queue.0 c.in-Err-ask.ensures.err)

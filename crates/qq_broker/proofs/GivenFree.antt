@@ -1,0 +1,133 @@
+-- Takers that the events of a run give to consumers are free then.
+use Rattle.std.proofs.Common.{◌≡◌, ◌∙◌, ℕ, Bool, List, [], ◌∷◌, ◌++◌, ap, sym, subst}
+use Rattle.qq_disk.specs.Disk.{Disk}
+use Rattle.qq_disk.specs.declared.image.Image.{Image}
+use Rattle.qq_base.specs.declared.ids.QueueId.{QueueId}
+use Rattle.qq_base.specs.declared.ids.SessionId.{SessionId}
+use Rattle.qq_setup.specs.declared.setup.Setup.{Setup}
+use Rattle.qq_script_lines.specs.declared.line.ScriptLine.{ScriptLine}
+use Rattle.qq_script_lines.specs.declared.line.ScriptLine.TheVariants.{Attach}
+use Rattle.qq_taker.specs.Takers.{Takers}
+use Rattle.qq_cluster.specs.Cluster.{At, Cluster, ClusterEvent, Setup as ClusterSetup, cluster_after, cluster_happens, new_cluster}
+use Rattle.qq_cluster.specs.Lines.{IsLine}
+use Rattle.qq_cluster.specs.Outcome.{Outcome, takers_after}
+use Rattle.qq_cluster.specs.Queue.{Attaches, Event}
+use Rattle.qq_cluster.specs.Rules.{IsOpening}
+use Rattle.qq_cluster.proofs.Outcomes.{takers-both}
+use Rattle.qq_cluster_run.specs.Service.{HasOpened, HasServed}
+use Rattle.qq_cluster_run.specs.Serving.{Run, cluster_in, setup_in}
+use Rattle.qq_cluster_run.specs.Setup.{cluster_over}
+use Rattle.qq_nodes.specs.declared.nodes.Nodes.{Nodes}
+use Rattle.qq_broker.specs.Lives.{Giving}
+use Rattle.qq_broker.specs.Nodes.{Had, Holds}
+use Rattle.qq_broker.specs.Serving.{run_after}
+use Rattle.qq_broker.specs.Takers.{AreFree, AsksFree, GivesFree, GivesFreeAt, HoldsAll, RunHad}
+use Rattle.qq_broker.proofs.Fair.{AreFair, Fair, Gives, fair-line, fair-opening}
+
+pub free-both : (setup : ClusterSetup) (c : Cluster) (first second : List ClusterEvent) (takers : Takers)
+    → AreFree setup c first takers
+    → AreFree setup (cluster_after c first) second (takers_after setup c first takers)
+    → AreFree setup c (first ++ second) takers
+free-both setup c [] second takers one other = other
+free-both setup c (event ∷ first) second takers one other = (
+  one.0,
+  free-both setup (cluster_happens c event) first second (takers_after setup c (event ∷ []) takers) one.1
+      (subst (AreFree setup (cluster_after (cluster_happens c event) first) second)
+      (takers-both setup c (event ∷ []) first takers) other),
+)
+
+-- ---- events that give none
+
+abbrev AnyImage : Image → Type 0
+AnyImage image = Unit {0}
+
+abbrev NoTaker : ℕ → Type 0
+NoTaker n = ⊥
+
+none-at : (event : Event) (takers : Takers) → Gives NoTaker event → GivesFreeAt event takers
+none-at (Attaches session tag number) takers none = absurd none
+none-at _ takers none = tt
+
+none-given : (setup : ClusterSetup) (c : Cluster) (event : ClusterEvent) (takers : Takers)
+    → Fair setup AnyImage NoTaker c event → GivesFree event takers
+none-given setup c (At place event) takers fair = none-at event takers fair.1
+none-given setup c _ takers fair = tt
+
+fair-free : (setup : ClusterSetup) (c : Cluster) (events : List ClusterEvent) (takers : Takers)
+    → AreFair setup AnyImage NoTaker c events → AreFree setup c events takers
+fair-free setup c [] takers fair = tt
+fair-free setup c (event ∷ events) takers fair = (
+  none-given setup c event takers fair.0,
+  fair-free setup (cluster_happens c event) events (takers_after setup c (event ∷ []) takers) fair.1,
+)
+
+-- ---- an opening, and lines
+
+pub opening-free : (setup : ClusterSetup) (c : Cluster) (events : List ClusterEvent) (takers : Takers)
+    → IsOpening setup c events → AreFree setup c events takers
+opening-free setup c events takers so = fair-free setup c events takers (fair-opening setup AnyImage NoTaker c events so)
+
+other-line : (setup : ClusterSetup) (line : ScriptLine) (c : Cluster) (events : List ClusterEvent) (takers : Takers)
+    → ((by : SessionId) (at : QueueId) (tag number : ℕ) → line ≡ Attach by at tag number → ⊥) → IsLine setup line c events
+    → AreFree setup c events takers
+other-line setup line c events takers other so =
+    fair-free setup c events takers
+    (fair-line setup AnyImage NoTaker line (record { image = λ nodes image is. tt; taker = other }) c events so)
+
+pub line-free : (setup : ClusterSetup) (line : ScriptLine) (c : Cluster) (events : List ClusterEvent) (takers : Takers)
+    → IsLine setup line c events → AsksFree line takers → AreFree setup c events takers
+unfolding IsLine
+line-free setup (Attach by at tag number) c events takers so free =
+    subst (λ (l : List ClusterEvent). AreFree setup c l takers) (sym so) (free, tt)
+line-free setup line c events takers so free = other-line setup line c events takers (λ by at tag number is. cc) so
+
+-- ---- a run with its takers
+
+module _ {D : Type 0} (given : Giving D) (tells : D → Bool) (past : D → List Disk) (faults : D → ℕ) (s : Setup)
+    (first : Takers) where
+  -- an opening begins it
+  pub opened-all : (held : Nodes D) (text : List ℕ) (later : Outcome)
+      → HasOpened (Had given tells past faults) s (Holds given tells past faults s held)
+      (record { text = text; takers = first }) later
+      → HasOpened (RunHad given tells past faults first) s
+      (HoldsAll given tells past faults s first held later.takers) (record { text = text; takers = first }) later
+  opened-all held text later so =
+      let setup : ClusterSetup = cluster_over s so.logs in
+      let gave = opening-free setup (new_cluster setup) so.events first so.allowed in
+      record {
+        logs = so.logs;
+        begins = so.begins;
+        events = so.events;
+        allowed = so.allowed;
+        opened = so.opened;
+        disks = (so.disks, gave);
+        stands = record { holds = so.stands; seen = so.sees; gave = gave };
+        says = so.says;
+        sees = so.sees;
+      }
+
+  -- a line goes on with it
+  pub served-all : (run : Run) (line : ScriptLine) (old new : Nodes D) (before later : Outcome)
+      → HoldsAll given tells past faults s first old before.takers run → AsksFree line before.takers
+      → HasServed (Had given tells past faults) (setup_in s run) run.events line
+      (λ events. Holds given tells past faults s new (run_after run events)) before later
+      → HasServed (RunHad given tells past faults first) (setup_in s run) run.events line
+      (λ events. HoldsAll given tells past faults s first new later.takers (run_after run events)) before later
+  served-all run line old new before later h free so =
+      let setup : ClusterSetup = setup_in s run in
+      let c : Cluster = cluster_in s run in
+      let gave = free-both setup (new_cluster setup) run.events so.more first h.gave
+      (subst (AreFree setup c so.more) h.seen (line-free setup line c so.more before.takers so.allowed free)) in
+      record {
+        more = so.more;
+        allowed = so.allowed;
+        disks = (so.disks, gave);
+        stands = record {
+          holds = so.stands;
+          seen = so.sees ∙ ap (takers_after setup c so.more) h.seen
+              ∙ sym (takers-both setup (new_cluster setup) run.events so.more first);
+          gave = gave;
+        };
+        says = so.says;
+        sees = so.sees;
+      }

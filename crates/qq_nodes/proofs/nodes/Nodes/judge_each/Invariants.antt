@@ -1,0 +1,12 @@
+use Rattle.std.proofs.Common.{◌≡◌, ◌+◌}
+use Rattle.qq_cluster.specs.Rules.{IsNextJudged}
+use Rattle.qq_nodes.specs.Nodes.{Served}
+use Rattle.qq_nodes.proofs.Repeated.{TimesIn}
+use Rattle.qq_nodes.proofs.nodes.Nodes.judge_each.Given as goal
+
+-- so many verdicts were given
+abbrev pub invariant-verdicts : goal.invariant-verdicts
+invariant-verdicts g l =
+    Served g.D.NodeDisk.tells g.D.NodeDisk.past g.D.NodeDisk.faults
+    (TimesIn l.verdict l.count (IsNextJudged (l.at + 1))) l.fn.self l.self l.fn.told l.told
+    × (l.self.active ≡ l.fn.self.active)

@@ -1,0 +1,174 @@
+//! Takers are asked about what was handed out.
+ghost use Rattle.std.specs.Prelude.{◌≡◌, ◌<◌, ◌+◌, true, length, IfErr, IfOk, IfSome, IsOkUnless, OnErr, OnOk};
+ghost use Rattle.qq_cluster.specs.Cluster.{Cluster, Setup};
+ghost use Rattle.qq_cluster.specs.Rules.{IsNextJudged, IsTold, Tells};
+ghost use Rattle.qq_nodes.specs.Active.{is_in};
+ghost use Rattle.qq_nodes.specs.Asking.{MayAsk, asked};
+ghost use Rattle.qq_nodes.specs.Judging.{IsClaimedBy, IsFollowed, MayClaim};
+ghost use Rattle.qq_nodes.specs.Nodes.{CanServe, GaveUp, Served, Stands};
+
+use crate::asking::{Ask, judge_in};
+use crate::nodes::Nodes;
+use qq_base::Memory;
+use qq_cluster_queue::{Claim, Told};
+use qq_disk::NodeDisk;
+use qq_taker::Taker;
+use std::alloc::Global;
+
+impl<D: NodeDisk> Nodes<D> {
+    // How many deliveries of a queue wait for their taker's verdict.
+    fn untold_count(&self, at: usize) -> usize
+        requires { at < length self.now.queues.items }
+        ensures { (setup : Setup) (c : Cluster) → Stands D.tells D.past setup self.now c →
+            result ≡ length (c.queue (at + 1)).untold }
+    {
+        self.queues[at].untold_count()
+    }
+
+    // The taker of the first delivery that waits is asked, where one does. The answer is the command that follows.
+    fn judge<T: Taker>(
+        &mut self,
+        alloc: Global,
+        at: usize,
+        told: &mut Told<T>,
+    ) -> Result<Option<Claim>, Memory>
+        requires serve { CanServe D.tells D.past self.old }
+        requires place { at < length self.old.queues.items }
+        requires active { is_in at self.old.active ≡ true }
+        ensures ok { IfOk result (λ claim. Served D.tells D.past D.faults
+            (λ setup. IsClaimedBy claim (at + 1)) self.old self.new told.old told.new) }
+        ensures may { IfOk result (λ claim. IfSome claim MayClaim) }
+        ensures active { self.new.active ≡ self.old.active }
+        ensures nodes { self.new.nodes ≡ self.old.nodes }
+        ensures want { IsOkUnless result Memory.Want }
+    {
+        judge_in(&mut self.queues, alloc, at, told)
+    }
+
+    // A session gives the command that follows a verdict, where there is one.
+    fn follow<T: Taker>(
+        &mut self,
+        alloc: Global,
+        at: usize,
+        claim: Option<Claim>,
+        told: &mut Told<T>,
+    ) -> Result<(), Memory>
+        requires serve { CanServe D.tells D.past self.old }
+        requires place { at < length self.old.queues.items }
+        requires active { is_in at self.old.active ≡ true }
+        requires may { IfSome claim MayClaim }
+        ensures ok { OnOk result (Served D.tells D.past D.faults
+            (λ setup. IsFollowed claim (at + 1)) self.old self.new told.old told.new) }
+        ensures active { self.new.active ≡ self.old.active }
+        ensures err { IfErr result (GaveUp D.tells D.past D.faults
+            (λ setup. IsFollowed claim (at + 1)) self.old self.new) }
+    {
+        match claim {
+            None => Ok(()),
+            Some(claim) => self.give_active(alloc, at, claim.session, claim.body, told),
+        }
+    }
+
+    // The taker of the first delivery that waits is asked, where one does, and its verdict is followed.
+    fn judge_next<T: Taker>(
+        &mut self,
+        alloc: Global,
+        at: usize,
+        told: &mut Told<T>,
+    ) -> Result<(), Memory>
+        requires serve { CanServe D.tells D.past self.old }
+        requires place { at < length self.old.queues.items }
+        requires active { is_in at self.old.active ≡ true }
+        ensures ok { OnOk result (Served D.tells D.past D.faults (λ setup. IsNextJudged (at + 1))
+            self.old self.new told.old told.new) }
+        ensures active { self.new.active ≡ self.old.active }
+        ensures err { IfErr result (GaveUp D.tells D.past D.faults (λ setup. IsNextJudged (at + 1))
+            self.old self.new) }
+    {
+        let claim = match self.judge(alloc, at, told) {
+            Ok(claim) => claim,
+            Err(cause) => return Err(cause),
+        };
+        if let Err(cause) = self.follow(alloc, at, claim, told) {
+            return Err(cause);
+        }
+        Ok(())
+    }
+
+    // Takers are asked until no delivery of a queue waits.
+    fn judge_each<T: Taker>(
+        &mut self,
+        alloc: Global,
+        at: usize,
+        told: &mut Told<T>,
+    ) -> Result<(), Memory>
+        requires serve { CanServe D.tells D.past self.old }
+        requires place { at < length self.old.queues.items }
+        requires active { is_in at self.old.active ≡ true }
+        ensures ok { OnOk result (Served D.tells D.past D.faults (λ setup. IsTold (at + 1))
+            self.old self.new told.old told.new) }
+        ensures active { self.new.active ≡ self.old.active }
+        ensures err { IfErr result (GaveUp D.tells D.past D.faults (λ setup. IsTold (at + 1))
+            self.old self.new) }
+    {
+        let count = self.untold_count(at);
+        'verdicts: for verdict in 0..count {
+            if let Err(cause) = self.judge_next(alloc, at, told) {
+                return Err(cause);
+            }
+        }
+        Ok(())
+    }
+
+    // A queue that is active does what is asked of it, and takers are asked about what was handed out then.
+    pub(crate) fn tell_active<T: Taker>(
+        &mut self,
+        alloc: Global,
+        at: usize,
+        ask: Ask,
+        told: &mut Told<T>,
+    ) -> Result<(), Memory>
+        requires serve { CanServe D.tells D.past self.old }
+        requires place { at < length self.old.queues.items }
+        requires active { is_in at self.old.active ≡ true }
+        requires may { MayAsk ask }
+        ensures ok { OnOk result (Served D.tells D.past D.faults (λ setup. Tells (at + 1) (asked ask))
+            self.old self.new told.old told.new) }
+        ensures active { self.new.active ≡ self.old.active }
+        ensures err { IfErr result (GaveUp D.tells D.past D.faults
+            (λ setup. Tells (at + 1) (asked ask)) self.old self.new) }
+    {
+        if let Err(cause) = self.ask_active(alloc, at, ask, told) {
+            return Err(cause);
+        }
+        if let Err(cause) = self.judge_each(alloc, at, told) {
+            return Err(cause);
+        }
+        Ok(())
+    }
+
+    // The same of any queue.
+    pub(crate) fn tell<T: Taker>(
+        &mut self,
+        alloc: Global,
+        at: usize,
+        ask: Ask,
+        told: &mut Told<T>,
+    ) -> Result<(), Memory>
+        requires serve { CanServe D.tells D.past self.old }
+        requires place { at < length self.old.queues.items }
+        requires may { MayAsk ask }
+        ensures ok { OnOk result (Served D.tells D.past D.faults (λ setup. Tells (at + 1) (asked ask))
+            self.old self.new told.old told.new) }
+        ensures err { IfErr result (GaveUp D.tells D.past D.faults
+            (λ setup. Tells (at + 1) (asked ask)) self.old self.new) }
+    {
+        if let Err(cause) = self.wake(at) {
+            return Err(cause);
+        }
+        if let Err(cause) = self.tell_active(alloc, at, ask, told) {
+            return Err(cause);
+        }
+        Ok(())
+    }
+}
