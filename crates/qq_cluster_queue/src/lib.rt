@@ -16,6 +16,7 @@ mod judging;
 mod label;
 mod laws;
 mod leaving;
+mod marks;
 mod moves;
 mod opening;
 mod publisher;
