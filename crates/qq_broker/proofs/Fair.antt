@@ -103,7 +103,7 @@ module _ (setup : Setup) (May : Image → Type 0) (MayGive : ℕ → Type 0) whe
 
   fair-judged : (place : ℕ) (all : List Handed) → AllFair (IsJudgedWhere place all)
   fair-judged place [] = fair-none
-  fair-judged place (h ∷ more) c events so =
+  fair-judged place (h ∷ more) = λ c events so.
       fair-then (Is (At place (Judges so.verdict)))
       (IsCommanded (command_for so.verdict h) h.consumer.session.number place)
       (fair-is (At place (Judges so.verdict)) (λ d. (refl, tt)))

@@ -153,7 +153,7 @@ module _ {D : Type 0} (given : Giving D) (tells : D → Bool) (past : D → List
 
   -- ---- a node isn't
 
-  module _ (fault : RestartFault) (new : Nodes D) (first : List ℕ)
+  module _ (fault : RestartFault) (new : Nodes D) (first : Outcome)
       (so : Refuses tells past faults all_nodes IsOpening held new first fault) where
     logs : HaveLogs S new.nodes.items
     logs = so.logs S c (reached given tells past faults s gone_on) h.stands

@@ -34,8 +34,8 @@ returns-in-Err-clause-back g c =
 
 -- ---- the nodes are opened
 
-pub open-requires : goal.open-requires
-open-requires g c =
+pub open-opened-requires : goal.open-opened-requires
+open-opened-requires g c =
     let disk = g.D.NodeDisk in (
       c.args.setup.queues,
       (c.in-Ok.ensures.ok (ByHand c.args.disks.items) (by-hand disk.tells disk.past c.args.disks.items)).new,
@@ -52,17 +52,17 @@ returns-then-some-clause-ok g c =
     (let same = c.begin_over.ensures.room in let many = c.requires.count in let own = c.args.disks.ok.0 in
     let most = c.args.disks.ok.1 in omega (arith, same, many, own, most)) in
     let broker : Broker _ =
-    record { setup = s; nodes = c.open.new.nodes; text = c.give_back.new.text; room = c.begin_over.new.disks } in
+    record { setup = s; nodes = c.open-opened.new.nodes; text = c.give_back.new.text; room = c.begin_over.new.disks } in
     told-so
     (λ before later. HasOpened (Had given disk.tells disk.past disk.faults) s
     (Runs given disk.tells disk.past disk.faults broker) before later)
-    c.lend.result c.open.new.told _ c.give_back.new.text.items c.args.takers.now c.give_back.new.takers c.lend.ensures
+    c.lend-told.result c.open-opened.new.told _ c.give_back.new.text.items c.args.takers.now c.give_back.new.takers c.lend-told.ensures
     c.new-text.ensures.items c.give_back.ensures.text c.give_back.ensures.takers
     (opened-runs given disk.tells disk.past disk.faults s c.requires.may broker
-    c.open.new.nodes c.lend.result c.open.new.told refl refl c.in-Ok.ensures.empty room
-    (has-opened given disk.tells disk.past disk.faults s c.requires.may begins c.in-Ok.nodes u c.open.new.nodes
-    c.lend.result c.open.new.told c.in-Ok-open_nodes.some c.if-some.true
-    (c.in-Ok-open_nodes.ensures.ok s.queues u.new)))
+    c.open-opened.new.nodes c.lend-told.result c.open-opened.new.told refl refl c.in-Ok.ensures.empty room
+    (has-opened given disk.tells disk.past disk.faults s c.requires.may begins c.in-Ok.nodes u c.open-opened.new.nodes
+    c.lend-told.result c.open-opened.new.told c.in-Ok-opened.some c.if-some.true
+    (c.in-Ok-opened.ensures.ok s.queues u.new)))
 
 -- ---- each disk has failed
 
@@ -73,8 +73,8 @@ hand_back-requires-clause-own g c =
     let given = ByHand c.args.disks.items in
     let u = c.in-Ok.ensures.ok given (by-hand disk.tells disk.past c.args.disks.items) in
     still-logs given disk.tells disk.past disk.faults s c.requires.may
-    (c.clusters_begin_with_new_logs.ensures s c.requires.may) c.in-Ok.nodes u c.open.new.nodes c.in-Ok-open_nodes.some
-    c.lend.result c.open.new.told (c.in-Ok-open_nodes.ensures.ok s.queues u.new)
+    (c.clusters_begin_with_new_logs.ensures s c.requires.may) c.in-Ok.nodes u c.open-opened.new.nodes c.in-Ok-opened.some
+    c.lend-told.result c.open-opened.new.told (c.in-Ok-opened.ensures.ok s.queues u.new)
 
 pub hand_back-requires-clause-room : goal.hand_back-requires-clause-room
 hand_back-requires-clause-room g c =
@@ -83,64 +83,64 @@ hand_back-requires-clause-room g c =
     let given = ByHand c.args.disks.items in
     let u = c.in-Ok.ensures.ok given (by-hand disk.tells disk.past c.args.disks.items) in
     let count = still-many given disk.tells disk.past disk.faults s c.requires.may
-    (c.clusters_begin_with_new_logs.ensures s c.requires.may) c.in-Ok.nodes u c.open.new.nodes c.in-Ok-open_nodes.some
-    c.lend.result c.open.new.told (c.in-Ok-open_nodes.ensures.ok s.queues u.new) in
+    (c.clusters_begin_with_new_logs.ensures s c.requires.may) c.in-Ok.nodes u c.open-opened.new.nodes c.in-Ok-opened.some
+    c.lend-told.result c.open-opened.new.told (c.in-Ok-opened.ensures.ok s.queues u.new) in
     let same = c.begin_over.ensures.room in
     let many = c.requires.count in
     let own = c.args.disks.ok.0 in
     let most = c.args.disks.ok.1 in
     omega (arith, count, same, many, own, most)
 
-pub returns-in-Ok-open_nodes-clause-cause : goal.returns-in-Ok-open_nodes-clause-cause
-returns-in-Ok-open_nodes-clause-cause g c =
+pub returns-in-Ok-opened-clause-cause : goal.returns-in-Ok-opened-clause-cause
+returns-in-Ok-opened-clause-cause g c =
     let disk = g.D.NodeDisk in
     let s = c.args.setup in
     let given = ByHand c.args.disks.items in
     let u = c.in-Ok.ensures.ok given (by-hand disk.tells disk.past c.args.disks.items) in
     no-disk given disk.tells disk.past disk.faults s c.requires.may
-    (c.clusters_begin_with_new_logs.ensures s c.requires.may) c.in-Ok.nodes u c.open.new.nodes
-    c.lend.result c.open.new.told 0 0 c.in-Ok-open_nodes.some c.if-some.false
-    (some-node s c.requires.may) (c.in-Ok-open_nodes.ensures.ok s.queues u.new)
+    (c.clusters_begin_with_new_logs.ensures s c.requires.may) c.in-Ok.nodes u c.open-opened.new.nodes
+    c.lend-told.result c.open-opened.new.told 0 0 c.in-Ok-opened.some c.if-some.false
+    (some-node s c.requires.may) (c.in-Ok-opened.ensures.ok s.queues u.new)
 
-pub returns-in-Ok-open_nodes-clause-back : goal.returns-in-Ok-open_nodes-clause-back
-returns-in-Ok-open_nodes-clause-back g c =
+pub returns-in-Ok-opened-clause-back : goal.returns-in-Ok-opened-clause-back
+returns-in-Ok-opened-clause-back g c =
     let disk = g.D.NodeDisk in
     let s = c.args.setup in
     let given = ByHand c.args.disks.items in
     let u = c.in-Ok.ensures.ok given (by-hand disk.tells disk.past c.args.disks.items) in
     failed-back given disk.tells disk.past disk.faults s c.requires.may
     (c.clusters_begin_with_new_logs.ensures s c.requires.may) c.in-Ok.nodes u c.args.disks.items c.requires.count
-    c.in-Ok.ensures.disks c.open.new.nodes c.hand_back.result.items c.hand_back.ensures.disks c.hand_back.ensures.count
-    c.in-Ok-open_nodes.some c.if-some.false c.lend.result c.open.new.told
-    (c.in-Ok-open_nodes.ensures.ok s.queues u.new)
+    c.in-Ok.ensures.disks c.open-opened.new.nodes c.hand_back.result.items c.hand_back.ensures.disks c.hand_back.ensures.count
+    c.in-Ok-opened.some c.if-some.false c.lend-told.result c.open-opened.new.told
+    (c.in-Ok-opened.ensures.ok s.queues u.new)
 
-pub returns-in-Ok-open_nodes-clause-failed : goal.returns-in-Ok-open_nodes-clause-failed
-returns-in-Ok-open_nodes-clause-failed g c =
+pub returns-in-Ok-opened-clause-failed : goal.returns-in-Ok-opened-clause-failed
+returns-in-Ok-opened-clause-failed g c =
     let disk = g.D.NodeDisk in
     let s = c.args.setup in
     let given = ByHand c.args.disks.items in
     let u = c.in-Ok.ensures.ok given (by-hand disk.tells disk.past c.args.disks.items) in
     all-failed given disk.tells disk.past disk.faults s c.requires.may
     (c.clusters_begin_with_new_logs.ensures s c.requires.may) c.in-Ok.nodes u c.args.disks.items c.requires.count
-    c.in-Ok.ensures.disks c.open.new.nodes c.hand_back.result.items c.hand_back.ensures.disks c.hand_back.ensures.count
-    c.in-Ok-open_nodes.some c.if-some.false c.lend.result c.open.new.told
-    (c.in-Ok-open_nodes.ensures.ok s.queues u.new)
+    c.in-Ok.ensures.disks c.open-opened.new.nodes c.hand_back.result.items c.hand_back.ensures.disks c.hand_back.ensures.count
+    c.in-Ok-opened.some c.if-some.false c.lend-told.result c.open-opened.new.told
+    (c.in-Ok-opened.ensures.ok s.queues u.new)
 
 -- ---- the opening is given up
 
-pub hand_back-requires-in-Err-open_nodes-clause-own : goal.hand_back-requires-in-Err-open_nodes-clause-own
-hand_back-requires-in-Err-open_nodes-clause-own g c =
+pub hand_back-requires-in-Err-opened-clause-own : goal.hand_back-requires-in-Err-opened-clause-own
+hand_back-requires-in-Err-opened-clause-own g c =
     let disk = g.D.NodeDisk in
     let u = c.in-Ok.ensures.ok (ByHand c.args.disks.items) (by-hand disk.tells disk.past c.args.disks.items) in
-    (c.in-Err-open_nodes.ensures.err c.args.setup.queues u.new).logs
+    (c.in-Err-opened.ensures.err c.args.setup.queues u.new).logs
 
-pub hand_back-requires-in-Err-open_nodes-clause-room : goal.hand_back-requires-in-Err-open_nodes-clause-room
-hand_back-requires-in-Err-open_nodes-clause-room g c =
+pub hand_back-requires-in-Err-opened-clause-room : goal.hand_back-requires-in-Err-opened-clause-room
+hand_back-requires-in-Err-opened-clause-room g c =
     let disk = g.D.NodeDisk in
     let s = c.args.setup in
     let given = ByHand c.args.disks.items in
     let u = c.in-Ok.ensures.ok given (by-hand disk.tells disk.past c.args.disks.items) in
-    let count = (c.in-Err-open_nodes.ensures.err s.queues u.new).count in
+    let count = (c.in-Err-opened.ensures.err s.queues u.new).count in
     let nodes = count-is given disk.tells disk.past disk.faults s c.requires.may
     (c.clusters_begin_with_new_logs.ensures s c.requires.may) c.in-Ok.nodes u in
     let same = c.begin_over.ensures.room in
@@ -156,9 +156,9 @@ returns-clause-cause g c =
     let given = ByHand c.args.disks.items in
     let u = c.in-Ok.ensures.ok given (by-hand disk.tells disk.past c.args.disks.items) in
     not-opened given disk.tells disk.past disk.faults s c.requires.may
-    (c.clusters_begin_with_new_logs.ensures s c.requires.may) c.in-Ok.nodes c.open.new.nodes u 0 0
-    c.in-Err-open_nodes.fault (stop_for s c.in-Err-open_nodes.fault) (own-stop s c.in-Err-open_nodes.fault)
-    (c.in-Err-open_nodes.ensures.err s.queues u.new)
+    (c.clusters_begin_with_new_logs.ensures s c.requires.may) c.in-Ok.nodes c.open-opened.new.nodes u 0 0
+    c.in-Err-opened.fault (stop_for s c.in-Err-opened.fault) (own-stop s c.in-Err-opened.fault)
+    (c.in-Err-opened.ensures.err s.queues u.new)
 
 pub returns-clause-back : goal.returns-clause-back
 returns-clause-back g c =
@@ -168,6 +168,6 @@ returns-clause-back g c =
     let u = c.in-Ok.ensures.ok given (by-hand disk.tells disk.past c.args.disks.items) in
     refused-back given disk.tells disk.past disk.faults s c.requires.may
     (c.clusters_begin_with_new_logs.ensures s c.requires.may) c.in-Ok.nodes u c.args.disks.items c.requires.count
-    c.in-Ok.ensures.disks c.open.new.nodes c.hand_back-in-Err-open_nodes.result.items
-    c.hand_back-in-Err-open_nodes.ensures.disks c.hand_back-in-Err-open_nodes.ensures.count c.in-Err-open_nodes.fault
-    (c.in-Err-open_nodes.ensures.err s.queues u.new)
+    c.in-Ok.ensures.disks c.open-opened.new.nodes c.hand_back-in-Err-opened.result.items
+    c.hand_back-in-Err-opened.ensures.disks c.hand_back-in-Err-opened.ensures.count c.in-Err-opened.fault
+    (c.in-Err-opened.ensures.err s.queues u.new)

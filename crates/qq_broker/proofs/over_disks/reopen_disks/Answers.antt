@@ -16,8 +16,8 @@ put_disks-requires g c =
     let nodes = r.1.1.1.1.gave.count in
     omega (arith, count, many, nodes)
 
-pub reopen-requires : goal.reopen-requires
-reopen-requires g c =
+pub reopen-opened-requires : goal.reopen-opened-requires
+reopen-opened-requires g c =
     let disk = g.D.NodeDisk in
     let s = c.args.setup in
     let again = c.args.disks.items in
@@ -51,15 +51,15 @@ returns-then-some-clause-ok g c =
     let most = c.args.disks.ok.1 in
     λ given run before images rests back.
     (let broker : Broker _ =
-    record { setup = s; nodes = c.reopen.new.nodes; text = c.give_back.new.text; room = c.put_disks.new.disks } in
+    record { setup = s; nodes = c.reopen-opened.new.nodes; text = c.give_back.new.text; room = c.put_disks.new.disks } in
     told-so
     (λ first later. HasReopened (Had given disk.tells disk.past disk.faults) (setup_in s run)
     (crashed_events (setup_in s run) run.events images)
     (λ events. Runs given disk.tells disk.past disk.faults broker (with_events run events)) first later)
-    c.lend.result c.reopen.new.told _ c.give_back.new.text.items c.args.takers.now c.give_back.new.takers
-    c.lend.ensures c.new-text.ensures.items c.give_back.ensures.text c.give_back.ensures.takers
+    c.lend-told.result c.reopen-opened.new.told _ c.give_back.new.text.items c.args.takers.now c.give_back.new.takers
+    c.lend-told.ensures c.new-text.ensures.items c.give_back.ensures.text c.give_back.ensures.takers
     (has-reopened given disk.tells disk.past disk.faults s before again c.args.audits run images rests
-    back may held same get c.in-Ok.some c.reopen.new.nodes c.lend.result c.reopen.new.told
+    back may held same get c.in-Ok.some c.reopen-opened.new.nodes c.lend-told.result c.reopen-opened.new.told
     c.in-Ok.ensures.ok broker c.if-some.true refl refl c.put_disks.ensures.empty
     (let count = so-many given disk.tells disk.past disk.faults s before again c.args.audits run images rests back may
     held same get in omega (arith, own, room, most, count))))
@@ -84,7 +84,7 @@ hand_back-requires-clause-own g c =
     let back = r.1.1.1.2 in
     still-there given disk.tells disk.past disk.faults s before again c.args.audits run images rests
     back may held same get
-    c.in-Ok.some c.reopen.new.nodes c.lend.result c.reopen.new.told c.in-Ok.ensures.ok
+    c.in-Ok.some c.reopen-opened.new.nodes c.lend-told.result c.reopen-opened.new.told c.in-Ok.ensures.ok
 
 pub hand_back-requires-clause-room : goal.hand_back-requires-clause-room
 hand_back-requires-clause-room g c =
@@ -104,7 +104,7 @@ hand_back-requires-clause-room g c =
     let back = r.1.1.1.2 in
     let many = still-so-many given disk.tells disk.past disk.faults s before again c.args.audits run images rests
     back may held same get
-    c.in-Ok.some c.reopen.new.nodes c.lend.result c.reopen.new.told c.in-Ok.ensures.ok in
+    c.in-Ok.some c.reopen-opened.new.nodes c.lend-told.result c.reopen-opened.new.told c.in-Ok.ensures.ok in
     let whole = c.args.disks.ok.0 in
     let most = c.args.disks.ok.1 in
     let room = c.put_disks.ensures.room in
@@ -121,7 +121,7 @@ returns-in-Ok-clause-cause g c =
     let get = c.put_disks.ensures.disks in
     λ given run before images rests back.
     failed-where-none given disk.tells disk.past disk.faults s before again c.args.audits run images rests
-    back may held same get c.in-Ok.some c.reopen.new.nodes c.lend.result c.reopen.new.told
+    back may held same get c.in-Ok.some c.reopen-opened.new.nodes c.lend-told.result c.reopen-opened.new.told
     c.in-Ok.ensures.ok c.hand_back.result.items c.hand_back.ensures.disks c.hand_back.ensures.count c.if-some.false
 
 pub returns-in-Ok-clause-back : goal.returns-in-Ok-clause-back
@@ -135,7 +135,7 @@ returns-in-Ok-clause-back g c =
     let get = c.put_disks.ensures.disks in
     λ given run before images rests back.
     kept-where-none given disk.tells disk.past disk.faults s before again c.args.audits run images rests
-    back may held same get c.in-Ok.some c.reopen.new.nodes c.lend.result c.reopen.new.told
+    back may held same get c.in-Ok.some c.reopen-opened.new.nodes c.lend-told.result c.reopen-opened.new.told
     c.in-Ok.ensures.ok c.hand_back.result.items c.hand_back.ensures.disks c.hand_back.ensures.count
 
 -- ---- a node isn't restarted
@@ -158,7 +158,7 @@ hand_back-requires-in-Err-clause-own g c =
     let back = r.1.1.1.2 in
     refused-logs given disk.tells disk.past disk.faults s before again c.args.audits run images rests
     back may held same get
-    c.in-Err.fault c.reopen.new.nodes c.lend.result c.in-Err.ensures.err
+    c.in-Err.fault c.reopen-opened.new.nodes c.lend-told.result c.in-Err.ensures.err
 
 pub hand_back-requires-in-Err-clause-room : goal.hand_back-requires-in-Err-clause-room
 hand_back-requires-in-Err-clause-room g c =
@@ -178,7 +178,7 @@ hand_back-requires-in-Err-clause-room g c =
     let back = r.1.1.1.2 in
     let many = refused-many given disk.tells disk.past disk.faults s before again c.args.audits run images rests
     back may held same get
-    c.in-Err.fault c.reopen.new.nodes c.lend.result c.in-Err.ensures.err in
+    c.in-Err.fault c.reopen-opened.new.nodes c.lend-told.result c.in-Err.ensures.err in
     let whole = c.args.disks.ok.0 in
     let most = c.args.disks.ok.1 in
     let room = c.put_disks.ensures.room in
@@ -195,7 +195,7 @@ returns-clause-cause g c =
     let get = c.put_disks.ensures.disks in
     λ given run before images rests back.
     refused-cause given disk.tells disk.past disk.faults s before again c.args.audits run images rests
-    back may held same get c.in-Err.fault c.reopen.new.nodes c.lend.result c.in-Err.ensures.err
+    back may held same get c.in-Err.fault c.reopen-opened.new.nodes c.lend-told.result c.in-Err.ensures.err
 
 pub returns-clause-back : goal.returns-clause-back
 returns-clause-back g c =
@@ -208,5 +208,5 @@ returns-clause-back g c =
     let get = c.put_disks.ensures.disks in
     λ given run before images rests back.
     refused-keeps given disk.tells disk.past disk.faults s before again c.args.audits run images rests
-    back may held same get c.in-Err.fault c.reopen.new.nodes c.lend.result c.in-Err.ensures.err
+    back may held same get c.in-Err.fault c.reopen-opened.new.nodes c.lend-told.result c.in-Err.ensures.err
     c.hand_back-in-Err.result.items c.hand_back-in-Err.ensures.disks c.hand_back-in-Err.ensures.count

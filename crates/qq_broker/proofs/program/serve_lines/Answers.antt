@@ -42,12 +42,12 @@ returns-in-Err-clause-cause g c = λ given first opened.
 pub returns-in-Ok-None-clause-ok : goal.returns-in-Ok-None-clause-ok
 returns-in-Ok-None-clause-ok g c = λ given first opened.
     (let disk = g.Y.Disk.NodeDisk in
-    lines-end given disk.tells disk.past disk.faults first c.args.setup.now (g.I.Source.left c.args.input.now)
+    rw c.clear.ensures (lines-end given disk.tells disk.past disk.faults first c.args.setup.now (g.I.Source.left c.args.input.now)
     (g.O.Sink.written c.args.output.now) c.lines.nodes c.lines.told.takers (ahead c.lines.lines (g.I.Source.left c.lines.input))
     (g.O.Sink.written c.lines.output) (g.O.Sink.written c.write_all.new.out) c.lines.served c.lines.told.text
     c.text.result.now (c.lines.invariant.going given first opened) c.text.ensures c.in_default.ensures.ok c.next_line.new.lines
     (g.I.Source.left c.next_line.new.input) (rw c.in-Ok-None.field-0-is at c.in-Ok-None.ensures.end)
-    (rw c.in-Ok-None.field-0-is at c.in-Ok-None.ensures.stays))
+    (rw c.in-Ok-None.field-0-is at c.in-Ok-None.ensures.stays)))
 
 pub returns-in-Err-Failed-clause-cause : goal.returns-in-Err-Failed-clause-cause
 returns-in-Err-Failed-clause-cause g c = λ given first opened.
@@ -56,11 +56,11 @@ returns-in-Err-Failed-clause-cause g c = λ given first opened.
     let cause = rw c.in-Err-Failed.field-0-is at c.in-Err-Failed.ensures.cause in (
       Rose_earlier (faults c.args.input.now) (faults c.lines.input) (faults c.next_line.new.input)
           c.lines.invariant.source_later cause.0,
-      lines-fail given disk.tells disk.past disk.faults first c.args.setup.now (g.I.Source.left c.args.input.now)
+      rw c.clear.ensures (lines-fail given disk.tells disk.past disk.faults first c.args.setup.now (g.I.Source.left c.args.input.now)
           (g.O.Sink.written c.args.output.now) c.lines.nodes c.lines.told.takers (ahead c.lines.lines (g.I.Source.left c.lines.input))
           (g.O.Sink.written c.lines.output) (g.O.Sink.written c.write_all.new.out) c.lines.served c.lines.told.text
           c.text.result.now (c.lines.invariant.going given first opened) c.text.ensures c.in_default.ensures.ok
-          (g.I.Source.left c.next_line.new.input) cause.1,
+          (g.I.Source.left c.next_line.new.input) cause.1),
     ))
 
 pub returns-in-Err-TooLong-clause-cause : goal.returns-in-Err-TooLong-clause-cause
@@ -68,12 +68,12 @@ returns-in-Err-TooLong-clause-cause g c = λ given first opened.
     (let disk = g.Y.Disk.NodeDisk in
     let yards = g.Y.Yard.faults in
     let long = rw c.in-Err-TooLong.field-0-is at c.in-Err-TooLong.ensures.cause in
-    lines-pass given disk.tells disk.past disk.faults first c.args.setup.now (g.I.Source.left c.args.input.now)
+    rw c.clear.ensures (lines-pass given disk.tells disk.past disk.faults first c.args.setup.now (g.I.Source.left c.args.input.now)
     (g.O.Sink.written c.args.output.now) c.lines.nodes c.lines.told.takers (ahead c.lines.lines (g.I.Source.left c.lines.input))
     (g.O.Sink.written c.lines.output) (g.O.Sink.written c.write_all.new.out) c.lines.served c.lines.told.text
     c.text.result.now (c.lines.invariant.going given first opened) c.text.ensures c.in_default.ensures.ok (yards c.args.yard.now)
     (yards c.lines.yard) (g.I.Source.left c.next_line.new.input) c.refuse_long_line.result c.lines_law.ensures long.1
-    c.in-Err-TooLong.ensures.read (c.refuse_long_line.ensures c.args.setup.now))
+    c.in-Err-TooLong.ensures.read (c.refuse_long_line.ensures c.args.setup.now)))
 
 pub returns-in-Err-Memory-clause-cause : goal.returns-in-Err-Memory-clause-cause
 returns-in-Err-Memory-clause-cause g c = λ given first opened.

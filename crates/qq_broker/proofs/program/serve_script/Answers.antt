@@ -38,8 +38,8 @@ returns-in-Err-Failed-clause-cause g c = λ given first opened.
           (written c.write_audits.new.output) so (c.in-Err-Failed.ensures.err given so.run so.stands.holds) so.stands.seen,
     ))
 
-pub returns-in-Err-NoMemory-clause-cause : goal.returns-in-Err-NoMemory-clause-cause
-returns-in-Err-NoMemory-clause-cause g c = λ given first opened.
+pub returns-in-Ok-clause-cause : goal.returns-in-Ok-clause-cause
+returns-in-Ok-clause-cause g c = λ given first opened.
     (let disk = g.Y.Disk.NodeDisk in
     let written = g.O.Sink.written in
     let s = c.args.setup.now in

@@ -7,8 +7,8 @@ use Rattle.qq_broker.proofs.GoingOn.{can-serve, given-up}
 use Rattle.qq_broker.proofs.Stepped.{has-pumped, pump-line}
 use Rattle.qq_broker.proofs.broker.Broker.pump.Goals as goal
 
-pub pump-requires : goal.pump-requires
-pump-requires g c =
+pub pump-pumped-requires : goal.pump-pumped-requires
+pump-pumped-requires g c =
     let disk = g.D.NodeDisk in
     can-serve c.requires.0 disk.tells disk.past disk.faults c.args.self.now.setup c.args.self.now.nodes c.requires.1.0
     c.requires.1.1.holds
@@ -25,14 +25,14 @@ pub returns-in-Ok-clause-ok : goal.returns-in-Ok-clause-ok
 returns-in-Ok-clause-ok g c = λ given run so.
     (let disk = g.D.NodeDisk in
     has-pumped given disk.tells disk.past disk.faults run c.args.self.now
-    (record c.args.self.now { nodes = c.pump.new.self; text = c.give_back.new.text }) c.args.takers.now
-    c.give_back.new.takers c.lend.result c.pump.new.told c.pump_outcome.result c.is_idle-idle.result so refl refl
-    c.lend.ensures c.give_back.ensures.text c.give_back.ensures.takers c.in-Ok.ensures.ok c.pump_outcome.ensures
+    (record c.args.self.now { nodes = c.pump-pumped.new.self; text = c.give_back.new.text }) c.args.takers.now
+    c.give_back.new.takers c.lend-told.result c.pump-pumped.new.told c.pump_outcome.result c.is_idle-idle.result so refl refl
+    c.lend-told.ensures c.give_back.ensures.text c.give_back.ensures.takers c.in-Ok.ensures.ok c.pump_outcome.ensures
     c.is_idle-idle.ensures)
 
 pub returns-in-Err-clause-cause : goal.returns-in-Err-clause-cause
 returns-in-Err-clause-cause g c = λ given run so.
     (let disk = g.D.NodeDisk in
     given-up given disk.tells disk.past disk.faults c.args.self.now.setup run Pump IsPump c.args.self.now.nodes
-    c.pump.new.self 0 0 c.in-Err.memory so.holds (λ d events allowed. pump-line (setup_in c.args.self.now.setup run) d
+    c.pump-pumped.new.self 0 0 c.in-Err.memory so.holds (λ d events allowed. pump-line (setup_in c.args.self.now.setup run) d
     events allowed) c.in-Err.ensures.err)
