@@ -1,4 +1,4 @@
-use Rattle.std.proofs.Common.{◌≡◌, ℕ, List, [], inl, inr, subst, arith}
+use Rattle.std.proofs.Common.{◌≡◌, ℕ, List, [], inl, inr, refl, subst, arith}
 use Rattle.qq_cluster.specs.Outcome.{Outcome}
 use Rattle.qq_cluster_run.proofs.Beginnings.{closed-at-once}
 use Rattle.qq_cluster_run.proofs.Closings.{unopened_earlier}
