@@ -1,6 +1,7 @@
 """Seeded workloads of clients and crashes: each makes lines, and asks the model that runs them what came of them."""
 MULTIPLIER, INCREMENT = 6364136223846793005, 1442695040888963407
 QUEUES = 4
+STEPS_OF_DRILL = 4_000
 BOTH_SESSIONS = [*range(1, QUEUES + 1), *range(11, 11 + QUEUES)]
 
 
@@ -35,6 +36,10 @@ class Workload:
         """Lets all nodes be up and all queues have leaders."""
         for line in ("auto", "restart all"):
             self.add(line)
+        self.lead()
+
+    def lead(self):
+        """Gives each queue without a leader one, by ticks of its members."""
         for group in self.cluster.groups:
             for node in group.members * 2:
                 if group.leader() is None:
@@ -97,3 +102,15 @@ class Plain(Workload):
         self.add("auto")
         self.add(f"write {node}")
         self.add(f"crash {node} cut {left}")
+
+
+class Drill(Plain):
+    """The lines of `qq drill NUMBER`: so many steps of that workload, and then all is brought home."""
+
+    def make(self):
+        for _ in range(STEPS_OF_DRILL):
+            self.step(self.draw())
+        for node in sorted(self.cluster.down):
+            self.add(f"restart {node}")
+        self.lead()
+        self.resend()

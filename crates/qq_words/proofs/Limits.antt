@@ -8,11 +8,11 @@ use Rattle.std.proofs.lemmas.Bool.{and_parts, cond_both, leb-true}
 use Rattle.qq_base.specs.declared.ids.NodeId.{NodeId}
 use Rattle.qq_script_lines.specs.Numbers.{is_within, number_in, number_of, within}
 use Rattle.clap.specs.Words.{Row, Text, first_of}
-use Rattle.qq_words.specs.Options.{dump_in, dump_of, names_queues_twice, number_or, options_in, with_numbers}
+use Rattle.qq_words.specs.Options.{drill_in, drill_of, dump_in, dump_of, names_queues_twice, number_or, options_in, with_numbers}
 use Rattle.qq_words.specs.Words.{command_in, is_barred, parsed, read_words}
 use Rattle.qq_words.specs.declared.commands.Command.{Command}
 use Rattle.qq_words.specs.declared.commands.Command.TheVariants as commands
-use Rattle.qq_words.specs.declared.counts.TheConstants.{GROUP, NODES, NODES_MOST, QUEUES, QUEUES_MOST}
+use Rattle.qq_words.specs.declared.counts.TheConstants.{DRILL_NODES, DRILLS_MOST, GROUP, NODES, NODES_MOST, QUEUES, QUEUES_MOST}
 use Rattle.qq_words.specs.declared.options.Options.{Options}
 use Rattle.qq_words.specs.declared.options.TheConstants.{LOG_BYTES, LOG_BYTES_LEAST, LOG_BYTES_MOST}
 
@@ -28,6 +28,7 @@ AreWithin options =
 abbrev IsSound : Command → Type 0
 IsSound (commands.Script options) = AreWithin options
 IsSound (commands.Dump root node) = (1 ≤ node.0) × (node.0 ≤ 7)
+IsSound (commands.Drill number nodes) = (1 ≤ number) × (number ≤ 1000000000) × (1 ≤ nodes) × (nodes ≤ 7)
 
 number-within : (first last : ℕ) (o : Option ℕ) → IfSome (within first last o) (IsWithin first last)
 number-within first last None = tt
@@ -79,14 +80,30 @@ dump-sound None k so = tt
 dump-sound (Some root) None so = tt
 dump-sound (Some root) (Some k) so = so
 
+drill-within_most : (o : Option Text) → IfSome (option_and_then (number_in 1 DRILLS_MOST) o) (IsWithin 1 1000000000)
+drill-within_most None = tt
+drill-within_most (Some word) = number-within 1 1000000000 (number_of word)
+
+drill-sound : (number nodes : Option ℕ) → IfSome number (IsWithin 1 1000000000) → IfSome nodes (IsWithin 1 7)
+    → IfSome (drill_of number nodes) IsSound
+drill-sound None nodes a b = tt
+drill-sound (Some number) None a b = tt
+drill-sound (Some number) (Some nodes) a b = (a.0, a.1, b.0, b.1)
+
 command-sound : (found : Text × List Row) → IfSome (command_in found) IsSound
 command-sound found =
     cond_both (bytes_eq found.0 (codes "script")) (option_map commands.Script (options_in found.1)) _
     (λ o. IfSome o IsSound)
     (λ is. script-sound (options_in found.1) (options-within found.1))
-    (λ isnt. cond_both (bytes_eq found.0 (codes "dump")) (dump_in found.1) None (λ o. IfSome o IsSound)
+    (λ isnt. cond_both (bytes_eq found.0 (codes "dump")) (dump_in found.1) _ (λ o. IfSome o IsSound)
     (λ is. dump-sound (first_of (codes "root") found.1) _ (node-within (first_of (codes "node") found.1)))
-    (λ isnt. tt))
+    (λ isnt. cond_both (bytes_eq found.0 (codes "drill")) (drill_in found.1) None (λ o. IfSome o IsSound)
+    (λ is.
+    drill-sound (option_and_then (number_in 1 DRILLS_MOST) (first_of (codes "number") found.1))
+    (number_or DRILL_NODES 1 NODES_MOST (first_of (codes "nodes") found.1))
+    (drill-within_most (first_of (codes "number") found.1))
+    (or-within DRILL_NODES 1 7 (first_of (codes "nodes") found.1) (omega arith, omega arith)))
+    (λ isnt. tt)))
 
 found-sound : (o : Option (Text × List Row)) → IfSome (option_and_then command_in o) IsSound
 found-sound None = tt
@@ -105,3 +122,7 @@ script-within words options is = subst (λ (o : Option Command). IfSome o IsSoun
 pub dump-within : (words : List Text) (root : Text) (node : NodeId)
     → read_words words ≡ Some (commands.Dump root node) → (1 ≤ node.0) × (node.0 ≤ 7)
 dump-within words root node is = subst (λ (o : Option Command). IfSome o IsSound) is (words-sound words)
+
+pub drill-within : (words : List Text) (number nodes : ℕ) → read_words words ≡ Some (commands.Drill number nodes)
+    → (1 ≤ number) × (number ≤ 1000000000) × (1 ≤ nodes) × (nodes ≤ 7)
+drill-within words number nodes is = subst (λ (o : Option Command). IfSome o IsSound) is (words-sound words)

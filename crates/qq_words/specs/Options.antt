@@ -6,7 +6,7 @@ use Rattle.qq_script_lines.specs.Numbers.{number_in}
 use Rattle.clap.specs.Words.{Row, Text, first_of}
 use Rattle.qq_words.specs.declared.commands.Command.{Command}
 use Rattle.qq_words.specs.declared.commands.Command.TheVariants as commands
-use Rattle.qq_words.specs.declared.counts.TheConstants.{NODES_MOST, NODES, GROUP, QUEUES, QUEUES_MOST}
+use Rattle.qq_words.specs.declared.counts.TheConstants.{NODES_MOST, NODES, GROUP, QUEUES, QUEUES_MOST, DRILL_NODES, DRILLS_MOST}
 use Rattle.qq_words.specs.declared.options.Options.{Options}
 use Rattle.qq_words.specs.declared.options.TheConstants.{LOG_BYTES, LOG_BYTES_LEAST, LOG_BYTES_MOST}
 
@@ -56,3 +56,12 @@ dump_of _ _ = None
 abbrev pub dump_in : List Row → Option Command
 dump_in rows = dump_of (first_of (codes "root") rows)
     (option_and_then (number_in 1 NODES_MOST) (first_of (codes "node") rows))
+
+abbrev pub drill_of : (number nodes : Option ℕ) → Option Command
+drill_of (Some number) (Some nodes) = Some (commands.Drill number nodes)
+drill_of _ _ = None
+
+-- its number is required
+abbrev pub drill_in : List Row → Option Command
+drill_in rows = drill_of (option_and_then (number_in 1 DRILLS_MOST) (first_of (codes "number") rows))
+    (number_or DRILL_NODES 1 NODES_MOST (first_of (codes "nodes") rows))

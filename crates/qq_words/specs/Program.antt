@@ -13,6 +13,10 @@ abbrev pub with_flag : App → Text → App
 with_flag command name =
     with_rule command (record (new_rule name) { long = Some name; action = Some SetTrue })
 
+-- a word that stands alone, once at most
+abbrev pub with_word : App → Text → App
+with_word command name = with_rule command (new_rule name)
+
 abbrev pub script : App
 script =
     let nodes = with_option (new_app (codes "script")) (codes "nodes") in
@@ -26,14 +30,19 @@ script =
 abbrev pub dump : App
 dump = with_option (with_option (new_app (codes "dump")) (codes "root")) (codes "node")
 
+abbrev pub drill : App
+drill = with_option (with_word (new_app (codes "drill")) (codes "number")) (codes "nodes")
+
 -- A command comes first, and nobody asks for help.
+abbrev pub top : App
+top = on_top (λ top. record top {
+  no_binary_name = true;
+  disable_help_flag = true;
+  disable_help_subcommand = true;
+  disable_version_flag = true;
+  subcommand_required = true;
+}) (new_app (codes "qq"))
+
 abbrev pub program : App
 program =
-    let top = on_top (λ top. record top {
-      no_binary_name = true;
-      disable_help_flag = true;
-      disable_help_subcommand = true;
-      disable_version_flag = true;
-      subcommand_required = true;
-    }) (new_app (codes "qq")) in
-    with_subcommand (with_subcommand top script.top) dump.top
+    with_subcommand (with_subcommand (with_subcommand top script.top) dump.top) drill.top

@@ -6,7 +6,7 @@ use Rattle.std.specs.Str.{bytes_eq}
 use Rattle.clap.specs.Words.{Kinds, Row, Text, fault_of, subcommand_of}
 use Rattle.qq_words.specs.declared.commands.Command.{Command}
 use Rattle.qq_words.specs.declared.commands.Command.TheVariants as commands
-use Rattle.qq_words.specs.Options.{options_in, dump_in}
+use Rattle.qq_words.specs.Options.{drill_in, dump_in, options_in}
 use Rattle.qq_words.specs.Program.{program}
 
 -- `clap` takes an empty word and `-` as values, and `--` as the end of the options. The program takes none of them.
@@ -26,6 +26,7 @@ abbrev pub command_in : Text × List Row → Option Command
 command_in found =
     if bytes_eq found.0 (codes "script") then option_map commands.Script (options_in found.1)
     else if bytes_eq found.0 (codes "dump") then dump_in found.1
+    else if bytes_eq found.0 (codes "drill") then drill_in found.1
     else None
 
 unfoldable pub read_words : List Text → Option Command

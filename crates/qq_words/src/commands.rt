@@ -1,15 +1,16 @@
 ghost use Rattle.std.specs.Prelude.{◌≡◌, IfOk, IsOkUnless, map, string_bytes};
 ghost use Rattle.std.specs.List.{list_any};
 ghost use Rattle.clap.specs.Words.{found_of, rows_of};
-ghost use Rattle.qq_words.specs.Options.{dump_in};
+ghost use Rattle.qq_words.specs.Options.{drill_in, dump_in};
 ghost use Rattle.qq_words.specs.Words.{command_in, is_barred, read_words};
 
-use crate::counts::NodeCount;
+use crate::counts::{DRILLS_MOST, NodeCount};
 use crate::options::{Options, options_in};
 use crate::parse::parse;
-use crate::values::{text_of, value_of};
+use crate::values::{nodes_of, text_of, value_of};
 use clap::ArgMatches;
 use qq_base::{Memory, NodeId, Text};
+use qq_script_lines::number_in;
 use std::alloc::Global;
 
 /// What the program is to do.
@@ -22,6 +23,12 @@ pub enum Command {
         /// The folder that has the nodes' files.
         root: Text,
         node: NodeId,
+    },
+    /// To run the lines that are drawn from a number.
+    Drill {
+        /// From 1 to `DRILLS_MOST`.
+        number: u64,
+        nodes: NodeCount,
     },
 }
 
@@ -61,6 +68,21 @@ fn dump_in(alloc: Global, matches: &ArgMatches<'_>) -> Result<Option<Command>, M
     }
 }
 
+fn drill_in(matches: &ArgMatches<'_>) -> Option<Command>
+    ensures { result ≡ drill_in (rows_of (found_of matches.now)) }
+{
+    let Some(word) = value_of(matches, "number") else {
+        return None;
+    };
+    let Some(number) = number_in(1, DRILLS_MOST, word) else {
+        return None;
+    };
+    match nodes_of(matches, "nodes", NodeCount::drill_nodes()) {
+        Some(nodes) => Some(Command::Drill { number, nodes }),
+        None => None,
+    }
+}
+
 fn command_in(
     alloc: Global,
     name: &str,
@@ -76,6 +98,7 @@ fn command_in(
             None => Ok(None),
         },
         "dump" => dump_in(alloc, matches),
+        "drill" => Ok(drill_in(matches)),
         _ => Ok(None),
     }
 }
@@ -87,6 +110,7 @@ fn command_in(
 ///   which says itself what `--queues` and `--group` would, `--ignore-policies`, `--root DIR`, and `--log-bytes N`,
 ///   from 65,536 to 67,108,864.
 /// - `dump`: `--root DIR` and `--node N`, both of them.
+/// - `drill`: a number from 1 to 1,000,000,000, before or after `--nodes N`.
 ///
 /// The clause `ok` has what the words say; None where they say anything else.
 #[tactic(auto, unfolding(crate::specs::Words::read_words))]

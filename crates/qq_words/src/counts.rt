@@ -19,6 +19,12 @@ pub const QUEUES: u32 = 1;
 /// The most queues that a script may have.
 pub const QUEUES_MOST: u64 = 1_024;
 
+/// How many nodes a drill has, where the words don't say it.
+pub const DRILL_NODES: u8 = 3;
+
+/// The greatest number of a drill.
+pub const DRILLS_MOST: u64 = 1_000_000_000;
+
 /// A number of nodes, from 1 to `NODES_MOST`.
 #[derive(Clone, Copy)]
 pub struct NodeCount {
@@ -63,6 +69,15 @@ impl NodeCount {
         ensures { result ≡ GROUP }
     {
         NodeCount { number: GROUP }
+    }
+
+    /// Where they don't say how many nodes a drill has.
+    pub fn drill_nodes() -> NodeCount
+        ensures { result ≡ DRILL_NODES }
+    {
+        NodeCount {
+            number: DRILL_NODES,
+        }
     }
 
     /// It as a number.

@@ -63,6 +63,11 @@ pub fn options_stand_in_any_order()
         })) }
     ensures dump { read_words (codes "dump" ∷ codes "--node" ∷ codes "7" ∷ codes "--root=-d" ∷ [])
         ≡ Some (commands.Dump (codes "-d") (record { 0 = 7 })) }
+    ensures drill { read_words (codes "drill" ∷ codes "7" ∷ []) ≡ Some (commands.Drill 7 3) }
+    ensures drill_last { read_words (codes "drill" ∷ codes "--nodes" ∷ codes "5" ∷ codes "1000000000"
+        ∷ []) ≡ Some (commands.Drill 1000000000 5) }
+    ensures drill_first { read_words (codes "drill" ∷ codes "1" ∷ codes "--nodes=7" ∷ [])
+        ≡ Some (commands.Drill 1 7) }
 {}
 
 /// A law: some words say nothing.
@@ -104,6 +109,14 @@ pub fn other_words_are_refused()
     ensures no_root { read_words (codes "dump" ∷ codes "--node=1" ∷ []) ≡ None }
     ensures no_dumped { read_words (codes "dump" ∷ codes "--root=d" ∷ []) ≡ None }
     ensures dumped { read_words (codes "dump" ∷ codes "--root=d" ∷ codes "--node=8" ∷ []) ≡ None }
+    ensures no_drill { read_words (codes "drill" ∷ []) ≡ None }
+    ensures two_drills { read_words (codes "drill" ∷ codes "1" ∷ codes "2" ∷ []) ≡ None }
+    ensures drill_zero { read_words (codes "drill" ∷ codes "0" ∷ []) ≡ None }
+    ensures drill_digits { read_words (codes "drill" ∷ codes "07" ∷ []) ≡ None }
+    ensures drills { read_words (codes "drill" ∷ codes "1000000001" ∷ []) ≡ None }
+    ensures drilled { read_words (codes "drill" ∷ codes "7" ∷ codes "--nodes=8" ∷ []) ≡ None }
+    ensures drill_queues { read_words (codes "drill" ∷ codes "7" ∷ codes "--queues" ∷ codes "2" ∷ [])
+        ≡ None }
 {}
 
 /// A law: what words say is within the limits.
@@ -115,4 +128,7 @@ pub fn options_are_within_limits()
         × (65536 ≤ options.log_bytes) × (options.log_bytes ≤ 67108864) }
     ensures dump { (words : List (List ℕ)) (root : List ℕ) (node : NodeId)
         → read_words words ≡ Some (commands.Dump root node) → (1 ≤ node.0) × (node.0 ≤ 7) }
+    ensures drill { (words : List (List ℕ)) (number nodes : ℕ)
+        → read_words words ≡ Some (commands.Drill number nodes)
+        → (1 ≤ number) × (number ≤ 1000000000) × (1 ≤ nodes) × (nodes ≤ 7) }
 {}

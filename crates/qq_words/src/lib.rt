@@ -11,6 +11,8 @@ mod program;
 mod values;
 
 pub use commands::{Command, read_words};
-pub use counts::{GROUP, NODES, NODES_MOST, NodeCount, QUEUES, QUEUES_MOST, QueueCount};
+pub use counts::{
+    DRILL_NODES, DRILLS_MOST, GROUP, NODES, NODES_MOST, NodeCount, QUEUES, QUEUES_MOST, QueueCount,
+};
 pub use laws::{options_are_within_limits, options_stand_in_any_order, other_words_are_refused};
 pub use options::{LOG_BYTES, LOG_BYTES_LEAST, LOG_BYTES_MOST, Options};

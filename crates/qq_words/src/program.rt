@@ -1,7 +1,7 @@
 ghost use Rattle.std.specs.Prelude.{◌≡◌, IfOk, false};
-ghost use Rattle.clap.specs.Words.{app_of, new_app};
+ghost use Rattle.clap.specs.Words.{app_of, new_app, with_subcommand};
 ghost use Rattle.clap.specs.declared.builder.command.Command.TheViews.{out-Command};
-ghost use Rattle.qq_words.specs.Program.{dump, program, script, with_flag, with_option};
+ghost use Rattle.qq_words.specs.Program.{drill, dump, program, script, top, with_flag, with_option, with_word};
 
 use clap::{Arg, ArgAction, Command};
 use std::alloc::{AllocError, Global};
@@ -38,6 +38,18 @@ fn with_flag<'a>(
     command.arg(Arg::new(alloc, name).long(name).action(ArgAction::SetTrue))
 }
 
+fn with_word<'a>(
+    alloc: Global,
+    command: Command<'a>,
+    name: &'a str,
+) -> Result<Command<'a>, AllocError>
+    requires { (out-Command command).has_globals ≡ false }
+    ensures app { IfOk result (λ new. app_of new ≡ with_word (app_of command.entry) name.entry.now) }
+    ensures local { IfOk result (λ new. (out-Command new).has_globals ≡ false) }
+{
+    command.arg(Arg::new(alloc, name))
+}
+
 fn script<'a>(alloc: Global) -> Result<Command<'a>, AllocError>
     ensures app { IfOk result (λ command. app_of command ≡ script) }
     ensures local { IfOk result (λ command. (out-Command command).has_globals ≡ false) }
@@ -61,18 +73,44 @@ fn dump<'a>(alloc: Global) -> Result<Command<'a>, AllocError>
     with_option(alloc, dump, "node")
 }
 
-/// The program's commands, with their options.
-pub fn program<'a>(alloc: Global) -> Result<Command<'a>, AllocError>
-    ensures { IfOk result (λ command. app_of command ≡ program) }
+fn drill<'a>(alloc: Global) -> Result<Command<'a>, AllocError>
+    ensures app { IfOk result (λ command. app_of command ≡ drill) }
+    ensures local { IfOk result (λ command. (out-Command command).has_globals ≡ false) }
 {
-    let script = script(alloc)?;
-    let dump = dump(alloc)?;
+    let drill = command(alloc, "drill");
+    let drill = with_word(alloc, drill, "number")?;
+    with_option(alloc, drill, "nodes")
+}
+
+fn with_subcommand<'a>(command: Command<'a>, other: Command<'a>) -> Result<Command<'a>, AllocError>
+    requires { (out-Command other).has_globals ≡ false }
+    ensures { IfOk result (λ new. app_of new
+        ≡ with_subcommand (app_of command.entry) (app_of other.entry).top) }
+{
+    command.subcommand(other)
+}
+
+// A command comes first, and nobody asks for help.
+fn top<'a>(alloc: Global) -> Command<'a>
+    ensures { app_of result ≡ top }
+{
     Command::new(alloc, "qq")
         .no_binary_name(true)
         .disable_help_flag(true)
         .disable_help_subcommand(true)
         .disable_version_flag(true)
         .subcommand_required(true)
-        .subcommand(script)?
-        .subcommand(dump)
+}
+
+/// The program's commands, with their options.
+pub fn program<'a>(alloc: Global) -> Result<Command<'a>, AllocError>
+    ensures { IfOk result (λ command. app_of command ≡ program) }
+{
+    let script = script(alloc)?;
+    let dump = dump(alloc)?;
+    let drill = drill(alloc)?;
+    let with_script = with_subcommand(top(alloc), script)?;
+    let with_dump = with_subcommand(with_script, dump)?;
+    let program = with_subcommand(with_dump, drill)?;
+    Ok(program)
 }

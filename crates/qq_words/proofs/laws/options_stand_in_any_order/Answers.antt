@@ -26,3 +26,15 @@ returns-clause-files c = refl
 pub returns-clause-dump : goal.returns-clause-dump
 unfolding read_words clap_on_literals
 returns-clause-dump c = refl
+
+pub returns-clause-drill : goal.returns-clause-drill
+unfolding read_words clap_on_literals
+returns-clause-drill c = refl
+
+pub returns-clause-drill_last : goal.returns-clause-drill_last
+unfolding read_words clap_on_literals
+returns-clause-drill_last c = refl
+
+pub returns-clause-drill_first : goal.returns-clause-drill_first
+unfolding read_words clap_on_literals
+returns-clause-drill_first c = refl

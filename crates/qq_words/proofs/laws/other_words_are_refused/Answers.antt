@@ -130,3 +130,31 @@ returns-clause-no_dumped c = refl
 pub returns-clause-dumped : goal.returns-clause-dumped
 unfolding read_words clap_on_literals
 returns-clause-dumped c = refl
+
+pub returns-clause-no_drill : goal.returns-clause-no_drill
+unfolding read_words clap_on_literals
+returns-clause-no_drill c = refl
+
+pub returns-clause-two_drills : goal.returns-clause-two_drills
+unfolding read_words clap_on_literals
+returns-clause-two_drills c = refl
+
+pub returns-clause-drill_zero : goal.returns-clause-drill_zero
+unfolding read_words clap_on_literals
+returns-clause-drill_zero c = refl
+
+pub returns-clause-drill_digits : goal.returns-clause-drill_digits
+unfolding read_words clap_on_literals
+returns-clause-drill_digits c = refl
+
+pub returns-clause-drills : goal.returns-clause-drills
+unfolding read_words clap_on_literals
+returns-clause-drills c = refl
+
+pub returns-clause-drilled : goal.returns-clause-drilled
+unfolding read_words clap_on_literals
+returns-clause-drilled c = refl
+
+pub returns-clause-drill_queues : goal.returns-clause-drill_queues
+unfolding read_words clap_on_literals
+returns-clause-drill_queues c = refl
