@@ -2,6 +2,7 @@ pub mod Ahead
 pub mod Answering
 pub mod Audits
 pub mod Beginnings
+pub mod Checked
 pub mod Closings
 mod ExportRuns
 pub mod Exports
@@ -14,6 +15,7 @@ pub mod Naming
 pub mod Opening
 pub mod Pieces
 pub mod Prefixes
+pub mod Plays
 pub mod PrintedOnce
 pub mod Printing
 pub mod PlainRows

@@ -212,7 +212,7 @@ first-said (row ∷ rows) are =
 
 -- ---- nodes
 
-range-has : (a n k : ℕ) → a ≤ k → k < a + n → Contains (range_with_len a n) k
+pub range-has : (a n k : ℕ) → a ≤ k → k < a + n → Contains (range_with_len a n) k
 range-has a zero k least most = absurd (omega (arith, least, most))
 range-has a (suc n) k least most = elim (cases_lt a k) [
   | inl less ↦
@@ -239,7 +239,7 @@ nodes-said s logs word =
     either (AreNodes (cluster_over s logs)) (bytes_eq word (codes "all")) _ _ tt
     (ok_then (IsNodeOf s) (AreNodes (cluster_over s logs)) (node_of s word) _ (node-said s word) (λ node is. is))
 
-member-in : (node : NodeId) (nodes : List NodeId) → list_any (λ (m : NodeId). m.0 == node.0) nodes ≡ true
+pub member-in : (node : NodeId) (nodes : List NodeId) → list_any (λ (m : NodeId). m.0 == node.0) nodes ≡ true
     → Contains nodes node
 member-in node [] is = absurd (false≢true is)
 member-in node (m ∷ nodes) is = elim (cases_Bool (m.0 == node.0)) [

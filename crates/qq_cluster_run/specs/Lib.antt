@@ -1,10 +1,12 @@
 pub mod Answers
 pub mod Asking
 pub mod Definitions
+pub mod Drilling
 pub mod Endings
 pub mod Inputs
 pub mod Named
 pub mod Pieces
+pub mod Playing
 pub mod Printing
 pub mod Reading
 pub mod Runs

@@ -3,13 +3,16 @@
 
 mod asking;
 mod audit;
+mod checking;
 mod definitions;
+mod drilling;
 mod ending;
 mod examples;
 mod export_laws;
 mod faults;
 mod laws;
 mod named;
+mod playing;
 mod queues;
 mod serving;
 mod setups;
@@ -18,7 +21,9 @@ mod stop;
 
 pub use asking::{ask, read_line, refuse_long_line};
 pub use audit::{Rows, add_audit};
+pub use checking::is_named;
 pub use definitions::{set_up, write_made};
+pub use drilling::{Part, STEPS, part_lines, parts};
 pub use ending::{Ending, LINES_LIMIT};
 pub use examples::worked_scripts_print;
 pub use export_laws::{closing_lines_name_the_fault, exports_are_read_first};
@@ -31,6 +36,7 @@ pub use laws::{
     ended_scripts_did_what_they_print, runs_settle, scripts_are_served, what_was_printed_is_true,
 };
 pub use named::{a_line_names_what_is_there, a_message_may_go_nowhere};
+pub use playing::{Play, drill_setup, summary};
 pub use queues::{audits_are_serial, what_was_printed_is_there_once};
 pub use serving::{idle_lines_print_that, lines_may_be_served, runs_have_a_node};
 pub use setups::{

@@ -1,0 +1,70 @@
+-- What is known of a drill goes on.
+use Rattle.std.proofs.Common.{◌≡◌, ◌+◌, ◌<◌, ◌++◌, ℕ, Bool, true, false, List, [], ◌∷◌, length, refl, sym, ap, subst, ◌∙◌}
+use Rattle.std.specs.Prelude.{if◌then◌else◌}
+use Rattle.sha2.specs.Hashers.{Holds256}
+use Rattle.qq_base.specs.declared.ids.ConsumerId.{ConsumerId}
+use Rattle.qq_taker.specs.declared.handed.Handed.{Handed}
+use Rattle.qq_drill.specs.Drill.{Drill, after_by, after_step, draw_next, hear, is_side_of, next_x}
+use Rattle.qq_drill.specs.declared.draw.Deed.{Deed}
+use Rattle.qq_drill.specs.declared.draw.Deed.TheVariants.{Sends, Gets, Subscribes, Settles, Returns, Crashes, Ticks}
+use Rattle.qq_drill.specs.declared.draw.Draw.{Draw}
+use Rattle.qq_cluster_run.specs.Drilling.{Known, after_part, begin_part, hear_each, tell}
+use Rattle.qq_cluster_run.specs.Playing.{Knows}
+use Rattle.qq_cluster_run.specs.declared.drilling.Part.{Part}
+use Rattle.qq_cluster_run.specs.declared.drilling.Part.TheVariants.{Step, Restart, Elect, Resend}
+use Rattle.qq_cluster_run.specs.declared.playing.Play.{Play}
+
+-- ---- the nodes stay as many
+
+either-nodes : (b : Bool) (x y s : Drill) → x.nodes ≡ s.nodes → y.nodes ≡ s.nodes → (if b then x else y).nodes ≡ s.nodes
+either-nodes true x y s one two = one
+either-nodes false x y s one two = two
+
+hear-nodes : (id : ConsumerId) (delivery : ℕ) (s : Drill) → (hear id delivery s).nodes ≡ s.nodes
+hear-nodes id delivery s =
+    either-nodes (is_side_of id 1) _ _ s refl (either-nodes (is_side_of id 2) _ _ s refl
+    (either-nodes (is_side_of id 3) _ _ s refl (either-nodes (is_side_of id 4) _ _ s refl refl)))
+
+each-nodes : (list : List Handed) (s : Drill) → (hear_each list s).nodes ≡ s.nodes
+each-nodes [] s = refl
+each-nodes (h ∷ list) s = each-nodes list (hear h.consumer h.delivery.id s) ∙ hear-nodes h.consumer h.delivery.id s
+
+by-nodes : (deed : Deed) (d : Draw) (s : Drill) → (after_by deed d s).nodes ≡ s.nodes
+by-nodes Sends d s = refl
+by-nodes Gets d s = refl
+by-nodes Subscribes d s = refl
+by-nodes Settles d s = refl
+by-nodes Returns d s = refl
+by-nodes Crashes d s = refl
+by-nodes Ticks d s = refl
+
+part-nodes : (part : Part) (s : Drill) → (after_part part s).nodes ≡ s.nodes
+part-nodes (Step number) s =
+    let d : Draw = draw_next s in by-nodes d.deed d (record s { x = next_x s.x })
+part-nodes Restart s = refl
+part-nodes (Elect queue node) s = refl
+part-nodes Resend s = refl
+
+-- ---- what is known
+
+pub has-nodes : (play : Play) (k : Known) → Knows play k → 0 < play.drill.nodes
+has-nodes play k so = subst (λ (s : Drill). 0 < s.nodes) (sym so.drill) so.some
+
+pub begun : (old new : Play) (k : Known) (part : Part) → Knows old k → new.drill ≡ after_part part old.drill
+    → new.digest ≡ old.digest → new.delivered ≡ old.delivered → Knows new (begin_part part k)
+begun old new k part so drill digest delivered = record {
+  drill = drill ∙ ap (after_part part) so.drill;
+  digest = subst (λ (d : _). Holds256 d k.text) (sym digest) so.digest;
+  delivered = delivered ∙ so.delivered;
+  some = subst (λ (n : ℕ). 0 < n) (sym (part-nodes part k.drill)) so.some;
+}
+
+pub told : (old new : Play) (k : Known) (list : List Handed) (text : List ℕ) → Knows old k
+    → new.drill ≡ hear_each list old.drill → (Holds256 old.digest k.text → Holds256 new.digest (k.text ++ text))
+    → new.delivered ≡ old.delivered + length list → Knows new (tell list text k)
+told old new k list text so drill digest delivered = record {
+  drill = drill ∙ ap (hear_each list) so.drill;
+  digest = digest so.digest;
+  delivered = delivered ∙ ap (λ (n : ℕ). n + length list) so.delivered;
+  some = subst (λ (n : ℕ). 0 < n) (sym (each-nodes list k.drill)) so.some;
+}

@@ -1,0 +1,126 @@
+//! What a drill has shown so far, and the line that is written of it in the end.
+ghost use Rattle.hex.specs.Hex.{encode_lower};
+ghost use Rattle.std.specs.Prelude.{◌≡◌, ◌<◌, ◌++◌, take, string_bytes, IfOk, IsOkUnless, OnOk};
+ghost use Rattle.qq_setup.specs.Setup.{state_of};
+ghost use Rattle.qq_defs.specs.Runnable.{IsRunnable};
+ghost use Rattle.qq_drill.specs.Drill.{new_drill};
+ghost use Rattle.qq_cluster_run.specs.Drilling.{Known, after_part, begin_part, drill_setup, first_known, hear_each, part_lines, summary, tell};
+ghost use Rattle.qq_cluster_run.specs.Playing.{Knows};
+
+use crate::drilling::{Part, part_lines};
+use qq_base::Memory;
+use qq_defs::setups_may_be_run;
+use qq_drill::Drill;
+use qq_script_lines::ScriptLine;
+use qq_setup::Setup;
+use qq_taker::Handed;
+use qq_words::{LOG_BYTES, NodeCount};
+use sha2::{Digest, Sha256};
+use std::alloc::Global;
+
+/// A drill as far as it has come.
+#[derive(Drop)]
+pub struct Play {
+    pub drill: Drill,
+    /// Of what was printed.
+    pub digest: Sha256,
+    /// How many deliveries were printed.
+    pub delivered: u64,
+}
+
+/// Four queues of three members over so many nodes, in memory.
+pub fn drill_setup(alloc: Global, nodes: NodeCount) -> Result<Setup, Memory>
+    ensures ok { IfOk result (λ setup. state_of setup ≡ drill_setup nodes) }
+    ensures runs { IfOk result (λ setup. IsRunnable (state_of setup)) }
+    ensures want { IsOkUnless result Memory.Want }
+{
+    setups_may_be_run();
+    Setup::plain(alloc, nodes.number(), 3, 4, LOG_BYTES)
+}
+
+// Deliveries were printed, in order.
+fn hear_each(drill: &mut Drill, list: &[Handed]) -> Result<(), Memory>
+    ensures ok { OnOk result (drill.new ≡ hear_each list.now drill.old) }
+    ensures want { IsOkUnless result Memory.Want }
+{
+    for handed in list {
+        drill.hear(handed.consumer, handed.delivery.id)?;
+    }
+    Ok(())
+}
+
+impl Play {
+    /// A drill of this number over so many nodes, of which nothing was printed.
+    pub fn new(alloc: Global, number: u64, nodes: u8) -> Result<Self, Memory>
+        requires { 0 < nodes }
+        ensures ok { IfOk result (λ play. Knows play (first_known number nodes)) }
+        ensures want { IsOkUnless result Memory.Want }
+    {
+        let drill = Drill::new(alloc, number, nodes)?;
+        Ok(Play {
+            drill,
+            digest: Sha256::new(),
+            delivered: 0,
+        })
+    }
+
+    /// The lines of the next part.
+    pub fn begin_part(
+        &mut self,
+        alloc: Global,
+        part: Part,
+        led: bool,
+    ) -> Result<Vec<ScriptLine>, Memory>
+        requires { (k : Known) × Knows self.old k }
+        ensures lines { (k : Known) → Knows self.old k →
+            IfOk result (λ lines. lines.items ≡ part_lines part led k.drill) }
+        ensures ok { (k : Known) → Knows self.old k →
+            OnOk result (Knows self.new (begin_part part k)) }
+        ensures want { IsOkUnless result Memory.Want }
+    {
+        part_lines(alloc, &mut self.drill, part, led)
+    }
+
+    /// A text was printed, with these deliveries.
+    pub fn tell(&mut self, list: &[Handed], text: &[u8]) -> Result<(), Memory>
+        ensures ok { (k : Known) → Knows self.old k →
+            OnOk result (Knows self.new (tell list.now text.now k)) }
+        ensures want { IsOkUnless result Memory.Want }
+    {
+        let Some(delivered) = self.delivered.checked_add(list.len() as u64) else {
+            return Err(Memory::Want);
+        };
+        hear_each(&mut self.drill, list)?;
+        self.digest.update(text);
+        self.delivered = delivered;
+        Ok(())
+    }
+}
+
+// The first 16 hexadecimal digits of a digest.
+fn first_digits(alloc: Global, digest: [u8; 32]) -> Result<String, Memory>
+    ensures ok { IfOk result (λ text. string_bytes text ≡ encode_lower (take 8 digest)) }
+    ensures want { IsOkUnless result Memory.Want }
+{
+    Ok(hex::encode(alloc, &digest[..8])?)
+}
+
+/// The line that is written of a drill.
+pub fn summary(
+    alloc: Global,
+    number: u64,
+    rows: u64,
+    confirmed: u64,
+    delivered: u64,
+    digest: [u8; 32],
+) -> Result<String, Memory>
+    ensures ok { IfOk result (λ text.
+        string_bytes text ≡ summary number rows confirmed delivered digest) }
+    ensures want { IsOkUnless result Memory.Want }
+{
+    let digits = first_digits(alloc, digest)?;
+    let digits = digits.as_str();
+    Ok(
+        format!(in alloc; "drill {number} rows {rows} confirmed {confirmed} delivered {delivered} digest {digits}\n")?,
+    )
+}
