@@ -4,7 +4,7 @@ use Rattle.std.specs.Prelude.{if◌then◌else◌}
 use Rattle.sha2.specs.Hashers.{Holds256}
 use Rattle.qq_base.specs.declared.ids.ConsumerId.{ConsumerId}
 use Rattle.qq_taker.specs.declared.handed.Handed.{Handed}
-use Rattle.qq_drill.specs.Drill.{Drill, after_by, after_step, draw_next, hear, is_side_of, next_x}
+use Rattle.qq_drill.specs.Drill.{Drill, after_by, after_step, draw_next, hear, is_side_of}
 use Rattle.qq_drill.specs.declared.draw.Deed.{Deed}
 use Rattle.qq_drill.specs.declared.draw.Deed.TheVariants.{Sends, Gets, Subscribes, Settles, Returns, Crashes, Ticks}
 use Rattle.qq_drill.specs.declared.draw.Draw.{Draw}
@@ -40,7 +40,7 @@ by-nodes Ticks d s = refl
 
 part-nodes : (part : Part) (s : Drill) → (after_part part s).nodes ≡ s.nodes
 part-nodes (Step number) s =
-    let d : Draw = draw_next s in by-nodes d.deed d (record s { x = next_x s.x })
+    by-nodes (draw_next s).deed (draw_next s) _
 part-nodes Restart s = refl
 part-nodes (Elect queue node) s = refl
 part-nodes Resend s = refl

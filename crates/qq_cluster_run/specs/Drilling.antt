@@ -1,6 +1,5 @@
 -- A drill as a run: which parts it has, which lines these serve by what was told before, and what is told of it at the end.
 use Rattle.std.specs.Prelude.{◌≡◌, ◌⊎◌, ℕ, ◌+◌, ◌-◌, List, [], ◌∷◌, ◌++◌, length, map, take, Bool, false, ◌&&◌, Option, codes, count_by, if◌then◌else◌}
-use Rattle.std.specs.Fmt.{decimal}
 use Rattle.std.specs.List.{flat_map, range_with_len}
 use Rattle.hex.specs.Hex.{encode_lower}
 use Rattle.sha2.specs.Sha256.{sha256}
@@ -20,6 +19,7 @@ use Rattle.qq_cluster.specs.Cluster.{Setup as ClusterSetup, Cluster, ClusterEven
 use Rattle.qq_cluster.specs.Lines.{IsScript}
 use Rattle.qq_cluster.specs.Queue.{audit_rows, has_leader}
 use Rattle.qq_cluster.specs.Texts.{audits_text, text_of}
+use Rattle.qq_cluster_run.specs.Definitions.{counted}
 use Rattle.qq_cluster_run.specs.declared.drilling.Part.{Part}
 use Rattle.qq_cluster_run.specs.declared.drilling.Part.TheVariants.{Step, Restart, Elect, Resend}
 use Rattle.qq_cluster_run.specs.declared.drilling.TheConstants.{STEPS}
@@ -127,12 +127,16 @@ all_rows setup c = flat_map (λ place. audit_rows (c.queue place)) setup.places
 abbrev pub is_confirmed_row : AuditRow → Bool
 is_confirmed_row row = row.fresh && is_confirmed row.answer
 
--- the first 16 hexadecimal digits of the digest of all that the script with these lines prints
+-- the first 16 hexadecimal digits of a digest
+abbrev pub first_digits : (digest : List ℕ) → List ℕ
+first_digits digest = encode_lower (take 8 digest)
+
 abbrev pub summary : (number rows confirmed delivered : ℕ) → (digest : List ℕ) → List ℕ
 summary number rows confirmed delivered digest =
-    codes "drill " ++ decimal number ++ codes " rows " ++ decimal rows ++ codes " confirmed " ++ decimal confirmed
-    ++ codes " delivered " ++ decimal delivered ++ codes " digest " ++ encode_lower (take 8 digest) ++ codes "\n"
+    counted (codes "drill ") number ++ counted (codes " rows ") rows ++ counted (codes " confirmed ") confirmed
+    ++ counted (codes " delivered ") delivered ++ codes " digest " ++ first_digits digest ++ codes "\n"
 
+-- of all that the script with these lines prints
 abbrev pub drill_text : (number : ℕ) → ClusterSetup → Cluster → Known → List ℕ
 drill_text number setup c k =
     let rows : List AuditRow = all_rows setup c in

@@ -2,6 +2,7 @@ pub mod Answers
 pub mod Asking
 pub mod Definitions
 pub mod Drilling
+pub mod Drills
 pub mod Endings
 pub mod Inputs
 pub mod Named

@@ -87,8 +87,8 @@ pub fn set_up<S: Shelf>(alloc: Global, options: &Options, shelf: &mut S) -> Resu
     }
 }
 
-// A count behind its name.
-fn push_count(line: &mut Vec<u8>, name: &str, count: u64) -> Result<(), Memory>
+/// A count behind its name.
+pub(crate) fn push_count(line: &mut Vec<u8>, name: &str, count: u64) -> Result<(), Memory>
     ensures ok { OnOk result (line.new.items ≡ line.old.items ++ counted name.now count) }
     ensures want { IsOkUnless result Memory.Want }
 {

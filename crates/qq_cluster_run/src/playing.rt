@@ -1,16 +1,17 @@
 //! What a drill has shown so far, and the line that is written of it in the end.
-ghost use Rattle.hex.specs.Hex.{encode_lower};
-ghost use Rattle.std.specs.Prelude.{◌≡◌, ◌<◌, ◌++◌, take, string_bytes, IfOk, IsOkUnless, OnOk};
+ghost use Rattle.std.specs.Prelude.{◌≡◌, ◌<◌, ◌++◌, string_bytes, IfOk, IsOkUnless, OnOk};
 ghost use Rattle.qq_setup.specs.Setup.{state_of};
 ghost use Rattle.qq_defs.specs.Runnable.{IsRunnable};
 ghost use Rattle.qq_drill.specs.Drill.{new_drill};
-ghost use Rattle.qq_cluster_run.specs.Drilling.{Known, after_part, begin_part, drill_setup, first_known, hear_each, part_lines, summary, tell};
+ghost use Rattle.qq_cluster_run.specs.Drilling.{Known, after_part, begin_part, drill_setup, first_digits, first_known, hear_each, part_lines, summary, tell};
 ghost use Rattle.qq_cluster_run.specs.Playing.{Knows};
 
+use crate::definitions::push_count;
 use crate::drilling::{Part, part_lines};
 use qq_base::Memory;
 use qq_defs::setups_may_be_run;
 use qq_drill::Drill;
+use qq_script::push_text;
 use qq_script_lines::ScriptLine;
 use qq_setup::Setup;
 use qq_taker::Handed;
@@ -97,9 +98,8 @@ impl Play {
     }
 }
 
-// The first 16 hexadecimal digits of a digest.
 fn first_digits(alloc: Global, digest: [u8; 32]) -> Result<String, Memory>
-    ensures ok { IfOk result (λ text. string_bytes text ≡ encode_lower (take 8 digest)) }
+    ensures ok { IfOk result (λ text. string_bytes text ≡ first_digits digest) }
     ensures want { IsOkUnless result Memory.Want }
 {
     Ok(hex::encode(alloc, &digest[..8])?)
@@ -113,14 +113,19 @@ pub fn summary(
     confirmed: u64,
     delivered: u64,
     digest: [u8; 32],
-) -> Result<String, Memory>
-    ensures ok { IfOk result (λ text.
-        string_bytes text ≡ summary number rows confirmed delivered digest) }
+) -> Result<Vec<u8>, Memory>
+    ensures ok { IfOk result (λ line.
+        line.items ≡ summary number rows confirmed delivered digest) }
     ensures want { IsOkUnless result Memory.Want }
 {
     let digits = first_digits(alloc, digest)?;
-    let digits = digits.as_str();
-    Ok(
-        format!(in alloc; "drill {number} rows {rows} confirmed {confirmed} delivered {delivered} digest {digits}\n")?,
-    )
+    let mut line = Vec::new(alloc);
+    push_count(&mut line, "drill ", number)?;
+    push_count(&mut line, " rows ", rows)?;
+    push_count(&mut line, " confirmed ", confirmed)?;
+    push_count(&mut line, " delivered ", delivered)?;
+    push_text(&mut line, " digest ")?;
+    push_text(&mut line, digits.as_str())?;
+    push_text(&mut line, "\n")?;
+    Ok(line)
 }
