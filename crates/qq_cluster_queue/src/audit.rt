@@ -19,8 +19,8 @@ use qq_raft_queues::MachineQueue;
 use qq_script::{audit_head_text, row_text};
 use std::alloc::Global;
 
-// The row of the next entry, which the machine applies.
-fn next_row(
+/// The row of the next entry, which the machine applies.
+pub(crate) fn next_row(
     alloc: Global,
     machine: &mut MachineQueue,
     index: u64,

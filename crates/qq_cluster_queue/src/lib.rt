@@ -17,6 +17,7 @@ mod judging;
 mod label;
 mod laws;
 mod leaving;
+mod marks;
 mod moves;
 mod opening;
 mod publisher;

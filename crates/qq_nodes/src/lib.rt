@@ -8,6 +8,7 @@ mod disks;
 mod judging;
 mod lines;
 mod logs;
+mod marks;
 mod messages;
 mod new;
 mod node;
