@@ -6,3 +6,5 @@ pub mod Dumping
 pub mod Program
 pub mod Faults
 pub mod Broker
+pub mod Drilling
+pub mod Drills

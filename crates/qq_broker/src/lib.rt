@@ -6,6 +6,8 @@ mod asking;
 mod auditing;
 mod broker;
 mod disk_laws;
+mod drilling;
+mod drills;
 mod dumping;
 mod faults;
 mod laws;

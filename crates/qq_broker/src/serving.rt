@@ -196,7 +196,7 @@ fn asks_gone<T: Taker>(line: &ScriptLine, takers: &Desk<T>) -> bool
 }
 
 // Nodes serve a line whose taker, if it is to give one, is free.
-fn serve_free<Y: Yard, T: Taker>(
+pub(crate) fn serve_free<Y: Yard, T: Taker>(
     alloc: Global,
     setup: &Setup,
     nodes: &mut Nodes<Y::Disk>,

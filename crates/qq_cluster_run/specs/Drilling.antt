@@ -9,13 +9,13 @@ use Rattle.qq_entry.specs.declared.audit.AuditRow.{AuditRow}
 use Rattle.qq_laws.specs.Published.{is_confirmed}
 use Rattle.qq_script_lines.specs.declared.line.ScriptLine.{ScriptLine}
 use Rattle.qq_script_lines.specs.declared.line.ScriptLine.TheVariants.{Pump, Tick}
-use Rattle.qq_session.specs.Shown.{Delivered}
 use Rattle.qq_setup.specs.Members.{members}
 use Rattle.qq_setup.specs.Setup.{SetupState, plain_setup}
 use Rattle.qq_taker.specs.declared.handed.Handed.{Handed}
 use Rattle.qq_words.specs.declared.options.TheConstants.{LOG_BYTES}
 use Rattle.qq_drill.specs.Drill.{Drill, after_step, hear, is_sixteenth, last_restart, new_drill, resends, step_lines}
-use Rattle.qq_cluster.specs.Cluster.{Setup as ClusterSetup, Cluster, ClusterEvent, Of, Printed, all_prints, cluster_after, new_cluster}
+use Rattle.qq_cluster.specs.Cluster.{Setup as ClusterSetup, Cluster, ClusterEvent, all_prints, cluster_after, new_cluster}
+use Rattle.qq_cluster.specs.ClusterLaws.{deliveries_heard}
 use Rattle.qq_cluster.specs.Lines.{IsScript}
 use Rattle.qq_cluster.specs.Queue.{audit_rows, has_leader}
 use Rattle.qq_cluster.specs.Texts.{audits_text, text_of}
@@ -68,14 +68,7 @@ after_part _ s = s
 
 -- ---- what it hears
 
--- the deliveries among what is printed
-abbrev pub heard_of : Printed → List Handed
-heard_of (Of place (Delivered consumer delivery)) = record { consumer = consumer; delivery = delivery } ∷ []
-heard_of _ = []
-
-abbrev pub heard : List Printed → List Handed
-heard printed = flat_map heard_of printed
-
+-- deliveries were printed, in order
 abbrev pub hear_each : List Handed → Drill → Drill
 hear_each [] s = s
 hear_each (h ∷ more) s = hear_each more (hear h.consumer h.delivery.id s)
@@ -97,7 +90,7 @@ tell list text k =
 
 -- events have happened
 abbrev pub know : ClusterSetup → Cluster → List ClusterEvent → Known → Known
-know setup c events k = tell (heard (all_prints setup c events)) (text_of setup c events) k
+know setup c events k = tell (deliveries_heard (all_prints setup c events)) (text_of setup c events) k
 
 abbrev pub begin_part : Part → Known → Known
 begin_part part k = record k { drill = after_part part k.drill }

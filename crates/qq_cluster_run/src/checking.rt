@@ -76,7 +76,8 @@ fn has_place(setup: &Setup, queue: QueueId) -> bool
         .any(|row| row.args.queue.0 == queue.0)
 }
 
-fn is_place(setup: &Setup, queue: QueueId) -> bool
+/// Whether a queue is there.
+pub fn is_place(setup: &Setup, queue: QueueId) -> bool
     ensures { IsTrue result → Contains (map place_of setup.now.queues) queue.0 }
 {
     has_place(setup, queue)

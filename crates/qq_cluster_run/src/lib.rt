@@ -21,7 +21,7 @@ mod stop;
 
 pub use asking::{ask, read_line, refuse_long_line};
 pub use audit::{Rows, add_audit};
-pub use checking::is_named;
+pub use checking::{is_named, is_place};
 pub use definitions::{set_up, write_made};
 pub use drilling::{Part, STEPS, part_lines, parts};
 pub use ending::{Ending, LINES_LIMIT};

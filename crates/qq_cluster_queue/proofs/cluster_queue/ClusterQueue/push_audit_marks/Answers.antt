@@ -10,4 +10,4 @@ returns c =
     audit-shown mark_of (λ count. []) (flat_map mark_of) (λ rows. refl) c.args.self.now c.audit-entries.result.now
     c.args.out.now.items c.args.out.now.items c.push_marks.new.out.items _ c.audit-entries.ensures refl
     (sym (append-nil c.args.out.now.items))
-    (c.in_default.ensures (empty_queue c.args.self.now.args) c.requires.stands)
+    (c.in_default.ensures.ok (empty_queue c.args.self.now.args) c.requires.stands)

@@ -1,0 +1,215 @@
+//! The nodes of a drill serve its parts.
+ghost use Rattle.std.specs.Prelude.{◌≡◌, ◌≤◌, ◌∷◌, [], List, Some, Contains, IfErr, IfOk, IfSome, IsOkUnless, OnOk, map};
+ghost use Rattle.qq_cluster_run.specs.Drilling.{Known, is_led, tell};
+ghost use Rattle.qq_cluster_run.specs.Drills.{StopsNext};
+ghost use Rattle.qq_cluster_run.specs.Playing.{Knows};
+ghost use Rattle.qq_cluster_run.specs.Serving.{Run, cluster_in, setup_in};
+ghost use Rattle.qq_taker.specs.declared.handed.Handed.{Handed};
+ghost use Rattle.qq_broker.specs.Drilling.{IsSilent, LinesServed, LinesStop, PartStops, PartsDone, PartsStop, Plays, ending_at};
+ghost use Rattle.qq_broker.specs.Lives.{Giving};
+ghost use Rattle.qq_broker.specs.Nodes.{Holds, MayRun, Meets};
+
+use crate::serving::serve_free;
+use crate::stopping::step_stop;
+use qq_base::Memory;
+use qq_cluster_queue::Told;
+use qq_cluster_run::{AskStop, Part, Play, is_named, is_place};
+use qq_disk::NodeDisk;
+use qq_nodes::Nodes;
+use qq_ports::Yard;
+use qq_script_lines::ScriptLine;
+use qq_setup::Setup;
+use qq_taker::Taker;
+use std::alloc::Global;
+
+/// What was told goes to the drill.
+pub(crate) fn tell<T: Taker>(
+    alloc: Global,
+    told: &mut Told<T>,
+    play: &mut Play,
+) -> Result<(), Memory>
+    ensures silent { (list : List Handed) → told.old.takers.heard ≡ Some list →
+        OnOk result (IsSilent told.new) }
+    ensures ok { (list : List Handed) (k : Known) → told.old.takers.heard ≡ Some list →
+        Knows play.old k → OnOk result (Knows play.new (tell list told.old.text k)) }
+    ensures want { IsOkUnless result Memory.Want }
+{
+    let Some(heard) = told.take_heard(alloc) else {
+        return Err(Memory::Want);
+    };
+    let text = told.take_text(alloc);
+    play.tell(heard.as_slice(), text.as_slice())?;
+    Ok(())
+}
+
+// Nodes serve a line. One that names what isn't there, which no drill has, is answered as if there were no memory.
+fn play_line<Y: Yard, T: Taker>(
+    alloc: Global,
+    setup: &Setup,
+    nodes: &mut Nodes<Y::Disk>,
+    yard: &mut Y,
+    told: &mut Told<T>,
+    play: &mut Play,
+    line: ScriptLine,
+) -> Result<(), AskStop>
+    requires may { MayRun setup.now }
+    requires plays { (given : Giving Y.Disk) × ((run : Run) × ((k : Known)
+        × Plays given Y.Disk.tells Y.Disk.past Y.Disk.faults setup.now run nodes.old told.old
+        play.old k)) }
+    ensures ok { (given : Giving Y.Disk) (run : Run) (k : Known) →
+        Plays given Y.Disk.tells Y.Disk.past Y.Disk.faults setup.now run nodes.old told.old
+        play.old k →
+        OnOk result (LinesServed given Y.Disk.tells Y.Disk.past Y.Disk.faults setup.now run
+        (line ∷ []) k nodes.new told.new play.new) }
+    ensures cause { (given : Giving Y.Disk) (run : Run) (k : Known) →
+        Plays given Y.Disk.tells Y.Disk.past Y.Disk.faults setup.now run nodes.old told.old
+        play.old k →
+        IfErr result (λ stop. StopsNext (Meets given Y.Disk.tells Y.Disk.past Y.Disk.faults
+        (Y.faults yard.old) (Y.faults yard.new)) (setup_in setup.now run) run.events (line ∷ [])
+        (ending_at stop)) }
+    ensures later { Y.faults yard.old ≤ Y.faults yard.new }
+{
+    let named = is_named(setup, &line);
+    if !named {
+        drop(line);
+        return Err(AskStop::NoMemory);
+    }
+    if let Err(fault) = serve_free::<Y, T>(alloc, setup, nodes, yard, line, told) {
+        return Err(step_stop(alloc, setup, 0, fault));
+    }
+    match tell(alloc, told, play) {
+        Ok(()) => Ok(()),
+        Err(_) => Err(AskStop::NoMemory),
+    }
+}
+
+// Nodes serve lines.
+fn play_lines<Y: Yard, T: Taker>(
+    alloc: Global,
+    setup: &Setup,
+    nodes: &mut Nodes<Y::Disk>,
+    yard: &mut Y,
+    told: &mut Told<T>,
+    play: &mut Play,
+    lines: Vec<ScriptLine>,
+) -> Result<(), AskStop>
+    requires may { MayRun setup.now }
+    requires plays { (given : Giving Y.Disk) × ((run : Run) × ((k : Known)
+        × Plays given Y.Disk.tells Y.Disk.past Y.Disk.faults setup.now run nodes.old told.old
+        play.old k)) }
+    ensures ok { (given : Giving Y.Disk) (run : Run) (k : Known) →
+        Plays given Y.Disk.tells Y.Disk.past Y.Disk.faults setup.now run nodes.old told.old
+        play.old k →
+        OnOk result (LinesServed given Y.Disk.tells Y.Disk.past Y.Disk.faults setup.now run
+        lines.items k nodes.new told.new play.new) }
+    ensures cause { (given : Giving Y.Disk) (run : Run) (k : Known) →
+        Plays given Y.Disk.tells Y.Disk.past Y.Disk.faults setup.now run nodes.old told.old
+        play.old k →
+        IfErr result (LinesStop given Y.Disk.tells Y.Disk.past Y.Disk.faults
+        (Y.faults yard.old) (Y.faults yard.new) setup.now run lines.items) }
+    ensures later { Y.faults yard.old ≤ Y.faults yard.new }
+{
+    'lines: for line in lines {
+        if let Err(stop) = play_line::<Y, T>(alloc, setup, nodes, yard, told, play, line) {
+            return Err(stop);
+        }
+    }
+    Ok(())
+}
+
+// Whether a part's queue has a leader; None where the queue isn't there.
+fn is_led<D: NodeDisk>(setup: &Setup, nodes: &Nodes<D>, part: Part) -> Option<bool>
+    requires { (given : Giving D) × ((run : Run)
+        × Holds given D.tells D.past D.faults setup.now nodes.now run) }
+    ensures { (given : Giving D) (run : Run) →
+        Holds given D.tells D.past D.faults setup.now nodes.now run →
+        IfSome result (λ led. led ≡ is_led part (cluster_in setup.now run)) }
+{
+    match part {
+        Part::Elect { queue, .. } => {
+            if !is_place(setup, queue) {
+                return None;
+            }
+            Some(nodes.has_leader(queue))
+        }
+        Part::Step(_) => Some(false),
+        Part::Restart => Some(false),
+        Part::Resend => Some(false),
+    }
+}
+
+// Nodes do a part.
+fn play_part<Y: Yard, T: Taker>(
+    alloc: Global,
+    setup: &Setup,
+    nodes: &mut Nodes<Y::Disk>,
+    yard: &mut Y,
+    told: &mut Told<T>,
+    play: &mut Play,
+    part: Part,
+) -> Result<(), AskStop>
+    requires may { MayRun setup.now }
+    requires plays { (given : Giving Y.Disk) × ((run : Run) × ((k : Known)
+        × Plays given Y.Disk.tells Y.Disk.past Y.Disk.faults setup.now run nodes.old told.old
+        play.old k)) }
+    ensures ok { (given : Giving Y.Disk) (run : Run) (k : Known) →
+        Plays given Y.Disk.tells Y.Disk.past Y.Disk.faults setup.now run nodes.old told.old
+        play.old k →
+        OnOk result (PartsDone given Y.Disk.tells Y.Disk.past Y.Disk.faults setup.now run
+        (part ∷ []) k nodes.new told.new play.new) }
+    ensures cause { (given : Giving Y.Disk) (run : Run) (k : Known) →
+        Plays given Y.Disk.tells Y.Disk.past Y.Disk.faults setup.now run nodes.old told.old
+        play.old k →
+        IfErr result (PartStops given Y.Disk.tells Y.Disk.past Y.Disk.faults
+        (Y.faults yard.old) (Y.faults yard.new) setup.now run part k) }
+    ensures later { Y.faults yard.old ≤ Y.faults yard.new }
+{
+    let Some(led) = is_led(setup, nodes, part) else {
+        return Err(AskStop::NoMemory);
+    };
+    let lines = match play.begin_part(alloc, part, led) {
+        Ok(lines) => lines,
+        Err(_) => return Err(AskStop::NoMemory),
+    };
+    match play_lines::<Y, T>(alloc, setup, nodes, yard, told, play, lines) {
+        Ok(()) => Ok(()),
+        Err(stop) => Err(stop),
+    }
+}
+
+/// Nodes do parts of a drill, one after another.
+///
+/// - `ok`: what happened is what the parts' lines allow, and the drill knows what they have shown.
+/// - `cause`: why it stopped within a part, after some of its lines.
+pub(crate) fn play_parts<Y: Yard, T: Taker>(
+    alloc: Global,
+    setup: &Setup,
+    nodes: &mut Nodes<Y::Disk>,
+    yard: &mut Y,
+    told: &mut Told<T>,
+    play: &mut Play,
+    parts: &[Part],
+) -> Result<(), AskStop>
+    requires may { MayRun setup.now }
+    requires plays { (given : Giving Y.Disk) × ((run : Run) × ((k : Known)
+        × Plays given Y.Disk.tells Y.Disk.past Y.Disk.faults setup.now run nodes.old told.old
+        play.old k)) }
+    ensures ok { (given : Giving Y.Disk) (run : Run) (k : Known) →
+        Plays given Y.Disk.tells Y.Disk.past Y.Disk.faults setup.now run nodes.old told.old
+        play.old k →
+        OnOk result (PartsDone given Y.Disk.tells Y.Disk.past Y.Disk.faults setup.now run
+        parts.now k nodes.new told.new play.new) }
+    ensures cause { (given : Giving Y.Disk) (run : Run) (k : Known) →
+        Plays given Y.Disk.tells Y.Disk.past Y.Disk.faults setup.now run nodes.old told.old
+        play.old k →
+        IfErr result (PartsStop given Y.Disk.tells Y.Disk.past Y.Disk.faults
+        (Y.faults yard.old) (Y.faults yard.new) setup.now run parts.now k) }
+    ensures later { Y.faults yard.old ≤ Y.faults yard.new }
+{
+    'parts: for part in parts {
+        if let Err(stop) = play_part::<Y, T>(alloc, setup, nodes, yard, told, play, *part) {
+            return Err(stop);
+        }
+    }
+    Ok(())
+}

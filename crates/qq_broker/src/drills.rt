@@ -1,0 +1,250 @@
+//! A drill is run.
+ghost use Rattle.std.specs.Prelude.{◌≡◌, ◌≤◌, ◌++◌, List, ℕ, None, Option, IfErr, IfOk, IsOkUnless, OnOk, count_by, flat_map, length, nat_eq};
+ghost use Rattle.std.specs.Io.KnownBytes.{Appends};
+ghost use Rattle.sha2.specs.Hashers.{Holds256};
+ghost use Rattle.qq_base.specs.Causes.{Rose};
+ghost use Rattle.qq_cluster.specs.Texts.{audits_text};
+ghost use Rattle.qq_cluster_queue.specs.Marks.{mark_of};
+ghost use Rattle.qq_cluster_run.specs.Drilling.{Known, all_rows, drill_text, first_known, parts};
+ghost use Rattle.qq_cluster_run.specs.Drills.{DrillEnds, HasDrilled};
+ghost use Rattle.qq_cluster_run.specs.Playing.{Knows};
+ghost use Rattle.qq_cluster_run.specs.Serving.{Run, cluster_in, setup_in};
+ghost use Rattle.qq_setup.specs.Setup.{state_of};
+ghost use Rattle.qq_broker.specs.Drilling.{PartsStop, Plays};
+ghost use Rattle.qq_broker.specs.Drills.{HasPlayed, HasSummary};
+ghost use Rattle.qq_broker.specs.Lives.{Giving, under};
+ghost use Rattle.qq_broker.specs.Nodes.{Had, Holds, MayRun, Meets};
+
+use crate::drilling::{play_parts, tell};
+use crate::opening::open;
+use crate::program::close;
+use qq_base::Memory;
+use qq_cluster_queue::Told;
+use qq_cluster_run::status::{DONE, WRITE_FAULT};
+use qq_cluster_run::{AskStop, Ending, Part, Play, Stop, drill_setup, parts, summary};
+use qq_disk::NodeDisk;
+use qq_nodes::Nodes;
+use qq_ports::{Sink, Yard, write_all};
+use qq_setup::Setup;
+use qq_taker::{Desk, Taker};
+use qq_words::NodeCount;
+use sha2::{Digest, Sha256};
+use std::alloc::Global;
+
+// The audits of all queues go into a digest, and their rows are marked.
+fn add_audits<D: NodeDisk>(
+    alloc: Global,
+    setup: &Setup,
+    nodes: &Nodes<D>,
+    digest: &mut Sha256,
+    marks: &mut Vec<u8>,
+) -> Result<(), Memory>
+    requires may { MayRun setup.now }
+    requires holds { (given : Giving D) × ((run : Run)
+        × Holds given D.tells D.past D.faults setup.now nodes.now run) }
+    ensures digest { (given : Giving D) (run : Run) (text : List ℕ) →
+        Holds given D.tells D.past D.faults setup.now nodes.now run →
+        Holds256 digest.old text → OnOk result (Holds256 digest.new
+        (text ++ audits_text (setup_in setup.now run) (cluster_in setup.now run))) }
+    ensures marks { (given : Giving D) (run : Run) →
+        Holds given D.tells D.past D.faults setup.now nodes.now run →
+        OnOk result (marks.new.items ≡ marks.old.items
+        ++ flat_map mark_of (all_rows (setup_in setup.now run) (cluster_in setup.now run))) }
+{
+    let rows = setup.queues.as_slice();
+    for row in rows {
+        let mut text = Vec::new(alloc);
+        if let Err(cause) = nodes.audit_text(alloc, row.args.queue, &mut text) {
+            return Err(cause);
+        }
+        digest.update(text.as_slice());
+        if let Err(cause) = nodes.audit_marks(alloc, row.args.queue, marks) {
+            return Err(cause);
+        }
+    }
+    Ok(())
+}
+
+// How many of the marks are 1.
+fn count_ones(marks: &[u8]) -> u64
+    ensures { result ≡ count_by (λ mark. nat_eq mark 1) marks.now }
+{
+    marks.iter().filter(|mark| **mark == 1).count() as u64
+}
+
+// The line that is written of a drill.
+fn finish<D: NodeDisk>(
+    alloc: Global,
+    setup: &Setup,
+    number: u64,
+    nodes: &Nodes<D>,
+    play: Play,
+) -> Result<Vec<u8>, Memory>
+    requires may { MayRun setup.now }
+    requires holds { (given : Giving D) × ((run : Run)
+        × Holds given D.tells D.past D.faults setup.now nodes.now run) }
+    ensures { (given : Giving D) (run : Run) (k : Known) →
+        Holds given D.tells D.past D.faults setup.now nodes.now run → Knows play k →
+        IfOk result (λ line. line.items
+        ≡ drill_text number (setup_in setup.now run) (cluster_in setup.now run) k) }
+{
+    let Play {
+        drill,
+        mut digest,
+        delivered,
+    } = play;
+    drop(drill);
+    let mut marks = Vec::new(alloc);
+    if let Err(cause) = add_audits(alloc, setup, nodes, &mut digest, &mut marks) {
+        return Err(cause);
+    }
+    let rows = marks.len() as u64;
+    let confirmed = count_ones(marks.as_slice());
+    drop(marks);
+    summary(alloc, number, rows, confirmed, delivered, digest.finalize())
+}
+
+// The line of a drill is written, or that there was no memory for it.
+fn write_summary<O: Sink>(output: &mut O, line: Result<Vec<u8>, Memory>) -> u8
+    ensures written { (text : List ℕ) → IfOk line (λ line. line.items ≡ text) →
+        HasSummary result text (O.written output.old) (O.written output.new)
+        (Rose (O.faults output.old) (O.faults output.new)) }
+    ensures later { O.faults output.old ≤ O.faults output.new }
+{
+    match line {
+        Ok(line) => match write_all(output, line.as_slice()) {
+            Ok(()) => DONE,
+            Err(_) => WRITE_FAULT,
+        },
+        Err(_) => close(output, Ending::no_memory()),
+    }
+}
+
+// Nodes that were opened do the parts of a drill, and its line is written.
+fn serve_drill<Y: Yard, T: Taker, O: Sink>(
+    alloc: Global,
+    setup: &Setup,
+    number: u64,
+    parts: &[Part],
+    nodes: &mut Nodes<Y::Disk>,
+    yard: &mut Y,
+    told: &mut Told<T>,
+    play: Play,
+    output: &mut O,
+) -> u8
+    requires may { MayRun setup.now }
+    requires plays { (given : Giving Y.Disk) × ((run : Run) × ((k : Known)
+        × Plays given Y.Disk.tells Y.Disk.past Y.Disk.faults setup.now run nodes.old told.old
+        play k)) }
+    ensures ends { (given : Giving Y.Disk) (run : Run) (k : Known) →
+        Plays given Y.Disk.tells Y.Disk.past Y.Disk.faults setup.now run nodes.old told.old
+        play k → HasPlayed given Y.Disk.tells Y.Disk.past Y.Disk.faults (Y.faults yard.old)
+        (Y.faults yard.new) setup.now run parts.now k number result
+        (O.written output.old) (O.written output.new)
+        (Rose (O.faults output.old) (O.faults output.new)) }
+    ensures sink_later { O.faults output.old ≤ O.faults output.new }
+    ensures yard_later { Y.faults yard.old ≤ Y.faults yard.new }
+{
+    let mut play = play;
+    match play_parts::<Y, T>(alloc, setup, nodes, yard, told, &mut play, parts) {
+        Ok(()) => write_summary(output, finish(alloc, setup, number, nodes, play)),
+        Err(stop) => {
+            drop(play);
+            close(output, Stop::from(stop).ending())
+        }
+    }
+}
+
+// Opens nodes over new disks of the yard, and runs a drill of these parts.
+fn open_drill<Y: Yard, T: Taker, O: Sink>(
+    alloc: Global,
+    setup: &Setup,
+    number: u64,
+    parts: &[Part],
+    play: Play,
+    yard: &mut Y,
+    output: &mut O,
+) -> u8
+    requires may { MayRun setup.now }
+    requires parts { parts.now ≡ parts setup.now.nodes }
+    requires knows { Knows play (first_known number setup.now.nodes) }
+    ensures ends { (left : Option (List ℕ)) → HasDrilled result number setup.now left left
+        (O.written output.old) (O.written output.new)
+        (Rose (O.faults output.old) (O.faults output.new))
+        (Meets (under Y.is_given None) Y.Disk.tells Y.Disk.past Y.Disk.faults
+        (Y.faults yard.old) (Y.faults yard.new))
+        (Had (under Y.is_given None) Y.Disk.tells Y.Disk.past Y.Disk.faults) }
+    ensures sink_later { O.faults output.old ≤ O.faults output.new }
+    ensures yard_later { Y.faults yard.old ≤ Y.faults yard.new }
+{
+    let mut play = play;
+    let mut told = Told::new(alloc, Desk::<T>::new(alloc));
+    told.listen(alloc);
+    let mut nodes = match open(alloc, setup, &None, yard, &mut told) {
+        Ok(nodes) => nodes,
+        Err(ending) => {
+            drop(play);
+            return close(output, ending);
+        }
+    };
+    if let Err(_) = tell(alloc, &mut told, &mut play) {
+        drop(nodes);
+        drop(play);
+        return close(output, Ending::no_memory());
+    }
+    serve_drill::<Y, T, O>(alloc, setup, number, parts, &mut nodes, yard, &mut told, play, output)
+}
+
+// Makes what a drill of this setup needs, and runs it.
+fn begin_drill<Y: Yard, T: Taker, O: Sink>(
+    alloc: Global,
+    setup: &Setup,
+    number: u64,
+    yard: &mut Y,
+    output: &mut O,
+) -> u8
+    requires may { MayRun setup.now }
+    ensures ends { (left : Option (List ℕ)) → HasDrilled result number setup.now left left
+        (O.written output.old) (O.written output.new)
+        (Rose (O.faults output.old) (O.faults output.new))
+        (Meets (under Y.is_given None) Y.Disk.tells Y.Disk.past Y.Disk.faults
+        (Y.faults yard.old) (Y.faults yard.new))
+        (Had (under Y.is_given None) Y.Disk.tells Y.Disk.past Y.Disk.faults) }
+    ensures sink_later { O.faults output.old ≤ O.faults output.new }
+    ensures yard_later { Y.faults yard.old ≤ Y.faults yard.new }
+{
+    let list = match parts(alloc, setup.nodes) {
+        Ok(list) => list,
+        Err(_) => return close(output, Ending::no_memory()),
+    };
+    let play = match Play::new(alloc, number, setup.nodes) {
+        Ok(play) => play,
+        Err(_) => return close(output, Ending::no_memory()),
+    };
+    open_drill::<Y, T, O>(alloc, setup, number, list.as_slice(), play, yard, output)
+}
+
+/// Runs the drill of a number over so many nodes, in memory, and writes its line.
+///
+/// - `ends`: what it has done that ends with this status, whatever a source has: nothing is read.
+pub(crate) fn run_drill<Y: Yard, T: Taker, O: Sink>(
+    alloc: Global,
+    number: u64,
+    nodes: NodeCount,
+    yard: &mut Y,
+    output: &mut O,
+) -> u8
+    ensures ends { (left : Option (List ℕ)) → DrillEnds result number nodes left left
+        (O.written output.old) (O.written output.new)
+        (Rose (O.faults output.old) (O.faults output.new))
+        (Meets (under Y.is_given None) Y.Disk.tells Y.Disk.past Y.Disk.faults
+        (Y.faults yard.old) (Y.faults yard.new))
+        (Had (under Y.is_given None) Y.Disk.tells Y.Disk.past Y.Disk.faults) }
+    ensures sink_later { O.faults output.old ≤ O.faults output.new }
+    ensures yard_later { Y.faults yard.old ≤ Y.faults yard.new }
+{
+    match drill_setup(alloc, nodes) {
+        Ok(setup) => begin_drill::<Y, T, O>(alloc, &setup, number, yard, output),
+        Err(_) => close(output, Ending::no_memory()),
+    }
+}
