@@ -19,6 +19,9 @@ mod GivenFree
 mod Gone
 pub mod Looped
 pub mod Closed
+pub mod DrillLoops
+pub mod DrillStops
+pub mod Drilled
 pub mod Dumped
 pub mod Opened
 pub mod Lifetimes

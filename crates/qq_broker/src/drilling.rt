@@ -12,6 +12,7 @@ ghost use Rattle.qq_broker.specs.Nodes.{Holds, MayRun, Meets};
 use crate::serving::serve_free;
 use crate::stopping::step_stop;
 use qq_base::Memory;
+use qq_cluster::who_listens_hears_what_is_delivered;
 use qq_cluster_queue::Told;
 use qq_cluster_run::{AskStop, Part, Play, is_named, is_place};
 use qq_disk::NodeDisk;
@@ -69,6 +70,7 @@ fn play_line<Y: Yard, T: Taker>(
         (ending_at stop)) }
     ensures later { Y.faults yard.old ≤ Y.faults yard.new }
 {
+    who_listens_hears_what_is_delivered();
     let named = is_named(setup, &line);
     if !named {
         drop(line);

@@ -19,6 +19,7 @@ use crate::drilling::{play_parts, tell};
 use crate::opening::open;
 use crate::program::close;
 use qq_base::Memory;
+use qq_cluster::who_listens_hears_what_is_delivered;
 use qq_cluster_queue::Told;
 use qq_cluster_run::status::{DONE, WRITE_FAULT};
 use qq_cluster_run::{AskStop, Ending, Part, Play, Stop, drill_setup, parts, summary};
@@ -177,6 +178,7 @@ fn open_drill<Y: Yard, T: Taker, O: Sink>(
     ensures sink_later { O.faults output.old ≤ O.faults output.new }
     ensures yard_later { Y.faults yard.old ≤ Y.faults yard.new }
 {
+    who_listens_hears_what_is_delivered();
     let mut play = play;
     let mut told = Told::new(alloc, Desk::<T>::new(alloc));
     told.listen(alloc);

@@ -20,7 +20,7 @@ pub after-both : (c : Cluster) (first second : List ClusterEvent)
 after-both c [] second = refl
 after-both c (event ∷ first) second = after-both (cluster_happens c event) first second
 
-prints-both : (setup : ClusterSetup) (c : Cluster) (first second : List ClusterEvent)
+pub prints-both : (setup : ClusterSetup) (c : Cluster) (first second : List ClusterEvent)
     → all_prints setup c (first ++ second) ≡ all_prints setup c first ++ all_prints setup (cluster_after c first) second
 prints-both setup c [] second = refl
 prints-both setup c (event ∷ first) second =
@@ -36,7 +36,7 @@ text-both setup c first second =
 
 -- ---- one line more
 
-script-more : (setup : ClusterSetup) (lines : List ScriptLine) (line : ScriptLine) (c : Cluster)
+pub script-more : (setup : ClusterSetup) (lines : List ScriptLine) (line : ScriptLine) (c : Cluster)
     (events more : List ClusterEvent) → IsScript setup lines c events → IsLine setup line (cluster_after c events) more
     → IsScript setup (lines ++ line ∷ []) c (events ++ more)
 script-more setup [] line c events more script allowed =
