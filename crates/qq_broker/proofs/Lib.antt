@@ -19,6 +19,7 @@ mod GivenFree
 mod Gone
 pub mod Looped
 pub mod Closed
+pub mod DrillAudits
 pub mod DrillLoops
 pub mod DrillStops
 pub mod Drilled

@@ -3,15 +3,17 @@ use Rattle.std.specs.Prelude.{◌≡◌, ℕ, Bool, List, Option, Some, None}
 use Rattle.qq_disk.specs.Disk.{Disk}
 use Rattle.qq_taker.specs.Takers.{Takers}
 use Rattle.qq_words.specs.declared.commands.Command.{Command}
-use Rattle.qq_words.specs.declared.commands.Command.TheVariants.{Script, Dump}
+use Rattle.qq_words.specs.declared.commands.Command.TheVariants.{Script, Dump, Drill}
 use Rattle.qq_cluster_run.specs.Definitions.{Files}
+use Rattle.qq_cluster_run.specs.Drills.{DrillEnds}
 use Rattle.qq_cluster_run.specs.Runs.{RunEnds}
 use Rattle.qq_broker.specs.Dumping.{DumpEnds}
 use Rattle.qq_broker.specs.Lives.{under}
+use Rattle.qq_broker.specs.Nodes.{Had, Meets}
 use Rattle.qq_broker.specs.Takers.{RunClaims, RunMeets}
 
 -- What a run has done that ends with this status: a script over the disks of its root, or new ones without a root; a dump of
--- a node's disk under a root; or the words are no command. The yard counted so many faults before and after, and these
+-- a node's disk under a root; a drill over new disks, without takers; or the words are no command. The yard counted so many faults before and after, and these
 -- were the takers at first and in the end.
 abbrev pub ProgramEnds : {D : Type 0} → (Option (List ℕ) → ℕ → D → Bool) → (D → Bool) → (D → List Disk) → (D → ℕ)
     → (status : ℕ) → Option Command → Files → (left rest old new : Option (List ℕ)) → (source shelf sink : Type 0)
@@ -22,6 +24,10 @@ ProgramEnds is_given tells past faults status (Some (Script options)) files left
     (RunClaims (under is_given options.root) tells past faults first last)
 ProgramEnds is_given tells past faults status (Some (Dump root node)) files left rest old new source shelf sink before after first last =
     DumpEnds (under is_given (Some root)) tells past faults status node left rest old new sink before after
+    × (last ≡ first)
+ProgramEnds is_given tells past faults status (Some (Drill number nodes)) files left rest old new source shelf sink before after first last =
+    DrillEnds status number nodes left rest old new sink (Meets (under is_given None) tells past faults before after)
+    (Had (under is_given None) tells past faults)
     × (last ≡ first)
 ProgramEnds is_given tells past faults status None files left rest old new source shelf sink before after first last =
     RunEnds status None files left rest old new source shelf sink

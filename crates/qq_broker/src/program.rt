@@ -18,6 +18,7 @@ ghost use Rattle.qq_taker.specs.Takers.{Takers};
 
 use crate::auditing::write_audits;
 use crate::broker::{give_back, lend};
+use crate::drills::run_drill;
 use crate::dumping::dump_node;
 use crate::opening::open;
 use crate::serving::serve;
@@ -355,6 +356,9 @@ fn run_command<S: Shelf, Y: Yard, T: Taker, I: Source, O: Sink>(
     match command {
         Command::Script(options) => run_script(alloc, options, input, output, shelf, yard, takers),
         Command::Dump { root, node } => dump_node(alloc, root.as_str(), *node, yard, output),
+        Command::Drill { number, nodes } => {
+            run_drill::<Y, T, O>(alloc, *number, *nodes, yard, output)
+        }
     }
 }
 
@@ -365,6 +369,7 @@ fn run_command<S: Shelf, Y: Yard, T: Taker, I: Source, O: Sink>(
 ///   opened over disks of the yard, those under the root that the words name or new ones, the input's lines are served,
 ///   and the audits of the queues are written at the end.
 /// - `dump`: the text of the log files that a node's disk under a root shows is written.
+/// - `drill`: a script is drawn from a number and served over new disks, and one line is written of it.
 /// - `ends`: what a run has done that ends with this status (`a_status_tells_what_was_done`, `exports_are_read_first`,
 ///   `a_dump_tells_what_was_done`). What a script has written is the line of what was made of an export, the text of
 ///   some events that the lines allow, and then the audits, or a first part of that and a closing line. Where these
