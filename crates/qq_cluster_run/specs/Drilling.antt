@@ -40,7 +40,7 @@ elects nodes queue =
     let id : QueueId = record { 0 = queue } in
     let all : List NodeId = members nodes 3 (queue - 1) in elects_once id all ++ elects_once id all
 
-abbrev pub steps : List Part
+unfoldable pub steps : List Part
 steps = map Step (range_with_len 1 STEPS)
 
 unfoldable pub parts : (nodes : ℕ) → List Part

@@ -32,6 +32,7 @@ pub enum Part {
 
 // ---- all parts
 
+#[tactic(auto, unfolding(crate::specs::Drilling::steps))]
 fn push_steps(out: &mut Vec<Part>) -> Result<(), Memory>
     ensures ok { OnOk result (out.new.items ≡ out.old.items ++ steps) }
     ensures want { IsOkUnless result Memory.Want }
