@@ -1,0 +1,40 @@
+use Rattle.std.proofs.Common.{◌+◌, drop, take, arith}
+use Rattle.qq_broker.specs.Drilling.{run_with}
+use Rattle.qq_broker.proofs.DrillLoops.{parts-begin, parts-go, parts-next, parts-split}
+use Rattle.qq_broker.proofs.DrillStops.{parts-stop}
+use Rattle.qq_broker.proofs.drilling.play_parts.Goals as goal
+
+pub play_part-requires-clause-plays : goal.play_part-requires-clause-plays
+play_part-requires-clause-plays g c = λ lifetimes bounds.
+    (let p = c.requires.plays in
+    let on = c.parts.invariant.go p.0 p.1.0 p.1.1.0 p.1.1.1 in (
+      p.0,
+      (run_with p.1.0 on.more, (on.later, on.plays)),
+    ))
+
+pub returns-in-Err-clause-cause : goal.returns-in-Err-clause-cause
+returns-in-Err-clause-cause g c = λ given run k so.
+    (let disk = g.Y.Disk.NodeDisk in
+    let yards = g.Y.Yard.faults in
+    let list = c.args.parts.now in
+    let i = c.parts.part-index in
+    let on = c.parts.invariant.go given run k so in
+    parts-stop given disk.tells disk.past disk.faults c.args.setup.now (yards c.args.yard.now) (yards c.parts.yard)
+    (yards c.play_part.new.yard) c.parts.invariant.later run list (take i list) c.part-item.result (drop (i + 1) list) k
+    c.parts.nodes c.parts.told c.parts.play c.in-Err.stop
+    (parts-split list i c.part-item.result (omega (arith, c.parts-test.true)) c.part-item.is) on
+    (c.in-Err.ensures.cause given (run_with run on.more) on.later on.plays))
+
+pub parts-preserved : goal.parts-preserved
+parts-preserved g c =
+    let disk = g.Y.Disk.NodeDisk in
+    let list = c.args.parts.now in
+    let i = c.parts.part-index in
+    record {
+      go = parts-go disk.tells disk.past disk.faults c.args.setup.now (take i list) (take (i + 1) list)
+          c.part-item.result c.args.nodes.now c.parts.nodes c.play_part.new.nodes c.args.told.now c.parts.told
+          c.play_part.new.told c.args.play.now c.parts.play c.play_part.new.play
+          (parts-next list i c.part-item.result (omega (arith, c.parts-test.true)) c.part-item.is)
+          c.parts.invariant.go c.in_default.ensures.ok;
+      later = omega (arith, c.parts.invariant.later, c.play_part.ensures.later);
+    }
