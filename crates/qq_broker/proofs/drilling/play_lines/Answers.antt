@@ -1,4 +1,5 @@
 use Rattle.std.proofs.Common.{◌∙◌, ap, ◌++◌, ◌∷◌, ◌≡◌, List, arith}
+use Rattle.std.proofs.lemmas.List.{nil_from_length}
 use Rattle.qq_script_lines.specs.declared.line.ScriptLine.{ScriptLine}
 use Rattle.qq_cluster_run.specs.Drilling.{know}
 use Rattle.qq_cluster_run.specs.Serving.{cluster_in, setup_in}
@@ -57,5 +58,6 @@ pub returns-clause-ok : goal.returns-clause-ok
 returns-clause-ok g c =
     let disk = g.Y.Disk.NodeDisk in
     lines-end disk.tells disk.past disk.faults c.args.setup.now c.args.lines.items c.lines.line-iterator.rest.items
-    c.args.nodes.now c.lines.nodes c.args.told.now c.lines.told c.args.play.now c.lines.play c.in-None.ensures.steps.0
-    c.lines.invariant.go
+    c.args.nodes.now c.lines.nodes c.args.told.now c.lines.told c.args.play.now c.lines.play
+    (nil_from_length c.lines.line-iterator.rest.items
+    (omega (arith, c.lines.line-iterator.rest.ok.0, c.in-None.ensures.steps.0))) c.lines.invariant.go
