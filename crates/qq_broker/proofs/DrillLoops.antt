@@ -1,6 +1,6 @@
 -- Loops over a drill's lines and parts.
 use Rattle.std.proofs.Common.{◌≡◌, ◌≤◌, ◌<◌, ◌+◌, ℕ, Bool, List, [], ◌∷◌, ◌++◌, drop, get_or, length, take, refl, sym, ap, subst, ◌∙◌, append_assoc, append-nil}
-use Rattle.std.proofs.lemmas.List.{drop_more, take-append-drop, take_more}
+use Rattle.std.proofs.lemmas.List.{drop_more, take-append-drop}
 use Rattle.qq_disk.specs.Disk.{Disk}
 use Rattle.qq_script_lines.specs.declared.line.ScriptLine.{ScriptLine}
 use Rattle.qq_setup.specs.declared.setup.Setup.{Setup}
@@ -35,18 +35,11 @@ PartsGo {D} tells past faults s done old before first held told play =
     (given : Giving D) (run : Run) (k : Known) → Plays given tells past faults s run old before first k
     → PartsDone given tells past faults s run done k held told play
 
--- the parts at an index of their list
-pub parts-next : (parts : List Part) (i : ℕ) (part : Part) → i < length parts → part ≡ get_or parts i part
-    → take (i + 1) parts ≡ take i parts ++ part ∷ []
-parts-next parts i part lt is =
-    take_more parts i part lt ∙ ap (λ (p : Part). take i parts ++ p ∷ []) (sym is)
-
-pub parts-split : (parts : List Part) (i : ℕ) (part : Part) → i < length parts → part ≡ get_or parts i part
-    → parts ≡ take i parts ++ part ∷ drop (i + 1) parts
-parts-split parts i part lt is =
-    sym (take-append-drop i parts)
-    ∙ ap (λ (l : List Part). take i parts ++ l)
-    (drop_more parts i part lt ∙ ap (λ (p : Part). p ∷ drop (i + 1) parts) (sym is))
+-- the parts before an index, the one at it, and those behind it
+pub parts-split : (parts : List Part) (i : ℕ) (d : Part) → i < length parts
+    → parts ≡ take i parts ++ get_or parts i d ∷ drop (i + 1) parts
+parts-split parts i d lt =
+    sym (take-append-drop i parts) ∙ ap (λ (l : List Part). take i parts ++ l) (drop_more parts i d lt)
 
 module _ {D : Type 0} (tells : D → Bool) (past : D → List Disk) (faults : D → ℕ) (s : Setup) where
   pub lines-begin : (all rest : List ScriptLine) (held : Nodes D) (told : Outcome) (play : Play) → rest ≡ all

@@ -1,6 +1,7 @@
 use Rattle.std.proofs.Common.{◌+◌, drop, take, arith}
+use Rattle.std.proofs.lemmas.List.{take_more}
 use Rattle.qq_broker.specs.Drilling.{run_with}
-use Rattle.qq_broker.proofs.DrillLoops.{parts-begin, parts-go, parts-next, parts-split}
+use Rattle.qq_broker.proofs.DrillLoops.{parts-go, parts-split}
 use Rattle.qq_broker.proofs.DrillStops.{parts-stop}
 use Rattle.qq_broker.proofs.drilling.play_parts.Goals as goal
 
@@ -20,9 +21,8 @@ returns-in-Err-clause-cause g c = λ given run k so.
     let i = c.parts.part-index in
     let on = c.parts.invariant.go given run k so in
     parts-stop given disk.tells disk.past disk.faults c.args.setup.now (yards c.args.yard.now) (yards c.parts.yard)
-    (yards c.play_part.new.yard) c.parts.invariant.later run list (take i list) c.part-item.result (drop (i + 1) list) k
-    c.parts.nodes c.parts.told c.parts.play c.in-Err.stop
-    (parts-split list i c.part-item.result (omega (arith, c.parts-test.true)) c.part-item.is) on
+    (yards c.play_part.new.yard) c.parts.invariant.later run list (take i list) _ (drop (i + 1) list) k
+    c.parts.nodes c.parts.told c.parts.play c.in-Err.stop (parts-split list i _ (omega (arith, c.parts-test.true))) on
     (c.in-Err.ensures.cause given (run_with run on.more) on.later on.plays))
 
 pub parts-preserved : goal.parts-preserved
@@ -32,9 +32,9 @@ parts-preserved g c =
     let i = c.parts.part-index in
     record {
       go = parts-go disk.tells disk.past disk.faults c.args.setup.now (take i list) (take (i + 1) list)
-          c.part-item.result c.args.nodes.now c.parts.nodes c.play_part.new.nodes c.args.told.now c.parts.told
+          _ c.args.nodes.now c.parts.nodes c.play_part.new.nodes c.args.told.now c.parts.told
           c.play_part.new.told c.args.play.now c.parts.play c.play_part.new.play
-          (parts-next list i c.part-item.result (omega (arith, c.parts-test.true)) c.part-item.is)
+          (take_more list i _ (omega (arith, c.parts-test.true)))
           c.parts.invariant.go c.in_default.ensures.ok;
       later = omega (arith, c.parts.invariant.later, c.play_part.ensures.later);
     }
