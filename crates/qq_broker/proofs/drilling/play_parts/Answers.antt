@@ -1,6 +1,7 @@
-use Rattle.std.proofs.Common.{◌+◌, drop, take, arith}
-use Rattle.std.proofs.lemmas.List.{take_more}
-use Rattle.qq_broker.specs.Drilling.{run_with}
+use Rattle.std.proofs.Common.{◌+◌, List, drop, take, subst, arith}
+use Rattle.std.proofs.lemmas.List.{take_all, take_more}
+use Rattle.qq_cluster_run.specs.declared.drilling.Part.{Part}
+use Rattle.qq_broker.specs.Drilling.{PartsDone, run_with}
 use Rattle.qq_broker.proofs.DrillLoops.{parts-go, parts-split}
 use Rattle.qq_broker.proofs.DrillStops.{parts-stop}
 use Rattle.qq_broker.proofs.drilling.play_parts.Goals as goal
@@ -38,3 +39,12 @@ parts-preserved g c =
           c.parts.invariant.go c.in_default.ensures.ok;
       later = omega (arith, c.parts.invariant.later, c.play_part.ensures.later);
     }
+
+pub returns-clause-ok : goal.returns-clause-ok
+returns-clause-ok g c = λ given run k so.
+    (let disk = g.Y.Disk.NodeDisk in
+    let list = c.args.parts.now in
+    subst
+    (λ (l : List Part). PartsDone given disk.tells disk.past disk.faults c.args.setup.now run l k c.parts.nodes c.parts.told
+    c.parts.play) (take_all c.parts.part-index list (omega (arith, c.parts-test.false)))
+    (c.parts.invariant.go given run k so))
