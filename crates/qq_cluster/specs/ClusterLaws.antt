@@ -11,8 +11,7 @@ use Rattle.qq_model.specs.State.{empty_queue}
 use Rattle.qq_script_lines.specs.declared.line.ScriptLine.{ScriptLine}
 use Rattle.qq_script_lines.specs.declared.line.ScriptLine.TheVariants.{Write, Sync, Notice, Tick}
 use Rattle.qq_session.specs.Printed.{IsAudited, IsConfirmedOnce}
-use Rattle.qq_session.specs.Shown.{Shown, Delivered}
-use Rattle.qq_taker.specs.declared.handed.Handed.{Handed}
+use Rattle.qq_session.specs.Shown.{Shown}
 use Rattle.qq_taker.specs.declared.taker.Verdict.{Verdict}
 use Rattle.qq_cluster.specs.Queue.{Queue, Event, Judges, TellsEnded, TellsNotTaken, all_said, audit_rows, begin}
 use Rattle.qq_cluster.specs.Cluster.{Setup, Cluster, ClusterEvent, At, Fails, FindsEach, SaysDown, SaysEnded, Printed, Of, new_cluster, cluster_after, parts_of, all_prints}
@@ -66,14 +65,6 @@ PrintsInOrder setup events =
     → let q : Queue = (cluster_after (new_cluster setup) events).queue place in
     IsFront (deliveries_shown consumer (shown_at place (all_prints setup (new_cluster setup) events)))
     (deliveries (empty_queue (setup.args place)) (audit_rows q) consumer)
-
--- what who listens hears: a delivery to a consumer without a taker
-abbrev pub delivery_heard : Printed → Option Handed
-delivery_heard (Of place (Delivered consumer delivery)) = Some (record { consumer = consumer; delivery = delivery })
-delivery_heard _ = None
-
-abbrev pub deliveries_heard : List Printed → List Handed
-deliveries_heard printed = filter_map delivery_heard printed
 
 -- ---- what rules leave open
 

@@ -15,8 +15,8 @@ use Rattle.qq_taker.specs.declared.handed.Handed.{Handed}
 use Rattle.qq_words.specs.declared.options.TheConstants.{LOG_BYTES}
 use Rattle.qq_drill.specs.Drill.{Drill, after_step, hear, is_sixteenth, last_restart, new_drill, resends, step_lines}
 use Rattle.qq_cluster.specs.Cluster.{Setup as ClusterSetup, Cluster, ClusterEvent, all_prints, cluster_after, new_cluster}
-use Rattle.qq_cluster.specs.ClusterLaws.{deliveries_heard}
 use Rattle.qq_cluster.specs.Lines.{IsScript}
+use Rattle.qq_cluster.specs.Outcome.{all_heard, deliveries_among}
 use Rattle.qq_cluster.specs.Queue.{audit_rows, has_leader}
 use Rattle.qq_cluster.specs.Texts.{audits_text, text_of}
 use Rattle.qq_cluster_run.specs.Definitions.{counted}
@@ -90,7 +90,7 @@ tell list text k =
 
 -- events have happened
 abbrev pub know : ClusterSetup → Cluster → List ClusterEvent → Known → Known
-know setup c events k = tell (deliveries_heard (all_prints setup c events)) (text_of setup c events) k
+know setup c events k = tell (deliveries_among (all_heard (all_prints setup c events))) (text_of setup c events) k
 
 abbrev pub begin_part : Part → Known → Known
 begin_part part k = record k { drill = after_part part k.drill }
