@@ -1,8 +1,8 @@
 -- A run over nodes stops, and writes its closing line.
-use Rattle.std.proofs.Common.{◌≡◌, ◌≤◌, ℕ, Bool, List, [], Option, inr, subst}
+use Rattle.std.proofs.Common.{◌≡◌, ◌≤◌, ℕ, List, [], Option, inr, subst}
 use Rattle.std.specs.Io.KnownBytes.{Appends}
 use Rattle.qq_base.specs.Causes.{Rose}
-use Rattle.qq_disk.specs.Disk.{Disk}
+use Rattle.qq_disk.specs.Facts.{DiskFacts}
 use Rattle.qq_setup.specs.declared.setup.Setup.{Setup}
 use Rattle.qq_cluster_run.specs.declared.stop.Stop.{Stop}
 use Rattle.qq_cluster_run.specs.Endings.{Ending}
@@ -14,20 +14,20 @@ use Rattle.qq_taker.specs.Takers.{Takers}
 use Rattle.qq_broker.proofs.Meeting.{run-earlier}
 
 -- `first` is the yard's count of faults when the run began, and `old` the sink's; at the stop they are `after` and `mid`
-pub run-stopped : {D : Type 0} (given : Giving D) (tells : D → Bool) (past : D → List Disk) (faults : D → ℕ)
-    (takers later : Takers) (s : Setup) (stop : Stop) (status : ℕ) (ending : Ending) (left rest a b c : Option (List ℕ)) (source : Type 0)
+pub run-stopped : {D : Type 0} (given : Giving D) (facts : DiskFacts D) (takers later : Takers) (s : Setup)
+    (stop : Stop) (status : ℕ) (ending : Ending) (left rest a b c : Option (List ℕ)) (source : Type 0)
     (first before after : ℕ) (old mid new : ℕ) → first ≤ before → old ≤ mid → mid ≤ new
-    → HasStopped stop s left rest a b source (Rose old mid) (RunMeets given tells past faults takers before after)
-    (RunClaims given tells past faults takers later) []
+    → HasStopped stop s left rest a b source (Rose old mid) (RunMeets given facts takers before after)
+    (RunClaims given facts takers later) []
     → Closes status ending (Rose mid new) (λ more. Appends b c more) → ending ≡ ending_of stop
-    → HasRun status s left rest a c source (Rose old new) (RunMeets given tells past faults takers first after)
-    (RunClaims given tells past faults takers later)
-run-stopped given tells past faults takers later s stop status ending left rest a b c source first before after old mid new earlier
+    → HasRun status s left rest a c source (Rose old new) (RunMeets given facts takers first after)
+    (RunClaims given facts takers later)
+run-stopped given facts takers later s stop status ending left rest a b c source first before after old mid new earlier
     le more so closes is =
-    let met = RunMeets given tells past faults takers first after in
-    let claims = RunClaims given tells past faults takers later in
-    let stopped = stopped_earlier (RunMeets given tells past faults takers before after) met claims
-    (run-earlier given tells past faults takers first before after earlier) stop s left rest a b source (Rose old mid) [] so in
+    let met = RunMeets given facts takers first after in
+    let claims = RunClaims given facts takers later in
+    let stopped = stopped_earlier (RunMeets given facts takers before after) met claims
+    (run-earlier given facts takers first before after earlier) stop s left rest a b source (Rose old mid) [] so in
     inr (inr (record {
       stop = stop;
       closes = subst

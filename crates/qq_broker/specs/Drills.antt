@@ -1,7 +1,7 @@
 -- What a drill has done that was opened.
-use Rattle.std.specs.Prelude.{◌≡◌, ◌⊎◌, ℕ, Bool, List, Option}
+use Rattle.std.specs.Prelude.{◌≡◌, ◌⊎◌, ℕ, List, Option}
 use Rattle.std.specs.Io.KnownBytes.{Appends}
-use Rattle.qq_disk.specs.Disk.{Disk}
+use Rattle.qq_disk.specs.Facts.{DiskFacts}
 use Rattle.qq_ports.specs.Faults.{AppendsPrefix}
 use Rattle.qq_setup.specs.declared.setup.Setup.{Setup}
 use Rattle.qq_cluster.specs.Cluster.{ClusterEvent}
@@ -24,25 +24,25 @@ HasSummary status text old new sink =
     ⊎ Closes status no_memory sink (λ more. Appends old new more))
 
 -- all parts were done
-pub record HasFinished {D : Type 0} (given : Giving D) (tells : D → Bool) (past : D → List Disk) (faults : D → ℕ)
-    (s : Setup) (run : Run) (parts : List Part) (k : Known) (number status : ℕ) (old new : Option (List ℕ)) (sink : Type 0)
+pub record HasFinished {D : Type 0} (given : Giving D) (facts : DiskFacts D) (s : Setup) (run : Run) (parts : List Part)
+    (k : Known) (number status : ℕ) (old new : Option (List ℕ)) (sink : Type 0)
     : Type 0 where
   pub more : List ClusterEvent
   pub later : Known
   pub are : AreParts (setup_in s run) parts k (cluster_in s run) more later
-  pub disks : Had given tells past faults (setup_in s run) (run_with run more).events
+  pub disks : Had given facts (setup_in s run) (run_with run more).events
   pub told : HasSummary status (drill_text number (setup_in s run) (cluster_in s (run_with run more)) later) old new sink
 
 -- it stopped within a part, and a closing line was written
-pub record HasBroken {D : Type 0} (given : Giving D) (tells : D → Bool) (past : D → List Disk) (faults : D → ℕ)
-    (before after : ℕ) (s : Setup) (run : Run) (parts : List Part) (k : Known) (status : ℕ) (old new : Option (List ℕ))
+pub record HasBroken {D : Type 0} (given : Giving D) (facts : DiskFacts D) (before after : ℕ) (s : Setup) (run : Run)
+    (parts : List Part) (k : Known) (status : ℕ) (old new : Option (List ℕ))
     (sink : Type 0) : Type 0 where
   pub stop : AskStop
-  pub stops : PartsStop given tells past faults before after s run parts k stop
+  pub stops : PartsStop given facts before after s run parts k stop
   pub closes : Closes status (ending_at stop) sink (λ more. Appends old new more)
 
-abbrev pub HasPlayed : {D : Type 0} → Giving D → (D → Bool) → (D → List Disk) → (D → ℕ) → (before after : ℕ) → Setup
+abbrev pub HasPlayed : {D : Type 0} → Giving D → DiskFacts D → (before after : ℕ) → Setup
     → Run → List Part → Known → (number status : ℕ) → (old new : Option (List ℕ)) → (sink : Type 0) → Type 0
-HasPlayed given tells past faults before after s run parts k number status old new sink =
-    HasFinished given tells past faults s run parts k number status old new sink
-    ⊎ HasBroken given tells past faults before after s run parts k status old new sink
+HasPlayed given facts before after s run parts k number status old new sink =
+    HasFinished given facts s run parts k number status old new sink
+    ⊎ HasBroken given facts before after s run parts k status old new sink

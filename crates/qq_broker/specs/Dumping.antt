@@ -1,10 +1,10 @@
 -- What a dump of a node's disk has done.
-use Rattle.std.specs.Prelude.{◌≡◌, ◌⊎◌, ℕ, Bool, List, ◌++◌, Option, IsTrue}
+use Rattle.std.specs.Prelude.{◌≡◌, ◌⊎◌, ℕ, List, ◌++◌, Option, IsTrue}
 use Rattle.std.specs.Io.KnownBytes.{Appends, Keeps}
 use Rattle.qq_base.specs.Causes.{Rose}
 use Rattle.qq_base.specs.Fronts.{IsFront}
 use Rattle.qq_base.specs.declared.ids.NodeId.{NodeId}
-use Rattle.qq_disk.specs.Disk.{Disk}
+use Rattle.qq_disk.specs.Facts.{DiskFacts}
 use Rattle.qq_dump.specs.Files.{AreShown, LogFile, dump_text}
 use Rattle.qq_ports.specs.Faults.{AppendsPrefix}
 use Rattle.qq_cluster_run.specs.declared.status.TheConstants.{DONE, WRITE_FAULT}
@@ -36,22 +36,22 @@ HasDumped status disk sink files old new =
 
 -- The yard gave a disk for the node under the run's root, and the text of the log files that it shows was written. Nothing
 -- was read, and what the disk holds is as it was.
-pub record IsDumped {D : Type 0} (given : Giving D) (tells : D → Bool) (past : D → List Disk) (faults : D → ℕ)
-    (status : ℕ) (node : NodeId) (left rest old new : Option (List ℕ)) (sink : Type 0) : Type 0 where
+pub record IsDumped {D : Type 0} (given : Giving D) (facts : DiskFacts D) (status : ℕ) (node : NodeId)
+    (left rest old new : Option (List ℕ)) (sink : Type 0) : Type 0 where
   pub first : D
-  pub given_is : IsGiven given tells past node.0 first
+  pub given_is : IsGiven given facts node.0 first
   pub last : D
-  pub told : tells last ≡ tells first
-  pub same : IsTrue (tells first) → past last ≡ past first
+  pub told : facts.tells last ≡ facts.tells first
+  pub same : IsTrue (facts.tells first) → facts.past last ≡ facts.past first
   pub files : List LogFile
-  pub shown : AreShown tells past first files
+  pub shown : AreShown facts first files
   pub keeps : Keeps left rest
-  pub has : HasDumped status (Rose (faults first) (faults last)) sink files old new
+  pub has : HasDumped status (Rose (facts.faults first) (facts.faults last)) sink files old new
 
 -- What a dump has done that ends with this status, where the yard counted so many faults before and after: the yard gave
 -- no disk, or the text of one was written.
-abbrev pub DumpEnds : {D : Type 0} → Giving D → (D → Bool) → (D → List Disk) → (D → ℕ) → (status : ℕ) → NodeId
+abbrev pub DumpEnds : {D : Type 0} → Giving D → DiskFacts D → (status : ℕ) → NodeId
     → (left rest old new : Option (List ℕ)) → (sink : Type 0) → (before after : ℕ) → Type 0
-DumpEnds given tells past faults status node left rest old new sink before after =
+DumpEnds given facts status node left rest old new sink before after =
     IsUnopened status left rest old new sink (IsYardEnding before after)
-    ⊎ IsDumped given tells past faults status node left rest old new sink
+    ⊎ IsDumped given facts status node left rest old new sink

@@ -49,13 +49,13 @@ pub fn write_audits<D: NodeDisk, O: Sink>(
 ) -> Result<(), PrintFault>
     requires may { MayRun setup.now }
     requires holds { (given : Giving D) × ((run : Run)
-        × Holds given D.tells D.past D.faults setup.now nodes.now run) }
+        × Holds given D.facts setup.now nodes.now run) }
     ensures ok { (given : Giving D) (run : Run) →
-        Holds given D.tells D.past D.faults setup.now nodes.now run →
+        Holds given D.facts setup.now nodes.now run →
         OnOk result (Appends (O.written output.old) (O.written output.new)
         (audits_text (setup_in setup.now run) (cluster_in setup.now run))) }
     ensures err { (given : Giving D) (run : Run) →
-        Holds given D.tells D.past D.faults setup.now nodes.now run →
+        Holds given D.facts setup.now nodes.now run →
         OnErr result (HasSomePrefix (O.written output.old) (O.written output.new)
         (audits_text (setup_in setup.now run) (cluster_in setup.now run))) }
     ensures cause { IfErr result (λ fault.

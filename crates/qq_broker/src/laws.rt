@@ -23,8 +23,8 @@ use qq_wal_chain::an_empty_disk_keeps_the_promise;
 pub fn a_run_without_a_root_begins_with_new_logs<D: NodeDisk>()
     ensures { (is_given : Option (List ℕ) → ℕ → D → Bool) (first : Takers) (s : Setup)
         (all left : List Input)
-        (b : Behind (RunHad (under is_given None) D.tells D.past D.faults first) s all left) →
-        IsRunnable (state_of s) → ((disk : D) → IsTrue (D.tells disk)) → b.logs ≡ new_logs }
+        (b : Behind (RunHad (under is_given None) D.facts first) s all left) →
+        IsRunnable (state_of s) → ((disk : D) → IsTrue (D.facts.tells disk)) → b.logs ≡ new_logs }
 {
     a_promised_disk_is_read();
     an_empty_disk_keeps_the_promise();
@@ -39,19 +39,20 @@ pub fn a_run_without_a_root_begins_with_new_logs<D: NodeDisk>()
 pub fn a_dump_tells_what_was_done<D: NodeDisk>()
     ensures statuses { (given : Giving D) (status : ℕ) (node : NodeId) (bytes rest old new : List ℕ)
         (sink_before sink_after before after : ℕ) →
-        DumpEnds given D.tells D.past D.faults status node (Some bytes) (Some rest) (Some old)
-        (Some new) (Rose sink_before sink_after) before after →
+        DumpEnds given D.facts status node (Some bytes) (Some rest) (Some old) (Some new)
+        (Rose sink_before sink_after) before after →
         (status ≡ 0) ⊎ ((status ≡ 6) ⊎ ((status ≡ 7) ⊎ (status ≡ 12))) }
     ensures done { (given : Giving D) (node : NodeId) (bytes rest old new : List ℕ)
         (sink_before sink_after before after : ℕ) →
-        DumpEnds given D.tells D.past D.faults 0 node (Some bytes) (Some rest) (Some old) (Some new)
+        DumpEnds given D.facts 0 node (Some bytes) (Some rest) (Some old) (Some new)
         (Rose sink_before sink_after) before after →
-        (disk : D) × IsGiven given D.tells D.past node.0 disk × (rest ≡ bytes)
-        × (IsTrue (D.tells disk) → new ≡ old ++ dump_text (log_files (now (D.past disk)))) }
+        (disk : D) × IsGiven given D.facts node.0 disk × (rest ≡ bytes)
+        × (IsTrue (D.facts.tells disk) → new ≡ old ++ dump_text
+        (log_files (now (D.facts.past disk)))) }
     ensures failed { (given : Giving D) (node : NodeId) (bytes rest old new : List ℕ)
         (sink_before sink_after before after : ℕ) →
-        DumpEnds given D.tells D.past D.faults 7 node (Some bytes) (Some rest) (Some old) (Some new)
+        DumpEnds given D.facts 7 node (Some bytes) (Some rest) (Some old) (Some new)
         (Rose sink_before sink_after) before after →
-        Rose before after ⊎ ((disk : D) × IsGiven given D.tells D.past node.0 disk
-        × ((last : D) × Rose (D.faults disk) (D.faults last))) }
+        Rose before after ⊎ ((disk : D) × IsGiven given D.facts node.0 disk
+        × ((last : D) × Rose (D.facts.faults disk) (D.facts.faults last))) }
 {}

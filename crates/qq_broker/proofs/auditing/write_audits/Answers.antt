@@ -8,8 +8,8 @@ pub loop-row-init : goal.loop-row-init
 loop-row-init g c =
     let disk = g.D.NodeDisk in
     record {
-      so = audits-start disk.tells disk.past disk.faults c.args.setup.now c.args.nodes.now
-          (g.O.Sink.written c.args.output.now) c.clear.new.self.items c.as_slice-rows.result.now
+      so = audits-start disk.facts c.args.setup.now c.args.nodes.now (g.O.Sink.written c.args.output.now)
+          c.clear.new.self.items c.as_slice-rows.result.now
           c.requires.may c.clear.ensures.items c.as_slice-rows.ensures;
       later = omega arith;
     }
@@ -17,8 +17,8 @@ loop-row-init g c =
 pub audit_text-requires : goal.audit_text-requires
 audit_text-requires g c =
     let disk = g.D.NodeDisk in
-    audit-there disk.tells disk.past disk.faults c.args.setup.now c.args.nodes.now c.as_slice-rows.result.now
-    c.loop-row.row-index c.row-item.result (c.as_slice-rows.ensures, c.loop-row-test.true, c.row-item.is)
+    audit-there disk.facts c.args.setup.now c.args.nodes.now c.as_slice-rows.result.now c.loop-row.row-index
+    c.row-item.result (c.as_slice-rows.ensures, c.loop-row-test.true, c.row-item.is)
     c.requires.holds.0 c.requires.holds.1.0 c.requires.holds.1.1
 
 pub loop-row-preserved : goal.loop-row-preserved
@@ -26,7 +26,7 @@ loop-row-preserved g c =
     let disk = g.D.NodeDisk in
     let written = g.O.Sink.written in
     record {
-      so = audits-next disk.tells disk.past disk.faults c.args.setup.now c.args.nodes.now (written c.args.output.now)
+      so = audits-next disk.facts c.args.setup.now c.args.nodes.now (written c.args.output.now)
           (written c.loop-row.output) (written c.drain.new.output) c.loop-row.text.items c.audit_text.new.text.items
           c.drain.new.text.items c.as_slice-rows.result.now c.loop-row.row-index c.row-item.result c.requires.may
           (c.as_slice-rows.ensures, c.loop-row-test.true, c.row-item.is) c.loop-row.invariant.so
@@ -38,16 +38,16 @@ pub returns-in-Err-clause-err : goal.returns-in-Err-clause-err
 returns-in-Err-clause-err g c =
     let disk = g.D.NodeDisk in
     let written = g.O.Sink.written in
-    audits-stop disk.tells disk.past disk.faults c.args.setup.now c.args.nodes.now (written c.args.output.now)
-    (written c.loop-row.output) c.loop-row.text.items c.as_slice-rows.result.now c.loop-row.row-index
+    audits-stop disk.facts c.args.setup.now c.args.nodes.now (written c.args.output.now) (written c.loop-row.output)
+    c.loop-row.text.items c.as_slice-rows.result.now c.loop-row.row-index
     c.loop-row.invariant.so
 
 pub returns-in-Err-drain-clause-err : goal.returns-in-Err-drain-clause-err
 returns-in-Err-drain-clause-err g c =
     let disk = g.D.NodeDisk in
     let written = g.O.Sink.written in
-    audits-cut disk.tells disk.past disk.faults c.args.setup.now c.args.nodes.now (written c.args.output.now)
-    (written c.loop-row.output) (written c.drain.new.output) c.loop-row.text.items c.audit_text.new.text.items
+    audits-cut disk.facts c.args.setup.now c.args.nodes.now (written c.args.output.now) (written c.loop-row.output)
+    (written c.drain.new.output) c.loop-row.text.items c.audit_text.new.text.items
     c.as_slice-rows.result.now c.loop-row.row-index c.row-item.result c.requires.may
     (c.as_slice-rows.ensures, c.loop-row-test.true, c.row-item.is) c.loop-row.invariant.so
     (λ setup d st. c.in_default.ensures.ok setup d c.args.nodes.now refl st) c.in-Err-drain.ensures.err
@@ -56,8 +56,8 @@ pub returns-in-Ok-clause-ok : goal.returns-in-Ok-clause-ok
 returns-in-Ok-clause-ok g c =
     let disk = g.D.NodeDisk in
     let written = g.O.Sink.written in
-    audits-whole disk.tells disk.past disk.faults c.args.setup.now c.args.nodes.now (written c.args.output.now)
-    (written c.loop-row.output) (written c.write_all.new.out) c.loop-row.text.items c.as_slice-rows.result.now
+    audits-whole disk.facts c.args.setup.now c.args.nodes.now (written c.args.output.now) (written c.loop-row.output)
+    (written c.write_all.new.out) c.loop-row.text.items c.as_slice-rows.result.now
     c.loop-row.row-index (omega (arith, c.loop-row-test.false)) c.loop-row.invariant.so
     (subst (Appends (written c.loop-row.output) (written c.write_all.new.out)) c.deref.ensures.value c.in-Ok.ensures.ok)
 
@@ -65,8 +65,8 @@ pub returns-in-Err-write_all-clause-err : goal.returns-in-Err-write_all-clause-e
 returns-in-Err-write_all-clause-err g c =
     let disk = g.D.NodeDisk in
     let written = g.O.Sink.written in
-    audits-rest disk.tells disk.past disk.faults c.args.setup.now c.args.nodes.now (written c.args.output.now)
-    (written c.loop-row.output) (written c.write_all.new.out) c.loop-row.text.items c.as_slice-rows.result.now
+    audits-rest disk.facts c.args.setup.now c.args.nodes.now (written c.args.output.now) (written c.loop-row.output)
+    (written c.write_all.new.out) c.loop-row.text.items c.as_slice-rows.result.now
     c.loop-row.row-index (omega (arith, c.loop-row-test.false)) c.loop-row.invariant.so
     (subst (AppendsPrefix (written c.loop-row.output) (written c.write_all.new.out)) c.deref.ensures.value
     c.in-Err-write_all.ensures.err)

@@ -12,6 +12,5 @@ returns g c =
       honest = c.a_crash_without_junk_keeps_the_promise.ensures.image;
       comes = c.what_waits_goes_on.ensures.comes;
       begins = c.clusters_begin_with_new_logs.ensures;
-    }) given g.D.NodeDisk.tells g.D.NodeDisk.past g.D.NodeDisk.faults first last before after s runs all_new shows bytes rest old
-    new
+    }) given g.D.NodeDisk.facts first last before after s runs all_new shows bytes rest old new
     (Rose first_source last_source) (Rose first_sink last_sink) clean status run harm

@@ -13,6 +13,7 @@ returns-in-Ok-clause-ends g c =
     let given = under g.Y.Yard.is_given c.args.root.now in
     inr (inr (behind-made c.open_script.result c.args.setup.now (left c.args.input.now)
     (left c.open_script.new.input) (written c.args.output.now) (written c.write_made.new.output)
-    (written c.open_script.new.output) _ _ (RunClaims given disk.tells disk.past disk.faults c.args.takers.now c.open_script.new.takers) (faults c.args.output.now)
+    (written c.open_script.new.output) _ _ (RunClaims given disk.facts c.args.takers.now c.open_script.new.takers)
+    (faults c.args.output.now)
     (faults c.write_made.new.output) (faults c.open_script.new.output) c.write_made.ensures.later c.in-Ok.ensures.ok
     c.open_script.ensures.ends))

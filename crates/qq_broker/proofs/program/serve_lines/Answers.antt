@@ -16,11 +16,11 @@ lines-init g c =
     let s = c.args.setup.now in
     record {
       going = λ given first opened.
-          loops_start (RunHad given disk.tells disk.past disk.faults first) s
-          (HoldsAll given disk.tells disk.past disk.faults s first c.args.nodes.now c.args.told.now.takers)
-          (g.I.Source.left c.args.input.now) (g.O.Sink.written c.args.output.now) c.new-lines.result
+          loops_start (RunHad given disk.facts first) s
+          (HoldsAll given disk.facts s first c.args.nodes.now c.args.told.now.takers) (g.I.Source.left c.args.input.now)
+          (g.O.Sink.written c.args.output.now) c.new-lines.result
           (record { text = []; takers = first }) c.args.told.now c.new-lines.ensures refl
-          (opened-all given disk.tells disk.past disk.faults s first c.args.nodes.now [] c.args.told.now opened);
+          (opened-all given disk.facts s first c.args.nodes.now [] c.args.told.now opened);
       within = omega arith;
       source_later = omega arith;
       sink_later = omega arith;
@@ -33,7 +33,7 @@ returns-in-Err-clause-cause g c = λ given first opened.
     let faults = g.O.Sink.faults in (
       Rose_earlier (faults c.args.output.now) (faults c.lines.output) (faults c.write_all.new.out)
           c.lines.invariant.sink_later c.in-Err.ensures.cause.cause,
-      lines-break given disk.tells disk.past disk.faults first c.args.setup.now (g.I.Source.left c.args.input.now)
+      lines-break given disk.facts first c.args.setup.now (g.I.Source.left c.args.input.now)
           (g.O.Sink.written c.args.output.now) c.lines.nodes c.lines.told.takers c.lines.lines (g.I.Source.left c.lines.input)
           (g.O.Sink.written c.lines.output) (g.O.Sink.written c.write_all.new.out) c.lines.served c.lines.told.text
           c.text.result.now (c.lines.invariant.going given first opened) c.text.ensures c.in-Err.ensures.err,
@@ -42,7 +42,7 @@ returns-in-Err-clause-cause g c = λ given first opened.
 pub returns-in-Ok-None-clause-ok : goal.returns-in-Ok-None-clause-ok
 returns-in-Ok-None-clause-ok g c = λ given first opened.
     (let disk = g.Y.Disk.NodeDisk in
-    rw c.clear.ensures (lines-end given disk.tells disk.past disk.faults first c.args.setup.now (g.I.Source.left c.args.input.now)
+    rw c.clear.ensures (lines-end given disk.facts first c.args.setup.now (g.I.Source.left c.args.input.now)
     (g.O.Sink.written c.args.output.now) c.lines.nodes c.lines.told.takers (ahead c.lines.lines (g.I.Source.left c.lines.input))
     (g.O.Sink.written c.lines.output) (g.O.Sink.written c.write_all.new.out) c.lines.served c.lines.told.text
     c.text.result.now (c.lines.invariant.going given first opened) c.text.ensures c.in_default.ensures.ok c.next_line.new.lines
@@ -56,7 +56,7 @@ returns-in-Err-Failed-clause-cause g c = λ given first opened.
     let cause = rw c.in-Err-Failed.field-0-is at c.in-Err-Failed.ensures.cause in (
       Rose_earlier (faults c.args.input.now) (faults c.lines.input) (faults c.next_line.new.input)
           c.lines.invariant.source_later cause.0,
-      rw c.clear.ensures (lines-fail given disk.tells disk.past disk.faults first c.args.setup.now (g.I.Source.left c.args.input.now)
+      rw c.clear.ensures (lines-fail given disk.facts first c.args.setup.now (g.I.Source.left c.args.input.now)
           (g.O.Sink.written c.args.output.now) c.lines.nodes c.lines.told.takers (ahead c.lines.lines (g.I.Source.left c.lines.input))
           (g.O.Sink.written c.lines.output) (g.O.Sink.written c.write_all.new.out) c.lines.served c.lines.told.text
           c.text.result.now (c.lines.invariant.going given first opened) c.text.ensures c.in_default.ensures.ok
@@ -68,7 +68,7 @@ returns-in-Err-TooLong-clause-cause g c = λ given first opened.
     (let disk = g.Y.Disk.NodeDisk in
     let yards = g.Y.Yard.faults in
     let long = rw c.in-Err-TooLong.field-0-is at c.in-Err-TooLong.ensures.cause in
-    rw c.clear.ensures (lines-pass given disk.tells disk.past disk.faults first c.args.setup.now (g.I.Source.left c.args.input.now)
+    rw c.clear.ensures (lines-pass given disk.facts first c.args.setup.now (g.I.Source.left c.args.input.now)
     (g.O.Sink.written c.args.output.now) c.lines.nodes c.lines.told.takers (ahead c.lines.lines (g.I.Source.left c.lines.input))
     (g.O.Sink.written c.lines.output) (g.O.Sink.written c.write_all.new.out) c.lines.served c.lines.told.text
     c.text.result.now (c.lines.invariant.going given first opened) c.text.ensures c.in_default.ensures.ok (yards c.args.yard.now)
@@ -78,7 +78,7 @@ returns-in-Err-TooLong-clause-cause g c = λ given first opened.
 pub returns-in-Err-Memory-clause-cause : goal.returns-in-Err-Memory-clause-cause
 returns-in-Err-Memory-clause-cause g c = λ given first opened.
     (let disk = g.Y.Disk.NodeDisk in
-    lines-starve given disk.tells disk.past disk.faults first c.args.setup.now (g.I.Source.left c.args.input.now)
+    lines-starve given disk.facts first c.args.setup.now (g.I.Source.left c.args.input.now)
     (g.O.Sink.written c.args.output.now) c.lines.nodes c.lines.told.takers (ahead c.lines.lines (g.I.Source.left c.lines.input))
     (g.O.Sink.written c.lines.output) (g.O.Sink.written c.write_all.new.out) c.lines.served c.lines.told.text
     c.text.result.now (c.lines.invariant.going given first opened) c.text.ensures c.in_default.ensures.ok
@@ -98,17 +98,16 @@ returns-in-Err-answer-clause-cause g c = λ given first opened.
     let so = (c.lines.invariant.going given first opened) in
     let takes : TakesLine now next c.as_slice.result.now = subst (TakesLine now next) (sym c.as_slice.ensures)
     (rw c.in-Ok-Some.field-0-is at c.in-Ok-Some.ensures.line) in
-    lines-stop given disk.tells disk.past disk.faults first c.args.setup.now (g.I.Source.left c.args.input.now)
+    lines-stop given disk.facts first c.args.setup.now (g.I.Source.left c.args.input.now)
     (g.O.Sink.written c.args.output.now) c.lines.nodes c.lines.told.takers now (g.O.Sink.written c.lines.output)
     (g.O.Sink.written c.write_all.new.out) c.lines.served c.lines.told.text c.text.result.now so c.text.ensures
     c.in_default.ensures.ok _ _ (yards c.args.yard.now) (yards c.lines.yard) (yards c.answer.new.yard) c.from.result
     c.in-Err-answer.stop next (g.I.Source.left c.next_line.new.input) c.as_slice.result.now c.answer.new.told.takers
     c.lines.invariant.yard_later c.lines_law.ensures takes c.in-Ok-Some.ensures.read
     (c.in-Err-answer.ensures.cause given first so.run so.lines
-    (subst (λ (t : Takers). HoldsAll given disk.tells disk.past disk.faults c.args.setup.now first c.lines.nodes t so.run)
+    (subst (λ (t : Takers). HoldsAll given disk.facts c.args.setup.now first c.lines.nodes t so.run)
     (sym (ap (λ (o : Outcome). o.takers) c.clear.ensures)) so.stands))
-    (so-at (RunClaims given disk.tells disk.past disk.faults first c.answer.new.told.takers) c.args.setup.now so.run
-    c.in-Err-answer.stop
+    (so-at (RunClaims given disk.facts first c.answer.new.told.takers) c.args.setup.now so.run c.in-Err-answer.stop
     (λ refused. ap (λ (o : Outcome). o.takers) (c.in-Err-answer.ensures.same refused)
     ∙ ap (λ (o : Outcome). o.takers) c.clear.ensures ∙ so.stands.seen))
     c.from.ensures)
@@ -122,8 +121,7 @@ lines-preserved g c =
     (rw c.in-Ok-Some.field-0-is at c.in-Ok-Some.ensures.line) in
     record {
       going = λ given first opened. (let so = c.lines.invariant.going given first opened in
-          lines-go-on given disk.tells disk.past disk.faults first c.args.setup.now
-          (g.I.Source.left c.args.input.now)
+          lines-go-on given disk.facts first c.args.setup.now (g.I.Source.left c.args.input.now)
           (g.O.Sink.written c.args.output.now) c.lines.nodes c.lines.told.takers now (g.O.Sink.written c.lines.output)
           (g.O.Sink.written c.write_all.new.out) c.lines.served c.lines.told.text c.text.result.now so
           c.text.ensures c.in_default.ensures.ok c.answer.new.nodes c.answer.new.told.takers next
@@ -131,7 +129,7 @@ lines-preserved g c =
           (ap (λ (o : Outcome). o.text) c.clear.ensures)
           (c.in_default-answer.ensures.ok given first so.run so.lines
           (subst
-          (λ (t : Takers). HoldsAll given disk.tells disk.past disk.faults c.args.setup.now first c.lines.nodes t so.run)
+          (λ (t : Takers). HoldsAll given disk.facts c.args.setup.now first c.lines.nodes t so.run)
           (sym (ap (λ (o : Outcome). o.takers) c.clear.ensures)) so.stands)));
       within = omega (arith, c.in_default-answer.ensures.within);
       source_later = omega (arith, c.lines.invariant.source_later, c.in-Ok-Some.ensures.later);
