@@ -43,16 +43,8 @@ Balances base now came gone =
 abbrev pub HasRoom : Vec Index → Type 0
 HasRoom indices = vec_len indices < vec_capacity indices
 
--- the ready messages, as they are and as they were at the last commit, with what came and left
-pub record ReadyTracked : Type 0 where
-  pub queue : Queue
-  pub base : Queue
-  pub came : List Index
-  pub gone : List Index
-
--- the same of the dead messages
-pub record DeadTracked : Type 0 where
-  pub letters : Letters
-  pub base : Letters
+-- a store, with the indices of what came and left since the last commit
+pub record Tracking (T : Type 0) : Type 0 where
+  pub store : T
   pub came : List Index
   pub gone : List Index

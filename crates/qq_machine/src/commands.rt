@@ -220,14 +220,14 @@ impl Draft {
         number: u64,
         count: u64,
     ) -> Result<u64, Memory>
-        requires { term.0 ≡ self.old.queue.dead.letters.attached }
+        requires { term.0 ≡ self.old.queue.dead.store.letters.attached }
 
         ensures ok { IfOk result (λ after. parts_settle_dead_by
             (take_given number (parts_of args.now self.old.queue))
             (record { work = work_of args.now self.old; count = count })
             ≡ record { work = work_of args.now self.new; count = after }) }
-        ensures attached { OnOk result (self.new.queue.dead.letters.attached
-            ≡ self.old.queue.dead.letters.attached) }
+        ensures attached { OnOk result (self.new.queue.dead.store.letters.attached
+            ≡ self.old.queue.dead.store.letters.attached) }
         ensures base { KeepsBase self.old.queue self.new.queue }
         ensures want { IsOkUnless result Memory.Want }
     {
@@ -245,7 +245,7 @@ impl Draft {
         term: Term,
         done: &[DeadDone],
     ) -> Result<u64, Memory>
-        requires { term.0 ≡ self.old.queue.dead.letters.attached }
+        requires { term.0 ≡ self.old.queue.dead.store.letters.attached }
 
         ensures ok { IfOk result (λ count. parts_settle_dead done.now (work_of args.now self.old)
             ≡ record { work = work_of args.now self.new; count = count }) }

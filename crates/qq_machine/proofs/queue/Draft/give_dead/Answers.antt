@@ -9,7 +9,7 @@ returns-in_default-clause-ok c = nothing-offered c.args.args.now c.args.self.now
 
 pub returns-clause-ok : goal.returns-clause-ok
 returns-clause-ok c =
-    offered c.args.args.now c.args.self.now c.in-Some.one.now c.give.new.self.letters c.in_ok-copy.field-0
+    offered c.args.args.now c.args.self.now c.in-Some.one.now c.give.new.self.store.letters c.in_ok-copy.field-0
     (sym c.in-Some.ensures) c.give.ensures.letters c.in_ok-copy.ensures.ok
-    ∙ ap (λ (es : List Effect). Some (record (with_letters c.give.new.self.letters
+    ∙ ap (λ (es : List Effect). Some (record (with_letters c.give.new.self.store.letters
     (work_of c.args.args.now c.args.self.now)) { effects = es })) (sym c.in_ok-push.ensures.items)

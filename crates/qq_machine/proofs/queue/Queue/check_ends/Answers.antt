@@ -11,7 +11,7 @@ returns-then-not-within-clause-cause c =
 
 pub returns-clause-ok : goal.returns-clause-ok
 returns-clause-ok c args =
-    let q = c.args.self.now.ready.queue in
+    let q = c.args.self.now.ready.store.queue in
     inr (
       sym (c.in-Ok.ensures.ok args) ∙ c.if-not-within.false,
       sym (c.are_few-few.ensures

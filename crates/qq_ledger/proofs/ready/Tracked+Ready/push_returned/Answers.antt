@@ -4,36 +4,36 @@ use Rattle.qq_live.specs.Indices.{occurrences}
 use Rattle.qq_ready.specs.Queue.{Queue}
 use Rattle.qq_ledger.specs.Ledger.{ready_indices}
 use Rattle.qq_ledger.proofs.Balance.{balance-same, balance-more}
-use Rattle.qq_ledger.proofs.Parts.{back-more}
-use Rattle.qq_ledger.proofs.ready.TrackedReady.push_back.Goals as goal
+use Rattle.qq_ledger.proofs.Parts.{front-more}
+use Rattle.qq_ledger.proofs.ready.Tracked+Ready.push_returned.Goals as goal
 
 pub invariant_of-self : goal.invariant_of-self
 invariant_of-self c =
-    balance-same (ready_indices c.self.inside.ready.base) (ready_indices c.self.inside.ready.base)
-    (ready_indices c.self.inside.ready.queue) (ready_indices c.self.inside.ready.queue)
+    balance-same (ready_indices c.self.inside.store.base) (ready_indices c.self.inside.store.base)
+    (ready_indices c.self.inside.store.queue) (ready_indices c.self.inside.store.queue)
     c.self.inside.ledger.came.items c.self.inside.ledger.gone.items
     c.reserve.new.self.came.items c.reserve.new.self.gone.items
     c.self.invariant refl (λ i. refl) c.reserve.ensures.came c.reserve.ensures.gone
 
-pub invariant_of-self-in_err-push_back : goal.invariant_of-self-in_err-push_back
-invariant_of-self-in_err-push_back c =
-    balance-same (ready_indices c.self.inside.ready.base) (ready_indices c.push_back.new.self.base)
-    (ready_indices c.self.inside.ready.queue) (ready_indices c.push_back.new.self.queue)
+pub invariant_of-self-in_err-push_returned : goal.invariant_of-self-in_err-push_returned
+invariant_of-self-in_err-push_returned c =
+    balance-same (ready_indices c.self.inside.store.base) (ready_indices c.push_returned.new.self.base)
+    (ready_indices c.self.inside.store.queue) (ready_indices c.push_returned.new.self.queue)
     c.self.inside.ledger.came.items c.self.inside.ledger.gone.items
     c.reserve.new.self.came.items c.reserve.new.self.gone.items
-    c.self.invariant (ap ready_indices c.push_back.ensures.base)
-    (λ i. ap (λ (q : Queue). occurrences i (ready_indices q)) c.in_err-push_back.ensures.err)
+    c.self.invariant (ap ready_indices c.push_returned.ensures.base)
+    (λ i. ap (λ (q : Queue). occurrences i (ready_indices q)) c.in_err-push_returned.ensures.err)
     c.reserve.ensures.came c.reserve.ensures.gone
 
 pub invariant_of-self-2 : goal.invariant_of-self-2
 invariant_of-self-2 c =
-    balance-more (ready_indices c.self.inside.ready.base) (ready_indices c.push_back.new.self.base)
-    (ready_indices c.self.inside.ready.queue) (ready_indices c.push_back.new.self.queue)
+    balance-more (ready_indices c.self.inside.store.base) (ready_indices c.push_returned.new.self.base)
+    (ready_indices c.self.inside.store.queue) (ready_indices c.push_returned.new.self.queue)
     c.self.inside.ledger.came.items c.self.inside.ledger.gone.items
     c.take_in.new.self.came.items c.take_in.new.self.gone.items
     (c.args.row.index ∷ []) c.self.invariant
-    (ap ready_indices c.push_back.ensures.base)
-    (λ i. ap (λ (q : Queue). occurrences i (ready_indices q)) c.in_ok-push_back.ensures.queue
-    ∙ back-more c.args.row c.self.inside.ready.queue i)
+    (ap ready_indices c.push_returned.ensures.base)
+    (λ i. ap (λ (q : Queue). occurrences i (ready_indices q)) c.in_ok-push_returned.ensures.queue
+    ∙ front-more c.args.row c.self.inside.store.queue i)
     (c.take_in.ensures.came ∙ ap (λ (xs : List Index). xs ++ c.args.row.index ∷ []) c.reserve.ensures.came)
     (c.take_in.ensures.gone ∙ c.reserve.ensures.gone)

@@ -4,17 +4,17 @@ use Rattle.qq_ready.specs.Queue.{Queue}
 use Rattle.qq_ledger.specs.Ledger.{ready_indices}
 use Rattle.qq_ledger.proofs.Balance.{balance-less}
 use Rattle.qq_ledger.proofs.Parts.{all-less}
-use Rattle.qq_ledger.proofs.ready.TrackedReady.clear.Goals as goal
+use Rattle.qq_ledger.proofs.ready.Tracked+Ready.clear.Goals as goal
 
 pub invariant_of-self-in-Ok : goal.invariant_of-self-in-Ok
 invariant_of-self-in-Ok c =
-    balance-less (ready_indices c.self.inside.ready.base) (ready_indices c.clear-2.new.self.base)
-    (ready_indices c.self.inside.ready.queue) (ready_indices c.clear-2.new.self.queue)
+    balance-less (ready_indices c.self.inside.store.base) (ready_indices c.clear-2.new.self.base)
+    (ready_indices c.self.inside.store.queue) (ready_indices c.clear-2.new.self.queue)
     c.self.inside.ledger.came.items c.self.inside.ledger.gone.items
     c.self.inside.ledger.came.items c.push_ready.new.indices.items
-    (ready_indices c.self.inside.ready.queue) c.self.invariant
+    (ready_indices c.self.inside.store.queue) c.self.invariant
     (ap ready_indices c.clear-2.ensures.base)
-    (λ i. all-less c.self.inside.ready.queue i
-    ∙ ap (λ (q : Queue). occurrences i (ready_indices q) + occurrences i (ready_indices c.self.inside.ready.queue))
+    (λ i. all-less c.self.inside.store.queue i
+    ∙ ap (λ (q : Queue). occurrences i (ready_indices q) + occurrences i (ready_indices c.self.inside.store.queue))
     (sym c.in-Ok.ensures.queue))
     refl c.in_default.ensures.ok

@@ -4,15 +4,15 @@ use Rattle.qq_dead.specs.Letters.{Letters}
 use Rattle.qq_ledger.specs.Ledger.{dead_indices}
 use Rattle.qq_ledger.proofs.Balance.{balance-same}
 use Rattle.qq_ledger.proofs.Parts.{give-same}
-use Rattle.qq_ledger.proofs.dead.TrackedDead.give.Goals as goal
+use Rattle.qq_ledger.proofs.dead.Tracked+Dead.give.Goals as goal
 
 pub invariant_of-self : goal.invariant_of-self
 invariant_of-self c =
-    balance-same (dead_indices c.self.inside.dead.base) (dead_indices c.give.new.self.base)
-    (dead_indices c.self.inside.dead.letters) (dead_indices c.give.new.self.letters)
+    balance-same (dead_indices c.self.inside.store.base) (dead_indices c.give.new.self.base)
+    (dead_indices c.self.inside.store.letters) (dead_indices c.give.new.self.letters)
     c.self.inside.ledger.came.items c.self.inside.ledger.gone.items
     c.self.inside.ledger.came.items c.self.inside.ledger.gone.items
     c.self.invariant
     (ap dead_indices c.give.ensures.base)
-    (λ i. ap (λ (d : Letters). occurrences i (dead_indices d)) c.give.ensures.letters ∙ give-same c.self.inside.dead.letters i)
+    (λ i. ap (λ (d : Letters). occurrences i (dead_indices d)) c.give.ensures.letters ∙ give-same c.self.inside.store.letters i)
     refl refl
