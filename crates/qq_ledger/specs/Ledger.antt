@@ -35,9 +35,8 @@ abbrev pub out_indices : List Served → List Index
 out_indices served = map item_index (outs served)
 
 -- what there is and what has left is what there was and what has come, however often each
-abbrev pub Balances : List Index → List Index → List Index → List Index → Type 0
-Balances base now came gone =
-    (i : ℕ) → occurrences i now + occurrences i gone ≡ occurrences i base + occurrences i came
+pub record Balances (base now came gone : List Index) : Type 0 where
+  pub counts : (i : ℕ) → occurrences i now + occurrences i gone ≡ occurrences i base + occurrences i came
 
 -- one more may be written down
 abbrev pub HasRoom : Vec Index → Type 0

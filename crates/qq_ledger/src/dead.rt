@@ -42,7 +42,8 @@ impl Tracked<Dead> {
         requires counts { self.old.store.letters.deads + 1 < 2 ^ 64 }
 
         ensures number { IfOk result (λ number. number ≡ self.old.store.letters.deads + 1) }
-        ensures letters { OnOk result (self.new.store.letters ≡ add row reason self.old.store.letters) }
+        ensures letters { OnOk result (self.new.store.letters
+            ≡ add row reason self.old.store.letters) }
         ensures err { OnErr result (self.new ≡ self.old) }
         ensures base { self.new.store.base ≡ self.old.store.base }
         ensures want { IsOkUnless result Memory.Want }
@@ -89,7 +90,8 @@ impl Tracked<Dead> {
     pub fn settle(&mut self, term: Term, number: u64) -> Result<Option<ReadyRow>, Memory>
         ensures value { IfOk result (λ taken.
             taken ≡ option_map (λ one. one.row) (settled term.0 number self.old.store.letters)) }
-        ensures letters { OnOk result (self.new.store.letters ≡ settle term.0 number self.old.store.letters) }
+        ensures letters { OnOk result (self.new.store.letters
+            ≡ settle term.0 number self.old.store.letters) }
         ensures err { OnErr result (self.new ≡ self.old) }
         ensures base { self.new.store.base ≡ self.old.store.base }
         ensures want { IsOkUnless result Memory.Want }

@@ -62,7 +62,8 @@ impl Tracked<Ready> {
     pub fn push_returned(&mut self, row: ReadyRow) -> Result<(), Memory>
         requires counts { self.old.store.queue.returns + 1 < 2 ^ 64 }
 
-        ensures queue { OnOk result (self.new.store.queue ≡ push_returned row self.old.store.queue) }
+        ensures queue { OnOk result (self.new.store.queue
+            ≡ push_returned row self.old.store.queue) }
         ensures err { OnErr result (self.new ≡ self.old) }
         ensures base { self.new.store.base ≡ self.old.store.base }
         ensures want { IsOkUnless result Memory.Want }

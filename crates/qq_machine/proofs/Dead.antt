@@ -73,7 +73,8 @@ nothing-offered args old none =
 
 -- and it is given
 pub offered : (args : QueueArgs) (old : Draft) (one : DeadRow) (d : Letters) (message : Message)
-    → next_offer old.queue.dead.store.letters ≡ Some one → d ≡ give old.queue.dead.store.letters → message ≡ one.row.message
+    → next_offer old.queue.dead.store.letters ≡ Some one → d ≡ give old.queue.dead.store.letters
+    → message ≡ one.row.message
     → parts_give_dead (work_of args old)
     ≡ Some (record (with_letters d (work_of args old)) { effects = old.effects.items ++ offer_of one message ∷ [] })
 offered args old one d message some gave same =

@@ -47,9 +47,9 @@ told base now cr cc cd gr gc gd l0 l1 l2 l3 l4 l5 l6 holds a1 a2 a3 r1 r2 r3 br 
     let y1 = r1 i in
     let y2 = r2 i in
     let y3 = r3 i in
-    let z1 = br i in
-    let z2 = bc i in
-    let z3 = bd i in
+    let z1 = br.counts i in
+    let z2 = bc.counts i in
+    let z3 = bd.counts i in
     let sb = indices-sum i base in
     let sn = indices-sum i now in
     omega (arith, h, x1, x2, x3, y1, y2, y3, z1, z2, z3, sb, sn)

@@ -58,7 +58,8 @@ none-by [] (one ∷ backs) orders returns is = absurd cc
 none-by (one ∷ fronts) backs orders returns is = absurd cc
 
 pub first-is : (o : Option ReadyRow) (old : Queue) (ready : Tracking ReadyState)
-    → o ≡ option_map row_in (head (in_order old.ready.store.queue)) → ready.store.queue ≡ without_next old.ready.store.queue
+    → o ≡ option_map row_in (head (in_order old.ready.store.queue))
+    → ready.store.queue ≡ without_next old.ready.store.queue
     → IfSome o (λ row. IsFirst row old (record old { ready = ready }))
 first-is None old ready is left = tt
 first-is (Some row) old ready is left =
@@ -76,7 +77,8 @@ none-first None old is =
     λ args. (none-by q.fronts q.backs q.orders q.returns (sym is)).1 (parts_of args old)
 
 pub none-still : (o : Option ReadyRow) (old : Queue) (ready : Tracking ReadyState)
-    → o ≡ option_map row_in (head (in_order old.ready.store.queue)) → ready.store.queue ≡ without_next old.ready.store.queue
+    → o ≡ option_map row_in (head (in_order old.ready.store.queue))
+    → ready.store.queue ≡ without_next old.ready.store.queue
     → IfNone o ((args : QueueArgs) → parts_of args (record old { ready = ready }) ≡ parts_of args old)
 none-still (Some row) old ready is left = tt
 none-still None old ready is left =
@@ -104,7 +106,8 @@ ready-is q m = sym (map-append keyed_item q.fronts q.backs)
 pub ready_count : (args : QueueArgs) (old : Queue)
     → length (ready_items (parts_of args old)) ≡ length (in_order old.ready.store.queue)
 ready_count args old =
-    ap length (ready-is old.ready.store.queue (parts_of args old)) ∙ length-map (in_order old.ready.store.queue) keyed_item
+    ap length (ready-is old.ready.store.queue (parts_of args old))
+    ∙ length-map (in_order old.ready.store.queue) keyed_item
 
 pub ready_bytes : (args : QueueArgs) (old : Queue)
     → size_of (ready_items (parts_of args old)) ≡ bytes_of (in_order old.ready.store.queue)

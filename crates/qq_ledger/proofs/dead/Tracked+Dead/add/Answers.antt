@@ -9,29 +9,17 @@ use Rattle.qq_ledger.proofs.dead.Tracked+Dead.add.Goals as goal
 
 pub invariant_of-self : goal.invariant_of-self
 invariant_of-self c =
-    balance-same (dead_indices c.self.inside.store.base) (dead_indices c.self.inside.store.base)
-    (dead_indices c.self.inside.store.letters) (dead_indices c.self.inside.store.letters)
-    c.self.inside.ledger.came.items c.self.inside.ledger.gone.items
-    c.reserve.new.self.came.items c.reserve.new.self.gone.items
-    c.self.invariant refl (λ i. refl) c.reserve.ensures.came c.reserve.ensures.gone
+    balance-same c.self.invariant refl (λ i. refl) c.reserve.ensures.came c.reserve.ensures.gone
 
 pub invariant_of-self-in_err-number : goal.invariant_of-self-in_err-number
 invariant_of-self-in_err-number c =
-    balance-same (dead_indices c.self.inside.store.base) (dead_indices c.add.new.self.base)
-    (dead_indices c.self.inside.store.letters) (dead_indices c.add.new.self.letters)
-    c.self.inside.ledger.came.items c.self.inside.ledger.gone.items
-    c.reserve.new.self.came.items c.reserve.new.self.gone.items
-    c.self.invariant (ap dead_indices c.add.ensures.base)
+    balance-same c.self.invariant (ap dead_indices c.add.ensures.base)
     (λ i. ap (λ (q : Letters). occurrences i (dead_indices q)) c.in_err-number.ensures.err)
     c.reserve.ensures.came c.reserve.ensures.gone
 
 pub invariant_of-self-2 : goal.invariant_of-self-2
 invariant_of-self-2 c =
-    balance-more (dead_indices c.self.inside.store.base) (dead_indices c.add.new.self.base)
-    (dead_indices c.self.inside.store.letters) (dead_indices c.add.new.self.letters)
-    c.self.inside.ledger.came.items c.self.inside.ledger.gone.items
-    c.take_in.new.self.came.items c.take_in.new.self.gone.items
-    (c.args.row.index ∷ []) c.self.invariant
+    balance-more (c.args.row.index ∷ []) c.self.invariant
     (ap dead_indices c.add.ensures.base)
     (λ i. ap (λ (d : Letters). occurrences i (dead_indices d)) c.in_ok-number.ensures.letters
     ∙ dead-more c.args.row c.args.reason c.self.inside.store.letters i)

@@ -8,11 +8,8 @@ use Rattle.qq_ledger.proofs.dead.Tracked+Dead.attach.Goals as goal
 
 pub invariant_of-self : goal.invariant_of-self
 invariant_of-self c =
-    balance-same (dead_indices c.self.inside.store.base) (dead_indices c.attach.new.self.base)
-    (dead_indices c.self.inside.store.letters) (dead_indices c.attach.new.self.letters)
-    c.self.inside.ledger.came.items c.self.inside.ledger.gone.items
-    c.self.inside.ledger.came.items c.self.inside.ledger.gone.items
-    c.self.invariant
+    balance-same c.self.invariant
     (ap dead_indices c.attach.ensures.base)
-    (λ i. ap (λ (d : Letters). occurrences i (dead_indices d)) c.attach.ensures.letters ∙ attach-same c.args.term.0 c.self.inside.store.letters i)
+    (λ i. ap (λ (d : Letters). occurrences i (dead_indices d)) c.attach.ensures.letters
+    ∙ attach-same c.args.term.0 c.self.inside.store.letters i)
     refl refl

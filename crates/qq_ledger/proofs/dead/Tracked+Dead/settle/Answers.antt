@@ -9,29 +9,17 @@ use Rattle.qq_ledger.proofs.dead.Tracked+Dead.settle.Goals as goal
 
 pub invariant_of-self : goal.invariant_of-self
 invariant_of-self c =
-    balance-same (dead_indices c.self.inside.store.base) (dead_indices c.self.inside.store.base)
-    (dead_indices c.self.inside.store.letters) (dead_indices c.self.inside.store.letters)
-    c.self.inside.ledger.came.items c.self.inside.ledger.gone.items
-    c.reserve.new.self.came.items c.reserve.new.self.gone.items
-    c.self.invariant refl (λ i. refl) c.reserve.ensures.came c.reserve.ensures.gone
+    balance-same c.self.invariant refl (λ i. refl) c.reserve.ensures.came c.reserve.ensures.gone
 
 pub invariant_of-self-in_err-taken : goal.invariant_of-self-in_err-taken
 invariant_of-self-in_err-taken c =
-    balance-same (dead_indices c.self.inside.store.base) (dead_indices c.settle.new.self.base)
-    (dead_indices c.self.inside.store.letters) (dead_indices c.settle.new.self.letters)
-    c.self.inside.ledger.came.items c.self.inside.ledger.gone.items
-    c.reserve.new.self.came.items c.reserve.new.self.gone.items
-    c.self.invariant (ap dead_indices c.settle.ensures.base)
+    balance-same c.self.invariant (ap dead_indices c.settle.ensures.base)
     (λ i. ap (λ (q : Letters). occurrences i (dead_indices q)) c.in_err-taken.ensures.err)
     c.reserve.ensures.came c.reserve.ensures.gone
 
 pub invariant_of-self-in-None : goal.invariant_of-self-in-None
 invariant_of-self-in-None c =
-    balance-same (dead_indices c.self.inside.store.base) (dead_indices c.settle.new.self.base)
-    (dead_indices c.self.inside.store.letters) (dead_indices c.settle.new.self.letters)
-    c.self.inside.ledger.came.items c.self.inside.ledger.gone.items
-    c.reserve.new.self.came.items c.reserve.new.self.gone.items
-    c.self.invariant
+    balance-same c.self.invariant
     (ap dead_indices c.settle.ensures.base)
     (λ i. ap (λ (d : Letters). occurrences i (dead_indices d)) c.in_ok-taken.ensures.letters
     ∙ settle-none c.args.term.0 c.args.number c.self.inside.store.letters
@@ -40,11 +28,7 @@ invariant_of-self-in-None c =
 
 pub invariant_of-self-in-Some : goal.invariant_of-self-in-Some
 invariant_of-self-in-Some c =
-    balance-less (dead_indices c.self.inside.store.base) (dead_indices c.settle.new.self.base)
-    (dead_indices c.self.inside.store.letters) (dead_indices c.settle.new.self.letters)
-    c.self.inside.ledger.came.items c.self.inside.ledger.gone.items
-    c.let_go.new.self.came.items c.let_go.new.self.gone.items
-    (c.in-Some.row.index ∷ []) c.self.invariant
+    balance-less (c.in-Some.row.index ∷ []) c.self.invariant
     (ap dead_indices c.settle.ensures.base)
     (λ i. settle-less c.args.term.0 c.args.number c.in-Some.row c.self.inside.store.letters
     c.counters.ensures.numbered (sym c.in-Some.is ∙ c.in_ok-taken.ensures.value) i

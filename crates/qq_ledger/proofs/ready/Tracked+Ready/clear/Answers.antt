@@ -8,11 +8,7 @@ use Rattle.qq_ledger.proofs.ready.Tracked+Ready.clear.Goals as goal
 
 pub invariant_of-self-in-Ok : goal.invariant_of-self-in-Ok
 invariant_of-self-in-Ok c =
-    balance-less (ready_indices c.self.inside.store.base) (ready_indices c.clear-2.new.self.base)
-    (ready_indices c.self.inside.store.queue) (ready_indices c.clear-2.new.self.queue)
-    c.self.inside.ledger.came.items c.self.inside.ledger.gone.items
-    c.self.inside.ledger.came.items c.push_ready.new.indices.items
-    (ready_indices c.self.inside.store.queue) c.self.invariant
+    balance-less (ready_indices c.self.inside.store.queue) c.self.invariant
     (ap ready_indices c.clear-2.ensures.base)
     (λ i. all-less c.self.inside.store.queue i
     ∙ ap (λ (q : Queue). occurrences i (ready_indices q) + occurrences i (ready_indices c.self.inside.store.queue))

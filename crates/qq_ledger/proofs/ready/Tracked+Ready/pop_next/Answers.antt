@@ -9,29 +9,17 @@ use Rattle.qq_ledger.proofs.ready.Tracked+Ready.pop_next.Goals as goal
 
 pub invariant_of-self : goal.invariant_of-self
 invariant_of-self c =
-    balance-same (ready_indices c.self.inside.store.base) (ready_indices c.self.inside.store.base)
-    (ready_indices c.self.inside.store.queue) (ready_indices c.self.inside.store.queue)
-    c.self.inside.ledger.came.items c.self.inside.ledger.gone.items
-    c.reserve.new.self.came.items c.reserve.new.self.gone.items
-    c.self.invariant refl (λ i. refl) c.reserve.ensures.came c.reserve.ensures.gone
+    balance-same c.self.invariant refl (λ i. refl) c.reserve.ensures.came c.reserve.ensures.gone
 
 pub invariant_of-self-in_err-taken : goal.invariant_of-self-in_err-taken
 invariant_of-self-in_err-taken c =
-    balance-same (ready_indices c.self.inside.store.base) (ready_indices c.pop_next.new.self.base)
-    (ready_indices c.self.inside.store.queue) (ready_indices c.pop_next.new.self.queue)
-    c.self.inside.ledger.came.items c.self.inside.ledger.gone.items
-    c.reserve.new.self.came.items c.reserve.new.self.gone.items
-    c.self.invariant (ap ready_indices c.pop_next.ensures.base)
+    balance-same c.self.invariant (ap ready_indices c.pop_next.ensures.base)
     (λ i. ap (λ (q : Queue). occurrences i (ready_indices q)) c.in_err-taken.ensures.err)
     c.reserve.ensures.came c.reserve.ensures.gone
 
 pub invariant_of-self-in-None : goal.invariant_of-self-in-None
 invariant_of-self-in-None c =
-    balance-same (ready_indices c.self.inside.store.base) (ready_indices c.pop_next.new.self.base)
-    (ready_indices c.self.inside.store.queue) (ready_indices c.pop_next.new.self.queue)
-    c.self.inside.ledger.came.items c.self.inside.ledger.gone.items
-    c.reserve.new.self.came.items c.reserve.new.self.gone.items
-    c.self.invariant
+    balance-same c.self.invariant
     (ap ready_indices c.pop_next.ensures.base)
     (λ i. ap (λ (q : Queue). occurrences i (ready_indices q)) c.in_ok-taken.ensures.queue
     ∙ next-none c.self.inside.store.queue (sym c.in-None.is ∙ c.in_ok-taken.ensures.next) i)
@@ -39,11 +27,7 @@ invariant_of-self-in-None c =
 
 pub invariant_of-self-in-Some : goal.invariant_of-self-in-Some
 invariant_of-self-in-Some c =
-    balance-less (ready_indices c.self.inside.store.base) (ready_indices c.pop_next.new.self.base)
-    (ready_indices c.self.inside.store.queue) (ready_indices c.pop_next.new.self.queue)
-    c.self.inside.ledger.came.items c.self.inside.ledger.gone.items
-    c.let_go.new.self.came.items c.let_go.new.self.gone.items
-    (c.in-Some.row.index ∷ []) c.self.invariant
+    balance-less (c.in-Some.row.index ∷ []) c.self.invariant
     (ap ready_indices c.pop_next.ensures.base)
     (λ i. next-less c.in-Some.row c.self.inside.store.queue (sym c.in-Some.is ∙ c.in_ok-taken.ensures.next) i
     ∙ ap (λ (q : Queue). occurrences i (ready_indices q) + occurrences i (c.in-Some.row.index ∷ []))

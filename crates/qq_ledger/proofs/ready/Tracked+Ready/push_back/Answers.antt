@@ -9,29 +9,17 @@ use Rattle.qq_ledger.proofs.ready.Tracked+Ready.push_back.Goals as goal
 
 pub invariant_of-self : goal.invariant_of-self
 invariant_of-self c =
-    balance-same (ready_indices c.self.inside.store.base) (ready_indices c.self.inside.store.base)
-    (ready_indices c.self.inside.store.queue) (ready_indices c.self.inside.store.queue)
-    c.self.inside.ledger.came.items c.self.inside.ledger.gone.items
-    c.reserve.new.self.came.items c.reserve.new.self.gone.items
-    c.self.invariant refl (λ i. refl) c.reserve.ensures.came c.reserve.ensures.gone
+    balance-same c.self.invariant refl (λ i. refl) c.reserve.ensures.came c.reserve.ensures.gone
 
 pub invariant_of-self-in_err-push_back : goal.invariant_of-self-in_err-push_back
 invariant_of-self-in_err-push_back c =
-    balance-same (ready_indices c.self.inside.store.base) (ready_indices c.push_back.new.self.base)
-    (ready_indices c.self.inside.store.queue) (ready_indices c.push_back.new.self.queue)
-    c.self.inside.ledger.came.items c.self.inside.ledger.gone.items
-    c.reserve.new.self.came.items c.reserve.new.self.gone.items
-    c.self.invariant (ap ready_indices c.push_back.ensures.base)
+    balance-same c.self.invariant (ap ready_indices c.push_back.ensures.base)
     (λ i. ap (λ (q : Queue). occurrences i (ready_indices q)) c.in_err-push_back.ensures.err)
     c.reserve.ensures.came c.reserve.ensures.gone
 
 pub invariant_of-self-2 : goal.invariant_of-self-2
 invariant_of-self-2 c =
-    balance-more (ready_indices c.self.inside.store.base) (ready_indices c.push_back.new.self.base)
-    (ready_indices c.self.inside.store.queue) (ready_indices c.push_back.new.self.queue)
-    c.self.inside.ledger.came.items c.self.inside.ledger.gone.items
-    c.take_in.new.self.came.items c.take_in.new.self.gone.items
-    (c.args.row.index ∷ []) c.self.invariant
+    balance-more (c.args.row.index ∷ []) c.self.invariant
     (ap ready_indices c.push_back.ensures.base)
     (λ i. ap (λ (q : Queue). occurrences i (ready_indices q)) c.in_ok-push_back.ensures.queue
     ∙ back-more c.args.row c.self.inside.store.queue i)

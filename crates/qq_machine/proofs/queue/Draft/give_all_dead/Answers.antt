@@ -18,7 +18,8 @@ rounds-preserved c = record {
 pub returns-then-not-branch-clause-ok : goal.returns-then-not-branch-clause-ok
 unfolding parts_give_all_dead
 returns-then-not-branch-clause-ok c =
-    ap (λ (k : ℕ). while_next k parts_give_dead (work_of c.args.args.now c.args.self.now)) (length-map c.args.self.now.queue.dead.store.letters.rows dead_item ∙ sym c.len-dead.ensures)
+    ap (λ (k : ℕ). while_next k parts_give_dead (work_of c.args.args.now c.args.self.now))
+    (length-map c.args.self.now.queue.dead.store.letters.rows dead_item ∙ sym c.len-dead.ensures)
     ∙ while_next-over (c.len-dead.result - c.rounds._round) parts_give_dead (work_of c.args.args.now c.rounds.self)
     (work_of c.args.args.now c.give_dead.new.self) _ c.in_ok-give_dead.field-0 c.in_ok-give_dead.ensures.ok c.if-not-branch.true
     c.rounds.invariant.same (c.in_ok-give_dead.ensures.still c.if-not-branch.true)
