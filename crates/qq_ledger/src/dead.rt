@@ -1,11 +1,11 @@
-ghost use Rattle.std.specs.Prelude.{◌≡◌, ◌+◌, ◌<◌, ◌^◌, nat_lt, length, refl, IfOk, IsOkUnless, OnOk, OnErr};
-ghost use Rattle.std.specs.Option.{option_copied, option_map};
-ghost use Rattle.qq_dead.specs.Letters.{add, attach, next_offer, give, settled, settle, AreNumbered};
+ghost use Rattle.std.specs.Prelude.{◌≡◌, ◌+◌, ◌<◌, ◌^◌, nat_lt, refl, IfOk, IsOkUnless, OnOk, OnErr};
+ghost use Rattle.std.specs.Option.{option_map};
+ghost use Rattle.qq_dead.specs.Letters.{add, attach, give, settled, settle};
 ghost use Rattle.qq_ledger.specs.Ledger.{dead_indices};
 
 use crate::tracked::{Holds, Tracked};
 use qq_base::{Memory, Term};
-use qq_dead::{Dead, DeadRow};
+use qq_dead::Dead;
 use qq_entry::{ReadyRow, Reason};
 use std::alloc::Global;
 
@@ -68,14 +68,6 @@ impl Tracked<Dead> {
         self.store.attach(term)
     }
 
-    /// The next message for the worker. None exactly where no worker is attached, it has `MOST_GIVEN` under
-    /// way, or was given all.
-    pub fn next_offer(&self) -> Option<&DeadRow>
-        ensures { option_copied result ≡ next_offer self.now.store.letters }
-    {
-        self.store.next_offer()
-    }
-
     /// The worker is given the next message, if there is one for it.
     pub fn give(&mut self)
         ensures letters { self.new.store.letters ≡ give self.old.store.letters }
@@ -106,23 +98,5 @@ impl Tracked<Dead> {
                 Ok(Some(row))
             }
         }
-    }
-
-    /// How many are kept.
-    pub fn len(&self) -> usize
-        ensures { result ≡ length self.now.store.letters.rows }
-    {
-        self.store.len()
-    }
-
-    /// How many numbers were drawn, the greatest number that the worker was given, and its term, 0 for
-    /// none. The numbers rise and were drawn, and the worker was given none that wasn't.
-    pub fn counters(&self) -> (u64, u64, Term)
-        ensures numbered { AreNumbered self.now.store.letters }
-        ensures deads { result.0 ≡ self.now.store.letters.deads }
-        ensures given { result.1 ≡ self.now.store.letters.given }
-        ensures attached { result.2.0 ≡ self.now.store.letters.attached }
-    {
-        self.store.counters()
     }
 }

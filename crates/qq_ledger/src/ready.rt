@@ -1,6 +1,6 @@
-ghost use Rattle.std.specs.Prelude.{◌≡◌, ◌+◌, ◌<◌, ◌^◌, length, refl, IfOk, IsOkUnless, OnOk, OnErr};
+ghost use Rattle.std.specs.Prelude.{◌≡◌, ◌+◌, ◌<◌, ◌^◌, refl, IfOk, IsOkUnless, OnOk, OnErr};
 ghost use Rattle.std.specs.Option.{option_map};
-ghost use Rattle.qq_ready.specs.Queue.{in_order, head, without_next, emptied, push_back, push_returned, bytes_of, IsInOrder};
+ghost use Rattle.qq_ready.specs.Queue.{in_order, head, without_next, emptied, push_back, push_returned};
 ghost use Rattle.qq_ledger.specs.Ledger.{ready_indices};
 
 use crate::scans::push_ready;
@@ -118,29 +118,5 @@ impl Tracked<Ready> {
                 Err(cause)
             }
         }
-    }
-
-    /// How many keys at the back, and how many at the front, were drawn. Each message has a key of its own
-    /// kind, and the keys of one kind rise.
-    pub fn counters(&self) -> (u64, u64)
-        ensures order { IsInOrder self.now.store.queue }
-        ensures orders { result.0 ≡ self.now.store.queue.orders }
-        ensures returns { result.1 ≡ self.now.store.queue.returns }
-    {
-        self.store.counters()
-    }
-
-    /// How many messages are ready.
-    pub fn count(&self) -> u64
-        ensures { result ≡ length (in_order self.now.store.queue) }
-    {
-        self.store.count()
-    }
-
-    /// How many bytes their bodies have.
-    pub fn bytes(&self) -> u128
-        ensures { result ≡ bytes_of (in_order self.now.store.queue) }
-    {
-        self.store.bytes()
     }
 }

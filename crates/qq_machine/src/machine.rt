@@ -275,7 +275,7 @@ impl Machine {
     {
         let queue = &self.draft.queue;
         let current = current_count(queue.consumers.table());
-        (queue.ready.count(), to_u32(current))
+        (queue.ready.store().count(), to_u32(current))
     }
 
     /// What is out with a consumer, from an id on, by rising id.
