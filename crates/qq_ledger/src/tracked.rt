@@ -17,10 +17,10 @@ pub trait Holds: Drop {
     /// What they were at the last commit.
     ghost base_indices: { Self → List Index };
 
-    /// The store once what it is counts as committed.
+    /// The store after a commit.
     ghost committed: { Self → Self };
 
-    /// The store as it was at the last commit.
+    /// The store after an undo.
     ghost undone: { Self → Self };
 
     /// What was changed since the last commit stays. It takes no memory.
@@ -36,8 +36,10 @@ pub trait Holds: Drop {
         ensures ok { IfOk result (λ twin. twin ≡ committed self.now) }
         ensures want { IsOkUnless result Memory.Want };
 
+    /// After a commit, what it holds is what it held at the last commit.
     ghost commits: { (x : Self) → indices (committed x) ≡ base_indices (committed x) };
 
+    /// So it is after an undo.
     ghost undoes: { (x : Self) → indices (undone x) ≡ base_indices (undone x) };
 }
 
